@@ -23,9 +23,8 @@ use Rattle.task_ops.specs.declared.came.Came.{Came}
 use Rattle.task_ops.specs.declared.came.Came.TheVariants as came
 use Rattle.task_ops.proofs.ExitLemmas.{reopened_stand}
 use Rattle.task_ops.proofs.RunLemmas.{own_apart, own_unqueued, stands_on}
-use Rattle.task_places.proofs.EntryLemmas.{checked_stand}
-use Rattle.task_rules.proofs.StopLemmas.{quiet_stand, stopped_stand}
-use Rattle.task_rules.proofs.UntouchedLemmas.{set_own_event_untouched}
+use Rattle.task_moves.proofs.UntouchedLemmas.{set_own_event_untouched}
+use Rattle.task_ops.proofs.BesideLemmas.{checked_stand, quiet_stand, stopped_stand}
 use Rattle.task_rules.specs.Ends.{code_exits, code_finds, code_kind_row, code_row, code_stops, code_wait_row, code_waits, code_yields, has_event_for, held_by_flag, leaves_no_result, own_or_none, passes_after_stop}
 use Rattle.task_rules.specs.Progress.{Ordered, Progress, Stops, or_trap, trap_if}
 use Rattle.task_words.specs.Apart.{IsApart, IsUnqueued}

@@ -24,7 +24,7 @@ use Rattle.task_ops.specs.Running.{IsTaken}
 use Rattle.task_ops.specs.declared.came.Came.TheVariants as came
 use Rattle.task_ops.specs.declared.gifts.Gift.{Gift}
 use Rattle.task_ops.specs.declared.gifts.Gift.TheVariants as gifts
-use Rattle.task_rules.proofs.StopLemmas.{stopped_stand}
+use Rattle.task_ops.proofs.BesideLemmas.{stopped_stand}
 use Rattle.task_rules.specs.Progress.{Goes, Progress, may, or_never}
 use Rattle.task_rules.specs.Takes.{activated, activated_woken, delivered, own_delivered, set_delivered, take_holds}
 use Rattle.task_words.specs.StateView.{StateView, Tags, on_core, thread_of, with_core}

@@ -17,11 +17,9 @@ use Rattle.task_moves.specs.Stops.{MayStop}
 use Rattle.task_ops.proofs.FootLemmas.{checked_under, foot_may_still, quiet_under, released_under, under_after}
 use Rattle.task_ops.proofs.RunLemmas.{own_apart, stands_on}
 use Rattle.task_ops.specs.Reopens.{InSomeOrder}
-use Rattle.task_places.proofs.EntryLemmas.{checked_stand}
-use Rattle.task_rules.proofs.MoveLemmas.{all_of, released_good}
-use Rattle.task_rules.proofs.StandLemmas.{Stand}
-use Rattle.task_rules.proofs.StopLemmas.{quiet_stand, stopped_stand}
-use Rattle.task_rules.proofs.UntouchedLemmas.{on_instance_untouched}
+use Rattle.task_moves.proofs.UntouchedLemmas.{on_instance_untouched}
+use Rattle.task_ops.proofs.BesideLemmas.{all_of, checked_stand, quiet_stand, released_good, stopped_stand}
+use Rattle.task_ops.specs.Running.{Stand}
 use Rattle.task_rules.specs.Ends.{code_stops, end_reopens, held_by_flag}
 use Rattle.task_rules.specs.Places.{Placed}
 use Rattle.task_words.specs.Apart.{IsApart}

@@ -13,9 +13,9 @@ use Rattle.task_machine.specs.declared.records.Why.{Why}
 use Rattle.task_machine.specs.declared.words.Mark.TheVariants as mark
 use Rattle.task_moves.specs.Stops.{MayStop}
 use Rattle.task_ops.proofs.RunLemmas.{KeepsUnder, foot_is, foot_kept, may_stop}
-use Rattle.task_places.proofs.EntryLemmas.{checked_place}
-use Rattle.task_rules.proofs.MoveLemmas.{is_busy}
-use Rattle.task_rules.proofs.StandLemmas.{Stand, by_number, free_loose, place_kept}
+use Rattle.task_ops.proofs.BesideLemmas.{checked_place, free_loose, is_busy}
+use Rattle.task_ops.specs.Running.{Stand}
+use Rattle.task_rules.proofs.StandLemmas.{by_number, place_kept}
 use Rattle.task_rules.proofs.StopLemmas.{Untouched}
 use Rattle.task_rules.specs.Places.{one_if}
 use Rattle.task_words.specs.StateView.{StateView, on_core, thread_of}

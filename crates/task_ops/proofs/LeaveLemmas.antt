@@ -10,7 +10,8 @@ use Rattle.task_machine.specs.Read.{foot_of, instance_of, join_of, place_of, reg
 use Rattle.task_machine.specs.Write.{on_instance, set_do_not_suspend, set_end}
 use Rattle.task_machine.specs.declared.records.CallEnd.{CallEnd}
 use Rattle.task_machine.specs.declared.records.Place.TheVariants as place
-use Rattle.task_places.proofs.RunRows.{under_place}
+use Rattle.task_moves.proofs.UntouchedLemmas.{on_instance_untouched, set_end_untouched}
+use Rattle.task_ops.proofs.BesideLemmas.{quiet_stand, stopped_stand, under_place, waits_quiet}
 use Rattle.task_machine.specs.declared.records.Subtask.{Subtask}
 use Rattle.task_machine.specs.declared.records.Subtask.TheVariants as subtask
 use Rattle.task_moves.proofs.TellLemmas.{Quiet, can_still}
@@ -20,9 +21,6 @@ use Rattle.task_ops.proofs.FootLemmas.{checked_under, foot_may_still, quiet_unde
 use Rattle.task_ops.proofs.RunLemmas.{KeepsUnder, own_apart, stands_on}
 use Rattle.task_ops.proofs.TellingLemmas.{all_wait, returned_stands, returned_under}
 use Rattle.task_ops.specs.Running.{IsRunning}
-use Rattle.task_places.proofs.PlaceWords.{waits_quiet}
-use Rattle.task_rules.proofs.StopLemmas.{quiet_stand, stopped_stand}
-use Rattle.task_rules.proofs.UntouchedLemmas.{on_instance_untouched, set_end_untouched}
 use Rattle.task_rules.specs.Ends.{exit_restores, returned, sync_exits}
 use Rattle.task_words.specs.Apart.{IsApart}
 use Rattle.task_words.specs.StateView.{StateView, call_of, on_core, thread_of}

@@ -1,3 +1,4 @@
+pub mod BesideLemmas
 pub mod MeetLemmas
 pub mod RunLemmas
 pub mod PositionLemmas

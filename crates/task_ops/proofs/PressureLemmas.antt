@@ -14,10 +14,9 @@ use Rattle.task_ops.specs.Came.{Meets}
 use Rattle.task_ops.specs.declared.came.Came.TheVariants as came
 use Rattle.task_ops.proofs.PositionLemmas.{position_pressure, position_released}
 use Rattle.task_ops.proofs.RunLemmas.{stands_on}
-use Rattle.task_rules.proofs.MoveLemmas.{all_of}
-use Rattle.task_rules.proofs.StandLemmas.{Stand}
-use Rattle.task_rules.proofs.StopLemmas.{quiet_stand}
-use Rattle.task_rules.proofs.UntouchedLemmas.{on_instance_untouched}
+use Rattle.task_moves.proofs.UntouchedLemmas.{on_instance_untouched}
+use Rattle.task_ops.proofs.BesideLemmas.{all_of, quiet_stand}
+use Rattle.task_ops.specs.Running.{Stand}
 use Rattle.task_rules.specs.Data.{advanced}
 use Rattle.task_rules.specs.Places.{Placed}
 use Rattle.task_rules.specs.Task.{dec_from, dec_lowers, dec_opens, dec_row, held_by_counter}

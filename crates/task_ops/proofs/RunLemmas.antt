@@ -11,12 +11,10 @@ use Rattle.task_machine.specs.declared.records.Place.{Place}
 use Rattle.task_machine.specs.declared.records.Place.TheVariants as place
 use Rattle.task_machine.specs.Moves.{checked, stopped}
 use Rattle.task_moves.specs.Stops.{MayStop}
-use Rattle.task_places.proofs.EntryLemmas.{checked_stand, one_place}
-use Rattle.task_places.proofs.RunRows.{under_place}
-use Rattle.task_rules.proofs.MoveLemmas.{is_busy}
-use Rattle.task_rules.proofs.StandLemmas.{Loose, Stand, by_number, callers_say, eq_refl, is_eq_of}
-use Rattle.task_rules.proofs.StopLemmas.{stopped_stand}
-use Rattle.task_rules.specs.Places.{HasPlace, entries, is_at_switch, is_behind_of, one_if, says, switch_entries, times}
+use Rattle.task_ops.proofs.BesideLemmas.{checked_stand, is_busy, stopped_stand, under_place}
+use Rattle.task_ops.specs.Running.{Stand}
+use Rattle.task_rules.proofs.StandLemmas.{Loose, by_number, callers_say, eq_refl, is_eq_of}
+use Rattle.task_rules.specs.Places.{HasPlace, entries, is_at_high, is_at_low, is_at_switch, is_behind_of, one_if, says, switch_entries, times}
 use Rattle.task_words.specs.Apart.{IsApart, IsUnqueued}
 use Rattle.task_words.specs.StateView.{StateView, on_core, thread_of}
 
@@ -105,6 +103,9 @@ one_behind f g (Some (place.Blocked x)) e = omega arith
 one_behind f g (Some (place.Held x)) e = omega arith
 one_behind f g (Some place.Suspended) e = omega arith
 
+one_place : (f : ℕ) (o : Option Place) → says (is_behind_of f) o + (says is_at_high o + says is_at_low o) ≤ 1
+one_place f o = grind arith
+
 module _ (n : ℕ) (q : Place) (s : Core) (st : Stand n q [] s) where
   own_loose : Loose n s
   own_loose = st.loose n (let x = ap one_if (eq_refl n) in omega (arith, x))
@@ -117,7 +118,7 @@ module _ (n : ℕ) (q : Place) (s : Core) (st : Stand n q [] s) where
       let x = callers_say k f s h in
       let y = h.high in
       let z = h.low in
-      let o = (one_place (place_of k s)).apart f in
+      let o = one_place f (place_of k s) in
       omega (arith, x, y, z, o)
 
   loose_queued : (f k : ℕ) → Loose k s → times k (callers_of f s) + (entries k s.queues.high + entries k s.queues.low) ≤ 1

@@ -16,8 +16,8 @@ use Rattle.task_machine.specs.declared.records.Place.{Place}
 use Rattle.task_machine.specs.declared.records.Place.TheVariants as place
 use Rattle.task_machine.specs.declared.records.Thread.{Thread}
 use Rattle.task_ops.specs.Running.{IsTopmost}
-use Rattle.task_places.proofs.RunRows.{under_place}
-use Rattle.task_rules.proofs.MoveLemmas.{gone_place, other_place, removed_gone, removed_placed, stand_of}
+use Rattle.task_ops.proofs.BesideLemmas.{stand_of, under_place}
+use Rattle.task_rules.proofs.MoveLemmas.{gone_place, other_place, removed_gone, removed_placed}
 use Rattle.task_rules.proofs.StandLemmas.{by_number, eq_refl, is_eq_of}
 use Rattle.task_rules.specs.Places.{HasPlace, is_there, one_if}
 use Rattle.task_words.specs.StateView.{KeepsBut, StateView, lost_thread, thread_of}

@@ -32,8 +32,8 @@ use Rattle.task_ops.proofs.PositionLemmas.{position_thread}
 use Rattle.task_rules.specs.Calls.{new_thread, next_thread, with_thread_handle}
 use Rattle.task_rules.specs.Data.{assigned}
 use Rattle.task_rules.specs.Scripts.{registers_for}
-use Rattle.task_places.proofs.EntryLemmas.{promoted_unless_stand, ready_listed}
-use Rattle.task_rules.proofs.MoveLemmas.{all_of, is_parked, put_switch_good}
+use Rattle.task_ops.proofs.BesideLemmas.{promoted_unless_stand, put_switch_good}
+use Rattle.task_rules.proofs.MoveLemmas.{is_parked}
 use Rattle.task_rules.proofs.StandLemmas.{by_number}
 use Rattle.task_rules.specs.Progress.{Goes, Progress, or_trap, trap_if}
 use Rattle.task_rules.specs.Threads.{Halt, halted, halted_promoting, has_yielded, resume_at, resume_why, then_promote, then_promote_found, then_promote_row, thread_made, thread_new_label, thread_new_row}
@@ -49,18 +49,7 @@ none_is_some e = absurd (no_both e)
 -- ---- A thread that may be resumed is parked
 
 resumable : (b : Bool) (p : Place) (w : Why) → resume_at b p ≡ Some w → is_parked p ≡ true
-resumable b place.New w e = refl
-resumable b place.Suspended w e = refl
-resumable b (place.Under m) w e = refl
-resumable b (place.Waiting x c) w e = refl
-resumable b (place.Blocked x) w e = refl
-resumable b (place.Held v) w e = refl
-resumable true place.Running w e = none_is_some e
-resumable false place.Running w e = none_is_some e
-resumable true (place.Ready m v) w e = none_is_some e
-resumable false (place.Ready m v) w e = none_is_some e
-resumable true (place.Behind m) w e = none_is_some e
-resumable false (place.Behind m) w e = none_is_some e
+resumable b p w e = grind arith
 
 resumable_at : (b : Bool) (o : Option Place) (w : Why) → option_and_then (resume_at b) o ≡ Some w → (p : Place) × ((o ≡ Some p) × (is_parked p ≡ true))
 resumable_at b None w e = none_is_some e
@@ -89,7 +78,11 @@ promoted_stands : (n m : ℕ) (s : Core) → IsRunning n s → has_yielded m s �
 unfolding has_yielded
 promoted_stands n m s st e =
     let r = yielded_ready (is_yielded (how_far_of m s)) (place_of m s) e in
-    promoted_unless_stand n place.Running m s (λ none. ready_listed m r.0 r.1.0 s r.1.1 (all_of n place.Running s refl st m) none) st
+    let apart = by_number m n ((m == n) ≡ false) (λ same. absurd (both (sym st.here ∙ (ap (λ (k : ℕ). place_of k s) (sym same) ∙ r.1.1)))) (λ d. d) in
+    promoted_unless_stand n place.Running m s apart r st
+  where
+    both : {x : Mark} {w : Why} → Some place.Running ≡ Some (place.Ready x w) → ⊥
+    both e = cc
 
 pub promoted_runs : (n m : TableId ThreadKey) (s t : StateView) → IsRunning (thread_of s n) s.core → has_yielded (thread_of s m) s.core ≡ true → t ≡ on_core (promoted_unless (thread_of s m)) s → IsRunning (thread_of t n) t.core
 promoted_runs n m s t st e d = stands_on n place.Running (promoted_unless (thread_of s m)) s t d (promoted_stands (thread_of s n) (thread_of s m) s.core st e)

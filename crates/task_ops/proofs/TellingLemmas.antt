@@ -24,12 +24,10 @@ use Rattle.task_moves.specs.Idle.{CanPublish, IsWaiting}
 use Rattle.task_moves.specs.Stops.{MayStop}
 use Rattle.task_ops.proofs.FootLemmas.{high_under, quiet_under, under_after}
 use Rattle.task_ops.proofs.RunLemmas.{KeepsUnder, foot_may_stop, stands_on}
-use Rattle.task_places.proofs.FreshMoves.{fresher_same}
-use Rattle.task_places.proofs.PlaceWords.{Waits, blocked_place, returned_stand, told_stand, waits_of, waits_quiet, waits_unblocked}
-use Rattle.task_rules.proofs.MoveLemmas.{is_busy}
-use Rattle.task_rules.proofs.StandLemmas.{Stand}
-use Rattle.task_rules.proofs.StopLemmas.{Untouched, quiet_stand}
-use Rattle.task_rules.proofs.UntouchedLemmas.{set_end_untouched, set_event_untouched, set_started_untouched, set_starting_published_untouched, with_thread_handle_untouched}
+use Rattle.task_moves.proofs.UntouchedLemmas.{set_end_untouched, set_event_untouched, set_started_untouched, set_starting_published_untouched, with_thread_handle_untouched}
+use Rattle.task_ops.proofs.BesideLemmas.{Waits, blocked_place, is_busy, quiet_stand, returned_stand, told_stand, waits_of, waits_quiet, waits_unblocked}
+use Rattle.task_ops.specs.Running.{Stand}
+use Rattle.task_rules.proofs.StopLemmas.{Untouched}
 use Rattle.task_rules.specs.Calls.{with_thread_handle}
 use Rattle.task_rules.specs.Ends.{is_told, result_given, returned, told}
 use Rattle.task_rules.specs.Takes.{starting_is_published, starting_told}
@@ -47,10 +45,10 @@ all_wait (Some id) s h = waits_as (thread_of s id) s.core h
 
 module _ (n : ℕ) (q : Place) (busy : is_busy q ≡ true) where
   told_stands : (k : ℕ) (e : Status) (w : Option ℕ) (s : Core) → Waits w s → Stand n q [] s → Stand n q [] (told k e w s)
-  told_stands k e w s h st = (told_stand {base = s} n q busy k e w s h (record { stand = st; fresh = fresher_same s })).stand
+  told_stands k e w s h st = told_stand n q busy k e w s h st
 
   pub returned_stands : (k v : ℕ) (w : Option ℕ) (s : Core) → Waits w s → Stand n q [] s → Stand n q [] (returned k v w s)
-  returned_stands k v w s h st = (returned_stand {base = s} n q busy k v w s h (record { stand = st; fresh = fresher_same s })).stand
+  returned_stands k v w s h st = returned_stand n q busy k v w s h st
 
   starting_stands : (k : ℕ) (w : Option ℕ) (s : Core) → Waits w s → Stand n q [] s → Stand n q [] (starting_told k w s)
   unfolding starting_told

@@ -1,5 +1,5 @@
 -- What ops ask of the thread that runs, or whose entry was taken.
-use Rattle.std.specs.Prelude.{Bool, Some, [], false, is_some, true, ℕ, ◌≡◌}
+use Rattle.std.specs.Prelude.{Bool, List, Some, [], false, is_some, true, ℕ, ◌≡◌}
 use Rattle.task_machine.specs.Core.{Core}
 use Rattle.task_machine.specs.Maps.{get}
 use Rattle.task_machine.specs.Read.{goal_of, is_direct, is_explicit, kind_of, set_at, task_of}
@@ -10,8 +10,13 @@ use Rattle.task_machine.specs.declared.records.Place.TheVariants as places
 use Rattle.task_machine.specs.declared.records.Why.{Why}
 use Rattle.task_machine.specs.declared.records.Why.TheVariants as why
 use Rattle.task_machine.specs.declared.words.Mark.{Mark}
-use Rattle.task_rules.proofs.StandLemmas.{Stand}
+use Rattle.task_rules.proofs.StandLemmas as rules
+use Rattle.task_rules.proofs.StandLemmas.{nobody}
 use Rattle.task_rules.specs.Places.{is_there}
+
+-- The thread is at the place; it and those of the list have no entry and are among no callers, and each other thread has its place.
+abbrev pub Stand : ℕ → Place → List ℕ → Core → Type 0
+Stand n q xs s = rules.Stand nobody n (Some q) xs s
 
 -- The thread runs, and each thread has its place.
 abbrev pub IsRunning : ℕ → Core → Type 0
