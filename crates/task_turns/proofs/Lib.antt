@@ -7,3 +7,4 @@ pub mod StretchLemmas
 pub mod TakenLemmas
 pub mod ShowLemmas
 pub mod KeptLemmas
+pub mod PollLemmas

@@ -3,6 +3,7 @@
 #![tactic(auto)]
 
 mod context;
+mod futures;
 mod kept;
 mod made;
 mod runs;
@@ -13,6 +14,7 @@ mod takes;
 mod trace;
 
 pub use context::{ThreadContext, operand_value};
+pub use futures::step_poll;
 pub use kept::{finish_in_order, made_in_order, refusal_in_order, start_in_order};
 pub use made::Made;
 pub use runs::step_run;
