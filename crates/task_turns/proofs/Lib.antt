@@ -8,3 +8,4 @@ pub mod TakenLemmas
 pub mod ShowLemmas
 pub mod KeptLemmas
 pub mod PollLemmas
+pub mod RestLemmas
