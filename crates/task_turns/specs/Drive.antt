@@ -52,5 +52,6 @@ pub record IsOn (x : Setting) (s : State) (before : List Label) (numbers : ℕ) 
 -- Where a run has gone on for so many labels in this turn, it goes on to this state and trace in the same turn, main as it was.
 abbrev pub KeepsOn : Component → Turn → StateView → List Label → ℕ → StateView → List Label → ℕ → Type 0
 KeepsOn c p s before added t after k =
-    (x : Setting) → x.component ≡ c → (o : State) (trace : List Label) (numbers : ℕ) (m : Main) → IsOn x o trace numbers p m s before added →
+    (x : Setting) → x.component ≡ c → (o : State) (trace : List Label) (numbers : ℕ) (m : Main) →
+    IsOn x o trace numbers p m s before added →
     IsOn x o trace numbers p m t after k
