@@ -7,3 +7,5 @@ pub mod StretchLemmas
 pub mod TakenLemmas
 pub mod ShowLemmas
 pub mod KeptLemmas
+pub mod PollLemmas
+pub mod RestLemmas

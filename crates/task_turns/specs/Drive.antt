@@ -21,7 +21,8 @@ pub record Going (x : Setting) (s : State) (before : List Label) (t : State) (af
   pub going_on : last_outcome added ≡ None
 
 -- A run of at most so many labels was added, and this is what it has come to.
-pub record Drives (x : Setting) (s : State) (before : List Label) (t : State) (after : List Label) (steps : ℕ) (outcome : Outcome) : Type 0 where
+pub record Drives (x : Setting) (s : State) (before : List Label) (t : State) (after : List Label) (steps : ℕ)
+    (outcome : Outcome) : Type 0 where
   pub added : List Label
   pub trace : after ≡ before ++ added
   pub run : Run x s added t
@@ -29,7 +30,8 @@ pub record Drives (x : Setting) (s : State) (before : List Label) (t : State) (a
   pub ends : IsOutcome x t added steps outcome
 
 -- What the turns came to: a run, and how the store stands then.
-pub record Drove (x : Setting) (s : State) (before : List Label) (numbers : ℕ) (p : Turn) (m : Main) (t : StateView) (after : List Label) (steps : ℕ) (outcome : Outcome) : Type 0 where
+pub record Drove (x : Setting) (s : State) (before : List Label) (numbers : ℕ) (p : Turn) (m : Main) (t : StateView) (after : List Label)
+    (steps : ℕ) (outcome : Outcome) : Type 0 where
   pub drives : Drives x s before (state_at t.core m p) after steps outcome
   pub unfinished : is_open p ≡ goes_on outcome
   pub order : InOrder x.component (state_at t.core m p)
@@ -38,7 +40,8 @@ pub record Drove (x : Setting) (s : State) (before : List Label) (numbers : ℕ)
   pub pends : PendsIn x t.core m p
 
 -- The run has gone on for n labels, and the store stands so that it can go on.
-pub record IsOn (x : Setting) (s : State) (before : List Label) (numbers : ℕ) (p : Turn) (m : Main) (t : StateView) (after : List Label) (n : ℕ) : Type 0 where
+pub record IsOn (x : Setting) (s : State) (before : List Label) (numbers : ℕ) (p : Turn) (m : Main) (t : StateView) (after : List Label)
+    (n : ℕ) : Type 0 where
   pub going : Going x s before (state_at t.core m p) after n
   pub unfinished : is_open p ≡ true
   pub order : InOrder x.component (state_at t.core m p)
@@ -46,8 +49,9 @@ pub record IsOn (x : Setting) (s : State) (before : List Label) (numbers : ℕ) 
   pub running : running_of t ≡ runs_in p
   pub pends : PendsIn x t.core m p
 
--- Where a run has gone on for so many labels in this turn, it goes on to this state and trace in the same turn, with main as it was.
+-- Where a run has gone on for so many labels in this turn, it goes on to this state and trace in the same turn, main as it was.
 abbrev pub KeepsOn : Component → Turn → StateView → List Label → ℕ → StateView → List Label → ℕ → Type 0
 KeepsOn c p s before added t after k =
-    (x : Setting) → x.component ≡ c → (o : State) (trace : List Label) (numbers : ℕ) (m : Main) → IsOn x o trace numbers p m s before added →
+    (x : Setting) → x.component ≡ c → (o : State) (trace : List Label) (numbers : ℕ) (m : Main) →
+    IsOn x o trace numbers p m s before added →
     IsOn x o trace numbers p m t after k

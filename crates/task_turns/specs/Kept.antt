@@ -14,13 +14,15 @@ use Rattle.task_words.specs.StateView.{StateView}
 
 -- a step that was made from a state in order leads to one
 abbrev pub MadeInOrder : Type 0
-MadeInOrder = (c : Component) (p : Turn) (s : StateView) (made : Made) (t : StateView) → Sits c p s.core → Makes c p s made t → Sits c made.turn t.core
+MadeInOrder =
+    (c : Component) (p : Turn) (s : StateView) (made : Made) (t : StateView) → Sits c p s.core → Makes c p s made t →
+    Sits c made.turn t.core
 
 -- a start by the host keeps order, whosever turn it is
 abbrev pub StartInOrder : Type 0
 StartInOrder =
-    (c : Component) (p : Turn) (e : Callee) (words : List ℕ) (s : Core) → takes_words c e (length words) ≡ true → start_refusal s ≡ None → Sits c p s →
-    Sits c p (main_started c e words s)
+    (c : Component) (p : Turn) (e : Callee) (words : List ℕ) (s : Core) → takes_words c e (length words) ≡ true → start_refusal s ≡ None →
+    Sits c p s → Sits c p (main_started c e words s)
 
 -- so does a start that is refused
 abbrev pub RefusalInOrder : Type 0

@@ -3,8 +3,10 @@
 #![tactic(auto)]
 
 mod context;
+mod futures;
 mod kept;
 mod made;
+mod rests;
 mod runs;
 mod scripts;
 mod settles;
@@ -13,8 +15,10 @@ mod takes;
 mod trace;
 
 pub use context::{ThreadContext, operand_value};
+pub use futures::step_poll;
 pub use kept::{finish_in_order, made_in_order, refusal_in_order, start_in_order};
 pub use made::Made;
+pub use rests::{step_deadlock, step_rest};
 pub use runs::step_run;
 pub use scripts::{export_def, script_ops};
 pub use settles::{turn_after_end, turn_after_polls};
