@@ -49,6 +49,10 @@ at_turn_of c s m k p q runs o = record {
   kinds = o.kinds;
   deliveries = o.deliveries;
   starts = o.starts;
+  directs = o.directs;
+  works = o.works;
+  awaited = o.awaited;
+  fits = o.fits;
 }
 
 -- an act of main that takes no running thread away

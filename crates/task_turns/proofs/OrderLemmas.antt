@@ -20,7 +20,7 @@ use Rattle.task_ops.specs.Running.{IsTopmost}
 use Rattle.task_ops.specs.Stays.{StaysAfter}
 use Rattle.task_ops.specs.declared.came.Came.{Came}
 use Rattle.task_ops.specs.declared.came.Came.TheVariants as came
-use Rattle.task_rules.proofs.MoveLemmas.{stand_of}
+use Rattle.task_ops.proofs.BesideLemmas.{stand_of}
 use Rattle.task_rules.specs.Scripts.{export_at, export_kind}
 use Rattle.task_table.specs.declared.id.TableId.{TableId}
 use Rattle.task_turns.specs.Covered.{IsCovered}

@@ -22,10 +22,11 @@ use Rattle.task_machine.specs.declared.records.Why.TheVariants as why
 use Rattle.task_machine.specs.declared.words.Mark.{Mark}
 use Rattle.task_machine.specs.declared.words.Mark.TheVariants as mark
 use Rattle.task_moves.specs.Idle.{IsJoinThere}
-use Rattle.task_places.proofs.FreshMoves.{fresher_same}
-use Rattle.task_places.proofs.TakeRows.{Front, next_front, popped_stand}
-use Rattle.task_rules.proofs.StandLemmas.{Stand, eq_refl}
-use Rattle.task_rules.specs.Places.{HasPlace, entries, is_at_high, is_at_low, is_at_switch, one_if, says, switch_entries}
+use Rattle.task_ops.specs.Running.{Stand}
+use Rattle.task_places.proofs.Entries.{Cleared, First, next_first, popped_cleared}
+use Rattle.task_rules.proofs.MoveLemmas.{no_time, one_time}
+use Rattle.task_rules.proofs.StandLemmas.{Loose, by_number, eq_refl, left_placed, zero_one}
+use Rattle.task_rules.specs.Places.{HasPlace, entries, is_at_high, is_at_low, is_at_switch, is_behind_of, one_if, says, switch_entries, times}
 use Rattle.task_rules.specs.Takes.{popped}
 use Rattle.task_turns.proofs.OrderLemmas.{positive, some_from}
 use Rattle.task_turns.specs.Taken.{Taken}
@@ -60,7 +61,7 @@ first_stands : (n : ℕ) (es es' : List Entry) → es ≡ entry.Thread n ∷ es'
 first_stands n es es' e = let x = ap (entries n) e in let y = ap one_if (eq_refl n) in omega (arith, x, y)
 
 -- the thread stands at the mark at which its entry comes first
-ready_at : (m : Mark) (n : ℕ) (s : Core) → Front s.queues.switch s.queues.high s.queues.low m (entry.Thread n) → HasPlace n s → IsAt m (place_of n s)
+ready_at : (m : Mark) (n : ℕ) (s : Core) → First m (entry.Thread n) s → HasPlace n s → IsAt m (place_of n s)
 ready_at mark.Switch n s f h = says_at mark.Switch is_at_switch switch_at (place_of n s) (let x = h.switch in let y = ap (switch_entries n) (f.1.0 ∙ ap (λ (e : Entry). Some (named e)) (sym f.1.1)) in let z = ap one_if (eq_refl n) in omega (arith, x, y, z))
   where
     named : Entry → ℕ
@@ -68,6 +69,26 @@ ready_at mark.Switch n s f h = says_at mark.Switch is_at_switch switch_at (place
     named _ = 0
 ready_at mark.High n s f h = says_at mark.High is_at_high high_at (place_of n s) (let x = h.high in let y = first_stands n s.queues.high _ f in omega (arith, x, y))
 ready_at mark.Low n s f h = says_at mark.Low is_at_low low_at (place_of n s) (let x = h.low in let y = first_stands n s.queues.low _ f in omega (arith, x, y))
+
+one_or_none : (n k : ℕ) → times k (n ∷ []) ≤ 1
+one_or_none n k = grind arith
+
+-- the thread whose entry was taken is loose, and each other one has its place
+popped_stand : (m : Mark) (w : Why) (n : ℕ) (s : Core) → First m (entry.Thread n) s → place_of n s ≡ Some (place.Ready m w) → ((k : ℕ) → HasPlace k s) → Stand n (place.Ready m w) [] (popped m s)
+popped_stand m w n s front at all = record {
+  here = c.places n ∙ at;
+  once = one_or_none n;
+  loose = λ k h. by_number k n (Loose k t) (λ e. subst (λ (j : ℕ). Loose j t) (sym e) (c.own (λ f. ap (says (is_behind_of f)) at))) (λ e. zero_one (no_time k n e) h);
+  there = λ k h. zero_one refl h;
+  placed = λ k h. by_number k n (HasPlace k t) (λ e. zero_one (subst (λ (j : ℕ). times j (n ∷ []) ≡ 0) e h) (one_time n)) (λ e. left_placed k s t (c.left k e) (c.places k) (all k));
+  kept = λ k h. absurd (grind arith);
+}
+  where
+    t : Core
+    t = popped m s
+
+    c : Cleared n s t
+    c = (popped_cleared m n s front (all n)).0
 
 popped_place : (m : Mark) (n : ℕ) (s : Core) → place_of n (popped m s) ≡ place_of n s
 unfolding popped set_switch set_high set_low
@@ -90,10 +111,10 @@ module _ (c : Component) (ended : Bool) (s : Core) (sits : Sits c (turn.Take end
 
   pub taken : (m : Mark) (n : ℕ) → next_entry s ≡ Some (m, entry.Thread n) → Taken m n (popped m s)
   taken m n next =
-      let front = next_front s (m, entry.Thread n) next in
+      let front = next_first s m (entry.Thread n) next in
       let at = ready_at m n s front (order.in_place.placed n) in
       let there = popped_place m n s ∙ at.1 in
-      let stand = (popped_stand {base = s} m n (place.Ready m at.0) s front there (record { each = order.in_place.placed; fresh = fresher_same s })).stand in
+      let stand = popped_stand m at.0 n s front at.1 order.in_place.placed in
       record {
         live = positive n s none (some_from (λ (t : Thread). t.place) (get s.threads n) (place.Ready m at.0) at.1);
         stands = subst (λ (w : Why). Stand n (place.Ready m w) [] (popped m s)) (sym (ap (λ (o : Option Place). option_map_or ready_why o why.Resumption) there)) stand;

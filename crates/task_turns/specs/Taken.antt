@@ -11,7 +11,7 @@ use Rattle.task_machine.specs.declared.records.Subtask.TheVariants as subtask
 use Rattle.task_machine.specs.declared.words.Mark.{Mark}
 use Rattle.task_moves.specs.Idle.{IsJoinThere}
 use Rattle.task_ops.specs.Gifts.{MembersNamed}
-use Rattle.task_rules.proofs.StandLemmas.{Stand}
+use Rattle.task_ops.specs.Running.{Stand}
 use Rattle.task_rules.specs.Takes.{popped}
 use Rattle.task_words.specs.Live.{delivered_set}
 
