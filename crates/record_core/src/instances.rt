@@ -1,4 +1,4 @@
-use crate::core::TaskCore;
+use crate::task_core::TaskCore;
 use task_machine::NoMemory;
 use task_words::{InstanceWords, SetId, SubtaskId, ThreadId};
 

@@ -2,8 +2,8 @@
 //! them, with every word of `task_words`.
 #![tactic(auto)]
 
-mod core;
 mod instances;
 mod queues;
+mod task_core;
 
-pub use crate::core::TaskCore;
+pub use crate::task_core::TaskCore;

@@ -1,4 +1,4 @@
-use crate::core::TaskCore;
+use crate::task_core::TaskCore;
 use task_machine::Mark;
 use task_words::{EntryId, QueueWords, ThreadId, WorkId};
 

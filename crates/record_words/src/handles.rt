@@ -1,4 +1,4 @@
-ghost use Rattle.std.specs.Prelude.{◌≡◌, option_map};
+ghost use Rattle.std.specs.Prelude.{◌<◌, ◌^◌, ◌≡◌, IfSome, option_map};
 ghost use Rattle.task_machine.specs.Read.{new_handle, new_thread_handle, set_at, subtask_at, thread_at};
 ghost use Rattle.task_records.specs.Seen.{IsSound, seen};
 ghost use Rattle.task_words.specs.Live.{live_set, live_subtask, live_thread};
@@ -12,7 +12,8 @@ use task_words::{SetId, SubtaskId, ThreadId};
 /// The subtask that a handle names.
 pub fn subtask_at(parts: &CoreParts, instance: u32, handle: u64) -> Option<SubtaskId>
     requires { IsSound parts.now }
-    ensures { option_map (subtask_in (seen parts.now).tags) result ≡ option_map (λ sub. live_subtask sub (seen parts.now).core) (subtask_at instance handle (seen parts.now).core) }
+    ensures is { option_map (subtask_in (seen parts.now).tags) result ≡ option_map (λ sub. live_subtask sub (seen parts.now).core) (subtask_at instance handle (seen parts.now).core) }
+    ensures small { IfSome result (λ id. handle < 2 ^ 32) }
 {
     match task_records::held(parts, instance, handle) {
         Some(held) => match held.kind {
@@ -36,7 +37,8 @@ pub fn subtask_at(parts: &CoreParts, instance: u32, handle: u64) -> Option<Subta
 /// The set that a handle names.
 pub fn set_at(parts: &CoreParts, instance: u32, handle: u64) -> Option<SetId>
     requires { IsSound parts.now }
-    ensures { option_map (λ id. set_of (seen parts.now) id) result ≡ option_map (λ x. live_set x (seen parts.now).core) (set_at instance handle (seen parts.now).core) }
+    ensures is { option_map (λ id. set_of (seen parts.now) id) result ≡ option_map (λ x. live_set x (seen parts.now).core) (set_at instance handle (seen parts.now).core) }
+    ensures small { IfSome result (λ id. handle < 2 ^ 32) }
 {
     match task_records::held(parts, instance, handle) {
         Some(held) => match held.kind {

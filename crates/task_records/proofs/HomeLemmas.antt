@@ -47,10 +47,22 @@ module _ (a : CoreParts) where
   bare_instance k = ap (λ o. (option_map_or (λ (c : Call). c.callee) o no_callee).instance) (bare_call_read k) ∙ instance_loose (get (seen a).core.calls k)
 
   module _ (sound : IsSound a) where
-    -- no call has the number 0
+    -- nothing has the number 0
+    pub no_thread : get (seen a).core.threads 0 ≡ None
+    unfolding seen IsSound
+    no_thread = get-records thread_key a.threads.places 0 ∙ sound.tables.threads.above_zero
+
     pub no_call : get (seen a).core.calls 0 ≡ None
     unfolding seen IsSound
     no_call = get-records call_key a.calls.places 0 ∙ sound.tables.calls.above_zero
+
+    pub no_set : get (seen a).core.sets 0 ≡ None
+    unfolding seen IsSound
+    no_set = get-records set_key a.sets.places 0 ∙ sound.tables.sets.above_zero
+
+    pub no_work : get (seen a).core.works 0 ≡ None
+    unfolding seen IsSound
+    no_work = get-records work_key a.works.places 0 ∙ sound.tables.works.above_zero
 
     -- a thread that isn't there is in no instance
     pub no_instance : (n : ℕ) → None ≡ get (seen a).core.threads n → 0 ≡ instance_of n (seen a).core
@@ -72,6 +84,9 @@ module _ (a : CoreParts) where
     thread_instance = sym (ap (λ k. call_instance k (seen a).core) thread_task ∙ (sym (bare_instance g.thread.call) ∙ thread_home.instance))
 
     -- the number of the thread's call stands at the place that the thread keeps
+    pub task_live : 0 < task_of (thread_of (seen a) id) (seen a).core
+    task_live = subst (λ (k : ℕ). 0 < k) (sym thread_task) thread_home.there
+
     pub task_place : HasNumber call_key a.calls g.task (task_of (thread_of (seen a) id) (seen a).core)
     task_place = sym (number_at_mapped call_key call_key (on_item bare_call) (λ c. uninterested (loose_call c)) (λ e. refl) a.calls g.task) ∙ (thread_home.call ∙ sym thread_task)
 

@@ -1,4 +1,4 @@
-ghost use Rattle.std.specs.Prelude.{◌≡◌};
+ghost use Rattle.std.specs.Prelude.{◌<◌, ◌≡◌, None};
 ghost use Rattle.task_machine.specs.Maps.{get};
 ghost use Rattle.task_machine.specs.Read.{task_of};
 ghost use Rattle.task_records.specs.Keys.{call_key, set_key, thread_key, work_key};
@@ -135,10 +135,20 @@ pub fn named_set(parts: &CoreParts, place: u32, number: u64) -> SetId
 /// The call of a thread, which is there as long as the thread.
 pub fn task_of(parts: &CoreParts, thread: ThreadId) -> CallId
     requires { IsSound parts.now }
-    ensures { call_of (seen parts.now) result ≡ task_of (thread_of (seen parts.now) thread) (seen parts.now).core }
+    ensures is { call_of (seen parts.now) result ≡ task_of (thread_of (seen parts.now) thread) (seen parts.now).core }
+    ensures live { 0 < thread_of (seen parts.now) thread → 0 < call_of (seen parts.now) result }
 {
     match crate::reads::thread(parts, thread) {
         Some(entry) => call_at(parts, entry.task),
         None => nowhere(),
     }
 }
+
+/// Nothing has the number 0, which is that of an id that names nothing.
+pub fn none_is_zero(parts: &CoreParts)
+    requires { IsSound parts.now }
+    ensures threads { get (seen parts.now).core.threads 0 ≡ None }
+    ensures calls { get (seen parts.now).core.calls 0 ≡ None }
+    ensures sets { get (seen parts.now).core.sets 0 ≡ None }
+    ensures works { get (seen parts.now).core.works 0 ≡ None }
+{}

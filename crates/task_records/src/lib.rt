@@ -17,7 +17,8 @@ mod works;
 
 pub use calls::{GuestTask, TaskGroup};
 pub use ids::{
-    call_at, named_call, named_set, named_thread, named_work, set_at, task_of, thread_at, work_at,
+    call_at, named_call, named_set, named_thread, named_work, none_is_zero, set_at, task_of,
+    thread_at, work_at,
 };
 pub use instances::InstanceRecord;
 pub use parts::{CoreParts, Kept};

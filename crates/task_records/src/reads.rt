@@ -1,4 +1,4 @@
-ghost use Rattle.std.specs.Prelude.{◌≡◌, IfNone, IfSome, Ok, option_copied, option_map, slice_get};
+ghost use Rattle.std.specs.Prelude.{◌<◌, ◌^◌, ◌≡◌, IfNone, IfSome, Ok, option_copied, option_map, slice_get};
 ghost use Rattle.task_machine.specs.Maps.{get};
 ghost use Rattle.task_machine.specs.Read.{instance_of, named_by, thread_at};
 ghost use Rattle.task_records.specs.Instances.{handle_table, named_of, thread_of as thread_named};
@@ -95,6 +95,7 @@ pub fn held(parts: &CoreParts, index: u32, handle: u64) -> Option<Held>
     requires { IsSound parts.now }
     ensures is { option_map named_of result ≡ named_by (seen parts.now).core.handles index handle }
     ensures named { IfSome result (λ held. IsHeldNamed (kinds (parts_of parts.now)) held.kind held.rep) }
+    ensures small { IfSome result (λ held. handle < 2 ^ 32) }
 {
     match instance(parts, index) {
         Some(entry) => {

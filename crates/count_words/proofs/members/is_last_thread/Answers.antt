@@ -6,13 +6,13 @@ use Rattle.task_records.specs.Kept.{threads_of}
 use Rattle.task_records.specs.Seen.{seen}
 
 pub unreachable-requires : goal.unreachable-requires
-unreachable-requires c = call_there c.args.parts.now c.requires c.args.thread c.in-Some.field-0.now c.in-Some.ensures.item (sym c.task_of-call.ensures ∙ c.in-None-call.ensures.nothing)
+unreachable-requires c = call_there c.args.parts.now c.requires c.args.thread c.in-Some.field-0.now c.in-Some.ensures.item (sym c.task_of-call.ensures.is ∙ c.in-None-call.ensures.nothing)
 
 pub returns-in-Some-call : goal.returns-in-Some-call
 returns-in-Some-call c =
     last_of_call c.args.parts.now c.requires c.args.thread c.in-Some.field-0.now c.in-Some.ensures.item c.in-Some-call.entry.now.threads
     (call_threads c.args.parts.now c.requires c.task_of-call.result c.in-Some-call.entry.now c.in-Some-call.ensures.item
-    ∙ ap (λ k. threads_of k (seen c.args.parts.now).core) (c.in-Some-call.ensures.number ∙ c.task_of-call.ensures))
+    ∙ ap (λ k. threads_of k (seen c.args.parts.now).core) (c.in-Some-call.ensures.number ∙ c.task_of-call.ensures.is))
 
 pub returns-in-None : goal.returns-in-None
 returns-in-None c = nobody_else c.args.parts.now c.requires c.args.thread c.in-None.ensures.is

@@ -51,4 +51,8 @@ impl View for TaskCore {
     fn set_current(&mut self, thread: Option<ThreadId>) {
         count_words::set_current(&mut self.parts, thread);
     }
+
+    fn none_is_zero(&self) {
+        task_records::none_is_zero(&self.parts);
+    }
 }
