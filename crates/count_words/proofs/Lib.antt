@@ -1,3 +1,4 @@
 pub mod RoomLemmas
 pub mod TrapLemmas
+pub mod BesideLemmas
 pub mod ResultLemmas

@@ -14,5 +14,5 @@ pub use limits::{
 pub use members::{
     has_thread, has_waiters, is_deletable, is_last_thread, set_instance, set_number,
 };
-pub use results::result;
+pub use results::{give_result, result, take_result};
 pub use works::{has_live_work, has_moving_work, set_course, set_phase};
