@@ -2,3 +2,4 @@ pub mod RoomLemmas
 pub mod TrapLemmas
 pub mod BesideLemmas
 pub mod ResultLemmas
+pub mod ScanLemmas
