@@ -22,7 +22,7 @@ pub fn result(parts: &CoreParts, call: u64) -> Option<u64>
 /// Gives main the result of a call that it made. The room was taken when the call was made.
 pub fn give_result(parts: &mut CoreParts, call: CallId, value: u64)
     requires sound { IsSound parts.old }
-    requires goal { goal_of (call_of (seen parts.old) call) (seen parts.old).core ≡ goals.Main }
+    requires main { goal_of (call_of (seen parts.old) call) (seen parts.old).core ≡ goals.Main }
     ensures sound { IsSound parts.new }
     ensures new { seen parts.new ≡ on_core (give_result (call_of (seen parts.old) call) value) (seen parts.old) }
 {

@@ -6,7 +6,7 @@ use Rattle.task_machine.specs.Write.{give_result}
 use Rattle.task_words.specs.StateView.{on_core}
 
 pub unreachable-requires : goal.unreachable-requires
-unreachable-requires c = no_room c.args.parts.now c.requires.sound c.args.call c.in-Some.found.now c.in-Some.ensures.item c.requires.goal c.in-None-get_mut.ensures.value
+unreachable-requires c = no_room c.args.parts.now c.requires.sound c.args.call c.in-Some.found.now c.in-Some.ensures.item c.requires.main c.in-None-get_mut.ensures.value
 
 pub returns-clause-sound : goal.returns-clause-sound
 returns-clause-sound c = written_sound c.args.parts.now c.requires.sound _ c.in-Some.found.now.number _ ((c.get_mut.follows.holds _).3 (is_there _ _ c.in-Some-get_mut.ensures.value)).0
