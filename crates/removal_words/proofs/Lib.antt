@@ -3,3 +3,4 @@ pub mod LeftLemmas
 pub mod LessLemmas
 pub mod UnfiledLemmas
 pub mod SetLemmas
+pub mod HandleLemmas

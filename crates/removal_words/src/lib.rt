@@ -5,4 +5,4 @@
 
 mod sets;
 
-pub use sets::remove_set;
+pub use sets::close_set;
