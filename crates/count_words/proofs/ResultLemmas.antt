@@ -1,28 +1,32 @@
 -- The results that were given, by the numbers of their calls.
-use Rattle.std.proofs.Common.{◌≡◌, ◌==◌, ℕ, Bool, true, false, cond, List, [], ◌∷◌, Option, Some, None, IsSome, refl, sym, ap, ap₂, subst, ◌∙◌}
+use Rattle.count_words.proofs.BesideLemmas.{beside_whole}
+use Rattle.std.proofs.Common.{inl, inr, ◌⊎◌, ◌≡◌, ◌==◌, ℕ, Bool, true, false, cond, List, [], ◌∷◌, Option, Some, None, IsSome, refl, sym, ap, ap₂, subst, ◌∙◌}
+use Rattle.std.proofs.lemmas.Bool.{cases_eq, eq-eqb, ne_eqb}
 use Rattle.std.specs.BTreeMap.{BTreeMap, is_at}
 use Rattle.std.specs.Cmp.{eq_by_cmp_equiv, nat_cmp_total, unsigned_tied}
 use Rattle.std.specs.Map.{lookup}
 use Rattle.std.specs.Option.{option_map, option_map_or}
 use Rattle.std.specs.Ordering.{nat_cmp}
-use Rattle.task_machine.specs.Maps.{Records, get, get-empty, get-insert, get-remove, insert, same_map}
+use Rattle.std.specs.Prelude.{Ok}
+use Rattle.task_machine.specs.Maps.{Records, get, get-empty, get-insert, get-remove, insert, remove, same_map}
 use Rattle.task_machine.specs.Read.{goal_of, table_use}
-use Rattle.task_machine.specs.Write.{give_result}
+use Rattle.task_machine.specs.Write.{give_result, take_result}
 use Rattle.task_machine.specs.declared.records.Call.{Call}
 use Rattle.task_machine.specs.declared.records.Goal.TheVariants as goal
+use Rattle.task_records.proofs.ReadLemmas.{call_named, call_read}
 use Rattle.task_records.proofs.TableLemmas.{get_mapped}
-use Rattle.task_records.specs.Image.{Parts, core_of, given_results, image}
+use Rattle.task_records.specs.Image.{given_results}
 use Rattle.task_records.specs.Keys.{call_key}
-use Rattle.task_records.specs.Kinds.{on_item}
-use Rattle.task_records.specs.Names.{HasHome, IsCallNamed, IsWorkNamed}
+use Rattle.task_records.specs.Kinds.{item_of, on_item}
 use Rattle.task_records.specs.Seen.{IsSound, parts_of, seen}
-use Rattle.task_records.specs.Sound.{IsWhole, bare, bare_call, loose_call, uninterested}
+use Rattle.task_records.specs.Sound.{bare, bare_call, loose_call, uninterested}
 use Rattle.task_records.specs.declared.calls.GuestTask.{GuestTask}
 use Rattle.task_records.specs.declared.parts.CoreParts.{CoreParts}
-use Rattle.task_records.specs.declared.threads.GuestThread.{GuestThread}
-use Rattle.task_records.specs.declared.works.HostWork.{HostWork}
+use Rattle.task_table.specs.Answers.{item_at}
 use Rattle.task_table.specs.Records.{records}
-use Rattle.task_words.specs.StateView.{on_core}
+use Rattle.task_table.specs.declared.id.TableId.{TableId}
+use Rattle.task_wait.specs.declared.keys.GuestTaskKey.{GuestTaskKey}
+use Rattle.task_words.specs.StateView.{call_of, on_core}
 
 -- what was given, where there is room
 abbrev pub given : Option (Option ℕ) → Option ℕ
@@ -40,104 +44,77 @@ get-given ((k, None) ∷ rs) q =
 get-given ((k, Some v) ∷ rs) q =
     get-insert (given_results rs) k v q ∙ (ap₂ (λ b o. cond b (Some v) o) (sym (unsigned_tied q k)) (get-given rs q) ∙ under (is_at (nat_cmp q) k) (Some v) (lookup (is_at (nat_cmp q)) rs))
 
-abbrev pub has_room : List (ℕ × Option ℕ) → ℕ → Type 0
-has_room rs k = IsSome (lookup (is_at (nat_cmp k)) rs)
+pub is_there : (x : Option ℕ) (o : Option (Option ℕ)) → Some x ≡ o → IsSome o
+is_there x o is = subst IsSome is refl
 
-module _ (p : Parts) (rs : List (ℕ × Option ℕ)) (room : (k : ℕ) → has_room p.results k → has_room rs k) where
-  abbrev pub with_results : Parts
-  with_results = record p { results = rs }
+-- whether it is k, by either's order
+at_key : (k q : ℕ) → is_at (nat_cmp k) q ≡ (q == k)
+at_key k q = (eq_by_cmp_equiv nat_cmp_total).symm k q ∙ unsigned_tied q k
 
-  home_after : (g : GuestThread) → HasHome p g → HasHome with_results g
-  home_after g home = record { call = home.call; there = home.there; instance = home.instance; within = home.within; place = home.place; how_far = home.how_far }
-
-  call_after : (g : GuestTask) → IsCallNamed p g → IsCallNamed with_results g
-  call_after g named = record { caller = named.caller; join = named.join; group = named.group; positive = named.positive }
-
-  work_after : (w : HostWork) → IsWorkNamed p w → IsWorkNamed with_results w
-  work_after w named = record { caller = named.caller; join = named.join; group = named.group }
-
-  pub results_whole : IsWhole p → IsWhole with_results
-  unfolding table_use
-  results_whole whole = record {
-    named = record {
-      threads = λ rep q at. home_after q.entry.item (whole.named.threads rep q at);
-      calls = λ rep q at. call_after q.entry.item (whole.named.calls rep q at);
-      works = λ rep q at. work_after q.entry.item (whole.named.works rep q at);
-      switch = whole.named.switch;
-    };
-    chained = record {
-      places = whole.chained.places;
-      ready_calls = whole.chained.ready_calls;
-      ready_works = whole.chained.ready_works;
-      polled = whole.chained.polled;
-      marks = whole.chained.marks;
-      shelves = whole.chained.shelves;
-      low = whole.chained.low;
-      behind = whole.chained.behind;
-    };
-    nodes = record {
-      marks = whole.nodes.marks;
-      shelves = whole.nodes.shelves;
-      callers = whole.nodes.callers;
-      works = whole.nodes.works;
-      apart = whole.nodes.apart;
-    };
-    counted = record {
-      kept = record { used = whole.counted.kept.used; groups = whole.counted.kept.groups; live = whole.counted.kept.live };
-      calls = whole.counted.calls;
-      sets = λ rep q at. let one = whole.counted.sets rep q at in record { members = one.members; entries = one.entries };
-      groups = whole.counted.groups;
-      few = whole.counted.few;
-      high = whole.counted.high;
-      low = whole.counted.low;
-      works = whole.counted.works;
-      results = λ k c at main. room k (whole.counted.results k c at main);
-    };
+module _ (a : CoreParts) (sound : IsSound a) (m : BTreeMap ℕ (Option ℕ)) where
+  pub results_sound : ((q : ℕ) → IsSome (lookup (is_at (nat_cmp q)) a.results.entries) → IsSome (lookup (is_at (nat_cmp q)) m.entries)) → IsSound (record a { results = m })
+  unfolding IsSound table_use
+  results_sound rooms = record {
+    tables = record { threads = sound.tables.threads; calls = sound.tables.calls; works = sound.tables.works; sets = sound.tables.sets; groups = sound.tables.groups };
+    whole = beside_whole (bare (parts_of a)) a.finished (bare (parts_of a)).kept m.entries sound.whole
+        (record { used = sound.whole.counted.kept.used; groups = sound.whole.counted.kept.groups; live = sound.whole.counted.kept.live })
+        (λ k c at main. rooms k (sound.whole.counted.results k c at main));
+    interesting = sound.interesting;
+    moving = sound.moving;
+    handles = sound.handles;
+    owned = sound.owned;
+    live = sound.live;
   }
 
--- one number gets a value
-module _ (old new : List (ℕ × Option ℕ)) (n v : ℕ) (writes : (q : ℕ) → lookup (is_at (nat_cmp q)) new ≡ cond (is_at (nat_cmp n) q) (Some (Some v)) (lookup (is_at (nat_cmp q)) old)) where
-  over : (b : Bool) (o : Option (Option ℕ)) → IsSome o → IsSome (cond b (Some (Some v)) o)
-  over true o there = refl
-  over false o there = there
+  pub results_seen : (rs : Records ℕ) → ((q : ℕ) → given (lookup (is_at (nat_cmp q)) m.entries) ≡ get rs q) → seen (record a { results = m }) ≡ on_core (λ s. record s { results = rs }) (seen a)
+  unfolding seen
+  results_seen rs same = ap (λ (ns : Records ℕ). record (seen a) { core = record (seen a).core { results = ns } }) (same_map (given_results m.entries) rs (λ q. get-given m.entries q ∙ same q))
 
-  pub room_stays : (k : ℕ) → has_room old k → has_room new k
-  room_stays k there = subst IsSome (sym (writes k)) (over (is_at (nat_cmp n) k) (lookup (is_at (nat_cmp k)) old) there)
+  module _ (k : ℕ) (o : Option ℕ) (writes : (q : ℕ) → lookup (is_at (nat_cmp q)) m.entries ≡ cond (is_at (nat_cmp k) q) (Some o) (lookup (is_at (nat_cmp q)) a.results.entries)) where
+    pub written_sound : IsSound (record a { results = m })
+    written_sound = results_sound (λ q some. subst IsSome (sym (writes q)) (by_test (lookup (is_at (nat_cmp q)) a.results.entries) (is_at (nat_cmp k) q) some))
+      where
+        by_test : (x : Option (Option ℕ)) (b : Bool) → IsSome x → IsSome (cond b (Some o) x)
+        by_test x true some = refl
+        by_test x false some = some
 
-  tests : (q : ℕ) → is_at (nat_cmp n) q ≡ (q == n)
-  tests q = (eq_by_cmp_equiv nat_cmp_total).symm n q ∙ unsigned_tied q n
+    written_at : (q : ℕ) → given (lookup (is_at (nat_cmp q)) m.entries) ≡ cond (q == k) o (get (given_results a.results.entries) q)
+    written_at q = ap given (writes q ∙ ap (λ b. cond b (Some o) (lookup (is_at (nat_cmp q)) a.results.entries)) (at_key k q)) ∙ (by_test (q == k) (lookup (is_at (nat_cmp q)) a.results.entries) ∙ ap (cond (q == k) o) (sym (get-given a.results.entries q)))
+      where
+        by_test : (b : Bool) (x : Option (Option ℕ)) → given (cond b (Some o) x) ≡ cond b o (given x)
+        by_test true x = refl
+        by_test false x = refl
 
-  pub given_writes : given_results new ≡ insert (given_results old) n v
-  given_writes = same_map _ _ (λ q.
-      get-given new q ∙ (ap given (writes q) ∙ (sym (under (is_at (nat_cmp n) q) (Some v) (lookup (is_at (nat_cmp q)) old))
-      ∙ (ap₂ (λ b o. cond b (Some v) o) (tests q) (sym (get-given old q)) ∙ sym (get-insert (given_results old) n v q)))))
+    pub result_given : (v : ℕ) → o ≡ Some v → seen (record a { results = m }) ≡ on_core (give_result k v) (seen a)
+    unfolding give_result seen
+    result_given v is = results_seen (insert (seen a).core.results k v) (λ q. written_at q ∙ (ap (λ p. cond (q == k) p (get (seen a).core.results q)) is ∙ sym (get-insert (seen a).core.results k v q)))
 
-module _ (a : CoreParts) (sound : IsSound a) where
-  -- a call of main's has room
-  pub main_room : (n : ℕ) → goal_of n (seen a).core ≡ goal.Main → has_room a.results.entries n
-  unfolding IsSound seen
-  main_room n main = by (get (records call_key a.calls.places) n) refl main
+    pub result_taken : o ≡ None → seen (record a { results = m }) ≡ on_core (take_result k) (seen a)
+    unfolding take_result seen
+    result_taken is = results_seen (remove (seen a).core.results k) (λ q. written_at q ∙ (ap (λ p. cond (q == k) p (get (seen a).core.results q)) is ∙ sym (get-remove (seen a).core.results k q)))
+
+  -- who had no room had no result
+  pub nothing_taken : (k : ℕ) → m ≡ a.results → lookup (is_at (nat_cmp k)) a.results.entries ≡ None → seen (record a { results = m }) ≡ on_core (take_result k) (seen a)
+  unfolding take_result seen
+  nothing_taken k same none = results_seen (remove (seen a).core.results k) (λ q. ap (λ (n : BTreeMap ℕ (Option ℕ)). given (lookup (is_at (nat_cmp q)) n.entries)) same ∙ (by q (cases_eq q k) ∙ sym (get-remove (seen a).core.results k q)))
     where
-      bared : get (core_of (bare (parts_of a))).calls n ≡ option_map (λ c. uninterested (loose_call c)) (get (records call_key a.calls.places) n)
-      bared = get_mapped call_key call_key (on_item bare_call) (λ c. uninterested (loose_call c)) (λ e. refl) a.calls n
+      by : (q : ℕ) → (q ≡ k) ⊎ (q ≡ k → ⊥) → given (lookup (is_at (nat_cmp q)) a.results.entries) ≡ cond (q == k) None (get (given_results a.results.entries) q)
+      by q (inl here) = ap given (ap (λ n. lookup (is_at (nat_cmp n)) a.results.entries) here ∙ none) ∙ sym (ap (λ b. cond b None (get (given_results a.results.entries) q)) (eq-eqb q k here))
+      by q (inr other) = sym (get-given a.results.entries q) ∙ sym (ap (λ b. cond b None (get (given_results a.results.entries) q)) (ne_eqb q k other))
 
-      by : (o : Option Call) → get (records call_key a.calls.places) n ≡ o → option_map_or (λ c. c.goal) o goal.Nowhere ≡ goal.Main → has_room a.results.entries n
-      by None at is = absurd (cc)
-      by (Some c) at is = sound.whole.counted.results n (uninterested (loose_call c)) (bared ∙ ap (option_map (λ c. uninterested (loose_call c))) at) is
+-- a call by main has room for its result
+module _ (a : CoreParts) (sound : IsSound a) (id : TableId GuestTaskKey) (g : GuestTask) (is : Ok g ≡ item_at item_of a.calls id.rep id.serial) (main : goal_of (call_of (seen a) id) (seen a).core ≡ goal.Main) where
+  room_there : IsSome (lookup (is_at (nat_cmp g.number)) a.results.entries)
+  unfolding IsSound seen
+  room_there =
+      sound.whole.counted.results g.number (uninterested (loose_call g.call))
+      (get_mapped call_key call_key (on_item bare_call) (λ c. uninterested (loose_call c)) (λ e. refl) a.calls g.number
+      ∙ ap (option_map (λ (c : Call). uninterested (loose_call c))) (ap (get (records call_key a.calls.places)) (call_named a id g is) ∙ sym (call_read a sound id g is)))
+      (ap (λ o. option_map_or (λ (c : Call). c.goal) o goal.Nowhere) (call_read a sound id g is) ∙ main)
 
-  module _ where
-    pub given_sound : (results : BTreeMap ℕ (Option ℕ)) → ((k : ℕ) → has_room a.results.entries k → has_room results.entries k) → IsSound (record a { results = results })
-    unfolding IsSound
-    given_sound results room = record {
-      tables = record { threads = sound.tables.threads; calls = sound.tables.calls; works = sound.tables.works; sets = sound.tables.sets; groups = sound.tables.groups };
-      whole = results_whole (bare (parts_of a)) results.entries room sound.whole;
-      interesting = sound.interesting;
-      moving = sound.moving;
-      handles = sound.handles;
-      owned = sound.owned;
-      live = sound.live;
-    }
-
-  pub given_seen : (results : BTreeMap ℕ (Option ℕ)) (n v : ℕ) → given_results results.entries ≡ insert (given_results a.results.entries) n v → seen (record a { results = results }) ≡ on_core (give_result n v) (seen a)
-  unfolding seen give_result
-  given_seen results n v is = ap (λ (m : Records ℕ). record (image (parts_of a)) { core = record (image (parts_of a)).core { results = m } }) is
+  pub no_room : None ≡ lookup (is_at (nat_cmp g.number)) a.results.entries → ⊥
+  no_room none = by (lookup (is_at (nat_cmp g.number)) a.results.entries) room_there none
+    where
+      by : (o : Option (Option ℕ)) → IsSome o → None ≡ o → ⊥
+      by None some is = absurd (cc)
+      by (Some x) some is = absurd (cc)

@@ -1,4 +1,5 @@
 -- The store is trapped: the groups up to the last that was made are finished, which are all.
+use Rattle.count_words.proofs.BesideLemmas.{beside, beside_whole}
 use Rattle.std.proofs.Common.{◌≡◌, ◌<◌, ◌≤◌, ◌+◌, ◌*◌, ◌-◌, ℕ, Bool, true, false, cond, List, [], ◌∷◌, Option, Some, None, filter, map, length, nat_lt, refl, sym, ap, ◌∙◌, arith, ltb-true}
 use Rattle.std.proofs.lemmas.Bool.{eq-eqb}
 use Rattle.std.specs.Cmp.{unsigned_tied}
@@ -10,13 +11,9 @@ use Rattle.task_machine.specs.Write.{set_trapped}
 use Rattle.task_records.proofs.KeptLemmas.{groups_are, used_is}
 use Rattle.task_records.specs.Image.{Parts, image}
 use Rattle.task_records.specs.Keys.{group_key}
-use Rattle.task_records.specs.Names.{HasHome, IsCallNamed, IsWorkNamed}
 use Rattle.task_records.specs.Seen.{IsSound, parts_of, seen}
 use Rattle.task_records.specs.Sound.{IsWhole, bare}
-use Rattle.task_records.specs.declared.calls.GuestTask.{GuestTask}
 use Rattle.task_records.specs.declared.parts.CoreParts.{CoreParts}
-use Rattle.task_records.specs.declared.threads.GuestThread.{GuestThread}
-use Rattle.task_records.specs.declared.works.HostWork.{HostWork}
 use Rattle.task_table.proofs.RecordLemmas.{get-records}
 use Rattle.task_table.specs.Records.{records}
 use Rattle.task_words.specs.StateView.{on_core}
@@ -41,60 +38,19 @@ less_groups : (u g l m a b c d : ℕ) → u ≡ l + a + 2 * b + c + d → g ≡ 
 less_groups u g l m a b c d used groups none = omega (arith, used, groups, none)
 
 abbrev pub after_trap : Parts → Parts
-after_trap p = record p { finished = p.made.groups; kept = record p.kept { used = p.kept.used - p.kept.groups; groups = 0 } }
+after_trap p = beside p p.made.groups (record p.kept { used = p.kept.used - p.kept.groups; groups = 0 }) p.results
 
 module _ (p : Parts) (none : filter (nat_lt p.made.groups) (numbers (records group_key p.groups.places)) ≡ []) where
-  home_after : (g : GuestThread) → HasHome p g → HasHome (after_trap p) g
-  home_after g home = record { call = home.call; there = home.there; instance = home.instance; within = home.within; place = home.place; how_far = home.how_far }
-
-  call_after : (g : GuestTask) → IsCallNamed p g → IsCallNamed (after_trap p) g
-  call_after g named = record { caller = named.caller; join = named.join; group = named.group; positive = named.positive }
-
-  work_after : (w : HostWork) → IsWorkNamed p w → IsWorkNamed (after_trap p) w
-  work_after w named = record { caller = named.caller; join = named.join; group = named.group }
-
   pub trapped_whole : IsWhole p → IsWhole (after_trap p)
   unfolding table_use
-  trapped_whole whole = record {
-    named = record {
-      threads = λ rep q at. home_after q.entry.item (whole.named.threads rep q at);
-      calls = λ rep q at. call_after q.entry.item (whole.named.calls rep q at);
-      works = λ rep q at. work_after q.entry.item (whole.named.works rep q at);
-      switch = whole.named.switch;
-    };
-    chained = record {
-      places = whole.chained.places;
-      ready_calls = whole.chained.ready_calls;
-      ready_works = whole.chained.ready_works;
-      polled = whole.chained.polled;
-      marks = whole.chained.marks;
-      shelves = whole.chained.shelves;
-      low = whole.chained.low;
-      behind = whole.chained.behind;
-    };
-    nodes = record {
-      marks = whole.nodes.marks;
-      shelves = whole.nodes.shelves;
-      callers = whole.nodes.callers;
-      works = whole.nodes.works;
-      apart = whole.nodes.apart;
-    };
-    counted = record {
-      kept = record {
+  trapped_whole whole =
+      beside_whole p p.made.groups (record p.kept { used = p.kept.used - p.kept.groups; groups = 0 }) p.results whole
+      (record {
         used = less_groups _ _ _ _ _ _ _ _ whole.counted.kept.used whole.counted.kept.groups (ap length none);
         groups = sym (ap length none);
         live = whole.counted.kept.live;
-      };
-      calls = whole.counted.calls;
-      sets = λ rep q at. let one = whole.counted.sets rep q at in record { members = one.members; entries = one.entries };
-      groups = whole.counted.groups;
-      few = whole.counted.few;
-      high = whole.counted.high;
-      low = whole.counted.low;
-      works = whole.counted.works;
-      results = whole.counted.results;
-    };
-  }
+      })
+      whole.counted.results
 
 module _ (a : CoreParts) (sound : IsSound a) where
   none_left : filter (nat_lt a.made.groups) (numbers (records group_key a.groups.places)) ≡ []

@@ -165,7 +165,7 @@ module _ (a : CoreParts) (sound : IsSound a) where
 
 -- ---- Some member is ready
 
-any_mapped : {X : Type 0} (u : X → Bool) (f : ℕ → X) (n : ℕ) (ns : List ℕ) → has n ns ≡ true → u (f n) ≡ true → list_any u (map f ns) ≡ true
+pub any_mapped : {X : Type 0} (u : X → Bool) (f : ℕ → X) (n : ℕ) (ns : List ℕ) → has n ns ≡ true → u (f n) ≡ true → list_any u (map f ns) ≡ true
 any_mapped u f n [] there is = absurd (cc)
 any_mapped u f n (m ∷ ns) there is = by (n == m) refl there (λ rest. any_mapped u f n ns rest is)
   where
@@ -177,7 +177,7 @@ any_mapped u f n (m ∷ ns) there is = by (n == m) refl there (λ rest. any_mapp
     by true same there rest = ap (λ b. b || list_any u (map f ns)) (ap (λ k. u (f k)) (sym (eqb-true n m same)) ∙ is)
     by false same there rest = or_right (u (f m)) (rest there)
 
-any_left : {X : Type 0} (u : X → Bool) (xs ys : List X) → list_any u xs ≡ true → list_any u (xs ++ ys) ≡ true
+pub any_left : {X : Type 0} (u : X → Bool) (xs ys : List X) → list_any u xs ≡ true → list_any u (xs ++ ys) ≡ true
 any_left u [] ys any = absurd (cc)
 any_left u (x ∷ xs) ys any = by (u x) any (any_left u xs ys)
   where
@@ -185,7 +185,7 @@ any_left u (x ∷ xs) ys any = by (u x) any (any_left u xs ys)
     by true any rest = refl
     by false any rest = rest any
 
-any_right : {X : Type 0} (u : X → Bool) (xs ys : List X) → list_any u ys ≡ true → list_any u (xs ++ ys) ≡ true
+pub any_right : {X : Type 0} (u : X → Bool) (xs ys : List X) → list_any u ys ≡ true → list_any u (xs ++ ys) ≡ true
 any_right u [] ys any = any
 any_right u (x ∷ xs) ys any = by (u x) (any_right u xs ys any)
   where

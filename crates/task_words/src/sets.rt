@@ -1,6 +1,6 @@
-ghost use Rattle.std.specs.Prelude.{◌≡◌, ◌+◌, ◌<◌, ◌^◌, IfNone, IfOk, IfSome, OnErr, OnOk, false, is_some, true};
+ghost use Rattle.std.specs.Prelude.{◌≡◌, ◌+◌, ◌<◌, ◌^◌, IfNone, IfOk, IfSome, IsSome, OnErr, OnOk, false, is_some, true};
 ghost use Rattle.task_machine.specs.Maps.{get};
-ghost use Rattle.task_machine.specs.Read.{at_handle_limit, fits, has_member, has_ready_member, has_waiters, is_ready_member, set_instance};
+ghost use Rattle.task_machine.specs.Read.{at_handle_limit, fits, has_member, has_ready_member, has_waiters, is_ready_member, set_at, set_instance};
 ghost use Rattle.task_machine.specs.Write.{add_set, free_handle, give_handle, remove_set};
 ghost use Rattle.task_machine.specs.declared.records.Named.TheVariants as names;
 ghost use Rattle.task_words.specs.Names.{subtask_in};
@@ -53,6 +53,7 @@ pub trait SetWords: View {
     /// A set without members and waiters is gone, and its handle in the instance.
     fn close_set(&mut self, instance: u32, handle: u32, set: SetId)
         requires live { 0 < set_of (Self.view self.old) set }
+        requires names { IsSome (set_at instance handle (Self.view self.old).core) }
         requires members { has_member (set_of (Self.view self.old) set) (Self.view self.old).core ≡ false }
         requires waiters { has_waiters (set_of (Self.view self.old) set) (Self.view self.old).core ≡ false }
         ensures core { (Self.view self.new).core ≡ remove_set (set_of (Self.view self.old) set) (free_handle instance handle (Self.view self.old).core) }
