@@ -1,6 +1,12 @@
-use Rattle.std.proofs.Common.{sym, ◌∙◌}
+use Rattle.std.proofs.Common.{IsSome, Option, Some, refl, subst, sym, ℕ, ◌≡◌, ◌∙◌}
 use Rattle.task_ops.proofs.SetLemmas.{dropped_position, set_drop_meets}
 use Rattle.task_ops.proofs.sets.set_drop.Goals as goal
+
+pub close_set-requires-clause-names : goal.close_set-requires-clause-names
+close_set-requires-clause-names g c = is_there _ _ c.in-Some.ensures.is
+  where
+    is_there : (x : ℕ) (o : Option ℕ) → Some x ≡ o → IsSome o
+    is_there x o is = subst IsSome is refl
 
 pub advance-requires : goal.advance-requires
 advance-requires g c =
