@@ -1,6 +1,7 @@
 -- What two tables have in common that are alike as far as a function of their entries sees.
 use Rattle.std.proofs.Common.{◌≡◌, ℕ, true, List, [], ◌∷◌, map, Option, Some, None, IsSome, refl, sym, ap, ap₂, subst, ◌∙◌}
 use Rattle.std.specs.Option.{option_map}
+use Rattle.task_index.specs.Index.{Filing, filings, said}
 use Rattle.task_links.specs.Links.{Spot, is_made}
 use Rattle.task_records.proofs.TableLemmas.{found_mapped, number_at_mapped, with_second}
 use Rattle.task_records.specs.Image.{tag_of, tags_in, trimmed}
@@ -71,6 +72,9 @@ module _ {T : Type 0} (f : T → T) (new old : Table (Single T)) (alike : Alike 
       unfolding mapped
       found_through n t = found_mapped key key (on_item f) loose seen n t.places
 
+      pub found_loose : (n : ℕ) → option_map loose (found_record key n new.places) ≡ option_map loose (found_record key n old.places)
+      found_loose n = sym (found_through n new) ∙ (ap (λ (t : Table (Single T)). found_record key n t.places) alike ∙ found_through n old)
+
       pub stands_alike : (r n : ℕ) → StandsAt key old r n → StandsAt key new r n
       stands_alike r n at some = number_alike r ∙ at (less_some (found_record key n old.places) (subst IsSome (sym (found_through n new) ∙ (ap (λ (t : Table (Single T)). found_record key n t.places) alike ∙ found_through n old)) (more_some (found_record key n new.places) some)))
 
@@ -99,3 +103,15 @@ tags_alike {T} f key named new old alike = ap trimmed (sym (through new.places) 
 -- the number of what an id finds
 pub number_of_alike : {T X : Type 0} (f : T → T) (key : Single T → Option (ℕ × X)) → ((e : Single T) → number_in (key (on_item f e)) ≡ number_in (key e)) → (new old : Table (Single T)) → Alike f new old → (r s : ℕ) → number_of key new r s ≡ number_of key old r s
 number_of_alike f key named new old alike r s = sym (number_of-mapped (on_item f) new key key named r s) ∙ (ap (λ t. number_of key t r s) alike ∙ number_of-mapped (on_item f) old key key named r s)
+
+-- what the entries say of an index that looks no further
+pub filings_alike : {T K P : Type 0} (f : T → T) (says : ℕ → ℕ → Single T → Option (Filing K P)) → ((r s : ℕ) (x : T) → says r s (on_item f (record { item = x })) ≡ says r s (record { item = x })) → (new old : Table (Single T)) → Alike f new old → (r : ℕ) → filings says new r ≡ filings says old r
+unfolding filings
+filings_alike {T} f says blind new old alike r = sym (through new) ∙ (ap (λ (t : Table (Single T)). said says r (place_at t r)) alike ∙ through old)
+  where
+    by : (o : Option (Placed (Single T))) → said says r (placed_as (on_item f) o) ≡ said says r o
+    by None = refl
+    by (Some p) = blind r p.serial p.entry.item
+
+    through : (t : Table (Single T)) → said says r (place_at (mapped (on_item f) t) r) ≡ said says r (place_at t r)
+    through t = ap (said says r) (place_at-mapped (on_item f) t r) ∙ by (place_at t r)

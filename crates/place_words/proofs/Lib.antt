@@ -10,3 +10,9 @@ pub mod TargetLemmas
 pub mod ThreadLemmas
 pub mod StepLemmas
 pub mod ReadyLemmas
+pub mod CallMovedLemmas
+pub mod WorkMovedLemmas
+pub mod TellLemmas
+pub mod HearLemmas
+pub mod ChainLemmas
+pub mod GoneLemmas

@@ -1,6 +1,7 @@
 -- What is written where a thread gets another place: its record but for where it is, and how many entries a set has.
 use Rattle.std.specs.Prelude.{◌≡◌, ℕ, Option, Some, None, Result, Ok, Err}
 use Rattle.task_machine.specs.Core.{Core}
+use Rattle.task_machine.specs.declared.records.Call.{Call}
 use Rattle.task_machine.specs.declared.records.Delivery.TheVariants as delivery
 use Rattle.task_machine.specs.declared.records.HowFar.{HowFar}
 use Rattle.task_machine.specs.declared.records.HowFar.TheVariants as how_far
@@ -8,11 +9,14 @@ use Rattle.task_machine.specs.declared.records.Place.{Place}
 use Rattle.task_machine.specs.declared.records.Place.TheVariants as place
 use Rattle.task_machine.specs.declared.records.Thread.{Thread}
 use Rattle.task_machine.specs.declared.records.Why.{Why}
+use Rattle.task_machine.specs.declared.records.Work.{Work}
 use Rattle.task_machine.specs.declared.records.Why.TheVariants as why
 use Rattle.task_records.specs.Kinds.{entry_of, item_of, on_item}
+use Rattle.task_records.specs.declared.calls.GuestTask.{GuestTask}
 use Rattle.task_records.specs.declared.sets.WaitSet.{WaitSet}
 use Rattle.task_records.specs.declared.single.Single.{Single}
 use Rattle.task_records.specs.declared.threads.GuestThread.{GuestThread}
+use Rattle.task_records.specs.declared.works.HostWork.{HostWork}
 use Rattle.task_table.specs.Answers.{item_at}
 use Rattle.task_table.specs.Changes.{with_entry}
 use Rattle.task_table.specs.Mapped.{mapped}
@@ -63,3 +67,17 @@ recounted f rep serial t = recounted_by f rep (item_at item_of t rep serial) t
 abbrev pub set_named : Option ℕ → Core → ℕ
 set_named None s = 0
 set_named (Some x) s = kept_in s.sets x
+
+-- a call without its event
+abbrev pub quiet_call : Call → Call
+quiet_call c = record c { event = None }
+
+abbrev pub still_call : GuestTask → GuestTask
+still_call g = record g { call = quiet_call g.call }
+
+-- a host work without its event
+abbrev pub quiet_work : Work → Work
+quiet_work w = record w { event = None }
+
+abbrev pub still_work : HostWork → HostWork
+still_work w = record w { work = quiet_work w.work }

@@ -20,7 +20,7 @@ use task_records::{CoreParts, GuestThread, Node};
 use task_words::ThreadId;
 
 // The node is in this chain alone, with the value, or in none.
-fn refile(links: &mut Links<u32>, node: Node, chain: Option<usize>, value: u32)
+pub(crate) fn refile(links: &mut Links<u32>, node: Node, chain: Option<usize>, value: u32)
     requires made { is_made links.old node.index ≡ true }
     requires live { IfSome chain (λ c. IsSome (list_of links.old c)) }
     ensures { Refiles links.old links.new node.index (option_map (λ c. (c, value)) chain) }
