@@ -1,0 +1,4 @@
+pub mod LooseLemmas
+pub mod MarkLemmas
+pub mod InstanceLemmas
+pub mod AddLemmas
