@@ -4,5 +4,6 @@
 
 mod instances;
 mod marks;
+mod sets;
 
 pub use instances::add_instance;
