@@ -1,5 +1,5 @@
 -- A number that was not made yet: no record names it, so that nothing is filed or counted under it.
-use Rattle.std.proofs.Common.{◌≡◌, ◌==◌, ◌<◌, ◌≤◌, ◌⊎◌, ◌||◌, ◌&&◌, inl, inr, ℕ, Bool, true, false, cond, List, [], ◌∷◌, nat_lt, Option, Some, None, slice_get, refl, sym, ap, ap₂, subst, ◌∙◌, arith}
+use Rattle.std.proofs.Common.{◌≡◌, ◌==◌, ◌<◌, ◌≤◌, ◌||◌, ◌&&◌, ℕ, Bool, true, false, cond, List, [], ◌∷◌, nat_lt, Option, Some, None, refl, sym, ap, ap₂, subst, ◌∙◌, arith}
 use Rattle.std.proofs.lemmas.Bool.{eq-eqb, ne_eqb}
 use Rattle.std.proofs.lemmas.Option.{same_Some}
 use Rattle.task_index.proofs.Tables.{none_in_records}
@@ -24,7 +24,7 @@ use Rattle.task_table.proofs.RecordChangeLemmas.{PutsRecord-pushed}
 use Rattle.task_records.specs.Sound.{EachEntry}
 use Rattle.task_table.proofs.Laws.{place_at-pushed}
 use Rattle.task_table.specs.Changes.{next_place, pushed}
-use Rattle.task_table.specs.Records.{AreApart, PutsRecord, found_record, key_in, or_record, record_at, records}
+use Rattle.task_table.specs.Records.{AreApart, PutsRecord, found_record, key_in, record_at, records}
 use Rattle.task_table.specs.Table.{IsTable, Placed, Table, place_at}
 
 -- ---- What a new record is found by

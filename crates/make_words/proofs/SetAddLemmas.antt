@@ -1,6 +1,6 @@
 -- A set more, as contracts see it.
 use Rattle.std.proofs.Common.{◌≡◌, ◌+◌, ◌<◌, ◌^◌, ◌≤◌, ℕ, true, refl, sym, ap, subst, ◌∙◌, arith}
-use Rattle.make_words.proofs.SetLemmas.{at_more, set_whole, with_set}
+use Rattle.make_words.proofs.SetLemmas.{at_more, set_whole}
 use Rattle.make_words.specs.Loose.{AreSetLoose}
 use Rattle.task_handles.specs.declared.kinds.HandleKind.{HandleKind}
 use Rattle.task_handles.specs.declared.kinds.HandleKind.TheVariants as handle
@@ -14,7 +14,7 @@ use Rattle.task_records.proofs.KeptLemmas.{used_is}
 use Rattle.task_records.proofs.MakeLemmas.{number_kept, number_new, records_more, table_more}
 use Rattle.task_records.proofs.ReadLemmas.{set_shown}
 use Rattle.task_records.specs.Keys.{set_key}
-use Rattle.task_records.specs.Names.{AreHandlesNamed, CallOf, IsHeldNamed, SetOf, ThreadOf, WorkOf, kinds}
+use Rattle.task_records.specs.Names.{AreHandlesNamed, IsHeldNamed, SetOf, kinds}
 use Rattle.task_records.specs.Seen.{IsSound, parts_of, seen}
 use Rattle.task_records.specs.Sound.{bare}
 use Rattle.task_records.specs.declared.instances.InstanceRecord.{InstanceRecord}
@@ -26,7 +26,7 @@ use Rattle.task_table.specs.Records.{records}
 use Rattle.task_table.specs.Table.{IsTable, Table}
 use Rattle.task_table.specs.declared.id.TableId.{TableId}
 use Rattle.task_wait.specs.declared.keys.SetKey.{SetKey}
-use Rattle.task_words.specs.StateView.{Keeps, set_of}
+use Rattle.task_words.specs.StateView.{Keeps, call_number, set_of, thread_number, work_number}
 
 module _ (a : CoreParts) (sound : IsSound a) where
   -- the numbers that are counted have room
@@ -65,7 +65,7 @@ module _ (a : CoreParts) (sound : IsSound a) where
         ∙ sym (set_shown a id))
 
     pub set_tags : Keeps (seen a).tags (seen (with_set_made t)).tags
-    unfolding seen
+    unfolding seen thread_number call_number work_number
     set_tags = subst (λ (u : Table (Single WaitSet)). Keeps (seen a).tags (seen (with_set_made u)).tags) (sym is) (record { threads = λ id live. refl; calls = λ id live. refl; sets = keeps_set; works = λ id live. refl })
 
     module _ (table : IsTable t) (loose : AreSetLoose (bare (parts_of a)) x) (no_members : x.members ≡ 0) (no_entries : x.entries ≡ 0) where

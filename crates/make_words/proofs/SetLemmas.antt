@@ -1,22 +1,19 @@
 -- A set more, with chains that hung on nothing: the parts stay whole.
-use Rattle.std.proofs.Common.{inl, inr, ◌⊎◌, ◌≡◌, ◌+◌, ◌*◌, ◌==◌, ◌<◌, ◌≤◌, ℕ, Bool, false, List, Option, Some, None, IsSome, length, count_by, slice_get, refl, sym, ap, ap₂, subst, ◌∙◌, arith}
+use Rattle.std.proofs.Common.{inl, inr, ◌⊎◌, ◌≡◌, ◌+◌, ◌<◌, ℕ, false, Option, Some, None, refl, sym, ap, ap₂, ◌∙◌, arith}
 use Rattle.std.proofs.lemmas.Bool.{cases_eq}
 use Rattle.std.proofs.lemmas.Option.{same_Some}
 use Rattle.make_words.proofs.FreshLemmas.{chain_new, chain_other, each_more, none_in, none_keeps, none_passing, none_ready, waits_on_none}
 use Rattle.make_words.proofs.LooseLemmas.{IsIndex-opened}
 use Rattle.make_words.specs.Loose.{AreSetLoose}
-use Rattle.task_index.specs.Counts.{passing}
-use Rattle.task_index.specs.Index.{Filing, IsIndex, filings, said}
+use Rattle.task_index.specs.Index.{Filing, filings, said}
 use Rattle.task_machine.proofs.SizeLemmas.{size-insert_new}
-use Rattle.task_machine.specs.Maps.{Records, get, insert, size}
+use Rattle.task_machine.specs.Maps.{Records, size}
 use Rattle.task_machine.specs.Read.{is_in_set, keeps_set, table_use}
 use Rattle.task_machine.specs.declared.records.Call.{Call}
-use Rattle.task_machine.specs.declared.records.Made.{Made}
 use Rattle.task_machine.specs.declared.records.Set.{Set}
 use Rattle.task_machine.specs.declared.records.Subtask.TheVariants as subtask
 use Rattle.task_machine.specs.declared.records.Thread.{Thread}
 use Rattle.task_machine.specs.declared.records.Work.{Work}
-use Rattle.task_records.proofs.LaterLemmas.{whole_later}
 use Rattle.task_records.proofs.MakeLemmas.{records_more, stands_more}
 use Rattle.task_records.specs.Image.{Parts, core_of}
 use Rattle.task_records.specs.Keys.{call_key, set_key, thread_key, work_key}
@@ -29,11 +26,10 @@ use Rattle.task_records.specs.declared.sets.WaitSet.{WaitSet}
 use Rattle.task_records.specs.declared.single.Single.{Single}
 use Rattle.task_records.specs.declared.threads.GuestThread.{GuestThread}
 use Rattle.task_records.specs.declared.works.HostWork.{HostWork}
-use Rattle.task_table.proofs.Laws.{place_at-pushed}
 use Rattle.task_table.proofs.RecordLemmas.{get-records}
-use Rattle.task_table.specs.Changes.{next_place, pushed}
-use Rattle.task_table.specs.Records.{found_record, key_in, record_at, records}
-use Rattle.task_table.specs.Table.{IsTable, Placed, Table, place_at}
+use Rattle.task_table.specs.Changes.{pushed}
+use Rattle.task_table.specs.Records.{found_record, key_in, records}
+use Rattle.task_table.specs.Table.{Placed, Table, place_at}
 
 abbrev set_in : Where → ℕ
 set_in (WaitsOn x) = x

@@ -2,7 +2,7 @@
 use Rattle.std.specs.Prelude.{◌≡◌, ℕ, [], List, Option, Some}
 use Rattle.task_links.specs.Links.{Spot, list_of}
 use Rattle.task_records.specs.Image.{Parts}
-use Rattle.task_records.specs.Places.{place_chain}
+use Rattle.task_records.specs.Places.{place_chain, ready_call_chain, ready_work_chain}
 use Rattle.task_records.specs.declared.sets.WaitSet.{WaitSet}
 use Rattle.task_records.specs.Rows.{shelf_chain}
 

@@ -16,7 +16,7 @@ use task_words::SetId;
 fn push_set(parts: &mut CoreParts, set: WaitSet) -> Result<SetId, NoMemory>
     requires sound { IsSound parts.old }
     requires next { set.number ≡ parts.old.made.sets + 1 }
-    requires few { parts.old.made.sets + 1 < 2 ^ 64 }
+    requires few { (seen parts.old).core.made.sets + 1 < 2 ^ 64 }
     requires room { fits 1 (seen parts.old).core ≡ true }
     requires loose { AreSetLoose (bare (parts_of parts.old)) set }
     requires members { set.members ≡ 0 }
@@ -36,4 +36,31 @@ fn push_set(parts: &mut CoreParts, set: WaitSet) -> Result<SetId, NoMemory>
         }
         Err(_) => Err(NoMemory),
     }
+}
+
+// A set of an instance, without a handle. Where memory is wanting, all is as before.
+fn make_set(parts: &mut CoreParts, instance: u32) -> Result<SetId, NoMemory>
+    requires sound { IsSound parts.old }
+    requires few { (seen parts.old).core.made.sets + 1 < 2 ^ 64 }
+    requires room { fits 1 (seen parts.old).core ≡ true }
+    ensures sound { IsSound parts.new }
+    ensures set { IfOk result (λ id. set_of (seen parts.new) id ≡ (seen parts.old).core.made.sets + 1) }
+    ensures core { OnOk result ((seen parts.new).core ≡ add_set (record { instance = instance }) (seen parts.old).core) }
+    ensures current { (seen parts.new).current ≡ (seen parts.old).current }
+    ensures tags { Keeps (seen parts.old).tags (seen parts.new).tags }
+    ensures err { OnErr result (seen parts.new ≡ seen parts.old) }
+{
+    let waiters = make_place_chain(parts)?;
+    let ready_calls = make_ready_call_chain(parts)?;
+    let ready_works = make_ready_work_chain(parts)?;
+    let set = WaitSet {
+        number: parts.made.sets + 1,
+        set: Set { instance },
+        waiters,
+        ready_calls,
+        ready_works,
+        members: 0,
+        entries: 0,
+    };
+    push_set(parts, set)
 }
