@@ -1,5 +1,5 @@
 -- What one word does to the record of a call, and to that of a thread.
-use Rattle.task_rules.proofs.Machine.{add_call, add_group, add_set, add_thread, add_work, Advance, after_word, Allowed, ap, Call, call_made, Callee, CallEnd, Caller, change, Core, count_work, ExportKind, false, free_handle, free_thread_handle, get, give_handle, give_result, give_thread_handle, Goal, how_far_of, HowFar, inl, inr, is_deletable, is_some, Join, le_refl, MakeCall, MakeThread, MayAdvance, MayCome, MayDeliver, MayEnd, MayJoin, MayMake, MayMakeCall, MayRestart, MayStart, new_call, next_thread, None, on_call, on_instance, on_thread, on_work, Option, option_map, Places, Placing, poll_pends, push_high, refl, remove_call, remove_group, remove_set, remove_thread, remove_work, RemoveCall, RemoveThread, Restart, Scene, set_backpressure, set_cancel_delivered, set_cancelled, set_course, set_do_not_enter, set_do_not_suspend, set_end, set_event, set_exited, set_how_far, set_join, set_own_event, set_phase, set_position, set_register, set_result, set_saved_callee, set_saved_own, set_script, set_stage, set_started, set_starting_published, set_subtask_handle, set_thread_handle, set_trapped, set_uninteresting, set_word, SetCallJoin, SetEnd, SetHowFar, Some, subst, sym, take_result, TakeHost, TakePush, Thread, true, with_handle, with_thread_handle, Withdraw, Word, work_queued, ℕ, ◌≡◌, ◌≤◌, ◌⊎◌}
+use Rattle.task_rules.proofs.Machine.{add_call, add_group, add_set, add_thread, add_work, Advance, after_word, Allowed, ap, Call, call_made, Callee, CallEnd, Caller, CanCome, change, Core, count_work, ExportKind, false, free_handle, free_thread_handle, get, give_handle, give_result, give_thread_handle, Goal, how_far_of, HowFar, inl, inr, is_deletable, is_some, Join, le_refl, MakeCall, MakeThread, MayAdvance, MayCome, MayDeliver, MayEnd, MayJoin, MayMake, MayMakeCall, MayRestart, MayStart, new_call, next_thread, None, on_call, on_instance, on_thread, on_work, Option, option_map, Places, Placing, poll_pends, push_high, refl, remove_call, remove_group, remove_set, remove_thread, remove_work, RemoveCall, RemoveThread, Restart, Scene, set_backpressure, set_cancel_delivered, set_cancelled, set_course, set_do_not_enter, set_do_not_suspend, set_end, set_event, set_exited, set_how_far, set_join, set_own_event, set_phase, set_position, set_register, set_result, set_saved_callee, set_saved_own, set_script, set_stage, set_started, set_starting_published, set_subtask_handle, set_thread_handle, set_trapped, set_uninteresting, set_word, SetCallJoin, SetEnd, SetHowFar, Some, subst, sym, take_result, TakeHost, TakePush, Thread, true, with_handle, with_thread_handle, Withdraw, Word, work_queued, ℕ, ◌≡◌, ◌≤◌, ◌⊎◌}
 use Rattle.task_laws.proofs.EachLemmas.{after_change, after_insert, after_remove}
 use Rattle.task_laws.proofs.SceneLemmas.{popped_threads}
 use Rattle.task_machine.specs.declared.records.Script.TheVariants as script
@@ -67,15 +67,19 @@ module _ {a : Scene} where
 abbrev pub Goes : Scene → Core → ℕ → HowFar → HowFar → Type 0
 Goes a s n f g = (g ≡ f) ⊎ MayCome a n g s
 
--- the thread is where it was in its script, or its op is done; or it begins its react script
-abbrev pub RunsOn : Scene → ℕ → Thread → Thread → Type 0
-RunsOn a n r u = ((u.script ≡ r.script) × ((u.position ≡ r.position) ⊎ MayAdvance a n u.position))
-    ⊎ (MayRestart a n × ((u.script ≡ script.React) × (u.position ≡ 0)))
+-- its op is done, or it begins its react script
+abbrev pub Ends : Scene → ℕ → Thread → Thread → Type 0
+Ends a n r u = ((u.script ≡ r.script) × MayAdvance a n u.position) ⊎ (MayRestart a n × ((u.script ≡ script.React) × (u.position ≡ 0)))
+
+-- the thread is where it was in its script, and as far as it was in its op, or further; or it is about to begin another one
+abbrev pub RunsOn : Scene → Core → ℕ → Thread → Thread → Type 0
+RunsOn a s n r u = ((u.script ≡ r.script) × ((u.position ≡ r.position) × ((u.how_far ≡ r.how_far) ⊎ CanCome a n u.how_far s)))
+    ⊎ ((u.how_far ≡ how_far.Fresh) × Ends a n r u)
 
 -- What the word from s to t does to the record of the thread n, from o to p.
 pub data ThreadCame (a : Scene) (w : Word) (s t : Core) (n : ℕ) (o p : Option Thread) : Type 0 where
   IsSame : (r u : Thread) → o ≡ Some r → p ≡ Some u → u.call ≡ r.call → u.explicit ≡ r.explicit → Goes a s n r.how_far u.how_far →
-      (u.place ≡ r.place) ⊎ ((x : Placing) × (w ≡ Places x)) → RunsOn a n r u → ThreadCame a w s t n o p
+      (u.place ≡ r.place) ⊎ ((x : Placing) × (w ≡ Places x)) → RunsOn a s n r u → ThreadCame a w s t n o p
   IsGone : p ≡ None → ThreadCame a w s t n o p
   -- a thread more, beside the first one of its call, or with the call
   IsBeside : (u : Thread) → n ≡ next_thread s → n ≤ t.made.threads → t.calls ≡ s.calls → MayMake a u s → p ≡ Some u →
@@ -89,21 +93,21 @@ ThreadAfter a w s n = ThreadCame a w s (after_word w s) n (get s.threads n) (get
 module _ {a : Scene} where
   thread_stays : {w : Word} {s t : Core} {n : ℕ} (o : Option Thread) → ThreadCame a w s t n o o
   thread_stays None = IsGone refl
-  thread_stays (Some r) = IsSame r r refl refl refl refl (inl refl) (inl refl) (inl (refl, inl refl))
+  thread_stays (Some r) = IsSame r r refl refl refl refl (inl refl) (inl refl) (inl (refl, (refl, inl refl)))
 
   thread_kept : (w : Word) (j : ℕ) (f : Thread → Thread) (s t : Core) (n : ℕ) → ((r : Thread) → (f r).call ≡ r.call) →
       ((r : Thread) → (f r).explicit ≡ r.explicit) → ((r : Thread) → (f r).how_far ≡ r.how_far) → ((r : Thread) → (f r).place ≡ r.place) →
       ((r : Thread) → (f r).script ≡ r.script) → ((r : Thread) → (f r).position ≡ r.position) →
       ThreadCame a w s t n (get s.threads n) (get (change j f s.threads) n)
   thread_kept w j f s t n call explicit far place script position = after_change (ThreadCame a w s t n) s.threads j n thread_stays f
-      (λ r is e. IsSame r _ refl refl (call r) (explicit r) (inl (far r)) (inl (place r)) (inl (script r, inl (position r))))
+      (λ r is e. IsSame r _ refl refl (call r) (explicit r) (inl (far r)) (inl (place r)) (inl (script r, (position r, inl (far r)))))
 
   thread_moved : (w : Word) (x : Placing) (s t : Core) (n : ℕ) (o p : Option Thread) → w ≡ Places x →
       option_map unplaced p ≡ option_map unplaced o → ThreadCame a w s t n o p
   thread_moved w x s t n o None is e = IsGone refl
   thread_moved w x s t n None (Some u) is e = absurd (cc)
   thread_moved w x s t n (Some r) (Some u) is e = let h : unplaced u ≡ unplaced r = cc in
-      IsSame r u refl refl (ap (λ x. x.call) h) (ap (λ x. x.explicit) h) (inl (ap (λ x. x.how_far) h)) (inr (x, is)) (inl (ap (λ x. x.script) h, inl (ap (λ x. x.position) h)))
+      IsSame r u refl refl (ap (λ x. x.call) h) (ap (λ x. x.explicit) h) (inl (ap (λ x. x.how_far) h)) (inr (x, is)) (inl (ap (λ x. x.script) h, (ap (λ x. x.position) h, inl (ap (λ x. x.how_far) h))))
 
   pub thread_came : (w : Word) (s : Core) → Allowed a w s → (n : ℕ) → ThreadAfter a w s n
   unfolding add_call add_group add_set add_thread add_work count_work free_handle free_thread_handle give_handle give_result give_thread_handle on_call on_instance on_thread on_work push_high remove_call remove_group remove_set remove_thread remove_work set_backpressure set_cancel_delivered set_cancelled set_course set_do_not_enter set_do_not_suspend set_end set_event set_exited set_how_far set_join set_own_event set_phase set_position set_register set_result set_saved_callee set_saved_own set_script set_stage set_started set_starting_published set_subtask_handle set_thread_handle set_trapped set_uninteresting set_word take_result call_made with_handle with_thread_handle work_queued poll_pends
@@ -111,11 +115,11 @@ module _ {a : Scene} where
   thread_came (TakePush m i) s ok n = rw (popped_threads m s) (thread_stays (get s.threads n))
   thread_came (TakeHost m i) s ok n = rw (popped_threads m s) (thread_stays (get s.threads n))
   thread_came (Advance j p) s ok n = rw change-change_same (after_change (ThreadCame a _ s _ n) s.threads j n thread_stays _
-      (λ r is e. IsSame r _ refl refl refl refl (inr (rw e ok.0)) (inl refl) (inl (refl, inr (rw e ok)))))
+      (λ r is e. IsSame r _ refl refl refl refl (inr (rw e ok.0)) (inl refl) (inr (refl, inl (refl, rw e ok)))))
   thread_came (Restart j) s ok n = rw (change-change_same, change-change_same) (after_change (ThreadCame a _ s _ n) s.threads j n thread_stays _
-      (λ r is e. IsSame r _ refl refl refl refl (inr (rw e ok.0)) (inl refl) (inr (rw e ok, (refl, refl)))))
+      (λ r is e. IsSame r _ refl refl refl refl (inr (rw e ok.0)) (inl refl) (inr (refl, inr (rw e ok, (refl, refl))))))
   thread_came (SetHowFar j h) s ok n = after_change (ThreadCame a _ s _ n) s.threads j n thread_stays _
-      (λ r is e. IsSame r _ refl refl refl refl (inr (rw e ok)) (inl refl) (inl (refl, inl refl)))
+      (λ r is e. IsSame r _ refl refl refl refl (inr (rw e ok.0)) (inl refl) (inl (refl, (refl, inr (rw e ok.1)))))
   thread_came (MakeThread u) s ok n = after_insert (ThreadCame a _ s _ n) s.threads _ n thread_stays u
       (λ at. IsBeside u at (at_most at) refl ok refl)
   thread_came (MakeCall f e x g group words) s ok n =

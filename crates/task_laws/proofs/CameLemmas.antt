@@ -1,5 +1,6 @@
 -- What one word does to the place of a thread.
-use Rattle.task_rules.proofs.Machine.{[], after_word, Allowed, ap, arith, behind, behind_one, callers_of, Core, displaced, Enter, foot_of, GoBehind, inl, inr, insert, is_some, IsRunner, List, Mark, MayMove, MayPut, MayYield, Move, nat_tests, newest, next_thread, None, older, on_thread, Option, option_map, passed_on, Place, place_of, Places, Placing, Pop, Promote, promoted, push_high, push_high_first, push_low, Put, put_at, put_high, put_low, put_switch, refl, resumed_all, Scene, set_callers, set_high, set_low, set_place, set_switch, Some, stand, Stop, stopped, sym, Thread, true, unqueued, Why, why_of, Word, ℕ, ◌∙◌, ◌∷◌, ◌≡◌, ◌≤◌, ◌⊎◌}
+use Rattle.task_rules.proofs.Machine.{[], after_word, Allowed, ap, arith, AtOp, behind, behind_one, callers_of, Core, displaced, Enter, foot_of, GoBehind, inl, inr, insert, is_some, is_sync_call, IsRunner, List, Mark, MayMove, MayPut, MayYield, Move, nat_tests, newest, next_thread, None, older, on_thread, op_in, Option, option_map, passed_on, Place, place_of, Places, Placing, Pop, Promote, promoted, push_high, push_high_first, push_low, Put, put_at, put_high, put_low, put_switch, refl, resumed_all, Scene, set_callers, set_high, set_low, set_place, set_switch, Some, stand, Stop, stopped, sym, Thread, true, unqueued, Why, why_of, Word, ℕ, ◌∙◌, ◌∷◌, ◌≡◌, ◌≤◌, ◌⊎◌}
+use Rattle.task_machine.specs.declared.records.Turn.TheVariants as turn
 use Rattle.task_laws.proofs.CallsCame.{IsBeside, IsFirst, IsGone, IsSame, ThreadAfter, thread_came}
 use Rattle.task_laws.proofs.EachLemmas.{after_change}
 use Rattle.task_laws.proofs.SceneLemmas.{popped_threads}
@@ -109,7 +110,7 @@ MayStand a s n w = (w ≡ why.Resumption) ⊎ (MayPut n w s ⊎ MayYield a n w)
 -- A thread calls directly, or is called so; it is gone; or it is made.
 pub data Turned (a : Scene) (s t : Core) (k : ℕ) (o p : Option Place) : Type 0 where
   Enters : (m : ℕ) → IsRunner a k → m ≡ next_thread a.base → place_of m s ≡ Some place.New → p ≡ Some (place.Under m) → is_some o ≡ true →
-      Turned a s t k o p
+      (a.next ≡ turn.Run m) × (AtOp a k s × (is_sync_call (op_in a k) ≡ true)) → Turned a s t k o p
   Entered : p ≡ Some place.Running → is_some o ≡ true → Turned a s t k o p
   Leaves : p ≡ None → Turned a s t k o p
   IsMade : k ≡ next_thread s → k ≤ t.made.threads → p ≡ Some place.New → Turned a s t k o p
@@ -151,7 +152,7 @@ module _ {a : Scene} where
   came_by (Enter n m) s (inr ok) k = let Q = Came a s (after_word (Places (Enter n m)) s) k (place_of k s) in
       after_set k n (place.Under m) (set_place m place.Running s) Q
       (after_set k m place.Running s Q (stays _) (λ e t. Turns (Entered refl t)))
-      (λ e t. Turns (Enters m (rw e ok.0) ok.1.1.0 ok.1.1.1.0 refl (sym (set_place_there k m place.Running s) ∙ t)))
+      (λ e t. Turns (Enters m (rw e ok.0) ok.1.1.0 ok.1.1.1.0 refl (sym (set_place_there k m place.Running s) ∙ t) (ok.1.0, rw e ok.1.1.1.1.1.1.1)))
 
   placed_came : (x : Placing) (w : Word) (s : Core) → w ≡ Places x → Allowed a w s → (k : ℕ) → PlaceAfter a w s k
   placed_came x w s is ok k = rw is (came_by x s (rw is at ok) k)

@@ -19,7 +19,8 @@ IsExported c e = is_some (export_at c e) ≡ true
 
 -- The component has each export that an op of main's script starts, or that one of its scripts calls.
 pub record ExportsExist (x : Setting) : Type 0 where
-  pub starts : (p : ℕ) (o : MainOpDef) (e : Callee) → slice_get x.script p ≡ Some o → callee_of_main_op o ≡ Some e → IsExported x.component e
+  pub starts : (p : ℕ) (o : MainOpDef) (e : Callee) → slice_get x.script p ≡ Some o → callee_of_main_op o ≡ Some e →
+      IsExported x.component e
   pub calls : (f : Callee) (w : Script) (p : ℕ) (o : Op) (e : Callee) → slice_get (script_in x.component f w) p ≡ Some o →
       callee_of_op o ≡ Some e → IsExported x.component e
 

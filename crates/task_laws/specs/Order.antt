@@ -29,7 +29,8 @@ use Rattle.task_machine.specs.declared.records.Why.{Why}
 use Rattle.task_machine.specs.declared.records.Why.TheVariants as why
 use Rattle.task_rules.specs.Places.{Placed, is_fresh, times, one_if}
 use Rattle.task_rules.specs.Run.{opening}
-use Rattle.task_rules.specs.Scripts.{export_kind, is_script, script_of_thread, slot_at}
+use Rattle.task_rules.specs.Scripts.{export_kind, is_script, op_of_thread, script_of_thread, slot_at}
+use Rattle.task_rules.specs.OpParts.{can_come, is_sync_call}
 use Rattle.task_machine.specs.declared.records.Script.{Script}
 use Rattle.task_machine.specs.declared.records.Script.TheVariants as script
 use Rattle.task_rules.specs.Stalled.{Setting}
@@ -169,11 +170,17 @@ names_script c i false script.Start = true
 names_script c i false script.React = true
 names_script c i explicit x = false
 
--- The thread fits the component: it runs a script that it may run, and is at a place in it, or at its end. Deliveries are for first
--- threads.
+abbrev pub is_under : Place → Bool
+is_under (place.Under m) = true
+is_under _ = false
+
+-- The thread fits the component: it runs a script that it may run, and is at a place in it, or at its end. It is no further in the op there
+-- than that op can come, and where another thread is on top of it the op is a sync call. Deliveries are for first threads.
 pub record ThreadFits (c : Component) (s : Core) (t : Thread) : Type 0 where
   pub script : names_script c (call_instance t.call s) t.explicit t.script ≡ true
   pub position : t.position ≤ length (script_of_thread c s t)
+  pub op : can_come (op_of_thread c s t) t.how_far ≡ true
+  pub under : is_under t.place ≡ true → is_sync_call (op_of_thread c s t) ≡ true
   pub first : is_delivered t.place ≡ true → t.explicit ≡ false
 
 -- each thread fits the component

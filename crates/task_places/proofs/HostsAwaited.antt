@@ -1,5 +1,5 @@
 -- A thread inside a sync call of a host waits for its work, or that is done; and host works have their entries: along the words of a step.
-use Rattle.task_rules.proofs.Machine.{[], after_placing, after_word, Allowed, ap, arith, behind_one, Bool, Collapses, Core, Departs, EndsOver, Enter, false, get, GoBehind, GoesBack, how_far_of, inl, inr, is_none, is_some, is_stage_ended, IsRunner, Label, Lands, LandsAt, Made, MayCome, MayLand, MayRemoveWork, Move, Option, option_map_or, Place, place_of, Places, Placing, push_high, push_low, Put, put_high, put_low, Quits, refl, Remains, RemoveThread, Scene, scene_of, set_callers, set_place, SetHowFar, Setting, Settles, Some, stage_of, State, Stay, subst, Subtask, sym, Thread, Trip, true, Walked, Word, Work, ℕ, ⊎_elim, ◌==◌, ◌∙◌, ◌≡◌, ◌≤◌, ◌⊎◌}
+use Rattle.task_rules.proofs.Machine.{[], after_placing, after_word, Allowed, ap, arith, behind_one, Bool, Collapses, Core, Departs, EndsOver, Enter, false, get, GoBehind, GoesBack, how_far_of, inl, inr, is_none, is_some, is_stage_ended, IsRunner, Label, Lands, LandsAt, Made, MayCome, MayLand, MayRemoveWork, Move, Option, option_map_or, Place, place_of, Places, Placing, push_high, push_low, Put, put_high, put_low, Quits, refl, Remains, RemoveThread, Scene, scene_of, set_callers, set_place, SetHowFar, Setting, Settles, Some, stage_of, State, Stay, subst, Subtask, sym, Thread, Trip, true, Walked, WasUnder, Word, Work, ℕ, ⊎_elim, ◌==◌, ◌∙◌, ◌≡◌, ◌≤◌, ◌⊎◌}
 use Rattle.task_machine.specs.declared.records.Stage.TheVariants as stage
 use Rattle.task_places.proofs.PlaceSteps.{Reads, Withdrawable, step_by}
 use Rattle.task_rules.proofs.PlacingLemmas.{placing_shifted, SameWorks}
@@ -123,7 +123,7 @@ module _ {a : Scene} {b : Core} {n : ℕ} {q : Option Place} (f : Frame a b n q)
       let g = settles (working_word a asked (RemoveThread k) s (EndsOver m is to under) (unmoved (RemoveThread k) s refl) (stays first c).1) d in
       let low : place_of m t ≡ Some (place.Under n) = (exits f s t (subst (IsRunner a) e is) (stays first c).0 (subst (λ (j : ℕ). Settles (after_word (RemoveThread j) s) t) e d)).1.1 m n (subst (λ (j : ℕ). place_of m a.base ≡ Some (place.Under j)) e under) in
       let back = after_word (Places (Move m place.Running)) t in
-      working_word a asked (SetHowFar m (how_far.Answered v)) back (k, (is, (to, under))) (unmoved (SetHowFar m (how_far.Answered v)) back refl)
+      working_word a asked (SetHowFar m (how_far.Answered v)) back ((k, (is, (to, under))), WasUnder k v under refl) (unmoved (SetHowFar m (how_far.Answered v)) back refl)
       (working_word a asked (Places (Move m place.Running)) t (inr ok) (λ j i at x y. inl (sym (ap (λ (u : Core). place_of j u) (sym (placing_shifted (Move m place.Running) t).only)) ∙ (place_kept j m place.Running t (by_number j m ((j == m) ≡ false) (λ z. absurd (let w = ap (λ (c : ℕ). place_of c t) z in cc)) (λ z. z)) ∙ at))) g)
   trip_works first (Collapses t over c) = along (Working a) (λ w s ok h. working_word a asked w s (fall_allowed a w s ok) (unmoved w s (grind arith)) h) first c
 

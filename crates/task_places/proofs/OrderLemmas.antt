@@ -1,5 +1,7 @@
 -- A state in order: each opening state is, and each step leads from one to one.
-use Rattle.task_rules.proofs.Machine.{[], ap, arith, Bool, ByHandle, ByOp, Call, call_instance, callee_of, Component, Core, empty, false, fresh, get, get-empty, HasSubtask, inl, inr, instance_of, is_fresh, is_some, is_there, IsRunner, Label, length, List, None, opening, Option, option_and_then, option_map, option_map_or, Place, place_of, Placed, refl, Run, Scene, scene_of, Script, script_in, Setting, Some, State, Steady, subst, sym, task_of, Thread, true, Walk, Walked, was_started, Work, ℕ, ◌∷◌, ◌≡◌, ◌≤◌, ◌⊎◌}
+use Rattle.task_rules.proofs.Machine.{[], ap, arith, Bool, ByHandle, ByOp, Call, call_instance, callee_of, can_come, Component, Core, empty, false, fresh, get, get-empty, HasSubtask, HowFar, inl, inr, instance_of, is_fresh, is_some, is_sync_call, is_there, IsRunner, Label, length, List, None, Op, op_of_thread, opening, Option, option_and_then, option_map, option_map_or, Place, place_of, Placed, refl, Run, Scene, scene_of, Script, script_in, Setting, slice_get, Some, State, Steady, subst, sym, task_of, Thread, true, unwrap_or, Walk, Walked, was_started, Work, ℕ, ◌∷◌, ◌≡◌, ◌≤◌, ◌⊎◌}
+use Rattle.task_machine.specs.declared.op.Op.TheVariants as op
+use Rattle.task_machine.specs.declared.op.TaskOp.TheVariants as task_op
 use Rattle.task_places.proofs.HostsAwaited.{step_works}
 use Rattle.task_places.proofs.Directs.{DirectsRun, directs_on_top, directs_word}
 use Rattle.task_machine.specs.declared.records.Subtask.TheVariants as subtask
@@ -11,7 +13,7 @@ use Rattle.task_laws.proofs.WaitLemmas.{Homed, KnownHome, homed_word}
 use Rattle.task_laws.proofs.StrandLemmas.{Layered, layered_word}
 use Rattle.task_laws.proofs.SceneLemmas.{runner_there}
 use Rattle.task_laws.proofs.HousedLemmas.{RunnerHoused, housed_word}
-use Rattle.task_laws.proofs.FitLemmas.{AllFit, fits_word}
+use Rattle.task_laws.proofs.FitLemmas.{AllFit, fits_word, OfBase}
 use Rattle.task_laws.proofs.CountLemmas.{few_word}
 use Rattle.task_laws.proofs.SetHandles.{opening_sets, sets_named_word}
 use Rattle.task_laws.proofs.CallsLaw.{CallsGo, CallsHold}
@@ -150,7 +152,7 @@ module _ (x : Setting) (s : State) (l : Label) (t : State) (h : InOrder x.compon
   -- ---- Scripts
 
   fits_base : Fits x.component a.base
-  fits_base n r at = let f = h.fits n r at in record { script = f.script; position = f.position; first = f.first }
+  fits_base n r at = let f = h.fits n r at in record { script = f.script; position = f.position; op = f.op; under = f.under; first = f.first }
 
   has_call : (n : ℕ) (r : Thread) → get s.core.threads n ≡ Some r → is_some (get s.core.calls r.call) ≡ true
   has_call n r at = h.calls_there n r.call (ap (λ o. option_map (λ (t : Thread). t.call) o) at)
@@ -162,6 +164,9 @@ module _ (x : Setting) (s : State) (l : Label) (t : State) (h : InOrder x.compon
     first = f.first;
     position = inr (has_call n r at, f.position);
     same = λ to b is. let e : r ≡ b = cc in (ap (λ (t : Thread). t.call) e, ap (λ (t : Thread). t.script) e);
+    op = inr (has_call n r at, f.op);
+    under = λ d. ((has_call n r at, f.under d), inl (grind arith));
+    still = λ d b is. let e : r ≡ b = cc in (ap (λ (t : Thread). t.call) e, (ap (λ (t : Thread). t.script) e, ap (λ (t : Thread). t.position) e));
   }
 
   fits_last : AllFit a t.core
@@ -172,9 +177,10 @@ module _ (x : Setting) (s : State) (l : Label) (t : State) (h : InOrder x.compon
       let fits = of_base (λ b. Fits x.component b) s.turn s.core fits_base in
       let first = of_base (λ b. AllFit (record a { base = b }) s.core) s.turn s.core fits_first in
       let runs = of_base (λ b. (n : ℕ) → s.turn ≡ turn.Run n → place_of n b ≡ Some place.Running) s.turn s.core h.in_place.runs in
+      let there = of_base (λ b. (n : ℕ) (r : Thread) → get b.threads n ≡ Some r → is_some (get b.calls r.call) ≡ true) s.turn s.core has_call in
       let c = scene_of x s l w.next in
       let q = along (λ u. CallsGo c u × AllFit c u)
-      (λ v m ok q. (word_goes c h.codes b.0 v m ok q.0, fits_word c h.codes b.0 known fits runs v m ok q.0 q.1)) (b.1, first) w.walk in
+      (λ v m ok q. (word_goes c h.codes b.0 v m ok q.0, fits_word c h.codes b.0 known fits runs there v m ok q.0 q.1)) (b.1, first) w.walk in
       base_out (λ b. AllFit (record a { base = b }) t.core) s.turn s.core q.1
 
   pub fits_kept : Steady s.core t.core → Fits x.component t.core
@@ -185,9 +191,21 @@ module _ (x : Setting) (s : State) (l : Label) (t : State) (h : InOrder x.compon
         script = same_script x.component (call_instance r.call t.core) (call_instance r.call s.core) r.explicit r.script
             (λ e. same_call s.core t.core steady h.numbered r.call (f.call e) now) f.script;
         position = at_place r.position r.call r.script f.position now;
+        op = comes r.how_far f.op;
+        under = λ d. at_op is_sync_call (f.under d).0;
         first = f.first;
       }
     where
+      at_op : (test : Op → Bool) → OfBase a r test → test (op_of_thread x.component t.core r) ≡ true
+      at_op test e =
+          let now = calls_kept n r.call (ap (λ o. option_map (λ (t : Thread). t.call) o) at) in
+          let same = same_callee s.core t.core steady h.numbered r.call e.0 now in
+          subst (λ f. test (unwrap_or (slice_get (script_in x.component f r.script) r.position) (op.Task task_op.Exit)) ≡ true) (sym same) e.1
+
+      comes : (f : HowFar) → (f ≡ how_far.Fresh) ⊎ OfBase a r (λ o. can_come o f) → can_come (op_of_thread x.component t.core r) f ≡ true
+      comes f (inl fresh) = ap (can_come (op_of_thread x.component t.core r)) fresh
+      comes f (inr e) = at_op (λ o. can_come o f) e
+
       within : ℕ → ℕ → Script → Type 0
       within p k y = (p ≡ 0) ⊎ ((is_some (get s.core.calls k) ≡ true) × (p ≤ length (script_in x.component (callee_of k s.core) y)))
 

@@ -305,7 +305,7 @@ module _ {a : Scene} {b : Core} (n : ℕ) (p : Place) (f : Follows a b n (Some p
       record {
         placed = adds_all n (Some p) (place.Under m) u t (set_place_adds n (place.Under m) p u refl at) (stand_of {P = nobody} n (Some p) u at r.0 (λ k h. no_way h) all);
         runs = λ k to. ap (λ (j : ℕ). place_of j t) (one_runner k m (sym to ∙ ok.1.0)) ∙ here;
-        fresh = λ k h. by_number k m ((is_fresh (place_of k t) ≡ true) ⊎ Begun a k t) (λ e. inr (inr (rw e ok.1.1.1.1.1.1)))
+        fresh = λ k h. by_number k m ((is_fresh (place_of k t) ≡ true) ⊎ Begun a k t) (λ e. inr (inr (rw e ok.1.1.1.1.1.1.0)))
             (λ e. let still = fresh_still a st k h in let own = λ (g : waits a n ≡ true). begun s {A = ⊥} ok.1.1.1.1.1.0 g in
             inl (grind (arith, nat_tests, set_place_is k n (place.Under m) u, set_place_is k m place.Running s, own)));
         covered = λ k j under. let still = covered_still a st k j under in

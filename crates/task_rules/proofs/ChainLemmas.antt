@@ -1,8 +1,9 @@
 -- What holds along a chain of words.
+use Rattle.task_rules.proofs.Machine.{Advance, after_word, Allowed, Chain, Collapses, Core, Departs, EndsOver, GoesBack, inl, inr, IsFall, IsSettling, IsShift, Lands, LandsAt, MayGo, MayLand, Move, NoWord, Places, Placing, Pop, Promote, Put, Quits, refl, Remains, RemoveCall, RemoveGroup, RemoveThread, Scene, SetHowFar, Settles, SetTrapped, SetUninteresting, Stay, Stays, Then, Trip, Walk, WasUnder, Word, ℕ, ◌≡◌}
 use Rattle.task_machine.specs.declared.words.Mark.TheVariants as mark
 use Rattle.task_machine.specs.declared.records.Place.TheVariants as place
+use Rattle.task_machine.specs.declared.records.Turn.TheVariants as turn
 use Rattle.task_machine.specs.declared.records.HowFar.TheVariants as how_far
-use Rattle.task_rules.proofs.Machine.{Advance, after_word, Allowed, Chain, Collapses, Core, Departs, EndsOver, GoesBack, inl, inr, IsFall, IsSettling, IsShift, Lands, LandsAt, MayGo, MayLand, Move, NoWord, Places, Placing, Pop, Promote, Put, Quits, Remains, RemoveCall, RemoveGroup, RemoveThread, Scene, SetHowFar, Settles, SetTrapped, SetUninteresting, Stay, Stays, Then, Trip, Walk, Word, ℕ}
 
 module _ {may : Word → Core → Type 0} where
   -- what holds at first and is kept by each word holds at last
@@ -44,6 +45,10 @@ settle_keeps a (RemoveCall k) s ok = ok
 settle_keeps a (RemoveGroup g) s ok = ok
 settle_keeps a _ s ok = absurd ok
 
+-- the words of a step after which the thread runs on
+abbrev pub Going : Scene → Core → ℕ → Core → Type 0
+Going a b n t = a.next ≡ turn.Run n → Stay a b t
+
 -- what may be done while the running thread stays may be done in the step
 pub stays_allowed : (a : Scene) (w : Word) (s : Core) → Stays a w s → Allowed a w s
 stays_allowed a (Places p) s (inl ok) = inl ok
@@ -83,5 +88,5 @@ module _ {a : Scene} {b : Core} where
   trip_walk (LandsAt s p n h c ok comes) = Then (after_word (Places p) s) (SetHowFar n h) (Then s (Places p) (stay_walk c) (land_allowed a p s ok)) comes
   trip_walk (Quits s t n c leave d) = gone_walk n c (Departs leave) d
   trip_walk (GoesBack s t n m v c is runs to under d ok) =
-      Then (after_word (Places (Move m place.Running)) t) (SetHowFar m (how_far.Answered v)) (Then t (Places (Move m place.Running)) (gone_walk n c (EndsOver m is to under) d) (inr ok)) (n, (is, (to, under)))
+      Then (after_word (Places (Move m place.Running)) t) (SetHowFar m (how_far.Answered v)) (Then t (Places (Move m place.Running)) (gone_walk n c (EndsOver m is to under) d) (inr ok)) ((n, (is, (to, under))), WasUnder n v under refl)
   trip_walk (Collapses t over c) = weaken (fall_allowed a) c

@@ -1,12 +1,13 @@
 -- The moves of the machine as chains of words.
-use Rattle.task_rules.proofs.Machine.{[], add_call, add_group, add_set, add_thread, add_work, Advance, after_placing, after_word, ap, arith, blocked_on, Bool, call_group, call_made, call_settled, change, checked, chosen, Core, count_work, ended, exited_if, false, first_entry, free_handle, free_thread_handle, freed_thread_handle, FreeThreadHandle, get, get-insert, get-remove, Gift, give_handle, give_result, give_thread_handle, group_settled, handed_on, hands_on, held_why, held_why_of, HowFar, if◌then◌else◌, inr, instance_of, interest_settled, is_at, is_blocked_on, is_callback_waiter, is_deletable, is_done_host, is_end, is_explicit, is_finished, is_group_done, is_some, is_stage_ended, is_told, is_waiter, is_waiting_on, IsOwn, IsRunner, Join, join_of, Lands, LandsAt, le_refl, le_trans, Leaves, List, MakeThread, Mark, may_hand_on, may_not_suspend, may_publish, may_tell, may_wake, may_wake_joined, MayCome, MayDeliver, MayLand, MayPut, MayTell, MemberGift, nat_tests, NoGift, None, not, NoWord, numbers, on_call, on_instance, on_thread, on_work, Option, option_and_then, option_map, option_map_or, OwnGift, Place, place_of, Places, Placing, poll_pends, position_of, Promote, promoted, promoted_first, promoted_unless, published, push_high, Put, put_at, put_high, Quits, Records, refl, released, released_one, Releases, remove, remove_call, remove_group, remove_set, remove_thread, remove_work, RemoveCall, RemoveGroup, RemoveThread, same_subtask, SaysEnd, Scene, set_backpressure, set_cancel_delivered, set_cancelled, set_course, set_do_not_enter, set_do_not_suspend, set_end, set_event, set_exited, set_how_far, set_join, set_own_event, set_phase, set_position, set_register, set_result, set_saved_callee, set_saved_own, set_script, set_stage, set_started, set_starting_published, set_subtask_handle, set_thread_handle, set_trapped, set_uninteresting, set_word, SetCallEvent, SetCancelDelivered, SetExited, SetOwnEvent, Settles, SetUninteresting, Shifts, Some, stage_of, Status, Stop, stopped, subst, Subtask, sym, take_result, TakeHost, taken, TakePush, TakeWorkEvent, task_of, Tells, Then, Thread, thread_handle_of, told, Trip, true, unblocked, Unblocks, wake, wake_joined, wake_why, waken_by, Wakes, Why, with_handle, with_thread_handle, Word, Work, work_queued, ℕ, ◌||◌, ◌∙◌, ◌∷◌, ◌≡◌, ◌≤◌}
+use Rattle.task_rules.proofs.Machine.{[], add_call, add_group, add_set, add_thread, add_work, Advance, after_placing, after_word, ap, arith, AtOp, blocked_on, Bool, call_group, call_made, call_settled, can_come, CanCome, change, checked, chosen, Core, count_work, ended, exited_if, false, first_entry, free_handle, free_thread_handle, freed_thread_handle, FreeThreadHandle, get, get-insert, get-remove, Gift, give_handle, give_result, give_thread_handle, group_settled, handed_on, hands_on, held_why, held_why_of, HowFar, if◌then◌else◌, InOp, inr, instance_of, interest_settled, is_at, is_blocked_on, is_callback_waiter, is_deletable, is_done_host, is_end, is_explicit, is_finished, is_group_done, is_some, is_stage_ended, is_told, is_waiter, is_waiting_on, IsOwn, IsRunner, Join, join_of, Lands, LandsAt, le_refl, le_trans, Leaves, List, MakeThread, Mark, may_hand_on, may_not_suspend, may_publish, may_tell, may_wake, may_wake_joined, MayCome, MayDeliver, MayLand, MayPut, MayTell, MemberGift, nat_tests, NoGift, None, not, NoWord, numbers, on_call, on_instance, on_thread, on_work, op_in, Option, option_and_then, option_map, option_map_or, OwnGift, Place, place_of, Places, Placing, poll_pends, position_of, Promote, promoted, promoted_first, promoted_unless, published, push_high, Put, put_at, put_high, Quits, Records, refl, released, released_one, Releases, remove, remove_call, remove_group, remove_set, remove_thread, remove_work, RemoveCall, RemoveGroup, RemoveThread, Restart, same_subtask, SaysEnd, Scene, set_backpressure, set_cancel_delivered, set_cancelled, set_course, set_do_not_enter, set_do_not_suspend, set_end, set_event, set_exited, set_how_far, set_join, set_own_event, set_phase, set_position, set_register, set_result, set_saved_callee, set_saved_own, set_script, set_stage, set_started, set_starting_published, set_subtask_handle, set_thread_handle, set_trapped, set_uninteresting, set_word, SetCallEvent, SetCancelDelivered, SetExited, SetOwnEvent, Settles, SetUninteresting, Shifts, Some, stage_of, Status, Stop, stopped, subst, Subtask, sym, take_result, TakeHost, taken, TakePush, TakeWorkEvent, task_of, Tells, Then, Thread, thread_handle_of, told, Trip, true, unblocked, Unblocks, wake, wake_joined, wake_why, waken_by, Wakes, Why, with_handle, with_thread_handle, Word, Work, work_queued, ℕ, ◌||◌, ◌∙◌, ◌∷◌, ◌≡◌, ◌≤◌}
+use Rattle.task_machine.specs.declared.records.Turn.TheVariants as turn
 use Rattle.task_machine.proofs.CommuteLemmas.{get-change}
 use Rattle.task_rules.proofs.StandLemmas.{set_place_is}
 use Rattle.task_machine.proofs.MapLemmas.{get-remove_same}
 use Rattle.task_machine.specs.declared.records.Turn.TheVariants as turn
 use Rattle.task_rules.proofs.ChainLemmas.{along, Keep, Keeps, join, keep_stay, weaken, shift_keeps, settle_keeps}
 use Rattle.task_rules.proofs.StopLemmas.{find_passes}
-use Rattle.task_rules.proofs.PlacingLemmas.{placed, placing_shifted, popped_shifted, unplaced}
+use Rattle.task_rules.proofs.PlacingLemmas.{placed, placing_shifted, popped_shifted, unplaced, shifted_made, Shifted}
 use Rattle.task_rules.proofs.PromotionLemmas.{first_has_entry}
 use Rattle.task_machine.specs.declared.records.Delivery.TheVariants as delivery
 use Rattle.task_machine.specs.declared.records.Join.TheVariants as join
@@ -140,6 +141,36 @@ kept_word a n w s ok = grind (arith, nat_tests, get-change, get-insert, get-remo
 pub keep_position : {a : Scene} {b t : Core} (n : ℕ) → Keep a b t → position_of n t ≤ position_of n b
 keep_position {a = a} {b = b} n c = along (λ u. position_of n u ≤ position_of n b) (λ w s ok low. le_trans (kept_word a n w s ok) low) (le_refl _) c
 
+-- ---- The op at which the running thread is
+
+-- As many threads were made, at least, and the thread, if it is there, is where it was in its script.
+record StillAt (n : ℕ) (b s : Core) : Type 0 where
+  made : b.made.threads ≤ s.made.threads
+  position : is_some (get s.threads n) ≡ true → position_of n s ≡ position_of n b
+
+same_at : (n : ℕ) (b s t : Core) → t.made ≡ s.made → option_map unplaced (get t.threads n) ≡ option_map unplaced (get s.threads n) → StillAt n b s → StillAt n b t
+same_at n b s t made same q = record { made = rw made q.made; position = grind (arith, q.position) }
+
+module _ (a : Scene) (n : ℕ) (runs : place_of n a.base ≡ Some place.Running) (below : n ≤ a.base.made.threads) where
+  still_word : (w : Word) (s : Core) → Keeps a w s → StillAt n a.base s → StillAt n a.base (after_word w s)
+  unfolding add_call add_group add_set add_thread add_work call_made count_work free_handle free_thread_handle give_handle give_result give_thread_handle on_call on_instance on_thread on_work poll_pends push_high remove_call remove_group remove_set remove_thread remove_work set_backpressure set_cancel_delivered set_cancelled set_course set_do_not_enter set_do_not_suspend set_end set_event set_exited set_how_far set_join set_own_event set_phase set_position set_register set_result set_saved_callee set_saved_own set_script set_stage set_started set_starting_published set_subtask_handle set_thread_handle set_trapped set_uninteresting set_word take_result with_handle with_thread_handle work_queued
+  still_word (Places p) s ok q = same_at n a.base s _ refl ((placing_shifted p s).threads n) q
+  still_word (Advance m p) s ok q = absurd ok
+  still_word (Restart m) s ok q = record { made = q.made; position = grind (arith, nat_tests, get-change, q.position, ok, runs) }
+  still_word (TakePush m i) s ok q = same_at n a.base s _ refl ((popped_shifted m s).threads n) q
+  still_word (TakeHost m i) s ok q = same_at n a.base s _ refl ((popped_shifted m s).threads n) q
+  still_word w s ok q = record {
+    made = let m = q.made in omega (arith, m);
+    position = let m = q.made in grind (arith, nat_tests, get-change, get-insert, get-remove, q.position, m, below);
+  }
+
+-- no word before those of an op that is done brings the running thread further
+pub keep_still : {a : Scene} {t : Core} (n : ℕ) → a.turn ≡ turn.Run n → Keep a a.base t → AtOp a n t
+keep_still {a = a} n to c = (to, λ runs below there. (along (StillAt n a.base) (still_word a n runs below) (record { made = le_refl _; position = λ e. refl }) c).position (grind arith))
+
+placed_at_op : (a : Scene) (n : ℕ) (s t : Core) → Shifted s t → AtOp a n s → AtOp a n t
+placed_at_op a n s t d at = let h = d.threads n in (at.0, λ runs below there. grind (arith, at.1 runs below))
+
 -- ---- Chains of all words
 
 module _ {a : Scene} {b : Core} where
@@ -156,10 +187,10 @@ module _ {a : Scene} {b : Core} where
   pub lands : (p : Placing) {s : Core} → MayLand a p s → Keep a b s → Trip a b (after_placing p s)
   lands p {s = s} ok c = subst (λ (t : Core). Trip a b t) (placing_shifted p s).only (Lands s p (keep_stay c) ok)
 
-  pub lands_at : (p : Placing) (n : ℕ) (h : HowFar) {s : Core} → MayLand a p s → MayCome a n h (after_placing p s) → Keep a b s → Trip a b (set_how_far n h (after_placing p s))
-  lands_at p n h {s = s} ok comes c =
+  pub lands_at : (p : Placing) (n : ℕ) (h : HowFar) {s : Core} → MayLand a p s → MayCome a n h (after_placing p s) → AtOp a n s → can_come (op_in a n) h ≡ true → Keep a b s → Trip a b (set_how_far n h (after_placing p s))
+  lands_at p n h {s = s} ok comes at can c =
       let is = (placing_shifted p s).only in
-      subst (λ (t : Core). Trip a b (set_how_far n h t)) is (LandsAt s p n h (keep_stay c) ok (subst (λ (t : Core). MayCome a n h t) (sym is) comes))
+      subst (λ (t : Core). Trip a b (set_how_far n h t)) is (LandsAt s p n h (keep_stay c) ok (subst (λ (t : Core). MayCome a n h t × CanCome a n h t) (sym is) (comes, InOp (placed_at_op a n s _ (placing_shifted p s) at) can)))
 
   pub walk_if : (c : Bool) (t u : Core) → (c ≡ true → Keep a b t) → (c ≡ false → Keep a b u) → Keep a b (if c then t else u)
   walk_if true t u p q = p refl
@@ -282,30 +313,10 @@ module _ {a : Scene} {b : Core} where
   pub exits_trip : (n : ℕ) {t : Core} → Leaves a n → Left a b n t → Trip a b t
   exits_trip n {t = t} leave e = Quits e.before t n (keep_stay e.stays) leave e.settles
 
-settled_threads : (k : ℕ) (s : Core) → (call_settled k s).threads ≡ s.threads
-unfolding call_settled group_settled remove_group remove_call
-settled_threads k s = grind arith
-
-interest_threads : (k : ℕ) (s : Core) → (interest_settled k s).threads ≡ s.threads
-unfolding interest_settled set_uninteresting on_call
-interest_threads k s = grind arith
-
-freed_threads : (i : ℕ) (o : Option ℕ) (s : Core) → (freed_thread_handle i o s).threads ≡ s.threads
-unfolding free_thread_handle
-freed_threads i o s = grind arith
-
-exited_threads : (explicit : Bool) (k : ℕ) (s : Core) → (exited_if explicit k s).threads ≡ s.threads
-unfolding set_exited on_call
-exited_threads explicit k s = grind arith
-
 -- who ends is gone, and the other threads stay
 pub ended_threads : (n : ℕ) (s : Core) → (ended n s).threads ≡ remove s.threads n
-unfolding ended remove_thread
-ended_threads n s =
-    let x = exited_if (is_explicit n s) (task_of n s) s in
-    let f = freed_thread_handle (instance_of n s) (thread_handle_of n s) x in
-    let t = interest_settled (task_of n s) (remove_thread n f) in
-    settled_threads (task_of n s) t ∙ (interest_threads (task_of n s) (remove_thread n f) ∙ ap (λ (m : Records Thread). remove m n) (freed_threads (instance_of n s) (thread_handle_of n s) x ∙ exited_threads (is_explicit n s) (task_of n s) s))
+unfolding ended remove_thread call_settled group_settled remove_group remove_call interest_settled set_uninteresting on_call free_thread_handle set_exited
+ended_threads n s = grind arith
 
 pub ended_gone : (n : ℕ) (s : Core) → get (ended n s).threads n ≡ None
 ended_gone n s = ap (λ (m : Records Thread). get m n) (ended_threads n s) ∙ get-remove_same s.threads n

@@ -1,5 +1,5 @@
 -- Each step as a chain of words: host works, main, the loop and all turns.
-use Rattle.task_rules.proofs.Machine.{[], Abort, aborted_phase, act_of, add_group, add_work, AddGroup, advanced_main, Answer, ap, ap₂, arith, at_turn, Await, base_at, base_without, Began, begun_holder, blocked_on, Bool, ByProgram, ByScript, call_made, Callee, callee_of_main_op, Chain, Choice, choice_of, Collapses, Core, count_work, Course, course_for, course_of, course_value, DeadlockStep, did, Does, EmptyFor, end_for, ended, Ends, EndWords, EndWork, Entry, entry_number, export_kind, Fails, FailsNow, Falls, false, Finish, finish_act, finish_result, finished_call, finished_into, FinishWork, followed, FuturesStep, get, get-remove, Goal, Goes, goes_to, handed_by, handed_by_main, HandsOut, has_end, has_interesting, has_moving_work, host_at, host_done, host_label, host_result, host_status, HostDef, inl, inr, is_aborted, is_async_work, is_callback_waiter, is_complete, is_direct, is_free, is_none, is_ready_for_call, is_some, is_spawn, is_spawn_caller, is_stage_ended, is_take, is_unended_take, is_waiting_on, IsFall, IsRunner, Join, join_of, Label, LastWords, length, line_of, List, Main, main_aborted, main_outcome, main_row, main_spawned, main_started, MainAct, MainLabel, MainPlace, MainProgress, MainProgresses, MainStep, MakeCall, Mark, may, may_act, may_deadlock, may_publish, MayAbort, MayCall, MayFinish, nat_tests, Never, new_work, next_entry, next_polled, next_thread, next_work, None, not, NoWord, on_thread, on_work, Op, op_at, op_of, op_row, OpenAct, OpenProgresses, Option, option_map, option_map_or, Ordered, Outcome, outcome_of_label, Pend, Pends, Phase, phase_of, place_of, Poll, poll_ends, poll_of, poll_pends, Polled, polled_course, polled_in, Pop, popped, ProgramAborts, Progress, Progresses, published, push_high, pushed, Put, put_high, QueueWork, Quiet, Ready, Records, refl, Refused, Remains, remove_thread, remove_threads, RemoveThread, RestStep, runner_at, SameMain, Scene, ScriptAborts, Scripted, ScriptStep, set_course, set_event, set_phase, set_place, set_register, set_stage, set_trapped, SetPhase, SetRegister, Setting, settled_turn, SetTrapped, Shifts, size, slice_get, Some, Spawn, spawned_at, SpawnsNamed, Stage, stage_of, Start, start_act, start_of, start_refusal, Started, started_at, started_end, Starts, State, Status, Step, StepsAreWalks, StillPends, Stops, strand_from, strand_of, struck, subst, Subtask, suc, sym, T, take_result, take_row, TakeHost, TakePush, TakeResult, TakesResult, TakeStep, Then, Thread, thread_of_entry, Trap, Traps, Trip, true, Turn, TurnStep, unblocked, under_of, unless_pending, Unscripted, unwrap_or, wake, wake_joined, waken_by, Walk, Why, woken_of, Work, work_caller_of, work_queued, WorkCaller, Writes, WritesPolled, written_by, zero, ℕ, ◌++◌, ◌+◌, ◌-◌, ◌∙◌, ◌∷◌, ◌≡◌, ◌⊎◌}
+use Rattle.task_rules.proofs.Machine.{[], Abort, aborted_phase, act_of, add_group, add_work, AddGroup, advanced_main, Answer, ap, arith, at_turn, Await, base_at, base_without, Began, begun_holder, blocked_on, Bool, ByProgram, ByScript, call_made, Callee, callee_of_main_op, Chain, Choice, choice_of, Collapses, Core, count_work, Course, course_for, course_of, course_value, DeadlockStep, did, Does, EmptyFor, end_for, ended, Ends, EndWords, EndWork, Entry, entry_number, export_kind, Fails, FailsNow, Falls, false, Finish, finish_act, finish_result, finished_call, finished_into, FinishWork, followed, FuturesStep, get, get-remove, Goal, Goes, goes_to, handed_by, handed_by_main, HandsOut, has_end, has_interesting, has_moving_work, host_at, host_done, host_label, host_result, host_status, HostDef, inl, inr, is_aborted, is_async_work, is_complete, is_direct, is_free, is_none, is_ready_for_call, is_some, is_spawn, is_spawn_caller, is_stage_ended, is_take, is_unended_take, is_waiting_on, IsFall, IsRunner, join_of, Label, LastWords, length, line_of, List, Main, main_aborted, main_outcome, main_row, main_spawned, main_started, MainAct, MainLabel, MainPlace, MainProgress, MainProgresses, MainStep, MakeCall, Mark, may, may_act, may_deadlock, may_publish, MayAbort, MayCall, MayFinish, nat_tests, Never, new_work, next_entry, next_polled, next_thread, next_work, None, not, NoWord, on_thread, on_work, Op, op_at, op_of, op_row, OpenAct, OpenProgresses, Option, option_map, option_map_or, Ordered, Outcome, outcome_of_label, Pend, Pends, Phase, phase_of, place_of, Poll, poll_ends, poll_of, poll_pends, Polled, polled_course, polled_in, Pop, popped, ProgramAborts, Progress, Progresses, published, push_high, pushed, Put, put_high, QueueWork, Quiet, Ready, Records, refl, Refused, Remains, remove_thread, remove_threads, RemoveThread, RestStep, runner_at, SameMain, Scene, ScriptAborts, Scripted, ScriptStep, set_course, set_event, set_phase, set_place, set_register, set_stage, set_trapped, SetPhase, SetRegister, Setting, settled_turn, SetTrapped, Shifts, size, slice_get, Some, Spawn, spawned_at, SpawnsNamed, Stage, stage_of, Start, start_act, start_of, start_refusal, Started, started_at, started_end, Starts, State, Status, Step, StepsAreWalks, StillPends, Stops, strand_from, strand_of, struck, subst, Subtask, suc, sym, T, take_result, take_row, TakeHost, TakePush, TakeResult, TakesResult, TakeStep, Then, Thread, thread_of_entry, Trap, Traps, Trip, true, Turn, TurnStep, unblocked, under_of, unless_pending, Unscripted, unwrap_or, wake, Walk, woken_of, Work, work_caller_of, work_queued, WorkCaller, Writes, WritesPolled, written_by, zero, ℕ, ⊎_elim, ◌++◌, ◌+◌, ◌-◌, ◌∙◌, ◌∷◌, ◌≡◌, ◌⊎◌}
 use Rattle.task_machine.specs.declared.scenario.MainOpDef.{MainOpDef}
 use Rattle.task_rules.specs.MainOps.{Answers}
 use Rattle.task_machine.proofs.CommuteLemmas.{get-change, change-change_same}
@@ -21,7 +21,6 @@ use Rattle.task_machine.specs.declared.label.MainLabel.TheVariants as main_label
 use Rattle.task_machine.specs.declared.op.Op.TheVariants as op
 use Rattle.task_machine.specs.declared.records.Caller.TheVariants as caller
 use Rattle.task_machine.specs.declared.records.Course.TheVariants as course
-use Rattle.task_machine.specs.declared.records.Delivery.TheVariants as delivery
 use Rattle.task_machine.specs.declared.records.Entry.TheVariants as entry
 use Rattle.task_machine.specs.declared.records.Goal.TheVariants as goal
 use Rattle.task_machine.specs.declared.records.Join.TheVariants as join
@@ -42,52 +41,13 @@ removed_still n m s h = grind (arith, nat_tests, get-remove)
 
 -- ---- A host call whose entry is taken
 
-set_stage_same : (i : ℕ) (n : ℕ) (w : Why) (t : Core) → set_stage i stage.Ended (put_high n w t) ≡ put_high n w (set_stage i stage.Ended t)
-unfolding set_stage on_work put_high push_high set_place on_thread
-set_stage_same i n w t = refl
-
-ended_unblocked : (i : ℕ) (o : Option ℕ) (t : Core) → set_stage i stage.Ended (unblocked o t) ≡ unblocked o (set_stage i stage.Ended t)
-ended_unblocked i None t = refl
-ended_unblocked i (Some n) t = set_stage_same i n why.Resumption t
-
-ended_waiter : (i n : ℕ) (t : Core) → is_callback_waiter n (set_stage i stage.Ended t) ≡ is_callback_waiter n t
-unfolding set_stage on_work
-ended_waiter i n t = refl
-
-ended_waken : (i : ℕ) (b : Bool) (x n : ℕ) (t : Core) → set_stage i stage.Ended (waken_by b x n t) ≡ waken_by b x n (set_stage i stage.Ended t)
-ended_waken i true x n t = set_stage_same i n (why.Delivery (delivery.Set x)) t
-ended_waken i false x n t = set_stage_same i n why.Resumption t
-
-ended_wake : (i x : ℕ) (w : Option ℕ) (t : Core) → set_stage i stage.Ended (wake x w t) ≡ wake x w (set_stage i stage.Ended t)
-unfolding wake
-ended_wake i x None t = refl
-ended_wake i x (Some n) t = ended_waken i (is_callback_waiter n t) x n t ∙ ap (λ b. waken_by b x n (set_stage i stage.Ended t)) (sym (ended_waiter i n t))
-
-ended_joined : (i : ℕ) (j : Join) (w : Option ℕ) (t : Core) → set_stage i stage.Ended (wake_joined j w t) ≡ wake_joined j w (set_stage i stage.Ended t)
-ended_joined i (join.Set x) w t = ended_wake i x w t
-ended_joined i join.Nowhere w t = refl
-ended_joined i (join.Watched n) w t = refl
-
-ended_event : (i : ℕ) (e : Option Status) (t : Core) → set_stage i stage.Ended (set_event (subtask.Host i) e t) ≡ set_event (subtask.Host i) e (set_stage i stage.Ended t)
-unfolding set_stage set_event on_work
-ended_event i e t =
-    ap (λ (m : Records Work). record t { works = m }) (change-change_same t.works i (λ (w : Work). record w { stage = stage.Ended }) (λ (w : Work). record w { event = e }) ∙ sym (change-change_same t.works i (λ (w : Work). record w { event = e }) (λ (w : Work). record w { stage = stage.Ended })))
-
 ended_join : (i : ℕ) (t : Core) → join_of (subtask.Host i) (set_stage i stage.Ended t) ≡ join_of (subtask.Host i) t
 unfolding set_stage on_work
 ended_join i t = work_read (λ w. w.join) join.Nowhere i (λ w. record w { stage = stage.Ended }) (λ w. refl) t.works
 
-ended_blocked : (i : ℕ) (t : Core) → blocked_on (subtask.Host i) (set_stage i stage.Ended t) ≡ blocked_on (subtask.Host i) t
-unfolding set_stage on_work blocked_on
-ended_blocked i t = refl
-
 ended_published : (i : ℕ) (e : Status) (w : Option ℕ) (t : Core) → set_stage i stage.Ended (published (subtask.Host i) e w t) ≡ published (subtask.Host i) e w (set_stage i stage.Ended t)
-unfolding published
-ended_published i e w t =
-    let sub = subtask.Host i in
-    let u = set_event sub (Some e) t in
-    ended_joined i (join_of sub t) w (unblocked (blocked_on sub t) u)
-    ∙ (ap₂ (λ j (v : Core). wake_joined j w v) (sym (ended_join i t)) (ended_unblocked i (blocked_on sub t) u ∙ ap₂ (λ o (v : Core). unblocked o v) (sym (ended_blocked i t)) (ended_event i (Some e) t)))
+unfolding published set_stage set_event on_work wake put_high push_high set_place on_thread blocked_on
+ended_published i e w t = grind (arith, nat_tests, get-change, change-change_same)
 
 ended_result : (i : ℕ) (f : WorkCaller) (v : Option ℕ) (t : Core) → set_stage i stage.Ended (host_result f v t) ≡ host_result f v (set_stage i stage.Ended t)
 unfolding set_stage on_work set_register on_thread
@@ -253,11 +213,8 @@ finished_spawns : (o : MainOpDef) (v : ℕ) (p : MainPlace) → (finished_into o
 finished_spawns o v p = grind arith
 
 advanced_spawns : (o : MainOpDef) (k : MainLabel) (p : MainPlace) (t : Core) → SpawnTold k t → SpawnsNamed p t (advanced_main o k p)
-advanced_spawns o (main_label.Spawn j i) p t told k = by (at_end p.spawns i (k - 1))
-  where
-    by : (slice_get (p.spawns ++ i ∷ []) (k - 1) ≡ slice_get p.spawns (k - 1)) ⊎ (slice_get (p.spawns ++ i ∷ []) (k - 1) ≡ Some i) → ((j : ℕ) × (unwrap_or (slice_get (p.spawns ++ i ∷ []) (k - 1)) 0 ≡ spawned_at p j)) ⊎ (is_spawn (unwrap_or (slice_get (p.spawns ++ i ∷ []) (k - 1)) 0) t ≡ true)
-    by (inl e) = inl (k, ap (λ (o : Option ℕ). unwrap_or o 0) e)
-    by (inr e) = inr (subst (λ (n : ℕ). is_spawn n t ≡ true) (ap (λ (o : Option ℕ). unwrap_or o 0) (sym e)) (told i refl))
+advanced_spawns o (main_label.Spawn j i) p t told k = let now = told i refl in
+    ⊎_elim (λ e. inl (k, ap (λ (o : Option ℕ). unwrap_or o 0) e)) (λ e. inr (grind arith)) (at_end p.spawns i (k - 1))
 advanced_spawns o (main_label.Finish j v) p t told k = same_spawns p t (advanced_main o (main_label.Finish j v) p) (finished_spawns o v p) k
 advanced_spawns o l p t told k = same_spawns p t (advanced_main o l p) refl k
 
@@ -342,11 +299,7 @@ module _ (x : Setting) (s : State) (l : Label) where
   -- ---- Main
 
   main_here : (u : Turn) (next : Turn) (k : MainLabel) (t : Core) → l ≡ label.Main k → main_outcome k ≡ None ⊎ (next ≡ turn.Over) → ((m : ℕ) → next ≡ turn.Run m → ⊥) → EndWords (scene_at u None next) t → Keep (scene_at u None next) s.core t → Trip (scene_at u None next) s.core t × LastWords (scene_at u None next) t
-  main_here u next k t is quiet stills says c = (Remains t (keep_stay c) (λ m at. absurd (stills m at)), idle_words (scene_at u None next) t refl stills (λ o at. ends quiet o (sym (ap outcome_of_label is) ∙ at)) (ap (λ y. begun_holder s.core y) is) says)
-    where
-      ends : main_outcome k ≡ None ⊎ (next ≡ turn.Over) → (o : Outcome) → main_outcome k ≡ Some o → next ≡ turn.Over
-      ends (inl none) o at = none_is_some o (sym none ∙ at)
-      ends (inr over) o at = over
+  main_here u next k t is quiet stills says c = (Remains t (keep_stay c) (λ m at. absurd (stills m at)), idle_words (scene_at u None next) t refl stills (λ o at. ⊎_elim (λ none. absurd (cc)) (λ over. over) quiet) (ap (λ y. begun_holder s.core y) is) says)
 
   -- what an op of main does
   abbrev LeadsMain : Turn → MainProgress → Type 0
@@ -432,19 +385,8 @@ module _ (x : Setting) (s : State) (l : Label) where
   unfolding add_group
   script_call u p o scripted is e words at = ByScript p o scripted is (names o at) refl refl
     where
-      is_start_act : MainAct → Option Callee
-      is_start_act (Start f ws) = Some f
-      is_start_act _ = None
-
       names : (q : MainOpDef) → act_of p q ≡ Start e words → callee_of_main_op q ≡ Some e
-      names (main_op.Start f xs) h = ap is_start_act h
-      names (main_op.Finish k r) h = ap is_start_act h
-      names (main_op.Spawn k) h = ap is_start_act h
-      names (main_op.Abort k) h = ap is_start_act h
-      names (main_op.Await k) h = ap is_start_act h
-      names main_op.Quiet h = ap is_start_act h
-      names (main_op.Ready f) h = ap is_start_act h
-      names (main_op.Answer v) h = ap is_start_act h
+      names q h = grind arith
 
   script_step_walks : (u : Turn) (p : MainPlace) (o : Option MainOpDef) (t : State) → s.main ≡ Scripted p → op_at x.script p ≡ o → ScriptStep x s p o l t → WalkedBy (scene_at u None) s.core s.main t
   script_step_walks u p None t scripted at is = pends_here u t is.0 is.1
@@ -538,9 +480,9 @@ module _ (x : Setting) (s : State) (l : Label) where
 op_row_leads : (x : Setting) (main : Main) (s : Core) (n : ℕ) (l : Label) (next : Turn) (ch : Choice) (o : Op) → op_of x.component n s ≡ o → Leads (running_scene x main s n l next) s (op_row x.component n s ch o)
 op_row_leads x main s n l next ch (op.Data o) is = data_row_leads x main s n l next (refl, op_stands x.component n s (ap is_exit_op is)) o
 op_row_leads x main s n l next ch (op.Task o) is = task_row_leads x main s n l next ch o is
-op_row_leads x main s n l next ch (op.Set o) is = set_row_leads x main s n l next (refl, op_stands x.component n s (ap is_exit_op is)) ch o
+op_row_leads x main s n l next ch (op.Set o) is = set_row_leads x main s n l next (refl, op_stands x.component n s (ap is_exit_op is)) ch o is
 op_row_leads x main s n l next ch (op.Call o) is = subtask_row_leads x main s n l next (refl, op_stands x.component n s (ap is_exit_op is)) o is
-op_row_leads x main s n l next ch (op.Thread o) is = thread_row_leads x main s n l next (refl, op_stands x.component n s (ap is_exit_op is)) o
+op_row_leads x main s n l next ch (op.Thread o) is = thread_row_leads x main s n l next (refl, op_stands x.component n s (ap is_exit_op is)) o is
 
 did_leads : (x : Setting) (main : Main) (s : Core) (n : ℕ) (l : Label) (next : Turn) (ch : Choice) → Leads (running_scene x main s n l next) s (did x.component n s ch)
 unfolding did

@@ -2,7 +2,6 @@
 use Rattle.task_rules.proofs.Machine.{activated, activated_woken, admits, ap, arith, at_handle_limit, backpressure_of, begun_holder, Bool, Call, Choice, chosen, cond, Core, delivered, delivery_row, end_for, EndWords, event_label, ExportKind, false, foot_of, get, Gift, gift, give_thread_handle, Given, given_for, Goes, handed_by, handed_by_event, handed_on, handed_out, HandsOut, held_label, holder_at_start, Holds, host_label, if◌then◌else◌, inl, inr, instance_of, is_begun, is_exit, is_explicit, is_free, is_holding, is_none, is_running, is_some, is_start, is_sync, is_told, IsLaid, kind_of, Label, LastWords, Main, Mark, may, may_hand_on, may_not_enter, may_tell, may_tell_starting, MayDeliver, MayMove, MemberGift, Move, moved_to, NameThread, nat_tests, NoGift, None, not, NoWord, on_call, on_instance, on_thread, Option, option_map_or, outcome_of_label, own_delivered, own_gift_of, own_gift_only, own_or_nothing, OwnEvent, OwnGift, Place, place_of, published, Records, refl, Restart, running, Runs, Scene, set_delivered, set_do_not_enter, set_event, set_given, set_how_far, set_place, set_position, set_script, set_started, set_starting_published, set_thread_handle, SetDoNotEnter, SetStarted, SetStartingPublished, Setting, Some, start_admitted, start_begins, start_holds, start_row, start_sets_flags, starting_is_published, starting_told, Status, stopped, Stops, subst, Subtask, sym, T, take_holds, take_label, taken, TakesEvent, taking, task_of, thread_taken, told, true, Turn, unwrap_or, wait_again, WaitsAgain, was_started, WasReady, Why, with_thread_handle, written_by, ℕ, ◌&&◌, ◌==◌, ◌||◌, ◌∙◌, ◌≡◌}
 use Rattle.task_machine.specs.declared.records.Delivery.{Delivery}
 use Rattle.task_machine.proofs.CommuteLemmas.{get-change}
-use Rattle.task_machine.specs.declared.words.OwnEvent.TheVariants as own
 use Rattle.task_rules.proofs.MuteLemmas.{is_mute, mute_words, none_said}
 use Rattle.task_rules.proofs.SayLemmas.{activated_on_gone, given_says, HasNoEnd}
 use Rattle.task_machine.specs.declared.records.Subtask.TheVariants as subtask
@@ -90,21 +89,9 @@ unnot_true c h = grind arith
 
 -- ---- Whose instance it is
 
-on_call_instance : (n k : ℕ) (f : Call → Call) (s : Core) → ((c : Call) → (f c).callee ≡ c.callee) → instance_of n (on_call k f s) ≡ instance_of n s
-unfolding on_call
-on_call_instance n k f s keeps = grind (arith, nat_tests, get-change)
-
-named_instance : (i m n : ℕ) (s : Core) → instance_of n (with_thread_handle i m s) ≡ instance_of n s
-unfolding with_thread_handle set_thread_handle on_thread give_thread_handle
-named_instance i m n s = grind (arith, nat_tests, get-change)
-
-started_instance : (k n : ℕ) (s : Core) → instance_of n (set_started k s) ≡ instance_of n s
-unfolding set_started
-started_instance k n s = on_call_instance n k (λ c. record c { started = true }) s (λ c. refl)
-
 event_instance : (k : ℕ) (e : Option Status) (n : ℕ) (s : Core) → instance_of n (set_event (subtask.Guest k) e s) ≡ instance_of n s
-unfolding set_event
-event_instance k e n s = on_call_instance n k (λ c. record c { event = e }) s (λ c. refl)
+unfolding set_event on_call
+event_instance k e n s = grind (arith, nat_tests, get-change)
 
 told_instance : (k : ℕ) (e : Status) (w : Option ℕ) (n : ℕ) (s : Core) → ToldTo k w s → instance_of n (told k e w s) ≡ instance_of n s
 unfolding told
@@ -133,8 +120,8 @@ begun_at : ℕ → Core → Core
 begun_at n s = set_started (task_of n s) (with_thread_handle (instance_of n s) n s)
 
 begun_instance : (n : ℕ) (s : Core) → instance_of n (begun_at n s) ≡ instance_of n s
-unfolding begun_at
-begun_instance n s = started_instance (task_of n s) n (with_thread_handle (instance_of n s) n s) ∙ named_instance (instance_of n s) n n s
+unfolding begun_at set_started on_call with_thread_handle set_thread_handle on_thread give_thread_handle
+begun_instance n s = grind (arith, nat_tests, get-change)
 
 begun_same : (n : ℕ) (s : Core) → SameCall (task_of n s) s (begun_at n s)
 unfolding begun_at set_started on_call with_thread_handle set_thread_handle give_thread_handle on_thread
@@ -284,9 +271,7 @@ module _ (x : Setting) (main : Main) (ended : Bool) (s : Core) (n : ℕ) (l : La
   -- the task's own event is no end of a subtask
   own_says : (o : Option OwnEvent) (sub : Subtask) (e : Status) {A : Type 0} → handed_by_event n s (given_for (own_or_nothing o) 0 s) ≡ Some (end_for e sub) → A
   unfolding given_for
-  own_says None sub e out = none_is_some (end_for e sub) out
-  own_says (Some own.None) sub e out = none_is_some (end_for e sub) out
-  own_says (Some own.Cancelled) sub e out = none_is_some (end_for e sub) out
+  own_says o sub e out = absurd (grind arith)
 
   activated_goes : (m : Mark) (d : Delivery) → WasReady taking_scene n (why.Delivery d) → (g : Gift) (v : Given) (w : Option ℕ) (t : Core) → (l ≡ event_label m n v w → EndWords taking_scene (activated n g v t)) → instance_of n t ≡ instance_of n s → MayTake taking_scene (task_of n t) g → may_not_enter (instance_of n s) s ≡ false → Keep taking_scene s t → Leads taking_scene s (Goes (event_label m n v w) (activated n g v t) n)
   unfolding activated moved_to

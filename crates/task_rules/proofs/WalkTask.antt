@@ -1,8 +1,9 @@
 -- The rows of ops as chains of words: what a row owes, the ops on registers and words, and the ops that end a task or an activation.
+use Rattle.task_rules.proofs.ChainLemmas.{Going}
 use Rattle.task_rules.proofs.SayLemmas.{said_is}
 use Rattle.task_rules.proofs.MuteLemmas.{is_mute, mute_words, none_said}
 use Rattle.task_rules.proofs.WalkEnds.{cancelled_rest, returned_rest, SameCall, cancelled_walks, returned_walks, still_told_to, unanswered}
-use Rattle.task_rules.proofs.Machine.{[], Advance, advanced, answered, ap, ap₂, arith, assigned, AwaitsEvent, backpressure_of, begun_holder, blocking_exit_row, blocking_exits, Bool, BySetHandle, Call, CallEnd, cancel_was_delivered, change, checked, Choice, code_exits, code_finds, code_kind_row, code_row, code_stops, code_wait_row, code_waits, code_yields, ComesAgain, Component, component_of, Core, data_row, direct_exit_to, direct_exits, end_for, end_reopens, ended, ends_activation, EndsActivation, EndsByExit, EndsCall, EndsOwn, EndWords, exit_label, exit_restores, exit_row_for, exit_stops, Exits, ExportKind, Fails, false, FindsEvent, foot_of, get, GivesUp, goal_of, Goes, GoesBack, handed_by, HandsOut, has_ended, has_event_for, HasSet, held_by_flag, holder_at_exit, if◌then◌else◌, implicit_exit_row, inl, inr, instance_of, is_async_lifted, is_at, is_code_op, is_direct, is_ending_exit, is_exit, is_explicit, is_holding, is_none, is_over, is_running, is_under, IsRunner, kind_exit_row, kind_of, Label, LastWords, Leaves, leaves_no_result, length, List, Main, may, may_tell, MayBar, MayEnd, MayOwe, min, Move, moved_to, nat_le, nat_lt, nat_tests, Never, None, not, NoWord, numbers, on_call, on_instance, on_thread, Op, op_in, op_of, Option, option_map, option_map_or, or_never, or_trap, Ordered, outcome_of_label, own_event_of, own_or_none, OwnEvent, passes_after_return, passes_after_stop, passes_check, Place, place_of, position_of, Progress, Put, Records, refl, register_of, Remains, ret_label, returned, returned_holder, ReturnsNow, saved_own_of, SaysEnd, Scene, script_of, set_at, set_backpressure, set_do_not_enter, set_do_not_suspend, set_end, set_how_far, set_place, SetBackpressure, SetDoNotEnter, SetDoNotSuspend, SetEnd, SetOwnEvent, SetRegister, SetSavedCallee, Setting, SetWord, skip_row, skipped, slice_get, Some, Status, Stay, stopped, Stops, stored, subst, Subtask, suc, sym, sync_exit_row, sync_exits, T, task_cancel_label, task_end, task_of, Then, Thread, thread_exit_row, Trap, trap_if, Traps, Trip, true, Turn, Uncovers, under_of, unwrap_or, value_of, Walk, Writes, WritesCall, WritesToo, written_by, written_by_exit, zero, ℕ, ◌%◌, ◌&&◌, ◌*◌, ◌+◌, ◌-◌, ◌/◌, ◌==◌, ◌||◌, ◌∙◌, ◌∷◌, ◌≡◌, ◌≤◌, ◌⊎◌}
+use Rattle.task_rules.proofs.Machine.{[], Advance, advanced, answered, ap, ap₂, arith, assigned, AwaitsEvent, backpressure_of, begun_holder, blocking_exit_row, blocking_exits, Bool, BySetHandle, Call, CallEnd, cancel_was_delivered, change, checked, Choice, code_exits, code_finds, code_kind_row, code_row, code_stops, code_wait_row, code_waits, code_yields, ComesAgain, Component, component_of, Core, data_row, direct_exit_to, direct_exits, end_for, end_reopens, ended, ends_activation, EndsActivation, EndsByExit, EndsCall, EndsOwn, EndWords, exit_label, exit_restores, exit_row_for, exit_stops, Exits, ExportKind, Fails, false, FindsEvent, foot_of, get, GivesUp, goal_of, Goes, GoesBack, handed_by, HandsOut, has_ended, has_event_for, HasSet, held_by_flag, holder_at_exit, if◌then◌else◌, implicit_exit_row, inl, inr, instance_of, is_async_lifted, is_at, is_code_op, is_direct, is_ending_exit, is_exit, is_explicit, is_holding, is_none, is_over, is_running, is_under, IsRunner, kind_exit_row, kind_of, Label, LastWords, Leaves, leaves_no_result, length, List, Main, may, may_tell, MayBar, MayEnd, MayOwe, min, Move, moved_to, nat_le, nat_lt, nat_tests, Never, None, not, NoWord, numbers, on_call, on_instance, on_thread, Op, op_in, op_of, Option, option_map, option_map_or, or_never, or_trap, Ordered, outcome_of_label, own_event_of, own_or_none, OwnEvent, passes_after_return, passes_after_stop, passes_check, Place, place_of, position_of, Progress, Put, Records, refl, register_of, Remains, ret_label, returned, returned_holder, ReturnsNow, saved_own_of, SaysEnd, Scene, script_of, set_at, set_backpressure, set_do_not_enter, set_do_not_suspend, set_end, set_how_far, set_place, SetBackpressure, SetDoNotEnter, SetDoNotSuspend, SetEnd, SetOwnEvent, SetRegister, SetSavedCallee, Setting, SetWord, skip_row, skipped, slice_get, Some, Status, stopped, Stops, stored, subst, Subtask, suc, sym, sync_exit_row, sync_exits, T, task_cancel_label, task_end, task_of, Then, Thread, thread_exit_row, Trap, trap_if, Traps, Trip, true, Turn, Uncovers, under_of, unwrap_or, value_of, Walk, Writes, WritesCall, WritesToo, written_by, written_by_exit, zero, ℕ, ◌%◌, ◌&&◌, ◌*◌, ◌+◌, ◌-◌, ◌/◌, ◌==◌, ◌||◌, ◌∙◌, ◌∷◌, ◌≡◌, ◌≤◌, ◌⊎◌}
 use Rattle.task_machine.specs.declared.op.DataOp.{DataOp}
 use Rattle.task_machine.specs.declared.op.TaskOp.{TaskOp}
 use Rattle.task_rules.specs.Task.{dec_from, dec_lowers, dec_opens, inc_raises, inc_row, ret_done, ret_row, task_cancel_done, task_cancel_row, task_row}
@@ -183,13 +184,16 @@ module _ (x : Setting) (main : Main) (s : Core) (n : ℕ) (l : Label) (next : Tu
   }
 
   -- n goes on, as the label says
-  pub goes_on_saying : (k : Label) (t : Core) → is_plain k ≡ true → (l ≡ k → EndWords running_scene t) → (l ≡ k → Stay running_scene s t) → Leads running_scene s (Goes k t n)
-  goes_on_saying k t plain says c is to =
+  pub goes_on_told : (k : Label) (t : Core) → is_plain k ≡ true → (l ≡ k → next ≡ turn.Run n → EndWords running_scene t) → (l ≡ k → Going running_scene s n t) → Leads running_scene s (Goes k t n)
+  goes_on_told k t plain says c is to =
       let p = plain_quiet (is_quiet k) (is_exit k) plain in
-      (Remains t (c is) (λ m at. sym to ∙ at), quiet_ends (ap is_quiet is ∙ p.0) (λ m at. inl (sym to ∙ at)) (λ exit. absurd (subst T (sym exit ∙ (ap is_exit is ∙ p.1)) tt)) (says is))
+      (Remains t (c is to) (λ m at. sym to ∙ at), quiet_ends (ap is_quiet is ∙ p.0) (λ m at. inl (sym to ∙ at)) (λ exit. absurd (subst T (sym exit ∙ (ap is_exit is ∙ p.1)) tt)) (says is to))
+
+  pub goes_on_saying : (k : Label) (t : Core) → is_plain k ≡ true → (l ≡ k → EndWords running_scene t) → (l ≡ k → Going running_scene s n t) → Leads running_scene s (Goes k t n)
+  goes_on_saying k t plain says c = goes_on_told k t plain (λ is to. says is) c
 
   -- n goes on
-  pub goes_on : (k : Label) (t : Core) → is_still k ≡ true → Stay running_scene s t → Leads running_scene s (Goes k t n)
+  pub goes_on : (k : Label) (t : Core) → is_still k ≡ true → Going running_scene s n t → Leads running_scene s (Goes k t n)
   goes_on k t still c = let p = still_parts (is_plain k) (is_mute k) still in goes_on_saying k t p.0 (λ is. mute_words running_scene t (ap is_mute is ∙ p.1)) (λ is. c)
 
   -- no thread goes on
@@ -211,19 +215,19 @@ module _ (x : Setting) (main : Main) (s : Core) (n : ℕ) (l : Label) (next : Tu
 module _ {a : Scene} {b : Core} (n : ℕ) (is : IsRunner a n) where
   -- ---- Registers and words
 
-  pub moved_to_walks : (p : ℕ) {t : Core} → a.turn ≡ turn.Run n → p ≤ length (script_of (component_of a) n a.base) → Keep a b t → Stay a b (moved_to n p t)
+  pub moved_to_walks : (p : ℕ) {t : Core} → a.turn ≡ turn.Run n → p ≤ length (script_of (component_of a) n a.base) → Keep a b t → Going a b n (moved_to n p t)
   unfolding moved_to
-  moved_to_walks p {t = t} runs within c = Then t (Advance n p) (keep_stay c) (is, (runs, within))
+  moved_to_walks p {t = t} runs within c = λ to. Then t (Advance n p) (keep_stay c) (is, (runs, (to, within)))
 
-  pub advanced_walks : Stands a b n → {t : Core} → Keep a b t → Stay a b (advanced n t)
+  pub advanced_walks : Stands a b n → {t : Core} → Keep a b t → Going a b n (advanced n t)
   unfolding advanced
   advanced_walks on {t = t} c = moved_to_walks (position_of n t + 1) on.0 (let low = keep_position n c in let high = on.1 in omega (arith, low, high)) c
 
-  pub assigned_walks : Stands a b n → (r v : ℕ) {t : Core} → Keep a b t → Stay a b (assigned n r v t)
+  pub assigned_walks : Stands a b n → (r v : ℕ) {t : Core} → Keep a b t → Going a b n (assigned n r v t)
   unfolding assigned
   assigned_walks on r v c = advanced_walks on (word (SetRegister n r v) tt c)
 
-  pub answered_walks : Stands a b n → (r v : ℕ) {t : Core} → Keep a b t → Stay a b (answered n r v t)
+  pub answered_walks : Stands a b n → (r v : ℕ) {t : Core} → Keep a b t → Going a b n (answered n r v t)
   unfolding answered
   answered_walks on r v c = assigned_walks on r v (word (SetSavedCallee n None) tt c)
 
@@ -357,10 +361,10 @@ module _ (x : Setting) (main : Main) (s : Core) (n : ℕ) (l : Label) (next : Tu
   abbrev a : Scene
   a = running_scene x main s n l next
 
-  go_saying : (k : Label) (t : Core) → is_plain k ≡ true → (l ≡ k → EndWords a t) → (l ≡ k → Stay a s t) → Leads a s (Goes k t n)
-  go_saying k t plain says c = goes_on_saying x main s n l next k t plain says c
+  go_told : (k : Label) (t : Core) → is_plain k ≡ true → (l ≡ k → next ≡ turn.Run n → EndWords a t) → (l ≡ k → Going a s n t) → Leads a s (Goes k t n)
+  go_told k t plain says c = goes_on_told x main s n l next k t plain says c
 
-  go : (k : Label) (t : Core) → is_still k ≡ true → Stay a s t → Leads a s (Goes k t n)
+  go : (k : Label) (t : Core) → is_still k ≡ true → Going a s n t → Leads a s (Goes k t n)
   go k t plain c = goes_on x main s n l next k t plain c
 
   -- ---- The ops on registers and words
@@ -372,12 +376,9 @@ module _ (x : Setting) (main : Main) (s : Core) (n : ℕ) (l : Label) (next : Tu
 
   pub data_row_leads : Stands a s n → (o : DataOp) → Leads a s (data_row x.component n s o)
   unfolding stored
-  data_row_leads on (data_op.Set r y) = go _ _ refl (assigned_walks n refl on r _ NoWord)
-  data_row_leads on (data_op.Add r y) = go _ _ refl (assigned_walks n refl on r _ NoWord)
-  data_row_leads on (data_op.Handle r y) = go _ _ refl (assigned_walks n refl on r _ NoWord)
-  data_row_leads on (data_op.Load r w) = go _ _ refl (assigned_walks n refl on r _ NoWord)
   data_row_leads on (data_op.Store w y) = go _ _ refl (advanced_walks n refl on (word (SetWord (instance_of n s) w (value_of n s y)) tt NoWord))
   data_row_leads on (data_op.SkipEq y z ops) = skip_row_leads on ops (value_of n s y == value_of n s z)
+  data_row_leads on o = go _ _ refl (assigned_walks n refl on _ _ NoWord)
 
   -- ---- Exits
 
@@ -385,15 +386,10 @@ module _ (x : Setting) (main : Main) (s : Core) (n : ℕ) (l : Label) (next : Tu
   exit_says t w is implicit kind = ap (λ (k : Label). written_by x.component s k t) is ∙ (exit_writes w ∙ ap (λ b. if b then task_end n status.Returned s else None) (ends (is_explicit n s) (is_direct (goal_of (task_of n s) s)) (is_async_lifted (kind_of (task_of n s) s)) implicit kind))
     where
       exit_writes : (v : Option ℕ) → written_by x.component s (exit_label n v) t ≡ written_by_exit n s
-      exit_writes None = refl
-      exit_writes (Some y) = refl
+      exit_writes v = grind arith
 
       ends : (e d h : Bool) → e ≡ false → (d ≡ true) ⊎ (h ≡ false) → (not e && (d || not h)) ≡ true
-      ends false true h i k = refl
-      ends false false false i k = refl
-      ends true d h i k = absurd (subst T i tt)
-      ends false false true i (inl k) = absurd (subst T (sym k) tt)
-      ends false false true i (inr k) = absurd (subst T k tt)
+      ends e d h i k = grind arith
 
   -- the label says an end of the task
   writes_task : (f : Status) (t u : Core) → written_by x.component s l t ≡ task_end n f s → EndsCall a (task_of n s) → is_over (task_of n s) u ≡ true → Walk a u t → (sub : Subtask) (e : Status) → written_by x.component s l t ≡ Some (end_for e sub) → Writes a t sub
@@ -407,9 +403,7 @@ module _ (x : Setting) (main : Main) (s : Core) (n : ℕ) (l : Label) (next : Tu
   }
     where
       not_direct : (e d h : Bool) → (not e && (d || not h)) ≡ false → (not e && d) ≡ false
-      not_direct true d h k = refl
-      not_direct false false h k = refl
-      not_direct false true h k = absurd (subst T k tt)
+      not_direct e d h k = grind arith
 
   -- an exit that ends the task
   exit_says_end : (w : Option ℕ) (t : Core) → l ≡ exit_label n w → is_explicit n s ≡ false → is_async_lifted (kind_of (task_of n s) s) ≡ false → is_direct (goal_of (task_of n s) s) ≡ false → (u : Core) → is_over (task_of n s) u ≡ true → Walk a u t → EndWords a t
@@ -419,8 +413,7 @@ module _ (x : Setting) (main : Main) (s : Core) (n : ℕ) (l : Label) (next : Tu
   }
     where
       none_out : (v : Option ℕ) → handed_by x.component main s (exit_label n v) t ≡ None
-      none_out None = ap (λ b. if b then task_end n status.Returned s else None) (ap₂ (λ e d. not e && d) implicit direct)
-      none_out (Some y) = refl
+      none_out v = grind arith
 
   thread_exit_row_leads : is_ending_exit n s ≡ false → Leads a s (thread_exit_row n s)
   thread_exit_row_leads none =
@@ -445,10 +438,7 @@ module _ (x : Setting) (main : Main) (s : Core) (n : ℕ) (l : Label) (next : Tu
   bars w is implicit holding direct = ap (λ k. returned_holder s k) is ∙ (exit_returns n w s ∙ ap (λ b. if b then Some (instance_of n s) else None) (all_three (is_explicit n s) (is_holding (kind_of (task_of n s) s)) (is_direct (goal_of (task_of n s) s)) implicit holding direct))
     where
       all_three : (e h d : Bool) → e ≡ false → h ≡ true → d ≡ false → (not e && (h && not d)) ≡ true
-      all_three false true false p q r = refl
-      all_three true h d p q r = absurd (subst T p tt)
-      all_three false false d p q r = absurd (subst T (sym q) tt)
-      all_three false true true p q r = absurd (subst T r tt)
+      all_three e h d p q r = grind arith
 
   blocking_exit_row_leads : (w : Option ℕ) → is_explicit n s ≡ false → kind_of (task_of n s) s ≡ kind.Blocking → is_direct (goal_of (task_of n s) s) ≡ false → Leads a s (blocking_exit_row n w s)
   blocking_exit_row_leads w implicit kind direct =
@@ -544,9 +534,9 @@ module _ (x : Setting) (main : Main) (s : Core) (n : ℕ) (l : Label) (next : Tu
       trap_if_leads a s (has_ended (task_of n s) s) trap.TaskCancelOrReturnTwice _ (λ unended.
       trap_if_leads a s (not (is_async_lifted (kind_of (task_of n s) s))) trap.TaskReturnInvalid _ (λ lifted.
       may_leads a s (may_tell (task_of n s) w s) _ (λ may.
-      go_saying (ret_label n v w) (ret_done n v w s) (ret_plain n v w)
-      (λ is. task_says status.Returned (ret_done n v w s) (ap (λ (k : Label). written_by x.component s k (ret_done n v w s)) is ∙ ret_writes x.component n v w s _) (ap (λ (y : Label). handed_by x.component main s y (ret_done n v w s)) is ∙ ret_hands x.component main n v w s (ret_done n v w s)) unended
-      (set_end (task_of n s) call_end.Returned s) (over_now (task_of n s) call_end.Returned s) (stay_walk (advanced_walks n refl (on_after_end on (task_of n s) call_end.Returned) (returned_rest (task_of n s) v w s (ap (λ (k : Label). written_by x.component s k s) is ∙ ret_writes x.component n v w s s) (told_to (task_of n s) w s may) NoWord))))
+      go_told (ret_label n v w) (ret_done n v w s) (ret_plain n v w)
+      (λ is to. task_says status.Returned (ret_done n v w s) (ap (λ (k : Label). written_by x.component s k (ret_done n v w s)) is ∙ ret_writes x.component n v w s _) (ap (λ (y : Label). handed_by x.component main s y (ret_done n v w s)) is ∙ ret_hands x.component main n v w s (ret_done n v w s)) unended
+      (set_end (task_of n s) call_end.Returned s) (over_now (task_of n s) call_end.Returned s) (stay_walk (advanced_walks n refl (on_after_end on (task_of n s) call_end.Returned) (returned_rest (task_of n s) v w s (ap (λ (k : Label). written_by x.component s k s) is ∙ ret_writes x.component n v w s s) (told_to (task_of n s) w s may) NoWord) to)))
       (λ is. advanced_walks n refl on (returned_walks (task_of n s) v w (ReturnsNow n refl refl unended (unnot (is_async_lifted (kind_of (task_of n s) s)) lifted) refl) (ap (λ (k : Label). written_by x.component s k s) is ∙ ret_writes x.component n v w s s) (told_to (task_of n s) w s may) NoWord)))))
 
   task_cancel_row_leads : Stands a s n → (w : Option ℕ) → Leads a s (task_cancel_row n w s)
@@ -555,9 +545,9 @@ module _ (x : Setting) (main : Main) (s : Core) (n : ℕ) (l : Label) (next : Tu
       trap_if_leads a s (not (cancel_was_delivered (task_of n s) s)) trap.TaskCancelNotCancelled _ (λ delivered.
       trap_if_leads a s (has_ended (task_of n s) s) trap.TaskCancelOrReturnTwice _ (λ unended.
       may_leads a s (may_tell (task_of n s) w s) _ (λ may.
-      go_saying (task_cancel_label n w) (task_cancel_done n w s) (task_cancel_plain n w)
-      (λ is. task_says status.ReturnCancelled (task_cancel_done n w s) (ap (λ (k : Label). written_by x.component s k (task_cancel_done n w s)) is ∙ task_cancel_writes x.component n w s _) (ap (λ (y : Label). handed_by x.component main s y (task_cancel_done n w s)) is ∙ task_cancel_hands x.component main n w s (task_cancel_done n w s)) unended
-      (set_end (task_of n s) call_end.ReturnCancelled s) (over_now (task_of n s) call_end.ReturnCancelled s) (stay_walk (advanced_walks n refl (on_after_end on (task_of n s) call_end.ReturnCancelled) (cancelled_rest (task_of n s) w s (ap (λ (k : Label). written_by x.component s k s) is ∙ task_cancel_writes x.component n w s s) (told_to (task_of n s) w s may) NoWord))))
+      go_told (task_cancel_label n w) (task_cancel_done n w s) (task_cancel_plain n w)
+      (λ is to. task_says status.ReturnCancelled (task_cancel_done n w s) (ap (λ (k : Label). written_by x.component s k (task_cancel_done n w s)) is ∙ task_cancel_writes x.component n w s _) (ap (λ (y : Label). handed_by x.component main s y (task_cancel_done n w s)) is ∙ task_cancel_hands x.component main n w s (task_cancel_done n w s)) unended
+      (set_end (task_of n s) call_end.ReturnCancelled s) (over_now (task_of n s) call_end.ReturnCancelled s) (stay_walk (advanced_walks n refl (on_after_end on (task_of n s) call_end.ReturnCancelled) (cancelled_rest (task_of n s) w s (ap (λ (k : Label). written_by x.component s k s) is ∙ task_cancel_writes x.component n w s s) (told_to (task_of n s) w s may) NoWord) to)))
       (λ is. advanced_walks n refl on (cancelled_walks (task_of n s) w (GivesUp n refl refl unended (unnot (cancel_was_delivered (task_of n s) s) delivered) refl) (ap (λ (k : Label). written_by x.component s k s) is ∙ task_cancel_writes x.component n w s s) (told_to (task_of n s) w s may) NoWord)))))
 
   dec_from_leads : Stands a s n → (b : ℕ) → Leads a s (dec_from n s b)

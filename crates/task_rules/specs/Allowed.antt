@@ -5,7 +5,7 @@ use Rattle.std.specs.Prelude.{◌≤◌, length, Bool, None, Option, Some, [], f
 use Rattle.task_machine.specs.Core.{Core, MainPlace, Scripted, Unscripted}
 use Rattle.task_machine.specs.Maps.{get}
 use Rattle.task_machine.specs.Moves.{has_entry, is_callback_waiter, is_deletable, is_group_done}
-use Rattle.task_machine.specs.Read.{caller_of, cancel_was_delivered, course_of, course_value, end_of, goal_of, has_ended, has_member, has_waiters, how_far_of, instance_of, is_async_lifted, is_at, is_direct, is_end, is_explicit, is_joined, is_stage_ended, is_waiter, join_of, kind_of, may_not_enter, next_entry, own_event_of, phase_of, place_of, set_at, stage_of, subtask_at, subtask_ended, subtask_handle, task_of, thread_group, was_started, work_caller_of, is_guest_call, is_aborted, is_blocked_on, foot_of}
+use Rattle.task_machine.specs.Read.{caller_of, cancel_was_delivered, course_of, course_value, end_of, goal_of, has_ended, has_member, has_waiters, how_far_of, position_of, instance_of, is_async_lifted, is_at, is_direct, is_end, is_explicit, is_joined, is_stage_ended, is_waiter, join_of, kind_of, may_not_enter, next_entry, own_event_of, phase_of, place_of, set_at, stage_of, subtask_at, subtask_ended, subtask_handle, task_of, thread_group, was_started, work_caller_of, is_guest_call, is_aborted, is_blocked_on, foot_of}
 use Rattle.task_machine.specs.declared.component.Callee.{Callee}
 use Rattle.task_machine.specs.declared.component.ExportKind.{ExportKind}
 use Rattle.task_machine.specs.declared.label.Label.{Label}
@@ -29,7 +29,7 @@ use Rattle.task_rules.specs.Cancels.{aborted_phase, is_callback_wait}
 use Rattle.task_rules.specs.Ends.{is_told, own_or_none}
 use Rattle.task_rules.specs.MainOps.{op_at, takes_words, spawned_at, is_spawn}
 use Rattle.task_rules.specs.Once.{returned_holder}
-use Rattle.task_rules.specs.OpParts.{callee_of_main_op, callee_of_op, ends_activation}
+use Rattle.task_rules.specs.OpParts.{callee_of_main_op, callee_of_op, can_come, ends_activation, is_sync_call}
 use Rattle.task_rules.specs.Scenes.{Scene, component_of, op_in}
 use Rattle.task_rules.specs.Scripts.{export_kind, is_script, registers_for, script_of, slot_at}
 use Rattle.task_rules.specs.Threads.{resume_why}
@@ -172,7 +172,8 @@ pub data MayYield (a : Scene) (n : ℕ) (w : Why) : Type 0 where
 -- Why the running thread, or the one under it, comes to a place that says nothing of entries.
 pub data MayMove (a : Scene) (n : ℕ) (p : Place) (s : Core) : Type 0 where
   -- it was taken, and runs; a call that it was to start has begun
-  Runs : IsRunner a n → a.next ≡ turn.Run n → (is_explicit n a.base ≡ false → WasReady a n why.Start → is_begun (task_of n a.base) s ≡ true) →
+  Runs : IsRunner a n → a.next ≡ turn.Run n →
+      (is_explicit n a.base ≡ false → WasReady a n why.Start → is_begun (task_of n a.base) s ≡ true) →
       p ≡ place.Running → MayMove a n p s
   -- it was taken, and is held
   Holds : (w : Why) → IsLaid a n → WasReady a n w → p ≡ place.Held w → MayMove a n p s
@@ -192,6 +193,11 @@ pub data MayMove (a : Scene) (n : ℕ) (p : Place) (s : Core) : Type 0 where
 abbrev pub IsFoot : ℕ → Core → Type 0
 IsFoot f s = (is_some (place_of f s) ≡ true) ⊎ ((m : ℕ) × ((s.queues.switch ≡ Some m) × (f ≡ foot_of m s)))
 
+-- the thread runs, and where it is still there it is at its op
+abbrev pub AtOp : Scene → ℕ → Core → Type 0
+AtOp a n s = (a.turn ≡ turn.Run n) × (place_of n a.base ≡ Some place.Running → n ≤ a.base.made.threads → is_some (place_of n s) ≡ true →
+    position_of n s ≡ position_of n a.base)
+
 -- where it comes to at last
 abbrev pub MayLand : Scene → Placing → Core → Type 0
 MayLand a (Put mark.Switch n w) s = ⊥
@@ -199,10 +205,10 @@ MayLand a (Put mark.High n w) s = MayYield a n w
 MayLand a (Put mark.Low n w) s = MayYield a n w
 MayLand a (GoBehind f n) s = Leaves a n × IsFoot f s
 MayLand a (Move n p) s = MayMove a n p s
--- by a direct call that was just made, and has begun
+-- by a direct call that was just made, and has begun; the thread is at the sync call that makes it
 MayLand a (Enter n m) s = IsRunner a n ×
     ((a.next ≡ turn.Run m) × ((m ≡ next_thread a.base) × ((place_of m s ≡ Some place.New) × ((is_direct (goal_of (task_of m s) s) ≡ true) ×
-    ((a.turn ≡ turn.Run n) × (is_begun m s ≡ true))))))
+    ((a.turn ≡ turn.Run n) × ((is_begun m s ≡ true) × (AtOp a n s × (is_sync_call (op_in a n) ≡ true))))))))
 MayLand a _ s = ⊥
 
 abbrev pub MayLeave : Scene → Placing → Core → Type 0
@@ -230,9 +236,15 @@ MayCome a n (how_far.AwaitsEnd sub) s = IsRunner a n × HasSubtask a n sub
 MayCome a n (how_far.Answered v) s = (m : ℕ) × (IsRunner a m × ((a.next ≡ turn.Run n) × (place_of n a.base ≡ Some (place.Under m))))
 MayCome a n h s = IsRunner a n
 
--- the running thread's op is done, and it goes on at a place in its script, or at the end
+-- Why the op can come so far.
+pub data CanCome (a : Scene) (n : ℕ) (h : HowFar) (s : Core) : Type 0 where
+  InOp : AtOp a n s → can_come (op_in a n) h ≡ true → CanCome a n h s
+  -- its direct callee was on top of it
+  WasUnder : (m v : ℕ) → place_of n a.base ≡ Some (place.Under m) → h ≡ how_far.Answered v → CanCome a n h s
+
+-- the running thread's op is done, and it runs on, at a place in its script or at the end
 abbrev pub MayAdvance : Scene → ℕ → ℕ → Type 0
-MayAdvance a n p = IsRunner a n × ((a.turn ≡ turn.Run n) × (p ≤ length (script_of (component_of a) n a.base)))
+MayAdvance a n p = IsRunner a n × ((a.turn ≡ turn.Run n) × ((a.next ≡ turn.Run n) × (p ≤ length (script_of (component_of a) n a.base))))
 
 -- a thread that was taken with a delivery begins its react script
 abbrev pub MayRestart : Scene → ℕ → Type 0
@@ -255,7 +267,8 @@ pub data MayGo (a : Scene) (n : ℕ) (s : Core) : Type 0 where
   -- the running thread, and the one under it goes on
   EndsOver : (m : ℕ) → IsRunner a n → a.next ≡ turn.Run m → place_of m a.base ≡ Some (place.Under n) → MayGo a n s
   -- the strand that trapped: the thread that ran or was taken, and those that were under ones that are gone
-  Falls : a.next ≡ turn.Over → IsRunner a n ⊎ ((m : ℕ) × ((place_of n a.base ≡ Some (place.Under m)) × (is_none (get s.threads m) ≡ true))) → MayGo a n s
+  Falls : a.next ≡ turn.Over →
+      IsRunner a n ⊎ ((m : ℕ) × ((place_of n a.base ≡ Some (place.Under m)) × (is_none (get s.threads m) ≡ true))) → MayGo a n s
 
 -- the start of a call of the running thread's, which hasn't begun or ended
 abbrev pub MayWithdraw : Scene → ℕ → Core → Type 0
@@ -281,7 +294,8 @@ is_for_main _ = false
 abbrev pub MayMakeCall : Scene → Caller → Callee → ExportKind → Goal → ℕ → Core → Type 0
 MayMakeCall a f e x g group s = MayCall a f e group s × ((s.made.threads ≡ a.base.made.threads) ×
     ((x ≡ export_kind (component_of a) e) ×
-    ((is_direct g ≡ true → (is_async_lifted x ≡ false) × (a.next ≡ turn.Run (next_thread a.base))) × (is_for_main g ≡ not (is_guest_call f)))))
+    ((is_direct g ≡ true → (is_async_lifted x ≡ false) × (a.next ≡ turn.Run (next_thread a.base))) ×
+    (is_for_main g ≡ not (is_guest_call f)))))
 
 -- the call of the thread that was taken to start, or a new direct one
 abbrev pub MayStart : Scene → ℕ → Core → Type 0
@@ -384,8 +398,10 @@ IsPolled a i s = (n : ℕ) × ((a.turn ≡ turn.Futures n) × (next_polled n s �
 
 -- the sync call of the running thread is answered, and done, or its ended subtask is dropped
 abbrev pub MayRemoveWork : Scene → ℕ → Core → Type 0
-MayRemoveWork a i s = (n : ℕ) × (IsRunner a n × (((how_far_of n a.base ≡ how_far.Calls (subtask.Host i)) × (how_far_of n s ≡ how_far.Fresh)) ⊎
-    ((subtask_ended (subtask.Host i) a.base ≡ true) × ((subtask_handle (subtask.Host i) s ≡ None) × ((is_stage_ended (stage_of i s) ≡ true) ×
+MayRemoveWork a i s = (n : ℕ) × (IsRunner a n ×
+    (((how_far_of n a.base ≡ how_far.Calls (subtask.Host i)) × (how_far_of n s ≡ how_far.Fresh)) ⊎
+    ((subtask_ended (subtask.Host i) a.base ≡ true) × ((subtask_handle (subtask.Host i) s ≡ None) ×
+    ((is_stage_ended (stage_of i s) ≡ true) ×
     ((h : ℕ) × (subtask_at (instance_of n a.base) h a.base ≡ Some (subtask.Host i))))))))
 
 -- the loop polls the work to its end, and without a value where an abort was asked for
@@ -423,7 +439,7 @@ abbrev pub Allowed : Scene → Word → Core → Type 0
 Allowed a (Places p) s = MayShift p s ⊎ MayLeave a p s
 Allowed a (Advance n p) s = MayAdvance a n p
 Allowed a (Restart n) s = MayRestart a n
-Allowed a (SetHowFar n h) s = MayCome a n h s
+Allowed a (SetHowFar n h) s = MayCome a n h s × CanCome a n h s
 Allowed a (MakeThread t) s = MayMake a t s
 Allowed a (RemoveThread n) s = MayGo a n s
 Allowed a (Withdraw k) s = MayWithdraw a k s

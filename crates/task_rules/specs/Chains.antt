@@ -15,7 +15,7 @@ use Rattle.task_machine.specs.declared.label.Label.{Label}
 use Rattle.task_machine.specs.declared.outcome.Outcome.{Outcome}
 use Rattle.task_machine.specs.declared.records.Place.{Place}
 use Rattle.task_machine.specs.declared.records.Turn.{Turn}
-use Rattle.task_rules.specs.Allowed.{Allowed, IsRunner, MayShift, SaysEnd, is_exit, IsPolled, IsNamed, IsFall, IsSettling, Leaves, MayCome, MayLand, MayMove, Stays}
+use Rattle.task_rules.specs.Allowed.{Allowed, IsRunner, MayShift, SaysEnd, is_exit, IsPolled, IsNamed, IsFall, IsSettling, Leaves, MayLand, MayMove, Stays}
 use Rattle.task_machine.specs.declared.records.HowFar.{HowFar}
 use Rattle.task_rules.specs.Laws.{is_free}
 use Rattle.task_rules.specs.Once.{begun_holder}
@@ -54,8 +54,8 @@ pub data Trip (a : Scene) (b : Core) : Core → Type 0 where
   Remains : (t : Core) → Stay a b t → ((m : ℕ) → a.next ≡ turn.Run m → a.turn ≡ turn.Run m) → Trip a b t
   Lands : (s : Core) → (p : Placing) → Stay a b s → MayLand a p s → Trip a b (after_word (Places p) s)
   -- and its op has come that far
-  LandsAt : (s : Core) → (p : Placing) → (n : ℕ) → (h : HowFar) → Stay a b s → MayLand a p s → MayCome a n h (after_word (Places p) s) →
-      Trip a b (after_word (SetHowFar n h) (after_word (Places p) s))
+  LandsAt : (s : Core) → (p : Placing) → (n : ℕ) → (h : HowFar) → Stay a b s → MayLand a p s →
+      Allowed a (SetHowFar n h) (after_word (Places p) s) → Trip a b (after_word (SetHowFar n h) (after_word (Places p) s))
   Quits : (s t : Core) → (n : ℕ) → Stay a b s → Leaves a n → Settles (after_word (RemoveThread n) s) t → Trip a b t
   -- a direct callee exits, and the thread under it goes on
   GoesBack : (s t : Core) → (n m v : ℕ) → Stay a b s → IsRunner a n → a.turn ≡ turn.Run n → a.next ≡ turn.Run m →
@@ -128,7 +128,8 @@ pub data HandsOut (a : Scene) (t : Core) : Subtask → Status → Type 0 where
       HandsOut a t (subtask.Guest k) e
   -- a host is ready at its first poll
   HandsAtOnce : (i : ℕ) → IsReadyAtOnce a t i →
-      written_by (component_of a) a.base a.label t ≡ Some (end_for status.Returned (subtask.Host i)) → HandsOut a t (subtask.Host i) status.Returned
+      written_by (component_of a) a.base a.label t ≡ Some (end_for status.Returned (subtask.Host i)) →
+      HandsOut a t (subtask.Host i) status.Returned
   -- the sync call of a host is answered
   Answers : (n i : ℕ) → IsRunner a n → how_far_of n a.base ≡ how_far.Calls (subtask.Host i) → get t.works i ≡ None →
       HandsOut a t (subtask.Host i) status.Returned

@@ -1,9 +1,16 @@
--- What an op says by itself: whether it ends an activation, and which export it calls.
-use Rattle.std.specs.Prelude.{Bool, None, Option, Some, false, true}
+-- What an op says by itself: whether it ends an activation, which export it calls, and how far it can come.
+use Rattle.std.specs.Prelude.{Bool, None, Option, Some, false, is_some, true}
 use Rattle.task_machine.specs.declared.component.Callee.{Callee}
 use Rattle.task_machine.specs.declared.op.CallOp.{CallOp}
 use Rattle.task_machine.specs.declared.op.Op.{Op}
+use Rattle.task_machine.specs.declared.op.SetOp.{SetOp}
 use Rattle.task_machine.specs.declared.op.TaskOp.{TaskOp}
+use Rattle.task_machine.specs.declared.op.ThreadOp.{ThreadOp}
+use Rattle.task_machine.specs.declared.records.HowFar.{HowFar}
+use Rattle.task_machine.specs.declared.records.HowFar.TheVariants as how_far
+use Rattle.task_machine.specs.declared.records.Subtask.TheVariants as subtask
+use Rattle.task_machine.specs.declared.op.SetOp.TheVariants as set_op
+use Rattle.task_machine.specs.declared.op.ThreadOp.TheVariants as thread_op
 use Rattle.task_machine.specs.declared.scenario.MainOpDef.{MainOpDef}
 use Rattle.task_machine.specs.declared.op.CallOp.TheVariants as call_op
 use Rattle.task_machine.specs.declared.op.Op.TheVariants as op
@@ -34,3 +41,56 @@ callee_of_op _ = None
 abbrev pub callee_of_main_op : MainOpDef → Option Callee
 callee_of_main_op (main_op.Start e xs) = Some e
 callee_of_main_op _ = None
+
+-- ---- How far an op can come
+
+abbrev pub is_wait : Op → Bool
+is_wait (op.Set (set_op.Wait r x)) = true
+is_wait _ = false
+
+abbrev pub is_sync_call : Op → Bool
+is_sync_call (op.Call (call_op.CallSync r e xs)) = true
+is_sync_call _ = false
+
+abbrev pub is_sync_host_call : Op → Bool
+is_sync_host_call (op.Call (call_op.CallSyncHost r h)) = true
+is_sync_host_call _ = false
+
+abbrev pub is_sync_cancel : Op → Bool
+is_sync_cancel (op.Call (call_op.CancelSync r x)) = true
+is_sync_cancel _ = false
+
+abbrev pub is_cancel : Op → Bool
+is_cancel (op.Call (call_op.Cancel r x)) = true
+is_cancel o = is_sync_cancel o
+
+abbrev pub suspends : ThreadOp → Bool
+suspends thread_op.Suspend = true
+suspends (thread_op.SuspendThenResume x) = true
+suspends (thread_op.SuspendThenPromote x) = true
+suspends _ = false
+
+abbrev pub yields : ThreadOp → Bool
+yields thread_op.Yield = true
+yields (thread_op.YieldThenResume x) = true
+yields (thread_op.YieldThenPromote x) = true
+yields _ = false
+
+abbrev pub is_thread_op : (ThreadOp → Bool) → Op → Bool
+is_thread_op test (op.Thread o) = test o
+is_thread_op test _ = false
+
+-- Any op may be about to begin. A wait can be inside its wait, a call inside the call that it made, and a sync one answered; a sync call of
+-- a host can be inside its work. A cancel can be behind its callee, and a sync one can await the end. The ops that suspend can be
+-- suspended, and those that yield can have yielded.
+abbrev pub can_come : Op → HowFar → Bool
+can_come o how_far.Fresh = true
+can_come o (how_far.Waits x) = is_wait o
+can_come o (how_far.Calls (subtask.Guest k)) = is_some (callee_of_op o)
+can_come o (how_far.Calls (subtask.Host i)) = is_sync_host_call o
+can_come o (how_far.Answered v) = is_sync_call o
+can_come o (how_far.Cancels (subtask.Guest k)) = is_cancel o
+can_come o (how_far.Cancels (subtask.Host i)) = false
+can_come o (how_far.AwaitsEnd sub) = is_sync_cancel o
+can_come o how_far.Suspends = is_thread_op suspends o
+can_come o how_far.Yields = is_thread_op yields o

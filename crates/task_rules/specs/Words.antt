@@ -170,7 +170,8 @@ after_word (TakePush m i) s = set_stage i stage.Live (placed_as (popped m s) s)
 after_word (Pend i host) s = poll_pends i host s
 after_word (EndWork i c) s = set_stage i stage.Ended (set_phase i phase.Complete (set_course i c s))
 after_word (FinishWork i c) s = push_high (entry.Host i) (set_stage i stage.Finishing (set_phase i phase.Complete (set_course i c s)))
-after_word (TakeHost m i) s = set_event (subtask.Host i) (Some (host_status (course_value (course_of i s)))) (set_stage i stage.Ended (placed_as (popped m s) s))
+after_word (TakeHost m i) s =
+    set_event (subtask.Host i) (Some (host_status (course_value (course_of i s)))) (set_stage i stage.Ended (placed_as (popped m s) s))
 after_word (SetPhase i p) s = set_phase i p s
 after_word (SetCancelled i) s = set_cancelled i s
 after_word (TakeWorkEvent i) s = set_event (subtask.Host i) None s
