@@ -1,16 +1,17 @@
 -- Chains that hang on nothing: how they are made, what keeps them, and how a key gets one.
 use Rattle.std.proofs.Common.{inl, inr, ◌⊎◌, ◌≡◌, ℕ, List, [], Option, Some, None, IsSome, refl, sym, ap, subst, ◌∙◌}
 use Rattle.std.proofs.lemmas.Option.{same_Some}
-use Rattle.make_words.specs.Loose.{AreLoose, IsLoose}
+use Rattle.make_words.specs.Loose.{AreLoose, AreSetLoose, IsLoose}
 use Rattle.task_index.proofs.Indexes.{IsIndex-rechained, new_for_chains}
 use Rattle.task_index.proofs.Rows.{no_chain}
 use Rattle.task_index.specs.Index.{Filing, IsIndex, filings}
 use Rattle.task_index.specs.Rows.{IsRows, part}
-use Rattle.task_records.specs.Places.{place_chain, place_filing}
+use Rattle.task_records.specs.Places.{place_chain, place_filing, ready_call, ready_call_chain, ready_work, ready_work_chain}
 use Rattle.task_records.specs.Rows.{IsSeated, is_of_instance, row, shelf_chain}
 use Rattle.task_records.specs.Seen.{IsSound, parts_of}
 use Rattle.task_records.specs.Sound.{bare}
 use Rattle.task_records.specs.declared.parts.CoreParts.{CoreParts}
+use Rattle.task_records.specs.declared.sets.WaitSet.{WaitSet}
 use Rattle.task_links.specs.Links.{ChainOf, Renames, Spot, Unmade, list_of, spot_list}
 
 no_list : {P X : Type 0} (o : Option (List (ℕ × P))) → o ≡ None → o ≡ Some [] → X
@@ -88,4 +89,32 @@ module _ (a b c d : CoreParts) (h i l : ℕ) (sound_a : IsSound a) (sound_b : Is
     high = subst (IsShelfChain i) (sym only_d) (subst (IsShelfChain i) (sym only_c) (loose_kept (shelf_chain (bare (parts_of b))) c.shelves d.shelves i l high_new (ChainOf []) made_l));
     low = subst (IsShelfChain l) (sym only_d) low_new;
     two = next_other (shelf_chain (bare (parts_of b))) c.shelves d.shelves i l high_new (ChainOf []) made_l;
+  }
+
+-- ---- Those of a set, made one after another
+
+module _ (a b c d : CoreParts) (x : WaitSet) (sound_a : IsSound a) (sound_b : IsSound b) (sound_c : IsSound c) (only_b : b ≡ record a { places = b.places }) (only_c : c ≡ record b { ready_calls = c.ready_calls }) (only_d : d ≡ record c { ready_works = d.ready_works }) (made_w : Renames a.places b.places x.waiters Unmade (ChainOf [])) (made_c : Renames b.ready_calls c.ready_calls x.ready_calls Unmade (ChainOf [])) (made_d : Renames c.ready_works d.ready_works x.ready_works Unmade (ChainOf [])) where
+  waiters_new : IsLoose (place_chain (bare (parts_of a))) b.places x.waiters
+  unfolding IsSound
+  waiters_new = loose_index (place_chain (bare (parts_of a))) a.places b.places (filings place_filing (bare (parts_of a)).threads) sound_a.whole.chained.places x.waiters made_w
+
+  calls_new : IsLoose (ready_call_chain (bare (parts_of b))) c.ready_calls x.ready_calls
+  unfolding IsSound
+  calls_new = loose_index (ready_call_chain (bare (parts_of b))) b.ready_calls c.ready_calls (filings ready_call (bare (parts_of b)).calls) sound_b.whole.chained.ready_calls x.ready_calls made_c
+
+  works_new : IsLoose (ready_work_chain (bare (parts_of c))) d.ready_works x.ready_works
+  unfolding IsSound
+  works_new = loose_index (ready_work_chain (bare (parts_of c))) c.ready_works d.ready_works (filings ready_work (bare (parts_of c)).works) sound_c.whole.chained.ready_works x.ready_works made_d
+
+  abbrev HasWaiters : CoreParts → Type 0
+  HasWaiters y = IsLoose (place_chain (bare (parts_of y))) y.places x.waiters
+
+  abbrev HasCalls : CoreParts → Type 0
+  HasCalls y = IsLoose (ready_call_chain (bare (parts_of y))) y.ready_calls x.ready_calls
+
+  pub made_set_loose : AreSetLoose (bare (parts_of d)) x
+  made_set_loose = record {
+    waiters = subst HasWaiters (sym only_d) (subst HasWaiters (sym only_c) (subst (λ (y : CoreParts). IsLoose (place_chain (bare (parts_of y))) b.places x.waiters) (sym only_b) waiters_new));
+    ready_calls = subst HasCalls (sym only_d) (subst (λ (y : CoreParts). IsLoose (ready_call_chain (bare (parts_of y))) c.ready_calls x.ready_calls) (sym only_c) calls_new);
+    ready_works = subst (λ (y : CoreParts). IsLoose (ready_work_chain (bare (parts_of y))) d.ready_works x.ready_works) (sym only_d) works_new;
   }

@@ -4,5 +4,7 @@
 
 mod instances;
 mod marks;
+mod sets;
 
 pub use instances::add_instance;
+pub use sets::open_set;
