@@ -49,6 +49,7 @@ pub fn insert_handle(parts: &mut CoreParts, index: u32, item: Held) -> Result<u3
     ensures handle { IfOk result (λ h. h ≡ new_handle index (seen parts.old).core) }
     ensures new { OnOk result (seen parts.new ≡ on_core (give_handle index (named_of item)) (seen parts.old)) }
     ensures err { OnErr result (seen parts.new ≡ seen parts.old) }
+    ensures same { OnErr result (parts_of parts.new ≡ parts_of parts.old) }
 {
     let entry = &mut parts.instances[index as usize];
     match insert(&mut entry.handles, &mut parts.counter, item) {

@@ -43,7 +43,7 @@ module _ {T X Y : Type 0} (number : T → ℕ) (rec : T → X) (chain : T → Y)
       by_place None is = absurd (cc)
       by_place (Some p) is = (rec p.entry.item, ap (λ (m : ℕ). Some (m, rec p.entry.item)) (ap (λ (e : ℕ × Y). e.0) (same_Some (number p.entry.item, chain p.entry.item) (n, y) is)))
 
-  apart_as : AreApart key t.places → AreApart chain_key t.places
+  pub apart_as : AreApart key t.places → AreApart chain_key t.places
   apart_as apart = record { one_place = λ r s n x y at_r at_s. let a = record_as r n x at_r in let b = record_as s n y at_s in apart.one_place r s n a.0 b.0 a.1 b.1 }
 
   none_as : (n : ℕ) (ps : List (Option (Placed (Single T)))) → found_record key n ps ≡ None → found_record chain_key n ps ≡ None

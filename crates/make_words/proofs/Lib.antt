@@ -5,3 +5,4 @@ pub mod AddLemmas
 pub mod FreshLemmas
 pub mod SetLemmas
 pub mod SetAddLemmas
+pub mod UndoLemmas

@@ -7,3 +7,4 @@ mod marks;
 mod sets;
 
 pub use instances::add_instance;
+pub use sets::open_set;
