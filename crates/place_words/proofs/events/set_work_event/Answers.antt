@@ -1,0 +1,32 @@
+use Rattle.std.proofs.Common.{Option, ap, subst, sym, ◌∙◌, ℕ}
+use Rattle.std.specs.Option.{option_map}
+use Rattle.place_words.proofs.GoneLemmas.{work_gone}
+use Rattle.place_words.proofs.HearLemmas.{work_join_at, ready_live, ready_made, heard_seen, heard_sound}
+use Rattle.place_words.proofs.events.set_work_event.Goals as goal
+use Rattle.task_index.specs.Index.{Refiles}
+use Rattle.task_machine.specs.Write.{set_event}
+
+pub work_chain-chain-requires-clause-at : goal.work_chain-chain-requires-clause-at
+work_chain-chain-requires-clause-at c = work_join_at c.args.parts.now c.requires c.args.work c.in-Some.found.now c.in-Some.ensures.item
+
+pub refile-requires-clause-made : goal.refile-requires-clause-made
+refile-requires-clause-made c = ready_made c.args.parts.now c.requires c.args.work c.in-Some.found.now c.in-Some.ensures.item
+
+pub refile-requires-clause-live : goal.refile-requires-clause-live
+refile-requires-clause-live c = ready_live c.args.parts.now c.requires c.args.work c.in-Some.found.now c.in-Some.ensures.item _ _ _ c.work_chain-chain.ensures
+
+pub returns-in-Ok-clause-sound : goal.returns-in-Ok-clause-sound
+returns-in-Ok-clause-sound c =
+    let a = c.args.parts.now in
+    let g = c.in-Some.found.now in
+    heard_sound c.args.parts.now c.requires c.args.work c.in-Some.found.now c.in-Some.ensures.item c.args.event c.refile.new.links
+    (subst (λ (l : Option (ℕ × ℕ)). Refiles a.ready_works c.refile.new.links g.ready.index l)
+    (ap (λ r. option_map (λ k. (k, r)) c.work_chain-chain.result) c.rep.ensures ∙ ap (option_map (λ k. (k, c.args.work.rep))) (sym c.work_chain-chain.ensures)) c.refile.ensures)
+
+pub returns-in-Ok-clause-new : goal.returns-in-Ok-clause-new
+unfolding set_event
+returns-in-Ok-clause-new c = heard_seen c.args.parts.now c.requires c.args.work c.in-Some.found.now c.in-Some.ensures.item c.args.event c.refile.new.links
+
+pub returns-in_default-clause-new : goal.returns-in_default-clause-new
+unfolding set_event
+returns-in_default-clause-new c = work_gone _ _ c.in_default.ensures.is _
