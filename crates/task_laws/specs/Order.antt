@@ -240,12 +240,13 @@ HostsAwaited s = (n i : ℕ) → how_far_of n s ≡ how_far.Calls (subtask.Host 
 
 -- ---- Counts
 
--- From s to t at most one thread is made, one work, one set and one group.
+-- From s to t at most one thread is made, one work, one set and one group, and at most two of them in all.
 pub record MakesFew (s t : Core) : Type 0 where
   pub threads : t.made.threads ≤ s.made.threads + 1
   pub works : t.made.works ≤ s.made.works + 1
   pub sets : t.made.sets ≤ s.made.sets + 1
   pub groups : t.made.groups ≤ s.made.groups + 1
+  pub all : t.made.threads + t.made.works + t.made.sets + t.made.groups ≤ s.made.threads + s.made.works + s.made.sets + s.made.groups + 2
 
 abbrev pub StepsMakeFew : Type 0
 StepsMakeFew = (x : Setting) (s : State) (l : Label) (t : State) → Step x s l t → MakesFew s.core t.core

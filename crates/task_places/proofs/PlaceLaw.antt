@@ -1,5 +1,5 @@
 -- Where each thread is along the words of a step: each has its place, and one that waits for its start still does, or its call has begun.
-use Rattle.task_rules.proofs.Machine.{[], add_call, add_group, add_set, add_work, after_placing, after_word, ap, arith, AwaitsEvent, behind_one, Blocks, Bool, Call, call_made, Collapses, Core, count_work, Departs, EndsOver, Enter, entries, Falls, false, FinishWork, free_handle, free_thread_handle, get, give_handle, give_result, give_thread_handle, GoBehind, GoesBack, has_entry, HasPlace, HasSubtask, Holds, HowFar, if◌then◌else◌, inl, inr, is_at_high, is_at_low, is_at_switch, is_begun, is_blocked_on, is_done_host, is_explicit, is_for_start, is_free, is_fresh, is_none, is_some, is_there, is_under, IsFall, IsFoot, IsRunner, IsSettling, Lands, LandsAt, LastWords, le_refl, Leaves, MakeCall, MakeThread, Mark, MayGo, MayLand, MayMove, MayPut, MayYield, Move, nat_tests, new_call, new_thread, next_thread, None, on_call, on_instance, on_thread, on_work, Option, option_map, option_map_or, Place, place_of, Places, Placing, poll_pends, Promote, promoted, push_high, Put, put_high, put_low, QueueWork, Quits, refl, registers_for, Remains, remove_call, remove_group, remove_set, remove_thread, remove_work, RemoveThread, Runs, says, Scene, set_backpressure, set_cancel_delivered, set_cancelled, set_course, set_do_not_enter, set_do_not_suspend, set_end, set_event, set_exited, set_how_far, set_join, set_own_event, set_phase, set_place, set_position, set_register, set_result, set_saved_callee, set_saved_own, set_script, set_stage, set_started, set_starting_published, set_subtask_handle, set_thread_handle, set_trapped, set_uninteresting, set_word, Settles, SetTrapped, SetUninteresting, Some, Stay, Stays, Stop, subst, Subtask, Suspends, switch_entries, sym, T, take_result, TakeHost, TakePush, task_of, Thread, times, Trip, true, Turn, Uncovers, unwrap_or, Waits, WaitsAgain, was_started, Why, with_handle, with_thread_handle, Withdraw, Word, work_queued, ℕ, ◌+◌, ◌==◌, ◌||◌, ◌∙◌, ◌∷◌, ◌≡◌, ◌≤◌, ◌⊎◌}
+use Rattle.task_rules.proofs.Machine.{[], add_call, add_group, add_set, add_work, after_placing, after_word, ap, arith, AwaitsEvent, behind_one, Blocks, Bool, Call, call_made, Collapses, Core, count_work, Departs, EndsOver, Enter, entries, Falls, false, FinishWork, free_handle, free_thread_handle, get, give_handle, give_result, give_thread_handle, GoBehind, GoesBack, has_entry, HasPlace, HasSubtask, Holds, HowFar, if◌then◌else◌, inl, inr, is_at_high, is_at_low, is_at_switch, is_begun, is_blocked_on, is_done_host, is_explicit, is_for_start, is_free, is_fresh, is_none, is_some, is_there, is_under, IsFall, IsFoot, IsRunner, IsSettling, Lands, LandsAt, LastWords, le_refl, Leaves, MakeCall, MakeThread, Mark, MayGo, MayLand, MayMove, MayPut, MayYield, Move, nat_tests, new_call, new_thread, next_thread, None, on_call, on_instance, on_thread, on_work, Option, option_map, option_map_or, Place, place_of, Places, Placing, poll_pends, Promote, promoted, push_high, Put, put_high, put_low, QueueWork, Quits, refl, registers_for, Remains, remove_call, remove_group, remove_set, remove_thread, remove_work, RemoveThread, Runs, says, Scene, set_backpressure, set_cancel_delivered, set_cancelled, set_course, set_do_not_enter, set_do_not_suspend, set_end, set_event, set_exited, set_how_far, set_join, set_own_event, set_phase, set_place, set_position, set_register, set_result, set_saved_callee, set_saved_own, set_script, set_stage, set_started, set_starting_published, set_subtask_handle, set_thread_handle, set_trapped, set_uninteresting, set_word, Settles, SetTrapped, SetUninteresting, Some, Stay, Stays, Stop, subst, Subtask, Suspends, switch_entries, sym, T, take_result, TakeHost, TakePush, task_of, Thread, times, Trip, true, Turn, Uncovers, unwrap_or, Waits, WaitsAgain, was_started, Why, with_handle, with_thread_handle, Withdraw, Word, work_queued, ℕ, ◌+◌, ◌==◌, ◌||◌, ◌∙◌, ◌∷◌, ◌≡◌, ◌≤◌, ◌⊎◌, Made}
 use Rattle.task_rules.proofs.WalkMoves.{blocked_place}
 use Rattle.task_machine.proofs.CommuteLemmas.{get-change}
 use Rattle.task_places.proofs.Entries.{added_stand, has_stands, next_first, popped_quiet, promoted_stand, pushed_same, removed_fresh, withdrawn_stand, flipped}
@@ -143,7 +143,7 @@ module _ {a : Scene} {b : Core} {n : ℕ} {q : Option Place} (f : Follows a b n 
   keeps_word : {P : ℕ → Watch} (w : Word) (s : Core) → Stays a w s → ((x : Mark) (m : ℕ) (v : Why) → w ≡ Places (Put x m v) → is_watched (P m) ≡ true → is_so (P m) (place_of m s) ≡ true → is_so (P m) (Some (place.Ready x v)) ≡ true) → ((k : ℕ) → w ≡ Withdraw k → is_fresh (place_of k s) ≡ true) → Stand P n q [] s → Stand P n q [] (after_word w s)
   unfolding add_call add_group add_set add_work count_work free_handle free_thread_handle give_handle give_result give_thread_handle on_call on_instance on_work push_high remove_call remove_group remove_set remove_work set_backpressure set_cancel_delivered set_cancelled set_course set_do_not_enter set_do_not_suspend set_end set_event set_exited set_how_far set_join set_own_event set_phase set_position set_register set_result set_saved_callee set_saved_own set_script set_stage set_started set_starting_published set_subtask_handle set_thread_handle set_trapped set_uninteresting set_word take_result call_made with_handle with_thread_handle work_queued poll_pends on_thread
   keeps_word {P = P} (Places p) s ok puts fresh st = subst (λ (t : Core). Stand P n q [] t) (sym (placing_shifted p s).only) (keeps_placing p s ok (λ x m v e. puts x m v (ap (λ (y : Placing). Places y) e)) st)
-  keeps_word (MakeThread t) s ok puts fresh st = added_stand n q t s (next_apart s ok.1.1.0) (ap (λ (r : Thread). r.place) ok.1.1.1.1.1.0) st
+  keeps_word (MakeThread t) s ok puts fresh st = added_stand n q t s (next_apart s (ap (λ (m : Made). m.threads) ok.1.1.0)) (ap (λ (r : Thread). r.place) ok.1.1.1.1.1.0) st
   keeps_word (MakeCall g e x goal group words) s ok puts fresh st = added_stand n q (new_thread (next_thread s) false script.Start (registers_for words) None) (add_call (next_thread s) (new_call g e x goal group) s) (next_apart s ok.1.0) refl (quiet_stand n q [] s _ (calls_untouched (next_thread s) (new_call g e x goal group) s) st)
   keeps_word {P = P} (Withdraw k) s ok puts fresh st = subst (λ (t : Core). Stand P n q [] t) (sym (withdraws k s)) (withdrawn_stand n q k s (not_here k s st (λ same at. subst T (sym (fresh k refl) ∙ (ap is_fresh at ∙ (f.runs ok.0 ok.1.1.1.1.1.0).1)) tt)) (fresh k refl) st)
   keeps_word (RemoveThread m) s ok puts fresh st = absurd ok

@@ -267,7 +267,7 @@ module _ (x : Setting) (main : Main) (s : Core) (n : ℕ) (l : Label) (next : Tu
 
   -- what its op calls
   makes_call : (e : Callee) (g : Goal) → callee_of_op (op_in a n) ≡ Some e → (is_direct g ≡ true → (is_async_lifted (export_kind x.component e) ≡ false) × (next ≡ turn.Run (next_thread s))) → is_for_main g ≡ false → MayMakeCall a (caller.Thread n) e (export_kind x.component e) g (thread_group n s) s
-  makes_call e g callee lifted other = (ByThread n refl callee refl refl, (refl, (refl, (lifted, other))))
+  makes_call e g callee lifted other = (ByThread n refl callee refl refl, (refl, (refl, (lifted, (other, (refl, refl))))))
 
   no_direct : {A : Type 0} → false ≡ true → A
   no_direct e = absurd (subst T (sym e) tt)
@@ -366,7 +366,7 @@ module _ (x : Setting) (main : Main) (s : Core) (n : ℕ) (l : Label) (next : Tu
       let new : (u : Core) → Shifted queued u → IsNew a (subtask.Host (next_work s)) u = λ u d. (refl, ap (λ (m : Made). m.works) (shifted_made d) ∙ (queued_made (work_caller.Sync n) host group t ∙ ap (λ (k : ℕ). k + 1) made)) in
       let caller : (u : Core) → Shifted queued u → work_caller_of (next_work s) u ≡ work_caller.Sync n = λ u d. ap (λ (c : Core). work_caller_of (next_work s) c) (sym d.only) ∙ (ap (λ (k : ℕ). work_caller_of (k + 1) queued) (sym made) ∙ queued_caller (work_caller.Sync n) host group t) in
       call_stops_walks n refl at_ops (subtask.Host (next_work s)) queued can leave (λ u d. inr (new u d)) (λ u d at. (refl, (new u d, (caller u d, at))))
-      (word (QueueWork (work_caller.Sync n) host group) (made, (refl, refl)) (checked_walks n refl (instance_of n s) NoWord))
+      (word (QueueWork (work_caller.Sync n) host group) (shifted_made h, (refl, refl)) (checked_walks n refl (instance_of n s) NoWord))
 
   call_sync_host_polled_leads : (r : ℕ) (f : FirstPoll) → is_sync_host_call (op_in a n) ≡ true → Leads a s (call_sync_host_polled n r s f)
   unfolding host_answered

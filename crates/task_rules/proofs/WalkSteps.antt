@@ -314,7 +314,7 @@ module _ (x : Setting) (s : State) (l : Label) where
       let g = add_group s.core in
       let h : Born k goal.Main (call_made caller.Main e (export_kind x.component e) goal.Main (s.core.made.groups + 1) words g) = call_born caller.Main e (export_kind x.component e) goal.Main (s.core.made.groups + 1) words g in
       placed (Put mark.High k why.Start) (inl (Starts (born_place h) (born_explicit h) (ap (λ (y : Goal). is_direct y) (born_goal h)) refl))
-      (word (MakeCall caller.Main e (export_kind x.component e) goal.Main (s.core.made.groups + 1) words) (may, (refl, (refl, (λ d. absurd (subst T (sym d) tt), refl)))) (word AddGroup refl NoWord))
+      (word (MakeCall caller.Main e (export_kind x.component e) goal.Main (s.core.made.groups + 1) words) (may, (refl, (refl, (λ d. absurd (subst T (sym d) tt), (refl, (refl, refl)))))) (word AddGroup refl NoWord))
 
   start_act_leads : (u : Turn) (k : ℕ) (e : Callee) (words : List ℕ) (o : Option Trap) → MayCall (scene_at u None turn.Main) caller.Main e (s.core.made.groups + 1) (add_group s.core) → LeadsMain u (start_act x.component k e words s.core o)
   start_act_leads u k e words None may = (refl, (λ is. mute_words _ _ (ap is_mute is), (started_walks u e words may, λ i e. none_is_some i e)))
