@@ -19,10 +19,11 @@ use Rattle.task_rules.specs.Run.{Run}
 use Rattle.task_rules.specs.Outcome.{call_outcome, last_outcome, loop_outcome, main_outcome, outcome_of_label, outcome_of, or_open, open_outcome, is_at_rest, IsOutcome}
 use Rattle.task_turns.specs.declared.made.Made.{Made}
 use Rattle.task_machine.specs.declared.records.Turn.{Turn}
-use Rattle.task_laws.specs.Order.{InOrder}
-use Rattle.task_places.proofs.OrderLemmas.{step_in_order}
+use Rattle.task_places.proofs.OrderLemmas.{step_in_order, steps_make_few}
 use Rattle.task_turns.specs.Drive.{Drives, Drove, Going, IsOn}
-use Rattle.task_turns.specs.Turn.{PendsIn, Turned, Turns, given, goes_on, is_open, running_of, runs_in, state_at}
+use Rattle.task_turns.proofs.KeptLemmas.{sits_of}
+use Rattle.task_turns.proofs.SettleLemmas.{step_settles}
+use Rattle.task_turns.specs.Turn.{IsAtTurn, PendsIn, Sits, Turned, Turns, given, goes_on, is_open, running_of, runs_in, state_at}
 use Rattle.task_words.specs.StateView.{StateView}
 
 -- a run and then one more step
@@ -129,27 +130,28 @@ label_ends (label.Loop l) o is = loop_ends l o is
 label_ends (label.Call l) o is = call_ends l o is
 label_ends _ o is = absurd (cc)
 
-pub on_begins : (x : Setting) (before : List Label) (p : Turn) (m : Main) (t : StateView) → is_open p ≡ true → InOrder x.component (state_at t.core m p) → running_of t ≡ runs_in p → PendsIn x t.core m p
-    → IsOn x (state_at t.core m p) before (given t.core) p m t before 0
-on_begins x before p m t unfinished order running pends = record {
-  going = Going-none x (state_at t.core m p) before;
-  unfinished = unfinished;
-  order = order;
-  few = omega arith;
-  running = running;
-  pends = pends;
-}
+pub on_begins : (x : Setting) (before : List Label) (p : Turn) (m : Main) (t : StateView) → IsAtTurn x.component p t → PendsIn x t.core m p → IsOn x (state_at t.core m p) before (given t.core) p m t before 0
+on_begins x before p m t at pends = record { going = Going-none x (state_at t.core m p) before; at = at; few = omega arith; pends = pends }
 
 module _ (x : Setting) (s : State) (before : List Label) (numbers : ℕ) (p : Turn) (m : Main) (t : StateView) (mid : List Label) (n : ℕ) (on : IsOn x s before numbers p m t mid n) where
   module _ (made : Made) (m' : Main) (t' : StateView) (turns : Turns x p m t made m' t') (after : List Label) (pushed : after ≡ mid ++ made.label ∷ []) where
+    order_then : Sits x.component made.turn t'.core
+    order_then = sits_of x.component t'.core m' made.turn (step_in_order x (state_at t.core m p) made.label (state_at t'.core m' made.turn) (on.at.order m) turns.step)
+
+    few_then : given t'.core ≤ given t.core + 2
+    few_then = (steps_make_few x (state_at t.core m p) made.label (state_at t'.core m' made.turn) turns.step).all
+
     -- the label gives no outcome
     pub on_more : outcome_of_label made.label ≡ None → IsOn x s before numbers made.turn m' t' after (n + 1)
     on_more none = record {
       going = Going-more x s before (state_at t.core m p) mid n made.label (state_at t'.core m' made.turn) after on.going turns.step pushed none;
-      unfinished = sym turns.over ∙ ap is_none none;
-      order = step_in_order x (state_at t.core m p) made.label (state_at t'.core m' made.turn) on.order turns.step;
-      few = let a = turns.few in let b = on.few in omega arith;
-      running = turns.running;
+      at = record {
+        order = order_then;
+        running = turns.running;
+        settled = step_settles x (state_at t.core m p) made.label (state_at t'.core m' made.turn) turns.step;
+        unfinished = sym turns.over ∙ ap is_none none;
+      };
+      few = let a = few_then in let b = on.few in omega arith;
       pends = turns.pends;
     }
 
@@ -158,8 +160,9 @@ module _ (x : Setting) (s : State) (before : List Label) (numbers : ℕ) (p : Tu
     on_ends steps o room some = record {
       drives = Going-ends x s before (state_at t.core m p) mid n made.label (state_at t'.core m' made.turn) after on.going turns.step pushed steps o room some;
       unfinished = sym turns.over ∙ (ap is_none some ∙ sym (label_ends made.label o some));
-      order = step_in_order x (state_at t.core m p) made.label (state_at t'.core m' made.turn) on.order turns.step;
-      few = let a = turns.few in let b = on.few in omega arith;
+      order = order_then;
+      settled = step_settles x (state_at t.core m p) made.label (state_at t'.core m' made.turn) turns.step;
+      few = let a = few_then in let b = on.few in omega arith;
       running = turns.running;
       pends = turns.pends;
     }
@@ -168,10 +171,11 @@ module _ (x : Setting) (s : State) (before : List Label) (numbers : ℕ) (p : Tu
   pub on_rests : (steps : ℕ) → n ≤ steps → is_at_rest x (state_at t.core m p) ≡ true → Drove x s before numbers p m t mid steps outcome.Idle
   on_rests steps room rests = record {
     drives = Going-rests x s before (state_at t.core m p) mid n steps on.going room rests;
-    unfinished = on.unfinished;
-    order = on.order;
+    unfinished = on.at.unfinished;
+    order = on.at.order;
+    settled = on.at.settled;
     few = let b = on.few in omega arith;
-    running = on.running;
+    running = on.at.running;
     pends = on.pends;
   }
 
@@ -179,10 +183,11 @@ module _ (x : Setting) (s : State) (before : List Label) (numbers : ℕ) (p : Tu
   pub on_out : is_at_rest x (state_at t.core m p) ≡ false → Drove x s before numbers p m t mid n outcome.OutOfSteps
   on_out moves = record {
     drives = Going-out x s before (state_at t.core m p) mid n on.going moves;
-    unfinished = on.unfinished;
-    order = on.order;
+    unfinished = on.at.unfinished;
+    order = on.at.order;
+    settled = on.at.settled;
     few = on.few;
-    running = on.running;
+    running = on.at.running;
     pends = on.pends;
   }
 

@@ -55,6 +55,10 @@ at_turn_of c s m k p q runs o = record {
   fits = o.fits;
 }
 
+-- a state in order with one part of main is so with each
+pub sits_of : (c : Component) (s : Core) (m : Main) (p : Turn) → InOrder c (state_at s m p) → Sits c p s
+sits_of c s m p o k = at_turn_of c s m k p p o.in_place.runs o
+
 -- an act of main that takes no running thread away
 acted : (c : Component) (p : Turn) (act : MainAct) (l : MainLabel) (s t : Core) → may_act c s act ≡ true → main_row c 1 s act ≡ Does l t → ((n : ℕ) → place_of n s ≡ Some place.Running → place_of n t ≡ Some place.Running) → Sits c p s → Sits c p t
 unfolding Step at_turn

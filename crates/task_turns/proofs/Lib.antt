@@ -9,3 +9,5 @@ pub mod ShowLemmas
 pub mod KeptLemmas
 pub mod PollLemmas
 pub mod RestLemmas
+pub mod SettleLemmas
+pub mod IdleLemmas

@@ -47,15 +47,10 @@ module _ (x : Setting) (s t : StateView) (m : Main) (current : s.current ≡ Non
       (subst (λ b. EmptyFor x st b l (state_at t.core m turn.Over)) (sym moving)
       (subst (λ b. DeadlockStep st b l (state_at t.core m turn.Over)) (sym (may x s.core m none live rest idle pends)) (refl, ap (λ (v : StateView). state_at v.core m turn.Over) new)))
 
-  trapped_given : given (set_trapped s.core) ≡ given s.core
-  unfolding set_trapped
-  trapped_given = refl
-
   pub deadlock_turns : (made : Made) → made ≡ record { label = label.Loop (loop_label.Deadlock (deadlock_trap s.core)); turn = turn.Over } → Turns x (turn.Take false) m s made m t
   deadlock_turns made is = subst (λ (k : Made). Turns x (turn.Take false) m s k m t) (sym is) (record {
     step = deadlock_step;
     running = ap running_of new ∙ ap (option_map (λ id. thread_of s id)) current;
     over = refl;
     pends = tt;
-    few = let a = trapped_given in let b = ap (λ (v : StateView). given v.core) new in omega (arith, a, b);
   })

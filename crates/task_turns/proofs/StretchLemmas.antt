@@ -61,10 +61,6 @@ beside_instance n s t b = ap₂ (λ (ts : Records Thread) (cs : Records Call). (
 pub beside_there : (n : ℕ) (s t : StateView) → KeepsBeside s t → (u : Thread) → get s.core.threads n ≡ Some u → get t.core.threads n ≡ Some u
 beside_there n s t b u e = ap (λ (ts : Records Thread). get ts n) b.threads ∙ e
 
-given_in : (n : ℕ) (x : ThreadContext) (s : Core) → given (in_context n x s) ≡ given s
-unfolding with_context on_thread
-given_in n x s = refl
-
 -- the context that the thread's record has
 pub begins : (n : ℕ) (s : Core) (t : Thread) → get s.threads n ≡ Some t → how_far_of n s ≡ how_far.Fresh → (x : ThreadContext) → x.position ≡ position_of n s → x.registers ≡ registers_of n s → in_context n x s ≡ s
 begins n s t found fresh x position registers =
@@ -107,7 +103,6 @@ module _ (c : Component) (n : ℕ) (t : StateView) (th : Thread) (found : get t.
       running = runs_still t u beside.tags beside.current ∙ runs;
       over = refl;
       pends = tt;
-      few = let a = given_in n x t.core in let b = given_in n y u.core in let d = ap (λ k. k.threads + k.works + k.sets + k.groups) beside.made in omega (arith, a, b, d);
     }
 
     -- the op is done

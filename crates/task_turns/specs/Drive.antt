@@ -8,8 +8,7 @@ use Rattle.task_rules.specs.Stalled.{Setting}
 use Rattle.task_rules.specs.Run.{Run}
 use Rattle.task_rules.specs.Outcome.{last_outcome, IsOutcome}
 use Rattle.task_machine.specs.declared.records.Turn.{Turn}
-use Rattle.task_laws.specs.Order.{InOrder}
-use Rattle.task_turns.specs.Turn.{PendsIn, given, goes_on, is_open, running_of, runs_in, state_at}
+use Rattle.task_turns.specs.Turn.{IsAtTurn, IsSettled, PendsIn, Sits, given, goes_on, is_open, running_of, runs_in, state_at}
 use Rattle.task_words.specs.StateView.{StateView}
 
 -- A run of n labels was added, of which the last gives no outcome.
@@ -34,7 +33,8 @@ pub record Drove (x : Setting) (s : State) (before : List Label) (numbers : ℕ)
     (steps : ℕ) (outcome : Outcome) : Type 0 where
   pub drives : Drives x s before (state_at t.core m p) after steps outcome
   pub unfinished : is_open p ≡ goes_on outcome
-  pub order : InOrder x.component (state_at t.core m p)
+  pub order : Sits x.component p t.core
+  pub settled : IsSettled t.core p
   pub few : given t.core ≤ numbers + 2 * steps
   pub running : running_of t ≡ runs_in p
   pub pends : PendsIn x t.core m p
@@ -43,10 +43,8 @@ pub record Drove (x : Setting) (s : State) (before : List Label) (numbers : ℕ)
 pub record IsOn (x : Setting) (s : State) (before : List Label) (numbers : ℕ) (p : Turn) (m : Main) (t : StateView) (after : List Label)
     (n : ℕ) : Type 0 where
   pub going : Going x s before (state_at t.core m p) after n
-  pub unfinished : is_open p ≡ true
-  pub order : InOrder x.component (state_at t.core m p)
+  pub at : IsAtTurn x.component p t
   pub few : given t.core ≤ numbers + 2 * n
-  pub running : running_of t ≡ runs_in p
   pub pends : PendsIn x t.core m p
 
 -- Where a run has gone on for so many labels in this turn, it goes on to this state and trace in the same turn, main as it was.

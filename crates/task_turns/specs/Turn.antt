@@ -17,6 +17,7 @@ use Rattle.task_machine.specs.declared.scenario.MainOpDef.{MainOpDef}
 use Rattle.task_rules.specs.Outcome.{is_at_rest, outcome_of_label}
 use Rattle.task_rules.specs.Stalled.{Setting, main_pends}
 use Rattle.task_rules.specs.Step.{Step}
+use Rattle.task_rules.specs.Turns.{settled_turn}
 use Rattle.task_turns.specs.declared.made.Made.{Made}
 use Rattle.task_words.specs.StateView.{StateView, thread_of}
 
@@ -59,19 +60,33 @@ PendsIn x s m (turn.Futures n) = main_pends x s m ≡ true
 PendsIn x s m (turn.Take false) = main_pends x s m ≡ true
 PendsIn x s m _ = Unit {0}
 
+-- main's op need not pend in the turn
+abbrev pub IsFree : Turn → Type 0
+IsFree p = (x : Setting) (s : Core) (m : Main) → PendsIn x s m p
+
 -- the run can go on after this outcome
 abbrev pub goes_on : Outcome → Bool
 goes_on outcome.Idle = true
 goes_on outcome.OutOfSteps = true
 goes_on _ = false
 
--- The step that was made is one of the machine, and its label gives an outcome exactly where the run is over. Few numbers were given.
+-- the moves of the turn that show no label are made
+abbrev pub IsSettled : Core → Turn → Type 0
+IsSettled s p = settled_turn s p ≡ p
+
+-- The run may go on with this turn: the core is in order, the turn's thread runs, and the turn is settled and not over.
+pub record IsAtTurn (c : Component) (p : Turn) (s : StateView) : Type 0 where
+  pub order : Sits c p s.core
+  pub running : running_of s ≡ runs_in p
+  pub settled : IsSettled s.core p
+  pub unfinished : is_open p ≡ true
+
+-- The step that was made is one of the machine, and its label gives an outcome exactly where the run is over.
 pub record Turns (x : Setting) (p : Turn) (m : Main) (s : StateView) (made : Made) (m' : Main) (t : StateView) : Type 0 where
   pub step : Step x (state_at s.core m p) made.label (state_at t.core m' made.turn)
   pub running : running_of t ≡ runs_in made.turn
   pub over : is_none (outcome_of_label made.label) ≡ is_open made.turn
   pub pends : PendsIn x t.core m' made.turn
-  pub few : given t.core ≤ given s.core + 2
 
 -- A step was made, or nothing can go on and that is no deadlock, and nothing is changed.
 abbrev pub Turned : Setting → Turn → Main → StateView → Option Made → Main → StateView → Type 0
@@ -104,7 +119,12 @@ Shows n (came.Goes l m) = (m ≡ n) × (outcome_of_label l ≡ None)
 Shows n (came.Stops l) = outcome_of_label l ≡ None
 Shows n _ = Unit {0}
 
+-- the same of a turn in which main has no part, whatever main is
+abbrev pub TurnedBeside : Component → (trap_on_idle : Bool) → Turn → StateView → Option Made → StateView → Type 0
+TurnedBeside c b p s made t =
+    (x : Setting) → x.component ≡ c → x.idle ≡ idle_line_of b → (m : Main) → PendsIn x s.core m p → Turned x p m s made m t
+
 -- nothing stood there and nothing is changed, or a step was made
 abbrev pub Took : Component → Bool → StateView → Option Made → StateView → Type 0
 Took c ended s None t = (next_entry s.core ≡ None) × (t ≡ s)
-Took c ended s (Some made) t = Makes c (turn.Take ended) s made t
+Took c ended s (Some made) t = Makes c (turn.Take ended) s made t × IsFree made.turn

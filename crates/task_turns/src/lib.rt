@@ -13,6 +13,7 @@ mod settles;
 mod stretches;
 mod takes;
 mod trace;
+mod turns;
 
 pub use context::{ThreadContext, operand_value};
 pub use futures::step_poll;
@@ -25,3 +26,4 @@ pub use settles::{turn_after_end, turn_after_polls};
 pub use stretches::stretch;
 pub use takes::step_take;
 pub use trace::Trace;
+pub use turns::{compute, is_idle, poll, take};

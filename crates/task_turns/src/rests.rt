@@ -17,7 +17,8 @@ pub fn step_rest<W: Words>(w: &W) -> Made
     requires current { (W.view w.now).current ≡ None }
     requires none { next_entry (W.view w.now).core ≡ None }
     requires moving { has_moving_work (W.view w.now).core ≡ true }
-    ensures { (c : Component) → Makes c (Turn.Take false) (W.view w.now) result (W.view w.now) }
+    ensures makes { (c : Component) → Makes c (Turn.Take false) (W.view w.now) result (W.view w.now) }
+    ensures turn { result.turn ≡ Turn.Main }
 {
     let _state = w;
     Made {

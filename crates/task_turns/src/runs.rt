@@ -12,7 +12,7 @@ ghost use Rattle.task_rules.specs.Step.{did, op_row};
 ghost use Rattle.task_rules.specs.Task.{task_row};
 ghost use Rattle.task_turns.specs.Covered.{IsCovered, is_covered_op};
 ghost use Rattle.task_turns.specs.Runner.{Runner};
-ghost use Rattle.task_turns.specs.Turn.{GoesOn, Makes, Sits, running_of};
+ghost use Rattle.task_turns.specs.Turn.{GoesOn, IsFree, Makes, Sits, running_of};
 ghost use Rattle.task_words.specs.StateView.{thread_of};
 
 use crate::made::{Made, made_of};
@@ -132,7 +132,8 @@ pub fn step_run<W: Words>(component: &Component, w: &mut W, number: u64) -> Made
     requires covered { IsCovered component.now }
     requires order { Sits component.now (Turn.Run number) (W.view w.old).core }
     requires runs { running_of (W.view w.old) ≡ Some number }
-    ensures { Makes component.now (Turn.Run number) (W.view w.old) result (W.view w.new) }
+    ensures makes { Makes component.now (Turn.Run number) (W.view w.old) result (W.view w.new) }
+    ensures free { IsFree result.turn }
 {
     w.none_is_zero();
     let Some(thread) = w.current() else {

@@ -1,6 +1,6 @@
 //! Whose turn comes where the machine moves on without a label.
 ghost use Rattle.std.specs.Prelude.{◌≡◌, true};
-ghost use Rattle.task_rules.specs.Turns.{settled_turn};
+ghost use Rattle.task_rules.specs.Turns.{nothing_stands, settled_turn};
 
 use task_machine::Turn;
 use task_words::Words;
@@ -15,12 +15,23 @@ pub fn turn_after_polls<W: Words>(w: &W, polled: u64) -> Turn
     }
 }
 
+// Whether nothing is queued.
+pub(crate) fn nothing_stands<W: Words>(w: &W) -> bool
+    ensures { result ≡ nothing_stands (W.view w.now).core }
+{
+    match w.next_entry() {
+        Some(_) => false,
+        None => true,
+    }
+}
+
 /// The turn after a work has ended.
 pub fn turn_after_end<W: Words>(w: &W) -> Turn
     ensures { result ≡ settled_turn (W.view w.now).core (Turn.Take true) }
 {
-    match w.next_entry() {
-        Some(_) => Turn::Take { ended: true },
-        None => Turn::Main,
+    if nothing_stands(w) {
+        Turn::Main
+    } else {
+        Turn::Take { ended: true }
     }
 }

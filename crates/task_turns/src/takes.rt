@@ -11,7 +11,7 @@ ghost use Rattle.task_ops.specs.Stays.{StaysAfter};
 ghost use Rattle.task_ops.specs.Steps.{label_of};
 ghost use Rattle.task_rules.specs.Takes.{delivery_row, popped, thread_taken};
 ghost use Rattle.task_turns.specs.Taken.{FindsSet, IsTakeable, Taken};
-ghost use Rattle.task_turns.specs.Turn.{Makes, Shows, Sits, Took};
+ghost use Rattle.task_turns.specs.Turn.{IsFree, Makes, Shows, Sits, Took};
 ghost use Rattle.task_words.specs.StateView.{thread_of, work_of};
 
 use crate::made::{Made, made_of};
@@ -74,7 +74,8 @@ fn step_thread<W: Words>(
     requires order { Sits component.now (Turn.Take ended) (W.view w.old).core }
     requires next { next_entry (W.view w.old).core ≡ Some (mark, entries.Thread (thread_of (W.view w.old) thread)) }
     requires finds { FindsSet (thread_of (W.view w.old) thread) (popped mark (W.view w.old).core) }
-    ensures { IfOk result (λ made. Makes component.now (Turn.Take ended) (W.view w.old) made (W.view w.new)) }
+    ensures makes { IfOk result (λ made. Makes component.now (Turn.Take ended) (W.view w.old) made (W.view w.new)) }
+    ensures free { IfOk result (λ made. IsFree made.turn) }
 {
     let _component = component;
     w.none_is_zero();
@@ -88,7 +89,8 @@ fn step_thread<W: Words>(
 fn step_push<W: Words>(w: &mut W, mark: Mark, work: WorkId) -> Made
     requires current { (W.view w.old).current ≡ None }
     requires next { next_entry (W.view w.old).core ≡ Some (mark, entries.Push (work_of (W.view w.old) work)) }
-    ensures { (c : Component) → (ended : Bool) → Makes c (Turn.Take ended) (W.view w.old) result (W.view w.new) }
+    ensures makes { (c : Component) → (ended : Bool) → Makes c (Turn.Take ended) (W.view w.old) result (W.view w.new) }
+    ensures turn { result.turn ≡ Turn.Main }
 {
     w.pop(mark);
     let number = w.work_number(work);

@@ -1,4 +1,5 @@
 use Rattle.std.proofs.Common.{sym, ◌∙◌}
+use Rattle.task_turns.proofs.IdleLemmas.{after_free, free_at}
 use Rattle.task_turns.proofs.OrderLemmas.{number_at, runner_at, strikes}
 use Rattle.task_turns.proofs.RunLemmas.{ran_at}
 use Rattle.task_turns.proofs.runs.step_run.Goals as goal
@@ -14,8 +15,11 @@ made_of-requires-clause-strikes g c =
     let s = v c.args.w.now in
     strikes c.run_op-came.result c.in-Some.thread s (v c.run_op-came.new.w) (runner_at c.args.component.now c.requires.covered c.args.number s c.requires.order c.none_is_zero.ensures.threads c.requires.runs c.in-Some.thread (sym c.current.ensures ∙ c.in-Some.is)) c.run_op-came.ensures.stays
 
-pub returns : goal.returns
-returns g c =
+pub returns-clause-free : goal.returns-clause-free
+returns-clause-free g c = free_at _ _ c.made_of.ensures.turn (after_free c.run_op-came.result)
+
+pub returns-clause-makes : goal.returns-clause-makes
+returns-clause-makes g c =
     let v = g.W.View.view in
     let s = v c.args.w.now in
     let number = number_at c.args.number s c.requires.runs c.in-Some.thread (sym c.current.ensures ∙ c.in-Some.is) in

@@ -10,8 +10,8 @@ use Rattle.task_turns.proofs.takes.step_push.Goals as goal
 use Rattle.task_turns.specs.Turn.{running_of, state_at}
 use Rattle.task_words.specs.StateView.{StateView, on_core, thread_of, work_of}
 
-pub returns : goal.returns
-returns g c d ended =
+pub returns-clause-makes : goal.returns-clause-makes
+returns-clause-makes g c d ended =
     let v = g.W.View.view in
     let s = v c.args.w.now in
     let u = v c.take_push.new.w in

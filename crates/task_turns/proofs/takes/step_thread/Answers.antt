@@ -3,6 +3,7 @@ use Rattle.std.specs.Prelude.{Some}
 use Rattle.task_turns.proofs.RunLemmas.{took}
 use Rattle.task_turns.proofs.ShowLemmas.{taken_strikes}
 use Rattle.task_turns.proofs.TakenLemmas.{taken}
+use Rattle.task_turns.proofs.IdleLemmas.{after_free, free_at}
 use Rattle.task_turns.proofs.takes.step_thread.Goals as goal
 use Rattle.task_turns.specs.Taken.{Taken}
 use Rattle.task_words.specs.StateView.{StateView, thread_of, with_current}
@@ -23,8 +24,11 @@ made_of-requires-clause-strikes g c =
     (subst (λ (u : StateView). Taken c.args.mark (thread_of u c.args.thread) u.core) (sym (c.set_current.ensures ∙ ap (with_current (Some c.args.thread)) c.pop.ensures))
     (taken c.args.component.now c.args.ended s.core c.requires.order c.none_is_zero.ensures.threads c.args.mark n c.requires.next)) c.in_ok-came.ensures.stays
 
-pub returns : goal.returns
-returns g c =
+pub returns-clause-free : goal.returns-clause-free
+returns-clause-free g c = free_at _ _ c.made_of.ensures.turn (after_free c.in_ok-came.came)
+
+pub returns-clause-makes : goal.returns-clause-makes
+returns-clause-makes g c =
     let v = g.W.View.view in
     let s = v c.args.w.now in
     let u = v c.set_current.new.self in
