@@ -1,6 +1,8 @@
 -- Runs go on, and end.
 use Rattle.std.proofs.Common.{◌≡◌, ◌≤◌, ◌<◌, ◌+◌, ℕ, List, [], ◌∷◌, ◌++◌, true, false, refl, sym, ap, ◌∙◌, append_assoc, append-nil, subst, length-append, length, arith}
-use Rattle.std.specs.Prelude.{Some, None, is_none, ◌==◌}
+use Rattle.std.specs.Prelude.{Bool, Option, Some, None, is_none, ◌==◌}
+use Rattle.task_machine.specs.declared.component.Component.{Component}
+use Rattle.task_machine.specs.declared.scenario.MainOpDef.{MainOpDef}
 use Rattle.std.proofs.lemmas.Bool.{eq-eqb}
 use Rattle.task_machine.specs.declared.label.CallLabel.{CallLabel}
 use Rattle.task_machine.specs.declared.label.CallLabel.TheVariants as call_label
@@ -23,7 +25,7 @@ use Rattle.task_places.proofs.OrderLemmas.{step_in_order, steps_make_few}
 use Rattle.task_turns.specs.Drive.{Drives, Drove, Going, IsOn}
 use Rattle.task_turns.proofs.KeptLemmas.{sits_of}
 use Rattle.task_turns.proofs.SettleLemmas.{step_settles}
-use Rattle.task_turns.specs.Turn.{IsAtTurn, PendsIn, Sits, Turned, Turns, given, goes_on, is_open, running_of, runs_in, state_at}
+use Rattle.task_turns.specs.Turn.{IsAtTurn, PendsIn, Sits, Turned, Turns, given, goes_on, is_open, running_of, runs_in, setting_of, state_at}
 use Rattle.task_words.specs.StateView.{StateView}
 
 -- a run and then one more step
@@ -202,3 +204,8 @@ pub on_turned_none : (x : Setting) (s : State) (before : List Label) (numbers : 
 on_turned_none x s before numbers p m m' t t' mid n steps on room h =
     subst (λ u. Drove x s before numbers p m' u mid steps outcome.Idle) (sym h.1.1)
     (subst (λ k. Drove x s before numbers p k t mid steps outcome.Idle) (sym h.1.0) (on_rests x s before numbers p m t mid n on steps room h.0))
+
+-- the same, in the same setting
+pub turned_same : (c : Component) (ops ops' : List MainOpDef) (b b' : Bool) (p : Turn) (m : Main) (s : StateView) (made : Option Made) (m' : Main) (t : StateView) → ops ≡ ops' → b ≡ b'
+    → Turned (setting_of c ops b) p m s made m' t → Turned (setting_of c ops' b') p m s made m' t
+turned_same c ops ops' b b' p m s made m' t script trap h = subst (λ v. Turned (setting_of c ops' v) p m s made m' t) trap (subst (λ o. Turned (setting_of c o b) p m s made m' t) script h)

@@ -11,3 +11,4 @@ pub mod PollLemmas
 pub mod RestLemmas
 pub mod SettleLemmas
 pub mod IdleLemmas
+pub mod MainLemmas

@@ -56,7 +56,7 @@ poll_step k i s t m r next h x = subst (λ (o : Option ℕ). FuturesStep (state_
 
 -- ---- The turn then
 
-futures_open : (n : ℕ) (s : Core) (o : Option ℕ) → (is_open (settled_futures n s o) ≡ true) × (runs_in (settled_futures n s o) ≡ None)
+pub futures_open : (n : ℕ) (s : Core) (o : Option ℕ) → (is_open (settled_futures n s o) ≡ true) × (runs_in (settled_futures n s o) ≡ None)
 futures_open n s None = (refl, refl)
 futures_open n s (Some i) = (refl, refl)
 
@@ -122,7 +122,7 @@ pends_same : (x : Setting) (i : ℕ) (host : HostDef) (s : Core) (m : Main) → 
 pends_same x i host s (Scripted p) h = at_same x i host s p (op_at x.script p) h
 pends_same x i host s Unscripted h = refl
 
-in_futures : (x : Setting) (s : Core) (m : Main) (n : ℕ) (o : Option ℕ) → main_pends x s m ≡ true → PendsIn x s m (settled_futures n s o)
+pub in_futures : (x : Setting) (s : Core) (m : Main) (n : ℕ) (o : Option ℕ) → main_pends x s m ≡ true → PendsIn x s m (settled_futures n s o)
 in_futures x s m n None h = h
 in_futures x s m n (Some i) h = h
 

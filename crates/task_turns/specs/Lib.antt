@@ -5,3 +5,4 @@ pub mod Context
 pub mod Drive
 pub mod Taken
 pub mod Kept
+pub mod Main

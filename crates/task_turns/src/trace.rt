@@ -4,7 +4,7 @@ use std::alloc::{AllocError, Global};
 use std::marker::Model;
 use task_machine::Label;
 
-/// The labels of the steps that runs made. Only the calls of `RunConcurrent` extend it.
+/// The labels of the steps that runs made.
 #[derive(Drop)]
 pub struct Trace {
     labels: Vec<Label>,
@@ -36,9 +36,9 @@ impl Trace {
         self.labels.as_slice()
     }
 
-    // Adds a label.
+    /// Adds the label of a step. Where memory is wanting, the trace is as before.
     #[inline(always)]
-    pub(crate) fn push(&mut self, label: Label) -> Result<(), AllocError>
+    pub fn push(&mut self, label: Label) -> Result<(), AllocError>
         ensures ok { OnOk result (self.new ≡ self.old ++ label ∷ []) }
         ensures err { OnErr result (self.new ≡ self.old) }
     {
