@@ -28,3 +28,4 @@ pub mod WrittenLaws
 pub mod NamedCalls
 pub mod NamedWorks
 pub mod SyncWorks
+pub mod LackLemmas

@@ -18,6 +18,8 @@ use Rattle.task_laws.proofs.CountLemmas.{few_word}
 use Rattle.task_laws.proofs.SetHandles.{opening_sets, sets_named_word}
 use Rattle.task_laws.proofs.CallsLaw.{CallsGo, CallsHold}
 use Rattle.task_laws.proofs.CallsSteps.{base_out, calls_begin, of_base, word_goes, opening_holds, plain, plain_scene, step_goes}
+use Rattle.task_laws.proofs.LackLemmas.{KnownLacks, lacks_word, op_lacks}
+use Rattle.task_laws.specs.Lacks.{LacksOps, LacksSets, StepsLackSets}
 use Rattle.task_laws.specs.Order.{CallsNamed, InOrder, Numbered, OpeningInOrder, SetsNamed, StartsAwaited, StepInOrder, WasCall, CallsThere, MakesFew, Strands, WaitsAtHome, set_of_op, set_of_place, StepsMakeFew, JoinsNamed, DirectsOnTop, Fits, WorksQueued, HostsAwaited, names_script}
 use Rattle.task_machine.specs.declared.records.Turn.TheVariants as turn
 use Rattle.task_machine.specs.declared.records.Place.TheVariants as place
@@ -244,6 +246,20 @@ module _ (x : Setting) (s : State) (l : Label) (t : State) (h : InOrder x.compon
     where
       same : (n : ℕ) → is_there n t.core ≡ true → is_there n s.core ≡ true → instance_of n t.core ≡ instance_of n s.core
       same n now before = same_instance s.core t.core steady h.numbered h.calls_there calls_kept n before now
+
+  -- sets and async calls of hosts, where no op makes them
+  known_lacks : LacksOps x.component → LacksSets s.core → KnownLacks a
+  known_lacks lacks none = record {
+    base = record { sets = none.sets; places = none.places; ops = none.ops; works = none.works };
+    handles = λ i g y e. let home = h.sets_named.home i g y e in let gone = none.sets y in absurd (cc);
+    runs = λ n e. op_lacks x.component lacks n a.base;
+  }
+
+  pub lacks_kept : LacksOps x.component → LacksSets s.core → LacksSets t.core
+  lacks_kept lacks none = along LacksSets (lacks_word a (known_lacks lacks none)) none walk
+
+pub steps_lack_sets : StepsLackSets
+steps_lack_sets x lacks s l t h none step = lacks_kept x s l t h (step_walks x s l t step) lacks none
 
 -- ---- A step in order
 

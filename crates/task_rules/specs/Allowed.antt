@@ -29,7 +29,7 @@ use Rattle.task_rules.specs.Cancels.{aborted_phase, is_callback_wait}
 use Rattle.task_rules.specs.Ends.{is_told, own_or_none}
 use Rattle.task_rules.specs.MainOps.{op_at, takes_words, spawned_at, is_spawn}
 use Rattle.task_rules.specs.Once.{returned_holder}
-use Rattle.task_rules.specs.OpParts.{callee_of_main_op, callee_of_op, can_come, ends_activation, is_sync_call}
+use Rattle.task_rules.specs.OpParts.{callee_of_main_op, callee_of_op, calls_host, can_come, ends_activation, is_sync_call, makes_set}
 use Rattle.task_rules.specs.Scenes.{Scene, component_of, op_in}
 use Rattle.task_rules.specs.Scripts.{export_kind, is_script, registers_for, script_of, slot_at}
 use Rattle.task_rules.specs.Threads.{resume_why}
@@ -385,7 +385,7 @@ MayUnname a i h sub s = (n : ℕ) ×
 -- main's op spawns it, or the op of the running thread calls it
 abbrev pub MayQueue : Scene → WorkCaller → Option ℕ → Type 0
 MayQueue a work_caller.Spawn group = group ≡ None
-MayQueue a (work_caller.Async n q) group = IsRunner a n × (group ≡ Some (thread_group n a.base))
+MayQueue a (work_caller.Async n q) group = IsRunner a n × ((group ≡ Some (thread_group n a.base)) × ((a.turn ≡ turn.Run n) × (calls_host (op_in a n) ≡ true)))
 MayQueue a (work_caller.Sync n) group = IsRunner a n × (group ≡ Some (thread_group n a.base))
 
 abbrev pub is_async_work : WorkCaller → Bool
@@ -420,7 +420,7 @@ pub data MayAbort (a : Scene) (i : ℕ) : Type 0 where
 -- ---- Sets and instances
 
 abbrev pub MayOpen : Scene → ℕ → Core → Type 0
-MayOpen a i s = (s.made ≡ a.base.made) × ((n : ℕ) × (IsRunner a n × (i ≡ instance_of n a.base)))
+MayOpen a i s = (s.made ≡ a.base.made) × ((n : ℕ) × (IsRunner a n × ((i ≡ instance_of n a.base) × ((a.turn ≡ turn.Run n) × (makes_set (op_in a n) ≡ true)))))
 
 -- the handle names it, and nobody waits on it or is in it
 abbrev pub MayClose : Scene → ℕ → ℕ → ℕ → Core → Type 0
