@@ -21,9 +21,9 @@ use Rattle.task_rules.specs.Run.{Run}
 use Rattle.task_rules.specs.Outcome.{call_outcome, last_outcome, loop_outcome, main_outcome, outcome_of_label, outcome_of, or_open, open_outcome, is_at_rest, IsOutcome}
 use Rattle.task_turns.specs.declared.made.Made.{Made}
 use Rattle.task_machine.specs.declared.records.Turn.{Turn}
-use Rattle.task_places.proofs.OrderLemmas.{step_in_order, steps_make_few}
+use Rattle.task_places.proofs.OrderLemmas.{steps_make_few}
 use Rattle.task_turns.specs.Drive.{Drives, Drove, Going, IsOn}
-use Rattle.task_turns.proofs.KeptLemmas.{sits_of}
+use Rattle.task_turns.proofs.KeptLemmas.{sits_after}
 use Rattle.task_turns.proofs.SettleLemmas.{step_settles}
 use Rattle.task_turns.specs.Turn.{IsAtTurn, PendsIn, Sits, Turned, Turns, given, goes_on, is_open, running_of, runs_in, setting_of, state_at}
 use Rattle.task_words.specs.StateView.{StateView}
@@ -138,7 +138,7 @@ on_begins x before p m t at pends = record { going = Going-none x (state_at t.co
 module _ (x : Setting) (s : State) (before : List Label) (numbers : ℕ) (p : Turn) (m : Main) (t : StateView) (mid : List Label) (n : ℕ) (on : IsOn x s before numbers p m t mid n) where
   module _ (made : Made) (m' : Main) (t' : StateView) (turns : Turns x p m t made m' t') (after : List Label) (pushed : after ≡ mid ++ made.label ∷ []) where
     order_then : Sits x.component made.turn t'.core
-    order_then = sits_of x.component t'.core m' made.turn (step_in_order x (state_at t.core m p) made.label (state_at t'.core m' made.turn) (on.at.order m) turns.step)
+    order_then = sits_after x t.core t'.core m m' p made.turn made.label on.at.order turns.step
 
     few_then : given t'.core ≤ given t.core + 2
     few_then = (steps_make_few x (state_at t.core m p) made.label (state_at t'.core m' made.turn) turns.step).all

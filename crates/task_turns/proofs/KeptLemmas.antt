@@ -11,6 +11,7 @@ use Rattle.task_machine.specs.Read.{place_of}
 use Rattle.task_machine.specs.Write.{add_call, add_group, add_thread, on_thread, push_high, set_place, set_trapped, take_result}
 use Rattle.task_machine.specs.declared.component.Callee.{Callee}
 use Rattle.task_machine.specs.declared.component.Component.{Component}
+use Rattle.task_machine.specs.declared.label.Label.{Label}
 use Rattle.task_machine.specs.declared.label.Label.TheVariants as label
 use Rattle.task_machine.specs.declared.label.MainLabel.{MainLabel}
 use Rattle.task_machine.specs.declared.label.MainLabel.TheVariants as main_label
@@ -18,7 +19,7 @@ use Rattle.task_machine.specs.declared.records.Place.TheVariants as place
 use Rattle.task_machine.specs.declared.records.Turn.{Turn}
 use Rattle.task_machine.specs.declared.records.Turn.TheVariants as turn
 use Rattle.task_machine.specs.declared.scenario.IdleLine.TheVariants as idle_line
-use Rattle.task_places.proofs.OrderLemmas.{step_in_order}
+use Rattle.task_places.proofs.OrderLemmas.{step_in_order, steps_lack_sets}
 use Rattle.task_rules.specs.Calls.{call_made}
 use Rattle.task_rules.specs.MainOps.{Does, Finish, MainAct, MainProgress, Start, finish_result, main_row, main_started, may_act, start_act}
 use Rattle.task_rules.specs.Places.{is_there}
@@ -30,9 +31,6 @@ use Rattle.task_turns.specs.Turn.{Sits, state_at}
 
 abbrev setting : Component → Setting
 setting c = record { component = c; script = []; idle = idle_line.Wait }
-
-pub made_in_order : MadeInOrder
-made_in_order c p s made t sits makes m = step_in_order (setting c) (state_at s.core m p) made.label (state_at t.core m made.turn) (sits m) (makes.step (setting c) refl m)
 
 -- order hangs on the turn by the thread that runs alone
 at_turn_of : (c : Component) (s : Core) (m k : Main) (p q : Turn) → ((n : ℕ) → q ≡ turn.Run n → place_of n s ≡ Some place.Running) → InOrder c (state_at s m p) → InOrder c (state_at s k q)
@@ -55,19 +53,36 @@ at_turn_of c s m k p q runs o = record {
   fits = o.fits;
 }
 
--- a state in order with one part of main is so with each
-pub sits_of : (c : Component) (s : Core) (m : Main) (p : Turn) → InOrder c (state_at s m p) → Sits c p s
-sits_of c s m p o k = at_turn_of c s m k p p o.in_place.runs o
+-- a step from such a core leads to one, with each part of main
+pub sits_after : (x : Setting) (s t : Core) (m k : Main) (p q : Turn) (l : Label) → Sits x.component p s → Step x (state_at s m p) l (state_at t k q) → Sits x.component q t
+sits_after x s t m k p q l sits step =
+    let after = step_in_order x (state_at s m p) l (state_at t k q) (sits.order m) step in
+    record {
+      order = λ j. at_turn_of x.component t k j q q after.in_place.runs after;
+      ops = sits.ops;
+      lacks = steps_lack_sets x sits.ops (state_at s m p) l (state_at t k q) (sits.order m) sits.lacks step;
+    }
+
+pub made_in_order : MadeInOrder
+made_in_order c p s made t sits makes = sits_after (setting c) s.core t.core Unscripted Unscripted p made.turn made.label sits (makes.step (setting c) refl Unscripted)
 
 -- an act of main that takes no running thread away
 acted : (c : Component) (p : Turn) (act : MainAct) (l : MainLabel) (s t : Core) → may_act c s act ≡ true → main_row c 1 s act ≡ Does l t → ((n : ℕ) → place_of n s ≡ Some place.Running → place_of n t ≡ Some place.Running) → Sits c p s → Sits c p t
 unfolding Step at_turn
-acted c p act l s t may row kept sits m =
-    let before = at_turn_of c s m Unscripted p turn.Main (λ n e. absurd (cc)) (sits m) in
+acted c p act l s t may row kept sits =
+    let before : Sits c turn.Main s = record {
+      order = λ m. at_turn_of c s m m p turn.Main (λ n e. absurd (cc)) (sits.order m);
+      ops = sits.ops;
+      lacks = sits.lacks;
+    } in
     let shown : OpenProgresses (state_at s Unscripted turn.Main) (main_row c 1 s act) (label.Main l) (state_at t Unscripted turn.Main) =
     subst (λ (q : MainProgress). OpenProgresses (state_at s Unscripted turn.Main) q (label.Main l) (state_at t Unscripted turn.Main)) (sym row) (refl, refl) in
-    let after = step_in_order (setting c) (state_at s Unscripted turn.Main) (label.Main l) (state_at t Unscripted turn.Main) before (1, (act, (may, shown))) in
-    at_turn_of c t Unscripted m turn.Main p (λ n e. kept n ((sits m).in_place.runs n e)) after
+    let after = sits_after (setting c) s t Unscripted Unscripted turn.Main turn.Main (label.Main l) before (1, (act, (may, shown))) in
+    record {
+      order = λ m. at_turn_of c t m m turn.Main p (λ n e. kept n ((sits.order m).in_place.runs n e)) (after.order m);
+      ops = after.ops;
+      lacks = after.lacks;
+    }
 
 -- a thread that is there stays where it is
 started_place : (c : Component) (e : Callee) (words : List ℕ) (s : Core) (n : ℕ) → (n == s.made.threads + 1) ≡ false → place_of n (main_started c e words s) ≡ place_of n s
@@ -80,7 +95,7 @@ given_apart n k h = grind (arith, nat_tests)
 pub start_in_order : StartInOrder
 start_in_order c p e words s takes free sits =
     acted c p (Start e words) (main_label.Start 1 (s.made.threads + 1)) s (main_started c e words s) takes (ap (start_act c 1 e words s) free)
-    (λ n at. started_place c e words s n (given_apart n s.made.threads (((sits Unscripted).in_place.placed n).number (there n at))) ∙ at) sits
+    (λ n at. started_place c e words s n (given_apart n s.made.threads (((sits.order Unscripted).in_place.placed n).number (there n at))) ∙ at) sits
   where
     there : (n : ℕ) → place_of n s ≡ Some place.Running → is_there n s ≡ true
     there n at = ap is_some at

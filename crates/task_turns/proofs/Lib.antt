@@ -12,3 +12,5 @@ pub mod RestLemmas
 pub mod SettleLemmas
 pub mod IdleLemmas
 pub mod MainLemmas
+pub mod FreshLemmas
+pub mod CoveredLemmas

@@ -82,7 +82,7 @@ number_at n s runs id e = same (thread_of s id) n (sym (ap (option_map (λ i. th
 
 module _ (c : Component) (covered : IsCovered c) (n : ℕ) (s : StateView) (sits : Sits c (turn.Run n) s.core) where
   order : InOrder c (state_at s.core Unscripted (turn.Run n))
-  order = sits Unscripted
+  order = sits.order Unscripted
 
   at : place_of n s.core ≡ Some place.Running
   at = order.in_place.runs n refl

@@ -1,14 +1,17 @@
 -- What a state in order gives to the thread whose entry is taken.
 use Rattle.std.proofs.Common.{ap, arith, refl, subst, sym, ◌∙◌}
 use Rattle.std.specs.Option.{option_map_or}
-use Rattle.std.specs.Prelude.{Bool, List, None, Option, Some, [], ℕ, ◌≡◌, ◌≤◌, ◌∷◌}
-use Rattle.task_laws.specs.Order.{InOrder}
+use Rattle.std.specs.Prelude.{Bool, List, None, Option, Some, option_and_then, [], ℕ, ◌≡◌, ◌≤◌, ◌∷◌}
+use Rattle.task_laws.specs.Order.{InOrder, WorkEntries, is_host_of, set_of_place, set_of_why, stands}
 use Rattle.task_machine.specs.Core.{Core, Unscripted}
 use Rattle.task_machine.specs.Maps.{get}
-use Rattle.task_machine.specs.Moves.{ready_why}
+use Rattle.task_machine.specs.Moves.{ready_why, why_of}
 use Rattle.task_machine.specs.Read.{next_entry, place_of, task_of}
 use Rattle.task_machine.specs.Write.{set_high, set_low, set_switch}
 use Rattle.task_machine.specs.declared.component.Component.{Component}
+use Rattle.task_machine.specs.declared.records.Delivery.TheVariants as delivery
+use Rattle.task_machine.specs.declared.records.Work.{Work}
+use Rattle.task_words.specs.Live.{delivered_set}
 use Rattle.task_machine.specs.declared.records.Entry.{Entry}
 use Rattle.task_machine.specs.declared.records.Entry.TheVariants as entry
 use Rattle.task_machine.specs.declared.records.Place.{Place}
@@ -29,7 +32,7 @@ use Rattle.task_rules.proofs.StandLemmas.{Loose, by_number, eq_refl, left_placed
 use Rattle.task_rules.specs.Places.{HasPlace, entries, is_at_high, is_at_low, is_at_switch, is_behind_of, one_if, says, switch_entries, times}
 use Rattle.task_rules.specs.Takes.{popped}
 use Rattle.task_turns.proofs.OrderLemmas.{positive, some_from}
-use Rattle.task_turns.specs.Taken.{Taken}
+use Rattle.task_turns.specs.Taken.{FindsSet, Taken}
 use Rattle.task_turns.specs.Turn.{Sits, state_at}
 
 abbrev IsAt : Mark → Option Place → Type 0
@@ -90,7 +93,7 @@ popped_stand m w n s front at all = record {
     c : Cleared n s t
     c = (popped_cleared m n s front (all n)).0
 
-popped_place : (m : Mark) (n : ℕ) (s : Core) → place_of n (popped m s) ≡ place_of n s
+pub popped_place : (m : Mark) (n : ℕ) (s : Core) → place_of n (popped m s) ≡ place_of n s
 unfolding popped set_switch set_high set_low
 popped_place mark.Switch n s = refl
 popped_place mark.High n s = refl
@@ -104,7 +107,7 @@ popped_join mark.Low n s all = all (subtask.Guest (task_of n s))
 
 module _ (c : Component) (ended : Bool) (s : Core) (sits : Sits c (turn.Take ended) s) (none : get s.threads 0 ≡ None) where
   order : InOrder c (state_at s Unscripted (turn.Take ended))
-  order = sits Unscripted
+  order = sits.order Unscripted
 
   joined : (sub : Subtask) → IsJoinThere sub s
   joined sub x e = let j = order.joins_named.joins sub x e in some_from _ (get s.sets x) j.instance j.home
@@ -120,3 +123,37 @@ module _ (c : Component) (ended : Bool) (s : Core) (sits : Sits c (turn.Take end
         stands = subst (λ (w : Why). Stand n (place.Ready m w) [] (popped m s)) (sym (ap (λ (o : Option Place). option_map_or ready_why o why.Resumption) there)) stand;
         join = popped_join m n s joined;
       }
+
+-- ---- Nothing is delivered for a set, and no async call of a host ends
+
+module _ (c : Component) (ended : Bool) (s : Core) (sits : Sits c (turn.Take ended) s) where
+  no_delivery : (o : Option Place) (x : ℕ) → delivered_set (option_map_or ready_why o why.Resumption) ≡ Some x → option_and_then set_of_place o ≡ Some x
+  no_delivery None x e = absurd (cc)
+  no_delivery (Some (place.Ready m w)) x e = delivered w e
+    where
+      delivered : (w : Why) → delivered_set w ≡ Some x → set_of_why w ≡ Some x
+      delivered (why.Delivery (delivery.Set y)) h = h
+      delivered _ h = absurd (cc)
+  no_delivery (Some p) x e = absurd (cc)
+
+  pub finds : (m : Mark) (n : ℕ) → FindsSet n (popped m s)
+  finds m n = record { there = λ x e. absurd (no_set x e); members = λ x e. absurd (no_set x e) }
+    where
+      no_set : (x : ℕ) → delivered_set (why_of n (popped m s)) ≡ Some x → ⊥
+      no_set x e = sits.lacks.places n x (ap (option_and_then set_of_place) (sym (popped_place m n s)) ∙ no_delivery (place_of n (popped m s)) x e)
+
+  no_host : (i : ℕ) → stands (is_host_of i) s.queues.high ≡ 0
+  no_host i = go (get s.works i) refl
+    where
+      go : (o : Option Work) → get s.works i ≡ o → stands (is_host_of i) s.queues.high ≡ 0
+      go None e = ((sits.order Unscripted).works.gone i e).1
+      go (Some w) e = let h : WorkEntries s i w = (sits.order Unscripted).works.each i w e in h.host ∙ ap one_if (sits.lacks.works i w e).1
+
+  first_host : (m : Mark) (i : ℕ) → First m (entry.Host i) s → ⊥
+  first_host mark.Switch i f = absurd (let e = f.1.1 in cc)
+  first_host mark.High i f = absurd (let a = sym (ap (stands (is_host_of i)) f) ∙ no_host i in let one = ap one_if (eq_refl i) in omega (arith, a, one))
+  first_host mark.Low i f = absurd (let a = sym (ap (stands (is_host_of i)) f) ∙ ((sits.order Unscripted).works.low i).1 in let one = ap one_if (eq_refl i) in omega (arith, a, one))
+
+  -- the next entry isn't that of an ended host work
+  pub no_host_next : (m : Mark) (i : ℕ) → next_entry s ≡ Some (m, entry.Host i) → ⊥
+  no_host_next m i e = first_host m i (next_first s m (entry.Host i) e)

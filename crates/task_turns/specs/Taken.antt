@@ -25,13 +25,3 @@ pub record Taken (m : Mark) (n : ℕ) (s : Core) : Type 0 where
 pub record FindsSet (n : ℕ) (s : Core) : Type 0 where
   pub there : (x : ℕ) → delivered_set (why_of n s) ≡ Some x → is_some (get s.sets x) ≡ true
   pub members : (x : ℕ) → delivered_set (why_of n s) ≡ Some x → MembersNamed (instance_of n s) x s
-
-abbrev pub IsTakeableAt : Mark → Entry → Core → Type 0
-IsTakeableAt m (entry.Thread n) s = FindsSet n (popped m s)
-IsTakeableAt m (entry.Push i) s = Unit {0}
-IsTakeableAt m (entry.Host i) s = ⊥
-
--- what the taking of an entry needs beside order: of a delivery that it finds its set. The entries of ended host works aren't taken yet
-abbrev pub IsTakeable : Option (Mark × Entry) → Core → Type 0
-IsTakeable None s = Unit {0}
-IsTakeable (Some e) s = IsTakeableAt e.0 e.1 s

@@ -1,5 +1,6 @@
 -- What a turn of the loop makes.
 use Rattle.std.specs.Prelude.{◌≡◌, ◌<◌, ◌≤◌, ◌+◌, List, ℕ, Bool, true, false, Option, Some, None, is_none, option_map}
+use Rattle.task_laws.specs.Lacks.{LacksOps, LacksSets}
 use Rattle.task_laws.specs.Order.{InOrder}
 use Rattle.task_machine.specs.Core.{Core, Main, One, State}
 use Rattle.task_machine.specs.Read.{next_entry}
@@ -25,9 +26,12 @@ use Rattle.task_words.specs.StateView.{StateView, thread_of}
 abbrev pub state_at : Core → Main → Turn → State
 state_at s m p = record { version = One; core = s; main = m; turn = p }
 
--- the core is in order at this turn, whatever main's part is
-abbrev pub Sits : Component → Turn → Core → Type 0
-Sits c p s = (m : Main) → InOrder c (state_at s m p)
+-- The core is in order at this turn, whatever main's part is. No op of the component makes a set or calls a host asynchronously, and the
+-- core has no set and no such call.
+pub record Sits (c : Component) (p : Turn) (s : Core) : Type 0 where
+  pub order : (m : Main) → InOrder c (state_at s m p)
+  pub ops : LacksOps c
+  pub lacks : LacksSets s
 
 -- the number of the thread that runs
 abbrev pub running_of : StateView → Option ℕ

@@ -10,7 +10,7 @@ ghost use Rattle.task_ops.specs.Came.{Meets};
 ghost use Rattle.task_ops.specs.Stays.{StaysAfter};
 ghost use Rattle.task_ops.specs.Steps.{label_of};
 ghost use Rattle.task_rules.specs.Takes.{delivery_row, popped, thread_taken};
-ghost use Rattle.task_turns.specs.Taken.{FindsSet, IsTakeable, Taken};
+ghost use Rattle.task_turns.specs.Taken.{FindsSet, Taken};
 ghost use Rattle.task_turns.specs.Turn.{IsFree, Makes, Shows, Sits, Took};
 ghost use Rattle.task_words.specs.StateView.{thread_of, work_of};
 
@@ -109,7 +109,6 @@ pub fn step_take<W: Words>(
 ) -> Result<Option<Made>, NoMemory>
     requires order { Sits component.now (Turn.Take ended) (W.view w.old).core }
     requires current { (W.view w.old).current ≡ None }
-    requires takeable { IsTakeable (next_entry (W.view w.old).core) (W.view w.old).core }
     ensures { IfOk result (λ made. Took component.now ended (W.view w.old) made (W.view w.new)) }
 {
     match w.next_entry() {

@@ -8,7 +8,6 @@ ghost use Rattle.task_rules.specs.Places.{Placed};
 ghost use Rattle.task_rules.specs.Stalled.{Setting, is_unended_take};
 ghost use Rattle.task_turns.specs.Covered.{IsCovered};
 ghost use Rattle.task_turns.specs.Drive.{KeepsOn};
-ghost use Rattle.task_turns.specs.Taken.{IsTakeable};
 ghost use Rattle.task_turns.specs.Turn.{IsAtTurn, IsSettled, PendsIn, Sits, TurnedBeside, Turns, idle_line_of, running_of, runs_in, state_at};
 
 use crate::futures::step_poll;
@@ -63,7 +62,6 @@ pub fn take<W: Words>(
     trap_on_idle: bool,
 ) -> Result<Option<Made>, NoMemory>
     requires at { IsAtTurn component.now (Turn.Take ended) (W.view w.old) }
-    requires takeable { IsTakeable (next_entry (W.view w.old).core) (W.view w.old).core }
     ensures { IfOk result (λ made. TurnedBeside component.now trap_on_idle (Turn.Take ended) (W.view w.old) made (W.view w.new)) }
 {
     match step_take(component, w, ended)? {

@@ -13,7 +13,7 @@ use Rattle.task_words.specs.StateView.{StateView}
 pub rest-requires-clause-works : goal.rest-requires-clause-works
 rest-requires-clause-works g c =
     let took = subst (λ (o : Option Made). Took c.args.component.now c.args.ended (g.W.View.view c.args.w.now) o (g.W.View.view c.step_take.new.w)) c.in-None.is c.in_ok-made.ensures in
-    subst (λ (s : StateView). WorksQueued s.core) (sym took.1) (c.requires.at.order Unscripted).works
+    subst (λ (s : StateView). WorksQueued s.core) (sym took.1) (c.requires.at.order.order Unscripted).works
 
 pub returns-in-Some : goal.returns-in-Some
 returns-in-Some g c x component idle m pends =
