@@ -1,6 +1,6 @@
 -- Entries that are taken out, entries of works, and new threads, beside a busy thread.
 use Rattle.task_rules.proofs.Machine.{[], add_thread, ap, arith, Bool, Core, entries, Entry, false, get-insert, has_entry, HasPlace, if◌then◌else◌, is_behind_of, is_entry_of, is_fresh, le_refl, less, less_switch, List, Mark, nat_tests, next_entry, None, on_thread, one_if, Option, Place, place_of, popped, promoted, Queues, refl, remove_thread, rest_of, says, set_high, set_low, set_place, set_switch, Some, subst, switch_entries, sym, T, Thread, true, unqueued, Why, why_of, ℕ, ◌+◌, ◌==◌, ◌∙◌, ◌∷◌, ◌≡◌, ◌≤◌}
-use Rattle.task_rules.proofs.MoveLemmas.{removed_is, no_time, removed_gone, removed_loose, removed_placed, other_place}
+use Rattle.task_rules.proofs.MoveLemmas.{at_place, removed_is, no_time, removed_gone, removed_loose, removed_placed, other_place}
 use Rattle.task_rules.proofs.StandLemmas.{Drops, moves_stand, Loose, Stand, by_number, entries-append, entries-less, eq_refl, zero_one, Watch, Left, left_loose, left_placed}
 use Rattle.task_rules.proofs.StopLemmas.{switch_adds, Untouched, fresh_apart, so_again}
 
@@ -75,11 +75,7 @@ pub next_first : (s : Core) (x : Mark) (e : Entry) → next_entry s ≡ Some (x,
 unfolding next_entry
 next_first s Mark.High e h = grind arith
 next_first s Mark.Low e h = grind arith
-next_first s Mark.Switch e h = go s.queues.switch refl
-  where
-    go : (o : Option ℕ) → s.queues.switch ≡ o → (n : ℕ) × ((s.queues.switch ≡ Some n) × (e ≡ Entry.Thread n))
-    go (Some n) at = (n, (at, grind arith))
-    go None at = absurd (grind arith)
+next_first s Mark.Switch e h = let r = at_place (λ (n : ℕ). true) s.queues.switch (grind arith) in (r.0, (r.1.0, grind arith))
 
 -- the entry of a thread leaves its mark
 pub popped_cleared : (x : Mark) (m : ℕ) (s : Core) → First x (Entry.Thread m) s → HasPlace m s → Cleared m s (popped x s) × (1 ≤ switch_entries m s.queues.switch + entries m s.queues.high + entries m s.queues.low)

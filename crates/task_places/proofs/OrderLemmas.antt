@@ -52,11 +52,7 @@ op_there : (o : Option Thread) (x : ℕ) → set_of_op (option_map_or (λ (t : T
     is_some (option_map (λ (t : Thread). t.place) o) ≡ true
 op_there o x h = grind arith
 
--- a call that is there before and after is of one instance, and so is a thread
-same_call : (s t : Core) → Steady s t → Numbered s → (k : ℕ) → is_some (get s.calls k) ≡ true → is_some (get t.calls k) ≡ true →
-    call_instance k t ≡ call_instance k s
-same_call s t steady numbered k was now = grind (arith, steady.calls k, numbered.calls k)
-
+-- a call that is there before and after is of one export, and a thread of one instance
 same_callee : (s t : Core) → Steady s t → Numbered s → (k : ℕ) → is_some (get s.calls k) ≡ true → is_some (get t.calls k) ≡ true →
     callee_of k t ≡ callee_of k s
 same_callee s t steady numbered k was now = grind (arith, steady.calls k, numbered.calls k)
@@ -64,7 +60,7 @@ same_callee s t steady numbered k was now = grind (arith, steady.calls k, number
 same_instance : (s t : Core) → Steady s t → Numbered s → CallsThere s → CallsThere t → (n : ℕ) → is_there n s ≡ true → is_there n t ≡ true →
     instance_of n t ≡ instance_of n s
 same_instance s t steady numbered before after n was now =
-    let same = same_call s t steady numbered (task_of n s) in
+    let same = same_callee s t steady numbered (task_of n s) in
     grind (arith, steady.threads n, numbered.threads n, before n (task_of n s), after n (task_of n t))
 
 -- the instance of the call matters to a thread beside the first one
@@ -145,12 +141,6 @@ module _ (x : Setting) (s : State) (l : Label) (t : State) (h : InOrder x.compon
       let fresh = arrives.fresh k (was_awaited s.core t.core h.in_place.placed steady h.starts k c at e) in
       grind (arith, h.numbered.threads k, steady.calls k)
 
-  directs_run : DirectsRun a t.core
-  directs_run = along (DirectsRun a) (directs_word a) (λ k d. inl d) walk
-
-  pub directs_kept : Steady s.core t.core → Numbered t.core → DirectsOnTop t.core
-  directs_kept steady after = directs_on_top a s.core t.core steady h.numbered after arrives (λ k. refl) (λ k. refl) h.directs directs_run
-
   -- ---- Calls that ops are inside of
 
   unbegun_base : StartsFirst a.base
@@ -172,21 +162,23 @@ module _ (x : Setting) (s : State) (l : Label) (t : State) (h : InOrder x.compon
   least : (m k : ℕ) → cancelled_call (how_far_of m a.base) ≡ Some k → k ≤ a.base.made.threads
   least m k e = (known.by_op m k (grind arith)).number
 
-  -- what handles and ops name, and the calls that ops are inside of
-  called : NamesGo a t.core × CallsInside a t.core
+  -- what handles and ops name, and the calls that are direct or that ops are inside of
+  called : DirectsRun a t.core × (NamesGo a t.core × CallsInside a t.core)
   called =
-      let q = along (λ u. DirectsRun a u × (NamesGo a u × CallsInside a u)) (λ v u ok q.
+      along (λ u. DirectsRun a u × (NamesGo a u × CallsInside a u)) (λ v u ok q.
       let names = names_go_word a names_base inside_there v u ok q.1.0 in (
         directs_word a v u ok q.0,
         (names, inside_word a names_base calls_base unbegun_base numbered_base least v u ok q.1.0 names q.0 q.1.1),
       ))
-      (λ k d. inl d, (record { known = h.names; were = λ n k far. inl far }, record { inside = λ n k far. ⊎_elim inl (λ w. inr (inl w)) (h.calls.inside n k far); cancelled = λ m k e. inl e })) walk in
-      q.1
+      (λ k d. inl d, (record { known = h.names; were = λ n k far. inl far }, record { inside = λ n k far. ⊎_elim inl (λ w. inr (inl w)) (h.calls.inside n k far); cancelled = λ m k e. inl e })) walk
+
+  pub directs_kept : Steady s.core t.core → Numbered t.core → DirectsOnTop t.core
+  directs_kept steady after = directs_on_top a s.core t.core steady h.numbered after arrives (λ k. refl) (λ k. refl) h.directs called.0
 
   pub awaited_kept : CallsAwaited t.core
   awaited_kept = record {
-    inside = λ n k far. inside n k far (called.1.inside n k far);
-    apart = apart_after a names_base calls_base unbegun_base numbered_base least t.core called.0 called.1;
+    inside = λ n k far. inside n k far (called.1.1.inside n k far);
+    apart = apart_after a names_base calls_base unbegun_base numbered_base least t.core called.1.0 called.1.1;
   }
     where
       back : (n k : ℕ) → place_of n s.core ≡ Some (Place.Under k) → a.next ≡ Turn.Run n → subtask_under_way (how_far_of n t.core) ≡ None
@@ -252,7 +244,7 @@ module _ (x : Setting) (s : State) (l : Label) (t : State) (h : InOrder x.compon
       let f = last.0 n r at in
       record {
         script = same_script x.component (call_instance r.call t.core) (call_instance r.call s.core) r.explicit r.script
-            (λ e. same_call s.core t.core steady h.numbered r.call (f.call e) now) f.script;
+            (λ e. ap (λ c. c.instance) (same (f.call e))) f.script;
         position = ⊎_elim (λ zero. omega (arith, zero))
             (λ b. subst (λ e. r.position ≤ length (script_in x.component e r.script)) (sym (same b.0)) b.1) f.position;
         op = ⊎_elim (λ fresh. ap (can_come (op_of_thread x.component t.core r)) fresh) (λ e. at_op (λ o. can_come o r.how_far) e) f.op;
@@ -317,7 +309,7 @@ step_in_order x s l t h step =
       numbered = q.numbered;
       calls_there = calls_kept x s l t h w;
       calls_named = named_kept x s l t h w;
-      names = (called x s l t h w).0.known;
+      names = (called x s l t h w).1.0.known;
       calls = awaited_kept x s l t h w;
       waits = waits_kept x s l t h w (steady x s l t step);
       sets_named = (joined_kept x s l t h w).0;
