@@ -102,11 +102,8 @@ module _ (x : Setting) (s : State) (l : Label) (next : Turn) (h : InPlace s) (C 
   abbrev at : Turn → Core → Option ℕ → Scene
   at u base o = record { setting = x; main = s.main; turn = u; base = base; runner = o; label = l; next = next }
 
-  not_running : (u : Turn) → is_run u ≡ false → (m : ℕ) → u ≡ Turn.Run m → ⊥
-  not_running u idle m e = subst T (sym (sym idle ∙ ap is_run e)) tt
-
   nobody : (u : Turn) (base : Core) {t : Core} → is_run u ≡ false → Reads s.core base → Trip (at u base None) s.core t → LastWords (at u base None) t → C (at u base None) t
-  nobody u base idle reads c w = goes (at u base None) s.core _ _ _ reads (refl, (refl, refl)) (record { high = refl; low = refl }) (nobody_frame (at u base None) s.core refl (not_running u idle) (λ k. ap (λ m. option_map (λ (r : Thread). r.place) (get m k)) (sym reads.0)) (ap (λ (m : Made). m.threads) (sym reads.1.1)) h.placed) c w
+  nobody u base idle reads c w = goes (at u base None) s.core _ _ _ reads (refl, (refl, refl)) (record { high = refl; low = refl }) (nobody_frame (at u base None) s.core refl (λ m e. absurd (grind arith)) (λ k. ap (λ m. option_map (λ (r : Thread). r.place) (get m k)) (sym reads.0)) (ap (λ (m : Made). m.threads) (sym reads.1.1)) h.placed) c w
 
   by_entry : (ended : Bool) (o : Option (Mark × Entry)) {t : Core} → next_entry s.core ≡ o → Withdrawable (at (Turn.Take ended) (base_without o s.core) (thread_of_entry o)) → Trip (at (Turn.Take ended) (base_without o s.core) (thread_of_entry o)) (start_of (at (Turn.Take ended) (base_without o s.core) (thread_of_entry o)) s.core) t → LastWords (at (Turn.Take ended) (base_without o s.core) (thread_of_entry o)) t → C (at (Turn.Take ended) (base_without o s.core) (thread_of_entry o)) t
   by_entry ended None e may c w = nobody (Turn.Take ended) s.core refl (refl, (refl, refl)) c w
@@ -115,7 +112,7 @@ module _ (x : Setting) (s : State) (l : Label) (next : Turn) (h : InPlace s) (C 
       let took = popped_cleared y n s.core (next_first s.core y (Entry.Thread n) e) (h.placed n) in
       let reads = popped_reads y s.core in
       goes a (popped y s.core) _ _ _ reads reads (placing_works (at (Turn.Take ended) s.core (Some n)) (Pop y) s.core (inr (n, (refl, e))))
-      (taken_frame a n s.core refl (not_running (Turn.Take ended) refl) refl took.0 (entry_ready n s.core (h.placed n) took.1) reads.1.1 may h.placed).1 c w
+      (taken_frame a n s.core refl (λ m e. absurd (cc)) refl took.0 (entry_ready n s.core (h.placed n) took.1) reads.1.1 may h.placed).1 c w
   by_entry ended (Some (y, d)) e may c w = nobody (Turn.Take ended) (popped y s.core) refl (popped_reads y s.core) c w
 
   by_turn : (u : Turn) {t : Core} → s.turn ≡ u → Withdrawable (at u (base_at u s.core) (runner_at u s.core)) → Trip (at u (base_at u s.core) (runner_at u s.core)) (start_of (at u (base_at u s.core) (runner_at u s.core)) s.core) t → LastWords (at u (base_at u s.core) (runner_at u s.core)) t → C (at u (base_at u s.core) (runner_at u s.core)) t

@@ -146,11 +146,13 @@ Runs n s = Stand nobody n (Some Place.Running) [] s
 runs : (n : ℕ) (s : Core) → place_of n s ≡ Some Place.Running → All s → Runs n s
 runs n s is all = stand_of n (Some Place.Running) s is refl (λ k h. absurd (grind arith)) all
 
-put_keeps : (n m : ℕ) (w : Why) (p : Place) (s : Core) → place_of m s ≡ Some p → is_parked p ≡ true → Runs n s → Runs n (put_high m w s)
-put_keeps n m w p s is parked st = put_stand n (Some Place.Running) refl Mark.High m w p s is parked (λ h. absurd (grind arith)) st
+put_keeps : (n m : ℕ) (w : Why) (s : Core) → option_map_or is_parked (place_of m s) false ≡ true → Runs n s → Runs n (put_high m w s)
+put_keeps n m w s parked st =
+    let p = at_place is_parked (place_of m s) parked in
+    put_stand n (Some Place.Running) refl Mark.High m w p.0 s p.1.0 p.1.1 (λ h. absurd (grind arith)) st
 
 release_one : (n m : ℕ) (o : Option Place) (s : Core) → place_of m s ≡ o → Runs n s → Runs n (released_one m (option_and_then held_why o) s)
-release_one n m (Some (Place.Held w)) s is st = put_keeps n m w (Place.Held w) s is refl st
+release_one n m (Some (Place.Held w)) s is st = put_keeps n m w s (grind arith) st
 release_one n m _ s is st = st
 
 release_stand : (n : ℕ) (ns : List ℕ) (s : Core) → Runs n s → Runs n (released ns s)
@@ -163,12 +165,12 @@ unfolding wake may_wake
 wake_stand n x None s h st = st
 wake_stand n x (Some m) s h st = by_callback (is_callback_waiter m s)
   where
-    waits : is_waiter x m s ≡ true → option_map_or is_parked (place_of m s) false ≡ true
-    waits h = grind arith
+    waits : option_map_or is_parked (place_of m s) false ≡ true
+    waits = grind arith
 
     by_callback : (b : Bool) → Runs n (waken_by b x m s)
-    by_callback true = let p = at_place is_parked (place_of m s) (waits h) in put_keeps n m (Why.Delivery (Delivery.Set x)) p.0 s p.1.0 p.1.1 st
-    by_callback false = let p = at_place is_parked (place_of m s) (waits h) in put_keeps n m Why.Resumption p.0 s p.1.0 p.1.1 st
+    by_callback true = put_keeps n m (Why.Delivery (Delivery.Set x)) s waits st
+    by_callback false = put_keeps n m Why.Resumption s waits st
 
 pub stop_keeps_places : StopKeepsPlaces
 unfolding StopKeepsPlaces
