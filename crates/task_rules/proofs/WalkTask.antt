@@ -19,8 +19,7 @@ is_exit_op _ = false
 
 in_script : (ops : List Op) (p : ℕ) → is_exit_op (unwrap_or (slice_get ops p) (Op.Task TaskOp.Exit)) ≡ false → p + 1 ≤ length ops
 in_script [] p other = absurd (grind arith)
-in_script (o ∷ ops) zero other = grind arith
-in_script (o ∷ ops) (suc p) other = let rest = in_script ops p other in omega (arith, rest)
+in_script (o ∷ ops) p other = grind (arith, in_script ops)
 
 pub op_stands : (c : Component) (n : ℕ) (s : Core) → is_exit_op (op_of c n s) ≡ false → position_of n s + 1 ≤ length (script_of c n s)
 unfolding op_of
@@ -106,9 +105,6 @@ unnot c h = grind arith
 pub moved_passes : (test : Place → Bool) (p : Place) → test p ≡ true → (m : ℕ) (t : Core) → option_map_or test (place_of m (set_place m p t)) true ≡ true
 unfolding set_place on_thread
 moved_passes test p passes m t = grind (arith, nat_tests, get-change)
-
-pub running_moved : (m : ℕ) (t : Core) → option_map_or is_running (place_of m (set_place m Place.Running t)) true ≡ true
-running_moved m t = moved_passes is_running Place.Running refl m t
 
 reopened_shifted : (i : ℕ) (order : List ℕ) (s : Core) → Shifted (set_do_not_enter i false s) (end_reopens i order s)
 unfolding end_reopens
