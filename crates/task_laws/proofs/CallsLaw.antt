@@ -1,5 +1,5 @@
 -- Calls along the words of a step: a status only rises, an end stays, numbers name what they named, deliveries are for callbacks.
-use Rattle.task_rules.proofs.Machine.{arith, Bool, Call, Callee, CallEnd, Component, component_of, Core, ends_activation, EndsActivation, export_kind, false, get, goal_of, has_ended, is_async_lifted, is_callback, is_direct, is_exit, is_explicit, is_none, is_some, IsRunner, Join, kind_of, LaterBy, MayEnd, MayMove, None, Op, op_of, Option, option_map_or, Place, place_of, SameThread, Scene, Script, script_in, script_of, slice_get, Some, task_of, TaskOp, true, unwrap_or, WasReady, Why, Word, ℕ, ⊎_elim, ◌≡◌, ◌≤◌, ◌⊎◌}
+use Rattle.task_rules.proofs.Machine.{arith, Bool, Call, Callee, CallEnd, Component, component_of, Core, ends_activation, EndsActivation, export_kind, false, get, goal_of, has_ended, is_async_lifted, is_callback, is_direct, is_exit, is_explicit, is_none, is_some, IsRunner, Join, kind_of, LaterBy, MayEnd, MayMove, None, Op, op_of, Option, option_map_or, OwnEvent, Place, place_of, SameThread, Scene, Script, script_in, script_of, slice_get, Some, task_of, TaskOp, true, unwrap_or, WasReady, Why, Word, ℕ, ⊎_elim, ◌≡◌, ◌≤◌, ◌⊎◌}
 use Rattle.task_laws.proofs.CallsCame.{Grew, Grows}
 use Rattle.task_laws.proofs.CameLemmas.{Came, Comes, Moved, Shifts, Turned, Turns, MayStand}
 use Rattle.task_laws.specs.Order.{CallKinds, DeliveredByCallback, Numbered, is_delivered, is_delivery}
@@ -89,8 +89,8 @@ shifted_delivers may o p came d = grind arith
 pub turned_silent : {a : Scene} {s t : Core} {n : ℕ} {o p : Option Place} → Turned a s t n o p → delivered_in p ≡ true → ⊥
 turned_silent x d = grind arith
 
-module _ {starts delivers : Type 0} {ends : CallEnd → Type 0} {joins : Join → Type 0} {c d : Call}
-    (g : Grew starts delivers ends joins c d) where
+module _ {starts delivers : Type 0} {ends : CallEnd → Type 0} {joins : Join → Type 0} {owes : Option OwnEvent → Type 0} {names : Type 0} {c d : Call}
+    (g : Grew starts delivers ends joins owes names c d) where
   grew_goes : ((e : CallEnd) → ends e → (is_some c.«end» ≡ false) × (e ≡ CallEnd.StartCancelled → c.started ≡ false)) → Goes c d
   grew_goes first = grind arith
 

@@ -241,10 +241,6 @@ pub call_settles : (k : ℕ) (s : Core) → (is_deletable k s ≡ true → has_e
 unfolding call_settled
 call_settles k s over = chain_if (is_deletable k s) (group_settled (call_group k s) (remove_call k s)) s (λ e. join (Then s (RemoveCall k) NoWord (e, over e)) (group_settles (call_group k s) (remove_call k s))) (λ e. NoWord)
 
-interest_settles : (k : ℕ) (s : Core) → Settles s (interest_settled k s)
-unfolding interest_settled
-interest_settles k s = chain_if (option_map_or is_finished (get s.calls k) false) (set_uninteresting k s) s (λ e. Then s (SetUninteresting k) NoWord tt) (λ e. NoWord)
-
 -- what is left of the call once the thread is gone
 left_call : (n k : ℕ) (s : Core) → (is_some (get (interest_settled k (departed n s)).calls k) ≡ is_some (get s.calls k)) ×
     ((end_of k (interest_settled k (departed n s)) ≡ end_of k s) × ((interest_settled k (departed n s)).threads ≡ remove s.threads n))
@@ -282,14 +278,14 @@ module _ {a : Scene} {b : Core} where
   exited_if_walks false k c = word (SetExited k) tt c
 
   pub ended_walks : (n : ℕ) {s : Core} → LastEnds n s → Keep a b s → Left a b n (ended n s)
-  unfolding ended
+  unfolding ended interest_settled
   ended_walks n {s = s} last c =
       let f = freed_thread_handle (instance_of n s) (thread_handle_of n s) (exited_if (is_explicit n s) (task_of n s) s) in
       let r = remove_thread n f in
       record {
         before = f;
         stays = freed_thread_handle_walks (instance_of n s) (thread_handle_of n s) (exited_if_walks (is_explicit n s) (task_of n s) c);
-        settles = join (interest_settles (task_of n s) r) (call_settles (task_of n s) (interest_settled (task_of n s) r) (λ gone. departed_over n s last gone));
+        settles = join (chain_if (option_map_or is_finished (get r.calls (task_of n s)) false) (set_uninteresting (task_of n s) r) r (λ e. Then r (SetUninteresting (task_of n s)) NoWord tt) (λ e. NoWord)) (call_settles (task_of n s) (interest_settled (task_of n s) r) (λ gone. departed_over n s last gone));
       }
 
   pub exits_trip : (n : ℕ) {t : Core} → Leaves a n → Left a b n t → Trip a b t

@@ -1,9 +1,9 @@
 -- The rows of the ops on sets, subtasks and threads as chains of words.
-use Rattle.task_rules.proofs.Machine.{[], aborted_phase, AbortsOwn, add_work, advanced, after_word, AlreadyEnded, and_parts, answered, Answers, ap, arith, assigned, Async, at_handle_limit, AtOnce, blocked_code, Bool, ByHandle, ByOp, BySetHandle, ByThread, ByWait, call_answered, call_begins, call_host_polled, call_instance, call_of_op, call_pending, call_queues, call_resumes, call_returned, call_row, call_settled, call_status, call_sync_begins, call_sync_host_polled, call_sync_host_row, call_sync_host_stops, call_sync_row, call_sync_status, call_sync_stops, CallbackWaits, CallbackYields, Callee, callee_of_op, CallEnd, Caller, caller_of, CallLabel, CallOp, cancel_aborts_host, cancel_asks, cancel_by_end, cancel_case, cancel_ended_row, cancel_guest, cancel_label, cancel_promotes_yield, cancel_resumed, cancel_row, cancel_stops, cancel_subtask, cancel_takes_end, cancel_target, cancel_wakes_callback, cancel_withdraws, CancelCase, cancelled_of_op, Cancels, checked, Choice, chosen, CloseSet, Core, count_work, CountWork, Delivery, dropped, end_for, ended, EndsSubtask, EndWords, enter_row, enter_runs, event_of, export_kind, Failing, false, finds_nothing, first_poll, FirstPoll, fits, free_handle, get, get-change, get-insert_same, get-remove, Gift, gift, give_handle, Goal, Goes, group_settled, handed_by, handed_by_cancel, handed_by_event, handed_on, handed_out, HandsAtOnce, HandsOut, has_ended, has_member, has_waiters, HasSubtask, host_answered, host_at, host_end, host_pending, host_ready, HostDef, how_far_of, HowFar, inl, inr, instance_of, is_async_lifted, is_async_work, is_callback_yield, is_cancel, is_direct, is_for_main, is_joined, is_ready_to_resume, is_script, is_some, is_sync_call, is_sync_cancel, is_sync_host_call, is_thread_op, is_wait, is_waiting_on, is_watched, is_yielded, IsNamed, IsNew, IsReadyAtOnce, Join, join_done, join_label, join_of, join_to, joined, joins, Label, Later, Leaves, List, Made, Main, MakeThread, Mark, may, may_hand_on, may_wake_new, MayCancel, MayJoin, MayMakeCall, MemberGift, Mode, Move, moved_to, NameCall, NameThread, NameWork, nat_tests, new_handle, new_thread, new_thread_handle, new_work, next_thread, next_work, NoGift, None, not, NoWord, on_call, on_instance, on_thread, on_work, Op, op_in, op_of, OpenSet, Option, option_map, option_map_or, OtherwiseRuns, OwnEvent, OwnGift, packed, passes_check, pauses, phase_of, Place, place_of, Progress, promoted_unless, push_high, Put, put_back, put_switch, QueueWork, received, received_woken, Records, refl, registers_for, registers_of, remove_group, remove_thread, remove_work, result_of, Resumes, returned_of_op, saved_callee_of, says, Scene, Script, set_at, set_cancelled, set_do_not_suspend, set_dropped, set_end, set_event, set_given, set_how_far, set_join, set_made, set_own_event, set_phase, set_position, set_register, set_result, set_row, set_saved_callee, set_subtask_handle, SetCancelled, SetExited, SetLabel, SetOp, SetOwnEvent, SetPhase, SetRegister, SetResult, SetSavedCallee, Setting, SetUninteresting, Shifts, Slot, slot_at, Some, StartNotRun, Status, status_code, status_found, Stay, Stops, subst, Subtask, subtask_at, subtask_ended, subtask_handle, subtask_instance, subtask_row, subtask_under_way, suc, Suspends, suspends, sym, Sync, T, TakesEvent, task_of, Then, Thread, thread_at, thread_group, thread_handle_of, ThreadLabel, ThreadOp, Trap, trap_if, Trip, true, Turn, undelivered_end, UnnameCall, UnnameWork, unwrap_or, value_of, values_in, wait_begins, wait_goes_on, wait_label, wait_row, wait_stops, wait_stops_checked, wakes_joined, Walk, was_cancelled, was_started, Why, with_handle, Withdraw, withdrawn, Work, work_answered, work_caller_of, work_deleted, work_queued, work_value, WorkCaller, Writes, WritesAtOnce, WritesCall, WritesNever, WritesToo, written_by, written_by_cancel, Yields, yields, zero, ℕ, ◌+◌, ◌==◌, ◌∙◌, ◌∷◌, ◌≡◌, ◌⊎◌}
+use Rattle.task_rules.proofs.Machine.{[], aborted_phase, AbortsOwn, add_work, advanced, after_word, AlreadyEnded, and_parts, answered, Answers, ap, arith, assigned, Async, at_handle_limit, AtOnce, blocked_code, Bool, ByHandle, ByOp, BySetHandle, ByThread, ByWait, call_answered, call_begins, call_host_polled, call_instance, call_of_op, call_pending, call_queues, call_resumes, call_returned, call_row, call_settled, call_status, call_sync_begins, call_sync_host_polled, call_sync_host_row, call_sync_host_stops, call_sync_row, call_sync_status, call_sync_stops, CallbackWaits, CallbackYields, Callee, callee_of_op, CallEnd, Caller, caller_of, CallLabel, CallOp, cancel_aborts_host, cancel_asks, cancel_by_end, cancel_case, cancel_ended_row, cancel_guest, cancel_label, cancel_promotes_yield, cancel_resumed, cancel_row, cancel_stops, cancel_subtask, cancel_takes_end, cancel_target, cancel_wakes_callback, cancel_withdraws, CancelCase, cancelled_of_op, Cancels, checked, Choice, chosen, CloseSet, Core, count_work, CountWork, Delivery, dropped, end_for, ended, EndsSubtask, EndWords, enter_runs, event_of, export_kind, Failing, false, finds_nothing, first_poll, FirstPoll, fits, free_handle, get, get-change, get-insert_same, get-remove, Gift, gift, give_handle, Goal, Goes, group_settled, handed_by, handed_by_cancel, handed_by_event, handed_on, handed_out, HandsAtOnce, HandsOut, has_ended, has_member, has_waiters, HasSubtask, host_answered, host_at, host_end, host_pending, host_ready, HostDef, how_far_of, HowFar, inl, inr, instance_of, is_async_lifted, is_async_work, is_callback_yield, is_cancel, is_direct, is_for_main, is_joined, is_ready_to_resume, is_script, is_some, is_sync_call, is_sync_cancel, is_sync_host_call, is_thread_op, is_wait, is_waiting_on, is_watched, is_yielded, IsNamed, IsNew, IsReadyAtOnce, Join, join_done, join_label, join_of, join_to, joined, joins, Label, Later, Leaves, List, Made, Main, MakeThread, Mark, may, may_hand_on, may_wake_new, MayCancel, MayJoin, MayMakeCall, MemberGift, Mode, Move, moved_to, NameCall, NameThread, NameWork, nat_tests, new_handle, new_thread, new_thread_handle, new_work, next_thread, next_work, NoGift, None, not, NoWord, on_call, on_instance, on_thread, on_work, Op, op_in, op_of, OpenSet, Option, option_map, option_map_or, OtherwiseRuns, OwnEvent, OwnGift, packed, passes_check, pauses, phase_of, Place, place_of, Progress, promoted_unless, push_high, Put, put_back, put_switch, QueueWork, received, received_woken, Records, refl, registers_for, registers_of, remove_group, remove_thread, remove_work, result_of, Resumes, returned_of_op, saved_callee_of, says, Scene, Script, set_at, set_cancelled, set_do_not_suspend, set_dropped, set_end, set_event, set_given, set_how_far, set_join, set_made, set_own_event, set_phase, set_position, set_register, set_result, set_row, set_saved_callee, set_subtask_handle, SetCancelled, SetExited, SetLabel, SetOp, SetOwnEvent, SetPhase, SetRegister, SetResult, SetSavedCallee, Setting, SetUninteresting, Shifts, Slot, slot_at, Some, StartNotRun, Status, status_code, status_found, Stay, Stops, subst, Subtask, subtask_at, subtask_ended, subtask_handle, subtask_instance, subtask_row, subtask_under_way, suc, Suspends, suspends, sym, Sync, T, TakesEvent, task_of, Then, Thread, thread_at, thread_group, thread_handle_of, ThreadLabel, ThreadOp, Trap, trap_if, Trip, true, Turn, undelivered_end, UnnameCall, UnnameWork, unwrap_or, value_of, values_in, wait_begins, wait_goes_on, wait_label, wait_row, wait_stops, wait_stops_checked, wakes_joined, Walk, was_cancelled, was_started, Why, with_handle, Withdraw, withdrawn, Work, work_answered, work_caller_of, work_deleted, work_queued, work_value, WorkCaller, Writes, WritesAtOnce, WritesCall, WritesNever, WritesToo, written_by, written_by_cancel, Yields, yields, zero, ℕ, ◌+◌, ◌==◌, ◌∙◌, ◌∷◌, ◌≡◌, ◌⊎◌}
 use Rattle.task_rules.specs.Threads.{by_how_far, Halt, halt_row, halted, halted_checked, halted_promoting, halted_resuming, halting, halts, has_yielded, resume_why, resumed_later, Suspension, then_promote, then_promote_row, then_resume_row, thread_made, thread_new_row, thread_row, Yielding}
 use Rattle.task_rules.proofs.ChainLemmas.{Going, join, stay_walk, Keep, keep_stay}
 use Rattle.task_rules.proofs.WalkMoves.{keep_still, MayTake, checked_shifts, chosen_of, handed_on_shifts, shifted, wake_shifts, word, lands_at, promoted_walks, call_done_walks, settled, call_settles}
-use Rattle.task_rules.proofs.WalkParts.{AtOps, call_queues_walks, call_resumes_walks, call_stops_walks, cancel_goes_behind_walks, cancel_plain, cancel_stops_walks, checked_walks, enter_gives, enter_runs_walks, gift_is, join_walks, put_back_walks, received_walks, stopped_walks, wait_stops_walks, withdrawn_walks, work_deleted_walks, withdraws, answered_first, answered_settled, call_answers_walks, answered_fresh, assigned_fresh, event_taken_walks}
+use Rattle.task_rules.proofs.WalkParts.{AtOps, call_queues_walks, call_resumes_walks, call_stops_walks, cancel_goes_behind_walks, cancel_stops_walks, checked_walks, enter_gives, enter_runs_walks, gift_is, join_walks, put_back_walks, received_walks, stopped_walks, wait_stops_walks, withdrawn_walks, work_deleted_walks, withdraws, answered_first, answered_settled, call_answers_walks, answered_fresh, assigned_fresh, event_taken_walks}
 use Rattle.task_rules.proofs.MuteLemmas.{mute_words, none_said, says_by, hands_by}
 use Rattle.task_rules.proofs.SayLemmas.{cancel_hands_of, cancel_writes_of, HasNoEnd, said_is, given_out, settled_gone, event_gone, result_gone}
 use Rattle.task_rules.proofs.PlacingLemmas.{Shifted, placed, shifted_far, shifted_made, shifted_task, shifts_shifted}
@@ -190,27 +190,15 @@ module _ (x : Setting) (main : Main) (s : Core) (n : ℕ) (l : Label) (next : Tu
   call_row_leads r q e words (HowFar.Calls (Subtask.Guest k)) callee far = call_status_leads r k (status_found k s) far refl
   call_row_leads r q e words _ callee far = call_begins_leads e (Goal.Register q) words callee refl refl
 
-  call_sync_pauses : (k : ℕ) → (event_of (Subtask.Guest k) s ≡ Some Status.Returned → ⊥) → is_some (callee_of_op (op_in a n)) ≡ true → how_far_of n s ≡ HowFar.Calls (Subtask.Guest k) → Leads a s (trap_if (not (passes_check (instance_of n s) (call_resumes n k s))) Trap.CannotBlockSyncTask (Stops (Label.Thread (ThreadLabel.Pauses n)) (call_sync_stops n k s)))
-  unfolding call_sync_stops
-  call_sync_pauses k unreturned can far =
-      trap_if_leads a s (not (passes_check (instance_of n s) (call_resumes n k s))) Trap.CannotBlockSyncTask _ (λ f.
-      stop _ (call_sync_stops n k s) refl (λ leave. call_stops_walks n refl at_ops (Subtask.Guest k) (checked (instance_of n s) (call_resumes n k s)) can leave (λ u d. inl (ByOp (ap (λ h. subtask_under_way h) far))) (λ u d at. (refl, inl (far, resumed_far n k s u d ∙ far))) (checked_walks n refl (instance_of n s) (call_resumes_walks n refl k far unreturned NoWord))))
-
   call_sync_status_leads : (r k : ℕ) (e : Status) → is_some (callee_of_op (op_in a n)) ≡ true → how_far_of n s ≡ HowFar.Calls (Subtask.Guest k) → status_found k s ≡ e → Leads a s (call_sync_status n r k s e)
-  unfolding call_answered set_result on_call answered assigned advanced moved_to set_how_far set_position on_thread set_register set_saved_callee call_resumes
+  unfolding call_answered set_result on_call answered assigned advanced moved_to set_how_far set_position on_thread set_register set_saved_callee call_resumes call_sync_stops
   call_sync_status_leads r k Status.Returned can far found =
       told (Label.Call (CallLabel.CallSync n (result_of k s))) (call_answered n r k s) refl
       (λ is. hands_by a _ is refl (returned_out k (call_answered n r k s) far found (settled_gone k (set_result k None (call_resumes n k s)) (call_answered n r k s) refl (result_gone k (put_back (saved_callee_of n s) (call_instance k s) s)))))
       (λ is to. done_walks r (result_of k s) k (set_result k None (call_resumes n k s)) far (Then _ (SetResult k None) (call_answers_walks n refl on r (result_of k s) k far NoWord to) tt))
-  call_sync_status_leads r k e can far found = call_sync_pauses k (λ h. absurd (grind arith)) can far
-
-  enter_row_leads : (e : Callee) (words : List ℕ) → is_sync_call (op_in a n) ≡ true → callee_of_op (op_in a n) ≡ Some e → is_async_lifted (export_kind x.component e) ≡ false → Leads a s (enter_row n e (export_kind x.component e) words s)
-  enter_row_leads e words sync callee lifted =
-      trap_if_leads a s (not (fits 3 s)) Trap.TableFull _ (λ f.
-      trap_if_leads a s (at_handle_limit s) Trap.HandleLimit _ (λ g.
-      goes_over x main s n l next (Label.Call (CallLabel.Enters n (next_thread s))) (next_thread s) (enter_runs n e (export_kind x.component e) words s) refl (by_number (next_thread s) n _ (λ h. inl (ap (λ (i : ℕ). Turn.Run i) (sym h))) (λ h. inr (enter_gives n e (export_kind x.component e) words s h)))
-      (λ is. mute_words a _ is refl)
-      (λ is to. (enter_runs_walks n refl sync (calls callee) e (export_kind x.component e) words refl to (makes_call e Goal.Direct callee (λ d. (lifted, to)) refl), λ h. no_direct h))))
+  call_sync_status_leads r k e can far found =
+      trap_if_leads a s (not (passes_check (instance_of n s) (call_resumes n k s))) Trap.CannotBlockSyncTask _ (λ f.
+      stop _ (call_sync_stops n k s) refl (λ leave. call_stops_walks n refl at_ops (Subtask.Guest k) (checked (instance_of n s) (call_resumes n k s)) can leave (λ u d. inl (ByOp (ap (λ h. subtask_under_way h) far))) (λ u d at. (refl, inl (far, resumed_far n k s u d ∙ far))) (checked_walks n refl (instance_of n s) (call_resumes_walks n refl k far (λ h. absurd (grind arith)) NoWord))))
 
   call_sync_row_leads : (r : ℕ) (e : Callee) (words : List ℕ) (f : HowFar) → is_sync_call (op_in a n) ≡ true → callee_of_op (op_in a n) ≡ Some e → how_far_of n s ≡ f → Leads a s (call_sync_row x.component n r e words s f)
   call_sync_row_leads r e words (HowFar.Answered v) sync callee far =
@@ -222,7 +210,12 @@ module _ (x : Setting) (main : Main) (s : Core) (n : ℕ) (l : Label) (next : Tu
     where
       by_lift : (b : Bool) → is_async_lifted (export_kind x.component e) ≡ b → Leads a s (call_sync_begins x.component n e words s b)
       by_lift true at = call_begins_leads e Goal.Answer words callee refl refl
-      by_lift false at = enter_row_leads e words sync callee at
+      by_lift false at =
+          trap_if_leads a s (not (fits 3 s)) Trap.TableFull _ (λ f.
+          trap_if_leads a s (at_handle_limit s) Trap.HandleLimit _ (λ g.
+          goes_over x main s n l next (Label.Call (CallLabel.Enters n (next_thread s))) (next_thread s) (enter_runs n e (export_kind x.component e) words s) refl (by_number (next_thread s) n _ (λ h. inl (ap (λ (i : ℕ). Turn.Run i) (sym h))) (λ h. inr (enter_gives n e (export_kind x.component e) words s h)))
+          (λ is. mute_words a _ is refl)
+          (λ is to. (enter_runs_walks n refl sync (calls callee) e (export_kind x.component e) words refl to (makes_call e Goal.Direct callee (λ d. (at, to)) refl), λ h. no_direct h))))
 
   -- ---- Calls of a host
 
@@ -307,7 +300,7 @@ module _ (x : Setting) (main : Main) (s : Core) (n : ℕ) (l : Label) (next : Tu
   cancel_ended_row_leads : (mode : Mode) (r : ℕ) (sub : Subtask) (t : Core) (o : Option Status) → cancelled_of_op x.component n s (how_far_of n s) ≡ Some sub → undelivered_end (event_of sub s) ≡ o → MayCancel a n sub → Keep a s t → Leads a s (cancel_ended_row mode n r sub t o)
   unfolding cancel_takes_end
   cancel_ended_row_leads mode r sub t None target found has c = tt
-  cancel_ended_row_leads mode r sub t (Some e) target found has c = told (cancel_label mode n (status_code e)) (cancel_takes_end n r sub e t) (cancel_plain s mode n (status_code e)) (λ is. cancel_says mode r sub t e target found is) (λ is. answered_walks n refl on r (status_code e) (event_taken_walks n refl sub has c))
+  cancel_ended_row_leads mode r sub t (Some e) target found has c = told (cancel_label mode n (status_code e)) (cancel_takes_end n r sub e t) (grind arith) (λ is. cancel_says mode r sub t e target found is) (λ is. answered_walks n refl on r (status_code e) (event_taken_walks n refl sub has c))
 
   cancel_by_end_leads : (mode : Mode) (r : ℕ) (sub : Subtask) (t : Core) (b : Bool) → CancelOp mode → cancelled_of_op x.component n s (how_far_of n s) ≡ Some sub → event_of sub t ≡ event_of sub s → MayCancel a n sub → IsFree sub → Keep a s t → Leads a s (cancel_by_end mode n r sub t b)
   cancel_by_end_leads mode r sub t true by target same has free c = cancel_ended_row_leads mode r sub t (undelivered_end (event_of sub t)) target (ap (λ o. undelivered_end o) (sym same)) has c
@@ -341,7 +334,7 @@ module _ (x : Setting) (main : Main) (s : Core) (n : ℕ) (l : Label) (next : Tu
   cancel_guest_leads mode r h k AlreadyEnded by target is named free = cancel_ended_row_leads mode r (Subtask.Guest k) s (undelivered_end (event_of (Subtask.Guest k) s)) target refl (inl (h, named)) NoWord
   cancel_guest_leads mode r h k StartNotRun by target is named free =
       let says : (has_ended k s ≡ false) × (was_started k s ≡ false) = (grind (arith, is), grind (arith, is)) in
-      goes_on_told x main s n l next (cancel_label mode n 3) (cancel_withdraws n r k s) (cancel_plain s mode n 3)
+      goes_on_told x main s n l next (cancel_label mode n 3) (cancel_withdraws n r k s) (grind arith)
       (λ at to. withdraw_says mode r k to at target (n, (h, (refl, named))) says.0)
       (λ at. answered_walks n refl on r 3 (withdrawn_walks n refl k (n, (refl, ((n, (h, (refl, named))), (says.1, (says.0, (refl, says.1)))))) (ap (λ (y : Label). written_by x.component s y s) at ∙ ((cancel_is mode 3 s).0 ∙ ap (option_map (end_for Status.StartCancelled)) target)) NoWord))
   cancel_guest_leads mode r h k CallbackWaits by target is named free =

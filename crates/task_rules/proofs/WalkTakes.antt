@@ -1,12 +1,12 @@
 -- The takings of entries as chains of words.
 use Rattle.task_rules.proofs.Machine.{activated, activated_woken, admits, and_parts, ap, arith, at_handle_limit, begun_holder, Bool, Choice, chosen, cond, Core, delivered, Delivery, delivery_row, end_for, end_of, EndWords, event_label, ExportKind, false, foot_of, get, get-change, Gift, gift, give_thread_handle, Given, given_for, Goes, handed_by_event, handed_on, handed_out, HandsOut, held_label, holder_at_start, Holds, inl, inr, instance_of, is_begun, is_exit, is_explicit, is_free, is_holding, is_none, is_running, is_some, is_start, is_told, IsLaid, kind_of, Label, LastWords, Main, Mark, may, may_hand_on, may_not_enter, may_tell, may_tell_starting, MayDeliver, MayMove, MemberGift, Move, moved_to, NameThread, nat_tests, NoGift, None, not, NoWord, on_call, on_instance, on_thread, Option, option_map_or, outcome_of_label, own_delivered, own_event_of, own_gift_of, own_gift_only, own_or_nothing, OwnEvent, OwnGift, Place, place_of, refl, Restart, running, Runs, Scene, Script, set_delivered, set_do_not_enter, set_do_not_suspend, set_event, set_given, set_how_far, set_place, set_position, set_register, set_saved_own, set_script, set_started, set_starting_published, set_thread_handle, SetDoNotEnter, SetStarted, SetStartingPublished, Setting, Some, start_admitted, start_begins, start_holds, start_row, start_sets_flags, starting_is_published, starting_told, Status, stopped, Stops, subst, Subtask, sym, T, take_holds, take_label, TakeLabel, taken, taking, task_of, thread_taken, told, Trap, true, Turn, unwrap_or, wait_again, WaitsAgain, was_started, WasReady, Why, with_thread_handle, ℕ, ◌&&◌, ◌∙◌, ◌≡◌}
-use Rattle.task_rules.proofs.MuteLemmas.{is_mute, mute_words, hands_by}
+use Rattle.task_rules.proofs.MuteLemmas.{is_mute, mute_words, hands_by, none_said}
 use Rattle.task_rules.proofs.SayLemmas.{given_out}
 use Rattle.task_rules.proofs.PlacingLemmas.{shifted_instance, shifted_task, shifts_shifted, shifted_calls}
 use Rattle.task_rules.proofs.ChainLemmas.{Keep, chain_if}
 use Rattle.task_rules.proofs.WalkMoves.{MayTake, ToldTo, handed_on_shifts, lands, shifted, stopped_shifts, taken_walks, told_to, told_walks, word, told_shifts}
 use Rattle.task_rules.proofs.WalkParts.{gift_is, set_given_walks, sync_sets_flag_walks}
-use Rattle.task_rules.proofs.WalkTask.{Leads, may_leads, none_is_some, not_main, one_runner, or_never_leads, running_moved, seen, trap_if_leads, moved_passes}
+use Rattle.task_rules.proofs.WalkTask.{Leads, may_leads, not_main, one_runner, or_never_leads, seen, trap_if_leads, moved_passes}
 
 -- ---- What is read
 
@@ -71,7 +71,7 @@ module _ (x : Setting) (main : Main) (ended : Bool) (s : Core) (n : ℕ) (l : La
   taken_ends : (k : Label) (p : Place) (t : Core) → l ≡ k → is_taking k ≡ true → is_free p ≡ true → ((m : ℕ) → next ≡ Turn.Run m → (m ≡ n) × (p ≡ Place.Running)) → (l ≡ k → EndWords taking_scene (set_place n p t)) → Shuts k (set_place n p t) → LastWords taking_scene (set_place n p t)
   taken_ends k p t is taking free to says shuts = record {
     laid = λ m at take. subst (λ (j : ℕ). option_map_or is_free (place_of j (set_place n p t)) true ≡ true) (ap (λ (o : Option ℕ). unwrap_or o 0) at) (moved_passes is_free p free n t);
-    runs = λ m at. let r = to m at in inr (subst (λ (j : ℕ). option_map_or is_running (place_of j (set_place n p t)) true ≡ true) (sym r.0) (subst (λ (q : Place). option_map_or is_running (place_of n (set_place n q t)) true ≡ true) (sym r.1) (running_moved n t)));
+    runs = λ m at. let r = to m at in inr (subst (λ (j : ℕ). option_map_or is_running (place_of j (set_place n p t)) true ≡ true) (sym r.0) (subst (λ (q : Place). option_map_or is_running (place_of n (set_place n q t)) true ≡ true) (sym r.1) (moved_passes is_running Place.Running refl n t)));
     outcome = λ o at. absurd (subst T (sym quiet.0 ∙ ap (λ y. is_none y) (ap outcome_of_label (sym is) ∙ at)) tt);
     gone = λ m at exit. absurd (subst T (sym quiet.1 ∙ ap not (ap is_exit (sym is) ∙ exit)) tt);
     says = says is;
@@ -89,7 +89,7 @@ module _ (x : Setting) (main : Main) (ended : Bool) (s : Core) (n : ℕ) (l : La
 
   holds_leads : (k : Label) (w : Why) (t : Core) → is_taking k ≡ true → is_mute taking_scene (take_holds n w t) k ≡ true → begun_holder s k ≡ None → WasReady taking_scene n w → Keep taking_scene s t → Leads taking_scene s (Stops k (take_holds n w t))
   unfolding take_holds
-  holds_leads k w t taking mute none ready c = lays_taken k (Place.Held w) (stopped (foot_of n t) t) taking mute refl (λ i begun. none_is_some i (sym none ∙ begun)) (λ leave. Holds w leave ready refl) (shifted (stopped_shifts (foot_of n t) t) c)
+  holds_leads k w t taking mute none ready c = lays_taken k (Place.Held w) (stopped (foot_of n t) t) taking mute refl (λ i begun. none_said none begun) (λ leave. Holds w leave ready refl) (shifted (stopped_shifts (foot_of n t) t) c)
 
   -- ---- Starts
 
@@ -195,7 +195,7 @@ module _ (x : Setting) (main : Main) (ended : Bool) (s : Core) (n : ℕ) (l : La
 
   set_delivered_leads : (m : Mark) (y : ℕ) (ch : Choice) (g : Gift) → gift true (task_of n s) y (chosen n ch s) s ≡ Some g → WasReady taking_scene n (Why.Delivery (Delivery.Set y)) → MayTake taking_scene (task_of n s) g → may_not_enter (instance_of n s) s ≡ false → Leads taking_scene s (set_delivered m n y ch s g)
   unfolding wait_again
-  set_delivered_leads m y ch NoGift h0 ready ok open_at = lays_taken (Label.Take (TakeLabel.Again m n)) (Place.Waiting y true) (stopped (foot_of n s) s) refl refl refl (λ i begun. none_is_some i begun) (λ leave. WaitsAgain y leave ready refl) (shifted (stopped_shifts (foot_of n s) s) NoWord)
+  set_delivered_leads m y ch NoGift h0 ready ok open_at = lays_taken (Label.Take (TakeLabel.Again m n)) (Place.Waiting y true) (stopped (foot_of n s) s) refl refl refl (λ i begun. none_said refl begun) (λ leave. WaitsAgain y leave ready refl) (shifted (stopped_shifts (foot_of n s) s) NoWord)
   set_delivered_leads m y ch (OwnGift v) h0 ready ok open_at = woken_goes m y ch (OwnGift v) ready h0 ok open_at
   set_delivered_leads m y ch (MemberGift sub) h0 ready ok open_at = woken_goes m y ch (MemberGift sub) ready h0 ok open_at
 

@@ -3,8 +3,8 @@ use Rattle.task_rules.proofs.ChainLemmas.{Going, Keep, keep_stay, trip_walk, sta
 use Rattle.task_rules.proofs.SayLemmas.{said_is}
 use Rattle.task_rules.proofs.MuteLemmas.{both_none, is_mute, mute_words, none_said, says_by, writes_by}
 use Rattle.task_rules.proofs.WalkEnds.{cancelled_rest, returned_rest, call_ends, ends_untold, ended_last, returned_last}
-use Rattle.task_rules.proofs.Machine.{[], Advance, advanced, and_parts, answered, ap, ap₂, arith, assigned, AwaitsEvent, backpressure_of, begun_holder, blocking_exit_row, blocking_exits, Bool, BySetHandle, Call, CallEnd, cancel_was_delivered, change-field, checked, Choice, code_exits, code_finds, code_kind_row, code_row, code_stops, code_wait_row, code_waits, code_yields, ComesAgain, Component, component_of, Core, data_row, DataLabel, DataOp, Delivery, direct_exit_to, direct_exits, end_for, end_reopens, EndCall, ended, ends_activation, EndsActivation, EndsByExit, EndsCall, EndsOwn, EndWords, exit_label, exit_restores, exit_row_for, exit_stops, Exits, ExportKind, Fails, false, FindsEvent, foot_of, get, get-change, GivesUp, goal_of, Goes, GoesBack, handed_by, HandsOut, has_ended, has_event_for, HasSet, held_by_flag, holder_at_exit, HowFar, if◌then◌else◌, implicit_exit_row, inl, inr, instance_of, is_async_lifted, is_at, is_code_op, is_direct, is_ending_exit, is_exit, is_explicit, is_holding, is_none, is_over, is_running, is_under, IsRunner, kind_exit_row, kind_of, Label, LastWords, Leaves, leaves_no_result, length, List, Main, Mark, may, may_tell, MayBar, MayEnd, MayOwe, min, Move, moved_to, nat_le, nat_lt, nat_tests, Never, None, not, NoWord, numbers, on_call, on_instance, on_thread, Op, op_in, op_of, Option, option_map_or, or_never, or_trap, Ordered, outcome_of_label, own_event_of, own_or_none, OwnEvent, passes_after_return, passes_after_stop, passes_check, Place, place_of, position_of, Progress, Put, Records, refl, register_of, Remains, ret_label, returned, returned_holder, ReturnsNow, saved_own_of, SaysEnd, Scene, script_of, set_at, set_backpressure, set_do_not_enter, set_do_not_suspend, set_end, set_how_far, set_place, SetBackpressure, SetDoNotEnter, SetDoNotSuspend, SetOwnEvent, SetRegister, SetSavedCallee, Setting, SetWord, skip_row, skipped, slice_get, Some, Status, Stops, stored, subst, Subtask, SubtaskEnd, suc, sym, sync_exit_row, sync_exits, T, task_cancel_label, task_end, task_of, TaskLabel, TaskOp, Then, Thread, thread_exit_row, Trap, trap_if, Traps, Trip, true, Turn, Uncovers, under_of, unwrap_or, value_of, Walk, Why, Writes, WritesCall, WritesToo, written_by, zero, ℕ, ◌%◌, ◌&&◌, ◌*◌, ◌+◌, ◌-◌, ◌/◌, ◌==◌, ◌||◌, ◌∙◌, ◌∷◌, ◌≡◌, ◌≤◌, ◌⊎◌}
-use Rattle.task_rules.specs.Task.{dec_from, dec_lowers, dec_opens, inc_raises, inc_row, ret_done, ret_row, task_cancel_done, task_cancel_row, task_row}
+use Rattle.task_rules.proofs.Machine.{[], Advance, advanced, and_parts, answered, ap, ap₂, arith, assigned, AwaitsEvent, backpressure_of, begun_holder, blocking_exit_row, blocking_exits, Bool, BySetHandle, Call, CallEnd, cancel_was_delivered, checked, Choice, code_exits, code_finds, code_kind_row, code_row, code_stops, code_wait_row, code_waits, code_yields, ComesAgain, Component, component_of, Core, data_row, DataLabel, DataOp, Delivery, direct_exit_to, direct_exits, end_for, end_reopens, EndCall, ended, ends_activation, EndsActivation, EndsByExit, EndsCall, EndsOwn, EndWords, exit_label, exit_restores, exit_row_for, exit_stops, Exits, ExportKind, Fails, false, FindsEvent, foot_of, get, get-change, GivesUp, goal_of, Goes, GoesBack, handed_by, HandsOut, has_ended, has_event_for, HasSet, held_by_flag, holder_at_exit, HowFar, if◌then◌else◌, implicit_exit_row, inl, inr, instance_of, is_async_lifted, is_at, is_code_op, is_direct, is_ending_exit, is_exit, is_explicit, is_holding, is_none, is_over, is_running, is_under, IsRunner, kind_exit_row, kind_of, Label, LastWords, Leaves, leaves_no_result, length, List, Main, Mark, may, may_tell, MayBar, MayEnd, MayOwe, min, Move, moved_to, nat_le, nat_lt, nat_tests, Never, None, not, NoWord, numbers, on_call, on_instance, on_thread, Op, op_in, op_of, Option, option_map_or, or_never, or_trap, Ordered, outcome_of_label, own_event_of, own_or_none, OwnEvent, passes_after_return, passes_after_stop, passes_check, Place, place_of, position_of, Progress, Put, Records, refl, register_of, Remains, ret_label, returned, returned_holder, ReturnsNow, saved_own_of, SaysEnd, Scene, script_of, set_at, set_backpressure, set_do_not_enter, set_do_not_suspend, set_end, set_how_far, set_place, SetBackpressure, SetDoNotEnter, SetDoNotSuspend, SetOwnEvent, SetRegister, SetSavedCallee, Setting, SetWord, skip_row, skipped, slice_get, Some, Status, Stops, stored, subst, Subtask, SubtaskEnd, suc, sym, sync_exit_row, sync_exits, T, task_cancel_label, task_end, task_of, TaskLabel, TaskOp, Then, Thread, thread_exit_row, Trap, trap_if, Traps, Trip, true, Turn, Uncovers, under_of, unwrap_or, value_of, Walk, Why, Writes, WritesCall, WritesToo, written_by, zero, ℕ, ◌%◌, ◌&&◌, ◌*◌, ◌+◌, ◌-◌, ◌/◌, ◌==◌, ◌||◌, ◌∙◌, ◌∷◌, ◌≡◌, ◌≤◌, ◌⊎◌}
+use Rattle.task_rules.specs.Task.{dec_from, dec_lowers, dec_opens, inc_raises, ret_done, ret_row, task_cancel_done, task_cancel_row, task_row}
 use Rattle.task_rules.proofs.StopLemmas.{find_passes}
 use Rattle.task_rules.proofs.PlacingLemmas.{Shifted, shifted_calls, shifted_task, shifts_shifted, placing_shifted, shifted_after}
 use Rattle.task_rules.proofs.WalkMoves.{keep_position, ToldTo, checked_shifts, chosen_released, ended_walks, exits_trip, lands, released_shifts, shifted, stopped_shifts, told_to, word, Left, left_gone}
@@ -19,8 +19,7 @@ is_exit_op _ = false
 
 in_script : (ops : List Op) (p : ℕ) → is_exit_op (unwrap_or (slice_get ops p) (Op.Task TaskOp.Exit)) ≡ false → p + 1 ≤ length ops
 in_script [] p other = absurd (grind arith)
-in_script (o ∷ ops) zero other = grind arith
-in_script (o ∷ ops) (suc p) other = let rest = in_script ops p other in omega (arith, rest)
+in_script (o ∷ ops) p other = grind (arith, in_script ops)
 
 pub op_stands : (c : Component) (n : ℕ) (s : Core) → is_exit_op (op_of c n s) ≡ false → position_of n s + 1 ≤ length (script_of c n s)
 unfolding op_of
@@ -94,9 +93,6 @@ over_now k e s = grind (arith, nat_tests, get-change)
 exit_is : (n : ℕ) (w : Option ℕ) (s : Core) → (is_quiet s (exit_label n w) ≡ true) × ((is_exit (exit_label n w) ≡ true) × (returned_holder s (exit_label n w) ≡ holder_at_exit n s))
 exit_is n w s = (grind arith, (grind arith, grind arith))
 
-pub none_is_some : {X : Type 0} {A : Type 0} (x : X) → None ≡ Some x → A
-none_is_some x h = absurd (grind arith)
-
 pub one_runner : (n m : ℕ) → Turn.Run n ≡ Turn.Run m → n ≡ m
 one_runner n m e = grind arith
 
@@ -109,9 +105,6 @@ unnot c h = grind arith
 pub moved_passes : (test : Place → Bool) (p : Place) → test p ≡ true → (m : ℕ) (t : Core) → option_map_or test (place_of m (set_place m p t)) true ≡ true
 unfolding set_place on_thread
 moved_passes test p passes m t = grind (arith, nat_tests, get-change)
-
-pub running_moved : (m : ℕ) (t : Core) → option_map_or is_running (place_of m (set_place m Place.Running t)) true ≡ true
-running_moved m t = moved_passes is_running Place.Running refl m t
 
 reopened_shifted : (i : ℕ) (order : List ℕ) (s : Core) → Shifted (set_do_not_enter i false s) (end_reopens i order s)
 unfolding end_reopens
@@ -177,10 +170,8 @@ unfolding under_of
 under_place n m s h = grind (arith, nat_tests, find_passes (λ k. is_at k s (is_under n)) (numbers s.threads) m)
 
 direct_exits_runs : (n m v : ℕ) (t : Core) → option_map_or is_running (place_of m (direct_exits n m v t)) true ≡ true
-unfolding direct_exits set_how_far on_thread
-direct_exits_runs n m v t =
-    let u = set_place m Place.Running (ended n (set_end (task_of n t) CallEnd.Returned t)) in
-    ap (λ (o : Option Place). option_map_or is_running o true) (change-field (λ r. r.place) m (λ r. record r { how_far = HowFar.Answered v }) (λ r. refl) u.threads m) ∙ running_moved m (ended n (set_end (task_of n t) CallEnd.Returned t))
+unfolding direct_exits set_how_far set_place on_thread
+direct_exits_runs n m v t = grind (arith, nat_tests, get-change)
 
 -- ---- The running thread
 
@@ -423,10 +414,6 @@ module _ (x : Setting) (main : Main) (s : Core) (n : ℕ) (l : Label) (next : Tu
   dec_from_leads on (suc zero) = λ order. goes_on (Label.Task (TaskLabel.BpDec n)) (dec_opens n order s) refl (advanced_walks n refl on (shifted (released_shifts order (set_backpressure (instance_of n s) 0 s)) (word (SetBackpressure (instance_of n s) 0) tt NoWord)))
   dec_from_leads on (suc (suc b)) = goes_on (Label.Task (TaskLabel.BpDec n)) (dec_lowers n s) refl (advanced_walks n refl on (word (SetBackpressure (instance_of n s) (backpressure_of (instance_of n s) s - 1)) tt NoWord))
 
-  inc_row_leads : Stands a s n → Leads a s (inc_row n s)
-  unfolding inc_raises
-  inc_row_leads on = trap_if_leads a s (nat_le 65535 (backpressure_of (instance_of n s) s)) Trap.BackpressureOverflow _ (λ e. goes_on (Label.Task (TaskLabel.BpInc n)) (inc_raises n s) refl (advanced_walks n refl on (word (SetBackpressure (instance_of n s) (backpressure_of (instance_of n s) s + 1)) tt NoWord)))
-
   ends_by : (o : TaskOp) → op_in a n ≡ Op.Task o → is_code_op o ≡ true → EndsActivation a n
   ends_by o is code = (refl, ap (λ p. ends_activation p) is ∙ code)
 
@@ -434,6 +421,7 @@ module _ (x : Setting) (main : Main) (s : Core) (n : ℕ) (l : Label) (next : Tu
   stands is other = (refl, op_stands x.component n s (ap is_exit_op is ∙ other))
 
   pub task_row_leads : (ch : Choice) (o : TaskOp) → op_in a n ≡ Op.Task o → Leads a s (task_row n s ch o)
+  unfolding inc_raises
   task_row_leads ch (TaskOp.Ret v) is = ret_row_leads (stands is refl) (value_of n s v) ch.woken
   task_row_leads ch (TaskOp.RetBad v) is = trap_if_leads a s (has_ended (task_of n s) s) Trap.TaskCancelOrReturnTwice _ (λ e. tt)
   task_row_leads ch TaskOp.TaskCancel is = task_cancel_row_leads (stands is refl) ch.woken
@@ -441,5 +429,6 @@ module _ (x : Setting) (main : Main) (s : Core) (n : ℕ) (l : Label) (next : Tu
   task_row_leads ch TaskOp.CbYield is = code_row_leads (Label.Task (TaskLabel.CbYield n)) 1 (λ t. refl) (λ shows. ap (λ k. returned_holder s k) shows) (ends_by TaskOp.CbYield is refl)
   task_row_leads ch (TaskOp.CbWait v) is = code_row_leads (Label.Task (TaskLabel.CbWait n)) (16 * value_of n s v + 2) (λ t. refl) (λ shows. ap (λ k. returned_holder s k) shows) (ends_by (TaskOp.CbWait v) is refl)
   task_row_leads ch (TaskOp.Code v) is = code_row_leads (Label.Task (TaskLabel.Code n)) (value_of n s v) (λ t. refl) (λ shows. ap (λ k. returned_holder s k) shows) (ends_by (TaskOp.Code v) is refl)
-  task_row_leads ch TaskOp.BpInc is = inc_row_leads (stands is refl)
+  task_row_leads ch TaskOp.BpInc is =
+      trap_if_leads a s (nat_le 65535 (backpressure_of (instance_of n s) s)) Trap.BackpressureOverflow _ (λ e. goes_on (Label.Task (TaskLabel.BpInc n)) (inc_raises n s) refl (advanced_walks n refl (stands is refl) (word (SetBackpressure (instance_of n s) (backpressure_of (instance_of n s) s + 1)) tt NoWord)))
   task_row_leads ch TaskOp.BpDec is = dec_from_leads (stands is refl) (backpressure_of (instance_of n s) s)
