@@ -4,7 +4,7 @@ use Rattle.task_laws.proofs.NamedWorks.{NamesNoSync, abort_kept, names_word, ope
 use Rattle.task_laws.proofs.CallsLaw.{CallsHold}
 use Rattle.task_laws.proofs.CallsSteps.{of_base}
 use Rattle.task_rules.proofs.ChainLemmas.{along}
-use Rattle.task_laws.proofs.CallEnds.{EndsTold, opening_ends_told}
+use Rattle.task_laws.proofs.CallEnds.{EndsTold, ends_go, opening_ends_told}
 use Rattle.task_laws.proofs.OnceLemmas.{Due, Over, EndStep, due_over, ends_once}
 use Rattle.task_laws.proofs.SceneLemmas.{base_is, runner_there}
 use Rattle.task_laws.specs.Ends.{is_sync_work, MayBeAborted, SyncUnnamed}
@@ -13,7 +13,7 @@ use Rattle.task_laws.proofs.WorksCame.{Doing, doing_of}
 use Rattle.task_laws.proofs.Works.{WorksGo, WorksHold, number_of, opening_works, first_works, works_word}
 use Rattle.task_rules.proofs.WalkSteps.{step_walks}
 use Rattle.task_laws.specs.Order.{InOrder, OpeningInOrder}
-use Rattle.task_laws.proofs.StepEnds.{Answered, CallsFound, CallsKnown, calls_known, step_ends}
+use Rattle.task_laws.proofs.StepEnds.{Answered, CallsFound, step_ends}
 use Rattle.task_places.specs.Once.{RunsAreOnce, IsUnbegun}
 use Rattle.task_places.proofs.OrderLemmas.{asked, held_of, opening_in_order, step_in_order}
 
@@ -108,16 +108,13 @@ module _ (x : Setting) (s : State) (l : Label) (t : State) (k : Known x s) (step
     named = λ j named. to_base (λ c. (i h : ℕ) → subtask_at i h c ≡ Some (Subtask.Guest j) → is_some (get c.calls j) ≡ true) (λ i h e. let there = k.order.names.there i h j e in grind arith) (instance_of named.0 a.base) named.1.0 named.1.1.1;
   }
 
-  calls : CallsKnown x s t.core a
-  calls = calls_known x s l t k.order.codes holds k.told step w
-
   end_step : (sub : Subtask) → EndStep x.component (record { before = s; label = l; after = t }) sub
-  end_step = step_ends x s l t w.next k.order.codes calls k.works works_after.0 found k.over answered
+  end_step = step_ends x s l t k.order.codes holds k.told step w k.works works_after.0 found k.over answered
 
   known_after : Known x t
   known_after = record {
     order = step_in_order x s l t k.order step;
-    told = calls.ends.told;
+    told = (ends_go k.order.codes holds k.told w).1.told;
     works = works_after.0.holds;
     unnamed = record { works = works_after.1.0; spawns = spawns_after };
     callers = works_after.1.1.1;
