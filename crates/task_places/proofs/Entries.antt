@@ -1,7 +1,7 @@
 -- Entries that are taken out, entries of works, and new threads, beside a busy thread.
-use Rattle.task_rules.proofs.Machine.{[], add_thread, ap, arith, Bool, Core, entries, Entry, false, get, get-insert, has_entry, HasPlace, if◌then◌else◌, is_behind_of, is_entry_of, is_fresh, le_refl, less, less_switch, List, Mark, nat_tests, next_entry, None, on_thread, one_if, Option, Place, place_of, popped, promoted, Queues, refl, remove_thread, rest_of, says, set_high, set_low, set_place, set_switch, Some, subst, switch_entries, sym, T, Thread, true, unqueued, Why, why_of, ℕ, ◌++◌, ◌+◌, ◌==◌, ◌∙◌, ◌∷◌, ◌≡◌, ◌≤◌}
+use Rattle.task_rules.proofs.Machine.{[], add_thread, ap, arith, Bool, Core, entries, Entry, false, get-insert, has_entry, HasPlace, if◌then◌else◌, is_behind_of, is_entry_of, is_fresh, le_refl, less, less_switch, List, Mark, nat_tests, next_entry, None, on_thread, one_if, Option, Place, place_of, popped, promoted, Queues, refl, remove_thread, rest_of, says, set_high, set_low, set_place, set_switch, Some, subst, switch_entries, sym, T, Thread, true, unqueued, Why, why_of, ℕ, ◌++◌, ◌+◌, ◌==◌, ◌∙◌, ◌∷◌, ◌≡◌, ◌≤◌}
 use Rattle.task_rules.proofs.MoveLemmas.{removed_is, no_time, removed_gone, removed_loose, removed_placed, other_place}
-use Rattle.task_rules.proofs.StandLemmas.{Drops, moves_stand, Loose, Stand, by_number, entries-append, entries-less, eq_refl, zero_one, Watch, is_so, Left, left_loose, left_placed, by_count}
+use Rattle.task_rules.proofs.StandLemmas.{Drops, moves_stand, Loose, Stand, by_number, entries-append, entries-less, eq_refl, zero_one, Watch, Left, left_loose, left_placed}
 use Rattle.task_rules.proofs.StopLemmas.{switch_adds, Untouched, fresh_apart, so_again}
 
 -- ---- Entries are taken out

@@ -1,5 +1,5 @@
 -- Each step owes of the ends what it should, and so each run has each end once.
-use Rattle.task_rules.proofs.Machine.{[], AbortsOwn, ap, arith, base_at, Bool, Call, Core, false, fresh, get, get-empty, inl, inr, instance_of, is_some, is_spawn, is_spawn_caller, is_stage_ended, Label, le_refl, Main, MainPlace, MayAbort, None, opening, Option, option_map, option_map_or, Place, ProgramAborts, refl, SameMain, Scene, scene_of, ScriptAborts, Scripted, Setting, slice_get, Some, spawned_at, stage_of, State, Status, Step, subst, Subtask, subtask_at, subtask_handle, suc, sym, task_of, true, Unscripted, unwrap_or, Walked, Work, work_caller_of, WorkCaller, zero, ℕ, ◌&&◌, ◌++◌, ◌-◌, ◌∙◌, ◌∷◌, ◌≡◌, ◌≤◌, ◌⊎◌}
+use Rattle.task_rules.proofs.Machine.{[], AbortsOwn, ap, arith, base_at, Bool, Core, false, fresh, get, get-empty, inl, inr, instance_of, is_some, is_spawn, is_spawn_caller, is_stage_ended, Label, le_refl, Main, MainPlace, MayAbort, None, opening, Option, option_map, option_map_or, ProgramAborts, refl, SameMain, Scene, scene_of, ScriptAborts, Scripted, Setting, slice_get, Some, spawned_at, stage_of, State, Status, Step, subst, Subtask, subtask_at, subtask_handle, suc, sym, task_of, true, Unscripted, unwrap_or, Walked, Work, work_caller_of, WorkCaller, zero, ℕ, ◌&&◌, ◌++◌, ◌-◌, ◌∙◌, ◌∷◌, ◌≡◌, ◌≤◌, ◌⊎◌}
 use Rattle.task_laws.proofs.NamedWorks.{NamesNoSync, abort_kept, caller_is, names_word, opening_names}
 use Rattle.task_laws.proofs.Basics.{no_way}
 use Rattle.task_laws.proofs.CallsLaw.{CallsHold}
@@ -15,9 +15,7 @@ use Rattle.task_laws.proofs.WorksCame.{Doing, doing, doing_of, is_late}
 use Rattle.task_laws.proofs.Works.{AbortsNoSync, WorksGo, WorksHold, number_of, opening_works, first_works, works_word}
 use Rattle.task_rules.proofs.WalkSteps.{step_walks}
 use Rattle.task_laws.specs.Order.{InOrder, OpeningInOrder}
-use Rattle.task_places.proofs.PlaceLaw.{entry_ready}
 use Rattle.task_rules.proofs.LawLemmas.{run_goes_on}
-use Rattle.task_places.proofs.Entries.{next_first, popped_cleared}
 use Rattle.task_laws.proofs.StepEnds.{Answered, CallsFound, CallsKnown, calls_known, step_ends}
 use Rattle.task_places.specs.Once.{RunsAreOnce, IsUnbegun}
 use Rattle.task_places.proofs.OrderLemmas.{asked, opening_in_order, step_in_order}

@@ -2,10 +2,10 @@
 use Rattle.task_rules.proofs.Machine.{ap, arith, base_at, base_without, Bool, Core, Entry, false, get, HasSubtask, inr, is_behind_of, is_some, is_take, IsRunner, Label, LastWords, Made, Mark, nat_tests, next_entry, None, Option, option_map, Place, place_of, Pop, popped, refl, runner_at, says, Scene, scene_of, set_high, set_low, set_switch, Setting, settled_turn, Some, start_of, State, subst, Subtask, sym, T, Thread, thread_of_entry, Trip, true, Turn, Walked, was_started, ℕ, ◌+◌, ◌∙◌, ◌≡◌}
 use Rattle.task_rules.proofs.PlacingLemmas.{SameWorks, placing_works}
 use Rattle.task_laws.specs.Order.{InPlace}
-use Rattle.task_places.proofs.Entries.{Cleared, First, next_first, popped_cleared}
-use Rattle.task_places.proofs.PlaceLaw.{Arrives, Follows, Frame, entry_ready, is_run, no_way, trip_arrives, waits, ReadyAt, watch, so_self}
-use Rattle.task_rules.proofs.MoveLemmas.{All, is_busy, is_idle, no_time, stand_of}
-use Rattle.task_rules.proofs.StandLemmas.{Loose, Stand, by_number, zero_one, is_so, left_placed}
+use Rattle.task_places.proofs.Entries.{Cleared, next_first, popped_cleared}
+use Rattle.task_places.proofs.PlaceLaw.{Arrives, Frame, entry_ready, is_run, no_way, trip_arrives, waits, ReadyAt, watch, so_self}
+use Rattle.task_rules.proofs.MoveLemmas.{All, is_idle, no_time, stand_of}
+use Rattle.task_rules.proofs.StandLemmas.{Loose, by_number, zero_one, is_so, left_placed}
 
 -- a start that the running thread may withdraw is awaited, or its thread is gone
 abbrev pub Withdrawable : Scene → Type 0

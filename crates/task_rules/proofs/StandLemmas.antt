@@ -1,5 +1,5 @@
 -- Threads and their entries, counted; what the words that put a thread do to them.
-use Rattle.task_rules.proofs.Machine.{[], ap, arith, Bool, callers_of, cond, Core, entries, Entry, eq-eqb, eqb-false, eqb-true, false, get, get-change, has_entry, HasPlace, if◌then◌else◌, is_at_high, is_at_low, is_at_switch, is_behind_of, is_blocked_on, is_entry_of, is_free, is_fresh, is_there, is_under, le_trans, less, List, Mark, nat_tests, newest, None, older, on_thread, one_if, Option, option_map, option_map_or, Place, place_of, push_high, push_low, put_high, put_low, refl, says, set_place, Some, subst, Subtask, switch_entries, sym, times, true, Why, ℕ, ◌++◌, ◌+◌, ◌==◌, ◌∙◌, ◌∷◌, ◌≡◌, ◌≢◌, ◌≤◌, ◌⊎◌}
+use Rattle.task_rules.proofs.Machine.{[], ap, arith, Bool, callers_of, cond, Core, entries, Entry, eq-eqb, eqb-false, eqb-true, false, get-change, has_entry, HasPlace, if◌then◌else◌, is_at_high, is_at_low, is_at_switch, is_behind_of, is_blocked_on, is_entry_of, is_free, is_fresh, is_there, is_under, le_trans, less, List, Mark, nat_tests, newest, None, older, on_thread, one_if, Option, option_map, option_map_or, Place, place_of, push_high, push_low, put_high, put_low, refl, says, set_place, Some, subst, Subtask, switch_entries, sym, times, true, Why, ℕ, ◌++◌, ◌+◌, ◌==◌, ◌∙◌, ◌∷◌, ◌≡◌, ◌≢◌, ◌≤◌, ◌⊎◌}
 
 -- ---- Numbers and lists
 

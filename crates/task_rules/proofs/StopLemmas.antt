@@ -1,6 +1,6 @@
 -- What the moves that put threads, and a stop, do to places and entries.
 use Rattle.task_rules.proofs.Machine.{[], ap, arith, behind, behind_one, Bool, callers_of, Core, displaced, entries, find, foot_from, foot_of, get-change, get-insert, HasPlace, is_at, is_at_switch, is_behind_of, is_fresh, is_some, is_there, is_under, le_refl, List, Mark, nat_tests, newest, None, numbers, older, on_thread, one_if, Option, passed_on, Place, place_of, push_high_first, put_high, put_switch, refl, resumed_all, resumed_callers, says, set_callers, set_place, set_switch, size, Some, stopped, suc, switch_entries, sym, times, true, under_of, Why, why_of, zero, ℕ, ◌∙◌, ◌∷◌, ◌≡◌, ◌≤◌}
-use Rattle.task_rules.proofs.StandLemmas.{Adds, Drops, Given, Left, Loose, Stand, adds_given, adds_stand, by_count, callers_say, drops_stand, eq_refl, is_eq_of, left_loose, left_placed, moves_stand, once_or_not, put_high_adds, times-append, times-newest, zero_one, Watch, nobody, watching, is_so, is_watched, by_number, place_written, place_kept}
+use Rattle.task_rules.proofs.StandLemmas.{Adds, Given, Left, Loose, Stand, adds_given, adds_stand, by_count, callers_say, eq_refl, left_loose, left_placed, moves_stand, once_or_not, put_high_adds, times-append, times-newest, zero_one, Watch, is_so, is_watched}
 
 -- ---- What leaves every place and every entry of a thread alone
 
