@@ -1,5 +1,5 @@
 -- The words of std, of the machine and of its rules that the proofs cite, in one place.
-pub use Rattle.task_machine.specs.declared.{component.Callee.Callee, component.Component.Component, component.ExportKind.ExportKind, component.HostDef.HostDef, component.Slot.Slot, label.CallLabel.CallLabel, label.DataLabel.DataLabel, label.Label.Label, label.LoopLabel.LoopLabel, label.MainLabel.MainLabel, label.SetLabel.SetLabel, label.TakeLabel.TakeLabel, label.TaskLabel.TaskLabel, label.ThreadLabel.ThreadLabel, op.CallOp.CallOp, op.DataOp.DataOp, op.Op.Op, op.SetOp.SetOp, op.TaskOp.TaskOp, op.ThreadOp.ThreadOp, outcome.Outcome.Outcome, records.Call.Call, records.CallEnd.CallEnd, records.Caller.Caller, records.Course.Course, records.Delivery.Delivery, records.Entry.Entry, records.Goal.Goal, records.HowFar.HowFar, records.Join.Join, records.Made.Made, records.Named.Named, records.Place.Place, records.Script.Script, records.Set.Set, records.Stage.Stage, records.Subtask.Subtask, records.Thread.Thread, records.Turn.Turn, records.Why.Why, records.Work.Work, records.WorkCaller.WorkCaller, scenario.MainOpDef.MainOpDef, trap.Trap.Trap, words.Given.Given, words.Mark.Mark, words.OwnEvent.OwnEvent, words.Phase.Phase, words.Status.Status}
+pub use Rattle.task_machine.specs.declared.{component.Callee.Callee, component.Component.Component, component.ExportKind.ExportKind, component.HostDef.HostDef, component.Slot.Slot, label.CallLabel.CallLabel, label.DataLabel.DataLabel, label.Label.Label, label.LoopLabel.LoopLabel, label.MainLabel.MainLabel, label.SetLabel.SetLabel, label.TakeLabel.TakeLabel, label.TaskLabel.TaskLabel, label.ThreadLabel.ThreadLabel, op.CallOp.CallOp, op.DataOp.DataOp, op.Op.Op, op.SetOp.SetOp, op.TaskOp.TaskOp, op.ThreadOp.ThreadOp, outcome.Outcome.Outcome, records.Call.Call, records.CallEnd.CallEnd, records.Caller.Caller, records.Course.Course, records.Delivery.Delivery, records.Entry.Entry, records.Goal.Goal, records.HowFar.HowFar, records.Instance.Instance, records.Join.Join, records.Made.Made, records.Named.Named, records.Place.Place, records.Script.Script, records.Set.Set, records.Stage.Stage, records.Subtask.Subtask, records.Thread.Thread, records.Turn.Turn, records.Why.Why, records.Work.Work, records.WorkCaller.WorkCaller, scenario.MainOpDef.MainOpDef, trap.Trap.Trap, words.Given.Given, words.Mark.Mark, words.OwnEvent.OwnEvent, words.Phase.Phase, words.Status.Status}
 pub use Rattle.std.proofs.Common.{ap, ap₂, arith, cond, inl, inr, le_refl, le_trans, refl, subst, sym, T, ⊎_elim, ◌∙◌}
 pub use Rattle.std.proofs.lemmas.Bool.{and_parts, eq-eqb, eqb-false, eqb-true, not-true}
 pub use Rattle.std.proofs.lemmas.Bool.Decides.{nat_tests}
