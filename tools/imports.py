@@ -22,6 +22,7 @@ UNFOLDABLE = re.compile(r'(?m)^\s*unfoldable pub (?:\{[^}]*\} )?(?!use )([^\s:]+
 SHARED = re.compile(r'Rattle\.(task_machine\.specs|task_machine\.proofs|task_rules\.specs|std\.specs|std\.proofs)\.')
 VARIANTS = re.compile(r'(?m)^use (Rattle\.[\w.]+\.(\w+))\.TheVariants as (\w+)$')
 MACHINE = 'Rattle.task_rules.proofs.Machine'
+DECLARED = 'Rattle.task_machine.specs.declared'  # its types, each in a module of its own, are passed on by one line
 PRELUDE, COMMON = 'Rattle.std.specs.Prelude', 'Rattle.std.proofs.Common'  # the second passes on names of the first
 TITLE = '-- The words of std, of the machine and of its rules that the proofs cite, in one place.'
 
@@ -32,6 +33,10 @@ def names_of(group):
 
 def by_name(name):
     return (name.lower(), name)
+
+
+def is_declared(module):
+    return module.startswith(DECLARED + '.')
 
 
 def is_cited(name, body):
@@ -53,8 +58,9 @@ def passed_on():
     modules, unfoldable = {}, set()
     for line in PLACE.read_text().split('\n'):
         if match := PASSED_ON.match(line):
-            for name in names_of(match[3]):
-                modules[name] = match[2]
+            for path in names_of(match[3]):
+                *below, name = path.split('.')
+                modules[name] = '.'.join([match[2], *below])
                 if match[1]:
                     unfoldable.add((match[2], name))
     return modules, unfoldable
@@ -106,9 +112,11 @@ def main():
     owners = {}
     for module, name in sorted(cites, key=lambda pair: (-cites[pair], pair)):
         owners.setdefault(name, module)
-    shared = {(module, name) for module, name in cites if owners[name] == module and len(users[module]) > 1}
+    shared = {(module, name) for module, name in cites if owners[name] == module and (len(users[module]) > 1 or is_declared(module))}
     place = [TITLE]
-    for module in sorted({module for module, _ in shared}):
+    types = sorted(f'{module[len(DECLARED) + 1:]}.{name}' for module, name in shared if is_declared(module))
+    place.append(f'pub use {DECLARED}.{{{", ".join(types)}}}')
+    for module in sorted({module for module, _ in shared if not is_declared(module)}):
         names = sorted((name for other, name in shared if other == module), key=by_name)
         for word, unfolds in (('', False), ('unfoldable ', True)):
             if group := [name for name in names if ((module, name) in unfoldable) == unfolds]:

@@ -1,9 +1,9 @@
 -- From facts of each step to all that is once in a run.
-use Rattle.task_rules.proofs.Machine.{[], arith, Bool, changes_end, Component, Core, count_by, course_value, covers_end, end_code, end_for, EndsOnce, event_of, false, get, handed, hands_out, hands_out_written, history, host_status, if◌then◌else◌, inl, inr, is_end_of, is_known, is_other, is_some, is_written, Label, List, Moment, nat_tests, None, not, Option, option_map_or, refl, Run, same_end, same_subtask, Setting, Some, State, Status, Step, Subtask, SubtaskEnd, sym, true, undelivered_end, with_end, writes_end, written, ℕ, ⊎_elim, ◌&&◌, ◌+◌, ◌==◌, ◌||◌, ◌∙◌, ◌∷◌, ◌≡◌, ◌≤◌, ◌⊎◌}
+use Rattle.task_rules.proofs.Machine.{[], arith, Bool, changes_end, Component, Core, count_by, covers_end, end_code, end_for, EndsOnce, event_of, false, get, handed, hands_out, hands_out_written, history, if◌then◌else◌, inl, inr, is_end_of, is_known, is_other, is_some, is_written, Label, List, Moment, nat_tests, None, not, Option, option_map_or, refl, Run, same_end, same_subtask, Setting, Some, State, Status, Step, Subtask, SubtaskEnd, sym, true, undelivered_end, with_end, writes_end, written, ℕ, ⊎_elim, ◌&&◌, ◌+◌, ◌==◌, ◌||◌, ◌∙◌, ◌∷◌, ◌≡◌, ◌≤◌, ◌⊎◌}
 use Rattle.std.proofs.lemmas.List.Recursion.{is_count_by}
 use Rattle.task_laws.proofs.Basics.{no_way}
-use Rattle.task_laws.proofs.WorksCame.{Doing, doing_of}
-use Rattle.task_laws.proofs.Works.{is_due}
+use Rattle.task_laws.proofs.WorksCame.{doing_of}
+use Rattle.task_laws.proofs.Works.{due_in}
 
 -- ---- Counting
 
@@ -80,7 +80,7 @@ covers_none (Some e) (Some f) same covers = let one = same e f refl refl in grin
 abbrev pub Due : Subtask → Status → Core → Type 0
 Due (Subtask.Guest k) e s = (undelivered_end (event_of (Subtask.Guest k) s) ≡ Some e) ⊎
     ((e ≡ Status.Returned) × (is_some (get s.results k) ≡ true))
-Due (Subtask.Host i) e s = (v : Doing) × ((doing_of i s ≡ Some v) × ((is_due v ≡ true) × (e ≡ host_status (course_value v.course))))
+Due (Subtask.Host i) e s = due_in (doing_of i s) ≡ Some e
 
 -- it has ended, and nothing of it is to be handed out
 abbrev pub Out : Subtask → Core → Type 0

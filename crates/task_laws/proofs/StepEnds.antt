@@ -2,7 +2,7 @@
 use Rattle.task_rules.proofs.LawLemmas.{never_fewer}
 use Rattle.task_laws.proofs.CallsSteps.{of_base, calls_begin, step_goes}
 use Rattle.task_laws.proofs.CallEnds.{ends_go, tells_there}
-use Rattle.task_rules.proofs.Machine.{after_word, Allowed, Answers, ap, arith, Call, CallEnd, Core, course_of, covers_end, end_code, end_for, EndsByExit, EndsCall, EndsOwn, EndsSubtask, EndWords, event_of, false, get, goal_of, HandsAtOnce, HandsOut, has_end, has_ended, host_status, how_far_of, HowFar, inl, inr, is_async_work, is_direct, is_over, is_some, is_stage_ended, IsNamed, IsPolled, IsReadyAtOnce, IsRunner, Label, LaterBy, le_trans, Moment, nat_tests, None, Option, option_and_then, option_map, refl, SaysEnd, Scene, scene_of, Setting, Some, State, Status, status_of_end, Step, Subtask, sym, TakesEvent, TakesResult, task_of, true, Turn, undelivered_end, Walked, Word, Writes, WritesAtOnce, WritesCall, WritesNever, WritesPolled, WritesToo, written, ℕ, ⊎_elim, ◌∙◌, ◌≡◌, ◌≤◌, ◌⊎◌}
+use Rattle.task_rules.proofs.Machine.{after_word, Allowed, Answers, ap, arith, Call, CallEnd, Core, course_of, course_value, covers_end, end_code, end_for, EndsByExit, EndsCall, EndsOwn, EndsSubtask, EndWords, event_of, false, get, goal_of, HandsAtOnce, HandsOut, has_end, has_ended, host_status, how_far_of, HowFar, inl, inr, is_async_work, is_direct, is_over, is_some, is_stage_ended, IsNamed, IsPolled, IsReadyAtOnce, IsRunner, Label, LaterBy, le_trans, Moment, nat_tests, None, Option, option_and_then, option_map, refl, SaysEnd, Scene, scene_of, Setting, Some, stage_of, State, Status, status_of_end, Step, Subtask, sym, TakesEvent, TakesResult, task_of, true, Turn, undelivered_end, Walked, Word, work_caller_of, Writes, WritesAtOnce, WritesCall, WritesNever, WritesPolled, WritesToo, written, ℕ, ⊎_elim, ◌∙◌, ◌≡◌, ◌≤◌, ◌⊎◌}
 use Rattle.task_laws.specs.Order.{Numbered}
 use Rattle.task_laws.specs.Rises.{CallsRise, Rises}
 use Rattle.task_laws.proofs.CallsLaw.{CallsGo, CallsHold, exits_unended}
@@ -15,9 +15,9 @@ use Rattle.task_laws.proofs.SaidEnds.{hands_at, said_at, said_plain, written_at}
 use Rattle.task_laws.proofs.CallsCame.{call_came, CallAfter}
 use Rattle.task_laws.specs.Ends.{is_sync_work}
 use Rattle.task_laws.proofs.PolledWorks.{polled_is_live}
-use Rattle.task_laws.proofs.Basics.{some_none, too_high}
-use Rattle.task_laws.proofs.WorksCame.{Doing, doing, doing_of, is_late}
-use Rattle.task_laws.proofs.Works.{doing_or, doing_there, WorksGo, WorksHold, WorkWas, is_due, stage_ended, number_of}
+use Rattle.task_laws.proofs.Basics.{too_high}
+use Rattle.task_laws.proofs.WorksCame.{Doing, doing, doing_of}
+use Rattle.task_laws.proofs.Works.{doing_or, doing_there, WorksGo, WorksHold, Lasts, due_in, stage_ended, number_of}
 
 -- ---- Calls before a step, and on its way
 
@@ -33,7 +33,6 @@ pub record CallsKnown (x : Setting) (s : State) (t : Core) (a : Scene) : Type 0 
   pub before : CallsHold x.component s.core
   pub go : CallsGo a t
   pub ends : EndsGo a t
-  pub told : EndsTold t
   pub rises : CallsRise s.core t
   pub made : s.core.made.threads ≤ t.made.threads
   pub says : EndWords a t
@@ -46,8 +45,7 @@ calls_known x s l t codes h told step w =
       told_base = of_base EndsTold s.turn s.core (record { goals = told.goals; events = told.events; results = told.results });
       before = h;
       go = g.0;
-      ends = g.1.0;
-      told = g.1.1;
+      ends = g.1;
       rises = (step_goes x s l t codes h step).1;
       made = (never_fewer x s l t step).threads;
       says = w.ends.says;
@@ -82,38 +80,38 @@ one_end o p y z later u v = grind arith
 
 -- ---- Works
 
-course_is : (i : ℕ) (s : Core) (v : Doing) → doing_of i s ≡ Some v → course_of i s ≡ v.course
-course_is i s v is = grind arith
-
 event_there : (i : ℕ) (s : Core) (e : Status) → undelivered_end (event_of (Subtask.Host i) s) ≡ Some e →
     (v : Doing) × ((doing_of i s ≡ Some v) × (undelivered_end v.event ≡ Some e))
 event_there i s e h = let v = doing_there i s (grind arith) in let at = v.1 in (v.0, (at, grind arith))
 
-value_returns : (o : Option ℕ) → is_some o ≡ true → Status.Returned ≡ host_status o
-value_returns o h = grind arith
+due_status : (i : ℕ) (e : Status) (s : Core) → due_in (doing_of i s) ≡ Some e → host_status (course_value (course_of i s)) ≡ e
+due_status i e s due = grind arith
+
+value_due : (o : Option Doing) (v : Doing) → o ≡ Some v → is_sync_work v.caller ≡ true → has_end v.course ≡ true →
+    is_some (course_value v.course) ≡ true → due_in o ≡ Some Status.Returned
+value_due o v at sync ends value = grind arith
+
+-- an end stays
+same_course : (o p : Option Doing) → LaterBy Lasts o p → (v u : Doing) → o ≡ Some v → p ≡ Some u →
+    has_end v.course ≡ true → u.course ≡ v.course
+same_course o p later v u at is over = grind arith
+
+-- what has ended, and had its end told, isn't due any more
+none_due : (o p : Option Doing) → LaterBy Lasts o p → (v : Doing) → o ≡ Some v → is_stage_ended v.stage ≡ true →
+    is_async_work v.caller ≡ true → (e : Status) → undelivered_end (option_and_then (λ (u : Doing). u.event) p) ≡ None → due_in p ≡ Some e → ⊥
+none_due o p later v at ended async e gone due = grind arith
 
 -- who goes on after its sync call of a host finds the work ended
 abbrev pub Answered : Scene → Type 0
 Answered a = (n i : ℕ) → IsRunner a n → how_far_of n a.base ≡ HowFar.Calls (Subtask.Host i) →
-    (v : Doing) × ((doing_of i a.base ≡ Some v) × ((is_sync_work v.caller ≡ true) × (is_late v.stage ≡ true)))
-
--- an end stays
-same_course : {a : Scene} (i : ℕ) (v u : Doing) → WorkWas a i u → doing_of i a.base ≡ Some v → has_end v.course ≡ true → u.course ≡ v.course
-same_course i v u w at over = let there = w.there in let stays = w.stays in grind arith
-
--- what has ended, and had its end told, isn't due any more
-none_due : {a : Scene} (i : ℕ) (v u : Doing) → WorkWas a i u → doing_of i a.base ≡ Some v → is_stage_ended v.stage ≡ true →
-    is_async_work v.caller ≡ true → undelivered_end u.event ≡ None → is_due u ≡ true → ⊥
-none_due i v u w at ended async gone due = let there = w.there in let e = w.ended in let c = w.caller in grind arith
+    (is_sync_work (work_caller_of i a.base) ≡ true) × (is_stage_ended (stage_of i a.base) ≡ true)
 
 pub host_keeps : {S : Type 0} (x : Setting) (s : State) (l : Label) (t : State) (next : Turn) → WorksHold S s.core →
     WorksGo S (scene_of x s l next) t.core → (i : ℕ) → Keeps s.core t.core (Subtask.Host i)
 host_keeps {S = S} x s l t next h go i = let q = plain x s l next (λ b. WorksGo S b t.core) go in record {
   made = λ there. let v = doing_there i s.core (grind arith) in number_of h i v.0 v.1;
   counted = λ below. le_trans below q.counted;
-  same = λ below over. ⊎_elim (λ none. inl (grind arith)) (λ v.
-      let w = q.was i v.0 v.1 below in let before = w.there in let stays = w.stays in let at = v.1 in inr (grind (arith, nat_tests)))
-      (doing_or i t.core);
+  same = λ below over. let r = q.was i below in grind (arith, nat_tests);
 }
 
 -- ---- A step
@@ -161,17 +159,18 @@ module _ (x : Setting) (s : State) (l : Label) (t : State) (next : Turn) (codes 
 
   pub guest_covers : (k : ℕ) → covers_end (Subtask.Guest k) m ≡ true → ⊥
   guest_covers k = covers_none _ _ (λ y z e f. let below = call_number k (grind arith) in
-      one_end (get s.core.calls k) (get t.core.calls k) y z (q.rises k below) (recorded a.base q.told_base k y e) (recorded t.core q.told k z f))
+      one_end (get s.core.calls k) (get t.core.calls k) y z (q.rises k below) (recorded a.base q.told_base k y e)
+      (recorded t.core q.ends.told k z f))
 
   -- ---- What a call has to hand out
 
   pub events_come : (k : ℕ) (e : Status) → event_at k t.core ≡ Some e → (event_at k s.core ≡ Some e) ⊎ Written (Subtask.Guest k) e
   events_come k e tells = let r = tells_there k e t.core tells in
-      ⊎_elim (λ b. inl b) (λ now. inr (said k e now.0)) (q.ends.events k e r.0 r.1.0 r.1.1).1
+      ⊎_elim (λ b. inl b) (λ now. inr (said k e now)) (q.ends.events k e r.0 r.1.0 r.1.1)
 
   pub results_come : (k : ℕ) → is_some (get t.core.results k) ≡ true →
       (is_some (get s.core.results k) ≡ true) ⊎ Written (Subtask.Guest k) Status.Returned
-  results_come k there = ⊎_elim (λ b. inl b) (λ now. inr (said k Status.Returned now.0)) (q.ends.results k there).1.1
+  results_come k there = ⊎_elim (λ b. inl b) (λ now. inr (said k Status.Returned now.0)) (q.ends.results k there)
 
   guest_comes : (k : ℕ) (e : Status) → Due (Subtask.Guest k) e t.core → Due (Subtask.Guest k) e s.core ⊎ Written (Subtask.Guest k) e
   guest_comes k e (inl tells) = ⊎_elim (λ b. inl (inl b)) (λ now. inr now) (events_come k e tells)
@@ -187,10 +186,10 @@ module _ (x : Setting) (s : State) (l : Label) (t : State) (next : Turn) (codes 
   direct_untold : (k : ℕ) → is_direct (goal_of k s.core) ≡ true → (e : Status) → Due (Subtask.Guest k) e t.core →
       is_some (get s.core.results k) ≡ true
   direct_untold k direct e (inl tells) =
-      let r = tells_there k e t.core tells in let v = (q.told.events k e r.0 r.1.0 r.1.1).0 in
+      let r = tells_there k e t.core tells in let v = (q.ends.told.events k e r.0 r.1.0 r.1.1).0 in
       let g = q.ends.same k r.0 r.1.0 (call_number k (grind arith)) in absurd (grind arith)
   direct_untold k direct e (inr (is, there)) =
-      ⊎_elim (λ b. b) (λ now. let g = now.1 (call_number k (grind arith)) in absurd (grind arith)) (q.ends.results k there).1.1
+      ⊎_elim (λ b. b) (λ now. let g = now.1 (call_number k (grind arith)) in absurd (grind arith)) (q.ends.results k there)
 
   module _ (h : WorksHold (Unit {0}) s.core) (go : WorksGo (Unit {0}) (scene_of x s l next) t.core) where
     v : WorksGo (Unit {0}) a t.core
@@ -199,13 +198,12 @@ module _ (x : Setting) (s : State) (l : Label) (t : State) (next : Turn) (codes 
     host_covers : (i : ℕ) → covers_end (Subtask.Host i) m ≡ true → ⊥
     host_covers i = covers_none _ _ (λ y z e f.
         let b = event_there i s.core y e in let u = event_there i t.core z f in let o = h.works i b.0 b.1.0 in let told = o.told y b.1.1 in
-        let same = same_course i b.0 u.0 (v.was i u.0 u.1.0 (number_of h i b.0 b.1.0)) b.1.0 (o.late ∙ stage_ended b.0.stage told.0) in
+        let same = same_course _ _ (v.was i (number_of h i b.0 b.1.0)) b.0 u.0 b.1.0 u.1.0 (o.late ∙ stage_ended b.0.stage told.0) in
         let was = told.1.1 in let now = ((v.holds.works i u.0 u.1.0).told z u.1.1).1.1 in cc)
 
     host_comes : (i : ℕ) (e : Status) → Due (Subtask.Host i) e t.core → Due (Subtask.Host i) e s.core ⊎ Written (Subtask.Host i) e
-    host_comes i e (u, (at, (due, is))) =
-        ⊎_elim (λ b. let same = b.1.1.1 in inl (b.0, (b.1.0, (b.1.1.0, cc)))) (λ shows. inr (rw shows (cc (course_is i t.core u at))))
-        (v.due i u at due)
+    host_comes i e due = ⊎_elim (λ b. inl b)
+        (λ shows. inr (rw shows (ap (λ f. Some (end_for f (Subtask.Host i))) (due_status i e t.core due)))) (v.due i e due)
 
     -- a host that was ready at once is gone
     ready_none : (i : ℕ) → IsReadyAtOnce a t.core i → doing_of i t.core ≡ None
@@ -269,21 +267,18 @@ module _ (x : Setting) (s : State) (l : Label) (t : State) (next : Turn) (codes 
           ⊎_elim (λ old. unwritten (Subtask.Guest k) f e old w) (λ said. told_end (grind arith) due) (guest_comes k f due)
         where
           told_end : f ≡ Status.StartCancelled → Due (Subtask.Guest k) f t.core → ⊥
-          told_end is (inl tells) = let r = recorded t.core q.told k f tells in no_withdrawal r.ends (r.status ∙ is) r.ran
+          told_end is (inl tells) = let r = recorded t.core q.ends.told k f tells in no_withdrawal r.ends (r.status ∙ is) r.ran
           told_end is (inr (returned, there)) = absurd (cc)
 
       -- what has ended, and had its end told, isn't due any more
       host_out : (i : ℕ) (e : Status) → undelivered_end (event_of (Subtask.Host i) s.core) ≡ Some e →
           undelivered_end (event_of (Subtask.Host i) t.core) ≡ None → Due (Subtask.Host i) e s.core × Silent (Subtask.Host i)
       host_out i e had gone =
-          let r = event_there i s.core e had in let at = r.1.0 in let tells = r.1.1 in let ends = (h.works i r.0 at).told e tells in (
-            (r.0, (at, (grind arith, ends.1.1))),
-            λ f due. let now = due.1.0 in let was = v.was i due.0 now (number_of h i r.0 at) in
-                none_due i r.0 due.0 was at ends.0 ends.1.0 (grind arith) due.1.1.0,
-          )
+          let b = event_there i s.core e had in let at = b.1.0 in let tells = b.1.1 in let ends = (h.works i b.0 at).told e tells in
+          (grind arith, λ f due. none_due _ _ (v.was i (number_of h i b.0 at)) b.0 at ends.0 ends.1.0 f (grind arith) due)
 
       none_out : (i : ℕ) → doing_of i t.core ≡ None → Silent (Subtask.Host i)
-      none_out i none f due = some_none (sym due.1.0 ∙ none)
+      none_out i none f due = absurd (cc)
 
       hands : (sub : Subtask) (e : Status) → HandsOut a t.core sub e → (Due sub e s.core ⊎ Written sub e) × Silent sub
       hands _ _ (TakesEvent (Subtask.Guest k) e had gone) = (inl (inl had), event_out k e had gone)
@@ -292,9 +287,10 @@ module _ (x : Setting) (s : State) (l : Label) (t : State) (next : Turn) (codes 
       hands _ _ (WritesToo k e w why) = (inr (said k e w), own_out k e (said k e w) why)
       hands _ _ (HandsAtOnce i ready w) = (inr (said_at x.component s.core a.base.queues t.core l _ w), none_out i (ready_none i ready))
       hands _ _ (Answers n i runner far gone) =
-          let r = plain x s l next Answered answered n i runner far in let o = h.works i r.0 r.1.0 in
-          let sync = r.1.1.0 in let ends = o.late ∙ r.1.1.1 in
-          (inl (r.0, (r.1.0, (grind arith, value_returns _ ((o.sync tt sync).1 ends)))), none_out i (ap (option_map doing) gone))
+          let r = plain x s l next Answered answered n i runner far in let v = doing_there i s.core (grind arith) in let at = v.1 in
+          let o = h.works i v.0 at in let sync : is_sync_work v.0.caller ≡ true = grind arith in
+          let ends : has_end v.0.course ≡ true = o.late ∙ stage_ended v.0.stage (grind arith) in
+          (inl (value_due _ v.0 at sync ends ((o.sync tt sync).1 ends)), none_out i (ap (option_map doing) gone))
 
       keeps : (sub : Subtask) → Keeps s.core t.core sub
       keeps (Subtask.Guest k) = call_keeps q.before.numbered q.rises q.made k

@@ -1,5 +1,7 @@
 -- What host works come to along the words of a step: their ends, and what they have to hand out.
-use Rattle.task_rules.proofs.Machine.{after_word, Allowed, ap, arith, Bool, Core, course_value, false, fresh, get, get-empty, has_end, host_status, inl, inr, is_aborted, is_async_work, is_some, is_stage_ended, Label, le_refl, le_trans, LoopLabel, MayAbort, None, Option, refl, Scene, scene_of, Setting, Some, Stage, State, Status, true, Turn, undelivered_end, Walked, Word, Work, ℕ, ⊎_elim, ◌&&◌, ◌||◌, ◌∙◌, ◌≡◌, ◌≤◌, ◌⊎◌}
+use Rattle.task_laws.proofs.CallsLaw.{later_after, later_same}
+use Rattle.task_laws.specs.Ends.{MayBeAborted}
+use Rattle.task_rules.proofs.Machine.{after_word, Allowed, ap, arith, base_at, Bool, Core, course_value, false, fresh, get, get-empty, has_end, host_status, if◌then◌else◌, inl, inr, is_aborted, is_async_work, is_some, is_stage_ended, Label, LaterBy, le_refl, le_trans, LoopLabel, MayAbort, None, Option, option_and_then, refl, Scene, scene_of, Setting, Some, Stage, State, Status, true, Turn, undelivered_end, Walked, Word, Work, ℕ, ⊎_elim, ◌&&◌, ◌||◌, ◌≡◌, ◌≤◌, ◌⊎◌}
 use Rattle.task_laws.proofs.CallsSteps.{of_base}
 use Rattle.task_laws.specs.Ends.{is_sync_work}
 use Rattle.task_laws.proofs.CountLemmas.{made_works_word}
@@ -27,25 +29,23 @@ pub record WorksHold (S : Type 0) (s : Core) : Type 0 where
 abbrev pub is_due : Doing → Bool
 is_due v = is_some (undelivered_end v.event) || (is_finishing v.stage || (has_end v.course && is_sync_work v.caller))
 
--- it was to be handed out before, or has come to its end in this step
-abbrev pub WasDue : Scene → ℕ → Doing → Type 0
-WasDue a i v = ((u : Doing) × ((doing_of i a.base ≡ Some u) × ((is_due u ≡ true) × (u.course ≡ v.course)))) ⊎
-    (a.label ≡ Label.Loop (LoopLabel.FutureEnds i))
+-- what that is
+abbrev pub due_in : Option Doing → Option Status
+due_in o = option_and_then (λ (v : Doing). if is_due v then Some (host_status (course_value v.course)) else None) o
 
--- The work was there before, called by the same; an end stays, and it has ended once it has.
-pub record WorkWas (a : Scene) (i : ℕ) (v : Doing) : Type 0 where
-  pub before : Doing
-  pub there : doing_of i a.base ≡ Some before
-  pub caller : v.caller ≡ before.caller
-  pub stays : has_end before.course ≡ true → v.course ≡ before.course
-  pub ended : is_stage_ended before.stage ≡ true → is_stage_ended v.stage ≡ true
+-- The work is called by the same; an end stays, and it has ended once it has.
+pub record Lasts (u v : Doing) : Type 0 where
+  pub caller : v.caller ≡ u.caller
+  pub stays : has_end u.course ≡ true → v.course ≡ u.course
+  pub ended : is_stage_ended u.stage ≡ true → is_stage_ended v.stage ≡ true
 
--- The same on the way of a step.
+-- On the way of a step: what is to be handed out was so before the step, or the work comes to its end in it.
 pub record WorksGo (S : Type 0) (a : Scene) (s : Core) : Type 0 where
   pub counted : a.base.made.works ≤ s.made.works
   pub holds : WorksHold S s
-  pub was : (i : ℕ) (v : Doing) → doing_of i s ≡ Some v → i ≤ a.base.made.works → WorkWas a i v
-  pub due : (i : ℕ) (v : Doing) → doing_of i s ≡ Some v → is_due v ≡ true → WasDue a i v
+  pub was : (i : ℕ) → i ≤ a.base.made.works → LaterBy Lasts (doing_of i a.base) (doing_of i s)
+  pub due : (i : ℕ) (e : Status) → due_in (doing_of i s) ≡ Some e →
+      (due_in (doing_of i a.base) ≡ Some e) ⊎ (a.label ≡ Label.Loop (LoopLabel.FutureEnds i))
 
 pub stage_ended : (x : Stage) → is_stage_ended x ≡ true → is_late x ≡ true
 stage_ended x h = grind arith
@@ -62,15 +62,10 @@ doing_there i s h = ⊎_elim (λ none. absurd (grind arith)) (λ v. v) (doing_or
 pub number_of : {S : Type 0} {s : Core} → WorksHold S s → (i : ℕ) (v : Doing) → doing_of i s ≡ Some v → i ≤ s.made.works
 number_of h i v at = h.stand.number i (ap (λ o. is_some o) at)
 
--- what is aborted was made, and isn't a sync one
-abbrev pub AbortsNoSync : Scene → Type 0
-AbortsNoSync a = (i : ℕ) → MayAbort a i → (i ≤ a.base.made.works) × ((u : Doing) → doing_of i a.base ≡ Some u →
-    is_sync_work u.caller ≡ false)
-
 module _ {S M : Type 0} {a : Scene} {s : Core} {b i : ℕ} {h g : ℕ × ℕ} {o p : Option Doing} (came : WorkCame ⊥ M a s b i h g o p)
-    (v : Doing) (at : p ≡ Some v) (q : (u : Doing) → o ≡ Some u → WorkHolds S u) where
-  holds_came : (S → (u : Doing) → o ≡ Some u → is_sync_work u.caller ≡ true → M → ⊥) → WorkHolds S v
-  holds_came unsync = record {
+    (q : (u : Doing) → o ≡ Some u → WorkHolds S u) where
+  holds_came : (S → (u : Doing) → o ≡ Some u → is_sync_work u.caller ≡ true → M → ⊥) → (v : Doing) → p ≡ Some v → WorkHolds S v
+  holds_came unsync v at = record {
     late = grind (arith, q);
     told = λ e tells. let f = λ (u : Doing) (is : o ≡ Some u). (q u is).told e in grind (arith, f, q);
     finishing = λ e. grind (arith, q);
@@ -78,49 +73,32 @@ module _ {S M : Type 0} {a : Scene} {s : Core} {b i : ℕ} {h g : ℕ × ℕ} {o
         (grind (arith, f, n), λ has. grind (arith, f, q));
   }
 
-  was_came : i ≤ s.made.works → ((u : Doing) → o ≡ Some u → WorkWas a i u) → WorkWas a i v
-  was_came below was = by o refl
-    where
-      by : (y : Option Doing) → o ≡ y → WorkWas a i v
-      by None is = absurd (grind arith)
-      by (Some u) is = let b = was u is in let caller = b.caller in record {
-        before = b.before;
-        there = b.there;
-        caller = grind arith;
-        stays = λ e. let c = b.stays e in grind (arith, q u is);
-        ended = λ e. let c = b.ended e in grind (arith, q u is);
-      }
+  lasts_came : i ≤ s.made.works → LaterBy Lasts o p
+  lasts_came below = grind (arith, q)
 
-  was_due : (u : Doing) → o ≡ Some u → is_due v ≡ true →
-      ((is_due u ≡ true) × (u.course ≡ v.course)) ⊎ (a.label ≡ Label.Loop (LoopLabel.FutureEnds i))
-  was_due u is due = grind (arith, q u is)
+  due_came : (e : Status) → due_in p ≡ Some e → (due_in o ≡ Some e) ⊎ (a.label ≡ Label.Loop (LoopLabel.FutureEnds i))
+  due_came e due = grind (arith, q)
 
-  due_came : is_due v ≡ true → ((u : Doing) → o ≡ Some u → is_due u ≡ true → WasDue a i u) → WasDue a i v
-  due_came due old = by o refl
-    where
-      by : (y : Option Doing) → o ≡ y → WasDue a i v
-      by None is = absurd (grind arith)
-      by (Some u) is = ⊎_elim (λ d. ⊎_elim (λ b. inl (b.0, (b.1.0, (b.1.1.0, b.1.1.1 ∙ d.1)))) (λ e. inr e) (old u is d.0)) (λ e. inr e)
-          (was_due u is due)
+lasts_after : (t u v : Doing) → Lasts t u → Lasts u v → Lasts t v
+lasts_after t u v p q = grind arith
 
-pub works_word : {S : Type 0} {a : Scene} → (S → AbortsNoSync a) → (w : Word) (s : Core) → Allowed a w s → WorksGo S a s →
-    WorksGo S a (after_word w s)
+pub works_word : {S : Type 0} {a : Scene} → (S → (i : ℕ) → MayAbort a i → MayBeAborted a.base i) → (w : Word) (s : Core) → Allowed a w s →
+    WorksGo S a s → WorksGo S a (after_word w s)
 works_word {S = S} {a = a} unsync w s ok q = record {
   counted = le_trans q.counted (made_works_word a w s);
   holds = record {
     stand = stand_word a s q.holds.stand (λ i no. absurd no) w ok;
-    works = λ i v at. holds_came (came i) v at (q.holds.works i) (λ y u e sync may. never i y u e sync may);
+    works = λ i. holds_came (came i) (q.holds.works i) (λ y u e sync may. never i y u e sync may);
   };
-  was = λ i v at below. was_came (came i) v at (q.holds.works i) (le_trans below q.counted) (λ u e. q.was i u e below);
-  due = λ i v at due. due_came (came i) v at (q.holds.works i) due (q.due i);
+  was = λ i below. later_after Lasts lasts_after _ _ _ (q.was i below) (lasts_came (came i) (q.holds.works i) (le_trans below q.counted));
+  due = λ i e due. ⊎_elim (q.due i e) (λ now. inr now) (due_came (came i) (q.holds.works i) e due);
 }
   where
     came : (i : ℕ) → WorkAfter a s q.holds.stand (λ i no. absurd no) w i
     came = work_came a s q.holds.stand (λ i no. absurd no) w ok
 
     never : (i : ℕ) → S → (u : Doing) → doing_of i s ≡ Some u → is_sync_work u.caller ≡ true → MayAbort a i → ⊥
-    never i y u e sync may =
-        let n = unsync y i may in let b = q.was i u e n.0 in let c = n.1 b.before b.there in let same = b.caller in grind arith
+    never i y u e sync may = let n = unsync y i may in let other = n.other in let was = q.was i n.made in grind arith
 
 -- ---- The first state
 
@@ -142,11 +120,11 @@ pub first_works : {S : Type 0} (x : Setting) (s : State) (l : Label) (next : Tur
 first_works {S = S} x s l next h = of_base (λ c. WorksGo S (record (scene_of x s l next) { base = c }) s.core) s.turn s.core (record {
   counted = le_refl _;
   holds = h;
-  was = λ i v e below. record { before = v; there = e; caller = refl; stays = λ h. refl; ended = λ h. h };
-  due = λ i v e due. inl (v, (e, (due, refl)));
+  was = λ i below. later_same Lasts (λ v. record { caller = refl; stays = λ h. refl; ended = λ h. h }) (doing_of i s.core);
+  due = λ i e due. inl due;
 })
 
 pub works_go : {S : Type 0} (x : Setting) (s : State) (l : Label) (t : State) (w : Walked x s l t) →
-    (S → AbortsNoSync (scene_of x s l w.next)) → WorksHold S s.core → WorksGo S (scene_of x s l w.next) t.core
+    (S → (i : ℕ) → MayAbort (scene_of x s l w.next) i → MayBeAborted (base_at s.turn s.core) i) → WorksHold S s.core → WorksGo S (scene_of x s l w.next) t.core
 works_go {S = S} x s l t w unsync h = along (WorksGo S (scene_of x s l w.next)) (λ v u ok q. works_word unsync v u ok q)
     (first_works x s l w.next h) w.walk

@@ -1,16 +1,16 @@
 -- The laws of the ends of calls and works that hold by each step alone.
-use Rattle.task_rules.proofs.Machine.{[], Answers, arith, base_at, Bool, changes_end, end_for, EndWords, event_of, false, get, HandsAtOnce, HandsOut, inl, inr, is_some, Label, List, None, opening, refl, Run, scene_of, Setting, Some, State, Status, Step, Subtask, TakesEvent, TakesResult, true, Turn, undelivered_end, Walked, WritesToo, written_by, ◌∷◌, ◌≡◌, ◌⊎◌}
+use Rattle.task_rules.proofs.Machine.{Answers, arith, base_at, Bool, changes_end, end_for, EndWords, event_of, false, get, HandsAtOnce, HandsOut, inl, inr, is_some, Label, None, refl, scene_of, Setting, Some, State, Status, Step, Subtask, TakesEvent, TakesResult, true, Turn, undelivered_end, Walked, WritesToo, written_by, ◌≡◌, ◌⊎◌}
 use Rattle.task_laws.specs.Written.{EndsHandedAsTold, EndsWrittenOnce, NewEndsAreSaid, NewResultsAreSaid, NoEndIsCovered, WrittenEndsAreNew}
 use Rattle.task_laws.proofs.Works.{WorksHold, opening_works, works_go}
 use Rattle.task_laws.proofs.CallEnds.{reached_ends_told}
-use Rattle.task_laws.proofs.CallsLaw.{CallsHold}
-use Rattle.task_laws.proofs.CallsSteps.{plain, plain_scene, opening_holds, reached_holds, step_goes}
+use Rattle.task_laws.proofs.CallsSteps.{plain, plain_scene, reached_holds}
 use Rattle.task_laws.proofs.SaidEnds.{hands_at, said_plain}
-use Rattle.task_laws.specs.Settings.{CodesInCallbacks, Reached}
+use Rattle.task_laws.specs.Settings.{Reached}
 use Rattle.task_rules.proofs.LawLemmas.{never_fewer}
 use Rattle.task_rules.proofs.WalkSteps.{step_walks}
 use Rattle.task_laws.proofs.OnceLemmas.{Keeps, Over, counts_once, over_changes, over_stays}
 use Rattle.task_laws.proofs.StepEnds.{CallsKnown, calls_known, events_come, guest_covers, call_keeps, host_keeps, results_come, written_new}
+use Rattle.task_laws.proofs.ReachLemmas.{reached_keeps, reached_step}
 
 -- ---- What a label says of calls
 
@@ -57,35 +57,18 @@ ends_handed_as_told x s l t step k e out =
 
 -- ---- The end of each record
 
-record Holds (x : Setting) (s : State) : Type 0 where
-  calls : CallsHold x.component s.core
-  works : WorksHold ⊥ s.core
+reached_works : {x : Setting} {s : State} → Reached x s → WorksHold ⊥ s.core
+reached_works {x = x} r = reached_keeps r (λ s. WorksHold ⊥ s.core)
+    (λ s l t step h. (works_go x s l t (step_walks x s l t step) (λ no. absurd no) h).holds)
+    (opening_works r.instances r.handle_limit r.capacity)
 
-module _ (x : Setting) (codes : CodesInCallbacks x.component) where
-  holds_after : (s : State) (l : Label) (t : State) → Holds x s → Step x s l t → Holds x t
-  holds_after s l t h step = record {
-    calls = (step_goes x s l t codes h.calls step).0;
-    works =
-        (works_go x s l t (step_walks x s l t step) (λ no. absurd no) h.works).holds;
-  }
-
-  run_holds : (s : State) → Holds x s → (ls : List Label) (t : State) → Run x s ls t → Holds x t
-  run_holds s h [] t r = rw r h
-  run_holds s h (l ∷ ls) t r = run_holds r.0 (holds_after s l r.0 h r.1.0) ls t r.1.1
-
-  keeps : (s : State) (l : Label) (t : State) → Holds x s → Step x s l t → (sub : Subtask) → Keeps s.core t.core sub
-  keeps s l t h step (Subtask.Guest k) =
-      call_keeps h.calls.numbered (step_goes x s l t codes h.calls step).1 (never_fewer x s l t step).threads k
-  keeps s l t h step (Subtask.Host i) = let w = step_walks x s l t step in
-      host_keeps x s l t w.next h.works (works_go x s l t w (λ no. absurd no) h.works) i
+keeps : (x : Setting) (s : State) (l : Label) (t : State) → Reached x s → Step x s l t → (sub : Subtask) → Keeps s.core t.core sub
+keeps x s l t r step (Subtask.Guest k) =
+    call_keeps (reached_holds r).numbered (known x s l t r step).rises (never_fewer x s l t step).threads k
+keeps x s l t r step (Subtask.Host i) = let w = step_walks x s l t step in let h = reached_works r in
+    host_keeps x s l t w.next h (works_go x s l t w (λ no. absurd no) h) i
 
 pub ends_written_once : EndsWrittenOnce
 unfolding EndsWrittenOnce
-ends_written_once x s ls t r run sub =
-    let first : Holds x (opening r.instances r.handle_limit r.capacity r.main) = record {
-      calls = opening_holds x.component r.instances r.handle_limit r.capacity;
-      works = opening_works r.instances r.handle_limit r.capacity;
-    } in
-    counts_once x (Holds x) (holds_after x r.scripts) (changes_end sub) (Over sub)
-    (λ s l t h step. let q = keeps x r.scripts s l t h step sub in (over_changes q, over_stays q)) s
-    (run_holds x r.scripts _ first r.labels s r.run) ls t run
+ends_written_once x s ls t r run sub = counts_once x (Reached x) (λ s l t r step. reached_step s l t r step) (changes_end sub) (Over sub)
+    (λ s l t r step. let q = keeps x s l t r step sub in (over_changes q, over_stays q)) s r ls t run

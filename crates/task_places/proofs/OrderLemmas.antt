@@ -1,5 +1,5 @@
 -- A state in order: each opening state is, and each step leads from one to one.
-use Rattle.task_rules.proofs.Machine.{[], ap, arith, Bool, ByHandle, ByOp, Call, call_instance, callee_of, can_come, Component, Core, empty, false, fresh, get, get-empty, HasSubtask, how_far_of, HowFar, inl, inr, instance_of, is_fresh, is_some, is_sync_call, is_there, IsRunner, Label, length, List, None, Op, op_of_thread, opening, Option, option_and_then, option_map, option_map_or, Place, place_of, Placed, refl, Run, Scene, scene_of, Script, script_in, Setting, slice_get, Some, State, Steady, subst, Subtask, subtask_under_way, sym, task_of, TaskOp, Thread, true, Turn, unwrap_or, Walk, Walked, was_started, Work, ℕ, ⊎_elim, ◌∷◌, ◌≡◌, ◌≤◌, ◌⊎◌}
+use Rattle.task_rules.proofs.Machine.{[], ap, arith, Bool, ByHandle, ByOp, Call, call_instance, callee_of, can_come, Component, Core, empty, false, fresh, get, get-empty, HasSubtask, how_far_of, HowFar, inl, inr, instance_of, is_fresh, is_some, is_sync_call, is_there, IsRunner, Label, length, List, None, Op, op_of_thread, opening, Option, option_and_then, option_map, option_map_or, Place, place_of, Placed, refl, Run, Scene, scene_of, Script, script_in, Setting, slice_get, Some, State, Steady, subst, Subtask, subtask_under_way, sym, task_of, TaskOp, Thread, true, Turn, unwrap_or, Walk, Walked, was_started, Work, ℕ, ⊎_elim, ◌∙◌, ◌∷◌, ◌≡◌, ◌≤◌, ◌⊎◌}
 use Rattle.task_places.proofs.HostsAwaited.{Asked, step_asked, step_works}
 use Rattle.task_places.proofs.Directs.{directs_on_top}
 use Rattle.task_laws.proofs.Joins.{joins_word, opening_joins}
@@ -19,11 +19,12 @@ use Rattle.task_laws.proofs.AwaitedCalls.{DirectsRun, Inside, directs_word, Call
 use Rattle.task_laws.proofs.NamedCalls.{NamesGo, InsideThere, names_go_word, opening_names_known}
 use Rattle.task_laws.proofs.UnbegunCalls.{first_waits, Unbegun, unbegun_word, Waited}
 use Rattle.task_places.proofs.CallsBack.{back_apart}
-use Rattle.task_laws.specs.Order.{StartsFirst, NamesKnown, CallsAwaited, cancelled_call, is_awaited, IsUnbegun, CallsNamed, InOrder, Numbered, OpeningInOrder, SetsNamed, StartsAwaited, StepInOrder, WasCall, CallsThere, MakesFew, Strands, WaitsAtHome, set_of_op, set_of_place, StepsMakeFew, JoinsNamed, DirectsOnTop, Fits, WorksQueued, HostsAwaited, names_script}
+use Rattle.task_laws.specs.Order.{InPlace, StartsFirst, NamesKnown, CallsAwaited, cancelled_call, is_awaited, IsUnbegun, CallsNamed, InOrder, Numbered, OpeningInOrder, SetsNamed, StartsAwaited, StepInOrder, WasCall, CallsThere, MakesFew, Strands, WaitsAtHome, set_of_op, set_of_place, StepsMakeFew, JoinsNamed, DirectsOnTop, Fits, WorksQueued, HostsAwaited, names_script}
 use Rattle.task_places.proofs.PlaceLaw.{Arrives}
-use Rattle.task_places.proofs.PlaceSteps.{step_by, Withdrawable, in_place, step_arrives}
+use Rattle.task_places.proofs.PlaceSteps.{step_by, Withdrawable, settled_run, step_arrives}
 use Rattle.task_places.specs.Kept.{ReachedInOrder, ReachedInPlace, StepsKeepPlaces}
 use Rattle.task_rules.proofs.LawLemmas.{steady}
+use Rattle.task_rules.proofs.MoveLemmas.{at_place}
 
 -- ---- Starts
 
@@ -81,6 +82,9 @@ steps_make_few x s l t step =
 
 -- ---- What the words of a step keep
 
+pub held_of : {c : Component} {s : State} → InOrder c s → CallsHold c s.core
+held_of h = record { numbered = h.numbered; kinds = h.kinds; deliveries = h.deliveries }
+
 module _ (x : Setting) (s : State) (l : Label) (t : State) (h : InOrder x.component s) (w : Walked x s l t) where
   -- the step's scene, in which the row reads what is beside the marks as it was before the step
   abbrev a : Scene
@@ -130,22 +134,22 @@ module _ (x : Setting) (s : State) (l : Label) (t : State) (h : InOrder x.compon
       named m k (ByHandle g e) = known.by_handle _ g k e
       named m k (ByOp e) = known.by_op m k e
 
-  pub arrives : Arrives (scene_of x s l w.next) t.core
-  arrives = step_arrives x s l t w h.in_place withdrawable
+  arrives : Arrives a t.core
+  arrives = plain x s l w.next (λ c. Arrives c t.core) (step_arrives x s l t w h.in_place withdrawable)
+
+  pub in_place_kept : InPlace t
+  in_place_kept = record { placed = arrives.placed; runs = λ m e. arrives.runs m (settled_run t.core w.next m (sym w.turn ∙ e)) }
 
   pub starts_kept : Steady s.core t.core → StartsAwaited t.core
   starts_kept steady k c at e =
-      let come : Arrives a t.core = plain x s l w.next (λ c. Arrives c t.core) arrives in
-      let fresh = come.fresh k (was_awaited s.core t.core h.in_place.placed steady h.starts k c at e) in
+      let fresh = arrives.fresh k (was_awaited s.core t.core h.in_place.placed steady h.starts k c at e) in
       grind (arith, h.numbered.threads k, steady.calls k)
 
   directs_run : DirectsRun a t.core
   directs_run = along (DirectsRun a) (directs_word a) (λ k d. inl d) walk
 
   pub directs_kept : Steady s.core t.core → Numbered t.core → DirectsOnTop t.core
-  directs_kept steady after =
-      let goes = base_out (λ b. Arrives (record a { base = b }) t.core) s.turn s.core arrives in
-      directs_on_top a s.core t.core steady h.numbered after goes (λ k. refl) (λ k. refl) h.directs directs_run
+  directs_kept steady after = directs_on_top a s.core t.core steady h.numbered after arrives (λ k. refl) (λ k. refl) h.directs directs_run
 
   -- ---- Calls that ops are inside of
 
@@ -185,19 +189,16 @@ module _ (x : Setting) (s : State) (l : Label) (t : State) (h : InOrder x.compon
     apart = apart_after a names_base calls_base unbegun_base numbered_base least t.core called.0 called.1;
   }
     where
-      come : Arrives a t.core
-      come = plain x s l w.next (λ c. Arrives c t.core) arrives
-
       back : (n k : ℕ) → place_of n s.core ≡ Some (Place.Under k) → a.next ≡ Turn.Run n → subtask_under_way (how_far_of n t.core) ≡ None
       back n k at to = step_by x s l t w h.in_place withdrawable (λ c u. place_of n c.base ≡ Some (Place.Under k) → c.next ≡ Turn.Run n → subtask_under_way (how_far_of n u) ≡ None)
           (λ c b m q u base first same f d ends at to. back_apart f n k at to d) (of_base (λ b. place_of n b ≡ Some (Place.Under k)) s.turn s.core at) to
 
       inside : (n k : ℕ) → how_far_of n t.core ≡ HowFar.Calls (Subtask.Guest k) → Inside a n k t.core → (place_of n t.core ≡ Some (Place.Under k)) ⊎ (option_map_or is_awaited (get t.core.calls k) false ≡ true)
-      inside n k far (inl under) = ⊎_elim inl (λ gone. absurd (⊎_elim (λ to. let y = back n k under to in grind arith) (λ none. grind arith) gone.1)) (come.covered n k under)
+      inside n k far (inl under) = ⊎_elim inl (λ gone. absurd (⊎_elim (λ to. let y = back n k under to in grind arith) (λ none. grind arith) gone.1)) (arrives.covered n k under)
       inside n k far (inr (inl awaited)) = inr awaited
       inside n k far (inr (inr (new, (runner, next)))) =
           let number = (h.in_place.placed k).number in
-          let e = come.entered k (grind arith) next in
+          let e = arrives.entered k (grind arith) next in
           inl (let mine = e.1.0 in let at = e.1.1 in grind arith)
 
   pub works_kept : WorksQueued t.core × HostsAwaited t.core
@@ -229,31 +230,19 @@ module _ (x : Setting) (s : State) (l : Label) (t : State) (h : InOrder x.compon
   -- what is so of threads and their ops as the step ends
   last : AllFit a t.core × Unbegun a t.core
   last =
-      let p : CallsHold x.component s.core = record { numbered = h.numbered; kinds = h.kinds; deliveries = h.deliveries } in
-      let b = calls_begin x s l w.next p in
-      let known = of_base (λ b. RunnerHoused (record a { base = b })) s.turn s.core runner_housed in
-      let fits = of_base (λ b. Fits x.component b) s.turn s.core fits_base in
-      let first = of_base (λ b. AllFit (record a { base = b }) s.core) s.turn s.core fits_first in
-      let runs = of_base (λ b. (n : ℕ) → s.turn ≡ Turn.Run n → place_of n b ≡ Some Place.Running) s.turn s.core h.in_place.runs in
-      let there = of_base (λ b. (n : ℕ) (r : Thread) → get b.threads n ≡ Some r → is_some (get b.calls r.call) ≡ true) s.turn s.core has_call in
-      let starts = of_base StartsFirst s.turn s.core unbegun_base in
-      let waits = of_base (λ b. Unbegun (record a { base = b }) s.core) s.turn s.core (record {
-        came = λ k f. inl f;
-        rest = λ k f there. by_waits k f there;
-      }) in
-      let c = scene_of x s l w.next in
-      let q = along (λ u. CallsGo c u × (AllFit c u × Unbegun c u)) (λ v m ok q. (
-        word_goes c h.codes b.0 v m ok q.0,
-        (fits_word c h.codes b.0 known fits runs there v m ok q.0 q.1.0, unbegun_word c b.0 runs starts v m ok q.0 q.1.1),
-      )) (b.1, (first, waits)) w.walk in
-      base_out (λ b. AllFit (record a { base = b }) t.core × Unbegun (record a { base = b }) t.core) s.turn s.core q.1
+      let b = plain x s l w.next (λ c. CallsHold x.component c.base × CallsGo c s.core) (calls_begin x s l w.next (held_of h)) in
+      (along (λ u. CallsGo a u × (AllFit a u × Unbegun a u)) (λ v m ok q. (
+        word_goes a h.codes b.0 v m ok q.0,
+        (
+          fits_word a h.codes b.0 runner_housed fits_base h.in_place.runs has_call v m ok q.0 q.1.0,
+          unbegun_word a b.0 h.in_place.runs unbegun_base v m ok q.0 q.1.1,
+        ),
+      )) (b.1, (fits_first, record { came = λ k f. inl f; rest = waited_first })) walk).1
     where
-      by_waits : (k : ℕ) → Waited a k → is_some (get s.core.threads k) ≡ true → IsUnbegun s.core k
-      by_waits k f there = by (get s.core.threads k) refl
-        where
-          by : (o : Option Thread) → get s.core.threads k ≡ o → IsUnbegun s.core k
-          by None at = absurd (grind arith)
-          by (Some r) at = let below = h.numbered.threads k r at in h.unbegun k r at (grind arith) (grind arith)
+      waited_first : (k : ℕ) → Waited a k → is_some (get s.core.threads k) ≡ true → IsUnbegun s.core k
+      waited_first k f there =
+          let r = at_place (λ (r : Thread). true) (get s.core.threads k) (grind arith) in
+          let below = h.numbered.threads k r.0 r.1.0 in h.unbegun k r.0 r.1.0 (grind arith) (grind arith)
 
   pub unbegun_kept : StartsFirst t.core
   unbegun_kept k r at first waits = let q = last.1 in let f = first_waits k t.core in q.rest k (q.came k (grind arith)) (grind arith)
@@ -261,33 +250,25 @@ module _ (x : Setting) (s : State) (l : Label) (t : State) (h : InOrder x.compon
   pub fits_kept : Steady s.core t.core → Fits x.component t.core
   fits_kept steady n r at =
       let f = last.0 n r at in
-      let now = calls_kept n r.call (ap (λ o. option_map (λ (t : Thread). t.call) o) at) in
       record {
         script = same_script x.component (call_instance r.call t.core) (call_instance r.call s.core) r.explicit r.script
             (λ e. same_call s.core t.core steady h.numbered r.call (f.call e) now) f.script;
-        position = at_place r.position r.call r.script f.position now;
-        op = comes r.how_far f.op;
+        position = ⊎_elim (λ zero. omega (arith, zero))
+            (λ b. subst (λ e. r.position ≤ length (script_in x.component e r.script)) (sym (same b.0)) b.1) f.position;
+        op = ⊎_elim (λ fresh. ap (can_come (op_of_thread x.component t.core r)) fresh) (λ e. at_op (λ o. can_come o r.how_far) e) f.op;
         under = λ d. at_op is_sync_call (f.under d).0;
         first = f.first;
       }
     where
+      now : is_some (get t.core.calls r.call) ≡ true
+      now = calls_kept n r.call (ap (λ o. option_map (λ (t : Thread). t.call) o) at)
+
+      same : is_some (get s.core.calls r.call) ≡ true → callee_of r.call t.core ≡ callee_of r.call s.core
+      same was = same_callee s.core t.core steady h.numbered r.call was now
+
       at_op : (test : Op → Bool) → OfBase a r test → test (op_of_thread x.component t.core r) ≡ true
       at_op test e =
-          let now = calls_kept n r.call (ap (λ o. option_map (λ (t : Thread). t.call) o) at) in
-          let same = same_callee s.core t.core steady h.numbered r.call e.0 now in
-          subst (λ f. test (unwrap_or (slice_get (script_in x.component f r.script) r.position) (Op.Task TaskOp.Exit)) ≡ true) (sym same) e.1
-
-      comes : (f : HowFar) → (f ≡ HowFar.Fresh) ⊎ OfBase a r (λ o. can_come o f) → can_come (op_of_thread x.component t.core r) f ≡ true
-      comes f (inl fresh) = ap (can_come (op_of_thread x.component t.core r)) fresh
-      comes f (inr e) = at_op (λ o. can_come o f) e
-
-      within : ℕ → ℕ → Script → Type 0
-      within p k y = (p ≡ 0) ⊎ ((is_some (get s.core.calls k) ≡ true) × (p ≤ length (script_in x.component (callee_of k s.core) y)))
-
-      at_place : (p k : ℕ) (y : Script) → within p k y → is_some (get t.core.calls k) ≡ true → p ≤ length (script_in x.component (callee_of k t.core) y)
-      at_place p k y (inl zero_at) now = omega (arith, zero_at)
-      at_place p k y (inr b) now =
-          subst (λ e. p ≤ length (script_in x.component e y)) (sym (same_callee s.core t.core steady h.numbered k b.0 now)) b.1
+          subst (λ f. test (unwrap_or (slice_get (script_in x.component f r.script) r.position) (Op.Task TaskOp.Exit)) ≡ true) (sym (same e.0)) e.1
 
   -- handles of sets, and the joins to them
   pub joined_kept : SetsNamed t.core × JoinsNamed t.core
@@ -325,11 +306,10 @@ module _ (x : Setting) (s : State) (l : Label) (t : State) (h : InOrder x.compon
 pub step_in_order : StepInOrder
 step_in_order x s l t h step =
     let w = step_walks x s l t step in
-    let p : CallsHold x.component s.core = record { numbered = h.numbered; kinds = h.kinds; deliveries = h.deliveries } in
-    let q : CallsHold x.component t.core = (step_goes x s l t h.codes p step).0 in
+    let q : CallsHold x.component t.core = (step_goes x s l t h.codes (held_of h) step).0 in
     record {
       codes = h.codes;
-      in_place = in_place x s l t w (arrives x s l t h w);
+      in_place = in_place_kept x s l t h w;
       strands = strands_kept x s l t h w;
       directs = directs_kept x s l t h w (steady x s l t step) q.numbered;
       works = (works_kept x s l t h w).0;
@@ -353,14 +333,7 @@ step_in_order x s l t h step =
 
 opening_placed : (instances handle_limit capacity : ℕ) → Placed (fresh instances handle_limit capacity)
 unfolding fresh
-opening_placed instances handle_limit capacity n = record {
-  number = λ e. let o = get-empty {X = Thread} n in absurd (cc);
-  behind = λ f e. let o = get-empty {X = Thread} n in absurd (cc);
-  switch = let o : get (empty {X = Thread}) n ≡ None = get-empty n in cc;
-  high = let o : get (empty {X = Thread}) n ≡ None = get-empty n in cc;
-  low = let o : get (empty {X = Thread}) n ≡ None = get-empty n in cc;
-  callers = λ f. grind (arith, get-empty);
-}
+opening_placed instances handle_limit capacity n = grind (arith, get-empty)
 
 pub opening_in_order : OpeningInOrder
 unfolding fresh OpeningInOrder
@@ -369,31 +342,16 @@ opening_in_order c codes instances handle_limit capacity main =
     record {
       codes = codes;
       in_place = record { placed = opening_placed instances handle_limit capacity; runs = λ n e. absurd (cc) };
-      strands = record {
-        below = λ n m e. let o = get-empty {X = Thread} n in absurd (cc);
-        made = λ n m e. let o = get-empty {X = Thread} n in absurd (cc);
-        alone = λ n k m e f. let o = get-empty {X = Thread} n in absurd (cc);
-      };
+      strands = grind (arith, get-empty);
       directs = λ n there implicit direct. let o = get-empty {X = Thread} n in absurd (cc);
-      works = record {
-        each = λ i w at. let o = get-empty {X = Work} i in absurd (cc);
-        low = λ i. (refl, refl);
-        made = λ i there. let o = get-empty {X = Work} i in absurd (cc);
-        gone = λ i none. (refl, refl);
-      };
+      works = grind (arith, get-empty);
       awaited = λ n i far. let o = get-empty {X = Thread} n in absurd (cc);
       numbered = q.numbered;
       calls_there = λ n k e. let o = get-empty {X = Thread} n in absurd (cc);
-      waits = record {
-        by_place = λ n x e. let o = get-empty {X = Thread} n in absurd (cc);
-        by_op = λ n x e. let o = get-empty {X = Thread} n in absurd (cc);
-      };
+      waits = grind (arith, get-empty);
       calls_named = opening_named instances handle_limit capacity;
       names = opening_names_known instances handle_limit capacity;
-      calls = record {
-        inside = λ n k far. let o = get-empty {X = Thread} n in absurd (cc);
-        apart = λ n m k far e. let o = get-empty {X = Thread} n in absurd (cc);
-      };
+      calls = grind (arith, get-empty);
       sets_named = opening_sets instances handle_limit capacity;
       joins_named = opening_joins instances handle_limit capacity;
       kinds = q.kinds;

@@ -1,12 +1,11 @@
 -- Where each thread is along the words of a step: each has its place, and one that waits for its start still does, or its call has begun.
-use Rattle.task_rules.proofs.Machine.{[], add_call, add_group, add_set, add_work, after_placing, after_word, ap, arith, AwaitsEvent, Blocks, Bool, ByHandle, call_made, Collapses, Core, count_work, Departs, EndsOver, Enter, entries, Entry, Falls, false, free_handle, free_thread_handle, get, get-change, give_handle, give_result, give_thread_handle, GoBehind, GoesBack, has_entry, HasPlace, HasSubtask, Holds, HowFar, if◌then◌else◌, inl, inr, is_at_high, is_at_low, is_at_switch, is_begun, is_blocked_on, is_done_host, is_explicit, is_for_start, is_free, is_fresh, is_none, is_some, is_there, is_under, IsFall, IsFoot, IsRunner, IsSettling, Lands, LandsAt, LastWords, le_refl, Leaves, MakeCall, MakeThread, Mark, MayGo, MayLand, MayMove, MayPut, MayWithdraw, MayYield, Move, nat_tests, new_thread, next_thread, None, on_call, on_instance, on_thread, on_work, Option, option_map_or, Place, place_of, Places, Placing, poll_pends, Promote, push_high, Put, Quits, refl, registers_for, Remains, remove_call, remove_group, remove_set, remove_thread, remove_work, RemoveThread, Runs, says, Scene, Script, set_backpressure, set_cancel_delivered, set_cancelled, set_course, set_do_not_enter, set_do_not_suspend, set_end, set_event, set_exited, set_how_far, set_join, set_own_event, set_phase, set_place, set_position, set_register, set_result, set_saved_callee, set_saved_own, set_script, set_stage, set_started, set_starting_published, set_subtask_handle, set_thread_handle, set_trapped, set_uninteresting, set_word, Settles, SetTrapped, SetUninteresting, Some, Stay, Stays, Stop, subst, Subtask, Suspends, switch_entries, sym, T, take_result, TakeHost, TakePush, task_of, Thread, Trip, true, Turn, Uncovers, Waits, WaitsAgain, was_started, Why, with_handle, with_thread_handle, Withdraw, Word, work_queued, ℕ, ⊎_elim, ◌+◌, ◌==◌, ◌||◌, ◌∙◌, ◌≡◌, ◌≤◌, ◌⊎◌}
+use Rattle.task_rules.proofs.Machine.{[], add_call, add_group, add_set, add_work, after_placing, after_word, ap, arith, AwaitsEvent, Blocks, Bool, ByHandle, Call, call_made, Collapses, Core, count_work, Departs, EndsOver, Enter, entries, Entry, Falls, false, free_handle, free_thread_handle, get, get-change, give_handle, give_result, give_thread_handle, GoBehind, GoesBack, has_entry, HasPlace, HasSubtask, Holds, HowFar, if◌then◌else◌, inl, inr, is_at_high, is_at_low, is_at_switch, is_begun, is_done_host, is_explicit, is_for_start, is_free, is_fresh, is_none, is_some, is_there, is_under, IsFall, IsFoot, IsRunner, IsSettling, Lands, LandsAt, LastWords, Leaves, MakeCall, MakeThread, Mark, MayGo, MayLand, MayMove, MayPut, MayWithdraw, MayYield, Move, nat_tests, new_thread, next_thread, None, on_call, on_instance, on_thread, on_work, Option, option_map, option_map_or, Place, place_of, Places, Placing, poll_pends, Promote, promoted, push_high, Put, put_high, put_low, Quits, refl, registers_for, Remains, remove_call, remove_group, remove_set, remove_thread, remove_work, RemoveThread, Runs, says, Scene, Script, set_backpressure, set_cancel_delivered, set_cancelled, set_course, set_do_not_enter, set_do_not_suspend, set_end, set_event, set_exited, set_how_far, set_join, set_own_event, set_phase, set_place, set_position, set_register, set_result, set_saved_callee, set_saved_own, set_script, set_stage, set_started, set_starting_published, set_subtask_handle, set_thread_handle, set_trapped, set_uninteresting, set_word, Settles, SetTrapped, SetUninteresting, Some, Stay, Stays, Stop, subst, Subtask, Suspends, switch_entries, sym, T, take_result, TakeHost, TakePush, task_of, Thread, Trip, true, Turn, Uncovers, Waits, WaitsAgain, was_started, Why, with_handle, with_thread_handle, Withdraw, Word, work_queued, ℕ, ⊎_elim, ◌+◌, ◌==◌, ◌||◌, ◌∙◌, ◌≡◌, ◌≤◌, ◌⊎◌}
 use Rattle.task_rules.proofs.WalkMoves.{blocked_place}
 use Rattle.task_places.proofs.Entries.{added_stand, has_stands, next_first, popped_quiet, promoted_stand, removed_fresh, withdrawn_stand, flipped}
-use Rattle.task_laws.proofs.CameLemmas.{read_same}
 use Rattle.task_rules.proofs.ChainLemmas.{along}
-use Rattle.task_rules.proofs.MoveLemmas.{removed_is, All, all_of, idle_loose, is_busy, is_idle, is_parked, loose_idle, put_stand, removed_all, no_time, one_time, stand_of, removed_gone, removed_placed, removed_loose, gone_place}
+use Rattle.task_rules.proofs.MoveLemmas.{at_place, removed_is, All, all_of, idle_loose, is_busy, is_idle, is_parked, loose_idle, put_stand, removed_all, no_time, one_time, stand_of, removed_gone, removed_placed, removed_loose, gone_place}
 use Rattle.task_rules.proofs.PlacingLemmas.{placing_shifted}
-use Rattle.task_rules.proofs.StandLemmas.{nobody, entries-append, set_place_is, Adds, adds_all, Loose, Stand, by_number, put_high_adds, put_low_adds, set_place_adds, place_kept, place_written, Given, Watch, Nothing, Awaits, Covered, is_so, is_watched, eq_refl, is_eq_of, Stuck, watching}
+use Rattle.task_rules.proofs.StandLemmas.{nobody, entries-append, set_place_is, Adds, adds_all, Loose, Stand, by_number, put_high_adds, put_low_adds, set_place_adds, place_kept, place_written, Given, Watch, Nothing, Awaits, Covered, is_so, is_watched, Stuck, watching}
 use Rattle.task_rules.proofs.StopLemmas.{Untouched, behind_adds, foot_there, given_there, quiet_placed, quiet_stand, stopped_stand, switch_there}
 use Rattle.task_rules.proofs.WalkParts.{withdraws}
 use Rattle.task_rules.proofs.WalkTask.{not_main, one_runner}
@@ -19,10 +18,6 @@ no_way h = absurd (subst T (sym h) tt)
 -- who is put was parked; one that waited for its start still does
 parked_at : (m : ℕ) (w : Why) (s : Core) → MayPut m w s → (option_map_or is_parked (place_of m s) false ≡ true) × (is_fresh (place_of m s) ≡ true → is_for_start w ≡ true)
 parked_at m w s ok = (grind arith, λ h. grind arith)
-
-place_at : (test : Place → Bool) (o : Option Place) → option_map_or test o false ≡ true → (p : Place) × ((o ≡ Some p) × (test p ≡ true))
-place_at test None h = no_way h
-place_at test (Some p) h = (p, (refl, h))
 
 abbrev pub ReadyAt : Option Place → Type 0
 ReadyAt o = (x : Mark) × ((w : Why) × (o ≡ Some (Place.Ready x w)))
@@ -81,27 +76,9 @@ pub record Follows (a : Scene) (b : Core) (n : ℕ) (q : Option Place) : Type 0 
   pub withdraws : (m k : ℕ) → IsRunner a m → HasSubtask a m (Subtask.Guest k) → was_started k a.base ≡ false → waits a k ≡ true
   pub start : Stand (watch a) n q [] b
 
-thread_untouched : (n : ℕ) (f : Thread → Thread) (s : Core) → ((t : Thread) → (f t).place ≡ t.place) → Untouched s (on_thread n f s)
-unfolding on_thread
-thread_untouched n f s same = record { places = λ k. read_same n f same k s; switch = λ k. refl; high = λ k. refl; low = λ k. refl; callers = refl; made = le_refl _ }
-
--- the word puts the thread
-abbrev puts_of : ℕ → Word → Bool
-puts_of m (Places (Put x k w)) = k == m
-puts_of m w = false
-
-pub blocked_itself : (sub : Subtask) → is_blocked_on sub (Place.Blocked sub) ≡ true
-blocked_itself (Subtask.Guest k) = eq_refl k
-blocked_itself (Subtask.Host i) = eq_refl i
-
 -- a blocked thread is put once its host's work is done
 put_blocked : (m : ℕ) (sub : Subtask) (w : Why) (s : Core) → MayPut m w s → place_of m s ≡ Some (Place.Blocked sub) → is_done_host sub s ≡ true
 put_blocked m sub w s ok at = grind arith
-
-put_done : (a : Scene) (m : ℕ) (sub : Subtask) (w : Word) (s : Core) → Stays a w s → place_of m s ≡ Some (Place.Blocked sub) → puts_of m w ≡ true → is_done_host sub s ≡ true
-put_done a m sub (Places (Put x k w)) s (inl ok) at e = put_blocked m sub w s (subst (λ (j : ℕ). MayPut j w s) (is_eq_of k m e) ok) at
-put_done a m sub (Places (Put x k w)) s (inr ok) at e = absurd ok
-put_done a m sub _ s ok at e = no_way e
 
 module _ {a : Scene} {b : Core} {n : ℕ} {q : Option Place} (f : Follows a b n q) where
   not_here : {P : ℕ → Watch} (m : ℕ) (s : Core) → Stand P n q [] s → (place_of m s ≡ q → ⊥) → (m == n) ≡ false
@@ -115,7 +92,7 @@ module _ {a : Scene} {b : Core} {n : ℕ} {q : Option Place} (f : Follows a b n 
   keeps_placing : {P : ℕ → Watch} (p : Placing) (s : Core) → Stays a (Places p) s → Puts P (Places p) s → Stand P n q [] s →
       Stand P n q [] (after_placing p s)
   keeps_placing (Put x m w) s (inl ok) puts st =
-      let p = place_at is_parked (place_of m s) (parked_at m w s ok).0 in
+      let p = at_place is_parked (place_of m s) (parked_at m w s ok).0 in
       put_stand n q f.busy x m w p.0 s p.1.0 p.1.1 (λ h. puts x m w refl h (st.kept m h).1) st
   keeps_placing (Promote m) s (inl ok) puts st =
       let one = listed m s ok.1 in
@@ -160,7 +137,7 @@ module _ {a : Scene} {b : Core} {n : ℕ} {q : Option Place} (f : Follows a b n 
           is_so (watch a m) (Some (Place.Ready x v)) ≡ true
       puts x m v (inl may) so =
           let r = parked_at m v s may in
-          let p = place_at is_parked (place_of m s) r.0 in
+          let p = at_place is_parked (place_of m s) r.0 in
           so_put (place_of m a.base) p.0 x v p.1.1 (λ g. r.1 (ap is_fresh p.1.0 ∙ g)) (ap (is_so (watch a m)) (sym p.1.0) ∙ so)
       puts x m v (inr may) so = absurd may
 
@@ -170,20 +147,23 @@ module _ {a : Scene} {b : Core} {n : ℕ} {q : Option Place} (f : Follows a b n 
   -- a thread that is blocked stays so, but where its host's work is done
   pub stuck_word : (m : ℕ) (sub : Subtask) (w : Word) (s : Core) → Stays a w s → Stand (watch a) n q [] s →
       place_of m s ≡ Some (Place.Blocked sub) → (place_of m (after_word w s) ≡ Some (Place.Blocked sub)) ⊎ (is_done_host sub s ≡ true)
-  stuck_word m sub w s ok st at = by_put (puts_of m w) refl
+  stuck_word m sub w s ok st at = by_done (is_done_host sub s) refl
     where
       only : ℕ → Watch
       only k = if k == m then Stuck sub else Nothing
 
       before : Stand only n q [] s
-      before = watching n q [] s (λ k h. (refl, let i = blocked_itself sub in grind (arith, nat_tests))) st
+      before = watching n q [] s (λ k h. (refl, grind (arith, nat_tests))) st
 
-      by_put : (b : Bool) → puts_of m w ≡ b → (place_of m (after_word w s) ≡ Some (Place.Blocked sub)) ⊎ (is_done_host sub s ≡ true)
-      by_put true e = inr (put_done a m sub w s ok at e)
-      by_put false e =
-          let t = keeps_word w s ok (λ x k v is g so. let p = ap (puts_of m) is in absurd (grind (arith, nat_tests)))
-          (λ k is. fresh_still a st k (withdraws_waits k s (subst (λ (y : Word). Stays a y s) is ok))) before in
-          let kept = t.kept m in
+      not_put : (x : Mark) (k : ℕ) (v : Why) → Stays a (Places (Put x k v)) s → is_watched (only k) ≡ true → is_done_host sub s ≡ true
+      not_put x k v (inl may) g = put_blocked k sub v s may (grind (arith, nat_tests))
+      not_put x k v (inr may) g = absurd may
+
+      by_done : (b : Bool) → is_done_host sub s ≡ b → (place_of m (after_word w s) ≡ Some (Place.Blocked sub)) ⊎ (is_done_host sub s ≡ true)
+      by_done true done = inr done
+      by_done false undone =
+          let kept = (keeps_word w s ok (λ x k v is g so. no_way (sym undone ∙ not_put x k v (subst (λ (y : Word). Stays a y s) is ok) g))
+          (λ k is. fresh_still a st k (withdraws_waits k s (subst (λ (y : Word). Stays a y s) is ok))) before).kept m in
           inl (blocked_place sub (place_of m (after_word w s)) (grind (arith, nat_tests)))
 
   pub stay_stand : {t : Core} → Stay a b t → Stand (watch a) n q [] t
@@ -208,17 +188,14 @@ pub record Arrives (a : Scene) (t : Core) : Type 0 where
 far_arrives : (a : Scene) (n : ℕ) (h : HowFar) (s : Core) → Arrives a s → Arrives a (set_how_far n h s)
 unfolding set_how_far on_thread
 far_arrives a n h s r =
-    let u = thread_untouched n (λ t. record t { how_far = h }) s (λ t. refl) in
+    let u : Untouched s (set_how_far n h s) = grind (arith, nat_tests, get-change) in
     record {
       placed = λ k. quiet_placed k s _ u (r.placed k);
       runs = λ m to. u.places m ∙ r.runs m to;
-      fresh = λ k w. let e = same k in let h = r.fresh k w in grind arith;
-      covered = λ k m at. let e = same k in let g = same m in let h = r.covered k m at in grind arith;
+      fresh = λ k w. let e = u.places k in let h = r.fresh k w in grind arith;
+      covered = λ k m at. let e = u.places k in let g = u.places m in let h = r.covered k m at in grind arith;
       entered = λ m none to. let e = r.entered m none to in (e.0, (e.1.0, u.places e.0 ∙ e.1.1));
     }
-  where
-    same : (k : ℕ) → place_of k (on_thread n (λ t. record t { how_far = h }) s) ≡ place_of k s
-    same k = read_same n (λ t. record t { how_far = h }) (λ t. refl) k s
 
 -- ---- The thread itself comes to a place
 

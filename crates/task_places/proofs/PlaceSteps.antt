@@ -132,8 +132,5 @@ step_arrives x s l t w h may = step_by x s l t w h may Arrives (λ a b n q u bas
 
 -- ---- The turn
 
-settled_run : (s : Core) (u : Turn) (m : ℕ) → settled_turn s u ≡ Turn.Run m → u ≡ Turn.Run m
+pub settled_run : (s : Core) (u : Turn) (m : ℕ) → settled_turn s u ≡ Turn.Run m → u ≡ Turn.Run m
 settled_run s u m e = grind arith
-
-pub in_place : (x : Setting) (s : State) (l : Label) (t : State) (w : Walked x s l t) → Arrives (scene_of x s l w.next) t.core → InPlace t
-in_place x s l t w r = record { placed = r.placed; runs = λ m e. r.runs m (settled_run t.core w.next m (sym w.turn ∙ e)) }

@@ -1,5 +1,5 @@
 -- What holds along a chain of words.
-use Rattle.task_rules.proofs.Machine.{Advance, after_word, Allowed, Chain, Collapses, Core, Departs, EndsOver, GoesBack, HowFar, inl, inr, IsFall, IsSettling, IsShift, Lands, LandsAt, Mark, MayGo, MayLand, Move, NoWord, Place, Places, Placing, Pop, Promote, Put, Quits, refl, Remains, RemoveCall, RemoveGroup, RemoveThread, Scene, SetHowFar, Settles, SetTrapped, SetUninteresting, Stay, Stays, Then, Trip, Turn, Walk, WasUnder, Word, ℕ, ◌≡◌}
+use Rattle.task_rules.proofs.Machine.{Advance, after_word, Allowed, Bool, Chain, Collapses, Core, Departs, EndsOver, false, GoesBack, HowFar, if◌then◌else◌, inl, inr, IsFall, IsSettling, IsShift, Lands, LandsAt, Mark, MayGo, MayLand, Move, NoWord, Place, Places, Placing, Pop, Promote, Put, Quits, refl, Remains, RemoveCall, RemoveGroup, RemoveThread, Scene, SetHowFar, Settles, SetTrapped, SetUninteresting, Stay, Stays, Then, Trip, true, Turn, Walk, WasUnder, Word, ℕ, ◌≡◌}
 
 module _ {may : Word → Core → Type 0} where
   -- what holds at first and is kept by each word holds at last
@@ -10,6 +10,10 @@ module _ {may : Word → Core → Type 0} where
   pub join : {b m : Core} → Chain may b m → {t : Core} → Chain may m t → Chain may b t
   join c NoWord = c
   join c (Then s w d ok) = Then s w (join c d) ok
+
+  pub chain_if : {b : Core} (c : Bool) (t u : Core) → (c ≡ true → Chain may b t) → (c ≡ false → Chain may b u) → Chain may b (if c then t else u)
+  chain_if true t u p q = p refl
+  chain_if false t u p q = q refl
 
 -- a chain of words that may be done for one reason is one of words that may be done for another
 pub weaken : {may can : Word → Core → Type 0} → ((w : Word) (s : Core) → may w s → can w s) → {b t : Core} → Chain may b t → Chain can b t
@@ -60,10 +64,7 @@ land_allowed a (Put Mark.Switch n w) s ok = absurd ok
 land_allowed a _ s ok = inr ok
 
 pub settle_stays : (a : Scene) (w : Word) (s : Core) → IsSettling w s → Stays a w s
-settle_stays a (SetUninteresting k) s ok = tt
-settle_stays a (RemoveCall k) s ok = (ok.0, inl ok.1)
-settle_stays a (RemoveGroup g) s ok = ok
-settle_stays a _ s ok = absurd ok
+settle_stays a w s ok = keeps_stays a w s (settle_keeps a w s ok)
 
 pub fall_allowed : (a : Scene) (w : Word) (s : Core) → IsFall a w s → Allowed a w s
 fall_allowed a (RemoveThread n) s ok = ok

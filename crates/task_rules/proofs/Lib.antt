@@ -17,4 +17,3 @@ pub mod CheckLemmas
 pub mod StandLemmas
 pub mod StopLemmas
 pub mod MoveLemmas
-pub mod CancelLemmas

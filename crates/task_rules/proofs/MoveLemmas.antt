@@ -1,8 +1,7 @@
 -- Moves beside a thread that runs or is taken: they leave each other thread its place.
-use Rattle.task_rules.proofs.Machine.{[], ap, arith, Bool, cond, Core, Delivery, displaced, false, get-remove, get-remove_other, get-remove_same, HasPlace, held_why, held_why_of, is_callback_waiter, is_free, is_there, is_waiting_on, List, Mark, may_wake, nat_tests, None, on_thread, one_if, Option, option_and_then, option_map, option_map_or, Place, place_of, push_high, push_high_first, push_low, put_at, put_high, put_low, put_switch, refl, released, released_one, ReleaseKeepsPlaces, RemovalKeepsPlaces, remove_thread, set_place, set_switch, Some, StopKeepsPlaces, stopped, subst, switch_entries, sym, Thread, times, true, wake, WakeKeepsPlaces, waken_by, Why, why_of, ℕ, ◌+◌, ◌==◌, ◌∙◌, ◌∷◌, ◌≡◌, ◌≤◌}
+use Rattle.task_rules.proofs.Machine.{[], ap, arith, Bool, cond, Core, Delivery, displaced, false, get-remove, get-remove_other, get-remove_same, HasPlace, held_why, held_why_of, is_callback_waiter, is_free, is_there, is_waiter, List, Mark, may_wake, nat_tests, None, on_thread, one_if, Option, option_and_then, option_map, option_map_or, Place, place_of, push_high, push_high_first, push_low, put_at, put_high, put_low, put_switch, refl, released, released_one, ReleaseKeepsPlaces, RemovalKeepsPlaces, remove_thread, set_place, set_switch, Some, StopKeepsPlaces, stopped, subst, switch_entries, sym, Thread, times, true, wake, WakeKeepsPlaces, waken_by, Why, why_of, ℕ, ◌+◌, ◌==◌, ◌∙◌, ◌∷◌, ◌≡◌, ◌≤◌}
 pub use Rattle.task_machine.proofs.CommuteLemmas.{get-change}
-use Rattle.task_rules.proofs.StandLemmas.{nobody}
-use Rattle.task_rules.proofs.StandLemmas.{Loose, Stand, Watch, adds_all, by_count, eq_refl, free_drops, is_so, is_watched, loose_gone, moves_stand, not_eq, place_kept, put_high_adds, put_low_adds, set_place_adds, zero_one, Adds}
+use Rattle.task_rules.proofs.StandLemmas.{nobody, Loose, Stand, Watch, adds_all, by_count, eq_refl, free_drops, is_so, is_watched, moves_stand, not_eq, place_kept, put_high_adds, put_low_adds, set_place_adds, zero_one, Adds}
 use Rattle.task_rules.proofs.StopLemmas.{displaced_stand, stopped_stand, switch_adds}
 
 -- ---- Where other threads are
@@ -23,9 +22,10 @@ is_parked (Place.Under m) = false
 is_parked (Place.Behind f) = false
 is_parked _ = true
 
-at_place : (test : Place → Bool) (o : Option Place) → option_map_or test o false ≡ true → (p : Place) × (o ≡ Some p) × (test p ≡ true)
+-- what passes is there
+pub at_place : {X : Type 0} (test : X → Bool) (o : Option X) → option_map_or test o false ≡ true → (x : X) × ((o ≡ Some x) × (test x ≡ true))
 at_place test None h = absurd (grind arith)
-at_place test (Some p) h = (p, refl, h)
+at_place test (Some x) h = (x, (refl, h))
 
 -- ---- A thread is gone
 
@@ -46,7 +46,7 @@ unfolding remove_thread
 removed_loose k n s l = grind (arith, nat_tests, get-remove)
 
 pub removed_gone : (n : ℕ) (s : Core) → Loose n s → HasPlace n (remove_thread n s)
-removed_gone n s l = loose_gone n (remove_thread n s) (gone_place n s) (removed_loose n n s l)
+removed_gone n s l = let is = gone_place n s in let r = removed_loose n n s l in grind arith
 
 pub removed_placed : (k n : ℕ) (s : Core) → (k == n) ≡ false → HasPlace k s → HasPlace k (remove_thread n s)
 unfolding remove_thread
@@ -161,15 +161,14 @@ release_stand n (m ∷ ns) s st = release_stand n ns (released_one m (held_why_o
 wake_stand : (n x : ℕ) (w : Option ℕ) (s : Core) → may_wake x w s ≡ true → Runs n s → Runs n (wake x w s)
 unfolding wake may_wake
 wake_stand n x None s h st = st
-wake_stand n x (Some m) s h st =
-    let p = at_place (is_waiting_on x) (place_of m s) h in by_callback p.0 p.1 (waits_parked p.0 p.2) (is_callback_waiter m s)
+wake_stand n x (Some m) s h st = by_callback (is_callback_waiter m s)
   where
-    waits_parked : (p : Place) → is_waiting_on x p ≡ true → is_parked p ≡ true
-    waits_parked p h = grind arith
+    waits : is_waiter x m s ≡ true → option_map_or is_parked (place_of m s) false ≡ true
+    waits h = grind arith
 
-    by_callback : (p : Place) → place_of m s ≡ Some p → is_parked p ≡ true → (b : Bool) → Runs n (waken_by b x m s)
-    by_callback p is parked true = put_keeps n m (Why.Delivery (Delivery.Set x)) p s is parked st
-    by_callback p is parked false = put_keeps n m Why.Resumption p s is parked st
+    by_callback : (b : Bool) → Runs n (waken_by b x m s)
+    by_callback true = let p = at_place is_parked (place_of m s) (waits h) in put_keeps n m (Why.Delivery (Delivery.Set x)) p.0 s p.1.0 p.1.1 st
+    by_callback false = let p = at_place is_parked (place_of m s) (waits h) in put_keeps n m Why.Resumption p.0 s p.1.0 p.1.1 st
 
 pub stop_keeps_places : StopKeepsPlaces
 unfolding StopKeepsPlaces

@@ -1,22 +1,14 @@
 -- What labels say of the ends of calls: the events that are taken.
-use Rattle.task_rules.proofs.Machine.{[], and_parts, ap, arith, Bool, call_settled, cancel_aborts_host, Choice, chosen, Core, end_answered, end_for, event_of, false, find, finished_call, get, get-change, get-remove, get-remove_same, Gift, gift, gift_after_own, given_for, group_settled, handed_by_event, handed_out, HandsOut, has_result, if◌then◌else◌, instance_of, is_handed_end, is_none, Join, List, map, MemberGift, nat_cmp, nat_tests, NoGift, None, numbers, on_call, on_work, Option, option_and_then, option_map, option_map_or, option_or, OwnEvent, OwnGift, Records, refl, remove, remove_call, remove_group, Scene, set_cancelled, set_event, set_join, set_own_event, set_phase, set_result, Some, Status, status_code, subst, Subtask, subtask_at, SubtaskEnd, sym, take_result, taken, TakesEvent, true, undelivered_end, unsigned_tied, unwrap_or, ℕ, ◌&&◌, ◌==◌, ◌∙◌, ◌∷◌, ◌≡◌}
+use Rattle.task_rules.proofs.Machine.{[], and_parts, ap, arith, Bool, call_settled, Choice, chosen, Core, end_answered, end_for, event_of, false, find, finished_call, get, get-change, get-remove, get-remove_same, Gift, gift, gift_after_own, given_for, group_settled, handed_by_event, handed_out, HandsOut, has_result, if◌then◌else◌, instance_of, is_handed_end, is_none, List, map, MemberGift, nat_cmp, nat_tests, NoGift, None, numbers, on_call, on_work, Option, option_and_then, option_map, option_map_or, option_or, OwnEvent, OwnGift, Records, refl, remove, remove_call, remove_group, Scene, set_event, set_result, Some, Status, status_code, subst, Subtask, subtask_at, SubtaskEnd, take_result, taken, TakesEvent, true, undelivered_end, unsigned_tied, unwrap_or, ℕ, ◌&&◌, ◌==◌, ◌∙◌, ◌∷◌, ◌≡◌}
 use Rattle.std.specs.FinMap.Entries.{find as seek}
 use Rattle.task_rules.proofs.StopLemmas.{find_passes}
 
--- ---- What an event hands out
-
-member_chosen : (o : Option OwnEvent) (y : ℕ) (c : Option Subtask) (s : Core) (sub : Subtask) → gift_after_own o y c s ≡ Some (MemberGift sub) → c ≡ Some sub
-member_chosen o y c s sub h = grind arith
-
 -- the handle that the choice shows names the member
-chosen_at : (n : ℕ) (ch : Choice) (s : Core) (sub : Subtask) → chosen n ch s ≡ Some sub → subtask_at (instance_of n s) (unwrap_or ch.member 0) s ≡ Some sub
-chosen_at n ch s sub is = grind arith
+member_at : (o : Option OwnEvent) (n y : ℕ) (ch : Choice) (s : Core) (sub : Subtask) → gift_after_own o y (chosen n ch s) s ≡ Some (MemberGift sub) → subtask_at (instance_of n s) (unwrap_or ch.member 0) s ≡ Some sub
+member_at o n y ch s sub h = grind arith
 
-end_parts : (b : Bool) (f : Status) (o : Option Subtask) (to : Subtask) (e : Status) → (if b then option_map (end_for f) o else None) ≡ Some (end_for e to) → (b ≡ true) × ((o ≡ Some to) × (f ≡ e))
-end_parts b f o to e h = grind arith
-
-end_told : (o : Option Status) (e : Status) → is_handed_end (unwrap_or o Status.Starting) ≡ true → unwrap_or o Status.Starting ≡ e → undelivered_end o ≡ Some e
-end_told o e h is = grind arith
+handed_as : (f : Option Status) (o : Option Subtask) (sub to : Subtask) (e : Status) → o ≡ Some sub → (if is_handed_end (unwrap_or f Status.Starting) then option_map (end_for (unwrap_or f Status.Starting)) o else None) ≡ Some (end_for e to) → (sub ≡ to) × (undelivered_end f ≡ Some e)
+handed_as f o sub to e is out = (grind arith, grind arith)
 
 -- ---- The event is gone
 
@@ -34,10 +26,8 @@ unfolding gift given_for taken
 given_out by n j y ch (OwnGift event) k u is calls works to e out = absurd (grind arith)
 given_out by n j y ch NoGift k u is calls works to e out = absurd (grind arith)
 given_out {a = a} by n j y ch (MemberGift sub) k u {t = t} is calls works to e out =
-    let s = a.base in
-    let r = end_parts (is_handed_end (unwrap_or (event_of sub s) Status.Starting)) (unwrap_or (event_of sub s) Status.Starting) (subtask_at (instance_of n s) (unwrap_or ch.member 0) s) to e out in
-    let same : sub ≡ to = ap (λ (o : Option Subtask). unwrap_or o sub) (sym (chosen_at n ch s sub (member_chosen _ y (chosen n ch s) s sub is)) ∙ r.1.0) in
-    subst (λ (d : Subtask). HandsOut a t d e) same (TakesEvent sub e (end_told (event_of sub s) e r.0 r.1.1) (event_gone sub u t calls works))
+    let q = handed_as (event_of sub a.base) (subtask_at (instance_of n a.base) (unwrap_or ch.member 0) a.base) sub to e (member_at _ n y ch a.base sub is) out in
+    subst (λ (d : Subtask). HandsOut a t d e) q.0 (TakesEvent sub e q.1 (event_gone sub u t calls works))
 
 -- the call's event is taken, and then the call may go
 pub settled_gone : (k : ℕ) (s t : Core) → t.calls ≡ (call_settled k s).calls → HasNoEnd (Subtask.Guest k) s → HasNoEnd (Subtask.Guest k) t
@@ -49,21 +39,6 @@ unfolding set_result set_event on_call
 result_gone k s = grind (arith, nat_tests, get-change)
 
 -- ---- What a call or a cancel finds
-
-pub found_returned : (o : Option Status) → unwrap_or o Status.Starting ≡ Status.Returned → undelivered_end o ≡ Some Status.Returned
-found_returned o h = grind arith
-
-pub event_joined : (sub : Subtask) (y : Join) (s : Core) → event_of sub (set_join sub y s) ≡ event_of sub s
-unfolding set_join on_call on_work
-event_joined sub y s = grind (arith, nat_tests, get-change)
-
-pub event_owed : (k : ℕ) (y : Option OwnEvent) (s : Core) → event_of (Subtask.Guest k) (set_own_event k y s) ≡ event_of (Subtask.Guest k) s
-unfolding set_own_event on_call
-event_owed k y s = grind (arith, nat_tests, get-change)
-
-pub event_aborted : (i : ℕ) (s : Core) → event_of (Subtask.Host i) (cancel_aborts_host i s) ≡ event_of (Subtask.Host i) s
-unfolding cancel_aborts_host set_cancelled set_phase on_work
-event_aborted i s = grind (arith, nat_tests, get-change)
 
 -- what is so of the end that is said
 pub said_is : (P : Subtask → Status → Type 0) {f e : Status} {d sub : Subtask} → Some (end_for f d) ≡ Some (end_for e sub) → P d f → P sub e

@@ -1,5 +1,5 @@
 -- What the moves that put threads, and a stop, do to places and entries.
-use Rattle.task_rules.proofs.Machine.{[], ap, arith, behind, behind_one, Bool, callers_of, Core, displaced, entries, find, foot_from, foot_of, get-change, get-insert, HasPlace, is_at, is_at_switch, is_behind_of, is_fresh, is_some, is_there, is_under, le_refl, List, Mark, nat_tests, newest, None, numbers, older, on_thread, one_if, Option, passed_on, Place, place_of, push_high_first, put_high, put_switch, refl, resumed_all, resumed_callers, says, set_callers, set_place, set_switch, size, Some, stopped, suc, switch_entries, sym, times, true, under_of, Why, why_of, zero, ℕ, ◌∙◌, ◌∷◌, ◌≡◌, ◌≤◌}
+use Rattle.task_rules.proofs.Machine.{[], ap, arith, behind, behind_one, Bool, callers_of, Core, displaced, entries, find, foot_from, foot_of, get-change, get-insert, HasPlace, is_at, is_at_switch, is_behind_of, is_fresh, is_there, is_under, le_refl, List, Mark, nat_tests, newest, None, numbers, older, on_thread, one_if, Option, passed_on, Place, place_of, push_high_first, put_high, put_switch, refl, resumed_all, resumed_callers, says, set_callers, set_place, set_switch, size, Some, stopped, suc, switch_entries, sym, times, true, under_of, Why, why_of, zero, ℕ, ◌∙◌, ◌∷◌, ◌≡◌, ◌≤◌}
 use Rattle.task_rules.proofs.StandLemmas.{Adds, Given, Left, Loose, Stand, adds_given, adds_stand, by_count, callers_say, eq_refl, left_loose, left_placed, moves_stand, once_or_not, put_high_adds, times-append, times-newest, zero_one, Watch, is_so, is_watched}
 
 -- ---- What leaves every place and every entry of a thread alone
@@ -12,11 +12,8 @@ pub record Untouched (s t : Core) : Type 0 where
   pub callers : t.callers ≡ s.callers
   pub made : s.made.threads ≤ t.made.threads
 
-pub untouched_there : (s t : Core) → Untouched s t → (k : ℕ) → is_there k t ≡ is_there k s
-untouched_there s t q k = ap (λ (o : Option Place). is_some o) (q.places k)
-
 untouched_left : (k : ℕ) (s t : Core) → Untouched s t → Left k s t
-untouched_left k s t q = grind (arith, untouched_there s t q, q.switch k, q.high k, q.low k)
+untouched_left k s t q = grind (arith, q.places)
 
 pub quiet_placed : (k : ℕ) (s t : Core) → Untouched s t → HasPlace k s → HasPlace k t
 quiet_placed k s t q h = left_placed k s t (untouched_left k s t q) (q.places k) h
@@ -81,10 +78,10 @@ displaced_stand {P = P} n q xs s (Some j) is st =
     ready (Some (Place.Ready Mark.Switch w)) e z = (w, e)
     ready _ e z = absurd (omega (arith, z))
 
-pub put_switch_stand : {P : ℕ → Watch} (n : ℕ) (q : Option Place) (m : ℕ) (xs : List ℕ) (w : Why) (s : Core) → times m xs ≡ 0 → Stand P n q (m ∷ xs) s →
+put_switch_stand : {P : ℕ → Watch} (n : ℕ) (q : Option Place) (m : ℕ) (xs : List ℕ) (w : Why) (s : Core) → Stand P n q (m ∷ xs) s →
     Stand P n q xs (put_switch m w s)
 unfolding put_switch set_switch set_place on_thread
-put_switch_stand n q m xs w s none st =
+put_switch_stand n q m xs w s st =
     comes_stand n q m xs (Place.Ready Mark.Switch w) _ _ (λ r is. switch_adds m w r (set_switch None (displaced s.queues.switch s)) is refl)
     (displaced_stand n q (m ∷ xs) s s.queues.switch refl st)
 
@@ -119,8 +116,7 @@ resumed_callers_stand : {P : ℕ → Watch} (n : ℕ) (q : Option Place) (xs : L
 resumed_callers_stand n q [] s st = st
 resumed_callers_stand n q (m ∷ xs) s st =
     let u = stand_as n q (m ∷ xs) (newest m xs ∷ older m xs) s (λ k. omega (arith, times-newest k m xs)) st in
-    let none : times (newest m xs) (older m xs) ≡ 0 = omega (arith, u.once (newest m xs), ap one_if (eq_refl (newest m xs))) in
-    resumed_all_stand n q (older m xs) _ (put_switch_stand n q (newest m xs) (older m xs) Why.Resumption s none u)
+    resumed_all_stand n q (older m xs) _ (put_switch_stand n q (newest m xs) (older m xs) Why.Resumption s u)
 
 -- a thread is loose or has its place, so its number was given
 pub given_there : {P : ℕ → Watch} (n : ℕ) (q : Option Place) (xs : List ℕ) (s : Core) → Stand P n q xs s → (k : ℕ) → is_there k s ≡ true → Given k s

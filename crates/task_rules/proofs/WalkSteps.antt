@@ -1,19 +1,15 @@
 -- Each step as a chain of words: host works, main, the loop and all turns.
-use Rattle.task_rules.proofs.Machine.{[], Abort, aborted_phase, act_of, add_group, add_work, AddGroup, advanced_main, Answer, ap, arith, at_turn, Await, base_at, base_without, Began, begun_holder, blocked_on, Bool, ByProgram, ByScript, call_made, Callee, Caller, CallLabel, Chain, Choice, choice_of, Collapses, Core, count_work, Course, course_for, course_of, course_value, deadlock_trap, DeadlockStep, did, Does, EmptyFor, end_for, ended, Ends, EndWords, EndWork, Entry, entry_number, export_kind, Fails, FailsNow, Falls, false, Finish, finish_act, finish_result, finished_call, FinishWork, followed, FuturesStep, get, get-change, get-insert_same, get-remove, get-remove_same, Goal, Goes, goes_to, handed_by_main, HandsOut, has_end, has_interesting, has_moving_work, host_at, host_done, host_label, host_result, host_status, HostDef, inl, inr, is_aborted, is_async_work, is_complete, is_direct, is_free, is_none, is_ready_for_call, is_some, is_spawn, is_spawn_caller, is_stage_ended, is_unended_take, IsFall, IsRunner, join_of, Label, LastWords, length, line_of, List, LoopLabel, Main, main_aborted, main_outcome, main_row, main_spawned, main_started, MainAct, MainPlace, MainProgress, MainProgresses, MainStep, MakeCall, Mark, may, may_act, may_deadlock, may_publish, MayAbort, MayCall, MayFinish, nat_tests, Never, new_work, next_entry, next_polled, next_thread, next_work, None, not, NoWord, on_thread, on_work, Op, op_at, op_of, op_row, OpenAct, OpenProgresses, Option, option_map, option_map_or, Ordered, Outcome, outcome_of_label, Pend, Pends, Phase, phase_of, Place, place_of, Poll, poll_ends, poll_of, poll_pends, Polled, polled_in, Pop, popped, ProgramAborts, Progress, Progresses, push_high, pushed, Put, put_high, QueueWork, Quiet, Ready, refl, Refused, Remains, remove_thread, remove_threads, RemoveThread, RestStep, runner_at, SameMain, Scene, ScriptAborts, Scripted, ScriptStep, set_course, set_event, set_phase, set_place, set_stage, set_trapped, SetPhase, SetRegister, Setting, settled_turn, SetTrapped, Shifts, size, slice_get, Some, Spawn, spawned_at, SpawnsNamed, Stage, stage_of, Start, start_act, start_of, start_refusal, Started, started_at, started_end, Starts, State, Status, Step, StepsAreWalks, StillPends, Stops, strand_from, strand_of, struck, subst, Subtask, suc, sym, T, take_result, take_row, TakeHost, TakeLabel, TakePush, TakeResult, TakesResult, TakeStep, Then, Thread, thread_of_entry, Trap, trap_label, Traps, Trip, true, Turn, TurnStep, under_of, unless_pending, Unscripted, unwrap_or, Walk, Why, woken_of, Work, work_caller_of, work_queued, WorkCaller, Writes, WritesPolled, zero, ℕ, ⊎_elim, ◌&&◌, ◌++◌, ◌+◌, ◌-◌, ◌∙◌, ◌∷◌, ◌≡◌, ◌⊎◌}
-use Rattle.task_machine.specs.declared.label.MainLabel.{MainLabel}
-use Rattle.task_machine.specs.declared.scenario.MainOpDef.{MainOpDef}
+use Rattle.task_rules.proofs.Machine.{[], Abort, aborted_phase, act_of, add_group, add_work, AddGroup, advanced_main, Answer, ap, arith, at_turn, Await, base_at, base_without, Began, begun_holder, blocked_on, Bool, ByProgram, ByScript, call_made, Callee, Caller, CallLabel, Chain, Choice, choice_of, Collapses, Core, count_work, course_for, course_of, course_value, deadlock_trap, DeadlockStep, did, Does, EmptyFor, end_for, ended, Ends, EndWords, EndWork, Entry, entry_number, export_kind, Fails, FailsNow, Falls, false, Finish, finish_act, finish_result, finished_call, FinishWork, followed, FuturesStep, get, get-change, get-insert, get-remove, get-remove_same, Goal, Goes, goes_to, handed_by_main, HandsOut, has_end, has_interesting, has_moving_work, host_at, host_done, host_label, host_result, host_status, inl, inr, is_async_work, is_complete, is_direct, is_free, is_none, is_ready_for_call, is_some, is_spawn, is_stage_ended, is_unended_take, IsFall, IsRunner, join_of, Label, LastWords, length, line_of, List, LoopLabel, Main, main_aborted, main_outcome, main_row, main_spawned, main_started, MainAct, MainLabel, MainOpDef, MainPlace, MainProgress, MainProgresses, MainStep, MakeCall, Mark, may, may_act, may_deadlock, may_publish, MayAbort, MayCall, MayFinish, nat_tests, Never, next_entry, next_polled, next_thread, next_work, None, not, NoWord, on_thread, on_work, Op, op_at, op_of, op_row, OpenAct, OpenProgresses, Option, option_map, option_map_or, Ordered, Outcome, outcome_of_label, Pend, Pends, Phase, phase_of, Place, place_of, Poll, poll_ends, poll_of, poll_pends, Polled, Pop, popped, ProgramAborts, Progress, Progresses, push_high, pushed, Put, put_high, QueueWork, Quiet, Ready, refl, Refused, Remains, remove_thread, remove_threads, RemoveThread, RestStep, runner_at, SameMain, Scene, ScriptAborts, Scripted, ScriptStep, set_course, set_event, set_phase, set_place, set_stage, set_trapped, SetPhase, SetRegister, Setting, settled_turn, SetTrapped, Shifts, size, slice_get, Some, Spawn, spawned_at, SpawnsNamed, Stage, stage_of, Start, start_act, start_of, start_refusal, Started, started_at, started_end, Starts, State, Status, Step, StepsAreWalks, StillPends, Stops, strand_from, strand_of, struck, subst, Subtask, suc, sym, T, take_result, take_row, TakeHost, TakeLabel, TakePush, TakeResult, TakesResult, TakeStep, Then, Thread, thread_of_entry, Trap, trap_label, Traps, Trip, true, Turn, TurnStep, under_of, unless_pending, Unscripted, unwrap_or, Walk, Why, woken_of, work_caller_of, work_queued, WorkCaller, Writes, WritesPolled, zero, ℕ, ⊎_elim, ◌&&◌, ◌++◌, ◌+◌, ◌-◌, ◌∙◌, ◌∷◌, ◌≡◌, ◌⊎◌}
 use Rattle.task_rules.specs.MainOps.{Answers}
 use Rattle.task_rules.proofs.MuteLemmas.{is_mute, mute_words, none_said, hands_by, writes_by}
 use Rattle.task_rules.proofs.SayLemmas.{finished_is, result_taken, said_is}
 use Rattle.task_rules.proofs.ChainLemmas.{Keep, join, keep_stay, trip_walk}
 use Rattle.task_rules.proofs.WalkTask.{is_exit_op, op_stands, Leads, data_row_leads, running_scene, task_row_leads, under_place, seen}
 use Rattle.task_rules.proofs.PlacingLemmas.{placed, popped_shifted}
-use Rattle.task_rules.proofs.WalkMoves.{blocked_at, chosen_in_of, published_work_shifts, shifted, unblocked_shifts, word, ChosenIn}
+use Rattle.task_rules.proofs.WalkMoves.{blocked_at, chosen_in_of, shifted, unblocked_shifts, word, published_shifts}
 use Rattle.task_rules.proofs.WalkOps.{set_row_leads, subtask_row_leads, thread_row_leads}
 use Rattle.task_rules.proofs.WalkParts.{Born, born_explicit, born_goal, born_place, call_born}
 use Rattle.task_rules.proofs.WalkTakes.{thread_taken_leads}
-
--- ---- What is read
 
 -- ---- A host call whose entry is taken
 
@@ -29,10 +25,6 @@ poll_ended : (i : ℕ) (v : Option ℕ) (s : Core) → has_end (course_of i (pol
 unfolding poll_ends set_phase set_course set_stage on_work put_high push_high set_place on_thread
 poll_ended i v s = grind (arith, nat_tests, get-change, course_ended v)
 
-host_tells : (i : ℕ) (w : Option ℕ) (s : Core) → may_publish (Subtask.Host i) w s ≡ true → ChosenIn (join_of (Subtask.Host i) (set_stage i Stage.Ended s)) w (set_stage i Stage.Ended s)
-unfolding may_publish set_stage on_work
-host_tells i w s may x is = chosen_in_of (join_of (Subtask.Host i) s) w s may x (grind (arith, nat_tests, get-change, is))
-
 -- the work has ended, and tells it
 abbrev told_end : ℕ → Core → Core
 told_end i s = set_event (Subtask.Host i) (Some (host_status (course_value (course_of i s)))) (set_stage i Stage.Ended s)
@@ -44,10 +36,11 @@ module _ {a : Scene} {b : Core} where
   host_result_walks _ v c = c
 
   host_done_walks : (i : ℕ) (w : Option ℕ) (s : Core) → may_publish (Subtask.Host i) w s ≡ true → Keep a b (told_end i s) → Keep a b (host_done i w s)
-  unfolding host_done
+  unfolding host_done may_publish set_stage on_work
   host_done_walks i w s may c =
       let v = course_value (course_of i s) in
-      host_result_walks (work_caller_of i s) v (shifted (published_work_shifts i (host_status v) w (set_stage i Stage.Ended s) (ended_stage i s) (host_tells i w s may)) c)
+      let t = set_stage i Stage.Ended s in
+      host_result_walks (work_caller_of i s) v (shifted (published_shifts (Subtask.Host i) (host_status v) w t (ended_stage i s) (λ y is. chosen_in_of (join_of (Subtask.Host i) s) w s may y (grind (arith, nat_tests, get-change, is)))) c)
 
 -- ---- A strand that falls
 
@@ -64,14 +57,11 @@ first_gone (suc k) n s = struck_gone n (option_map_or (strand_from k s) (under_o
 abbrev Fall : Scene → Core → Type 0
 Fall a t = Chain (IsFall a) a.base t
 
-removed_none : (n : ℕ) (t : Core) → is_none (get (remove_thread n t).threads n) ≡ true
-unfolding remove_thread
-removed_none n t = ap (λ (o : Option Thread). is_none o) (get-remove_same t.threads n)
-
 module _ {a : Scene} (over : a.next ≡ Turn.Over) where
   falls : (k n : ℕ) {t : Core} → IsRunner a n ⊎ ((m : ℕ) × ((place_of n a.base ≡ Some (Place.Under m)) × (is_none (get t.threads m) ≡ true))) → Fall a t → Fall a (remove_threads (strand_from k a.base n) t)
+  unfolding remove_thread
   falls zero n {t = t} may c = Then t (RemoveThread n) c (Falls over may)
-  falls (suc k) n {t = t} may c = below (λ m under d. falls k m (inr (n, (under, removed_none n t))) d) (under_of n a.base) refl (Then t (RemoveThread n) c (Falls over may))
+  falls (suc k) n {t = t} may c = below (λ m under d. falls k m (inr (n, (under, ap (λ (o : Option Thread). is_none o) (get-remove_same t.threads n)))) d) (under_of n a.base) refl (Then t (RemoveThread n) c (Falls over may))
     where
       below : ((m : ℕ) → place_of m a.base ≡ Some (Place.Under n) → Fall a (remove_thread n t) → Fall a (remove_threads (strand_from k a.base m) (remove_thread n t))) → (o : Option ℕ) → under_of n a.base ≡ o → Fall a (remove_thread n t) → Fall a (remove_threads (option_map_or (strand_from k a.base) o []) (remove_thread n t))
       below more None is d = d
@@ -122,10 +112,8 @@ abbrev SpawnTold : MainLabel → Core → Type 0
 SpawnTold k t = (i : ℕ) → spawn_in k ≡ Some i → is_spawn i t ≡ true
 
 at_end : (ss : List ℕ) (i n : ℕ) → (slice_get (ss ++ i ∷ []) n ≡ slice_get ss n) ⊎ (slice_get (ss ++ i ∷ []) n ≡ Some i)
-at_end [] i zero = inr refl
-at_end [] i (suc n) = inl refl
-at_end (s ∷ ss) i zero = inl refl
-at_end (s ∷ ss) i (suc n) = at_end ss i n
+at_end [] i n = grind arith
+at_end (s ∷ ss) i n = grind (arith, at_end ss i)
 
 advanced_spawns : (o : MainOpDef) (k : MainLabel) (p : MainPlace) (t : Core) → SpawnTold k t → SpawnsNamed p t (advanced_main o k p)
 advanced_spawns o (MainLabel.Spawn j i) p t told k = let now = told i refl in
@@ -152,12 +140,6 @@ sync_ended_shifts i v t =
     let u = set_phase i Phase.Complete (set_course i (course_for v) t) in
     unblocked_shifts (Subtask.Host i) (blocked_on (Subtask.Host i) u) (set_stage i Stage.Ended u) (ended_stage i u) (λ m is. blocked_at (Subtask.Host i) u m is)
 
-host_idle : (m : Mark) (i : ℕ) (w : Option ℕ) (s : Core) → is_idle (outcome_of_label (host_label m i w)) (begun_holder s (host_label m i w)) Turn.Main ≡ true
-host_idle m i w s = grind arith
-
-host_mute : (a : Scene) (t : Core) (m : Mark) (i : ℕ) (w : Option ℕ) → is_mute a t (host_label m i w) ≡ true
-host_mute a t m i w = grind arith
-
 abbrev is_finish : MainLabel → Bool
 is_finish (MainLabel.Finish k v) = true
 is_finish _ = false
@@ -169,18 +151,10 @@ abbrev is_unscripted : Main → Bool
 is_unscripted Unscripted = true
 is_unscripted (Scripted p) = false
 
-queued_spawn : (host : HostDef) (t : Core) → is_spawn (next_work t) (work_queued WorkCaller.Spawn host None t) ≡ true
-unfolding work_queued push_high add_work count_work
-queued_spawn host t = ap (λ (o : Option Work). option_map_or (λ w. is_spawn_caller w.caller) o false) (get-insert_same t.works (t.made.works + 1) (new_work WorkCaller.Spawn host None))
-
 -- what an op of a script aborts is a work that it names
 script_aborts : (p : MainPlace) (o : MainOpDef) (i : ℕ) → act_of p o ≡ Abort i → (k : ℕ) × (i ≡ spawned_at p k)
 script_aborts p (MainOpDef.Abort k) i h = (k, grind arith)
 script_aborts p _ i h = absurd (grind arith)
-
--- a work that ends without a value was aborted
-ends_valueless : (p : Phase) (c : Course) (v : Option ℕ) → polled_in p c ≡ Ends v → course_value (course_for v) ≡ None → (is_aborted p ≡ true) ⊎ (has_end c ≡ true)
-ends_valueless p c v is none = grind arith
 
 module _ (x : Setting) (s : State) (l : Label) where
   -- the scene of this step, whose turn and entry are these
@@ -267,13 +241,13 @@ module _ (x : Setting) (s : State) (l : Label) where
   unless_pending_leads false k quiet other none = tt
 
   main_row_leads : (k : ℕ) (act : MainAct) → ((e : Callee) (words : List ℕ) → act ≡ Start e words → MayCall a Caller.Main e (s.core.made.groups + 1) (add_group s.core)) → ((y : Started) → act ≡ Finish y → Names k y) → ((i : ℕ) → act ≡ Abort i → MayAbort a i) → LeadsMain (main_row x.component k s.core act)
-  unfolding main_spawned main_aborted
+  unfolding main_spawned main_aborted work_queued push_high add_work count_work
   main_row_leads k (Start e words) may names aborts = start_act_leads k e words (start_refusal s.core) (may e words refl)
   main_row_leads k (Finish y) may names aborts = finish_act_leads k y (names y refl)
   main_row_leads k (Spawn h) may names aborts =
       let host = host_at x.component h in
       quietly (MainLabel.Spawn k (next_work s.core)) (work_queued WorkCaller.Spawn host None s.core) refl refl
-      (λ i e. subst (λ (n : ℕ). is_spawn n (work_queued WorkCaller.Spawn host None s.core) ≡ true) (ap (λ (o : Option ℕ). unwrap_or o 0) e) (queued_spawn host s.core))
+      (λ i e. grind (arith, nat_tests, get-insert, e))
       (word (QueueWork WorkCaller.Spawn host None) (refl, refl) NoWord)
   main_row_leads k (Abort i) may names aborts = quietly (MainLabel.Abort (phase_of i s.core) k) (set_phase i (aborted_phase (phase_of i s.core)) s.core) refl refl (λ i e. none_said refl e) (word (SetPhase i (aborted_phase (phase_of i s.core))) (aborts i refl, refl) NoWord)
   main_row_leads k (Await i) may names aborts = unless_pending_leads (is_complete (phase_of i s.core)) (MainLabel.Await k) refl refl refl
@@ -295,13 +269,10 @@ module _ (x : Setting) (s : State) (l : Label) where
   main_progresses_walk p o Pends t at c is = pends_here t is.0 is.1
   main_progresses_walk p o (Answers v) t at c is = answers_here v t is.0 is.1
 
-  script_call : (p : MainPlace) (o : MainOpDef) → s.main ≡ Scripted p → op_at x.script p ≡ Some o → (e : Callee) (words : List ℕ) → act_of p o ≡ Start e words → MayCall a Caller.Main e (s.core.made.groups + 1) (add_group s.core)
-  unfolding add_group
-  script_call p o scripted is e words at = ByScript p o scripted is (grind (arith, at)) refl refl
-
   script_step_walks : (p : MainPlace) (o : Option MainOpDef) (t : State) → s.main ≡ Scripted p → op_at x.script p ≡ o → ScriptStep x s p o l t → WalkedBy (idle_scene Turn.Main s.core) s.core s.main t
+  unfolding add_group
   script_step_walks p None t scripted at is = pends_here t is.0 is.1
-  script_step_walks p (Some o) t scripted at is = main_progresses_walk p o (main_row x.component (line_of p o) s.core (act_of p o)) t scripted (main_row_leads (line_of p o) (act_of p o) (λ e words h. script_call p o scripted at e words h) (λ y h p2 at2. grind (arith, scripted, at2, h)) (λ i h. let r = script_aborts p o i h in ScriptAborts p r.0 scripted r.1)) is
+  script_step_walks p (Some o) t scripted at is = main_progresses_walk p o (main_row x.component (line_of p o) s.core (act_of p o)) t scripted (main_row_leads (line_of p o) (act_of p o) (λ e words h. ByScript p o scripted at (grind (arith, h)) refl refl) (λ y h p2 at2. grind (arith, scripted, at2, h)) (λ i h. let r = script_aborts p o i h in ScriptAborts p r.0 scripted r.1)) is
 
   open_progresses_walk : (q : MainProgress) (t : State) → LeadsMain q → OpenProgresses s q l t → WalkedBy (idle_scene Turn.Main s.core) s.core s.main t
   open_progresses_walk (Does k new) t c is = does_here s.main k new t (same_main s.main new) c is.0 is.1
@@ -319,7 +290,7 @@ module _ (x : Setting) (s : State) (l : Label) where
   followed_walks n i v at is poll = by_caller (work_caller_of i s.core) refl
     where
       may : MayFinish (scene_at (Turn.Futures n) None (Turn.Take true)) i (course_for v) s.core
-      may = ((n, (refl, at)), (is, (course_ended v, λ none. ends_valueless (phase_of i s.core) (course_of i s.core) v poll none)))
+      may = ((n, (refl, at)), (is, (course_ended v, λ none. grind (arith, poll, none))))
 
       by_caller : (f : WorkCaller) → work_caller_of i s.core ≡ f → Keep (scene_at (Turn.Futures n) None (Turn.Take true)) s.core (followed f i (set_phase i Phase.Complete (set_course i (course_for v) s.core)))
       by_caller WorkCaller.Spawn same = word (EndWork i (course_for v)) (may, ap (λ f. is_async_work f) same) NoWord
@@ -375,27 +346,24 @@ module _ (x : Setting) (s : State) (l : Label) where
       dies true h = idle (Turn.Take ended) s.core Turn.Over s.main (Label.Loop (LoopLabel.Deadlock (deadlock_trap s.core))) (set_trapped s.core) refl (same_main s.main _) h.0 h.1 (mute_words _ _ h.0 refl) (word SetTrapped tt NoWord)
       dies false h = absurd h
 
-  push_walks : (ended : Bool) (m : Mark) (i : ℕ) → next_entry s.core ≡ Some (m, Entry.Push i) → Keep (scene_at (Turn.Take ended) (Some (m, Entry.Push i)) Turn.Main) s.core (pushed i (popped m s.core))
-  unfolding pushed
-  push_walks ended m i at = subst (λ (t : Core). Keep (scene_at (Turn.Take ended) (Some (m, Entry.Push i)) Turn.Main) s.core (set_stage i Stage.Live t)) (popped_shifted m s.core).only (word (TakePush m i) at NoWord)
-
   host_entry_walks : (ended : Bool) (m : Mark) (i : ℕ) (t : State) → next_entry s.core ≡ Some (m, Entry.Host i) → (b : Bool) → may_publish (Subtask.Host i) (woken_of l) (popped m s.core) ≡ b → Progresses s (popped m s.core) i (may b (Stops (host_label m i (woken_of l)) (host_done i (woken_of l) (popped m s.core)))) l t → WalkedBy (scene_at (Turn.Take ended) (Some (m, Entry.Host i))) s.core s.main t
   host_entry_walks ended m i t at true may is =
       let base = popped m s.core in
       let a = scene_at (Turn.Take ended) (Some (m, Entry.Host i)) Turn.Main in
       let taken_first : Keep a s.core (told_end i base) = subst (λ (u : Core). Keep a s.core (told_end i u)) (popped_shifted m s.core).only (word (TakeHost m i) at NoWord) in
-      idle (Turn.Take ended) base Turn.Main s.main (host_label m i (woken_of l)) (host_done i (woken_of l) base) (host_idle m i (woken_of l) base) (same_main s.main _) is.0 is.1
-      (mute_words a _ is.0 (host_mute a _ m i (woken_of l))) (host_done_walks i (woken_of l) base may taken_first)
+      idle (Turn.Take ended) base Turn.Main s.main (host_label m i (woken_of l)) (host_done i (woken_of l) base) (grind arith) (same_main s.main _) is.0 is.1
+      (mute_words a _ is.0 (grind arith)) (host_done_walks i (woken_of l) base may taken_first)
   host_entry_walks ended m i t at false may is = absurd is
 
   entry_walks : (ended : Bool) (m : Mark) (e : Entry) (t : State) → next_entry s.core ≡ Some (m, e) → Progresses s (popped m s.core) (entry_number e) (take_row m (choice_of l) (popped m s.core) e) l t → WalkedBy (scene_at (Turn.Take ended) (Some (m, e))) s.core s.main t
+  unfolding pushed
   entry_walks ended m (Entry.Thread n) t at is =
       let base = popped m s.core in
       progresses_walk (Turn.Take ended) base n (λ u. placed (Pop m) (inr (n, (refl, at))) NoWord) (take_row m (choice_of l) base (Entry.Thread n)) t
       (λ u. thread_taken_leads x s.main ended base n l u m (choice_of l) (place_of n base) refl) is
   entry_walks ended m (Entry.Push i) t at is =
       idle (Turn.Take ended) (popped m s.core) Turn.Main s.main (Label.Take (TakeLabel.Push m i)) (pushed i (popped m s.core)) refl (same_main s.main _) is.0 is.1
-      (mute_words _ _ is.0 refl) (push_walks ended m i at)
+      (mute_words _ _ is.0 refl) (subst (λ (t : Core). Keep (scene_at (Turn.Take ended) (Some (m, Entry.Push i)) Turn.Main) s.core (set_stage i Stage.Live t)) (popped_shifted m s.core).only (word (TakePush m i) at NoWord))
   entry_walks ended m (Entry.Host i) t at is = host_entry_walks ended m i t at (may_publish (Subtask.Host i) (woken_of l) (popped m s.core)) refl is
 
   take_step_walks : (ended : Bool) (o : Option (Mark × Entry)) (t : State) → next_entry s.core ≡ o → TakeStep x s o l t → WalkedBy (scene_at (Turn.Take ended) o) s.core s.main t
@@ -411,28 +379,18 @@ op_row_leads x main s n l next ch (Op.Set o) is = set_row_leads x main s n l nex
 op_row_leads x main s n l next ch (Op.Call o) is = subtask_row_leads x main s n l next (refl, op_stands x.component n s (ap is_exit_op is)) o is
 op_row_leads x main s n l next ch (Op.Thread o) is = thread_row_leads x main s n l next (refl, op_stands x.component n s (ap is_exit_op is)) o is
 
-did_leads : (x : Setting) (main : Main) (s : Core) (n : ℕ) (l : Label) (next : Turn) (ch : Choice) → Leads (running_scene x main s n l next) s (did x.component n s ch)
-unfolding did
-did_leads x main s n l next ch = op_row_leads x main s n l next ch (op_of x.component n s) refl
-
-run_walks : (x : Setting) (s : State) (n : ℕ) (l : Label) (t : State) → Progresses s s.core n (did x.component n s.core (choice_of l)) l t → WalkedBy (λ next. running_scene x s.main s.core n l next) s.core s.main t
-run_walks x s n l t is =
-    progresses_walk x s l (Turn.Run n) s.core n (λ u. NoWord) (did x.component n s.core (choice_of l)) t (λ u. did_leads x s.main s.core n l u (choice_of l)) is
-
 main_step_walks : (x : Setting) (s : State) (l : Label) (m : Main) (t : State) → s.main ≡ m → MainStep x s m l t → WalkedBy (idle_scene x s l Turn.Main s.core) s.core s.main t
 main_step_walks x s l (Scripted p) t at is = script_step_walks x s l p (op_at x.script p) t at refl is
 main_step_walks x s (Label.Loop LoopLabel.MainPends) Unscripted t at is = pends_here x s (Label.Loop LoopLabel.MainPends) t refl is
 main_step_walks x s l Unscripted t at is = open_act_walks x s l is.0 is.1.0 t at is.1.1
 
--- the scene of the step, at its turn
-abbrev scene_at_turn : Setting → State → Label → Turn → Turn → Scene
-scene_at_turn x s l u next = record { setting = x; main = s.main; turn = u; base = base_at u s.core; runner = runner_at u s.core; label = l; next = next }
-
-turn_step_walks : (x : Setting) (s : State) (u : Turn) (l : Label) (t : State) → TurnStep x s u l t → WalkedBy (scene_at_turn x s l u) s.core s.main t
+turn_step_walks : (x : Setting) (s : State) (u : Turn) (l : Label) (t : State) → TurnStep x s u l t → WalkedBy (λ next. record { setting = x; main = s.main; turn = u; base = base_at u s.core; runner = runner_at u s.core; label = l; next = next }) s.core s.main t
+unfolding did
 turn_step_walks x s Turn.Main l t is = main_step_walks x s l s.main t refl is
 turn_step_walks x s (Turn.Futures n) l t is = futures_walk x s l n (next_polled n s.core) t refl is
 turn_step_walks x s (Turn.Take ended) l t is = take_step_walks x s l ended (next_entry s.core) t refl is
-turn_step_walks x s (Turn.Run n) l t is = run_walks x s n l t is
+turn_step_walks x s (Turn.Run n) l t is =
+    progresses_walk x s l (Turn.Run n) s.core n (λ u. NoWord) (did x.component n s.core (choice_of l)) t (λ u. op_row_leads x s.main s.core n l u (choice_of l) (op_of x.component n s.core) refl) is
 turn_step_walks x s Turn.Over l t is = absurd is
 
 -- each step is a chain of words

@@ -2,16 +2,13 @@
 use Rattle.task_rules.proofs.ChainLemmas.{Going, Keep, keep_stay, trip_walk, stay_walk}
 use Rattle.task_rules.proofs.SayLemmas.{said_is}
 use Rattle.task_rules.proofs.MuteLemmas.{both_none, is_mute, mute_words, none_said, says_by, writes_by}
-use Rattle.task_rules.proofs.WalkEnds.{cancelled_rest, returned_rest, SameCall, cancelled_walks, returned_walks, still_told_to, unanswered, call_ends, ends_untold, ended_last, returned_last}
-use Rattle.task_rules.proofs.Machine.{[], Advance, advanced, and_parts, answered, ap, ap₂, arith, assigned, AwaitsEvent, backpressure_of, begun_holder, blocking_exit_row, blocking_exits, Bool, BySetHandle, Call, CallEnd, cancel_was_delivered, change, change-field, checked, Choice, code_exits, code_finds, code_kind_row, code_row, code_stops, code_wait_row, code_waits, code_yields, ComesAgain, Component, component_of, Core, data_row, Delivery, direct_exit_to, direct_exits, end_for, end_reopens, EndCall, ended, ends_activation, EndsActivation, EndsByExit, EndsCall, EndsOwn, EndWords, exit_label, exit_restores, exit_row_for, exit_stops, Exits, ExportKind, Fails, false, FindsEvent, foot_of, get, get-change, GivesUp, goal_of, Goes, GoesBack, handed_by, HandsOut, has_ended, has_event_for, HasSet, held_by_flag, holder_at_exit, HowFar, if◌then◌else◌, implicit_exit_row, inl, inr, instance_of, is_async_lifted, is_at, is_code_op, is_direct, is_ending_exit, is_exit, is_explicit, is_holding, is_none, is_over, is_running, is_told, is_under, IsRunner, kind_exit_row, kind_of, Label, LastWords, Leaves, leaves_no_result, length, List, Main, Mark, may, may_tell, MayBar, MayEnd, MayOwe, min, Move, moved_to, nat_le, nat_lt, nat_tests, Never, None, not, NoWord, numbers, on_call, on_instance, on_thread, Op, op_in, op_of, Option, option_map, option_map_or, or_never, or_trap, Ordered, outcome_of_label, own_event_of, own_or_none, OwnEvent, passes_after_return, passes_after_stop, passes_check, Place, place_of, position_of, Progress, Put, Records, refl, register_of, Remains, ret_label, returned, returned_holder, ReturnsNow, saved_own_of, SaysEnd, Scene, script_of, script_of_thread, set_at, set_backpressure, set_do_not_enter, set_do_not_suspend, set_end, set_how_far, set_place, SetBackpressure, SetDoNotEnter, SetDoNotSuspend, SetOwnEvent, SetRegister, SetSavedCallee, Setting, SetWord, skip_row, skipped, slice_get, Some, Status, stopped, Stops, stored, subst, Subtask, SubtaskEnd, suc, sym, sync_exit_row, sync_exits, T, task_cancel_label, task_end, task_of, TaskOp, Then, Thread, thread_exit_row, Trap, trap_if, Traps, Trip, true, Turn, Uncovers, under_of, unwrap_or, value_of, Walk, Why, Writes, WritesCall, WritesToo, written_by, zero, ℕ, ◌%◌, ◌&&◌, ◌*◌, ◌+◌, ◌-◌, ◌/◌, ◌==◌, ◌||◌, ◌∙◌, ◌∷◌, ◌≡◌, ◌≤◌, ◌⊎◌}
-use Rattle.task_machine.specs.declared.label.DataLabel.{DataLabel}
-use Rattle.task_machine.specs.declared.label.TaskLabel.{TaskLabel}
-use Rattle.task_machine.specs.declared.op.DataOp.{DataOp}
-use Rattle.task_rules.specs.Task.{dec_from, dec_lowers, dec_opens, inc_raises, inc_row, ret_done, ret_row, task_cancel_done, task_cancel_row, task_row}
+use Rattle.task_rules.proofs.WalkEnds.{cancelled_rest, returned_rest, call_ends, ends_untold, ended_last, returned_last}
+use Rattle.task_rules.proofs.Machine.{[], Advance, advanced, and_parts, answered, ap, ap₂, arith, assigned, AwaitsEvent, backpressure_of, begun_holder, blocking_exit_row, blocking_exits, Bool, BySetHandle, Call, CallEnd, cancel_was_delivered, change, checked, Choice, code_exits, code_finds, code_kind_row, code_row, code_stops, code_wait_row, code_waits, code_yields, ComesAgain, Component, component_of, Core, data_row, DataLabel, DataOp, Delivery, direct_exit_to, direct_exits, end_for, end_reopens, EndCall, ended, ends_activation, EndsActivation, EndsByExit, EndsCall, EndsOwn, EndWords, exit_label, exit_restores, exit_row_for, exit_stops, Exits, ExportKind, Fails, false, FindsEvent, foot_of, get, get-change, GivesUp, goal_of, Goes, GoesBack, handed_by, HandsOut, has_ended, has_event_for, HasSet, held_by_flag, holder_at_exit, HowFar, if◌then◌else◌, implicit_exit_row, inl, inr, instance_of, is_async_lifted, is_at, is_code_op, is_direct, is_ending_exit, is_exit, is_explicit, is_holding, is_none, is_over, is_running, is_under, IsRunner, kind_exit_row, kind_of, Label, LastWords, Leaves, leaves_no_result, length, List, Main, Mark, may, may_tell, MayBar, MayEnd, MayOwe, min, Move, moved_to, nat_le, nat_lt, nat_tests, Never, None, not, NoWord, numbers, on_call, on_instance, on_thread, Op, op_in, op_of, Option, option_map, option_map_or, or_never, or_trap, Ordered, outcome_of_label, own_event_of, own_or_none, OwnEvent, passes_after_return, passes_after_stop, passes_check, Place, place_of, position_of, Progress, Put, Records, refl, register_of, Remains, ret_label, returned, returned_holder, ReturnsNow, saved_own_of, SaysEnd, Scene, script_of, set_at, set_backpressure, set_do_not_enter, set_do_not_suspend, set_end, set_how_far, set_place, SetBackpressure, SetDoNotEnter, SetDoNotSuspend, SetOwnEvent, SetRegister, SetSavedCallee, Setting, SetWord, skip_row, skipped, slice_get, Some, Status, stopped, Stops, stored, subst, Subtask, SubtaskEnd, suc, sym, sync_exit_row, sync_exits, T, task_cancel_label, task_end, task_of, TaskLabel, TaskOp, Then, Thread, thread_exit_row, Trap, trap_if, Traps, Trip, true, Turn, Uncovers, under_of, unwrap_or, value_of, Walk, Why, Writes, WritesCall, WritesToo, written_by, zero, ℕ, ◌%◌, ◌&&◌, ◌*◌, ◌+◌, ◌-◌, ◌/◌, ◌==◌, ◌||◌, ◌∙◌, ◌∷◌, ◌≡◌, ◌≤◌, ◌⊎◌}
+use Rattle.task_rules.specs.Task.{dec_from, dec_lowers, dec_opens, inc_raises, ret_done, ret_row, task_cancel_done, task_cancel_row, task_row}
 use Rattle.task_rules.proofs.StopLemmas.{find_passes}
-use Rattle.task_rules.proofs.PlacingLemmas.{Shifted, shifted_calls, shifted_task, shifts_shifted, placing_shifted, unplaced, shifted_after}
-use Rattle.task_rules.proofs.WalkMoves.{keep_position, Chosen, ToldTo, checked_shifts, chosen_released, ended_gone, ended_walks, exits_trip, lands, released_shifts, shifted, stopped_shifts, told_to, word}
-use Rattle.task_rules.proofs.CallThreads.{LastEnds, last_of, last_kept, last_shifted, unplaced_call}
+use Rattle.task_rules.proofs.PlacingLemmas.{Shifted, shifted_calls, shifted_task, shifts_shifted, placing_shifted, shifted_after}
+use Rattle.task_rules.proofs.WalkMoves.{keep_position, ToldTo, checked_shifts, chosen_released, ended_walks, exits_trip, lands, released_shifts, shifted, stopped_shifts, told_to, word, Left, left_gone}
+use Rattle.task_rules.proofs.CallThreads.{LastEnds, last_of, last_shifted}
 
 -- ---- The op in its script
 
@@ -26,11 +23,8 @@ in_script (o ∷ ops) zero other = grind arith
 in_script (o ∷ ops) (suc p) other = let rest = in_script ops p other in omega (arith, rest)
 
 pub op_stands : (c : Component) (n : ℕ) (s : Core) → is_exit_op (op_of c n s) ≡ false → position_of n s + 1 ≤ length (script_of c n s)
-unfolding op_of script_of
-op_stands c n s other = let within = in_script (option_map_or (script_of_thread c s) (get s.threads n) []) (position_of n s) in grind arith
-
-min_below : (a b : ℕ) → min a b ≤ b
-min_below a b = grind arith
+unfolding op_of
+op_stands c n s other = in_script (script_of c n s) (position_of n s) other
 
 -- the thread runs, and there is an op at the place in its script at which it is in b
 abbrev pub Stands : Scene → Core → ℕ → Type 0
@@ -82,40 +76,23 @@ is_plain s k = is_quiet s k && not (is_exit k)
 abbrev pub is_still : Scene → Core → Label → Bool
 is_still a t k = is_plain a.base k && is_mute a t k
 
-ret_plain : (n v : ℕ) (w : Option ℕ) (s : Core) → is_plain s (ret_label n v w) ≡ true
-ret_plain n v w s = grind arith
+-- a label of a task that ends, or is cancelled, says that
+abbrev SaysTask : Component → Main → ℕ → Status → Core → Core → Label → Type 0
+SaysTask c m n f s t k = (is_plain s k ≡ true) × ((written_by c s k t ≡ task_end n f s) × (handed_by c m s k t ≡ None))
 
-task_cancel_plain : (n : ℕ) (w : Option ℕ) (s : Core) → is_plain s (task_cancel_label n w) ≡ true
-task_cancel_plain n w s = grind arith
+ret_is : (c : Component) (m : Main) (n v : ℕ) (w : Option ℕ) (s t : Core) → SaysTask c m n Status.Returned s t (ret_label n v w)
+ret_is c m n v w s t = (grind arith, (grind arith, grind arith))
 
-ret_writes : (c : Component) (n v : ℕ) (w : Option ℕ) (s t : Core) → written_by c s (ret_label n v w) t ≡ task_end n Status.Returned s
-ret_writes c n v w s t = grind arith
-
-task_cancel_writes : (c : Component) (n : ℕ) (w : Option ℕ) (s t : Core) → written_by c s (task_cancel_label n w) t ≡ task_end n Status.ReturnCancelled s
-task_cancel_writes c n w s t = grind arith
-
-ret_hands : (c : Component) (m : Main) (n v : ℕ) (w : Option ℕ) (s t : Core) → handed_by c m s (ret_label n v w) t ≡ None
-ret_hands c m n v w s t = grind arith
-
-task_cancel_hands : (c : Component) (m : Main) (n : ℕ) (w : Option ℕ) (s t : Core) → handed_by c m s (task_cancel_label n w) t ≡ None
-task_cancel_hands c m n w s t = grind arith
+task_cancel_is : (c : Component) (m : Main) (n : ℕ) (w : Option ℕ) (s t : Core) → SaysTask c m n Status.ReturnCancelled s t (task_cancel_label n w)
+task_cancel_is c m n w s t = (grind arith, (grind arith, grind arith))
 
 -- the call of which an end speaks
 pub over_now : (k : ℕ) (e : CallEnd) (s : Core) → is_over k (call_ends k e s) ≡ true
 unfolding on_call
 over_now k e s = grind (arith, nat_tests, get-change)
 
-exit_quiet : (n : ℕ) (w : Option ℕ) (s : Core) → is_quiet s (exit_label n w) ≡ true
-exit_quiet n w s = grind arith
-
-exit_is : (n : ℕ) (w : Option ℕ) → is_exit (exit_label n w) ≡ true
-exit_is n w = grind arith
-
-exit_returns : (n : ℕ) (w : Option ℕ) (s : Core) → returned_holder s (exit_label n w) ≡ holder_at_exit n s
-exit_returns n w s = grind arith
-
-pub none_is_some : {X : Type 0} {A : Type 0} (x : X) → None ≡ Some x → A
-none_is_some x h = absurd (grind arith)
+exit_is : (n : ℕ) (w : Option ℕ) (s : Core) → (is_quiet s (exit_label n w) ≡ true) × ((is_exit (exit_label n w) ≡ true) × (returned_holder s (exit_label n w) ≡ holder_at_exit n s))
+exit_is n w s = (grind arith, (grind arith, grind arith))
 
 pub one_runner : (n m : ℕ) → Turn.Run n ≡ Turn.Run m → n ≡ m
 one_runner n m e = grind arith
@@ -133,34 +110,9 @@ moved_passes test p passes m t = grind (arith, nat_tests, get-change)
 pub running_moved : (m : ℕ) (t : Core) → option_map_or is_running (place_of m (set_place m Place.Running t)) true ≡ true
 running_moved m t = moved_passes is_running Place.Running refl m t
 
-restored_threads : (n : ℕ) (s : Core) → (exit_restores n s).threads ≡ s.threads
-unfolding exit_restores set_do_not_suspend on_instance
-restored_threads n s = refl
-
-restored_task : (n : ℕ) (s : Core) → task_of n (exit_restores n s) ≡ task_of n s
-restored_task n s = ap (λ (m : Records Thread). option_map_or (λ t. t.call) (get m n) 0) (restored_threads n s)
-
--- the calls after held threads are released
-reopened_calls : (i : ℕ) (order : List ℕ) (s : Core) → (end_reopens i order s).calls ≡ s.calls
-unfolding end_reopens set_do_not_enter on_instance
-reopened_calls i order s = shifted_calls (shifts_shifted (released_shifts order (set_do_not_enter i false s)))
-
-reopened_threads : (i : ℕ) (order : List ℕ) (s : Core) → (m : ℕ) → option_map unplaced (get (end_reopens i order s).threads m) ≡ option_map unplaced (get s.threads m)
-unfolding end_reopens set_do_not_enter on_instance
-reopened_threads i order s m = (shifts_shifted (released_shifts order (set_do_not_enter i false s))).threads m
-
-reopened_task : (n i : ℕ) (order : List ℕ) (s : Core) → task_of n (end_reopens i order s) ≡ task_of n s
-reopened_task n i order s = let same = reopened_threads i order s n in grind arith
-
-code_stops_last : (n : ℕ) (order : List ℕ) (s : Core) → LastEnds n s → LastEnds n (code_stops n order s)
-unfolding code_stops
-code_stops_last n order s last =
-    let t = end_reopens (instance_of n s) order s in
-    last_shifted n (shifts_shifted (stopped_shifts (foot_of n s) t)) (last_kept n s t (λ m. unplaced_call (get s.threads m) (get t.threads m) (reopened_threads (instance_of n s) order s m)) (reopened_calls (instance_of n s) order s) last)
-
--- a direct call's end is told to nobody
-untold : (k : ℕ) (s : Core) → is_direct (goal_of k s) ≡ true → is_told k s ≡ false
-untold k s direct = grind arith
+reopened_shifted : (i : ℕ) (order : List ℕ) (s : Core) → Shifted (set_do_not_enter i false s) (end_reopens i order s)
+unfolding end_reopens
+reopened_shifted i order s = shifts_shifted (released_shifts order (set_do_not_enter i false s))
 
 module _ {a : Scene} {b : Core} (n : ℕ) (is : IsRunner a n) where
   -- ---- Registers and words
@@ -187,113 +139,43 @@ module _ {a : Scene} {b : Core} (n : ℕ) (is : IsRunner a n) where
   unfolding end_reopens
   reopens_walks i order {t = t} ok c = shifted (released_shifts order (set_do_not_enter i false t)) (word (SetDoNotEnter i false) ok c)
 
-  exit_stops_walks : {t : Core} → LastEnds n t → Leaves a n → Keep a b t → Trip a b (exit_stops n t)
+  exit_stops_walks : {t : Core} → LastEnds n t → Keep a b t → Left a b n (exit_stops n t)
   unfolding exit_stops
-  exit_stops_walks {t = t} last go c = exits_trip n go (ended_walks n (last_shifted n (shifted_after (shifts_shifted (checked_shifts (instance_of n t) t)) (shifts_shifted (stopped_shifts (foot_of n t) (checked (instance_of n t) t)))) last) (shifted (stopped_shifts (foot_of n t) (checked (instance_of n t) t)) (shifted (checked_shifts (instance_of n t) t) c)))
+  exit_stops_walks {t = t} last c = ended_walks n (last_shifted n (shifted_after (shifts_shifted (checked_shifts (instance_of n t) t)) (shifts_shifted (stopped_shifts (foot_of n t) (checked (instance_of n t) t)))) last) (shifted (stopped_shifts (foot_of n t) (checked (instance_of n t) t)) (shifted (checked_shifts (instance_of n t) t) c))
 
-  sync_exits_rest : (w : Option ℕ) (t : Core) → SaysEnd a (task_of n t) Status.Returned → ToldTo (task_of n t) w (exit_restores n t) → Leaves a n → Keep a b (call_ends (task_of n t) CallEnd.Returned (exit_restores n t)) → Trip a b (sync_exits n w t)
-  unfolding sync_exits
-  sync_exits_rest w t says to go c =
+  sync_exits_walks : (w : Option ℕ) (t : Core) → SaysEnd a (task_of n t) Status.Returned → ToldTo (task_of n t) w (exit_restores n t) → Keep a b (call_ends (task_of n t) CallEnd.Returned (exit_restores n t)) → Left a b n (sync_exits n w t)
+  unfolding sync_exits exit_restores set_do_not_suspend on_instance
+  sync_exits_walks w t says to c =
       let r = returned (task_of n t) (register_of n 0 t) w (exit_restores n t) in
-      exits_trip n go (ended_walks n (last_shifted n (shifts_shifted (stopped_shifts (foot_of n t) r)) (returned_last n (task_of n t) (register_of n 0 t) w (exit_restores n t) (restored_task n t))) (shifted (stopped_shifts (foot_of n t) r) (returned_rest (task_of n t) (register_of n 0 t) w (exit_restores n t) says to c)))
+      ended_walks n (last_shifted n (shifts_shifted (stopped_shifts (foot_of n t) r)) (returned_last n (task_of n t) (register_of n 0 t) w (exit_restores n t) to refl)) (shifted (stopped_shifts (foot_of n t) r) (returned_rest (task_of n t) (register_of n 0 t) w (exit_restores n t) says to c))
 
-  sync_exits_walks : (w : Option ℕ) {t : Core} → MayEnd a (task_of n t) CallEnd.Returned (exit_restores n t) → SaysEnd a (task_of n t) Status.Returned → ToldTo (task_of n t) w (exit_restores n t) → Leaves a n → Keep a b t → Trip a b (sync_exits n w t)
-  unfolding exit_restores
-  sync_exits_walks w {t = t} ok says to go c = sync_exits_rest w t says to go (word (EndCall (task_of n t) CallEnd.Returned) (ok, says) (word (SetDoNotSuspend (instance_of n t) (unwrap_or (saved_own_of n t) false)) tt c))
-
-  blocking_exits_rest : (w : Option ℕ) (order : List ℕ) (t : Core) → SaysEnd a (task_of n t) Status.Returned → ToldTo (task_of n t) w (end_reopens (instance_of n t) order t) → Leaves a n → Keep a b (call_ends (task_of n t) CallEnd.Returned (end_reopens (instance_of n t) order t)) → Trip a b (blocking_exits n w order t)
-  unfolding blocking_exits
-  blocking_exits_rest w order t says to go c = exit_stops_walks (returned_last n (task_of n t) (register_of n 0 t) w (end_reopens (instance_of n t) order t) (reopened_task n (instance_of n t) order t)) go (returned_rest (task_of n t) (register_of n 0 t) w (end_reopens (instance_of n t) order t) says to c)
-
-  blocking_exits_walks : (w : Option ℕ) (order : List ℕ) {t : Core} → MayBar a (instance_of n t) false → MayEnd a (task_of n t) CallEnd.Returned (end_reopens (instance_of n t) order t) → SaysEnd a (task_of n t) Status.Returned → ToldTo (task_of n t) w (end_reopens (instance_of n t) order t) → Leaves a n → Keep a b t → Trip a b (blocking_exits n w order t)
-  blocking_exits_walks w order {t = t} bar ok says to go c = blocking_exits_rest w order t says to go (word (EndCall (task_of n t) CallEnd.Returned) (ok, says) (reopens_walks (instance_of n t) order bar c))
+  blocking_exits_walks : (w : Option ℕ) (order : List ℕ) (t : Core) → SaysEnd a (task_of n t) Status.Returned → ToldTo (task_of n t) w (end_reopens (instance_of n t) order t) → Keep a b (call_ends (task_of n t) CallEnd.Returned (end_reopens (instance_of n t) order t)) → Left a b n (blocking_exits n w order t)
+  unfolding blocking_exits set_do_not_enter on_instance
+  blocking_exits_walks w order t says to c =
+      let r = end_reopens (instance_of n t) order t in
+      exit_stops_walks (returned_last n (task_of n t) (register_of n 0 t) w r to (shifted_task (reopened_shifted (instance_of n t) order t) n)) (returned_rest (task_of n t) (register_of n 0 t) w r says to c)
 
   -- the thread m goes on, under which n ran
-  direct_exits_rest : (m v : ℕ) (t : Core) → is_direct (goal_of (task_of n t) t) ≡ true → a.turn ≡ Turn.Run n → a.next ≡ Turn.Run m → place_of m a.base ≡ Some (Place.Under n) → Keep a b (call_ends (task_of n t) CallEnd.Returned t) → Trip a b (direct_exits n m v t)
-  unfolding direct_exits
-  direct_exits_rest m v t direct runs to under c =
+  direct_exits_walks : (m v : ℕ) (t : Core) → is_direct (goal_of (task_of n t) t) ≡ true → a.turn ≡ Turn.Run n → a.next ≡ Turn.Run m → place_of m a.base ≡ Some (Place.Under n) → Keep a b (call_ends (task_of n t) CallEnd.Returned t) → Trip a b (direct_exits n m v t) × (get (direct_exits n m v t).threads n ≡ None)
+  unfolding direct_exits set_how_far set_place on_thread
+  direct_exits_walks m v t direct runs to under c =
       let u = set_end (task_of n t) CallEnd.Returned t in
-      let gone : is_none (get (ended n u).threads n) ≡ true = ap (λ (o : Option Thread). is_none o) (ended_gone n u) in
-      let e = ended_walks n (ended_last n (task_of n t) CallEnd.Returned t refl) (subst (λ (u : Core). Keep a b u) (sym (ends_untold (task_of n t) CallEnd.Returned t (untold (task_of n t) t direct))) c) in
-      subst (λ (y : Core). Trip a b (set_how_far m (HowFar.Answered v) y)) (placing_shifted (Move m Place.Running) (ended n u)).only (GoesBack e.before (ended n u) n m v (keep_stay e.stays) is runs to under e.settles (Uncovers n is to under gone refl))
-
-  direct_exits_walks : (m v : ℕ) {t : Core} → is_direct (goal_of (task_of n t) t) ≡ true → a.turn ≡ Turn.Run n → MayEnd a (task_of n t) CallEnd.Returned t → SaysEnd a (task_of n t) Status.Returned → a.next ≡ Turn.Run m → place_of m a.base ≡ Some (Place.Under n) → Keep a b t → Trip a b (direct_exits n m v t)
-  direct_exits_walks m v {t = t} direct runs ok says to under c = direct_exits_rest m v t direct runs to under (word (EndCall (task_of n t) CallEnd.Returned) (ok, says) c)
+      let e = ended_walks n (ended_last n (task_of n t) CallEnd.Returned t refl) (subst (λ (u : Core). Keep a b u) (sym (ends_untold (task_of n t) CallEnd.Returned t (grind (arith, direct)))) c) in
+      let gone = left_gone n e in
+      (subst (λ (y : Core). Trip a b (set_how_far m (HowFar.Answered v) y)) (placing_shifted (Move m Place.Running) (ended n u)).only (GoesBack e.before (ended n u) n m v (keep_stay e.stays) is runs to under e.settles (Uncovers n is to under (ap (λ (o : Option Thread). is_none o) gone) refl)), grind (arith, nat_tests, get-change, gone))
 
   code_stops_walks : (order : List ℕ) {t : Core} → MayBar a (instance_of n t) false → Keep a b t → Keep a b (code_stops n order t)
   unfolding code_stops
   code_stops_walks order {t = t} bar c = shifted (stopped_shifts (foot_of n t) (end_reopens (instance_of n t) order t)) (reopens_walks (instance_of n t) order bar c)
-
-  code_exits_walks : (order : List ℕ) {t : Core} → LastEnds n t → MayBar a (instance_of n t) false → Leaves a n → Keep a b t → Trip a b (code_exits n order t)
-  unfolding code_exits
-  code_exits_walks order {t = t} last bar go c = exits_trip n go (ended_walks n (last_shifted n (shifts_shifted (checked_shifts (instance_of n t) (code_stops n order t))) (code_stops_last n order t last)) (shifted (checked_shifts (instance_of n t) (code_stops n order t)) (code_stops_walks order bar c)))
-
-  code_yields_walks : (order : List ℕ) {t : Core} → MayBar a (instance_of n t) false → Leaves a n → EndsActivation a n → MayOwe a (task_of n t) (own_or_none (own_event_of (task_of n t) t)) (code_stops n order t) → Keep a b t → Trip a b (code_yields n order t)
-  unfolding code_yields
-  code_yields_walks order {t = t} bar leave ends owes c = lands (Put Mark.Low n (Why.Delivery Delivery.Yield)) (ComesAgain leave ends refl) (word (SetOwnEvent (task_of n t) (own_or_none (own_event_of (task_of n t) t))) owes (code_stops_walks order bar c))
-
-  code_finds_walks : (y : ℕ) (order : List ℕ) {t : Core} → MayBar a (instance_of n t) false → Leaves a n → EndsActivation a n → HasSet a n y → Keep a b t → Trip a b (code_finds n y order t)
-  unfolding code_finds
-  code_finds_walks y order bar leave ends has c = lands (Put Mark.High n (Why.Delivery (Delivery.Set y))) (FindsEvent y leave ends has refl) (code_stops_walks order bar c)
-
-  code_waits_walks : (y : ℕ) (order : List ℕ) {t : Core} → MayBar a (instance_of n t) false → Leaves a n → EndsActivation a n → HasSet a n y → Keep a b t → Trip a b (code_waits n y order t)
-  unfolding code_waits
-  code_waits_walks y order bar leave ends has c = lands (Move n (Place.Waiting y true)) (AwaitsEvent y leave ends has refl) (code_stops_walks order bar c)
-
-exit_stops_gone : (n : ℕ) (t : Core) → get (exit_stops n t).threads n ≡ None
-unfolding exit_stops
-exit_stops_gone n t = ended_gone n (stopped (foot_of n t) (checked (instance_of n t) t))
-
-reopened_chosen : (i : ℕ) (order : List ℕ) (x : ℕ) (w : Option ℕ) (s : Core) → Chosen x w s → Chosen x w (end_reopens i order s)
-unfolding end_reopens set_do_not_enter on_instance
-reopened_chosen i order x w s h = chosen_released order x w (set_do_not_enter i false s) h
-
-restored_calls : (n : ℕ) (s : Core) → (exit_restores n s).calls ≡ s.calls
-unfolding exit_restores set_do_not_suspend on_instance
-restored_calls n s = refl
-
-restored_chosen : (n y : ℕ) (w : Option ℕ) (s : Core) → Chosen y w s → Chosen y w (exit_restores n s)
-unfolding exit_restores set_do_not_suspend on_instance
-restored_chosen n y w s h = h
-
-restores_walks : {a : Scene} (n : ℕ) (s : Core) → Keep a s (exit_restores n s)
-unfolding exit_restores
-restores_walks n s = word (SetDoNotSuspend (instance_of n s) (unwrap_or (saved_own_of n s) false)) tt NoWord
-
-same_call : (k : ℕ) (s t : Core) → t.calls ≡ s.calls → SameCall k s t
-same_call k s t e = ap (λ (m : Records Call). option_map unanswered (get m k)) e
-
-sync_exits_gone : (n : ℕ) (w : Option ℕ) (s : Core) → get (sync_exits n w s).threads n ≡ None
-unfolding sync_exits
-sync_exits_gone n w s = ended_gone n (stopped (foot_of n s) (returned (task_of n s) (register_of n 0 s) w (exit_restores n s)))
-
-blocking_exits_gone : (n : ℕ) (w : Option ℕ) (order : List ℕ) (s : Core) → get (blocking_exits n w order s).threads n ≡ None
-unfolding blocking_exits
-blocking_exits_gone n w order s = exit_stops_gone n (returned (task_of n s) (register_of n 0 s) w (end_reopens (instance_of n s) order s))
-
-code_exits_gone : (n : ℕ) (order : List ℕ) (s : Core) → get (code_exits n order s).threads n ≡ None
-unfolding code_exits
-code_exits_gone n order s = ended_gone n (checked (instance_of n s) (code_stops n order s))
 
 -- the thread that is under n
 pub under_place : (n m : ℕ) (s : Core) → under_of n s ≡ Some m → place_of m s ≡ Some (Place.Under n)
 unfolding under_of
 under_place n m s h = grind (arith, nat_tests, find_passes (λ k. is_at k s (is_under n)) (numbers s.threads) m)
 
-none_changed : {X : Type 0} (m : Records X) (n k : ℕ) (f : X → X) → get m k ≡ None → get (change n f m) k ≡ None
-none_changed m n k f h = grind (arith, get-change)
-
-direct_exits_gone : (n m v : ℕ) (t : Core) → get (direct_exits n m v t).threads n ≡ None
-unfolding direct_exits set_how_far set_place on_thread
-direct_exits_gone n m v t =
-    let e = ended n (set_end (task_of n t) CallEnd.Returned t) in
-    none_changed (set_place m Place.Running e).threads m n (λ r. record r { how_far = HowFar.Answered v }) (none_changed e.threads m n (λ r. record r { place = Place.Running }) (ended_gone n (set_end (task_of n t) CallEnd.Returned t)))
-
 direct_exits_runs : (n m v : ℕ) (t : Core) → option_map_or is_running (place_of m (direct_exits n m v t)) true ≡ true
-unfolding direct_exits set_how_far on_thread
-direct_exits_runs n m v t =
-    let u = set_place m Place.Running (ended n (set_end (task_of n t) CallEnd.Returned t)) in
-    ap (λ (o : Option Place). option_map_or is_running o true) (change-field (λ r. r.place) m (λ r. record r { how_far = HowFar.Answered v }) (λ r. refl) u.threads m) ∙ running_moved m (ended n (set_end (task_of n t) CallEnd.Returned t))
+unfolding direct_exits set_how_far set_place on_thread
+direct_exits_runs n m v t = grind (arith, nat_tests, get-change)
 
 -- ---- The running thread
 
@@ -326,27 +208,32 @@ module _ (x : Setting) (main : Main) (s : Core) (n : ℕ) (l : Label) (next : Tu
   pub goes_on : (k : Label) (t : Core) → is_still a t k ≡ true → Going a s n t → Leads a s (Goes k t n)
   goes_on k t still c = let p = and_parts (is_plain s k) (is_mute a t k) still in goes_on_told k t p.0 (λ is to. mute_words a t is p.1) (λ is. c)
 
-  -- n is gone, or stops
-  gone_here : (k : Label) (t : Core) → is_quiet s k ≡ true → (is_exit k ≡ true → get t.threads n ≡ None) → (l ≡ k → EndWords a t) → (l ≡ k → Leaves a n → Trip a s t) → Leads a s (Stops k t)
-  gone_here k t quiet gone says c is to = (c is (refl, (to, refl)), quiet_ends is quiet (λ m at. not_main m (sym to ∙ at)) gone (says is))
-
   -- no thread goes on
+  stops_so : (k : Label) (t : Core) → is_quiet s k ≡ true → (l ≡ k → Leaves a n → EndWords a t) → (l ≡ k → Leaves a n → Trip a s t × (is_exit k ≡ true → get t.threads n ≡ None)) → Leads a s (Stops k t)
+  stops_so k t quiet says c is to = let r = c is (refl, (to, refl)) in (r.0, quiet_ends is quiet (λ m at. not_main m (sym to ∙ at)) r.1 (says is (refl, (to, refl))))
+
+  -- n is gone
+  gone_here : (k : Label) (t : Core) → is_quiet s k ≡ true → (l ≡ k → Leaves a n → EndWords a t) → (l ≡ k → Left a s n t) → Leads a s (Stops k t)
+  gone_here k t quiet says c = stops_so k t quiet says (λ is leave. let e = c is in (exits_trip n leave e, λ exit. left_gone n e))
+
+  -- n stops
   pub stops_here : (k : Label) (t : Core) → is_still a t k ≡ true → (Leaves a n → Trip a s t) → Leads a s (Stops k t)
   stops_here k t still c =
       let r = and_parts (is_plain s k) (is_mute a t k) still in
       let p = and_parts (is_quiet s k) (not (is_exit k)) r.0 in
-      gone_here k t p.0 (λ exit. absurd (subst T (sym p.1 ∙ ap not exit) tt)) (λ is. mute_words a t is r.1) (λ is. c)
+      stops_so k t p.0 (λ is leave. mute_words a t is r.1) (λ is leave. (c leave, λ exit. absurd (subst T (sym p.1 ∙ ap not exit) tt)))
 
   -- another thread, which runs now, goes on
-  pub goes_over : (k : Label) (m : ℕ) (t : Core) → is_quiet s k ≡ true → (is_exit k ≡ true → get t.threads n ≡ None) → (Turn.Run n ≡ Turn.Run m) ⊎ (option_map_or is_running (place_of m t) true ≡ true) → (l ≡ k → EndWords a t) → (l ≡ k → next ≡ Turn.Run m → Trip a s t) → Leads a s (Goes k t m)
-  goes_over k m t quiet gone runs says c is to =
-      (c is to, quiet_ends is quiet (λ j at. subst (λ (i : ℕ). (Turn.Run n ≡ Turn.Run i) ⊎ (option_map_or is_running (place_of i t) true ≡ true)) (one_runner m j (sym to ∙ at)) runs) gone (says is))
+  pub goes_over : (k : Label) (m : ℕ) (t : Core) → is_quiet s k ≡ true → (Turn.Run n ≡ Turn.Run m) ⊎ (option_map_or is_running (place_of m t) true ≡ true) → (l ≡ k → EndWords a t) → (l ≡ k → next ≡ Turn.Run m → Trip a s t × (is_exit k ≡ true → get t.threads n ≡ None)) → Leads a s (Goes k t m)
+  goes_over k m t quiet runs says c is to =
+      let r = c is to in
+      (r.0, quiet_ends is quiet (λ j at. subst (λ (i : ℕ). (Turn.Run n ≡ Turn.Run i) ⊎ (option_map_or is_running (place_of i t) true ≡ true)) (one_runner m j (sym to ∙ at)) runs) r.1 (says is))
 
   -- ---- The ops on registers and words
 
   skip_row_leads : Stands a s n → (ops : ℕ) (b : Bool) → Leads a s (skip_row x.component n ops s b)
   unfolding skipped
-  skip_row_leads on ops true = goes_on (Label.Data (DataLabel.SkipEq n)) (skipped x.component n ops s) refl (moved_to_walks n refl (min (position_of n s + 1 + ops) (length (script_of x.component n s))) refl (min_below _ _) NoWord)
+  skip_row_leads on ops true = goes_on (Label.Data (DataLabel.SkipEq n)) (skipped x.component n ops s) refl (moved_to_walks n refl (min (position_of n s + 1 + ops) (length (script_of x.component n s))) refl (grind arith) NoWord)
   skip_row_leads on ops false = goes_on (Label.Data (DataLabel.SkipEq n)) (advanced n s) refl (advanced_walks n refl on NoWord)
 
   pub data_row_leads : Stands a s n → (o : DataOp) → Leads a s (data_row x.component n s o)
@@ -379,56 +266,60 @@ module _ (x : Setting) (main : Main) (s : Core) (n : ℕ) (l : Label) (next : Tu
   thread_exit_row_leads none =
       trap_if_leads a s (not (passes_check (instance_of n s) s)) Trap.CannotBlockSyncTask _ (λ e.
       trap_if_leads a s (leaves_no_result n s) Trap.NoAsyncResult _ (λ f.
-      gone_here (exit_label n None) (exit_stops n s) refl (λ e. exit_stops_gone n s) (λ is. exit_is_none (exit_stops n s) none is) (λ is leave. exit_stops_walks n refl (last_of n s f) leave NoWord)))
+      gone_here (exit_label n None) (exit_stops n s) refl (λ is leave. exit_is_none (exit_stops n s) none is) (λ is. exit_stops_walks n refl (last_of n s f) NoWord)))
 
   exits : (w : Option ℕ) (t : Core) → l ≡ exit_label n w → is_explicit n s ≡ false → (is_direct (goal_of (task_of n s) s) ≡ true) ⊎ (is_async_lifted (kind_of (task_of n s) s) ≡ false) → t.calls ≡ s.calls → MayEnd a (task_of n s) CallEnd.Returned t
-  exits w t is implicit kind same = Exits n refl refl (ap is_exit is ∙ exit_is n w) refl implicit kind (ap (λ (m : Records Call). get m (task_of n s)) same) refl
+  exits w t is implicit kind same = Exits n refl refl (ap is_exit is ∙ (exit_is n w s).1.0) refl implicit kind (ap (λ (m : Records Call). get m (task_of n s)) same) refl
 
   sync_exit_row_leads : (w : Option ℕ) → is_explicit n s ≡ false → is_async_lifted (kind_of (task_of n s) s) ≡ false → is_direct (goal_of (task_of n s) s) ≡ false → Leads a s (sync_exit_row n w s)
+  unfolding exit_restores set_do_not_suspend on_instance
   sync_exit_row_leads w implicit kind direct =
       may_leads a s (may_tell (task_of n s) w s) _ (λ may.
-      let told = still_told_to (task_of n s) s (exit_restores n s) (same_call (task_of n s) s (exit_restores n s) (restored_calls n s)) w (λ y chosen. restored_chosen n y w s chosen) (told_to (task_of n s) w s may) in
-      λ is to.
-      gone_here (exit_label n w) (sync_exits n w s) (exit_quiet n w s) (λ e. sync_exits_gone n w s)
-      (λ at. exit_says_end w (sync_exits n w s) at implicit kind direct (call_ends (task_of n s) CallEnd.Returned (exit_restores n s)) (over_now (task_of n s) CallEnd.Returned (exit_restores n s)) (trip_walk (sync_exits_rest n refl w s (exit_says s w at implicit (inr kind)) told (refl, (to, refl)) NoWord)))
-      (λ at leave. sync_exits_walks n refl w (exits w (exit_restores n s) at implicit (inr kind) (restored_calls n s)) (exit_says s w at implicit (inr kind)) told leave NoWord) is to)
+      let k = task_of n s in
+      let t = exit_restores n s in
+      let told = told_to k w s may in
+      gone_here (exit_label n w) (sync_exits n w s) (exit_is n w s).0
+      (λ at leave. exit_says_end w (sync_exits n w s) at implicit kind direct (call_ends k CallEnd.Returned t) (over_now k CallEnd.Returned t) (trip_walk (exits_trip n leave (sync_exits_walks n refl w s (exit_says s w at implicit (inr kind)) told NoWord))))
+      (λ at. sync_exits_walks n refl w s (exit_says s w at implicit (inr kind)) told (word (EndCall k CallEnd.Returned) (exits w t at implicit (inr kind) refl, exit_says s w at implicit (inr kind)) (word (SetDoNotSuspend (instance_of n s) (unwrap_or (saved_own_of n s) false)) tt NoWord))))
 
   -- where a holding entry returns
   bars : (w : Option ℕ) → l ≡ exit_label n w → is_explicit n s ≡ false → is_holding (kind_of (task_of n s) s) ≡ true → is_direct (goal_of (task_of n s) s) ≡ false → MayBar a (instance_of n s) false
-  bars w is implicit holding direct = ap (λ k. returned_holder s k) is ∙ (exit_returns n w s ∙ ap (λ b. if b then Some (instance_of n s) else None) (all_three (is_explicit n s) (is_holding (kind_of (task_of n s) s)) (is_direct (goal_of (task_of n s) s)) implicit holding direct))
-    where
-      all_three : (e h d : Bool) → e ≡ false → h ≡ true → d ≡ false → (not e && (h && not d)) ≡ true
-      all_three e h d p q r = grind arith
+  bars w is implicit holding direct = ap (λ k. returned_holder s k) is ∙ ((exit_is n w s).1.1 ∙ grind (arith, implicit, holding, direct))
 
   blocking_exit_row_leads : (w : Option ℕ) → is_explicit n s ≡ false → kind_of (task_of n s) s ≡ ExportKind.Blocking → is_direct (goal_of (task_of n s) s) ≡ false → Leads a s (blocking_exit_row n w s)
+  unfolding end_reopens set_do_not_enter on_instance
   blocking_exit_row_leads w implicit kind direct =
       trap_if_leads a s (not (passes_after_return n w s)) Trap.CannotBlockSyncTask _ (λ e.
-      may_leads a s (may_tell (task_of n s) w s) _ (λ may order is to.
+      may_leads a s (may_tell (task_of n s) w s) _ (λ may order.
       let i = instance_of n s in
       let k = task_of n s in
       let t = end_reopens i order s in
+      let same = shifted_calls (reopened_shifted i order s) in
       let lifted : is_async_lifted (kind_of (task_of n s) s) ≡ false = ap (λ y. is_async_lifted y) kind in
-      let told = still_told_to k s t (same_call k s t (reopened_calls i order s)) w (λ y chosen. reopened_chosen i order y w s chosen) (told_to k w s may) in
-      gone_here (exit_label n w) (blocking_exits n w order s) (exit_quiet n w s) (λ e. blocking_exits_gone n w order s)
-      (λ at. exit_says_end w (blocking_exits n w order s) at implicit lifted direct (call_ends k CallEnd.Returned t) (over_now k CallEnd.Returned t) (trip_walk (blocking_exits_rest n refl w order s (exit_says s w at implicit (inr lifted)) told (refl, (to, refl)) NoWord)))
-      (λ at leave. blocking_exits_walks n refl w order (bars w at implicit (ap (λ y. is_holding y) kind) direct) (exits w t at implicit (inr lifted) (reopened_calls i order s)) (exit_says s w at implicit (inr lifted)) told leave NoWord) is to))
+      let told : ToldTo k w t = λ is y at. chosen_released order y w (set_do_not_enter i false s) (told_to k w s may (grind (arith, is, same)) y (grind (arith, at, same))) in
+      gone_here (exit_label n w) (blocking_exits n w order s) (exit_is n w s).0
+      (λ at leave. exit_says_end w (blocking_exits n w order s) at implicit lifted direct (call_ends k CallEnd.Returned t) (over_now k CallEnd.Returned t) (trip_walk (exits_trip n leave (blocking_exits_walks n refl w order s (exit_says s w at implicit (inr lifted)) told NoWord))))
+      (λ at. blocking_exits_walks n refl w order s (exit_says s w at implicit (inr lifted)) told (word (EndCall k CallEnd.Returned) (exits w t at implicit (inr lifted) same, exit_says s w at implicit (inr lifted)) (reopens_walks n refl i order (bars w at implicit (ap (λ y. is_holding y) kind) direct) NoWord)))))
 
   direct_leads : (m : ℕ) (t : Core) → under_of n s ≡ Some m → is_explicit n s ≡ false → is_direct (goal_of (task_of n s) s) ≡ true → task_of n t ≡ task_of n s → t.calls ≡ s.calls → Keep a s t → Leads a s (Goes (exit_label n None) (direct_exits n m (register_of n 0 s) t) m)
   direct_leads m t under implicit direct task calls c =
       let v = register_of n 0 s in
       let k = task_of n s in
       let is_so : is_direct (goal_of (task_of n t) t) ≡ true = grind arith in
+      let says : l ≡ exit_label n None → SaysEnd a (task_of n t) Status.Returned = λ is. subst (λ (k : ℕ). SaysEnd a k Status.Returned) (sym task) (exit_says s None is implicit (inl direct)) in
       λ here over.
-      goes_over (exit_label n None) m (direct_exits n m v t) refl (λ e. direct_exits_gone n m v t) (inr (direct_exits_runs n m v t))
+      goes_over (exit_label n None) m (direct_exits n m v t) refl (inr (direct_exits_runs n m v t))
       (λ at. says_by a _ at
-      (writes_task Status.Returned _ (call_ends (task_of n t) CallEnd.Returned t) (exit_ends None (direct_exits n m v t) implicit (inl direct)) (EndsByExit (n, (refl, (refl, (implicit, inl direct))))) (subst (λ (i : ℕ). is_over k (call_ends i CallEnd.Returned t) ≡ true) (sym task) (over_now k CallEnd.Returned t)) (trip_walk (direct_exits_rest n refl m v t is_so refl over (under_place n m s under) NoWord)))
+      (writes_task Status.Returned _ (call_ends (task_of n t) CallEnd.Returned t) (exit_ends None (direct_exits n m v t) implicit (inl direct)) (EndsByExit (n, (refl, (refl, (implicit, inl direct))))) (subst (λ (i : ℕ). is_over k (call_ends i CallEnd.Returned t) ≡ true) (sym task) (over_now k CallEnd.Returned t)) (trip_walk (direct_exits_walks n refl m v t is_so refl over (under_place n m s under) NoWord).0))
       (λ sub e out. said_is (HandsOut a (direct_exits n m v t)) (sym (ap₂ (λ (f g : Bool). if not f && g then task_end n Status.Returned s else None) implicit direct) ∙ out) (WritesToo k Status.Returned (exit_says s None at implicit (inl direct)) (inl direct))))
       (λ is to.
-      direct_exits_walks n refl m v is_so refl (subst (λ (k : ℕ). MayEnd a k CallEnd.Returned t) (sym task) (exits None t is implicit (inl direct) calls)) (subst (λ (k : ℕ). SaysEnd a k Status.Returned) (sym task) (exit_says s None is implicit (inl direct))) to (under_place n m s under) c) here over
+      let r = direct_exits_walks n refl m v t is_so refl to (under_place n m s under) (word (EndCall (task_of n t) CallEnd.Returned) (subst (λ (k : ℕ). MayEnd a k CallEnd.Returned t) (sym task) (exits None t is implicit (inl direct) calls), says is) c) in
+      (r.0, λ exit. r.1)) here over
 
   direct_exit_to_leads : (k : ExportKind) (o : Option ℕ) → under_of n s ≡ o → is_explicit n s ≡ false → is_direct (goal_of (task_of n s) s) ≡ true → Leads a s (direct_exit_to n k s o)
+  unfolding exit_restores set_do_not_suspend on_instance
   direct_exit_to_leads k None under implicit direct = tt
-  direct_exit_to_leads ExportKind.Sync (Some m) under implicit direct = direct_leads m (exit_restores n s) under implicit direct (restored_task n s) (restored_calls n s) (restores_walks n s)
+  direct_exit_to_leads ExportKind.Sync (Some m) under implicit direct = direct_leads m (exit_restores n s) under implicit direct refl refl (word (SetDoNotSuspend (instance_of n s) (unwrap_or (saved_own_of n s) false)) tt NoWord)
   direct_exit_to_leads k (Some m) under implicit direct =
       let h : Shifted s (checked (instance_of n s) s) = shifts_shifted (checked_shifts (instance_of n s) s) in
       trap_if_leads a s (not (passes_check (instance_of n s) s)) Trap.CannotBlockSyncTask _ (λ e.
@@ -441,19 +332,23 @@ module _ (x : Setting) (main : Main) (s : Core) (n : ℕ) (l : Label) (next : Tu
   owes (Some e) has ends t = inr (n, (ends, (refl, ap own_or_none has)))
 
   code_wait_row_leads : (k : Label) (y : ℕ) (held : List ℕ) (b : Bool) → ((t : Core) → is_still a t k ≡ true) → (l ≡ k → MayBar a (instance_of n s) false) → EndsActivation a n → HasSet a n y → Leads a s (code_wait_row k n y held s b)
-  code_wait_row_leads k y held true plain bar ends has = λ order is to. stops_here k (code_finds n y order s) (plain _) (λ leave. code_finds_walks n refl y order (bar is) leave ends has NoWord) is to
-  code_wait_row_leads k y held false plain bar ends has = λ order is to. stops_here k (code_waits n y order s) (plain _) (λ leave. code_waits_walks n refl y order (bar is) leave ends has NoWord) is to
+  unfolding code_finds code_waits
+  code_wait_row_leads k y held true plain bar ends has = λ order is to. stops_here k (code_finds n y order s) (plain _) (λ leave. lands (Put Mark.High n (Why.Delivery (Delivery.Set y))) (FindsEvent y leave ends has refl) (code_stops_walks n refl order (bar is) NoWord)) is to
+  code_wait_row_leads k y held false plain bar ends has = λ order is to. stops_here k (code_waits n y order s) (plain _) (λ leave. lands (Move n (Place.Waiting y true)) (AwaitsEvent y leave ends has refl) (code_stops_walks n refl order (bar is) NoWord)) is to
 
   code_exits_leads : (k : Label) (held : List ℕ) → is_quiet s k ≡ true → ((t : Core) → l ≡ k → EndWords a t) → (l ≡ k → MayBar a (instance_of n s) false) → (rest : ℕ) → Leads a s (code_kind_row k n held s zero rest)
+  unfolding code_exits code_stops set_do_not_enter on_instance
   code_exits_leads k held quiet says bar rest =
       trap_if_leads a s (not (passes_after_stop (instance_of n s) (foot_of n s) held s)) Trap.CannotBlockSyncTask _ (λ e.
       trap_if_leads a s (leaves_no_result n s) Trap.NoAsyncResult _ (λ f order.
-      gone_here k (code_exits n order s) quiet (λ e. code_exits_gone n order s) (says (code_exits n order s)) (λ is leave. code_exits_walks n refl order (last_of n s f) (bar is) leave NoWord)))
+      let h = checked_shifts (instance_of n s) (code_stops n order s) in
+      gone_here k (code_exits n order s) quiet (λ is leave. says (code_exits n order s) is) (λ is. ended_walks n (last_shifted n (shifted_after (reopened_shifted (instance_of n s) order s) (shifted_after (shifts_shifted (stopped_shifts (foot_of n s) (end_reopens (instance_of n s) order s))) (shifts_shifted h))) (last_of n s f)) (shifted h (code_stops_walks n refl order (bar is) NoWord)))))
 
   code_kind_row_leads : (k : Label) (held : List ℕ) (low rest : ℕ) → ((t : Core) → is_still a t k ≡ true) → (l ≡ k → MayBar a (instance_of n s) false) → EndsActivation a n → Leads a s (code_kind_row k n held s low rest)
+  unfolding code_yields
   code_kind_row_leads k held zero rest plain bar ends =
       code_exits_leads k held (and_parts (is_quiet s k) (not (is_exit k)) (and_parts (is_plain s k) (is_mute a s k) (plain s)).0).0 (λ t is. mute_words a t is (and_parts (is_plain s k) (is_mute a t k) (plain t)).1) bar rest
-  code_kind_row_leads k held (suc zero) rest plain bar ends = λ order is to. stops_here k (code_yields n order s) (plain _) (λ leave. code_yields_walks n refl order (bar is) leave ends (owes (own_event_of (task_of n s) s) refl ends (code_stops n order s)) NoWord) is to
+  code_kind_row_leads k held (suc zero) rest plain bar ends = λ order is to. stops_here k (code_yields n order s) (plain _) (λ leave. lands (Put Mark.Low n (Why.Delivery Delivery.Yield)) (ComesAgain leave ends refl) (word (SetOwnEvent (task_of n s) (own_or_none (own_event_of (task_of n s) s))) (owes (own_event_of (task_of n s) s) refl ends (code_stops n order s)) (code_stops_walks n refl order (bar is) NoWord))) is to
   code_kind_row_leads k held (suc (suc zero)) rest plain bar ends = or_trap_leads a s (set_at (instance_of n s) rest s) Trap.BadHandle _ (λ y named. code_wait_row_leads k y held (has_event_for (task_of n s) y s) plain bar ends (BySetHandle rest named))
   code_kind_row_leads k held (suc (suc (suc low))) rest plain bar ends = tt
 
@@ -493,10 +388,15 @@ module _ (x : Setting) (main : Main) (s : Core) (n : ℕ) (l : Label) (next : Tu
       trap_if_leads a s (has_ended (task_of n s) s) Trap.TaskCancelOrReturnTwice _ (λ unended.
       trap_if_leads a s (not (is_async_lifted (kind_of (task_of n s) s))) Trap.TaskReturnInvalid _ (λ lifted.
       may_leads a s (may_tell (task_of n s) w s) _ (λ may.
-      goes_on_told (ret_label n v w) (ret_done n v w s) (ret_plain n v w s)
-      (λ is to. task_says Status.Returned (ret_done n v w s) is (ret_writes x.component n v w s _) (ret_hands x.component main n v w s (ret_done n v w s)) unended
-      (call_ends (task_of n s) CallEnd.Returned s) (over_now (task_of n s) CallEnd.Returned s) (stay_walk (advanced_walks n refl (on_after_end on (task_of n s) CallEnd.Returned) (returned_rest (task_of n s) v w s (ap (λ (k : Label). written_by x.component s k s) is ∙ ret_writes x.component n v w s s) (told_to (task_of n s) w s may) NoWord) to)))
-      (λ is. advanced_walks n refl on (returned_walks (task_of n s) v w (ReturnsNow n refl refl refl unended (unnot (is_async_lifted (kind_of (task_of n s) s)) lifted) refl) (ap (λ (k : Label). written_by x.component s k s) is ∙ ret_writes x.component n v w s s) (told_to (task_of n s) w s may) NoWord)))))
+      let k = task_of n s in
+      let told = told_to k w s may in
+      let is_so = ret_is x.component main n v w s in
+      goes_on_told (ret_label n v w) (ret_done n v w s) (is_so s).0
+      (λ is to. task_says Status.Returned (ret_done n v w s) is (is_so (ret_done n v w s)).1.0 (is_so (ret_done n v w s)).1.1 unended (call_ends k CallEnd.Returned s) (over_now k CallEnd.Returned s)
+      (stay_walk (advanced_walks n refl (on_after_end on k CallEnd.Returned) (returned_rest k v w s (ap (λ (k : Label). written_by x.component s k s) is ∙ (is_so s).1.0) told NoWord) to)))
+      (λ is.
+      let says : SaysEnd a k Status.Returned = ap (λ (k : Label). written_by x.component s k s) is ∙ (is_so s).1.0 in
+      advanced_walks n refl on (returned_rest k v w s says told (word (EndCall k CallEnd.Returned) (ReturnsNow n refl refl refl unended (unnot (is_async_lifted (kind_of k s)) lifted) refl, says) NoWord))))))
 
   task_cancel_row_leads : Stands a s n → (w : Option ℕ) → Leads a s (task_cancel_row n w s)
   unfolding task_cancel_done
@@ -504,20 +404,19 @@ module _ (x : Setting) (main : Main) (s : Core) (n : ℕ) (l : Label) (next : Tu
       trap_if_leads a s (not (cancel_was_delivered (task_of n s) s)) Trap.TaskCancelNotCancelled _ (λ delivered.
       trap_if_leads a s (has_ended (task_of n s) s) Trap.TaskCancelOrReturnTwice _ (λ unended.
       may_leads a s (may_tell (task_of n s) w s) _ (λ may.
-      goes_on_told (task_cancel_label n w) (task_cancel_done n w s) (task_cancel_plain n w s)
-      (λ is to. task_says Status.ReturnCancelled (task_cancel_done n w s) is (task_cancel_writes x.component n w s _) (task_cancel_hands x.component main n w s (task_cancel_done n w s)) unended
-      (call_ends (task_of n s) CallEnd.ReturnCancelled s) (over_now (task_of n s) CallEnd.ReturnCancelled s) (stay_walk (advanced_walks n refl (on_after_end on (task_of n s) CallEnd.ReturnCancelled) (cancelled_rest (task_of n s) w s (told_to (task_of n s) w s may) NoWord) to)))
-      (λ is. advanced_walks n refl on (cancelled_walks (task_of n s) w (GivesUp n refl refl refl unended (unnot (cancel_was_delivered (task_of n s) s) delivered) refl) (ap (λ (k : Label). written_by x.component s k s) is ∙ task_cancel_writes x.component n w s s) (told_to (task_of n s) w s may) NoWord)))))
+      let k = task_of n s in
+      let told = told_to k w s may in
+      let is_so = task_cancel_is x.component main n w s in
+      goes_on_told (task_cancel_label n w) (task_cancel_done n w s) (is_so s).0
+      (λ is to. task_says Status.ReturnCancelled (task_cancel_done n w s) is (is_so (task_cancel_done n w s)).1.0 (is_so (task_cancel_done n w s)).1.1 unended (call_ends k CallEnd.ReturnCancelled s) (over_now k CallEnd.ReturnCancelled s)
+      (stay_walk (advanced_walks n refl (on_after_end on k CallEnd.ReturnCancelled) (cancelled_rest k w s told NoWord) to)))
+      (λ is. advanced_walks n refl on (cancelled_rest k w s told (word (EndCall k CallEnd.ReturnCancelled) (GivesUp n refl refl refl unended (unnot (cancel_was_delivered k s) delivered) refl, ap (λ (k : Label). written_by x.component s k s) is ∙ (is_so s).1.0) NoWord))))))
 
   dec_from_leads : Stands a s n → (b : ℕ) → Leads a s (dec_from n s b)
   unfolding dec_lowers dec_opens
   dec_from_leads on zero = tt
   dec_from_leads on (suc zero) = λ order. goes_on (Label.Task (TaskLabel.BpDec n)) (dec_opens n order s) refl (advanced_walks n refl on (shifted (released_shifts order (set_backpressure (instance_of n s) 0 s)) (word (SetBackpressure (instance_of n s) 0) tt NoWord)))
   dec_from_leads on (suc (suc b)) = goes_on (Label.Task (TaskLabel.BpDec n)) (dec_lowers n s) refl (advanced_walks n refl on (word (SetBackpressure (instance_of n s) (backpressure_of (instance_of n s) s - 1)) tt NoWord))
-
-  inc_row_leads : Stands a s n → Leads a s (inc_row n s)
-  unfolding inc_raises
-  inc_row_leads on = trap_if_leads a s (nat_le 65535 (backpressure_of (instance_of n s) s)) Trap.BackpressureOverflow _ (λ e. goes_on (Label.Task (TaskLabel.BpInc n)) (inc_raises n s) refl (advanced_walks n refl on (word (SetBackpressure (instance_of n s) (backpressure_of (instance_of n s) s + 1)) tt NoWord)))
 
   ends_by : (o : TaskOp) → op_in a n ≡ Op.Task o → is_code_op o ≡ true → EndsActivation a n
   ends_by o is code = (refl, ap (λ p. ends_activation p) is ∙ code)
@@ -526,6 +425,7 @@ module _ (x : Setting) (main : Main) (s : Core) (n : ℕ) (l : Label) (next : Tu
   stands is other = (refl, op_stands x.component n s (ap is_exit_op is ∙ other))
 
   pub task_row_leads : (ch : Choice) (o : TaskOp) → op_in a n ≡ Op.Task o → Leads a s (task_row n s ch o)
+  unfolding inc_raises
   task_row_leads ch (TaskOp.Ret v) is = ret_row_leads (stands is refl) (value_of n s v) ch.woken
   task_row_leads ch (TaskOp.RetBad v) is = trap_if_leads a s (has_ended (task_of n s) s) Trap.TaskCancelOrReturnTwice _ (λ e. tt)
   task_row_leads ch TaskOp.TaskCancel is = task_cancel_row_leads (stands is refl) ch.woken
@@ -533,5 +433,6 @@ module _ (x : Setting) (main : Main) (s : Core) (n : ℕ) (l : Label) (next : Tu
   task_row_leads ch TaskOp.CbYield is = code_row_leads (Label.Task (TaskLabel.CbYield n)) 1 (λ t. refl) (λ shows. ap (λ k. returned_holder s k) shows) (ends_by TaskOp.CbYield is refl)
   task_row_leads ch (TaskOp.CbWait v) is = code_row_leads (Label.Task (TaskLabel.CbWait n)) (16 * value_of n s v + 2) (λ t. refl) (λ shows. ap (λ k. returned_holder s k) shows) (ends_by (TaskOp.CbWait v) is refl)
   task_row_leads ch (TaskOp.Code v) is = code_row_leads (Label.Task (TaskLabel.Code n)) (value_of n s v) (λ t. refl) (λ shows. ap (λ k. returned_holder s k) shows) (ends_by (TaskOp.Code v) is refl)
-  task_row_leads ch TaskOp.BpInc is = inc_row_leads (stands is refl)
+  task_row_leads ch TaskOp.BpInc is =
+      trap_if_leads a s (nat_le 65535 (backpressure_of (instance_of n s) s)) Trap.BackpressureOverflow _ (λ e. goes_on (Label.Task (TaskLabel.BpInc n)) (inc_raises n s) refl (advanced_walks n refl (stands is refl) (word (SetBackpressure (instance_of n s) (backpressure_of (instance_of n s) s + 1)) tt NoWord)))
   task_row_leads ch TaskOp.BpDec is = dec_from_leads (stands is refl) (backpressure_of (instance_of n s) s)
