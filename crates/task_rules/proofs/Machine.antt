@@ -46,7 +46,7 @@ pub use Rattle.task_rules.specs.Places.{entries, HasPlace, is_at_high, is_at_low
 pub use Rattle.task_rules.specs.Progress.{Fails, Goes, may, Never, or_never, or_trap, Ordered, Progress, Stops, trap_if, Traps}
 pub use Rattle.task_rules.specs.Run.{main_opening, opening, Run}
 pub use Rattle.task_rules.specs.Scenes.{base_at, base_without, component_of, op_in, runner_at, Scene, scene_of, thread_of_entry}
-pub use Rattle.task_rules.specs.Scripts.{export_kind, host_at, is_script, op_of_thread, registers_for, script_in, script_of_thread, slot_at, value_of, values_in}
+pub use Rattle.task_rules.specs.Scripts.{export_kind, host_at, is_script, op_at_place, op_of_thread, registers_for, script_in, script_of_thread, slot_at, value_of, values_in}
 unfoldable pub use Rattle.task_rules.specs.Scripts.{op_of, script_of}
 pub use Rattle.task_rules.specs.Sets.{chosen, given_code, given_handle, given_result, handed_out, join_done, join_to, joins, may_wake_new, set_row, wait_begins, wait_goes_on, wait_row, wakes_joined}
 unfoldable pub use Rattle.task_rules.specs.Sets.{finds_nothing, joined, received, received_woken, set_dropped, set_given, set_made, wait_stops, wait_stops_checked}
