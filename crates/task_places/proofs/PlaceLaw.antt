@@ -1,5 +1,5 @@
 -- Where each thread is along the words of a step: each has its place, and one that waits for its start still does, or its call has begun.
-use Rattle.task_rules.proofs.Machine.{[], add_call, add_group, add_set, add_work, after_placing, after_word, ap, arith, AwaitsEvent, Blocks, Bool, ByHandle, Call, call_made, Collapses, Core, count_work, Departs, EndsOver, Enter, entries, Entry, Falls, false, free_handle, free_thread_handle, get, get-change, give_handle, give_result, give_thread_handle, GoBehind, GoesBack, has_entry, HasPlace, HasSubtask, Holds, HowFar, if◌then◌else◌, inl, inr, is_at_high, is_at_low, is_at_switch, is_begun, is_done_host, is_explicit, is_for_start, is_free, is_fresh, is_none, is_some, is_there, is_under, IsFall, IsFoot, IsRunner, IsSettling, Lands, LandsAt, LastWords, Leaves, MakeCall, MakeThread, Mark, MayGo, MayLand, MayMove, MayPut, MayWithdraw, MayYield, Move, nat_tests, new_thread, next_thread, None, on_call, on_instance, on_thread, on_work, Option, option_map, option_map_or, Place, place_of, Places, Placing, poll_pends, Promote, promoted, push_high, Put, put_high, put_low, Quits, refl, registers_for, Remains, remove_call, remove_group, remove_set, remove_thread, remove_work, RemoveThread, Runs, says, Scene, Script, set_backpressure, set_cancel_delivered, set_cancelled, set_course, set_do_not_enter, set_do_not_suspend, set_end, set_event, set_exited, set_how_far, set_join, set_own_event, set_phase, set_place, set_position, set_register, set_result, set_saved_callee, set_saved_own, set_script, set_stage, set_started, set_starting_published, set_subtask_handle, set_thread_handle, set_trapped, set_uninteresting, set_word, Settles, SetTrapped, SetUninteresting, Some, Stay, Stays, Stop, subst, Subtask, Suspends, switch_entries, sym, T, take_result, TakeHost, TakePush, task_of, Thread, Trip, true, Turn, Uncovers, Waits, WaitsAgain, was_started, Why, with_handle, with_thread_handle, Withdraw, Word, work_queued, ℕ, ⊎_elim, ◌+◌, ◌==◌, ◌||◌, ◌∙◌, ◌≡◌, ◌≤◌, ◌⊎◌}
+use Rattle.task_rules.proofs.Machine.{[], add_call, add_group, add_set, add_work, after_placing, after_word, ap, arith, AwaitsEvent, Blocks, Bool, ByHandle, call_made, Collapses, Core, count_work, Departs, EndsOver, Enter, entries, Entry, Falls, false, free_handle, free_thread_handle, get, get-change, give_handle, give_result, give_thread_handle, GoBehind, GoesBack, has_entry, HasPlace, HasSubtask, Holds, HowFar, if◌then◌else◌, inl, inr, is_at_high, is_at_low, is_at_switch, is_begun, is_done_host, is_explicit, is_for_start, is_free, is_fresh, is_none, is_some, is_there, is_under, IsFall, IsFoot, IsRunner, IsSettling, Lands, LandsAt, LastWords, Leaves, MakeCall, MakeThread, Mark, MayGo, MayLand, MayMove, MayPut, MayWithdraw, MayYield, Move, nat_tests, new_thread, next_thread, None, on_call, on_instance, on_thread, on_work, Option, option_map_or, Place, place_of, Places, Placing, poll_pends, Promote, push_high, Put, Quits, refl, registers_for, Remains, remove_call, remove_group, remove_set, remove_thread, remove_work, RemoveThread, Runs, says, Scene, Script, set_backpressure, set_cancel_delivered, set_cancelled, set_course, set_do_not_enter, set_do_not_suspend, set_end, set_event, set_exited, set_how_far, set_join, set_own_event, set_phase, set_place, set_position, set_register, set_result, set_saved_callee, set_saved_own, set_script, set_stage, set_started, set_starting_published, set_subtask_handle, set_thread_handle, set_trapped, set_uninteresting, set_word, Settles, SetTrapped, SetUninteresting, Some, Stay, Stays, Stop, subst, Subtask, Suspends, switch_entries, sym, T, take_result, TakeHost, TakePush, task_of, Thread, Trip, true, Turn, Uncovers, Waits, WaitsAgain, was_started, Why, with_handle, with_thread_handle, Withdraw, Word, work_queued, ℕ, ⊎_elim, ◌+◌, ◌==◌, ◌||◌, ◌∙◌, ◌≡◌, ◌≤◌, ◌⊎◌}
 use Rattle.task_rules.proofs.WalkMoves.{blocked_place}
 use Rattle.task_places.proofs.Entries.{added_stand, has_stands, next_first, popped_quiet, promoted_stand, removed_fresh, withdrawn_stand, flipped}
 use Rattle.task_rules.proofs.ChainLemmas.{along}
