@@ -1,5 +1,5 @@
 -- What script each thread runs, and where in it, along the words of a step.
-use Rattle.task_rules.proofs.Machine.{[], after_word, Allowed, ap, arith, AtOp, Bool, call_instance, Callee, callee_of, can_come, Component, component_of, Core, ends_activation, EndsActivation, false, get, HowFar, inl, InOp, inr, is_explicit, is_some, is_sync_call, length, MayMove, new_thread, next_thread, None, Op, op_in, op_of, op_of_thread, Option, option_map, option_map_or, Place, place_of, refl, registers_for, Scene, Script, script_in, script_of, slice_get, Some, sym, task_of, TaskOp, Thread, true, Turn, unwrap_or, WasReady, WasUnder, Why, Word, ℕ, ⊎_elim, ◌∙◌, ◌∷◌, ◌≡◌, ◌≤◌, ◌⊎◌}
+use Rattle.task_rules.proofs.Machine.{[], after_word, Allowed, ap, arith, AtOp, Bool, call_instance, Callee, callee_of, can_come, Component, component_of, Core, ends_activation, EndsActivation, false, get, HowFar, inl, InOp, inr, is_explicit, is_some, is_sync_call, length, MayMove, new_thread, next_thread, None, Op, op_at_place, op_in, op_of, op_of_thread, Option, option_map, option_map_or, Place, place_of, refl, registers_for, Scene, Script, script_in, script_of, script_of_thread, Some, sym, task_of, Thread, true, Turn, WasReady, WasUnder, Why, Word, ℕ, ⊎_elim, ◌∙◌, ◌∷◌, ◌≡◌, ◌≤◌, ◌⊎◌}
 use Rattle.task_rules.proofs.WalkTask.{one_runner}
 use Rattle.task_laws.proofs.CallsCame.{IsBeside, IsFirst, IsGone, IsSame, RunsOn, ThreadAfter, thread_came, Ends}
 use Rattle.task_laws.proofs.Basics.{no_way, some_none}
@@ -35,15 +35,16 @@ module _ (a : Scene) (s : Core) (n : ℕ) where
 
 module _ (c : Component) (codes : CodesInCallbacks c) where
   slot_no_code : (f : Callee) (x : Script) (p : ℕ) → names_script c f.instance true x ≡ true →
-      ends_activation (unwrap_or (slice_get (script_in c f x) p) (Op.Task TaskOp.Exit)) ≡ false
+      ends_activation (op_at_place (script_in c f x) p) ≡ false
   slot_no_code f x p h = grind (arith, codes.slots f.instance)
 
   -- whose op ends an activation is a first thread
   ends_first : (n : ℕ) (s : Core) → Fits c s → ends_activation (op_of c n s) ≡ true → is_explicit n s ≡ false
-  unfolding op_of
+  unfolding op_of script_of
   ends_first n s fits ends = by (get s.threads n) refl ends
     where
-      by : (o : Option Thread) → get s.threads n ≡ o → ends_activation (option_map_or (op_of_thread c s) o (Op.Task TaskOp.Exit)) ≡ true →
+      by : (o : Option Thread) → get s.threads n ≡ o → ends_activation (op_at_place (option_map_or (script_of_thread c s) o [])
+          (option_map_or (λ (t : Thread). t.position) o 0)) ≡ true →
           option_map_or (λ (t : Thread). t.explicit) o false ≡ false
       by None at ends = refl
       by (Some t) at ends = let f = (fits n t at).script in let no = slot_no_code (callee_of t.call s) t.script t.position in grind arith

@@ -1,5 +1,5 @@
 -- At most one holding entry of an instance runs at a time: each word, each step, and each run.
-use Rattle.task_rules.proofs.Machine.{[], add_call, add_group, add_set, add_thread, add_work, AddGroup, after_word, Allowed, arith, begun_holder, Bool, Call, call_instance, call_made, Callee, callee_of, callee_of_op, Caller, Component, component_of, Core, count_work, false, filled, filter, free_handle, free_thread_handle, fresh, get, get-change, get-empty, get-insert, give_handle, give_result, give_thread_handle, history, holds_one, Instance, is_among, is_some, Label, LastWords, less_holder, List, list_any, Main, may_not_enter, MayCall, nat_tests, None, not, on_call, on_instance, on_thread, on_work, Op, op_of, op_of_thread, Option, option_map_or, poll_pends, push_high, Queues, refl, remove_call, remove_group, remove_set, remove_thread, remove_work, returned_holder, Run, SameMain, Scene, Script, script_in, script_of, script_of_thread, Scripted, set_backpressure, set_cancel_delivered, set_cancelled, set_course, set_do_not_enter, set_do_not_suspend, set_end, set_event, set_exited, set_how_far, set_join, set_own_event, set_phase, set_position, set_register, set_result, set_saved_callee, set_saved_own, set_script, set_stage, set_started, set_starting_published, set_subtask_handle, set_thread_handle, set_trapped, set_uninteresting, set_word, SetDoNotEnter, Setting, slice_get, Some, State, Step, take_result, TaskOp, Thread, true, Unscripted, untouched, unwrap_or, Walk, Walked, with_handle, with_holder, with_thread_handle, Word, work_queued, ℕ, ◌<◌, ◌==◌, ◌∙◌, ◌∷◌, ◌≡◌, ◌⊎◌}
+use Rattle.task_rules.proofs.Machine.{[], add_call, add_group, add_set, add_thread, add_work, AddGroup, after_word, Allowed, arith, begun_holder, Bool, Call, call_instance, call_made, Callee, callee_of, callee_of_op, Caller, Component, component_of, Core, count_work, false, filled, filter, free_handle, free_thread_handle, fresh, get, get-change, get-empty, get-insert, give_handle, give_result, give_thread_handle, history, holds_one, is_among, is_some, Label, LastWords, less_holder, List, list_any, Main, may_not_enter, MayCall, nat_tests, None, not, on_call, on_instance, on_thread, on_work, Op, op_at_place, op_of, Option, option_map_or, poll_pends, push_high, Queues, refl, remove_call, remove_group, remove_set, remove_thread, remove_work, returned_holder, Run, SameMain, Scene, Script, script_in, script_of, script_of_thread, Scripted, set_backpressure, set_cancel_delivered, set_cancelled, set_course, set_do_not_enter, set_do_not_suspend, set_end, set_event, set_exited, set_how_far, set_join, set_own_event, set_phase, set_position, set_register, set_result, set_saved_callee, set_saved_own, set_script, set_stage, set_started, set_starting_published, set_subtask_handle, set_thread_handle, set_trapped, set_uninteresting, set_word, SetDoNotEnter, Setting, slice_get, Some, State, Step, take_result, Thread, true, Unscripted, untouched, Walk, Walked, with_handle, with_holder, with_thread_handle, Word, work_queued, ℕ, ◌<◌, ◌==◌, ◌∙◌, ◌∷◌, ◌≡◌, ◌⊎◌}
 use Rattle.task_laws.proofs.CallsCame.{CallAfter, Grown, NewCall, NoCall, call_came}
 use Rattle.task_laws.proofs.CallsSteps.{plain, plain_scene}
 use Rattle.task_laws.specs.Holders.{CalleesExist, RunsHoldOne}
@@ -41,7 +41,7 @@ IsScripted Unscripted = ⊥
 
 -- ---- The exports that are called
 
-callee_at : (ops : List Op) (p : ℕ) (e : Callee) → callee_of_op (unwrap_or (slice_get ops p) (Op.Task TaskOp.Exit)) ≡ Some e →
+callee_at : (ops : List Op) (p : ℕ) (e : Callee) → callee_of_op (op_at_place ops p) ≡ Some e →
     (o : Op) × ((slice_get ops p ≡ Some o) × (callee_of_op o ≡ Some e))
 callee_at ops p e is = grind arith
 
@@ -50,11 +50,14 @@ pub op_callee : (c : Component) (P : Callee → Type 0) →
     ((f : Callee) (w : Script) (p : ℕ) (o : Op) (e : Callee) → slice_get (script_in c f w) p ≡ Some o → callee_of_op o ≡ Some e → P e) →
     (n : ℕ) (s : Core) (e : Callee) → callee_of_op (op_of c n s) ≡ Some e → P e
 unfolding op_of script_of
-op_callee c P calls n s e is = go (get s.threads n) is
+op_callee c P calls n s e is =
+    let p = option_map_or (λ (t : Thread). t.position) (get s.threads n) 0 in
+    let o = callee_at (script_of c n s) p e is in go (get s.threads n) p o.0 o.1.0 o.1.1
   where
-    go : (t : Option Thread) → callee_of_op (option_map_or (op_of_thread c s) t (Op.Task TaskOp.Exit)) ≡ Some e → P e
-    go None h = absurd (grind arith)
-    go (Some t) h = let o = callee_at (script_of_thread c s t) t.position e h in calls (callee_of t.call s) t.script t.position o.0 e o.1.0 o.1.1
+    go : (t : Option Thread) (p : ℕ) (o : Op) → slice_get (option_map_or (script_of_thread c s) t []) p ≡ Some o →
+        callee_of_op o ≡ Some e → P e
+    go None p o at f = absurd (cc)
+    go (Some t) p o at f = calls (callee_of t.call s) t.script p o e at f
 
 module _ (a : Scene) (instances : ℕ) (exist : CalleesExist a.setting instances) (main : IsScripted a.main)
     (b : Housed instances a.base) where

@@ -1,5 +1,5 @@
 -- A state in order: each opening state is, and each step leads from one to one.
-use Rattle.task_rules.proofs.Machine.{[], ap, arith, Bool, ByHandle, ByOp, Call, call_instance, callee_of, can_come, Component, Core, empty, false, fresh, get, get-empty, HasSubtask, how_far_of, HowFar, inl, inr, instance_of, is_fresh, is_some, is_sync_call, is_there, IsRunner, Label, length, List, None, Op, op_of_thread, opening, Option, option_and_then, option_map, option_map_or, Place, place_of, Placed, refl, Run, Scene, scene_of, Script, script_in, Setting, slice_get, Some, State, Steady, subst, Subtask, subtask_under_way, sym, task_of, TaskOp, Thread, true, Turn, unwrap_or, Walk, Walked, was_started, Work, ℕ, ⊎_elim, ◌∙◌, ◌∷◌, ◌≡◌, ◌≤◌, ◌⊎◌}
+use Rattle.task_rules.proofs.Machine.{[], ap, arith, Bool, ByHandle, ByOp, Call, call_instance, callee_of, can_come, Component, Core, false, fresh, get, get-empty, HasSubtask, how_far_of, HowFar, inl, inr, instance_of, is_fresh, is_some, is_sync_call, is_there, IsRunner, Label, length, List, None, Op, op_at_place, op_of_thread, opening, Option, option_and_then, option_map, option_map_or, Place, place_of, Placed, refl, Run, Scene, scene_of, Script, script_in, Setting, Some, State, Steady, subst, Subtask, subtask_under_way, sym, task_of, Thread, true, Turn, Walk, Walked, was_started, ℕ, ⊎_elim, ◌∙◌, ◌∷◌, ◌≡◌, ◌≤◌, ◌⊎◌}
 use Rattle.task_places.proofs.HostsAwaited.{Asked, step_asked, step_works}
 use Rattle.task_places.proofs.Directs.{directs_on_top}
 use Rattle.task_laws.proofs.Joins.{joins_word, opening_joins}
@@ -14,12 +14,12 @@ use Rattle.task_laws.proofs.FitLemmas.{AllFit, fits_word, OfBase}
 use Rattle.task_laws.proofs.CountLemmas.{few_word}
 use Rattle.task_laws.proofs.SetHandles.{opening_sets, sets_named_word}
 use Rattle.task_laws.proofs.CallsLaw.{CallsGo, CallsHold}
-use Rattle.task_laws.proofs.CallsSteps.{base_out, calls_begin, of_base, word_goes, opening_holds, plain, plain_scene, step_goes}
+use Rattle.task_laws.proofs.CallsSteps.{calls_begin, of_base, word_goes, opening_holds, plain, plain_scene, step_goes}
 use Rattle.task_laws.proofs.AwaitedCalls.{DirectsRun, Inside, directs_word, CallsInside, inside_word, apart_after}
-use Rattle.task_laws.proofs.NamedCalls.{NamesGo, InsideThere, names_go_word, opening_names_known}
+use Rattle.task_laws.proofs.NamedCalls.{NamesHold, NamesGo, InsideThere, names_go_word, opening_names_known}
 use Rattle.task_laws.proofs.UnbegunCalls.{first_waits, Unbegun, unbegun_word, Waited}
 use Rattle.task_places.proofs.CallsBack.{back_apart}
-use Rattle.task_laws.specs.Order.{InPlace, StartsFirst, NamesKnown, CallsAwaited, cancelled_call, is_awaited, IsUnbegun, CallsNamed, InOrder, Numbered, OpeningInOrder, SetsNamed, StartsAwaited, StepInOrder, WasCall, CallsThere, MakesFew, Strands, WaitsAtHome, set_of_op, set_of_place, StepsMakeFew, JoinsNamed, DirectsOnTop, Fits, WorksQueued, HostsAwaited, names_script}
+use Rattle.task_laws.specs.Order.{InPlace, StartsFirst, CallsAwaited, cancelled_call, is_awaited, HasNotRun, CallsNamed, InOrder, Numbered, OpeningInOrder, SetsNamed, StartsAwaited, StepInOrder, WasCall, CallsThere, MakesFew, Strands, WaitsAtHome, set_of_op, set_of_place, StepsMakeFew, JoinsNamed, DirectsOnTop, Fits, WorksQueued, HostsAwaited, names_script}
 use Rattle.task_places.proofs.PlaceLaw.{Arrives}
 use Rattle.task_places.proofs.PlaceSteps.{step_by, Withdrawable, settled_run, step_arrives}
 use Rattle.task_places.specs.Kept.{ReachedInOrder, ReachedInPlace, StepsKeepPlaces}
@@ -146,8 +146,11 @@ module _ (x : Setting) (s : State) (l : Label) (t : State) (h : InOrder x.compon
   unbegun_base : StartsFirst a.base
   unbegun_base k r at first waits = let q = h.unbegun k r at first waits in record { unended = q.unended; alone = q.alone }
 
-  names_base : NamesKnown a.base
-  names_base = record { there = h.names.there; once = h.names.once; number = h.names.number; called = h.names.called }
+  names_first : NamesHold s.core
+  names_first = record { known = h.names; number = λ k c at. (h.numbered.calls k c at).1; least = λ n k far. (h.calls_named.by_op n k (ap subtask_under_way far)).number }
+
+  names_base : NamesHold a.base
+  names_base = let n = names_first in record { known = record { there = h.names.there; once = h.names.once; called = h.names.called }; number = n.number; least = n.least }
 
   calls_base : CallsAwaited a.base
   calls_base = record { inside = h.calls.inside; apart = h.calls.apart }
@@ -170,7 +173,7 @@ module _ (x : Setting) (s : State) (l : Label) (t : State) (h : InOrder x.compon
         directs_word a v u ok q.0,
         (names, inside_word a names_base calls_base unbegun_base numbered_base least v u ok q.1.0 names q.0 q.1.1),
       ))
-      (λ k d. inl d, (record { known = h.names; were = λ n k far. inl far }, record { inside = λ n k far. ⊎_elim inl (λ w. inr (inl w)) (h.calls.inside n k far); cancelled = λ m k e. inl e })) walk
+      (λ k d. inl d, (record { hold = names_first; were = λ n k far. inl far }, record { inside = λ n k far. ⊎_elim inl (λ w. inr (inl w)) (h.calls.inside n k far); cancelled = λ m k e. inl e })) walk
 
   pub directs_kept : Steady s.core t.core → Numbered t.core → DirectsOnTop t.core
   directs_kept steady after = directs_on_top a s.core t.core steady h.numbered after arrives (λ k. refl) (λ k. refl) h.directs called.0
@@ -231,7 +234,7 @@ module _ (x : Setting) (s : State) (l : Label) (t : State) (h : InOrder x.compon
         ),
       )) (b.1, (fits_first, record { came = λ k f. inl f; rest = waited_first })) walk).1
     where
-      waited_first : (k : ℕ) → Waited a k → is_some (get s.core.threads k) ≡ true → IsUnbegun s.core k
+      waited_first : (k : ℕ) → Waited a k → is_some (get s.core.threads k) ≡ true → HasNotRun s.core k
       waited_first k f there =
           let r = at_place (λ (r : Thread). true) (get s.core.threads k) (grind arith) in
           let below = h.numbered.threads k r.0 r.1.0 in h.unbegun k r.0 r.1.0 (grind arith) (grind arith)
@@ -260,7 +263,7 @@ module _ (x : Setting) (s : State) (l : Label) (t : State) (h : InOrder x.compon
 
       at_op : (test : Op → Bool) → OfBase a r test → test (op_of_thread x.component t.core r) ≡ true
       at_op test e =
-          subst (λ f. test (unwrap_or (slice_get (script_in x.component f r.script) r.position) (Op.Task TaskOp.Exit)) ≡ true) (sym (same e.0)) e.1
+          subst (λ f. test (op_at_place (script_in x.component f r.script) r.position) ≡ true) (sym (same e.0)) e.1
 
   -- handles of sets, and the joins to them
   pub joined_kept : SetsNamed t.core × JoinsNamed t.core
@@ -309,7 +312,7 @@ step_in_order x s l t h step =
       numbered = q.numbered;
       calls_there = calls_kept x s l t h w;
       calls_named = named_kept x s l t h w;
-      names = (called x s l t h w).1.0.known;
+      names = (called x s l t h w).1.0.hold.known;
       calls = awaited_kept x s l t h w;
       waits = waits_kept x s l t h w (steady x s l t step);
       sets_named = (joined_kept x s l t h w).0;

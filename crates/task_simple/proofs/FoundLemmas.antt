@@ -14,7 +14,7 @@ use Rattle.task_machine.specs.declared.records.Thread.{Thread}
 use Rattle.task_machine.specs.Core.{Core}
 use Rattle.task_machine.specs.Maps.{change, get}
 use Rattle.task_machine.specs.Read.{callee_of, has_ended, instance_of, no_callee, place_of, position_of, thread_handle_of}
-use Rattle.task_rules.specs.Scripts.{op_of_thread, op_of, script_in, script_of, script_of_thread, value_in, value_of}
+use Rattle.task_rules.specs.Scripts.{op_of, script_in, script_of, script_of_thread, value_in, value_of}
 use Rattle.task_machine.specs.Write.{give_result, on_call, on_thread, set_end, set_how_far, set_position}
 use Rattle.task_rules.specs.Data.{moved_to}
 use Rattle.task_simple.specs.Forms.{return_done}
@@ -50,10 +50,8 @@ script_found d s plain n t c found there =
 
 -- the op at a thread's place in the start script of its export; past its end an exit
 pub op_found : (d : Component) (s : Core) → IsPlain s → (n : ℕ) (t : Thread) (c : Call) → get s.threads n ≡ Some t → get s.calls n ≡ Some c → op_of d n s ≡ unwrap_or (slice_get (script_in d c.callee script.Start) t.position) (op.Task task.Exit)
-unfolding op_of script_of
-op_found d s plain n t c found there =
-    ap (λ o. option_map_or (op_of_thread d s) o (op.Task task.Exit)) found
-    ∙ ap (λ ops. unwrap_or (slice_get ops t.position) (op.Task task.Exit)) (sym (ap (λ o. option_map_or (script_of_thread d s) o []) found) ∙ script_found d s plain n t c found there)
+unfolding op_of
+op_found d s plain n t c found there = ap₂ (λ ops p. unwrap_or (slice_get ops p) (op.Task task.Exit)) (script_found d s plain n t c found there) (position_found s n t found)
 
 -- nothing is under way at a thread's op, so a return need not say so
 pub return_done_is : (v : ℕ) (s : Core) → IsPlain s → (n : ℕ) (t : Thread) → get s.threads n ≡ Some t → return_done n v s ≡ set_position n (position_of n s + 1) (give_result n v (set_end n call_end.Returned s))
