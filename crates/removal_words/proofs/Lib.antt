@@ -4,3 +4,10 @@ pub mod LessLemmas
 pub mod UnfiledLemmas
 pub mod SetLemmas
 pub mod HandleLemmas
+pub mod CloseLemmas
+pub mod GoneLemmas
+pub mod BareTables
+pub mod RewriteLemmas
+pub mod ThreadGoneLemmas
+pub mod ThreadLemmas
+pub mod ThreadHandleLemmas

@@ -3,6 +3,9 @@
 //! What stood in the chains of a record is taken out of them, and its nodes and chains are dropped.
 #![tactic(auto)]
 
+mod chains;
 mod sets;
+mod threads;
 
 pub use sets::close_set;
+pub use threads::{remove_thread, retire_thread};
