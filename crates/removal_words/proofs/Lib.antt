@@ -11,3 +11,7 @@ pub mod RewriteLemmas
 pub mod ThreadGoneLemmas
 pub mod ThreadLemmas
 pub mod ThreadHandleLemmas
+pub mod GroupLemmas
+pub mod CallGoneLemmas
+pub mod CallLemmas
+pub mod SettleLemmas

@@ -3,7 +3,9 @@
 //! What stood in the chains of a record is taken out of them, and its nodes and chains are dropped.
 #![tactic(auto)]
 
+mod calls;
 mod chains;
+mod groups;
 mod sets;
 mod threads;
 
