@@ -13,6 +13,7 @@ pub use limits::{
     set_uninteresting, trapped,
 };
 pub use members::{
+    has_member, threads,
     has_thread, has_waiters, is_deletable, is_last_thread, set_instance, set_number,
 };
 pub use results::{give_result, result, take_result};
