@@ -35,7 +35,7 @@ module _ {X : Type 0} (u : Option X → Bool) where
       by : (b : Bool) → (e.0 == k) ≡ b → (b || has e.0 ks) ≡ false → (has e.0 ks ≡ false → list_any (λ n. u (find nat_cmp n (e ∷ es))) ks ≡ list_any (λ n. u (find nat_cmp n es)) ks) → list_any (λ n. u (find nat_cmp n (e ∷ es))) (k ∷ ks) ≡ list_any (λ n. u (find nat_cmp n es)) (k ∷ ks)
       by true same new rest = absurd (cc)
       by false differ new rest =
-          let other : (k == e.0) ≡ false = elim (cases_eq k e.0) [ | inl same ↦ absurd (let is = eq-eqb e.0 k (sym same) in cc) | inr apart ↦ ne_eqb k e.0 apart ] in
+          let other : (k == e.0) ≡ false = elim (cases_eq k e.0) [ inl same ↦ absurd (let is = eq-eqb e.0 k (sym same) in cc) | inr apart ↦ ne_eqb k e.0 apart ] in
           ap₂ (λ b c. u (cond b (Some e.1) (find nat_cmp k es)) || c) (unsigned_tied k e.0 ∙ other) (rest new)
 
   any_keys : (es : List (ℕ × X)) → T (is_sorted nat_cmp es) → list_any (λ n. u (find nat_cmp n es)) (map (λ e. e.0) es) ≡ list_any (λ e. u (Some e.1)) es
