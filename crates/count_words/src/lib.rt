@@ -13,7 +13,8 @@ pub use limits::{
     set_uninteresting, trapped,
 };
 pub use members::{
-    has_thread, has_waiters, is_deletable, is_last_thread, set_instance, set_number,
+    has_member, has_thread, has_waiters, is_deletable, is_last_thread, set_instance, set_number,
+    threads,
 };
 pub use results::{give_result, result, take_result};
 pub use stalls::some_may_not_suspend;

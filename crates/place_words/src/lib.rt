@@ -15,4 +15,4 @@ mod targets;
 pub use events::set_event;
 pub use places::{delivered_set, hold, place, set_mark, set_place, why};
 pub use sets::{first_ready, first_waiter, has_ready_member};
-pub use steps::{advance, assign, move_to, set_how_far};
+pub use steps::{advance, assign, move_to, set_context, set_how_far};
