@@ -4,6 +4,8 @@
 
 mod instances;
 mod queues;
+mod results;
+mod sets;
 mod task_core;
 
 pub use crate::task_core::TaskCore;
