@@ -8,10 +8,13 @@ pub mod CloseLemmas
 pub mod GoneLemmas
 pub mod BareTables
 pub mod RewriteLemmas
+pub mod SeatGoneLemmas
 pub mod ThreadGoneLemmas
+pub mod WorkGoneLemmas
 pub mod ThreadLemmas
 pub mod ThreadHandleLemmas
 pub mod GroupLemmas
 pub mod CallGoneLemmas
 pub mod CallLemmas
 pub mod SettleLemmas
+pub mod WorkLemmas

@@ -13,6 +13,7 @@ use Rattle.queue_words.proofs.RowLemmas.{IsRows-known}
 use Rattle.removal_words.proofs.GoneLemmas.{Each-but, IsIndex-gone, IsIndex-shut, IsRows-dropped, IsRows-shut}
 use Rattle.removal_words.proofs.LeftLemmas.{Leaves, named_left}
 use Rattle.removal_words.proofs.LessLemmas.{found_gone, found_still, one_fewer, placed_before}
+use Rattle.removal_words.proofs.SeatGoneLemmas.{nodes_left, renamed_made, seated_left}
 use Rattle.removal_words.specs.Chains.{Closes, Drops}
 use Rattle.removal_words.specs.Counted.{unthreaded}
 use Rattle.task_index.proofs.Counts.{passing-with_at}
@@ -59,39 +60,12 @@ number g = g.number
 abbrev machine : GuestThread → Thread
 machine g = g.thread
 
--- a number that is renamed leaves the nodes of others
-renamed_made : {P : Type 0} (old new : List (Spot P)) (k : ℕ) → Renames old new k FreeNode Unmade → (n : ℕ) → (n ≡ k → ⊥) → is_made old n ≡ true → is_made new n ≡ true
-renamed_made old new k names n other made = ap spot_is_made (names.others n other) ∙ made
-
 module _ (p : Parts) (whole : IsWhole p) (made : ℕ) (sound : SoundTable thread_key p.threads made) (rep serial : ℕ) (g : GuestThread) (is : Ok g ≡ item_at item_of p.threads rep serial) where
   stands : (q : Placed (Single GuestThread)) × ((place_at p.threads rep ≡ Some q) × ((q.serial ≡ serial) × (q.entry ≡ entry_of g)))
   stands = item_stands number machine p.threads made sound rep serial g is
 
-  -- ---- Seats of others
-
-  here : {Q : Type 0} (seat : ℕ → GuestThread → Q) → seated seat p.threads rep ≡ Some (seat rep g)
-  here seat = ap (option_map (λ (q : Placed (Single GuestThread)). seat rep q.entry.item)) stands.1.0 ∙ ap (λ (e : Single GuestThread). Some (seat rep e.item)) stands.1.1.1
-
-  seated_left : {Q : Type 0} (seat : ℕ → GuestThread → Q) (r : ℕ) (x : Q) → (seat rep g ≡ x → ⊥) → seated seat p.threads r ≡ Some x → seated seat (deleted rep p.threads) r ≡ Some x
-  seated_left seat r x differs is_x = elim (cases_eq r rep) [
-    | inl same ↦ absurd (differs (same_Some (seat rep g) x (sym (here seat) ∙ (ap (seated seat p.threads) (sym same) ∙ is_x))))
-    | inr other ↦ ap (option_map (λ (q : Placed (Single GuestThread)). seat r q.entry.item)) (place_at-deleted p.threads rep r ∙ ap (λ b. cond b None (place_at p.threads r)) (ne_eqb r rep other)) ∙ is_x
-  ]
-
-  away : (r : ℕ) (q : Placed (Single GuestThread)) → place_at (deleted rep p.threads) r ≡ Some q → r ≡ rep → ⊥
-  away r q at same = none (sym (ap (λ b. cond b None (place_at p.threads r)) (eq-eqb r rep same)) ∙ (sym (place_at-deleted p.threads rep r) ∙ at))
-    where
-      none : ◌≡◌ {A = Option (Placed (Single GuestThread))} None (Some q) → ⊥
-      none is = absurd (cc)
-
   before : (r : ℕ) (q : Placed (Single GuestThread)) → place_at (deleted rep p.threads) r ≡ Some q → place_at p.threads r ≡ Some q
   before = placed_before number machine p.threads made sound rep serial g is
-
-  nodes_left : {P : Type 0} (node : GuestThread → ℕ) (old new : List (Spot P)) → ((n : ℕ) → (n ≡ node g → ⊥) → is_made old n ≡ true → is_made new n ≡ true) → HaveNodes node p.threads old → HaveNodes node (deleted rep p.threads) new
-  nodes_left node old new keeps have = record {
-    made = λ r q at. keeps (node q.entry.item) (λ same. away r q at (have.own r rep q stands.0 (before r q at) stands.1.0 (same ∙ sym (ap (λ (e : Single GuestThread). node e.item) stands.1.1.1)))) (have.made r q (before r q at));
-    own = λ r s q w at_q at_w same. have.own r s q w (before r q at_q) (before s w at_w) same;
-  }
 
   -- ---- The parts without it, with one thread less of its call
 
@@ -146,13 +120,13 @@ module _ (p : Parts) (whole : IsWhole p) (made : ℕ) (sound : SoundTable thread
     work_left w named = record { caller = named_left (kinds p) (kinds less) left w.maker _ named.caller; join = named_left (kinds p) (kinds less) left w.joined _ named.join; group = named.group }
 
     follows_left : (f : Follower) → IsFollower p f → (g.number == f.number) ≡ false → IsFollower less f
-    follows_left f is_f other = seated_left follower f.place f (λ same. absurd (let two = sym other ∙ eq-eqb g.number f.number (ap (λ (x : Follower). x.number) same) in cc)) is_f
+    follows_left f is_f other = seated_left number machine p.threads made sound rep serial g is follower f.place f (λ same. absurd (let two = sym other ∙ eq-eqb g.number f.number (ap (λ (x : Follower). x.number) same) in cc)) is_f
 
     entry_left : (q : Queued) → IsSeated p q → is_entry_of g.number q.entry ≡ false → IsSeated less q
     entry_left q is_q other = by q.entry refl is_q
       where
         by : (e : Entry) → q.entry ≡ e → entry_seated p e q.place ≡ Some q → entry_seated less e q.place ≡ Some q
-        by (entry.Thread n) e at = seated_left thread_entry q.place q (λ same. absurd (let two = sym other ∙ (ap (λ (x : Queued). is_entry_of g.number x.entry) (sym same) ∙ eq-eqb g.number g.number refl) in cc)) at
+        by (entry.Thread n) e at = seated_left number machine p.threads made sound rep serial g is thread_entry q.place q (λ same. absurd (let two = sym other ∙ (ap (λ (x : Queued). is_entry_of g.number x.entry) (sym same) ∙ eq-eqb g.number g.number refl) in cc)) at
         by (entry.Push i) e at = at
         by (entry.Host i) e at = at
 
@@ -229,9 +203,9 @@ module _ (p : Parts) (whole : IsWhole p) (made : ℕ) (sound : SoundTable thread
 
         nodes_kept : HaveRowNodes less
         nodes_kept = record {
-          marks = nodes_left (λ x. x.mark.index) p.marks marks (renamed_made p.marks marks g.mark.index mark_out) whole.nodes.marks;
-          shelves = nodes_left (λ x. x.shelf.index) p.shelves shelves (renamed_made p.shelves shelves g.shelf.index shelf_out) whole.nodes.shelves;
-          callers = nodes_left (λ x. x.caller.index) p.behind behind (λ n other made. renamed_made middle_behind behind g.caller.index caller_out n other (callers_shut.made n made)) whole.nodes.callers;
+          marks = nodes_left number machine p.threads made sound rep serial g is (λ (x : GuestThread). x.mark.index) p.marks marks (renamed_made p.marks marks g.mark.index mark_out) whole.nodes.marks;
+          shelves = nodes_left number machine p.threads made sound rep serial g is (λ (x : GuestThread). x.shelf.index) p.shelves shelves (renamed_made p.shelves shelves g.shelf.index shelf_out) whole.nodes.shelves;
+          callers = nodes_left number machine p.threads made sound rep serial g is (λ (x : GuestThread). x.caller.index) p.behind behind (λ n other made. renamed_made middle_behind behind g.caller.index caller_out n other (callers_shut.made n made)) whole.nodes.callers;
           works = record { made = λ r w at. renamed_made p.marks marks g.mark.index mark_out w.entry.item.mark.index (not_mark r w at) (whole.nodes.works.made r w at); own = whole.nodes.works.own };
           apart = λ r s q w at_q at_w same. whole.nodes.apart r s q w (before r q at_q) at_w same;
         }

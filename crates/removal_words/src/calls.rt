@@ -1,4 +1,4 @@
-ghost use Rattle.std.specs.Prelude.{◌≡◌, ◌<◌, false, if◌then◌else◌};
+ghost use Rattle.std.specs.Prelude.{◌≡◌, ◌<◌, false};
 ghost use Rattle.task_machine.specs.Read.{call_group, has_thread, join_of};
 ghost use Rattle.task_machine.specs.Write.{remove_call};
 ghost use Rattle.task_machine.specs.declared.records.Join.TheVariants as joins;
@@ -9,17 +9,11 @@ ghost use Rattle.task_table.specs.Records.{number_of};
 ghost use Rattle.task_words.specs.StateView.{KeepsBut, call_of, lost_call};
 
 use crate::chains::{close, drop_node};
-use crate::groups::group_there;
+use crate::groups::{group_there, one_if};
 use task_records::CoreParts;
 use task_table::TableId;
 use task_wait::GroupKey;
 use task_words::CallId;
-
-fn one_if(flag: bool) -> u64
-    ensures { result ≡ (if flag then 1 else 0) }
-{
-    if flag { 1 } else { 0 }
-}
 
 // A call in no set is gone; its group may be finished.
 fn drop_call(parts: &mut CoreParts, call: CallId) -> TableId<GroupKey>
@@ -38,7 +32,7 @@ fn drop_call(parts: &mut CoreParts, call: CallId) -> TableId<GroupKey>
         Some(found) => *found,
         None => unreachable!(),
     };
-    let (group, mut counted) = group_there(parts, found.group);
+    let (group, mut counted) = group_there(&parts.groups, found.group);
     counted.calls -= 1;
     close(&mut parts.places, found.blocked);
     drop_node(&mut parts.ready_calls, found.ready);

@@ -8,6 +8,7 @@ mod chains;
 mod groups;
 mod sets;
 mod threads;
+mod works;
 
 pub use sets::close_set;
 pub use threads::{remove_thread, retire_thread};

@@ -6,7 +6,7 @@ use Rattle.task_records.specs.declared.calls.TaskGroup.{TaskGroup}
 use Rattle.task_table.specs.Records.{number_of}
 
 pub returns-in-Some : goal.returns-in-Some
-returns-in-Some c = ap₂ (number_of group_key c.args.parts.now.groups) c.new.ensures.rep c.new.ensures.serial ∙ number_here (λ (r : TaskGroup). r.number) (λ (r : TaskGroup). r.calls) c.args.parts.now.groups c.args.place c.in-Some.serial c.in-Some.ensures
+returns-in-Some c = ap₂ (number_of group_key c.args.groups.now) c.new.ensures.rep c.new.ensures.serial ∙ number_here (λ (r : TaskGroup). r.number) (λ (r : TaskGroup). r.calls) c.args.groups.now c.args.place c.in-Some.serial c.in-Some.ensures
 
 pub returns-in-None : goal.returns-in-None
-returns-in-None c = ap (λ (r : ℕ). number_of group_key c.args.parts.now.groups r c.new-in-None.result.serial) c.new-in-None.ensures.rep ∙ number_nowhere (λ (r : TaskGroup). r.number) (λ (r : TaskGroup). r.calls) c.args.parts.now.groups c.args.place c.new-in-None.result.serial c.in-None.ensures
+returns-in-None c = ap (λ (r : ℕ). number_of group_key c.args.groups.now r c.new-in-None.result.serial) c.new-in-None.ensures.rep ∙ number_nowhere (λ (r : TaskGroup). r.number) (λ (r : TaskGroup). r.calls) c.args.groups.now c.args.place c.new-in-None.result.serial c.in-None.ensures
