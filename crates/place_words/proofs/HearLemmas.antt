@@ -1,5 +1,5 @@
--- A host work with another event, as the word writes it.
-use Rattle.std.proofs.Common.{◌≡◌, ℕ, List, Option, Some, None, IsSome, IfSome, true, refl, sym, ap, subst, ◌∙◌}
+-- A host work with another event or set, as the words write it.
+use Rattle.std.proofs.Common.{◌≡◌, ◌+◌, ◌≤◌, ℕ, List, [], Option, Some, None, IsSome, IfSome, true, cond, refl, sym, ap, subst, ◌∙◌, arith}
 use Rattle.std.specs.Option.{option_and_then}
 use Rattle.std.specs.Prelude.{Ok}
 use Rattle.task_handles.specs.declared.kinds.HandleKind.{HandleKind}
@@ -8,26 +8,34 @@ use Rattle.task_handles.specs.declared.kinds.Rep.{Rep}
 use Rattle.task_handles.specs.declared.kinds.WaitableKind.TheVariants as waitable
 use Rattle.task_index.proofs.Entries.{IsIndex-with_entry}
 use Rattle.task_index.proofs.Tables.{filings_at}
+use Rattle.task_index.specs.Counts.{one_if_passes, passing}
 use Rattle.task_index.specs.Index.{IsIndex, Refiles, filings, link_for}
 use Rattle.task_links.specs.Links.{Spot, is_made, list_of}
 use Rattle.task_machine.specs.Maps.{Records, change}
+use Rattle.task_machine.specs.Read.{is_in_set}
 use Rattle.task_machine.specs.Write.{on_work}
 use Rattle.task_machine.specs.declared.records.Work.{Work}
 use Rattle.task_machine.specs.declared.records.Join.{Join}
+use Rattle.task_machine.specs.declared.records.Join.TheVariants as join
+use Rattle.task_machine.specs.declared.records.Set.{Set}
 use Rattle.task_machine.specs.declared.words.Status.{Status}
-use Rattle.task_records.proofs.HomeLemmas.{work_names, place_bare}
-use Rattle.task_records.proofs.KindLemmas.{item_stands, passing_same, records_changed, table_written, tags_written}
+use Rattle.task_records.proofs.HomeLemmas.{place_bare, place_in_bare, work_names}
+use Rattle.task_records.proofs.KeptLemmas.{passing_seconds, records_seconds}
+use Rattle.task_records.proofs.KindLemmas.{item_stands, passing_same, passing_written, records_changed, table_written, tags_written}
 use Rattle.task_records.proofs.ReadLemmas.{work_shown}
-use Rattle.task_records.specs.Image.{Parts, tags_in}
-use Rattle.task_records.specs.Keys.{work_key}
+use Rattle.task_records.proofs.WriteLemmas.{each_written}
+use Rattle.task_records.specs.Image.{Parts, core_of, tags_in}
+use Rattle.task_records.specs.Kept.{IsSetKept, members_of}
+use Rattle.task_records.specs.Keys.{set_key, work_key}
 use Rattle.task_records.specs.Kinds.{entry_of, item_of, on_item}
 use Rattle.task_records.specs.Names.{AreHandlesNamed, AtPlace, CallOf, IsHeldNamed, SetOf, ThreadOf, WorkOf, join_target, kinds}
 use Rattle.task_records.specs.Places.{ready_work, ready_work_chain, ready_in}
 use Rattle.task_records.specs.Seen.{IsSound, parts_of, seen}
-use Rattle.task_records.specs.Sound.{IsWhole, bare, bare_work}
+use Rattle.task_records.specs.Sound.{EachEntry, IsWhole, SoundTable, bare, bare_work, loose_work, unmoved}
 use Rattle.task_records.specs.declared.works.HostWork.{HostWork}
 use Rattle.task_records.specs.declared.instances.InstanceRecord.{InstanceRecord}
 use Rattle.task_records.specs.declared.parts.CoreParts.{CoreParts}
+use Rattle.task_records.specs.declared.sets.WaitSet.{WaitSet}
 use Rattle.task_records.specs.declared.single.Single.{Single}
 use Rattle.task_table.proofs.MappedLemmas.{mapped-with_entry, mapped-with_entry_same}
 use Rattle.task_table.specs.Answers.{item_at}
@@ -38,16 +46,20 @@ use Rattle.task_table.specs.Table.{Placed, Table, place_at}
 use Rattle.task_table.specs.declared.id.TableId.{TableId}
 use Rattle.task_wait.specs.declared.keys.HostTaskKey.{HostTaskKey}
 use Rattle.task_rules.specs.Works.{is_moving}
-use Rattle.task_words.specs.StateView.{StateView, Tag, work_of, on_core}
+use Rattle.task_wait.specs.declared.keys.SetKey.{SetKey}
+use Rattle.task_words.specs.StateView.{StateView, Tag, set_of, work_of, on_core}
+use Rattle.place_words.proofs.AlikeLemmas.{tags_alike}
 use Rattle.place_words.proofs.WorkMovedLemmas.{at_heard, heard, heard_whole}
-use Rattle.place_words.specs.Moved.{Alike, still_work}
+use Rattle.place_words.proofs.PutLemmas.{sets_same}
+use Rattle.place_words.proofs.JoinLemmas.{in_is, members_kept, sets_alike, sets_now}
+use Rattle.place_words.specs.Moved.{Alike, joined_set, set_named, still_work, uncounted}
 use Rattle.queue_words.proofs.BareLemmas.{place_mapped}
 
 module _ (a : CoreParts) (sound : IsSound a) (id : TableId HostTaskKey) (g : HostWork) (is : Ok g ≡ item_at item_of a.works id.rep id.serial) where
-  abbrev bared : Parts
+  abbrev pub bared : Parts
   bared = bare (parts_of a)
 
-  is_whole : IsWhole bared
+  pub is_whole : IsWhole bared
   unfolding IsSound
   is_whole = sound.whole
 
@@ -78,51 +90,77 @@ module _ (a : CoreParts) (sound : IsSound a) (id : TableId HostTaskKey) (g : Hos
       by None (Some c) is = absurd (cc)
       by (Some k) (Some c) is = is_whole.chained.ready_works.live k c is
 
-  module _ (e : Option Status) where
-    abbrev pub with_event : HostWork
-    with_event = record g { work = record g.work { event = e } }
+  -- a host work that passes a test counts
+  module _ (n : ℕ) where
+    abbrev works_in : Table (Single HostWork) → ℕ
+    works_in t = passing (λ (c : Work). is_in_set n c.join) (records work_key t.places)
+
+    bare_in : (t : Table (Single HostWork)) → works_in (mapped (on_item bare_work) t) ≡ works_in t
+    bare_in t = ap (passing (λ (c : Work). is_in_set n c.join)) (records_seconds (λ c. unmoved (loose_work c)) work_key work_key (on_item bare_work) (λ e. refl) t) ∙ passing_seconds (λ c. unmoved (loose_work c)) (λ (c : Work). is_in_set n c.join) (records work_key t.places)
+
+  module _ (h : HostWork) (stays : still_work (bare_work h) ≡ still_work (bare_work g)) where
+    same_number : h.number ≡ g.number
+    same_number = ap (λ (x : HostWork). x.number) stays
 
     abbrev pub works_now : Table (Single HostWork)
-    works_now = with_entry id.rep (entry_of with_event) a.works
+    works_now = with_entry id.rep (entry_of h) a.works
 
-    abbrev bare_now : Table (Single HostWork)
+    abbrev pub bare_now : Table (Single HostWork)
     bare_now = mapped (on_item bare_work) works_now
 
-    bare_put : bare_now ≡ with_entry id.rep (entry_of (bare_work with_event)) bared.works
-    bare_put = mapped-with_entry (on_item bare_work) a.works id.rep (entry_of with_event)
+    bare_put : bare_now ≡ with_entry id.rep (entry_of (bare_work h)) bared.works
+    bare_put = mapped-with_entry (on_item bare_work) a.works id.rep (entry_of h)
 
-    works_alike : Alike still_work bare_now bared.works
-    works_alike = ap (mapped (on_item still_work)) bare_put ∙ mapped-with_entry_same (on_item still_work) bared.works id.rep (entry_of (bare_work with_event)) bare_placed bare_stands (sym (ap (on_item still_work) bare_entry))
+    pub works_alike : Alike still_work bare_now bared.works
+    works_alike = ap (mapped (on_item still_work)) bare_put ∙ mapped-with_entry_same (on_item still_work) bared.works id.rep (entry_of (bare_work h)) bare_placed bare_stands (ap entry_of stays ∙ sym (ap (on_item still_work) bare_entry))
 
-    module _ (links : List (Spot ℕ)) where
+    module _ (sets : Table (Single WaitSet)) (as_sets : Alike uncounted sets a.sets) (links : List (Spot ℕ)) where
       abbrev pub heard_after : CoreParts
-      heard_after = record a { works = works_now; ready_works = links }
+      heard_after = record a { works = works_now; sets = sets; ready_works = links }
 
-      abbrev after : Parts
-      after = heard bared is_whole bare_now works_alike links
+      abbrev pub after : Parts
+      after = heard bared is_whole bare_now works_alike sets as_sets links
 
-      module _ (re : Refiles a.ready_works links g.ready.index (link_for (ready_work_chain bared) (record { node = g.ready.index; key = ready_in e g.work.join; value = id.rep }))) where
+      -- a set counts one more that is in it now, and one less that was
+      pub members_change : (n : ℕ) → members_of n (core_of after) + cond (is_in_set n g.work.join) 1 0 ≡ members_of n (core_of bared) + cond (is_in_set n h.work.join) 1 0
+      unfolding IsSound
+      members_change n =
+          let law = passing_written (λ (g : HostWork). g.number) (λ (g : HostWork). g.work) a.works a.made.works sound.tables.works id.rep id.serial g is h same_number (λ (c : Work). is_in_set n c.join) in
+          let now = bare_in n works_now in
+          let then = bare_in n a.works in
+          omega (arith, law, now, then)
+
+      pub members_same : h.work.join ≡ g.work.join → (n : ℕ) → members_of n (core_of bared) ≡ members_of n (core_of after)
+      members_same same n = let law = members_change n in let one : one_if_passes (λ (c : Work). is_in_set n c.join) (Some g.work) ≡ one_if_passes (λ (c : Work). is_in_set n c.join) (Some h.work) = ap (λ j. cond (is_in_set n j) 1 0) (sym same) in omega (arith, law, one)
+
+      module _ (at : AtPlace (parts_of a) h.joined (join_target h.work.join)) (sets_sound : SoundTable set_key sets a.made.sets) (kept : EachEntry (IsSetKept (core_of after)) sets) (moves : is_moving h.work ≡ is_moving g.work) (re : Refiles a.ready_works links g.ready.index (link_for (ready_work_chain bared) (record { node = g.ready.index; key = ready_in h.work.event h.work.join; value = id.rep }))) where
+        joins_now : EachEntry (λ (x : HostWork). AtPlace after x.joined (join_target x.work.join)) bare_now
+        joins_now = subst (EachEntry (λ (x : HostWork). AtPlace after x.joined (join_target x.work.join))) (sym bare_put)
+            (each_written bared.works id.rep bare_placed bare_stands (λ (x : HostWork). AtPlace after x.joined (join_target x.work.join)) (bare_work h)
+            (at_heard bared is_whole bare_now works_alike sets as_sets links h.joined _ (place_in_bare a h.joined _ at))
+            (λ r q there. at_heard bared is_whole bare_now works_alike sets as_sets links q.entry.item.joined _ (is_whole.named.works r q there).join))
+
         index_now : IsIndex (ready_work_chain bared) links (filings ready_work bare_now)
         index_now = subst (λ (t : Table (Single HostWork)). IsIndex (ready_work_chain bared) links (filings ready_work t)) (sym bare_put)
-            (IsIndex-with_entry ready_work (ready_work_chain bared) bared.works a.ready_works is_whole.chained.ready_works id.rep bare_placed bare_stands links (entry_of (bare_work with_event))
+            (IsIndex-with_entry ready_work (ready_work_chain bared) bared.works a.ready_works is_whole.chained.ready_works id.rep bare_placed bare_stands links (entry_of (bare_work h))
             (record { node = bare_placed.entry.item.ready.index; key = ready_in bare_placed.entry.item.work.event bare_placed.entry.item.work.join; value = id.rep })
-            (record { node = g.ready.index; key = ready_in e g.work.join; value = id.rep })
-            refl refl (sym (ap (λ (e : Single HostWork). e.item.ready.index) bare_entry))
-            (subst (λ n. Refiles a.ready_works links n (link_for (ready_work_chain bared) (record { node = g.ready.index; key = ready_in e g.work.join; value = id.rep }))) (sym (ap (λ (e : Single HostWork). e.item.ready.index) bare_entry)) re))
+            (record { node = h.ready.index; key = ready_in h.work.event h.work.join; value = id.rep })
+            refl refl (ap (λ (x : HostWork). x.ready.index) stays ∙ sym (ap (λ (e : Single HostWork). e.item.ready.index) bare_entry))
+            (subst (λ n. Refiles a.ready_works links n (link_for (ready_work_chain bared) (record { node = h.ready.index; key = ready_in h.work.event h.work.join; value = id.rep }))) (sym (ap (λ (e : Single HostWork). e.item.ready.index) bare_entry)) re))
 
         held_now : (kind : HandleKind) (r : Rep) → IsHeldNamed (kinds bared) kind r → IsHeldNamed (kinds after) kind r
-        held_now (handles.Waitable waitable.GuestSubtask) r at = at_heard bared is_whole bare_now works_alike links r.id (CallOf r.serial) at
-        held_now (handles.Waitable waitable.HostSubtask) r at = at_heard bared is_whole bare_now works_alike links r.id (WorkOf r.serial) at
+        held_now (handles.Waitable waitable.GuestSubtask) r at = at_heard bared is_whole bare_now works_alike sets as_sets links r.id (CallOf r.serial) at
+        held_now (handles.Waitable waitable.HostSubtask) r at = at_heard bared is_whole bare_now works_alike sets as_sets links r.id (WorkOf r.serial) at
         held_now (handles.Waitable waitable.Stream) r at = at
         held_now (handles.Waitable waitable.Future) r at = at
-        held_now handles.Set r at = at_heard bared is_whole bare_now works_alike links r.id (SetOf r.serial) at
+        held_now handles.Set r at = at_heard bared is_whole bare_now works_alike sets as_sets links r.id (SetOf r.serial) at
 
         handles_now : (r : InstanceRecord) → AreHandlesNamed (kinds bared) r → AreHandlesNamed (kinds after) r
         handles_now r named = record {
           small = named.small;
           small_threads = named.small_threads;
           handles = λ n x at. held_now x.kind x.rep (named.handles n x at);
-          thread_handles = λ n x at. at_heard bared is_whole bare_now works_alike links x.id (ThreadOf x.serial) (named.thread_handles n x at);
+          thread_handles = λ n x at. at_heard bared is_whole bare_now works_alike sets as_sets links x.id (ThreadOf x.serial) (named.thread_handles n x at);
         }
 
         pub heard_sound : IsSound heard_after
@@ -131,25 +169,59 @@ module _ (a : CoreParts) (sound : IsSound a) (id : TableId HostTaskKey) (g : Hos
           tables = record {
             threads = sound.tables.threads;
             calls = sound.tables.calls;
-            works = table_written (λ (g : HostWork). g.number) (λ (g : HostWork). g.work) a.works a.made.works sound.tables.works id.rep id.serial g is with_event refl;
-            sets = sound.tables.sets;
+            works = table_written (λ (g : HostWork). g.number) (λ (g : HostWork). g.work) a.works a.made.works sound.tables.works id.rep id.serial g is h same_number;
+            sets = sets_sound;
             groups = sound.tables.groups;
           };
-          whole = heard_whole bared is_whole bare_now works_alike links index_now;
+          whole = heard_whole bared is_whole bare_now works_alike sets as_sets links joins_now kept index_now;
           interesting = sound.interesting;
-          moving = sound.moving ∙ sym (passing_same (λ (g : HostWork). g.number) (λ (g : HostWork). g.work) a.works a.made.works sound.tables.works id.rep id.serial g is with_event refl is_moving refl);
+          moving = sound.moving ∙ sym (passing_same (λ (g : HostWork). g.number) (λ (g : HostWork). g.work) a.works a.made.works sound.tables.works id.rep id.serial g is h same_number is_moving moves);
           handles = λ i r at. handles_now r (sound.handles i r at);
           owned = sound.owned;
           live = sound.live;
         }
 
-      works_seen : Records Work → List (Option Tag) → StateView
-      works_seen m l = record (seen a) { core = record (seen a).core { works = m }; tags = record (seen a).tags { works = l } }
+      works_seen : Records Work → Records Set → List (Option Tag) → List (Option Tag) → StateView
+      works_seen m x l t = record (seen a) { core = record (seen a).core { works = m; sets = x }; tags = record (seen a).tags { works = l; sets = t } }
 
-      pub heard_seen : seen heard_after ≡ on_core (on_work (work_of (seen a) id) (λ c. record c { event = e })) (seen a)
+      pub heard_seen : (f : Work → Work) → f g.work ≡ h.work → seen heard_after ≡ on_core (on_work (work_of (seen a) id) f) (seen a)
       unfolding seen IsSound on_work works_seen
-      heard_seen =
-          ap (λ (m : Records Work). works_seen m (tags_in work_key works_now))
-          (records_changed (λ (g : HostWork). g.number) (λ (g : HostWork). g.work) a.works a.made.works sound.tables.works id.rep id.serial g is with_event refl (λ c. record c { event = e }) refl ∙ ap (λ n. change n (λ (c : Work). record c { event = e }) (records work_key a.works.places)) (sym (work_shown a id)))
-          ∙ ap (λ (l : List (Option Tag)). works_seen (change (work_of (seen a) id) (λ c. record c { event = e }) (records work_key a.works.places)) l)
-          (tags_written (λ (g : HostWork). g.number) (λ (g : HostWork). g.work) a.works a.made.works sound.tables.works id.rep id.serial g is with_event refl)
+      heard_seen f is_f =
+          ap (λ (m : Records Work). works_seen m (records set_key sets.places) (tags_in work_key works_now) (tags_in set_key sets))
+          (records_changed (λ (g : HostWork). g.number) (λ (g : HostWork). g.work) a.works a.made.works sound.tables.works id.rep id.serial g is h same_number f is_f ∙ ap (λ n. change n f (records work_key a.works.places)) (sym (work_shown a id)))
+          ∙ (ap (λ x. works_seen (change (work_of (seen a) id) f (records work_key a.works.places)) x (tags_in work_key works_now) (tags_in set_key sets)) (sets_same sets a.sets as_sets)
+          ∙ (ap (λ (l : List (Option Tag)). works_seen (change (work_of (seen a) id) f (records work_key a.works.places)) (records set_key a.sets.places) l (tags_in set_key sets))
+          (tags_written (λ (g : HostWork). g.number) (λ (g : HostWork). g.work) a.works a.made.works sound.tables.works id.rep id.serial g is h same_number)
+          ∙ ap (λ t. works_seen (change (work_of (seen a) id) f (records work_key a.works.places)) (records set_key a.sets.places) (tags_in work_key a.works) t)
+          (tags_alike uncounted set_key (λ e. refl) sets a.sets as_sets)))
+
+    -- the sets as they were count what they counted, where the work stays in its set
+    pub kept_same : h.work.join ≡ g.work.join → (links : List (Spot ℕ)) → EachEntry (IsSetKept (core_of (after a.sets refl links))) a.sets
+    kept_same same links r q at = let was = is_whole.counted.sets r q at in record { members = was.members ∙ members_same a.sets refl links same q.entry.item.number; entries = was.entries }
+
+    pub same_sets : SoundTable set_key a.sets a.made.sets
+    unfolding IsSound
+    same_sets = sound.tables.sets
+
+  -- a set that the work is in has a member
+  pub some_member : (n : ℕ) → is_in_set n g.work.join ≡ true → 1 ≤ members_of n (core_of bared)
+  some_member n in_set =
+      let law = members_change (record g { work = record g.work { join = join.Nowhere } }) refl a.sets refl [] n in
+      let one : one_if_passes (λ (c : Work). is_in_set n c.join) (Some g.work) ≡ 1 = ap (λ b. cond b 1 0) in_set in
+      omega (arith, law, one)
+
+  module _ (h : HostWork) (stays : still_work (bare_work h) ≡ still_work (bare_work g)) where
+    -- and where it goes from one set to another they count that
+    module _ (from to : TableId SetKey) (from_is : set_of (seen a) from ≡ set_named (joined_set g.work.join) (seen a).core) (to_is : set_of (seen a) to ≡ set_named (joined_set h.work.join) (seen a).core) (links : List (Spot ℕ)) where
+      abbrev pub joined_now : Table (Single WaitSet)
+      joined_now = sets_now a sound (joined_set g.work.join) (joined_set h.work.join) from to from_is to_is
+
+      pub joined_alike : Alike uncounted joined_now a.sets
+      joined_alike = sets_alike a sound (joined_set g.work.join) (joined_set h.work.join) from to from_is to_is
+
+      pub kept_joined : EachEntry (IsSetKept (core_of (after h stays joined_now joined_alike links))) joined_now
+      kept_joined r q at =
+          let one = members_kept a sound (joined_set g.work.join) (joined_set h.work.join) from to from_is to_is (λ n in_set. some_member n (in_is n g.work.join ∙ in_set)) (λ n. members_of n (core_of (after h stays joined_now joined_alike links)))
+          (λ n. ap (λ b. members_of n (core_of (after h stays joined_now joined_alike links)) + cond b 1 0) (sym (in_is n g.work.join)) ∙ (members_change h stays joined_now joined_alike links n ∙ ap (λ b. members_of n (core_of bared) + cond b 1 0) (in_is n h.work.join)))
+          r q at in
+          record { members = one.0; entries = one.1 }

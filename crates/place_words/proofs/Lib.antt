@@ -12,6 +12,7 @@ pub mod StepLemmas
 pub mod ReadyLemmas
 pub mod CallMovedLemmas
 pub mod WorkMovedLemmas
+pub mod JoinLemmas
 pub mod TellLemmas
 pub mod HearLemmas
 pub mod ChainLemmas
