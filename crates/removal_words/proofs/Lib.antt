@@ -18,3 +18,4 @@ pub mod CallGoneLemmas
 pub mod CallLemmas
 pub mod SettleLemmas
 pub mod WorkLemmas
+pub mod JoinLemmas

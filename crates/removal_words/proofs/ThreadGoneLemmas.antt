@@ -1,9 +1,8 @@
 -- Parts without one thread, which is in no list: they are whole.
-use Rattle.std.proofs.Common.{inl, inr, ◌⊎◌, ◌≡◌, ◌+◌, ◌==◌, ℕ, Bool, true, false, cond, List, Option, Some, None, IfSome, filter, refl, sym, ap, subst, ◌∙◌, arith}
-use Rattle.std.proofs.lemmas.Bool.{cases_eq, eq-eqb, ne_eqb}
-use Rattle.std.proofs.lemmas.Option.{same_Some}
+use Rattle.std.proofs.Common.{inl, inr, ◌⊎◌, ◌≡◌, ◌+◌, ◌==◌, ℕ, Bool, false, cond, List, Option, Some, None, IfSome, filter, refl, sym, ap, subst, ◌∙◌, arith}
+use Rattle.std.proofs.lemmas.Bool.{cases_eq, eq-eqb}
 use Rattle.std.specs.List.{list_any}
-use Rattle.std.specs.Option.{option_map, option_map_or}
+use Rattle.std.specs.Option.{option_map_or}
 use Rattle.std.specs.Prelude.{Ok}
 use Rattle.place_words.proofs.AlikeLemmas.{filings_alike, found_alike, number_alike, place_alike, stands_alike}
 use Rattle.place_words.proofs.FiledLemmas.{kept_under}
@@ -22,7 +21,7 @@ use Rattle.task_index.proofs.Rows.{IsRows-same, values_are}
 use Rattle.task_index.specs.Counts.{one_if_passes, passing}
 use Rattle.task_index.specs.Index.{filings}
 use Rattle.task_index.specs.Rows.{Each, IsRows, part}
-use Rattle.task_links.specs.Links.{FreeNode, Renames, Spot, Unmade, is_made, spot_is_made}
+use Rattle.task_links.specs.Links.{FreeNode, Renames, Spot, Unmade}
 use Rattle.task_machine.specs.Maps.{Records, get, remove, same_map, size}
 use Rattle.task_machine.specs.Read.{call_instance, is_entry_of, is_in_set, keeps_set, no_callee, table_use}
 use Rattle.task_machine.specs.declared.records.Call.{Call}
@@ -39,7 +38,7 @@ use Rattle.task_records.specs.Keys.{call_key, thread_key}
 use Rattle.task_records.specs.Kinds.{entry_of, item_of}
 use Rattle.task_records.specs.Names.{HasHome, IsCallNamed, IsWorkNamed, kinds}
 use Rattle.task_records.specs.Places.{BlockedOn, HeldIn, UnderOf, WaitsOn, Where, place_chain, place_filing, ready_call, ready_call_chain, where_at}
-use Rattle.task_records.specs.Rows.{HaveNodes, High, IsFollower, IsOfThread, IsSeated, Low, Row, callers_chain, callers_row, entry_seated, follower, is_of_instance, row, row_chain, seated, shelf_chain, thread_entry}
+use Rattle.task_records.specs.Rows.{High, IsFollower, IsOfThread, IsSeated, Low, Row, callers_chain, callers_row, entry_seated, follower, is_of_instance, row, row_chain, shelf_chain, thread_entry}
 use Rattle.task_records.specs.Sound.{AreChained, AreCounted, EachEntry, HaveRowNodes, IsWhole, SoundTable}
 use Rattle.task_records.specs.declared.calls.GuestTask.{GuestTask}
 use Rattle.task_records.specs.declared.parts.Kept.{Kept}
@@ -48,7 +47,6 @@ use Rattle.task_records.specs.declared.threads.Follower.{Follower}
 use Rattle.task_records.specs.declared.threads.GuestThread.{GuestThread}
 use Rattle.task_records.specs.declared.threads.Queued.{Queued}
 use Rattle.task_records.specs.declared.works.HostWork.{HostWork}
-use Rattle.task_table.proofs.Laws.{place_at-deleted}
 use Rattle.task_table.proofs.RecordLemmas.{get-records}
 use Rattle.task_table.specs.Answers.{item_at}
 use Rattle.task_table.specs.Changes.{deleted}

@@ -1,5 +1,5 @@
 -- Parts without one host work, which isn't live, has no entry and is in no set: they are whole.
-use Rattle.std.proofs.Common.{inl, inr, ◌⊎◌, ◌≡◌, ◌+◌, ◌==◌, ℕ, Bool, true, false, cond, List, Option, Some, None, filter, length, nat_lt, refl, sym, ap, subst, ◌∙◌, arith}
+use Rattle.std.proofs.Common.{inl, inr, ◌⊎◌, ◌≡◌, ◌+◌, ℕ, Bool, false, cond, List, Option, Some, None, filter, length, nat_lt, refl, sym, ap, subst, ◌∙◌, arith}
 use Rattle.std.proofs.lemmas.Bool.{cases_eq, eq-eqb}
 use Rattle.std.specs.List.{list_any}
 use Rattle.std.specs.Prelude.{Ok}
@@ -75,7 +75,7 @@ module _ (p : Parts) (whole : IsWhole p) (made : ℕ) (sound : SoundTable work_k
         let law = passing-with_at test (core_of p).works g.number None in
         let map : passing test (core_of less).works ≡ passing test (remove (core_of p).works g.number) = ap (passing test) (records_less number machine p.works made sound rep serial g is) in
         let one : one_if_passes test (get (core_of p).works g.number) ≡ one_if_passes test (Some g.work) =
-            ap (one_if_passes test) (sym (item_read number machine p.works made sound rep serial g is ∙ ap (get (core_of p).works) (item_number number machine p.works rep serial g is))) in
+        ap (one_if_passes test) (sym (item_read number machine p.works made sound rep serial g is ∙ ap (get (core_of p).works) (item_number number machine p.works rep serial g is))) in
         omega arith
 
     pub works_counted : (n : ℕ) → calls_of n (core_of less) + cond (is_of_group n g.work) 1 0 ≡ calls_of n (core_of p)

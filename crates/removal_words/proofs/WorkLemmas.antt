@@ -1,8 +1,8 @@
 -- A host work is gone, as the word takes it away.
-use Rattle.std.proofs.Common.{◌≡◌, ◌+◌, ◌-◌, ◌==◌, ◌||◌, ◌&&◌, not, ◌<◌, ◌≤◌, ℕ, Bool, true, false, cond, List, [], ◌∷◌, map, Option, Some, None, IsSome, filter, is_some, nat_lt, refl, sym, ap, ap₂, subst, ◌∙◌, arith}
+use Rattle.std.proofs.Common.{◌≡◌, ◌+◌, ◌-◌, ◌==◌, ◌||◌, ◌&&◌, not, ◌≤◌, ℕ, Bool, true, false, cond, List, [], ◌∷◌, map, Option, Some, None, IsSome, filter, is_some, nat_lt, refl, sym, ap, ap₂, subst, ◌∙◌, arith}
 use Rattle.std.proofs.lemmas.Bool.{eq-eqb, ne_eqb}
 use Rattle.std.specs.List.{list_any}
-use Rattle.std.specs.Option.{option_and_then, option_map, option_map_or}
+use Rattle.std.specs.Option.{option_and_then, option_map_or}
 use Rattle.std.specs.Prelude.{Err, Ok, Result}
 use Rattle.place_words.proofs.AlikeLemmas.{number_of_alike}
 use Rattle.place_words.proofs.FiledLemmas.{kept_under}
@@ -42,7 +42,7 @@ use Rattle.task_records.specs.Image.{Parts, chained, core_of}
 use Rattle.task_records.specs.Kept.{IsGroupKept, calls_of, is_of_group}
 use Rattle.task_records.specs.Keys.{group_key, work_key}
 use Rattle.task_records.specs.Kinds.{entry_of, item_of, on_item}
-use Rattle.task_records.specs.Names.{AreHandlesNamed, HasNumber, kinds}
+use Rattle.task_records.specs.Names.{AreHandlesNamed, kinds}
 use Rattle.task_records.specs.Places.{BlockedOn, live_work, ready_work}
 use Rattle.task_records.specs.Rows.{High, IsOfThread, IsSeated, Low, Row, host_entry, row}
 use Rattle.task_records.specs.Seen.{IsSound, parts_of, seen}
@@ -58,9 +58,9 @@ use Rattle.task_rules.specs.Works.{is_moving}
 use Rattle.task_table.proofs.ItemLemmas.{deletion_refused}
 use Rattle.task_table.proofs.MappedLemmas.{mapped-deleted}
 use Rattle.task_table.specs.Answers.{deletion, item_at}
-use Rattle.task_table.specs.Changes.{deleted, with_entry}
+use Rattle.task_table.specs.Changes.{deleted}
 use Rattle.task_table.specs.Mapped.{mapped}
-use Rattle.task_table.specs.Records.{number_of, records}
+use Rattle.task_table.specs.Records.{records}
 use Rattle.task_table.specs.Table.{IsTable, Placed, Table, place_at}
 use Rattle.task_table.specs.declared.error.ResourceTableError.{ResourceTableError}
 use Rattle.task_table.specs.declared.id.TableId.{TableId}
@@ -81,7 +81,7 @@ group_number r = r.number
 abbrev group_calls : TaskGroup → ℕ
 group_calls r = r.calls
 
-pub is_there : (o : Option ℕ) → not (is_some o) ≡ false → (n : ℕ) × (o ≡ Some n)
+pub is_there : (o : Option ℕ) → is_some o ≡ true → (n : ℕ) × (o ≡ Some n)
 is_there None some = absurd (cc)
 is_there (Some n) some = (n, refl)
 
@@ -146,7 +146,7 @@ module _ (a : CoreParts) (sound : IsSound a) (id : TableId HostTaskKey) (g : Hos
       let law = passing-with_at test (records work_key a.works.places) g.number None in
       let map = ap (passing test) works_map in
       let one : one_if_passes test (get (records work_key a.works.places) g.number) ≡ cond {A = ℕ} (test g.work) 1 0 =
-          ap (one_if_passes test) (sym (item_read number machine a.works a.made.works sound.tables.works id.rep id.serial g is ∙ ap (get (records work_key a.works.places)) (item_number number machine a.works id.rep id.serial g is))) in
+      ap (one_if_passes test) (sym (item_read number machine a.works a.made.works sound.tables.works id.rep id.serial g is ∙ ap (get (records work_key a.works.places)) (item_number number machine a.works id.rep id.serial g is))) in
       omega arith
 
   alike_same : Alike uncalled a.groups a.groups
@@ -325,5 +325,5 @@ module _ (a : CoreParts) (sound : IsSound a) (id : TableId HostTaskKey) (g : Hos
       one_host =
           let sum = passing-with_at is_host_call (core_of bared).works g.number None in
           let one : one_if_passes is_host_call (get (core_of bared).works g.number) ≡ cond {A = ℕ} (is_host_call g.work) 1 0 =
-              ap (one_if_passes is_host_call) (sym (item_read number machine bared.works a.made.works works_sound id.rep id.serial (bare_work g) bare_is ∙ ap (get (core_of bared).works) (item_number number machine bared.works id.rep id.serial (bare_work g) bare_is))) in
+          ap (one_if_passes is_host_call) (sym (item_read number machine bared.works a.made.works works_sound id.rep id.serial (bare_work g) bare_is ∙ ap (get (core_of bared).works) (item_number number machine bared.works id.rep id.serial (bare_work g) bare_is))) in
           omega arith

@@ -10,5 +10,6 @@ mod sets;
 mod threads;
 mod works;
 
+pub use calls::delete_call;
 pub use sets::close_set;
 pub use threads::{remove_thread, retire_thread};
