@@ -56,12 +56,3 @@ module _ (a : CoreParts) (i h : ℕ) (some : IsSome (set_at i h (seen a).core)) 
         by_held (Some item) is =
             let one = is_set (kinds (bare (parts_of a))) item.kind item.rep ((sound.handles i r (sym at)).handles h item is) (subst IsSome (read ∙ ap (λ (o : Option Held). option_and_then as_set (option_map named_of o)) is) some) in
             (item, (is, (one.0, ap held_set is ∙ one.1)))
-
--- a handle that is taken back leaves the members of sets
-pub member_freed : (x i h : ℕ) (s : Core) → has_member x (free_handle i h s) ≡ has_member x s
-unfolding has_member free_handle
-member_freed x i h s = λ j. list_any (λ sub. is_in_set x (joined sub j)) (subtasks s)
-  where
-    joined : (sub : Subtask) → join_of sub (free_handle i h s) ≡ join_of sub s
-    joined (subtask.Guest k) = refl
-    joined (subtask.Host n) = refl

@@ -1,7 +1,5 @@
-pub mod ChainLemmas
 pub mod LeftLemmas
 pub mod LessLemmas
-pub mod UnfiledLemmas
 pub mod SetLemmas
 pub mod HandleLemmas
 pub mod CloseLemmas
