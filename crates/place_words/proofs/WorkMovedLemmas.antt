@@ -1,6 +1,6 @@
--- A host work is written that has another event or set, and the numbers of members of sets: what else holds of the parts stays.
+-- A host work is written that has another event, set or stage, with the numbers that count these: what else holds of the parts stays.
 use Rattle.std.proofs.Common.{◌≡◌, ◌+◌, ◌*◌, ◌==◌, ℕ, Bool, List, length, refl, sym, ap, ap₂, subst, ◌∙◌}
-use Rattle.task_index.proofs.Indexes.{IsIndex-same, IsIndex-same_chains}
+use Rattle.task_index.proofs.Indexes.{IsIndex-same_chains}
 use Rattle.task_index.specs.Counts.{passing}
 use Rattle.task_index.specs.Index.{IsIndex, filings}
 use Rattle.task_links.specs.Links.{Spot}
@@ -30,14 +30,14 @@ use Rattle.task_records.specs.declared.works.HostWork.{HostWork}
 use Rattle.task_table.specs.Mapped.{mapped}
 use Rattle.task_table.specs.Records.{records}
 use Rattle.task_table.specs.Table.{Table}
-use Rattle.place_words.proofs.AlikeLemmas.{filings_alike, found_alike, nodes_alike, place_alike, seated_alike, stands_alike}
+use Rattle.place_words.proofs.AlikeLemmas.{found_alike, nodes_alike, place_alike, seated_alike, stands_alike}
 use Rattle.place_words.proofs.MovedLemmas.{IsRows-alike}
 use Rattle.place_words.proofs.PutLemmas.{sets_same}
 use Rattle.place_words.specs.Moved.{Alike, quiet_work, still_work, uncounted}
 
-module _ (p : Parts) (whole : IsWhole p) (works : Table (Single HostWork)) (alike : Alike still_work works p.works) (sets : Table (Single WaitSet)) (sets_alike : Alike uncounted sets p.sets) (ready : List (Spot ℕ)) where
+module _ (p : Parts) (whole : IsWhole p) (works : Table (Single HostWork)) (alike : Alike still_work works p.works) (sets : Table (Single WaitSet)) (sets_alike : Alike uncounted sets p.sets) (ready : List (Spot ℕ)) (polled : List (Spot ℕ)) (live : ℕ) where
   abbrev pub heard : Parts
-  heard = record p { works = works; sets = sets; ready_works = ready }
+  heard = record p { works = works; sets = sets; ready_works = ready; polled = polled; kept = record p.kept { live = live } }
 
   pub at_heard : (rep : ℕ) (t : Target) → AtPlace p rep t → AtPlace heard rep t
   at_heard rep Nothing at = tt
@@ -82,12 +82,12 @@ module _ (p : Parts) (whole : IsWhole p) (works : Table (Single HostWork)) (alik
   ready_works_heard : (x : ℕ) → ready_work_chain heard x ≡ ready_work_chain p x
   ready_works_heard x = found_alike uncounted sets p.sets sets_alike (λ (x : WaitSet). x.number) (λ x. refl) (λ (x : WaitSet). x.ready_works) (λ x. refl) x
 
-  chained_heard : IsIndex (ready_work_chain p) ready (filings ready_work works) → AreChained heard
-  chained_heard index = record {
+  chained_heard : IsIndex (ready_work_chain p) ready (filings ready_work works) → IsIndex (live_chain p) polled (filings live_work works) → AreChained heard
+  chained_heard index live_index = record {
     places = IsIndex-same_chains (place_chain p) p.places _ whole.chained.places (place_chain heard) place_chain_heard;
     ready_calls = IsIndex-same_chains (ready_call_chain p) p.ready_calls _ whole.chained.ready_calls (ready_call_chain heard) ready_calls_heard;
     ready_works = IsIndex-same_chains (ready_work_chain p) ready (filings ready_work works) index (ready_work_chain heard) ready_works_heard;
-    polled = IsIndex-same (live_chain p) p.polled _ whole.chained.polled (filings live_work works) (filings_alike still_work live_work (λ r s w. refl) works p.works alike);
+    polled = live_index;
     marks = IsRows-alike (row_chain p) (row_chain heard) (λ q. q.mark.index) (IsSeated p) (IsSeated heard) p.marks (row p) (row heard) whole.chained.marks (λ k. refl) seated_heard (λ k. refl);
     shelves = IsRows-alike (shelf_chain p) (shelf_chain heard) (λ q. q.shelf.index) (IsSeated p) (IsSeated heard) p.shelves (part is_of_instance (row p)) (part is_of_instance (row heard)) whole.chained.shelves (λ k. refl) seated_heard (λ k. refl);
     low = whole.chained.low;
@@ -105,10 +105,10 @@ module _ (p : Parts) (whole : IsWhole p) (works : Table (Single HostWork)) (alik
   group_heard : (g : TaskGroup) → IsGroupKept (core_of p) g → IsGroupKept (core_of heard) g
   group_heard g h = h ∙ ap (λ n. passing (λ c. c.group == g.number) (core_of p).calls + n) (sym (passing_heard (is_of_group g.number)))
 
-  counted_heard : EachEntry (IsSetKept (core_of heard)) sets → AreCounted heard
+  counted_heard : EachEntry (IsSetKept (core_of heard)) sets → live ≡ passing is_live (core_of heard).works → AreCounted heard
   unfolding table_use
-  counted_heard kept = record {
-    kept = record { used = whole.counted.kept.used ∙ ap₂ (λ (m k : ℕ). length (core_of p).groups + size (core_of p).calls + 2 * size (core_of p).threads + m + k) (sym (passing_heard is_host_call)) (sym (ap size (sets_same sets p.sets sets_alike))); groups = whole.counted.kept.groups; live = whole.counted.kept.live ∙ sym (passing_heard is_live) };
+  counted_heard kept live_is = record {
+    kept = record { used = whole.counted.kept.used ∙ ap₂ (λ (m k : ℕ). length (core_of p).groups + size (core_of p).calls + 2 * size (core_of p).threads + m + k) (sym (passing_heard is_host_call)) (sym (ap size (sets_same sets p.sets sets_alike))); groups = whole.counted.kept.groups; live = live_is };
     calls = whole.counted.calls;
     sets = kept;
     groups = λ r q at. group_heard q.entry.item (whole.counted.groups r q at);
@@ -119,15 +119,15 @@ module _ (p : Parts) (whole : IsWhole p) (works : Table (Single HostWork)) (alik
     results = whole.counted.results;
   }
 
-  pub heard_whole : EachEntry (λ (w : HostWork). AtPlace heard w.joined (join_target w.work.join)) works → EachEntry (IsSetKept (core_of heard)) sets → IsIndex (ready_work_chain p) ready (filings ready_work works) → IsWhole heard
-  heard_whole joins kept index = record {
+  pub heard_whole : EachEntry (λ (w : HostWork). AtPlace heard w.joined (join_target w.work.join)) works → EachEntry (IsSetKept (core_of heard)) sets → IsIndex (ready_work_chain p) ready (filings ready_work works) → IsIndex (live_chain p) polled (filings live_work works) → live ≡ passing is_live (core_of heard).works → IsWhole heard
+  heard_whole joins kept index live_index live_is = record {
     named = record {
       threads = λ r q at. home_heard q.entry.item (whole.named.threads r q at);
       calls = λ r q at. call_heard q.entry.item (whole.named.calls r q at);
       works = works_heard joins;
       switch = whole.named.switch;
     };
-    chained = chained_heard index;
+    chained = chained_heard index live_index;
     nodes = record {
       marks = whole.nodes.marks;
       shelves = whole.nodes.shelves;
@@ -135,5 +135,5 @@ module _ (p : Parts) (whole : IsWhole p) (works : Table (Single HostWork)) (alik
       works = nodes_alike still_work works p.works alike (λ w. w.mark.index) (λ w. refl) p.marks whole.nodes.works;
       apart = λ r s q w at_q at_w same. let one = place_alike still_work works p.works alike s w at_w in whole.nodes.apart r s q one.0 at_q one.1.0 (same ∙ sym (ap (λ (x : HostWork). x.mark.index) one.1.1));
     };
-    counted = counted_heard kept;
+    counted = counted_heard kept live_is;
   }

@@ -1,5 +1,5 @@
 -- What is written where a thread gets another place, or a subtask another event or set: the record but for these, and what a set counts.
-use Rattle.std.specs.Prelude.{◌≡◌, ℕ, Option, Some, None, Result, Ok, Err}
+use Rattle.std.specs.Prelude.{◌≡◌, ℕ, if◌then◌else◌, Option, Some, None, Result, Ok, Err}
 use Rattle.task_machine.specs.Core.{Core}
 use Rattle.task_machine.specs.declared.records.Call.{Call}
 use Rattle.task_machine.specs.declared.records.Delivery.TheVariants as delivery
@@ -9,6 +9,9 @@ use Rattle.task_machine.specs.declared.records.Join.{Join}
 use Rattle.task_machine.specs.declared.records.Join.TheVariants as join
 use Rattle.task_machine.specs.declared.records.Place.{Place}
 use Rattle.task_machine.specs.declared.records.Place.TheVariants as place
+use Rattle.task_machine.specs.Read.{is_stage_live}
+use Rattle.task_machine.specs.declared.records.Stage.{Stage}
+use Rattle.task_machine.specs.declared.records.Stage.TheVariants as stage
 use Rattle.task_machine.specs.declared.records.Thread.{Thread}
 use Rattle.task_machine.specs.declared.records.Why.{Why}
 use Rattle.task_machine.specs.declared.records.Work.{Work}
@@ -90,9 +93,13 @@ quiet_call c = record c { event = None; join = join.Nowhere }
 abbrev pub still_call : GuestTask → GuestTask
 still_call g = record g { call = quiet_call g.call; joined = 0 }
 
--- a host work without its event and its set
+-- a host work without its event, its set and its stage
 abbrev pub quiet_work : Work → Work
-quiet_work w = record w { event = None; join = join.Nowhere }
+quiet_work w = record w { event = None; join = join.Nowhere; stage = stage.Ended }
 
 abbrev pub still_work : HostWork → HostWork
 still_work w = record w { work = quiet_work w.work; joined = 0 }
+
+-- whether a work of the stage is in the list of the live works
+abbrev pub live_key : Stage → Option (Unit {0})
+live_key x = if is_stage_live x then Some tt else None
