@@ -18,4 +18,4 @@ pub use members::{
 };
 pub use results::{give_result, result, take_result};
 pub use stalls::some_may_not_suspend;
-pub use works::{has_live_work, has_moving_work, set_course, set_phase};
+pub use works::{has_live_work, has_moving_work, is_moving, recounted, set_course, set_phase};

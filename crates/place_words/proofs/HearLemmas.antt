@@ -63,17 +63,17 @@ module _ (a : CoreParts) (sound : IsSound a) (id : TableId HostTaskKey) (g : Hos
   unfolding IsSound
   is_whole = sound.whole
 
-  stands : (p : Placed (Single HostWork)) × ((place_at a.works id.rep ≡ Some p) × ((p.serial ≡ id.serial) × (p.entry ≡ entry_of g)))
+  pub stands : (p : Placed (Single HostWork)) × ((place_at a.works id.rep ≡ Some p) × ((p.serial ≡ id.serial) × (p.entry ≡ entry_of g)))
   unfolding IsSound
   stands = item_stands (λ (g : HostWork). g.number) (λ (g : HostWork). g.work) a.works a.made.works sound.tables.works id.rep id.serial g is
 
-  abbrev bare_placed : Placed (Single HostWork)
+  abbrev pub bare_placed : Placed (Single HostWork)
   bare_placed = record { serial = stands.0.serial; parent = stands.0.parent; entry = on_item bare_work stands.0.entry }
 
-  bare_stands : place_at bared.works id.rep ≡ Some bare_placed
+  pub bare_stands : place_at bared.works id.rep ≡ Some bare_placed
   bare_stands = place_mapped (on_item bare_work) a.works id.rep stands.0 stands.1.0
 
-  bare_entry : bare_placed.entry ≡ entry_of (bare_work g)
+  pub bare_entry : bare_placed.entry ≡ entry_of (bare_work g)
   bare_entry = ap (on_item bare_work) stands.1.1.1
 
   pub work_join_at : AtPlace (parts_of a) g.joined (join_target g.work.join)

@@ -15,5 +15,6 @@ pub mod WorkMovedLemmas
 pub mod JoinLemmas
 pub mod TellLemmas
 pub mod HearLemmas
+pub mod StageLemmas
 pub mod ChainLemmas
 pub mod GoneLemmas
