@@ -165,8 +165,8 @@ module _ (a : CoreParts) (sound : IsSound a) (id : TableId SetKey) (g : WaitSet)
       };
       chained = record {
         places = IsIndex-shut (place_chain (bare (parts_of a))) (place_chain gone) a.places places (WaitsOn g.number) g.waiters under_waiters no_waiters waits_else waiters_shut _ whole.chained.places;
-          ready_calls = IsIndex-shut (ready_call_chain (bare (parts_of a))) (ready_call_chain gone) a.ready_calls ready_calls g.number g.ready_calls under_calls no_calls calls_else calls_shut _ whole.chained.ready_calls;
-          ready_works = IsIndex-shut (ready_work_chain (bare (parts_of a))) (ready_work_chain gone) a.ready_works ready_works g.number g.ready_works under_works no_works works_else works_shut _ whole.chained.ready_works;
+        ready_calls = IsIndex-shut (ready_call_chain (bare (parts_of a))) (ready_call_chain gone) a.ready_calls ready_calls g.number g.ready_calls under_calls no_calls calls_else calls_shut _ whole.chained.ready_calls;
+        ready_works = IsIndex-shut (ready_work_chain (bare (parts_of a))) (ready_work_chain gone) a.ready_works ready_works g.number g.ready_works under_works no_works works_else works_shut _ whole.chained.ready_works;
         polled = whole.chained.polled;
         marks = whole.chained.marks;
         shelves = whole.chained.shelves;

@@ -13,3 +13,4 @@ mod works;
 pub use calls::delete_call;
 pub use sets::close_set;
 pub use threads::{remove_thread, retire_thread};
+pub use works::delete_work;

@@ -6,16 +6,18 @@ ghost use Rattle.task_machine.specs.declared.records.Join.TheVariants as joins;
 ghost use Rattle.task_machine.specs.declared.records.Stage.TheVariants as stages;
 ghost use Rattle.task_machine.specs.declared.records.Subtask.TheVariants as subtasks;
 ghost use Rattle.task_records.specs.Seen.{IsSound, seen};
-ghost use Rattle.task_rules.specs.Calls.{work_group};
+ghost use Rattle.task_rules.specs.Calls.{work_deleted, work_group};
 ghost use Rattle.task_words.specs.Apart.{work_entries};
 ghost use Rattle.task_words.specs.StateView.{KeepsBut, lost_work, work_of};
 
 use crate::chains::{close, drop_node};
-use crate::groups::{lower_group, one_if};
+use crate::groups::{lower_group, one_if, settle_group};
+use place_words::{set_join, set_stage};
+use task_machine::Stage;
 use task_records::CoreParts;
 use task_table::TableId;
 use task_wait::GroupKey;
-use task_words::WorkId;
+use task_words::{JoinId, SubtaskId, WorkId};
 
 // A work that has ended and is in no set is gone; its group, if it has one, may be finished.
 fn drop_work(parts: &mut CoreParts, work: WorkId) -> Option<TableId<GroupKey>>
@@ -46,4 +48,21 @@ fn drop_work(parts: &mut CoreParts, work: WorkId) -> Option<TableId<GroupKey>>
     }
     parts.kept.used -= one_if(found.work.group.is_some());
     group
+}
+
+/// A work is gone, and its group is finished, if nothing of it is left.
+pub fn delete_work(parts: &mut CoreParts, work: WorkId)
+    requires sound { IsSound parts.old }
+    requires live { 0 < work_of (seen parts.old) work }
+    requires unqueued { work_entries (work_of (seen parts.old) work) (seen parts.old).core.queues.high ≡ 0 }
+    ensures sound { IsSound parts.new }
+    ensures core { (seen parts.new).core ≡ work_deleted (work_of (seen parts.old) work) (seen parts.old).core }
+    ensures current { (seen parts.new).current ≡ (seen parts.old).current }
+    ensures tags { KeepsBut (lost_work (work_of (seen parts.old) work)) (seen parts.old).tags (seen parts.new).tags }
+{
+    set_join(parts, SubtaskId::Host(work), JoinId::Nowhere);
+    set_stage(parts, work, Stage::Ended);
+    if let Some(group) = drop_work(parts, work) {
+        settle_group(parts, group);
+    }
 }

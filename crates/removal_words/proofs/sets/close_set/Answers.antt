@@ -1,7 +1,6 @@
 use Rattle.removal_words.proofs.sets.close_set.Goals as goal
 use Rattle.std.proofs.Common.{◌<◌, ap, subst, sym, ◌∙◌}
-use Rattle.task_machine.specs.Read.{has_member, has_waiters}
-use Rattle.task_machine.specs.Write.{free_handle, remove_set}
+use Rattle.task_machine.specs.Write.{remove_set}
 use Rattle.task_records.specs.Seen.{seen}
 use Rattle.task_words.specs.StateView.{KeepsBut, StateView, lost_set, set_of}
 
