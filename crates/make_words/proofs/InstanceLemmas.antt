@@ -216,7 +216,7 @@ module _ (p : Parts) (whole : IsWhole p) (r : InstanceRecord) (loose : AreLoose 
       few = whole.counted.few;
       high = λ some. high;
       low = λ some. low;
-      works = λ rep q at. high;
+      works = whole.counted.works;
       results = whole.counted.results;
     };
   }

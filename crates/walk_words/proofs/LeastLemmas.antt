@@ -18,17 +18,17 @@ use Rattle.task_machine.specs.declared.records.Thread.{Thread}
 use Rattle.walk_words.specs.Least.{least_from, least_of, lesser}
 
 -- nothing passes, or this does and nothing less
-abbrev IsFirst : (ℕ → Bool) → Option ℕ → Type 0
+abbrev pub IsFirst : (ℕ → Bool) → Option ℕ → Type 0
 IsFirst p None = (n : ℕ) → p n ≡ true → ⊥
 IsFirst p (Some m) = (p m ≡ true) × ((n : ℕ) → p n ≡ true → m ≤ n)
 
-one_first : (p : ℕ → Bool) (x y : Option ℕ) → IsFirst p x → IsFirst p y → x ≡ y
+pub one_first : (p : ℕ → Bool) (x y : Option ℕ) → IsFirst p x → IsFirst p y → x ≡ y
 one_first p None None fx fy = refl
 one_first p None (Some m) fx fy = absurd (fx m fy.0)
 one_first p (Some m) None fx fy = absurd (fy m fx.0)
 one_first p (Some m) (Some n) fx fy = let up = fx.1 n fy.0 in let down = fy.1 m fx.0 in ap (λ k. Some k) (let same : m ≡ n = omega (arith, up, down) in same)
 
-same_first : (p q : ℕ → Bool) → ((n : ℕ) → q n ≡ p n) → (x : Option ℕ) → IsFirst p x → IsFirst q x
+pub same_first : (p q : ℕ → Bool) → ((n : ℕ) → q n ≡ p n) → (x : Option ℕ) → IsFirst p x → IsFirst q x
 same_first p q same None first = λ n is. first n (sym (same n) ∙ is)
 same_first p q same (Some m) first = (same m ∙ first.0, λ n is. first.1 n (sym (same n) ∙ is))
 
@@ -37,14 +37,14 @@ more_first : (p q : ℕ → Bool) (a b : ℕ) → p a ≡ true → a ≤ b → (
 more_first p q a b passes above up down None first = absurd (first a passes)
 more_first p q a b passes above up down (Some m) first = (up m first.0, λ n is. elim (down n is) [ inl same ↦ (let least = first.1 a passes in omega (arith, least, same, above)) | inr was ↦ first.1 n was ])
 
-abbrev with_least : Option ℕ → List ℕ → List ℕ
+abbrev pub with_least : Option ℕ → List ℕ → List ℕ
 with_least None ns = ns
 with_least (Some m) ns = m ∷ ns
 
-has_first : (n : ℕ) (ns : List ℕ) → has n (n ∷ ns) ≡ true
+pub has_first : (n : ℕ) (ns : List ℕ) → has n (n ∷ ns) ≡ true
 has_first n ns = ap (λ b. b || has n ns) (eq-eqb n n refl)
 
-cases_or : (b c : Bool) → (b || c) ≡ true → (b ≡ true) ⊎ (c ≡ true)
+pub cases_or : (b c : Bool) → (b || c) ≡ true → (b ≡ true) ⊎ (c ≡ true)
 cases_or true c is = inl refl
 cases_or false c is = inr is
 
@@ -56,7 +56,7 @@ or_skip : (a b c : Bool) → (a || c) ≡ true → (a || (b || c)) ≡ true
 or_skip true b c is = refl
 or_skip false b c is = or_later b c is
 
-least_first : (least : Option ℕ) (ns : List ℕ) → IsFirst (λ n. has n (with_least least ns)) (least_from least ns)
+pub least_first : (least : Option ℕ) (ns : List ℕ) → IsFirst (λ n. has n (with_least least ns)) (least_from least ns)
 least_first None [] = λ n is. absurd (cc)
 least_first (Some m) [] = (has_first m [], λ n is. let same : n ≡ m = eqb-true n m (alone (n == m) is) in omega (arith, same))
   where
@@ -86,7 +86,7 @@ left : (a b : Bool) → T (a && b) → a ≡ true
 left true b p = refl
 left false b p = absurd p
 
-right : (a b : Bool) → T (a && b) → T b
+pub right : (a b : Bool) → T (a && b) → T b
 right true b p = p
 right false b p = absurd p
 
@@ -95,16 +95,23 @@ lt_le Less is = refl
 lt_le Equal is = absurd (cc)
 lt_le Greater is = absurd (cc)
 
+T_left : (a b : Bool) → T (a && b) → T a
+T_left true b p = tt
+T_left false b p = absurd p
+
 and_parts : (a b : Bool) → (a && b) ≡ true → (a ≡ true) × (b ≡ true)
 and_parts true true is = (refl, refl)
 and_parts true false is = absurd (cc)
 and_parts false b is = absurd (cc)
 
 module _ {X : Type 0} where
-  abbrev keys : List (ℕ × X) → List ℕ
+  abbrev pub keys : List (ℕ × X) → List ℕ
   keys es = map (λ e. e.0) es
 
-  below_keys : (k n : ℕ) (es : List (ℕ × X)) → T (below_all nat_cmp k es) → has n (keys es) ≡ true → k ≤ n
+  pub sorted_below : (e : ℕ × X) (es : List (ℕ × X)) → T (is_sorted nat_cmp (e ∷ es)) → T (below_all nat_cmp e.0 es)
+  sorted_below e es sorted = T_left _ _ sorted
+
+  pub below_keys : (k n : ℕ) (es : List (ℕ × X)) → T (below_all nat_cmp k es) → has n (keys es) ≡ true → k ≤ n
   below_keys k n [] below is = absurd (cc)
   below_keys k n (e ∷ es) below is = elim (cases_or (n == e.0) (has n (keys es)) is) [
     | inl first ↦ subst (λ m. k ≤ m) (sym (eqb-true n e.0 first)) (le_from_is_le k e.0 (lt_le (nat_cmp k e.0) (left _ _ below)))
@@ -118,12 +125,8 @@ module _ {X : Type 0} where
       at_most : (n : ℕ) → (has n (keys (e ∷ es)) && p n) ≡ true → e.0 ≤ n
       at_most n is = elim (cases_or (n == e.0) (has n (keys es)) (and_parts _ _ is).0) [
         | inl first ↦ (let same = eqb-true n e.0 first in omega (arith, same))
-        | inr later ↦ below_keys e.0 n es (T_of (below_all nat_cmp e.0 es) (left _ _ sorted)) later
+        | inr later ↦ below_keys e.0 n es (sorted_below e es sorted) later
       ]
-        where
-          T_of : (b : Bool) → b ≡ true → T b
-          T_of true is = tt
-          T_of false is = absurd (cc)
 
       other : p e.0 ≡ false → (n : ℕ) → (has n (keys (e ∷ es)) && p n) ≡ (has n (keys es) && p n)
       other fails n = cases (n == e.0) refl

@@ -2,7 +2,7 @@
 use Rattle.std.specs.Prelude.{◌≡◌, ◌==◌, ◌++◌, ℕ, if◌then◌else◌, List, [], ◌∷◌, Option, None, Some, length}
 use Rattle.task_index.specs.Walks.{number_at, walked}
 use Rattle.task_links.specs.Links.{head_of}
-use Rattle.task_records.specs.Keys.{thread_key}
+use Rattle.task_records.specs.Keys.{thread_key, work_key}
 use Rattle.task_records.specs.declared.parts.CoreParts.{CoreParts}
 use Rattle.task_table.specs.Records.{number_in, record_at}
 
@@ -16,6 +16,16 @@ of_node a n = number_at (at_place a) a.places n
 
 abbrev pub of_chain : CoreParts → ℕ → List ℕ
 of_chain a c = walked (at_place a) a.places c
+
+-- the same of host works, in the chain of the live ones
+abbrev pub work_at_place : CoreParts → ℕ → ℕ
+work_at_place a place = number_in (record_at work_key a.works.places place)
+
+abbrev pub of_live_node : CoreParts → ℕ → ℕ
+of_live_node a n = number_at (work_at_place a) a.polled n
+
+abbrev pub of_live_chain : CoreParts → ℕ → List ℕ
+of_live_chain a c = walked (work_at_place a) a.polled c
 
 module _ {P : Type 0} where
   -- A walk has come to the next entry: what holds of the entries that are left.
