@@ -125,6 +125,7 @@ module _ (p : Parts) (whole : IsWhole p) (calls : Table (Single GuestTask)) (ali
     sets = λ r q at. set_told q.entry.item (whole.counted.sets r q at);
     groups = λ r q at. group_told q.entry.item (whole.counted.groups r q at);
     few = whole.counted.few;
+    finished = whole.counted.finished;
     high = whole.counted.high;
     low = whole.counted.low;
     works = whole.counted.works;

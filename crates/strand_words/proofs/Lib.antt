@@ -1,0 +1,6 @@
+pub mod ThreadPushLemmas
+pub mod CallPushLemmas
+pub mod GroupLemmas
+pub mod GrowLemmas
+pub mod StrandCountLemmas
+pub mod StrandLemmas

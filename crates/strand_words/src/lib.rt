@@ -1,0 +1,5 @@
+//! The calls and threads that a core makes. The nodes and chains of a record are made first, so
+//! that what was made for nothing hangs on nothing and isn't seen.
+#![tactic(auto)]
+
+mod nodes;
