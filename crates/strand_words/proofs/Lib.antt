@@ -4,3 +4,4 @@ pub mod GroupLemmas
 pub mod GrowLemmas
 pub mod StrandCountLemmas
 pub mod StrandLemmas
+pub mod NodeLemmas
