@@ -5,3 +5,4 @@ pub mod GrowLemmas
 pub mod StrandCountLemmas
 pub mod StrandLemmas
 pub mod NodeLemmas
+pub mod StrandAddLemmas

@@ -13,6 +13,7 @@ use Rattle.strand_words.proofs.GrowLemmas.{Grows, at_grown, call_grown, named_gr
 use Rattle.strand_words.proofs.StrandCountLemmas.{strand_counted, with_strand}
 use Rattle.strand_words.proofs.ThreadPushLemmas.{PlacesNamed, nodes_of, thread_chained, thread_nodes}
 use Rattle.strand_words.specs.Loose.{AreCallLoose, AreThreadLoose}
+use Rattle.strand_words.specs.Strand.{IsStrand}
 use Rattle.task_machine.specs.Maps.{get}
 use Rattle.task_machine.specs.Read.{no_callee}
 use Rattle.task_machine.specs.declared.records.Call.{Call}
@@ -37,22 +38,6 @@ use Rattle.task_records.specs.declared.threads.GuestThread.{GuestThread}
 use Rattle.task_table.specs.Changes.{next_place, pushed}
 use Rattle.task_table.specs.Records.{key_in, number_in}
 use Rattle.task_table.specs.Table.{Placed, place_at}
-
--- What a call and its first thread are, when they are made.
-pub record IsStrand (p : Parts) (c : GuestTask) (g : GuestThread) : Type 0 where
-  pub call_next : c.number ≡ p.made.threads + 1
-  pub thread_next : g.number ≡ p.made.threads + 1
-  pub first : g.thread.call ≡ c.number
-  pub one : c.threads ≡ 1
-  pub eventless : c.call.event ≡ None
-  pub nowhere : c.call.join ≡ join.Nowhere
-  pub unplaced : g.thread.place ≡ place.New
-  pub fresh : g.thread.how_far ≡ how_far.Fresh
-  pub task : g.task ≡ next_place p.calls
-  pub instance : g.instance ≡ c.call.callee.instance
-  pub within : IsSome (slice_get p.instances g.instance)
-  pub caller : AtPlace p c.maker (caller_target c.call.caller)
-  pub room : c.call.goal ≡ goal.Main → IsSome (lookup (is_at (nat_cmp c.number)) p.results)
 
 module _ (p : Parts) (whole : IsWhole p) (tables : AreTables p) (c : GuestTask) (g : GuestThread) (is : IsStrand p c g) (call_loose : AreCallLoose p (call_nodes_of c)) (loose : AreThreadLoose p (nodes_of g)) (two : g.under ≡ c.blocked → ⊥)
     (rep : ℕ) (q : Placed (Single TaskGroup)) (at : place_at p.groups rep ≡ Some q) (place : c.group ≡ rep) (of_group : q.entry.item.number ≡ c.call.group) where

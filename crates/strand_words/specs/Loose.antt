@@ -25,3 +25,9 @@ pub record AreThreadLoose (p : Parts) (n : ThreadNodes) : Type 0 where
 pub record AreCallLoose (p : Parts) (n : CallNodes) : Type 0 where
   pub ready : IsSpare (λ (g : GuestTask). g.ready.index) p.calls p.ready_calls n.ready.index
   pub blocked : IsLoose (place_chain p) p.places n.blocked
+
+-- Those of a call and of its first thread.
+pub record AreStrandLoose (p : Parts) (c : CallNodes) (t : ThreadNodes) : Type 0 where
+  pub call : AreCallLoose p c
+  pub thread : AreThreadLoose p t
+  pub two : t.under ≡ c.blocked → ⊥

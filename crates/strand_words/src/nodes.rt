@@ -1,6 +1,6 @@
 ghost use Rattle.std.specs.Prelude.{◌≡◌, IfOk, OnOk};
 ghost use Rattle.strand_words.specs.Extends.{Extends};
-ghost use Rattle.strand_words.specs.Loose.{AreCallLoose, AreThreadLoose};
+ghost use Rattle.strand_words.specs.Loose.{AreCallLoose, AreStrandLoose, AreThreadLoose};
 ghost use Rattle.task_links.specs.Links.{Unmade, spot_at};
 ghost use Rattle.task_records.specs.Seen.{IsSound, parts_of, seen};
 ghost use Rattle.task_records.specs.Sound.{bare};
@@ -77,9 +77,7 @@ pub fn new_strand_nodes(parts: &mut CoreParts) -> Result<(CallNodes, ThreadNodes
     requires { IsSound parts.old }
     ensures sound { IsSound parts.new }
     ensures seen { seen parts.new ≡ seen parts.old }
-    ensures call { IfOk result (λ nodes. AreCallLoose (bare (parts_of parts.new)) nodes.0) }
-    ensures thread { IfOk result (λ nodes. AreThreadLoose (bare (parts_of parts.new)) nodes.1) }
-    ensures two { IfOk result (λ nodes. nodes.1.under ≡ nodes.0.blocked → ⊥) }
+    ensures loose { IfOk result (λ nodes. AreStrandLoose (bare (parts_of parts.new)) nodes.0 nodes.1) }
     ensures extends { OnOk result (Extends parts.old parts.new) }
 {
     let call = new_call_nodes(parts)?;
