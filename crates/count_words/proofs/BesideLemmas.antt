@@ -1,5 +1,5 @@
 -- Another number of finished groups, other kept numbers and other results: names, indexes and rows stay.
-use Rattle.std.proofs.Common.{◌≡◌, ℕ, List, Option, Some, IsSome}
+use Rattle.std.proofs.Common.{◌≡◌, ◌≤◌, ℕ, List, Option, Some, IsSome}
 use Rattle.std.specs.BTreeMap.{is_at}
 use Rattle.std.specs.Map.{lookup}
 use Rattle.std.specs.Ordering.{nat_cmp}

@@ -100,6 +100,10 @@ module _ (a : CoreParts) (sound : IsSound a) where
     abbrev pub made : CoreParts
     made = made_with (pushed (record { item = g }) a.threads) (pushed (record { item = c }) a.calls) (with_entry id.rep (record { item = one_more }) a.groups)
 
+    -- what is shown of the core with these tables holds where the tables are what calls made of them
+    pub as_made : (t : Table (Single GuestThread)) (k : Table (Single GuestTask)) (gs : Table (Single TaskGroup)) → t ≡ made.threads → k ≡ made.calls → gs ≡ made.groups → (P : CoreParts → Type 0) → P made → P (made_with t k gs)
+    as_made t k gs is_t is_k is_gs P shown = subst (λ (u : Table (Single GuestThread)). P (made_with u k gs)) (sym is_t) (subst (λ (u : Table (Single GuestTask)). P (made_with made.threads u gs)) (sym is_k) (subst (λ (u : Table (Single TaskGroup)). P (made_with made.threads made.calls u)) (sym is_gs) shown))
+
     placed : (q : Placed (Single TaskGroup)) × ((place_at a.groups id.rep ≡ Some q) × ((q.serial ≡ id.serial) × (q.entry ≡ record { item = r })))
     unfolding IsSound
     placed = item_stands (λ (h : TaskGroup). h.number) (λ (h : TaskGroup). h.calls) a.groups a.made.groups sound.tables.groups id.rep id.serial r stands
