@@ -15,6 +15,6 @@ pub use limits::{
 pub use members::{
     has_thread, has_waiters, is_deletable, is_last_thread, set_instance, set_number,
 };
-pub use results::{give_result, result, take_result};
+pub use results::{give_result, make_room, result, take_result};
 pub use stalls::some_may_not_suspend;
 pub use works::{has_live_work, has_moving_work, set_course, set_phase};

@@ -6,3 +6,4 @@ pub mod StrandCountLemmas
 pub mod StrandLemmas
 pub mod NodeLemmas
 pub mod StrandAddLemmas
+pub mod GroupPushLemmas

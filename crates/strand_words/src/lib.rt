@@ -2,5 +2,8 @@
 //! that what was made for nothing hangs on nothing and isn't seen.
 #![tactic(auto)]
 
+mod calls;
+mod groups;
 mod nodes;
+mod records;
 mod strands;
