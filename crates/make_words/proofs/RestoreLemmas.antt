@@ -23,7 +23,7 @@ use Rattle.task_machine.specs.declared.records.Subtask.TheVariants as subtask
 use Rattle.task_records.specs.Image.{Parts, callers_in, chained, core_of, image}
 use Rattle.task_records.specs.Kept.{AreKept, IsCallKept, IsGroupKept, IsSetKept}
 use Rattle.task_records.specs.Keys.{blocked_key, call_key, callers_key, group_key, ready_calls_key, ready_works_key, set_key, thread_key, under_key, waiters_key, work_blocked_key, work_key}
-use Rattle.task_records.specs.Kinds.{on_item}
+use Rattle.task_records.specs.Kinds.{item_of, on_item}
 use Rattle.task_records.specs.Names.{AreHandlesNamed, AtPlace, CallOf, HasHome, IsCallNamed, IsHeldNamed, IsNamedAt, IsWorkNamed, Kinds, Nothing, OwnsHandle, SetOf, StandsAt, Target, ThreadOf, WorkOf, kinds}
 use Rattle.task_records.specs.Places.{BlockedOn, HeldIn, UnderOf, WaitsOn, Where, live_chain, live_work, place_chain, place_filing, ready_call, ready_call_chain, ready_work, ready_work_chain}
 use Rattle.task_records.specs.Rows.{HaveNodes, IsFollower, IsSeated, callers_chain, callers_row, entry_seated, follower, push_entry, host_entry, seated, thread_entry}
@@ -42,10 +42,11 @@ use Rattle.task_machine.specs.declared.records.Call.{Call}
 use Rattle.task_table.proofs.Laws.{children_of-deleted, children_of-pushed, next_place_free, place_at-deleted, place_at-pushed}
 use Rattle.task_table.proofs.MappedLemmas.{place_at-mapped}
 use Rattle.task_table.proofs.RecordLemmas.{get-records}
+use Rattle.task_table.specs.Answers.{item_at, item_in}
 use Rattle.task_table.specs.Changes.{deleted, next_place, pushed}
 use Rattle.task_table.specs.Mapped.{mapped, placed_as}
 use Rattle.task_table.specs.Records.{found_record, key_in, number_in, or_record, record_at, records}
-use Rattle.task_table.specs.Table.{IsTable, Placed, Table, children_of, place_at, standing}
+use Rattle.task_table.specs.Table.{IsTable, Placed, Table, children_of, found, of_serial, place_at, standing}
 
 -- ---- Names in more tables
 
@@ -282,3 +283,21 @@ module _ {E : Type 0} (t u v : Table E) (e : E) (table : IsTable t) (back : Rest
         let here : children_of v r ≡ children_of (deleted (next_place t) u) r = ap (λ (w : Table E). children_of w r) deleted_is in
         omega arith;
   }
+
+-- ---- What is restored
+
+-- the parts differ in these tables alone, each of which is restored
+pub restored_from : (p q : Parts) (t : Table (Single GuestThread)) (k : Table (Single GuestTask)) (w : Table (Single HostWork)) (x : Table (Single WaitSet)) (g : Table (Single TaskGroup)) → q ≡ record p { threads = t; calls = k; works = w; sets = x; groups = g } → Restores p.threads t → Restores p.calls k → Restores p.works w → Restores p.sets x → Restores p.groups g → IsRestored p q
+restored_from p q t k w x g is rt rk rw_ rx rg = record {
+  threads = subst (Restores p.threads) (sym (ap (λ (y : Parts). y.threads) is)) rt;
+  calls = subst (Restores p.calls) (sym (ap (λ (y : Parts). y.calls) is)) rk;
+  works = subst (Restores p.works) (sym (ap (λ (y : Parts). y.works) is)) rw_;
+  sets = subst (Restores p.sets) (sym (ap (λ (y : Parts). y.sets) is)) rx;
+  groups = subst (Restores p.groups) (sym (ap (λ (y : Parts). y.groups) is)) rg;
+  rest = is ∙ sym (ap (λ (y : Parts). record p { threads = y.threads; calls = y.calls; works = y.works; sets = y.sets; groups = y.groups }) is);
+}
+
+-- an id finds in a restored table what it found
+pub item_restored : {T : Type 0} (t u : Table (Single T)) → Restores t u → (rep serial : ℕ) → item_at item_of u rep serial ≡ item_at item_of t rep serial
+unfolding found
+item_restored t u back rep serial = ap (λ o. item_in item_of (of_serial serial o)) (back.places rep)

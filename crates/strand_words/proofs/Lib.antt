@@ -7,3 +7,5 @@ pub mod StrandLemmas
 pub mod NodeLemmas
 pub mod StrandAddLemmas
 pub mod GroupPushLemmas
+pub mod RequestLemmas
+pub mod MainLemmas

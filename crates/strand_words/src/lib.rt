@@ -7,3 +7,5 @@ mod groups;
 mod nodes;
 mod records;
 mod strands;
+
+pub use calls::make_call_by_main;
