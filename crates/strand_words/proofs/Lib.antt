@@ -9,3 +9,4 @@ pub mod StrandAddLemmas
 pub mod GroupPushLemmas
 pub mod RequestLemmas
 pub mod MainLemmas
+pub mod GroupFindLemmas

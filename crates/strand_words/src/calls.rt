@@ -68,7 +68,7 @@ pub fn add_strand(
 
 // The nodes of a call and of its first thread, and room for a result that goes to main. Where memory
 // is wanting, all is as before.
-fn prepare(
+pub fn prepare(
     parts: &mut CoreParts,
     goal: Goal,
 ) -> Result<(CallNodes, ThreadNodes), NoMemory>

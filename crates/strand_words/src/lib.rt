@@ -7,5 +7,7 @@ mod groups;
 mod nodes;
 mod records;
 mod strands;
+mod thread_calls;
 
 pub use calls::make_call_by_main;
+pub use thread_calls::make_call;
