@@ -214,6 +214,7 @@ module _ (p : Parts) (whole : IsWhole p) (r : InstanceRecord) (loose : AreLoose 
       sets = λ rep q at. let one = whole.counted.sets rep q at in record { members = one.members; entries = one.entries };
       groups = whole.counted.groups;
       few = whole.counted.few;
+      finished = whole.counted.finished;
       high = λ some. high;
       low = λ some. low;
       works = whole.counted.works;

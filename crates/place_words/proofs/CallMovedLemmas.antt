@@ -129,6 +129,7 @@ module _ (p : Parts) (whole : IsWhole p) (calls : Table (Single GuestTask)) (ali
     sets = kept;
     groups = λ r q at. group_told q.entry.item (whole.counted.groups r q at);
     few = whole.counted.few;
+    finished = whole.counted.finished;
     high = whole.counted.high;
     low = whole.counted.low;
     works = whole.counted.works;

@@ -113,6 +113,7 @@ module _ (p : Parts) (whole : IsWhole p) (works : Table (Single HostWork)) (alik
     sets = kept;
     groups = λ r q at. group_heard q.entry.item (whole.counted.groups r q at);
     few = whole.counted.few;
+    finished = whole.counted.finished;
     high = whole.counted.high;
     low = whole.counted.low;
     works = λ r q at. let one = place_alike still_work works p.works alike r q at in whole.counted.works r one.0 one.1.0;

@@ -176,6 +176,7 @@ module _ (p : Parts) (whole : IsWhole p) (made : ℕ) (sound : SoundTable call_k
             };
         groups = groups_kept;
         few = whole.counted.few;
+        finished = whole.counted.finished;
         high = whole.counted.high;
         low = whole.counted.low;
         works = whole.counted.works;

@@ -189,6 +189,7 @@ module _ (a : CoreParts) (sound : IsSound a) (id : TableId SetKey) (g : WaitSet)
             record { members = one.members; entries = one.entries };
         groups = whole.counted.groups;
         few = whole.counted.few;
+        finished = whole.counted.finished;
         high = whole.counted.high;
         low = whole.counted.low;
         works = whole.counted.works;

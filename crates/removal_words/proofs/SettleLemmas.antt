@@ -125,6 +125,7 @@ module _ (p : Parts) (whole : IsWhole p) (made made_calls made_works : ℕ) (sou
         sets = λ s q at. let one = whole.counted.sets s q at in record { members = one.members; entries = one.entries };
         groups = each_left number count p.groups made sound rep serial r is (IsGroupKept (core_of p)) whole.counted.groups;
         few = whole.counted.few;
+        finished = whole.counted.finished;
         high = whole.counted.high;
         low = whole.counted.low;
         works = whole.counted.works;

@@ -241,6 +241,7 @@ module _ (p : Parts) (whole : IsWhole p) (made : ℕ) (sound : SoundTable thread
                 };
             groups = λ r q at. whole.counted.groups r q at ∙ ap (λ (m : Records Call). passing (λ c. c.group == q.entry.item.number) m + passing (is_of_group q.entry.item.number) (core_of p).works) (sym calls_same);
             few = whole.counted.few;
+            finished = whole.counted.finished;
             high = whole.counted.high;
             low = whole.counted.low;
             works = whole.counted.works;

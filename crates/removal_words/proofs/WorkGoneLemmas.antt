@@ -199,6 +199,7 @@ module _ (p : Parts) (whole : IsWhole p) (made : ℕ) (sound : SoundTable work_k
               };
           groups = groups_kept;
           few = whole.counted.few;
+          finished = whole.counted.finished;
           high = whole.counted.high;
           low = whole.counted.low;
           works = λ r q at. whole.counted.works r q (before r q at);
