@@ -1,0 +1,12 @@
+//! The core of a store: threads, calls, host works, sets and instances, as what contracts see of
+//! them, with every word of `task_words`.
+#![tactic(auto)]
+
+mod instances;
+mod queues;
+mod results;
+mod sets;
+mod subtasks;
+mod task_core;
+
+pub use crate::task_core::TaskCore;
