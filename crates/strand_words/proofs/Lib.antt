@@ -10,3 +10,4 @@ pub mod GroupPushLemmas
 pub mod RequestLemmas
 pub mod MainLemmas
 pub mod GroupFindLemmas
+pub mod StrandUndoLemmas

@@ -1,3 +1,4 @@
 pub mod Loose
 pub mod Extends
 pub mod Strand
+pub mod Pushed

@@ -10,4 +10,4 @@ mod strands;
 mod thread_calls;
 
 pub use calls::make_call_by_main;
-pub use thread_calls::make_call;
+pub use thread_calls::{make_call, make_direct_call};
