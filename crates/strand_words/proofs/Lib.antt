@@ -11,3 +11,4 @@ pub mod RequestLemmas
 pub mod MainLemmas
 pub mod GroupFindLemmas
 pub mod StrandUndoLemmas
+pub mod MemberLemmas

@@ -2,3 +2,4 @@ pub mod Loose
 pub mod Extends
 pub mod Strand
 pub mod Pushed
+pub mod Member

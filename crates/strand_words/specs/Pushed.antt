@@ -21,3 +21,11 @@ pub record PushesStrand (a b : CoreParts) (id : TableId GroupKey) (group : TaskG
   pub first_at : first.rep ≡ next_place a.threads
   pub task_at : task.rep ≡ next_place a.calls
   pub only : b ≡ record a { threads = b.threads; calls = b.calls; groups = b.groups; made = record a.made { threads = a.made.threads + 1 }; kept = record a.kept { used = a.kept.used + 3; interesting = a.kept.interesting + 1 } }
+
+-- A thread more of this call.
+pub record PushesThread (a b : CoreParts) (id : TableId GuestTaskKey) (call : GuestTask) (new : TableId ThreadKey) : Type 0 where
+  pub thread : GuestThread
+  pub threads : b.threads ≡ pushed (entry_of thread) a.threads
+  pub calls : b.calls ≡ with_entry id.rep (entry_of (record call { threads = call.threads + 1 })) a.calls
+  pub thread_at : new.rep ≡ next_place a.threads
+  pub only : b ≡ record a { threads = b.threads; calls = b.calls; made = record a.made { threads = a.made.threads + 1 }; kept = record a.kept { used = a.kept.used + 2 } }

@@ -104,7 +104,7 @@ fn add_main_strand(
     requires room { fits 4 (seen parts.old).core ≡ true }
     requires caller { request.caller ≡ callers.Main }
     requires there { IsSome (get (seen parts.old).core.instances request.callee.instance) }
-    requires result { IsSome (lookup (is_at (nat_cmp (parts.old.made.threads + 1))) parts.old.results.entries) }
+    requires result { request.goal ≡ goals.Main → IsSome (lookup (is_at (nat_cmp (parts.old.made.threads + 1))) parts.old.results.entries) }
     requires loose { AreStrandLoose (bare (parts_of parts.old)) nodes.0 nodes.1 }
     ensures sound { IsSound parts.new }
     ensures thread { IfOk result (λ ids. thread_of (seen parts.new) ids.0 ≡ (seen parts.old).core.made.threads + 1) }
@@ -130,12 +130,13 @@ fn add_main_strand(
     }
 }
 
-/// Makes a group, a call by main in it, with room for its result, and the call's first thread. Where
-/// memory is wanting, all is as before.
+/// Makes a group, a call by main in it, with room for a result that goes to main, and the call's
+/// first thread. Where memory is wanting, all is as before.
 pub fn make_call_by_main(
     parts: &mut CoreParts,
     callee: Callee,
     kind: ExportKind,
+    goal: Goal,
     words: &[u64],
 ) -> Result<(ThreadId, CallId), NoMemory>
     requires sound { IsSound parts.old }
@@ -147,7 +148,7 @@ pub fn make_call_by_main(
     ensures sound { IsSound parts.new }
     ensures thread { IfOk result (λ ids. thread_of (seen parts.new) ids.0 ≡ next_thread (seen parts.old).core) }
     ensures call { IfOk result (λ ids. call_of (seen parts.new) ids.1 ≡ next_thread (seen parts.old).core) }
-    ensures core { OnOk result ((seen parts.new).core ≡ call_made callers.Main callee kind goals.Main ((seen parts.old).core.made.groups + 1) words.now (add_group (seen parts.old).core)) }
+    ensures core { OnOk result ((seen parts.new).core ≡ call_made callers.Main callee kind goal ((seen parts.old).core.made.groups + 1) words.now (add_group (seen parts.old).core)) }
     ensures current { (seen parts.new).current ≡ (seen parts.old).current }
     ensures tags { Keeps (seen parts.old).tags (seen parts.new).tags }
     ensures err { OnErr result (seen parts.new ≡ seen parts.old) }
@@ -157,9 +158,9 @@ pub fn make_call_by_main(
         maker: 0,
         callee,
         kind,
-        goal: Goal::Main,
+        goal,
     };
-    match prepare(parts, request.goal) {
+    match prepare(parts, goal) {
         Ok(nodes) => match add_main_strand(parts, request, words, nodes) {
             Ok(ids) => Ok(ids),
             Err(why) => Err(why),
