@@ -12,3 +12,4 @@ pub mod MainLemmas
 pub mod GroupFindLemmas
 pub mod StrandUndoLemmas
 pub mod MemberLemmas
+pub mod MemberAddLemmas
