@@ -65,9 +65,9 @@ fn push_thread(
     requires loose { AreThreadLoose (bare (parts_of parts.old)) (record { node = thread.node; mark = thread.mark; shelf = thread.shelf; caller = thread.caller; callers = thread.callers; under = thread.under }) }
     requires unnamed { thread.thread.handle ≡ None }
     ensures sound { IsSound parts.new }
-    ensures thread { IfOk result (λ id. thread_of (seen parts.new) id ≡ parts.old.made.threads + 1) }
+    ensures thread { IfOk result (λ id. thread_of (seen parts.new) id ≡ next_thread (seen parts.old).core) }
     ensures core { OnOk result ((seen parts.new).core ≡ add_thread thread.thread (seen parts.old).core) }
-    ensures current { (seen parts.new).current ≡ (seen parts.old).current }
+    ensures current { OnOk result ((seen parts.new).current ≡ (seen parts.old).current) }
     ensures tags { OnOk result (Keeps (seen parts.old).tags (seen parts.new).tags) }
     ensures pushes { IfOk result (λ id. PushesThread parts.old parts.new task call id) }
     ensures err { OnErr result (parts.new ≡ parts.old) }
