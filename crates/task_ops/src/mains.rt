@@ -54,6 +54,7 @@ pub fn start<W: Words>(
     ensures meets { IfOk result (λ acted. (c : Component) → export_kind c callee ≡ kind → MainMeets (main_row c line (W.view w.old).core (Start callee words.now)) (W.view w.old).core acted (W.view w.new).core) }
     ensures tags { Keeps (W.view w.old).tags (W.view w.new).tags }
     ensures current { (W.view w.new).current ≡ (W.view w.old).current }
+    ensures asked { OnErr result (start_refusal (W.view w.old).core ≡ None) }
     ensures err { OnErr result (W.view w.new ≡ W.view w.old) }
 {
     if let Some(trap) = start_refusal(w) {
