@@ -1,5 +1,4 @@
 -- Order hangs neither on limits, nor on groups, nor on whether the store is trapped.
-use Rattle.std.proofs.Common.{refl}
 use Rattle.std.specs.Prelude.{Bool, List, ℕ, ◌≡◌}
 use Rattle.task_laws.specs.Order.{InOrder, JoinNamed}
 use Rattle.task_machine.specs.Core.{Core, Main}

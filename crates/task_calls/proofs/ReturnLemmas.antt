@@ -1,7 +1,7 @@
 -- What a return needs of the running thread, and what it comes to.
-use Rattle.std.proofs.Common.{ap, ap₂, arith, refl, subst, sym, ◌∙◌}
+use Rattle.std.proofs.Common.{ap, ap₂, arith, ◌∙◌}
 use Rattle.std.proofs.lemmas.Bool.Decides.{nat_tests}
-use Rattle.std.specs.Prelude.{Bool, None, Option, Some, false, length, not, true, ℕ, ◌+◌, ◌<◌, ◌^◌, ◌≡◌, ◌≤◌}
+use Rattle.std.specs.Prelude.{Bool, Option, false, not, true, ℕ, ◌+◌, ◌<◌, ◌^◌, ◌≡◌}
 use Rattle.task_calls.specs.Calls.{Returned, Returns, answer_of}
 use Rattle.task_machine.specs.Core.{Core, Unscripted}
 use Rattle.task_machine.specs.Labels.{ret_label}
@@ -14,7 +14,7 @@ use Rattle.task_machine.specs.declared.trap.Trap.TheVariants as trap
 use Rattle.task_ops.specs.Came.{Meets}
 use Rattle.task_ops.specs.declared.came.Came.{Came}
 use Rattle.task_rules.specs.Ends.{may_tell}
-use Rattle.task_rules.specs.Progress.{Goes, Progress, Traps, may, trap_if}
+use Rattle.task_rules.specs.Progress.{Goes, Traps, may, trap_if}
 use Rattle.task_rules.specs.Task.{ret_bad_row, ret_done, ret_row}
 use Rattle.task_turns.specs.Covered.{IsCovered}
 use Rattle.task_turns.specs.Runner.{Runner}
@@ -46,8 +46,11 @@ module _ (s t : StateView) (tags : t.tags ≡ s.tags) (current : t.current ≡ s
   row false false false x y l new m h = absurd h
 
   pub returned : (n v : ℕ) (w : Option ℕ) → Meets (ret_row n v w s.core) s.core r t.core → Returns n v true s (answer_of r) t
-  returned n v w h = (w, row (has_ended (task_of n s.core) s.core) (not (is_async_lifted (kind_of (task_of n s.core) s.core))) (may_tell (task_of n s.core) w s.core)
-      trap.TaskCancelOrReturnTwice trap.TaskReturnInvalid (ret_label n v w) (ret_done n v w s.core) n h)
+  returned n v w h = (
+    w,
+    row (has_ended (task_of n s.core) s.core) (not (is_async_lifted (kind_of (task_of n s.core) s.core))) (may_tell (task_of n s.core) w s.core)
+        trap.TaskCancelOrReturnTwice trap.TaskReturnInvalid (ret_label n v w) (ret_done n v w s.core) n h,
+  )
 
   pub refused : (n v : ℕ) → Meets (ret_bad_row n s.core) s.core r t.core → Returns n v false s (answer_of r) t
   refused n v h = go (has_ended (task_of n s.core) s.core) h

@@ -4,7 +4,9 @@
 mod error;
 mod hosts;
 mod returns;
+mod tasks;
 
 pub use error::TaskError;
 pub use hosts::{finish_call, start_call};
 pub use returns::task_return;
+pub use tasks::{QualifiedThreadId, is_live, new_guest_task};

@@ -12,7 +12,7 @@ ghost use Rattle.task_rules.specs.Scripts.{export_kind, host_at};
 ghost use Rattle.task_rules.specs.Stalled.{deadlock_trap};
 ghost use Rattle.task_words.specs.StateView.{Keeps, on_core, work_of};
 
-use task_machine::{Callee, ExportKind, HostDef, LoopLabel, MainLabel, Phase, Trap};
+use task_machine::{Callee, ExportKind, Goal, HostDef, LoopLabel, MainLabel, Phase, Trap};
 use task_moves::put_high;
 use task_words::{NoMemory, WhyId, Words, WorkId};
 
@@ -61,7 +61,7 @@ pub fn start<W: Words>(
         w.set_trapped();
         return Ok(Acted::Does(MainLabel::StartRefused(trap, line)));
     }
-    let (thread, _) = w.make_call_by_main(callee, kind, words)?;
+    let (thread, _) = w.make_call_by_main(callee, kind, Goal::Main, words)?;
     put_high(w, thread, WhyId::Start);
     Ok(Acted::Does(MainLabel::Start(line, w.number(thread))))
 }

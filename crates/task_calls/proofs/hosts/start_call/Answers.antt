@@ -1,4 +1,4 @@
-use Rattle.std.proofs.Common.{ap, subst, sym, ◌∙◌}
+use Rattle.std.proofs.Common.{subst, sym}
 use Rattle.task_machine.specs.Core.{Unscripted}
 use Rattle.task_calls.proofs.CallLemmas.{found_kind, found_words, in_order, refused, started, wanting}
 use Rattle.task_calls.proofs.ApartLemmas.{trap_in_order}
