@@ -3,3 +3,4 @@ pub mod TrapLemmas
 pub mod BesideLemmas
 pub mod ResultLemmas
 pub mod ScanLemmas
+pub mod MemberLemmas

@@ -37,6 +37,9 @@ module _ {X : Type 0} (k : ℕ) where
 less_groups : (u g l m a b c d : ℕ) → u ≡ l + a + 2 * b + c + d → g ≡ l → m ≡ 0 → u - g ≡ m + a + 2 * b + c + d
 less_groups u g l m a b c d used groups none = omega (arith, used, groups, none)
 
+all_made : (n : ℕ) → n ≤ n
+all_made n = omega arith
+
 abbrev pub after_trap : Parts → Parts
 after_trap p = beside p p.made.groups (record p.kept { used = p.kept.used - p.kept.groups; groups = 0 }) p.results
 
@@ -51,6 +54,7 @@ module _ (p : Parts) (none : filter (nat_lt p.made.groups) (numbers (records gro
         live = whole.counted.kept.live;
       })
       whole.counted.results
+      (all_made p.made.groups)
 
 module _ (a : CoreParts) (sound : IsSound a) where
   none_left : filter (nat_lt a.made.groups) (numbers (records group_key a.groups.places)) ≡ []

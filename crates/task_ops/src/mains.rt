@@ -1,6 +1,7 @@
 //! The ops of main, and the deadlock.
-ghost use Rattle.std.specs.Prelude.{◌≡◌, ◌+◌, ◌<◌, ◌≤◌, ◌^◌, IfOk, None, OnErr, Some, length, ℕ};
+ghost use Rattle.std.specs.Prelude.{◌≡◌, ◌+◌, ◌<◌, ◌≤◌, ◌^◌, IfOk, IsSome, None, OnErr, Some, length, ℕ};
 ghost use Rattle.task_machine.specs.Core.{Began, Refused};
+ghost use Rattle.task_machine.specs.Maps.{get};
 ghost use Rattle.task_machine.specs.Write.{set_trapped};
 ghost use Rattle.task_machine.specs.declared.component.Component.{Component};
 ghost use Rattle.task_machine.specs.declared.label.LoopLabel.TheVariants as loop_labels;
@@ -48,6 +49,7 @@ pub fn start<W: Words>(
     words: &[u64],
 ) -> Result<Acted, NoMemory>
     requires placed { Placed (W.view w.old).core }
+    requires there { IsSome (get (W.view w.old).core.instances callee.instance) }
     requires words { length words.now ≤ 16 }
     requires few { (W.view w.old).core.made.threads + 1 < 2 ^ 64 }
     requires groups { (W.view w.old).core.made.groups + 1 < 2 ^ 64 }

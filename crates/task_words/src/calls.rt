@@ -1,4 +1,4 @@
-ghost use Rattle.std.specs.Prelude.{◌≡◌, ◌+◌, ◌<◌, ◌≤◌, ◌^◌, IfOk, OnErr, OnOk, false, length, true};
+ghost use Rattle.std.specs.Prelude.{◌≡◌, ◌+◌, ◌<◌, ◌≤◌, ◌^◌, IfOk, IsSome, OnErr, OnOk, false, length, true};
 ghost use Rattle.std.specs.Option.{option_map_or};
 ghost use Rattle.task_machine.specs.Maps.{get};
 ghost use Rattle.task_machine.specs.Moves.{group_settled, is_deletable, is_finished};
@@ -104,6 +104,7 @@ pub trait CallWords: View {
         words: &[u64],
     ) -> Result<(ThreadId, CallId), NoMemory>
         requires live { 0 < thread_of (Self.view self.old) thread }
+        requires there { IsSome (get (Self.view self.old).core.instances callee.instance) }
         requires words { length words.now ≤ 16 }
         requires few { (Self.view self.old).core.made.threads + 1 < 2 ^ 64 }
         requires room { fits 3 (Self.view self.old).core ≡ true }
@@ -124,6 +125,7 @@ pub trait CallWords: View {
         words: &[u64],
     ) -> Result<(ThreadId, CallId), NoMemory>
         requires live { 0 < thread_of (Self.view self.old) thread }
+        requires there { IsSome (get (Self.view self.old).core.instances callee.instance) }
         requires words { length words.now ≤ 16 }
         requires few { (Self.view self.old).core.made.threads + 1 < 2 ^ 64 }
         requires room { fits 3 (Self.view self.old).core ≡ true }
@@ -144,6 +146,7 @@ pub trait CallWords: View {
         goal: Goal,
         words: &[u64],
     ) -> Result<(ThreadId, CallId), NoMemory>
+        requires there { IsSome (get (Self.view self.old).core.instances callee.instance) }
         requires words { length words.now ≤ 16 }
         requires few { (Self.view self.old).core.made.threads + 1 < 2 ^ 64 }
         requires groups { (Self.view self.old).core.made.groups + 1 < 2 ^ 64 }

@@ -1,0 +1,3 @@
+pub mod Loose
+pub mod Extends
+pub mod Strand
