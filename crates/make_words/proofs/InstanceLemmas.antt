@@ -217,7 +217,7 @@ module _ (p : Parts) (whole : IsWhole p) (r : InstanceRecord) (loose : AreLoose 
       finished = whole.counted.finished;
       high = λ some. high;
       low = λ some. low;
-      works = λ rep q at. high;
+      works = whole.counted.works;
       results = whole.counted.results;
     };
   }

@@ -135,7 +135,7 @@ pub record AreCounted (p : Parts) : Type 0 where
   pub finished : p.finished ≤ p.made.groups
   pub high : (p.instances ≡ [] → ⊥) → IsSome p.high
   pub low : (p.instances ≡ [] → ⊥) → IsSome p.low
-  pub works : EachEntry (λ (w : HostWork). IsSome p.high) p.works
+  pub works : EachEntry (λ (w : HostWork). IsSome p.high × IsSome p.live) p.works
   pub results : (k : ℕ) (c : Call) → get (core_of p).calls k ≡ Some c → c.goal ≡ goal.Main → IsSome (lookup (is_at (nat_cmp k)) p.results)
 
 pub record IsWhole (p : Parts) : Type 0 where

@@ -1,0 +1,4 @@
+pub mod WalkLemmas
+pub mod LeastLemmas
+pub mod ChainLemmas
+pub mod PollLemmas
