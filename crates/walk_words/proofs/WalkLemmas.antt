@@ -44,6 +44,9 @@ module _ {P : Type 0} where
     split : entries links c ≡ (walk.front ++ e ∷ []) ++ rest.0
     split = whole ∙ sym (append_assoc walk.front (e ∷ []) rest.0)
 
+    pub walk_good : {X : Type 0} → ((b : List (ℕ × P)) → Good (e ∷ b) → X) → X
+    walk_good use_of = use_of rest.0 (subst Good rest.1 walk.good)
+
     -- the node that was come to is in the chain
     pub walk_link : (v : P) × (link_of links e.0 ≡ Some (c, v))
     walk_link = sound.entered e.0 c (subst (In e.0) (sym whole) (In-here e walk.front rest.0))
