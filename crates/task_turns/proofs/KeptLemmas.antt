@@ -28,7 +28,7 @@ use Rattle.task_rules.specs.Turns.{at_turn}
 use Rattle.task_turns.specs.Kept.{FinishInOrder, MadeInOrder, RefusalInOrder, StartInOrder}
 use Rattle.task_turns.specs.Turn.{Sits, state_at}
 
-abbrev setting : Component → Setting
+abbrev pub setting : Component → Setting
 setting c = record { component = c; script = []; idle = idle_line.Wait }
 
 pub made_in_order : MadeInOrder
