@@ -53,6 +53,9 @@ at_turn_of c s m k p q runs o = record {
   works = o.works;
   awaited = o.awaited;
   fits = o.fits;
+  names = o.names;
+  calls = o.calls;
+  unbegun = o.unbegun;
 }
 
 -- an act of main that takes no running thread away
