@@ -56,10 +56,11 @@ module _ (a : CoreParts) (sound : IsSound a) (m : BTreeMap ℕ (Option ℕ)) whe
   unfolding IsSound table_use
   results_sound rooms = record {
     tables = record { threads = sound.tables.threads; calls = sound.tables.calls; works = sound.tables.works; sets = sound.tables.sets; groups = sound.tables.groups };
-    whole = beside_whole (bare (parts_of a)) a.finished (bare (parts_of a)).kept m.entries sound.whole
+    whole = beside_whole (bare (parts_of a)) a.finished (bare (parts_of a)).kept m.entries a.capacity sound.whole
         (record { used = sound.whole.counted.kept.used; groups = sound.whole.counted.kept.groups; live = sound.whole.counted.kept.live })
         (λ k c at main. rooms k (sound.whole.counted.results k c at main))
-        sound.whole.counted.finished;
+        sound.whole.counted.finished
+        sound.whole.counted.few;
     interesting = sound.interesting;
     moving = sound.moving;
     handles = sound.handles;

@@ -5,6 +5,7 @@
 mod limits;
 mod members;
 mod results;
+mod settings;
 mod stalls;
 mod works;
 
@@ -17,5 +18,6 @@ pub use members::{
     threads,
 };
 pub use results::{give_result, make_room, result, take_result};
+pub use settings::{capacity, handle_limit, set_capacity, set_handle_limit, used};
 pub use stalls::some_may_not_suspend;
 pub use works::{has_live_work, has_moving_work, is_moving, recounted, set_course, set_phase};

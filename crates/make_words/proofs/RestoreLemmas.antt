@@ -2,7 +2,7 @@
 use Rattle.std.proofs.Common.{inl, inr, ◌≡◌, ◌+◌, ◌-◌, ◌<◌, ℕ, List, [], ◌∷◌, Option, Some, None, IfSome, IsSome, cond, map, slice_get, suc, refl, sym, ap, ap₂, subst, ◌∙◌, arith}
 use Rattle.std.proofs.lemmas.Bool.{cases_eq, eq-eqb, ne_eqb}
 use Rattle.std.specs.Option.{option_map}
-use Rattle.make_words.proofs.MoreLemmas.{IsRows-known}
+use Rattle.make_words.proofs.MoreLemmas.{IsRows-known, at_unwritten, at_written}
 use Rattle.make_words.proofs.UndoLemmas.{tags_same}
 use Rattle.make_words.specs.Restored.{IsRestored, Restores}
 use Rattle.task_handles.specs.declared.kinds.HandleKind.{HandleKind}
@@ -39,11 +39,12 @@ use Rattle.task_records.specs.declared.threads.Queued.{Queued}
 use Rattle.task_records.specs.declared.works.HostWork.{HostWork}
 use Rattle.task_rules.specs.Works.{is_moving}
 use Rattle.task_machine.specs.declared.records.Call.{Call}
-use Rattle.task_table.proofs.Laws.{children_of-deleted, children_of-pushed, next_place_free, place_at-deleted, place_at-pushed}
+use Rattle.task_table.proofs.Laws.{children_of-deleted, children_of-pushed, children_of-with_entry, next_place_free, place_at-deleted, place_at-pushed}
 use Rattle.task_table.proofs.MappedLemmas.{place_at-mapped}
 use Rattle.task_table.proofs.RecordLemmas.{get-records}
+use Rattle.task_table.proofs.TableLemmas.{IsTable-with_entry}
 use Rattle.task_table.specs.Answers.{item_at, item_in}
-use Rattle.task_table.specs.Changes.{deleted, next_place, pushed}
+use Rattle.task_table.specs.Changes.{deleted, next_place, pushed, with_entry}
 use Rattle.task_table.specs.Mapped.{mapped, placed_as}
 use Rattle.task_table.specs.Records.{found_record, key_in, number_in, or_record, record_at, records}
 use Rattle.task_table.specs.Table.{IsTable, Placed, Table, children_of, found, of_serial, place_at, standing}
@@ -301,3 +302,28 @@ restored_from p q t k w x g is rt rk rw_ rx rg = record {
 pub item_restored : {T : Type 0} (t u : Table (Single T)) → Restores t u → (rep serial : ℕ) → item_at item_of u rep serial ≡ item_at item_of t rep serial
 unfolding found
 item_restored t u back rep serial = ap (λ o. item_in item_of (of_serial serial o)) (back.places rep)
+
+-- what was written is written back
+module _ {T : Type 0} (t u v : Table (Single T)) (rep : ℕ) (q : Placed (Single T)) (at : place_at t rep ≡ Some q) (g h : T) (was : q.entry ≡ record { item = g }) (is : u ≡ with_entry rep (record { item = h }) t) (back : v ≡ with_entry rep (record { item = g }) u) (table : IsTable t) where
+  there : place_at u rep ≡ Some (record q { entry = record { item = h } })
+  there = ap (λ (w : Table (Single T)). place_at w rep) is ∙ at_written t rep q at h
+
+  pub Restores-written : Restores t v
+  Restores-written = record {
+    table = subst IsTable (sym back) (IsTable-with_entry u rep (record { item = g }) (record q { entry = record { item = h } }) there (subst IsTable (sym is) (IsTable-with_entry t rep (record { item = h }) q at table)));
+    places = λ r. elim (cases_eq r rep) [
+      | inl same ↦
+          ap (place_at v) same
+          ∙ (ap (λ (w : Table (Single T)). place_at w rep) back
+          ∙ (at_written u rep (record q { entry = record { item = h } }) there g
+          ∙ (ap (λ (e : Single T). Some (record q { entry = e })) (sym was) ∙ sym (ap (place_at t) same ∙ at))))
+      | inr other ↦
+          ap (λ (w : Table (Single T)). place_at w r) back
+          ∙ (at_unwritten u rep (record q { entry = record { item = h } }) there g r other
+          ∙ (ap (λ (w : Table (Single T)). place_at w r) is ∙ at_unwritten t rep q at h r other))
+    ];
+    children = λ r.
+        ap (λ (w : Table (Single T)). children_of w r) back
+        ∙ (children_of-with_entry u rep r (record { item = g }) (record q { entry = record { item = h } }) there
+        ∙ (ap (λ (w : Table (Single T)). children_of w r) is ∙ children_of-with_entry t rep r (record { item = h }) q at));
+  }

@@ -10,3 +10,6 @@ pub mod GroupPushLemmas
 pub mod RequestLemmas
 pub mod MainLemmas
 pub mod GroupFindLemmas
+pub mod StrandUndoLemmas
+pub mod MemberLemmas
+pub mod MemberAddLemmas

@@ -1,21 +1,26 @@
 -- The records that a request makes are a call and its first thread.
-use Rattle.std.proofs.Common.{◌≡◌, ◌+◌, ℕ, false, List, None, Option, Some, IsSome, map, slice_get, refl, sym, ap, ap₂, subst, ◌∙◌}
+use Rattle.std.proofs.Common.{◌≡◌, ◌+◌, ℕ, Bool, true, false, cond, is_some, List, None, Option, Some, IsSome, map, slice_get, refl, sym, ap, ap₂, subst, ◌∙◌}
+use Rattle.std.proofs.lemmas.Bool.{eq-eqb}
 use Rattle.std.proofs.lemmas.Option.{slice_get-map}
 use Rattle.std.specs.BTreeMap.{is_at}
 use Rattle.std.specs.Map.{lookup}
-use Rattle.std.specs.Option.{option_map}
+use Rattle.std.specs.Option.{option_map, option_map_or}
 use Rattle.std.specs.Ordering.{nat_cmp}
+use Rattle.strand_words.specs.Member.{IsMember}
 use Rattle.strand_words.specs.Strand.{IsStrand}
 use Rattle.strand_words.specs.declared.records.Request.{Request}
 use Rattle.task_machine.specs.Core.{Core}
-use Rattle.task_machine.specs.Maps.{get}
+use Rattle.task_machine.specs.Maps.{get, get-insert}
+use Rattle.task_machine.specs.Read.{call_instance, instance_of, no_callee}
 use Rattle.task_machine.specs.Write.{add_call, add_thread}
 use Rattle.task_machine.specs.declared.records.Call.{Call}
 use Rattle.task_machine.specs.declared.records.Goal.TheVariants as goal
+use Rattle.task_machine.specs.declared.records.Script.{Script}
 use Rattle.task_machine.specs.declared.records.Script.TheVariants as script
 use Rattle.task_machine.specs.declared.records.Thread.{Thread}
 use Rattle.task_records.proofs.HomeLemmas.{place_in_bare}
-use Rattle.task_records.proofs.InstanceReads.{instance_read}
+use Rattle.task_records.proofs.InstanceReads.{handles_read, instance_read}
+use Rattle.task_records.specs.Instances.{handle_table, named_of}
 use Rattle.task_records.specs.Kinds.{on_item}
 use Rattle.task_records.specs.Names.{AtPlace, caller_target}
 use Rattle.task_records.specs.Seen.{parts_of, seen}
@@ -38,11 +43,14 @@ module _ (a : CoreParts) (i : ℕ) where
   some_mapped f (Some x) some = refl
 
   -- an instance that is there is there where the parts are bare
+  item_within : IsSome (slice_get a.instances.items i) → IsSome (slice_get (bare (parts_of a)).instances i)
+  item_within some = subst (λ (x : Option InstanceRecord). IsSome x) (sym (slice_get-map bare_instance a.instances.items i)) (some_mapped bare_instance (slice_get a.instances.items i) some)
+
   pub bare_within : IsSome (get (seen a).core.instances i) → IsSome (slice_get (bare (parts_of a)).instances i)
-  bare_within there =
-      let o = slice_get a.instances.items i in
-      subst (λ (x : Option InstanceRecord). IsSome x) (sym (slice_get-map bare_instance a.instances.items i))
-      (some_mapped bare_instance o (mapped_some (λ (r : InstanceRecord). r.instance) o (subst IsSome (sym (instance_read a i o refl)) there)))
+  bare_within there = let o = slice_get a.instances.items i in item_within (mapped_some (λ (r : InstanceRecord). r.instance) o (subst IsSome (sym (instance_read a i o refl)) there))
+
+  handles_within : IsSome (get (seen a).core.handles i) → IsSome (slice_get (bare (parts_of a)).instances i)
+  handles_within there = let o = slice_get a.instances.items i in item_within (mapped_some (λ (r : InstanceRecord). handle_table named_of r.handles) o (subst IsSome (sym (handles_read a i o refl)) there))
 
 module _ (a : CoreParts) (request : Request) (group : ℕ) (words : List ℕ) (c : GuestTask) (g : GuestThread)
     (call_number : c.number ≡ a.made.threads + 1) (call_is : c.call ≡ new_call request.caller request.callee request.kind request.goal group) (maker : c.maker ≡ request.maker) (one : c.threads ≡ 1)
@@ -74,3 +82,27 @@ module _ (a : CoreParts) (request : Request) (group : ℕ) (words : List ℕ) (c
   request_core s =
       ap (λ (t : Thread). add_thread t (add_call c.number c.call s)) thread_is
       ∙ ap₂ (λ (n : ℕ) (k : Call). add_thread (new_thread (a.made.threads + 1) false script.Start words None) (add_call n k s)) call_number call_is
+
+-- ---- A thread of a call that is there
+
+module _ (a : CoreParts) (k : ℕ) (c : GuestTask) (rep : ℕ) (x : Script) (words : List ℕ) (g : GuestThread)
+    (number : g.number ≡ a.made.threads + 1) (thread : g.thread ≡ new_thread c.number true x words None) (task : g.task ≡ rep) (instance : g.instance ≡ c.call.callee.instance) (found : Some c.call ≡ get (seen a).core.calls k) where
+  callee_is : c.call.callee.instance ≡ call_instance k (seen a).core
+  callee_is = ap (λ (o : Option Call). (option_map_or (λ (d : Call). d.callee) o no_callee).instance) found
+
+  pub request_member : is_some (get (seen a).core.handles (call_instance k (seen a).core)) ≡ true → IsMember (bare (parts_of a)) (bare_call c) rep (bare_thread g)
+  request_member there = record {
+    next = number;
+    of_call = ap (λ (t : Thread). t.call) thread;
+    unplaced = ap (λ (t : Thread). t.place) thread;
+    fresh = ap (λ (t : Thread). t.how_far) thread;
+    task = task;
+    instance = instance;
+    within = subst (λ (i : ℕ). IsSome (slice_get (bare (parts_of a)).instances i)) (sym (instance ∙ callee_is)) (handles_within a (call_instance k (seen a).core) there);
+  }
+
+pub member_instance : (t : Thread) (s : Core) → instance_of (s.made.threads + 1) (add_thread t s) ≡ call_instance t.call s
+unfolding add_thread
+member_instance t s =
+    let n = s.made.threads + 1 in
+    ap (λ (o : Option Thread). call_instance (option_map_or (λ (u : Thread). u.call) o 0) s) (get-insert s.threads n t n ∙ ap (λ (b : Bool). cond b (Some t) (get s.threads n)) (eq-eqb n n refl))

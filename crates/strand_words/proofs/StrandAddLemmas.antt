@@ -55,7 +55,7 @@ use Rattle.task_wait.specs.declared.keys.ThreadKey.{ThreadKey}
 use Rattle.task_words.specs.StateView.{Keeps, call_of, set_number, thread_of, work_number}
 
 -- few stand in a table
-places_few : {E X : Type 0} (key : E → Option (ℕ × X)) (t : Table E) → IsTable t → AreApart key t.places → length (records key t.places).list ≤ 4294967295
+pub places_few : {E X : Type 0} (key : E → Option (ℕ × X)) (t : Table E) → IsTable t → AreApart key t.places → length (records key t.places).list ≤ 4294967295
 unfolding size
 places_few key t table apart =
     let all : length (records key t.places).list ≤ table_len t = size-records-le key t apart in

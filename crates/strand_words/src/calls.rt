@@ -4,6 +4,7 @@ ghost use Rattle.std.specs.Ordering.{nat_cmp};
 ghost use Rattle.std.specs.Prelude.{◌≡◌, ◌+◌, ◌<◌, ◌≤◌, ◌^◌, IfOk, IsSome, Ok, OnErr, OnOk, length, true};
 ghost use Rattle.make_words.specs.Restored.{IsRestored};
 ghost use Rattle.strand_words.specs.Loose.{AreStrandLoose};
+ghost use Rattle.strand_words.specs.Pushed.{PushesStrand};
 ghost use Rattle.task_machine.specs.Maps.{get};
 ghost use Rattle.task_machine.specs.Read.{fits};
 ghost use Rattle.task_machine.specs.Write.{add_group};
@@ -13,15 +14,16 @@ ghost use Rattle.task_records.specs.Kinds.{item_of};
 ghost use Rattle.task_records.specs.Names.{AtPlace, caller_target};
 ghost use Rattle.task_records.specs.Seen.{IsSound, parts_of, seen};
 ghost use Rattle.task_records.specs.Sound.{bare};
-ghost use Rattle.task_rules.specs.Calls.{call_made, next_thread};
+ghost use Rattle.task_rules.specs.Calls.{call_made, next_thread, with_thread_handle};
 ghost use Rattle.task_table.specs.Answers.{item_at};
 ghost use Rattle.task_words.specs.StateView.{Keeps, call_of, thread_of};
 
 use crate::groups::{drop_group, push_group};
 use crate::nodes::{CallNodes, ThreadNodes, new_strand_nodes};
 use crate::records::{Request, call_record, new_call, new_thread, thread_record};
-use crate::strands::push_strand;
+use crate::strands::{drop_strand, push_strand};
 use count_words::make_room;
+use handle_words::name_thread;
 use task_machine::{Callee, Caller, ExportKind, Goal, NoMemory, Script};
 use task_records::{CoreParts, TaskGroup};
 use task_table::TableId;
@@ -53,6 +55,7 @@ pub fn add_strand(
     ensures core { OnOk result ((seen parts.new).core ≡ call_made request.caller request.callee request.kind request.goal group.number words.now (seen parts.old).core) }
     ensures current { OnOk result ((seen parts.new).current ≡ (seen parts.old).current) }
     ensures tags { OnOk result (Keeps (seen parts.old).tags (seen parts.new).tags) }
+    ensures pushes { IfOk result (λ ids. PushesStrand parts.old parts.new id group ids.0 ids.1) }
     ensures err { OnErr result (IsRestored (parts_of parts.old) (parts_of parts.new)) }
 {
     let number = parts.made.threads + 1;
@@ -101,7 +104,7 @@ fn add_main_strand(
     requires room { fits 4 (seen parts.old).core ≡ true }
     requires caller { request.caller ≡ callers.Main }
     requires there { IsSome (get (seen parts.old).core.instances request.callee.instance) }
-    requires result { IsSome (lookup (is_at (nat_cmp (parts.old.made.threads + 1))) parts.old.results.entries) }
+    requires result { request.goal ≡ goals.Main → IsSome (lookup (is_at (nat_cmp (parts.old.made.threads + 1))) parts.old.results.entries) }
     requires loose { AreStrandLoose (bare (parts_of parts.old)) nodes.0 nodes.1 }
     ensures sound { IsSound parts.new }
     ensures thread { IfOk result (λ ids. thread_of (seen parts.new) ids.0 ≡ (seen parts.old).core.made.threads + 1) }
@@ -127,12 +130,13 @@ fn add_main_strand(
     }
 }
 
-/// Makes a group, a call by main in it, with room for its result, and the call's first thread. Where
-/// memory is wanting, all is as before.
+/// Makes a group, a call by main in it, with room for a result that goes to main, and the call's
+/// first thread. Where memory is wanting, all is as before.
 pub fn make_call_by_main(
     parts: &mut CoreParts,
     callee: Callee,
     kind: ExportKind,
+    goal: Goal,
     words: &[u64],
 ) -> Result<(ThreadId, CallId), NoMemory>
     requires sound { IsSound parts.old }
@@ -144,7 +148,7 @@ pub fn make_call_by_main(
     ensures sound { IsSound parts.new }
     ensures thread { IfOk result (λ ids. thread_of (seen parts.new) ids.0 ≡ next_thread (seen parts.old).core) }
     ensures call { IfOk result (λ ids. call_of (seen parts.new) ids.1 ≡ next_thread (seen parts.old).core) }
-    ensures core { OnOk result ((seen parts.new).core ≡ call_made callers.Main callee kind goals.Main ((seen parts.old).core.made.groups + 1) words.now (add_group (seen parts.old).core)) }
+    ensures core { OnOk result ((seen parts.new).core ≡ call_made callers.Main callee kind goal ((seen parts.old).core.made.groups + 1) words.now (add_group (seen parts.old).core)) }
     ensures current { (seen parts.new).current ≡ (seen parts.old).current }
     ensures tags { Keeps (seen parts.old).tags (seen parts.new).tags }
     ensures err { OnErr result (seen parts.new ≡ seen parts.old) }
@@ -154,12 +158,51 @@ pub fn make_call_by_main(
         maker: 0,
         callee,
         kind,
-        goal: Goal::Main,
+        goal,
     };
-    match prepare(parts, request.goal) {
+    match prepare(parts, goal) {
         Ok(nodes) => match add_main_strand(parts, request, words, nodes) {
             Ok(ids) => Ok(ids),
             Err(why) => Err(why),
+        },
+        Err(why) => Err(why),
+    }
+}
+
+// A call of a group that is there, and its first thread with its handle. Where memory is wanting,
+// neither is there.
+pub fn add_named_strand(
+    parts: &mut CoreParts,
+    id: TableId<GroupKey>,
+    group: TaskGroup,
+    request: Request,
+    words: &[u64],
+    nodes: (CallNodes, ThreadNodes),
+) -> Result<(ThreadId, CallId), NoMemory>
+    requires sound { IsSound parts.old }
+    requires words { length words.now ≤ 16 }
+    requires few { (seen parts.old).core.made.threads + 1 < 2 ^ 64 }
+    requires room { fits 3 (seen parts.old).core ≡ true }
+    requires group { Ok group ≡ item_at item_of parts.old.groups id.rep id.serial }
+    requires caller { AtPlace (parts_of parts.old) request.maker (caller_target request.caller) }
+    requires there { IsSome (get (seen parts.old).core.instances request.callee.instance) }
+    requires result { request.goal ≡ goals.Main → IsSome (lookup (is_at (nat_cmp (parts.old.made.threads + 1))) parts.old.results.entries) }
+    requires loose { AreStrandLoose (bare (parts_of parts.old)) nodes.0 nodes.1 }
+    ensures sound { IsSound parts.new }
+    ensures thread { IfOk result (λ ids. thread_of (seen parts.new) ids.0 ≡ next_thread (seen parts.old).core) }
+    ensures call { IfOk result (λ ids. call_of (seen parts.new) ids.1 ≡ next_thread (seen parts.old).core) }
+    ensures core { OnOk result ((seen parts.new).core ≡ with_thread_handle request.callee.instance (next_thread (seen parts.old).core) (call_made request.caller request.callee request.kind request.goal group.number words.now (seen parts.old).core)) }
+    ensures current { OnOk result ((seen parts.new).current ≡ (seen parts.old).current) }
+    ensures tags { OnOk result (Keeps (seen parts.old).tags (seen parts.new).tags) }
+    ensures err { OnErr result (seen parts.new ≡ seen parts.old) }
+{
+    match add_strand(parts, id, group, request, words, nodes) {
+        Ok((first, task)) => match name_thread(parts, first) {
+            Ok(_) => Ok((first, task)),
+            Err(why) => {
+                drop_strand(parts, id, group, first, task);
+                Err(why)
+            }
         },
         Err(why) => Err(why),
     }

@@ -4,10 +4,12 @@
 
 mod calls;
 mod groups;
+mod members;
 mod nodes;
 mod records;
 mod strands;
 mod thread_calls;
 
 pub use calls::make_call_by_main;
-pub use thread_calls::make_call;
+pub use members::make_thread;
+pub use thread_calls::{make_call, make_direct_call};

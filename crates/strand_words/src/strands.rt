@@ -1,10 +1,11 @@
-ghost use Rattle.std.specs.Prelude.{◌≡◌, ◌+◌, ◌<◌, ◌^◌, IfOk, None, Ok, OnErr, OnOk, true};
+ghost use Rattle.std.specs.Prelude.{◌≡◌, ◌+◌, ◌-◌, ◌<◌, ◌≤◌, ◌^◌, IfOk, None, Ok, OnErr, OnOk, true};
 ghost use Rattle.make_words.specs.Restored.{IsRestored};
 ghost use Rattle.strand_words.specs.Loose.{AreStrandLoose};
+ghost use Rattle.strand_words.specs.Pushed.{PushesStrand};
 ghost use Rattle.strand_words.specs.Strand.{IsStrand};
 ghost use Rattle.task_machine.specs.Read.{fits};
 ghost use Rattle.task_machine.specs.Write.{add_call, add_thread};
-ghost use Rattle.task_records.specs.Keys.{call_key, group_key};
+ghost use Rattle.task_records.specs.Keys.{call_key, thread_key};
 ghost use Rattle.task_records.specs.Kinds.{entry_of, item_of};
 ghost use Rattle.task_records.specs.Seen.{IsSound, parts_of, seen};
 ghost use Rattle.task_records.specs.Sound.{bare, bare_call, bare_thread};
@@ -34,6 +35,36 @@ pub fn one_more(
         Ok(entry) => {
             entry.calls += 1;
         }
+        Err(_) => unreachable!(),
+    }
+}
+
+// One call less is of the group: as many as before one more was.
+pub fn one_less(
+    groups: &mut ResourceTable<Single<TaskGroup>>,
+    id: TableId<GroupKey>,
+    group: TaskGroup,
+)
+    requires item { Ok (record group { calls = group.calls + 1 }) ≡ item_at item_of groups.old id.rep id.serial }
+    ensures { groups.new ≡ with_entry id.rep (entry_of group) groups.old }
+{
+    match groups.get_mut(id) {
+        Ok(entry) => {
+            *entry = group;
+        }
+        Err(_) => unreachable!(),
+    }
+}
+
+// The record of a thread that was just pushed is gone.
+pub fn drop_thread(threads: &mut ResourceTable<Single<GuestThread>>, id: ThreadId)
+    requires live { 0 < number_of thread_key threads.old id.rep id.serial }
+    requires childless { children_of threads.old id.rep ≡ 0 }
+    ensures table { IsTable threads.new }
+    ensures deleted { threads.new ≡ deleted id.rep threads.old }
+{
+    match threads.delete(id) {
+        Ok(_) => {}
         Err(_) => unreachable!(),
     }
 }
@@ -76,6 +107,7 @@ pub fn push_strand(
     ensures core { OnOk result ((seen parts.new).core ≡ add_thread thread.thread (add_call call.number call.call (seen parts.old).core)) }
     ensures current { OnOk result ((seen parts.new).current ≡ (seen parts.old).current) }
     ensures tags { OnOk result (Keeps (seen parts.old).tags (seen parts.new).tags) }
+    ensures pushes { IfOk result (λ ids. PushesStrand parts.old parts.new id group ids.0 ids.1) }
     ensures err { OnErr result (IsRestored (parts_of parts.old) (parts_of parts.new)) }
 {
     match parts.calls.push::<GuestTaskKey>(call) {
@@ -98,4 +130,34 @@ pub fn push_strand(
         }
         Err(_) => Err(NoMemory),
     }
+}
+
+// The records of a call and of its first thread that were just pushed are gone.
+pub fn drop_strand(
+    parts: &mut CoreParts,
+    id: TableId<GroupKey>,
+    group: TaskGroup,
+    first: ThreadId,
+    task: CallId,
+)
+    requires sound { IsSound parts.old }
+    requires thread { 0 < thread_of (seen parts.old) first }
+    requires call { 0 < call_of (seen parts.old) task }
+    requires item { Ok (record group { calls = group.calls + 1 }) ≡ item_at item_of parts.old.groups id.rep id.serial }
+    requires made { 0 < parts.old.made.threads }
+    requires used { 3 ≤ parts.old.kept.used }
+    requires interesting { 0 < parts.old.kept.interesting }
+    ensures threads_table { IsTable parts.new.threads }
+    ensures calls_table { IsTable parts.new.calls }
+    ensures threads { parts.new.threads ≡ deleted first.rep parts.old.threads }
+    ensures calls { parts.new.calls ≡ deleted task.rep parts.old.calls }
+    ensures groups { parts.new.groups ≡ with_entry id.rep (entry_of group) parts.old.groups }
+    ensures only { parts.new ≡ record parts.old { threads = parts.new.threads; calls = parts.new.calls; groups = parts.new.groups; made = record parts.old.made { threads = parts.old.made.threads - 1 }; kept = record parts.old.kept { used = parts.old.kept.used - 3; interesting = parts.old.kept.interesting - 1 } } }
+{
+    drop_thread(&mut parts.threads, first);
+    drop_call(&mut parts.calls, task);
+    one_less(&mut parts.groups, id, group);
+    parts.made.threads -= 1;
+    parts.kept.used -= 3;
+    parts.kept.interesting -= 1;
 }

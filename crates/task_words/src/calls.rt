@@ -137,12 +137,13 @@ pub trait CallWords: View {
         ensures tags { Keeps (Self.view self.old).tags (Self.view self.new).tags }
         ensures err { OnErr result (Self.view self.new ≡ Self.view self.old) };
 
-    /// Makes a group, a call by main in it, with room for its result, and the call's first thread.
-    /// Where memory is wanting, all is as before.
+    /// Makes a group, a call without a calling thread in it, and the call's first thread. Where its
+    /// result is for main there is room for it. Where memory is wanting, all is as before.
     fn make_call_by_main(
         &mut self,
         callee: Callee,
         kind: ExportKind,
+        goal: Goal,
         words: &[u64],
     ) -> Result<(ThreadId, CallId), NoMemory>
         requires there { IsSome (get (Self.view self.old).core.instances callee.instance) }
@@ -152,7 +153,7 @@ pub trait CallWords: View {
         requires room { fits 4 (Self.view self.old).core ≡ true }
         ensures thread { IfOk result (λ ids. thread_of (Self.view self.new) ids.0 ≡ next_thread (Self.view self.old).core) }
         ensures call { IfOk result (λ ids. call_of (Self.view self.new) ids.1 ≡ next_thread (Self.view self.old).core) }
-        ensures core { OnOk result ((Self.view self.new).core ≡ call_made callers.Main callee kind goals.Main ((Self.view self.old).core.made.groups + 1) words.now (add_group (Self.view self.old).core)) }
+        ensures core { OnOk result ((Self.view self.new).core ≡ call_made callers.Main callee kind goal ((Self.view self.old).core.made.groups + 1) words.now (add_group (Self.view self.old).core)) }
         ensures current { (Self.view self.new).current ≡ (Self.view self.old).current }
         ensures tags { Keeps (Self.view self.old).tags (Self.view self.new).tags }
         ensures err { OnErr result (Self.view self.new ≡ Self.view self.old) };

@@ -119,3 +119,15 @@ returns-in-Err-clause-err c =
 pub returns-in-Err-clause-sound : goal.returns-in-Err-clause-sound
 unfolding IsSound
 returns-in-Err-clause-sound c = sound_restored (parts_of c.args.parts.now) _ (returns-in-Err-clause-err c) c.requires.sound
+
+pub returns-in-Ok-push-clause-pushes : goal.returns-in-Ok-push-clause-pushes
+returns-in-Ok-push-clause-pushes c = record {
+  thread = record c.args.thread { task = c.rep.result };
+  call = c.args.call;
+  threads = c.in-Ok-push.ensures.pushed;
+  calls = c.in-Ok.ensures.pushed;
+  groups = c.one_more.ensures;
+  first_at = c.in-Ok-push.ensures.rep;
+  task_at = c.in-Ok.ensures.rep;
+  only = refl;
+}

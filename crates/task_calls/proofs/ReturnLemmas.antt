@@ -1,0 +1,61 @@
+-- What a return needs of the running thread, and what it comes to.
+use Rattle.std.proofs.Common.{ap, ap₂, arith, ◌∙◌}
+use Rattle.std.proofs.lemmas.Bool.Decides.{nat_tests}
+use Rattle.std.specs.Prelude.{Bool, Option, false, not, true, ℕ, ◌+◌, ◌<◌, ◌^◌, ◌≡◌}
+use Rattle.task_calls.specs.Calls.{Returned, Returns, answer_of}
+use Rattle.task_machine.specs.Core.{Core, Unscripted}
+use Rattle.task_machine.specs.Labels.{ret_label}
+use Rattle.task_machine.specs.Read.{callee_of, has_ended, is_async_lifted, kind_of, position_of, task_of}
+use Rattle.task_machine.specs.declared.component.Component.{Component}
+use Rattle.task_machine.specs.declared.records.Turn.TheVariants as turn
+use Rattle.task_machine.specs.declared.label.Label.{Label}
+use Rattle.task_machine.specs.declared.trap.Trap.{Trap}
+use Rattle.task_machine.specs.declared.trap.Trap.TheVariants as trap
+use Rattle.task_ops.specs.Came.{Meets}
+use Rattle.task_ops.specs.declared.came.Came.{Came}
+use Rattle.task_rules.specs.Ends.{may_tell}
+use Rattle.task_rules.specs.Progress.{Goes, Traps, may, trap_if}
+use Rattle.task_rules.specs.Task.{ret_bad_row, ret_done, ret_row}
+use Rattle.task_turns.specs.Covered.{IsCovered}
+use Rattle.task_turns.specs.Runner.{Runner}
+use Rattle.task_turns.specs.Turn.{Sits}
+use Rattle.task_words.specs.StateView.{StateView, Tags, with_core}
+
+pub position_fits : (c : Component) → IsCovered c → (n k : ℕ) (s : StateView) → Sits c (turn.Run k) s.core → Runner n s → position_of n s.core + 1 < 2 ^ 32
+position_fits c covered n k s sits q =
+    let within = ((sits Unscripted).fits n q.thread q.here).position in
+    let short = covered.short (callee_of q.thread.call s.core) q.thread.script in
+    grind (arith, nat_tests, q.here, within, short)
+
+module _ (s t : StateView) (tags : t.tags ≡ s.tags) (current : t.current ≡ s.current) (r : Came) where
+  become : (new : Core) → t.core ≡ new → t ≡ with_core new s
+  become new is = ap₂ (λ (c : Core) (ts : Tags). record { core = c; tags = ts; current = t.current }) is tags ∙ ap (λ o. record { core = new; tags = s.tags; current = o }) current
+
+  goes : (l : Label) (new : Core) (m : ℕ) → Meets (Goes l new m) s.core r t.core → Returned (Goes l new m) s (answer_of r) t
+  goes l new m h = (ap answer_of h.0, become new h.1)
+
+  traps : (why : Trap) → Meets (Traps why) s.core r t.core → Returned (Traps why) s (answer_of r) t
+  traps why h = (ap answer_of h.0, become s.core h.1)
+
+  -- a row that goes on or traps
+  row : (a b d : Bool) (x y : Trap) (l : Label) (new : Core) (m : ℕ) → Meets (trap_if a x (trap_if b y (may d (Goes l new m)))) s.core r t.core →
+      Returned (trap_if a x (trap_if b y (may d (Goes l new m)))) s (answer_of r) t
+  row true b d x y l new m h = traps x h
+  row false true d x y l new m h = traps y h
+  row false false true x y l new m h = goes l new m h
+  row false false false x y l new m h = absurd h
+
+  pub returned : (n v : ℕ) (w : Option ℕ) → Meets (ret_row n v w s.core) s.core r t.core → Returns n v true s (answer_of r) t
+  returned n v w h = (
+    w,
+    row (has_ended (task_of n s.core) s.core) (not (is_async_lifted (kind_of (task_of n s.core) s.core))) (may_tell (task_of n s.core) w s.core)
+        trap.TaskCancelOrReturnTwice trap.TaskReturnInvalid (ret_label n v w) (ret_done n v w s.core) n h,
+  )
+
+  pub refused : (n v : ℕ) → Meets (ret_bad_row n s.core) s.core r t.core → Returns n v false s (answer_of r) t
+  refused n v h = go (has_ended (task_of n s.core) s.core) h
+    where
+      go : (b : Bool) → Meets (trap_if b trap.TaskCancelOrReturnTwice (Traps trap.TaskReturnInvalid)) s.core r t.core →
+          Returned (trap_if b trap.TaskCancelOrReturnTwice (Traps trap.TaskReturnInvalid)) s (answer_of r) t
+      go true h = traps _ h
+      go false h = traps _ h
