@@ -1,24 +1,22 @@
 -- The chain of an instance's held threads has just these.
-use Rattle.std.proofs.Common.{◌≡◌, ◌==◌, ◌&&◌, ◌||◌, ℕ, Bool, true, false, cond, not, filter, List, [], ◌∷◌, Option, Some, None, IsSome, is_some, slice_get, refl, sym, ap, ap₂, subst, ◌∙◌}
+use Rattle.std.proofs.Common.{◌≡◌, ◌==◌, ◌&&◌, ◌||◌, ℕ, Bool, true, false, cond, not, filter, List, [], ◌∷◌, Option, Some, None, IsSome, is_some, slice_get, refl, sym, ap, subst, ◌∙◌}
 use Rattle.std.proofs.lemmas.Bool.{eq-eqb, eqb-true}
 use Rattle.std.proofs.lemmas.List.Sorted.{list_any-IsPermutation}
 use Rattle.std.proofs.lemmas.Option.{same_Some, slice_get-map}
 use Rattle.std.specs.List.{list_any}
 use Rattle.std.specs.Option.{option_and_then, option_map, option_map_or}
-use Rattle.std.specs.Prelude.{IsPermutation, map}
+use Rattle.std.specs.Prelude.{map}
 use Rattle.task_index.proofs.Members.{IsMembers-nothing, admitted_permute}
 use Rattle.task_index.proofs.Walks.{IsMembers-walked}
 use Rattle.task_index.specs.Index.{Filing, Tests}
 use Rattle.task_index.specs.Members.{IsMembers, is_held_in}
-use Rattle.task_index.specs.Walks.{passes_at, passes_in}
+use Rattle.task_index.specs.Walks.{passes_in}
 use Rattle.task_links.specs.Links.{IsLinks}
 use Rattle.task_machine.specs.Maps.{get}
-use Rattle.task_machine.specs.Moves.{held_why_of}
-use Rattle.task_machine.specs.Read.{admitted_held, call_instance, held_why, instance_of, is_nil}
+use Rattle.task_machine.specs.Read.{admitted_held, call_instance, held_why, is_nil}
 use Rattle.task_machine.specs.declared.records.Place.{Place}
 use Rattle.task_machine.specs.declared.records.Place.TheVariants as place
 use Rattle.task_machine.specs.declared.records.Thread.{Thread}
-use Rattle.task_machine.specs.declared.records.Why.{Why}
 use Rattle.task_records.proofs.HomeLemmas.{bare_instance}
 use Rattle.task_records.specs.Keys.{thread_key}
 use Rattle.task_records.specs.Kinds.{on_item}
@@ -31,7 +29,7 @@ use Rattle.task_records.specs.declared.parts.CoreParts.{CoreParts}
 use Rattle.task_records.specs.declared.single.Single.{Single}
 use Rattle.task_records.specs.declared.threads.GuestThread.{GuestThread}
 use Rattle.task_table.proofs.RecordLemmas.{found_record_at, get-records, record_found}
-use Rattle.task_table.specs.Records.{key_in, number_in, record_at, records}
+use Rattle.task_table.specs.Records.{key_in, number_in, records}
 use Rattle.task_table.specs.Table.{Placed, place_at}
 use Rattle.place_words.proofs.FiledLemmas.{places_filed}
 use Rattle.queue_words.proofs.BareLemmas.{place_mapped}

@@ -3,3 +3,4 @@ pub mod LeastLemmas
 pub mod ChainLemmas
 pub mod PollLemmas
 pub mod HeldLemmas
+pub mod ReleaseLemmas

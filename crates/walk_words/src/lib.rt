@@ -6,7 +6,9 @@ mod admissions;
 mod chains;
 mod least;
 mod polls;
+mod releases;
 
 pub use admissions::has_admitted;
 pub use least::{blocked_on, under};
 pub use polls::next_polled;
+pub use releases::release;

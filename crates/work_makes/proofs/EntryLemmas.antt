@@ -1,5 +1,5 @@
 -- The push of a host work is queued.
-use Rattle.std.proofs.Common.{inl, inr, ◌≡◌, ◌++◌, ℕ, true, List, [], ◌∷◌, Option, Some, None, IsSome, refl, sym, ap, subst, ◌∙◌}
+use Rattle.std.proofs.Common.{inl, inr, ◌≡◌, ◌++◌, ℕ, true, List, [], ◌∷◌, Some, None, IsSome, refl, sym, ap, subst, ◌∙◌}
 use Rattle.std.specs.Option.{option_map}
 use Rattle.std.specs.Prelude.{Ok}
 use Rattle.queue_words.proofs.BareLemmas.{place_mapped}
@@ -14,8 +14,8 @@ use Rattle.task_machine.specs.declared.records.Entry.TheVariants as entry
 use Rattle.task_records.proofs.KindLemmas.{item_stands}
 use Rattle.task_records.proofs.ReadLemmas.{work_named}
 use Rattle.task_records.specs.Image.{Parts}
-use Rattle.task_records.specs.Kinds.{entry_of, item_of, on_item}
-use Rattle.task_records.specs.Rows.{High, IsSeated, Row, host_entry, push_entry, row}
+use Rattle.task_records.specs.Kinds.{item_of, on_item}
+use Rattle.task_records.specs.Rows.{High, IsSeated, host_entry, push_entry, row}
 use Rattle.task_records.specs.Seen.{IsSound, parts_of, seen}
 use Rattle.task_records.specs.Sound.{IsWhole, bare, bare_work}
 use Rattle.task_records.specs.declared.parts.CoreParts.{CoreParts}
@@ -23,7 +23,7 @@ use Rattle.task_records.specs.declared.single.Single.{Single}
 use Rattle.task_records.specs.declared.threads.Queued.{Queued}
 use Rattle.task_records.specs.declared.works.HostWork.{HostWork}
 use Rattle.task_table.specs.Answers.{item_at}
-use Rattle.task_table.specs.Table.{Placed, place_at}
+use Rattle.task_table.specs.Table.{Placed}
 use Rattle.task_table.specs.declared.id.TableId.{TableId}
 use Rattle.task_wait.specs.declared.keys.HostTaskKey.{HostTaskKey}
 use Rattle.task_words.specs.Apart.{work_entries}

@@ -1,5 +1,5 @@
 -- The chain of the live works is made: no work is there yet.
-use Rattle.std.proofs.Common.{inl, inr, ◌⊎◌, ◌≡◌, ℕ, List, [], Option, Some, None, IsSome, is_some, false, refl, sym, ap, subst, ◌∙◌}
+use Rattle.std.proofs.Common.{inl, ◌≡◌, ℕ, [], Option, Some, None, IsSome, is_some, false, refl, sym, ap, subst, ◌∙◌}
 use Rattle.make_words.proofs.LooseLemmas.{IsIndex-opened}
 use Rattle.task_index.specs.Index.{Filing, filings, said}
 use Rattle.task_links.specs.Links.{ChainOf, Renames, Unmade, list_of, spot_list}
@@ -7,7 +7,7 @@ use Rattle.task_machine.specs.Read.{table_use}
 use Rattle.task_records.specs.Image.{Parts}
 use Rattle.task_records.specs.Names.{HasHome, IsCallNamed, IsWorkNamed}
 use Rattle.task_records.specs.Places.{live_chain, live_work}
-use Rattle.task_records.specs.Seen.{IsSound, parts_of, seen}
+use Rattle.task_records.specs.Seen.{IsSound, parts_of}
 use Rattle.task_records.specs.Sound.{IsWhole, bare}
 use Rattle.task_records.specs.declared.calls.GuestTask.{GuestTask}
 use Rattle.task_records.specs.declared.parts.CoreParts.{CoreParts}

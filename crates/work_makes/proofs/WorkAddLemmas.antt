@@ -1,10 +1,10 @@
 -- A host work more, as a core: it is sound, and contracts see just that.
-use Rattle.std.proofs.Common.{inl, inr, ◌≡◌, ◌+◌, ◌==◌, ◌&&◌, ◌||◌, ◌<◌, ◌≤◌, ◌^◌, ℕ, suc, Bool, true, false, cond, not, List, [], ◌∷◌, map, Option, Some, None, IsSome, filter, length, is_some, nat_lt, refl, sym, ap, ap₂, subst, ◌∙◌, arith}
+use Rattle.std.proofs.Common.{inl, inr, ◌≡◌, ◌+◌, ◌==◌, ◌&&◌, ◌||◌, ◌<◌, ◌≤◌, ◌^◌, ℕ, suc, true, false, cond, not, List, [], ◌∷◌, map, Option, Some, None, IsSome, filter, length, is_some, nat_lt, refl, sym, ap, ap₂, subst, ◌∙◌, arith}
 use Rattle.std.proofs.lemmas.Bool.{eq-eqb, eqb-true, ne_eqb}
 use Rattle.std.proofs.lemmas.List.Sums.{count_by-le-length}
 use Rattle.std.specs.Option.{option_map_or}
-use Rattle.std.specs.Prelude.{Ok}
-use Rattle.make_words.proofs.MoreLemmas.{early, passing_more}
+use Rattle.make_words.proofs.MoreLemmas.{early, passing_more, table_bare}
+use Rattle.task_table.proofs.RecordCountLemmas.{size-records-le}
 use Rattle.make_words.proofs.RestoreLemmas.{handles_grown}
 use Rattle.place_words.specs.Moved.{Alike}
 use Rattle.queue_words.proofs.RowLemmas.{row_known}
@@ -12,28 +12,30 @@ use Rattle.queue_words.proofs.SeatLemmas.{seat_of}
 use Rattle.queue_words.specs.Seats.{is_entry_of_work}
 use Rattle.removal_words.proofs.BareTables.{sound_mapped}
 use Rattle.removal_words.proofs.GroupLemmas.{numbers_alike}
-use Rattle.removal_words.proofs.RewriteLemmas.{each_rewritten, each_there, rewritten_alike}
-use Rattle.removal_words.specs.Counted.{uncalled}
+use Rattle.removal_words.proofs.RewriteLemmas.{each_rewritten, rewritten_alike}
+use Rattle.removal_words.specs.Counted.{IsIn, uncalled}
 use Rattle.task_index.specs.Counts.{one_if_passes, passing}
 use Rattle.task_index.specs.Rows.{Each}
 use Rattle.task_machine.specs.Core.{Core}
-use Rattle.task_machine.specs.Maps.{Records, insert}
+use Rattle.task_machine.specs.Maps.{Records, size}
 use Rattle.task_machine.specs.Read.{is_aborted, is_host_call, is_never, is_stage_live}
 use Rattle.task_machine.specs.Write.{add_work, count_work}
 use Rattle.task_machine.specs.declared.records.Entry.{Entry}
 use Rattle.task_machine.specs.declared.records.Entry.TheVariants as entry
+use Rattle.task_machine.specs.declared.records.Call.{Call}
 use Rattle.task_machine.specs.declared.records.Work.{Work}
-use Rattle.task_records.proofs.KindLemmas.{table_written}
+use Rattle.task_records.proofs.KindLemmas.{item_stands, table_written}
 use Rattle.task_records.proofs.MakeLemmas.{number_kept, number_new, records_more, table_more}
 use Rattle.task_records.proofs.ReadLemmas.{work_shown}
 use Rattle.task_records.specs.Image.{Parts, core_of}
 use Rattle.task_records.specs.Kept.{IsGroupKept, calls_of, is_of_group}
-use Rattle.task_records.specs.Keys.{group_key, work_key}
-use Rattle.task_records.specs.Kinds.{entry_of, item_of, on_item}
-use Rattle.task_records.specs.Names.{AreHandlesNamed, AtPlace, Target, kinds}
+use Rattle.task_records.specs.Keys.{call_key, group_key, work_key}
+use Rattle.task_records.specs.declared.calls.GuestTask.{GuestTask}
+use Rattle.task_records.specs.Kinds.{on_item}
+use Rattle.task_records.specs.Names.{AtPlace, Target, kinds}
 use Rattle.task_records.specs.Rows.{High, IsSeated, row}
 use Rattle.task_records.specs.Seen.{IsSound, parts_of, seen}
-use Rattle.task_records.specs.Sound.{EachEntry, IsWhole, SoundTable, bare, bare_work, loose_work, unmoved}
+use Rattle.task_records.specs.Sound.{EachEntry, IsWhole, SoundTable, bare, bare_call, bare_work, loose_call, uninterested, loose_work, unmoved}
 use Rattle.task_records.specs.declared.calls.TaskGroup.{TaskGroup}
 use Rattle.task_records.specs.declared.parts.CoreParts.{CoreParts}
 use Rattle.task_records.specs.declared.parts.Kept.{Kept}
@@ -42,18 +44,17 @@ use Rattle.task_records.specs.declared.threads.Queued.{Queued}
 use Rattle.task_records.specs.declared.works.HostWork.{HostWork}
 use Rattle.task_rules.specs.Works.{is_moving}
 use Rattle.task_table.proofs.MappedLemmas.{mapped-pushed}
-use Rattle.task_table.specs.Answers.{item_at}
-use Rattle.task_table.specs.Changes.{next_place, pushed, with_entry}
+use Rattle.task_table.specs.Changes.{next_place, pushed}
 use Rattle.task_table.specs.Mapped.{mapped}
-use Rattle.task_table.specs.Records.{records}
-use Rattle.task_table.specs.Table.{IsTable, Table}
+use Rattle.task_table.specs.Records.{AreApart, records}
+use Rattle.task_table.specs.Table.{IsTable, Table, table_len}
 use Rattle.task_table.specs.declared.id.TableId.{TableId}
 use Rattle.task_wait.specs.declared.keys.GroupKey.{GroupKey}
 use Rattle.task_wait.specs.declared.keys.HostTaskKey.{HostTaskKey}
 use Rattle.task_words.specs.Apart.{work_entries}
 use Rattle.task_words.specs.StateView.{Keeps, call_number, set_number, thread_number, work_of}
-use Rattle.work_makes.proofs.WorkMoreLemmas.{at_more, more, more_whole, nodes_of, works_counted}
-use Rattle.work_makes.specs.Loose.{AreWorkLoose}
+use Rattle.work_makes.proofs.WorkMoreLemmas.{at_more, more, more_whole, works_counted}
+use Rattle.work_makes.specs.Loose.{AreWorkLoose, nodes_of}
 use Rattle.work_makes.specs.Raised.{IsWorkNext, Raises}
 
 abbrev number : HostWork → ℕ
@@ -68,9 +69,17 @@ group_number r = r.number
 abbrev group_calls : TaskGroup → ℕ
 group_calls r = r.calls
 
-pub few_with : (b : Bool) (u : ℕ) → u < 2 ^ 64 → (b ≡ true → u + 1 < 2 ^ 64) → u + cond b 1 0 < 2 ^ 64
-few_with true u few more = more refl
-few_with false u few more = omega arith
+-- few stand in a table
+places_few : {E X : Type 0} (key : E → Option (ℕ × X)) (t : Table E) → IsTable t → AreApart key t.places → length (records key t.places).list ≤ 4294967295
+unfolding size
+places_few key t table apart =
+    let all : length (records key t.places).list ≤ table_len t = size-records-le key t apart in
+    let places : table_len t ≤ length t.places = count_by-le-length is_some t.places in
+    let few = table.places_fit in
+    omega arith
+
+pub same_tags : (a b : CoreParts) → a ≡ b → Keeps (seen a).tags (seen b).tags
+same_tags a b same = subst (λ (x : CoreParts). Keeps (seen a).tags (seen x).tags) same (record { threads = λ t some. refl; calls = λ k some. refl; sets = λ x some. refl; works = λ w some. refl })
 
 module _ (a : CoreParts) (sound : IsSound a) where
   abbrev bared : Parts
@@ -104,6 +113,20 @@ module _ (a : CoreParts) (sound : IsSound a) where
         | inl seat ↦ ap (λ (x : Queued). work_entries (a.made.works + 1) (x.entry ∷ map (λ (y : Queued). y.entry) qs)) (sym seat.is) ∙ by_row qs known.1
         | inr seat ↦ by_entry q seat.placed.entry.item.number (early number machine bared.works a.made.works works_sound q.place seat.placed seat.at) q.entry seat.entry (map (λ (y : Queued). y.entry) qs) (by_row qs known.1)
       ]
+
+  pub groups_few : (r : TaskGroup) → IsIn r a.groups → r.calls + 1 < 2 ^ 64
+  unfolding IsSound
+  groups_few r there =
+      let placed = item_stands group_number group_calls a.groups a.made.groups groups_sound there.0 there.1.0 r there.1.1 in
+      let s = core_of bared in
+      let n = placed.0.entry.item.number in
+      let is : r.calls ≡ calls_of n s = sym (ap (λ (e : Single TaskGroup). e.item.calls) placed.1.1.1) ∙ whole.counted.groups there.0 placed.0 placed.1.0 in
+      let calls : passing (λ (d : Call). d.group == n) s.calls ≤ length s.calls.list = count_by-le-length (λ (e : ℕ × Call). e.1.group == n) s.calls.list in
+      let works : passing (is_of_group n) s.works ≤ length s.works.list = count_by-le-length (λ (e : ℕ × Work). is_of_group n e.1) s.works.list in
+      let bare_calls = table_bare (λ (c : GuestTask). c.number) (λ (c : GuestTask). c.call) a.calls a.made.threads sound.tables.calls bare_call (λ c. uninterested (loose_call c)) (λ c. refl) (λ c. refl) in
+      let few_calls = places_few call_key bared.calls bare_calls.table bare_calls.apart in
+      let few_works = places_few work_key bared.works works_sound.table works_sound.apart in
+      omega arith
 
   module _ (g : HostWork) (next : IsWorkNext bared (bare_work g)) (loose : AreWorkLoose bared (nodes_of g)) (high : IsSome a.high) (live : IsSome a.live) (groups : Table (Single TaskGroup)) (group : Option (TableId GroupKey)) (raises : Raises a.groups groups g.work.group group) (used : ℕ) (is_used : used ≡ a.kept.used + cond (is_host_call g.work) 1 0) where
     alike : Alike uncalled groups a.groups

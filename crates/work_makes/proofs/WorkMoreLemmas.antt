@@ -1,5 +1,5 @@
 -- Parts with one host work more, whose nodes and chain hung on nothing: they are whole.
-use Rattle.std.proofs.Common.{inl, inr, ◌⊎◌, ◌≡◌, ◌+◌, ◌==◌, ◌<◌, ◌≤◌, ℕ, Bool, true, false, cond, List, Option, Some, None, IsSome, filter, length, nat_lt, refl, sym, ap, subst, ◌∙◌, arith}
+use Rattle.std.proofs.Common.{inl, inr, ◌⊎◌, ◌≡◌, ◌+◌, ◌<◌, ℕ, Bool, false, cond, Option, Some, None, IsSome, filter, length, nat_lt, refl, sym, ap, subst, ◌∙◌, arith}
 use Rattle.std.proofs.lemmas.Bool.{cases_eq}
 use Rattle.make_words.proofs.FreshLemmas.{chain_new, chain_other, each_more}
 use Rattle.make_words.proofs.LooseLemmas.{IsIndex-opened}
@@ -11,18 +11,15 @@ use Rattle.removal_words.specs.Counted.{uncalled}
 use Rattle.strand_words.proofs.ThreadPushLemmas.{none_in_list}
 use Rattle.task_index.specs.Counts.{one_if_passes, passing}
 use Rattle.task_index.specs.Index.{filings}
-use Rattle.task_links.specs.Links.{Spot}
 use Rattle.task_machine.specs.Read.{is_host_call, is_in_set, is_live, is_stage_live, table_use}
 use Rattle.task_machine.specs.declared.records.Entry.{Entry}
 use Rattle.task_machine.specs.declared.records.Entry.TheVariants as entry
-use Rattle.task_machine.specs.declared.records.Join.TheVariants as join
-use Rattle.task_machine.specs.declared.records.Stage.TheVariants as stage
 use Rattle.task_machine.specs.declared.words.Status.{Status}
 use Rattle.task_machine.specs.declared.records.Subtask.TheVariants as subtask
 use Rattle.task_machine.specs.declared.records.Work.{Work}
-use Rattle.task_records.proofs.MakeLemmas.{records_more, stands_more}
+use Rattle.task_records.proofs.MakeLemmas.{stands_more}
 use Rattle.task_records.specs.Image.{Parts, core_of}
-use Rattle.task_records.specs.Kept.{IsGroupKept, IsSetKept, calls_of, is_of_group}
+use Rattle.task_records.specs.Kept.{IsGroupKept, calls_of, is_of_group}
 use Rattle.task_records.specs.Keys.{group_key, work_key}
 use Rattle.task_records.specs.Names.{AtPlace, CallOf, HasHome, HasNumber, IsCallNamed, IsWorkNamed, Nothing, SetOf, Target, ThreadOf, WorkOf, join_target, kinds}
 use Rattle.task_records.specs.Places.{BlockedOn, HeldIn, UnderOf, WaitsOn, Where, live_chain, place_chain, place_filing, ready_in, ready_work_chain}
@@ -31,26 +28,21 @@ use Rattle.task_records.specs.Sound.{AreChained, AreCounted, EachEntry, HaveRowN
 use Rattle.task_records.specs.declared.calls.GuestTask.{GuestTask}
 use Rattle.task_records.specs.declared.calls.TaskGroup.{TaskGroup}
 use Rattle.task_records.specs.declared.parts.Kept.{Kept}
-use Rattle.task_records.specs.declared.sets.WaitSet.{WaitSet}
 use Rattle.task_records.specs.declared.single.Single.{Single}
 use Rattle.task_records.specs.declared.threads.GuestThread.{GuestThread}
 use Rattle.task_records.specs.declared.threads.Queued.{Queued}
 use Rattle.task_records.specs.declared.works.HostWork.{HostWork}
 use Rattle.task_index.specs.Rows.{part}
 use Rattle.task_table.specs.Changes.{pushed}
-use Rattle.task_table.specs.Table.{Placed, Table, place_at}
-use Rattle.work_makes.specs.Loose.{AreWorkLoose}
+use Rattle.task_table.specs.Table.{Placed, Table}
+use Rattle.work_makes.specs.Loose.{AreWorkLoose, nodes_of}
 use Rattle.work_makes.specs.Raised.{IsWorkNext}
-use Rattle.work_makes.specs.declared.nodes.WorkNodes.{WorkNodes}
 
 abbrev number : HostWork → ℕ
 number w = w.number
 
 abbrev machine : HostWork → Work
 machine w = w.work
-
-abbrev pub nodes_of : HostWork → WorkNodes
-nodes_of w = record { ready = w.ready; live = w.live; mark = w.mark; blocked = w.blocked }
 
 abbrev host_in : Where → ℕ
 host_in (BlockedOn (subtask.Host i)) = i

@@ -9,6 +9,9 @@ use Rattle.task_records.specs.declared.works.HostWork.{HostWork}
 use Rattle.task_table.specs.Table.{Placed, place_at}
 use Rattle.work_makes.specs.declared.nodes.WorkNodes.{WorkNodes}
 
+abbrev pub nodes_of : HostWork → WorkNodes
+nodes_of w = record { ready = w.ready; live = w.live; mark = w.mark; blocked = w.blocked }
+
 -- They hang on nothing; no thread has the node of the mark.
 pub record AreWorkLoose (p : Parts) (n : WorkNodes) : Type 0 where
   pub ready : IsSpare (λ (w : HostWork). w.ready.index) p.works p.ready_works n.ready.index

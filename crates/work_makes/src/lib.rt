@@ -2,4 +2,7 @@
 //! first, so that what was made for nothing hangs on nothing and isn't seen.
 #![tactic(auto)]
 
+mod entries;
+mod marks;
 mod nodes;
+mod works;

@@ -1,4 +1,4 @@
-use Rattle.std.proofs.Common.{true, false, ◌||◌, List, Option, ap, is_some, map, option_map, refl, subst, sym, ◌∙◌, ℕ}
+use Rattle.std.proofs.Common.{◌||◌, ap, is_some, map, option_map, refl, subst, sym, ◌∙◌}
 use Rattle.std.proofs.lemmas.Bool.{or_left}
 use Rattle.std.specs.List.{list_any}
 use Rattle.task_links.specs.Links.{entries}
