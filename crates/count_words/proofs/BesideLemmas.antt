@@ -1,5 +1,5 @@
--- Another number of finished groups, other kept numbers and other results: names, indexes and rows stay.
-use Rattle.std.proofs.Common.{◌≡◌, ℕ, List, Option, Some, IsSome}
+-- Another number of finished groups, other kept numbers, other results and another capacity: names, indexes and rows stay.
+use Rattle.std.proofs.Common.{◌≡◌, ◌≤◌, ℕ, List, Option, Some, IsSome}
 use Rattle.std.specs.BTreeMap.{is_at}
 use Rattle.std.specs.Map.{lookup}
 use Rattle.std.specs.Ordering.{nat_cmp}
@@ -15,9 +15,9 @@ use Rattle.task_records.specs.declared.parts.Kept.{Kept}
 use Rattle.task_records.specs.declared.threads.GuestThread.{GuestThread}
 use Rattle.task_records.specs.declared.works.HostWork.{HostWork}
 
-module _ (p : Parts) (finished : ℕ) (kept : Kept) (results : List (ℕ × Option ℕ)) where
+module _ (p : Parts) (finished : ℕ) (kept : Kept) (results : List (ℕ × Option ℕ)) (capacity : ℕ) where
   abbrev pub beside : Parts
-  beside = record p { finished = finished; kept = kept; results = results }
+  beside = record p { finished = finished; kept = kept; results = results; capacity = capacity }
 
   home_beside : (g : GuestThread) → HasHome p g → HasHome beside g
   home_beside g home = record { call = home.call; there = home.there; instance = home.instance; within = home.within; place = home.place; how_far = home.how_far }
@@ -28,8 +28,9 @@ module _ (p : Parts) (finished : ℕ) (kept : Kept) (results : List (ℕ × Opti
   work_beside : (w : HostWork) → IsWorkNamed p w → IsWorkNamed beside w
   work_beside w named = record { caller = named.caller; join = named.join; group = named.group }
 
-  pub beside_whole : IsWhole p → AreKept (core_of beside) kept → ((k : ℕ) (c : Call) → get (core_of p).calls k ≡ Some c → c.goal ≡ goal.Main → IsSome (lookup (is_at (nat_cmp k)) results)) → IsWhole beside
-  beside_whole whole counts rooms = record {
+  pub beside_whole : IsWhole p → AreKept (core_of beside) kept → ((k : ℕ) (c : Call) → get (core_of p).calls k ≡ Some c → c.goal ≡ goal.Main → IsSome (lookup (is_at (nat_cmp k)) results)) → finished ≤ p.made.groups → capacity ≤ 4294967295 →
+      IsWhole beside
+  beside_whole whole counts rooms within few = record {
     named = record {
       threads = λ rep q at. home_beside q.entry.item (whole.named.threads rep q at);
       calls = λ rep q at. call_beside q.entry.item (whole.named.calls rep q at);
@@ -58,7 +59,8 @@ module _ (p : Parts) (finished : ℕ) (kept : Kept) (results : List (ℕ × Opti
       calls = whole.counted.calls;
       sets = λ rep q at. let one = whole.counted.sets rep q at in record { members = one.members; entries = one.entries };
       groups = whole.counted.groups;
-      few = whole.counted.few;
+      few = few;
+      finished = within;
       high = whole.counted.high;
       low = whole.counted.low;
       works = whole.counted.works;

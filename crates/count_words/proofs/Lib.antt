@@ -3,3 +3,5 @@ pub mod TrapLemmas
 pub mod BesideLemmas
 pub mod ResultLemmas
 pub mod ScanLemmas
+pub mod MemberLemmas
+pub mod LimitLemmas

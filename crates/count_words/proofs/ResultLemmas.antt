@@ -56,9 +56,11 @@ module _ (a : CoreParts) (sound : IsSound a) (m : BTreeMap ℕ (Option ℕ)) whe
   unfolding IsSound table_use
   results_sound rooms = record {
     tables = record { threads = sound.tables.threads; calls = sound.tables.calls; works = sound.tables.works; sets = sound.tables.sets; groups = sound.tables.groups };
-    whole = beside_whole (bare (parts_of a)) a.finished (bare (parts_of a)).kept m.entries sound.whole
+    whole = beside_whole (bare (parts_of a)) a.finished (bare (parts_of a)).kept m.entries a.capacity sound.whole
         (record { used = sound.whole.counted.kept.used; groups = sound.whole.counted.kept.groups; live = sound.whole.counted.kept.live })
-        (λ k c at main. rooms k (sound.whole.counted.results k c at main));
+        (λ k c at main. rooms k (sound.whole.counted.results k c at main))
+        sound.whole.counted.finished
+        sound.whole.counted.few;
     interesting = sound.interesting;
     moving = sound.moving;
     handles = sound.handles;
@@ -92,6 +94,15 @@ module _ (a : CoreParts) (sound : IsSound a) (m : BTreeMap ℕ (Option ℕ)) whe
     pub result_taken : o ≡ None → seen (record a { results = m }) ≡ on_core (take_result k) (seen a)
     unfolding take_result seen
     result_taken is = results_seen (remove (seen a).core.results k) (λ q. written_at q ∙ (ap (λ p. cond (q == k) p (get (seen a).core.results q)) is ∙ sym (get-remove (seen a).core.results k q)))
+
+    -- a room that is made isn't seen
+    pub room_unseen : o ≡ None → lookup (is_at (nat_cmp k)) a.results.entries ≡ None → seen (record a { results = m }) ≡ seen a
+    unfolding seen
+    room_unseen is none = results_seen (seen a).core.results (λ q. written_at q ∙ (ap (λ p. cond (q == k) p (get (given_results a.results.entries) q)) is ∙ by q (cases_eq q k)))
+      where
+        by : (q : ℕ) → (q ≡ k) ⊎ (q ≡ k → ⊥) → cond (q == k) None (get (given_results a.results.entries) q) ≡ get (given_results a.results.entries) q
+        by q (inl here) = ap (λ b. cond b None (get (given_results a.results.entries) q)) (eq-eqb q k here) ∙ sym (get-given a.results.entries q ∙ (ap (λ n. given (lookup (is_at (nat_cmp n)) a.results.entries)) here ∙ ap given none))
+        by q (inr other) = ap (λ b. cond b None (get (given_results a.results.entries) q)) (ne_eqb q k other)
 
   -- who had no room had no result
   pub nothing_taken : (k : ℕ) → m ≡ a.results → lookup (is_at (nat_cmp k)) a.results.entries ≡ None → seen (record a { results = m }) ≡ on_core (take_result k) (seen a)

@@ -37,20 +37,25 @@ module _ {X : Type 0} (k : ℕ) where
 less_groups : (u g l m a b c d : ℕ) → u ≡ l + a + 2 * b + c + d → g ≡ l → m ≡ 0 → u - g ≡ m + a + 2 * b + c + d
 less_groups u g l m a b c d used groups none = omega (arith, used, groups, none)
 
+all_made : (n : ℕ) → n ≤ n
+all_made n = omega arith
+
 abbrev pub after_trap : Parts → Parts
-after_trap p = beside p p.made.groups (record p.kept { used = p.kept.used - p.kept.groups; groups = 0 }) p.results
+after_trap p = beside p p.made.groups (record p.kept { used = p.kept.used - p.kept.groups; groups = 0 }) p.results p.capacity
 
 module _ (p : Parts) (none : filter (nat_lt p.made.groups) (numbers (records group_key p.groups.places)) ≡ []) where
   pub trapped_whole : IsWhole p → IsWhole (after_trap p)
   unfolding table_use
   trapped_whole whole =
-      beside_whole p p.made.groups (record p.kept { used = p.kept.used - p.kept.groups; groups = 0 }) p.results whole
+      beside_whole p p.made.groups (record p.kept { used = p.kept.used - p.kept.groups; groups = 0 }) p.results p.capacity whole
       (record {
         used = less_groups _ _ _ _ _ _ _ _ whole.counted.kept.used whole.counted.kept.groups (ap length none);
         groups = sym (ap length none);
         live = whole.counted.kept.live;
       })
       whole.counted.results
+      (all_made p.made.groups)
+      whole.counted.few
 
 module _ (a : CoreParts) (sound : IsSound a) where
   none_left : filter (nat_lt a.made.groups) (numbers (records group_key a.groups.places)) ≡ []

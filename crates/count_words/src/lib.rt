@@ -5,6 +5,7 @@
 mod limits;
 mod members;
 mod results;
+mod settings;
 mod stalls;
 mod works;
 
@@ -13,8 +14,10 @@ pub use limits::{
     set_uninteresting, trapped,
 };
 pub use members::{
-    has_thread, has_waiters, is_deletable, is_last_thread, set_instance, set_number,
+    has_member, has_thread, has_waiters, is_deletable, is_last_thread, set_instance, set_number,
+    threads,
 };
-pub use results::{give_result, result, take_result};
+pub use results::{give_result, make_room, result, take_result};
+pub use settings::{capacity, handle_limit, set_capacity, set_handle_limit, used};
 pub use stalls::some_may_not_suspend;
-pub use works::{has_live_work, has_moving_work, set_course, set_phase};
+pub use works::{has_live_work, has_moving_work, is_moving, recounted, set_course, set_phase};

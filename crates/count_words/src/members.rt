@@ -1,12 +1,21 @@
 ghost use Rattle.std.specs.Prelude.{◌≡◌, ◌&&◌, ◌<◌, not};
 ghost use Rattle.task_machine.specs.Moves.{is_deletable, is_deletable_call};
-ghost use Rattle.task_machine.specs.Read.{has_thread, has_waiters, is_last_thread, set_instance, undelivered_end};
+ghost use Rattle.task_machine.specs.Maps.{size};
+ghost use Rattle.task_machine.specs.Read.{has_member, has_thread, has_waiters, is_last_thread, set_instance, undelivered_end};
 ghost use Rattle.task_records.specs.Seen.{IsSound, seen};
 ghost use Rattle.task_words.specs.StateView.{call_of, set_of, thread_of};
 
 use task_machine::{Call, Status};
 use task_records::{CoreParts, task_of};
 use task_words::{CallId, SetId, ThreadId};
+
+/// How many threads there are.
+pub fn threads(parts: &CoreParts) -> u64
+    requires { IsSound parts.now }
+    ensures { result ≡ size (seen parts.now).core.threads }
+{
+    parts.threads.len() as u64
+}
 
 /// Whether some thread of the call is left.
 pub fn has_thread(parts: &CoreParts, call: CallId) -> bool
@@ -73,6 +82,18 @@ pub fn set_instance(parts: &CoreParts, set: SetId) -> u32
     match task_records::set(parts, set) {
         Some(entry) => entry.set.instance,
         None => 0,
+    }
+}
+
+/// Whether a call or a host work is in the set.
+pub fn has_member(parts: &CoreParts, set: SetId) -> bool
+    requires sound { IsSound parts.now }
+    requires live { 0 < set_of (seen parts.now) set }
+    ensures { result ≡ has_member (set_of (seen parts.now) set) (seen parts.now).core }
+{
+    match task_records::set(parts, set) {
+        Some(entry) => 0 < entry.members,
+        None => unreachable!(),
     }
 }
 

@@ -1,4 +1,7 @@
-ghost use Rattle.std.specs.Prelude.{◌≡◌};
+ghost use Rattle.std.specs.BTreeMap.{is_at};
+ghost use Rattle.std.specs.Map.{lookup};
+ghost use Rattle.std.specs.Ordering.{nat_cmp};
+ghost use Rattle.std.specs.Prelude.{◌≡◌, IsSome, OnOk};
 ghost use Rattle.task_machine.specs.Maps.{get};
 ghost use Rattle.task_machine.specs.Read.{goal_of};
 ghost use Rattle.task_machine.specs.Write.{give_result, take_result};
@@ -6,6 +9,7 @@ ghost use Rattle.task_machine.specs.declared.records.Goal.TheVariants as goals;
 ghost use Rattle.task_records.specs.Seen.{IsSound, seen};
 ghost use Rattle.task_words.specs.StateView.{call_of, on_core};
 
+use task_machine::NoMemory;
 use task_records::CoreParts;
 use task_words::CallId;
 
@@ -37,6 +41,24 @@ pub fn give_result(parts: &mut CoreParts, call: CallId, value: u64)
             }
         }
         None => unreachable!(),
+    }
+}
+
+/// Makes room for the result of a call by main that is to be made. Where memory is wanting, all is as
+/// before; a room that is never used isn't seen.
+pub fn make_room(parts: &mut CoreParts, call: u64) -> Result<(), NoMemory>
+    requires { IsSound parts.old }
+    ensures sound { IsSound parts.new }
+    ensures seen { seen parts.new ≡ seen parts.old }
+    ensures room { OnOk result (IsSome (lookup (is_at (nat_cmp call)) parts.new.results.entries)) }
+    ensures only { parts.new ≡ record parts.old { results = parts.new.results } }
+{
+    if parts.results.contains_key(&call) {
+        return Ok(());
+    }
+    match parts.results.insert(call, None) {
+        Ok(_) => Ok(()),
+        Err(_) => Err(NoMemory),
     }
 }
 

@@ -35,16 +35,16 @@ fn is_moving_course(course: Course) -> bool
     }
 }
 
-// Whether a work is live and is polled to no end.
-fn is_moving(work: &Work) -> bool
+/// Whether a work is live and is polled to no end.
+pub fn is_moving(work: &Work) -> bool
     ensures { result ≡ is_moving work.now }
 {
     matches!(work.stage, Stage::Live)
         && (is_moving_course(work.course) || matches!(work.phase, Phase::AbortRequested))
 }
 
-// A number that counted what was so counts what is so.
-fn recounted(kept: u64, was: bool, is: bool) -> u64
+/// A number that counted what was so counts what is so.
+pub fn recounted(kept: u64, was: bool, is: bool) -> u64
     requires some { was ≡ true → 1 ≤ kept + one_if is }
     requires few { kept + 1 < 2 ^ 64 }
     ensures { result + one_if was ≡ kept + one_if is }

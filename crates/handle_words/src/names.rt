@@ -1,7 +1,7 @@
 ghost use Rattle.std.specs.Prelude.{◌≡◌, ◌<◌, IfOk, OnErr, OnOk, Some};
 ghost use Rattle.task_machine.specs.Read.{instance_of, new_thread_handle, thread_at};
 ghost use Rattle.task_machine.specs.Write.{set_thread_handle};
-ghost use Rattle.task_records.specs.Seen.{IsSound, seen};
+ghost use Rattle.task_records.specs.Seen.{IsSound, parts_of, seen};
 ghost use Rattle.task_rules.specs.Calls.{with_thread_handle};
 ghost use Rattle.task_words.specs.StateView.{on_core, thread_of};
 
@@ -31,6 +31,7 @@ pub fn name_thread(parts: &mut CoreParts, thread: ThreadId) -> Result<u32, NoMem
     ensures handle { IfOk result (λ h. h ≡ new_thread_handle (instance_of (thread_of (seen parts.old) thread) (seen parts.old).core) (seen parts.old).core) }
     ensures new { OnOk result (seen parts.new ≡ on_core (with_thread_handle (instance_of (thread_of (seen parts.old) thread) (seen parts.old).core) (thread_of (seen parts.old) thread)) (seen parts.old)) }
     ensures err { OnErr result (seen parts.new ≡ seen parts.old) }
+    ensures same { OnErr result (parts_of parts.new ≡ parts_of parts.old) }
 {
     let (instance, number) = match task_records::thread(parts, thread) {
         Some(entry) => (entry.instance, entry.number),

@@ -20,6 +20,7 @@ pub fn insert_thread_handle(parts: &mut CoreParts, index: u32, rep: Rep) -> Resu
     ensures names { IfOk result (λ h. thread_at index h (seen parts.new).core ≡ Some rep.serial) }
     ensures new { OnOk result (seen parts.new ≡ on_core (give_thread_handle index rep.serial) (seen parts.old)) }
     ensures err { OnErr result (seen parts.new ≡ seen parts.old) }
+    ensures same { OnErr result (parts_of parts.new ≡ parts_of parts.old) }
 {
     let entry = &mut parts.instances[index as usize];
     match entry

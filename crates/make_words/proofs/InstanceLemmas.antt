@@ -214,9 +214,10 @@ module _ (p : Parts) (whole : IsWhole p) (r : InstanceRecord) (loose : AreLoose 
       sets = λ rep q at. let one = whole.counted.sets rep q at in record { members = one.members; entries = one.entries };
       groups = whole.counted.groups;
       few = whole.counted.few;
+      finished = whole.counted.finished;
       high = λ some. high;
       low = λ some. low;
-      works = λ rep q at. high;
+      works = whole.counted.works;
       results = whole.counted.results;
     };
   }

@@ -6,3 +6,5 @@ pub mod FreshLemmas
 pub mod SetLemmas
 pub mod SetAddLemmas
 pub mod UndoLemmas
+pub mod MoreLemmas
+pub mod RestoreLemmas

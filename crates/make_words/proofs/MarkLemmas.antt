@@ -66,9 +66,10 @@ module _ (p : Parts) (whole : IsWhole p) (high low : Option ℕ) where
         sets = λ rep q at. let one = whole.counted.sets rep q at in record { members = one.members; entries = one.entries };
         groups = whole.counted.groups;
         few = whole.counted.few;
+        finished = whole.counted.finished;
         high = λ some. keeps_high (whole.counted.high some);
         low = λ some. keeps_low (whole.counted.low some);
-        works = λ rep q at. keeps_high (whole.counted.works rep q at);
+        works = λ rep q at. let chains = whole.counted.works rep q at in (keeps_high chains.0, chains.1);
         results = whole.counted.results;
       };
     }

@@ -183,6 +183,7 @@ module _ (p : Parts) (whole : IsWhole p) (tables : SoundTable set_key p.sets p.m
       sets = sets_kept;
       groups = whole.counted.groups;
       few = whole.counted.few;
+      finished = whole.counted.finished;
       high = whole.counted.high;
       low = whole.counted.low;
       works = whole.counted.works;

@@ -140,6 +140,7 @@ module _ (p : Parts) (whole : IsWhole p) (apart : AreApart set_key p.sets.places
       sets = λ rep q at. let one = whole.counted.sets rep q (sym (same rep) ∙ at) in record { members = one.members; entries = one.entries };
       groups = whole.counted.groups;
       few = whole.counted.few;
+      finished = whole.counted.finished;
       high = whole.counted.high;
       low = whole.counted.low;
       works = whole.counted.works;

@@ -27,7 +27,7 @@ use Rattle.task_table.specs.Changes.{entry_put, with_entry}
 use Rattle.task_table.specs.Records.{key_in, number_in, number_of, record_at}
 use Rattle.task_table.specs.Table.{Placed, Table, place_at, standing}
 use Rattle.task_table.specs.declared.error.ResourceTableError.{ResourceTableError}
-use Rattle.place_words.specs.Moved.{Alike, entry_set, recounted, recounted_by, resumed_set, uncounted}
+use Rattle.place_words.specs.Moved.{Alike, entry_set, recounted, rejoined, resumed_set, rewritten, rewritten_by, uncounted}
 use Rattle.queue_words.proofs.BareLemmas.{number_positive, one_place}
 
 -- no set stands past the end
@@ -75,59 +75,81 @@ keeps_is x t (place.Ready m why.Resumption) = by t.how_far
 
 -- ---- The table of sets with another number
 
-module _ (f : ℕ → ℕ) (t : Table (Single WaitSet)) (made : ℕ) (sound : SoundTable set_key t made) (rep serial : ℕ) where
+module _ (f : WaitSet → WaitSet) (blind : (x : WaitSet) → uncounted (f x) ≡ uncounted x) (t : Table (Single WaitSet)) (made : ℕ) (sound : SoundTable set_key t made) (rep serial : ℕ) where
   abbrev SetResult : Type 0
   SetResult = Result WaitSet ResourceTableError
 
-  pub recounted_alike : Alike uncounted (recounted f rep serial t) t
-  recounted_alike = by (item_at item_of t rep serial) refl
+  rewritten_alike : Alike uncounted (rewritten f rep serial t) t
+  rewritten_alike = by (item_at item_of t rep serial) refl
     where
-      by : (o : SetResult) → item_at item_of t rep serial ≡ o → Alike uncounted (recounted_by f rep o t) t
+      by : (o : SetResult) → item_at item_of t rep serial ≡ o → Alike uncounted (rewritten_by f rep o t) t
       by (Err e) is = refl
       by (Ok x) is =
           let one = item_stands (λ (x : WaitSet). x.number) (λ (x : WaitSet). x.set) t made sound rep serial x (sym is) in
-          mapped-with_entry_same (on_item uncounted) t rep (entry_of (record x { entries = f x.entries })) one.0 one.1.0 (sym (ap (on_item uncounted) one.1.1.1))
+          mapped-with_entry_same (on_item uncounted) t rep (entry_of (f x)) one.0 one.1.0 (ap entry_of (blind x) ∙ sym (ap (on_item uncounted) one.1.1.1))
 
-  pub recounted_sound : SoundTable set_key (recounted f rep serial t) made
-  recounted_sound = by (item_at item_of t rep serial) refl
+  rewritten_sound : SoundTable set_key (rewritten f rep serial t) made
+  rewritten_sound = by (item_at item_of t rep serial) refl
     where
-      by : (o : SetResult) → item_at item_of t rep serial ≡ o → SoundTable set_key (recounted_by f rep o t) made
+      by : (o : SetResult) → item_at item_of t rep serial ≡ o → SoundTable set_key (rewritten_by f rep o t) made
       by (Err e) is = sound
-      by (Ok x) is = table_written (λ (x : WaitSet). x.number) (λ (x : WaitSet). x.set) t made sound rep serial x (sym is) (record x { entries = f x.entries }) refl
+      by (Ok x) is = table_written (λ (x : WaitSet). x.number) (λ (x : WaitSet). x.set) t made sound rep serial x (sym is) (f x) (ap (λ (y : WaitSet). y.number) (blind x))
 
-  -- each set is as before, but for the number of the one that is named
-  pub recounted_each : (r : ℕ) (q : Placed (Single WaitSet)) → place_at (recounted f rep serial t) r ≡ Some q → (x : WaitSet) × ((p : Placed (Single WaitSet)) × ((place_at t r ≡ Some p) × ((p.entry.item ≡ x) × (q.entry.item ≡ record x { entries = cond (x.number == number_of set_key t rep serial) (f x.entries) x.entries }))))
-  recounted_each r q at = by (item_at item_of t rep serial) refl at
+  -- each set is as before, but for the one that is named
+  rewritten_each : (r : ℕ) (q : Placed (Single WaitSet)) → place_at (rewritten f rep serial t) r ≡ Some q → (x : WaitSet) × ((p : Placed (Single WaitSet)) × ((place_at t r ≡ Some p) × ((p.entry.item ≡ x) × (q.entry.item ≡ cond (x.number == number_of set_key t rep serial) (f x) x))))
+  rewritten_each r q at = by (item_at item_of t rep serial) refl at
     where
-      by_place : (x : WaitSet) → Ok x ≡ item_at item_of t rep serial → (r ≡ rep) ⊎ (r ≡ rep → ⊥) → place_at (with_entry rep (entry_of (record x { entries = f x.entries })) t) r ≡ Some q → (y : WaitSet) × ((p : Placed (Single WaitSet)) × ((place_at t r ≡ Some p) × ((p.entry.item ≡ y) × (q.entry.item ≡ record y { entries = cond (y.number == number_of set_key t rep serial) (f y.entries) y.entries }))))
+      by_place : (x : WaitSet) → Ok x ≡ item_at item_of t rep serial → (r ≡ rep) ⊎ (r ≡ rep → ⊥) → place_at (with_entry rep (entry_of (f x)) t) r ≡ Some q → (y : WaitSet) × ((p : Placed (Single WaitSet)) × ((place_at t r ≡ Some p) × ((p.entry.item ≡ y) × (q.entry.item ≡ cond (y.number == number_of set_key t rep serial) (f y) y))))
       by_place x is (inl here) at =
           let one = item_stands (λ (x : WaitSet). x.number) (λ (x : WaitSet). x.set) t made sound rep serial x is in
           let named = item_number (λ (x : WaitSet). x.number) (λ (x : WaitSet). x.set) t rep serial x is in
-          let put : Some (record one.0 { entry = entry_of (record x { entries = f x.entries }) }) ≡ Some q =
-          ap (entry_put (entry_of (record x { entries = f x.entries }))) (sym one.1.0 ∙ ap (place_at t) (sym here))
-          ∙ (ap (λ b. cond b (entry_put (entry_of (record x { entries = f x.entries })) (place_at t r)) (place_at t r)) (sym (eq-eqb r rep here)) ∙ (sym (place_at-with_entry t rep r (entry_of (record x { entries = f x.entries }))) ∙ at)) in (
-            x,
-            (
-              one.0,
-              (
-                ap (place_at t) here ∙ one.1.0,
-                (
-                  ap (λ (e : Single WaitSet). e.item) one.1.1.1,
-                  sym (ap (λ (p : Placed (Single WaitSet)). p.entry.item) (same_Some _ q put)) ∙ ap (λ b. record x { entries = cond b (f x.entries) x.entries }) (sym (eq-eqb x.number (number_of set_key t rep serial) (sym named))),
-                ),
-              ),
-            ),
-          )
+          let put : Some (record one.0 { entry = entry_of (f x) }) ≡ Some q =
+          ap (entry_put (entry_of (f x))) (sym one.1.0 ∙ ap (place_at t) (sym here))
+          ∙ (ap (λ b. cond b (entry_put (entry_of (f x)) (place_at t r)) (place_at t r)) (sym (eq-eqb r rep here)) ∙ (sym (place_at-with_entry t rep r (entry_of (f x))) ∙ at)) in
+          (x, (one.0, (ap (place_at t) here ∙ one.1.0, (ap (λ (e : Single WaitSet). e.item) one.1.1.1, sym (ap (λ (p : Placed (Single WaitSet)). p.entry.item) (same_Some _ q put)) ∙ ap (λ b. cond b (f x) x) (sym (eq-eqb x.number (number_of set_key t rep serial) (sym named)))))))
       by_place x is (inr other) at =
           let one = item_stands (λ (x : WaitSet). x.number) (λ (x : WaitSet). x.set) t made sound rep serial x is in
           let named = item_number (λ (x : WaitSet). x.number) (λ (x : WaitSet). x.set) t rep serial x is in
-          let there : place_at t r ≡ Some q = ap (λ b. cond b (entry_put (entry_of (record x { entries = f x.entries })) (place_at t r)) (place_at t r)) (sym (ne_eqb r rep other)) ∙ (sym (place_at-with_entry t rep r (entry_of (record x { entries = f x.entries }))) ∙ at) in
+          let there : place_at t r ≡ Some q = ap (λ b. cond b (entry_put (entry_of (f x)) (place_at t r)) (place_at t r)) (sym (ne_eqb r rep other)) ∙ (sym (place_at-with_entry t rep r (entry_of (f x))) ∙ at) in
           let differ : q.entry.item.number ≡ number_of set_key t rep serial → ⊥ = λ same. other (one_place (λ (x : WaitSet). x.number) (λ (x : WaitSet). x.set) t made sound r rep q one.0 there one.1.0 (same ∙ (named ∙ sym (ap (λ (e : Single WaitSet). e.item.number) one.1.1.1)))) in
-          (q.entry.item, (q, (there, (refl, ap (λ b. record q.entry.item { entries = cond b (f q.entry.item.entries) q.entry.item.entries }) (sym (ne_eqb q.entry.item.number (number_of set_key t rep serial) differ))))))
+          (q.entry.item, (q, (there, (refl, ap (λ b. cond b (f q.entry.item) q.entry.item) (sym (ne_eqb q.entry.item.number (number_of set_key t rep serial) differ))))))
 
-      by : (o : SetResult) → item_at item_of t rep serial ≡ o → place_at (recounted_by f rep o t) r ≡ Some q → (x : WaitSet) × ((p : Placed (Single WaitSet)) × ((place_at t r ≡ Some p) × ((p.entry.item ≡ x) × (q.entry.item ≡ record x { entries = cond (x.number == number_of set_key t rep serial) (f x.entries) x.entries }))))
+      by : (o : SetResult) → item_at item_of t rep serial ≡ o → place_at (rewritten_by f rep o t) r ≡ Some q → (x : WaitSet) × ((p : Placed (Single WaitSet)) × ((place_at t r ≡ Some p) × ((p.entry.item ≡ x) × (q.entry.item ≡ cond (x.number == number_of set_key t rep serial) (f x) x))))
       by (Err e) is at =
           let zero = refused_number (λ (x : WaitSet). x.number) (λ (x : WaitSet). x.set) t rep serial e (sym is) in
           let positive = number_positive (λ (x : WaitSet). x.number) (λ (x : WaitSet). x.set) t made sound r q at in
-          (q.entry.item, (q, (at, (refl, ap (λ b. record q.entry.item { entries = cond b (f q.entry.item.entries) q.entry.item.entries }) (sym (ne_eqb q.entry.item.number (number_of set_key t rep serial) (λ same. omega (arith, positive, same, zero))))))))
+          (q.entry.item, (q, (at, (refl, ap (λ b. cond b (f q.entry.item) q.entry.item) (sym (ne_eqb q.entry.item.number (number_of set_key t rep serial) (λ same. omega (arith, positive, same, zero))))))))
       by (Ok x) is at = by_place x (sym is) (cases_eq r rep) at
+
+module _ (f : ℕ → ℕ) (t : Table (Single WaitSet)) (made : ℕ) (sound : SoundTable set_key t made) (rep serial : ℕ) where
+  -- another number of entries
+  pub recounted_alike : Alike uncounted (recounted f rep serial t) t
+  recounted_alike = rewritten_alike (λ x. record x { entries = f x.entries }) (λ x. refl) t made sound rep serial
+
+  pub recounted_sound : SoundTable set_key (recounted f rep serial t) made
+  recounted_sound = rewritten_sound (λ x. record x { entries = f x.entries }) (λ x. refl) t made sound rep serial
+
+  pub recounted_each : (r : ℕ) (q : Placed (Single WaitSet)) → place_at (recounted f rep serial t) r ≡ Some q → (x : WaitSet) × ((p : Placed (Single WaitSet)) × ((place_at t r ≡ Some p) × ((p.entry.item ≡ x) × (q.entry.item ≡ record x { entries = cond (x.number == number_of set_key t rep serial) (f x.entries) x.entries }))))
+  recounted_each r q at =
+      let one = rewritten_each (λ x. record x { entries = f x.entries }) (λ x. refl) t made sound rep serial r q at in
+      (one.0, (one.1.0, (one.1.1.0, (one.1.1.1.0, one.1.1.1.1 ∙ inside one.0 (one.0.number == number_of set_key t rep serial)))))
+    where
+      inside : (x : WaitSet) (b : Bool) → cond b (record x { entries = f x.entries }) x ≡ record x { entries = cond b (f x.entries) x.entries }
+      inside x true = refl
+      inside x false = refl
+
+  -- another number of members
+  pub rejoined_alike : Alike uncounted (rejoined f rep serial t) t
+  rejoined_alike = rewritten_alike (λ x. record x { members = f x.members }) (λ x. refl) t made sound rep serial
+
+  pub rejoined_sound : SoundTable set_key (rejoined f rep serial t) made
+  rejoined_sound = rewritten_sound (λ x. record x { members = f x.members }) (λ x. refl) t made sound rep serial
+
+  pub rejoined_each : (r : ℕ) (q : Placed (Single WaitSet)) → place_at (rejoined f rep serial t) r ≡ Some q → (x : WaitSet) × ((p : Placed (Single WaitSet)) × ((place_at t r ≡ Some p) × ((p.entry.item ≡ x) × (q.entry.item ≡ record x { members = cond (x.number == number_of set_key t rep serial) (f x.members) x.members }))))
+  rejoined_each r q at =
+      let one = rewritten_each (λ x. record x { members = f x.members }) (λ x. refl) t made sound rep serial r q at in
+      (one.0, (one.1.0, (one.1.1.0, (one.1.1.1.0, one.1.1.1.1 ∙ inside one.0 (one.0.number == number_of set_key t rep serial)))))
+    where
+      inside : (x : WaitSet) (b : Bool) → cond b (record x { members = f x.members }) x ≡ record x { members = cond b (f x.members) x.members }
+      inside x true = refl
+      inside x false = refl

@@ -12,7 +12,9 @@ pub mod StepLemmas
 pub mod ReadyLemmas
 pub mod CallMovedLemmas
 pub mod WorkMovedLemmas
+pub mod JoinLemmas
 pub mod TellLemmas
 pub mod HearLemmas
+pub mod StageLemmas
 pub mod ChainLemmas
 pub mod GoneLemmas

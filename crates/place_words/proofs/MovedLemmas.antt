@@ -120,6 +120,7 @@ module _ (p : Parts) (whole : IsWhole p) (threads : Table (Single GuestThread)) 
     sets = sets_kept;
     groups = whole.counted.groups;
     few = whole.counted.few;
+    finished = whole.counted.finished;
     high = whole.counted.high;
     low = whole.counted.low;
     works = whole.counted.works;

@@ -1,12 +1,17 @@
--- What is written where a thread gets another place: its record but for where it is, and how many entries a set has.
-use Rattle.std.specs.Prelude.{◌≡◌, ℕ, Option, Some, None, Result, Ok, Err}
+-- What is written where a thread gets another place, or a subtask another event or set: the record but for these, and what a set counts.
+use Rattle.std.specs.Prelude.{◌≡◌, ℕ, if◌then◌else◌, Option, Some, None, Result, Ok, Err}
 use Rattle.task_machine.specs.Core.{Core}
 use Rattle.task_machine.specs.declared.records.Call.{Call}
 use Rattle.task_machine.specs.declared.records.Delivery.TheVariants as delivery
 use Rattle.task_machine.specs.declared.records.HowFar.{HowFar}
 use Rattle.task_machine.specs.declared.records.HowFar.TheVariants as how_far
+use Rattle.task_machine.specs.declared.records.Join.{Join}
+use Rattle.task_machine.specs.declared.records.Join.TheVariants as join
 use Rattle.task_machine.specs.declared.records.Place.{Place}
 use Rattle.task_machine.specs.declared.records.Place.TheVariants as place
+use Rattle.task_machine.specs.Read.{is_stage_live}
+use Rattle.task_machine.specs.declared.records.Stage.{Stage}
+use Rattle.task_machine.specs.declared.records.Stage.TheVariants as stage
 use Rattle.task_machine.specs.declared.records.Thread.{Thread}
 use Rattle.task_machine.specs.declared.records.Why.{Why}
 use Rattle.task_machine.specs.declared.records.Work.{Work}
@@ -31,9 +36,9 @@ still t = record t { place = place.New; how_far = how_far.Fresh }
 abbrev pub still_thread : GuestThread → GuestThread
 still_thread g = record g { thread = still g.thread; beside = 0; awaited = 0 }
 
--- a set without the number of its entries
+-- a set without the numbers of its entries and of its members
 abbrev pub uncounted : WaitSet → WaitSet
-uncounted x = record x { entries = 0 }
+uncounted x = record x { entries = 0; members = 0 }
 
 -- The tables have the same entries at the same places, as far as the function sees.
 abbrev pub Alike : {T : Type 0} → (T → T) → Table (Single T) → Table (Single T) → Type 0
@@ -55,29 +60,46 @@ entry_set (place.Ready m w) h = queued_set w h
 entry_set (place.Held w) h = delivered_set w
 entry_set _ h = None
 
-abbrev pub recounted_by : (ℕ → ℕ) → ℕ → Result WaitSet ResourceTableError → Table (Single WaitSet) → Table (Single WaitSet)
-recounted_by f rep (Ok x) t = with_entry rep (entry_of (record x { entries = f x.entries })) t
-recounted_by f rep (Err e) t = t
+abbrev pub rewritten_by : (WaitSet → WaitSet) → ℕ → Result WaitSet ResourceTableError → Table (Single WaitSet) → Table (Single WaitSet)
+rewritten_by f rep (Ok x) t = with_entry rep (entry_of (f x)) t
+rewritten_by f rep (Err e) t = t
 
--- the set that the id names, if it names one, has another number of entries
+-- the set that the id names, if it names one, is written
+abbrev pub rewritten : (WaitSet → WaitSet) → ℕ → ℕ → Table (Single WaitSet) → Table (Single WaitSet)
+rewritten f rep serial t = rewritten_by f rep (item_at item_of t rep serial) t
+
+-- it has another number of entries
 abbrev pub recounted : (ℕ → ℕ) → ℕ → ℕ → Table (Single WaitSet) → Table (Single WaitSet)
-recounted f rep serial t = recounted_by f rep (item_at item_of t rep serial) t
+recounted f = rewritten (λ x. record x { entries = f x.entries })
+
+-- it has another number of members
+abbrev pub rejoined : (ℕ → ℕ) → ℕ → ℕ → Table (Single WaitSet) → Table (Single WaitSet)
+rejoined f = rewritten (λ x. record x { members = f x.members })
 
 -- the number of a set that is there, 0 where there is none
 abbrev pub set_named : Option ℕ → Core → ℕ
 set_named None s = 0
 set_named (Some x) s = kept_in s.sets x
 
--- a call without its event
+-- the set that something is in
+abbrev pub joined_set : Join → Option ℕ
+joined_set (join.Set x) = Some x
+joined_set _ = None
+
+-- a call without its event and its set
 abbrev pub quiet_call : Call → Call
-quiet_call c = record c { event = None }
+quiet_call c = record c { event = None; join = join.Nowhere }
 
 abbrev pub still_call : GuestTask → GuestTask
-still_call g = record g { call = quiet_call g.call }
+still_call g = record g { call = quiet_call g.call; joined = 0 }
 
--- a host work without its event
+-- a host work without its event, its set and its stage
 abbrev pub quiet_work : Work → Work
-quiet_work w = record w { event = None }
+quiet_work w = record w { event = None; join = join.Nowhere; stage = stage.Ended }
 
 abbrev pub still_work : HostWork → HostWork
-still_work w = record w { work = quiet_work w.work }
+still_work w = record w { work = quiet_work w.work; joined = 0 }
+
+-- whether a work of the stage is in the list of the live works
+abbrev pub live_key : Stage → Option (Unit {0})
+live_key x = if is_stage_live x then Some tt else None

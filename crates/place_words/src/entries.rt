@@ -34,8 +34,8 @@ pub(crate) fn one_more(sets: &mut ResourceTable<Single<WaitSet>>, id: SetId)
     }
 }
 
-// An id that names no set: no table has this place.
-fn no_set(parts: &CoreParts) -> SetId
+/// An id that names no set: no table has this place.
+pub(crate) fn no_set(parts: &CoreParts) -> SetId
     requires { IsSound parts.now }
     ensures { set_of (seen parts.now) result ≡ 0 }
 {

@@ -48,7 +48,13 @@ fn chains_for(
     }
 }
 
-fn call_chain(parts: &CoreParts, place: u32, event: Option<Status>, join: Join) -> Option<usize>
+/// The chain that a call is filed in as a ready member.
+pub(crate) fn call_chain(
+    parts: &CoreParts,
+    place: u32,
+    event: Option<Status>,
+    join: Join,
+) -> Option<usize>
     requires sound { IsSound parts.now }
     requires at { AtPlace (parts_of parts.now) place (join_target join) }
     ensures { option_and_then (ready_call_chain (bare (parts_of parts.now))) (ready_in event join) ≡ result }
@@ -59,7 +65,13 @@ fn call_chain(parts: &CoreParts, place: u32, event: Option<Status>, join: Join) 
     }
 }
 
-fn work_chain(parts: &CoreParts, place: u32, event: Option<Status>, join: Join) -> Option<usize>
+/// The chain that a host work is filed in as a ready member.
+pub(crate) fn work_chain(
+    parts: &CoreParts,
+    place: u32,
+    event: Option<Status>,
+    join: Join,
+) -> Option<usize>
     requires sound { IsSound parts.now }
     requires at { AtPlace (parts_of parts.now) place (join_target join) }
     ensures { option_and_then (ready_work_chain (bare (parts_of parts.now))) (ready_in event join) ≡ result }

@@ -4,6 +4,7 @@ ghost use Rattle.task_machine.specs.Read.{position_of};
 ghost use Rattle.task_machine.specs.Write.{set_how_far};
 ghost use Rattle.task_records.specs.Seen.{IsSound, seen};
 ghost use Rattle.task_rules.specs.Data.{advanced, assigned, moved_to};
+ghost use Rattle.task_words.specs.Context.{with_context};
 ghost use Rattle.task_words.specs.Names.{how_far_in};
 ghost use Rattle.task_words.specs.StateView.{on_core, thread_of};
 
@@ -38,6 +39,23 @@ pub fn move_to(parts: &mut CoreParts, thread: ThreadId, position: u32)
         let old = *found;
         let mut new = old;
         new.thread.position = position;
+        new.thread.how_far = HowFar::Fresh;
+        put_there(parts, thread, old, new);
+    }
+}
+
+/// The thread is about to begin the op at this position, with these registers.
+pub fn set_context(parts: &mut CoreParts, thread: ThreadId, position: u32, registers: &[u64; 16])
+    requires { IsSound parts.old }
+    ensures sound { IsSound parts.new }
+    ensures new { seen parts.new ≡ on_core (with_context (thread_of (seen parts.old) thread) position registers.now) (seen parts.old) }
+{
+    if let Some(found) = task_records::thread(parts, thread) {
+        let old = *found;
+        let words = *registers;
+        let mut new = old;
+        new.thread.position = position;
+        new.thread.registers = words;
         new.thread.how_far = HowFar::Fresh;
         put_there(parts, thread, old, new);
     }

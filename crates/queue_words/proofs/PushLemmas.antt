@@ -120,7 +120,7 @@ module _ (a : CoreParts) (sound : IsSound a) (id : TableId HostTaskKey) (w : Hos
   unfolding IsSound
   high_there =
       let one = item_stands (λ (w : HostWork). w.number) (λ (w : HostWork). w.work) a.works a.made.works sound.tables.works id.rep id.serial w is in
-      sound.whole.counted.works id.rep _ (place_mapped (on_item bare_work) a.works id.rep one.0 one.1.0)
+      (sound.whole.counted.works id.rep _ (place_mapped (on_item bare_work) a.works id.rep one.0 one.1.0)).0
 
   module _ (rep : ℕ) (rep_is : rep ≡ id.rep) (v : Queued) (v_is : v ≡ host_entry rep w) (c : ℕ) (at : a.high ≡ Some c) where
     abbrev bared_works : Parts

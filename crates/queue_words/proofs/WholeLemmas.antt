@@ -50,6 +50,7 @@ module _ (p : Parts) (whole : IsWhole p) (marks shelves : List (Spot Queued)) (b
     sets = λ rep q at. set_same q.entry.item (whole.counted.sets rep q at);
     groups = whole.counted.groups;
     few = whole.counted.few;
+    finished = whole.counted.finished;
     high = whole.counted.high;
     low = whole.counted.low;
     works = whole.counted.works;

@@ -4,6 +4,9 @@
 
 mod instances;
 mod queues;
+mod results;
+mod sets;
+mod subtasks;
 mod task_core;
 
 pub use crate::task_core::TaskCore;

@@ -1,6 +1,6 @@
 ghost use Rattle.std.specs.Prelude.{◌≡◌, ◌<◌, Some};
 ghost use Rattle.task_machine.specs.Maps.{get};
-ghost use Rattle.task_machine.specs.Read.{instance_of, is_explicit, position_of, register_of, saved_callee_of, saved_own_of, thread_handle_of};
+ghost use Rattle.task_machine.specs.Read.{instance_of, is_explicit, position_of, register_of, registers_of, saved_callee_of, saved_own_of, thread_handle_of};
 ghost use Rattle.task_machine.specs.Write.{set_position, set_register, set_saved_callee, set_saved_own, set_script};
 ghost use Rattle.task_machine.specs.declared.records.Thread.{Thread};
 ghost use Rattle.task_records.specs.Seen.{IsSound, seen};
@@ -39,6 +39,18 @@ pub fn register(parts: &CoreParts, thread: ThreadId, register: u8) -> u64
     match task_records::thread(parts, thread) {
         Some(entry) => word_in(&entry.thread.registers, register),
         None => 0,
+    }
+}
+
+/// All registers.
+pub fn registers(parts: &CoreParts, thread: ThreadId) -> [u64; 16]
+    requires sound { IsSound parts.now }
+    requires live { 0 < thread_of (seen parts.now) thread }
+    ensures { result ≡ registers_of (thread_of (seen parts.now) thread) (seen parts.now).core }
+{
+    match task_records::thread(parts, thread) {
+        Some(entry) => entry.thread.registers,
+        None => unreachable!(),
     }
 }
 

@@ -1,6 +1,5 @@
 -- A handle that names a set.
 use Rattle.std.proofs.Common.{◌≡◌, ◌<◌, ℕ, true, length, Option, Some, None, IsSome, is_some, slice_get, refl, sym, ap, subst, ◌∙◌}
-use Rattle.std.specs.List.{list_any}
 use Rattle.std.specs.Option.{option_and_then, option_map}
 use Rattle.std.specs.Prelude.{Ok}
 use Rattle.task_handles.specs.Handles.{held_by}
@@ -10,13 +9,10 @@ use Rattle.task_handles.specs.declared.kinds.HandleKind.TheVariants as handle
 use Rattle.task_handles.specs.declared.kinds.Held.{Held}
 use Rattle.task_handles.specs.declared.kinds.Rep.{Rep}
 use Rattle.task_handles.specs.declared.kinds.WaitableKind.TheVariants as waitable
-use Rattle.task_machine.specs.Core.{Core, Table}
+use Rattle.task_machine.specs.Core.{Table}
 use Rattle.task_machine.specs.Maps.{get}
-use Rattle.task_machine.specs.Read.{as_set, has_member, is_in_set, join_of, set_at, subtasks}
-use Rattle.task_machine.specs.Write.{free_handle}
+use Rattle.task_machine.specs.Read.{as_set, set_at}
 use Rattle.task_machine.specs.declared.records.Named.{Named}
-use Rattle.task_machine.specs.declared.records.Subtask.{Subtask}
-use Rattle.task_machine.specs.declared.records.Subtask.TheVariants as subtask
 use Rattle.task_records.proofs.HandleLemmas.{get-records_by}
 use Rattle.task_records.proofs.InstanceReads.{handles_read, instance_there}
 use Rattle.task_records.specs.Instances.{named_as, named_of}
@@ -56,12 +52,3 @@ module _ (a : CoreParts) (i h : ℕ) (some : IsSome (set_at i h (seen a).core)) 
         by_held (Some item) is =
             let one = is_set (kinds (bare (parts_of a))) item.kind item.rep ((sound.handles i r (sym at)).handles h item is) (subst IsSome (read ∙ ap (λ (o : Option Held). option_and_then as_set (option_map named_of o)) is) some) in
             (item, (is, (one.0, ap held_set is ∙ one.1)))
-
--- a handle that is taken back leaves the members of sets
-pub member_freed : (x i h : ℕ) (s : Core) → has_member x (free_handle i h s) ≡ has_member x s
-unfolding has_member free_handle
-member_freed x i h s = λ j. list_any (λ sub. is_in_set x (joined sub j)) (subtasks s)
-  where
-    joined : (sub : Subtask) → join_of sub (free_handle i h s) ≡ join_of sub s
-    joined (subtask.Guest k) = refl
-    joined (subtask.Host n) = refl

@@ -1,15 +1,15 @@
--- A set without members and waiters is gone.
-use Rattle.std.proofs.Common.{inl, inr, ◌⊎◌, ◌≡◌, ◌-◌, ◌≤◌, ℕ, false, List, [], Some, None, refl, sym, ap, subst, ◌∙◌, arith}
+-- A set is gone, as it stands.
+use Rattle.std.proofs.Common.{inl, inr, ◌⊎◌, ◌≡◌, ◌-◌, ◌≤◌, ℕ, List, Some, None, IsSome, refl, sym, ap, subst, ◌∙◌, arith}
 use Rattle.std.proofs.lemmas.Bool.{cases_eq}
 use Rattle.std.specs.Prelude.{Err, Ok, Result}
-use Rattle.removal_words.proofs.ChainLemmas.{IsIndex-closed, is_empty}
+use Rattle.removal_words.proofs.GoneLemmas.{IsIndex-shut}
 use Rattle.removal_words.proofs.LeftLemmas.{Leaves, handles_left, named_left}
 use Rattle.removal_words.proofs.LessLemmas.{each_left, found_gone, found_still, one_fewer}
-use Rattle.removal_words.proofs.UnfiledLemmas.{calls_unfiled, waits_unfiled, works_unfiled}
+use Rattle.removal_words.specs.Chains.{Closes}
 use Rattle.place_words.proofs.FiledLemmas.{kept_under}
-use Rattle.task_links.specs.Links.{ChainOf, IsLinks, Renames, Spot, Unmade, list_of}
+use Rattle.task_links.specs.Links.{Spot, list_of}
 use Rattle.task_machine.specs.Maps.{remove}
-use Rattle.task_machine.specs.Read.{has_member, has_waiters, table_use}
+use Rattle.task_machine.specs.Read.{table_use}
 use Rattle.task_machine.specs.Write.{remove_set}
 use Rattle.task_machine.specs.declared.records.Subtask.TheVariants as subtask
 use Rattle.task_records.proofs.MakeLemmas.{number_left, records_less, stands_less, table_less}
@@ -127,105 +127,106 @@ module _ (a : CoreParts) (sound : IsSound a) (id : TableId SetKey) (g : WaitSet)
       ∙ (number_left (λ (x : WaitSet). x.number) (λ (x : WaitSet). x.set) a.sets a.made.sets sound.tables.sets id.rep id.serial g is other.rep other.serial (λ same. differs (set_shown a other ∙ (same ∙ set_named a id g is)))
       ∙ sym (set_shown a other)))
 
-  module _ (alone : has_waiters g.number (seen a).core ≡ false) (memberless : has_member g.number (seen a).core ≡ false) where
-    -- its chains are empty
-    pub waiters_empty : IsLinks a.places → list_of a.places g.waiters ≡ Some []
-    unfolding IsSound
-    waiters_empty = is_empty (place_chain (bare (parts_of a))) (place_chain gone) a.places _ sound.whole.chained.places (WaitsOn g.number) g.waiters under_waiters no_waiters waits_else (waits_unfiled a sound g.number alone)
+  -- ---- What the word asks
 
-    pub calls_empty : IsLinks a.ready_calls → list_of a.ready_calls g.ready_calls ≡ Some []
-    unfolding IsSound
-    calls_empty = is_empty (ready_call_chain (bare (parts_of a))) (ready_call_chain gone) a.ready_calls _ sound.whole.chained.ready_calls g.number g.ready_calls under_calls no_calls calls_else (calls_unfiled a sound g.number memberless)
+  pub waiters_live : IsSome (list_of a.places g.waiters)
+  unfolding IsSound
+  waiters_live = sound.whole.chained.places.live (WaitsOn g.number) g.waiters under_waiters
 
-    pub works_empty : IsLinks a.ready_works → list_of a.ready_works g.ready_works ≡ Some []
-    unfolding IsSound
-    works_empty = is_empty (ready_work_chain (bare (parts_of a))) (ready_work_chain gone) a.ready_works _ sound.whole.chained.ready_works g.number g.ready_works under_works no_works works_else (works_unfiled a sound g.number memberless)
+  pub calls_live : IsSome (list_of a.ready_calls g.ready_calls)
+  unfolding IsSound
+  calls_live = sound.whole.chained.ready_calls.live g.number g.ready_calls under_calls
 
-    module _ (places ready_calls ready_works : List (Spot ℕ)) (waiters_dropped : Renames a.places places g.waiters (ChainOf []) Unmade) (calls_dropped : Renames a.ready_calls ready_calls g.ready_calls (ChainOf []) Unmade) (works_dropped : Renames a.ready_works ready_works g.ready_works (ChainOf []) Unmade) where
-      abbrev pub set_removed : CoreParts
-      set_removed = record a { sets = deleted id.rep a.sets; places = places; ready_calls = ready_calls; ready_works = ready_works; kept = record a.kept { used = a.kept.used - 1 } }
+  pub works_live : IsSome (list_of a.ready_works g.ready_works)
+  unfolding IsSound
+  works_live = sound.whole.chained.ready_works.live g.number g.ready_works under_works
 
-      home_left : (h : GuestThread) → HasHome (bare (parts_of a)) h → HasHome (bare (parts_of set_removed)) h
-      home_left h home = record { call = home.call; there = home.there; instance = home.instance; within = home.within; place = named_left (kinds (bare (parts_of a))) (kinds gone) left _ _ home.place; how_far = named_left (kinds (bare (parts_of a))) (kinds gone) left _ _ home.how_far }
+  module _ (places ready_calls ready_works : List (Spot ℕ)) (waiters_shut : Closes a.places places g.waiters) (calls_shut : Closes a.ready_calls ready_calls g.ready_calls) (works_shut : Closes a.ready_works ready_works g.ready_works) where
+    abbrev pub set_removed : CoreParts
+    set_removed = record a { sets = deleted id.rep a.sets; places = places; ready_calls = ready_calls; ready_works = ready_works; kept = record a.kept { used = a.kept.used - 1 } }
 
-      call_left : (c : GuestTask) → IsCallNamed (bare (parts_of a)) c → IsCallNamed (bare (parts_of set_removed)) c
-      call_left c named = record { caller = named_left (kinds (bare (parts_of a))) (kinds gone) left _ _ named.caller; join = named_left (kinds (bare (parts_of a))) (kinds gone) left _ _ named.join; group = named.group; positive = named.positive }
+    home_left : (h : GuestThread) → HasHome (bare (parts_of a)) h → HasHome (bare (parts_of set_removed)) h
+    home_left h home = record { call = home.call; there = home.there; instance = home.instance; within = home.within; place = named_left (kinds (bare (parts_of a))) (kinds gone) left _ _ home.place; how_far = named_left (kinds (bare (parts_of a))) (kinds gone) left _ _ home.how_far }
 
-      work_left : (w : HostWork) → IsWorkNamed (bare (parts_of a)) w → IsWorkNamed (bare (parts_of set_removed)) w
-      work_left w named = record { caller = named_left (kinds (bare (parts_of a))) (kinds gone) left _ _ named.caller; join = named_left (kinds (bare (parts_of a))) (kinds gone) left _ _ named.join; group = named.group }
+    call_left : (c : GuestTask) → IsCallNamed (bare (parts_of a)) c → IsCallNamed (bare (parts_of set_removed)) c
+    call_left c named = record { caller = named_left (kinds (bare (parts_of a))) (kinds gone) left _ _ named.caller; join = named_left (kinds (bare (parts_of a))) (kinds gone) left _ _ named.join; group = named.group; positive = named.positive }
 
-      removed_whole : IsWhole (bare (parts_of a)) → IsWhole (bare (parts_of set_removed))
-      unfolding IsSound table_use
-      removed_whole whole = record {
-        named = record {
-          threads = λ rep q at. home_left q.entry.item (whole.named.threads rep q at);
-          calls = λ rep q at. call_left q.entry.item (whole.named.calls rep q at);
-          works = λ rep q at. work_left q.entry.item (whole.named.works rep q at);
-          switch = whole.named.switch;
+    work_left : (w : HostWork) → IsWorkNamed (bare (parts_of a)) w → IsWorkNamed (bare (parts_of set_removed)) w
+    work_left w named = record { caller = named_left (kinds (bare (parts_of a))) (kinds gone) left _ _ named.caller; join = named_left (kinds (bare (parts_of a))) (kinds gone) left _ _ named.join; group = named.group }
+
+    removed_whole : IsWhole (bare (parts_of a)) → IsWhole (bare (parts_of set_removed))
+    unfolding IsSound table_use
+    removed_whole whole = record {
+      named = record {
+        threads = λ rep q at. home_left q.entry.item (whole.named.threads rep q at);
+        calls = λ rep q at. call_left q.entry.item (whole.named.calls rep q at);
+        works = λ rep q at. work_left q.entry.item (whole.named.works rep q at);
+        switch = whole.named.switch;
+      };
+      chained = record {
+        places = IsIndex-shut (place_chain (bare (parts_of a))) (place_chain gone) a.places places (WaitsOn g.number) g.waiters under_waiters no_waiters waits_else waiters_shut _ whole.chained.places;
+        ready_calls = IsIndex-shut (ready_call_chain (bare (parts_of a))) (ready_call_chain gone) a.ready_calls ready_calls g.number g.ready_calls under_calls no_calls calls_else calls_shut _ whole.chained.ready_calls;
+        ready_works = IsIndex-shut (ready_work_chain (bare (parts_of a))) (ready_work_chain gone) a.ready_works ready_works g.number g.ready_works under_works no_works works_else works_shut _ whole.chained.ready_works;
+        polled = whole.chained.polled;
+        marks = whole.chained.marks;
+        shelves = whole.chained.shelves;
+        low = whole.chained.low;
+        behind = whole.chained.behind;
+      };
+      nodes = record { marks = whole.nodes.marks; shelves = whole.nodes.shelves; callers = whole.nodes.callers; works = whole.nodes.works; apart = whole.nodes.apart };
+      counted = record {
+        kept = record {
+          used =
+              let fewer = one_fewer (λ (x : WaitSet). x.number) (λ (x : WaitSet). x.set) a.sets a.made.sets sound.tables.sets id.rep id.serial g is in
+              let all = whole.counted.kept.used in
+              omega arith;
+          groups = whole.counted.kept.groups;
+          live = whole.counted.kept.live;
         };
-        chained = record {
-          places = IsIndex-closed (place_chain (bare (parts_of a))) (place_chain gone) a.places _ whole.chained.places (WaitsOn g.number) g.waiters under_waiters no_waiters waits_else (waits_unfiled a sound g.number alone) places waiters_dropped;
-          ready_calls = IsIndex-closed (ready_call_chain (bare (parts_of a))) (ready_call_chain gone) a.ready_calls _ whole.chained.ready_calls g.number g.ready_calls under_calls no_calls calls_else (calls_unfiled a sound g.number memberless) ready_calls calls_dropped;
-          ready_works = IsIndex-closed (ready_work_chain (bare (parts_of a))) (ready_work_chain gone) a.ready_works _ whole.chained.ready_works g.number g.ready_works under_works no_works works_else (works_unfiled a sound g.number memberless) ready_works works_dropped;
-          polled = whole.chained.polled;
-          marks = whole.chained.marks;
-          shelves = whole.chained.shelves;
-          low = whole.chained.low;
-          behind = whole.chained.behind;
-        };
-        nodes = record { marks = whole.nodes.marks; shelves = whole.nodes.shelves; callers = whole.nodes.callers; works = whole.nodes.works; apart = whole.nodes.apart };
-        counted = record {
-          kept = record {
-            used =
-                let fewer = one_fewer (λ (x : WaitSet). x.number) (λ (x : WaitSet). x.set) a.sets a.made.sets sound.tables.sets id.rep id.serial g is in
-                let all = whole.counted.kept.used in
-                omega arith;
-            groups = whole.counted.kept.groups;
-            live = whole.counted.kept.live;
-          };
-          calls = whole.counted.calls;
-          sets = λ rep q at.
-              let one = each_left (λ (x : WaitSet). x.number) (λ (x : WaitSet). x.set) a.sets a.made.sets sound.tables.sets id.rep id.serial g is (IsSetKept (core_of (bare (parts_of a)))) whole.counted.sets rep q at in
-              record { members = one.members; entries = one.entries };
-          groups = whole.counted.groups;
-          few = whole.counted.few;
-          high = whole.counted.high;
-          low = whole.counted.low;
-          works = whole.counted.works;
-          results = whole.counted.results;
-        };
-      }
+        calls = whole.counted.calls;
+        sets = λ rep q at.
+            let one = each_left (λ (x : WaitSet). x.number) (λ (x : WaitSet). x.set) a.sets a.made.sets sound.tables.sets id.rep id.serial g is (IsSetKept (core_of (bare (parts_of a)))) whole.counted.sets rep q at in
+            record { members = one.members; entries = one.entries };
+        groups = whole.counted.groups;
+        few = whole.counted.few;
+        finished = whole.counted.finished;
+        high = whole.counted.high;
+        low = whole.counted.low;
+        works = whole.counted.works;
+        results = whole.counted.results;
+      };
+    }
 
-      sound_without : IsTable (deleted id.rep a.sets) → IsSound set_removed
-      unfolding IsSound
-      sound_without table = record {
-        tables = record { threads = sound.tables.threads; calls = sound.tables.calls; works = sound.tables.works; sets = table_less (λ (x : WaitSet). x.number) (λ (x : WaitSet). x.set) a.sets a.made.sets sound.tables.sets id.rep id.serial g is table; groups = sound.tables.groups };
-        whole = removed_whole sound.whole;
-        interesting = sound.interesting;
-        moving = sound.moving;
-        handles = λ i r at. handles_left (kinds (bare (parts_of a))) (kinds gone) left r (sound.handles i r at);
-        owned = sound.owned;
-        live = sound.live;
-      }
+    sound_without : IsTable (deleted id.rep a.sets) → IsSound set_removed
+    unfolding IsSound
+    sound_without table = record {
+      tables = record { threads = sound.tables.threads; calls = sound.tables.calls; works = sound.tables.works; sets = table_less (λ (x : WaitSet). x.number) (λ (x : WaitSet). x.set) a.sets a.made.sets sound.tables.sets id.rep id.serial g is table; groups = sound.tables.groups };
+      whole = removed_whole sound.whole;
+      interesting = sound.interesting;
+      moving = sound.moving;
+      handles = λ i r at. handles_left (kinds (bare (parts_of a))) (kinds gone) left r (sound.handles i r at);
+      owned = sound.owned;
+      live = sound.live;
+    }
 
-      core_without : (seen set_removed).core ≡ remove_set (set_of (seen a) id) (seen a).core
-      unfolding seen IsSound remove_set
-      core_without =
-          ap (λ m. record (seen a).core { sets = m }) (records_less (λ (x : WaitSet). x.number) (λ (x : WaitSet). x.set) a.sets a.made.sets sound.tables.sets id.rep id.serial g is ∙ ap (λ n. remove (records set_key a.sets.places) n) (set_named a id g is))
+    core_without : (seen set_removed).core ≡ remove_set (set_of (seen a) id) (seen a).core
+    unfolding seen IsSound remove_set
+    core_without =
+        ap (λ m. record (seen a).core { sets = m }) (records_less (λ (x : WaitSet). x.number) (λ (x : WaitSet). x.set) a.sets a.made.sets sound.tables.sets id.rep id.serial g is ∙ ap (λ n. remove (records set_key a.sets.places) n) (set_named a id g is))
 
-      tags_without : KeepsBut (lost_set (set_of (seen a) id)) (seen a).tags (seen set_removed).tags
-      unfolding seen thread_number call_number work_number
-      tags_without = record { threads = λ t other. refl; calls = λ k other. refl; sets = λ x other. others_named set_removed refl x other; works = λ w other. refl }
+    tags_without : KeepsBut (lost_set (set_of (seen a) id)) (seen a).tags (seen set_removed).tags
+    unfolding seen thread_number call_number work_number
+    tags_without = record { threads = λ t other. refl; calls = λ k other. refl; sets = λ x other. others_named set_removed refl x other; works = λ w other. refl }
 
-      module _ (sets : Table (Single WaitSet)) (less : sets ≡ deleted id.rep a.sets) where
-        abbrev without : CoreParts
-        without = record set_removed { sets = sets }
+    module _ (sets : Table (Single WaitSet)) (less : sets ≡ deleted id.rep a.sets) where
+      abbrev without : CoreParts
+      without = record set_removed { sets = sets }
 
-        pub removed_sound : IsTable sets → IsSound without
-        removed_sound table = subst (λ (t : Table (Single WaitSet)). IsSound (record set_removed { sets = t })) (sym less) (sound_without (subst (λ (t : Table (Single WaitSet)). IsTable t) less table))
+      pub removed_sound : IsTable sets → IsSound without
+      removed_sound table = subst (λ (t : Table (Single WaitSet)). IsSound (record set_removed { sets = t })) (sym less) (sound_without (subst (λ (t : Table (Single WaitSet)). IsTable t) less table))
 
-        pub removed_core : (seen without).core ≡ remove_set (set_of (seen a) id) (seen a).core
-        removed_core = ap (λ (t : Table (Single WaitSet)). (seen (record set_removed { sets = t })).core) less ∙ core_without
+      pub removed_core : (seen without).core ≡ remove_set (set_of (seen a) id) (seen a).core
+      removed_core = ap (λ (t : Table (Single WaitSet)). (seen (record set_removed { sets = t })).core) less ∙ core_without
 
-        pub removed_tags : KeepsBut (lost_set (set_of (seen a) id)) (seen a).tags (seen without).tags
-        removed_tags = subst (λ (t : Table (Single WaitSet)). KeepsBut (lost_set (set_of (seen a) id)) (seen a).tags (seen (record set_removed { sets = t })).tags) (sym less) tags_without
+      pub removed_tags : KeepsBut (lost_set (set_of (seen a) id)) (seen a).tags (seen without).tags
+      removed_tags = subst (λ (t : Table (Single WaitSet)). KeepsBut (lost_set (set_of (seen a) id)) (seen a).tags (seen (record set_removed { sets = t })).tags) (sym less) tags_without

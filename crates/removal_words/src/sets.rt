@@ -1,18 +1,17 @@
-ghost use Rattle.std.specs.Prelude.{◌≡◌, ◌<◌, IsSome, false};
-ghost use Rattle.task_machine.specs.Read.{has_member, has_waiters, set_at};
+ghost use Rattle.std.specs.Prelude.{◌≡◌, ◌<◌, IsSome};
+ghost use Rattle.task_machine.specs.Read.{set_at};
 ghost use Rattle.task_machine.specs.Write.{free_handle, remove_set};
 ghost use Rattle.task_records.specs.Seen.{IsSound, seen};
 ghost use Rattle.task_words.specs.StateView.{KeepsBut, lost_set, on_core, set_of};
 
+use crate::chains::close;
 use task_records::CoreParts;
 use task_words::SetId;
 
-// A set without members and waiters is gone, as it stands.
+// A set is gone, as it stands.
 fn remove_set(parts: &mut CoreParts, set: SetId)
     requires sound { IsSound parts.old }
     requires live { 0 < set_of (seen parts.old) set }
-    requires members { has_member (set_of (seen parts.old) set) (seen parts.old).core ≡ false }
-    requires waiters { has_waiters (set_of (seen parts.old) set) (seen parts.old).core ≡ false }
     ensures sound { IsSound parts.new }
     ensures core { (seen parts.new).core ≡ remove_set (set_of (seen parts.old) set) (seen parts.old).core }
     ensures current { (seen parts.new).current ≡ (seen parts.old).current }
@@ -22,12 +21,9 @@ fn remove_set(parts: &mut CoreParts, set: SetId)
         Some(found) => *found,
         None => unreachable!(),
     };
-    parts.places.no_node_is_twice();
-    parts.places.drop_chain(found.waiters);
-    parts.ready_calls.no_node_is_twice();
-    parts.ready_calls.drop_chain(found.ready_calls);
-    parts.ready_works.no_node_is_twice();
-    parts.ready_works.drop_chain(found.ready_works);
+    close(&mut parts.places, found.waiters);
+    close(&mut parts.ready_calls, found.ready_calls);
+    close(&mut parts.ready_works, found.ready_works);
     match parts.sets.delete(set) {
         Ok(_) => {}
         Err(_) => unreachable!(),
@@ -48,13 +44,11 @@ fn free_set_handle(parts: &mut CoreParts, instance: u32, handle: u32)
         .waitable_set_remove(&mut parts.counter, handle);
 }
 
-/// A set without members and waiters is gone, and its handle in the instance.
+/// A set is gone, and its handle in the instance.
 pub fn close_set(parts: &mut CoreParts, instance: u32, handle: u32, set: SetId)
     requires sound { IsSound parts.old }
     requires live { 0 < set_of (seen parts.old) set }
     requires names { IsSome (set_at instance handle (seen parts.old).core) }
-    requires members { has_member (set_of (seen parts.old) set) (seen parts.old).core ≡ false }
-    requires waiters { has_waiters (set_of (seen parts.old) set) (seen parts.old).core ≡ false }
     ensures sound { IsSound parts.new }
     ensures core { (seen parts.new).core ≡ remove_set (set_of (seen parts.old) set) (free_handle instance handle (seen parts.old).core) }
     ensures current { (seen parts.new).current ≡ (seen parts.old).current }

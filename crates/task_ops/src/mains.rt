@@ -1,6 +1,7 @@
 //! The ops of main, and the deadlock.
-ghost use Rattle.std.specs.Prelude.{◌≡◌, ◌+◌, ◌<◌, ◌≤◌, ◌^◌, IfOk, None, OnErr, Some, length, ℕ};
+ghost use Rattle.std.specs.Prelude.{◌≡◌, ◌+◌, ◌<◌, ◌≤◌, ◌^◌, IfOk, IsSome, None, OnErr, Some, length, ℕ};
 ghost use Rattle.task_machine.specs.Core.{Began, Refused};
+ghost use Rattle.task_machine.specs.Maps.{get};
 ghost use Rattle.task_machine.specs.Write.{set_trapped};
 ghost use Rattle.task_machine.specs.declared.component.Component.{Component};
 ghost use Rattle.task_machine.specs.declared.label.LoopLabel.TheVariants as loop_labels;
@@ -12,7 +13,7 @@ ghost use Rattle.task_rules.specs.Scripts.{export_kind, host_at};
 ghost use Rattle.task_rules.specs.Stalled.{deadlock_trap};
 ghost use Rattle.task_words.specs.StateView.{Keeps, on_core, work_of};
 
-use task_machine::{Callee, ExportKind, HostDef, LoopLabel, MainLabel, Phase, Trap};
+use task_machine::{Callee, ExportKind, Goal, HostDef, LoopLabel, MainLabel, Phase, Trap};
 use task_moves::put_high;
 use task_words::{NoMemory, WhyId, Words, WorkId};
 
@@ -48,19 +49,21 @@ pub fn start<W: Words>(
     words: &[u64],
 ) -> Result<Acted, NoMemory>
     requires placed { Placed (W.view w.old).core }
+    requires there { IsSome (get (W.view w.old).core.instances callee.instance) }
     requires words { length words.now ≤ 16 }
     requires few { (W.view w.old).core.made.threads + 1 < 2 ^ 64 }
     requires groups { (W.view w.old).core.made.groups + 1 < 2 ^ 64 }
     ensures meets { IfOk result (λ acted. (c : Component) → export_kind c callee ≡ kind → MainMeets (main_row c line (W.view w.old).core (Start callee words.now)) (W.view w.old).core acted (W.view w.new).core) }
     ensures tags { Keeps (W.view w.old).tags (W.view w.new).tags }
     ensures current { (W.view w.new).current ≡ (W.view w.old).current }
+    ensures asked { OnErr result (start_refusal (W.view w.old).core ≡ None) }
     ensures err { OnErr result (W.view w.new ≡ W.view w.old) }
 {
     if let Some(trap) = start_refusal(w) {
         w.set_trapped();
         return Ok(Acted::Does(MainLabel::StartRefused(trap, line)));
     }
-    let (thread, _) = w.make_call_by_main(callee, kind, words)?;
+    let (thread, _) = w.make_call_by_main(callee, kind, Goal::Main, words)?;
     put_high(w, thread, WhyId::Start);
     Ok(Acted::Does(MainLabel::Start(line, w.number(thread))))
 }

@@ -1,6 +1,7 @@
 //! The ops on threads that make one, or let another one run first.
-ghost use Rattle.std.specs.Prelude.{◌≡◌, ◌+◌, ◌<◌, ◌^◌, IfOk, OnErr};
-ghost use Rattle.task_machine.specs.Read.{position_of};
+ghost use Rattle.std.specs.Prelude.{◌≡◌, ◌+◌, ◌<◌, ◌^◌, IfOk, OnErr, is_some, true};
+ghost use Rattle.task_machine.specs.Maps.{get};
+ghost use Rattle.task_machine.specs.Read.{instance_of, position_of};
 ghost use Rattle.task_machine.specs.declared.component.Slot.TheVariants as slots;
 ghost use Rattle.task_ops.specs.Came.{Meets};
 ghost use Rattle.task_ops.specs.Halting.{halt_of};
@@ -113,6 +114,7 @@ pub fn thread_new<W: Words>(
     line: &Slot,
 ) -> Result<Came, NoMemory>
     requires live { 0 < thread_of (W.view w.old) thread }
+    requires there { is_some (get (W.view w.old).core.handles (instance_of (thread_of (W.view w.old) thread) (W.view w.old).core)) ≡ true }
     requires position { position_of (thread_of (W.view w.old) thread) (W.view w.old).core + 1 < 2 ^ 32 }
     requires few { (W.view w.old).core.made.threads + 1 < 2 ^ 64 }
     ensures meets { IfOk result (λ came. Meets (thread_new_row (thread_of (W.view w.old) thread) register slot value (W.view w.old).core line.now) (W.view w.old).core came (W.view w.new).core) }

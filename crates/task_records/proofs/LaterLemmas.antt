@@ -19,6 +19,7 @@ pub record IsLater (m n : Made) : Type 0 where
   pub threads : m.threads ≤ n.threads
   pub works : m.works ≤ n.works
   pub sets : m.sets ≤ n.sets
+  pub groups : m.groups ≤ n.groups
 
 module _ (k : Kinds) (n : Made) (later : IsLater k.made n) where
   pub named_later : (rep : ℕ) (t : Target) → IsNamedAt k rep t → IsNamedAt (record k { made = n }) rep t
@@ -101,6 +102,7 @@ module _ (p : Parts) (n : Made) (later : IsLater p.made n) where
       sets = λ rep q at. let one = whole.counted.sets rep q at in record { members = one.members; entries = one.entries };
       groups = whole.counted.groups;
       few = whole.counted.few;
+      finished = let within = whole.counted.finished in let more = later.groups in omega arith;
       high = whole.counted.high;
       low = whole.counted.low;
       works = whole.counted.works;

@@ -54,6 +54,7 @@ module _ (p : Parts) (places ready_calls ready_works polled : List (Spot ℕ)) w
       sets = λ rep q at. let one = whole.counted.sets rep q at in record { members = one.members; entries = one.entries };
       groups = whole.counted.groups;
       few = whole.counted.few;
+      finished = whole.counted.finished;
       high = whole.counted.high;
       low = whole.counted.low;
       works = whole.counted.works;

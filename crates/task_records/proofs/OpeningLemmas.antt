@@ -137,6 +137,7 @@ opening_counted = record {
   sets = λ rep q at. absent q at;
   groups = λ rep q at. absent q at;
   few = few;
+  finished = omega arith;
   high = λ some. absurd (some refl);
   low = λ some. absurd (some refl);
   works = λ rep q at. absent q at;

@@ -125,16 +125,17 @@ pub record HaveRowNodes (p : Parts) : Type 0 where
   pub works : HaveNodes (λ (w : HostWork). w.mark.index) p.works p.marks
   pub apart : (r s : ℕ) (q : Placed (Single GuestThread)) (w : Placed (Single HostWork)) → place_at p.threads r ≡ Some q → place_at p.works s ≡ Some w → q.entry.item.mark.index ≡ w.entry.item.mark.index → ⊥
 
--- Kept numbers, the rows of a core that has instances or host works, and room for results.
+-- Kept numbers, the groups that the trap finished, the rows of a core that has instances or host works, and room for results.
 pub record AreCounted (p : Parts) : Type 0 where
   pub kept : AreKept (core_of p) p.kept
   pub calls : EachEntry (IsCallKept (core_of p)) p.calls
   pub sets : EachEntry (IsSetKept (core_of p)) p.sets
   pub groups : EachEntry (IsGroupKept (core_of p)) p.groups
   pub few : p.capacity ≤ 4294967295
+  pub finished : p.finished ≤ p.made.groups
   pub high : (p.instances ≡ [] → ⊥) → IsSome p.high
   pub low : (p.instances ≡ [] → ⊥) → IsSome p.low
-  pub works : EachEntry (λ (w : HostWork). IsSome p.high) p.works
+  pub works : EachEntry (λ (w : HostWork). IsSome p.high × IsSome p.live) p.works
   pub results : (k : ℕ) (c : Call) → get (core_of p).calls k ≡ Some c → c.goal ≡ goal.Main → IsSome (lookup (is_at (nat_cmp k)) p.results)
 
 pub record IsWhole (p : Parts) : Type 0 where

@@ -1,4 +1,4 @@
-ghost use Rattle.std.specs.Prelude.{◌≡◌, ◌+◌, ◌<◌, ◌≤◌, ◌^◌, IfOk, OnErr, OnOk, false, length, true};
+ghost use Rattle.std.specs.Prelude.{◌≡◌, ◌+◌, ◌<◌, ◌≤◌, ◌^◌, IfOk, IsSome, OnErr, OnOk, false, length, true};
 ghost use Rattle.std.specs.Option.{option_map_or};
 ghost use Rattle.task_machine.specs.Maps.{get};
 ghost use Rattle.task_machine.specs.Moves.{group_settled, is_deletable, is_finished};
@@ -104,6 +104,7 @@ pub trait CallWords: View {
         words: &[u64],
     ) -> Result<(ThreadId, CallId), NoMemory>
         requires live { 0 < thread_of (Self.view self.old) thread }
+        requires there { IsSome (get (Self.view self.old).core.instances callee.instance) }
         requires words { length words.now ≤ 16 }
         requires few { (Self.view self.old).core.made.threads + 1 < 2 ^ 64 }
         requires room { fits 3 (Self.view self.old).core ≡ true }
@@ -124,6 +125,7 @@ pub trait CallWords: View {
         words: &[u64],
     ) -> Result<(ThreadId, CallId), NoMemory>
         requires live { 0 < thread_of (Self.view self.old) thread }
+        requires there { IsSome (get (Self.view self.old).core.instances callee.instance) }
         requires words { length words.now ≤ 16 }
         requires few { (Self.view self.old).core.made.threads + 1 < 2 ^ 64 }
         requires room { fits 3 (Self.view self.old).core ≡ true }
@@ -135,21 +137,23 @@ pub trait CallWords: View {
         ensures tags { Keeps (Self.view self.old).tags (Self.view self.new).tags }
         ensures err { OnErr result (Self.view self.new ≡ Self.view self.old) };
 
-    /// Makes a group, a call by main in it, with room for its result, and the call's first thread.
-    /// Where memory is wanting, all is as before.
+    /// Makes a group, a call without a calling thread in it, and the call's first thread. Where its
+    /// result is for main there is room for it. Where memory is wanting, all is as before.
     fn make_call_by_main(
         &mut self,
         callee: Callee,
         kind: ExportKind,
+        goal: Goal,
         words: &[u64],
     ) -> Result<(ThreadId, CallId), NoMemory>
+        requires there { IsSome (get (Self.view self.old).core.instances callee.instance) }
         requires words { length words.now ≤ 16 }
         requires few { (Self.view self.old).core.made.threads + 1 < 2 ^ 64 }
         requires groups { (Self.view self.old).core.made.groups + 1 < 2 ^ 64 }
         requires room { fits 4 (Self.view self.old).core ≡ true }
         ensures thread { IfOk result (λ ids. thread_of (Self.view self.new) ids.0 ≡ next_thread (Self.view self.old).core) }
         ensures call { IfOk result (λ ids. call_of (Self.view self.new) ids.1 ≡ next_thread (Self.view self.old).core) }
-        ensures core { OnOk result ((Self.view self.new).core ≡ call_made callers.Main callee kind goals.Main ((Self.view self.old).core.made.groups + 1) words.now (add_group (Self.view self.old).core)) }
+        ensures core { OnOk result ((Self.view self.new).core ≡ call_made callers.Main callee kind goal ((Self.view self.old).core.made.groups + 1) words.now (add_group (Self.view self.old).core)) }
         ensures current { (Self.view self.new).current ≡ (Self.view self.old).current }
         ensures tags { Keeps (Self.view self.old).tags (Self.view self.new).tags }
         ensures err { OnErr result (Self.view self.new ≡ Self.view self.old) };

@@ -1,4 +1,4 @@
-ghost use Rattle.std.specs.Prelude.{◌≡◌, ◌+◌, ◌<◌, ◌≤◌, ◌^◌, IfOk, None, OnErr, OnOk, Some, false, length, true, ℕ};
+ghost use Rattle.std.specs.Prelude.{◌≡◌, ◌+◌, ◌<◌, ◌≤◌, ◌^◌, IfOk, None, OnErr, OnOk, Some, false, is_some, length, true, ℕ};
 ghost use Rattle.task_machine.specs.Maps.{get};
 ghost use Rattle.task_machine.specs.Moves.{freed_thread_handle};
 ghost use Rattle.task_machine.specs.Read.{at_handle_limit, call_instance, fits, how_far_of, instance_of, is_explicit, is_last_thread, position_of, register_of, registers_of, saved_callee_of, saved_own_of, task_of, thread_group, thread_handle_of};
@@ -112,6 +112,7 @@ pub trait ThreadWords: View {
     fn make_thread(&mut self, task: CallId, slot: u8, words: &[u64]) -> Result<ThreadId, NoMemory>
         requires words { length words.now ≤ 16 }
         requires task { 0 < call_of (Self.view self.old) task }
+        requires there { is_some (get (Self.view self.old).core.handles (call_instance (call_of (Self.view self.old) task) (Self.view self.old).core)) ≡ true }
         requires few { (Self.view self.old).core.made.threads + 1 < 2 ^ 64 }
         requires room { fits 2 (Self.view self.old).core ≡ true }
         requires limit { at_handle_limit (Self.view self.old).core ≡ false }

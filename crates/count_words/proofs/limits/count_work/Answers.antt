@@ -8,7 +8,7 @@ use Rattle.task_records.specs.Seen.{IsSound, parts_of, seen}
 use Rattle.task_records.specs.Sound.{bare}
 
 one_more : (m : Made) → IsLater m (with_works_made (m.works + 1) m)
-one_more m = record { threads = omega arith; works = omega arith; sets = omega arith }
+one_more m = record { threads = omega arith; works = omega arith; sets = omega arith; groups = omega arith }
 
 pub overflow_add-parts : goal.overflow_add-parts
 unfolding seen

@@ -1,3 +1,4 @@
+use Rattle.handle_words.proofs.ItemLemmas.{nothing_parts}
 use Rattle.handle_words.proofs.threads.insert_thread_handle.Goals as goal
 use Rattle.std.proofs.Common.{ap, refl, set}
 use Rattle.std.specs.Vec.{with_item}
@@ -31,4 +32,10 @@ pub returns-in-Err-clause-err : goal.returns-in-Err-clause-err
 returns-in-Err-clause-err c =
     let g = c.index_mut-entry.result.now in
     nothing_seen c.args.parts.now c.args.index g (read_at c.args.parts.now.instances.items c.args.index g c.requires.there c.index_mut-entry.ensures.value) _
+    (ap (λ (t : Handles Rep). set c.args.parts.now.instances.items c.args.index (record g { thread_handles = t })) c.in-Err.ensures.err.0) _ c.in-Err.ensures.err.1
+
+pub returns-in-Err-clause-same : goal.returns-in-Err-clause-same
+returns-in-Err-clause-same c =
+    let g = c.index_mut-entry.result.now in
+    nothing_parts c.args.parts.now c.args.index g (read_at c.args.parts.now.instances.items c.args.index g c.requires.there c.index_mut-entry.ensures.value) (with_item c.args.parts.now.instances c.args.index (record g { thread_handles = c.guest_thread_insert.new.self }))
     (ap (λ (t : Handles Rep). set c.args.parts.now.instances.items c.args.index (record g { thread_handles = t })) c.in-Err.ensures.err.0) _ c.in-Err.ensures.err.1

@@ -1,20 +1,11 @@
-use Rattle.removal_words.proofs.HandleLemmas.{member_freed}
 use Rattle.removal_words.proofs.sets.close_set.Goals as goal
 use Rattle.std.proofs.Common.{◌<◌, ap, subst, sym, ◌∙◌}
-use Rattle.task_machine.specs.Read.{has_member, has_waiters}
-use Rattle.task_machine.specs.Write.{free_handle, remove_set}
+use Rattle.task_machine.specs.Write.{remove_set}
 use Rattle.task_records.specs.Seen.{seen}
 use Rattle.task_words.specs.StateView.{KeepsBut, StateView, lost_set, set_of}
 
 pub remove_set-requires-clause-live : goal.remove_set-requires-clause-live
 remove_set-requires-clause-live c = subst (λ (v : StateView). 0 < set_of v c.args.set) (sym c.free_set_handle.ensures.new) c.requires.live
-
-pub remove_set-requires-clause-members : goal.remove_set-requires-clause-members
-remove_set-requires-clause-members c = ap (λ (v : StateView). has_member (set_of v c.args.set) v.core) c.free_set_handle.ensures.new ∙ (member_freed _ c.args.instance c.args.handle (seen c.args.parts.now).core ∙ c.requires.members)
-
-pub remove_set-requires-clause-waiters : goal.remove_set-requires-clause-waiters
-unfolding has_waiters free_handle
-remove_set-requires-clause-waiters c = ap (λ (v : StateView). has_waiters (set_of v c.args.set) v.core) c.free_set_handle.ensures.new ∙ c.requires.waiters
 
 pub returns-clause-core : goal.returns-clause-core
 returns-clause-core c = c.remove_set.ensures.core ∙ ap (λ (v : StateView). remove_set (set_of v c.args.set) v.core) c.free_set_handle.ensures.new

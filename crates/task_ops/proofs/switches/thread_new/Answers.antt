@@ -1,8 +1,14 @@
-use Rattle.std.proofs.Common.{refl, sym, ◌∙◌, ap}
+use Rattle.std.proofs.Common.{ap, is_some, refl, subst, sym, true, ◌≡◌, ◌∙◌, ℕ}
 use Rattle.task_ops.proofs.SwitchLemmas.{made_position, thread_new_meets}
 use Rattle.task_ops.proofs.switches.thread_new.Goals as goal
+use Rattle.task_machine.specs.Maps.{get}
 use Rattle.task_machine.specs.Read.{call_instance, instance_of, new_thread_handle}
 use Rattle.task_words.specs.StateView.{StateView, thread_of}
+
+pub make_thread-requires-clause-there : goal.make_thread-requires-clause-there
+make_thread-requires-clause-there g c =
+    let s = g.W.View.view c.args.w.now in
+    subst (λ (k : ℕ). is_some (get s.core.handles (call_instance k s.core)) ≡ true) (sym c.task_of-task.ensures.is) c.requires.there
 
 pub assign-requires : goal.assign-requires
 assign-requires g c =
