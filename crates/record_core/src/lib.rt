@@ -4,6 +4,7 @@
 
 mod calls;
 mod instances;
+mod places;
 mod queues;
 mod results;
 mod sets;
