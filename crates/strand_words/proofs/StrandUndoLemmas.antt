@@ -3,8 +3,8 @@ use Rattle.std.proofs.Common.{◌≡◌, ◌+◌, ◌-◌, ◌==◌, ℕ, Bool, 
 use Rattle.std.proofs.lemmas.Bool.{eq-eqb}
 use Rattle.std.specs.Option.{option_map_or}
 use Rattle.std.specs.Prelude.{Ok}
-use Rattle.make_words.proofs.RestoreLemmas.{Restores-deleted, Restores-same, Restores-written, restored_from}
-use Rattle.make_words.specs.Restored.{IsRestored, Restores}
+use Rattle.make_words.proofs.RestoreLemmas.{Restores-deleted, Restores-pushed, Restores-same, Restores-written, restored_from}
+use Rattle.make_words.specs.Restored.{IsRestored}
 use Rattle.strand_words.specs.Pushed.{PushesStrand}
 use Rattle.task_machine.specs.Core.{Core}
 use Rattle.task_machine.specs.Maps.{get, get-insert}
@@ -36,10 +36,6 @@ use Rattle.task_table.specs.declared.id.TableId.{TableId}
 use Rattle.task_wait.specs.declared.keys.GroupKey.{GroupKey}
 use Rattle.task_wait.specs.declared.keys.GuestTaskKey.{GuestTaskKey}
 use Rattle.task_wait.specs.declared.keys.ThreadKey.{ThreadKey}
-
--- what was pushed is what the table is
-pub Restores-pushed : {T : Type 0} (t u v : Table (Single T)) (g : T) → IsTable u → u ≡ pushed (record { item = g }) t → v ≡ u → Restores (pushed (record { item = g }) t) v
-Restores-pushed t u v g table is same = subst (Restores (pushed (record { item = g }) t)) (sym (same ∙ is)) (Restores-same (pushed (record { item = g }) t) (subst IsTable is table))
 
 module _ (a b c e : CoreParts) (sound_a : IsSound a) (sound_b : IsSound b) (id : TableId GroupKey) (group : TaskGroup) (stands : Ok group ≡ item_at item_of a.groups id.rep id.serial) (first : TableId ThreadKey) (task : TableId GuestTaskKey)
     (made : PushesStrand a b id group first task) (same : parts_of c ≡ parts_of b)
