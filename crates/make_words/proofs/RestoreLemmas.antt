@@ -1,5 +1,5 @@
 -- Tables that hold at each place what they held: the core is sound, and nothing is seen of it.
-use Rattle.std.proofs.Common.{inl, inr, ◌≡◌, ◌+◌, ◌-◌, ◌<◌, ℕ, List, [], ◌∷◌, Option, Some, None, IfSome, IsSome, cond, map, slice_get, suc, refl, sym, ap, ap₂, subst, ◌∙◌, arith}
+use Rattle.std.proofs.Common.{inl, inr, ◌≡◌, ℕ, List, [], ◌∷◌, Option, Some, None, IfSome, IsSome, cond, map, slice_get, suc, refl, sym, ap, ap₂, subst, ◌∙◌, arith}
 use Rattle.std.proofs.lemmas.Bool.{cases_eq, eq-eqb, ne_eqb}
 use Rattle.std.proofs.lemmas.Option.{slice_get-map}
 use Rattle.std.specs.Option.{option_map}
@@ -11,13 +11,13 @@ use Rattle.task_handles.specs.declared.kinds.Rep.{Rep}
 use Rattle.task_handles.specs.declared.kinds.WaitableKind.TheVariants as waitable
 use Rattle.task_index.proofs.Indexes.{IsIndex-same, IsIndex-same_chains}
 use Rattle.task_index.specs.Counts.{passing}
-use Rattle.task_index.specs.Index.{Filing, IsIndex, filings, said}
+use Rattle.task_index.specs.Index.{Filing, filings, said}
 use Rattle.task_index.specs.Rows.{Each, IsRows, with_nodes}
 use Rattle.task_links.specs.Links.{Spot}
 use Rattle.task_words.specs.StateView.{Tag}
 use Rattle.task_machine.specs.Core.{Core}
 use Rattle.task_machine.specs.Maps.{get, same_map}
-use Rattle.task_machine.specs.Read.{call_instance, live_in}
+use Rattle.task_machine.specs.Read.{call_instance}
 use Rattle.task_machine.specs.declared.records.Entry.{Entry}
 use Rattle.task_machine.specs.declared.records.Entry.TheVariants as entry
 use Rattle.task_machine.specs.declared.records.Subtask.TheVariants as subtask
@@ -25,9 +25,9 @@ use Rattle.task_records.specs.Image.{Parts, callers_in, chained, core_of, image,
 use Rattle.task_records.specs.Kept.{AreKept, IsCallKept, IsGroupKept, IsSetKept}
 use Rattle.task_records.specs.Keys.{blocked_key, call_key, callers_key, group_key, ready_calls_key, ready_works_key, set_key, thread_key, under_key, waiters_key, work_blocked_key, work_key}
 use Rattle.task_records.specs.Kinds.{item_of, on_item}
-use Rattle.task_records.specs.Names.{AreHandlesNamed, AtPlace, CallOf, HasHome, IsCallNamed, IsHeldNamed, IsNamedAt, IsWorkNamed, Kinds, Nothing, OwnsHandle, SetOf, StandsAt, Target, ThreadOf, WorkOf, kinds}
+use Rattle.task_records.specs.Names.{AreHandlesNamed, AtPlace, CallOf, HasHome, IsCallNamed, IsHeldNamed, IsNamedAt, IsWorkNamed, Kinds, Nothing, SetOf, StandsAt, Target, ThreadOf, WorkOf, kinds}
 use Rattle.task_records.specs.Places.{BlockedOn, HeldIn, UnderOf, WaitsOn, Where, live_chain, live_work, place_chain, place_filing, ready_call, ready_call_chain, ready_work, ready_work_chain}
-use Rattle.task_records.specs.Rows.{HaveNodes, IsFollower, IsSeated, callers_chain, callers_row, entry_seated, follower, push_entry, host_entry, seated, thread_entry}
+use Rattle.task_records.specs.Rows.{HaveNodes, IsFollower, IsSeated, callers_chain, callers_row, entry_seated, follower, push_entry, host_entry, thread_entry}
 use Rattle.task_records.specs.Sound.{IsWhole, Sound, SoundTable, bare, bare_call, bare_thread, bare_work}
 use Rattle.task_records.specs.declared.calls.GuestTask.{GuestTask}
 use Rattle.task_records.specs.declared.calls.TaskGroup.{TaskGroup}
@@ -47,7 +47,7 @@ use Rattle.task_table.proofs.TableLemmas.{IsTable-with_entry}
 use Rattle.task_table.specs.Answers.{item_at, item_in}
 use Rattle.task_table.specs.Changes.{deleted, next_place, pushed, with_entry}
 use Rattle.task_table.specs.Mapped.{mapped, placed_as}
-use Rattle.task_table.specs.Records.{found_record, key_in, number_in, or_record, record_at, records}
+use Rattle.task_table.specs.Records.{found_record, key_in, number_in, or_record, records}
 use Rattle.task_table.specs.Table.{IsTable, Placed, Table, children_of, found, of_serial, place_at, standing}
 
 -- ---- Names in more tables

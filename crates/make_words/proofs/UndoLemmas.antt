@@ -1,5 +1,5 @@
 -- A set's record that was made and is taken back.
-use Rattle.std.proofs.Common.{◌≡◌, ◌+◌, ◌-◌, ◌<◌, ℕ, ap, ap₂, subst, ◌∙◌, arith}
+use Rattle.std.proofs.Common.{◌≡◌, ◌+◌, ◌-◌, ◌<◌, ℕ, ap, ap₂, ◌∙◌, arith}
 use Rattle.std.specs.Prelude.{Err}
 use Rattle.make_words.proofs.RestoreLemmas.{Restores-deleted, Restores-pushed, Restores-same, restored_from}
 use Rattle.make_words.specs.Restored.{IsRestored}

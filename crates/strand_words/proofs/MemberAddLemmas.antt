@@ -1,11 +1,10 @@
 -- A thread more of a call that is there, as a core: it is sound, contracts see just that, and it can be taken back.
-use Rattle.std.proofs.Common.{◌≡◌, ◌+◌, ◌-◌, ◌==◌, ◌<◌, ◌^◌, ◌≤◌, ℕ, true, List, [], Option, None, Some, length, map, slice_get, refl, sym, ap, ap₂, subst, ◌∙◌, arith}
+use Rattle.std.proofs.Common.{◌≡◌, ◌+◌, ◌-◌, ◌==◌, ◌<◌, ◌^◌, ◌≤◌, ℕ, true, List, Option, None, Some, length, slice_get, refl, sym, ap, ap₂, subst, ◌∙◌, arith}
 use Rattle.std.proofs.lemmas.List.Sums.{count_by-le-length}
 use Rattle.std.specs.Prelude.{Ok}
 use Rattle.make_words.proofs.FreshLemmas.{each_more}
 use Rattle.make_words.proofs.RestoreLemmas.{Restores-deleted, Restores-pushed, Restores-same, Restores-written, handles_grown, restored_from}
 use Rattle.make_words.specs.Restored.{IsRestored}
-use Rattle.queue_words.proofs.CallerLemmas.{apart_as, none_as}
 use Rattle.strand_words.proofs.GrowLemmas.{at_grown}
 use Rattle.strand_words.proofs.MemberLemmas.{grows, member_whole}
 use Rattle.strand_words.proofs.StrandAddLemmas.{places_few, tables_bare}
@@ -15,19 +14,16 @@ use Rattle.strand_words.specs.Loose.{AreThreadLoose}
 use Rattle.strand_words.specs.Member.{IsMember}
 use Rattle.strand_words.specs.Pushed.{PushesThread}
 use Rattle.task_index.specs.Counts.{passing}
-use Rattle.task_index.specs.Rows.{values}
-use Rattle.task_links.specs.Links.{list_or_nil}
-use Rattle.task_machine.specs.Maps.{Records, insert, size}
+use Rattle.task_machine.specs.Maps.{Records, size}
 use Rattle.task_machine.specs.Read.{fits, table_use}
 use Rattle.task_machine.specs.Write.{add_thread}
 use Rattle.task_machine.specs.declared.records.Call.{Call}
 use Rattle.task_machine.specs.declared.records.Thread.{Thread}
 use Rattle.task_records.proofs.KeptLemmas.{call_threads, used_is}
 use Rattle.task_records.proofs.KindLemmas.{item_stands, table_written, tags_written}
-use Rattle.task_records.proofs.MakeLemmas.{number_kept, number_new, records_more, table_more}
-use Rattle.task_records.proofs.ReadLemmas.{call_shown, thread_shown}
+use Rattle.task_records.proofs.MakeLemmas.{table_more}
 use Rattle.task_records.proofs.TableLemmas.{records_unseen}
-use Rattle.task_records.specs.Image.{Parts, callers_in, core_of, tags_in}
+use Rattle.task_records.specs.Image.{Parts, core_of, tags_in}
 use Rattle.task_records.specs.Kept.{threads_of}
 use Rattle.task_records.specs.Keys.{call_key, thread_key}
 use Rattle.task_records.specs.Kinds.{item_of, on_item}
@@ -37,10 +33,8 @@ use Rattle.task_records.specs.Sound.{IsWhole, SoundTable, bare, bare_call, bare_
 use Rattle.task_records.specs.declared.calls.GuestTask.{GuestTask}
 use Rattle.task_records.specs.declared.parts.CoreParts.{CoreParts}
 use Rattle.task_records.specs.declared.single.Single.{Single}
-use Rattle.task_records.specs.declared.threads.Follower.{Follower}
 use Rattle.task_records.specs.declared.threads.GuestThread.{GuestThread}
 use Rattle.task_table.proofs.MappedLemmas.{mapped-pushed, mapped-with_entry, place_at-mapped}
-use Rattle.task_table.proofs.RecordChangeLemmas.{PutsRecord-pushed}
 use Rattle.task_table.specs.Answers.{item_at}
 use Rattle.task_table.specs.Changes.{deleted, next_place, pushed, with_entry}
 use Rattle.task_table.specs.Mapped.{mapped, placed_as}

@@ -1,11 +1,10 @@
 -- A call more and its thread, as a core: it is sound, and contracts see just that.
-use Rattle.std.proofs.Common.{◌≡◌, ◌+◌, ◌==◌, ◌<◌, ◌^◌, ◌≤◌, ℕ, true, List, [], Option, None, Some, length, map, is_some, refl, sym, ap, ap₂, subst, ◌∙◌, arith}
+use Rattle.std.proofs.Common.{◌≡◌, ◌+◌, ◌==◌, ◌<◌, ◌^◌, ◌≤◌, ℕ, true, Option, None, Some, length, is_some, refl, sym, ap, subst, ◌∙◌, arith}
 use Rattle.std.proofs.lemmas.List.Sums.{count_by-le-length}
 use Rattle.std.specs.Prelude.{Ok}
 use Rattle.make_words.proofs.FreshLemmas.{each_more}
 use Rattle.make_words.proofs.MoreLemmas.{passing_more, table_bare}
 use Rattle.make_words.proofs.RestoreLemmas.{handles_grown}
-use Rattle.queue_words.proofs.CallerLemmas.{apart_as, none_as}
 use Rattle.strand_words.proofs.CallPushLemmas.{nodes_of as call_nodes_of}
 use Rattle.strand_words.proofs.GroupLemmas.{group_numbers}
 use Rattle.strand_words.proofs.GrowLemmas.{at_grown}
@@ -16,9 +15,7 @@ use Rattle.strand_words.proofs.ThreadSeenLemmas.{callers_are, thread_new, thread
 use Rattle.strand_words.specs.Loose.{AreStrandLoose}
 use Rattle.strand_words.specs.Strand.{IsStrand}
 use Rattle.task_index.specs.Counts.{passing}
-use Rattle.task_index.specs.Rows.{values}
-use Rattle.task_links.specs.Links.{list_or_nil}
-use Rattle.task_machine.specs.Maps.{Records, insert, size}
+use Rattle.task_machine.specs.Maps.{insert, size}
 use Rattle.task_machine.specs.Read.{fits, table_use}
 use Rattle.task_machine.specs.Write.{add_call, add_thread}
 use Rattle.task_machine.specs.declared.records.Call.{Call}
@@ -26,10 +23,10 @@ use Rattle.task_machine.specs.declared.records.Work.{Work}
 use Rattle.task_records.proofs.KeptLemmas.{used_is}
 use Rattle.task_records.proofs.KindLemmas.{item_stands, table_written}
 use Rattle.task_records.proofs.MakeLemmas.{number_kept, number_new, records_more, table_more}
-use Rattle.task_records.proofs.ReadLemmas.{call_shown, thread_shown}
-use Rattle.task_records.specs.Image.{Parts, callers_in, core_of}
+use Rattle.task_records.proofs.ReadLemmas.{call_shown}
+use Rattle.task_records.specs.Image.{Parts, core_of}
 use Rattle.task_records.specs.Kept.{calls_of, is_of_group}
-use Rattle.task_records.specs.Keys.{call_key, thread_key, work_key}
+use Rattle.task_records.specs.Keys.{call_key, work_key}
 use Rattle.task_records.specs.Kinds.{item_of, on_item}
 use Rattle.task_records.specs.Names.{AtPlace, OwnsHandle, Target, kinds}
 use Rattle.task_records.specs.Seen.{IsSound, parts_of, seen}
@@ -38,11 +35,9 @@ use Rattle.task_records.specs.declared.calls.GuestTask.{GuestTask}
 use Rattle.task_records.specs.declared.calls.TaskGroup.{TaskGroup}
 use Rattle.task_records.specs.declared.parts.CoreParts.{CoreParts}
 use Rattle.task_records.specs.declared.single.Single.{Single}
-use Rattle.task_records.specs.declared.threads.Follower.{Follower}
 use Rattle.task_records.specs.declared.threads.GuestThread.{GuestThread}
 use Rattle.task_records.specs.declared.works.HostWork.{HostWork}
 use Rattle.task_table.proofs.MappedLemmas.{mapped-pushed}
-use Rattle.task_table.proofs.RecordChangeLemmas.{PutsRecord-pushed}
 use Rattle.task_table.proofs.RecordCountLemmas.{size-records-le}
 use Rattle.task_table.specs.Answers.{item_at}
 use Rattle.task_table.specs.Changes.{next_place, pushed, with_entry}

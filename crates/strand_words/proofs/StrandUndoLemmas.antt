@@ -1,5 +1,5 @@
 -- A call and its thread that were made are taken back, and the thread that has a handle now is in its call's instance.
-use Rattle.std.proofs.Common.{◌≡◌, ◌+◌, ◌-◌, ◌==◌, ℕ, Bool, true, false, cond, List, None, Option, Some, refl, sym, ap, ap₂, subst, ◌∙◌, arith}
+use Rattle.std.proofs.Common.{◌≡◌, ◌+◌, ◌-◌, ℕ, Bool, false, cond, List, None, Option, Some, refl, sym, ap, ap₂, ◌∙◌, arith}
 use Rattle.std.proofs.lemmas.Bool.{eq-eqb}
 use Rattle.std.specs.Option.{option_map_or}
 use Rattle.std.specs.Prelude.{Ok}
@@ -21,16 +21,14 @@ use Rattle.task_records.proofs.KindLemmas.{item_stands}
 use Rattle.task_records.specs.Image.{Parts}
 use Rattle.task_records.specs.Kinds.{item_of}
 use Rattle.task_records.specs.Seen.{IsSound, parts_of}
-use Rattle.task_records.specs.declared.calls.GuestTask.{GuestTask}
 use Rattle.task_records.specs.declared.calls.TaskGroup.{TaskGroup}
 use Rattle.task_records.specs.declared.parts.CoreParts.{CoreParts}
 use Rattle.task_records.specs.declared.single.Single.{Single}
-use Rattle.task_records.specs.declared.threads.GuestThread.{GuestThread}
 use Rattle.task_rules.specs.Calls.{call_made, new_call, new_thread, with_thread_handle}
 use Rattle.task_rules.specs.Scripts.{registers_for}
 use Rattle.task_table.proofs.Laws.{found-with_entry}
 use Rattle.task_table.specs.Answers.{item_at, item_in}
-use Rattle.task_table.specs.Changes.{deleted, entry_put, pushed, with_entry}
+use Rattle.task_table.specs.Changes.{deleted, entry_put, with_entry}
 use Rattle.task_table.specs.Table.{IsTable, Placed, Table, found}
 use Rattle.task_table.specs.declared.id.TableId.{TableId}
 use Rattle.task_wait.specs.declared.keys.GroupKey.{GroupKey}

@@ -1,5 +1,5 @@
 -- What a make of records changed, so that it can be taken back.
-use Rattle.std.specs.Prelude.{◌≡◌, ◌+◌, ℕ}
+use Rattle.std.specs.Prelude.{◌≡◌, ◌+◌}
 use Rattle.task_records.specs.Kinds.{entry_of}
 use Rattle.task_records.specs.declared.calls.GuestTask.{GuestTask}
 use Rattle.task_records.specs.declared.calls.TaskGroup.{TaskGroup}

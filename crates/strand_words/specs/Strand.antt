@@ -1,5 +1,5 @@
 -- A call that is made, and its first thread.
-use Rattle.std.specs.Prelude.{◌≡◌, ◌+◌, ℕ, None, IsSome, slice_get}
+use Rattle.std.specs.Prelude.{◌≡◌, ◌+◌, None, IsSome, slice_get}
 use Rattle.std.specs.BTreeMap.{is_at}
 use Rattle.std.specs.Map.{lookup}
 use Rattle.std.specs.Ordering.{nat_cmp}
@@ -28,4 +28,3 @@ pub record IsStrand (p : Parts) (c : GuestTask) (g : GuestThread) : Type 0 where
   pub within : IsSome (slice_get p.instances g.instance)
   pub caller : AtPlace p c.maker (caller_target c.call.caller)
   pub room : c.call.goal ≡ goal.Main → IsSome (lookup (is_at (nat_cmp c.number)) p.results)
-
