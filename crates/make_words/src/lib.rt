@@ -7,4 +7,5 @@ mod marks;
 mod sets;
 
 pub use instances::add_instance;
+pub use marks::{open_high, open_low};
 pub use sets::open_set;

@@ -1,10 +1,18 @@
-ghost use Rattle.std.specs.Prelude.{◌≡◌, option_map};
-ghost use Rattle.task_machine.specs.Moves.{ready_why, stand, why_of};
+ghost use Rattle.std.specs.Prelude.{◌≡◌, IsSome, Ok, Some, option_map, ℕ};
+ghost use Rattle.task_links.specs.Links.{removed};
+ghost use Rattle.task_machine.specs.Moves.{held_why_of, ready_why, stand, why_of};
 ghost use Rattle.task_machine.specs.Read.{place_of};
 ghost use Rattle.task_machine.specs.Write.{set_place};
 ghost use Rattle.task_machine.specs.declared.records.Place.TheVariants as places;
+ghost use Rattle.task_machine.specs.declared.records.Why.{Why};
+ghost use Rattle.task_machine.specs.declared.words.Mark.TheVariants as marks;
+ghost use Rattle.task_records.specs.Keys.{thread_key};
+ghost use Rattle.task_records.specs.Kinds.{item_of};
 ghost use Rattle.task_records.specs.Names.{AtPlace, why_target};
 ghost use Rattle.task_records.specs.Seen.{IsSound, parts_of, seen};
+ghost use Rattle.task_records.specs.declared.threads.GuestThread.{GuestThread};
+ghost use Rattle.task_table.specs.Answers.{item_at};
+ghost use Rattle.task_table.specs.Records.{number_in, record_at};
 ghost use Rattle.task_words.specs.Live.{delivered_set, live_set};
 ghost use Rattle.task_words.specs.Names.{place_in};
 ghost use Rattle.task_words.specs.StateView.{on_core, set_of, thread_of};
@@ -115,5 +123,31 @@ pub fn hold(parts: &mut CoreParts, thread: ThreadId)
         let mut new = old;
         new.thread.place = Place::Held { why };
         put(parts, thread, old, new, chain);
+    }
+}
+
+/// The thread that is held has its entry at high from now on, for the same reason.
+pub fn unhold(parts: &mut CoreParts, thread: ThreadId)
+    requires sound { IsSound parts.old }
+    requires held { IsSome (held_why_of (thread_of (seen parts.old) thread) (seen parts.old).core) }
+    ensures sound { IsSound parts.new }
+    ensures new { (w : Why) → held_why_of (thread_of (seen parts.old) thread) (seen parts.old).core ≡ Some w → seen parts.new ≡ on_core (stand (thread_of (seen parts.old) thread) marks.High w) (seen parts.old) }
+    ensures numbers { (r : ℕ) → number_in (record_at thread_key parts.new.threads.places r) ≡ number_in (record_at thread_key parts.old.threads.places r) }
+    ensures left { (g : GuestThread) → Ok g ≡ item_at item_of parts.old.threads thread.rep thread.serial → parts.new.places ≡ removed g.node.index parts.old.places }
+{
+    let Some(found) = task_records::thread(parts, thread) else {
+        unreachable!()
+    };
+    let old = *found;
+    match old.thread.place {
+        Place::Held { why } => {
+            let mut new = old;
+            new.thread.place = Place::Ready {
+                mark: Mark::High,
+                why,
+            };
+            put(parts, thread, old, new, None);
+        }
+        _ => unreachable!(),
     }
 }

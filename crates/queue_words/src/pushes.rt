@@ -37,6 +37,8 @@ pub fn push_high(parts: &mut CoreParts, thread: ThreadId)
     requires unqueued { IsUnqueued (thread_of (seen parts.old) thread) (seen parts.old).core }
     ensures sound { IsSound parts.new }
     ensures new { seen parts.new ≡ on_core (push_high (entries.Thread (thread_of (seen parts.old) thread))) (seen parts.old) }
+    ensures threads { parts.new.threads ≡ parts.old.threads }
+    ensures places { parts.new.places ≡ parts.old.places }
 {
     let found = live_thread(parts, thread);
     let (chain, shelf) = high_chains(parts, found.instance);

@@ -16,7 +16,7 @@ use task_table::{ResourceTable, TableId};
 use task_wait::GroupKey;
 
 /// One where it is so.
-pub(crate) fn one_if(flag: bool) -> u64
+pub fn one_if(flag: bool) -> u64
     ensures { result ≡ (if flag then 1 else 0) }
 {
     if flag { 1 } else { 0 }
@@ -33,7 +33,7 @@ fn group_at(groups: &ResourceTable<Single<TaskGroup>>, place: u32) -> TableId<Gr
 }
 
 /// The group that stands at a place, with its id.
-pub(crate) fn group_there(
+pub fn group_there(
     groups: &ResourceTable<Single<TaskGroup>>,
     place: u32,
 ) -> (TableId<GroupKey>, TaskGroup)

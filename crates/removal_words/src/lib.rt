@@ -11,6 +11,7 @@ mod threads;
 mod works;
 
 pub use calls::delete_call;
+pub use groups::{group_there, one_if};
 pub use sets::close_set;
 pub use threads::{remove_thread, retire_thread};
 pub use works::delete_work;

@@ -2,3 +2,5 @@ pub mod WalkLemmas
 pub mod LeastLemmas
 pub mod ChainLemmas
 pub mod PollLemmas
+pub mod HeldLemmas
+pub mod ReleaseLemmas

@@ -1,5 +1,5 @@
 -- The live work of the least number above another one.
-use Rattle.std.proofs.Common.{inl, inr, ◌≡◌, ◌≤◌, ◌==◌, ◌&&◌, ℕ, Bool, true, false, cond, filter, nat_lt, List, [], ◌∷◌, map, Option, Some, None, IsSome, is_some, T, refl, sym, ap, ap₂, subst, ◌∙◌, arith}
+use Rattle.std.proofs.Common.{inl, inr, ◌≡◌, ◌≤◌, ◌==◌, ◌&&◌, ℕ, Bool, true, false, cond, filter, nat_lt, List, [], ◌∷◌, Option, Some, None, IsSome, is_some, T, refl, sym, ap, subst, ◌∙◌, arith}
 use Rattle.std.proofs.lemmas.Bool.{eq-eqb, eqb-true}
 use Rattle.std.proofs.lemmas.Option.{same_Some}
 use Rattle.std.specs.Cmp.{unsigned_tied}
@@ -28,11 +28,11 @@ use Rattle.task_rules.specs.Works.{first_number, live_after, next_polled}
 use Rattle.task_table.proofs.MappedLemmas.{place_at-mapped}
 use Rattle.task_table.proofs.RecordLemmas.{get-records, record_found}
 use Rattle.task_table.specs.Mapped.{placed_as}
-use Rattle.task_table.specs.Records.{key_in, number_in, record_at, records}
+use Rattle.task_table.specs.Records.{key_in, number_in, records}
 use Rattle.task_table.specs.Table.{Placed, place_at}
 use Rattle.place_words.specs.Moved.{live_key}
 use Rattle.queue_words.proofs.BareLemmas.{place_mapped}
-use Rattle.walk_words.proofs.LeastLemmas.{IsFirst, below_keys, cases_or, has_first, keys, least_first, one_first, right, same_first, sorted_below}
+use Rattle.walk_words.proofs.LeastLemmas.{IsFirst, below_keys, cases_or, keys, least_first, one_first, right, same_first, sorted_below}
 use Rattle.walk_words.specs.Least.{least_from, least_of, lesser, lesser_after}
 use Rattle.walk_words.specs.Walks.{of_live_chain, work_at_place}
 

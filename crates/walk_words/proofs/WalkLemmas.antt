@@ -3,8 +3,9 @@ use Rattle.std.proofs.Common.{◌≡◌, ◌<◌, ◌++◌, ℕ, cond, List, [],
 use Rattle.std.proofs.lemmas.Bool.{eq-eqb, ne_eqb}
 use Rattle.std.proofs.lemmas.List.{append_assoc}
 use Rattle.std.proofs.lemmas.Option.{same_Some}
-use Rattle.task_links.proofs.Paths.{In-here, after-at}
-use Rattle.task_links.specs.Links.{Apart, In, IsLinks, Spot, after, entries, following, head_of, in_list, link_of}
+use Rattle.task_links.proofs.Paths.{Apart-less, Apart-once, In-here, In-right, after-at, without-at}
+use Rattle.task_links.proofs.ReadLemmas.{ChangesOnly-unlinked, made_linked}
+use Rattle.task_links.specs.Links.{Apart, ChangesOnly, In, IsLinks, Spot, after, entries, following, head_of, in_list, link_of, list_or_nil, removed, removed_by, without}
 use Rattle.walk_words.specs.Walks.{Walk, from, left_from}
 
 module _ {P : Type 0} where
@@ -44,6 +45,9 @@ module _ {P : Type 0} where
     split : entries links c ≡ (walk.front ++ e ∷ []) ++ rest.0
     split = whole ∙ sym (append_assoc walk.front (e ∷ []) rest.0)
 
+    pub walk_good : {X : Type 0} → ((b : List (ℕ × P)) → Good (e ∷ b) → X) → X
+    walk_good use_of = use_of rest.0 (subst Good rest.1 walk.good)
+
     -- the node that was come to is in the chain
     pub walk_link : (v : P) × (link_of links e.0 ≡ Some (c, v))
     walk_link = sound.entered e.0 c (subst (In e.0) (sym whole) (In-here e walk.front rest.0))
@@ -60,3 +64,30 @@ module _ {P : Type 0} where
           let later : left_from other (entries links c) ≡ length rest.0 = ap (λ o. left_from o (entries links c)) (other_is ∙ following_is) ∙ (ap (left_from (head_of rest.0)) split ∙ from_back (walk.front ++ e ∷ []) rest.0 (subst Apart split (sound.once c))) in
           let here : left_from next (entries links c) ≡ length (e ∷ rest.0) = ap (λ o. left_from o (entries links c)) is ∙ (ap (from e.0) whole ∙ from_back walk.front (e ∷ rest.0) apart) in
           omega (arith, later, here)
+
+      -- where the node leaves its chain the walk goes on with what is left
+      module _ (new : List (Spot P)) (takes : new ≡ removed e.0 links) where
+        out_links : ChangesOnly links new c e.0 (without e.0 (entries links c)) None
+        out_links = subst (λ (l : List (Spot P)). ChangesOnly links l c e.0 (without e.0 (entries links c)) None) (sym (takes ∙ ap (λ o. removed_by e.0 o links) walk_link.1))
+            (ChangesOnly-unlinked links c e.0 (without e.0 (entries links c)) (sound.listed e.0 c walk_link.0 walk_link.1).0 (made_linked links e.0 c walk_link.0 walk_link.1))
+
+        out_entries : entries new c ≡ walk.front ++ rest.0
+        out_entries = ap list_or_nil out_links.list_is ∙ (ap (without e.0) whole ∙ without-at e.0 e.1 walk.front rest.0 apart)
+
+        pub walk_out : (Then : List (ℕ × P) → Type 0) → ((b : List (ℕ × P)) → (In e.0 b → ⊥) → Good (e ∷ b) → Then b) → Walk Then (entries new c) other
+        walk_out Then more = record {
+          front = walk.front;
+          back = rest.0;
+          parts = out_entries;
+          next_is = other_is ∙ following_is;
+          good = more rest.0 (λ i. Apart-once (e.0, e.1) walk.front rest.0 apart (In-right e.0 walk.front rest.0 i)) (subst Good rest.1 walk.good);
+        }
+
+        pub out_others : (n : ℕ) → (n ≡ e.0 → ⊥) → link_of new n ≡ link_of links n
+        out_others = out_links.links
+
+        pub out_smaller : left_from other (entries new c) < left_from next (entries links c)
+        out_smaller =
+            let later : left_from other (entries new c) ≡ length rest.0 = ap (λ o. left_from o (entries new c)) (other_is ∙ following_is) ∙ (ap (left_from (head_of rest.0)) out_entries ∙ from_back walk.front rest.0 (Apart-less (e.0, e.1) walk.front rest.0 apart)) in
+            let here : left_from next (entries links c) ≡ length (e ∷ rest.0) = ap (λ o. left_from o (entries links c)) is ∙ (ap (from e.0) whole ∙ from_back walk.front (e ∷ rest.0) apart) in
+            omega (arith, later, here)

@@ -2,9 +2,13 @@
 //! an instance, and the live works.
 #![tactic(auto)]
 
+mod admissions;
 mod chains;
 mod least;
 mod polls;
+mod releases;
 
+pub use admissions::has_admitted;
 pub use least::{blocked_on, under};
 pub use polls::next_polled;
+pub use releases::release;

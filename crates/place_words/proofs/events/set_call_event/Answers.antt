@@ -23,7 +23,7 @@ returns-in-Ok-clause-sound c =
     told_sound a c.requires c.args.call g c.in-Some.ensures.item h refl a.sets refl c.refile.new.links (join_at a c.requires c.args.call g c.in-Some.ensures.item) (same_sets a c.requires c.args.call g c.in-Some.ensures.item h refl)
     (kept_same a c.requires c.args.call g c.in-Some.ensures.item h refl refl c.refile.new.links) refl
     (subst (λ (l : Option (ℕ × ℕ)). Refiles a.ready_calls c.refile.new.links g.ready.index l)
-    (ap (λ r. option_map (λ k. (k, r)) c.call_chain-chain.result) c.rep.ensures ∙ ap (option_map (λ k. (k, c.args.call.rep))) (sym c.call_chain-chain.ensures)) c.refile.ensures)
+    (ap (λ r. option_map (λ k. (k, r)) c.call_chain-chain.result) c.rep.ensures ∙ ap (option_map (λ k. (k, c.args.call.rep))) (sym c.call_chain-chain.ensures)) c.refile.ensures.links)
 
 pub returns-in-Ok-clause-new : goal.returns-in-Ok-clause-new
 unfolding set_event

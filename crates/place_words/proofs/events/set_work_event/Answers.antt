@@ -23,7 +23,7 @@ returns-in-Ok-clause-sound c =
     heard_sound a c.requires c.args.work g c.in-Some.ensures.item h refl a.sets refl c.refile.new.links a.polled a.kept.live a.kept.moving (work_join_at a c.requires c.args.work g c.in-Some.ensures.item) (same_sets a c.requires c.args.work g c.in-Some.ensures.item h refl)
     (kept_same a c.requires c.args.work g c.in-Some.ensures.item h refl refl c.refile.new.links a.polled a.kept.live a.kept.moving) refl refl (stays_live a c.requires c.args.work g c.in-Some.ensures.item h refl refl)
     (subst (λ (l : Option (ℕ × ℕ)). Refiles a.ready_works c.refile.new.links g.ready.index l)
-    (ap (λ r. option_map (λ k. (k, r)) c.work_chain-chain.result) c.rep.ensures ∙ ap (option_map (λ k. (k, c.args.work.rep))) (sym c.work_chain-chain.ensures)) c.refile.ensures)
+    (ap (λ r. option_map (λ k. (k, r)) c.work_chain-chain.result) c.rep.ensures ∙ ap (option_map (λ k. (k, c.args.work.rep))) (sym c.work_chain-chain.ensures)) c.refile.ensures.links)
 
 pub returns-in-Ok-clause-new : goal.returns-in-Ok-clause-new
 unfolding set_event

@@ -45,7 +45,7 @@ returns-in-Ok-clause-sound c =
     subst (λ (t : Table (Single WaitSet)). IsSound (record a { calls = with_entry c.args.call.rep (entry_of h) a.calls; sets = t; ready_calls = links })) (sym (c.enter.ensures ∙ ap (rejoined (λ n. n + 1) c.joined_set-to.result.rep c.joined_set-to.result.serial) c.leave.ensures))
     (told_sound a c.requires c.args.call g c.in-Some.ensures.item h refl (joined_now a c.requires c.args.call g c.in-Some.ensures.item h refl c.joined_set-from.result c.joined_set-to.result c.joined_set-from.ensures c.joined_set-to.ensures links) (joined_alike a c.requires c.args.call g c.in-Some.ensures.item h refl c.joined_set-from.result c.joined_set-to.result c.joined_set-from.ensures c.joined_set-to.ensures links) links c.named_join-named.ensures.at (sets_sound a c.requires (joined_set g.call.join) (joined_set c.named_join-named.result.0) c.joined_set-from.result c.joined_set-to.result c.joined_set-from.ensures c.joined_set-to.ensures) (kept_joined a c.requires c.args.call g c.in-Some.ensures.item h refl c.joined_set-from.result c.joined_set-to.result c.joined_set-from.ensures c.joined_set-to.ensures links) refl
     (subst (λ (l : Option (ℕ × ℕ)). Refiles a.ready_calls links g.ready.index l)
-    (ap (λ r. option_map (λ k. (k, r)) c.call_chain-chain.result) c.rep.ensures ∙ ap (option_map (λ k. (k, c.args.call.rep))) (sym c.call_chain-chain.ensures)) c.refile.ensures))
+    (ap (λ r. option_map (λ k. (k, r)) c.call_chain-chain.result) c.rep.ensures ∙ ap (option_map (λ k. (k, c.args.call.rep))) (sym c.call_chain-chain.ensures)) c.refile.ensures.links))
 
 pub returns-in-Ok-clause-new : goal.returns-in-Ok-clause-new
 unfolding set_join

@@ -45,7 +45,7 @@ returns-in-Ok-clause-sound c =
     subst (λ (t : Table (Single WaitSet)). IsSound (record a { works = with_entry c.args.work.rep (entry_of h) a.works; sets = t; ready_works = links })) (sym (c.enter.ensures ∙ ap (rejoined (λ n. n + 1) c.joined_set-to.result.rep c.joined_set-to.result.serial) c.leave.ensures))
     (heard_sound a c.requires c.args.work g c.in-Some.ensures.item h refl (joined_now a c.requires c.args.work g c.in-Some.ensures.item h refl c.joined_set-from.result c.joined_set-to.result c.joined_set-from.ensures c.joined_set-to.ensures links) (joined_alike a c.requires c.args.work g c.in-Some.ensures.item h refl c.joined_set-from.result c.joined_set-to.result c.joined_set-from.ensures c.joined_set-to.ensures links) links a.polled a.kept.live a.kept.moving c.named_join-named.ensures.at (sets_sound a c.requires (joined_set g.work.join) (joined_set c.named_join-named.result.0) c.joined_set-from.result c.joined_set-to.result c.joined_set-from.ensures c.joined_set-to.ensures) (kept_joined a c.requires c.args.work g c.in-Some.ensures.item h refl c.joined_set-from.result c.joined_set-to.result c.joined_set-from.ensures c.joined_set-to.ensures links) refl refl (stays_live a c.requires c.args.work g c.in-Some.ensures.item h refl refl)
     (subst (λ (l : Option (ℕ × ℕ)). Refiles a.ready_works links g.ready.index l)
-    (ap (λ r. option_map (λ k. (k, r)) c.work_chain-chain.result) c.rep.ensures ∙ ap (option_map (λ k. (k, c.args.work.rep))) (sym c.work_chain-chain.ensures)) c.refile.ensures))
+    (ap (λ r. option_map (λ k. (k, r)) c.work_chain-chain.result) c.rep.ensures ∙ ap (option_map (λ k. (k, c.args.work.rep))) (sym c.work_chain-chain.ensures)) c.refile.ensures.links))
 
 pub returns-in-Ok-clause-new : goal.returns-in-Ok-clause-new
 unfolding set_join

@@ -43,7 +43,7 @@ returns-clause-sound c =
     ap (λ r. option_map (λ k. (k, r)) c.args.chain) c.rep.ensures ∙ ap (option_map (λ k. (k, c.args.id.rep))) (sym c.requires.chain) in
     subst (λ (t : Table (Single WaitSet)). IsSound (record a { threads = with_entry c.args.id.rep (entry_of c.args.new) a.threads; sets = t; places = c.refile.new.links })) (sym (c.one_more.ensures ∙ ap (recounted (λ n. n + 1) c.entry_set-to.result.rep c.entry_set-to.result.serial) c.one_less.ensures))
     (placed_sound c.args.parts.now c.requires.sound c.args.id c.args.old c.requires.item c.args.new c.requires.stays c.requires.handle c.entry_set-from.result c.entry_set-to.result c.entry_set-from.ensures c.entry_set-to.ensures c.refile.new.links c.requires.place c.requires.how_far
-    (subst (λ (l : Option (ℕ × ℕ)). Refiles a.places c.refile.new.links c.args.old.node.index l) links c.refile.ensures))
+    (subst (λ (l : Option (ℕ × ℕ)). Refiles a.places c.refile.new.links c.args.old.node.index l) links c.refile.ensures.links))
 
 pub returns-clause-new : goal.returns-clause-new
 returns-clause-new c f is_f =

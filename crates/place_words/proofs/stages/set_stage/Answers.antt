@@ -42,7 +42,7 @@ returns-in-Ok-clause-sound c =
     (kept_same a c.requires c.args.work g c.in-Some.ensures.item h refl refl a.ready_works links c.recounted-parts.result c.recounted-parts-in-Some.result)
     (recounted_is a.kept.live c.recounted-parts.result _ _ _ _ c.is_live.ensures c.is_live-in-Some.ensures c.recounted-parts.ensures)
     (recounted_is a.kept.moving c.recounted-parts-in-Some.result _ _ _ _ c.is_moving.ensures c.is_moving-in-Some.ensures c.recounted-parts-in-Some.ensures)
-    (subst (λ (l : Option (ℕ × ℕ)). Refiles a.polled links g.live.index l) (ap (λ r. option_map (λ k. (k, r)) c.stage_chain-chain.result) c.rep.ensures ∙ ap (option_map (λ k. (k, c.args.work.rep))) (sym c.stage_chain-chain.ensures)) c.refile.ensures)
+    (subst (λ (l : Option (ℕ × ℕ)). Refiles a.polled links g.live.index l) (ap (λ r. option_map (λ k. (k, r)) c.stage_chain-chain.result) c.rep.ensures ∙ ap (option_map (λ k. (k, c.args.work.rep))) (sym c.stage_chain-chain.ensures)) c.refile.ensures.links)
     (stays_ready a c.requires c.args.work g c.in-Some.ensures.item)
 
 pub returns-in-Ok-clause-new : goal.returns-in-Ok-clause-new

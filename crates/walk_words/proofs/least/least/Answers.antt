@@ -1,4 +1,4 @@
-use Rattle.std.proofs.Common.{List, None, Option, Some, ap, is_some, map, option_map, refl, subst, sym, ◌∙◌, ℕ}
+use Rattle.std.proofs.Common.{None, Some, ap, is_some, map, option_map, refl, subst, sym, ◌∙◌}
 use Rattle.task_links.specs.Links.{entries}
 use Rattle.task_records.specs.Seen.{seen}
 use Rattle.task_words.specs.StateView.{thread_of}
