@@ -4,6 +4,7 @@
 
 mod calls;
 mod instances;
+mod limits;
 mod places;
 mod queues;
 mod results;
