@@ -44,6 +44,7 @@ module _ (a : Scene) (s t : Core) (steady : Steady s t) (before : Numbered s) (a
           let below : m ≤ s.made.threads = grind (arith, before.calls m) in
           let later = steady.threads m below in absurd (grind arith)
 
-      by_place : (u : Thread) → get t.threads m ≡ Some u → (o : Option Place) → place_of m s ≡ o → (n : ℕ) × (place_of n t ≡ Some (Place.Under m))
+      by_place : (u : Thread) → get t.threads m ≡ Some u → (o : Option Place) → place_of m s ≡ o →
+          (n : ℕ) × (place_of n t ≡ Some (Place.Under m))
       by_place u at None none = entered u at none (runs m (of_call u at))
       by_place u at (Some p) is = let r = is_there_of (get s.threads m) (ap (λ (o : Option Place). is_some o) is) in still r.0 u r.1 at

@@ -78,7 +78,8 @@ next_first s Mark.Low e h = grind arith
 next_first s Mark.Switch e h = let r = at_place (λ (n : ℕ). true) s.queues.switch (grind arith) in (r.0, (r.1.0, grind arith))
 
 -- the entry of a thread leaves its mark
-pub popped_cleared : (x : Mark) (m : ℕ) (s : Core) → First x (Entry.Thread m) s → HasPlace m s → Cleared m s (popped x s) × (1 ≤ switch_entries m s.queues.switch + entries m s.queues.high + entries m s.queues.low)
+pub popped_cleared : (x : Mark) (m : ℕ) (s : Core) → First x (Entry.Thread m) s → HasPlace m s →
+    Cleared m s (popped x s) × (1 ≤ switch_entries m s.queues.switch + entries m s.queues.high + entries m s.queues.low)
 unfolding popped set_switch set_high set_low
 popped_cleared Mark.Switch m s f h =
     (cleared m s _ h (grind (arith, nat_tests, has_one m s h)) (λ k o. grind (arith, nat_tests)), grind (arith, nat_tests))
@@ -142,13 +143,15 @@ withdrawn_stand {P = P} n q m s apart fresh st = record {
 -- ---- A thread more
 
 -- it has the next number, which was no thread's, and behind which nobody was
-pub added_stand : {P : ℕ → Watch} (n : ℕ) (q : Option Place) (t : Thread) (s : Core) → (n == s.made.threads + 1) ≡ false → t.place ≡ Place.New →
+pub added_stand : {P : ℕ → Watch} (n : ℕ) (q : Option Place) (t : Thread) (s : Core) → (n == s.made.threads + 1) ≡ false →
+    t.place ≡ Place.New →
     Stand P n q [] s → Stand P n q [] (add_thread t s)
 unfolding add_thread
 added_stand {P = P} n q t s apart new st = record {
   here = added_other n apart ∙ st.here;
   once = st.once;
-  loose = λ k h. let e : (k == s.made.threads + 1) ≡ false = by_number k n _ (λ e. grind (arith, e, apart)) (λ e. zero_one (no_time k n e) h) in
+  loose =
+      λ k h. let e : (k == s.made.threads + 1) ≡ false = by_number k n _ (λ e. grind (arith, e, apart)) (λ e. zero_one (no_time k n e) h) in
       let l = st.loose k h in grind (arith, nat_tests, get-insert, added_other k e);
   there = λ k h. zero_one refl h;
   placed = λ k h. by_number k (s.made.threads + 1) _ (λ e. subst (λ (j : ℕ). HasPlace j u) (sym e) own) (λ e. other k e (st.placed k h));

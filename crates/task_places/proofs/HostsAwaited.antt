@@ -23,9 +23,11 @@ awaited_word : (a : Scene) (w : Word) (s : Core) → Allowed a w s → ((i : ℕ
     WorksQueued s → Stuck w s → HostsAwaited s → HostsAwaited (after_word w s)
 awaited_word a w s ok ends q stuck h n i far = go (thread_came w s ok n)
   where
-    goes : (r u : Thread) → get s.threads n ≡ Some r → get (after_word w s).threads n ≡ Some u → (u.place ≡ r.place) ⊎ ((x : Placing) × (w ≡ Places x)) →
+    goes : (r u : Thread) → get s.threads n ≡ Some r → get (after_word w s).threads n ≡ Some u →
+        (u.place ≡ r.place) ⊎ ((x : Placing) × (w ≡ Places x)) →
         Awaited n i s → Awaited n i (after_word w s)
-    goes r u e f (inl same) old = let l = ended_word a w s ok ends q i old.0 in let m = made_works_word a w s in let o = old.1 in grind arith
+    goes r u e f (inl same) old =
+        let l = ended_word a w s ok ends q i old.0 in let m = made_works_word a w s in let o = old.1 in grind arith
     goes r u e f (inr x) old = let l = ended_word a w s ok ends q i old.0 in let m = made_works_word a w s in let o = old.1 in
         let b = λ (at : place_of n s ≡ Some (Place.Blocked (Subtask.Host i))). stuck n i at x.0 x.1 in grind arith
 
@@ -34,7 +36,8 @@ awaited_word a w s ok ends q stuck h n i far = go (thread_came w s ok n)
 
     go : ThreadAfter a w s n → Awaited n i (after_word w s)
     go (IsSame r u e f c y (inl same) p z) = goes r u e f p (h n i (cc))
-    go (IsSame r u e f c y (inr ok) p z) = goes r u e f p (come r e (let is : u.how_far ≡ HowFar.Calls (Subtask.Host i) = cc in subst (λ g. MayCome a n g s) is ok))
+    go (IsSame r u e f c y (inr ok) p z) =
+        goes r u e f p (come r e (let is : u.how_far ≡ HowFar.Calls (Subtask.Host i) = cc in subst (λ g. MayCome a n g s) is ok))
     go (IsGone e) = absurd (cc)
     go (IsBeside u is l same m e) = absurd (cc)
     go (IsFirst u is l there y z new m e x) = absurd (cc)
@@ -116,15 +119,18 @@ module _ {a : Scene} {b : Core} {n : ℕ} {q : Option Place} (f : Frame a b n q)
   trip_works first (Quits s t k c leave d) =
       settles (working_word a asked (RemoveThread k) s (Departs leave) (unmoved (RemoveThread k) s refl) (stays first c)) d
   trip_works first (GoesBack s t k m v c is runs to under d ok) =
-      let g = settles (working_word a asked (RemoveThread k) s (EndsOver m is to under) (unmoved (RemoveThread k) s refl) (stays first c)) d in
+      let g =
+      settles (working_word a asked (RemoveThread k) s (EndsOver m is to under) (unmoved (RemoveThread k) s refl) (stays first c)) d in
       let low : place_of m t ≡ Some (Place.Under k) = (exits f k s t is c d).1.1 m k under in
       let back = after_word (Places (Move m Place.Running)) t in
-      let other = λ (j i : ℕ) (at : place_of j t ≡ Some (Place.Blocked (Subtask.Host i))). by_number j m _ (λ e. absurd (grind arith)) (λ e. e) in
+      let other =
+      λ (j i : ℕ) (at : place_of j t ≡ Some (Place.Blocked (Subtask.Host i))). by_number j m _ (λ e. absurd (grind arith)) (λ e. e) in
       working_word a asked (SetHowFar m (HowFar.Answered v)) back ((k, (is, (to, under))), WasUnder k v under refl)
       (unmoved (SetHowFar m (HowFar.Answered v)) back refl)
       (working_word a asked (Places (Move m Place.Running)) t (inr ok)
       (λ j i at x y. inl (ap (λ (u : Core). place_of j u) (placing_shifted (Move m Place.Running) t).only ∙ (place_kept j m Place.Running t (other j i at) ∙ at))) g)
-  trip_works first (Collapses t over c) = along (Working a) (λ w s ok h. working_word a asked w s (fall_allowed a w s ok) (unmoved w s (grind arith)) h) first c
+  trip_works first (Collapses t over c) =
+      along (Working a) (λ w s ok h. working_word a asked w s (fall_allowed a w s ok) (unmoved w s (grind arith)) h) first c
 
 -- ---- Steps
 

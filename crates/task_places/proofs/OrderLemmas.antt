@@ -150,7 +150,9 @@ module _ (x : Setting) (s : State) (l : Label) (t : State) (h : InOrder x.compon
   names_first = record { known = h.names; number = λ k c at. (h.numbered.calls k c at).1; least = λ n k far. (h.calls_named.by_op n k (ap subtask_under_way far)).number }
 
   names_base : NamesHold a.base
-  names_base = let n = names_first in record { known = record { there = h.names.there; once = h.names.once; called = h.names.called }; number = n.number; least = n.least }
+  names_base =
+      let n = names_first in
+      record { known = record { there = h.names.there; once = h.names.once; called = h.names.called }; number = n.number; least = n.least }
 
   calls_base : CallsAwaited a.base
   calls_base = record { inside = h.calls.inside; apart = h.calls.apart }
@@ -160,7 +162,8 @@ module _ (x : Setting) (s : State) (l : Label) (t : State) (h : InOrder x.compon
 
   -- a running thread is under none
   inside_there : InsideThere a
-  inside_there n k runs far = ⊎_elim (λ under. let at = h.in_place.runs n runs in absurd (grind arith)) (λ awaited. grind arith) (h.calls.inside n k far)
+  inside_there n k runs far =
+      ⊎_elim (λ under. let at = h.in_place.runs n runs in absurd (grind arith)) (λ awaited. grind arith) (h.calls.inside n k far)
 
   least : (m k : ℕ) → cancelled_call (how_far_of m a.base) ≡ Some k → k ≤ a.base.made.threads
   least m k e = (known.by_op m k (grind arith)).number
@@ -188,7 +191,8 @@ module _ (x : Setting) (s : State) (l : Label) (t : State) (h : InOrder x.compon
       back n k at to = step_by x s l t w h.in_place withdrawable (λ c u. place_of n c.base ≡ Some (Place.Under k) → c.next ≡ Turn.Run n → subtask_under_way (how_far_of n u) ≡ None)
           (λ c b m q u base first same f d ends at to. back_apart f n k at to d) (of_base (λ b. place_of n b ≡ Some (Place.Under k)) s.turn s.core at) to
 
-      inside : (n k : ℕ) → how_far_of n t.core ≡ HowFar.Calls (Subtask.Guest k) → Inside a n k t.core → (place_of n t.core ≡ Some (Place.Under k)) ⊎ (option_map_or is_awaited (get t.core.calls k) false ≡ true)
+      inside : (n k : ℕ) → how_far_of n t.core ≡ HowFar.Calls (Subtask.Guest k) → Inside a n k t.core →
+          (place_of n t.core ≡ Some (Place.Under k)) ⊎ (option_map_or is_awaited (get t.core.calls k) false ≡ true)
       inside n k far (inl under) = ⊎_elim inl (λ gone. absurd (⊎_elim (λ to. let y = back n k under to in grind arith) (λ none. grind arith) gone.1)) (arrives.covered n k under)
       inside n k far (inr (inl awaited)) = inr awaited
       inside n k far (inr (inr (new, (runner, next)))) =
@@ -205,7 +209,8 @@ module _ (x : Setting) (s : State) (l : Label) (t : State) (h : InOrder x.compon
   -- ---- Scripts
 
   fits_base : Fits x.component a.base
-  fits_base n r at = let f = h.fits n r at in record { script = f.script; position = f.position; op = f.op; under = f.under; first = f.first }
+  fits_base n r at =
+      let f = h.fits n r at in record { script = f.script; position = f.position; op = f.op; under = f.under; first = f.first }
 
   has_call : (n : ℕ) (r : Thread) → get s.core.threads n ≡ Some r → is_some (get s.core.calls r.call) ≡ true
   has_call n r at = h.calls_there n r.call (ap (λ o. option_map (λ (t : Thread). t.call) o) at)

@@ -16,7 +16,8 @@ no_runner a m none is = no_way (ap (λ (o : Option ℕ). is_some o) (sym none �
 
 -- ---- No thread runs or is taken
 
-nobody_frame : (a : Scene) (b : Core) → a.runner ≡ None → ((m : ℕ) → a.turn ≡ Turn.Run m → ⊥) → ((k : ℕ) → place_of k b ≡ place_of k a.base) →
+nobody_frame : (a : Scene) (b : Core) → a.runner ≡ None → ((m : ℕ) → a.turn ≡ Turn.Run m → ⊥) →
+    ((k : ℕ) → place_of k b ≡ place_of k a.base) →
     b.made.threads ≡ a.base.made.threads → All b → Frame a b (b.made.threads + 2) None
 nobody_frame a b none idle home made all = record {
   follows = record {
@@ -102,7 +103,8 @@ module _ (x : Setting) (s : State) (l : Label) (next : Turn) (h : InPlace s) (C 
   abbrev at : Turn → Core → Option ℕ → Scene
   at u base o = record { setting = x; main = s.main; turn = u; base = base; runner = o; label = l; next = next }
 
-  nobody : (u : Turn) (base : Core) {t : Core} → is_run u ≡ false → Reads s.core base → Trip (at u base None) s.core t → LastWords (at u base None) t → C (at u base None) t
+  nobody : (u : Turn) (base : Core) {t : Core} → is_run u ≡ false → Reads s.core base → Trip (at u base None) s.core t →
+      LastWords (at u base None) t → C (at u base None) t
   nobody u base idle reads c w = goes (at u base None) s.core _ _ _ reads (refl, (refl, refl)) (record { high = refl; low = refl }) (nobody_frame (at u base None) s.core refl (λ m e. absurd (grind arith)) (λ k. ap (λ m. option_map (λ (r : Thread). r.place) (get m k)) (sym reads.0)) (ap (λ (m : Made). m.threads) (sym reads.1.1)) h.placed) c w
 
   by_entry : (ended : Bool) (o : Option (Mark × Entry)) {t : Core} → next_entry s.core ≡ o → Withdrawable (at (Turn.Take ended) (base_without o s.core) (thread_of_entry o)) → Trip (at (Turn.Take ended) (base_without o s.core) (thread_of_entry o)) (start_of (at (Turn.Take ended) (base_without o s.core) (thread_of_entry o)) s.core) t → LastWords (at (Turn.Take ended) (base_without o s.core) (thread_of_entry o)) t → C (at (Turn.Take ended) (base_without o s.core) (thread_of_entry o)) t
@@ -115,16 +117,20 @@ module _ (x : Setting) (s : State) (l : Label) (next : Turn) (h : InPlace s) (C 
       (taken_frame a n s.core refl (λ m e. absurd (cc)) refl took.0 (entry_ready n s.core (h.placed n) took.1) reads.1.1 may h.placed).1 c w
   by_entry ended (Some (y, d)) e may c w = nobody (Turn.Take ended) (popped y s.core) refl (popped_reads y s.core) c w
 
-  by_turn : (u : Turn) {t : Core} → s.turn ≡ u → Withdrawable (at u (base_at u s.core) (runner_at u s.core)) → Trip (at u (base_at u s.core) (runner_at u s.core)) (start_of (at u (base_at u s.core) (runner_at u s.core)) s.core) t → LastWords (at u (base_at u s.core) (runner_at u s.core)) t → C (at u (base_at u s.core) (runner_at u s.core)) t
+  by_turn : (u : Turn) {t : Core} → s.turn ≡ u → Withdrawable (at u (base_at u s.core) (runner_at u s.core)) →
+      Trip (at u (base_at u s.core) (runner_at u s.core)) (start_of (at u (base_at u s.core) (runner_at u s.core)) s.core) t →
+      LastWords (at u (base_at u s.core) (runner_at u s.core)) t → C (at u (base_at u s.core) (runner_at u s.core)) t
   by_turn (Turn.Run n) e may c w = goes (at (Turn.Run n) s.core (Some n)) s.core _ _ _ (refl, (refl, refl)) (refl, (refl, refl)) (record { high = refl; low = refl }) (running_frame (at (Turn.Run n) s.core (Some n)) n refl refl (h.runs n e) may h.placed) c w
   by_turn (Turn.Take ended) e may c w = by_entry ended (next_entry s.core) refl may c w
   by_turn u e may c w = nobody u s.core refl (refl, (refl, refl)) c w
 
-pub step_by : (x : Setting) (s : State) (l : Label) (t : State) (w : Walked x s l t) → InPlace s → Withdrawable (scene_of x s l w.next) → (C : Scene → Core → Type 0) →
+pub step_by : (x : Setting) (s : State) (l : Label) (t : State) (w : Walked x s l t) → InPlace s → Withdrawable (scene_of x s l w.next) →
+    (C : Scene → Core → Type 0) →
     ((a : Scene) (b : Core) (n : ℕ) (q : Option Place) (t : Core) → Reads s.core a.base → Reads s.core b → SameWorks s.core b → Frame a b n q → Trip a b t → LastWords a t → C a t) → C (scene_of x s l w.next) t.core
 step_by x s l t w h may C goes = by_turn x s l w.next h C goes s.turn refl may w.trip w.ends
 
-pub step_arrives : (x : Setting) (s : State) (l : Label) (t : State) (w : Walked x s l t) → InPlace s → Withdrawable (scene_of x s l w.next) → Arrives (scene_of x s l w.next) t.core
+pub step_arrives : (x : Setting) (s : State) (l : Label) (t : State) (w : Walked x s l t) → InPlace s →
+    Withdrawable (scene_of x s l w.next) → Arrives (scene_of x s l w.next) t.core
 step_arrives x s l t w h may = step_by x s l t w h may Arrives (λ a b n q u base first same f c ends. trip_arrives f c ends)
 
 -- ---- The turn

@@ -38,7 +38,8 @@ module _ (R : Core → Core → Type 0) (same : (s : Core) → R s s) where
   runs_keep after step x s [] t r = subst (λ (y : State). R s.core y.core) (sym r) (same s.core)
   runs_keep after step x s (l ∷ ls) t r = after s.core r.0.core t.core (step x s l r.0 r.1.0) (runs_keep after step x r.0 ls t r.1.1)
 
-not_last : (x : Setting) (m : State) (k : Label) (t : State) (o : Option Outcome) → ((p : Outcome) → o ≡ Some p → m.turn ≡ Turn.Over) → Step x m k t → o ≡ None
+not_last : (x : Setting) (m : State) (k : Label) (t : State) (o : Option Outcome) → ((p : Outcome) → o ≡ Some p → m.turn ≡ Turn.Over) →
+    Step x m k t → o ≡ None
 not_last x m k t None over step = refl
 not_last x m k t (Some p) over step = absurd (step_over x m k t (over p refl) step)
 

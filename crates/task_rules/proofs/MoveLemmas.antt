@@ -23,7 +23,8 @@ is_parked (Place.Behind f) = false
 is_parked _ = true
 
 -- what passes is there
-pub at_place : {X : Type 0} (test : X → Bool) (o : Option X) → option_map_or test o false ≡ true → (x : X) × ((o ≡ Some x) × (test x ≡ true))
+pub at_place : {X : Type 0} (test : X → Bool) (o : Option X) → option_map_or test o false ≡ true →
+    (x : X) × ((o ≡ Some x) × (test x ≡ true))
 at_place test None h = absurd (grind arith)
 at_place test (Some x) h = (x, (refl, h))
 
@@ -118,7 +119,8 @@ pub stand_of : {P : ℕ → Watch} (n : ℕ) (q : Option Place) (s : Core) → p
 stand_of n q s is idle so all = record {
   here = is;
   once = λ k. at_most_one (k == n);
-  loose = λ k h. by_count k n _ (λ e x. subst (λ (j : ℕ). Loose j s) (sym e) (idle_loose n q s is idle (all n))) (λ e x. absurd (omega arith));
+  loose =
+      λ k h. by_count k n _ (λ e x. subst (λ (j : ℕ). Loose j s) (sym e) (idle_loose n q s is idle (all n))) (λ e x. absurd (omega arith));
   there = λ k h. zero_one refl h;
   placed = λ k h. all k;
   kept = λ k h. (refl, so k h);

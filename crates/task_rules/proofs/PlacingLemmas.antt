@@ -61,7 +61,8 @@ passed_on_shifted None (n ∷ ns) s = shifted_after (put_switch_shifted (newest 
 pub placing_shifted : (p : Placing) (s : Core) → Shifted s (after_placing p s)
 unfolding stopped put_high put_low promoted unqueued set_place on_thread set_high set_low set_callers set_switch push_high push_low behind_one popped
 placing_shifted (Put Mark.Switch n w) s = put_switch_shifted n w s
-placing_shifted (Stop f) s = shifted_after (record { only = refl; threads = λ k. refl }) (passed_on_shifted s.queues.switch (callers_of f s) _)
+placing_shifted (Stop f) s =
+    shifted_after (record { only = refl; threads = λ k. refl }) (passed_on_shifted s.queues.switch (callers_of f s) _)
 placing_shifted p s = record { only = grind arith; threads = λ k. grind (arith, nat_tests, get-change) }
 
 pub popped_shifted : (m : Mark) (s : Core) → Shifted s (popped m s)
