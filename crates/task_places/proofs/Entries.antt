@@ -97,8 +97,8 @@ rest_same k e es is other = let x = ap (entries k) is in let y = ap one_if other
 pub popped_quiet : (x : Mark) (e : Entry) (s : Core) → First x e s → ((k : ℕ) → is_entry_of k e ≡ false) → Untouched s (popped x s)
 unfolding popped set_switch set_high set_low
 popped_quiet Mark.Switch e s f other = absurd (subst T (sym (sym (other f.0) ∙ (ap (is_entry_of f.0) f.1.1 ∙ eq_refl f.0))) tt)
-popped_quiet Mark.High e s f other = record { places = λ k. refl; switch = λ k. refl; high = λ k. rest_same k e s.queues.high f (other k); low = λ k. refl; callers = refl; made = le_refl _ }
-popped_quiet Mark.Low e s f other = record { places = λ k. refl; switch = λ k. refl; high = λ k. refl; low = λ k. rest_same k e s.queues.low f (other k); callers = refl; made = le_refl _ }
+popped_quiet Mark.High e s f other = let rest = λ (k : ℕ). rest_same k e s.queues.high f (other k) in grind (arith, rest)
+popped_quiet Mark.Low e s f other = let rest = λ (k : ℕ). rest_same k e s.queues.low f (other k) in grind (arith, rest)
 
 -- ---- An entry is promoted
 
