@@ -12,7 +12,8 @@ answered_apart : (n k v : ℕ) (s : Core) → n ≡ k → subtask_under_way (how
 unfolding set_how_far on_thread
 answered_apart n k v s same = grind (arith, nat_tests, get-change)
 
-module _ {a : Scene} {b : Core} {n : ℕ} {q : Option Place} (f : Frame a b n q) (k m : ℕ) (at : place_of k a.base ≡ Some (Place.Under m)) (to : a.next ≡ Turn.Run k) where
+module _ {a : Scene} {b : Core} {n : ℕ} {q : Option Place} (f : Frame a b n q) (k m : ℕ) (at : place_of k a.base ≡ Some (Place.Under m))
+    (to : a.next ≡ Turn.Run k) where
   -- it isn't the runner
   apart : IsRunner a k → ⊥
   apart is = no_cover f k m is at

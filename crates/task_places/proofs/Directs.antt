@@ -10,7 +10,8 @@ is_there_of : (o : Option Thread) → is_some (option_map (λ (t : Thread). t.pl
 is_there_of None h = no_way h
 is_there_of (Some t) h = (t, refl)
 
-module _ (a : Scene) (s t : Core) (steady : Steady s t) (before : Numbered s) (after : Numbered t) (arrives : Arrives a t) (home : (k : ℕ) → place_of k a.base ≡ place_of k s) (calls : (k : ℕ) → goal_of k a.base ≡ goal_of k s) where
+module _ (a : Scene) (s t : Core) (steady : Steady s t) (before : Numbered s) (after : Numbered t) (arrives : Arrives a t)
+    (home : (k : ℕ) → place_of k a.base ≡ place_of k s) (calls : (k : ℕ) → goal_of k a.base ≡ goal_of k s) where
   pub directs_on_top : DirectsOnTop s → DirectsRun a t → DirectsOnTop t
   directs_on_top top runs m there implicit direct =
       let u = is_there_of (get t.threads m) there in

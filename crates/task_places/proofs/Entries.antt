@@ -1,5 +1,5 @@
 -- Entries that are taken out, entries of works, and new threads, beside a busy thread.
-use Rattle.task_rules.proofs.Machine.{[], add_thread, ap, arith, Bool, Core, entries, Entry, false, get-insert, has_entry, HasPlace, if◌then◌else◌, is_behind_of, is_entry_of, is_fresh, le_refl, less, less_switch, List, Mark, nat_tests, next_entry, None, on_thread, one_if, Option, Place, place_of, popped, promoted, Queues, refl, remove_thread, rest_of, says, set_high, set_low, set_place, set_switch, Some, subst, switch_entries, sym, T, Thread, true, unqueued, Why, why_of, ℕ, ◌+◌, ◌==◌, ◌∙◌, ◌∷◌, ◌≡◌, ◌≤◌}
+use Rattle.task_rules.proofs.Machine.{[], add_thread, ap, arith, Bool, Core, entries, Entry, false, get-insert, has_entry, HasPlace, if◌then◌else◌, is_behind_of, is_entry_of, is_fresh, less, less_switch, List, Mark, nat_tests, next_entry, None, on_thread, one_if, Option, Place, place_of, popped, promoted, Queues, refl, remove_thread, rest_of, says, set_high, set_low, set_place, set_switch, Some, subst, switch_entries, sym, T, Thread, true, unqueued, Why, why_of, ℕ, ◌+◌, ◌==◌, ◌∙◌, ◌∷◌, ◌≡◌, ◌≤◌}
 use Rattle.task_rules.proofs.MoveLemmas.{at_place, removed_is, no_time, removed_gone, removed_loose, removed_placed, other_place}
 use Rattle.task_rules.proofs.StandLemmas.{Drops, moves_stand, Loose, Stand, by_number, entries-append, entries-less, eq_refl, zero_one, Watch, Left, left_loose, left_placed}
 use Rattle.task_rules.proofs.StopLemmas.{switch_adds, Untouched, fresh_apart, so_again}
@@ -38,7 +38,13 @@ cleared : (m : ℕ) (s : Core) (q : Queues) → HasPlace m s → switch_entries 
 cleared m s q h none left = record {
   places = λ k. refl;
   left = left;
-  own = λ free. record { number = h.number; switch = grind arith; high = grind arith; low = grind arith; callers = λ f. grind (arith, h.callers f, free f) };
+  own = λ free. record {
+    number = h.number;
+    switch = grind arith;
+    high = grind arith;
+    low = grind arith;
+    callers = λ f. grind (arith, h.callers f, free f);
+  };
 }
 
 -- its entry is taken out, wherever it stands
@@ -49,9 +55,14 @@ unqueued_cleared m s h = go (has_entry m s.queues.high) refl
     one : switch_entries m s.queues.switch + entries m s.queues.high + entries m s.queues.low ≤ 1
     one = has_one m s h
 
-    go : (b : Bool) → has_entry m s.queues.high ≡ b → Cleared m s (set_switch (less_switch m s.queues.switch) (if b then set_high (less m s.queues.high) s else set_low (less m s.queues.low) s))
-    go true e = cleared m s _ h (grind (arith, nat_tests, one, has_stands m s.queues.high, less_own m)) (λ k o. grind (arith, nat_tests, less_other k m))
-    go false e = cleared m s _ h (grind (arith, nat_tests, one, none_stands m s.queues.high, less_own m)) (λ k o. grind (arith, nat_tests, less_other k m))
+    go : (b : Bool) → has_entry m s.queues.high ≡ b → Cleared m s (set_switch (less_switch m s.queues.switch)
+        (if b then set_high (less m s.queues.high) s else set_low (less m s.queues.low) s))
+    go true e =
+        cleared m s _ h (grind (arith, nat_tests, one, has_stands m s.queues.high, less_own m))
+        (λ k o. grind (arith, nat_tests, less_other k m))
+    go false e =
+        cleared m s _ h (grind (arith, nat_tests, one, none_stands m s.queues.high, less_own m))
+        (λ k o. grind (arith, nat_tests, less_other k m))
 
 -- as an entry of a thread that stands ready
 ready_drops : (m : ℕ) (x : Mark) (w : Why) (s : Core) → HasPlace m s → place_of m s ≡ Some (Place.Ready x w) → s.queues.switch ≡ None →
@@ -124,7 +135,8 @@ pub withdrawn_stand : {P : ℕ → Watch} (n : ℕ) (q : Option Place) (m : ℕ)
 withdrawn_stand {P = P} n q m s apart fresh st = record {
   here = other_place n m u (flipped n m apart) ∙ (c.places n ∙ st.here);
   once = st.once;
-  loose = λ k h. removed_loose k m u (by_number k m _ (λ e. subst (λ (j : ℕ). Loose j u) (sym e) own) (λ e. left_loose k s u (c.left k e) (st.loose k h)));
+  loose = λ k h. removed_loose k m u (by_number k m _ (λ e. subst (λ (j : ℕ). Loose j u) (sym e) own)
+      (λ e. left_loose k s u (c.left k e) (st.loose k h)));
   there = λ k h. zero_one refl h;
   placed = λ k h. by_number k m _ (λ e. subst (λ (j : ℕ). HasPlace j (remove_thread m u)) (sym e) (removed_gone m u own))
       (λ e. removed_placed k m u e (left_placed k s u (c.left k e) (c.places k) (st.placed k h)));

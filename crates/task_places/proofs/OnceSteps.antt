@@ -78,8 +78,8 @@ module _ (x : Setting) (s : State) (l : Label) (t : State) (k : Known x s) (step
           names_word a v u ok q.0.holds q.1.0,
           (
             λ i h. abort_kept a v u ok i (q.1.1.0 i h),
-            callers_word a (to_base (λ c. (i : ℕ) (v : Doing) → doing_of i c ≡ Some v → i ≤ c.made.works) (number_of k.works)) callers_base names_base v u ok
-                q.0 (λ i h. q.1.1.0 i (at_first i h)) q.1.1.1,
+            callers_word a (to_base (λ c. (i : ℕ) (v : Doing) → doing_of i c ≡ Some v → i ≤ c.made.works) (number_of k.works))
+                callers_base names_base v u ok q.0 (λ i h. q.1.1.0 i (at_first i h)) q.1.1.1,
           ),
         ),
       ))
@@ -104,8 +104,10 @@ module _ (x : Setting) (s : State) (l : Label) (t : State) (k : Known x s) (step
 
   found : CallsFound a
   found = record {
-    own = λ n runner. to_base (λ c. is_some (get c.calls (task_of n c)) ≡ true) (let there = runner_there x s l w.next k.order.in_place n runner in grind (arith, k.order.calls_there n (task_of n s.core)));
-    named = λ j named. to_base (λ c. (i h : ℕ) → subtask_at i h c ≡ Some (Subtask.Guest j) → is_some (get c.calls j) ≡ true) (λ i h e. let there = k.order.names.there i h j e in grind arith) (instance_of named.0 a.base) named.1.0 named.1.1.1;
+    own = λ n runner. let there = runner_there x s l w.next k.order.in_place n runner in
+        to_base (λ c. is_some (get c.calls (task_of n c)) ≡ true) (grind (arith, k.order.calls_there n (task_of n s.core)));
+    named = λ j named. to_base (λ c. (i h : ℕ) → subtask_at i h c ≡ Some (Subtask.Guest j) → is_some (get c.calls j) ≡ true)
+        (λ i h e. let there = k.order.names.there i h j e in grind arith) (instance_of named.0 a.base) named.1.0 named.1.1.1;
   }
 
   end_step : (sub : Subtask) → EndStep x.component (record { before = s; label = l; after = t }) sub
@@ -151,7 +153,10 @@ runs_are_once x codes instances handle_limit capacity main begun ls t run =
       order = opening_in_order x.component codes instances handle_limit capacity main;
       told = opening_ends_told instances handle_limit capacity;
       works = opening_works instances handle_limit capacity;
-      unnamed = record { works = opening_names instances handle_limit capacity; spawns = λ p j is. opening_spawns instances handle_limit capacity main begun p j is };
+      unnamed = record {
+        works = opening_names instances handle_limit capacity;
+        spawns = opening_spawns instances handle_limit capacity main begun;
+      };
       callers = opening_callers instances handle_limit capacity;
       zero = zero_unmade instances handle_limit capacity;
       over = λ sub e due. absurd (none_due instances handle_limit capacity sub e due);

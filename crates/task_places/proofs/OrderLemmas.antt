@@ -147,7 +147,11 @@ module _ (x : Setting) (s : State) (l : Label) (t : State) (h : InOrder x.compon
   unbegun_base k r at first waits = let q = h.unbegun k r at first waits in record { unended = q.unended; alone = q.alone }
 
   names_first : NamesHold s.core
-  names_first = record { known = h.names; number = λ k c at. (h.numbered.calls k c at).1; least = λ n k far. (h.calls_named.by_op n k (ap subtask_under_way far)).number }
+  names_first = record {
+    known = h.names;
+    number = λ k c at. (h.numbered.calls k c at).1;
+    least = λ n k far. (h.calls_named.by_op n k (ap subtask_under_way far)).number;
+  }
 
   names_base : NamesHold a.base
   names_base =
@@ -175,8 +179,13 @@ module _ (x : Setting) (s : State) (l : Label) (t : State) (h : InOrder x.compon
       let names = names_go_word a names_base inside_there v u ok q.1.0 in (
         directs_word a v u ok q.0,
         (names, inside_word a names_base calls_base unbegun_base numbered_base least v u ok q.1.0 names q.0 q.1.1),
-      ))
-      (λ k d. inl d, (record { hold = names_first; were = λ n k far. inl far }, record { inside = λ n k far. ⊎_elim inl (λ w. inr (inl w)) (h.calls.inside n k far); cancelled = λ m k e. inl e })) walk
+      )) (
+        λ k d. inl d,
+        (
+          record { hold = names_first; were = λ n k far. inl far },
+          record { inside = λ n k far. ⊎_elim inl (λ w. inr (inl w)) (h.calls.inside n k far); cancelled = λ m k e. inl e },
+        ),
+      ) walk
 
   pub directs_kept : Steady s.core t.core → Numbered t.core → DirectsOnTop t.core
   directs_kept steady after = directs_on_top a s.core t.core steady h.numbered after arrives (λ k. refl) (λ k. refl) h.directs called.0
@@ -188,12 +197,16 @@ module _ (x : Setting) (s : State) (l : Label) (t : State) (h : InOrder x.compon
   }
     where
       back : (n k : ℕ) → place_of n s.core ≡ Some (Place.Under k) → a.next ≡ Turn.Run n → subtask_under_way (how_far_of n t.core) ≡ None
-      back n k at to = step_by x s l t w h.in_place withdrawable (λ c u. place_of n c.base ≡ Some (Place.Under k) → c.next ≡ Turn.Run n → subtask_under_way (how_far_of n u) ≡ None)
-          (λ c b m q u base first same f d ends at to. back_apart f n k at to d) (of_base (λ b. place_of n b ≡ Some (Place.Under k)) s.turn s.core at) to
+      back n k at to = step_by x s l t w h.in_place withdrawable
+          (λ c u. place_of n c.base ≡ Some (Place.Under k) → c.next ≡ Turn.Run n → subtask_under_way (how_far_of n u) ≡ None)
+          (λ c b m q u base first same f d ends at to. back_apart f n k at to d)
+          (of_base (λ b. place_of n b ≡ Some (Place.Under k)) s.turn s.core at) to
 
       inside : (n k : ℕ) → how_far_of n t.core ≡ HowFar.Calls (Subtask.Guest k) → Inside a n k t.core →
           (place_of n t.core ≡ Some (Place.Under k)) ⊎ (option_map_or is_awaited (get t.core.calls k) false ≡ true)
-      inside n k far (inl under) = ⊎_elim inl (λ gone. absurd (⊎_elim (λ to. let y = back n k under to in grind arith) (λ none. grind arith) gone.1)) (arrives.covered n k under)
+      inside n k far (inl under) =
+          ⊎_elim inl (λ gone. absurd (⊎_elim (λ to. let y = back n k under to in grind arith) (λ none. grind arith) gone.1))
+          (arrives.covered n k under)
       inside n k far (inr (inl awaited)) = inr awaited
       inside n k far (inr (inr (new, (runner, next)))) =
           let number = (h.in_place.placed k).number in
@@ -224,7 +237,7 @@ module _ (x : Setting) (s : State) (l : Label) (t : State) (h : InOrder x.compon
     same = λ to b is. let e : r ≡ b = cc in (ap (λ (t : Thread). t.call) e, ap (λ (t : Thread). t.script) e);
     op = inr (has_call n r at, f.op);
     under = λ d. ((has_call n r at, f.under d), inl (grind arith));
-    still = λ d b is. let e : r ≡ b = cc in (ap (λ (t : Thread). t.call) e, (ap (λ (t : Thread). t.script) e, ap (λ (t : Thread). t.position) e));
+    still = λ d b is. let e : r ≡ b = cc in grind arith;
   }
 
   -- what is so of threads and their ops as the step ends

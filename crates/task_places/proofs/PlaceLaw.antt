@@ -246,7 +246,8 @@ module _ {a : Scene} {b : Core} {n : ℕ} {p : Place} (h : Beside a b n p) {s : 
     runs = λ m to. let e = runs m to in grind (arith, adds.own);
     fresh = λ k w. by_number k n _ (λ e. rw e (⊎_elim (λ i. inl (ap is_fresh adds.own ∙ i)) (λ i. inr i) (fresh (rw e at w))))
         (λ e. inl (grind (arith, adds.other k e, fresh_still a stands k w)));
-    covered = λ k m at. inl (by_number k n _ (λ e. no_way (sym h.top ∙ ap is_under_place (sym h.home ∙ (ap (λ (j : ℕ). place_of j a.base) (sym e) ∙ at))))
+    covered = λ k m at. inl (by_number k n _
+        (λ e. no_way (sym h.top ∙ ap is_under_place (sym h.home ∙ (ap (λ (j : ℕ). place_of j a.base) (sym e) ∙ at))))
         (λ e. adds.other k e ∙ covered_still a stands k m at));
     entered = λ m none to. let e = runs m to in let home = h.home in absurd (grind arith);
   }
@@ -274,8 +275,9 @@ module _ {a : Scene} {b : Core} {n : ℕ} {p : Place} (h : Beside a b n p) {s : 
             (stand_of {P = nobody} n (Some p) u at idle (λ k w. absurd (grind arith)) all);
         runs = λ k to. let e = one_runner k m (sym to ∙ ok.1.0) in
             grind (arith, nat_tests, apart, set_place_is m n (Place.Under m) u, set_place_is m m Place.Running s);
-        fresh = λ k w. by_number k m _ (λ e. inr (inr (rw e ok.1.1.1.1.1.1.0))) (λ e. let own = λ (g : waits a n ≡ true). begun {A = ⊥} ok.1.1.1.1.1.0 g in
-            inl (grind (arith, nat_tests, set_place_is k n (Place.Under m) u, set_place_is k m Place.Running s, fresh_still a stands k w, own)));
+        fresh = λ k w. by_number k m _ (λ e. inr (inr (rw e ok.1.1.1.1.1.1.0)))
+            (λ e. let own = λ (g : waits a n ≡ true). begun {A = ⊥} ok.1.1.1.1.1.0 g in let still = fresh_still a stands k w in
+            inl (grind (arith, nat_tests, set_place_is k n (Place.Under m) u, set_place_is k m Place.Running s, own)));
         covered = λ k j under. let still = covered_still a stands k j under in
             inl (grind (arith, nat_tests, set_place_is k n (Place.Under m) u, set_place_is k m Place.Running s, h.home, h.top));
         entered =
@@ -288,7 +290,8 @@ module _ {a : Scene} {b : Core} {n : ℕ} {p : Place} (h : Beside a b n p) {s : 
   foot_given : (g : ℕ) → IsFoot g s → Given g s
   foot_given g (inl there) = given_there n (Some p) [] s stands g there
   foot_given g (inr m) =
-      given_there n (Some p) [] s stands g (ap (λ (j : ℕ). is_there j s) m.1.1 ∙ foot_there m.0 s (switch_there n (Some p) [] s stands m.0 m.1.0))
+      let there = switch_there n (Some p) [] s stands m.0 m.1.0 in
+      given_there n (Some p) [] s stands g (ap (λ (j : ℕ). is_there j s) m.1.1 ∙ foot_there m.0 s there)
 
 -- ---- The thread is gone
 
@@ -346,10 +349,12 @@ module _ {a : Scene} {b : Core} {n : ℕ} {q : Option Place} (f : Frame a b n q)
       )))
   moves k r s (Holds w l was at) c =
       let h = beside k l.0 in
-      comes h.1 c r _ (set_place_adds k r h.0 s (ap is_free at) (stands h.1 c).here) (λ m next. not_main m (sym l.1 ∙ next)) (λ g. inl (let e = was.1 in grind arith))
+      comes h.1 c r _ (set_place_adds k r h.0 s (ap is_free at) (stands h.1 c).here) (λ m next. not_main m (sym l.1 ∙ next))
+      (λ g. inl (let e = was.1 in grind arith))
   moves k r s (WaitsAgain x l was at) c =
       let h = beside k l.0 in
-      comes h.1 c r _ (set_place_adds k r h.0 s (ap is_free at) (stands h.1 c).here) (λ m next. not_main m (sym l.1 ∙ next)) (λ g. let e = was.1 in absurd (grind arith))
+      comes h.1 c r _ (set_place_adds k r h.0 s (ap is_free at) (stands h.1 c).here) (λ m next. not_main m (sym l.1 ∙ next))
+      (λ g. let e = was.1 in absurd (grind arith))
   moves k r s (Uncovers m is to under none at) c = no_way (sym (runner_there m s is c) ∙ none)
   moves k r s (AwaitsEvent x l d g at) c = let h = beside k l.0 in left h.1 c r _ l (set_place_adds k r h.0 s (ap is_free at))
   moves k r s (Waits x l g at) c = let h = beside k l.0 in left h.1 c r _ l (set_place_adds k r h.0 s (ap is_free at))
@@ -476,7 +481,8 @@ module _ {a : Scene} {b : Core} {n : ℕ} {q : Option Place} (f : Frame a b n q)
       let h = along (Falling a n) fall_word falling c in
       record {
         placed = λ k. by_number k n _
-            (λ e. subst (λ (j : ℕ). HasPlace j t) (sym e) (loose_idle n (place_of n t) t refl (f.rests t w (h.idle n)) h.own)) (λ e. h.others k e);
+            (λ e. subst (λ (j : ℕ). HasPlace j t) (sym e) (loose_idle n (place_of n t) t refl (f.rests t w (h.idle n)) h.own))
+            (λ e. h.others k e);
         runs = λ m to. absurd (cc);
         fresh = λ k g. inl (h.fresh k g);
         covered = λ k m at. ⊎_elim inl (λ g. inr (g.0, inr g.1)) (h.covered k m at);

@@ -1,5 +1,5 @@
 -- Where each thread is after a step.
-use Rattle.task_rules.proofs.Machine.{ap, arith, base_at, base_without, Bool, Core, Entry, false, get, HasSubtask, inr, is_behind_of, is_some, is_take, IsRunner, Label, LastWords, Made, Mark, nat_tests, next_entry, None, Option, option_map, Place, place_of, Pop, popped, refl, runner_at, says, Scene, scene_of, set_high, set_low, set_switch, Setting, settled_turn, Some, start_of, State, subst, Subtask, sym, T, Thread, thread_of_entry, Trip, true, Turn, Walked, was_started, ℕ, ◌+◌, ◌∙◌, ◌≡◌}
+use Rattle.task_rules.proofs.Machine.{ap, arith, base_at, base_without, Bool, Core, Entry, false, get, HasSubtask, inr, is_behind_of, is_some, is_take, IsRunner, Label, LastWords, Mark, nat_tests, next_entry, None, Option, option_map, Place, place_of, Pop, popped, refl, runner_at, says, Scene, scene_of, set_high, set_low, set_switch, Setting, settled_turn, Some, start_of, State, subst, Subtask, sym, T, Thread, thread_of_entry, Trip, true, Turn, Walked, was_started, ℕ, ◌+◌, ◌∙◌, ◌≡◌}
 use Rattle.task_rules.proofs.PlacingLemmas.{SameWorks, placing_works}
 use Rattle.task_laws.specs.Order.{InPlace}
 use Rattle.task_places.proofs.Entries.{Cleared, next_first, popped_cleared}
@@ -25,7 +25,8 @@ nobody_frame a b none idle home made all = record {
     runs = λ m e. absurd (idle m e);
     apart = grind (arith, nat_tests, made);
     withdraws = λ m k is has unstarted. no_runner a m none is;
-    start = stand_of {P = watch a} (b.made.threads + 2) None b gone refl (λ k w. ap (is_so (watch a k)) (home k) ∙ so_self (place_of k a.base)) all;
+    start = stand_of {P = watch a} (b.made.threads + 2) None b gone refl
+        (λ k w. ap (is_so (watch a k)) (home k) ∙ so_self (place_of k a.base)) all;
   };
   home = home;
   one = λ m is. no_runner a m none is;
@@ -117,7 +118,7 @@ module _ (x : Setting) (s : State) (l : Label) (next : Turn) (h : InPlace s) (C 
   nobody u base idle reads t may c w =
       let home = λ (k : ℕ). ap (λ m. option_map (λ (r : Thread). r.place) (get m k)) (sym reads.0) in
       goes (at u base None) s.core _ _ t reads same (record { high = refl; low = refl })
-      (nobody_frame (at u base None) s.core refl (λ m e. absurd (grind arith)) home (ap (λ (m : Made). m.threads) (sym reads.1.1)) h.placed) c w
+      (nobody_frame (at u base None) s.core refl (λ m e. absurd (grind arith)) home (grind arith) h.placed) c w
 
   by_entry : (ended : Bool) (o : Option (Mark × Entry)) → next_entry s.core ≡ o →
       OfStep (at (Turn.Take ended) (base_without o s.core) (thread_of_entry o))

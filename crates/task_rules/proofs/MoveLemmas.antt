@@ -78,7 +78,8 @@ put_place x m w s h = grind (arith, nat_tests, get-change)
 put_free : {P : ℕ → Watch} (n : ℕ) (q : Option Place) → is_busy q ≡ true → (m : ℕ) (p r : Place) (s t : Core) → place_of m s ≡ Some p →
     is_parked p ≡ true → (is_watched (P m) ≡ true → is_so (P m) (Some r) ≡ true) → Adds m r s t → Stand P n q [] s → Stand P n q [] t
 put_free n q busy m p r s t is parked fits adds st =
-    moves_stand n q [] m p r s s t (free_drops m p s (grind arith)) adds is (let here = st.here in grind (arith, nat_tests)) (λ so w. fits w) st
+    let here = st.here in
+    moves_stand n q [] m p r s s t (free_drops m p s (grind arith)) adds is (grind (arith, nat_tests)) (λ so w. fits w) st
 
 pub put_stand : {P : ℕ → Watch} (n : ℕ) (q : Option Place) → is_busy q ≡ true → (x : Mark) (m : ℕ) (w : Why) (p : Place) (s : Core) →
     place_of m s ≡ Some p → is_parked p ≡ true → (is_watched (P m) ≡ true → is_so (P m) (Some (Place.Ready x w)) ≡ true) →
@@ -136,7 +137,8 @@ all_of n q s idle st k =
 
 pub removed_all : {P : ℕ → Watch} (n : ℕ) (q : Option Place) (s : Core) → Stand P n q [] s → All (remove_thread n s)
 removed_all n q s st k =
-    by_count k n _ (λ e x. subst (λ (j : ℕ). Loose j s → HasPlace j (remove_thread n s)) (sym e) (removed_gone n s) (st.loose k (omega arith)))
+    by_count k n _
+    (λ e x. subst (λ (j : ℕ). Loose j s → HasPlace j (remove_thread n s)) (sym e) (removed_gone n s) (st.loose k (omega arith)))
     (λ e x. removed_placed k n s e (st.placed k (omega arith)))
 
 -- ---- The moves, where all threads have their places
@@ -178,7 +180,8 @@ pub stop_keeps_places : StopKeepsPlaces
 unfolding StopKeepsPlaces
 stop_keeps_places n f p s free is all =
     let st = stopped_stand n (Some Place.Running) f s (runs n s is all) in
-    adds_all n (Some Place.Running) p (stopped f s) (set_place n p (stopped f s)) (set_place_adds n p Place.Running (stopped f s) free st.here) st
+    let adds = set_place_adds n p Place.Running (stopped f s) free st.here in
+    adds_all n (Some Place.Running) p (stopped f s) (set_place n p (stopped f s)) adds st
 
 pub release_keeps_places : ReleaseKeepsPlaces
 unfolding ReleaseKeepsPlaces

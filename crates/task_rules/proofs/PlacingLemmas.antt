@@ -46,7 +46,8 @@ resumed_shifted : (ns : List ℕ) (s : Core) → Shifted s (resumed_all ns s)
 unfolding put_high push_high set_place on_thread
 resumed_shifted [] s = shifted_same s
 resumed_shifted (n ∷ ns) s =
-    shifted_after (record { only = refl; threads = λ k. grind (arith, nat_tests, get-change) }) (resumed_shifted ns (put_high n Why.Resumption s))
+    shifted_after (record { only = refl; threads = λ k. grind (arith, nat_tests, get-change) })
+    (resumed_shifted ns (put_high n Why.Resumption s))
 
 put_switch_shifted : (n : ℕ) (w : Why) (s : Core) → Shifted s (put_switch n w s)
 unfolding put_switch set_switch push_high_first set_place on_thread
