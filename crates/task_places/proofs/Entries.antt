@@ -1,5 +1,5 @@
 -- Entries that are taken out, entries of works, and new threads, beside a busy thread.
-use Rattle.task_rules.proofs.Machine.{[], add_thread, ap, arith, Bool, Core, entries, Entry, false, get-insert, has_entry, HasPlace, if◌then◌else◌, is_behind_of, is_entry_of, is_fresh, less, less_switch, List, Mark, nat_tests, next_entry, None, on_thread, one_if, Option, Place, place_of, popped, promoted, Queues, refl, remove_thread, rest_of, says, set_high, set_low, set_place, set_switch, Some, subst, switch_entries, sym, T, Thread, true, unqueued, Why, why_of, ℕ, ◌+◌, ◌==◌, ◌∙◌, ◌∷◌, ◌≡◌, ◌≤◌}
+use Rattle.task_rules.proofs.Machine.{[], add_thread, ap, arith, Bool, callers_of, Core, entries, Entry, false, get-insert, has_entry, HasPlace, if◌then◌else◌, is_behind_of, is_entry_of, is_fresh, less, less_switch, List, Mark, nat_tests, next_entry, None, on_thread, one_if, Option, Place, place_of, popped, promoted, Queues, refl, remove_thread, rest_of, says, set_high, set_low, set_place, set_switch, Some, subst, switch_entries, sym, T, Thread, times, true, unqueued, Why, why_of, ℕ, ◌+◌, ◌==◌, ◌∙◌, ◌∷◌, ◌≡◌, ◌≤◌}
 use Rattle.task_rules.proofs.MoveLemmas.{at_place, removed_is, no_time, removed_gone, removed_loose, removed_placed, other_place}
 use Rattle.task_rules.proofs.StandLemmas.{Drops, moves_stand, Loose, Stand, by_number, entries-append, entries-less, eq_refl, zero_one, Watch, Left, left_loose, left_placed}
 use Rattle.task_rules.proofs.StopLemmas.{switch_adds, Untouched, fresh_apart, so_again}
@@ -38,13 +38,8 @@ cleared : (m : ℕ) (s : Core) (q : Queues) → HasPlace m s → switch_entries 
 cleared m s q h none left = record {
   places = λ k. refl;
   left = left;
-  own = λ free. record {
-    number = h.number;
-    switch = grind arith;
-    high = grind arith;
-    low = grind arith;
-    callers = λ f. grind (arith, h.callers f, free f);
-  };
+  own = λ free. let alone : (f : ℕ) → times m (callers_of f s) ≡ 0 = λ f. grind (arith, h.callers f, free f) in
+      grind arith;
 }
 
 -- its entry is taken out, wherever it stands

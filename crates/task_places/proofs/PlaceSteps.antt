@@ -1,5 +1,5 @@
 -- Where each thread is after a step.
-use Rattle.task_rules.proofs.Machine.{ap, arith, base_at, base_without, Bool, Core, Entry, false, get, HasSubtask, inr, is_behind_of, is_some, is_take, IsRunner, Label, LastWords, Mark, nat_tests, next_entry, None, Option, option_map, Place, place_of, Pop, popped, refl, runner_at, says, Scene, scene_of, set_high, set_low, set_switch, Setting, settled_turn, Some, start_of, State, subst, Subtask, sym, T, Thread, thread_of_entry, Trip, true, Turn, Walked, was_started, ℕ, ◌+◌, ◌∙◌, ◌≡◌}
+use Rattle.task_rules.proofs.Machine.{ap, arith, base_at, base_without, Bool, Core, Entry, false, get, HasSubtask, inr, is_behind_of, is_take, IsRunner, Label, LastWords, Mark, nat_tests, next_entry, None, Option, option_map, Place, place_of, Pop, popped, refl, runner_at, says, Scene, scene_of, set_high, set_low, set_switch, Setting, settled_turn, Some, start_of, State, subst, Subtask, sym, T, Thread, thread_of_entry, Trip, true, Turn, Walked, was_started, ℕ, ◌+◌, ◌∙◌, ◌≡◌}
 use Rattle.task_rules.proofs.PlacingLemmas.{SameWorks, placing_works}
 use Rattle.task_laws.specs.Order.{InPlace}
 use Rattle.task_places.proofs.Entries.{Cleared, next_first, popped_cleared}
@@ -11,9 +11,6 @@ use Rattle.task_rules.proofs.StandLemmas.{Loose, by_number, zero_one, is_so, lef
 abbrev pub Withdrawable : Scene → Type 0
 Withdrawable a = (m k : ℕ) → IsRunner a m → HasSubtask a m (Subtask.Guest k) → was_started k a.base ≡ false → waits a k ≡ true
 
-no_runner : (a : Scene) (m : ℕ) {A : Type 0} → a.runner ≡ None → IsRunner a m → A
-no_runner a m none is = no_way (ap (λ (o : Option ℕ). is_some o) (sym none ∙ is))
-
 -- ---- No thread runs or is taken
 
 nobody_frame : (a : Scene) (b : Core) → a.runner ≡ None → ((m : ℕ) → a.turn ≡ Turn.Run m → ⊥) →
@@ -24,13 +21,13 @@ nobody_frame a b none idle home made all = record {
     busy = refl;
     runs = λ m e. absurd (idle m e);
     apart = grind (arith, nat_tests, made);
-    withdraws = λ m k is has unstarted. no_runner a m none is;
+    withdraws = λ m k is has unstarted. absurd (cc);
     start = stand_of {P = watch a} (b.made.threads + 2) None b gone refl
         (λ k w. ap (is_so (watch a k)) (home k) ∙ so_self (place_of k a.base)) all;
   };
   home = home;
-  one = λ m is. no_runner a m none is;
-  there = λ m is. no_runner a m none is;
+  one = λ m is. absurd (cc);
+  there = λ m is. absurd (cc);
   running = λ m e. absurd (idle m e);
   rests = λ t w i. i (ap is_idle (sym (home (b.made.threads + 2)) ∙ gone));
 }

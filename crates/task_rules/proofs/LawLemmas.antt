@@ -10,13 +10,10 @@ use Rattle.task_rules.proofs.WalkSteps.{step_walks}
 pub step_ends : OutcomeEnds
 step_ends x s l t step o is = let c = step_walks x s l t step in c.turn ∙ ap (λ (u : Turn). settled_turn t.core u) (c.ends.outcome o is)
 
-over_steps : (x : Setting) (s : State) (u : Turn) (l : Label) (t : State) → u ≡ Turn.Over → TurnStep x s u l t → ⊥
-over_steps x s u l t is step = subst (λ (v : Turn). TurnStep x s v l t) is step
-
 -- nothing is lawful after that
 pub step_over : OverIsLast
 unfolding Step
-step_over x s l t is step = over_steps x s s.turn l t is step
+step_over x s l t is step = subst (λ (u : Turn). TurnStep x s u l t) is step
 
 -- ---- Runs
 
