@@ -45,13 +45,6 @@ was_awaited s t placed steady starts k c at e =
 
 -- ---- Who is there
 
-place_there : (o : Option Place) (x : ℕ) → option_and_then set_of_place o ≡ Some x → is_some o ≡ true
-place_there o x h = grind arith
-
-op_there : (o : Option Thread) (x : ℕ) → set_of_op (option_map_or (λ (t : Thread). t.how_far) o HowFar.Fresh) ≡ Some x →
-    is_some (option_map (λ (t : Thread). t.place) o) ≡ true
-op_there o x h = grind arith
-
 -- a call that is there before and after is of one export, and a thread of one instance
 same_callee : (s t : Core) → Steady s t → Numbered s → (k : ℕ) → is_some (get s.calls k) ≡ true → is_some (get t.calls k) ≡ true →
     callee_of k t ≡ callee_of k s
@@ -298,8 +291,8 @@ module _ (x : Setting) (s : State) (l : Label) (t : State) (h : InOrder x.compon
   homed_first : Homed a s.core
   homed_first = record {
     homes = λ i y q. assumption;
-    by_place = λ n y e. (h.waits.by_place n y e, place_there (place_of n s.core) y e);
-    by_op = λ n y e. (h.waits.by_op n y e, op_there (get s.core.threads n) y e);
+    by_place = λ n y e. (h.waits.by_place n y e, grind arith);
+    by_op = λ n y e. (h.waits.by_op n y e, grind arith);
   }
 
   homed_last : Homed a t.core
@@ -307,8 +300,8 @@ module _ (x : Setting) (s : State) (l : Label) (t : State) (h : InOrder x.compon
 
   pub waits_kept : Steady s.core t.core → WaitsAtHome t.core
   waits_kept steady = record {
-    by_place = λ n y e. let q = homed_last.by_place n y e in rw (same n (place_there (place_of n t.core) y e) q.1) q.0;
-    by_op = λ n y e. let q = homed_last.by_op n y e in rw (same n (op_there (get t.core.threads n) y e) q.1) q.0;
+    by_place = λ n y e. let q = homed_last.by_place n y e in rw (same n (grind arith) q.1) q.0;
+    by_op = λ n y e. let q = homed_last.by_op n y e in rw (same n (grind arith) q.1) q.0;
   }
     where
       same : (n : ℕ) → is_there n t.core ≡ true → is_there n s.core ≡ true → instance_of n t.core ≡ instance_of n s.core
