@@ -56,11 +56,6 @@ same_instance s t steady numbered before after n was now =
     let same = same_callee s t steady numbered (task_of n s) in
     grind (arith, steady.threads n, numbered.threads n, before n (task_of n s), after n (task_of n t))
 
--- the instance of the call matters to a thread beside the first one
-same_script : (c : Component) (i j : ℕ) (explicit : Bool) (x : Script) → (explicit ≡ true → i ≡ j) → names_script c j explicit x ≡ true →
-    names_script c i explicit x ≡ true
-same_script c i j explicit x same h = grind arith
-
 pub steps_make_few : StepsMakeFew
 steps_make_few x s l t step =
     let w = step_walks x s l t step in
@@ -257,8 +252,8 @@ module _ (x : Setting) (s : State) (l : Label) (t : State) (h : InOrder x.compon
   fits_kept steady n r at =
       let f = last.0 n r at in
       record {
-        script = same_script x.component (call_instance r.call t.core) (call_instance r.call s.core) r.explicit r.script
-            (λ e. ap (λ c. c.instance) (same (f.call e))) f.script;
+        -- the instance of the call matters to a thread beside the first one
+        script = let home = λ (e : r.explicit ≡ true). ap (λ c. c.instance) (same (f.call e)) in let script = f.script in grind arith;
         position = ⊎_elim (λ zero. omega (arith, zero))
             (λ b. subst (λ e. r.position ≤ length (script_in x.component e r.script)) (sym (same b.0)) b.1) f.position;
         op = ⊎_elim (λ fresh. ap (can_come (op_of_thread x.component t.core r)) fresh) (λ e. at_op (λ o. can_come o r.how_far) e) f.op;
