@@ -1,5 +1,5 @@
 -- A thread inside a sync call of a host waits for its work, or that is done; and host works have their entries: along the words of a step.
-use Rattle.task_rules.proofs.Machine.{[], after_placing, after_word, Allowed, ap, arith, behind_one, Bool, Collapses, Core, Departs, EndsOver, Enter, false, get, GoBehind, GoesBack, how_far_of, HowFar, inl, inr, is_stage_ended, IsRunner, Label, Lands, LandsAt, Made, Mark, MayCome, MayLand, MayRemoveWork, Move, Option, option_map_or, Place, place_of, Places, Placing, push_high, push_low, Put, put_high, put_low, Quits, refl, Remains, RemoveThread, Scene, scene_of, set_callers, set_place, SetHowFar, Setting, Settles, Some, Stage, stage_of, State, Stay, subst, Subtask, sym, Thread, Trip, true, Walked, WasUnder, Word, Work, ℕ, ⊎_elim, ◌==◌, ◌∙◌, ◌≡◌, ◌≤◌, ◌⊎◌}
+use Rattle.task_rules.proofs.Machine.{[], after_placing, after_word, Allowed, ap, arith, behind_one, Collapses, Core, Departs, EndsOver, Enter, false, get, GoBehind, GoesBack, how_far_of, HowFar, inl, inr, is_stage_ended, IsRunner, Label, Lands, LandsAt, Made, Mark, MayCome, MayLand, MayRemoveWork, Move, Option, option_map_or, Place, place_of, Places, Placing, push_high, push_low, Put, put_high, put_low, Quits, refl, Remains, RemoveThread, Scene, scene_of, set_callers, set_place, SetHowFar, Setting, Settles, Some, Stage, stage_of, State, Stay, subst, Subtask, sym, Thread, Trip, true, Walked, WasUnder, Word, Work, ℕ, ⊎_elim, ◌==◌, ◌∙◌, ◌≡◌, ◌≤◌, ◌⊎◌}
 use Rattle.task_places.proofs.PlaceSteps.{Reads, Withdrawable, step_by}
 use Rattle.task_rules.proofs.PlacingLemmas.{placing_shifted, SameWorks}
 use Rattle.task_rules.proofs.WalkMoves.{blocked_place}
@@ -71,14 +71,6 @@ working_word a asked w s ok stuck h = record {
 
 -- ---- Trips
 
-abbrev is_places : Word → Bool
-is_places (Places p) = true
-is_places _ = false
-
--- words that move no thread to another place
-unmoved : (w : Word) (s : Core) → is_places w ≡ false → Stuck w s
-unmoved w s other m i at x e = no_way (sym other ∙ ap is_places e)
-
 module _ {a : Scene} {b : Core} {n : ℕ} {q : Option Place} (f : Frame a b n q) (asked : Asked a) where
   -- who is blocked is neither the one that lands nor a new one
   apart : (k m : ℕ) (s : Core) → IsRunner a k → Stay a b s → (sub : Subtask) → place_of m s ≡ Some (Place.Blocked sub) → (m == k) ≡ false
@@ -112,7 +104,7 @@ module _ {a : Scene} {b : Core} {n : ℕ} {q : Option Place} (f : Frame a b n q)
 
   settles : {s t : Core} → Working a s → Settles s t → Working a t
   settles first d = along (Working a)
-      (λ w s ok h. working_word a asked w s (stays_allowed a w s (settle_stays a w s ok)) (unmoved w s (grind arith)) h) first d
+      (λ w s ok h. working_word a asked w s (stays_allowed a w s (settle_stays a w s ok)) (λ m i at x e. absurd (grind arith)) h) first d
 
   landed : (s : Core) (p : Placing) → Working a b → Stay a b s → MayLand a p s → Working a (after_word (Places p) s)
   landed s p first c ok =
@@ -125,23 +117,23 @@ module _ {a : Scene} {b : Core} {n : ℕ} {q : Option Place} (f : Frame a b n q)
   trip_works first (Lands s p c ok) = landed s p first c ok
   trip_works first (LandsAt s p m h c ok comes) =
       let t = after_word (Places p) s in
-      working_word a asked (SetHowFar m h) t comes (unmoved (SetHowFar m h) t refl) (landed s p first c ok)
+      working_word a asked (SetHowFar m h) t comes (λ j i at x e. absurd (cc)) (landed s p first c ok)
   trip_works first (Quits s t k c leave d) =
-      settles (working_word a asked (RemoveThread k) s (Departs leave) (unmoved (RemoveThread k) s refl) (stays first c)) d
+      settles (working_word a asked (RemoveThread k) s (Departs leave) (λ j i at x e. absurd (cc)) (stays first c)) d
   trip_works first (GoesBack s t k m v c is runs to under d ok) =
       let g =
-      settles (working_word a asked (RemoveThread k) s (EndsOver m is to under) (unmoved (RemoveThread k) s refl) (stays first c)) d in
+      settles (working_word a asked (RemoveThread k) s (EndsOver m is to under) (λ j i at x e. absurd (cc)) (stays first c)) d in
       let low : place_of m t ≡ Some (Place.Under k) = (exits f k s t is c d).1.1 m k under in
       let back = after_word (Places (Move m Place.Running)) t in
       let other =
       λ (j i : ℕ) (at : place_of j t ≡ Some (Place.Blocked (Subtask.Host i))). by_number j m _ (λ e. absurd (grind arith)) (λ e. e) in
       working_word a asked (SetHowFar m (HowFar.Answered v)) back ((k, (is, (to, under))), WasUnder k v under refl)
-      (unmoved (SetHowFar m (HowFar.Answered v)) back refl)
+      (λ j i at x e. absurd (cc))
       (working_word a asked (Places (Move m Place.Running)) t (inr ok)
       (λ j i at x y. inl (ap (λ (u : Core). place_of j u) (placing_shifted (Move m Place.Running) t).only ∙
       (place_kept j m Place.Running t (other j i at) ∙ at))) g)
   trip_works first (Collapses t over c) =
-      along (Working a) (λ w s ok h. working_word a asked w s (fall_allowed a w s ok) (unmoved w s (grind arith)) h) first c
+      along (Working a) (λ w s ok h. working_word a asked w s (fall_allowed a w s ok) (λ m i at x e. absurd (grind arith)) h) first c
 
 -- ---- Steps
 
