@@ -99,9 +99,6 @@ module _ (x : Setting) (s : State) (l : Label) (t : State) (k : Known x s) (step
   answered : Answered a
   answered n i runner far = (ap (λ c. is_sync_work c) (callers_base n i far), (asked x s l t k.order w n i runner far).1)
 
-  holds : CallsHold x.component s.core
-  holds = held_of k.order
-
   found : CallsFound a
   found = record {
     own = λ n runner. let there = runner_there x s l w.next k.order.in_place n runner in
@@ -111,12 +108,12 @@ module _ (x : Setting) (s : State) (l : Label) (t : State) (k : Known x s) (step
   }
 
   end_step : (sub : Subtask) → EndStep x.component (record { before = s; label = l; after = t }) sub
-  end_step = step_ends x s l t k.order.codes holds k.told step w k.works works_after.0 found k.over answered
+  end_step = step_ends x s l t k.order.codes (held_of k.order) k.told step w k.works works_after.0 found k.over answered
 
   known_after : Known x t
   known_after = record {
     order = step_in_order x s l t k.order step;
-    told = (ends_go k.order.codes holds k.told w).1.told;
+    told = (ends_go k.order.codes (held_of k.order) k.told w).1.told;
     works = works_after.0.holds;
     unnamed = record { works = works_after.1.0; spawns = spawns_after };
     callers = works_after.1.1.1;

@@ -1,9 +1,9 @@
 -- Where each thread is along the words of a step: each has its place, and one that waits for its start still does, or its call has begun.
-use Rattle.task_rules.proofs.Machine.{[], add_call, add_group, add_set, add_work, after_placing, after_word, ap, arith, AwaitsEvent, Blocks, Bool, ByHandle, Call, call_made, Collapses, Core, count_work, Departs, EndsOver, Enter, entries, Entry, Falls, false, free_handle, free_thread_handle, get, get-change, give_handle, give_result, give_thread_handle, GoBehind, GoesBack, has_entry, HasPlace, HasSubtask, Holds, HowFar, if◌then◌else◌, inl, inr, is_at_high, is_at_low, is_at_switch, is_begun, is_done_host, is_explicit, is_for_start, is_free, is_fresh, is_none, is_some, is_there, is_under, IsFall, IsFoot, IsRunner, IsSettling, Lands, LandsAt, LastWords, Leaves, MakeCall, MakeThread, Mark, MayGo, MayLand, MayMove, MayPut, MayWithdraw, MayYield, Move, nat_tests, new_thread, next_thread, None, on_call, on_instance, on_thread, on_work, Option, option_map, option_map_or, Place, place_of, Places, Placing, poll_pends, Promote, promoted, push_high, Put, put_high, put_low, Quits, refl, registers_for, Remains, remove_call, remove_group, remove_set, remove_thread, remove_work, RemoveThread, Runs, says, Scene, Script, set_backpressure, set_cancel_delivered, set_cancelled, set_course, set_do_not_enter, set_do_not_suspend, set_end, set_event, set_exited, set_how_far, set_join, set_own_event, set_phase, set_place, set_position, set_register, set_result, set_saved_callee, set_saved_own, set_script, set_stage, set_started, set_starting_published, set_subtask_handle, set_thread_handle, set_trapped, set_uninteresting, set_word, Settles, SetTrapped, SetUninteresting, Some, Stay, Stays, Stop, subst, Subtask, Suspends, switch_entries, sym, T, take_result, TakeHost, TakePush, task_of, Thread, Trip, true, Turn, Uncovers, Waits, WaitsAgain, was_started, Why, with_handle, with_thread_handle, Withdraw, Word, work_queued, ℕ, ⊎_elim, ◌+◌, ◌==◌, ◌||◌, ◌∙◌, ◌≡◌, ◌≤◌, ◌⊎◌}
+use Rattle.task_rules.proofs.Machine.{[], add_call, add_group, add_set, add_work, after_placing, after_word, ap, arith, AwaitsEvent, Blocks, Bool, ByHandle, Call, call_made, Collapses, Core, count_work, Departs, EndsOver, Enter, entries, Entry, Falls, false, free_handle, free_thread_handle, get, get-change, give_handle, give_result, give_thread_handle, GoBehind, GoesBack, has_entry, HasPlace, HasSubtask, Holds, HowFar, if◌then◌else◌, inl, inr, is_at_high, is_at_low, is_at_switch, is_begun, is_done_host, is_explicit, is_for_start, is_free, is_fresh, is_none, is_some, is_there, is_under, IsFall, IsFoot, IsRunner, IsSettling, Lands, LandsAt, LastWords, Leaves, MakeCall, MakeThread, Mark, MayGo, MayLand, MayMove, MayPut, MayWithdraw, MayYield, Move, nat_tests, new_thread, next_thread, None, on_call, on_instance, on_thread, on_work, Option, option_map, option_map_or, Place, place_of, Placed, Places, Placing, poll_pends, Promote, promoted, push_high, Put, put_high, put_low, Quits, refl, registers_for, Remains, remove_call, remove_group, remove_set, remove_thread, remove_work, RemoveThread, Runs, says, Scene, Script, set_backpressure, set_cancel_delivered, set_cancelled, set_course, set_do_not_enter, set_do_not_suspend, set_end, set_event, set_exited, set_how_far, set_join, set_own_event, set_phase, set_place, set_position, set_register, set_result, set_saved_callee, set_saved_own, set_script, set_stage, set_started, set_starting_published, set_subtask_handle, set_thread_handle, set_trapped, set_uninteresting, set_word, Settles, SetTrapped, SetUninteresting, Some, Stay, Stays, Stop, subst, Subtask, Suspends, switch_entries, sym, T, take_result, TakeHost, TakePush, task_of, Thread, Trip, true, Turn, Uncovers, Waits, WaitsAgain, was_started, Why, with_handle, with_thread_handle, Withdraw, Word, work_queued, ℕ, ⊎_elim, ◌+◌, ◌==◌, ◌||◌, ◌∙◌, ◌≡◌, ◌≤◌, ◌⊎◌}
 use Rattle.task_rules.proofs.WalkMoves.{blocked_place}
 use Rattle.task_places.proofs.Entries.{added_stand, has_stands, next_first, popped_quiet, promoted_stand, removed_fresh, withdrawn_stand, flipped}
 use Rattle.task_rules.proofs.ChainLemmas.{along}
-use Rattle.task_rules.proofs.MoveLemmas.{at_place, removed_is, All, all_of, idle_loose, is_busy, is_idle, is_parked, loose_idle, put_stand, removed_all, no_time, one_time, stand_of, removed_gone, removed_placed, removed_loose, gone_place}
+use Rattle.task_rules.proofs.MoveLemmas.{at_place, removed_is, all_of, idle_loose, is_busy, is_idle, is_parked, loose_idle, put_stand, removed_all, no_time, one_time, stand_of, removed_gone, removed_placed, removed_loose, gone_place}
 use Rattle.task_rules.proofs.PlacingLemmas.{placing_shifted}
 use Rattle.task_rules.proofs.StandLemmas.{nobody, entries-append, set_place_is, Adds, adds_all, Loose, Stand, by_number, put_high_adds, put_low_adds, set_place_adds, place_kept, place_written, Given, Watch, Nothing, Awaits, Covered, is_so, is_watched, Stuck, watching}
 use Rattle.task_rules.proofs.StopLemmas.{Untouched, behind_adds, foot_there, given_there, quiet_placed, quiet_stand, stopped_stand, switch_there}
@@ -186,7 +186,7 @@ Begun a k t = ((is_there k a.base ≡ true) × (is_explicit k a.base ≡ false �
 -- Each thread has its place, and the one whose turn comes runs; who waited for its start still does, or its call has begun; who was under
 -- another still is, or that one is gone and its turn comes, or it's gone too; and one that was made and runs has the runner under it.
 pub record Arrives (a : Scene) (t : Core) : Type 0 where
-  pub placed : All t
+  pub placed : Placed t
   pub runs : (m : ℕ) → a.next ≡ Turn.Run m → place_of m t ≡ Some Place.Running
   pub fresh : (k : ℕ) → waits a k ≡ true → (is_fresh (place_of k t) ≡ true) ⊎ Begun a k t
   pub covered : (k m : ℕ) → place_of k a.base ≡ Some (Place.Under m) → (place_of k t ≡ Some (Place.Under m)) ⊎
@@ -266,7 +266,7 @@ module _ {a : Scene} {b : Core} {n : ℕ} {p : Place} (h : Beside a b n p) {s : 
       let idle = (h.follows.runs n ok.1.1.1.1.1.0).0 in
       let new = ok.1.1.1.0 in
       let u = set_place m Place.Running s in
-      let all : All u = adds_all m (Some Place.New) Place.Running s u (set_place_adds m Place.Running Place.New s refl new)
+      let all : Placed u = adds_all m (Some Place.New) Place.Running s u (set_place_adds m Place.Running Place.New s refl new)
       (stand_of {P = nobody} m (Some Place.New) s new refl (λ k w. absurd (grind arith)) (all_of n (Some p) s idle stands)) in
       let at : place_of n u ≡ Some p = place_kept n m Place.Running s (flipped n m apart) ∙ stands.here in
       let t = set_place n (Place.Under m) u in
@@ -417,7 +417,7 @@ module _ {a : Scene} {b : Core} {n : ℕ} {q : Option Place} (f : Frame a b n q)
 
   -- the thread exits
   pub exits : (k : ℕ) (s t : Core) → IsRunner a k → Stay a b s → Settles (after_word (RemoveThread k) s) t →
-      All t × (((j : ℕ) → waits a j ≡ true → is_fresh (place_of j t) ≡ true) ×
+      Placed t × (((j : ℕ) → waits a j ≡ true → is_fresh (place_of j t) ≡ true) ×
       ((j m : ℕ) → place_of j a.base ≡ Some (Place.Under m) → place_of j t ≡ Some (Place.Under m)))
   exits k s t is c d =
       let u = settles_quiet d in

@@ -1,10 +1,10 @@
 -- Where each thread is after a step.
-use Rattle.task_rules.proofs.Machine.{ap, arith, base_at, base_without, Bool, Core, Entry, false, get, HasSubtask, inr, is_behind_of, is_take, IsRunner, Label, LastWords, Mark, nat_tests, next_entry, None, Option, option_map, Place, place_of, Pop, popped, refl, runner_at, says, Scene, scene_of, set_high, set_low, set_switch, Setting, settled_turn, Some, start_of, State, subst, Subtask, sym, T, Thread, thread_of_entry, Trip, true, Turn, Walked, was_started, ℕ, ◌+◌, ◌∙◌, ◌≡◌}
+use Rattle.task_rules.proofs.Machine.{ap, arith, base_at, base_without, Bool, Core, Entry, false, get, HasSubtask, inr, is_behind_of, is_take, IsRunner, Label, LastWords, Mark, nat_tests, next_entry, None, Option, option_map, Place, place_of, Placed, Pop, popped, refl, runner_at, says, Scene, scene_of, set_high, set_low, set_switch, Setting, settled_turn, Some, start_of, State, subst, Subtask, sym, T, Thread, thread_of_entry, Trip, true, Turn, Walked, was_started, ℕ, ◌+◌, ◌∙◌, ◌≡◌}
 use Rattle.task_rules.proofs.PlacingLemmas.{SameWorks, placing_works}
 use Rattle.task_laws.specs.Order.{InPlace}
 use Rattle.task_places.proofs.Entries.{Cleared, next_first, popped_cleared}
 use Rattle.task_places.proofs.PlaceLaw.{Arrives, Frame, entry_ready, is_run, no_way, trip_arrives, waits, ReadyAt, watch, so_self}
-use Rattle.task_rules.proofs.MoveLemmas.{All, is_idle, no_time, stand_of}
+use Rattle.task_rules.proofs.MoveLemmas.{is_idle, no_time, stand_of}
 use Rattle.task_rules.proofs.StandLemmas.{Loose, by_number, zero_one, is_so, left_placed}
 
 -- a start that the running thread may withdraw is awaited, or its thread is gone
@@ -15,7 +15,7 @@ Withdrawable a = (m k : ℕ) → IsRunner a m → HasSubtask a m (Subtask.Guest 
 
 nobody_frame : (a : Scene) (b : Core) → a.runner ≡ None → ((m : ℕ) → a.turn ≡ Turn.Run m → ⊥) →
     ((k : ℕ) → place_of k b ≡ place_of k a.base) →
-    b.made.threads ≡ a.base.made.threads → All b → Frame a b (b.made.threads + 2) None
+    b.made.threads ≡ a.base.made.threads → Placed b → Frame a b (b.made.threads + 2) None
 nobody_frame a b none idle home made all = record {
   follows = record {
     busy = refl;
@@ -39,7 +39,7 @@ nobody_frame a b none idle home made all = record {
 -- ---- A thread runs
 
 running_frame : (a : Scene) (n : ℕ) → a.runner ≡ Some n → a.turn ≡ Turn.Run n → place_of n a.base ≡ Some Place.Running → Withdrawable a →
-    All a.base → Frame a a.base n (Some Place.Running)
+    Placed a.base → Frame a a.base n (Some Place.Running)
 running_frame a n is runs at may all = record {
   follows = record {
     busy = refl;
@@ -66,7 +66,7 @@ unfolding popped set_switch set_high set_low
 popped_reads x s = grind arith
 
 taken_frame : (a : Scene) (n : ℕ) (s : Core) → a.runner ≡ Some n → ((m : ℕ) → a.turn ≡ Turn.Run m → ⊥) → is_take a.turn ≡ true →
-    Cleared n s a.base → ReadyAt (place_of n s) → a.base.made ≡ s.made → Withdrawable a → All s → (p : Place) × Frame a a.base n (Some p)
+    Cleared n s a.base → ReadyAt (place_of n s) → a.base.made ≡ s.made → Withdrawable a → Placed s → (p : Place) × Frame a a.base n (Some p)
 taken_frame a n s is idle take c r made may all = (
   Place.Ready r.0 r.1.0,
   record {
