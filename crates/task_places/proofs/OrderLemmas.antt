@@ -1,5 +1,5 @@
 -- A state in order: each opening state is, and each step leads from one to one.
-use Rattle.task_rules.proofs.Machine.{[], ap, arith, Bool, ByHandle, ByOp, Call, call_instance, callee_of, can_come, Component, Core, false, fresh, get, get-empty, HasSubtask, how_far_of, HowFar, inl, inr, instance_of, is_fresh, is_some, is_sync_call, is_there, IsRunner, Label, length, List, None, Op, op_at_place, op_of_thread, opening, Option, option_and_then, option_map, option_map_or, Place, place_of, Placed, refl, Run, Scene, scene_of, Script, script_in, Setting, Some, State, Steady, subst, Subtask, subtask_under_way, sym, task_of, Thread, true, Turn, Walk, Walked, was_started, ℕ, ⊎_elim, ◌∙◌, ◌∷◌, ◌≡◌, ◌≤◌, ◌⊎◌}
+use Rattle.task_rules.proofs.Machine.{[], ap, arith, Bool, ByHandle, ByOp, Call, callee_of, can_come, Component, Core, false, fresh, get, get-empty, HasSubtask, how_far_of, HowFar, inl, inr, instance_of, is_fresh, is_some, is_sync_call, is_there, IsRunner, Label, length, List, None, Op, op_at_place, op_of_thread, opening, option_map, option_map_or, Place, place_of, Placed, refl, Run, Scene, scene_of, Script, script_in, Setting, Some, State, Steady, subst, Subtask, subtask_under_way, sym, task_of, Thread, true, Turn, Walk, Walked, was_started, ℕ, ⊎_elim, ◌∙◌, ◌∷◌, ◌≡◌, ◌≤◌, ◌⊎◌}
 use Rattle.task_places.proofs.HostsAwaited.{Asked, step_asked, step_works}
 use Rattle.task_places.proofs.Directs.{directs_on_top}
 use Rattle.task_laws.proofs.Joins.{joins_word, opening_joins}
@@ -47,13 +47,6 @@ was_awaited s t placed steady starts k c at e =
 
 -- ---- Who is there
 
-place_there : (o : Option Place) (x : ℕ) → option_and_then set_of_place o ≡ Some x → is_some o ≡ true
-place_there o x h = grind arith
-
-op_there : (o : Option Thread) (x : ℕ) → set_of_op (option_map_or (λ (t : Thread). t.how_far) o HowFar.Fresh) ≡ Some x →
-    is_some (option_map (λ (t : Thread). t.place) o) ≡ true
-op_there o x h = grind arith
-
 -- a call that is there before and after is of one export, and a thread of one instance
 same_callee : (s t : Core) → Steady s t → Numbered s → (k : ℕ) → is_some (get s.calls k) ≡ true → is_some (get t.calls k) ≡ true →
     callee_of k t ≡ callee_of k s
@@ -64,11 +57,6 @@ same_instance : (s t : Core) → Steady s t → Numbered s → CallsThere s → 
 same_instance s t steady numbered before after n was now =
     let same = same_callee s t steady numbered (task_of n s) in
     grind (arith, steady.threads n, numbered.threads n, before n (task_of n s), after n (task_of n t))
-
--- the instance of the call matters to a thread beside the first one
-same_script : (c : Component) (i j : ℕ) (explicit : Bool) (x : Script) → (explicit ≡ true → i ≡ j) → names_script c j explicit x ≡ true →
-    names_script c i explicit x ≡ true
-same_script c i j explicit x same h = grind arith
 
 pub steps_make_few : StepsMakeFew
 steps_make_few x s l t step =
@@ -149,10 +137,16 @@ module _ (x : Setting) (s : State) (l : Label) (t : State) (h : InOrder x.compon
   unbegun_base k r at first waits = let q = h.unbegun k r at first waits in record { unended = q.unended; alone = q.alone }
 
   names_first : NamesHold s.core
-  names_first = record { known = h.names; number = λ k c at. (h.numbered.calls k c at).1; least = λ n k far. (h.calls_named.by_op n k (ap subtask_under_way far)).number }
+  names_first = record {
+    known = h.names;
+    number = λ k c at. (h.numbered.calls k c at).1;
+    least = λ n k far. (h.calls_named.by_op n k (ap subtask_under_way far)).number;
+  }
 
   names_base : NamesHold a.base
-  names_base = let n = names_first in record { known = record { there = h.names.there; once = h.names.once; called = h.names.called }; number = n.number; least = n.least }
+  names_base =
+      let n = names_first in
+      record { known = record { there = h.names.there; once = h.names.once; called = h.names.called }; number = n.number; least = n.least }
 
   calls_base : CallsAwaited a.base
   calls_base = record { inside = h.calls.inside; apart = h.calls.apart }
@@ -162,7 +156,8 @@ module _ (x : Setting) (s : State) (l : Label) (t : State) (h : InOrder x.compon
 
   -- a running thread is under none
   inside_there : InsideThere a
-  inside_there n k runs far = ⊎_elim (λ under. let at = h.in_place.runs n runs in absurd (grind arith)) (λ awaited. grind arith) (h.calls.inside n k far)
+  inside_there n k runs far =
+      ⊎_elim (λ under. let at = h.in_place.runs n runs in absurd (grind arith)) (λ awaited. grind arith) (h.calls.inside n k far)
 
   least : (m k : ℕ) → cancelled_call (how_far_of m a.base) ≡ Some k → k ≤ a.base.made.threads
   least m k e = (known.by_op m k (grind arith)).number
@@ -174,8 +169,13 @@ module _ (x : Setting) (s : State) (l : Label) (t : State) (h : InOrder x.compon
       let names = names_go_word a names_base inside_there v u ok q.1.0 in (
         directs_word a v u ok q.0,
         (names, inside_word a names_base calls_base unbegun_base numbered_base least v u ok q.1.0 names q.0 q.1.1),
-      ))
-      (λ k d. inl d, (record { hold = names_first; were = λ n k far. inl far }, record { inside = λ n k far. ⊎_elim inl (λ w. inr (inl w)) (h.calls.inside n k far); cancelled = λ m k e. inl e })) walk
+      )) (
+        λ k d. inl d,
+        (
+          record { hold = names_first; were = λ n k far. inl far },
+          record { inside = λ n k far. ⊎_elim inl (λ w. inr (inl w)) (h.calls.inside n k far); cancelled = λ m k e. inl e },
+        ),
+      ) walk
 
   pub directs_kept : Steady s.core t.core → Numbered t.core → DirectsOnTop t.core
   directs_kept steady after = directs_on_top a s.core t.core steady h.numbered after arrives (λ k. refl) (λ k. refl) h.directs called.0
@@ -187,11 +187,16 @@ module _ (x : Setting) (s : State) (l : Label) (t : State) (h : InOrder x.compon
   }
     where
       back : (n k : ℕ) → place_of n s.core ≡ Some (Place.Under k) → a.next ≡ Turn.Run n → subtask_under_way (how_far_of n t.core) ≡ None
-      back n k at to = step_by x s l t w h.in_place withdrawable (λ c u. place_of n c.base ≡ Some (Place.Under k) → c.next ≡ Turn.Run n → subtask_under_way (how_far_of n u) ≡ None)
-          (λ c b m q u base first same f d ends at to. back_apart f n k at to d) (of_base (λ b. place_of n b ≡ Some (Place.Under k)) s.turn s.core at) to
+      back n k at to = step_by x s l t w h.in_place withdrawable
+          (λ c u. place_of n c.base ≡ Some (Place.Under k) → c.next ≡ Turn.Run n → subtask_under_way (how_far_of n u) ≡ None)
+          (λ c b m q u base first same f d ends at to. back_apart f n k at to d)
+          (of_base (λ b. place_of n b ≡ Some (Place.Under k)) s.turn s.core at) to
 
-      inside : (n k : ℕ) → how_far_of n t.core ≡ HowFar.Calls (Subtask.Guest k) → Inside a n k t.core → (place_of n t.core ≡ Some (Place.Under k)) ⊎ (option_map_or is_awaited (get t.core.calls k) false ≡ true)
-      inside n k far (inl under) = ⊎_elim inl (λ gone. absurd (⊎_elim (λ to. let y = back n k under to in grind arith) (λ none. grind arith) gone.1)) (arrives.covered n k under)
+      inside : (n k : ℕ) → how_far_of n t.core ≡ HowFar.Calls (Subtask.Guest k) → Inside a n k t.core →
+          (place_of n t.core ≡ Some (Place.Under k)) ⊎ (option_map_or is_awaited (get t.core.calls k) false ≡ true)
+      inside n k far (inl under) =
+          ⊎_elim inl (λ gone. absurd (⊎_elim (λ to. let y = back n k under to in grind arith) (λ none. grind arith) gone.1))
+          (arrives.covered n k under)
       inside n k far (inr (inl awaited)) = inr awaited
       inside n k far (inr (inr (new, (runner, next)))) =
           let number = (h.in_place.placed k).number in
@@ -207,7 +212,8 @@ module _ (x : Setting) (s : State) (l : Label) (t : State) (h : InOrder x.compon
   -- ---- Scripts
 
   fits_base : Fits x.component a.base
-  fits_base n r at = let f = h.fits n r at in record { script = f.script; position = f.position; op = f.op; under = f.under; first = f.first }
+  fits_base n r at =
+      let f = h.fits n r at in record { script = f.script; position = f.position; op = f.op; under = f.under; first = f.first }
 
   has_call : (n : ℕ) (r : Thread) → get s.core.threads n ≡ Some r → is_some (get s.core.calls r.call) ≡ true
   has_call n r at = h.calls_there n r.call (ap (λ o. option_map (λ (t : Thread). t.call) o) at)
@@ -221,7 +227,7 @@ module _ (x : Setting) (s : State) (l : Label) (t : State) (h : InOrder x.compon
     same = λ to b is. let e : r ≡ b = cc in (ap (λ (t : Thread). t.call) e, ap (λ (t : Thread). t.script) e);
     op = inr (has_call n r at, f.op);
     under = λ d. ((has_call n r at, f.under d), inl (grind arith));
-    still = λ d b is. let e : r ≡ b = cc in (ap (λ (t : Thread). t.call) e, (ap (λ (t : Thread). t.script) e, ap (λ (t : Thread). t.position) e));
+    still = λ d b is. let e : r ≡ b = cc in grind arith;
   }
 
   -- what is so of threads and their ops as the step ends
@@ -248,8 +254,8 @@ module _ (x : Setting) (s : State) (l : Label) (t : State) (h : InOrder x.compon
   fits_kept steady n r at =
       let f = last.0 n r at in
       record {
-        script = same_script x.component (call_instance r.call t.core) (call_instance r.call s.core) r.explicit r.script
-            (λ e. ap (λ c. c.instance) (same (f.call e))) f.script;
+        -- the instance of the call matters to a thread beside the first one
+        script = let home = λ (e : r.explicit ≡ true). ap (λ c. c.instance) (same (f.call e)) in let script = f.script in grind arith;
         position = ⊎_elim (λ zero. omega (arith, zero))
             (λ b. subst (λ e. r.position ≤ length (script_in x.component e r.script)) (sym (same b.0)) b.1) f.position;
         op = ⊎_elim (λ fresh. ap (can_come (op_of_thread x.component t.core r)) fresh) (λ e. at_op (λ o. can_come o r.how_far) e) f.op;
@@ -282,8 +288,8 @@ module _ (x : Setting) (s : State) (l : Label) (t : State) (h : InOrder x.compon
   homed_first : Homed a s.core
   homed_first = record {
     homes = λ i y q. assumption;
-    by_place = λ n y e. (h.waits.by_place n y e, place_there (place_of n s.core) y e);
-    by_op = λ n y e. (h.waits.by_op n y e, op_there (get s.core.threads n) y e);
+    by_place = λ n y e. (h.waits.by_place n y e, grind arith);
+    by_op = λ n y e. (h.waits.by_op n y e, grind arith);
   }
 
   homed_last : Homed a t.core
@@ -291,8 +297,8 @@ module _ (x : Setting) (s : State) (l : Label) (t : State) (h : InOrder x.compon
 
   pub waits_kept : Steady s.core t.core → WaitsAtHome t.core
   waits_kept steady = record {
-    by_place = λ n y e. let q = homed_last.by_place n y e in rw (same n (place_there (place_of n t.core) y e) q.1) q.0;
-    by_op = λ n y e. let q = homed_last.by_op n y e in rw (same n (op_there (get t.core.threads n) y e) q.1) q.0;
+    by_place = λ n y e. let q = homed_last.by_place n y e in rw (same n (grind arith) q.1) q.0;
+    by_op = λ n y e. let q = homed_last.by_op n y e in rw (same n (grind arith) q.1) q.0;
   }
     where
       same : (n : ℕ) → is_there n t.core ≡ true → is_there n s.core ≡ true → instance_of n t.core ≡ instance_of n s.core

@@ -95,9 +95,6 @@ enter_passes : (i : ℕ) (b : Bool) (s : Core) → passes_check i (set_do_not_en
 unfolding passes_check first_entry set_do_not_enter on_instance
 enter_passes i b s = grind (arith, nat_tests, get-change)
 
-same_nil : (xs ys : List ℕ) → length ys ≡ length xs → is_nil ys ≡ is_nil xs
-same_nil xs ys e = grind arith
-
 -- an instance lets entries in again: told on the state before
 reopens_passes : (i : ℕ) (s : Core) (order : List ℕ) → IsPermutation (held_by_flag i s) order →
     passes_check i (end_reopens i order s) ≡ (passes_check i s || not (is_nil (held_by_flag i s)))
@@ -107,7 +104,7 @@ reopens_passes i s order perm =
     let held = admitted_held i v in
     let test : ℕ → Bool = λ m. is_held_admitted i v m (held_why_of m v) in
     let all = All-permutation (λ m. test m ≡ true) held order perm (filter_passes test (numbers v.threads)) in
-    grind (arith, release_passes i order v all, enter_passes i false s, same_nil held order (length_permutation held order perm))
+    grind (arith, release_passes i order v all, enter_passes i false s, length_permutation held order perm)
 
 pub callback_check : CallbackCheckIsAfter
 unfolding code_stops end_reopens held_by_flag passes_after_stop set_do_not_enter on_instance

@@ -89,7 +89,8 @@ module _ {P : ℕ → Watch} (n : ℕ) (q : Option Place) where
   displaced_stand xs s None is st = quiet_stand xs s _ (grind arith) st
   displaced_stand xs s (Some j) is st =
       moves_stand n q xs j (Place.Ready Mark.Switch (why_of j s)) (Place.Ready Mark.High (why_of j s)) s (set_switch None s) _
-      (grind (arith, nat_tests)) (grind (arith, nat_tests, get-change)) ready j_none (λ so watched. grind (arith, so_again (P j) Mark.High)) st
+      (grind (arith, nat_tests)) (grind (arith, nat_tests, get-change)) ready j_none
+      (λ so watched. grind (arith, so_again (P j) Mark.High)) st
     where
       stands : switch_entries j s.queues.switch ≡ 1
       stands = ap (switch_entries j) is ∙ ap one_if (eq_refl j)
