@@ -4,9 +4,11 @@
     tools/imports.py
 
 The file crates/task_rules/proofs/Machine.antt passes on each name of std, of task_machine's specs and of task_rules' specs that
-a proof file of these crates brings in, and every such file gets one `use` line for them. In a proof file new names are written
-as `use` lines of the modules that declare them; then this is run, and `rt fmt`. Names that a file no longer cites go. What a
-file renames by `as`, and a module that one file alone cites, stay as they are.
+a proof file of these crates brings in, and each lemma of task_machine's proofs; every such file gets one `use` line for them.
+In a proof file new names are written as `use` lines of the modules that declare them; then this is run, and `rt fmt`. Names that
+a file no longer cites go. A variant is written behind its type: where a file has `use ..Place.TheVariants as place`, each
+`place.Running` becomes `Place.Running`, and the line goes. What a file else renames by `as`, and a module that one file alone
+cites, stay as they are.
 """
 import pathlib
 import re
@@ -17,8 +19,10 @@ USE = re.compile(r'^use (Rattle\.[\w.]+)\.\{(.*)\}$')
 ANY_USE = re.compile(r'^(unfoldable )?(pub )?use ')
 PASSED_ON = re.compile(r'^(unfoldable )?pub use (Rattle\.[\w.]+)\.\{(.*)\}$')
 UNFOLDABLE = re.compile(r'(?m)^\s*unfoldable pub (?:\{[^}]*\} )?(?!use )([^\s:]+)')
-SHARED = re.compile(r'Rattle\.(task_machine\.specs|task_rules\.specs|std\.specs|std\.proofs)\.')
+SHARED = re.compile(r'Rattle\.(task_machine\.specs|task_machine\.proofs|task_rules\.specs|std\.specs|std\.proofs)\.')
+VARIANTS = re.compile(r'(?m)^use (Rattle\.[\w.]+\.(\w+))\.TheVariants as (\w+)$')
 MACHINE = 'Rattle.task_rules.proofs.Machine'
+DECLARED = 'Rattle.task_machine.specs.declared'  # its types, each in a module of its own, are passed on by one line
 PRELUDE, COMMON = 'Rattle.std.specs.Prelude', 'Rattle.std.proofs.Common'  # the second passes on names of the first
 TITLE = '-- The words of std, of the machine and of its rules that the proofs cite, in one place.'
 
@@ -29,6 +33,10 @@ def names_of(group):
 
 def by_name(name):
     return (name.lower(), name)
+
+
+def is_declared(module):
+    return module.startswith(DECLARED + '.')
 
 
 def is_cited(name, body):
@@ -50,17 +58,26 @@ def passed_on():
     modules, unfoldable = {}, set()
     for line in PLACE.read_text().split('\n'):
         if match := PASSED_ON.match(line):
-            for name in names_of(match[3]):
-                modules[name] = match[2]
+            for path in names_of(match[3]):
+                *below, name = path.split('.')
+                modules[name] = '.'.join([match[2], *below])
                 if match[1]:
                     unfoldable.add((match[2], name))
     return modules, unfoldable
 
 
+def behind_types(text):
+    """The text with each variant written behind its type, and that type brought in."""
+    for module, type_name, short in VARIANTS.findall(text):
+        text = re.sub(rf'(?<![\w.]){short}\.(?=[A-Z])', f'{type_name}.', text)
+        text = text.replace(f'use {module}.TheVariants as {short}\n', f'use {module}.{{{type_name}}}\n')
+    return text
+
+
 def read(file, modules):
     """The file's lines without those imports, where they stood, and what they bring in."""
     lines, where, brought = [], None, set()
-    text = file.read_text().split('\n')
+    text = behind_types(file.read_text()).split('\n')
     body = '\n'.join(line for line in text if not ANY_USE.match(line))
     for line in text:
         match = USE.match(line)
@@ -95,9 +112,11 @@ def main():
     owners = {}
     for module, name in sorted(cites, key=lambda pair: (-cites[pair], pair)):
         owners.setdefault(name, module)
-    shared = {(module, name) for module, name in cites if owners[name] == module and len(users[module]) > 1}
+    shared = {(module, name) for module, name in cites if owners[name] == module and (len(users[module]) > 1 or is_declared(module))}
     place = [TITLE]
-    for module in sorted({module for module, _ in shared}):
+    types = sorted(f'{module[len(DECLARED) + 1:]}.{name}' for module, name in shared if is_declared(module))
+    place.append(f'pub use {DECLARED}.{{{", ".join(types)}}}')
+    for module in sorted({module for module, _ in shared if not is_declared(module)}):
         names = sorted((name for other, name in shared if other == module), key=by_name)
         for word, unfolds in (('', False), ('unfoldable ', True)):
             if group := [name for name in names if ((module, name) in unfoldable) == unfolds]:

@@ -1,9 +1,9 @@
 -- Tables that hold at each place what they held: the core is sound, and nothing is seen of it.
-use Rattle.std.proofs.Common.{inl, inr, ◌≡◌, ◌+◌, ◌-◌, ◌<◌, ℕ, List, [], ◌∷◌, Option, Some, None, IfSome, IsSome, cond, map, slice_get, suc, refl, sym, ap, ap₂, subst, ◌∙◌, arith}
+use Rattle.std.proofs.Common.{inl, inr, ◌≡◌, ℕ, List, [], ◌∷◌, Option, Some, None, IfSome, IsSome, cond, map, slice_get, suc, refl, sym, ap, ap₂, subst, ◌∙◌, arith}
 use Rattle.std.proofs.lemmas.Bool.{cases_eq, eq-eqb, ne_eqb}
+use Rattle.std.proofs.lemmas.Option.{slice_get-map}
 use Rattle.std.specs.Option.{option_map}
 use Rattle.make_words.proofs.MoreLemmas.{IsRows-known, at_unwritten, at_written}
-use Rattle.make_words.proofs.UndoLemmas.{tags_same}
 use Rattle.make_words.specs.Restored.{IsRestored, Restores}
 use Rattle.task_handles.specs.declared.kinds.HandleKind.{HandleKind}
 use Rattle.task_handles.specs.declared.kinds.HandleKind.TheVariants as handle
@@ -11,22 +11,23 @@ use Rattle.task_handles.specs.declared.kinds.Rep.{Rep}
 use Rattle.task_handles.specs.declared.kinds.WaitableKind.TheVariants as waitable
 use Rattle.task_index.proofs.Indexes.{IsIndex-same, IsIndex-same_chains}
 use Rattle.task_index.specs.Counts.{passing}
-use Rattle.task_index.specs.Index.{Filing, IsIndex, filings, said}
+use Rattle.task_index.specs.Index.{Filing, filings, said}
 use Rattle.task_index.specs.Rows.{Each, IsRows, with_nodes}
 use Rattle.task_links.specs.Links.{Spot}
+use Rattle.task_words.specs.StateView.{Tag}
 use Rattle.task_machine.specs.Core.{Core}
 use Rattle.task_machine.specs.Maps.{get, same_map}
-use Rattle.task_machine.specs.Read.{call_instance, live_in}
+use Rattle.task_machine.specs.Read.{call_instance}
 use Rattle.task_machine.specs.declared.records.Entry.{Entry}
 use Rattle.task_machine.specs.declared.records.Entry.TheVariants as entry
 use Rattle.task_machine.specs.declared.records.Subtask.TheVariants as subtask
-use Rattle.task_records.specs.Image.{Parts, callers_in, chained, core_of, image}
+use Rattle.task_records.specs.Image.{Parts, callers_in, chained, core_of, image, tag_of, tags_in, trimmed, with_first}
 use Rattle.task_records.specs.Kept.{AreKept, IsCallKept, IsGroupKept, IsSetKept}
 use Rattle.task_records.specs.Keys.{blocked_key, call_key, callers_key, group_key, ready_calls_key, ready_works_key, set_key, thread_key, under_key, waiters_key, work_blocked_key, work_key}
 use Rattle.task_records.specs.Kinds.{item_of, on_item}
-use Rattle.task_records.specs.Names.{AreHandlesNamed, AtPlace, CallOf, HasHome, IsCallNamed, IsHeldNamed, IsNamedAt, IsWorkNamed, Kinds, Nothing, OwnsHandle, SetOf, StandsAt, Target, ThreadOf, WorkOf, kinds}
+use Rattle.task_records.specs.Names.{AreHandlesNamed, AtPlace, CallOf, HasHome, IsCallNamed, IsHeldNamed, IsNamedAt, IsWorkNamed, Kinds, Nothing, SetOf, StandsAt, Target, ThreadOf, WorkOf, kinds}
 use Rattle.task_records.specs.Places.{BlockedOn, HeldIn, UnderOf, WaitsOn, Where, live_chain, live_work, place_chain, place_filing, ready_call, ready_call_chain, ready_work, ready_work_chain}
-use Rattle.task_records.specs.Rows.{HaveNodes, IsFollower, IsSeated, callers_chain, callers_row, entry_seated, follower, push_entry, host_entry, seated, thread_entry}
+use Rattle.task_records.specs.Rows.{HaveNodes, IsFollower, IsSeated, callers_chain, callers_row, entry_seated, follower, push_entry, host_entry, thread_entry}
 use Rattle.task_records.specs.Sound.{IsWhole, Sound, SoundTable, bare, bare_call, bare_thread, bare_work}
 use Rattle.task_records.specs.declared.calls.GuestTask.{GuestTask}
 use Rattle.task_records.specs.declared.calls.TaskGroup.{TaskGroup}
@@ -46,7 +47,7 @@ use Rattle.task_table.proofs.TableLemmas.{IsTable-with_entry}
 use Rattle.task_table.specs.Answers.{item_at, item_in}
 use Rattle.task_table.specs.Changes.{deleted, next_place, pushed, with_entry}
 use Rattle.task_table.specs.Mapped.{mapped, placed_as}
-use Rattle.task_table.specs.Records.{found_record, key_in, number_in, or_record, record_at, records}
+use Rattle.task_table.specs.Records.{found_record, key_in, number_in, or_record, records}
 use Rattle.task_table.specs.Table.{IsTable, Placed, Table, children_of, found, of_serial, place_at, standing}
 
 -- ---- Names in more tables
@@ -66,6 +67,33 @@ module _ (k l : Kinds) (more : (rep : ℕ) (t : Target) → IsNamedAt k rep t �
     handles = λ h x live. held_grown x.kind x.rep (named.handles h x live);
     thread_handles = λ h r live. more r.id (ThreadOf r.serial) (named.thread_handles h r live);
   }
+
+-- ---- What is seen
+
+abbrev shown : {X : Type 0} → Option (Option X) → Option X
+shown None = None
+shown (Some o) = o
+
+all_free : (xs : List (Option Tag)) → ((r : ℕ) → shown (slice_get xs r) ≡ None) → trimmed xs ≡ []
+all_free [] none = refl
+all_free (None ∷ xs) none = ap (with_first None) (all_free xs (λ r. none (suc r)))
+all_free (Some x ∷ xs) none = absurd (let here = none 0 in cc)
+
+trimmed_same : (xs ys : List (Option Tag)) → ((r : ℕ) → shown (slice_get xs r) ≡ shown (slice_get ys r)) → trimmed xs ≡ trimmed ys
+trimmed_same [] ys same = sym (all_free ys (λ r. sym (same r)))
+trimmed_same (x ∷ xs) [] same = all_free (x ∷ xs) same
+trimmed_same (x ∷ xs) (y ∷ ys) same = ap₂ with_first (same 0) (trimmed_same xs ys (λ r. same (suc r)))
+
+module _ {E X : Type 0} (key : E → Option (ℕ × X)) where
+  shown_at : (t : Table E) (r : ℕ) → shown (slice_get (map (tag_of key) t.places) r) ≡ tag_of key (place_at t r)
+  shown_at t r = ap shown (slice_get-map (tag_of key) t.places r) ∙ by_place (slice_get t.places r)
+    where
+      by_place : (o : Option (Option (Placed E))) → shown (option_map (tag_of key) o) ≡ tag_of key (standing o)
+      by_place None = refl
+      by_place (Some o) = refl
+
+  pub tags_same : (t u : Table E) → ((r : ℕ) → place_at u r ≡ place_at t r) → tags_in key u ≡ tags_in key t
+  tags_same t u same = trimmed_same (map (tag_of key) u.places) (map (tag_of key) t.places) (λ r. shown_at u r ∙ (ap (tag_of key) (same r) ∙ sym (shown_at t r)))
 
 -- ---- Tables
 
@@ -327,3 +355,7 @@ module _ {T : Type 0} (t u v : Table (Single T)) (rep : ℕ) (q : Placed (Single
         ∙ (children_of-with_entry u rep r (record { item = g }) (record q { entry = record { item = h } }) there
         ∙ (ap (λ (w : Table (Single T)). children_of w r) is ∙ children_of-with_entry t rep r (record { item = h }) q at));
   }
+
+-- what was pushed is what the table is
+pub Restores-pushed : {T : Type 0} (t u v : Table (Single T)) (g : T) → IsTable u → u ≡ pushed (record { item = g }) t → v ≡ u → Restores (pushed (record { item = g }) t) v
+Restores-pushed t u v g table is same = subst (Restores (pushed (record { item = g }) t)) (sym (same ∙ is)) (Restores-same (pushed (record { item = g }) t) (subst IsTable is table))

@@ -2,11 +2,15 @@
 //! them, with every word of `task_words`.
 #![tactic(auto)]
 
+mod calls;
 mod instances;
+mod limits;
+mod places;
 mod queues;
 mod results;
 mod sets;
 mod subtasks;
 mod task_core;
+mod threads;
 
 pub use crate::task_core::TaskCore;

@@ -1,5 +1,5 @@
 use crate::task_core::TaskCore;
-use task_machine::{Made};
+use task_machine::Made;
 use task_words::{CallId, ResultWords};
 
 impl ResultWords for TaskCore {

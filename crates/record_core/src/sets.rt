@@ -1,5 +1,5 @@
 use crate::task_core::TaskCore;
-use task_machine::{NoMemory};
+use task_machine::NoMemory;
 use task_words::{SetId, SetWords, SubtaskId};
 
 impl SetWords for TaskCore {

@@ -1,5 +1,5 @@
 -- A call more, whose node and chain hung on nothing: the chains and the nodes of the parts.
-use Rattle.std.proofs.Common.{inl, inr, ◌⊎◌, ◌≡◌, ◌<◌, ℕ, Option, Some, None, refl, sym, ap, ◌∙◌, arith}
+use Rattle.std.proofs.Common.{inl, inr, ◌⊎◌, ◌≡◌, ◌<◌, ℕ, Some, None, refl, sym, ap, ◌∙◌, arith}
 use Rattle.std.proofs.lemmas.Option.{same_Some}
 use Rattle.std.proofs.lemmas.Bool.{cases_eq}
 use Rattle.make_words.proofs.FreshLemmas.{chain_new, chain_other}
@@ -9,7 +9,6 @@ use Rattle.strand_words.proofs.ThreadPushLemmas.{PlacesNamed, none_in_list}
 use Rattle.strand_words.specs.Loose.{AreCallLoose}
 use Rattle.strand_words.specs.declared.nodes.CallNodes.{CallNodes}
 use Rattle.task_index.specs.Index.{filings}
-use Rattle.task_machine.specs.declared.records.Subtask.{Subtask}
 use Rattle.task_machine.specs.declared.records.Subtask.TheVariants as subtask
 use Rattle.task_records.specs.Image.{Parts}
 use Rattle.task_records.specs.Keys.{call_key}
@@ -17,7 +16,6 @@ use Rattle.task_records.specs.Names.{Kinds}
 use Rattle.task_records.specs.Places.{BlockedOn, HeldIn, UnderOf, WaitsOn, Where, place_chain, place_filing, ready_call_chain, ready_in}
 use Rattle.task_records.specs.Sound.{AreChained, HaveRowNodes}
 use Rattle.task_records.specs.declared.calls.GuestTask.{GuestTask}
-use Rattle.task_records.specs.declared.single.Single.{Single}
 use Rattle.task_table.specs.Changes.{pushed}
 use Rattle.task_table.specs.Records.{AreApart, found_record}
 use Rattle.task_table.specs.Table.{IsTable}

@@ -1,14 +1,13 @@
 -- A group more: the parts stay whole, and contracts see just that.
-use Rattle.std.proofs.Common.{◌≡◌, ◌+◌, ◌*◌, ◌++◌, ◌==◌, ◌<◌, ◌^◌, ◌≤◌, ℕ, Bool, true, false, List, [], ◌∷◌, Option, Some, None, filter, length, nat_lt, refl, sym, ap, ap₂, subst, ◌∙◌, arith}
+use Rattle.std.proofs.Common.{◌≡◌, ◌+◌, ◌++◌, ◌==◌, ◌<◌, ◌^◌, ◌≤◌, ℕ, true, false, List, [], ◌∷◌, Option, Some, None, filter, length, nat_lt, refl, sym, ap, ap₂, subst, ◌∙◌, arith}
 use Rattle.std.proofs.lemmas.Bool.{ne_eqb}
 use Rattle.std.proofs.lemmas.List.{length-append}
 use Rattle.std.proofs.lemmas.Option.{same_Some}
 use Rattle.std.specs.Option.{option_map_or}
 use Rattle.make_words.proofs.FreshLemmas.{each_more, none_passing}
-use Rattle.make_words.proofs.MoreLemmas.{at_new, early_at, number_stays}
+use Rattle.make_words.proofs.MoreLemmas.{early_at, number_stays}
 use Rattle.strand_words.proofs.GroupLemmas.{last_number}
 use Rattle.task_index.proofs.Lists.{filter-append, filter-one}
-use Rattle.task_index.specs.Counts.{passing}
 use Rattle.task_machine.specs.Maps.{Records, get, insert, numbers}
 use Rattle.task_machine.specs.Read.{fits, table_use}
 use Rattle.task_machine.specs.Write.{add_group}
@@ -20,7 +19,6 @@ use Rattle.task_records.proofs.MakeLemmas.{records_more, table_more}
 use Rattle.task_records.specs.Image.{Parts, core_of}
 use Rattle.task_records.specs.Keys.{call_key, group_key, work_key}
 use Rattle.task_records.specs.Kept.{IsGroupKept, calls_of, is_of_group}
-use Rattle.task_records.specs.Kinds.{item_of}
 use Rattle.task_records.specs.Names.{HasHome, HasNumber, IsCallNamed, IsWorkNamed, kinds}
 use Rattle.task_records.specs.Seen.{IsSound, parts_of, seen}
 use Rattle.task_records.specs.Sound.{IsWhole, SoundTable, bare}

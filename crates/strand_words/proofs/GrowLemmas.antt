@@ -1,5 +1,5 @@
 -- A thread more, with other tables of calls and of groups: what is named stands where it stood.
-use Rattle.std.proofs.Common.{◌≡◌, ◌+◌, ◌<◌, ◌≤◌, ℕ, Option, Some, None, IfSome, IsSome, ap, sym, ◌∙◌, arith}
+use Rattle.std.proofs.Common.{◌≡◌, ◌+◌, ◌<◌, ◌≤◌, ℕ, Option, Some, None, IfSome, ◌∙◌, arith}
 use Rattle.make_words.proofs.FreshLemmas.{each_more}
 use Rattle.make_words.proofs.MoreLemmas.{seat_stays}
 use Rattle.task_machine.specs.Read.{call_instance}

@@ -1,5 +1,6 @@
 pub mod ThreadPushLemmas
 pub mod CallPushLemmas
+pub mod ThreadSeenLemmas
 pub mod GroupLemmas
 pub mod GrowLemmas
 pub mod StrandCountLemmas

@@ -1,5 +1,5 @@
 -- A call by main: what the makes of its group and of its records come to, and what is left where one fails.
-use Rattle.std.proofs.Common.{◌≡◌, ◌+◌, ◌*◌, ◌++◌, ◌-◌, ◌<◌, ◌≤◌, ℕ, true, [], ◌∷◌, length, nat_le, refl, sym, ap, ap₂, subst, ◌∙◌, arith}
+use Rattle.std.proofs.Common.{◌≡◌, ◌+◌, ◌-◌, ◌≤◌, ℕ, true, [], ◌∷◌, ap, ap₂, subst, ◌∙◌, arith}
 use Rattle.std.proofs.lemmas.List.{length-append}
 use Rattle.make_words.proofs.RestoreLemmas.{Restores-deleted, restored_from}
 use Rattle.make_words.specs.Restored.{IsRestored, Restores}

@@ -1,33 +1,29 @@
 -- A thread more of a call that is there, as a core: it is sound, contracts see just that, and it can be taken back.
-use Rattle.std.proofs.Common.{◌≡◌, ◌+◌, ◌-◌, ◌==◌, ◌<◌, ◌^◌, ◌≤◌, ℕ, true, List, [], Option, None, Some, length, map, slice_get, refl, sym, ap, ap₂, subst, ◌∙◌, arith}
+use Rattle.std.proofs.Common.{◌≡◌, ◌+◌, ◌-◌, ◌==◌, ◌<◌, ◌^◌, ◌≤◌, ℕ, true, List, Option, None, Some, length, slice_get, refl, sym, ap, ap₂, subst, ◌∙◌, arith}
 use Rattle.std.proofs.lemmas.List.Sums.{count_by-le-length}
 use Rattle.std.specs.Prelude.{Ok}
 use Rattle.make_words.proofs.FreshLemmas.{each_more}
-use Rattle.make_words.proofs.RestoreLemmas.{Restores-deleted, Restores-same, Restores-written, handles_grown, restored_from}
+use Rattle.make_words.proofs.RestoreLemmas.{Restores-deleted, Restores-pushed, Restores-same, Restores-written, handles_grown, restored_from}
 use Rattle.make_words.specs.Restored.{IsRestored}
-use Rattle.queue_words.proofs.CallerLemmas.{apart_as, none_as}
 use Rattle.strand_words.proofs.GrowLemmas.{at_grown}
 use Rattle.strand_words.proofs.MemberLemmas.{grows, member_whole}
 use Rattle.strand_words.proofs.StrandAddLemmas.{places_few, tables_bare}
-use Rattle.strand_words.proofs.StrandUndoLemmas.{Restores-pushed}
 use Rattle.strand_words.proofs.ThreadPushLemmas.{nodes_of}
+use Rattle.strand_words.proofs.ThreadSeenLemmas.{callers_are, thread_new, thread_still, threads_are}
 use Rattle.strand_words.specs.Loose.{AreThreadLoose}
 use Rattle.strand_words.specs.Member.{IsMember}
 use Rattle.strand_words.specs.Pushed.{PushesThread}
 use Rattle.task_index.specs.Counts.{passing}
-use Rattle.task_index.specs.Rows.{values}
-use Rattle.task_links.specs.Links.{list_or_nil}
-use Rattle.task_machine.specs.Maps.{Records, insert, size}
+use Rattle.task_machine.specs.Maps.{Records, size}
 use Rattle.task_machine.specs.Read.{fits, table_use}
 use Rattle.task_machine.specs.Write.{add_thread}
 use Rattle.task_machine.specs.declared.records.Call.{Call}
 use Rattle.task_machine.specs.declared.records.Thread.{Thread}
 use Rattle.task_records.proofs.KeptLemmas.{call_threads, used_is}
 use Rattle.task_records.proofs.KindLemmas.{item_stands, table_written, tags_written}
-use Rattle.task_records.proofs.MakeLemmas.{number_kept, number_new, records_more, table_more}
-use Rattle.task_records.proofs.ReadLemmas.{call_shown, thread_shown}
+use Rattle.task_records.proofs.MakeLemmas.{table_more}
 use Rattle.task_records.proofs.TableLemmas.{records_unseen}
-use Rattle.task_records.specs.Image.{Parts, callers_in, core_of, tags_in}
+use Rattle.task_records.specs.Image.{Parts, core_of, tags_in}
 use Rattle.task_records.specs.Kept.{threads_of}
 use Rattle.task_records.specs.Keys.{call_key, thread_key}
 use Rattle.task_records.specs.Kinds.{item_of, on_item}
@@ -37,10 +33,8 @@ use Rattle.task_records.specs.Sound.{IsWhole, SoundTable, bare, bare_call, bare_
 use Rattle.task_records.specs.declared.calls.GuestTask.{GuestTask}
 use Rattle.task_records.specs.declared.parts.CoreParts.{CoreParts}
 use Rattle.task_records.specs.declared.single.Single.{Single}
-use Rattle.task_records.specs.declared.threads.Follower.{Follower}
 use Rattle.task_records.specs.declared.threads.GuestThread.{GuestThread}
 use Rattle.task_table.proofs.MappedLemmas.{mapped-pushed, mapped-with_entry, place_at-mapped}
-use Rattle.task_table.proofs.RecordChangeLemmas.{PutsRecord-pushed}
 use Rattle.task_table.specs.Answers.{item_at}
 use Rattle.task_table.specs.Changes.{deleted, next_place, pushed, with_entry}
 use Rattle.task_table.specs.Mapped.{mapped, placed_as}
@@ -103,30 +97,9 @@ module _ (a : CoreParts) (sound : IsSound a) where
     module _ (is : IsMember (bare (parts_of a)) (bare_call c) id.rep (bare_thread g)) (loose : AreThreadLoose (bare (parts_of a)) (nodes_of g)) where
       -- ---- What contracts see
 
-      threads_are : records thread_key member.threads.places ≡ insert (records thread_key a.threads.places) (a.made.threads + 1) g.thread
-      unfolding IsSound
-      threads_are = records_more (λ (h : GuestThread). h.number) (λ (h : GuestThread). h.thread) a.threads a.made.threads sound.tables.threads g is.next ∙ ap (λ (n : ℕ). insert (records thread_key a.threads.places) n g.thread) is.next
-
-      abbrev behind_of : GuestThread → List ℕ
-      behind_of h = map (λ (f : Follower). f.number) (values a.behind h.callers)
-
-      callers_are : records (callers_in a.behind) member.threads.places ≡ insert (records (callers_in a.behind) a.threads.places) (a.made.threads + 1) []
-      unfolding IsSound
-      callers_are =
-          (PutsRecord-pushed (callers_in a.behind) a.threads (record { item = g }) g.number (behind_of g) sound.tables.threads.table (apart_as (λ (h : GuestThread). h.number) (λ (h : GuestThread). h.thread) behind_of a.threads.places sound.tables.threads.apart) refl
-          (none_as (λ (h : GuestThread). h.number) (λ (h : GuestThread). h.thread) behind_of g.number a.threads.places (sound.tables.threads.later g.number (let next = is.next in omega arith)))).map
-          ∙ ap₂ (λ (n : ℕ) (ns : List ℕ). insert (records (callers_in a.behind) a.threads.places) n ns) is.next (ap (λ (o : Option (List (ℕ × Follower))). map (λ (f : Follower). f.number) (map (λ e. e.1) (list_or_nil o))) loose.callers.empty)
-
       pub member_core : (seen member).core ≡ add_thread g.thread (seen a).core
       unfolding seen add_thread
-      member_core = rw (threads_are, calls_same, callers_are) refl
-
-      thread_kept : (k : TableId ThreadKey) → 0 < thread_of (seen a) k → thread_of (seen member) k ≡ thread_of (seen a) k
-      unfolding IsSound
-      thread_kept k live =
-          thread_shown member k
-          ∙ (number_kept (λ (h : GuestThread). h.number) (λ (h : GuestThread). h.thread) a.threads a.made.threads sound.tables.threads g is.next k.rep k.serial (subst (λ (n : ℕ). 0 < n) (thread_shown a k) live)
-          ∙ sym (thread_shown a k))
+      member_core = rw (threads_are a sound g is.next, calls_same, callers_are a sound g is.next loose.callers) refl
 
       call_tags : tags_in call_key member.calls ≡ tags_in call_key a.calls
       unfolding IsSound
@@ -134,11 +107,10 @@ module _ (a : CoreParts) (sound : IsSound a) where
 
       pub member_tags : Keeps (seen a).tags (seen member).tags
       unfolding seen call_number set_number work_number
-      member_tags = record { threads = thread_kept; calls = λ k live. ap (λ (ts : List (Option Tag)). named k.serial (slice_get ts k.rep)) call_tags; sets = λ k live. refl; works = λ k live. refl }
+      member_tags = record { threads = thread_still a sound g is.next member refl; calls = λ k live. ap (λ (ts : List (Option Tag)). named k.serial (slice_get ts k.rep)) call_tags; sets = λ k live. refl; works = λ k live. refl }
 
       pub member_named : (k : TableId ThreadKey) → k.rep ≡ next_place a.threads → k.serial ≡ a.threads.given → thread_of (seen member) k ≡ a.made.threads + 1
-      unfolding IsSound
-      member_named k at serial = thread_shown member k ∙ (number_new (λ (h : GuestThread). h.number) (λ (h : GuestThread). h.thread) a.threads a.made.threads sound.tables.threads g is.next k.rep k.serial at serial ∙ is.next)
+      member_named = thread_new a sound g is.next member refl
 
       -- ---- It is sound
 

@@ -1,5 +1,5 @@
 -- A thread more of a call that is there: the parts stay whole.
-use Rattle.std.proofs.Common.{◌≡◌, ◌+◌, ◌*◌, ◌==◌, ◌<◌, ◌≤◌, ℕ, Bool, cond, Option, Some, None, IsSome, length, refl, sym, ap, ap₂, subst, ◌∙◌, arith}
+use Rattle.std.proofs.Common.{◌≡◌, ◌+◌, ◌==◌, ◌<◌, ℕ, Bool, Option, Some, IsSome, refl, sym, ap, subst, ◌∙◌, arith}
 use Rattle.std.proofs.lemmas.Bool.{eq-eqb, ne_eqb}
 use Rattle.std.specs.Option.{option_map_or}
 use Rattle.make_words.proofs.MoreLemmas.{at_written, each_but, number_written, passing_more, size_more}
@@ -22,7 +22,7 @@ use Rattle.task_machine.specs.declared.records.Subtask.TheVariants as subtask
 use Rattle.task_machine.specs.declared.records.Thread.{Thread}
 use Rattle.task_records.proofs.TableLemmas.{found_unseen, records_unseen}
 use Rattle.task_records.specs.Image.{Parts, core_of}
-use Rattle.task_records.specs.Keys.{blocked_key, call_key, thread_key}
+use Rattle.task_records.specs.Keys.{blocked_key, call_key}
 use Rattle.task_records.specs.Kept.{IsCallKept, IsSetKept}
 use Rattle.task_records.specs.Names.{AtPlace, HasHome, IsCallNamed, how_far_target, kinds, place_target}
 use Rattle.task_records.specs.Places.{BlockedOn, HeldIn, UnderOf, WaitsOn, Where, place_chain, place_filing, ready_call, ready_call_chain, where_at}
@@ -140,14 +140,14 @@ module _ (p : Parts) (whole : IsWhole p) (tables : AreTables p) (rep : ℕ) (q :
   calls_kept : EachEntry (IsCallKept (core_of with_member)) calls_now
   calls_kept = each_but p.calls rep q at one_more (IsCallKept (core_of with_member))
       (let was = whole.counted.calls rep q at in
-       let more = thread_more (λ t. t.call == q.entry.item.number) in
-       let here = passes_one (λ (t : Thread). t.call == q.entry.item.number) g.thread (eq-eqb g.thread.call q.entry.item.number is.of_call) in
-       omega arith)
+      let more = thread_more (λ t. t.call == q.entry.item.number) in
+      let here = passes_one (λ (t : Thread). t.call == q.entry.item.number) g.thread (eq-eqb g.thread.call q.entry.item.number is.of_call) in
+      omega arith)
       (λ r w other w_at.
-       let was = whole.counted.calls r w w_at in
-       let more = thread_more (λ t. t.call == w.entry.item.number) in
-       let none = fails_none (λ (t : Thread). t.call == w.entry.item.number) g.thread (ne_eqb g.thread.call w.entry.item.number (λ same. other (one_place (λ (c : GuestTask). c.number) (λ (c : GuestTask). c.call) p.calls p.made.threads tables.calls r rep w q w_at at (sym same ∙ is.of_call)))) in
-       omega arith)
+      let was = whole.counted.calls r w w_at in
+      let more = thread_more (λ t. t.call == w.entry.item.number) in
+      let none = fails_none (λ (t : Thread). t.call == w.entry.item.number) g.thread (ne_eqb g.thread.call w.entry.item.number (λ same. other (one_place (λ (c : GuestTask). c.number) (λ (c : GuestTask). c.call) p.calls p.made.threads tables.calls r rep w q w_at at (sym same ∙ is.of_call)))) in
+      omega arith)
 
   set_kept : (x : WaitSet) → IsSetKept (core_of p) x → IsSetKept (core_of with_member) x
   set_kept x was = record {

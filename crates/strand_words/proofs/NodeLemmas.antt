@@ -7,18 +7,16 @@ use Rattle.strand_words.specs.Loose.{AreCallLoose, AreThreadLoose}
 use Rattle.strand_words.specs.declared.nodes.CallNodes.{CallNodes}
 use Rattle.strand_words.specs.declared.nodes.ThreadNodes.{ThreadNodes}
 use Rattle.task_index.proofs.Tables.{filings_at}
-use Rattle.task_index.specs.Index.{Filing, IsIndex, filings}
+use Rattle.task_index.specs.Index.{IsIndex, filings}
 use Rattle.task_links.specs.Links.{ChainOf, FreeNode, Renames, Spot, Unmade, is_made, list_of, spot_at, spot_is_made, spot_link, spot_list}
-use Rattle.task_records.specs.Places.{place_chain, place_filing, ready_call, ready_call_chain, where_at, ready_in}
+use Rattle.task_records.specs.Places.{place_chain, place_filing, ready_call_chain, where_at, ready_in}
 use Rattle.task_records.specs.Rows.{IsFollower, callers_chain, callers_row}
 use Rattle.task_records.specs.Seen.{IsSound, parts_of}
 use Rattle.task_records.specs.Sound.{bare}
 use Rattle.task_records.specs.declared.calls.GuestTask.{GuestTask}
 use Rattle.task_records.specs.declared.parts.CoreParts.{CoreParts}
 use Rattle.task_records.specs.declared.single.Single.{Single}
-use Rattle.task_records.specs.declared.threads.Follower.{Follower}
 use Rattle.task_records.specs.declared.threads.GuestThread.{GuestThread}
-use Rattle.task_records.specs.declared.threads.Queued.{Queued}
 use Rattle.task_records.specs.declared.works.HostWork.{HostWork}
 use Rattle.task_table.specs.Table.{Placed, Table, place_at}
 

@@ -1,23 +1,21 @@
 -- A call more and its thread, as a core: it is sound, and contracts see just that.
-use Rattle.std.proofs.Common.{◌≡◌, ◌+◌, ◌==◌, ◌<◌, ◌^◌, ◌≤◌, ℕ, true, List, [], Option, None, Some, length, map, is_some, refl, sym, ap, ap₂, subst, ◌∙◌, arith}
+use Rattle.std.proofs.Common.{◌≡◌, ◌+◌, ◌==◌, ◌<◌, ◌^◌, ◌≤◌, ℕ, true, Option, None, Some, length, is_some, refl, sym, ap, subst, ◌∙◌, arith}
 use Rattle.std.proofs.lemmas.List.Sums.{count_by-le-length}
 use Rattle.std.specs.Prelude.{Ok}
 use Rattle.make_words.proofs.FreshLemmas.{each_more}
 use Rattle.make_words.proofs.MoreLemmas.{passing_more, table_bare}
 use Rattle.make_words.proofs.RestoreLemmas.{handles_grown}
-use Rattle.queue_words.proofs.CallerLemmas.{apart_as, none_as}
 use Rattle.strand_words.proofs.CallPushLemmas.{nodes_of as call_nodes_of}
 use Rattle.strand_words.proofs.GroupLemmas.{group_numbers}
 use Rattle.strand_words.proofs.GrowLemmas.{at_grown}
 use Rattle.strand_words.proofs.StrandCountLemmas.{passes_one}
 use Rattle.strand_words.proofs.StrandLemmas.{grows, strand_whole}
 use Rattle.strand_words.proofs.ThreadPushLemmas.{nodes_of}
+use Rattle.strand_words.proofs.ThreadSeenLemmas.{callers_are, thread_new, thread_still, threads_are}
 use Rattle.strand_words.specs.Loose.{AreStrandLoose}
 use Rattle.strand_words.specs.Strand.{IsStrand}
 use Rattle.task_index.specs.Counts.{passing}
-use Rattle.task_index.specs.Rows.{values}
-use Rattle.task_links.specs.Links.{list_or_nil}
-use Rattle.task_machine.specs.Maps.{Records, insert, size}
+use Rattle.task_machine.specs.Maps.{insert, size}
 use Rattle.task_machine.specs.Read.{fits, table_use}
 use Rattle.task_machine.specs.Write.{add_call, add_thread}
 use Rattle.task_machine.specs.declared.records.Call.{Call}
@@ -25,10 +23,10 @@ use Rattle.task_machine.specs.declared.records.Work.{Work}
 use Rattle.task_records.proofs.KeptLemmas.{used_is}
 use Rattle.task_records.proofs.KindLemmas.{item_stands, table_written}
 use Rattle.task_records.proofs.MakeLemmas.{number_kept, number_new, records_more, table_more}
-use Rattle.task_records.proofs.ReadLemmas.{call_shown, thread_shown}
-use Rattle.task_records.specs.Image.{Parts, callers_in, core_of}
+use Rattle.task_records.proofs.ReadLemmas.{call_shown}
+use Rattle.task_records.specs.Image.{Parts, core_of}
 use Rattle.task_records.specs.Kept.{calls_of, is_of_group}
-use Rattle.task_records.specs.Keys.{call_key, thread_key, work_key}
+use Rattle.task_records.specs.Keys.{call_key, work_key}
 use Rattle.task_records.specs.Kinds.{item_of, on_item}
 use Rattle.task_records.specs.Names.{AtPlace, OwnsHandle, Target, kinds}
 use Rattle.task_records.specs.Seen.{IsSound, parts_of, seen}
@@ -37,11 +35,9 @@ use Rattle.task_records.specs.declared.calls.GuestTask.{GuestTask}
 use Rattle.task_records.specs.declared.calls.TaskGroup.{TaskGroup}
 use Rattle.task_records.specs.declared.parts.CoreParts.{CoreParts}
 use Rattle.task_records.specs.declared.single.Single.{Single}
-use Rattle.task_records.specs.declared.threads.Follower.{Follower}
 use Rattle.task_records.specs.declared.threads.GuestThread.{GuestThread}
 use Rattle.task_records.specs.declared.works.HostWork.{HostWork}
 use Rattle.task_table.proofs.MappedLemmas.{mapped-pushed}
-use Rattle.task_table.proofs.RecordChangeLemmas.{PutsRecord-pushed}
 use Rattle.task_table.proofs.RecordCountLemmas.{size-records-le}
 use Rattle.task_table.specs.Answers.{item_at}
 use Rattle.task_table.specs.Changes.{next_place, pushed, with_entry}
@@ -127,34 +123,13 @@ module _ (a : CoreParts) (sound : IsSound a) where
     module _ (is : IsStrand (bare (parts_of a)) (bare_call c) (bare_thread g)) (loose : AreStrandLoose (bare (parts_of a)) (call_nodes_of c) (nodes_of g)) where
       -- ---- What contracts see
 
-      threads_are : records thread_key (pushed (record { item = g }) a.threads).places ≡ insert (records thread_key a.threads.places) (a.made.threads + 1) g.thread
-      unfolding IsSound
-      threads_are = records_more (λ (h : GuestThread). h.number) (λ (h : GuestThread). h.thread) a.threads a.made.threads sound.tables.threads g is.thread_next ∙ ap (λ (n : ℕ). insert (records thread_key a.threads.places) n g.thread) is.thread_next
-
       calls_are : records call_key (pushed (record { item = c }) a.calls).places ≡ insert (records call_key a.calls.places) c.number c.call
       unfolding IsSound
       calls_are = records_more (λ (d : GuestTask). d.number) (λ (d : GuestTask). d.call) a.calls a.made.threads sound.tables.calls c is.call_next
 
-      abbrev behind_of : GuestThread → List ℕ
-      behind_of h = map (λ (f : Follower). f.number) (values a.behind h.callers)
-
-      callers_are : records (callers_in a.behind) (pushed (record { item = g }) a.threads).places ≡ insert (records (callers_in a.behind) a.threads.places) (a.made.threads + 1) []
-      unfolding IsSound
-      callers_are =
-          (PutsRecord-pushed (callers_in a.behind) a.threads (record { item = g }) g.number (behind_of g) sound.tables.threads.table (apart_as (λ (h : GuestThread). h.number) (λ (h : GuestThread). h.thread) behind_of a.threads.places sound.tables.threads.apart) refl
-          (none_as (λ (h : GuestThread). h.number) (λ (h : GuestThread). h.thread) behind_of g.number a.threads.places (sound.tables.threads.later g.number (let next = is.thread_next in omega arith)))).map
-          ∙ ap₂ (λ (n : ℕ) (ns : List ℕ). insert (records (callers_in a.behind) a.threads.places) n ns) is.thread_next (ap (λ (o : Option (List (ℕ × Follower))). map (λ (f : Follower). f.number) (map (λ e. e.1) (list_or_nil o))) loose.thread.callers.empty)
-
       pub strand_core : (seen made).core ≡ add_thread g.thread (add_call c.number c.call (seen a).core)
       unfolding seen add_thread add_call
-      strand_core = rw (threads_are, calls_are, callers_are, group_numbers a.groups id.rep placed.0 placed.1.0 one_more same_number) refl
-
-      thread_kept : (k : TableId ThreadKey) → 0 < thread_of (seen a) k → thread_of (seen made) k ≡ thread_of (seen a) k
-      unfolding IsSound
-      thread_kept k live =
-          thread_shown made k
-          ∙ (number_kept (λ (h : GuestThread). h.number) (λ (h : GuestThread). h.thread) a.threads a.made.threads sound.tables.threads g is.thread_next k.rep k.serial (subst (λ (n : ℕ). 0 < n) (thread_shown a k) live)
-          ∙ sym (thread_shown a k))
+      strand_core = rw (threads_are a sound g is.thread_next, calls_are, callers_are a sound g is.thread_next loose.thread.callers, group_numbers a.groups id.rep placed.0 placed.1.0 one_more same_number) refl
 
       call_kept : (k : TableId GuestTaskKey) → 0 < call_of (seen a) k → call_of (seen made) k ≡ call_of (seen a) k
       unfolding IsSound
@@ -165,11 +140,10 @@ module _ (a : CoreParts) (sound : IsSound a) where
 
       pub strand_tags : Keeps (seen a).tags (seen made).tags
       unfolding seen set_number work_number
-      strand_tags = record { threads = thread_kept; calls = call_kept; sets = λ k live. refl; works = λ k live. refl }
+      strand_tags = record { threads = thread_still a sound g is.thread_next made refl; calls = call_kept; sets = λ k live. refl; works = λ k live. refl }
 
       pub thread_named : (k : TableId ThreadKey) → k.rep ≡ next_place a.threads → k.serial ≡ a.threads.given → thread_of (seen made) k ≡ a.made.threads + 1
-      unfolding IsSound
-      thread_named k at serial = thread_shown made k ∙ (number_new (λ (h : GuestThread). h.number) (λ (h : GuestThread). h.thread) a.threads a.made.threads sound.tables.threads g is.thread_next k.rep k.serial at serial ∙ is.thread_next)
+      thread_named = thread_new a sound g is.thread_next made refl
 
       pub call_named : (k : TableId GuestTaskKey) → k.rep ≡ next_place a.calls → k.serial ≡ a.calls.given → call_of (seen made) k ≡ a.made.threads + 1
       unfolding IsSound

@@ -1,5 +1,5 @@
 -- A call more and its thread: what the parts count.
-use Rattle.std.proofs.Common.{inl, inr, ◌⊎◌, ◌≡◌, ◌+◌, ◌*◌, ◌==◌, ◌<◌, ◌≤◌, ℕ, Bool, true, false, cond, List, [], Option, Some, None, IsSome, filter, length, nat_lt, refl, sym, ap, ap₂, subst, ◌∙◌, arith}
+use Rattle.std.proofs.Common.{inl, inr, ◌⊎◌, ◌≡◌, ◌+◌, ◌==◌, ◌<◌, ℕ, Bool, true, false, cond, List, Option, Some, None, IsSome, filter, length, nat_lt, refl, sym, ap, subst, ◌∙◌, arith}
 use Rattle.std.proofs.lemmas.Bool.{cases_eq, eq-eqb, ne_eqb}
 use Rattle.std.proofs.lemmas.Option.{same_Some}
 use Rattle.std.specs.BTreeMap.{is_at}
@@ -10,7 +10,7 @@ use Rattle.make_words.proofs.MoreLemmas.{each_but, early, early_at, get_more, pa
 use Rattle.queue_words.proofs.BareLemmas.{one_place}
 use Rattle.strand_words.proofs.GroupLemmas.{group_numbers}
 use Rattle.task_index.specs.Counts.{one_if_passes, passing}
-use Rattle.task_machine.specs.Maps.{get, numbers}
+use Rattle.task_machine.specs.Maps.{get}
 use Rattle.task_machine.specs.Read.{is_in_set, keeps_set, table_use}
 use Rattle.task_machine.specs.declared.records.Call.{Call}
 use Rattle.task_machine.specs.declared.records.Goal.TheVariants as goal
@@ -21,8 +21,7 @@ use Rattle.task_machine.specs.declared.records.Place.TheVariants as place
 use Rattle.task_machine.specs.declared.records.Thread.{Thread}
 use Rattle.task_records.specs.Image.{Parts, core_of}
 use Rattle.task_records.specs.Keys.{call_key, group_key, thread_key}
-use Rattle.task_records.specs.Kept.{IsCallKept, IsGroupKept, IsSetKept, calls_of, threads_of}
-use Rattle.task_records.specs.Names.{HasHome}
+use Rattle.task_records.specs.Kept.{IsCallKept, IsGroupKept, IsSetKept, threads_of}
 use Rattle.task_records.specs.Sound.{AreCounted, EachEntry, IsWhole, SoundTable}
 use Rattle.task_records.specs.declared.calls.GuestTask.{GuestTask}
 use Rattle.task_records.specs.declared.calls.TaskGroup.{TaskGroup}
@@ -30,8 +29,8 @@ use Rattle.task_records.specs.declared.sets.WaitSet.{WaitSet}
 use Rattle.task_records.specs.declared.single.Single.{Single}
 use Rattle.task_records.specs.declared.threads.GuestThread.{GuestThread}
 use Rattle.task_table.specs.Changes.{pushed, with_entry}
-use Rattle.task_table.specs.Records.{key_in, records}
-use Rattle.task_table.specs.Table.{Placed, Table, place_at}
+use Rattle.task_table.specs.Records.{key_in}
+use Rattle.task_table.specs.Table.{Placed, place_at}
 
 pub fails_none : {X : Type 0} (test : X → Bool) (x : X) → test x ≡ false → one_if_passes test (Some x) ≡ 0
 fails_none test x fails = ap (λ b. cond b 1 0) fails
@@ -69,15 +68,15 @@ module _ (p : Parts) (whole : IsWhole p) (threads : SoundTable thread_key p.thre
       calls_kept : EachEntry (IsCallKept (core_of with_strand)) with_strand.calls
       calls_kept = each_more (IsCallKept (core_of with_strand)) p.calls c calls.table
           (λ r w w_at.
-              let within = early (λ (d : GuestTask). d.number) (λ (d : GuestTask). d.call) p.calls p.made.threads calls r w w_at in
-              let was = whole.counted.calls r w w_at in
-              let more = thread_more (λ t. t.call == w.entry.item.number) in
-              let none = fails_none (λ (t : Thread). t.call == w.entry.item.number) g.thread (ne_eqb g.thread.call w.entry.item.number (λ same. omega arith)) in
-              omega arith)
+          let within = early (λ (d : GuestTask). d.number) (λ (d : GuestTask). d.call) p.calls p.made.threads calls r w w_at in
+          let was = whole.counted.calls r w w_at in
+          let more = thread_more (λ t. t.call == w.entry.item.number) in
+          let none = fails_none (λ (t : Thread). t.call == w.entry.item.number) g.thread (ne_eqb g.thread.call w.entry.item.number (λ same. omega arith)) in
+          omega arith)
           (let more = thread_more (λ t. t.call == c.number) in
-           let here = passes_one (λ (t : Thread). t.call == c.number) g.thread (eq-eqb g.thread.call c.number first) in
-           let none = no_threads c.number (omega arith) in
-           omega arith)
+          let here = passes_one (λ (t : Thread). t.call == c.number) g.thread (eq-eqb g.thread.call c.number first) in
+          let none = no_threads c.number (omega arith) in
+          omega arith)
 
       module _ (nowhere : c.call.join ≡ join.Nowhere) (unplaced : g.thread.place ≡ place.New) where
         set_kept : (x : WaitSet) → IsSetKept (core_of p) x → IsSetKept (core_of with_strand) x
@@ -98,14 +97,14 @@ module _ (p : Parts) (whole : IsWhole p) (threads : SoundTable thread_key p.thre
           groups_kept : EachEntry (IsGroupKept (core_of with_strand)) with_strand.groups
           groups_kept = each_but p.groups rep q at one_more (IsGroupKept (core_of with_strand))
               (let was = whole.counted.groups rep q at in
-               let more = call_more (λ d. d.group == q.entry.item.number) in
-               let here = passes_one (λ (d : Call). d.group == q.entry.item.number) c.call (eq-eqb c.call.group q.entry.item.number (sym of_group)) in
-               omega arith)
+              let more = call_more (λ d. d.group == q.entry.item.number) in
+              let here = passes_one (λ (d : Call). d.group == q.entry.item.number) c.call (eq-eqb c.call.group q.entry.item.number (sym of_group)) in
+              omega arith)
               (λ r w other w_at.
-               let was = whole.counted.groups r w w_at in
-               let more = call_more (λ d. d.group == w.entry.item.number) in
-               let none = fails_none (λ (d : Call). d.group == w.entry.item.number) c.call (ne_eqb c.call.group w.entry.item.number (λ same. other (one_place (λ (h : TaskGroup). h.number) (λ (h : TaskGroup). h.calls) p.groups p.made.groups groups r rep w q w_at at (sym same ∙ sym of_group)))) in
-               omega arith)
+              let was = whole.counted.groups r w w_at in
+              let more = call_more (λ d. d.group == w.entry.item.number) in
+              let none = fails_none (λ (d : Call). d.group == w.entry.item.number) c.call (ne_eqb c.call.group w.entry.item.number (λ same. other (one_place (λ (h : TaskGroup). h.number) (λ (h : TaskGroup). h.calls) p.groups p.made.groups groups r rep w q w_at at (sym same ∙ sym of_group)))) in
+              omega arith)
 
           rooms : (k : ℕ) (d : Call) → get (core_of with_strand).calls k ≡ Some d → d.goal ≡ goal.Main → IsSome (lookup (is_at (nat_cmp k)) p.results)
           rooms k d is main = by (cases_eq k c.number)

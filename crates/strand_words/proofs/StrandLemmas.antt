@@ -1,10 +1,7 @@
 -- A call more and its thread, whose nodes and chains hung on nothing: the parts stay whole.
-use Rattle.std.proofs.Common.{◌≡◌, ◌+◌, ◌<◌, ◌≤◌, ◌==◌, ℕ, Option, Some, None, IsSome, cond, slice_get, refl, sym, ap, subst, ◌∙◌, arith}
+use Rattle.std.proofs.Common.{◌≡◌, ◌+◌, ◌<◌, ◌==◌, ℕ, Option, Some, cond, refl, sym, ap, subst, ◌∙◌, arith}
 use Rattle.std.proofs.lemmas.Bool.{eq-eqb, ne_eqb}
-use Rattle.std.specs.BTreeMap.{is_at}
-use Rattle.std.specs.Map.{lookup}
 use Rattle.std.specs.Option.{option_map_or}
-use Rattle.std.specs.Ordering.{nat_cmp}
 use Rattle.make_words.proofs.FreshLemmas.{each_more}
 use Rattle.make_words.proofs.MoreLemmas.{at_new, early_at, get_more, number_stays, number_written}
 use Rattle.queue_words.proofs.BareLemmas.{number_positive}
@@ -17,25 +14,21 @@ use Rattle.strand_words.specs.Strand.{IsStrand}
 use Rattle.task_machine.specs.Maps.{get}
 use Rattle.task_machine.specs.Read.{no_callee}
 use Rattle.task_machine.specs.declared.records.Call.{Call}
-use Rattle.task_machine.specs.declared.records.Goal.TheVariants as goal
 use Rattle.task_machine.specs.declared.records.HowFar.{HowFar}
-use Rattle.task_machine.specs.declared.records.HowFar.TheVariants as how_far
 use Rattle.task_machine.specs.declared.records.Join.{Join}
-use Rattle.task_machine.specs.declared.records.Join.TheVariants as join
 use Rattle.task_machine.specs.declared.records.Place.{Place}
-use Rattle.task_machine.specs.declared.records.Place.TheVariants as place
 use Rattle.task_machine.specs.declared.words.Status.{Status}
 use Rattle.task_records.proofs.MakeLemmas.{stands_more}
 use Rattle.task_records.specs.Image.{Parts, core_of}
 use Rattle.task_records.specs.Keys.{call_key, group_key}
-use Rattle.task_records.specs.Names.{AtPlace, HasHome, IsCallNamed, caller_target, how_far_target, join_target, kinds, place_target}
+use Rattle.task_records.specs.Names.{AtPlace, HasHome, IsCallNamed, how_far_target, join_target, kinds, place_target}
 use Rattle.task_records.specs.Places.{ready_in, where_at}
 use Rattle.task_records.specs.Sound.{AreChained, AreTables, HaveRowNodes, IsWhole}
 use Rattle.task_records.specs.declared.calls.GuestTask.{GuestTask}
 use Rattle.task_records.specs.declared.calls.TaskGroup.{TaskGroup}
 use Rattle.task_records.specs.declared.single.Single.{Single}
 use Rattle.task_records.specs.declared.threads.GuestThread.{GuestThread}
-use Rattle.task_table.specs.Changes.{next_place, pushed}
+use Rattle.task_table.specs.Changes.{pushed}
 use Rattle.task_table.specs.Records.{key_in, number_in}
 use Rattle.task_table.specs.Table.{Placed, place_at}
 

@@ -1,10 +1,10 @@
 -- A call and its thread that were made are taken back, and the thread that has a handle now is in its call's instance.
-use Rattle.std.proofs.Common.{◌≡◌, ◌+◌, ◌-◌, ◌==◌, ℕ, Bool, true, false, cond, List, None, Option, Some, refl, sym, ap, ap₂, subst, ◌∙◌, arith}
+use Rattle.std.proofs.Common.{◌≡◌, ◌+◌, ◌-◌, ℕ, Bool, false, cond, List, None, Option, Some, refl, sym, ap, ap₂, ◌∙◌, arith}
 use Rattle.std.proofs.lemmas.Bool.{eq-eqb}
 use Rattle.std.specs.Option.{option_map_or}
 use Rattle.std.specs.Prelude.{Ok}
-use Rattle.make_words.proofs.RestoreLemmas.{Restores-deleted, Restores-same, Restores-written, restored_from}
-use Rattle.make_words.specs.Restored.{IsRestored, Restores}
+use Rattle.make_words.proofs.RestoreLemmas.{Restores-deleted, Restores-pushed, Restores-same, Restores-written, restored_from}
+use Rattle.make_words.specs.Restored.{IsRestored}
 use Rattle.strand_words.specs.Pushed.{PushesStrand}
 use Rattle.task_machine.specs.Core.{Core}
 use Rattle.task_machine.specs.Maps.{get, get-insert}
@@ -21,25 +21,19 @@ use Rattle.task_records.proofs.KindLemmas.{item_stands}
 use Rattle.task_records.specs.Image.{Parts}
 use Rattle.task_records.specs.Kinds.{item_of}
 use Rattle.task_records.specs.Seen.{IsSound, parts_of}
-use Rattle.task_records.specs.declared.calls.GuestTask.{GuestTask}
 use Rattle.task_records.specs.declared.calls.TaskGroup.{TaskGroup}
 use Rattle.task_records.specs.declared.parts.CoreParts.{CoreParts}
 use Rattle.task_records.specs.declared.single.Single.{Single}
-use Rattle.task_records.specs.declared.threads.GuestThread.{GuestThread}
 use Rattle.task_rules.specs.Calls.{call_made, new_call, new_thread, with_thread_handle}
 use Rattle.task_rules.specs.Scripts.{registers_for}
 use Rattle.task_table.proofs.Laws.{found-with_entry}
 use Rattle.task_table.specs.Answers.{item_at, item_in}
-use Rattle.task_table.specs.Changes.{deleted, entry_put, pushed, with_entry}
+use Rattle.task_table.specs.Changes.{deleted, entry_put, with_entry}
 use Rattle.task_table.specs.Table.{IsTable, Placed, Table, found}
 use Rattle.task_table.specs.declared.id.TableId.{TableId}
 use Rattle.task_wait.specs.declared.keys.GroupKey.{GroupKey}
 use Rattle.task_wait.specs.declared.keys.GuestTaskKey.{GuestTaskKey}
 use Rattle.task_wait.specs.declared.keys.ThreadKey.{ThreadKey}
-
--- what was pushed is what the table is
-pub Restores-pushed : {T : Type 0} (t u v : Table (Single T)) (g : T) → IsTable u → u ≡ pushed (record { item = g }) t → v ≡ u → Restores (pushed (record { item = g }) t) v
-Restores-pushed t u v g table is same = subst (Restores (pushed (record { item = g }) t)) (sym (same ∙ is)) (Restores-same (pushed (record { item = g }) t) (subst IsTable is table))
 
 module _ (a b c e : CoreParts) (sound_a : IsSound a) (sound_b : IsSound b) (id : TableId GroupKey) (group : TaskGroup) (stands : Ok group ≡ item_at item_of a.groups id.rep id.serial) (first : TableId ThreadKey) (task : TableId GuestTaskKey)
     (made : PushesStrand a b id group first task) (same : parts_of c ≡ parts_of b)

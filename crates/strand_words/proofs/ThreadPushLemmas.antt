@@ -1,5 +1,5 @@
 -- A thread more, whose nodes and chains hung on nothing: the chains and the nodes of the parts.
-use Rattle.std.proofs.Common.{inl, inr, ◌⊎◌, ◌≡◌, ◌<◌, ◌≤◌, ℕ, List, [], ◌∷◌, Option, Some, None, map, refl, sym, ap, subst, ◌∙◌, arith}
+use Rattle.std.proofs.Common.{inl, inr, ◌⊎◌, ◌≡◌, ◌<◌, ℕ, [], Option, Some, None, map, refl, sym, ap, subst, ◌∙◌, arith}
 use Rattle.std.proofs.lemmas.Bool.{cases_eq}
 use Rattle.std.proofs.lemmas.Option.{same_Some}
 use Rattle.make_words.proofs.FreshLemmas.{chain_new, chain_other}
@@ -9,21 +9,19 @@ use Rattle.queue_words.proofs.CallerLemmas.{none_as}
 use Rattle.strand_words.specs.Loose.{AreThreadLoose}
 use Rattle.strand_words.specs.declared.nodes.ThreadNodes.{ThreadNodes}
 use Rattle.task_index.proofs.Rows.{IsRows-opened}
-use Rattle.task_index.specs.Index.{Filing, IsIndex, filings, said}
+use Rattle.task_index.specs.Index.{Filing, filings, said}
 use Rattle.task_links.specs.Links.{list_or_nil}
 use Rattle.task_machine.specs.declared.records.Entry.{Entry}
 use Rattle.task_machine.specs.declared.records.Entry.TheVariants as entry
 use Rattle.task_machine.specs.declared.records.Place.{Place}
 use Rattle.task_machine.specs.declared.records.Place.TheVariants as place
-use Rattle.task_machine.specs.declared.records.Subtask.{Subtask}
 use Rattle.task_machine.specs.declared.records.Subtask.TheVariants as subtask
-use Rattle.task_machine.specs.declared.records.Thread.{Thread}
 use Rattle.task_records.specs.Image.{Parts, chained}
 use Rattle.task_records.specs.Keys.{thread_key}
 use Rattle.task_records.specs.Names.{IsNamedAt, Kinds, Nothing, SetOf, Target, ThreadOf, place_target, subtask_target}
 use Rattle.task_records.specs.Places.{BlockedOn, HeldIn, UnderOf, WaitsOn, Where, place_chain, place_filing, where_at}
 use Rattle.task_records.specs.Rows.{IsFollower, IsSeated, callers_chain, callers_row, entry_seated, follower, thread_entry}
-use Rattle.task_records.specs.Sound.{AreChained, EachEntry, HaveRowNodes, SoundTable}
+use Rattle.task_records.specs.Sound.{AreChained, EachEntry, HaveRowNodes}
 use Rattle.task_records.specs.declared.single.Single.{Single}
 use Rattle.task_records.specs.declared.threads.Follower.{Follower}
 use Rattle.task_records.specs.declared.threads.GuestThread.{GuestThread}

@@ -20,7 +20,8 @@ pub record AreThreadLoose (p : Parts) (n : ThreadNodes) : Type 0 where
   pub caller : IsSpare (λ (g : GuestThread). g.caller.index) p.threads p.behind n.caller.index
   pub callers : IsLoose (callers_chain p) p.behind n.callers
   pub under : IsLoose (place_chain p) p.places n.under
-  pub no_work : (rep : ℕ) (w : Placed (Single HostWork)) → place_at p.works rep ≡ Some w → w.entry.item.mark.index ≡ n.mark.index → ⊥
+  pub no_work : (rep : ℕ) (w : Placed (Single HostWork)) →
+      place_at p.works rep ≡ Some w → w.entry.item.mark.index ≡ n.mark.index → ⊥
 
 pub record AreCallLoose (p : Parts) (n : CallNodes) : Type 0 where
   pub ready : IsSpare (λ (g : GuestTask). g.ready.index) p.calls p.ready_calls n.ready.index

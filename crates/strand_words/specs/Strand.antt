@@ -1,5 +1,5 @@
 -- A call that is made, and its first thread.
-use Rattle.std.specs.Prelude.{◌≡◌, ◌+◌, ℕ, None, IsSome, slice_get}
+use Rattle.std.specs.Prelude.{◌≡◌, ◌+◌, None, IsSome, slice_get}
 use Rattle.std.specs.BTreeMap.{is_at}
 use Rattle.std.specs.Map.{lookup}
 use Rattle.std.specs.Ordering.{nat_cmp}
@@ -13,7 +13,8 @@ use Rattle.task_records.specs.declared.calls.GuestTask.{GuestTask}
 use Rattle.task_records.specs.declared.threads.GuestThread.{GuestThread}
 use Rattle.task_table.specs.Changes.{next_place}
 
--- The next number is that of both. The thread stands nowhere yet, its instance is there, and so are who called and room for a result that goes to main.
+-- The next number is that of both. The thread stands nowhere yet, and its instance is there, as are who called and
+-- room for a result that goes to main.
 pub record IsStrand (p : Parts) (c : GuestTask) (g : GuestThread) : Type 0 where
   pub call_next : c.number ≡ p.made.threads + 1
   pub thread_next : g.number ≡ p.made.threads + 1
@@ -28,4 +29,3 @@ pub record IsStrand (p : Parts) (c : GuestTask) (g : GuestThread) : Type 0 where
   pub within : IsSome (slice_get p.instances g.instance)
   pub caller : AtPlace p c.maker (caller_target c.call.caller)
   pub room : c.call.goal ≡ goal.Main → IsSome (lookup (is_at (nat_cmp c.number)) p.results)
-

@@ -71,10 +71,7 @@ pub fn add_strand(
 
 // The nodes of a call and of its first thread, and room for a result that goes to main. Where memory
 // is wanting, all is as before.
-pub fn prepare(
-    parts: &mut CoreParts,
-    goal: Goal,
-) -> Result<(CallNodes, ThreadNodes), NoMemory>
+pub fn prepare(parts: &mut CoreParts, goal: Goal) -> Result<(CallNodes, ThreadNodes), NoMemory>
     requires sound { IsSound parts.old }
     requires few { (seen parts.old).core.made.threads + 1 < 2 ^ 64 }
     ensures sound { IsSound parts.new }

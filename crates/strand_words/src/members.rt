@@ -27,7 +27,12 @@ use task_wait::ThreadKey;
 use task_words::{CallId, ThreadId};
 
 // The call's record, with another count of its threads.
-fn put_call(calls: &mut ResourceTable<Single<GuestTask>>, id: CallId, old: GuestTask, new: GuestTask)
+fn put_call(
+    calls: &mut ResourceTable<Single<GuestTask>>,
+    id: CallId,
+    old: GuestTask,
+    new: GuestTask,
+)
     requires item { Ok old ≡ item_at item_of calls.old id.rep id.serial }
     ensures { calls.new ≡ with_entry id.rep (entry_of new) calls.old }
 {

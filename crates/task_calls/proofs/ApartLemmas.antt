@@ -1,8 +1,8 @@
 -- Order hangs neither on limits, nor on groups, nor on whether the store is trapped.
-use Rattle.std.specs.Prelude.{Bool, List, ℕ, ◌≡◌}
+use Rattle.std.specs.Prelude.{Bool, List, Some, ℕ, ◌≡◌}
 use Rattle.task_laws.specs.Order.{InOrder, JoinNamed}
 use Rattle.task_machine.specs.Core.{Core, Main}
-use Rattle.task_machine.specs.Read.{join_of}
+use Rattle.task_machine.specs.Read.{join_of, subtask_at, subtask_handle}
 use Rattle.task_machine.specs.Write.{set_trapped}
 use Rattle.task_machine.specs.declared.component.Component.{Component}
 use Rattle.task_machine.specs.declared.records.Join.TheVariants as join
@@ -54,8 +54,14 @@ module _ (trapped : Bool) (groups : List ℕ) (handle_limit capacity : ℕ) wher
     deliveries = o.deliveries;
     fits = λ n t e. let h = o.fits n t e in record { script = h.script; position = h.position; op = h.op; under = h.under; first = h.first };
     starts = o.starts;
+    names = record { there = there; once = o.names.once; called = o.names.called };
+    calls = record { inside = o.calls.inside; apart = o.calls.apart };
+    unbegun = λ k t e first waits. let h = o.unbegun k t e first waits in record { unended = h.unended; alone = h.alone };
   }
     where
+      there : (i h k : ℕ) → subtask_at i h (beside s) ≡ Some (subtask.Guest k) → subtask_handle (subtask.Guest k) (beside s) ≡ Some h
+      there i h k e = o.names.there i h k e
+
       named : (sub : Subtask) (x : ℕ) → JoinNamed sub x s → JoinNamed sub x (beside s)
       named sub x j = record { instance = j.instance; handle = j.handle; home = j.home; named = j.named }
 

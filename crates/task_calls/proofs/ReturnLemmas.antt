@@ -1,5 +1,5 @@
 -- What a return needs of the running thread, and what it comes to.
-use Rattle.std.proofs.Common.{ap, ap₂, arith, ◌∙◌}
+use Rattle.std.proofs.Common.{ap, ap₂, arith, refl, subst, sym, ◌∙◌}
 use Rattle.std.proofs.lemmas.Bool.Decides.{nat_tests}
 use Rattle.std.specs.Prelude.{Bool, Option, false, not, true, ℕ, ◌+◌, ◌<◌, ◌^◌, ◌≡◌}
 use Rattle.task_calls.specs.Calls.{Returned, Returns, answer_of}
@@ -20,6 +20,21 @@ use Rattle.task_turns.specs.Covered.{IsCovered}
 use Rattle.task_turns.specs.Runner.{Runner}
 use Rattle.task_turns.specs.Turn.{Sits}
 use Rattle.task_words.specs.StateView.{StateView, Tags, with_core}
+use Rattle.task_laws.specs.Order.{InOrder}
+use Rattle.task_machine.specs.Labels.{choice_of}
+use Rattle.task_machine.specs.Core.{Main}
+use Rattle.task_machine.specs.declared.op.Op.{Op}
+use Rattle.task_machine.specs.declared.op.Operand.{Operand}
+use Rattle.task_machine.specs.declared.op.TaskOp.{TaskOp}
+use Rattle.task_ops.proofs.MeetLemmas.{meeting_is_step}
+use Rattle.task_ops.specs.Steps.{core_after, label_of, turn_after}
+use Rattle.task_ops.specs.declared.came.Came.TheVariants as came
+use Rattle.task_places.proofs.OrderLemmas.{step_in_order}
+use Rattle.task_rules.specs.Scripts.{op_of, value_of}
+use Rattle.task_rules.specs.Step.{did, op_row}
+use Rattle.task_rules.specs.Turns.{at_turn, goes_to}
+use Rattle.task_turns.proofs.KeptLemmas.{setting}
+use Rattle.task_turns.specs.Turn.{state_at}
 
 pub position_fits : (c : Component) → IsCovered c → (n k : ℕ) (s : StateView) → Sits c (turn.Run k) s.core → Runner n s → position_of n s.core + 1 < 2 ^ 32
 position_fits c covered n k s sits q =
@@ -59,3 +74,29 @@ module _ (s t : StateView) (tags : t.tags ≡ s.tags) (current : t.current ≡ s
           Returned (trap_if b trap.TaskCancelOrReturnTwice (Traps trap.TaskReturnInvalid)) s (answer_of r) t
       go true h = traps _ h
       go false h = traps _ h
+
+-- a return that is the op at the thread's place keeps order
+module _ (c : Component) (n v : ℕ) (x : Operand) (s t : Core) (is : op_of c n s ≡ Op.Task (TaskOp.Ret x)) (value : value_of n s x ≡ v) (r : Came) (sits : Sits c (turn.Run n) s) where
+  done : Meets (ret_row n v (choice_of (label_of n r)).woken s) s r t → Meets (did c n s (choice_of (label_of n r))) s r t
+  unfolding did
+  done h =
+      subst (λ (o : Op). Meets (op_row c n s (choice_of (label_of n r)) o) s r t) (sym is)
+      (subst (λ u. Meets (ret_row n u (choice_of (label_of n r)).woken s) s r t) (sym value) h)
+
+  after : Meets (ret_row n v (choice_of (label_of n r)).woken s) s r t → (m : Main) → InOrder c (goes_to (state_at s m (turn.Run n)) (core_after n r t) (turn_after r))
+  after h m = step_in_order (setting c) (state_at s m (turn.Run n)) (label_of n r) _ (sits m) (meeting_is_step (setting c) (state_at s m (turn.Run n)) n r t refl (done h))
+
+  goes_on : Meets (ret_row n v (choice_of (label_of n r)).woken s) s r t → (l : Label) → r ≡ came.Goes l n → Sits c (turn.Run n) t
+  unfolding at_turn
+  goes_on h l e m = subst (λ (q : Came). InOrder c (goes_to (state_at s m (turn.Run n)) (core_after n q t) (turn_after q))) e (after h m)
+
+  pub return_in_order : Meets (ret_row n v (choice_of (label_of n r)).woken s) s r t → Sits c (turn.Run n) t
+  return_in_order h = go (has_ended (task_of n s) s) (not (is_async_lifted (kind_of (task_of n s) s))) (may_tell (task_of n s) (choice_of (label_of n r)).woken s) h
+    where
+      go : (a b d : Bool) →
+          Meets (trap_if a trap.TaskCancelOrReturnTwice (trap_if b trap.TaskReturnInvalid (may d (Goes (ret_label n v (choice_of (label_of n r)).woken) (ret_done n v (choice_of (label_of n r)).woken s) n)))) s r t →
+          Sits c (turn.Run n) t
+      go true b d g = subst (Sits c (turn.Run n)) (sym g.1) sits
+      go false true d g = subst (Sits c (turn.Run n)) (sym g.1) sits
+      go false false true g = goes_on h (ret_label n v (choice_of (label_of n r)).woken) g.0
+      go false false false g = absurd g

@@ -1,6 +1,7 @@
 //! The calls of a host: a start, and its finish.
 ghost use Rattle.std.specs.Prelude.{◌≡◌, ◌<◌, ◌≤◌, ◌^◌, IfSome, IsSome, length};
 ghost use Rattle.task_calls.specs.Calls.{Finishes, Starts};
+ghost use Rattle.task_machine.specs.Maps.{get};
 ghost use Rattle.task_machine.specs.declared.records.Turn.{Turn};
 ghost use Rattle.task_rules.specs.MainOps.{start_refusal};
 ghost use Rattle.task_rules.specs.Scripts.{export_at};
@@ -25,6 +26,7 @@ pub fn start_call<W: Words>(
     words: &[u64],
 ) -> Result<u64, TaskError>
     requires there { IsSome (export_at component.now callee) }
+    requires instance { IsSome (get (W.view w.old).core.instances callee.instance) }
     requires words { IfSome (export_at component.now callee) (λ e. length words.now ≡ e.params) }
     requires few_words { length words.now ≤ 16 }
     requires order { (p : Turn) × Sits component.now p (W.view w.old).core }

@@ -2,6 +2,10 @@
 ghost use Rattle.std.specs.Prelude.{◌≡◌, Some};
 ghost use Rattle.task_calls.specs.Calls.{Returns, answer_of, is_own_type};
 ghost use Rattle.task_machine.specs.declared.records.Turn.{Turn};
+ghost use Rattle.task_machine.specs.declared.op.Op.{Op};
+ghost use Rattle.task_machine.specs.declared.op.Operand.{Operand};
+ghost use Rattle.task_machine.specs.declared.op.TaskOp.{TaskOp};
+ghost use Rattle.task_rules.specs.Scripts.{op_of, value_of};
 ghost use Rattle.task_turns.specs.Covered.{IsCovered};
 ghost use Rattle.task_turns.specs.Turn.{Sits, running_of};
 
@@ -23,7 +27,8 @@ fn answer(came: Came) -> Result<(), TaskError>
 /// `task.return`: the task of the current thread, which has this number, ends as returned with the
 /// value, and the thread goes on after its op. The type, the encoding and the memory are those of the
 /// lifted function where all three are 0. Refused with trap 1 exactly where the task has ended, and
-/// else with trap 3 exactly where they aren't 0; nothing is changed then.
+/// else with trap 3 exactly where they aren't 0; nothing is changed then. The store stays in order
+/// where the op at the thread's place is this return.
 pub fn task_return<W: Words>(
     w: &mut W,
     component: &Component,
@@ -36,6 +41,7 @@ pub fn task_return<W: Words>(
     requires covered { IsCovered component.now }
     requires order { Sits component.now (Turn.Run number) (W.view w.old).core }
     requires runs { running_of (W.view w.old) ≡ Some number }
+    ensures order { (x : Operand) → op_of component.now number (W.view w.old).core ≡ Op.Task (TaskOp.Ret x) → value_of number (W.view w.old).core x ≡ value → Sits component.now (Turn.Run number) (W.view w.new).core }
     ensures returns { Returns number value (is_own_type ty encoding memory) (W.view w.old) result (W.view w.new) }
 {
     let _component = component;

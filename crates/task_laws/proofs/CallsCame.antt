@@ -1,13 +1,7 @@
 -- What one word does to the record of a call, and to that of a thread.
-use Rattle.task_rules.proofs.Machine.{add_call, add_group, add_set, add_thread, add_work, Advance, after_word, Allowed, ap, Call, call_made, Callee, CallEnd, Caller, CanCome, change, Core, count_work, ExportKind, false, free_handle, free_thread_handle, get, give_handle, give_result, give_thread_handle, Goal, how_far_of, HowFar, inl, inr, is_deletable, is_some, Join, le_refl, MakeCall, MakeThread, MayAdvance, MayCome, MayDeliver, MayEnd, MayJoin, MayMake, MayMakeCall, MayRestart, MayStart, new_call, next_thread, None, on_call, on_instance, on_thread, on_work, Option, option_map, Places, Placing, poll_pends, push_high, refl, remove_call, remove_group, remove_set, remove_thread, remove_work, RemoveCall, RemoveThread, Restart, Scene, set_backpressure, set_cancel_delivered, set_cancelled, set_course, set_do_not_enter, set_do_not_suspend, set_end, set_event, set_exited, set_how_far, set_join, set_own_event, set_phase, set_position, set_register, set_result, set_saved_callee, set_saved_own, set_script, set_stage, set_started, set_starting_published, set_subtask_handle, set_thread_handle, set_trapped, set_uninteresting, set_word, SetCallJoin, SetEnd, SetHowFar, Some, subst, sym, take_result, TakeHost, TakePush, Thread, true, with_handle, with_thread_handle, Withdraw, Word, work_queued, ℕ, ◌≡◌, ◌≤◌, ◌⊎◌}
+use Rattle.task_rules.proofs.Machine.{add_call, add_group, add_set, add_thread, add_work, Advance, after_word, Allowed, ap, Call, call_made, Callee, CallEnd, Caller, CanCome, change, change-change_same, Core, count_work, EndCall, ExportKind, false, free_handle, free_thread_handle, get, get-insert_same, give_handle, give_result, give_thread_handle, Goal, how_far_of, HowFar, inl, inr, is_deletable, is_some, Join, le_refl, MakeCall, MakeThread, MayAdvance, MayCome, MayDeliver, MayEnd, MayJoin, MayMake, MayMakeCall, MayOwe, MayRestart, MayStart, NameCall, new_call, next_thread, None, on_call, on_instance, on_thread, on_work, Option, option_map, OwnEvent, Place, Places, Placing, poll_pends, push_high, refl, remove_call, remove_group, remove_set, remove_thread, remove_work, RemoveCall, RemoveThread, Restart, Scene, Script, set_backpressure, set_cancel_delivered, set_cancelled, set_course, set_do_not_enter, set_do_not_suspend, set_end, set_event, set_exited, set_how_far, set_join, set_own_event, set_phase, set_position, set_register, set_result, set_saved_callee, set_saved_own, set_script, set_stage, set_started, set_starting_published, set_subtask_handle, set_thread_handle, set_trapped, set_uninteresting, set_word, SetCallJoin, SetHowFar, Some, subst, Subtask, sym, take_result, TakeHost, TakePush, Thread, true, with_handle, with_thread_handle, Withdraw, Word, work_queued, ℕ, ◌≡◌, ◌≤◌, ◌⊎◌}
 use Rattle.task_laws.proofs.EachLemmas.{after_change, after_insert, after_remove}
 use Rattle.task_laws.proofs.SceneLemmas.{popped_threads}
-use Rattle.task_machine.specs.declared.records.Script.TheVariants as script
-use Rattle.task_machine.proofs.CommuteLemmas.{change-change_same}
-use Rattle.task_machine.proofs.MapLemmas.{get-insert_same}
-use Rattle.task_machine.specs.declared.records.HowFar.TheVariants as how_far
-use Rattle.task_machine.specs.declared.records.Place.TheVariants as place
-use Rattle.task_machine.specs.declared.records.Subtask.TheVariants as subtask
 use Rattle.task_rules.proofs.PlacingLemmas.{placing_shifted, unplaced}
 
 at_most : {x y : ℕ} → x ≡ y → x ≤ y
@@ -15,8 +9,9 @@ at_most {x = x} e = subst (λ (z : ℕ). x ≤ z) e (le_refl x)
 
 -- ---- Calls
 
--- How a call goes on from c to d: it starts, has a cancel delivered, ends or is joined for such reasons, if it does.
-pub record Grew (starts delivers : Type 0) (ends : CallEnd → Type 0) (joins : Join → Type 0) (c d : Call) : Type 0 where
+-- How a call goes on from c to d: it starts, has a cancel delivered, ends, is joined, owed an event or named for such reasons, if it does.
+pub record Grew (starts delivers : Type 0) (ends : CallEnd → Type 0) (joins : Join → Type 0) (owes : Option OwnEvent → Type 0) (names : Type 0)
+    (c d : Call) : Type 0 where
   pub kind : d.kind ≡ c.kind
   pub callee : d.callee ≡ c.callee
   pub goal : d.goal ≡ c.goal
@@ -24,11 +19,15 @@ pub record Grew (starts delivers : Type 0) (ends : CallEnd → Type 0) (joins : 
   pub delivered : (d.cancel_delivered ≡ c.cancel_delivered) ⊎ ((d.cancel_delivered ≡ true) × delivers)
   pub ended : (d.«end» ≡ c.«end») ⊎ ((e : CallEnd) × ((d.«end» ≡ Some e) × ends e))
   pub join : (d.join ≡ c.join) ⊎ joins d.join
+  pub caller : d.caller ≡ c.caller
+  pub owed : (d.own_event ≡ c.own_event) ⊎ owes d.own_event
+  pub handle : (d.handle ≡ c.handle) ⊎ ((d.handle ≡ None) ⊎ names)
 
 -- how the call k goes on by the word, which is done after s in the scene
 abbrev pub Grows : Scene → Word → Core → ℕ → Call → Call → Type 0
 Grows a w s k c d =
-    Grew (MayStart a k s) (MayDeliver a k) (λ e. MayEnd a k e s) (λ j. MayJoin a (subtask.Guest k) j s × (w ≡ SetCallJoin k j)) c d
+    Grew (MayStart a k s) (MayDeliver a k) (λ e. MayEnd a k e s) (λ j. MayJoin a (Subtask.Guest k) j s × (w ≡ SetCallJoin k j))
+    (λ e. MayOwe a k e s) ((i : ℕ) × (w ≡ NameCall i k)) c d
 
 -- What the word from s to t does to the record of the call k, from o to p.
 pub data CallCame (a : Scene) (w : Word) (s t : Core) (k : ℕ) (o p : Option Call) : Type 0 where
@@ -56,8 +55,10 @@ module _ {a : Scene} where
   unfolding add_call add_group add_set add_thread add_work count_work free_handle free_thread_handle give_handle give_result give_thread_handle on_call on_instance on_thread on_work push_high remove_call remove_group remove_set remove_thread remove_work set_backpressure set_cancel_delivered set_cancelled set_course set_do_not_enter set_do_not_suspend set_end set_event set_exited set_how_far set_join set_own_event set_phase set_position set_register set_result set_saved_callee set_saved_own set_script set_stage set_started set_starting_published set_subtask_handle set_thread_handle set_trapped set_uninteresting set_word take_result call_made with_handle with_thread_handle work_queued poll_pends
   call_came (MakeCall f e x g group words) s ok k =
       after_insert (CallCame a _ s _ k) s.calls _ k call_stays _ (λ at. NewCall f e x g group at (at_most at) ok refl)
-  call_came (RemoveCall j) s ok k = after_remove (CallCame a _ s _ k) s.calls j k call_stays (λ at. NoCall refl (inr (rw at ok)))
-  call_came (SetEnd j e) s ok k = let ends : (v : CallEnd) × ((Some e ≡ Some v) × MayEnd a j v s) = (e, (refl, ok.0)) in
+  call_came (RemoveCall j) s ok k = after_remove (CallCame a _ s _ k) s.calls j k call_stays (λ at. NoCall refl (inr (rw at ok.0)))
+  call_came (EndCall j e) s ok k = let ends : (v : CallEnd) × ((Some e ≡ Some v) × MayEnd a j v s) = (e, (refl, ok.0)) in
+      call_changed _ j _ s _ k (λ c. search (inl, inr))
+  call_came (NameCall i j) s ok k = let names : (l : ℕ) × (NameCall i j ≡ NameCall l j) = (i, refl) in
       call_changed _ j _ s _ k (λ c. search (inl, inr))
   call_came w s ok k = first_of (search call_stays, search (call_changed, either))
 
@@ -69,12 +70,12 @@ Goes a s n f g = (g ≡ f) ⊎ MayCome a n g s
 
 -- its op is done, or it begins its react script
 abbrev pub Ends : Scene → ℕ → Thread → Thread → Type 0
-Ends a n r u = ((u.script ≡ r.script) × MayAdvance a n u.position) ⊎ (MayRestart a n × ((u.script ≡ script.React) × (u.position ≡ 0)))
+Ends a n r u = ((u.script ≡ r.script) × MayAdvance a n u.position) ⊎ (MayRestart a n × ((u.script ≡ Script.React) × (u.position ≡ 0)))
 
 -- the thread is where it was in its script, and as far as it was in its op, or further; or it is about to begin another one
 abbrev pub RunsOn : Scene → Core → ℕ → Thread → Thread → Type 0
 RunsOn a s n r u = ((u.script ≡ r.script) × ((u.position ≡ r.position) × ((u.how_far ≡ r.how_far) ⊎ CanCome a n u.how_far s)))
-    ⊎ ((u.how_far ≡ how_far.Fresh) × Ends a n r u)
+    ⊎ ((u.how_far ≡ HowFar.Fresh) × Ends a n r u)
 
 -- What the word from s to t does to the record of the thread n, from o to p.
 pub data ThreadCame (a : Scene) (w : Word) (s t : Core) (n : ℕ) (o p : Option Thread) : Type 0 where
@@ -85,7 +86,7 @@ pub data ThreadCame (a : Scene) (w : Word) (s t : Core) (n : ℕ) (o p : Option 
   IsBeside : (u : Thread) → n ≡ next_thread s → n ≤ t.made.threads → t.calls ≡ s.calls → MayMake a u s → p ≡ Some u →
       ThreadCame a w s t n o p
   IsFirst : (u : Thread) → n ≡ next_thread s → n ≤ t.made.threads → is_some (get t.calls n) ≡ true → u.explicit ≡ false → u.call ≡ n →
-      u.how_far ≡ how_far.Fresh → u.place ≡ place.New → p ≡ Some u → (u.script ≡ script.Start) × (u.position ≡ 0) → ThreadCame a w s t n o p
+      u.how_far ≡ HowFar.Fresh → u.place ≡ Place.New → p ≡ Some u → (u.script ≡ Script.Start) × (u.position ≡ 0) → ThreadCame a w s t n o p
 
 abbrev pub ThreadAfter : Scene → Word → Core → ℕ → Type 0
 ThreadAfter a w s n = ThreadCame a w s (after_word w s) n (get s.threads n) (get (after_word w s).threads n)
@@ -131,7 +132,7 @@ module _ {a : Scene} where
 
 -- what is read of how far the thread's op has come, but nothing of an op that begins, was so before, or comes so now
 pub op_came : {X : Type 0} (read : HowFar → Option X) (x : X) {a : Scene} (w : Word) (s : Core) → Allowed a w s → (n : ℕ) →
-    read how_far.Fresh ≡ None → read (how_far_of n (after_word w s)) ≡ Some x →
+    read HowFar.Fresh ≡ None → read (how_far_of n (after_word w s)) ≡ Some x →
     (read (how_far_of n s) ≡ Some x) ⊎ ((g : HowFar) × (MayCome a n g s × (read g ≡ Some x)))
 op_came {X = X} read x {a = a} w s ok n none h = go (thread_came w s ok n)
   where

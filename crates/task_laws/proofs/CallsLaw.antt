@@ -1,13 +1,10 @@
 -- Calls along the words of a step: a status only rises, an end stays, numbers name what they named, deliveries are for callbacks.
-use Rattle.task_rules.proofs.Machine.{arith, Bool, Call, Callee, CallEnd, Component, component_of, Core, ends_activation, EndsActivation, export_kind, false, get, goal_of, has_ended, is_async_lifted, is_callback, is_direct, is_exit, is_explicit, is_none, is_some, IsRunner, Join, kind_of, LaterBy, MayEnd, MayMove, None, op_of, Option, option_map_or, Place, place_of, SameThread, Scene, Script, script_in, script_of, slice_get, Some, task_of, true, unwrap_or, WasReady, Why, Word, ℕ, ⊎_elim, ◌≡◌, ◌≤◌, ◌⊎◌}
+use Rattle.task_rules.proofs.Machine.{arith, Bool, Call, Callee, CallEnd, Component, component_of, Core, ends_activation, EndsActivation, export_kind, false, get, goal_of, has_ended, is_async_lifted, is_callback, is_direct, is_exit, is_explicit, is_none, is_some, IsRunner, Join, kind_of, LaterBy, MayEnd, MayMove, None, op_at_place, op_of, Option, option_map_or, OwnEvent, Place, place_of, SameThread, Scene, Script, script_in, script_of, Some, task_of, true, WasReady, Why, Word, ℕ, ⊎_elim, ◌≡◌, ◌≤◌, ◌⊎◌}
 use Rattle.task_laws.proofs.CallsCame.{Grew, Grows}
 use Rattle.task_laws.proofs.CameLemmas.{Came, Comes, Moved, Shifts, Turned, Turns, MayStand}
 use Rattle.task_laws.specs.Order.{CallKinds, DeliveredByCallback, Numbered, is_delivered, is_delivery}
 use Rattle.task_laws.specs.Rises.{Rises}
 use Rattle.task_laws.specs.Settings.{CodesInCallbacks}
-use Rattle.task_machine.specs.declared.op.Op.TheVariants as op
-use Rattle.task_machine.specs.declared.op.TaskOp.TheVariants as task_op
-use Rattle.task_machine.specs.declared.records.CallEnd.TheVariants as call_end
 
 -- ---- Statuses
 
@@ -76,7 +73,7 @@ delivered_in o = option_map_or (λ p. is_delivered p) o false
 
 -- a script that isn't of a callback export has no op that ends an activation
 script_no_code : {c : Component} → CodesInCallbacks c → (f : Callee) → is_callback (export_kind c f) ≡ false → (x : Script) (p : ℕ) →
-    ends_activation (unwrap_or (slice_get (script_in c f x) p) (op.Task task_op.Exit)) ≡ false
+    ends_activation (op_at_place (script_in c f x) p) ≡ false
 script_no_code {c = c} codes f plain x p = grind (arith, codes.starts f, codes.reacts f, codes.slots f.instance)
 
 -- who ends an activation is of a callback export
@@ -92,9 +89,9 @@ shifted_delivers may o p came d = grind arith
 pub turned_silent : {a : Scene} {s t : Core} {n : ℕ} {o p : Option Place} → Turned a s t n o p → delivered_in p ≡ true → ⊥
 turned_silent x d = grind arith
 
-module _ {starts delivers : Type 0} {ends : CallEnd → Type 0} {joins : Join → Type 0} {c d : Call}
-    (g : Grew starts delivers ends joins c d) where
-  grew_goes : ((e : CallEnd) → ends e → (is_some c.«end» ≡ false) × (e ≡ call_end.StartCancelled → c.started ≡ false)) → Goes c d
+module _ {starts delivers : Type 0} {ends : CallEnd → Type 0} {joins : Join → Type 0} {owes : Option OwnEvent → Type 0} {names : Type 0} {c d : Call}
+    (g : Grew starts delivers ends joins owes names c d) where
+  grew_goes : ((e : CallEnd) → ends e → (is_some c.«end» ≡ false) × (e ≡ CallEnd.StartCancelled → c.started ≡ false)) → Goes c d
   grew_goes first = grind arith
 
   pub kind_kept : (a : Scene) (s t : Core) (k : ℕ) → KindHolds a s k c → (GoneOr a s k → GoneOr a t k) →
@@ -138,7 +135,7 @@ module _ (a : Scene) (codes : CodesInCallbacks (component_of a)) (h : CallsHold 
     -- ---- Calls
 
     pub ends_first : (k : ℕ) (e : CallEnd) (c : Call) → get s.calls k ≡ Some c → MayEnd a k e s →
-        (is_some c.«end» ≡ false) × (e ≡ call_end.StartCancelled → c.started ≡ false)
+        (is_some c.«end» ≡ false) × (e ≡ CallEnd.StartCancelled → c.started ≡ false)
     ends_first k e c at m = grind (arith, exits_explicit)
 
     pub goes_of : (w : Word) (k : ℕ) (c d : Call) → get s.calls k ≡ Some c → Grows a w s k c d → Goes c d

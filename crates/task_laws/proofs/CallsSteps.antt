@@ -46,7 +46,7 @@ module _ (a : Scene) (codes : CodesInCallbacks (component_of a)) (h : CallsHold 
 
     delivered_lifted : (k : ℕ) (c : Call) → get s.calls k ≡ Some c → MayDeliver a k → is_async_lifted c.kind ≡ true
     delivered_lifted k c at m =
-        let r = ready_delivered a codes h m.0 _ m.1.1.1.1 refl in
+        let r = ready_delivered a codes h m.0 _ m.1.1.1.0.1 refl in
         let k = task_of m.0 a.base in
         let y : is_callback (kind_of k s) ≡ true = kept_callback a codes h q k (base_task a codes h m.0) r.1 in
         grind arith
@@ -169,16 +169,21 @@ reached_holds {x = x} {s = s} r =
     (run_goes x (opening r.instances r.handle_limit r.capacity r.main) r.scripts first r.labels s r.run).0
 
 pub steps_rise : StepsRise
+unfolding StepsRise
 steps_rise x s l t r step = (step_goes x s l t r.scripts (reached_holds r) step).1
 
 pub runs_rise : RunsRise
+unfolding RunsRise
 runs_rise x s ls t r run = (run_goes x s r.scripts (reached_holds r) ls t run).1
 
 pub sync_never_cancelled : SyncNeverCancelled
+unfolding SyncNeverCancelled
 sync_never_cancelled x s r k c is sync = ((reached_holds r).kinds k c is).uncancelled sync
 
 pub sync_ends_last : SyncEndsLast
+unfolding SyncEndsLast
 sync_ends_last x s r k c is sync e at = let h = (reached_holds r).kinds k c is in grind arith
 
 pub explicit_names_no_call : ExplicitNamesNoCall
+unfolding ExplicitNamesNoCall
 explicit_names_no_call x s r n t is explicit = let h = (reached_holds r).numbered.threads n t is in grind arith

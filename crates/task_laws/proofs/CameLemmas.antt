@@ -1,25 +1,20 @@
 -- What one word does to the place of a thread.
-use Rattle.task_rules.proofs.Machine.{[], after_word, Allowed, ap, arith, AtOp, behind, behind_one, callers_of, Core, displaced, Enter, foot_of, GoBehind, inl, inr, insert, is_some, is_sync_call, IsRunner, List, Mark, MayMove, MayPut, MayYield, Move, nat_tests, newest, next_thread, None, older, on_thread, op_in, Option, option_map, passed_on, Place, place_of, Places, Placing, Pop, Promote, promoted, push_high, push_high_first, push_low, Put, put_at, put_high, put_low, put_switch, refl, resumed_all, Scene, set_callers, set_high, set_low, set_place, set_switch, Some, stand, Stop, stopped, sym, Thread, true, unqueued, Why, why_of, Word, ℕ, ◌∙◌, ◌∷◌, ◌≡◌, ◌≤◌, ◌⊎◌}
-use Rattle.task_machine.specs.declared.records.Turn.TheVariants as turn
+use Rattle.task_rules.proofs.Machine.{[], after_word, Allowed, ap, arith, AtOp, behind, behind_one, callers_of, change-field, Core, displaced, Enter, foot_of, GoBehind, inl, inr, insert, is_some, is_sync_call, IsRunner, List, Mark, MayMove, MayPut, MayYield, Move, nat_tests, newest, next_thread, None, older, on_thread, op_in, Option, option_map, passed_on, Place, place_of, Places, Placing, Pop, Promote, promoted, push_high, push_high_first, push_low, Put, put_at, put_high, put_low, put_switch, refl, resumed_all, Scene, set_callers, set_high, set_low, set_place, set_switch, Some, stand, Stop, stopped, sym, Thread, true, Turn, unqueued, Why, why_of, Word, ℕ, ◌∙◌, ◌∷◌, ◌≡◌, ◌≤◌, ◌⊎◌}
 use Rattle.task_laws.proofs.CallsCame.{IsBeside, IsFirst, IsGone, IsSame, ThreadAfter, thread_came}
 use Rattle.task_laws.proofs.EachLemmas.{after_change}
 use Rattle.task_laws.proofs.SceneLemmas.{popped_threads}
-use Rattle.task_machine.proofs.MapLemmas.{change-field}
-use Rattle.task_machine.specs.declared.records.Place.TheVariants as place
-use Rattle.task_machine.specs.declared.records.Why.TheVariants as why
-use Rattle.task_machine.specs.declared.words.Mark.TheVariants as mark
 use Rattle.task_rules.proofs.StandLemmas.{set_place_is, set_place_there}
 
 -- ---- Moves of other threads
 
 abbrev pub why_in : Option Place → Option Why
-why_in (Some (place.Ready m w)) = Some w
+why_in (Some (Place.Ready m w)) = Some w
 why_in _ = None
 
 -- From o to p: an entry stands for such a reason, or for the one that it stood for, or the thread is behind another, or its place stays.
 abbrev pub Moved : (Why → Type 0) → Option Place → Option Place → Type 0
-Moved may o (Some (place.Ready m w)) = ((is_some o ≡ true) × may w) ⊎ (why_in o ≡ Some w)
-Moved may o (Some (place.Behind f)) = is_some o ≡ true
+Moved may o (Some (Place.Ready m w)) = ((is_some o ≡ true) × may w) ⊎ (why_in o ≡ Some w)
+Moved may o (Some (Place.Behind f)) = is_some o ≡ true
 Moved may o p = p ≡ o
 
 unqueued_same : (k n : ℕ) (s : Core) → place_of k (unqueued n s) ≡ place_of k s
@@ -53,49 +48,49 @@ module _ (may : ℕ → Why → Type 0) where
   shifted_after s m t f g k = moved_after k _ _ _ (f k) (g k)
 
   stand_shifted : (n : ℕ) (m : Mark) (w : Why) (s : Core) → may n w → Shifted s (stand n m w s)
-  stand_shifted n m w s ok = moved_by n (place.Ready m w) s (λ o is. grind arith)
+  stand_shifted n m w s ok = moved_by n (Place.Ready m w) s (λ o is. grind arith)
 
   behind_shifted : (f n : ℕ) (s : Core) → Shifted s (behind_one f n s)
   unfolding behind_one set_callers
-  behind_shifted f n s = moved_by n (place.Behind f) s (λ o is. grind arith)
+  behind_shifted f n s = moved_by n (Place.Behind f) s (λ o is. grind arith)
 
   all_behind_shifted : (f : ℕ) (ns : List ℕ) (s : Core) → Shifted s (behind f ns s)
   all_behind_shifted f [] s = λ k. moved_same k _
   all_behind_shifted f (n ∷ ns) s = let m = behind_one f n s in
       shifted_after s m (behind f ns m) (behind_shifted f n s) (all_behind_shifted f ns m)
 
-  module _ (resumes : (k : ℕ) → may k why.Resumption) where
+  module _ (resumes : (k : ℕ) → may k Why.Resumption) where
     -- an entry moves to another mark
     again_shifted : (n : ℕ) (m : Mark) (s : Core) → Shifted s (stand n m (why_of n s) s)
-    again_shifted n m s = moved_by n (place.Ready m (why_of n s)) s (λ o is. grind (arith, resumes n))
+    again_shifted n m s = moved_by n (Place.Ready m (why_of n s)) s (λ o is. grind (arith, resumes n))
 
     displaced_shifted : (o : Option ℕ) (s : Core) → Shifted s (displaced o s)
     unfolding push_high_first
     displaced_shifted None s k = moved_same k _
-    displaced_shifted (Some n) s k = again_shifted n mark.High s k
+    displaced_shifted (Some n) s k = again_shifted n Mark.High s k
 
     put_shifted : (m : Mark) (n : ℕ) (w : Why) (s : Core) → may n w → Shifted s (put_at m n w s)
     unfolding put_switch set_switch put_high push_high put_low push_low
-    put_shifted mark.Switch n w s ok = let m = displaced s.queues.switch s in
-        shifted_after s m (stand n mark.Switch w m) (displaced_shifted s.queues.switch s) (stand_shifted n mark.Switch w m ok)
-    put_shifted mark.High n w s ok = stand_shifted n mark.High w s ok
-    put_shifted mark.Low n w s ok = stand_shifted n mark.Low w s ok
+    put_shifted Mark.Switch n w s ok = let m = displaced s.queues.switch s in
+        shifted_after s m (stand n Mark.Switch w m) (displaced_shifted s.queues.switch s) (stand_shifted n Mark.Switch w m ok)
+    put_shifted Mark.High n w s ok = stand_shifted n Mark.High w s ok
+    put_shifted Mark.Low n w s ok = stand_shifted n Mark.Low w s ok
 
     promoted_shifted : (n : ℕ) (s : Core) → Shifted s (promoted n s)
     unfolding promoted set_switch
-    promoted_shifted n s k = let moves = again_shifted n mark.Switch (unqueued n s) k in
+    promoted_shifted n s k = let moves = again_shifted n Mark.Switch (unqueued n s) k in
         rw (← (unqueued_same k n s)) (rw (unqueued_same n n s) at moves)
 
     resumed_shifted : (ns : List ℕ) (s : Core) → Shifted s (resumed_all ns s)
     resumed_shifted [] s = λ k. moved_same k _
-    resumed_shifted (n ∷ ns) s = let m = put_high n why.Resumption s in
-        shifted_after s m (resumed_all ns m) (put_shifted mark.High n why.Resumption s (resumes n)) (resumed_shifted ns m)
+    resumed_shifted (n ∷ ns) s = let m = put_high n Why.Resumption s in
+        shifted_after s m (resumed_all ns m) (put_shifted Mark.High n Why.Resumption s (resumes n)) (resumed_shifted ns m)
 
     passed_shifted : (o : Option ℕ) (ns : List ℕ) (s : Core) → Shifted s (passed_on o ns s)
     passed_shifted (Some m) ns s = all_behind_shifted (foot_of m s) ns s
     passed_shifted None [] s = λ k. moved_same k _
-    passed_shifted None (n ∷ ns) s = let i = newest n ns in let m = put_switch i why.Resumption s in let ms = older n ns in
-        shifted_after s m (resumed_all ms m) (put_shifted mark.Switch i why.Resumption s (resumes i)) (resumed_shifted ms m)
+    passed_shifted None (n ∷ ns) s = let i = newest n ns in let m = put_switch i Why.Resumption s in let ms = older n ns in
+        shifted_after s m (resumed_all ms m) (put_shifted Mark.Switch i Why.Resumption s (resumes i)) (resumed_shifted ms m)
 
     stopped_shifted : (f : ℕ) (s : Core) → Shifted s (stopped f s)
     unfolding stopped set_callers
@@ -105,15 +100,15 @@ module _ (may : ℕ → Why → Type 0) where
 
 -- Why a word lets an entry of the thread stand.
 abbrev pub MayStand : Scene → Core → ℕ → Why → Type 0
-MayStand a s n w = (w ≡ why.Resumption) ⊎ (MayPut n w s ⊎ MayYield a n w)
+MayStand a s n w = (w ≡ Why.Resumption) ⊎ (MayPut n w s ⊎ MayYield a n w)
 
 -- A thread calls directly, or is called so; it is gone; or it is made.
 pub data Turned (a : Scene) (s t : Core) (k : ℕ) (o p : Option Place) : Type 0 where
-  Enters : (m : ℕ) → IsRunner a k → m ≡ next_thread a.base → place_of m s ≡ Some place.New → p ≡ Some (place.Under m) → is_some o ≡ true →
-      (a.next ≡ turn.Run m) × (AtOp a k s × (is_sync_call (op_in a k) ≡ true)) → Turned a s t k o p
-  Entered : p ≡ Some place.Running → is_some o ≡ true → Turned a s t k o p
+  Enters : (m : ℕ) → IsRunner a k → m ≡ next_thread a.base → place_of m s ≡ Some Place.New → p ≡ Some (Place.Under m) → is_some o ≡ true →
+      (a.next ≡ Turn.Run m) × (AtOp a k s × (is_sync_call (op_in a k) ≡ true)) → Turned a s t k o p
+  Entered : p ≡ Some Place.Running → is_some o ≡ true → Turned a s t k o p
   Leaves : p ≡ None → Turned a s t k o p
-  IsMade : k ≡ next_thread s → k ≤ t.made.threads → p ≡ Some place.New → Turned a s t k o p
+  IsMade : k ≡ next_thread s → k ≤ t.made.threads → p ≡ Some Place.New → Turned a s t k o p
 
 -- What a word from s to t does to the place of the thread k, from o to p.
 pub data Came (a : Scene) (s t : Core) (k : ℕ) (o p : Option Place) : Type 0 where
@@ -140,9 +135,9 @@ module _ {a : Scene} where
   came_by : (x : Placing) (s : Core) → Allowed a (Places x) s → (k : ℕ) → PlaceAfter a (Places x) s k
   came_by (Pop m) s ok k = rw (popped_threads m s) (stays (place_of k s))
   came_by (Put m n w) s (inl ok) k = Shifts (put_shifted (MayStand a s) (λ j. inl refl) m n w s (inr (inl ok)) k)
-  came_by (Put mark.Switch n w) s (inr ok) k = absurd ok
-  came_by (Put mark.High n w) s (inr ok) k = Shifts (put_shifted (MayStand a s) (λ j. inl refl) mark.High n w s (inr (inr ok)) k)
-  came_by (Put mark.Low n w) s (inr ok) k = Shifts (put_shifted (MayStand a s) (λ j. inl refl) mark.Low n w s (inr (inr ok)) k)
+  came_by (Put Mark.Switch n w) s (inr ok) k = absurd ok
+  came_by (Put Mark.High n w) s (inr ok) k = Shifts (put_shifted (MayStand a s) (λ j. inl refl) Mark.High n w s (inr (inr ok)) k)
+  came_by (Put Mark.Low n w) s (inr ok) k = Shifts (put_shifted (MayStand a s) (λ j. inl refl) Mark.Low n w s (inr (inr ok)) k)
   came_by (Promote n) s ok k = Shifts (promoted_shifted (MayStand a s) (λ j. inl refl) n s k)
   came_by (Stop f) s ok k = Shifts (stopped_shifted (MayStand a s) (λ j. inl refl) f s k)
   came_by (GoBehind f n) s ok k = Shifts (behind_shifted (MayStand a s) f n s k)
@@ -150,9 +145,9 @@ module _ {a : Scene} where
   came_by (Move n p) s (inr ok) k = after_set k n p s (Came a s _ k (place_of k s)) (stays _) (λ e t. Comes p (rw e ok) refl t)
   came_by (Enter n m) s (inl ok) k = absurd ok
   came_by (Enter n m) s (inr ok) k = let Q = Came a s (after_word (Places (Enter n m)) s) k (place_of k s) in
-      after_set k n (place.Under m) (set_place m place.Running s) Q
-      (after_set k m place.Running s Q (stays _) (λ e t. Turns (Entered refl t)))
-      (λ e t. Turns (Enters m (rw e ok.0) ok.1.1.0 ok.1.1.1.0 refl (sym (set_place_there k m place.Running s) ∙ t) (ok.1.0, rw e ok.1.1.1.1.1.1.1)))
+      after_set k n (Place.Under m) (set_place m Place.Running s) Q
+      (after_set k m Place.Running s Q (stays _) (λ e t. Turns (Entered refl t)))
+      (λ e t. Turns (Enters m (rw e ok.0) ok.1.1.0 ok.1.1.1.0 refl (sym (set_place_there k m Place.Running s) ∙ t) (ok.1.0, rw e ok.1.1.1.1.1.1.1)))
 
   placed_came : (x : Placing) (w : Word) (s : Core) → w ≡ Places x → Allowed a w s → (k : ℕ) → PlaceAfter a w s k
   placed_came x w s is ok k = rw is (came_by x s (rw is at ok) k)

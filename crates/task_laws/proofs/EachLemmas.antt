@@ -1,15 +1,6 @@
 -- What each record of a map keeps where one record is changed, made or taken away.
-use Rattle.task_rules.proofs.Machine.{Bool, change, cond, false, get, get-insert, get-remove, insert, None, Option, option_map, Records, refl, remove, Some, true, ℕ, ◌==◌, ◌≡◌}
-use Rattle.task_machine.proofs.CommuteLemmas.{get-change}
+use Rattle.task_rules.proofs.Machine.{Bool, change, cond, false, get, get-change, get-insert, get-remove, insert, None, Option, option_map, Records, refl, remove, Some, true, ℕ, ◌==◌, ◌≡◌}
 use Rattle.task_rules.proofs.StandLemmas.{is_eq_of, not_eq}
-
-abbrev pub EachAt : {X : Type 0} → (ℕ → X → Type 0) → ℕ → Option X → Type 0
-EachAt P n None = Unit {0}
-EachAt P n (Some x) = P n x
-
--- each record of the map has P, with its number
-abbrev pub Each : {X : Type 0} → (ℕ → X → Type 0) → Records X → Type 0
-Each P m = (n : ℕ) → EachAt P n (get m n)
 
 -- ---- What is at a number before and after
 
@@ -42,19 +33,3 @@ module _ {X : Type 0} (P : Option X → Option X → Type 0) (m : Records X) (k 
         go : (o : Option X) → get m n ≡ o → n ≡ k → P o (option_map f o)
         go None is e = stays None
         go (Some x) is e = own x is e
-
-module _ {X : Type 0} (P : ℕ → X → Type 0) where
-  pub each_get : (m : Records X) → Each P m → (n : ℕ) (x : X) → get m n ≡ Some x → P n x
-  each_get m h n x is = rw is at (h n)
-
-  pub each_of : (m : Records X) → ((n : ℕ) (x : X) → get m n ≡ Some x → P n x) → Each P m
-  each_of m h n = go (get m n) refl
-    where
-      go : (o : Option X) → get m n ≡ o → EachAt P n o
-      go None is = tt
-      go (Some x) is = h n x is
-
-  pub each_change : (m : Records X) (n : ℕ) (f : X → X) → Each P m → ((x : X) → get m n ≡ Some x → P n x → P n (f x)) →
-      Each P (change n f m)
-  each_change m n f h keeps q = after_change (λ o p. EachAt P q o → EachAt P q p) m n q (λ o h. h) f
-      (λ x is e h. rw e (keeps x (rw e at is) (rw e at h))) (h q)

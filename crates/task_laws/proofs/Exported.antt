@@ -1,9 +1,8 @@
 -- Calls name exports, and instances stay, along the words of a step.
-use Rattle.task_rules.proofs.Machine.{add_call, add_group, add_set, add_thread, add_work, after_word, Allowed, arith, call_made, Callee, Caller, component_of, Core, count_work, free_handle, free_thread_handle, get, give_handle, give_result, give_thread_handle, is_some, MayCall, nat_tests, on_call, on_instance, on_thread, on_work, Places, poll_pends, push_high, refl, remove_call, remove_group, remove_set, remove_thread, remove_work, Scene, scene_of, set_backpressure, set_cancel_delivered, set_cancelled, set_course, set_do_not_enter, set_do_not_suspend, set_end, set_event, set_exited, set_how_far, set_join, set_own_event, set_phase, set_position, set_register, set_result, set_saved_callee, set_saved_own, set_script, set_stage, set_started, set_starting_published, set_subtask_handle, set_thread_handle, set_trapped, set_uninteresting, set_word, sym, take_result, TakeHost, TakePush, with_handle, with_thread_handle, Word, work_queued, ℕ, ◌∙◌, ◌≡◌}
-use Rattle.task_machine.proofs.CommuteLemmas.{get-change}
+use Rattle.task_rules.proofs.Machine.{after_word, Allowed, arith, Callee, Caller, component_of, Core, get, is_some, MayCall, refl, Scene, scene_of, sym, Word, ℕ, ◌∙◌, ◌≡◌}
 use Rattle.task_laws.proofs.CallsCame.{CallAfter, Grown, NewCall, NoCall, call_came}
 use Rattle.task_laws.proofs.Basics.{some_none}
-use Rattle.task_laws.proofs.OneHolder.{op_callee}
+use Rattle.task_laws.proofs.OneHolder.{instance_stays, op_callee}
 use Rattle.task_laws.specs.Exports.{CallsExported, ExportsExist, InstancesStay, IsExported, StepsKeepExports}
 use Rattle.task_rules.proofs.ChainLemmas.{along}
 use Rattle.task_rules.proofs.WalkSteps.{step_walks}
@@ -29,13 +28,6 @@ steps_keep_exports x s l t exist q step =
     along (CallsExported x.component) (exported_word (scene_of x s l w.next) exist) q w.walk
 
 -- ---- Instances
-
-instance_stays : (w : Word) (s : Core) (i : ℕ) → is_some (get (after_word w s).instances i) ≡ is_some (get s.instances i)
-unfolding add_call add_group add_set add_thread add_work count_work free_handle free_thread_handle give_handle give_result give_thread_handle on_call on_instance on_thread on_work push_high remove_call remove_group remove_set remove_thread remove_work set_backpressure set_cancel_delivered set_cancelled set_course set_do_not_enter set_do_not_suspend set_end set_event set_exited set_how_far set_join set_own_event set_phase set_position set_register set_result set_saved_callee set_saved_own set_script set_stage set_started set_starting_published set_subtask_handle set_thread_handle set_trapped set_uninteresting set_word take_result call_made with_handle with_thread_handle work_queued poll_pends
-instance_stays (Places p) s i = refl
-instance_stays (TakePush m j) s i = refl
-instance_stays (TakeHost m j) s i = refl
-instance_stays w s i = grind (arith, nat_tests, get-change)
 
 pub instances_stay : InstancesStay
 instances_stay x s l t step i =

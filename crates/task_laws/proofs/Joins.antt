@@ -1,29 +1,23 @@
 -- A subtask that is joined to a set is named in the set's instance: along the words of a step.
-use Rattle.task_rules.proofs.Machine.{[], add_call, add_group, add_set, add_thread, add_work, after_word, Allowed, arith, Bool, Call, call_made, change, CloseSet, Core, count_work, false, free_handle, free_thread_handle, fresh, get, get-empty, get-insert, get-remove, give_handle, give_result, give_thread_handle, giving, has_member, inl, inr, instance_of, is_joined, is_member, is_some, Join, join_of, List, list_any, list_any-append, map, MayJoin, NameCall, Named, named_by, NameWork, nat_cmp, nat_tests, next_handle, no_handles, None, numbers, on_call, on_instance, on_thread, on_work, OpenSet, Option, option_map_or, poll_pends, push_high, Records, refl, remove_call, remove_group, remove_set, remove_thread, remove_work, Scene, Set, set_backpressure, set_cancel_delivered, set_cancelled, set_course, set_do_not_enter, set_do_not_suspend, set_end, set_event, set_exited, set_how_far, set_join, set_own_event, set_phase, set_position, set_register, set_result, set_saved_callee, set_saved_own, set_script, set_stage, set_started, set_starting_published, set_subtask_handle, set_thread_handle, set_trapped, set_uninteresting, set_word, SetCallJoin, SetWorkJoin, Some, Subtask, subtask_at, Table, take_result, taking, true, UnnameCall, UnnameWork, unsigned_tied, with_handle, with_thread_handle, Word, Work, work_queued, ℕ, ⊎_elim, ◌∷◌, ◌≡◌, ◌≤◌, ◌⊎◌}
+use Rattle.task_rules.proofs.Machine.{[], add_call, add_group, add_set, add_thread, add_work, after_word, Allowed, arith, Bool, Call, call_made, change, CloseSet, Core, count_work, false, free_handle, free_thread_handle, fresh, get, get-change, get-empty, get-insert, get-remove, give_handle, give_result, give_thread_handle, giving, has_member, inl, inr, instance_of, is_joined, is_member, is_some, Join, join_of, List, list_any, list_any-append, map, MayJoin, NameCall, Named, named_by, NameWork, nat_cmp, nat_tests, next_handle, no_handles, None, numbers, on_call, on_instance, on_thread, on_work, OpenSet, poll_pends, push_high, Records, refl, remove_call, remove_group, remove_set, remove_thread, remove_work, Scene, Set, set_backpressure, set_cancel_delivered, set_cancelled, set_course, set_do_not_enter, set_do_not_suspend, set_end, set_event, set_exited, set_how_far, set_join, set_own_event, set_phase, set_position, set_register, set_result, set_saved_callee, set_saved_own, set_script, set_stage, set_started, set_starting_published, set_subtask_handle, set_thread_handle, set_trapped, set_uninteresting, set_word, SetCallJoin, SetWorkJoin, Some, subst, Subtask, subtask_at, Table, take_result, taking, true, UnnameCall, UnnameWork, unsigned_tied, with_handle, with_thread_handle, Word, Work, work_queued, ℕ, ⊎_elim, ◌∷◌, ◌≡◌, ◌≤◌, ◌⊎◌}
 use Rattle.std.specs.FinMap.Entries.{find}
-use Rattle.task_laws.proofs.CallsCame.{CallAfter, Grown, NewCall, NoCall, call_came}
-use Rattle.task_laws.proofs.EachLemmas.{each_change, each_get, each_of}
+use Rattle.task_rules.proofs.StandLemmas.{by_number}
+use Rattle.task_laws.proofs.EachLemmas.{after_change}
 use Rattle.task_laws.proofs.HandleTables.{giving_kept, next_dead, taking_kept}
 use Rattle.task_laws.proofs.ReachLemmas.{filled_with}
 use Rattle.task_laws.proofs.SetHandles.{home_in, subtask_in}
 use Rattle.task_laws.specs.Order.{JoinNamed, JoinsNamed, SetsNamed, TableKept}
-use Rattle.task_machine.proofs.CommuteLemmas.{get-change}
-use Rattle.task_machine.specs.declared.records.Join.TheVariants as join
-use Rattle.task_machine.specs.declared.records.Named.TheVariants as named
-use Rattle.task_machine.specs.declared.records.Subtask.TheVariants as subtask
 
 -- ---- Tables
 
-abbrev EachKept : ℕ → Table Named → Type 0
-EachKept j t = TableKept t
-
-module _ (tables : Records (Table Named)) (i : ℕ) where
-  -- each table is kept where one is changed
-  tables_changed : (f : Table Named → Table Named) → ((t : Table Named) → get tables i ≡ Some t → TableKept t → TableKept (f t)) →
-      ((j : ℕ) (t : Table Named) → get tables j ≡ Some t → TableKept t) →
-      (j : ℕ) (t : Table Named) → get (change i f tables) j ≡ Some t → TableKept t
-  tables_changed f own kept =
-      each_get EachKept (change i f tables) (each_change EachKept tables i f (each_of EachKept tables kept) own)
+-- each table is kept where one is changed
+tables_changed : (tables : Records (Table Named)) (i : ℕ) (f : Table Named → Table Named) →
+    ((t : Table Named) → get tables i ≡ Some t → TableKept t → TableKept (f t)) →
+    ((j : ℕ) (t : Table Named) → get tables j ≡ Some t → TableKept t) →
+    (j : ℕ) (t : Table Named) → get (change i f tables) j ≡ Some t → TableKept t
+tables_changed tables i f own kept j = after_change
+    (λ o p. ((t : Table Named) → o ≡ Some t → TableKept t) → (t : Table Named) → p ≡ Some t → TableKept t) tables i j (λ o h. h) f
+    (λ u is e h t at. let same : f u ≡ t = cc in subst TableKept same (own u (rw e at is) (h u refl))) (kept j)
 
 -- ---- Members
 
@@ -33,62 +27,42 @@ any_number p wrap k [] h is = absurd (cc)
 any_number p wrap k (e ∷ es) h is = let rest = any_number p wrap k es in let same = unsigned_tied k e.0 in grind (arith, nat_tests)
 
 -- who is joined to a set is a member of it
-member_of : (sub : Subtask) (x : ℕ) (s : Core) → join_of sub s ≡ join.Set x → has_member x s ≡ true
+member_of : (sub : Subtask) (x : ℕ) (s : Core) → join_of sub s ≡ Join.Set x → has_member x s ≡ true
 unfolding has_member numbers get
-member_of (subtask.Guest k) x s h =
-    let any = any_number (λ sub. is_member x sub s) (λ n. subtask.Guest n) k s.calls.list in grind (arith, nat_tests, list_any-append)
-member_of (subtask.Host i) x s h =
-    let any = any_number (λ sub. is_member x sub s) (λ n. subtask.Host n) i s.works.list in grind (arith, nat_tests, list_any-append)
+member_of (Subtask.Guest k) x s h =
+    let any = any_number (λ sub. is_member x sub s) (λ n. Subtask.Guest n) k s.calls.list in grind (arith, nat_tests, list_any-append)
+member_of (Subtask.Host i) x s h =
+    let any = any_number (λ sub. is_member x sub s) (λ n. Subtask.Host n) i s.works.list in grind (arith, nat_tests, list_any-append)
 
 -- ---- Joins, word by word
 
-abbrev work_join : Option Work → Join
-work_join o = option_map_or (λ (w : Work). w.join) o join.Nowhere
+-- the word joins the subtask to the set, and leaves handles and sets
+abbrev Joins : Scene → Word → Core → Subtask → ℕ → Type 0
+Joins a w s sub x = MayJoin a sub (Join.Set x) s × (((after_word w s).handles ≡ s.handles) × ((after_word w s).sets ≡ s.sets))
 
-joined : (works : Records Work) (k n x : ℕ) (j : Join) → work_join (get (change n (λ w. record w { join = j }) works) k) ≡ join.Set x →
-    (work_join (get works k) ≡ join.Set x) ⊎ ((k ≡ n) × (j ≡ join.Set x))
-joined works k n x j h = grind (arith, nat_tests, get-change)
-
-module _ (a : Scene) (w : Word) (s : Core) where
-  -- the word joins the subtask to the set, and leaves handles and sets
-  abbrev Joins : Subtask → ℕ → Type 0
-  Joins sub x = MayJoin a sub (join.Set x) s × (((after_word w s).handles ≡ s.handles) × ((after_word w s).sets ≡ s.sets))
-
-  call_joins : (k x : ℕ) (j : Join) → w ≡ SetCallJoin k j → j ≡ join.Set x → MayJoin a (subtask.Guest k) j s → Joins (subtask.Guest k) x
-  unfolding set_join on_call
-  call_joins k x j is to m = (rw to at m, rw is (refl, refl))
-
-  guest_joined : Allowed a w s → (k x : ℕ) → join_of (subtask.Guest k) (after_word w s) ≡ join.Set x →
-      (join_of (subtask.Guest k) s ≡ join.Set x) ⊎ Joins (subtask.Guest k) x
-  guest_joined ok k x h = go (call_came w s ok k)
-    where
-      go : CallAfter a w s k → (join_of (subtask.Guest k) s ≡ join.Set x) ⊎ Joins (subtask.Guest k) x
-      go (Grown c d e f g) = ⊎_elim (λ same. inl (cc)) (λ m. inr (call_joins k x d.join m.1 (cc) m.0)) g.join
-      go (NoCall e r) = absurd (cc)
-      go (NewCall f e y g group is l m new) = absurd (cc)
-
-moved_join : (a : Scene) (s : Core) (n k x : ℕ) (j : Join) → k ≡ n → j ≡ join.Set x → MayJoin a (subtask.Host n) j s →
-    MayJoin a (subtask.Host k) (join.Set x) s
-moved_join a s n k x j same to m = rw same (rw to at m)
-
-host_joined : (a : Scene) (w : Word) (s : Core) → Allowed a w s → (k x : ℕ) → join_of (subtask.Host k) (after_word w s) ≡ join.Set x →
-    (join_of (subtask.Host k) s ≡ join.Set x) ⊎ Joins a w s (subtask.Host k) x
+now_joined : (a : Scene) (w : Word) (s : Core) → Allowed a w s → (sub : Subtask) (x : ℕ) → join_of sub (after_word w s) ≡ Join.Set x →
+    (join_of sub s ≡ Join.Set x) ⊎ Joins a w s sub x
 unfolding on_thread add_group add_set add_work count_work free_handle free_thread_handle give_handle give_result give_thread_handle on_call on_instance on_work push_high remove_call remove_group remove_set remove_work remove_thread set_backpressure set_cancel_delivered set_cancelled set_course set_do_not_enter set_do_not_suspend set_end set_event set_exited set_how_far set_join set_own_event set_phase set_position set_register set_result set_saved_callee set_saved_own set_script set_stage set_started set_starting_published set_subtask_handle set_thread_handle set_trapped set_uninteresting set_word take_result call_made add_call add_thread with_handle with_thread_handle work_queued poll_pends
-host_joined a (SetWorkJoin n j) s ok k x h =
-    ⊎_elim (λ e. inl e) (λ e. inr (moved_join a s n k x j e.0 e.1 ok, (refl, refl))) (joined s.works k n x j h)
-host_joined a w s ok k x h = inl (first_of (assumption, grind (arith, nat_tests, get-change, get-insert, get-remove)))
+now_joined a (SetCallJoin n j) s ok (Subtask.Guest k) x h = by_number n k _
+    (λ e. let to : j ≡ Join.Set x = grind (arith, nat_tests, get-change) in inr (rw to at (rw e at ok), (refl, refl)))
+    (λ e. inl (grind (arith, nat_tests, get-change, e)))
+now_joined a (SetWorkJoin n j) s ok (Subtask.Host k) x h = by_number n k _
+    (λ e. let to : j ≡ Join.Set x = grind (arith, nat_tests, get-change) in inr (rw to at (rw e at ok), (refl, refl)))
+    (λ e. inl (grind (arith, nat_tests, get-change, e)))
+now_joined a w s ok (Subtask.Guest k) x h = inl (first_of (assumption, grind (arith, nat_tests, get-change, get-insert, get-remove)))
+now_joined a w s ok (Subtask.Host k) x h = inl (first_of (assumption, grind (arith, nat_tests, get-change, get-insert, get-remove)))
 
 -- ---- The law
 
 -- Each table of these is kept, and who is joined to a set stays named.
 record HandlesKept (s : Core) (handles : Records (Table Named)) : Type 0 where
   tables : (i : ℕ) (t : Table Named) → get handles i ≡ Some t → TableKept t
-  names : (sub : Subtask) (x i h : ℕ) → join_of sub s ≡ join.Set x → subtask_at i h s ≡ Some sub → subtask_in handles i h ≡ Some sub
+  names : (sub : Subtask) (x i h : ℕ) → join_of sub s ≡ Join.Set x → subtask_at i h s ≡ Some sub → subtask_in handles i h ≡ Some sub
 
 -- These sets have numbers that were given, and the set to which a subtask is joined stays where it is.
 record SetsKept (s : Core) (sets : Records Set) (made : ℕ) : Type 0 where
   numbers : (x : ℕ) → is_some (get sets x) ≡ true → x ≤ made
-  homes : (sub : Subtask) (x i : ℕ) → join_of sub s ≡ join.Set x → home_in s.sets x ≡ Some i → home_in sets x ≡ Some i
+  homes : (sub : Subtask) (x i : ℕ) → join_of sub s ≡ Join.Set x → home_in s.sets x ≡ Some i → home_in sets x ≡ Some i
 
 module _ (a : Scene) (s : Core) (q : JoinsNamed s) where
   given_kept : (j : ℕ) (nm : Named) → HandlesKept s (change j (giving nm) s.handles)
@@ -101,7 +75,7 @@ module _ (a : Scene) (s : Core) (q : JoinsNamed s) where
 
   -- the handle that is taken back names none that is joined to a set
   freed_kept : (j g : ℕ) (nm : Named) → named_by s.handles j g ≡ Some nm →
-      ((sub : Subtask) (x : ℕ) → join_of sub s ≡ join.Set x → nm ≡ named.Subtask sub → ⊥) → HandlesKept s (change j (taking g) s.handles)
+      ((sub : Subtask) (x : ℕ) → join_of sub s ≡ Join.Set x → nm ≡ Named.Subtask sub → ⊥) → HandlesKept s (change j (taking g) s.handles)
   freed_kept j g nm at unjoined = record {
     tables = tables_changed s.handles j (taking g) (λ t e. taking_kept g t nm (cc)) q.tables;
     names = λ sub x i h to e. let other = unjoined sub x to in grind (arith, nat_tests, get-change, get-remove);
@@ -110,7 +84,7 @@ module _ (a : Scene) (s : Core) (q : JoinsNamed s) where
   unnamed_kept : (j g : ℕ) (sub : Subtask) → subtask_at j g s ≡ Some sub → is_joined (join_of sub s) ≡ false →
       HandlesKept s (change j (taking g) s.handles)
   unnamed_kept j g sub at unjoined =
-      freed_kept j g (named.Subtask sub) (grind arith) (λ other x to is. let same : sub ≡ other = cc in absurd (cc))
+      freed_kept j g (Named.Subtask sub) (grind arith) (λ other x to is. let same : sub ≡ other = cc in absurd (cc))
 
   handles_word : (w : Word) → Allowed a w s → HandlesKept s (after_word w s).handles
   unfolding on_thread add_group add_set add_work count_work free_handle free_thread_handle give_handle give_result give_thread_handle on_call on_instance on_work push_high remove_call remove_group remove_set remove_work remove_thread set_backpressure set_cancel_delivered set_cancelled set_course set_do_not_enter set_do_not_suspend set_end set_event set_exited set_how_far set_join set_own_event set_phase set_position set_register set_result set_saved_callee set_saved_own set_script set_stage set_started set_starting_published set_subtask_handle set_thread_handle set_trapped set_uninteresting set_word take_result call_made add_call add_thread with_handle with_thread_handle work_queued poll_pends
@@ -119,7 +93,7 @@ module _ (a : Scene) (s : Core) (q : JoinsNamed s) where
   handles_word (OpenSet j) ok = given_kept j _
   handles_word (UnnameCall j g k) ok = unnamed_kept j g _ ok.1.1.1.0 ok.1.1.1.1
   handles_word (UnnameWork j g k) ok = unnamed_kept j g _ ok.1.1.1.0 ok.1.1.1.1
-  handles_word (CloseSet j g y) ok = freed_kept j g (named.Set y) (grind arith) (λ sub x to is. absurd (cc))
+  handles_word (CloseSet j g y) ok = freed_kept j g (Named.Set y) (grind arith) (λ sub x to is. absurd (cc))
   handles_word w ok = record { tables = q.tables; names = λ sub x i h at e. e }
 
   sets_word : (w : Word) → Allowed a w s → SetsKept s (after_word w s).sets (after_word w s).made.sets
@@ -135,7 +109,7 @@ module _ (a : Scene) (s : Core) (q : JoinsNamed s) where
   sets_word w ok = record { numbers = q.sets; homes = λ sub x i at home. home }
 
   module _ (tidy : SetsNamed s) (w : Word) (ok : Allowed a w s) where
-    joined_kept : (sub : Subtask) (x : ℕ) → join_of sub s ≡ join.Set x → JoinNamed sub x (after_word w s)
+    joined_kept : (sub : Subtask) (x : ℕ) → join_of sub s ≡ Join.Set x → JoinNamed sub x (after_word w s)
     joined_kept sub x at = let n = q.joins sub x at in record {
       instance = n.instance;
       handle = n.handle;
@@ -152,12 +126,8 @@ module _ (a : Scene) (s : Core) (q : JoinsNamed s) where
       named = rw handles m.1.1.1.1.0;
     }
 
-    named_joins : (sub : Subtask) (x : ℕ) → join_of sub (after_word w s) ≡ join.Set x → JoinNamed sub x (after_word w s)
-    named_joins (subtask.Guest k) x h = ⊎_elim (joined_kept _ x) (joined_now _ x) (guest_joined a w s ok k x h)
-    named_joins (subtask.Host k) x h = ⊎_elim (joined_kept _ x) (joined_now _ x) (host_joined a w s ok k x h)
-
     pub joins_word : JoinsNamed (after_word w s)
-    joins_word = record { tables = (handles_word w ok).tables; sets = (sets_word w ok).numbers; joins = named_joins }
+    joins_word = record { tables = (handles_word w ok).tables; sets = (sets_word w ok).numbers; joins = λ sub x h. ⊎_elim (joined_kept sub x) (joined_now sub x) (now_joined a w s ok sub x h) }
 
 -- ---- The first state
 
@@ -176,7 +146,7 @@ opening_joins instances handle_limit capacity = record {
       once = λ h. omega arith;
     }
 
-    unjoined : (sub : Subtask) (x : ℕ) → join_of sub (fresh instances handle_limit capacity) ≡ join.Set x →
+    unjoined : (sub : Subtask) (x : ℕ) → join_of sub (fresh instances handle_limit capacity) ≡ Join.Set x →
         JoinNamed sub x (fresh instances handle_limit capacity)
-    unjoined (subtask.Guest k) x h = let o = get-empty {X = Call} k in absurd (cc)
-    unjoined (subtask.Host i) x h = let o = get-empty {X = Work} i in absurd (cc)
+    unjoined (Subtask.Guest k) x h = let o = get-empty {X = Call} k in absurd (cc)
+    unjoined (Subtask.Host i) x h = let o = get-empty {X = Work} i in absurd (cc)

@@ -1,34 +1,26 @@
 -- At most one holding entry of an instance runs at a time: each word, each step, and each run.
-use Rattle.task_rules.proofs.Machine.{[], add_call, add_group, add_set, add_thread, add_work, after_word, Allowed, arith, begun_holder, Bool, Call, call_instance, call_made, Callee, callee_of, callee_of_op, Caller, Component, component_of, Core, count_work, false, filled, filter, free_handle, free_thread_handle, fresh, get, get-empty, get-insert, give_handle, give_result, give_thread_handle, history, holds_one, is_among, is_some, Label, LastWords, less_holder, List, list_any, Main, may_not_enter, MayCall, nat_tests, None, not, on_call, on_instance, on_thread, on_work, Op, op_of, Option, option_map_or, poll_pends, push_high, Queues, refl, remove_call, remove_group, remove_set, remove_thread, remove_work, returned_holder, Run, SameMain, Scene, Script, script_in, script_of, script_of_thread, Scripted, set_backpressure, set_cancel_delivered, set_cancelled, set_course, set_do_not_enter, set_do_not_suspend, set_end, set_event, set_exited, set_how_far, set_join, set_own_event, set_phase, set_position, set_register, set_result, set_saved_callee, set_saved_own, set_script, set_stage, set_started, set_starting_published, set_subtask_handle, set_thread_handle, set_trapped, set_uninteresting, set_word, SetDoNotEnter, Setting, slice_get, Some, State, Step, take_result, Thread, true, Unscripted, untouched, unwrap_or, Walk, Walked, with_handle, with_holder, with_thread_handle, Word, work_queued, ℕ, ◌<◌, ◌==◌, ◌∷◌, ◌≡◌, ◌⊎◌}
-use Rattle.task_machine.specs.declared.records.Instance.{Instance}
+use Rattle.task_rules.proofs.Machine.{[], add_call, add_group, add_set, add_thread, add_work, AddGroup, after_word, Allowed, arith, begun_holder, Bool, Call, call_instance, call_made, Callee, callee_of, callee_of_op, Caller, Component, component_of, Core, count_work, false, filled, filter, free_handle, free_thread_handle, fresh, get, get-change, get-empty, get-insert, give_handle, give_result, give_thread_handle, history, holds_one, is_among, is_some, Label, LastWords, less_holder, List, list_any, Main, may_not_enter, MayCall, nat_tests, None, not, on_call, on_instance, on_thread, on_work, Op, op_at_place, op_of, Option, option_map_or, poll_pends, push_high, Queues, refl, remove_call, remove_group, remove_set, remove_thread, remove_work, returned_holder, Run, SameMain, Scene, Script, script_in, script_of, script_of_thread, Scripted, set_backpressure, set_cancel_delivered, set_cancelled, set_course, set_do_not_enter, set_do_not_suspend, set_end, set_event, set_exited, set_how_far, set_join, set_own_event, set_phase, set_position, set_register, set_result, set_saved_callee, set_saved_own, set_script, set_stage, set_started, set_starting_published, set_subtask_handle, set_thread_handle, set_trapped, set_uninteresting, set_word, SetDoNotEnter, Setting, slice_get, Some, State, Step, take_result, Thread, true, Unscripted, untouched, Walk, Walked, with_handle, with_holder, with_thread_handle, Word, work_queued, ℕ, ◌<◌, ◌==◌, ◌∙◌, ◌∷◌, ◌≡◌, ◌⊎◌}
 use Rattle.task_laws.proofs.CallsCame.{CallAfter, Grown, NewCall, NoCall, call_came}
 use Rattle.task_laws.proofs.CallsSteps.{plain, plain_scene}
-use Rattle.task_machine.proofs.CommuteLemmas.{get-change}
 use Rattle.task_laws.specs.Holders.{CalleesExist, RunsHoldOne}
 use Rattle.task_rules.proofs.ChainLemmas.{along}
 use Rattle.task_rules.proofs.WalkSteps.{step_walks}
-use Rattle.task_machine.specs.declared.op.Op.TheVariants as op
-use Rattle.task_machine.specs.declared.op.TaskOp.TheVariants as task_op
 use Rattle.task_rules.specs.Allowed as may
 
 -- ---- Instances
 
-abbrev flag_in : Option Instance → Bool
-flag_in o = option_map_or (λ (r : Instance). r.do_not_enter) o false
-
--- What a word does to the instance i: it stays there, and stays shut unless a holding entry of it returns.
-record InstanceCame (a : Scene) (i : ℕ) (o p : Option Instance) : Type 0 where
-  there : is_some o ≡ true → is_some p ≡ true
-  shut : (returned_holder a.base a.label ≡ Some i → ⊥) → flag_in o ≡ true → flag_in p ≡ true
-
-instance_came : (a : Scene) (w : Word) (s : Core) → Allowed a w s → (i : ℕ) → InstanceCame a i (get s.instances i) (get (after_word w s).instances i)
+pub instance_stays : (w : Word) (s : Core) (i : ℕ) → is_some (get (after_word w s).instances i) ≡ is_some (get s.instances i)
 unfolding add_call add_group add_set add_thread add_work count_work free_handle free_thread_handle give_handle give_result give_thread_handle on_call on_instance on_thread on_work push_high remove_call remove_group remove_set remove_thread remove_work set_backpressure set_cancel_delivered set_cancelled set_course set_do_not_enter set_do_not_suspend set_end set_event set_exited set_how_far set_join set_own_event set_phase set_position set_register set_result set_saved_callee set_saved_own set_script set_stage set_started set_starting_published set_subtask_handle set_thread_handle set_trapped set_uninteresting set_word take_result call_made with_handle with_thread_handle work_queued poll_pends
-instance_came a (SetDoNotEnter j true) s ok i = grind (arith, nat_tests, get-change)
-instance_came a (SetDoNotEnter j false) s ok i = grind (arith, nat_tests, get-change)
-instance_came a w s ok i = record {
-  there = λ h. first_of (assumption, grind (arith, nat_tests, get-change));
-  shut = λ other h. first_of (assumption, grind (arith, nat_tests, get-change));
-}
+instance_stays AddGroup s i = refl
+instance_stays w s i = first_of (search, grind (arith, nat_tests, get-change))
+
+-- it stays shut unless a holding entry of it returns
+shut_stays : (a : Scene) (w : Word) (s : Core) → Allowed a w s → (i : ℕ) → (returned_holder a.base a.label ≡ Some i → ⊥) →
+    may_not_enter i s ≡ true → may_not_enter i (after_word w s) ≡ true
+unfolding add_call add_group add_set add_thread add_work count_work free_handle free_thread_handle give_handle give_result give_thread_handle on_call on_instance on_thread on_work push_high remove_call remove_group remove_set remove_thread remove_work set_backpressure set_cancel_delivered set_cancelled set_course set_do_not_enter set_do_not_suspend set_end set_event set_exited set_how_far set_join set_own_event set_phase set_position set_register set_result set_saved_callee set_saved_own set_script set_stage set_started set_starting_published set_subtask_handle set_thread_handle set_trapped set_uninteresting set_word take_result call_made with_handle with_thread_handle work_queued poll_pends
+shut_stays a (SetDoNotEnter j true) s ok i other h = grind (arith, nat_tests, get-change)
+shut_stays a (SetDoNotEnter j false) s ok i other h = grind (arith, nat_tests, get-change)
+shut_stays a w s ok i other h = first_of (assumption, grind (arith, nat_tests, get-change))
 
 -- ---- What holds
 
@@ -49,7 +41,7 @@ IsScripted Unscripted = ⊥
 
 -- ---- The exports that are called
 
-callee_at : (ops : List Op) (p : ℕ) (e : Callee) → callee_of_op (unwrap_or (slice_get ops p) (op.Task task_op.Exit)) ≡ Some e →
+callee_at : (ops : List Op) (p : ℕ) (e : Callee) → callee_of_op (op_at_place ops p) ≡ Some e →
     (o : Op) × ((slice_get ops p ≡ Some o) × (callee_of_op o ≡ Some e))
 callee_at ops p e is = grind arith
 
@@ -70,24 +62,23 @@ op_callee c P calls n s e is =
 module _ (a : Scene) (instances : ℕ) (exist : CalleesExist a.setting instances) (main : IsScripted a.main)
     (b : Housed instances a.base) where
   callee_there : (f : Caller) (e : Callee) (group : ℕ) (s : Core) → MayCall a f e group s → e.instance < instances
-  callee_there f e group s (may.ByScript p o m at callee is same) = exist.starts p.position o e at callee
+  callee_there f e group s (may.ByScript p o m at callee is same) = exist.callees.starts p.position o e at callee
   callee_there f e group s (may.ByProgram words m takes is same) = absurd (rw m at main)
-  callee_there f e group s (may.ByThread n r callee is same) = op_callee (component_of a) (λ e. e.instance < instances) exist.calls n a.base e callee
+  callee_there f e group s (may.ByThread n r callee is same) = op_callee (component_of a) (λ e. e.instance < instances) exist.callees.calls n a.base e callee
 
   word_holds : (w : Word) (s : Core) → Allowed a w s → HoldersGo a s → HoldersGo a (after_word w s)
   word_holds w s ok q = record {
-    shut = λ i other h. (instance_came a w s ok i).shut other (q.shut i other h);
-    kept = λ i h. (instance_came a w s ok i).there (q.kept i h);
+    shut = λ i other h. shut_stays a w s ok i other (q.shut i other h);
+    kept = λ i h. instance_stays w s i ∙ q.kept i h;
     homes = λ k c at. home k c at (call_came w s ok k);
   }
     where
       home : (k : ℕ) (c : Call) → get (after_word w s).calls k ≡ Some c → CallAfter a w s k →
           is_some (get (after_word w s).instances c.callee.instance) ≡ true
-      home k c at (Grown d e f g h) = let same : c.callee ≡ d.callee = cc in
-          rw same ((instance_came a w s ok d.callee.instance).there (q.homes k d f))
+      home k c at (Grown d e f g h) = let l = instance_stays w s d.callee.instance ∙ q.homes k d f in let c = h.callee in grind arith
       home k c at (NoCall e r) = absurd (cc)
-      home k c at (NewCall f e x g group is l m new) = let same : c.callee ≡ e = cc in
-          rw same ((instance_came a w s ok e.instance).there (q.kept e.instance (b.there e.instance (callee_there f e group s m.0))))
+      home k c at (NewCall f e x g group is l m new) =
+          let k = instance_stays w s e.instance ∙ q.kept e.instance (b.there e.instance (callee_there f e group s m.0)) in grind arith
 
 -- ---- Who begins to run, whatever stands at the marks
 
@@ -150,14 +141,10 @@ among_left : (ks : List ℕ) (i j : ℕ) → among j (less_one i ks) ≡ true �
 among_left [] i j h = absurd (cc)
 among_left (k ∷ ks) i j h = let rest = among_left ks i j in grind (arith, nat_tests)
 
-now_inside : (inside : List ℕ) (b : Option ℕ) (i : ℕ) → is_among (with_holder inside b) (Some i) ≡ true →
-    (b ≡ Some i) ⊎ (is_among inside (Some i) ≡ true)
-now_inside inside b i h = grind (arith, nat_tests)
-
 left_inside : (inside : List ℕ) (b r : Option ℕ) (i : ℕ) → is_among (less_holder (with_holder inside b) r) (Some i) ≡ true →
     ((b ≡ Some i) ⊎ (is_among inside (Some i) ≡ true)) × (r ≡ Some i → ⊥)
-left_inside inside b None i h = (now_inside inside b i h, λ e. absurd (cc))
-left_inside inside b (Some j) i h = let r = among_left (with_holder inside b) j i h in (now_inside inside b i r.0, λ e. r.1 (cc))
+left_inside inside b None i h = grind (arith, nat_tests)
+left_inside inside b (Some j) i h = let r = among_left (with_holder inside b) j i h in grind (arith, nat_tests)
 
 -- the instances of those inside are shut
 abbrev AllShut : List ℕ → Core → Type 0

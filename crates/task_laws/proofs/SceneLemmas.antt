@@ -1,7 +1,6 @@
 -- What is known of the thread that runs or is taken, as a step begins.
 use Rattle.task_rules.proofs.Machine.{ap, arith, base_at, base_without, Core, entries, Entry, HasPlace, is_there, IsRunner, Label, List, Mark, nat_tests, next_entry, Option, or_high, popped, refl, scene_of, set_high, set_low, set_switch, Setting, Some, State, switch_entries, thread_of_entry, true, Turn, ℕ, ◌≡◌, ◌≤◌, ◌⊎◌}
 use Rattle.task_laws.specs.Order.{InPlace}
-use Rattle.task_machine.specs.declared.records.Turn.TheVariants as turn
 
 -- ---- The core that a row reads
 
@@ -17,7 +16,7 @@ without_is o s = grind (arith, popped_is)
 
 -- it is that of the step, but for its marks
 pub base_is : (u : Turn) (s : Core) → base_at u s ≡ record s { queues = (base_at u s).queues }
-base_is (turn.Take ended) s = without_is (next_entry s) s
+base_is (Turn.Take ended) s = without_is (next_entry s) s
 base_is u s = refl
 
 -- ---- Who runs or is taken is there

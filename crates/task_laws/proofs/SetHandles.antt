@@ -1,11 +1,9 @@
 -- What handles name along the words of a step: those of sets name a set of their own instance, and no two name one set.
-use Rattle.task_rules.proofs.Machine.{add_call, add_group, add_set, add_thread, add_work, after_word, Allowed, arith, as_set, as_subtask, call_made, change, CloseSet, Core, count_work, filled, free_handle, free_thread_handle, fresh, get, get-empty, get-insert, get-remove, give_handle, give_result, give_thread_handle, giving, handle_of_table, NameCall, Named, named_by, NameWork, nat_tests, no_handles, None, on_call, on_instance, on_thread, on_work, OpenSet, Option, option_and_then, option_map, poll_pends, push_high, Records, refl, remove_call, remove_group, remove_set, remove_thread, remove_work, Scene, Set, set_at, set_backpressure, set_cancel_delivered, set_cancelled, set_course, set_do_not_enter, set_do_not_suspend, set_end, set_event, set_exited, set_how_far, set_join, set_own_event, set_phase, set_position, set_register, set_result, set_saved_callee, set_saved_own, set_script, set_stage, set_started, set_starting_published, set_subtask_handle, set_thread_handle, set_trapped, set_uninteresting, set_word, Setting, Some, State, Subtask, Table, take_result, taking, UnnameCall, UnnameWork, with_handle, with_thread_handle, Word, work_queued, ℕ, ◌+◌, ◌≡◌, ◌⊎◌}
+use Rattle.task_rules.proofs.Machine.{add_call, add_group, add_set, add_thread, add_work, after_word, Allowed, arith, as_set, as_subtask, call_made, change, CloseSet, Core, count_work, filled, free_handle, free_thread_handle, fresh, get, get-change, get-empty, get-insert, get-remove, give_handle, give_result, give_thread_handle, giving, handle_of_table, NameCall, Named, named_by, NameWork, nat_tests, no_handles, None, on_call, on_instance, on_thread, on_work, OpenSet, Option, option_and_then, option_map, poll_pends, push_high, Records, refl, remove_call, remove_group, remove_set, remove_thread, remove_work, Scene, Set, set_at, set_backpressure, set_cancel_delivered, set_cancelled, set_course, set_do_not_enter, set_do_not_suspend, set_end, set_event, set_exited, set_how_far, set_join, set_own_event, set_phase, set_position, set_register, set_result, set_saved_callee, set_saved_own, set_script, set_stage, set_started, set_starting_published, set_subtask_handle, set_thread_handle, set_trapped, set_uninteresting, set_word, Setting, Some, State, Subtask, Table, take_result, taking, UnnameCall, UnnameWork, with_handle, with_thread_handle, Word, work_queued, ℕ, ◌+◌, ◌≡◌, ◌⊎◌}
 use Rattle.task_laws.proofs.ReachLemmas.{filled_with, reached_kept}
 use Rattle.task_laws.specs.Order.{SetsNamed}
 use Rattle.task_laws.specs.Handles.{SetsNamedAtHome, SetsNamedOnce}
 use Rattle.task_laws.specs.Settings.{Reached}
-use Rattle.task_machine.proofs.CommuteLemmas.{get-change}
-use Rattle.task_machine.specs.declared.records.Named.TheVariants as named
 
 -- what a handle names, and of which instance a set is, in these tables
 abbrev pub set_in : Records (Table Named) → ℕ → ℕ → Option ℕ
@@ -50,9 +48,9 @@ sets_named_word a (OpenSet i) s ok q = record {
       grind (arith, q.number j g x, q.number l h x, q.once j l g h x);
 }
   where
-    new : (j g x : ℕ) → set_in (change i (giving (named.Set (s.made.sets + 1))) s.handles) j g ≡ Some x →
+    new : (j g x : ℕ) → set_in (change i (giving (Named.Set (s.made.sets + 1))) s.handles) j g ≡ Some x →
         (set_at j g s ≡ Some x) ⊎ ((Some (s.made.sets + 1) ≡ Some x) × ((j ≡ i) × (g ≡ handle_of_table s.handles i)))
-    new j g x e = given_names as_set s.handles i (named.Set (s.made.sets + 1)) j g x e
+    new j g x e = given_names as_set s.handles i (Named.Set (s.made.sets + 1)) j g x e
 sets_named_word a (CloseSet i h y) s ok q = record {
   number = λ j g x e. q.number j g x (old j g x e).0;
   home = λ j g x e. let o = old j g x e in grind (arith, nat_tests, get-remove, q.home j g x, q.once j i g h x);
@@ -85,7 +83,9 @@ reached_sets : {x : Setting} {s : State} → Reached x s → SetsNamed s.core
 reached_sets r = reached_kept SetsNamed opening_sets sets_named_word r
 
 pub sets_named_at_home : SetsNamedAtHome
+unfolding SetsNamedAtHome
 sets_named_at_home x s r i h n at = let home = (reached_sets r).home i h n at in grind arith
 
 pub sets_named_once : SetsNamedOnce
+unfolding SetsNamedOnce
 sets_named_once x s r = (reached_sets r).once

@@ -1,13 +1,10 @@
 -- Each call that a handle names, or that an op under way is about, was made as a call: along the words of a step.
-use Rattle.task_rules.proofs.Machine.{add_call, add_group, add_set, add_thread, add_work, after_word, Allowed, ap, arith, as_subtask, ByHandle, ByOp, call_made, change, CloseSet, Core, count_work, free_handle, free_thread_handle, fresh, get-empty, get-remove, give_handle, give_result, give_thread_handle, giving, HasSubtask, HowFar, IfSome, inl, inr, IsNew, MayCome, NameCall, Named, named_by, NameWork, nat_tests, on_call, on_instance, on_thread, on_work, OpenSet, option_and_then, poll_pends, push_high, refl, remove_call, remove_group, remove_set, remove_thread, remove_work, Scene, set_backpressure, set_cancel_delivered, set_cancelled, set_course, set_do_not_enter, set_do_not_suspend, set_end, set_event, set_exited, set_how_far, set_join, set_own_event, set_phase, set_position, set_register, set_result, set_saved_callee, set_saved_own, set_script, set_stage, set_started, set_starting_published, set_subtask_handle, set_thread_handle, set_trapped, set_uninteresting, set_word, Some, Subtask, subtask_at, subtask_under_way, take_result, Thread, UnnameCall, UnnameWork, with_handle, with_thread_handle, Word, work_queued, ℕ, ⊎_elim, ◌+◌, ◌≡◌, ◌⊎◌}
+use Rattle.task_rules.proofs.Machine.{add_call, add_group, add_set, add_thread, add_work, after_word, Allowed, ap, arith, as_subtask, ByHandle, ByOp, call_made, change, CloseSet, Core, count_work, free_handle, free_thread_handle, fresh, get-change, get-empty, get-remove, give_handle, give_result, give_thread_handle, giving, HasSubtask, HowFar, IfSome, inl, inr, IsNew, MayCome, NameCall, Named, named_by, NameWork, nat_tests, on_call, on_instance, on_thread, on_work, OpenSet, option_and_then, poll_pends, push_high, refl, remove_call, remove_group, remove_set, remove_thread, remove_work, Scene, set_backpressure, set_cancel_delivered, set_cancelled, set_course, set_do_not_enter, set_do_not_suspend, set_end, set_event, set_exited, set_how_far, set_join, set_own_event, set_phase, set_position, set_register, set_result, set_saved_callee, set_saved_own, set_script, set_stage, set_started, set_starting_published, set_subtask_handle, set_thread_handle, set_trapped, set_uninteresting, set_word, Some, Subtask, subtask_at, subtask_under_way, take_result, Thread, UnnameCall, UnnameWork, with_handle, with_thread_handle, Word, work_queued, ℕ, ⊎_elim, ◌+◌, ◌≡◌, ◌⊎◌}
 use Rattle.task_laws.proofs.CallsCame.{ThreadAfter, op_came, thread_came}
 use Rattle.task_laws.proofs.CountLemmas.{made_threads_word}
 use Rattle.task_laws.proofs.SetHandles.{given_names, none_named}
 use Rattle.task_laws.specs.Order.{CallsNamed, WasCall}
-use Rattle.task_machine.proofs.CommuteLemmas.{get-change}
-use Rattle.task_machine.specs.declared.records.HowFar.TheVariants as how_far
-use Rattle.task_machine.specs.declared.records.Named.TheVariants as named
-use Rattle.task_machine.specs.declared.records.Subtask.TheVariants as subtask
+use Rattle.task_rules.proofs.WalkParts.{cancels_own}
 
 -- a subtask of the thread, or a new one
 abbrev Known : Scene → Core → Subtask → Type 0
@@ -15,8 +12,8 @@ Known a s sub = (n : ℕ) × (HasSubtask a n sub ⊎ IsNew a sub s)
 
 -- this word names it
 abbrev pub NamedNow : Scene → Core → Subtask → Type 0
-NamedNow a s (subtask.Guest k) = (j : ℕ) × Allowed a (NameCall j k) s
-NamedNow a s (subtask.Host i) = (j : ℕ) × Allowed a (NameWork j i) s
+NamedNow a s (Subtask.Guest k) = (j : ℕ) × Allowed a (NameCall j k) s
+NamedNow a s (Subtask.Host i) = (j : ℕ) × Allowed a (NameWork j i) s
 
 -- ---- What a word names, and what an op comes to
 
@@ -27,24 +24,24 @@ module _ (a : Scene) (s : Core) where
 
   pub handle_named : (w : Word) → Allowed a w s → (i h : ℕ) (sub : Subtask) → subtask_at i h (after_word w s) ≡ Some sub → (subtask_at i h s ≡ Some sub) ⊎ NamedNow a s sub
   unfolding on_thread add_group add_set add_work count_work free_handle free_thread_handle give_handle give_result give_thread_handle on_call on_instance on_work push_high remove_call remove_group remove_set remove_work remove_thread set_backpressure set_cancel_delivered set_cancelled set_course set_do_not_enter set_do_not_suspend set_end set_event set_exited set_how_far set_join set_own_event set_phase set_position set_register set_result set_saved_callee set_saved_own set_script set_stage set_started set_starting_published set_subtask_handle set_thread_handle set_trapped set_uninteresting set_word take_result call_made add_call add_thread with_handle with_thread_handle work_queued poll_pends
-  handle_named (NameCall j k) ok i h sub e = given_named j (named.Subtask (subtask.Guest k)) i h sub (j, ok) e
-  handle_named (NameWork j k) ok i h sub e = given_named j (named.Subtask (subtask.Host k)) i h sub (j, ok) e
-  handle_named (OpenSet j) ok i h sub e = given_named j (named.Set (s.made.sets + 1)) i h sub tt e
+  handle_named (NameCall j k) ok i h sub e = given_named j (Named.Subtask (Subtask.Guest k)) i h sub (j, ok) e
+  handle_named (NameWork j k) ok i h sub e = given_named j (Named.Subtask (Subtask.Host k)) i h sub (j, ok) e
+  handle_named (OpenSet j) ok i h sub e = given_named j (Named.Set (s.made.sets + 1)) i h sub tt e
   handle_named (UnnameCall j g k) ok i h sub e = inl (grind (arith, nat_tests, get-change, get-remove))
   handle_named (UnnameWork j g k) ok i h sub e = inl (grind (arith, nat_tests, get-change, get-remove))
   handle_named (CloseSet j g x) ok i h sub e = inl (grind (arith, nat_tests, get-change, get-remove))
   handle_named w ok i h sub e = inl e
 
   named_known : (sub : Subtask) → NamedNow a s sub → Known a s sub
-  named_known (subtask.Guest k) now = (now.1.0, inl (ByOp (ap (λ f. subtask_under_way f) now.1.1.1.1.0)))
-  named_known (subtask.Host i) now = (now.1.0.0, now.1.0.1.1.1)
+  named_known (Subtask.Guest k) now = (now.1.0, inl (ByOp (ap (λ f. subtask_under_way f) now.1.1.1.1.0)))
+  named_known (Subtask.Host i) now = (now.1.0.0, now.1.0.1.1.1)
 
   come_known : (n : ℕ) (f : HowFar) → MayCome a n f s → IfSome (subtask_under_way f) (Known a s)
-  come_known n (how_far.Calls (subtask.Guest k)) (is, inl was) = (n, inl (ByOp (ap (λ f. subtask_under_way f) was.0)))
-  come_known n (how_far.Calls (subtask.Guest k)) (is, inr new) = (n, inr new.0)
-  come_known n (how_far.Calls (subtask.Host i)) ok = (n, inr ok.1.0)
-  come_known n (how_far.Cancels sub) ok = (n, inl ok.1)
-  come_known n (how_far.AwaitsEnd sub) ok = (n, inl ok.1)
+  come_known n (HowFar.Calls (Subtask.Guest k)) (is, inl was) = (n, inl (ByOp (ap (λ f. subtask_under_way f) was.0)))
+  come_known n (HowFar.Calls (Subtask.Guest k)) (is, inr new) = (n, inr new.0)
+  come_known n (HowFar.Calls (Subtask.Host i)) ok = (n, inr ok.1.0)
+  come_known n (HowFar.Cancels sub) ok = (n, inl (cancels_own a n sub ok.1))
+  come_known n (HowFar.AwaitsEnd sub) ok = (n, inl (cancels_own a n sub ok.1))
   come_known n f ok = tt
 
 -- ---- Calls that were made
@@ -61,7 +58,7 @@ pub record Traced (a : Scene) (s : Core) : Type 0 where
   pub named : CallsNamed s
 
 module _ (a : Scene) (known : CallsNamed a.base) (s : Core) (q : Traced a s) where
-  known_made : (k : ℕ) → Known a s (subtask.Guest k) → WasCall s k
+  known_made : (k : ℕ) → Known a s (Subtask.Guest k) → WasCall s k
   known_made k (n, inl (ByHandle h e)) = q.was k (known.by_handle _ h k e)
   known_made k (n, inl (ByOp e)) = q.was k (known.by_op n k e)
   known_made k (n, inr new) = record { number = grind arith; first = new.1.1 }
@@ -70,8 +67,8 @@ module _ (a : Scene) (known : CallsNamed a.base) (s : Core) (q : Traced a s) whe
   traced_word w ok = record {
     was = λ k h. was_word a w s ok k (q.was k h);
     named = record {
-      by_handle = λ i h k e. was_word a w s ok k (⊎_elim (q.named.by_handle i h k) (λ now. known_made k (named_known a s (subtask.Guest k) now)) (handle_named a s w ok i h (subtask.Guest k) e));
-      by_op = λ n k e. was_word a w s ok k (⊎_elim (q.named.by_op n k) (λ g. known_made k (rw g.1.1 at (come_known a s n g.0 g.1.0))) (op_came (λ f. subtask_under_way f) (subtask.Guest k) w s ok n refl e));
+      by_handle = λ i h k e. was_word a w s ok k (⊎_elim (q.named.by_handle i h k) (λ now. known_made k (named_known a s (Subtask.Guest k) now)) (handle_named a s w ok i h (Subtask.Guest k) e));
+      by_op = λ n k e. was_word a w s ok k (⊎_elim (q.named.by_op n k) (λ g. known_made k (rw g.1.1 at (come_known a s n g.0 g.1.0))) (op_came (λ f. subtask_under_way f) (Subtask.Guest k) w s ok n refl e));
     };
   }
 

@@ -1,48 +1,27 @@
 -- Sync calls of hosts: along the words of a step the work of a thread inside one is the thread's.
-use Rattle.task_machine.proofs.CommuteLemmas.{get-change}
-use Rattle.task_rules.proofs.Machine.{add_call, add_group, add_set, add_thread, add_work, after_word, Allowed, ap, arith, call_made, Core, count_work, free_handle, free_thread_handle, fresh, get-empty, get-insert, get-remove, give_handle, give_result, give_thread_handle, how_far_of, HowFar, inl, inr, instance_of, Mark, MayCome, MayRemoveWork, nat_tests, None, on_call, on_instance, on_thread, on_work, Option, poll_pends, popped, push_high, refl, remove_call, remove_group, remove_set, remove_thread, remove_work, RemoveWork, Scene, set_backpressure, set_cancel_delivered, set_cancelled, set_course, set_do_not_enter, set_do_not_suspend, set_end, set_event, set_exited, set_high, set_how_far, set_join, set_low, set_own_event, set_phase, set_position, set_register, set_result, set_saved_callee, set_saved_own, set_script, set_stage, set_started, set_starting_published, set_subtask_handle, set_switch, set_thread_handle, set_trapped, set_uninteresting, set_word, Some, take_result, TakeHost, TakePush, with_handle, with_thread_handle, Word, work_caller_of, work_queued, ℕ, ⊎_elim, ◌≡◌, ◌≤◌, ◌⊎◌}
+use Rattle.task_rules.proofs.Machine.{after_word, Allowed, ap, arith, Core, fresh, get-empty, how_far_of, HowFar, inl, inr, instance_of, MayCome, MayRemoveWork, None, Option, refl, Scene, Some, Subtask, Word, work_caller_of, WorkCaller, ℕ, ⊎_elim, ◌∙◌, ◌≡◌, ◌≤◌, ◌⊎◌}
 use Rattle.task_laws.proofs.Basics.{too_high}
 use Rattle.task_laws.proofs.CallsCame.{op_came}
-use Rattle.task_laws.proofs.NamedWorks.{NamesNoSync, caller_is}
-use Rattle.task_laws.proofs.Works.{doing_there, Doing, WorksGo, doing_of}
+use Rattle.task_laws.proofs.NamedWorks.{NamesNoSync, caller_stays}
+use Rattle.task_laws.proofs.WorksCame.{Doing, doing_of}
+use Rattle.task_laws.proofs.Works.{doing_there, WorksGo, number_of}
 use Rattle.task_laws.specs.Ends.{MayBeAborted}
-use Rattle.task_machine.specs.declared.records.HowFar.TheVariants as how_far
-use Rattle.task_machine.specs.declared.records.Subtask.TheVariants as subtask
-use Rattle.task_machine.specs.declared.records.WorkCaller.TheVariants as work_caller
-use Rattle.task_machine.specs.declared.words.Mark.TheVariants as mark
-use Rattle.task_rules.proofs.StandLemmas.{by_number}
 
 -- the work of a thread inside a sync call of a host is the thread's
 abbrev pub CallersKnown : Core → Type 0
-CallersKnown s = (n i : ℕ) → how_far_of n s ≡ how_far.Calls (subtask.Host i) → work_caller_of i s ≡ work_caller.Sync n
+CallersKnown s = (n i : ℕ) → how_far_of n s ≡ HowFar.Calls (Subtask.Host i) → work_caller_of i s ≡ WorkCaller.Sync n
 
 abbrev called_work : HowFar → Option ℕ
-called_work (how_far.Calls (subtask.Host i)) = Some i
+called_work (HowFar.Calls (Subtask.Host i)) = Some i
 called_work f = None
 
-calls_work : (f : HowFar) (i : ℕ) → called_work f ≡ Some i → f ≡ how_far.Calls (subtask.Host i)
+calls_work : (f : HowFar) (i : ℕ) → called_work f ≡ Some i → f ≡ HowFar.Calls (Subtask.Host i)
 calls_work f i h = grind arith
 
 -- a sync call's work is there
-sync_there : (i n : ℕ) (s : Core) → work_caller_of i s ≡ work_caller.Sync n →
-    (v : Doing) × ((doing_of i s ≡ Some v) × (v.caller ≡ work_caller.Sync n))
+sync_there : (i n : ℕ) (s : Core) → work_caller_of i s ≡ WorkCaller.Sync n →
+    (v : Doing) × ((doing_of i s ≡ Some v) × (v.caller ≡ WorkCaller.Sync n))
 sync_there i n s h = let v = doing_there i s (grind arith) in let at = v.1 in (v.0, (at, grind arith))
-
-popped_works : (m : Mark) (s : Core) → (popped m s).works ≡ s.works
-unfolding popped set_switch set_high set_low
-popped_works mark.Switch s = refl
-popped_works mark.High s = refl
-popped_works mark.Low s = refl
-
-caller_stays : (a : Scene) (w : Word) (s : Core) → Allowed a w s → (i n : ℕ) → i ≤ s.made.works → work_caller_of i s ≡ work_caller.Sync n →
-    (work_caller_of i (after_word w s) ≡ work_caller.Sync n) ⊎ MayRemoveWork a i s
-unfolding add_call add_group add_set add_thread add_work count_work free_handle free_thread_handle give_handle give_result give_thread_handle on_call on_instance on_thread on_work push_high remove_call remove_group remove_set remove_thread remove_work set_backpressure set_cancel_delivered set_cancelled set_course set_do_not_enter set_do_not_suspend set_end set_event set_exited set_how_far set_join set_own_event set_phase set_position set_register set_result set_saved_callee set_saved_own set_script set_stage set_started set_starting_published set_subtask_handle set_thread_handle set_trapped set_uninteresting set_word take_result call_made with_handle with_thread_handle work_queued poll_pends
-caller_stays a (RemoveWork j) s ok i n below at = by_number j i ((work_caller_of i (after_word (RemoveWork j) s) ≡ work_caller.Sync n) ⊎
-    MayRemoveWork a i s)
-    (λ e. inr (rw e at ok)) (λ e. inl (grind (arith, nat_tests, get-remove, e)))
-caller_stays a (TakePush m j) s ok i n below at = let e = popped_works m s in inl (grind (arith, nat_tests, get-change))
-caller_stays a (TakeHost m j) s ok i n below at = let e = popped_works m s in inl (grind (arith, nat_tests, get-change))
-caller_stays a w s ok i n below at = inl (grind (arith, nat_tests, get-change, get-insert))
 
 module _ {S : Type 0} (a : Scene) (low : (i : ℕ) (v : Doing) → doing_of i a.base ≡ Some v → i ≤ a.base.made.works)
     (base : CallersKnown a.base) (names : NamesNoSync a.base) (w : Word) (s : Core) (ok : Allowed a w s) (q : WorksGo S a s)
@@ -52,23 +31,22 @@ module _ {S : Type 0} (a : Scene) (low : (i : ℕ) (v : Doing) → doing_of i a.
   old i (m, (runner, inr (ended, (free, (over, (h, named)))))) = (names (instance_of m a.base) h i named).made
 
   -- that of a thread inside the call isn't removed
-  removed : (n i : ℕ) → work_caller_of i s ≡ work_caller.Sync n → (how_far_of n s ≡ how_far.Fresh → ⊥) → MayRemoveWork a i s → ⊥
+  removed : (n i : ℕ) → work_caller_of i s ≡ WorkCaller.Sync n → (how_far_of n s ≡ HowFar.Fresh → ⊥) → MayRemoveWork a i s → ⊥
   removed n i caller inside (m, (runner, inl (far, fresh))) =
-      let r = sync_there i n s caller in let was = q.was i r.0 r.1.0 (old i (m, (runner, inl (far, fresh)))) in
-      let first = base m i far in let before = caller_is i a.base was.before was.there in let kept = was.caller in let now = r.1.1 in
-      let same : m ≡ n = cc in inside (rw same at fresh)
+      let was = q.was i (old i (m, (runner, inl (far, fresh)))) in let first = base m i far in
+      let same : m ≡ n = grind arith in inside (rw same at fresh)
   removed n i caller inside (m, (runner, inr (ended, (free, (over, (h, named)))))) =
       let other = (kept i (names (instance_of m a.base) h i named)).other in absurd (grind arith)
 
   pub callers_word : CallersKnown s → CallersKnown (after_word w s)
   callers_word c n i far = go (op_came called_work i w s ok n refl (ap called_work far))
     where
-      on : work_caller_of i s ≡ work_caller.Sync n → (MayRemoveWork a i s → ⊥) → work_caller_of i (after_word w s) ≡ work_caller.Sync n
+      on : work_caller_of i s ≡ WorkCaller.Sync n → (MayRemoveWork a i s → ⊥) → work_caller_of i (after_word w s) ≡ WorkCaller.Sync n
       on at not = let r = sync_there i n s at in
-          ⊎_elim (λ e. e) (λ may. absurd (not may)) (caller_stays a w s ok i n (q.holds.works i r.0 r.1.0).number at)
+          ⊎_elim (λ e. e ∙ at) (λ gone. absurd (not gone.0)) (caller_stays a w s ok i (number_of q.holds i r.0 r.1.0))
 
       go : (called_work (how_far_of n s) ≡ Some i) ⊎ ((g : HowFar) × (MayCome a n g s × (called_work g ≡ Some i))) →
-          work_caller_of i (after_word w s) ≡ work_caller.Sync n
+          work_caller_of i (after_word w s) ≡ WorkCaller.Sync n
       go (inl was) = let caller = c n i (calls_work (how_far_of n s) i was) in on caller (removed n i caller (λ e. absurd (cc)))
       go (inr (g, (come, is))) = let m = rw (calls_work g i is) at come in on m.1.1.0 (λ may. too_high m.1.0.0 (old i may))
 

@@ -4,8 +4,6 @@ use Rattle.task_laws.proofs.Basics.{above}
 use Rattle.task_laws.proofs.CallsCame.{op_came}
 use Rattle.task_laws.proofs.CameLemmas.{Came, Comes, MayStand, Moved, Shifts, Turned, Turns, came_word}
 use Rattle.task_laws.specs.Order.{IsOf, SetsNamed, WaitsAtHome, set_of_op, set_of_place, set_of_why}
-use Rattle.task_machine.specs.declared.records.HowFar.TheVariants as how_far
-use Rattle.task_machine.specs.declared.records.Place.TheVariants as place
 
 -- ---- Sets
 
@@ -27,7 +25,7 @@ Brings a n x = IsRunner a n × (HasSet a n x ⊎ (set_at_place (place_of n a.bas
 put_set : (s : Core) (n : ℕ) (w : Why) → MayPut n w s → IfSome (set_of_why w) (λ x. set_at_place (place_of n s) ≡ Some x)
 put_set s n w ok = grind arith
 
-ready_set : (w : Why) (o : Option Place) → (m : Mark) × (o ≡ Some (place.Ready m w)) → IfSome (set_of_why w) (λ x. set_at_place o ≡ Some x)
+ready_set : (w : Why) (o : Option Place) → (m : Mark) × (o ≡ Some (Place.Ready m w)) → IfSome (set_of_why w) (λ x. set_at_place o ≡ Some x)
 ready_set w o was = grind arith
 
 yield_set : (a : Scene) (n : ℕ) (w : Why) → MayYield a n w → IfSome (set_of_why w) (Brings a n)
@@ -56,7 +54,7 @@ move_set a s n p (Suspends l e) = rw e tt
 move_set a s n p (Uncovers m r l at gone e) = rw e tt
 
 come_set : (a : Scene) (s : Core) (n : ℕ) (g : HowFar) → MayCome a n g s → IfSome (set_of_op g) (Brings a n)
-come_set a s n (how_far.Waits x) ok = (ok.0, inl ok.1)
+come_set a s n (HowFar.Waits x) ok = (ok.0, inl ok.1)
 come_set a s n g ok = tt
 
 shifted_set : (may : Why → Type 0) (x : ℕ) (o p : Option Place) → Moved may o p → set_at_place p ≡ Some x →

@@ -1,107 +1,67 @@
 -- The laws of the ends of calls and works that hold by each step alone.
-use Rattle.task_rules.proofs.Machine.{[], Answers, arith, base_at, Bool, changes_end, end_for, EndWords, event_of, false, get, HandsAtOnce, HandsOut, inl, inr, is_some, Label, List, None, opening, refl, Run, scene_of, Setting, Some, State, Status, Step, Subtask, TakesEvent, TakesResult, true, Turn, undelivered_end, Walked, WritesToo, written_by, ◌∷◌, ◌≡◌, ◌⊎◌}
+use Rattle.task_rules.proofs.Machine.{Answers, arith, base_at, Bool, changes_end, end_for, EndWords, event_of, false, get, HandsAtOnce, HandsOut, inl, inr, is_some, Label, None, refl, Setting, Some, State, Status, Step, Subtask, TakesEvent, TakesResult, true, Turn, undelivered_end, Walked, WritesToo, written_by, ◌≡◌, ◌⊎◌}
 use Rattle.task_laws.specs.Written.{EndsHandedAsTold, EndsWrittenOnce, NewEndsAreSaid, NewResultsAreSaid, NoEndIsCovered, WrittenEndsAreNew}
-use Rattle.task_laws.proofs.GuestEnds.{CallsKnown, events_come, guest_changes, guest_covers, guest_is, guest_stays, results_come, written_new}
-use Rattle.task_laws.proofs.HostEnds.{host_changes, host_stays}
-use Rattle.task_laws.proofs.OnceLemmas.{Over, counts_once}
 use Rattle.task_laws.proofs.Works.{WorksHold, opening_works, works_go}
-use Rattle.task_laws.proofs.CallEnds.{EndsTold, ends_go, reached_ends_told}
-use Rattle.task_laws.proofs.CallsLaw.{CallsHold}
-use Rattle.task_laws.proofs.CallsSteps.{plain, plain_scene, calls_begin, of_base, opening_holds, reached_holds, step_goes}
+use Rattle.task_laws.proofs.CallEnds.{reached_ends_told}
+use Rattle.task_laws.proofs.CallsSteps.{plain, plain_scene, reached_holds}
 use Rattle.task_laws.proofs.SaidEnds.{hands_at, said_plain}
-use Rattle.task_laws.specs.Settings.{CodesInCallbacks, Reached}
-use Rattle.task_rules.proofs.LawLemmas.{never_fewer}
+use Rattle.task_laws.specs.Settings.{Reached}
 use Rattle.task_rules.proofs.WalkSteps.{step_walks}
-use Rattle.task_machine.specs.declared.records.Subtask.TheVariants as subtask
-use Rattle.task_machine.specs.declared.words.Status.TheVariants as status
+use Rattle.task_laws.proofs.OnceLemmas.{Keeps, Over, counts_once, over_changes, over_stays}
+use Rattle.task_laws.proofs.StepEnds.{events_come, guest_covers, keeps_call, host_keeps, results_come, written_new}
+use Rattle.task_laws.proofs.ReachLemmas.{reached_keeps, reached_step}
 
 -- ---- What a label says of calls
 
-module _ (x : Setting) (s : State) (l : Label) (t : State) (r : Reached x s) (step : Step x s l t) where
-  abbrev w : Walked x s l t
-  w = step_walks x s l t step
-
-  known : CallsKnown x s t.core (scene_of x s l w.next)
-  known = let h = reached_holds r in let q = reached_ends_told r in let g = ends_go r.scripts h q w in record {
-    base = (calls_begin x s l w.next h).0;
-    told_base = of_base EndsTold s.turn s.core (record { goals = q.goals; events = q.events; results = q.results });
-    before = h;
-    go = g.0;
-    ends = g.1.0;
-    told = g.1.1;
-    rises = (step_goes x s l t r.scripts h step).1;
-    made = (never_fewer x s l t step).threads;
-    says = w.ends.says;
-  }
-
 pub new_ends_are_said : NewEndsAreSaid
-new_ends_are_said x s l t r step = events_come x s l t (w x s l t r step).next r.scripts (known x s l t r step)
+unfolding NewEndsAreSaid
+new_ends_are_said x s l t r step = events_come x s l t r.scripts (reached_holds r) (reached_ends_told r) step (step_walks x s l t step)
 
 pub new_results_are_said : NewResultsAreSaid
-new_results_are_said x s l t r step = results_come x s l t (w x s l t r step).next r.scripts (known x s l t r step)
+new_results_are_said x s l t r step = results_come x s l t r.scripts (reached_holds r) (reached_ends_told r) step (step_walks x s l t step)
 
 pub no_end_is_covered : NoEndIsCovered
-no_end_is_covered x s l t r step k = let c = guest_covers x s l t (w x s l t r step).next r.scripts (known x s l t r step) k in false_of _ c
+unfolding NoEndIsCovered
+no_end_is_covered x s l t r step k =
+    false_of _ (guest_covers x s l t r.scripts (reached_holds r) (reached_ends_told r) step (step_walks x s l t step) k)
   where
     false_of : (b : Bool) → (b ≡ true → ⊥) → b ≡ false
     false_of b not = grind arith
 
 pub written_ends_are_new : WrittenEndsAreNew
-written_ends_are_new x s l t r step = written_new x s l t (w x s l t r step).next r.scripts (known x s l t r step)
+written_ends_are_new x s l t r step = written_new x s l t r.scripts (reached_holds r) (reached_ends_told r) step (step_walks x s l t step)
 
 pub ends_handed_as_told : EndsHandedAsTold
+unfolding EndsHandedAsTold
 ends_handed_as_told x s l t step k e out =
     let q : Walked x s l t = step_walks x s l t step in
     let says = plain x s l q.next (λ a. EndWords a t.core) q.ends.says in
     by q.next _ e refl (says.hands _ e (hands_at x.component s.main s.core (base_at s.turn s.core).queues t.core l _ out))
   where
-    by : (next : Turn) (sub : Subtask) (f : Status) → sub ≡ subtask.Guest k → HandsOut (plain_scene x s l next) t.core sub f →
-        ((undelivered_end (event_of (subtask.Guest k) s.core) ≡ Some f) × (undelivered_end (event_of (subtask.Guest k) t.core) ≡ None)) ⊎
-        (((is_some (get s.core.results k) ≡ true) × ((f ≡ status.Returned) × (get t.core.results k ≡ None))) ⊎
-        (written_by x.component s.core l t.core ≡ Some (end_for f (subtask.Guest k))))
+    by : (next : Turn) (sub : Subtask) (f : Status) → sub ≡ Subtask.Guest k → HandsOut (plain_scene x s l next) t.core sub f →
+        ((undelivered_end (event_of (Subtask.Guest k) s.core) ≡ Some f) × (undelivered_end (event_of (Subtask.Guest k) t.core) ≡ None)) ⊎
+        (((is_some (get s.core.results k) ≡ true) × ((f ≡ Status.Returned) × (get t.core.results k ≡ None))) ⊎
+        (written_by x.component s.core l t.core ≡ Some (end_for f (Subtask.Guest k))))
     by next _ _ same (TakesEvent sub f had gone) = inl (rw same at had, rw same at gone)
-    by next _ _ same (TakesResult j there gone) = inr (inl (rw (← guest_is same) (there, (refl, gone))))
-    by next _ _ same (WritesToo j f says why) = inr (inr (rw (← guest_is same) (said_plain x s l next t.core j f says)))
+    by next _ _ same (TakesResult j there gone) = inr (inl (let is : j ≡ k = cc in rw (← is) (there, (refl, gone))))
+    by next _ _ same (WritesToo j f says why) = inr (inr (let is : j ≡ k = cc in rw (← is) (said_plain x s l next t.core j f says)))
     by next _ _ same (HandsAtOnce i ready is) = absurd (cc)
     by next _ _ same (Answers n i runner far gone) = absurd (cc)
 
 -- ---- The end of each record
 
-record Holds (x : Setting) (s : State) : Type 0 where
-  calls : CallsHold x.component s.core
-  works : WorksHold ⊥ s.core
+reached_works : {x : Setting} {s : State} → Reached x s → WorksHold ⊥ s.core
+reached_works {x = x} r = reached_keeps r (λ s. WorksHold ⊥ s.core)
+    (λ s l t step h. (works_go x s l t (step_walks x s l t step) (λ no. absurd no) h).holds)
+    (opening_works r.instances r.handle_limit r.capacity)
 
-module _ (x : Setting) (codes : CodesInCallbacks x.component) where
-  holds_after : (s : State) (l : Label) (t : State) → Holds x s → Step x s l t → Holds x t
-  holds_after s l t h step = record {
-    calls = (step_goes x s l t codes h.calls step).0;
-    works =
-        (works_go x s l t (step_walks x s l t step) (λ no. absurd no) h.works).holds;
-  }
-
-  run_holds : (s : State) → Holds x s → (ls : List Label) (t : State) → Run x s ls t → Holds x t
-  run_holds s h [] t r = rw r h
-  run_holds s h (l ∷ ls) t r = run_holds r.0 (holds_after s l r.0 h r.1.0) ls t r.1.1
-
-  changes_over : (sub : Subtask) (s : State) (l : Label) (t : State) → Holds x s → Step x s l t → changes_end sub
-      (record { before = s; label = l; after = t }) ≡ true → (Over sub s.core → ⊥) × Over sub t.core
-  changes_over (subtask.Guest k) s l t h step = guest_changes s.core t.core h.calls.numbered (step_goes x s l t codes h.calls step).1
-      (never_fewer x s l t step).threads k
-  changes_over (subtask.Host i) s l t h step = let w = step_walks x s l t step in host_changes ⊥ x s l t w.next h.works
-      (works_go x s l t w (λ no. absurd no) h.works) i
-
-  over_kept : (sub : Subtask) (s : State) (l : Label) (t : State) → Holds x s → Step x s l t → Over sub s.core → Over sub t.core
-  over_kept (subtask.Guest k) s l t h step = guest_stays s.core t.core h.calls.numbered (step_goes x s l t codes h.calls step).1
-      (never_fewer x s l t step).threads k
-  over_kept (subtask.Host i) s l t h step = let w = step_walks x s l t step in host_stays ⊥ x s l t w.next h.works
-      (works_go x s l t w (λ no. absurd no) h.works) i
+keeps : (x : Setting) (s : State) (l : Label) (t : State) → Reached x s → Step x s l t → (sub : Subtask) → Keeps s.core t.core sub
+keeps x s l t r step (Subtask.Guest k) =
+    keeps_call x s l t r.scripts (reached_holds r) (reached_ends_told r) step (step_walks x s l t step) k
+keeps x s l t r step (Subtask.Host i) = let w = step_walks x s l t step in let h = reached_works r in
+    host_keeps x s l t w.next h (works_go x s l t w (λ no. absurd no) h) i
 
 pub ends_written_once : EndsWrittenOnce
-ends_written_once x s ls t r run sub =
-    let begun = opening r.instances r.handle_limit r.capacity r.main in
-    let first : Holds x begun = record {
-      calls = opening_holds x.component r.instances r.handle_limit r.capacity;
-      works = opening_works r.instances r.handle_limit r.capacity;
-    } in
-    counts_once x (Holds x) (holds_after x r.scripts) (changes_end sub) (Over sub) (changes_over x r.scripts sub) (over_kept x r.scripts sub) s
-    (run_holds x r.scripts begun first r.labels s r.run) ls t run
+unfolding EndsWrittenOnce
+ends_written_once x s ls t r run sub = counts_once x (Reached x) (λ s l t r step. reached_step s l t r step) (changes_end sub) (Over sub)
+    (λ s l t r step. let q = keeps x s l t r step sub in (over_changes q, over_stays q)) s r ls t run

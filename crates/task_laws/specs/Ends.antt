@@ -1,11 +1,8 @@
 -- What is asked of a state where the ends of calls and works are once: what handles and main name.
-use Rattle.std.specs.Prelude.{Bool, Some, false, is_some, true, ℕ, ◌≡◌, ◌≤◌}
+use Rattle.std.specs.Prelude.{Bool, Some, false, true, ℕ, ◌≡◌, ◌≤◌}
 use Rattle.task_machine.specs.Core.{Core, MainPlace, Scripted, State}
-use Rattle.task_machine.specs.Maps.{get}
-use Rattle.task_machine.specs.Read.{how_far_of, subtask_at, work_caller_of}
-use Rattle.task_machine.specs.declared.records.HowFar.TheVariants as how_far
+use Rattle.task_machine.specs.Read.{subtask_at, work_caller_of}
 use Rattle.task_machine.specs.declared.records.Subtask.TheVariants as subtask
-use Rattle.task_machine.specs.declared.records.Turn.TheVariants as turn
 use Rattle.task_machine.specs.declared.records.WorkCaller.{WorkCaller}
 use Rattle.task_machine.specs.declared.records.WorkCaller.TheVariants as work_caller
 use Rattle.task_rules.specs.MainOps.{spawned_at}
@@ -23,8 +20,3 @@ pub record MayBeAborted (s : Core) (i : ℕ) : Type 0 where
 pub record SyncUnnamed (s : State) : Type 0 where
   pub works : (i h j : ℕ) → subtask_at i h s.core ≡ Some (subtask.Host j) → MayBeAborted s.core j
   pub spawns : (p : MainPlace) (k : ℕ) → s.main ≡ Scripted p → MayBeAborted s.core (spawned_at p k)
-
--- the call that the running thread's op is inside of is there
-abbrev pub CalledThere : State → Type 0
-CalledThere s = (n k : ℕ) → s.turn ≡ turn.Run n → how_far_of n s.core ≡ how_far.Calls (subtask.Guest k) →
-    is_some (get s.core.calls k) ≡ true

@@ -7,14 +7,22 @@ use Rattle.task_machine.specs.declared.records.Entry.{Entry}
 use Rattle.task_machine.specs.declared.records.Subtask.{Subtask}
 use Rattle.task_machine.specs.declared.records.Named.{Named}
 use Rattle.task_rules.specs.Allowed.{subtask_under_way}
-use Rattle.std.specs.Prelude.{Bool, None, Option, Some, false, is_none, is_some, option_and_then, option_map, true, ℕ, ◌+◌, ◌≡◌, ◌≤◌, length, List, [], ◌∷◌, ◌==◌, ◌⊎◌}
+use Rattle.std.specs.Prelude.{Bool, None, Option, Some, false, is_none, is_some, option_and_then, option_map, true, ℕ, ◌+◌, ◌≡◌, ◌≤◌, length, List, [], ◌∷◌, ◌==◌, ◌⊎◌, ◌&&◌, ◌||◌, not}
 use Rattle.task_laws.specs.Settings.{CodesInCallbacks}
 use Rattle.task_machine.specs.Core.{Core, Main, State, Table}
 use Rattle.task_machine.specs.Maps.{get, size}
-use Rattle.task_machine.specs.Read.{call_instance, how_far_of, instance_of, is_async_lifted, is_callback, is_direct, is_explicit, goal_of, kind_of, place_of, task_of, set_at, subtask_at, join_of, is_stage_ended, stage_of}
+use Rattle.task_machine.specs.Read.{call_instance, how_far_of, instance_of, is_async_lifted, is_callback, is_direct, is_explicit, goal_of, kind_of, place_of, task_of, set_at, subtask_at, end_of, is_guest_call, subtask_handle, join_of, is_stage_ended, stage_of}
 use Rattle.task_machine.specs.declared.component.Component.{Component}
 use Rattle.task_machine.specs.declared.label.Label.{Label}
 use Rattle.task_machine.specs.declared.records.Call.{Call}
+use Rattle.task_machine.specs.declared.records.CallEnd.{CallEnd}
+use Rattle.task_machine.specs.declared.records.CallEnd.TheVariants as call_end
+use Rattle.task_machine.specs.declared.records.Caller.TheVariants as caller
+use Rattle.task_machine.specs.declared.words.OwnEvent.{OwnEvent}
+use Rattle.task_machine.specs.declared.words.OwnEvent.TheVariants as own
+use Rattle.task_machine.specs.declared.words.Status.{Status}
+use Rattle.task_machine.specs.declared.words.Status.TheVariants as status
+use Rattle.std.specs.Option.{option_map_or}
 use Rattle.task_machine.specs.declared.records.Delivery.TheVariants as delivery
 use Rattle.task_machine.specs.declared.records.HowFar.{HowFar}
 use Rattle.task_machine.specs.declared.records.HowFar.TheVariants as how_far
@@ -75,6 +83,50 @@ pub record WasCall (s : Core) (k : ℕ) : Type 0 where
 pub record CallsNamed (s : Core) : Type 0 where
   pub by_handle : (i h k : ℕ) → subtask_at i h s ≡ Some (subtask.Guest k) → WasCall s k
   pub by_op : (n k : ℕ) → subtask_under_way (how_far_of n s) ≡ Some (subtask.Guest k) → WasCall s k
+
+abbrev pub is_cancelled : Option OwnEvent → Bool
+is_cancelled (Some own.Cancelled) = true
+is_cancelled _ = false
+
+-- it has at most returned
+abbrev pub at_most_returned : Option CallEnd → Bool
+at_most_returned None = true
+at_most_returned (Some call_end.Returned) = true
+at_most_returned _ = false
+
+-- no cancel has come to the call
+abbrev pub is_uncancelled : Call → Bool
+is_uncancelled c = not (is_cancelled c.own_event) && (not c.cancel_delivered && at_most_returned c.«end»)
+
+-- if the call is there, the thread has made it, no handle names it, and no cancel has come to it
+abbrev pub OnlyCalled : ℕ → ℕ → Core → Type 0
+OnlyCalled n k s = (c : Call) → get s.calls k ≡ Some c → (c.caller ≡ caller.Thread n) × ((c.handle ≡ None) × (is_uncancelled c ≡ true))
+
+-- The record of a call says which handle names it, in one instance; and an op is inside a call that its thread alone has to do with.
+pub record NamesKnown (s : Core) : Type 0 where
+  pub there : (i h k : ℕ) → subtask_at i h s ≡ Some (subtask.Guest k) → subtask_handle (subtask.Guest k) s ≡ Some h
+  pub once : (i j h g k : ℕ) → subtask_at i h s ≡ Some (subtask.Guest k) → subtask_at j g s ≡ Some (subtask.Guest k) → i ≡ j
+  pub called : (n k : ℕ) → how_far_of n s ≡ how_far.Calls (subtask.Guest k) → OnlyCalled n k s
+
+abbrev pub is_returned : Option Status → Bool
+is_returned (Some status.Returned) = true
+is_returned _ = false
+
+-- its caller is told of it, and it hasn't ended, or that it returned is still to be told
+abbrev pub is_awaited : Call → Bool
+is_awaited c = (is_guest_call c.caller && not (is_direct c.goal)) && (is_none c.«end» || is_returned c.event)
+
+-- the call that an op under way cancels
+abbrev pub cancelled_call : HowFar → Option ℕ
+cancelled_call (how_far.Cancels (subtask.Guest k)) = Some k
+cancelled_call (how_far.AwaitsEnd (subtask.Guest k)) = Some k
+cancelled_call _ = None
+
+-- A thread inside a call of an export is under the call's thread, or the call is there and awaited. Meanwhile no op cancels it.
+pub record CallsAwaited (s : Core) : Type 0 where
+  pub inside : (n k : ℕ) → how_far_of n s ≡ how_far.Calls (subtask.Guest k) →
+      (place_of n s ≡ Some (place.Under k)) ⊎ (option_map_or is_awaited (get s.calls k) false ≡ true)
+  pub apart : (n m k : ℕ) → how_far_of n s ≡ how_far.Calls (subtask.Guest k) → cancelled_call (how_far_of m s) ≡ Some k → ⊥
 
 -- A handle of a set names a set of its own instance, which was made, and no other handle names it.
 pub record SetsNamed (s : Core) : Type 0 where
@@ -193,6 +245,15 @@ Fits c s = (n : ℕ) (t : Thread) → get s.threads n ≡ Some t → ThreadFits 
 abbrev pub StartsAwaited : Core → Type 0
 StartsAwaited s = (k : ℕ) (c : Call) → get s.calls k ≡ Some c → c.started ≡ false → is_fresh (place_of k s) ≡ true
 
+-- the call hasn't ended, and has no other thread than the first one
+pub record HasNotRun (s : Core) (k : ℕ) : Type 0 where
+  pub unended : end_of k s ≡ None
+  pub alone : (n : ℕ) (t : Thread) → get s.threads n ≡ Some t → t.call ≡ k → n ≡ k
+
+-- where the first thread of a call waits for its start, the call has none of what comes after it
+abbrev pub StartsFirst : Core → Type 0
+StartsFirst s = (k : ℕ) (t : Thread) → get s.threads k ≡ Some t → t.explicit ≡ false → is_fresh (Some t.place) ≡ true → HasNotRun s k
+
 -- under the first thread of a direct call there is another one
 abbrev pub DirectsOnTop : Core → Type 0
 DirectsOnTop s = (m : ℕ) → is_some (place_of m s) ≡ true → is_explicit m s ≡ false → is_direct (goal_of (task_of m s) s) ≡ true →
@@ -263,6 +324,8 @@ pub record InOrder (c : Component) (s : State) : Type 0 where
   pub numbered : Numbered s.core
   pub calls_there : CallsThere s.core
   pub calls_named : CallsNamed s.core
+  pub names : NamesKnown s.core
+  pub calls : CallsAwaited s.core
   pub sets_named : SetsNamed s.core
   pub joins_named : JoinsNamed s.core
   pub waits : WaitsAtHome s.core
@@ -270,9 +333,10 @@ pub record InOrder (c : Component) (s : State) : Type 0 where
   pub deliveries : DeliveredByCallback s.core
   pub fits : Fits c s.core
   pub starts : StartsAwaited s.core
+  pub unbegun : StartsFirst s.core
 
 -- each opening state is in order
-abbrev pub OpeningInOrder : Type 0
+unfoldable pub OpeningInOrder : Type 0
 OpeningInOrder = (c : Component) → CodesInCallbacks c → (instances handle_limit capacity : ℕ) (main : Main) →
     InOrder c (opening instances handle_limit capacity main)
 

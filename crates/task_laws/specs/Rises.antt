@@ -53,24 +53,24 @@ CallsRise s t = (k : ℕ) → k ≤ s.made.threads → LaterBy Rises (get s.call
 -- ---- The laws
 
 -- by each step from a reached state
-abbrev pub StepsRise : Type 0
+unfoldable pub StepsRise : Type 0
 StepsRise = (x : Setting) (s : State) (l : Label) (t : State) → Reached x s → Step x s l t → CallsRise s.core t.core
 
 -- by each run from a reached state
-abbrev pub RunsRise : Type 0
+unfoldable pub RunsRise : Type 0
 RunsRise = (x : Setting) (s : State) (ls : List Label) (t : State) → Reached x s → Run x s ls t → CallsRise s.core t.core
 
 -- a task of a sync-lifted export has no cancel request delivered
-abbrev pub SyncNeverCancelled : Type 0
+unfoldable pub SyncNeverCancelled : Type 0
 SyncNeverCancelled = (x : Setting) (s : State) → Reached x s → (k : ℕ) (c : Call) → get s.core.calls k ≡ Some c →
     is_async_lifted c.kind ≡ false → c.cancel_delivered ≡ false
 
 -- once such a task has ended its first thread is gone
-abbrev pub SyncEndsLast : Type 0
+unfoldable pub SyncEndsLast : Type 0
 SyncEndsLast = (x : Setting) (s : State) → Reached x s → (k : ℕ) (c : Call) → get s.core.calls k ≡ Some c → is_async_lifted c.kind ≡ false →
     (e : CallEnd) → c.«end» ≡ Some e → get s.core.threads k ≡ None
 
 -- a thread that isn't the first of its call has a number that names no call
-abbrev pub ExplicitNamesNoCall : Type 0
+unfoldable pub ExplicitNamesNoCall : Type 0
 ExplicitNamesNoCall = (x : Setting) (s : State) → Reached x s → (n : ℕ) (t : Thread) → get s.core.threads n ≡ Some t → t.explicit ≡ true →
     get s.core.calls n ≡ None

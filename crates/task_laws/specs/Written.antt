@@ -1,7 +1,7 @@
 -- The end of each record is written at most once, and what a call has to hand out is that end.
 use Rattle.task_rules.specs.SubtaskEnds.{end_for, written_by, handed_by}
 use Rattle.task_rules.specs.Step.{Step}
-use Rattle.task_rules.specs.Allowed.{status_of_end}
+use Rattle.task_rules.specs.Words.{status_of_end}
 use Rattle.task_machine.specs.declared.words.Status.{Status}
 use Rattle.task_machine.specs.declared.records.CallEnd.{CallEnd}
 use Rattle.task_machine.specs.Read.{end_of, event_of, undelivered_end, has_ended}
@@ -20,23 +20,23 @@ use Rattle.task_machine.specs.declared.records.Subtask.TheVariants as subtask
 use Rattle.task_machine.specs.declared.words.Status.TheVariants as status
 
 -- the end in the record of each call and of each host work is written at most once
-abbrev pub EndsWrittenOnce : Type 0
+unfoldable pub EndsWrittenOnce : Type 0
 EndsWrittenOnce = (x : Setting) (s : State) (ls : List Label) (t : State) → Reached x s → (run : Run x s ls t) → (sub : Subtask) →
     count_by (changes_end sub) (history x s ls t run) ≤ 1
 
 -- What a call has still to hand out is the end in its record, and not that of a start that was withdrawn.
-abbrev pub EndsToldAsRecorded : Type 0
+unfoldable pub EndsToldAsRecorded : Type 0
 EndsToldAsRecorded = (x : Setting) (s : State) → Reached x s → (k : ℕ) (e : Status) →
     undelivered_end (event_of (subtask.Guest k) s.core) ≡ Some e → (c : CallEnd) ×
     ((end_of k s.core ≡ Some c) × ((status_of_end c ≡ e) × (c ≡ call_end.StartCancelled → ⊥)))
 
 -- No step puts another end in its place.
-abbrev pub NoEndIsCovered : Type 0
+unfoldable pub NoEndIsCovered : Type 0
 NoEndIsCovered = (x : Setting) (s : State) (l : Label) (t : State) → Reached x s → Step x s l t → (k : ℕ) →
     covers_end (subtask.Guest k) (record { before = s; label = l; after = t }) ≡ false
 
 -- What a call has to hand out after a step it had before, or the label says that the step writes that end.
-abbrev pub NewEndsAreSaid : Type 0
+unfoldable pub NewEndsAreSaid : Type 0
 NewEndsAreSaid = (x : Setting) (s : State) (l : Label) (t : State) → Reached x s → Step x s l t → (k : ℕ) (e : Status) →
     undelivered_end (event_of (subtask.Guest k) t.core) ≡ Some e → (undelivered_end (event_of (subtask.Guest k) s.core) ≡ Some e) ⊎
     (written_by x.component s.core l t.core ≡ Some (end_for e (subtask.Guest k)))
@@ -49,7 +49,7 @@ NewResultsAreSaid = (x : Setting) (s : State) (l : Label) (t : State) → Reache
 
 -- An end of a call that a step hands out the call had to hand out, and has no more; or it was a result that was there for main, and is
 -- taken; or the label says that the step writes it.
-abbrev pub EndsHandedAsTold : Type 0
+unfoldable pub EndsHandedAsTold : Type 0
 EndsHandedAsTold = (x : Setting) (s : State) (l : Label) (t : State) → Step x s l t → (k : ℕ) (e : Status) →
     handed_by x.component s.main s.core l t.core ≡ Some (end_for e (subtask.Guest k)) →
     ((undelivered_end (event_of (subtask.Guest k) s.core) ≡ Some e) × (undelivered_end (event_of (subtask.Guest k) t.core) ≡ None)) ⊎

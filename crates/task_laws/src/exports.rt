@@ -2,11 +2,13 @@ ghost use Rattle.task_laws.specs.Exports.{InstancesStay, StepsKeepExports};
 
 /// Each call is of an export that the component has: each step keeps that, where the component
 /// has each export that main's script starts or that a script calls.
+#[tactic(auto, using(crate::proofs::Exported::steps_keep_exports))]
 pub fn calls_name_exports()
     ensures { StepsKeepExports }
 {}
 
 /// No step makes an instance, or takes one away.
+#[tactic(auto, using(crate::proofs::Exported::instances_stay))]
 pub fn instances_stay()
     ensures { InstancesStay }
 {}

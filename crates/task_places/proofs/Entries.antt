@@ -1,11 +1,8 @@
 -- Entries that are taken out, entries of works, and new threads, beside a busy thread.
-use Rattle.task_rules.proofs.Machine.{[], add_thread, ap, arith, Bool, callers_of, cond, Core, entries, Entry, false, get-insert, has_entry, HasPlace, if◌then◌else◌, is_behind_of, is_entry_of, is_fresh, is_some, le_refl, less, less_switch, List, Mark, nat_tests, next_entry, None, on_thread, one_if, Option, Place, place_of, popped, promoted, put_switch, Queues, refl, remove_thread, rest_of, says, set_high, set_low, set_place, set_switch, Some, subst, switch_entries, sym, T, Thread, times, true, unqueued, Why, why_of, ℕ, ◌++◌, ◌+◌, ◌==◌, ◌∙◌, ◌∷◌, ◌≡◌, ◌≤◌}
-use Rattle.task_machine.specs.declared.records.Entry.TheVariants as entry
-use Rattle.task_machine.specs.declared.records.Place.TheVariants as place
-use Rattle.task_machine.specs.declared.words.Mark.TheVariants as mark
-use Rattle.task_rules.proofs.MoveLemmas.{removed_is, no_time, others, put_back, removed_gone, removed_loose, removed_placed, other_place, other_so}
-use Rattle.task_rules.proofs.StandLemmas.{Loose, Stand, by_number, entries-append, entries-less, eq_refl, zero_one, Watch, is_so, Left, left_loose, left_placed, by_count}
-use Rattle.task_rules.proofs.StopLemmas.{Untouched, fresh_apart, so_again}
+use Rattle.task_rules.proofs.Machine.{[], add_thread, ap, arith, Bool, callers_of, Core, entries, Entry, false, get-insert, has_entry, HasPlace, if◌then◌else◌, is_behind_of, is_entry_of, is_fresh, less, less_switch, List, Mark, nat_tests, next_entry, None, on_thread, one_if, Option, Place, place_of, popped, promoted, Queues, refl, remove_thread, rest_of, says, set_high, set_low, set_place, set_switch, Some, subst, switch_entries, sym, T, Thread, times, true, unqueued, Why, why_of, ℕ, ◌+◌, ◌==◌, ◌∙◌, ◌∷◌, ◌≡◌, ◌≤◌}
+use Rattle.task_rules.proofs.MoveLemmas.{at_place, removed_is, no_time, removed_gone, removed_loose, removed_placed, other_place}
+use Rattle.task_rules.proofs.StandLemmas.{Drops, moves_stand, Loose, Stand, by_number, entries-append, entries-less, eq_refl, zero_one, Watch, Left, left_loose, left_placed}
+use Rattle.task_rules.proofs.StopLemmas.{switch_adds, Untouched, fresh_apart, so_again}
 
 -- ---- Entries are taken out
 
@@ -32,52 +29,72 @@ pub record Cleared (m : ℕ) (s t : Core) : Type 0 where
   pub left : (k : ℕ) → (k == m) ≡ false → Left k s t
   pub own : ((f : ℕ) → says (is_behind_of f) (place_of m s) ≡ 0) → Loose m t
 
--- so it is where the queues say so
-cleared : (m : ℕ) (s : Core) (q : Queues) → HasPlace m s → switch_entries m q.switch + entries m q.high + entries m q.low ≡ 0 →
-    ((k : ℕ) → (k == m) ≡ false → (switch_entries k q.switch ≡ switch_entries k s.queues.switch) × ((entries k q.high ≡ entries k s.queues.high) × (entries k q.low ≡ entries k s.queues.low))) →
-    Cleared m s (record s { queues = q })
-cleared m s q h none other = record {
-  places = λ k. refl;
-  left = λ k e. let o = other k e in record { made = le_refl _; there = λ f. refl; switch = o.0; high = o.1.0; low = o.1.1; callers = λ f. refl };
-  own = λ free. record { number = h.number; switch = omega (arith, none); high = omega (arith, none); low = omega (arith, none); callers = λ f. grind (arith, h.callers f, free f) };
-}
-
 has_one : (m : ℕ) (s : Core) → HasPlace m s → switch_entries m s.queues.switch + entries m s.queues.high + entries m s.queues.low ≤ 1
 has_one m s h = grind arith
+
+-- so it is where the queues say so
+cleared : (m : ℕ) (s : Core) (q : Queues) → HasPlace m s → switch_entries m q.switch + entries m q.high + entries m q.low ≡ 0 →
+    ((k : ℕ) → (k == m) ≡ false → Left k s (record s { queues = q })) → Cleared m s (record s { queues = q })
+cleared m s q h none left = record {
+  places = λ k. refl;
+  left = left;
+  own = λ free. let alone : (f : ℕ) → times m (callers_of f s) ≡ 0 = λ f. grind (arith, h.callers f, free f) in
+      grind arith;
+}
 
 -- its entry is taken out, wherever it stands
 pub unqueued_cleared : (m : ℕ) (s : Core) → HasPlace m s → Cleared m s (set_switch (less_switch m s.queues.switch) (unqueued m s))
 unfolding unqueued set_switch set_high set_low
 unqueued_cleared m s h = go (has_entry m s.queues.high) refl
   where
-    go : (b : Bool) → has_entry m s.queues.high ≡ b → Cleared m s (set_switch (less_switch m s.queues.switch) (if b then set_high (less m s.queues.high) s else set_low (less m s.queues.low) s))
-    go true e = cleared m s _ h (grind (arith, nat_tests, has_one m s h, has_stands m s.queues.high, less_own m s.queues.high)) (λ k o. (grind (arith, nat_tests), (less_other k m s.queues.high o, refl)))
-    go false e = cleared m s _ h (grind (arith, nat_tests, has_one m s h, none_stands m s.queues.high, less_own m s.queues.low)) (λ k o. (grind (arith, nat_tests), (refl, less_other k m s.queues.low o)))
+    one : switch_entries m s.queues.switch + entries m s.queues.high + entries m s.queues.low ≤ 1
+    one = has_one m s h
+
+    go : (b : Bool) → has_entry m s.queues.high ≡ b → Cleared m s (set_switch (less_switch m s.queues.switch)
+        (if b then set_high (less m s.queues.high) s else set_low (less m s.queues.low) s))
+    go true e =
+        cleared m s _ h (grind (arith, nat_tests, one, has_stands m s.queues.high, less_own m))
+        (λ k o. grind (arith, nat_tests, less_other k m))
+    go false e =
+        cleared m s _ h (grind (arith, nat_tests, one, none_stands m s.queues.high, less_own m))
+        (λ k o. grind (arith, nat_tests, less_other k m))
+
+-- as an entry of a thread that stands ready
+ready_drops : (m : ℕ) (x : Mark) (w : Why) (s : Core) → HasPlace m s → place_of m s ≡ Some (Place.Ready x w) → s.queues.switch ≡ None →
+    Drops m (Place.Ready x w) s (unqueued m s)
+unfolding unqueued set_high set_low
+ready_drops m x w s h at none = grind (arith, nat_tests, none_stands m, has_stands m, entries-less, less_same)
+
+unqueued_switch : (m : ℕ) (s : Core) → (unqueued m s).queues.switch ≡ s.queues.switch
+unfolding unqueued set_high set_low
+unqueued_switch m s = grind arith
 
 -- ---- The first entry of a mark
 
 -- where the entry stands first
 abbrev pub First : Mark → Entry → Core → Type 0
-First mark.Switch e s = (n : ℕ) × ((s.queues.switch ≡ Some n) × (e ≡ entry.Thread n))
-First mark.High e s = s.queues.high ≡ e ∷ rest_of s.queues.high
-First mark.Low e s = s.queues.low ≡ e ∷ rest_of s.queues.low
+First Mark.Switch e s = (n : ℕ) × ((s.queues.switch ≡ Some n) × (e ≡ Entry.Thread n))
+First Mark.High e s = s.queues.high ≡ e ∷ rest_of s.queues.high
+First Mark.Low e s = s.queues.low ≡ e ∷ rest_of s.queues.low
 
 pub next_first : (s : Core) (x : Mark) (e : Entry) → next_entry s ≡ Some (x, e) → First x e s
 unfolding next_entry
-next_first s mark.High e h = grind arith
-next_first s mark.Low e h = grind arith
-next_first s mark.Switch e h = go s.queues.switch refl
-  where
-    go : (o : Option ℕ) → s.queues.switch ≡ o → (n : ℕ) × ((s.queues.switch ≡ Some n) × (e ≡ entry.Thread n))
-    go (Some n) at = (n, (at, grind arith))
-    go None at = absurd (grind arith)
+next_first s Mark.High e h = grind arith
+next_first s Mark.Low e h = grind arith
+next_first s Mark.Switch e h = let r = at_place (λ (n : ℕ). true) s.queues.switch (grind arith) in (r.0, (r.1.0, grind arith))
 
 -- the entry of a thread leaves its mark
-pub popped_cleared : (x : Mark) (m : ℕ) (s : Core) → First x (entry.Thread m) s → HasPlace m s → Cleared m s (popped x s) × (1 ≤ switch_entries m s.queues.switch + entries m s.queues.high + entries m s.queues.low)
+pub popped_cleared : (x : Mark) (m : ℕ) (s : Core) → First x (Entry.Thread m) s → HasPlace m s →
+    Cleared m s (popped x s) × (1 ≤ switch_entries m s.queues.switch + entries m s.queues.high + entries m s.queues.low)
 unfolding popped set_switch set_high set_low
-popped_cleared mark.Switch m s f h = (cleared m s _ h (grind (arith, nat_tests, has_one m s h)) (λ k o. (grind (arith, nat_tests), (refl, refl))), grind (arith, nat_tests))
-popped_cleared mark.High m s f h = let x = λ (k : ℕ). ap (entries k) f in (cleared m s _ h (grind (arith, nat_tests, has_one m s h, x m)) (λ k o. (refl, (grind (arith, nat_tests, x k), refl))), grind (arith, nat_tests, x m))
-popped_cleared mark.Low m s f h = let x = λ (k : ℕ). ap (entries k) f in (cleared m s _ h (grind (arith, nat_tests, has_one m s h, x m)) (λ k o. (refl, (refl, grind (arith, nat_tests, x k)))), grind (arith, nat_tests, x m))
+popped_cleared Mark.Switch m s f h =
+    (cleared m s _ h (grind (arith, nat_tests, has_one m s h)) (λ k o. grind (arith, nat_tests)), grind (arith, nat_tests))
+popped_cleared Mark.High m s f h =
+    let x = λ (k : ℕ). ap (entries k) f in
+    (cleared m s _ h (grind (arith, nat_tests, has_one m s h, x m)) (λ k o. grind (arith, nat_tests, x k)), grind (arith, nat_tests, x m))
+popped_cleared Mark.Low m s f h =
+    let x = λ (k : ℕ). ap (entries k) f in
+    (cleared m s _ h (grind (arith, nat_tests, has_one m s h, x m)) (λ k o. grind (arith, nat_tests, x k)), grind (arith, nat_tests, x m))
 
 rest_same : (k : ℕ) (e : Entry) (es : List Entry) → es ≡ e ∷ rest_of es → is_entry_of k e ≡ false → entries k (rest_of es) ≡ entries k es
 rest_same k e es is other = let x = ap (entries k) is in let y = ap one_if other in omega (arith, x, y)
@@ -85,39 +102,20 @@ rest_same k e es is other = let x = ap (entries k) is in let y = ap one_if other
 -- that of a work leaves all threads'
 pub popped_quiet : (x : Mark) (e : Entry) (s : Core) → First x e s → ((k : ℕ) → is_entry_of k e ≡ false) → Untouched s (popped x s)
 unfolding popped set_switch set_high set_low
-popped_quiet mark.Switch e s f other = absurd (subst T (sym (sym (other f.0) ∙ (ap (is_entry_of f.0) f.1.1 ∙ eq_refl f.0))) tt)
-popped_quiet mark.High e s f other = record { places = λ k. refl; switch = λ k. refl; high = λ k. rest_same k e s.queues.high f (other k); low = λ k. refl; callers = refl; made = le_refl _ }
-popped_quiet mark.Low e s f other = record { places = λ k. refl; switch = λ k. refl; high = λ k. refl; low = λ k. rest_same k e s.queues.low f (other k); callers = refl; made = le_refl _ }
-
-pub pushed_same : (k : ℕ) (es : List Entry) (e : Entry) → is_entry_of k e ≡ false → entries k (es ++ e ∷ []) ≡ entries k es
-pushed_same k es e other = let x = entries-append k es e in let y = ap one_if other in omega (arith, x, y)
+popped_quiet Mark.Switch e s f other = absurd (subst T (sym (sym (other f.0) ∙ (ap (is_entry_of f.0) f.1.1 ∙ eq_refl f.0))) tt)
+popped_quiet Mark.High e s f other = let rest = λ (k : ℕ). rest_same k e s.queues.high f (other k) in grind (arith, rest)
+popped_quiet Mark.Low e s f other = let rest = λ (k : ℕ). rest_same k e s.queues.low f (other k) in grind (arith, rest)
 
 -- ---- An entry is promoted
 
-promoted_is : (m : ℕ) (s : Core) → promoted m s ≡ put_switch m (why_of m s) (set_switch None (unqueued m s))
-unfolding promoted put_switch set_switch set_place on_thread
-promoted_is m s = refl
-
-pub promoted_stand : {P : ℕ → Watch} (n : ℕ) (q : Option Place) (m : ℕ) (x : Mark) (w : Why) (s : Core) → (m == n) ≡ false → place_of m s ≡ Some (place.Ready x w) → s.queues.switch ≡ None → Stand P n q [] s → Stand P n q [] (promoted m s)
+pub promoted_stand : {P : ℕ → Watch} (n : ℕ) (q : Option Place) (m : ℕ) (x : Mark) (w : Why) (s : Core) → (m == n) ≡ false →
+    place_of m s ≡ Some (Place.Ready x w) → s.queues.switch ≡ None → Stand P n q [] s → Stand P n q [] (promoted m s)
+unfolding promoted set_switch set_place on_thread
 promoted_stand {P = P} n q m x w s apart at none st =
-    subst (λ (t : Core). Stand P n q [] t) (sym (promoted_is m s)) (put_back n q mark.Switch m (why_of m s) u (ap (λ (o : Option Place). is_some o) (c.places m ∙ at))
-    (λ h. grind (arith, so_again (P m) mark.Switch x w, (st.kept m h).1)) up)
-  where
-    u : Core
-    u = set_switch None (unqueued m s)
-
-    c : Cleared m s u
-    c = subst (λ (o : Option ℕ). Cleared m s (set_switch o (unqueued m s))) (ap (less_switch m) none) (unqueued_cleared m s (st.placed m (no_time m n apart)))
-
-    up : Stand (others P m) n q (m ∷ []) u
-    up = record {
-      here = c.places n ∙ st.here;
-      once = λ k. by_count k m _ (λ e y. let z = ap one_if (ap (λ (j : ℕ). j == n) e ∙ apart) in omega (arith, y, z)) (λ e y. omega (arith, st.once k, y));
-      loose = λ k h. by_count k m _ (λ e y. subst (λ (j : ℕ). Loose j u) (sym e) (c.own (λ f. ap (says (is_behind_of f)) at))) (λ e y. left_loose k s u (c.left k e) (st.loose k (omega (arith, h, y))));
-      there = λ k h. by_count k m _ (λ e y. (place.Ready x w, ap (λ (j : ℕ). place_of j u) e ∙ (c.places m ∙ at))) (λ e y. absurd (omega (arith, h, y)));
-      placed = λ k h. by_count k m _ (λ e y. absurd (omega (arith, h, y))) (λ e y. left_placed k s u (c.left k e) (c.places k) (st.placed k (omega (arith, h))));
-      kept = λ k h. let o = other_so P m k s h (λ e g. (st.kept k g).1) in (grind (arith, o.0), ap (is_so (others P m k)) (c.places k) ∙ o.1);
-    }
+    let d = ready_drops m x w s (st.placed m (no_time m n apart)) at none in
+    moves_stand n q [] m (Place.Ready x w) (Place.Ready Mark.Switch (why_of m s)) s (unqueued m s) _ d
+    (switch_adds m (why_of m s) (Place.Ready x w) (unqueued m s) (d.places m ∙ at) (unqueued_switch m s ∙ none)) at (no_time m n apart)
+    (λ so watched. grind (arith, so_again (P m) Mark.Switch x w)) st
 
 -- ---- A start is withdrawn
 
@@ -127,13 +125,16 @@ flipped n m e = grind (arith, nat_tests)
 pub removed_fresh : (k m : ℕ) (s : Core) → is_fresh (place_of k s) ≡ true → is_fresh (place_of k (remove_thread m s)) ≡ true
 removed_fresh k m s h = grind (arith, nat_tests, removed_is k m s)
 
-pub withdrawn_stand : {P : ℕ → Watch} (n : ℕ) (q : Option Place) (m : ℕ) (s : Core) → (m == n) ≡ false → is_fresh (place_of m s) ≡ true → Stand P n q [] s → Stand P n q [] (remove_thread m (set_switch (less_switch m s.queues.switch) (unqueued m s)))
+pub withdrawn_stand : {P : ℕ → Watch} (n : ℕ) (q : Option Place) (m : ℕ) (s : Core) → (m == n) ≡ false → is_fresh (place_of m s) ≡ true →
+    Stand P n q [] s → Stand P n q [] (remove_thread m (set_switch (less_switch m s.queues.switch) (unqueued m s)))
 withdrawn_stand {P = P} n q m s apart fresh st = record {
   here = other_place n m u (flipped n m apart) ∙ (c.places n ∙ st.here);
   once = st.once;
-  loose = λ k h. removed_loose k m u (by_number k m (Loose k u) (λ e. subst (λ (j : ℕ). Loose j u) (sym e) own) (λ e. left_loose k s u (c.left k e) (st.loose k h)));
+  loose = λ k h. removed_loose k m u (by_number k m _ (λ e. subst (λ (j : ℕ). Loose j u) (sym e) own)
+      (λ e. left_loose k s u (c.left k e) (st.loose k h)));
   there = λ k h. zero_one refl h;
-  placed = λ k h. by_number k m (HasPlace k (remove_thread m u)) (λ e. subst (λ (j : ℕ). HasPlace j (remove_thread m u)) (sym e) (removed_gone m u own)) (λ e. removed_placed k m u e (left_placed k s u (c.left k e) (c.places k) (st.placed k h)));
+  placed = λ k h. by_number k m _ (λ e. subst (λ (j : ℕ). HasPlace j (remove_thread m u)) (sym e) (removed_gone m u own))
+      (λ e. removed_placed k m u e (left_placed k s u (c.left k e) (c.places k) (st.placed k h)));
   kept = λ k h. (refl, grind (arith, nat_tests, removed_is k m u, c.places k, (st.kept k h).1));
 }
   where
@@ -148,39 +149,30 @@ withdrawn_stand {P = P} n q m s apart fresh st = record {
 
 -- ---- A thread more
 
-module _ (t : Thread) (s : Core) where
-  added_here : place_of (s.made.threads + 1) (add_thread t s) ≡ Some t.place
-  unfolding add_thread
-  added_here = grind (arith, nat_tests, get-insert)
-
-  added_other : (k : ℕ) → (k == s.made.threads + 1) ≡ false → place_of k (add_thread t s) ≡ place_of k s
-  unfolding add_thread
-  added_other k e = grind (arith, nat_tests, get-insert)
-
-  added_callers : (k f : ℕ) → times k (callers_of f (add_thread t s)) ≡ cond (f == s.made.threads + 1) 0 (times k (callers_of f s))
-  unfolding add_thread
-  added_callers k f = grind (arith, nat_tests, get-insert)
-
-none_cut : (b : Bool) (x : ℕ) → x ≡ 0 → cond b 0 x ≡ 0
-none_cut b x h = grind arith
-
 -- it has the next number, which was no thread's, and behind which nobody was
-pub added_stand : {P : ℕ → Watch} (n : ℕ) (q : Option Place) (t : Thread) (s : Core) → (n == s.made.threads + 1) ≡ false → t.place ≡ place.New → Stand P n q [] s → Stand P n q [] (add_thread t s)
+pub added_stand : {P : ℕ → Watch} (n : ℕ) (q : Option Place) (t : Thread) (s : Core) → (n == s.made.threads + 1) ≡ false →
+    t.place ≡ Place.New →
+    Stand P n q [] s → Stand P n q [] (add_thread t s)
 unfolding add_thread
 added_stand {P = P} n q t s apart new st = record {
-  here = added_other t s n apart ∙ st.here;
+  here = added_other n apart ∙ st.here;
   once = st.once;
-  loose = λ k h. loose k (st.loose k h) (by_number k n ((k == s.made.threads + 1) ≡ false) (λ e. ap (λ (j : ℕ). j == s.made.threads + 1) e ∙ apart) (λ e. zero_one (no_time k n e) h));
+  loose =
+      λ k h. let e : (k == s.made.threads + 1) ≡ false = by_number k n _ (λ e. grind (arith, e, apart)) (λ e. zero_one (no_time k n e) h) in
+      let l = st.loose k h in grind (arith, nat_tests, get-insert, added_other k e);
   there = λ k h. zero_one refl h;
-  placed = λ k h. by_number k (s.made.threads + 1) (HasPlace k u) (λ e. subst (λ (j : ℕ). HasPlace j u) (sym e) own) (λ e. other k e (st.placed k h));
-  kept = λ k h. (refl, grind (arith, nat_tests, added_other t s k, gone, here, (st.kept k h).1));
+  placed = λ k h. by_number k (s.made.threads + 1) _ (λ e. subst (λ (j : ℕ). HasPlace j u) (sym e) own) (λ e. other k e (st.placed k h));
+  kept = λ k h. (refl, grind (arith, nat_tests, added_other k, gone, here, (st.kept k h).1));
 }
   where
     u : Core
     u = add_thread t s
 
-    loose : (k : ℕ) → Loose k s → (k == s.made.threads + 1) ≡ false → Loose k u
-    loose k l e = record { number = λ g. grind (arith, l.number, added_other t s k e); switch = l.switch; high = l.high; low = l.low; callers = λ f. added_callers t s k f ∙ none_cut (f == s.made.threads + 1) _ (l.callers f) }
+    added_other : (k : ℕ) → (k == s.made.threads + 1) ≡ false → place_of k u ≡ place_of k s
+    added_other k e = grind (arith, nat_tests, get-insert)
+
+    here : place_of (s.made.threads + 1) u ≡ Some Place.New
+    here = grind (arith, nat_tests, get-insert)
 
     before : HasPlace (s.made.threads + 1) s
     before = st.placed (s.made.threads + 1) (no_time (s.made.threads + 1) n (flipped (s.made.threads + 1) n apart))
@@ -188,25 +180,15 @@ added_stand {P = P} n q t s apart new st = record {
     gone : place_of (s.made.threads + 1) s ≡ None
     gone = grind (arith, before.number)
 
-    here : place_of (s.made.threads + 1) u ≡ Some place.New
-    here = added_here t s ∙ ap (λ (p : Place). Some p) new
-
     own : HasPlace (s.made.threads + 1) u
-    own = record {
-      number = λ e. le_refl _;
-      behind = λ f e. zero_one (ap (says (is_behind_of f)) here) e;
-      switch = grind (arith, before.switch, gone, here);
-      high = grind (arith, before.high, gone, here);
-      low = grind (arith, before.low, gone, here);
-      callers = λ f. grind (arith, added_callers t s (s.made.threads + 1) f, before.callers f, gone, here);
-    }
+    own = grind (arith, nat_tests, get-insert)
 
     other : (k : ℕ) → (k == s.made.threads + 1) ≡ false → HasPlace k s → HasPlace k u
     other k e h = record {
-      number = λ g. grind (arith, h.number, added_other t s k e);
-      behind = λ f g. grind (arith, h.behind f, added_other t s k e);
-      switch = grind (arith, h.switch, added_other t s k e);
-      high = grind (arith, h.high, added_other t s k e);
-      low = grind (arith, h.low, added_other t s k e);
-      callers = λ f. grind (arith, nat_tests, added_callers t s k f, added_other t s k e, added_other t s f, h.callers f, h.behind (s.made.threads + 1), here);
+      number = grind (arith, h.number, added_other k e);
+      behind = λ f g. grind (arith, h.behind f, added_other k e);
+      switch = grind (arith, h.switch, added_other k e);
+      high = grind (arith, h.high, added_other k e);
+      low = grind (arith, h.low, added_other k e);
+      callers = λ f. grind (arith, nat_tests, get-insert, added_other k e, added_other f, h.callers f, h.behind (s.made.threads + 1), here);
     }

@@ -2,6 +2,7 @@ pub mod Entries
 pub mod PlaceLaw
 pub mod PlaceSteps
 pub mod Directs
+pub mod CallsBack
 pub mod WorksQueued
 pub mod HostsAwaited
 pub mod OrderLemmas

@@ -1,33 +1,21 @@
 -- Each step owes of the ends what it should, and so each run has each end once.
-use Rattle.task_rules.proofs.Machine.{[], AbortsOwn, ap, arith, base_at, Bool, Call, Core, end_for, Entry, false, fresh, get, get-empty, how_far_of, inl, inr, instance_of, is_some, is_spawn, is_spawn_caller, is_stage_ended, IsRunner, Label, le_refl, Main, MainPlace, Mark, next_entry, None, opening, Option, option_and_then, option_map, option_map_or, Place, place_of, ProgramAborts, refl, runner_at, SameMain, Scene, scene_of, ScriptAborts, Scripted, Setting, slice_get, Some, spawned_at, stage_of, State, Status, Step, subst, Subtask, subtask_at, subtask_handle, suc, sym, task_of, thread_of_entry, true, Turn, undelivered_end, Unscripted, unwrap_or, Walked, Work, work_caller_of, written, zero, ℕ, ⊎_elim, ◌&&◌, ◌++◌, ◌-◌, ◌∙◌, ◌∷◌, ◌≡◌, ◌≤◌, ◌⊎◌}
-use Rattle.task_laws.proofs.NamedCalls.{NamesKnown, names_known_word, opening_names_known}
-use Rattle.task_laws.proofs.NamedWorks.{NamesNoSync, abort_kept, caller_is, names_word, opening_names}
-use Rattle.task_laws.proofs.Basics.{no_way}
-use Rattle.task_laws.proofs.CallsLaw.{CallsGo, CallsHold}
-use Rattle.task_laws.proofs.CallsSteps.{of_base, step_goes, calls_begin}
-use Rattle.task_laws.specs.Settings.{Reached}
+use Rattle.task_rules.proofs.Machine.{[], AbortsOwn, ap, arith, base_at, Core, fresh, get, get-empty, instance_of, is_some, is_spawn, Label, le_refl, Main, main_opening, MainPlace, MayAbort, opening, ProgramAborts, refl, SameMain, Scene, scene_of, ScriptAborts, Scripted, Setting, slice_get, Some, spawned_at, State, Status, Step, subst, Subtask, subtask_at, suc, sym, task_of, true, Unscripted, unwrap_or, Walked, zero, ℕ, ⊎_elim, ◌-◌, ◌≡◌, ◌≤◌, ◌⊎◌}
+use Rattle.task_laws.proofs.NamedWorks.{NamesNoSync, abort_kept, names_word, opening_names}
+use Rattle.task_laws.proofs.CallsLaw.{CallsHold}
+use Rattle.task_laws.proofs.CallsSteps.{of_base}
 use Rattle.task_rules.proofs.ChainLemmas.{along}
-use Rattle.task_laws.proofs.CallEnds.{EndsGo, EndsTold, ends_go, opening_ends_told}
-use Rattle.task_laws.proofs.OnceLemmas.{Due, Over, EndStep, ends_once, written_over}
-use Rattle.task_laws.proofs.HostEnds.{Answered, host_step}
+use Rattle.task_laws.proofs.CallEnds.{EndsTold, ends_go, opening_ends_told}
+use Rattle.task_laws.proofs.OnceLemmas.{Due, Over, EndStep, due_over, ends_once}
 use Rattle.task_laws.proofs.SceneLemmas.{base_is, runner_there}
-use Rattle.task_laws.specs.Ends.{CalledThere, is_sync_work, MayBeAborted, SyncUnnamed}
+use Rattle.task_laws.specs.Ends.{is_sync_work, MayBeAborted, SyncUnnamed}
 use Rattle.task_laws.proofs.SyncWorks.{CallersKnown, callers_word, opening_callers}
-use Rattle.task_laws.proofs.Works.{AbortsNoSync, Doing, WorksGo, WorksHold, doing, doing_of, is_late, opening_works, first_works, works_word}
+use Rattle.task_laws.proofs.WorksCame.{Doing, doing_of}
+use Rattle.task_laws.proofs.Works.{WorksGo, WorksHold, number_of, opening_works, first_works, works_word}
 use Rattle.task_rules.proofs.WalkSteps.{step_walks}
-use Rattle.task_laws.specs.Order.{InOrder}
-use Rattle.task_places.proofs.PlaceLaw.{entry_ready}
-use Rattle.task_rules.proofs.LawLemmas.{never_fewer, run_goes_on}
-use Rattle.task_places.proofs.Entries.{next_first, popped_cleared}
-use Rattle.task_laws.proofs.GuestEnds.{CallsFound, guest_step}
+use Rattle.task_laws.specs.Order.{InOrder, OpeningInOrder}
+use Rattle.task_laws.proofs.StepEnds.{Answered, CallsFound, step_ends}
 use Rattle.task_places.specs.Once.{RunsAreOnce, IsUnbegun}
-use Rattle.task_places.proofs.OrderLemmas.{opening_in_order, step_in_order}
-use Rattle.task_machine.specs.declared.records.Subtask.TheVariants as subtask
-use Rattle.task_machine.specs.declared.records.HowFar.TheVariants as how_far
-use Rattle.task_machine.specs.declared.records.WorkCaller.TheVariants as work_caller
-use Rattle.task_machine.specs.declared.records.Entry.TheVariants as entry
-use Rattle.task_machine.specs.declared.records.Turn.TheVariants as turn
-use Rattle.task_machine.specs.declared.records.Place.TheVariants as place
+use Rattle.task_places.proofs.OrderLemmas.{asked, held_of, opening_in_order, step_in_order}
 
 -- ---- What is known before a step
 
@@ -36,55 +24,18 @@ abbrev DueOver : Core → Type 0
 DueOver s = (sub : Subtask) (e : Status) → Due sub e s → Over sub s
 
 record Known (x : Setting) (s : State) : Type 0 where
-  reached : Reached x s
   order : InOrder x.component s
   told : EndsTold s.core
   works : WorksHold (Unit {0}) s.core
   unnamed : SyncUnnamed s
   callers : CallersKnown s.core
-  names : NamesKnown s.core
   zero : MayBeAborted s.core 0
   over : DueOver s.core
 
-reached_step : (x : Setting) (s : State) (l : Label) (t : State) → Reached x s → Step x s l t → Reached x t
-reached_step x s l t r step = record {
-  scripts = r.scripts;
-  instances = r.instances;
-  handle_limit = r.handle_limit;
-  capacity = r.capacity;
-  main = r.main;
-  labels = r.labels ++ l ∷ [];
-  run = run_goes_on x (opening r.instances r.handle_limit r.capacity r.main) r.labels s l t r.run step;
-}
+spawn_is : {S : Type 0} {s : Core} → WorksHold S s → (i : ℕ) → is_spawn i s ≡ true → MayBeAborted s i
+spawn_is h i is = record { made = h.stand.number i (grind arith); other = grind arith }
 
-held_of : (x : Setting) (s : State) → InOrder x.component s → CallsHold x.component s.core
-held_of x s h = record { numbered = h.numbered; kinds = h.kinds; deliveries = h.deliveries }
-
-work_there : (P : Work → Bool) (i : ℕ) (s : Core) → option_map_or P (get s.works i) false ≡ true → (w : Work) × ((get s.works i ≡ Some w) × (P w ≡ true))
-work_there P i s h = at (get s.works i) refl h
-  where
-    at : (o : Option Work) → get s.works i ≡ o → option_map_or P o false ≡ true → (w : Work) × ((get s.works i ≡ Some w) × (P w ≡ true))
-    at None is g = no_way g
-    at (Some w) is g = (w, (is, g))
-
-named_there : (k h : ℕ) (s : Core) → subtask_handle (subtask.Guest k) s ≡ Some h → is_some (get s.calls k) ≡ true
-named_there k h s e = grind arith
-
-spawn_other : (i : ℕ) (s : Core) → is_spawn i s ≡ true → (v : Doing) × ((doing_of i s ≡ Some v) × (is_sync_work v.caller ≡ false))
-spawn_other i s h = let r = work_there (λ w. is_spawn_caller w.caller) i s h in (doing r.0, (ap (option_map doing) r.1.0, grind arith))
-
-waited_there : (n i : ℕ) (s : Core) → work_caller_of i s ≡ work_caller.Sync n → is_stage_ended (stage_of i s) ≡ true → (v : Doing) × ((doing_of i s ≡ Some v) × ((is_sync_work v.caller ≡ true) × (is_late v.stage ≡ true)))
-waited_there n i s caller ended = let r = work_there (λ w. is_sync_work w.caller && is_late w.stage) i s (grind arith) in (doing r.0, (ap (option_map doing) r.1.0, grind arith))
-
-abbrev is_script : Main → Bool
-is_script (Scripted p) = true
-is_script Unscripted = false
-
-abbrev is_blocked : Option Place → Bool
-is_blocked (Some (place.Blocked sub)) = true
-is_blocked _ = false
-
-module _ (x : Setting) (s : State) (l : Label) (t : State) (k : Known x s) (f : CalledThere s) (step : Step x s l t) where
+module _ (x : Setting) (s : State) (l : Label) (t : State) (k : Known x s) (step : Step x s l t) where
   w : Walked x s l t
   w = step_walks x s l t step
 
@@ -104,13 +55,16 @@ module _ (x : Setting) (s : State) (l : Label) (t : State) (k : Known x s) (f : 
   at_first i h = let q = from_base (λ c. MayBeAborted c i) h in record { made = q.made; other = q.other }
 
   names_base : NamesNoSync a.base
-  names_base i h j e = at_base j (k.unnamed.works i h j (from_base (λ c. subtask_at i h c ≡ Some (subtask.Host j)) e))
+  names_base i h j e = at_base j (k.unnamed.works i h j (from_base (λ c. subtask_at i h c ≡ Some (Subtask.Host j)) e))
+
+  callers_base : CallersKnown a.base
+  callers_base = to_base CallersKnown k.callers
 
   -- nothing that is aborted is a sync call's
-  unsync : AbortsNoSync a
-  unsync i (AbortsOwn (n, (h, (runner, named)))) = let q = names_base (instance_of n a.base) h i named in (q.made, λ u e. ap (λ y. is_sync_work y) (sym (caller_is i a.base u e)) ∙ q.other)
-  unsync i (ScriptAborts p j main is) = subst (λ (n : ℕ). (n ≤ a.base.made.works) × ((u : Doing) → doing_of n a.base ≡ Some u → is_sync_work u.caller ≡ false)) (sym is) (to_base (λ c. (spawned_at p j ≤ c.made.works) × ((u : Doing) → doing_of (spawned_at p j) c ≡ Some u → is_sync_work u.caller ≡ false)) (let q = k.unnamed.spawns p j main in (q.made, λ u e. ap (λ y. is_sync_work y) (sym (caller_is (spawned_at p j) s.core u e)) ∙ q.other)))
-  unsync i (ProgramAborts main is) = to_base (λ c. (i ≤ c.made.works) × ((u : Doing) → doing_of i c ≡ Some u → is_sync_work u.caller ≡ false)) (let r = spawn_other i s.core (from_base (λ c. is_spawn i c ≡ true) is) in ((k.works.works i r.0 r.1.0).number, λ u e. ap (λ (o : Option Doing). is_sync_work (unwrap_or o r.0).caller) (sym e ∙ r.1.0) ∙ r.1.1))
+  unsync : (i : ℕ) → MayAbort a i → MayBeAborted a.base i
+  unsync i (AbortsOwn (n, (h, (runner, named)))) = names_base (instance_of n a.base) h i named
+  unsync i (ScriptAborts p j main is) = at_base i (rw is (k.unnamed.spawns p j main))
+  unsync i (ProgramAborts main is) = at_base i (spawn_is k.works i (from_base (λ c. is_spawn i c ≡ true) is))
 
   abbrev Kept : Core → Type 0
   Kept u = WorksGo (Unit {0}) a u × (NamesNoSync u × (((i : ℕ) → MayBeAborted s.core i → MayBeAborted u i) × CallersKnown u))
@@ -123,131 +77,84 @@ module _ (x : Setting) (s : State) (l : Label) (t : State) (k : Known x s) (f : 
         (
           names_word a v u ok q.0.holds q.1.0,
           (
-            λ i h. abort_kept a v u ok q.0.holds i (q.1.1.0 i h),
-            callers_word a (to_base (λ c. (i : ℕ) (v : Doing) → doing_of i c ≡ Some v → i ≤ c.made.works) (λ i v e. (k.works.works i v e).number)) (to_base CallersKnown k.callers) names_base v u ok q.0 (λ i h. q.1.1.0 i (at_first i h)) q.1.1.1,
+            λ i h. abort_kept a v u ok i (q.1.1.0 i h),
+            callers_word a (to_base (λ c. (i : ℕ) (v : Doing) → doing_of i c ≡ Some v → i ≤ c.made.works) (number_of k.works))
+                callers_base names_base v u ok q.0 (λ i h. q.1.1.0 i (at_first i h)) q.1.1.1,
           ),
         ),
       ))
       (first_works x s l w.next k.works, (k.unnamed.works, (λ i h. h, k.callers))) w.walk
 
-  names_base_known : NamesKnown a.base
-  names_base_known = to_base NamesKnown (record { there = k.names.there; once = k.names.once; number = k.names.number; called = k.names.called })
-
-  -- which calls handles and ops name
-  names_after : NamesKnown t.core
-  names_after = along NamesKnown (λ v u ok q. names_known_word a names_base_known (λ n j runs. to_base (λ c. how_far_of n c ≡ how_far.Calls (subtask.Guest j) → is_some (get c.calls j) ≡ true) (f n j runs)) v u ok q) k.names w.walk
-
   spawns_after : (p : MainPlace) (j : ℕ) → t.main ≡ Scripted p → MayBeAborted t.core (spawned_at p j)
   spawns_after p j at = by s.main refl t.main at w.main
     where
-      spawn_is : (i : ℕ) → is_spawn i t.core ≡ true → MayBeAborted t.core i
-      spawn_is i is = let r = spawn_other i t.core is in record { made = (works_after.0.holds.works i r.0 r.1.0).number; other = ap (λ y. is_sync_work y) (caller_is i t.core r.0 r.1.0) ∙ r.1.1 }
-
-      place_in : Main → MainPlace
-      place_in (Scripted q) = q
-      place_in Unscripted = p
-
-      named : (o : MainPlace) → s.main ≡ Scripted o → ((n : ℕ) × (spawned_at p j ≡ spawned_at o n)) ⊎ (is_spawn (spawned_at p j) t.core ≡ true) → MayBeAborted t.core (spawned_at p j)
-      named o was (inl (n, same)) = subst (MayBeAborted t.core) (sym same) (works_after.1.1.0 (spawned_at o n) (k.unnamed.spawns o n was))
-      named o was (inr is) = spawn_is (spawned_at p j) is
-
       by : (m : Main) → s.main ≡ m → (n : Main) → n ≡ Scripted p → SameMain m t.core n → MayBeAborted t.core (spawned_at p j)
-      by (Scripted o) was (Scripted q) is same = named o was (subst (λ (r : MainPlace). ((n : ℕ) × (spawned_at r j ≡ spawned_at o n)) ⊎ (is_spawn (spawned_at r j) t.core ≡ true)) (ap place_in is) (same j))
+      by (Scripted o) was (Scripted q) is same =
+          let e : q ≡ p = cc in
+          subst (λ r. MayBeAborted t.core (spawned_at r j)) e
+          (⊎_elim (λ n. subst (MayBeAborted t.core) (sym n.1) (works_after.1.1.0 (spawned_at o n.0) (k.unnamed.spawns o n.0 was)))
+          (λ spawn. spawn_is works_after.0.holds (spawned_at q j) spawn) (same j))
       by m was n is same = absurd (grind arith)
 
-  -- who runs or is taken isn't blocked
-  unblocked : (n : ℕ) → IsRunner a n → is_blocked (place_of n s.core) ≡ false
-  unblocked n runner = by_turn s.turn refl runner
-    where
-      by_turn : (u : Turn) → s.turn ≡ u → runner_at u s.core ≡ Some n → is_blocked (place_of n s.core) ≡ false
-      by_turn (turn.Run m) at is = ap is_blocked (k.order.in_place.runs n (at ∙ ap (λ (o : Option ℕ). turn.Run (unwrap_or o n)) is))
-      by_turn (turn.Take ended) at is = taken (next_entry s.core) refl is
-        where
-          taken : (o : Option (Mark × Entry)) → next_entry s.core ≡ o → thread_of_entry o ≡ Some n → is_blocked (place_of n s.core) ≡ false
-          taken (Some (y, entry.Thread m)) e g = subst (λ (j : ℕ). is_blocked (place_of j s.core) ≡ false) (ap (λ (o : Option ℕ). unwrap_or o n) g) (let r = entry_ready m s.core (k.order.in_place.placed m) (popped_cleared y m s.core (next_first s.core y (entry.Thread m) e) (k.order.in_place.placed m)).1 in ap is_blocked r.1.1)
-          taken o e g = absurd (grind arith)
-      by_turn u at is = absurd (grind arith)
-
   answered : Answered a
-  answered n i runner far = to_base (λ c. (v : Doing) × ((doing_of i c ≡ Some v) × ((is_sync_work v.caller ≡ true) × (is_late v.stage ≡ true)))) (at (from_base (λ c. how_far_of n c ≡ how_far.Calls (subtask.Host i)) far))
-    where
-      at : how_far_of n s.core ≡ how_far.Calls (subtask.Host i) → (v : Doing) × ((doing_of i s.core ≡ Some v) × ((is_sync_work v.caller ≡ true) × (is_late v.stage ≡ true)))
-      at far = ⊎_elim (λ blocked. no_way (sym (unblocked n runner) ∙ ap is_blocked blocked)) (λ ended. waited_there n i s.core (k.callers n i far) ended) (k.order.awaited n i far).1
-
-  holds : CallsHold x.component s.core
-  holds = held_of x s k.order
+  answered n i runner far = (ap (λ c. is_sync_work c) (callers_base n i far), (asked x s l t k.order w n i runner far).1)
 
   found : CallsFound a
   found = record {
-    own = λ n runner. to_base (λ c. is_some (get c.calls (task_of n c)) ≡ true) (let there = runner_there x s l w.next k.order.in_place n runner in grind (arith, k.order.calls_there n (task_of n s.core)));
-    named = λ j named. to_base (λ c. (i h : ℕ) → subtask_at i h c ≡ Some (subtask.Guest j) → is_some (get c.calls j) ≡ true) (λ i h e. named_there j h s.core (k.names.there i h j e)) (instance_of named.0 a.base) named.1.0 named.1.1.1;
+    own = λ n runner. let there = runner_there x s l w.next k.order.in_place n runner in
+        to_base (λ c. is_some (get c.calls (task_of n c)) ≡ true) (grind (arith, k.order.calls_there n (task_of n s.core)));
+    named = λ j named. to_base (λ c. (i h : ℕ) → subtask_at i h c ≡ Some (Subtask.Guest j) → is_some (get c.calls j) ≡ true)
+        (λ i h e. let there = k.order.names.there i h j e in grind arith) (instance_of named.0 a.base) named.1.0 named.1.1.1;
   }
 
-  told_base : EndsTold a.base
-  told_base = to_base EndsTold (record { goals = k.told.goals; events = k.told.events; results = k.told.results })
-
-  goes : CallsGo a t.core × (EndsGo a t.core × EndsTold t.core)
-  goes = ends_go k.order.codes holds k.told w
-
   end_step : (sub : Subtask) → EndStep x.component (record { before = s; label = l; after = t }) sub
-  end_step (subtask.Guest j) =
-      guest_step x s l t w.next k.order.codes (calls_begin x s l w.next holds).0 told_base holds goes.0 goes.1.0 goes.1.1
-      (step_goes x s l t k.order.codes holds step).1 (never_fewer x s l t step).threads w.ends.says found (λ i e due. k.over (subtask.Guest i) e due) j
-  end_step (subtask.Host i) = host_step (Unit {0}) x s l t w.next k.works works_after.0 w.ends.says tt answered i
+  end_step = step_ends x s l t k.order.codes (held_of k.order) k.told step w k.works works_after.0 found k.over answered
 
   known_after : Known x t
   known_after = record {
-    reached = reached_step x s l t k.reached step;
     order = step_in_order x s l t k.order step;
-    told = goes.1.1;
+    told = (ends_go k.order.codes (held_of k.order) k.told w).1.told;
     works = works_after.0.holds;
     unnamed = record { works = works_after.1.0; spawns = spawns_after };
     callers = works_after.1.1.1;
-    names = names_after;
     zero = works_after.1.1.0 0 k.zero;
-    over = λ sub e due. by sub e ((end_step sub).comes e due);
+    over = λ sub e due. due_over (end_step sub) e ((end_step sub).comes e due);
   }
-    where
-      by : (sub : Subtask) (e : Status) → Due sub e s.core ⊎ (written x.component (record { before = s; label = l; after = t }) ≡ Some (end_for e sub)) → Over sub t.core
-      by sub e (inl due) = (end_step sub).stays (k.over sub e due)
-      by sub e (inr is) = written_over (end_step sub) e is
 
 -- ---- Runs
 
 none_due : (instances handle_limit capacity : ℕ) (sub : Subtask) (e : Status) → Due sub e (fresh instances handle_limit capacity) → ⊥
 unfolding fresh
-none_due instances handle_limit capacity (subtask.Guest j) e (inl tells) = absurd (no_way (ap (λ (o : Option Status). is_some o) (sym (ap (λ (o : Option Call). undelivered_end (option_and_then (λ (c : Call). c.event) o)) (get-empty j)) ∙ tells)))
-none_due instances handle_limit capacity (subtask.Guest j) e (inr (is, there)) = no_way (ap (λ (o : Option ℕ). is_some o) (sym (get-empty j)) ∙ there)
-none_due instances handle_limit capacity (subtask.Host i) e (v, (at, due)) = no_way (ap (λ (o : Option Doing). is_some o) (sym (ap (option_map doing) (get-empty i)) ∙ at))
+none_due instances handle_limit capacity (Subtask.Guest j) e due = absurd (grind (arith, get-empty))
+none_due instances handle_limit capacity (Subtask.Host i) e due = absurd (grind (arith, get-empty))
 
 zero_unmade : (instances handle_limit capacity : ℕ) → MayBeAborted (fresh instances handle_limit capacity) 0
 unfolding fresh
-zero_unmade instances handle_limit capacity = record { made = le_refl _; other = ap (λ (o : Option Work). is_sync_work (option_map_or (λ w. w.caller) o work_caller.Spawn)) (get-empty 0) }
+zero_unmade instances handle_limit capacity = record { made = le_refl _; other = grind (arith, get-empty) }
 
-opening_spawns : (instances handle_limit capacity : ℕ) (main : Main) → IsUnbegun main → (p : MainPlace) (j : ℕ) → main ≡ Scripted p → MayBeAborted (fresh instances handle_limit capacity) (spawned_at p j)
-opening_spawns instances handle_limit capacity Unscripted begun p j is = no_way (ap is_script is)
-opening_spawns instances handle_limit capacity (Scripted q) begun p j is = subst (λ (n : ℕ). MayBeAborted (fresh instances handle_limit capacity) n) (ap (λ (r : MainPlace). spawned_at r j) (sym begun ∙ ap place_in is)) (none_spawned (j - 1))
+opening_spawns : (instances handle_limit capacity : ℕ) (main : Main) → IsUnbegun main → (p : MainPlace) (j : ℕ) → main ≡ Scripted p →
+    MayBeAborted (fresh instances handle_limit capacity) (spawned_at p j)
+opening_spawns instances handle_limit capacity Unscripted begun p j is = absurd (cc)
+opening_spawns instances handle_limit capacity (Scripted q) begun p j is = let e : p ≡ main_opening = cc in rw e (none_spawned (j - 1))
   where
-    place_in : Main → MainPlace
-    place_in (Scripted r) = r
-    place_in Unscripted = q
-
     none_spawned : (n : ℕ) → MayBeAborted (fresh instances handle_limit capacity) (unwrap_or (slice_get [] n) 0)
     none_spawned zero = zero_unmade instances handle_limit capacity
     none_spawned (suc n) = zero_unmade instances handle_limit capacity
 
 pub runs_are_once : RunsAreOnce
-runs_are_once x codes found instances handle_limit capacity main begun ls t run =
+unfolding OpeningInOrder RunsAreOnce
+runs_are_once x codes instances handle_limit capacity main begun ls t run =
     let s : State = opening instances handle_limit capacity main in
-    ends_once x (Known x) (λ s l t k step. known_after x s l t k (found s k.reached) step) (λ s l t k step sub. end_step x s l t k (found s k.reached) step sub) s
+    ends_once x (Known x) (λ s l t k step. known_after x s l t k step) (λ s l t k step sub. end_step x s l t k step sub) s
     (record {
-      reached = record { scripts = codes; instances = instances; handle_limit = handle_limit; capacity = capacity; main = main; labels = []; run = refl };
       order = opening_in_order x.component codes instances handle_limit capacity main;
       told = opening_ends_told instances handle_limit capacity;
       works = opening_works instances handle_limit capacity;
-      unnamed = record { works = opening_names instances handle_limit capacity; spawns = λ p j is. opening_spawns instances handle_limit capacity main begun p j is };
+      unnamed = record {
+        works = opening_names instances handle_limit capacity;
+        spawns = opening_spawns instances handle_limit capacity main begun;
+      };
       callers = opening_callers instances handle_limit capacity;
-      names = opening_names_known instances handle_limit capacity;
       zero = zero_unmade instances handle_limit capacity;
       over = λ sub e due. absurd (none_due instances handle_limit capacity sub e due);
     }) (λ sub e due. none_due instances handle_limit capacity sub e due) ls t run

@@ -1,10 +1,7 @@
 -- A state in order: each opening state is, and each step leads from one to one.
-use Rattle.task_rules.proofs.Machine.{[], ap, arith, Bool, ByHandle, ByOp, Call, call_instance, callee_of, can_come, Component, Core, empty, false, fresh, get, get-empty, HasSubtask, HowFar, inl, inr, instance_of, is_fresh, is_some, is_sync_call, is_there, IsRunner, Label, length, List, None, Op, op_of_thread, opening, Option, option_and_then, option_map, option_map_or, Place, place_of, Placed, refl, Run, Scene, scene_of, Script, script_in, Setting, slice_get, Some, State, Steady, subst, sym, task_of, Thread, true, unwrap_or, Walk, Walked, was_started, Work, ℕ, ◌∷◌, ◌≡◌, ◌≤◌, ◌⊎◌}
-use Rattle.task_machine.specs.declared.op.Op.TheVariants as op
-use Rattle.task_machine.specs.declared.op.TaskOp.TheVariants as task_op
-use Rattle.task_places.proofs.HostsAwaited.{step_works}
-use Rattle.task_places.proofs.Directs.{DirectsRun, directs_on_top, directs_word}
-use Rattle.task_machine.specs.declared.records.Subtask.TheVariants as subtask
+use Rattle.task_rules.proofs.Machine.{[], ap, arith, Bool, ByHandle, ByOp, Call, callee_of, can_come, Component, Core, false, fresh, get, get-empty, HasSubtask, how_far_of, HowFar, inl, inr, instance_of, is_fresh, is_some, is_sync_call, is_there, IsRunner, Label, length, List, None, Op, op_at_place, op_of_thread, opening, option_map, option_map_or, Place, place_of, Placed, refl, Run, Scene, scene_of, Script, script_in, Setting, Some, State, Steady, subst, Subtask, subtask_under_way, sym, task_of, Thread, true, Turn, Walk, Walked, was_started, ℕ, ⊎_elim, ◌∙◌, ◌∷◌, ◌≡◌, ◌≤◌, ◌⊎◌}
+use Rattle.task_places.proofs.HostsAwaited.{Asked, step_asked, step_works}
+use Rattle.task_places.proofs.Directs.{directs_on_top}
 use Rattle.task_laws.proofs.Joins.{joins_word, opening_joins}
 use Rattle.task_laws.proofs.Subtasks.{Traced, opening_named, traced_word}
 use Rattle.task_rules.proofs.WalkSteps.{step_walks}
@@ -17,15 +14,17 @@ use Rattle.task_laws.proofs.FitLemmas.{AllFit, fits_word, OfBase}
 use Rattle.task_laws.proofs.CountLemmas.{few_word}
 use Rattle.task_laws.proofs.SetHandles.{opening_sets, sets_named_word}
 use Rattle.task_laws.proofs.CallsLaw.{CallsGo, CallsHold}
-use Rattle.task_laws.proofs.CallsSteps.{base_out, calls_begin, of_base, word_goes, opening_holds, plain, plain_scene, step_goes}
-use Rattle.task_laws.specs.Order.{CallsNamed, InOrder, Numbered, OpeningInOrder, SetsNamed, StartsAwaited, StepInOrder, WasCall, CallsThere, MakesFew, Strands, WaitsAtHome, set_of_op, set_of_place, StepsMakeFew, JoinsNamed, DirectsOnTop, Fits, WorksQueued, HostsAwaited, names_script}
-use Rattle.task_machine.specs.declared.records.Turn.TheVariants as turn
-use Rattle.task_machine.specs.declared.records.Place.TheVariants as place
-use Rattle.task_machine.specs.declared.records.HowFar.TheVariants as how_far
+use Rattle.task_laws.proofs.CallsSteps.{calls_begin, of_base, word_goes, opening_holds, plain, plain_scene, step_goes}
+use Rattle.task_laws.proofs.AwaitedCalls.{DirectsRun, Inside, directs_word, CallsInside, inside_word, apart_after}
+use Rattle.task_laws.proofs.NamedCalls.{NamesHold, NamesGo, InsideThere, names_go_word, opening_names_known}
+use Rattle.task_laws.proofs.UnbegunCalls.{first_waits, Unbegun, unbegun_word, Waited}
+use Rattle.task_places.proofs.CallsBack.{back_apart}
+use Rattle.task_laws.specs.Order.{InPlace, StartsFirst, CallsAwaited, cancelled_call, is_awaited, HasNotRun, CallsNamed, InOrder, Numbered, OpeningInOrder, SetsNamed, StartsAwaited, StepInOrder, WasCall, CallsThere, MakesFew, Strands, WaitsAtHome, set_of_op, set_of_place, StepsMakeFew, JoinsNamed, DirectsOnTop, Fits, WorksQueued, HostsAwaited, names_script}
 use Rattle.task_places.proofs.PlaceLaw.{Arrives}
-use Rattle.task_places.proofs.PlaceSteps.{Withdrawable, in_place, step_arrives}
+use Rattle.task_places.proofs.PlaceSteps.{step_by, Withdrawable, settled_run, step_arrives}
 use Rattle.task_places.specs.Kept.{ReachedInOrder, ReachedInPlace, StepsKeepPlaces}
 use Rattle.task_rules.proofs.LawLemmas.{steady}
+use Rattle.task_rules.proofs.MoveLemmas.{at_place}
 
 -- ---- Starts
 
@@ -46,18 +45,7 @@ was_awaited s t placed steady starts k c at e =
 
 -- ---- Who is there
 
-place_there : (o : Option Place) (x : ℕ) → option_and_then set_of_place o ≡ Some x → is_some o ≡ true
-place_there o x h = grind arith
-
-op_there : (o : Option Thread) (x : ℕ) → set_of_op (option_map_or (λ (t : Thread). t.how_far) o how_far.Fresh) ≡ Some x →
-    is_some (option_map (λ (t : Thread). t.place) o) ≡ true
-op_there o x h = grind arith
-
--- a call that is there before and after is of one instance, and so is a thread
-same_call : (s t : Core) → Steady s t → Numbered s → (k : ℕ) → is_some (get s.calls k) ≡ true → is_some (get t.calls k) ≡ true →
-    call_instance k t ≡ call_instance k s
-same_call s t steady numbered k was now = grind (arith, steady.calls k, numbered.calls k)
-
+-- a call that is there before and after is of one export, and a thread of one instance
 same_callee : (s t : Core) → Steady s t → Numbered s → (k : ℕ) → is_some (get s.calls k) ≡ true → is_some (get t.calls k) ≡ true →
     callee_of k t ≡ callee_of k s
 same_callee s t steady numbered k was now = grind (arith, steady.calls k, numbered.calls k)
@@ -65,13 +53,8 @@ same_callee s t steady numbered k was now = grind (arith, steady.calls k, number
 same_instance : (s t : Core) → Steady s t → Numbered s → CallsThere s → CallsThere t → (n : ℕ) → is_there n s ≡ true → is_there n t ≡ true →
     instance_of n t ≡ instance_of n s
 same_instance s t steady numbered before after n was now =
-    let same = same_call s t steady numbered (task_of n s) in
+    let same = same_callee s t steady numbered (task_of n s) in
     grind (arith, steady.threads n, numbered.threads n, before n (task_of n s), after n (task_of n t))
-
--- the instance of the call matters to a thread beside the first one
-same_script : (c : Component) (i j : ℕ) (explicit : Bool) (x : Script) → (explicit ≡ true → i ≡ j) → names_script c j explicit x ≡ true →
-    names_script c i explicit x ≡ true
-same_script c i j explicit x same h = grind arith
 
 pub steps_make_few : StepsMakeFew
 steps_make_few x s l t step =
@@ -82,6 +65,9 @@ steps_make_few x s l t step =
     grind arith
 
 -- ---- What the words of a step keep
+
+pub held_of : {c : Component} {s : State} → InOrder c s → CallsHold c s.core
+held_of h = record { numbered = h.numbered; kinds = h.kinds; deliveries = h.deliveries }
 
 module _ (x : Setting) (s : State) (l : Label) (t : State) (h : InOrder x.component s) (w : Walked x s l t) where
   -- the step's scene, in which the row reads what is beside the marks as it was before the step
@@ -128,31 +114,104 @@ module _ (x : Setting) (s : State) (l : Label) (t : State) (h : InOrder x.compon
   withdrawable = of_base (λ b. Withdrawable (record a { base = b })) s.turn s.core
       (λ m k is has unstarted. call_awaited s.core h.numbered h.calls_there h.starts k (assumption (named m k has)) unstarted)
     where
-      named : (m k : ℕ) → HasSubtask a m (subtask.Guest k) → WasCall a.base k
+      named : (m k : ℕ) → HasSubtask a m (Subtask.Guest k) → WasCall a.base k
       named m k (ByHandle g e) = known.by_handle _ g k e
       named m k (ByOp e) = known.by_op m k e
 
-  pub arrives : Arrives (scene_of x s l w.next) t.core
-  arrives = step_arrives x s l t w h.in_place withdrawable
+  arrives : Arrives a t.core
+  arrives = plain x s l w.next (λ c. Arrives c t.core) (step_arrives x s l t w h.in_place withdrawable)
+
+  pub in_place_kept : InPlace t
+  in_place_kept = record { placed = arrives.placed; runs = λ m e. arrives.runs m (settled_run t.core w.next m (sym w.turn ∙ e)) }
 
   pub starts_kept : Steady s.core t.core → StartsAwaited t.core
   starts_kept steady k c at e =
-      let come : Arrives a t.core = plain x s l w.next (λ c. Arrives c t.core) arrives in
-      let fresh = come.fresh k (was_awaited s.core t.core h.in_place.placed steady h.starts k c at e) in
+      let fresh = arrives.fresh k (was_awaited s.core t.core h.in_place.placed steady h.starts k c at e) in
       grind (arith, h.numbered.threads k, steady.calls k)
 
+  -- ---- Calls that ops are inside of
+
+  unbegun_base : StartsFirst a.base
+  unbegun_base k r at first waits = let q = h.unbegun k r at first waits in record { unended = q.unended; alone = q.alone }
+
+  names_first : NamesHold s.core
+  names_first = record {
+    known = h.names;
+    number = λ k c at. (h.numbered.calls k c at).1;
+    least = λ n k far. (h.calls_named.by_op n k (ap subtask_under_way far)).number;
+  }
+
+  names_base : NamesHold a.base
+  names_base =
+      let n = names_first in
+      record { known = record { there = h.names.there; once = h.names.once; called = h.names.called }; number = n.number; least = n.least }
+
+  calls_base : CallsAwaited a.base
+  calls_base = record { inside = h.calls.inside; apart = h.calls.apart }
+
+  numbered_base : Numbered a.base
+  numbered_base = record { threads = λ n t e. assumption (h.numbered.threads n t e); calls = h.numbered.calls }
+
+  -- a running thread is under none
+  inside_there : InsideThere a
+  inside_there n k runs far =
+      ⊎_elim (λ under. let at = h.in_place.runs n runs in absurd (grind arith)) (λ awaited. grind arith) (h.calls.inside n k far)
+
+  least : (m k : ℕ) → cancelled_call (how_far_of m a.base) ≡ Some k → k ≤ a.base.made.threads
+  least m k e = (known.by_op m k (grind arith)).number
+
+  -- what handles and ops name, and the calls that are direct or that ops are inside of
+  called : DirectsRun a t.core × (NamesGo a t.core × CallsInside a t.core)
+  called =
+      along (λ u. DirectsRun a u × (NamesGo a u × CallsInside a u)) (λ v u ok q.
+      let names = names_go_word a names_base inside_there v u ok q.1.0 in (
+        directs_word a v u ok q.0,
+        (names, inside_word a names_base calls_base unbegun_base numbered_base least v u ok q.1.0 names q.0 q.1.1),
+      )) (
+        λ k d. inl d,
+        (
+          record { hold = names_first; were = λ n k far. inl far },
+          record { inside = λ n k far. ⊎_elim inl (λ w. inr (inl w)) (h.calls.inside n k far); cancelled = λ m k e. inl e },
+        ),
+      ) walk
+
   pub directs_kept : Steady s.core t.core → Numbered t.core → DirectsOnTop t.core
-  directs_kept steady after =
-      let goes = base_out (λ b. Arrives (record a { base = b }) t.core) s.turn s.core arrives in
-      directs_on_top a s.core t.core steady h.numbered after goes (λ k. refl) (λ k. refl) h.directs (along (DirectsRun a) (directs_word a) (λ k d. inl d) walk)
+  directs_kept steady after = directs_on_top a s.core t.core steady h.numbered after arrives (λ k. refl) (λ k. refl) h.directs called.0
+
+  pub awaited_kept : CallsAwaited t.core
+  awaited_kept = record {
+    inside = λ n k far. inside n k far (called.1.1.inside n k far);
+    apart = apart_after a names_base calls_base unbegun_base numbered_base least t.core called.1.0 called.1.1;
+  }
+    where
+      back : (n k : ℕ) → place_of n s.core ≡ Some (Place.Under k) → a.next ≡ Turn.Run n → subtask_under_way (how_far_of n t.core) ≡ None
+      back n k at to = step_by x s l t w h.in_place withdrawable
+          (λ c u. place_of n c.base ≡ Some (Place.Under k) → c.next ≡ Turn.Run n → subtask_under_way (how_far_of n u) ≡ None)
+          (λ c b m q u base first same f d ends at to. back_apart f n k at to d)
+          (of_base (λ b. place_of n b ≡ Some (Place.Under k)) s.turn s.core at) to
+
+      inside : (n k : ℕ) → how_far_of n t.core ≡ HowFar.Calls (Subtask.Guest k) → Inside a n k t.core →
+          (place_of n t.core ≡ Some (Place.Under k)) ⊎ (option_map_or is_awaited (get t.core.calls k) false ≡ true)
+      inside n k far (inl under) =
+          ⊎_elim inl (λ gone. absurd (⊎_elim (λ to. let y = back n k under to in grind arith) (λ none. grind arith) gone.1))
+          (arrives.covered n k under)
+      inside n k far (inr (inl awaited)) = inr awaited
+      inside n k far (inr (inr (new, (runner, next)))) =
+          let number = (h.in_place.placed k).number in
+          let e = arrives.entered k (grind arith) next in
+          inl (let mine = e.1.0 in let at = e.1.1 in grind arith)
 
   pub works_kept : WorksQueued t.core × HostsAwaited t.core
-  works_kept = step_works x s l t w h.in_place withdrawable h.works h.awaited
+  works_kept = step_works x s l t w h.in_place withdrawable h.awaited h.works
+
+  pub asked : Asked (scene_of x s l w.next)
+  asked = step_asked x s l t w h.in_place withdrawable h.awaited
 
   -- ---- Scripts
 
   fits_base : Fits x.component a.base
-  fits_base n r at = let f = h.fits n r at in record { script = f.script; position = f.position; op = f.op; under = f.under; first = f.first }
+  fits_base n r at =
+      let f = h.fits n r at in record { script = f.script; position = f.position; op = f.op; under = f.under; first = f.first }
 
   has_call : (n : ℕ) (r : Thread) → get s.core.threads n ≡ Some r → is_some (get s.core.calls r.call) ≡ true
   has_call n r at = h.calls_there n r.call (ap (λ o. option_map (λ (t : Thread). t.call) o) at)
@@ -166,53 +225,51 @@ module _ (x : Setting) (s : State) (l : Label) (t : State) (h : InOrder x.compon
     same = λ to b is. let e : r ≡ b = cc in (ap (λ (t : Thread). t.call) e, ap (λ (t : Thread). t.script) e);
     op = inr (has_call n r at, f.op);
     under = λ d. ((has_call n r at, f.under d), inl (grind arith));
-    still = λ d b is. let e : r ≡ b = cc in (ap (λ (t : Thread). t.call) e, (ap (λ (t : Thread). t.script) e, ap (λ (t : Thread). t.position) e));
+    still = λ d b is. let e : r ≡ b = cc in grind arith;
   }
 
-  fits_last : AllFit a t.core
-  fits_last =
-      let p : CallsHold x.component s.core = record { numbered = h.numbered; kinds = h.kinds; deliveries = h.deliveries } in
-      let b = calls_begin x s l w.next p in
-      let known = of_base (λ b. RunnerHoused (record a { base = b })) s.turn s.core runner_housed in
-      let fits = of_base (λ b. Fits x.component b) s.turn s.core fits_base in
-      let first = of_base (λ b. AllFit (record a { base = b }) s.core) s.turn s.core fits_first in
-      let runs = of_base (λ b. (n : ℕ) → s.turn ≡ turn.Run n → place_of n b ≡ Some place.Running) s.turn s.core h.in_place.runs in
-      let there = of_base (λ b. (n : ℕ) (r : Thread) → get b.threads n ≡ Some r → is_some (get b.calls r.call) ≡ true) s.turn s.core has_call in
-      let c = scene_of x s l w.next in
-      let q = along (λ u. CallsGo c u × AllFit c u)
-      (λ v m ok q. (word_goes c h.codes b.0 v m ok q.0, fits_word c h.codes b.0 known fits runs there v m ok q.0 q.1)) (b.1, first) w.walk in
-      base_out (λ b. AllFit (record a { base = b }) t.core) s.turn s.core q.1
+  -- what is so of threads and their ops as the step ends
+  last : AllFit a t.core × Unbegun a t.core
+  last =
+      let b = plain x s l w.next (λ c. CallsHold x.component c.base × CallsGo c s.core) (calls_begin x s l w.next (held_of h)) in
+      (along (λ u. CallsGo a u × (AllFit a u × Unbegun a u)) (λ v m ok q. (
+        word_goes a h.codes b.0 v m ok q.0,
+        (
+          fits_word a h.codes b.0 runner_housed fits_base h.in_place.runs has_call v m ok q.0 q.1.0,
+          unbegun_word a b.0 h.in_place.runs unbegun_base v m ok q.0 q.1.1,
+        ),
+      )) (b.1, (fits_first, record { came = λ k f. inl f; rest = waited_first })) walk).1
+    where
+      waited_first : (k : ℕ) → Waited a k → is_some (get s.core.threads k) ≡ true → HasNotRun s.core k
+      waited_first k f there =
+          let r = at_place (λ (r : Thread). true) (get s.core.threads k) (grind arith) in
+          let below = h.numbered.threads k r.0 r.1.0 in h.unbegun k r.0 r.1.0 (grind arith) (grind arith)
+
+  pub unbegun_kept : StartsFirst t.core
+  unbegun_kept k r at first waits = let q = last.1 in let f = first_waits k t.core in q.rest k (q.came k (grind arith)) (grind arith)
 
   pub fits_kept : Steady s.core t.core → Fits x.component t.core
   fits_kept steady n r at =
-      let f = fits_last n r at in
-      let now = calls_kept n r.call (ap (λ o. option_map (λ (t : Thread). t.call) o) at) in
+      let f = last.0 n r at in
       record {
-        script = same_script x.component (call_instance r.call t.core) (call_instance r.call s.core) r.explicit r.script
-            (λ e. same_call s.core t.core steady h.numbered r.call (f.call e) now) f.script;
-        position = at_place r.position r.call r.script f.position now;
-        op = comes r.how_far f.op;
+        -- the instance of the call matters to a thread beside the first one
+        script = let home = λ (e : r.explicit ≡ true). ap (λ c. c.instance) (same (f.call e)) in let script = f.script in grind arith;
+        position = ⊎_elim (λ zero. omega (arith, zero))
+            (λ b. subst (λ e. r.position ≤ length (script_in x.component e r.script)) (sym (same b.0)) b.1) f.position;
+        op = ⊎_elim (λ fresh. ap (can_come (op_of_thread x.component t.core r)) fresh) (λ e. at_op (λ o. can_come o r.how_far) e) f.op;
         under = λ d. at_op is_sync_call (f.under d).0;
         first = f.first;
       }
     where
+      now : is_some (get t.core.calls r.call) ≡ true
+      now = calls_kept n r.call (ap (λ o. option_map (λ (t : Thread). t.call) o) at)
+
+      same : is_some (get s.core.calls r.call) ≡ true → callee_of r.call t.core ≡ callee_of r.call s.core
+      same was = same_callee s.core t.core steady h.numbered r.call was now
+
       at_op : (test : Op → Bool) → OfBase a r test → test (op_of_thread x.component t.core r) ≡ true
       at_op test e =
-          let now = calls_kept n r.call (ap (λ o. option_map (λ (t : Thread). t.call) o) at) in
-          let same = same_callee s.core t.core steady h.numbered r.call e.0 now in
-          subst (λ f. test (unwrap_or (slice_get (script_in x.component f r.script) r.position) (op.Task task_op.Exit)) ≡ true) (sym same) e.1
-
-      comes : (f : HowFar) → (f ≡ how_far.Fresh) ⊎ OfBase a r (λ o. can_come o f) → can_come (op_of_thread x.component t.core r) f ≡ true
-      comes f (inl fresh) = ap (can_come (op_of_thread x.component t.core r)) fresh
-      comes f (inr e) = at_op (λ o. can_come o f) e
-
-      within : ℕ → ℕ → Script → Type 0
-      within p k y = (p ≡ 0) ⊎ ((is_some (get s.core.calls k) ≡ true) × (p ≤ length (script_in x.component (callee_of k s.core) y)))
-
-      at_place : (p k : ℕ) (y : Script) → within p k y → is_some (get t.core.calls k) ≡ true → p ≤ length (script_in x.component (callee_of k t.core) y)
-      at_place p k y (inl zero_at) now = omega (arith, zero_at)
-      at_place p k y (inr b) now =
-          subst (λ e. p ≤ length (script_in x.component e y)) (sym (same_callee s.core t.core steady h.numbered k b.0 now)) b.1
+          subst (λ f. test (op_at_place (script_in x.component f r.script) r.position) ≡ true) (sym (same e.0)) e.1
 
   -- handles of sets, and the joins to them
   pub joined_kept : SetsNamed t.core × JoinsNamed t.core
@@ -229,8 +286,8 @@ module _ (x : Setting) (s : State) (l : Label) (t : State) (h : InOrder x.compon
   homed_first : Homed a s.core
   homed_first = record {
     homes = λ i y q. assumption;
-    by_place = λ n y e. (h.waits.by_place n y e, place_there (place_of n s.core) y e);
-    by_op = λ n y e. (h.waits.by_op n y e, op_there (get s.core.threads n) y e);
+    by_place = λ n y e. (h.waits.by_place n y e, grind arith);
+    by_op = λ n y e. (h.waits.by_op n y e, grind arith);
   }
 
   homed_last : Homed a t.core
@@ -238,8 +295,8 @@ module _ (x : Setting) (s : State) (l : Label) (t : State) (h : InOrder x.compon
 
   pub waits_kept : Steady s.core t.core → WaitsAtHome t.core
   waits_kept steady = record {
-    by_place = λ n y e. let q = homed_last.by_place n y e in rw (same n (place_there (place_of n t.core) y e) q.1) q.0;
-    by_op = λ n y e. let q = homed_last.by_op n y e in rw (same n (op_there (get t.core.threads n) y e) q.1) q.0;
+    by_place = λ n y e. let q = homed_last.by_place n y e in rw (same n (grind arith) q.1) q.0;
+    by_op = λ n y e. let q = homed_last.by_op n y e in rw (same n (grind arith) q.1) q.0;
   }
     where
       same : (n : ℕ) → is_there n t.core ≡ true → is_there n s.core ≡ true → instance_of n t.core ≡ instance_of n s.core
@@ -250,11 +307,10 @@ module _ (x : Setting) (s : State) (l : Label) (t : State) (h : InOrder x.compon
 pub step_in_order : StepInOrder
 step_in_order x s l t h step =
     let w = step_walks x s l t step in
-    let p : CallsHold x.component s.core = record { numbered = h.numbered; kinds = h.kinds; deliveries = h.deliveries } in
-    let q : CallsHold x.component t.core = (step_goes x s l t h.codes p step).0 in
+    let q : CallsHold x.component t.core = (step_goes x s l t h.codes (held_of h) step).0 in
     record {
       codes = h.codes;
-      in_place = in_place x s l t w (arrives x s l t h w);
+      in_place = in_place_kept x s l t h w;
       strands = strands_kept x s l t h w;
       directs = directs_kept x s l t h w (steady x s l t step) q.numbered;
       works = (works_kept x s l t h w).0;
@@ -262,6 +318,8 @@ step_in_order x s l t h step =
       numbered = q.numbered;
       calls_there = calls_kept x s l t h w;
       calls_named = named_kept x s l t h w;
+      names = (called x s l t h w).1.0.hold.known;
+      calls = awaited_kept x s l t h w;
       waits = waits_kept x s l t h w (steady x s l t step);
       sets_named = (joined_kept x s l t h w).0;
       joins_named = (joined_kept x s l t h w).1;
@@ -269,54 +327,39 @@ step_in_order x s l t h step =
       deliveries = q.deliveries;
       fits = fits_kept x s l t h w (steady x s l t step);
       starts = starts_kept x s l t h w (steady x s l t step);
+      unbegun = unbegun_kept x s l t h w;
     }
 
 -- ---- The first state
 
 opening_placed : (instances handle_limit capacity : ℕ) → Placed (fresh instances handle_limit capacity)
 unfolding fresh
-opening_placed instances handle_limit capacity n = record {
-  number = λ e. let o = get-empty {X = Thread} n in absurd (cc);
-  behind = λ f e. let o = get-empty {X = Thread} n in absurd (cc);
-  switch = let o : get (empty {X = Thread}) n ≡ None = get-empty n in cc;
-  high = let o : get (empty {X = Thread}) n ≡ None = get-empty n in cc;
-  low = let o : get (empty {X = Thread}) n ≡ None = get-empty n in cc;
-  callers = λ f. grind (arith, get-empty);
-}
+opening_placed instances handle_limit capacity n = grind (arith, get-empty)
 
 pub opening_in_order : OpeningInOrder
-unfolding fresh
+unfolding fresh OpeningInOrder
 opening_in_order c codes instances handle_limit capacity main =
     let q : CallsHold c (fresh instances handle_limit capacity) = opening_holds c instances handle_limit capacity in
     record {
       codes = codes;
       in_place = record { placed = opening_placed instances handle_limit capacity; runs = λ n e. absurd (cc) };
-      strands = record {
-        below = λ n m e. let o = get-empty {X = Thread} n in absurd (cc);
-        made = λ n m e. let o = get-empty {X = Thread} n in absurd (cc);
-        alone = λ n k m e f. let o = get-empty {X = Thread} n in absurd (cc);
-      };
+      strands = grind (arith, get-empty);
       directs = λ n there implicit direct. let o = get-empty {X = Thread} n in absurd (cc);
-      works = record {
-        each = λ i w at. let o = get-empty {X = Work} i in absurd (cc);
-        low = λ i. (refl, refl);
-        made = λ i there. let o = get-empty {X = Work} i in absurd (cc);
-        gone = λ i none. (refl, refl);
-      };
+      works = grind (arith, get-empty);
       awaited = λ n i far. let o = get-empty {X = Thread} n in absurd (cc);
       numbered = q.numbered;
       calls_there = λ n k e. let o = get-empty {X = Thread} n in absurd (cc);
-      waits = record {
-        by_place = λ n x e. let o = get-empty {X = Thread} n in absurd (cc);
-        by_op = λ n x e. let o = get-empty {X = Thread} n in absurd (cc);
-      };
+      waits = grind (arith, get-empty);
       calls_named = opening_named instances handle_limit capacity;
+      names = opening_names_known instances handle_limit capacity;
+      calls = grind (arith, get-empty);
       sets_named = opening_sets instances handle_limit capacity;
       joins_named = opening_joins instances handle_limit capacity;
       kinds = q.kinds;
       deliveries = q.deliveries;
       fits = λ n t at. let o = get-empty {X = Thread} n in absurd (cc);
       starts = λ k c at e. let o = get-empty {X = Call} k in absurd (cc);
+      unbegun = λ k t at first waits. let o = get-empty {X = Thread} k in absurd (cc);
     }
 
 -- ---- Runs
@@ -326,12 +369,15 @@ run_in_order x s h [] t run = rw run h
 run_in_order x s h (l ∷ ls) t run = run_in_order x run.0 (step_in_order x s l run.0 h run.1.0) ls t run.1.1
 
 pub reached_in_order : ReachedInOrder
+unfolding OpeningInOrder ReachedInOrder
 reached_in_order x s r =
     let first = opening_in_order x.component r.scripts r.instances r.handle_limit r.capacity r.main in
     run_in_order x (opening r.instances r.handle_limit r.capacity r.main) first r.labels s r.run
 
 pub reached_in_place : ReachedInPlace
+unfolding ReachedInOrder ReachedInPlace
 reached_in_place x s r = (reached_in_order x s r).in_place
 
 pub steps_keep_places : StepsKeepPlaces
+unfolding ReachedInOrder
 steps_keep_places x s l t r step = (step_in_order x s l t (reached_in_order x s r) step).in_place

@@ -7,11 +7,11 @@ use Rattle.task_rules.specs.Stalled.{Setting}
 use Rattle.task_rules.specs.Step.{Step}
 
 -- each reached state is in order
-abbrev pub ReachedInOrder : Type 0
+unfoldable pub ReachedInOrder : Type 0
 ReachedInOrder = (x : Setting) (s : State) → Reached x s → InOrder x.component s
 
 -- each thread has its place in it, and one whose turn it is runs
-abbrev pub ReachedInPlace : Type 0
+unfoldable pub ReachedInPlace : Type 0
 ReachedInPlace = (x : Setting) (s : State) → Reached x s → InPlace s
 
 -- each step from a reached state leads to such a state

@@ -1,7 +1,6 @@
 -- What happens at most once in each run.
 use Rattle.std.specs.Prelude.{List, ℕ, ◌≡◌}
-use Rattle.task_laws.specs.Ends.{CalledThere}
-use Rattle.task_laws.specs.Settings.{CodesInCallbacks, Reached}
+use Rattle.task_laws.specs.Settings.{CodesInCallbacks}
 use Rattle.task_machine.specs.Core.{Main, State, Scripted, Unscripted}
 use Rattle.task_machine.specs.declared.label.Label.{Label}
 use Rattle.task_rules.specs.History.{history}
@@ -14,10 +13,9 @@ abbrev pub IsUnbegun : Main → Type 0
 IsUnbegun (Scripted p) = p ≡ main_opening
 IsUnbegun Unscripted = Unit {0}
 
--- Each run from an opening state, of a component whose codes stand in callbacks, writes and hands out each end once; where in each reached
--- state the call that the running thread's op is inside of is there.
-abbrev pub RunsAreOnce : Type 0
-RunsAreOnce = (x : Setting) → CodesInCallbacks x.component → ((s : State) → Reached x s → CalledThere s) →
+-- each run from an opening state, of a component whose codes stand in callbacks, writes and hands out each end once
+unfoldable pub RunsAreOnce : Type 0
+RunsAreOnce = (x : Setting) → CodesInCallbacks x.component →
     (instances handle_limit capacity : ℕ) (main : Main) → IsUnbegun main → (ls : List Label) (t : State) →
     (run : Run x (opening instances handle_limit capacity main) ls t) →
     EndsOnce x.component (history x (opening instances handle_limit capacity main) ls t run)

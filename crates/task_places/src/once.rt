@@ -2,9 +2,9 @@ ghost use Rattle.task_places.specs.Once.{RunsAreOnce};
 
 /// In each run from an opening state each end of a call and of a host work is written at most once,
 /// and at most one step hands it out, with the status with which it was written. Premises: the ops
-/// that end an activation stand in callback exports alone; main is a script at its first op, or no
-/// script; and in each reached state the call that the running thread's op is inside of is there
-/// (`CalledThere`).
+/// that end an activation stand in callback exports alone; and main is a script at its first op, or
+/// no script.
+#[tactic(auto, using(crate::proofs::OnceSteps::runs_are_once))]
 pub fn runs_are_once()
     ensures { RunsAreOnce }
 {}

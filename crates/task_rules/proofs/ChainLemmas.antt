@@ -1,9 +1,5 @@
 -- What holds along a chain of words.
-use Rattle.task_rules.proofs.Machine.{Advance, after_word, Allowed, Chain, Collapses, Core, Departs, EndsOver, GoesBack, inl, inr, IsFall, IsSettling, IsShift, Lands, LandsAt, MayGo, MayLand, Move, NoWord, Places, Placing, Pop, Promote, Put, Quits, refl, Remains, RemoveCall, RemoveGroup, RemoveThread, Scene, SetHowFar, Settles, SetTrapped, SetUninteresting, Stay, Stays, Then, Trip, Walk, WasUnder, Word, ℕ, ◌≡◌}
-use Rattle.task_machine.specs.declared.words.Mark.TheVariants as mark
-use Rattle.task_machine.specs.declared.records.Place.TheVariants as place
-use Rattle.task_machine.specs.declared.records.Turn.TheVariants as turn
-use Rattle.task_machine.specs.declared.records.HowFar.TheVariants as how_far
+use Rattle.task_rules.proofs.Machine.{Advance, after_word, Allowed, Bool, Chain, Collapses, Core, Departs, EndsOver, false, GoesBack, HowFar, if◌then◌else◌, inl, inr, IsFall, IsSettling, IsShift, Lands, LandsAt, Mark, MayGo, MayLand, Move, NoWord, Place, Places, Placing, Pop, Promote, Put, Quits, refl, Remains, RemoveCall, RemoveGroup, RemoveThread, Scene, SetHowFar, Settles, SetTrapped, SetUninteresting, Stay, Stays, Then, Trip, true, Turn, Walk, WasUnder, Word, ℕ, ◌≡◌}
 
 module _ {may : Word → Core → Type 0} where
   -- what holds at first and is kept by each word holds at last
@@ -14,6 +10,10 @@ module _ {may : Word → Core → Type 0} where
   pub join : {b m : Core} → Chain may b m → {t : Core} → Chain may m t → Chain may b t
   join c NoWord = c
   join c (Then s w d ok) = Then s w (join c d) ok
+
+  pub chain_if : {b : Core} (c : Bool) (t u : Core) → (c ≡ true → Chain may b t) → (c ≡ false → Chain may b u) → Chain may b (if c then t else u)
+  chain_if true t u p q = p refl
+  chain_if false t u p q = q refl
 
 -- a chain of words that may be done for one reason is one of words that may be done for another
 pub weaken : {may can : Word → Core → Type 0} → ((w : Word) (s : Core) → may w s → can w s) → {b t : Core} → Chain may b t → Chain can b t
@@ -41,13 +41,13 @@ shift_keeps a _ s ok = absurd ok
 
 pub settle_keeps : (a : Scene) (w : Word) (s : Core) → IsSettling w s → Keeps a w s
 settle_keeps a (SetUninteresting k) s ok = tt
-settle_keeps a (RemoveCall k) s ok = ok
+settle_keeps a (RemoveCall k) s ok = (ok.0, inl ok.1)
 settle_keeps a (RemoveGroup g) s ok = ok
 settle_keeps a _ s ok = absurd ok
 
 -- the words of a step after which the thread runs on
 abbrev pub Going : Scene → Core → ℕ → Core → Type 0
-Going a b n t = a.next ≡ turn.Run n → Stay a b t
+Going a b n t = a.next ≡ Turn.Run n → Stay a b t
 
 -- what may be done while the running thread stays may be done in the step
 pub stays_allowed : (a : Scene) (w : Word) (s : Core) → Stays a w s → Allowed a w s
@@ -60,14 +60,11 @@ stays_allowed a _ s ok = ok
 pub land_allowed : (a : Scene) (p : Placing) (s : Core) → MayLand a p s → Allowed a (Places p) s
 land_allowed a (Pop m) s ok = absurd ok
 land_allowed a (Promote k) s ok = absurd ok
-land_allowed a (Put mark.Switch n w) s ok = absurd ok
+land_allowed a (Put Mark.Switch n w) s ok = absurd ok
 land_allowed a _ s ok = inr ok
 
 pub settle_stays : (a : Scene) (w : Word) (s : Core) → IsSettling w s → Stays a w s
-settle_stays a (SetUninteresting k) s ok = tt
-settle_stays a (RemoveCall k) s ok = ok
-settle_stays a (RemoveGroup g) s ok = ok
-settle_stays a _ s ok = absurd ok
+settle_stays a w s ok = keeps_stays a w s (settle_keeps a w s ok)
 
 pub fall_allowed : (a : Scene) (w : Word) (s : Core) → IsFall a w s → Allowed a w s
 fall_allowed a (RemoveThread n) s ok = ok
@@ -88,5 +85,5 @@ module _ {a : Scene} {b : Core} where
   trip_walk (LandsAt s p n h c ok comes) = Then (after_word (Places p) s) (SetHowFar n h) (Then s (Places p) (stay_walk c) (land_allowed a p s ok)) comes
   trip_walk (Quits s t n c leave d) = gone_walk n c (Departs leave) d
   trip_walk (GoesBack s t n m v c is runs to under d ok) =
-      Then (after_word (Places (Move m place.Running)) t) (SetHowFar m (how_far.Answered v)) (Then t (Places (Move m place.Running)) (gone_walk n c (EndsOver m is to under) d) (inr ok)) ((n, (is, (to, under))), WasUnder n v under refl)
+      Then (after_word (Places (Move m Place.Running)) t) (SetHowFar m (HowFar.Answered v)) (Then t (Places (Move m Place.Running)) (gone_walk n c (EndsOver m is to under) d) (inr ok)) ((n, (is, (to, under))), WasUnder n v under refl)
   trip_walk (Collapses t over c) = weaken (fall_allowed a) c

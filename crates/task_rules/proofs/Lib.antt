@@ -1,4 +1,5 @@
 pub mod Machine
+pub mod CallThreads
 pub mod LawLemmas
 pub mod PromotionLemmas
 pub mod ChainLemmas
@@ -16,4 +17,3 @@ pub mod CheckLemmas
 pub mod StandLemmas
 pub mod StopLemmas
 pub mod MoveLemmas
-pub mod CancelLemmas

@@ -1,41 +1,32 @@
 -- Moves beside a thread that runs or is taken: they leave each other thread its place.
-use Rattle.task_rules.proofs.Machine.{[], ap, arith, Bool, cond, Core, displaced, false, get-remove, HasPlace, held_why, held_why_of, if◌then◌else◌, is_callback_waiter, is_free, is_some, is_there, is_waiting_on, List, Mark, may_wake, nat_tests, None, one_if, Option, option_and_then, option_map, option_map_or, Place, place_of, push_high, push_high_first, push_low, put_at, put_high, put_low, put_switch, refl, released, released_one, ReleaseKeepsPlaces, RemovalKeepsPlaces, remove_thread, set_place, set_switch, Some, StopKeepsPlaces, stopped, subst, sym, Thread, times, true, wake, WakeKeepsPlaces, waken_by, Why, why_of, ℕ, ◌+◌, ◌==◌, ◌∙◌, ◌∷◌, ◌≡◌, ◌≤◌}
-use Rattle.task_machine.specs.declared.records.Delivery.TheVariants as delivery
-use Rattle.task_machine.specs.declared.words.Mark.TheVariants as mark
-use Rattle.task_machine.specs.declared.records.Place.TheVariants as place
-use Rattle.task_machine.specs.declared.records.Why.TheVariants as why
-use Rattle.task_machine.proofs.MapLemmas.{get-remove_other, get-remove_same}
-pub use Rattle.task_rules.proofs.StandLemmas.{nobody}
-use Rattle.task_rules.proofs.StandLemmas.{Loose, Nothing, Stand, Watch, adds_all, by_count, by_number, eq_refl, is_so, is_watched, loose_gone, loosened, not_eq, put_high_adds, put_low_adds, set_place_adds, set_place_is, set_place_there, watching, zero_one}
-use Rattle.task_rules.proofs.StopLemmas.{comes_stand, put_switch_stand, stopped_stand}
+use Rattle.task_rules.proofs.Machine.{[], ap, arith, Bool, cond, Core, Delivery, displaced, false, get-remove, get-remove_other, get-remove_same, HasPlace, held_why, held_why_of, is_callback_waiter, is_free, is_there, List, Mark, may_wake, nat_tests, None, on_thread, one_if, Option, option_and_then, option_map, option_map_or, Place, place_of, Placed, push_high, push_high_first, push_low, put_at, put_high, put_low, put_switch, refl, released, released_one, ReleaseKeepsPlaces, RemovalKeepsPlaces, remove_thread, set_place, set_switch, Some, StopKeepsPlaces, stopped, subst, switch_entries, sym, Thread, times, true, wake, WakeKeepsPlaces, waken_by, Why, why_of, ℕ, ◌+◌, ◌==◌, ◌∙◌, ◌∷◌, ◌≡◌, ◌≤◌}
+pub use Rattle.task_machine.proofs.CommuteLemmas.{get-change}
+use Rattle.task_rules.proofs.StandLemmas.{nobody, Loose, Stand, Watch, adds_all, by_count, eq_refl, free_drops, is_so, is_watched, moves_stand, not_eq, place_kept, put_high_adds, put_low_adds, set_place_adds, zero_one, Adds}
+use Rattle.task_rules.proofs.StopLemmas.{displaced_stand, stopped_stand, switch_adds}
 
 -- ---- Where other threads are
 
 -- there is no such thread, or it runs, is under another, or its entry is being taken
 abbrev pub is_busy : Option Place → Bool
 is_busy None = true
-is_busy (Some place.Running) = true
-is_busy (Some (place.Ready m w)) = true
-is_busy (Some (place.Under m)) = true
+is_busy (Some Place.Running) = true
+is_busy (Some (Place.Ready m w)) = true
+is_busy (Some (Place.Under m)) = true
 is_busy _ = false
 
 -- the thread neither runs nor is under another, nor has an entry, nor is behind another
 abbrev pub is_parked : Place → Bool
-is_parked place.Running = false
-is_parked (place.Ready m w) = false
-is_parked (place.Under m) = false
-is_parked (place.Behind f) = false
+is_parked Place.Running = false
+is_parked (Place.Ready m w) = false
+is_parked (Place.Under m) = false
+is_parked (Place.Behind f) = false
 is_parked _ = true
 
-parked_free : (p : Place) → is_parked p ≡ true → is_free p ≡ true
-parked_free p h = grind arith
-
-not_both : (p : Place) → is_parked p ≡ true → is_busy (Some p) ≡ true → ⊥
-not_both p h b = grind arith
-
-at_place : (test : Place → Bool) (o : Option Place) → option_map_or test o false ≡ true → (p : Place) × (o ≡ Some p) × (test p ≡ true)
+-- what passes is there
+pub at_place : {X : Type 0} (test : X → Bool) (o : Option X) → option_map_or test o false ≡ true →
+    (x : X) × ((o ≡ Some x) × (test x ≡ true))
 at_place test None h = absurd (grind arith)
-at_place test (Some p) h = (p, refl, h)
+at_place test (Some x) h = (x, (refl, h))
 
 -- ---- A thread is gone
 
@@ -56,7 +47,7 @@ unfolding remove_thread
 removed_loose k n s l = grind (arith, nat_tests, get-remove)
 
 pub removed_gone : (n : ℕ) (s : Core) → Loose n s → HasPlace n (remove_thread n s)
-removed_gone n s l = loose_gone n (remove_thread n s) (gone_place n s) (removed_loose n n s l)
+removed_gone n s l = let is = gone_place n s in let r = removed_loose n n s l in grind arith
 
 pub removed_placed : (k n : ℕ) (s : Core) → (k == n) ≡ false → HasPlace k s → HasPlace k (remove_thread n s)
 unfolding remove_thread
@@ -71,67 +62,38 @@ removed_placed k n s e h = record {
 
 -- ---- Moves beside a busy thread
 
-there_moved : (m : ℕ) (p : Place) (s : Core) → is_there m s ≡ true → place_of m (set_place m p s) ≡ Some p
-there_moved m p s h = grind (arith, nat_tests, set_place_is m m p s)
-
-displaced_there : (m : ℕ) (o : Option ℕ) (s : Core) → is_there m (displaced o s) ≡ is_there m s
+-- who has no entry at switch stays where one gives way
+displaced_other : (m : ℕ) (o : Option ℕ) (s : Core) → switch_entries m o ≡ 0 → place_of m (displaced o s) ≡ place_of m s
 unfolding push_high_first
-displaced_there m None s = refl
-displaced_there m (Some j) s = set_place_there m j (place.Ready mark.High (why_of j s)) s
+displaced_other m None s off = refl
+displaced_other m (Some j) s off = place_kept m j (Place.Ready Mark.High (why_of j s)) s (grind arith)
 
 -- who is put stands there
-pub put_place : (x : Mark) (m : ℕ) (w : Why) (s : Core) → is_there m s ≡ true → place_of m (put_at x m w s) ≡ Some (place.Ready x w)
-unfolding put_switch set_switch put_high push_high put_low push_low
-put_place mark.Switch m w s h = there_moved m (place.Ready mark.Switch w) (displaced s.queues.switch s) (displaced_there m s.queues.switch s ∙ h)
-put_place mark.High m w s h = there_moved m (place.Ready mark.High w) s h
-put_place mark.Low m w s h = there_moved m (place.Ready mark.Low w) s h
-
--- of m nothing is watched
-abbrev pub others : (ℕ → Watch) → ℕ → ℕ → Watch
-others P m k = if k == m then Nothing else P k
-
-pub unwatched : (P : ℕ → Watch) (m : ℕ) → is_watched (others P m m) ≡ false
-unwatched P m = grind (arith, nat_tests)
-
--- who is watched beside m is another one, of which the same is watched
-pub other_so : (P : ℕ → Watch) (m k : ℕ) (s : Core) → is_watched (others P m k) ≡ true →
-    ((k == m) ≡ false → is_watched (P k) ≡ true → is_so (P k) (place_of k s) ≡ true) →
-    ((k == m) ≡ false) × (is_so (others P m k) (place_of k s) ≡ true)
-other_so P m k s h so = grind arith
-
--- a loose thread is put
-pub put_back : {P : ℕ → Watch} (n : ℕ) (q : Option Place) (x : Mark) (m : ℕ) (w : Why) (s : Core) → is_there m s ≡ true →
-    (is_watched (P m) ≡ true → is_so (P m) (Some (place.Ready x w)) ≡ true) → Stand (others P m) n q (m ∷ []) s →
-    Stand P n q [] (put_at x m w s)
-put_back {P = P} n q x m w s there fits st = watching n q [] (put_at x m w s) (λ k h. (refl, so k h)) (put x)
-  where
-    put : (y : Mark) → Stand (others P m) n q [] (put_at y m w s)
-    put mark.Switch = put_switch_stand n q m [] w s refl st
-    put mark.High = comes_stand n q m [] (place.Ready mark.High w) s _ (λ r is. put_high_adds m w r s is) st
-    put mark.Low = comes_stand n q m [] (place.Ready mark.Low w) s _ (λ r is. put_low_adds m w r s is) st
-
-    so : (k : ℕ) → is_watched (P k) ≡ true → is_so (P k) (place_of k (put_at x m w s)) ≡ true
-    so k h =
-        by_number k m _ (λ e. grind (arith, e, h, ap P e, fits, put_place x m w s there, ap (λ (j : ℕ). place_of j (put_at x m w s)) e))
-        (λ e. let other = ap (λ b. cond b Nothing (P k)) e in
-        subst (λ v. is_so v (place_of k (put_at x m w s)) ≡ true) other ((put x).kept k (ap is_watched other ∙ h)).1)
+pub put_place : (x : Mark) (m : ℕ) (w : Why) (s : Core) → is_there m s ≡ true → place_of m (put_at x m w s) ≡ Some (Place.Ready x w)
+unfolding put_switch set_switch put_high push_high put_low push_low push_high_first set_place on_thread
+put_place Mark.Switch m w s h = grind (arith, nat_tests, get-change)
+put_place x m w s h = grind (arith, nat_tests, get-change)
 
 -- a parked thread is put
+put_free : {P : ℕ → Watch} (n : ℕ) (q : Option Place) → is_busy q ≡ true → (m : ℕ) (p r : Place) (s t : Core) → place_of m s ≡ Some p →
+    is_parked p ≡ true → (is_watched (P m) ≡ true → is_so (P m) (Some r) ≡ true) → Adds m r s t → Stand P n q [] s → Stand P n q [] t
+put_free n q busy m p r s t is parked fits adds st =
+    let here = st.here in
+    moves_stand n q [] m p r s s t (free_drops m p s (grind arith)) adds is (grind (arith, nat_tests)) (λ so w. fits w) st
+
 pub put_stand : {P : ℕ → Watch} (n : ℕ) (q : Option Place) → is_busy q ≡ true → (x : Mark) (m : ℕ) (w : Why) (p : Place) (s : Core) →
-    place_of m s ≡ Some p → is_parked p ≡ true → (is_watched (P m) ≡ true → is_so (P m) (Some (place.Ready x w)) ≡ true) →
+    place_of m s ≡ Some p → is_parked p ≡ true → (is_watched (P m) ≡ true → is_so (P m) (Some (Place.Ready x w)) ≡ true) →
     Stand P n q [] s → Stand P n q [] (put_at x m w s)
-put_stand {P = P} n q busy x m w p s is parked fits st =
-    let before = watching n q [] s (λ k h. (refl, (other_so P m k s h (λ e w. (st.kept k w).1)).1)) st in
-    put_back n q x m w s (ap (λ (o : Option Place). is_some o) is) fits
-    (loosened n q m p [] s (unwatched P m) is (parked_free p parked) (by_count m n _ (λ e x. absurd (both e)) (λ e x. omega arith)) before)
-  where
-    both : m ≡ n → ⊥
-    both e = not_both p parked (subst (λ (o : Option Place). is_busy o ≡ true) (sym st.here ∙ (ap (λ (k : ℕ). place_of k s) (sym e) ∙ is)) busy)
+unfolding put_switch set_switch set_place on_thread
+put_stand n q busy Mark.High m w p s is parked fits st = put_free n q busy m p _ s _ is parked fits (put_high_adds m w p s is) st
+put_stand n q busy Mark.Low m w p s is parked fits st = put_free n q busy m p _ s _ is parked fits (put_low_adds m w p s is) st
+put_stand n q busy Mark.Switch m w p s is parked fits st =
+    let off : switch_entries m s.queues.switch ≡ 0 = let here = st.here in grind (arith, nat_tests, st.placed m) in
+    let v = set_switch None (displaced s.queues.switch s) in
+    let still : place_of m v ≡ Some p = displaced_other m s.queues.switch s off ∙ is in
+    put_free n q busy m p _ v _ still parked fits (switch_adds m w p v still refl) (displaced_stand n q [] s s.queues.switch refl st)
 
 -- ---- The thread itself
-
-abbrev pub All : Core → Type 0
-All s = (k : ℕ) → HasPlace k s
 
 -- a thread's place says nothing, or it is gone
 abbrev pub is_idle : Option Place → Bool
@@ -151,11 +113,12 @@ no_time k n e = ap (λ b. one_if b + 0) e
 
 -- where each thread has its place, each that is at no entry may be taken as n
 pub stand_of : {P : ℕ → Watch} (n : ℕ) (q : Option Place) (s : Core) → place_of n s ≡ q → is_idle q ≡ true →
-    ((k : ℕ) → is_watched (P k) ≡ true → is_so (P k) (place_of k s) ≡ true) → All s → Stand P n q [] s
+    ((k : ℕ) → is_watched (P k) ≡ true → is_so (P k) (place_of k s) ≡ true) → Placed s → Stand P n q [] s
 stand_of n q s is idle so all = record {
   here = is;
   once = λ k. at_most_one (k == n);
-  loose = λ k h. by_count k n _ (λ e x. subst (λ (j : ℕ). Loose j s) (sym e) (idle_loose n q s is idle (all n))) (λ e x. absurd (omega arith));
+  loose =
+      λ k h. by_count k n _ (λ e x. subst (λ (j : ℕ). Loose j s) (sym e) (idle_loose n q s is idle (all n))) (λ e x. absurd (omega arith));
   there = λ k h. zero_one refl h;
   placed = λ k h. all k;
   kept = λ k h. (refl, so k h);
@@ -164,30 +127,33 @@ stand_of n q s is idle so all = record {
     at_most_one : (b : Bool) → one_if b + 0 ≤ 1
     at_most_one b = grind arith
 
-pub all_of : {P : ℕ → Watch} (n : ℕ) (q : Option Place) (s : Core) → is_idle q ≡ true → Stand P n q [] s → All s
+pub all_of : {P : ℕ → Watch} (n : ℕ) (q : Option Place) (s : Core) → is_idle q ≡ true → Stand P n q [] s → Placed s
 all_of n q s idle st k =
     by_count k n _ (λ e x. loose_idle k q s (ap (λ (j : ℕ). place_of j s) e ∙ st.here) idle (st.loose k (omega arith)))
     (λ e x. st.placed k (omega arith))
 
-pub removed_all : {P : ℕ → Watch} (n : ℕ) (q : Option Place) (s : Core) → Stand P n q [] s → All (remove_thread n s)
+pub removed_all : {P : ℕ → Watch} (n : ℕ) (q : Option Place) (s : Core) → Stand P n q [] s → Placed (remove_thread n s)
 removed_all n q s st k =
-    by_count k n _ (λ e x. subst (λ (j : ℕ). Loose j s → HasPlace j (remove_thread n s)) (sym e) (removed_gone n s) (st.loose k (omega arith)))
+    by_count k n _
+    (λ e x. subst (λ (j : ℕ). Loose j s → HasPlace j (remove_thread n s)) (sym e) (removed_gone n s) (st.loose k (omega arith)))
     (λ e x. removed_placed k n s e (st.placed k (omega arith)))
 
 -- ---- The moves, where all threads have their places
 
 -- beside n, which runs, each has its place
 abbrev Runs : ℕ → Core → Type 0
-Runs n s = Stand nobody n (Some place.Running) [] s
+Runs n s = Stand nobody n (Some Place.Running) [] s
 
-runs : (n : ℕ) (s : Core) → place_of n s ≡ Some place.Running → All s → Runs n s
-runs n s is all = stand_of n (Some place.Running) s is refl (λ k h. absurd (grind arith)) all
+runs : (n : ℕ) (s : Core) → place_of n s ≡ Some Place.Running → Placed s → Runs n s
+runs n s is all = stand_of n (Some Place.Running) s is refl (λ k h. absurd (grind arith)) all
 
-put_keeps : (n m : ℕ) (w : Why) (p : Place) (s : Core) → place_of m s ≡ Some p → is_parked p ≡ true → Runs n s → Runs n (put_high m w s)
-put_keeps n m w p s is parked st = put_stand n (Some place.Running) refl mark.High m w p s is parked (λ h. absurd (grind arith)) st
+put_keeps : (n m : ℕ) (w : Why) (s : Core) → option_map_or is_parked (place_of m s) false ≡ true → Runs n s → Runs n (put_high m w s)
+put_keeps n m w s parked st =
+    let p = at_place is_parked (place_of m s) parked in
+    put_stand n (Some Place.Running) refl Mark.High m w p.0 s p.1.0 p.1.1 (λ h. absurd (grind arith)) st
 
 release_one : (n m : ℕ) (o : Option Place) (s : Core) → place_of m s ≡ o → Runs n s → Runs n (released_one m (option_and_then held_why o) s)
-release_one n m (Some (place.Held w)) s is st = put_keeps n m w (place.Held w) s is refl st
+release_one n m (Some (Place.Held w)) s is st = put_keeps n m w s (grind arith) st
 release_one n m _ s is st = st
 
 release_stand : (n : ℕ) (ns : List ℕ) (s : Core) → Runs n s → Runs n (released ns s)
@@ -198,27 +164,31 @@ release_stand n (m ∷ ns) s st = release_stand n ns (released_one m (held_why_o
 wake_stand : (n x : ℕ) (w : Option ℕ) (s : Core) → may_wake x w s ≡ true → Runs n s → Runs n (wake x w s)
 unfolding wake may_wake
 wake_stand n x None s h st = st
-wake_stand n x (Some m) s h st =
-    let p = at_place (is_waiting_on x) (place_of m s) h in by_callback p.0 p.1 (waits_parked p.0 p.2) (is_callback_waiter m s)
+wake_stand n x (Some m) s h st = by_callback (is_callback_waiter m s)
   where
-    waits_parked : (p : Place) → is_waiting_on x p ≡ true → is_parked p ≡ true
-    waits_parked p h = grind arith
+    waits : option_map_or is_parked (place_of m s) false ≡ true
+    waits = grind arith
 
-    by_callback : (p : Place) → place_of m s ≡ Some p → is_parked p ≡ true → (b : Bool) → Runs n (waken_by b x m s)
-    by_callback p is parked true = put_keeps n m (why.Delivery (delivery.Set x)) p s is parked st
-    by_callback p is parked false = put_keeps n m why.Resumption p s is parked st
+    by_callback : (b : Bool) → Runs n (waken_by b x m s)
+    by_callback true = put_keeps n m (Why.Delivery (Delivery.Set x)) s waits st
+    by_callback false = put_keeps n m Why.Resumption s waits st
 
 pub stop_keeps_places : StopKeepsPlaces
+unfolding StopKeepsPlaces
 stop_keeps_places n f p s free is all =
-    let st = stopped_stand n (Some place.Running) f s (runs n s is all) in
-    adds_all n (Some place.Running) p (stopped f s) (set_place n p (stopped f s)) (set_place_adds n p place.Running (stopped f s) free st.here) st
+    let st = stopped_stand n (Some Place.Running) f s (runs n s is all) in
+    let adds = set_place_adds n p Place.Running (stopped f s) free st.here in
+    adds_all n (Some Place.Running) p (stopped f s) (set_place n p (stopped f s)) adds st
 
 pub release_keeps_places : ReleaseKeepsPlaces
-release_keeps_places n ns s is all = all_of n (Some place.Running) (released ns s) refl (release_stand n ns s (runs n s is all))
+unfolding ReleaseKeepsPlaces
+release_keeps_places n ns s is all = all_of n (Some Place.Running) (released ns s) refl (release_stand n ns s (runs n s is all))
 
 pub wake_keeps_places : WakeKeepsPlaces
+unfolding WakeKeepsPlaces
 wake_keeps_places n x w s may_be is all =
-    all_of n (Some place.Running) (wake x w s) refl (wake_stand n x w s may_be (runs n s is all))
+    all_of n (Some Place.Running) (wake x w s) refl (wake_stand n x w s may_be (runs n s is all))
 
 pub removal_keeps_places : RemovalKeepsPlaces
-removal_keeps_places n s is all = removed_all n (Some place.Running) s (runs n s is all)
+unfolding RemovalKeepsPlaces
+removal_keeps_places n s is all = removed_all n (Some Place.Running) s (runs n s is all)

@@ -1,107 +1,44 @@
 -- What labels say of the ends of calls: the events that are taken.
-use Rattle.task_rules.proofs.Machine.{[], activated, advanced, and_parts, answered, ap, arith, assigned, Bool, call_answered, call_resumes, call_returned, call_settled, cancel_aborts_host, cancel_takes_end, Choice, chosen, Core, end_answered, end_for, event_of, false, find, finished_call, get, get-remove, Gift, gift, gift_after_own, Given, given_for, group_settled, handed_by_event, handed_on, handed_out, has_result, if◌then◌else◌, instance_of, is_handed_end, is_none, Join, List, map, MemberGift, moved_to, nat_cmp, nat_tests, NoGift, None, not, numbers, on_call, on_instance, on_thread, on_work, Option, option_and_then, option_map, option_map_or, option_or, OwnEvent, OwnGift, packed, received, received_woken, Records, refl, remove, remove_call, remove_group, set_cancelled, set_do_not_enter, set_event, set_given, set_how_far, set_join, set_own_event, set_phase, set_place, set_position, set_register, set_result, set_saved_callee, set_script, Some, Status, status_code, subst, Subtask, subtask_at, SubtaskEnd, sym, take_result, taken, true, undelivered_end, unsigned_tied, unwrap_or, ℕ, ◌&&◌, ◌==◌, ◌∙◌, ◌∷◌, ◌≡◌}
+use Rattle.task_rules.proofs.Machine.{[], and_parts, ap, arith, Bool, call_settled, Choice, chosen, Core, end_answered, end_for, event_of, false, find, finished_call, get, get-change, get-remove, get-remove_same, Gift, gift, gift_after_own, given_for, group_settled, handed_by_event, handed_out, HandsOut, has_result, if◌then◌else◌, instance_of, is_handed_end, is_none, List, map, MemberGift, nat_cmp, nat_tests, NoGift, None, numbers, on_call, on_work, Option, option_and_then, option_map, option_map_or, option_or, OwnEvent, OwnGift, Records, refl, remove, remove_call, remove_group, Scene, set_event, set_result, Some, Status, status_code, subst, Subtask, subtask_at, SubtaskEnd, take_result, taken, TakesEvent, true, undelivered_end, unsigned_tied, unwrap_or, ℕ, ◌&&◌, ◌==◌, ◌∙◌, ◌∷◌, ◌≡◌}
 use Rattle.std.specs.FinMap.Entries.{find as seek}
-use Rattle.task_machine.specs.declared.records.Subtask.TheVariants as subtask
-use Rattle.task_machine.specs.declared.words.Status.TheVariants as status
-use Rattle.task_machine.proofs.MapLemmas.{get-remove_same}
-use Rattle.task_machine.proofs.CommuteLemmas.{get-change}
 use Rattle.task_rules.proofs.StopLemmas.{find_passes}
 
--- ---- What an event hands out
-
-member_chosen : (o : Option OwnEvent) (y : ℕ) (c : Option Subtask) (s : Core) (sub : Subtask) → gift_after_own o y c s ≡ Some (MemberGift sub) → c ≡ Some sub
-member_chosen o y c s sub h = grind arith
-
 -- the handle that the choice shows names the member
-chosen_at : (n : ℕ) (ch : Choice) (s : Core) (sub : Subtask) → chosen n ch s ≡ Some sub → subtask_at (instance_of n s) (unwrap_or ch.member 0) s ≡ Some sub
-chosen_at n ch s sub is = grind arith
+member_at : (o : Option OwnEvent) (n y : ℕ) (ch : Choice) (s : Core) (sub : Subtask) → gift_after_own o y (chosen n ch s) s ≡ Some (MemberGift sub) → subtask_at (instance_of n s) (unwrap_or ch.member 0) s ≡ Some sub
+member_at o n y ch s sub h = grind arith
 
-end_parts : (b : Bool) (f : Status) (o : Option Subtask) (to : Subtask) (e : Status) → (if b then option_map (end_for f) o else None) ≡ Some (end_for e to) → (b ≡ true) × ((o ≡ Some to) × (f ≡ e))
-end_parts b f o to e h = grind arith
-
-end_told : (o : Option Status) (e : Status) → is_handed_end (unwrap_or o status.Starting) ≡ true → unwrap_or o status.Starting ≡ e → undelivered_end o ≡ Some e
-end_told o e h is = grind arith
-
--- a gift that hands an end out is its subtask's event
-pub given_says : (by : Bool) (n j y : ℕ) (ch : Choice) (s : Core) (g : Gift) (to : Subtask) (e : Status) → gift by j y (chosen n ch s) s ≡ Some g → handed_by_event n s (handed_out ch s g) ≡ Some (end_for e to) → (g ≡ MemberGift to) × (undelivered_end (event_of to s) ≡ Some e)
-unfolding gift given_for
-given_says by n j y ch s (OwnGift event) to e is out = absurd (grind arith)
-given_says by n j y ch s NoGift to e is out = absurd (grind arith)
-given_says by n j y ch s (MemberGift sub) to e is out =
-    let r = end_parts (is_handed_end (unwrap_or (event_of sub s) status.Starting)) (unwrap_or (event_of sub s) status.Starting) (subtask_at (instance_of n s) (unwrap_or ch.member 0) s) to e out in
-    let same : sub ≡ to = ap (λ (o : Option Subtask). unwrap_or o sub) (sym (chosen_at n ch s sub (member_chosen _ y (chosen n ch s) s sub is)) ∙ r.1.0) in
-    (ap (λ d. MemberGift d) same, subst (λ (d : Subtask). undelivered_end (event_of d s) ≡ Some e) same (end_told (event_of sub s) e r.0 r.1.1))
+handed_as : (f : Option Status) (o : Option Subtask) (sub to : Subtask) (e : Status) → o ≡ Some sub → (if is_handed_end (unwrap_or f Status.Starting) then option_map (end_for (unwrap_or f Status.Starting)) o else None) ≡ Some (end_for e to) → (sub ≡ to) × (undelivered_end f ≡ Some e)
+handed_as f o sub to e is out = (grind arith, grind arith)
 
 -- ---- The event is gone
 
 abbrev pub HasNoEnd : Subtask → Core → Type 0
 HasNoEnd sub s = undelivered_end (event_of sub s) ≡ None
 
-pub event_gone : (sub : Subtask) (s : Core) → HasNoEnd sub (set_event sub None s)
+-- the subtask's event is taken, whatever else is written
+pub event_gone : (sub : Subtask) (s t : Core) → t.calls ≡ (set_event sub None s).calls → t.works ≡ (set_event sub None s).works → HasNoEnd sub t
 unfolding set_event on_call on_work
-event_gone sub s = grind (arith, nat_tests, get-change)
+event_gone sub s t calls works = grind (arith, nat_tests, get-change, calls, works)
 
-pub received_gone : (n r : ℕ) (sub : Subtask) (v : Given) (s : Core) → HasNoEnd sub (received n r (MemberGift sub) v s)
-unfolding received advanced moved_to set_how_far set_position on_thread set_given set_register taken
-received_gone n r (subtask.Guest k) v s = event_gone (subtask.Guest k) s
-received_gone n r (subtask.Host i) v s = event_gone (subtask.Host i) s
+-- a gift that hands an end out is its subtask's event, which is gone once the gift is taken
+pub given_out : {a : Scene} (by : Bool) (n j y : ℕ) (ch : Choice) (g : Gift) (k : ℕ) (u : Core) {t : Core} → gift by j y (chosen n ch a.base) a.base ≡ Some g → t.calls ≡ (taken g k u).calls → t.works ≡ (taken g k u).works → (to : Subtask) (e : Status) → handed_by_event n a.base (handed_out ch a.base g) ≡ Some (end_for e to) → HandsOut a t to e
+unfolding gift given_for taken
+given_out by n j y ch (OwnGift event) k u is calls works to e out = absurd (grind arith)
+given_out by n j y ch NoGift k u is calls works to e out = absurd (grind arith)
+given_out {a = a} by n j y ch (MemberGift sub) k u {t = t} is calls works to e out =
+    let q = handed_as (event_of sub a.base) (subtask_at (instance_of n a.base) (unwrap_or ch.member 0) a.base) sub to e (member_at _ n y ch a.base sub is) out in
+    subst (λ (d : Subtask). HandsOut a t d e) q.0 (TakesEvent sub e q.1 (event_gone sub u t calls works))
 
-pub activated_gone : (n : ℕ) (sub : Subtask) (v : Given) (s : Core) → HasNoEnd sub (activated n (MemberGift sub) v s)
-unfolding activated moved_to set_how_far set_position on_thread set_given set_register set_place set_script set_do_not_enter on_instance taken
-activated_gone n (subtask.Guest k) v s = event_gone (subtask.Guest k) s
-activated_gone n (subtask.Host i) v s = event_gone (subtask.Host i) s
+-- the call's event is taken, and then the call may go
+pub settled_gone : (k : ℕ) (s t : Core) → t.calls ≡ (call_settled k s).calls → HasNoEnd (Subtask.Guest k) s → HasNoEnd (Subtask.Guest k) t
+unfolding call_settled group_settled remove_group remove_call
+settled_gone k s t calls none = grind (arith, nat_tests, get-remove, calls)
 
-removed_gone : (k : ℕ) (s : Core) → undelivered_end (event_of (subtask.Guest k) (remove_call k s)) ≡ None
-unfolding remove_call
-removed_gone k s = grind (arith, nat_tests, get-remove)
-
-resumed_gone : (n k : ℕ) (s : Core) → undelivered_end (event_of (subtask.Guest k) (call_resumes n k s)) ≡ None
-unfolding call_resumes
-resumed_gone n k s = event_gone (subtask.Guest k) _
-
-result_gone : (k : ℕ) (s : Core) → undelivered_end (event_of (subtask.Guest k) s) ≡ None → undelivered_end (event_of (subtask.Guest k) (set_result k None s)) ≡ None
-unfolding set_result on_call
-result_gone k s none = grind (arith, nat_tests, get-change)
-
-settled_gone : (k : ℕ) (s : Core) → undelivered_end (event_of (subtask.Guest k) s) ≡ None → undelivered_end (event_of (subtask.Guest k) (call_settled k s)) ≡ None
-unfolding call_settled group_settled remove_group
-settled_gone k s none = grind (arith, removed_gone k s)
-
-pub call_returned_gone : (n r k : ℕ) (s : Core) → undelivered_end (event_of (subtask.Guest k) (call_returned n r k s)) ≡ None
-unfolding call_returned answered assigned advanced moved_to set_how_far set_position on_thread set_register set_saved_callee call_resumes
-call_returned_gone n r k s = settled_gone k (call_resumes n k s) (event_gone (subtask.Guest k) _)
-
-pub call_answered_gone : (n r k : ℕ) (s : Core) → undelivered_end (event_of (subtask.Guest k) (call_answered n r k s)) ≡ None
-unfolding call_answered answered assigned advanced moved_to set_how_far set_position on_thread set_register set_saved_callee
-call_answered_gone n r k s = settled_gone k (set_result k None (call_resumes n k s)) (result_gone k (call_resumes n k s) (resumed_gone n k s))
-
-pub cancel_taken_gone : (n r : ℕ) (sub : Subtask) (e : Status) (s : Core) → HasNoEnd sub (cancel_takes_end n r sub e s)
-unfolding cancel_takes_end answered assigned advanced moved_to set_how_far set_position on_thread set_register set_saved_callee
-cancel_taken_gone n r (subtask.Guest k) e s = event_gone (subtask.Guest k) s
-cancel_taken_gone n r (subtask.Host i) e s = event_gone (subtask.Host i) s
-
--- ---- Answers of calls
-
--- a status that is packed with a handle is no bare Returned
-pub packed_is_not_two : (h : ℕ) (e : Status) → (e ≡ status.Returned → ⊥) → not (packed h e == 2) ≡ true
-packed_is_not_two h e other = grind (arith, nat_tests)
+pub result_gone : (k : ℕ) (s : Core) → HasNoEnd (Subtask.Guest k) (set_result k None (set_event (Subtask.Guest k) None s))
+unfolding set_result set_event on_call
+result_gone k s = grind (arith, nat_tests, get-change)
 
 -- ---- What a call or a cancel finds
-
-pub found_returned : (o : Option Status) → unwrap_or o status.Starting ≡ status.Returned → undelivered_end o ≡ Some status.Returned
-found_returned o h = grind arith
-
-pub event_joined : (sub : Subtask) (y : Join) (s : Core) → event_of sub (set_join sub y s) ≡ event_of sub s
-unfolding set_join on_call on_work
-event_joined sub y s = grind (arith, nat_tests, get-change)
-
-pub event_owed : (k : ℕ) (y : Option OwnEvent) (s : Core) → event_of (subtask.Guest k) (set_own_event k y s) ≡ event_of (subtask.Guest k) s
-unfolding set_own_event on_call
-event_owed k y s = grind (arith, nat_tests, get-change)
-
-pub event_aborted : (i : ℕ) (s : Core) → event_of (subtask.Host i) (cancel_aborts_host i s) ≡ event_of (subtask.Host i) s
-unfolding cancel_aborts_host set_cancelled set_phase on_work
-event_aborted i s = grind (arith, nat_tests, get-change)
 
 -- what is so of the end that is said
 pub said_is : (P : Subtask → Status → Type 0) {f e : Status} {d sub : Subtask} → Some (end_for f d) ≡ Some (end_for e sub) → P d f → P sub e
@@ -109,20 +46,12 @@ said_is P {f = f} {d = d} is p = subst (λ (y : SubtaskEnd). P y.subtask y.statu
 
 module _ (sub to : Subtask) (f : Status) (o : Option Subtask) (is : o ≡ Some sub) where
   -- the end that the label of a cancel says is written
-  pub cancel_writes_of : (g : Status) → (if status_code g == 3 then option_map (end_for status.StartCancelled) o else None) ≡ Some (end_for f to) → (sub ≡ to) × (g ≡ status.StartCancelled)
+  pub cancel_writes_of : (g : Status) → (if status_code g == 3 then option_map (end_for Status.StartCancelled) o else None) ≡ Some (end_for f to) → (sub ≡ to) × (g ≡ Status.StartCancelled)
   cancel_writes_of g out = grind arith
 
   -- the end that it hands out
   pub cancel_hands_of : (g : Status) → option_and_then (λ e. option_map (end_for e) o) (end_answered (status_code g)) ≡ Some (end_for f to) → (sub ≡ to) × (g ≡ f)
   cancel_hands_of g out = grind arith
-
-pub received_woken_gone : (n y r : ℕ) (sub : Subtask) (v : Given) (s : Core) → HasNoEnd sub (received_woken n y r None (MemberGift sub) v s)
-unfolding received_woken handed_on
-received_woken_gone n y r sub v s = received_gone n r sub v s
-
-pub activated_on_gone : (n y : ℕ) (sub : Subtask) (w : Option ℕ) (v : Given) (s : Core) → HasNoEnd sub (activated n (MemberGift sub) v (handed_on y (MemberGift sub) w s))
-unfolding handed_on
-activated_on_gone n y sub w v s = activated_gone n sub v s
 
 -- ---- What main finishes
 

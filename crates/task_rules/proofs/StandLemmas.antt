@@ -1,9 +1,5 @@
 -- Threads and their entries, counted; what the words that put a thread do to them.
-use Rattle.task_rules.proofs.Machine.{[], ap, arith, Bool, callers_of, cond, Core, entries, Entry, eq-eqb, eqb-false, eqb-true, false, get, has_entry, HasPlace, if◌then◌else◌, is_at_high, is_at_low, is_at_switch, is_behind_of, is_blocked_on, is_entry_of, is_free, is_fresh, is_some, is_there, is_under, le_trans, less, List, nat_tests, newest, None, older, on_thread, one_if, Option, option_map, option_map_or, Place, place_of, push_high, push_low, put_high, put_low, Queues, Records, refl, says, set_place, Some, subst, Subtask, switch_entries, sym, times, true, unwrap_or, Why, ℕ, ◌++◌, ◌+◌, ◌==◌, ◌∙◌, ◌∷◌, ◌≡◌, ◌≢◌, ◌≤◌, ◌⊎◌}
-use Rattle.task_machine.specs.declared.records.Entry.TheVariants as entry
-use Rattle.task_machine.specs.declared.words.Mark.TheVariants as mark
-use Rattle.task_machine.specs.declared.records.Place.TheVariants as place
-use Rattle.task_machine.proofs.CommuteLemmas.{get-change}
+use Rattle.task_rules.proofs.Machine.{[], ap, arith, Bool, callers_of, cond, Core, entries, Entry, eq-eqb, eqb-false, eqb-true, false, get-change, has_entry, HasPlace, if◌then◌else◌, is_at_high, is_at_low, is_at_switch, is_behind_of, is_blocked_on, is_entry_of, is_free, is_fresh, is_there, is_under, le_trans, less, List, Mark, nat_tests, newest, older, on_thread, one_if, Option, option_map, option_map_or, Place, place_of, push_high, push_low, put_high, put_low, refl, says, set_place, Some, subst, Subtask, switch_entries, sym, times, true, Why, ℕ, ◌++◌, ◌+◌, ◌==◌, ◌∙◌, ◌∷◌, ◌≡◌, ◌≢◌, ◌≤◌, ◌⊎◌}
 
 -- ---- Numbers and lists
 
@@ -74,16 +70,8 @@ pub record Loose (n : ℕ) (s : Core) : Type 0 where
   pub low : entries n s.queues.low ≡ 0
   pub callers : (f : ℕ) → times n (callers_of f s) ≡ 0
 
--- what is said of the callers of a thread that may be gone
-pub none_there : (b : Bool) (x : ℕ) → x ≡ 0 → (if b then x else 0) ≡ 0
-none_there b x h = grind arith
-
 pub zero_one : {A : Type 0} {x : ℕ} → x ≡ 0 → x ≡ 1 → A
 zero_one {A = A} h g = absurd (omega (arith, h, g))
-
--- a loose thread that is gone has its place
-pub loose_gone : (n : ℕ) (s : Core) → place_of n s ≡ None → Loose n s → HasPlace n s
-loose_gone n s is l = grind arith
 
 -- who is among the callers of f is behind f
 pub callers_say : (n f : ℕ) (s : Core) → HasPlace n s → times n (callers_of f s) ≤ says (is_behind_of f) (place_of n s)
@@ -216,7 +204,8 @@ module _ (m : ℕ) (p : Place) (s t : Core) (a : Adds m p s t) where
       own k = ap one_if (eq_refl k)
 
 -- the thread n itself is put at a place, and each thread has its place
-pub adds_all : {P : ℕ → Watch} (n : ℕ) (q : Option Place) (p : Place) (s t : Core) → Adds n p s t → Stand P n q [] s → (k : ℕ) → HasPlace k t
+pub adds_all : {P : ℕ → Watch} (n : ℕ) (q : Option Place) (p : Place) (s t : Core) → Adds n p s t → Stand P n q [] s → (k : ℕ) →
+    HasPlace k t
 adds_all n q p s t a st k =
     by_count k n _ (λ e x. subst (λ (j : ℕ). Loose j s → HasPlace j t) (sym e) (adds_own n p s t a) (st.loose k (omega arith)))
     (λ e x. adds_other n p s t a k e (st.placed k (omega arith)))
@@ -230,91 +219,55 @@ pub record Drops (m : ℕ) (p : Place) (s t : Core) : Type 0 where
   pub low : (k : ℕ) → entries k s.queues.low ≡ entries k t.queues.low + gain k m (one_if (is_at_low p))
   pub callers : (k f : ℕ) → times k (callers_of f s) ≡ times k (callers_of f t) + gain k m (one_if (is_behind_of f p))
 
--- a thread may be taken up from its place
-pub drops_stand : {P : ℕ → Watch} (n : ℕ) (q : Option Place) (m : ℕ) (p : Place) (xs : List ℕ) (s t : Core) → is_watched (P m) ≡ false →
-    Drops m p s t → place_of m s ≡ Some p → times m (n ∷ xs) ≡ 0 → Stand P n q xs s → Stand P n q (m ∷ xs) t
-drops_stand {P = P} n q m p xs s t unwatched d is none st = record {
-  here = d.places n ∙ st.here;
-  once = λ k. by_count k m _ (λ e x. omega (arith, subst (λ (j : ℕ). times j (n ∷ xs) ≡ 0) (sym e) none)) (λ e x. omega (arith, st.once k));
-  loose = λ k h. by_count k m _ (λ e x. subst (λ (j : ℕ). Loose j t) (sym e) own)
-      (λ e x. left_loose k s t (left k e) (st.loose k (omega arith)));
-  there = λ k h. by_count k m _ (λ e x. (p, d.places k ∙ (ap (λ (j : ℕ). place_of j s) e ∙ is)))
-      (λ e x. let r = st.there k (omega arith) in (r.0, d.places k ∙ r.1));
-  placed = λ k h. by_count k m _ (λ e x. absurd (omega arith))
-      (λ e x. left_placed k s t (left k e) (d.places k) (st.placed k (omega arith)));
-  kept = λ k h. by_count k m _ (λ e x. absurd (grind (arith, h, ap P e, unwatched)))
-      (λ e x. (omega (arith, (st.kept k h).0), ap (is_so (P k)) (d.places k) ∙ (st.kept k h).1));
+-- From the place p a thread comes to the place r.
+pub moves_stand : {P : ℕ → Watch} (n : ℕ) (q : Option Place) (xs : List ℕ) (m : ℕ) (p r : Place) (s u t : Core) → Drops m p s u →
+    Adds m r u t →
+    place_of m s ≡ Some p → times m (n ∷ xs) ≡ 0 → (is_so (P m) (Some p) ≡ true → is_watched (P m) ≡ true → is_so (P m) (Some r) ≡ true) →
+    Stand P n q xs s → Stand P n q xs t
+moves_stand {P = P} n q xs m p r s u t drops adds is none so st = record {
+  here = stays n (by_count n m _ (λ e x. absurd (grind (arith, nat_tests))) (λ e x. e)) ∙ st.here;
+  once = st.once;
+  loose = λ k h. left_loose k s t (left k (apart k h)) (st.loose k h);
+  there = λ k h. let l = st.there k h in (l.0, stays k (apart k (omega (arith, h, st.once k))) ∙ l.1);
+  placed = λ k h. by_number k m _ (λ e. subst (λ (j : ℕ). HasPlace j t) (sym e) (adds_own m r u t adds up))
+      (λ e. left_placed k s t (left k e) (stays k e) (st.placed k h));
+  kept = λ k h. let was = st.kept k h in
+      (was.0, by_number k m _ (λ e. grind (arith, e, ap P e, adds.own, was.1)) (λ e. ap (is_so (P k)) (stays k e) ∙ was.1));
 }
   where
+    stays : (k : ℕ) → (k == m) ≡ false → place_of k t ≡ place_of k s
+    stays k e = adds.other k e ∙ drops.places k
+
+    apart : (k : ℕ) → times k (n ∷ xs) ≡ 1 → (k == m) ≡ false
+    apart k h = by_number k m _ (λ e. zero_one none (subst (λ (j : ℕ). times j (n ∷ xs) ≡ 1) e h)) (λ e. e)
+
     left : (k : ℕ) → (k == m) ≡ false → Left k s t
-    left k e = grind (arith, nat_tests, d.places)
+    left k e = grind (arith, nat_tests, adds_there m r u t adds, drops.places)
 
-    was : HasPlace m s
-    was = st.placed m none
-
-    own : Loose m t
-    own = record {
-      number = λ e. omega (arith, was.number (sym (ap (λ (o : Option Place). is_some o) (d.places m)) ∙ e), d.made);
-      switch = grind (arith, nat_tests, d.switch m, was.switch);
-      high = grind (arith, nat_tests, d.high m, was.high);
-      low = grind (arith, nat_tests, d.low m, was.low);
-      callers = λ f. grind (arith, nat_tests, d.callers m f, was.callers f);
+    -- the thread, taken up
+    up : Loose m u
+    up = let was = st.placed m none in record {
+      number = grind (arith, drops.places m, was.number);
+      switch = grind (arith, nat_tests, drops.switch m, was.switch);
+      high = grind (arith, nat_tests, drops.high m, was.high);
+      low = grind (arith, nat_tests, drops.low m, was.low);
+      callers = λ f. grind (arith, nat_tests, drops.callers m f, was.callers f);
     }
 
-pub plus_none : (k m x : ℕ) → x ≡ x + gain k m 0
-plus_none k m x = grind arith
-
-pub plus_one : (k m x y : ℕ) → y ≡ x + one_if (k == m) → y ≡ x + gain k m 1
-plus_one k m x y h = grind arith
-
--- so may one with a free place
-pub loosened : {P : ℕ → Watch} (n : ℕ) (q : Option Place) (m : ℕ) (r : Place) (xs : List ℕ) (s : Core) → is_watched (P m) ≡ false →
-    place_of m s ≡ Some r → is_free r ≡ true → times m (n ∷ xs) ≡ 0 → Stand P n q xs s → Stand P n q (m ∷ xs) s
-loosened n q m r xs s unwatched is free none st = drops_stand n q m r xs s s unwatched nothing is none st
-  where
-    nothing : Drops m r s s
-    nothing = grind arith
+-- nothing is taken up of a thread at a free place
+pub free_drops : (m : ℕ) (p : Place) (s : Core) → is_free p ≡ true → Drops m p s s
+free_drops m p s free = grind arith
 
 -- ---- The words that put a thread
 
--- m at the place p, with such entries and callers
-abbrev pub moved : ℕ → Place → Queues → Records (List ℕ) → Core → Core
-moved m p q cs s = record (set_place m p s) { queues = q; callers = cs }
-
-pub moved_adds : (m : ℕ) (p r : Place) (q : Queues) (cs : Records (List ℕ)) (s : Core) → place_of m s ≡ Some r →
-    ((f : ℕ) → is_behind_of f p ≡ true → Given f s) →
-    ((k : ℕ) → switch_entries k q.switch ≡ switch_entries k s.queues.switch + gain k m (one_if (is_at_switch p))) →
-    ((k : ℕ) → entries k q.high ≡ entries k s.queues.high + gain k m (one_if (is_at_high p))) →
-    ((k : ℕ) → entries k q.low ≡ entries k s.queues.low + gain k m (one_if (is_at_low p))) →
-    ((k f : ℕ) → times k (unwrap_or (get cs f) []) ≡ times k (callers_of f s) + gain k m (one_if (is_behind_of f p))) →
-    Adds m p s (moved m p q cs s)
-unfolding set_place on_thread
-moved_adds m p r q cs s is given switch high low callers = record {
-  made = refl;
-  was = ap (λ (o : Option Place). is_some o) is;
-  behind = given;
-  own = place_written m p r s is;
-  other = λ k e. place_kept k m p s e;
-  switch = switch;
-  high = high;
-  low = low;
-  callers = callers;
-}
-
-pub put_high_adds : (m : ℕ) (w : Why) (r : Place) (s : Core) → place_of m s ≡ Some r → Adds m (place.Ready mark.High w) s (put_high m w s)
+pub put_high_adds : (m : ℕ) (w : Why) (r : Place) (s : Core) → place_of m s ≡ Some r → Adds m (Place.Ready Mark.High w) s (put_high m w s)
 unfolding put_high push_high set_place on_thread
-put_high_adds m w r s is =
-    moved_adds m (place.Ready mark.High w) r _ _ s is (λ f h. absurd (grind arith)) (λ k. plus_none k m _)
-    (λ k. plus_one k m _ _ (entries-append k s.queues.high (entry.Thread m))) (λ k. plus_none k m _) (λ k f. plus_none k m _)
+put_high_adds m w r s is = grind (arith, nat_tests, get-change, entries-append)
 
-pub put_low_adds : (m : ℕ) (w : Why) (r : Place) (s : Core) → place_of m s ≡ Some r → Adds m (place.Ready mark.Low w) s (put_low m w s)
+pub put_low_adds : (m : ℕ) (w : Why) (r : Place) (s : Core) → place_of m s ≡ Some r → Adds m (Place.Ready Mark.Low w) s (put_low m w s)
 unfolding put_low push_low set_place on_thread
-put_low_adds m w r s is =
-    moved_adds m (place.Ready mark.Low w) r _ _ s is (λ f h. absurd (grind arith)) (λ k. plus_none k m _) (λ k. plus_none k m _)
-    (λ k. plus_one k m _ _ (entries-append k s.queues.low (entry.Thread m))) (λ k f. plus_none k m _)
+put_low_adds m w r s is = grind (arith, nat_tests, get-change, entries-append)
 
 pub set_place_adds : (m : ℕ) (p r : Place) (s : Core) → is_free p ≡ true → place_of m s ≡ Some r → Adds m p s (set_place m p s)
 unfolding set_place on_thread
-set_place_adds m p r s free is =
-    moved_adds m p r s.queues s.callers s is (λ f h. absurd (grind arith)) (λ k. grind arith) (λ k. grind arith) (λ k. grind arith)
-    (λ k f. grind arith)
+set_place_adds m p r s free is = grind (arith, nat_tests, get-change)

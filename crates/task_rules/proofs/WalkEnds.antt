@@ -1,101 +1,92 @@
 -- The end of a task as a chain of words.
-use Rattle.task_rules.proofs.Machine.{ap, arith, Call, CallEnd, Caller, caller_of, cancelled, Core, end_of, false, get, give_result, GiveResult, Goal, goal_of, is_told, is_waiting_on, join_of, MayEnd, nat_tests, None, on_call, on_thread, Option, option_map, option_map_or, place_of, refl, result_given, returned, SaysEnd, Scene, set_end, set_register, set_result, SetEnd, SetRegister, SetResult, Some, sym, told, true, ℕ, ◌∙◌, ◌≡◌}
-use Rattle.task_machine.proofs.CommuteLemmas.{get-change}
-use Rattle.task_machine.proofs.MapLemmas.{change-field}
-use Rattle.task_rules.proofs.ChainLemmas.{Keep}
-use Rattle.task_rules.proofs.WalkMoves.{Chosen, ToldTo, told_walks, word}
-use Rattle.task_machine.specs.declared.records.CallEnd.TheVariants as call_end
-use Rattle.task_machine.specs.declared.records.Caller.TheVariants as caller
-use Rattle.task_machine.specs.declared.records.Goal.TheVariants as goal
-use Rattle.task_machine.specs.declared.records.Subtask.TheVariants as subtask
-use Rattle.task_machine.specs.declared.words.Status.TheVariants as status
+use Rattle.task_rules.proofs.Machine.{after_word, ap, arith, Call, CallEnd, Caller, caller_of, cancelled, Core, EndCall, false, get, get-change, give_result, GiveResult, Goal, goal_of, is_over, is_some, is_told, nat_tests, on_call, on_thread, Option, option_map_or, published, Records, refl, result_given, returned, same_map, SaysEnd, Scene, set_end, set_event, set_register, set_result, SetRegister, SetResult, Some, Status, status_of_end, subst, Subtask, sym, task_of, told, true, ℕ, ◌∙◌, ◌≡◌}
+use Rattle.task_rules.proofs.WalkMoves.{shifted, told_at, told_shifts, published_shifts}
+use Rattle.task_rules.proofs.CallThreads.{LastEnds}
+use Rattle.task_rules.proofs.PlacingLemmas.{shifted_calls, shifted_task, shifts_shifted}
+use Rattle.task_rules.proofs.ChainLemmas.{Keep, chain_if}
+use Rattle.task_rules.proofs.WalkMoves.{ToldTo, word}
 
 -- ---- What an end and a result leave of a call
 
--- the record of a call but for how far it has come, its end and its result
-abbrev pub unanswered : Call → Call
-unanswered c = record c { started = false; starting_published = false; «end» = None; result = None }
+given_told : (g : Goal) (f : Caller) (k v : ℕ) (e : CallEnd) (s : Core) → is_told k (result_given g f k v (set_end k e s)) ≡ is_told k s
+unfolding set_end on_call give_result set_register on_thread set_result
+given_told g f k v e s = grind (arith, nat_tests, get-change)
 
--- the record of a call but for its result
-abbrev unresulted : Call → Call
-unresulted c = record c { result = None }
+-- the chosen thread is the same
+given_to : (g : Goal) (f : Caller) (k v : ℕ) (e : CallEnd) (w : Option ℕ) (s : Core) → ToldTo k w s → ToldTo k w (result_given g f k v (set_end k e s))
+unfolding set_end on_call give_result set_register on_thread set_result
+given_to g f k v e w s to told y is n at =
+    let chosen = to (sym (given_told g f k v e s) ∙ told) y (grind (arith, nat_tests, get-change, is)) n at in grind (arith, nat_tests, get-change, chosen)
 
--- from s to t the call has at most come to an end and a result
-abbrev pub SameCall : ℕ → Core → Core → Type 0
-SameCall k s t = option_map unanswered (get t.calls k) ≡ option_map unanswered (get s.calls k)
+-- ---- The word that ends a call
 
-module _ (k : ℕ) (s t : Core) (h : SameCall k s t) where
-  same_told : is_told k t ≡ is_told k s
-  same_told = grind (arith, h)
+abbrev pub call_ends : ℕ → CallEnd → Core → Core
+call_ends k e s = after_word (EndCall k e) s
 
-  same_join : join_of (subtask.Guest k) t ≡ join_of (subtask.Guest k) s
-  same_join = grind (arith, h)
+-- where the end is told, the word sets both
+ends_told : (k : ℕ) (e : CallEnd) (s : Core) → is_told k s ≡ true → (e ≡ CallEnd.StartCancelled → ⊥) →
+    set_event (Subtask.Guest k) (Some (status_of_end e)) (set_end k e s) ≡ call_ends k e s
+unfolding set_event set_end on_call
+ends_told k e s told ran = ap (λ (m : Records Call). record s { calls = m }) (same_map _ _ (λ q. grind (arith, nat_tests, get-change)))
 
-  -- the chosen thread is the same
-  pub still_told_to : (w : Option ℕ) → ((x : ℕ) → Chosen x w s → Chosen x w t) → ToldTo k w s → ToldTo k w t
-  still_told_to w keeps to told x is = keeps x (to (sym same_told ∙ told) x (sym same_join ∙ is))
-
-end_same : (k : ℕ) (e : CallEnd) (s : Core) → SameCall k s (set_end k e s)
+pub ends_untold : (k : ℕ) (e : CallEnd) (s : Core) → is_told k s ≡ false → set_end k e s ≡ call_ends k e s
 unfolding set_end on_call
-end_same k e s = change-field unanswered k (λ c. record c { «end» = Some e }) (λ c. refl) s.calls k
+ends_untold k e s untold = ap (λ (m : Records Call). record s { calls = m }) (same_map _ _ (λ q. grind (arith, nat_tests, get-change)))
 
-end_places : (k : ℕ) (e : CallEnd) (s : Core) (n : ℕ) → place_of n (set_end k e s) ≡ place_of n s
+-- the event may be set before the result is given
+told_given : (g : Goal) (f : Caller) (k v : ℕ) (e : Status) (s : Core) →
+    set_event (Subtask.Guest k) (Some e) (result_given g f k v s) ≡ result_given g f k v (set_event (Subtask.Guest k) (Some e) s)
+unfolding set_event on_call give_result set_register on_thread set_result
+told_given Goal.Main f k v e s = refl
+told_given (Goal.Register r) (Caller.Thread n) k v e s = refl
+told_given Goal.Answer f k v e s = ap (λ (m : Records Call). record s { calls = m }) (same_map _ _ (λ q. grind (arith, nat_tests, get-change)))
+told_given _ f k v e s = refl
+
+-- ---- A call whose end is written
+
+given_over : (g : Goal) (f : Caller) (k v : ℕ) (e : CallEnd) (n : ℕ) (y : Status) (s : Core) →
+    (task_of n (told_at k y (result_given g f k v (set_end k e s))) ≡ task_of n s) × (is_over k (told_at k y (result_given g f k v (set_end k e s))) ≡ true)
+unfolding set_event set_end on_call give_result set_register on_thread set_result
+given_over g f k v e n y s = (grind (arith, nat_tests, get-change), grind (arith, nat_tests, get-change))
+
+pub ended_last : (n k : ℕ) (e : CallEnd) (s : Core) → task_of n s ≡ k → LastEnds n (set_end k e s)
 unfolding set_end on_call
-end_places k e s n = refl
+ended_last n k e s is u same gone = grind (arith, nat_tests, get-change, is)
 
-result_resulted : (g : Goal) (f : Caller) (k v : ℕ) (s : Core) → option_map unresulted (get (result_given g f k v s).calls k) ≡ option_map unresulted (get s.calls k)
-unfolding give_result set_register on_thread set_result on_call
-result_resulted g f k v s = grind (arith, nat_tests, get-change)
-
-unanswer : (o p : Option Call) → option_map unresulted o ≡ option_map unresulted p → option_map unanswered o ≡ option_map unanswered p
-unanswer o p e = grind arith
-
-result_places : (g : Goal) (f : Caller) (k v : ℕ) (s : Core) (m : ℕ) → place_of m (result_given g f k v s) ≡ place_of m s
-unfolding give_result set_register on_thread set_result on_call
-result_places g f k v s m = grind (arith, nat_tests, get-change)
-
--- a told call is there
-told_ends : (k : ℕ) (e : CallEnd) (s t : Core) → option_map unresulted (get t.calls k) ≡ option_map unresulted (get (set_end k e s).calls k) →
-    is_told k t ≡ true → end_of k t ≡ Some e
-unfolding set_end on_call
-told_ends k e s t same told = grind (arith, nat_tests, get-change, same)
-
-end_goal : (k : ℕ) (e : CallEnd) (s : Core) → goal_of k (set_end k e s) ≡ goal_of k s
-unfolding set_end on_call
-end_goal k e s = grind (arith, nat_tests, get-change)
+pub returned_last : (n k v : ℕ) (w : Option ℕ) (s : Core) → ToldTo k w s → task_of n s ≡ k → LastEnds n (returned k v w s)
+unfolding returned
+returned_last n k v w s to is u same gone =
+    let t = result_given (goal_of k s) (caller_of k s) k v (set_end k CallEnd.Returned s) in
+    let d = shifts_shifted (told_shifts k Status.Returned w t (given_to (goal_of k s) (caller_of k s) k v CallEnd.Returned w s to)) in
+    let over = given_over (goal_of k s) (caller_of k s) k v CallEnd.Returned n Status.Returned s in
+    subst (λ (j : ℕ). is_over j (told k Status.Returned w t) ≡ true) (sym (shifted_task d n ∙ (over.0 ∙ is)))
+    (ap (λ (m : Records Call). option_map_or (λ (c : Call). is_some c.«end») (get m k) true) (shifted_calls d) ∙ over.1)
 
 module _ {a : Scene} {b : Core} where
-  result_given_walks : (g : Goal) (f : Caller) (k v : ℕ) {s : Core} → goal_of k s ≡ g → SaysEnd a k status.Returned → Keep a b s → Keep a b (result_given g f k v s)
-  result_given_walks goal.Main f k v at says c = word (GiveResult k v) (says, at) c
-  result_given_walks (goal.Register r) (caller.Thread n) k v at says c = word (SetRegister n r v) tt c
-  result_given_walks goal.Answer f k v at says c = word (SetResult k (Some v)) tt c
-  result_given_walks (goal.Register r) caller.Main k v at says c = c
+  result_given_walks : (g : Goal) (f : Caller) (k v : ℕ) {s : Core} → goal_of k s ≡ g → SaysEnd a k Status.Returned → Keep a b s → Keep a b (result_given g f k v s)
+  result_given_walks Goal.Main f k v at says c = word (GiveResult k v) (says, at) c
+  result_given_walks (Goal.Register r) (Caller.Thread n) k v at says c = word (SetRegister n r v) tt c
+  result_given_walks Goal.Answer f k v at says c = word (SetResult k (Some v)) tt c
+  result_given_walks (Goal.Register r) Caller.Main k v at says c = c
   result_given_walks _ f k v at says c = c
 
-  -- after the end is written
-  pub returned_rest : (k v : ℕ) (w : Option ℕ) (s : Core) → SaysEnd a k status.Returned → ToldTo k w s → Keep a b (set_end k call_end.Returned s) → Keep a b (returned k v w s)
-  unfolding returned
+  -- after the word that ends it
+  ends_rest : (g : Goal) (f : Caller) (k v : ℕ) (e : CallEnd) (w : Option ℕ) (s : Core) → (e ≡ CallEnd.StartCancelled → ⊥) →
+      ToldTo k w s → Keep a b (result_given g f k v (call_ends k e s)) → Keep a b (told k (status_of_end e) w (result_given g f k v (set_end k e s)))
+  unfolding told
+  ends_rest g f k v e w s ran to c =
+      let t = result_given g f k v (set_end k e s) in
+      let is = given_told g f k v e s in
+      chain_if (is_told k t) (published (Subtask.Guest k) (status_of_end e) w t) t
+      (λ told. shifted (published_shifts (Subtask.Guest k) (status_of_end e) w t refl (given_to g f k v e w s to told))
+      (subst (λ (u : Core). Keep a b u) (sym (told_given g f k v (status_of_end e) (set_end k e s) ∙ ap (result_given g f k v) (ends_told k e s (sym is ∙ told) ran))) c))
+      (λ untold. subst (λ (u : Core). Keep a b u) (sym (ap (result_given g f k v) (ends_untold k e s (sym is ∙ untold)))) c)
+
+  pub returned_rest : (k v : ℕ) (w : Option ℕ) (s : Core) → SaysEnd a k Status.Returned → ToldTo k w s → Keep a b (call_ends k CallEnd.Returned s) → Keep a b (returned k v w s)
+  unfolding returned on_call
   returned_rest k v w s says to c =
-      let m = set_end k call_end.Returned s in
-      let t = result_given (goal_of k s) (caller_of k s) k v m in
-      let same : option_map unresulted (get t.calls k) ≡ option_map unresulted (get m.calls k) = result_resulted (goal_of k s) (caller_of k s) k v m in
-      told_walks k status.Returned w (λ told. told_ends k call_end.Returned s t same told) (λ e. says)
-      (still_told_to k s t (unanswer (get t.calls k) (get m.calls k) same ∙ end_same k call_end.Returned s) w (λ x chosen n is. ap (λ p. option_map_or (is_waiting_on x) p false) (places n) ∙ chosen n is) to)
-      (result_given_walks (goal_of k s) (caller_of k s) k v (end_goal k call_end.Returned s) says c)
-    where
-      places : (n : ℕ) → place_of n (result_given (goal_of k s) (caller_of k s) k v (set_end k call_end.Returned s)) ≡ place_of n s
-      places n = result_places (goal_of k s) (caller_of k s) k v (set_end k call_end.Returned s) n ∙ end_places k call_end.Returned s n
+      ends_rest (goal_of k s) (caller_of k s) k v CallEnd.Returned w s (λ e. absurd (cc)) to (result_given_walks (goal_of k s) (caller_of k s) k v (grind (arith, nat_tests, get-change)) says c)
 
-  pub returned_walks : (k v : ℕ) (w : Option ℕ) {s : Core} → MayEnd a k call_end.Returned s → SaysEnd a k status.Returned → ToldTo k w s → Keep a b s → Keep a b (returned k v w s)
-  returned_walks k v w {s = s} ok says to c = returned_rest k v w s says to (word (SetEnd k call_end.Returned) (ok, says) c)
-
-  pub cancelled_rest : (k : ℕ) (w : Option ℕ) (s : Core) → SaysEnd a k status.ReturnCancelled → ToldTo k w s → Keep a b (set_end k call_end.ReturnCancelled s) → Keep a b (cancelled k w s)
+  pub cancelled_rest : (k : ℕ) (w : Option ℕ) (s : Core) → ToldTo k w s → Keep a b (call_ends k CallEnd.ReturnCancelled s) → Keep a b (cancelled k w s)
   unfolding cancelled
-  cancelled_rest k w s says to c =
-      let t = set_end k call_end.ReturnCancelled s in
-      told_walks k status.ReturnCancelled w (λ told. told_ends k call_end.ReturnCancelled s t refl told) (λ e. says)
-      (still_told_to k s t (end_same k call_end.ReturnCancelled s) w (λ x chosen n is. ap (λ p. option_map_or (is_waiting_on x) p false) (end_places k call_end.ReturnCancelled s n) ∙ chosen n is) to)
-      c
-
-  pub cancelled_walks : (k : ℕ) (w : Option ℕ) {s : Core} → MayEnd a k call_end.ReturnCancelled s → SaysEnd a k status.ReturnCancelled → ToldTo k w s → Keep a b s → Keep a b (cancelled k w s)
-  cancelled_walks k w {s = s} ok says to c = cancelled_rest k w s says to (word (SetEnd k call_end.ReturnCancelled) (ok, says) c)
+  cancelled_rest k w s to c = ends_rest Goal.Direct Caller.Main k 0 CallEnd.ReturnCancelled w s (λ e. absurd (cc)) to c

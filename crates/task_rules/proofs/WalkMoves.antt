@@ -1,34 +1,16 @@
 -- The moves of the machine as chains of words.
-use Rattle.task_rules.proofs.Machine.{[], add_call, add_group, add_set, add_thread, add_work, Advance, after_placing, after_word, ap, arith, AtOp, blocked_on, Bool, call_group, call_made, call_settled, can_come, CanCome, change, checked, chosen, Core, count_work, ended, exited_if, false, first_entry, free_handle, free_thread_handle, freed_thread_handle, FreeThreadHandle, get, get-insert, get-remove, Gift, give_handle, give_result, give_thread_handle, group_settled, handed_on, hands_on, held_why, held_why_of, HowFar, if◌then◌else◌, InOp, inr, instance_of, interest_settled, is_at, is_blocked_on, is_callback_waiter, is_deletable, is_done_host, is_end, is_explicit, is_finished, is_group_done, is_some, is_stage_ended, is_told, is_waiter, is_waiting_on, IsOwn, IsRunner, Join, join_of, Lands, LandsAt, le_refl, le_trans, Leaves, List, MakeThread, Mark, may_hand_on, may_not_suspend, may_publish, may_tell, may_wake, may_wake_joined, MayCome, MayDeliver, MayLand, MayPut, MayTell, MemberGift, nat_tests, NoGift, None, not, NoWord, numbers, on_call, on_instance, on_thread, on_work, op_in, Option, option_and_then, option_map, option_map_or, OwnGift, Place, place_of, Places, Placing, poll_pends, position_of, Promote, promoted, promoted_first, promoted_unless, published, push_high, Put, put_at, put_high, Quits, Records, refl, released, released_one, Releases, remove, remove_call, remove_group, remove_set, remove_thread, remove_work, RemoveCall, RemoveGroup, RemoveThread, Restart, same_subtask, SaysEnd, Scene, set_backpressure, set_cancel_delivered, set_cancelled, set_course, set_do_not_enter, set_do_not_suspend, set_end, set_event, set_exited, set_how_far, set_join, set_own_event, set_phase, set_position, set_register, set_result, set_saved_callee, set_saved_own, set_script, set_stage, set_started, set_starting_published, set_subtask_handle, set_thread_handle, set_trapped, set_uninteresting, set_word, SetCallEvent, SetCancelDelivered, SetExited, SetOwnEvent, Settles, SetUninteresting, Shifts, Some, stage_of, Status, Stop, stopped, subst, Subtask, sym, take_result, TakeHost, taken, TakePush, TakeWorkEvent, task_of, Tells, Then, Thread, thread_handle_of, told, Trip, true, unblocked, Unblocks, wake, wake_joined, wake_why, waken_by, Wakes, Why, with_handle, with_thread_handle, Word, Work, work_queued, ℕ, ◌||◌, ◌∙◌, ◌∷◌, ◌≡◌, ◌≤◌}
-use Rattle.task_machine.specs.declared.records.Turn.TheVariants as turn
-use Rattle.task_machine.proofs.CommuteLemmas.{get-change}
+use Rattle.task_rules.proofs.Machine.{[], add_call, add_group, add_set, add_thread, add_work, Advance, after_placing, after_word, ap, arith, AtOp, blocked_on, Bool, ByHandle, call_group, call_made, call_settled, can_come, CanCome, checked, chosen, Core, count_work, Delivery, departed, end_of, ended, exited_if, false, first_entry, free_handle, free_thread_handle, freed_thread_handle, FreeThreadHandle, get, get-change, get-insert, get-remove, get-remove_same, Gift, give_handle, give_result, give_thread_handle, group_settled, handed_on, hands_on, has_ended, held_why_of, HowFar, if◌then◌else◌, InOp, inr, instance_of, interest_settled, is_at, is_blocked_on, is_callback_waiter, is_deletable, is_done_host, is_explicit, is_finished, is_group_done, is_some, is_told, is_waiter, is_waiting_on, IsNamed, IsRunner, IsSettling, IsStarting, Join, join_of, Lands, LandsAt, le_refl, le_trans, Leaves, List, MakeThread, Mark, may_hand_on, may_not_suspend, may_publish, may_tell, may_wake, may_wake_joined, MayCome, MayDeliver, MayLand, MayPut, MayRemoveCall, MemberGift, nat_tests, NoGift, None, not, NoWord, numbers, on_call, on_instance, on_thread, on_work, op_in, Option, option_map, option_map_or, OwnEvent, OwnGift, Place, place_of, Places, Placing, poll_pends, position_of, Promote, promoted, promoted_first, promoted_unless, published, push_high, Put, put_at, put_high, Quits, Records, refl, released, released_one, Releases, remove, remove_call, remove_group, remove_set, remove_thread, remove_work, RemoveCall, RemoveGroup, RemoveThread, Restart, Scene, set_backpressure, set_cancel_delivered, set_cancelled, set_course, set_do_not_enter, set_do_not_suspend, set_end, set_event, set_exited, set_how_far, set_join, set_own_event, set_phase, set_position, set_register, set_result, set_saved_callee, set_saved_own, set_script, set_stage, set_started, set_starting_published, set_subtask_handle, set_thread_handle, set_trapped, set_uninteresting, set_word, SetCallEvent, SetCancelDelivered, SetExited, SetOwnEvent, Settles, SetUninteresting, Shifts, Some, Status, Stay, Stop, stopped, subst, Subtask, sym, take_result, TakeHost, taken, TakePush, TakesNamed, TakeWorkEvent, task_of, Tells, Then, Thread, thread_handle_of, told, Trip, true, Turn, unblocked, Unblocks, wake, wake_joined, wake_why, waken_by, Wakes, Why, with_handle, with_thread_handle, Word, work_queued, ℕ, ◌||◌, ◌∙◌, ◌∷◌, ◌≡◌, ◌≤◌}
 use Rattle.task_rules.proofs.StandLemmas.{set_place_is}
-use Rattle.task_machine.proofs.MapLemmas.{get-remove_same}
-use Rattle.task_machine.specs.declared.records.Turn.TheVariants as turn
-use Rattle.task_rules.proofs.ChainLemmas.{along, Keep, Keeps, join, keep_stay, weaken, shift_keeps, settle_keeps}
+use Rattle.task_rules.proofs.ChainLemmas.{along, Keep, Keeps, join, keep_stay, weaken, shift_keeps, settle_keeps, settle_stays, chain_if}
 use Rattle.task_rules.proofs.StopLemmas.{find_passes}
-use Rattle.task_rules.proofs.PlacingLemmas.{placed, placing_shifted, popped_shifted, unplaced, shifted_made, Shifted}
+use Rattle.task_rules.proofs.PlacingLemmas.{placed, placing_shifted, popped_shifted, unplaced, Shifted}
 use Rattle.task_rules.proofs.PromotionLemmas.{first_has_entry}
-use Rattle.task_machine.specs.declared.records.Delivery.TheVariants as delivery
-use Rattle.task_machine.specs.declared.records.Join.TheVariants as join
-use Rattle.task_machine.specs.declared.records.Place.TheVariants as place
-use Rattle.task_machine.specs.declared.records.Stage.TheVariants as stage
-use Rattle.task_machine.specs.declared.records.Subtask.TheVariants as subtask
-use Rattle.task_machine.specs.declared.records.Why.TheVariants as why
-use Rattle.task_machine.specs.declared.words.Mark.TheVariants as mark
-use Rattle.task_machine.specs.declared.words.OwnEvent.TheVariants as own
+use Rattle.task_rules.proofs.CallThreads.{SameTasks, LastEnds}
 
 -- ---- What other threads come to
 
-shifts_if : {s : Core} (b : Bool) (t u : Core) → (b ≡ true → Shifts s t) → (b ≡ false → Shifts s u) → Shifts s (if b then t else u)
-shifts_if true t u p q = p refl
-shifts_if false t u p q = q refl
-
 put_shifts : (m : Mark) (n : ℕ) (w : Why) (s : Core) → MayPut n w s → Shifts s (put_at m n w s)
 put_shifts m n w s ok = placed (Put m n w) ok NoWord
-
-none_stands : (b : Bool) (o : Option ℕ) → (b || is_some o) ≡ false → o ≡ None
-none_stands b o e = grind arith
 
 first_shifts : (i : ℕ) (s : Core) (o : Option ℕ) → first_entry i s ≡ o → s.queues.switch ≡ None → Shifts s (promoted_first o s)
 first_shifts i s None e none = NoWord
@@ -37,18 +19,15 @@ first_shifts i s (Some n) e none = placed (Promote n) (none, first_has_entry i s
 pub checked_shifts : (i : ℕ) (s : Core) → Shifts s (checked i s)
 unfolding checked
 checked_shifts i s =
-    shifts_if (not (may_not_suspend i s) || is_some s.queues.switch) s (promoted_first (first_entry i s) s) (λ e. NoWord)
-    (λ e. first_shifts i s (first_entry i s) refl (none_stands (not (may_not_suspend i s)) s.queues.switch e))
+    chain_if (not (may_not_suspend i s) || is_some s.queues.switch) s (promoted_first (first_entry i s) s) (λ e. NoWord)
+    (λ e. first_shifts i s (first_entry i s) refl (grind (arith, e)))
 
 pub stopped_shifts : (f : ℕ) (s : Core) → Shifts s (stopped f s)
 stopped_shifts f s = placed (Stop f) tt NoWord
 
-held_at : (o : Option Place) (v : Why) → option_and_then held_why o ≡ Some v → o ≡ Some (place.Held v)
-held_at o v h = grind arith
-
 released_one_shifts : (n : ℕ) (o : Option Why) (s : Core) → held_why_of n s ≡ o → Shifts s (released_one n o s)
 released_one_shifts n None s e = NoWord
-released_one_shifts n (Some w) s e = put_shifts mark.High n w s (Releases (held_at (place_of n s) w e))
+released_one_shifts n (Some w) s e = put_shifts Mark.High n w s (Releases (grind (arith, e)))
 
 pub released_shifts : (ns : List ℕ) (s : Core) → Shifts s (released ns s)
 unfolding released
@@ -56,8 +35,8 @@ released_shifts [] s = NoWord
 released_shifts (n ∷ ns) s = join (released_one_shifts n (held_why_of n s) s refl) (released_shifts ns (released_one n (held_why_of n s) s))
 
 waken_shifts : (x n : ℕ) (s : Core) (b : Bool) → is_callback_waiter n s ≡ b → is_waiter x n s ≡ true → Shifts s (waken_by b x n s)
-waken_shifts x n s true e h = put_shifts mark.High n (why.Delivery (delivery.Set x)) s (Wakes x h (ap (λ b. wake_why x b) (sym e)))
-waken_shifts x n s false e h = put_shifts mark.High n why.Resumption s (Wakes x h (ap (λ b. wake_why x b) (sym e)))
+waken_shifts x n s true e h = put_shifts Mark.High n (Why.Delivery (Delivery.Set x)) s (Wakes x h (ap (λ b. wake_why x b) (sym e)))
+waken_shifts x n s false e h = put_shifts Mark.High n Why.Resumption s (Wakes x h (ap (λ b. wake_why x b) (sym e)))
 
 -- the chosen thread, if there is one, waits on the set
 abbrev pub Chosen : ℕ → Option ℕ → Core → Type 0
@@ -74,49 +53,45 @@ chosen_of x w s h n is = grind arith
 
 -- the chosen thread waits on the set that the subtask is in
 abbrev pub ChosenIn : Join → Option ℕ → Core → Type 0
-ChosenIn j w s = (x : ℕ) → j ≡ join.Set x → Chosen x w s
+ChosenIn j w s = (x : ℕ) → j ≡ Join.Set x → Chosen x w s
 
 pub chosen_in_of : (j : Join) (w : Option ℕ) (s : Core) → may_wake_joined j w s ≡ true → ChosenIn j w s
 chosen_in_of j w s h x is n at = grind (arith, chosen_of x w s)
 
 wake_joined_shifts : (j : Join) (w : Option ℕ) (s : Core) → ChosenIn j w s → Shifts s (wake_joined j w s)
-wake_joined_shifts (join.Set x) w s h = wake_shifts x w s (h x refl)
-wake_joined_shifts join.Nowhere w s h = NoWord
-wake_joined_shifts (join.Watched n) w s h = NoWord
+wake_joined_shifts (Join.Set x) w s h = wake_shifts x w s (h x refl)
+wake_joined_shifts _ w s h = NoWord
 
 -- a thread elsewhere gets an entry: who waits on x still does
 waiter_put : (x n m : ℕ) (w : Why) (p : Place) (s : Core) → place_of m s ≡ Some p → is_waiting_on x p ≡ false → is_waiter x n s ≡ true →
     is_waiter x n (put_high m w s) ≡ true
 unfolding put_high push_high
-waiter_put x n m w p s at other h = grind (arith, nat_tests, set_place_is n m (place.Ready mark.High w) s)
+waiter_put x n m w p s at other h = grind (arith, nat_tests, set_place_is n m (Place.Ready Mark.High w) s)
 
 -- ---- A blocked thread
 
-same_subtask_is : (sub other : Subtask) → same_subtask sub other ≡ true → sub ≡ other
-same_subtask_is sub other h = grind (arith, nat_tests)
+pub blocked_place : (sub : Subtask) (o : Option Place) → option_map_or (is_blocked_on sub) o false ≡ true → o ≡ Some (Place.Blocked sub)
+blocked_place sub o h = grind (arith, nat_tests)
 
-pub blocked_place : (sub : Subtask) (o : Option Place) → option_map_or (is_blocked_on sub) o false ≡ true → o ≡ Some (place.Blocked sub)
-blocked_place sub o h = grind (arith, same_subtask_is sub)
-
-pub blocked_at : (sub : Subtask) (s : Core) (m : ℕ) → blocked_on sub s ≡ Some m → place_of m s ≡ Some (place.Blocked sub)
+pub blocked_at : (sub : Subtask) (s : Core) (m : ℕ) → blocked_on sub s ≡ Some m → place_of m s ≡ Some (Place.Blocked sub)
 unfolding blocked_on
 blocked_at sub s m h = blocked_place sub (place_of m s) (find_passes (λ k. is_at k s (is_blocked_on sub)) (numbers s.threads) m h)
 
 -- the thread is blocked on the subtask
 abbrev pub IsBlocked : Subtask → Option ℕ → Core → Type 0
-IsBlocked sub o s = (m : ℕ) → o ≡ Some m → place_of m s ≡ Some (place.Blocked sub)
+IsBlocked sub o s = (m : ℕ) → o ≡ Some m → place_of m s ≡ Some (Place.Blocked sub)
 
 pub unblocked_shifts : (sub : Subtask) (o : Option ℕ) (s : Core) → is_done_host sub s ≡ true → IsBlocked sub o s → Shifts s (unblocked o s)
 unblocked_shifts sub None s done h = NoWord
-unblocked_shifts sub (Some m) s done h = put_shifts mark.High m why.Resumption s (Unblocks sub (h m refl) done refl)
+unblocked_shifts sub (Some m) s done h = put_shifts Mark.High m Why.Resumption s (Unblocks sub (h m refl) done refl)
 
 chosen_unblocked : (sub : Subtask) (o : Option ℕ) (x : ℕ) (w : Option ℕ) (s : Core) → IsBlocked sub o s → Chosen x w s → Chosen x w (unblocked o s)
 chosen_unblocked sub None x w s h c = c
-chosen_unblocked sub (Some m) x w s h c = λ n is. waiter_put x n m why.Resumption (place.Blocked sub) s (h m refl) refl (c n is)
+chosen_unblocked sub (Some m) x w s h c = λ n is. waiter_put x n m Why.Resumption (Place.Blocked sub) s (h m refl) refl (c n is)
 
 chosen_released_one : (n : ℕ) (o : Option Why) (x : ℕ) (w : Option ℕ) (s : Core) → held_why_of n s ≡ o → Chosen x w s → Chosen x w (released_one n o s)
 chosen_released_one n None x w s e c = c
-chosen_released_one n (Some v) x w s e c = λ k is. waiter_put x k n v (place.Held v) s (held_at (place_of n s) v e) refl (c k is)
+chosen_released_one n (Some v) x w s e c = λ k is. waiter_put x k n v (Place.Held v) s (grind (arith, e)) refl (c k is)
 
 pub chosen_released : (ns : List ℕ) (x : ℕ) (w : Option ℕ) (s : Core) → Chosen x w s → Chosen x w (released ns s)
 unfolding released
@@ -125,16 +100,13 @@ chosen_released (n ∷ ns) x w s c = chosen_released ns x w (released_one n (hel
 
 -- ---- How far a thread comes in its script
 
-stays_at : (o p : Option Thread) → option_map unplaced p ≡ option_map unplaced o → option_map_or (λ (t : Thread). t.position) p 0 ≤ option_map_or (λ (t : Thread). t.position) o 0
-stays_at o p same = grind arith
-
 -- no word but that of an op that is done brings a thread further
 kept_word : (a : Scene) (n : ℕ) (w : Word) (s : Core) → Keeps a w s → position_of n (after_word w s) ≤ position_of n s
 unfolding add_call add_group add_set add_thread add_work call_made count_work free_handle free_thread_handle give_handle give_result give_thread_handle on_call on_instance on_thread on_work poll_pends push_high remove_call remove_group remove_set remove_thread remove_work set_backpressure set_cancel_delivered set_cancelled set_course set_do_not_enter set_do_not_suspend set_end set_event set_exited set_how_far set_join set_own_event set_phase set_position set_register set_result set_saved_callee set_saved_own set_script set_stage set_started set_starting_published set_subtask_handle set_thread_handle set_trapped set_uninteresting set_word take_result with_handle with_thread_handle work_queued
-kept_word a n (Places p) s ok = stays_at _ _ ((placing_shifted p s).threads n)
+kept_word a n (Places p) s ok = let same = (placing_shifted p s).threads n in grind (arith, same)
 kept_word a n (Advance m p) s ok = absurd ok
-kept_word a n (TakePush m i) s ok = stays_at _ _ ((popped_shifted m s).threads n)
-kept_word a n (TakeHost m i) s ok = stays_at _ _ ((popped_shifted m s).threads n)
+kept_word a n (TakePush m i) s ok = let same = (popped_shifted m s).threads n in grind (arith, same)
+kept_word a n (TakeHost m i) s ok = let same = (popped_shifted m s).threads n in grind (arith, same)
 kept_word a n (MakeThread t) s ok = grind (arith, nat_tests, get-insert, ok.1.1.1.1.1.0)
 kept_word a n w s ok = grind (arith, nat_tests, get-change, get-insert, get-remove)
 
@@ -151,7 +123,7 @@ record StillAt (n : ℕ) (b s : Core) : Type 0 where
 same_at : (n : ℕ) (b s t : Core) → t.made ≡ s.made → option_map unplaced (get t.threads n) ≡ option_map unplaced (get s.threads n) → StillAt n b s → StillAt n b t
 same_at n b s t made same q = record { made = rw made q.made; position = grind (arith, q.position) }
 
-module _ (a : Scene) (n : ℕ) (runs : place_of n a.base ≡ Some place.Running) (below : n ≤ a.base.made.threads) where
+module _ (a : Scene) (n : ℕ) (runs : place_of n a.base ≡ Some Place.Running) (below : n ≤ a.base.made.threads) where
   still_word : (w : Word) (s : Core) → Keeps a w s → StillAt n a.base s → StillAt n a.base (after_word w s)
   unfolding add_call add_group add_set add_thread add_work call_made count_work free_handle free_thread_handle give_handle give_result give_thread_handle on_call on_instance on_thread on_work poll_pends push_high remove_call remove_group remove_set remove_thread remove_work set_backpressure set_cancel_delivered set_cancelled set_course set_do_not_enter set_do_not_suspend set_end set_event set_exited set_how_far set_join set_own_event set_phase set_position set_register set_result set_saved_callee set_saved_own set_script set_stage set_started set_starting_published set_subtask_handle set_thread_handle set_trapped set_uninteresting set_word take_result with_handle with_thread_handle work_queued
   still_word (Places p) s ok q = same_at n a.base s _ refl ((placing_shifted p s).threads n) q
@@ -165,7 +137,7 @@ module _ (a : Scene) (n : ℕ) (runs : place_of n a.base ≡ Some place.Running)
   }
 
 -- no word before those of an op that is done brings the running thread further
-pub keep_still : {a : Scene} {t : Core} (n : ℕ) → a.turn ≡ turn.Run n → Keep a a.base t → AtOp a n t
+pub keep_still : {a : Scene} {t : Core} (n : ℕ) → a.turn ≡ Turn.Run n → Keep a a.base t → AtOp a n t
 keep_still {a = a} n to c = (to, λ runs below there. (along (StillAt n a.base) (still_word a n runs below) (record { made = le_refl _; position = λ e. refl }) c).position (grind arith))
 
 placed_at_op : (a : Scene) (n : ℕ) (s t : Core) → Shifted s t → AtOp a n s → AtOp a n t
@@ -180,7 +152,7 @@ module _ {a : Scene} {b : Core} where
   pub shifted : {s t : Core} → Shifts s t → Keep a b s → Keep a b t
   shifted d c = join c (weaken (shift_keeps a) d)
 
-  settled : {s t : Core} → Settles s t → Keep a b s → Keep a b t
+  pub settled : {s t : Core} → Settles s t → Keep a b s → Keep a b t
   settled d c = join c (weaken (settle_keeps a) d)
 
   -- where the running thread comes to
@@ -192,91 +164,96 @@ module _ {a : Scene} {b : Core} where
       let is = (placing_shifted p s).only in
       subst (λ (t : Core). Trip a b (set_how_far n h t)) is (LandsAt s p n h (keep_stay c) ok (subst (λ (t : Core). MayCome a n h t × CanCome a n h t) (sym is) (comes, InOp (placed_at_op a n s _ (placing_shifted p s) at) can)))
 
-  pub walk_if : (c : Bool) (t u : Core) → (c ≡ true → Keep a b t) → (c ≡ false → Keep a b u) → Keep a b (if c then t else u)
-  walk_if true t u p q = p refl
-  walk_if false t u p q = q refl
-
 -- an entry whose place says that it is there is promoted beside a running thread
-pub promoted_walks : {a : Scene} {b : Core} (m n : ℕ) {s : Core} → a.turn ≡ turn.Run m → (x : Mark) × ((w : Why) × (place_of n s ≡ Some (place.Ready x w))) → Keep a b s → Keep a b (promoted_unless n s)
+pub promoted_walks : {a : Scene} {b : Core} (m n : ℕ) {s : Core} → a.turn ≡ Turn.Run m → (x : Mark) × ((w : Why) × (place_of n s ≡ Some (Place.Ready x w))) → Keep a b s → Keep a b (promoted_unless n s)
 unfolding promoted_unless
-promoted_walks m n {s = s} runs ready c = walk_if (is_some s.queues.switch) s (promoted n s) (λ e. c) (λ e. placed (Promote n) (inr (none_stands false s.queues.switch e, (m, (runs, ready)))) c)
+promoted_walks m n {s = s} runs ready c = chain_if (is_some s.queues.switch) s (promoted n s) (λ e. c) (λ e. placed (Promote n) (inr (grind (arith, e), (m, (runs, ready)))) c)
 
 -- ---- Published
 
--- what a change keeps of the record of a work
-pub work_read : {A : Type 0} (f : Work → A) (none : A) (i : ℕ) (g : Work → Work) → ((w : Work) → f (g w) ≡ f w) → (m : Records Work) → option_map_or f (get (change i g m) i) none ≡ option_map_or f (get m i) none
-work_read f none i g keeps m = grind (arith, nat_tests, get-change)
+evented : (sub : Subtask) (e : Option Status) (s : Core) → ((m : ℕ) → place_of m (set_event sub e s) ≡ place_of m s) × (is_done_host sub (set_event sub e s) ≡ is_done_host sub s)
+unfolding set_event on_call on_work
+evented sub e s = (λ m. grind arith, grind (arith, nat_tests, get-change))
 
-published_shifts : (sub : Subtask) (w : Option ℕ) (s t : Core) → is_done_host sub t ≡ true → ((m : ℕ) → place_of m t ≡ place_of m s) → ChosenIn (join_of sub s) w s → Shifts t (wake_joined (join_of sub s) w (unblocked (blocked_on sub s) t))
-published_shifts sub w s t done same chosen =
+pub published_shifts : (sub : Subtask) (e : Status) (w : Option ℕ) (s : Core) → is_done_host sub s ≡ true → ChosenIn (join_of sub s) w s → Shifts (set_event sub (Some e) s) (published sub e w s)
+unfolding published
+published_shifts sub e w s done chosen =
+    let t = set_event sub (Some e) s in
     let o = blocked_on sub s in
-    let at : IsBlocked sub o t = λ m is. same m ∙ blocked_at sub s m is in
-    let there : ChosenIn (join_of sub s) w t = λ x is n by. ap (λ p. option_map_or (is_waiting_on x) p false) (same n) ∙ chosen x is n by in
-    join (unblocked_shifts sub o t done at) (wake_joined_shifts (join_of sub s) w (unblocked o t) (λ x is. chosen_unblocked sub o x w t at (there x is)))
-
-pub published_call_shifts : (k : ℕ) (e : Status) (w : Option ℕ) (s : Core) → ChosenIn (join_of (subtask.Guest k) s) w s → Shifts (set_event (subtask.Guest k) (Some e) s) (published (subtask.Guest k) e w s)
-unfolding published set_event on_call
-published_call_shifts k e w s chosen = published_shifts (subtask.Guest k) w s (set_event (subtask.Guest k) (Some e) s) refl (λ m. refl) chosen
-
-pub published_work_shifts : (i : ℕ) (e : Status) (w : Option ℕ) (s : Core) → is_stage_ended (stage_of i s) ≡ true → ChosenIn (join_of (subtask.Host i) s) w s → Shifts (set_event (subtask.Host i) (Some e) s) (published (subtask.Host i) e w s)
-unfolding published set_event on_work
-published_work_shifts i e w s done chosen = published_shifts (subtask.Host i) w s (set_event (subtask.Host i) (Some e) s) (ap (λ x. is_stage_ended x) (work_read (λ r. r.stage) stage.Ended i (λ r. record r { event = Some e }) (λ r. refl) s.works) ∙ done) (λ m. refl) chosen
-
-module _ {a : Scene} {b : Core} where
-  published_call : (k : ℕ) (e : Status) (w : Option ℕ) {s : Core} → MayTell a k (Some e) s → ChosenIn (join_of (subtask.Guest k) s) w s → Keep a b s → Keep a b (published (subtask.Guest k) e w s)
-  published_call k e w {s = s} ok chosen c = shifted (published_call_shifts k e w s chosen) (word (SetCallEvent k (Some e)) ok c)
+    let q = evented sub (Some e) s in
+    let at : IsBlocked sub o t = λ m is. q.0 m ∙ blocked_at sub s m is in
+    join (unblocked_shifts sub o t (q.1 ∙ done) at)
+    (wake_joined_shifts (join_of sub s) w (unblocked o t) (λ x is. chosen_unblocked sub o x w t at (λ n by. ap (λ p. option_map_or (is_waiting_on x) p false) (q.0 n) ∙ chosen x is n by)))
 
 -- the thread chosen where the call's status is told
 abbrev pub ToldTo : ℕ → Option ℕ → Core → Type 0
-ToldTo k w s = is_told k s ≡ true → ChosenIn (join_of (subtask.Guest k) s) w s
+ToldTo k w s = is_told k s ≡ true → ChosenIn (join_of (Subtask.Guest k) s) w s
 
 pub told_to : (k : ℕ) (w : Option ℕ) (s : Core) → may_tell k w s ≡ true → ToldTo k w s
 unfolding may_tell may_publish
-told_to k w s h told = chosen_in_of (join_of (subtask.Guest k) s) w s (grind arith)
+told_to k w s h told = chosen_in_of (join_of (Subtask.Guest k) s) w s (grind arith)
+
+-- where the call's status is told, it is its event
+abbrev pub told_at : ℕ → Status → Core → Core
+told_at k e s = if is_told k s then set_event (Subtask.Guest k) (Some e) s else s
+
+pub told_shifts : (k : ℕ) (e : Status) (w : Option ℕ) (s : Core) → ToldTo k w s → Shifts (told_at k e s) (told k e w s)
+unfolding told
+told_shifts k e w s to = by (is_told k s) refl
+  where
+    by : (b : Bool) → is_told k s ≡ b → Shifts (if b then set_event (Subtask.Guest k) (Some e) s else s) (if b then published (Subtask.Guest k) e w s else s)
+    by true is = published_shifts (Subtask.Guest k) e w s refl (to is)
+    by false is = NoWord
 
 module _ {a : Scene} {b : Core} where
-  pub told_walks : (k : ℕ) (e : Status) (w : Option ℕ) {s : Core} → (is_told k s ≡ true → Tells e k s) → (is_end e ≡ true → SaysEnd a k e) → ToldTo k w s → Keep a b s → Keep a b (told k e w s)
-  unfolding told
-  told_walks k e w {s = s} tells says to c = walk_if (is_told k s) (published (subtask.Guest k) e w s) s (λ is. published_call k e w (is, (tells is, says)) (to is) c) (λ is. c)
+  pub told_walks : (k : ℕ) (e : Status) (w : Option ℕ) {s : Core} → (is_told k s ≡ true → Tells e k s) → IsStarting a k s → ToldTo k w s → Keep a b s → Keep a b (told k e w s)
+  told_walks k e w {s = s} tells starts to c =
+      shifted (told_shifts k e w s to) (chain_if (is_told k s) (set_event (Subtask.Guest k) (Some e) s) s (λ is. word (SetCallEvent k (Some e)) (is, (tells is, starts)) c) (λ is. c))
 
 -- ---- Given and handed on
 
 pub handed_on_shifts : (x : ℕ) (g : Gift) (w : Option ℕ) (s : Core) → may_hand_on x g w s ≡ true → Shifts s (handed_on x g w s)
 unfolding handed_on may_hand_on
-handed_on_shifts x g w s h = shifts_if (hands_on x g s) (wake x w s) s (λ e. wake_shifts x w s (chosen_of x w s (grind arith))) (λ e. NoWord)
+handed_on_shifts x g w s h = chain_if (hands_on x g s) (wake x w s) s (λ e. wake_shifts x w s (chosen_of x w s (grind arith))) (λ e. NoWord)
 
 -- what the running thread's task may take
 abbrev pub MayTake : Scene → ℕ → Gift → Type 0
-MayTake a k (OwnGift e) = ((n : ℕ) × (IsRunner a n × (k ≡ task_of n a.base))) × (e ≡ own.Cancelled → MayDeliver a k)
-MayTake a k (MemberGift sub) = IsOwn a sub
+MayTake a k (OwnGift e) = ((n : ℕ) × (IsRunner a n × (k ≡ task_of n a.base))) × (e ≡ OwnEvent.Cancelled → MayDeliver a k)
+MayTake a k (MemberGift sub) = IsNamed a sub
 MayTake a k NoGift = Unit {0}
 
 module _ {a : Scene} {b : Core} where
   pub taken_walks : (g : Gift) (k : ℕ) {s : Core} → MayTake a k g → Keep a b s → Keep a b (taken g k s)
   unfolding taken
-  taken_walks (OwnGift own.None) k ok c = word (SetOwnEvent k None) ok.0 c
-  taken_walks (OwnGift own.Cancelled) k ok c = word (SetCancelDelivered k) (ok.1 refl) (word (SetOwnEvent k None) ok.0 c)
-  taken_walks (MemberGift (subtask.Guest q)) k ok c = word (SetCallEvent q None) ok c
-  taken_walks (MemberGift (subtask.Host i)) k ok c = word (TakeWorkEvent i) ok c
+  taken_walks (OwnGift OwnEvent.None) k ok c = word (SetOwnEvent k None) ok.0 c
+  taken_walks (OwnGift OwnEvent.Cancelled) k ok c = word (SetCancelDelivered k) (ok.1 refl) (word (SetOwnEvent k None) ok.0 c)
+  taken_walks (MemberGift (Subtask.Guest q)) k ok c = word (SetCallEvent q None) (TakesNamed ok) c
+  taken_walks (MemberGift (Subtask.Host i)) k ok c = word (TakeWorkEvent i) (ok.0, (ok.1.1.0, ByHandle ok.1.0 ok.1.1.1)) c
   taken_walks NoGift k ok c = c
 
 -- ---- Settled
 
-settles_if : {s : Core} (b : Bool) (t u : Core) → (b ≡ true → Settles s t) → (b ≡ false → Settles s u) → Settles s (if b then t else u)
-settles_if true t u p q = p refl
-settles_if false t u p q = q refl
-
-group_settles : (g : ℕ) (s : Core) → Settles s (group_settled g s)
+pub group_settles : (g : ℕ) (s : Core) → Settles s (group_settled g s)
 unfolding group_settled
-group_settles g s = settles_if (is_group_done g s) (remove_group g s) s (λ e. Then s (RemoveGroup g) NoWord e) (λ e. NoWord)
+group_settles g s = chain_if (is_group_done g s) (remove_group g s) s (λ e. Then s (RemoveGroup g) NoWord e) (λ e. NoWord)
 
-call_settles : (k : ℕ) (s : Core) → Settles s (call_settled k s)
+pub call_settles : (k : ℕ) (s : Core) → (is_deletable k s ≡ true → has_ended k s ≡ true) → Settles s (call_settled k s)
 unfolding call_settled
-call_settles k s = settles_if (is_deletable k s) (group_settled (call_group k s) (remove_call k s)) s (λ e. join (Then s (RemoveCall k) NoWord e) (group_settles (call_group k s) (remove_call k s))) (λ e. NoWord)
+call_settles k s over = chain_if (is_deletable k s) (group_settled (call_group k s) (remove_call k s)) s (λ e. join (Then s (RemoveCall k) NoWord (e, over e)) (group_settles (call_group k s) (remove_call k s))) (λ e. NoWord)
 
-interest_settles : (k : ℕ) (s : Core) → Settles s (interest_settled k s)
-unfolding interest_settled
-interest_settles k s = settles_if (option_map_or is_finished (get s.calls k) false) (set_uninteresting k s) s (λ e. Then s (SetUninteresting k) NoWord tt) (λ e. NoWord)
+-- what is left of the call once the thread is gone
+left_call : (n k : ℕ) (s : Core) → (is_some (get (interest_settled k (departed n s)).calls k) ≡ is_some (get s.calls k)) ×
+    ((end_of k (interest_settled k (departed n s)) ≡ end_of k s) × ((interest_settled k (departed n s)).threads ≡ remove s.threads n))
+unfolding interest_settled set_uninteresting on_call set_exited free_thread_handle remove_thread
+left_call n k s = (grind (arith, nat_tests, get-change), (grind (arith, nat_tests, get-change), grind arith))
+
+departed_over : (n : ℕ) (s : Core) → LastEnds n s → is_deletable (task_of n s) (interest_settled (task_of n s) (departed n s)) ≡ true → has_ended (task_of n s) (interest_settled (task_of n s) (departed n s)) ≡ true
+unfolding is_deletable
+departed_over n s last gone =
+    let k = task_of n s in
+    let call = left_call n k s in
+    let others : SameTasks n s (interest_settled k (departed n s)) = λ m other. ap (λ (r : Records Thread). option_map (λ (u : Thread). u.call) (get r m)) call.1.1 ∙ grind (arith, nat_tests, get-remove) in
+    let over = last (interest_settled k (departed n s)) others gone in grind (arith, call.0, call.1.0, over, gone)
 
 -- the thread is gone, and what becomes of its call
 pub record Left (a : Scene) (b : Core) (n : ℕ) (t : Core) : Type 0 where
@@ -285,11 +262,12 @@ pub record Left (a : Scene) (b : Core) (n : ℕ) (t : Core) : Type 0 where
   pub settles : Settles (after_word (RemoveThread n) before) t
 
 module _ {a : Scene} {b : Core} where
-  pub group_settled_walks : (g : ℕ) {s : Core} → Keep a b s → Keep a b (group_settled g s)
-  group_settled_walks g {s = s} c = settled (group_settles g s) c
-
-  pub call_settled_walks : (k : ℕ) {s : Core} → Keep a b s → Keep a b (call_settled k s)
-  call_settled_walks k {s = s} c = settled (call_settles k s) c
+  -- the op that was inside of the call is done
+  pub call_done_walks : (k : ℕ) {s : Core} → (is_deletable k s ≡ true → MayRemoveCall a k s) → Stay a b s → Stay a b (call_settled k s)
+  unfolding call_settled
+  call_done_walks k {s = s} may c =
+      chain_if (is_deletable k s) (group_settled (call_group k s) (remove_call k s)) s
+      (λ is. join (Then s (RemoveCall k) c (may is)) (weaken (settle_stays a) (group_settles (call_group k s) (remove_call k s)))) (λ is. c)
 
   freed_thread_handle_walks : (i : ℕ) (o : Option ℕ) {s : Core} → Keep a b s → Keep a b (freed_thread_handle i o s)
   freed_thread_handle_walks i None c = c
@@ -299,24 +277,29 @@ module _ {a : Scene} {b : Core} where
   exited_if_walks true k c = c
   exited_if_walks false k c = word (SetExited k) tt c
 
-  pub ended_walks : (n : ℕ) {s : Core} → Keep a b s → Left a b n (ended n s)
-  unfolding ended
-  ended_walks n {s = s} c =
+  pub ended_walks : (n : ℕ) {s : Core} → LastEnds n s → Keep a b s → Left a b n (ended n s)
+  unfolding ended interest_settled
+  ended_walks n {s = s} last c =
       let f = freed_thread_handle (instance_of n s) (thread_handle_of n s) (exited_if (is_explicit n s) (task_of n s) s) in
       let r = remove_thread n f in
       record {
         before = f;
         stays = freed_thread_handle_walks (instance_of n s) (thread_handle_of n s) (exited_if_walks (is_explicit n s) (task_of n s) c);
-        settles = join (interest_settles (task_of n s) r) (call_settles (task_of n s) (interest_settled (task_of n s) r));
+        settles = join (chain_if (option_map_or is_finished (get r.calls (task_of n s)) false) (set_uninteresting (task_of n s) r) r (λ e. Then r (SetUninteresting (task_of n s)) NoWord tt) (λ e. NoWord)) (call_settles (task_of n s) (interest_settled (task_of n s) r) (λ gone. departed_over n s last gone));
       }
 
   pub exits_trip : (n : ℕ) {t : Core} → Leaves a n → Left a b n t → Trip a b t
   exits_trip n {t = t} leave e = Quits e.before t n (keep_stay e.stays) leave e.settles
 
--- who ends is gone, and the other threads stay
-pub ended_threads : (n : ℕ) (s : Core) → (ended n s).threads ≡ remove s.threads n
-unfolding ended remove_thread call_settled group_settled remove_group remove_call interest_settled set_uninteresting on_call free_thread_handle set_exited
-ended_threads n s = grind arith
+settle_threads : (w : Word) (s : Core) → IsSettling w s → (after_word w s).threads ≡ s.threads
+unfolding set_uninteresting on_call remove_call remove_group
+settle_threads (SetUninteresting k) s ok = refl
+settle_threads (RemoveCall k) s ok = refl
+settle_threads (RemoveGroup g) s ok = refl
+settle_threads _ s ok = absurd ok
 
-pub ended_gone : (n : ℕ) (s : Core) → get (ended n s).threads n ≡ None
-ended_gone n s = ap (λ (m : Records Thread). get m n) (ended_threads n s) ∙ get-remove_same s.threads n
+-- who ends is gone
+pub left_gone : {a : Scene} {b : Core} (n : ℕ) {t : Core} → Left a b n t → get t.threads n ≡ None
+unfolding remove_thread
+left_gone n e =
+    along (λ u. get u.threads n ≡ None) (λ w s ok gone. ap (λ (m : Records Thread). get m n) (settle_threads w s ok) ∙ gone) (get-remove_same e.before.threads n) e.settles

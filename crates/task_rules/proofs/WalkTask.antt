@@ -1,58 +1,33 @@
 -- The rows of ops as chains of words: what a row owes, the ops on registers and words, and the ops that end a task or an activation.
-use Rattle.task_rules.proofs.ChainLemmas.{Going}
+use Rattle.task_rules.proofs.ChainLemmas.{Going, Keep, keep_stay, trip_walk, stay_walk}
 use Rattle.task_rules.proofs.SayLemmas.{said_is}
-use Rattle.task_rules.proofs.MuteLemmas.{is_mute, mute_words, none_said}
-use Rattle.task_rules.proofs.WalkEnds.{cancelled_rest, returned_rest, SameCall, cancelled_walks, returned_walks, still_told_to, unanswered}
-use Rattle.task_rules.proofs.Machine.{[], Advance, advanced, answered, ap, ap₂, arith, assigned, AwaitsEvent, backpressure_of, begun_holder, blocking_exit_row, blocking_exits, Bool, BySetHandle, Call, CallEnd, cancel_was_delivered, change, checked, Choice, code_exits, code_finds, code_kind_row, code_row, code_stops, code_wait_row, code_waits, code_yields, ComesAgain, Component, component_of, Core, data_row, direct_exit_to, direct_exits, end_for, end_reopens, ended, ends_activation, EndsActivation, EndsByExit, EndsCall, EndsOwn, EndWords, exit_label, exit_restores, exit_row_for, exit_stops, Exits, ExportKind, Fails, false, FindsEvent, foot_of, get, GivesUp, goal_of, Goes, GoesBack, handed_by, HandsOut, has_ended, has_event_for, HasSet, held_by_flag, holder_at_exit, if◌then◌else◌, implicit_exit_row, inl, inr, instance_of, is_async_lifted, is_at, is_code_op, is_direct, is_ending_exit, is_exit, is_explicit, is_holding, is_none, is_over, is_running, is_under, IsRunner, kind_exit_row, kind_of, Label, LastWords, Leaves, leaves_no_result, length, List, Main, may, may_tell, MayBar, MayEnd, MayOwe, min, Move, moved_to, nat_le, nat_lt, nat_tests, Never, None, not, NoWord, numbers, on_call, on_instance, on_thread, Op, op_in, op_of, Option, option_map, option_map_or, or_never, or_trap, Ordered, outcome_of_label, own_event_of, own_or_none, OwnEvent, passes_after_return, passes_after_stop, passes_check, Place, place_of, position_of, Progress, Put, Records, refl, register_of, Remains, ret_label, returned, returned_holder, ReturnsNow, saved_own_of, SaysEnd, Scene, script_of, set_at, set_backpressure, set_do_not_enter, set_do_not_suspend, set_end, set_how_far, set_place, SetBackpressure, SetDoNotEnter, SetDoNotSuspend, SetEnd, SetOwnEvent, SetRegister, SetSavedCallee, Setting, SetWord, skip_row, skipped, slice_get, Some, Status, stopped, Stops, stored, subst, Subtask, suc, sym, sync_exit_row, sync_exits, T, task_cancel_label, task_end, task_of, Then, Thread, thread_exit_row, Trap, trap_if, Traps, Trip, true, Turn, Uncovers, under_of, unwrap_or, value_of, Walk, Writes, WritesCall, WritesToo, written_by, written_by_exit, zero, ℕ, ◌%◌, ◌&&◌, ◌*◌, ◌+◌, ◌-◌, ◌/◌, ◌==◌, ◌||◌, ◌∙◌, ◌∷◌, ◌≡◌, ◌≤◌, ◌⊎◌}
-use Rattle.task_machine.specs.declared.op.DataOp.{DataOp}
-use Rattle.task_machine.specs.declared.op.TaskOp.{TaskOp}
-use Rattle.task_rules.specs.Task.{dec_from, dec_lowers, dec_opens, inc_raises, inc_row, ret_done, ret_row, task_cancel_done, task_cancel_row, task_row}
-use Rattle.task_rules.proofs.ChainLemmas.{Keep, keep_stay, trip_walk, stay_walk}
-use Rattle.task_machine.proofs.MapLemmas.{change-field}
-use Rattle.task_machine.proofs.CommuteLemmas.{get-change}
+use Rattle.task_rules.proofs.MuteLemmas.{both_none, is_mute, mute_words, none_said, says_by, writes_by}
+use Rattle.task_rules.proofs.WalkEnds.{cancelled_rest, returned_rest, call_ends, ends_untold, ended_last, returned_last}
+use Rattle.task_rules.proofs.Machine.{[], Advance, advanced, and_parts, answered, ap, ap₂, arith, assigned, AwaitsEvent, backpressure_of, begun_holder, blocking_exit_row, blocking_exits, Bool, BySetHandle, Call, CallEnd, cancel_was_delivered, change, checked, Choice, code_exits, code_finds, code_kind_row, code_row, code_stops, code_wait_row, code_waits, code_yields, ComesAgain, Component, component_of, Core, data_row, DataLabel, DataOp, Delivery, direct_exit_to, direct_exits, end_for, end_reopens, EndCall, ended, ends_activation, EndsActivation, EndsByExit, EndsCall, EndsOwn, EndWords, exit_label, exit_restores, exit_row_for, exit_stops, Exits, ExportKind, Fails, false, FindsEvent, foot_of, get, get-change, GivesUp, goal_of, Goes, GoesBack, handed_by, HandsOut, has_ended, has_event_for, HasSet, held_by_flag, holder_at_exit, HowFar, if◌then◌else◌, implicit_exit_row, inl, inr, instance_of, is_async_lifted, is_at, is_code_op, is_direct, is_ending_exit, is_exit, is_explicit, is_holding, is_none, is_over, is_running, is_under, IsRunner, kind_exit_row, kind_of, Label, LastWords, Leaves, leaves_no_result, length, List, Main, Mark, may, may_tell, MayBar, MayEnd, MayOwe, min, Move, moved_to, nat_le, nat_lt, nat_tests, Never, None, not, NoWord, numbers, on_call, on_instance, on_thread, Op, op_at_place, op_in, op_of, Option, option_map, option_map_or, or_never, or_trap, Ordered, outcome_of_label, own_event_of, own_or_none, OwnEvent, passes_after_return, passes_after_stop, passes_check, Place, place_of, position_of, Progress, Put, Records, refl, register_of, Remains, ret_label, returned, returned_holder, ReturnsNow, saved_own_of, SaysEnd, Scene, script_of, set_at, set_backpressure, set_do_not_enter, set_do_not_suspend, set_end, set_how_far, set_place, SetBackpressure, SetDoNotEnter, SetDoNotSuspend, SetOwnEvent, SetRegister, SetSavedCallee, Setting, SetWord, skip_row, skipped, Some, Status, stopped, Stops, stored, subst, Subtask, SubtaskEnd, suc, sym, sync_exit_row, sync_exits, T, task_cancel_label, task_end, task_of, TaskLabel, TaskOp, Then, Thread, thread_exit_row, Trap, trap_if, Traps, Trip, true, Turn, Uncovers, under_of, unwrap_or, value_of, Walk, Why, Writes, WritesCall, WritesToo, written_by, zero, ℕ, ◌%◌, ◌&&◌, ◌*◌, ◌+◌, ◌-◌, ◌/◌, ◌==◌, ◌||◌, ◌∙◌, ◌∷◌, ◌≡◌, ◌≤◌, ◌⊎◌}
+use Rattle.task_rules.specs.Task.{dec_from, dec_lowers, dec_opens, inc_raises, ret_done, ret_row, task_cancel_done, task_cancel_row, task_row}
 use Rattle.task_rules.proofs.StopLemmas.{find_passes}
-use Rattle.task_rules.proofs.PlacingLemmas.{Shifted, shifted_calls, shifted_task, shifts_shifted, placing_shifted}
-use Rattle.task_rules.proofs.WalkMoves.{keep_position, Chosen, ToldTo, checked_shifts, chosen_released, ended_gone, ended_walks, exits_trip, lands, released_shifts, shifted, stopped_shifts, told_to, word}
-use Rattle.task_machine.specs.declared.words.Status.TheVariants as status
-use Rattle.task_machine.specs.declared.component.ExportKind.TheVariants as kind
-use Rattle.task_machine.specs.declared.label.CallLabel.TheVariants as call_label
-use Rattle.task_machine.specs.declared.label.DataLabel.TheVariants as data_label
-use Rattle.task_machine.specs.declared.label.Label.TheVariants as label
-use Rattle.task_machine.specs.declared.label.TaskLabel.TheVariants as task_label
-use Rattle.task_machine.specs.declared.op.DataOp.TheVariants as data_op
-use Rattle.task_machine.specs.declared.op.Op.TheVariants as op
-use Rattle.task_machine.specs.declared.op.TaskOp.TheVariants as task_op
-use Rattle.task_machine.specs.declared.records.CallEnd.TheVariants as call_end
-use Rattle.task_machine.specs.declared.records.Delivery.TheVariants as delivery
-use Rattle.task_machine.specs.declared.records.HowFar.TheVariants as how_far
-use Rattle.task_machine.specs.declared.records.Place.TheVariants as place
-use Rattle.task_machine.specs.declared.records.Turn.TheVariants as turn
-use Rattle.task_machine.specs.declared.records.Why.TheVariants as why
-use Rattle.task_machine.specs.declared.trap.Trap.TheVariants as trap
-use Rattle.task_machine.specs.declared.words.Mark.TheVariants as mark
+use Rattle.task_rules.proofs.PlacingLemmas.{Shifted, shifted_calls, shifted_task, shifts_shifted, placing_shifted, shifted_after}
+use Rattle.task_rules.proofs.WalkMoves.{keep_position, ToldTo, checked_shifts, chosen_released, ended_walks, exits_trip, lands, released_shifts, shifted, stopped_shifts, told_to, word, Left, left_gone}
+use Rattle.task_rules.proofs.CallThreads.{LastEnds, last_of, last_shifted}
 
 -- ---- The op in its script
 
 -- a script's end is an exit, and so no other op
 abbrev pub is_exit_op : Op → Bool
-is_exit_op (op.Task task_op.Exit) = true
+is_exit_op (Op.Task TaskOp.Exit) = true
 is_exit_op _ = false
 
-in_script : (ops : List Op) (p : ℕ) → is_exit_op (unwrap_or (slice_get ops p) (op.Task task_op.Exit)) ≡ false → p + 1 ≤ length ops
+in_script : (ops : List Op) (p : ℕ) → is_exit_op (op_at_place ops p) ≡ false → p + 1 ≤ length ops
 in_script [] p other = absurd (grind arith)
-in_script (o ∷ ops) zero other = grind arith
-in_script (o ∷ ops) (suc p) other = let rest = in_script ops p other in omega (arith, rest)
+in_script (o ∷ ops) p other = grind (arith, in_script ops)
 
 pub op_stands : (c : Component) (n : ℕ) (s : Core) → is_exit_op (op_of c n s) ≡ false → position_of n s + 1 ≤ length (script_of c n s)
 unfolding op_of
 op_stands c n s other = in_script (script_of c n s) (position_of n s) other
 
-min_below : (a b : ℕ) → min a b ≤ b
-min_below a b = grind arith
-
 -- the thread runs, and there is an op at the place in its script at which it is in b
 abbrev pub Stands : Scene → Core → ℕ → Type 0
-Stands a b n = (a.turn ≡ turn.Run n) × (position_of n b + 1 ≤ length (script_of (component_of a) n a.base))
+Stands a b n = (a.turn ≡ Turn.Run n) × (position_of n b + 1 ≤ length (script_of (component_of a) n a.base))
 
 -- ---- What a row owes
 
@@ -62,8 +37,8 @@ seen x main u s n l next = record { setting = x; main = main; turn = u; base = s
 
 -- From b a chain of words leads to what the row comes to, where that shows the scene's label and leads to its turn.
 abbrev pub Leads : Scene → Core → Progress → Type 0
-Leads a b (Goes l new m) = a.label ≡ l → a.next ≡ turn.Run m → Trip a b new × LastWords a new
-Leads a b (Stops l new) = a.label ≡ l → a.next ≡ turn.Main → Trip a b new × LastWords a new
+Leads a b (Goes l new m) = a.label ≡ l → a.next ≡ Turn.Run m → Trip a b new × LastWords a new
+Leads a b (Stops l new) = a.label ≡ l → a.next ≡ Turn.Main → Trip a b new × LastWords a new
 Leads a b (Traps t) = Unit {0}
 Leads a b (Fails i) = Unit {0}
 Leads a b Never = Unit {0}
@@ -88,73 +63,40 @@ module _ (a : Scene) (b : Core) where
 
 -- ---- Labels
 
--- a label of a running thread that gives no outcome
-abbrev pub is_quiet : Label → Bool
-is_quiet (label.Main l) = false
-is_quiet (label.Take l) = false
-is_quiet (label.Loop l) = false
-is_quiet (label.Call (call_label.Fails n i)) = false
-is_quiet _ = true
+-- the label gives no outcome, and no holding entry begins with it
+abbrev pub is_quiet : Core → Label → Bool
+is_quiet s k = is_none (outcome_of_label k) && is_none (begun_holder s k)
 
--- and not that of an exit
-abbrev pub is_plain : Label → Bool
-is_plain l = is_quiet l && not (is_exit l)
+-- nor is it that of an exit
+abbrev pub is_plain : Core → Label → Bool
+is_plain s k = is_quiet s k && not (is_exit k)
 
--- and says nothing of the end of a call
-abbrev pub is_still : Label → Bool
-is_still l = is_plain l && is_mute l
+-- and it says nothing of ends
+abbrev pub is_still : Scene → Core → Label → Bool
+is_still a t k = is_plain a.base k && is_mute a t k
 
-still_parts : (p m : Bool) → (p && m) ≡ true → (p ≡ true) × (m ≡ true)
-still_parts p m h = grind arith
+-- a label of a task that ends, or is cancelled, says that
+abbrev SaysTask : Component → Main → ℕ → Status → Core → Core → Label → Type 0
+SaysTask c m n f s t k = (is_plain s k ≡ true) × ((written_by c s k t ≡ task_end n f s) × (handed_by c m s k t ≡ None))
 
-quiet_outcome : (l : Label) → is_quiet l ≡ true → outcome_of_label l ≡ None
-quiet_outcome l h = grind arith
+ret_is : (c : Component) (m : Main) (n v : ℕ) (w : Option ℕ) (s t : Core) → SaysTask c m n Status.Returned s t (ret_label n v w)
+ret_is c m n v w s t = (grind arith, (grind arith, grind arith))
 
-quiet_begins : (s : Core) (l : Label) → is_quiet l ≡ true → begun_holder s l ≡ None
-quiet_begins s l h = grind arith
-
-plain_quiet : (q e : Bool) → (q && not e) ≡ true → (q ≡ true) × (e ≡ false)
-plain_quiet q e h = grind arith
-
-ret_plain : (n v : ℕ) (w : Option ℕ) → is_plain (ret_label n v w) ≡ true
-ret_plain n v w = grind arith
-
-task_cancel_plain : (n : ℕ) (w : Option ℕ) → is_plain (task_cancel_label n w) ≡ true
-task_cancel_plain n w = grind arith
-
-ret_writes : (c : Component) (n v : ℕ) (w : Option ℕ) (s t : Core) → written_by c s (ret_label n v w) t ≡ task_end n status.Returned s
-ret_writes c n v w s t = grind arith
-
-task_cancel_writes : (c : Component) (n : ℕ) (w : Option ℕ) (s t : Core) → written_by c s (task_cancel_label n w) t ≡ task_end n status.ReturnCancelled s
-task_cancel_writes c n w s t = grind arith
-
-ret_hands : (c : Component) (m : Main) (n v : ℕ) (w : Option ℕ) (s t : Core) → handed_by c m s (ret_label n v w) t ≡ None
-ret_hands c m n v w s t = grind arith
-
-task_cancel_hands : (c : Component) (m : Main) (n : ℕ) (w : Option ℕ) (s t : Core) → handed_by c m s (task_cancel_label n w) t ≡ None
-task_cancel_hands c m n w s t = grind arith
+task_cancel_is : (c : Component) (m : Main) (n : ℕ) (w : Option ℕ) (s t : Core) → SaysTask c m n Status.ReturnCancelled s t (task_cancel_label n w)
+task_cancel_is c m n w s t = (grind arith, (grind arith, grind arith))
 
 -- the call of which an end speaks
-pub over_now : (k : ℕ) (e : CallEnd) (s : Core) → is_over k (set_end k e s) ≡ true
-unfolding set_end on_call
+pub over_now : (k : ℕ) (e : CallEnd) (s : Core) → is_over k (call_ends k e s) ≡ true
+unfolding on_call
 over_now k e s = grind (arith, nat_tests, get-change)
 
-exit_quiet : (n : ℕ) (w : Option ℕ) → is_quiet (exit_label n w) ≡ true
-exit_quiet n w = grind arith
+exit_is : (n : ℕ) (w : Option ℕ) (s : Core) → (is_quiet s (exit_label n w) ≡ true) × ((is_exit (exit_label n w) ≡ true) × (returned_holder s (exit_label n w) ≡ holder_at_exit n s))
+exit_is n w s = (grind arith, (grind arith, grind arith))
 
-exit_is : (n : ℕ) (w : Option ℕ) → is_exit (exit_label n w) ≡ true
-exit_is n w = grind arith
-
-exit_returns : (n : ℕ) (w : Option ℕ) (s : Core) → returned_holder s (exit_label n w) ≡ holder_at_exit n s
-exit_returns n w s = grind arith
-
-pub none_is_some : {X : Type 0} {A : Type 0} (x : X) → None ≡ Some x → A
-none_is_some x h = absurd (grind arith)
-
-pub one_runner : (n m : ℕ) → turn.Run n ≡ turn.Run m → n ≡ m
+pub one_runner : (n m : ℕ) → Turn.Run n ≡ Turn.Run m → n ≡ m
 one_runner n m e = grind arith
 
-pub not_main : {A : Type 0} (n : ℕ) → turn.Main ≡ turn.Run n → A
+pub not_main : {A : Type 0} (n : ℕ) → Turn.Main ≡ Turn.Run n → A
 not_main n e = absurd (grind arith)
 
 pub unnot : (c : Bool) → not c ≡ false → c ≡ true
@@ -164,58 +106,14 @@ pub moved_passes : (test : Place → Bool) (p : Place) → test p ≡ true → (
 unfolding set_place on_thread
 moved_passes test p passes m t = grind (arith, nat_tests, get-change)
 
-pub running_moved : (m : ℕ) (t : Core) → option_map_or is_running (place_of m (set_place m place.Running t)) true ≡ true
-running_moved m t = moved_passes is_running place.Running refl m t
-
--- ---- The running thread
-
-module _ (x : Setting) (main : Main) (s : Core) (n : ℕ) (l : Label) (next : Turn) where
-  abbrev pub running_scene : Scene
-  running_scene = seen x main (turn.Run n) s n l next
-
-  quiet_ends : {t : Core} → is_quiet l ≡ true → ((m : ℕ) → next ≡ turn.Run m → (turn.Run n ≡ turn.Run m) ⊎ (option_map_or is_running (place_of m t) true ≡ true)) → (is_exit l ≡ true → get t.threads n ≡ None) → EndWords running_scene t → LastWords running_scene t
-  quiet_ends {t = t} quiet runs gone says = record {
-    laid = λ m is take. absurd (subst T (sym take) tt);
-    runs = runs;
-    outcome = λ o is. none_is_some o (sym (quiet_outcome l quiet) ∙ is);
-    gone = λ m is exit. subst (λ (k : ℕ). get t.threads k ≡ None) (ap (λ (o : Option ℕ). unwrap_or o 0) is) (gone exit);
-    says = says;
-    shut = λ i begun. none_is_some i (sym (quiet_begins s l quiet) ∙ begun);
-  }
-
-  -- n goes on, as the label says
-  pub goes_on_told : (k : Label) (t : Core) → is_plain k ≡ true → (l ≡ k → next ≡ turn.Run n → EndWords running_scene t) → (l ≡ k → Going running_scene s n t) → Leads running_scene s (Goes k t n)
-  goes_on_told k t plain says c is to =
-      let p = plain_quiet (is_quiet k) (is_exit k) plain in
-      (Remains t (c is to) (λ m at. sym to ∙ at), quiet_ends (ap is_quiet is ∙ p.0) (λ m at. inl (sym to ∙ at)) (λ exit. absurd (subst T (sym exit ∙ (ap is_exit is ∙ p.1)) tt)) (says is to))
-
-  pub goes_on_saying : (k : Label) (t : Core) → is_plain k ≡ true → (l ≡ k → EndWords running_scene t) → (l ≡ k → Going running_scene s n t) → Leads running_scene s (Goes k t n)
-  goes_on_saying k t plain says c = goes_on_told k t plain (λ is to. says is) c
-
-  -- n goes on
-  pub goes_on : (k : Label) (t : Core) → is_still k ≡ true → Going running_scene s n t → Leads running_scene s (Goes k t n)
-  goes_on k t still c = let p = still_parts (is_plain k) (is_mute k) still in goes_on_saying k t p.0 (λ is. mute_words running_scene t (ap is_mute is ∙ p.1)) (λ is. c)
-
-  -- no thread goes on
-  pub stops_here : (k : Label) (t : Core) → is_still k ≡ true → (Leaves running_scene n → Trip running_scene s t) → Leads running_scene s (Stops k t)
-  stops_here k t still c is to =
-      let r = still_parts (is_plain k) (is_mute k) still in
-      let p = plain_quiet (is_quiet k) (is_exit k) r.0 in
-      (c (refl, (to, refl)), quiet_ends (ap is_quiet is ∙ p.0) (λ m at. not_main m (sym to ∙ at)) (λ exit. absurd (subst T (sym exit ∙ (ap is_exit is ∙ p.1)) tt)) (mute_words running_scene t (ap is_mute is ∙ r.1)))
-
-  -- n is gone
-  gone_here : (k : Label) (t : Core) → is_quiet k ≡ true → get t.threads n ≡ None → (l ≡ k → EndWords running_scene t) → (l ≡ k → Leaves running_scene n → Trip running_scene s t) → Leads running_scene s (Stops k t)
-  gone_here k t quiet gone says c is to = (c is (refl, (to, refl)), quiet_ends (ap is_quiet is ∙ quiet) (λ m at. not_main m (sym to ∙ at)) (λ exit. gone) (says is))
-
-  -- another thread, which runs now, goes on
-  pub goes_over : (k : Label) (m : ℕ) (t : Core) → is_quiet k ≡ true → (is_exit k ≡ true → get t.threads n ≡ None) → (turn.Run n ≡ turn.Run m) ⊎ (option_map_or is_running (place_of m t) true ≡ true) → (l ≡ k → EndWords running_scene t) → (l ≡ k → next ≡ turn.Run m → Trip running_scene s t) → Leads running_scene s (Goes k t m)
-  goes_over k m t quiet gone runs says c is to =
-      (c is to, quiet_ends (ap is_quiet is ∙ quiet) (λ j at. subst (λ (i : ℕ). (turn.Run n ≡ turn.Run i) ⊎ (option_map_or is_running (place_of i t) true ≡ true)) (one_runner m j (sym to ∙ at)) runs) (λ exit. gone (sym (ap is_exit is) ∙ exit)) (says is))
+reopened_shifted : (i : ℕ) (order : List ℕ) (s : Core) → Shifted (set_do_not_enter i false s) (end_reopens i order s)
+unfolding end_reopens
+reopened_shifted i order s = shifts_shifted (released_shifts order (set_do_not_enter i false s))
 
 module _ {a : Scene} {b : Core} (n : ℕ) (is : IsRunner a n) where
   -- ---- Registers and words
 
-  pub moved_to_walks : (p : ℕ) {t : Core} → a.turn ≡ turn.Run n → p ≤ length (script_of (component_of a) n a.base) → Keep a b t → Going a b n (moved_to n p t)
+  pub moved_to_walks : (p : ℕ) {t : Core} → a.turn ≡ Turn.Run n → p ≤ length (script_of (component_of a) n a.base) → Keep a b t → Going a b n (moved_to n p t)
   unfolding moved_to
   moved_to_walks p {t = t} runs within c = λ to. Then t (Advance n p) (keep_stay c) (is, (runs, (to, within)))
 
@@ -237,241 +135,190 @@ module _ {a : Scene} {b : Core} (n : ℕ) (is : IsRunner a n) where
   unfolding end_reopens
   reopens_walks i order {t = t} ok c = shifted (released_shifts order (set_do_not_enter i false t)) (word (SetDoNotEnter i false) ok c)
 
-  exit_stops_walks : {t : Core} → Leaves a n → Keep a b t → Trip a b (exit_stops n t)
+  exit_stops_walks : {t : Core} → LastEnds n t → Keep a b t → Left a b n (exit_stops n t)
   unfolding exit_stops
-  exit_stops_walks {t = t} go c = exits_trip n go (ended_walks n (shifted (stopped_shifts (foot_of n t) (checked (instance_of n t) t)) (shifted (checked_shifts (instance_of n t) t) c)))
+  exit_stops_walks {t = t} last c = ended_walks n (last_shifted n (shifted_after (shifts_shifted (checked_shifts (instance_of n t) t)) (shifts_shifted (stopped_shifts (foot_of n t) (checked (instance_of n t) t)))) last) (shifted (stopped_shifts (foot_of n t) (checked (instance_of n t) t)) (shifted (checked_shifts (instance_of n t) t) c))
 
-  sync_exits_rest : (w : Option ℕ) (t : Core) → SaysEnd a (task_of n t) status.Returned → ToldTo (task_of n t) w (exit_restores n t) → Leaves a n → Keep a b (set_end (task_of n t) call_end.Returned (exit_restores n t)) → Trip a b (sync_exits n w t)
-  unfolding sync_exits
-  sync_exits_rest w t says to go c =
+  sync_exits_walks : (w : Option ℕ) (t : Core) → SaysEnd a (task_of n t) Status.Returned → ToldTo (task_of n t) w (exit_restores n t) → Keep a b (call_ends (task_of n t) CallEnd.Returned (exit_restores n t)) → Left a b n (sync_exits n w t)
+  unfolding sync_exits exit_restores set_do_not_suspend on_instance
+  sync_exits_walks w t says to c =
       let r = returned (task_of n t) (register_of n 0 t) w (exit_restores n t) in
-      exits_trip n go (ended_walks n (shifted (stopped_shifts (foot_of n t) r) (returned_rest (task_of n t) (register_of n 0 t) w (exit_restores n t) says to c)))
+      ended_walks n (last_shifted n (shifts_shifted (stopped_shifts (foot_of n t) r)) (returned_last n (task_of n t) (register_of n 0 t) w (exit_restores n t) to refl)) (shifted (stopped_shifts (foot_of n t) r) (returned_rest (task_of n t) (register_of n 0 t) w (exit_restores n t) says to c))
 
-  sync_exits_walks : (w : Option ℕ) {t : Core} → MayEnd a (task_of n t) call_end.Returned (exit_restores n t) → SaysEnd a (task_of n t) status.Returned → ToldTo (task_of n t) w (exit_restores n t) → Leaves a n → Keep a b t → Trip a b (sync_exits n w t)
-  unfolding exit_restores
-  sync_exits_walks w {t = t} ok says to go c = sync_exits_rest w t says to go (word (SetEnd (task_of n t) call_end.Returned) (ok, says) (word (SetDoNotSuspend (instance_of n t) (unwrap_or (saved_own_of n t) false)) tt c))
-
-  blocking_exits_rest : (w : Option ℕ) (order : List ℕ) (t : Core) → SaysEnd a (task_of n t) status.Returned → ToldTo (task_of n t) w (end_reopens (instance_of n t) order t) → Leaves a n → Keep a b (set_end (task_of n t) call_end.Returned (end_reopens (instance_of n t) order t)) → Trip a b (blocking_exits n w order t)
-  unfolding blocking_exits
-  blocking_exits_rest w order t says to go c = exit_stops_walks go (returned_rest (task_of n t) (register_of n 0 t) w (end_reopens (instance_of n t) order t) says to c)
-
-  blocking_exits_walks : (w : Option ℕ) (order : List ℕ) {t : Core} → MayBar a (instance_of n t) false → MayEnd a (task_of n t) call_end.Returned (end_reopens (instance_of n t) order t) → SaysEnd a (task_of n t) status.Returned → ToldTo (task_of n t) w (end_reopens (instance_of n t) order t) → Leaves a n → Keep a b t → Trip a b (blocking_exits n w order t)
-  blocking_exits_walks w order {t = t} bar ok says to go c = blocking_exits_rest w order t says to go (word (SetEnd (task_of n t) call_end.Returned) (ok, says) (reopens_walks (instance_of n t) order bar c))
+  blocking_exits_walks : (w : Option ℕ) (order : List ℕ) (t : Core) → SaysEnd a (task_of n t) Status.Returned → ToldTo (task_of n t) w (end_reopens (instance_of n t) order t) → Keep a b (call_ends (task_of n t) CallEnd.Returned (end_reopens (instance_of n t) order t)) → Left a b n (blocking_exits n w order t)
+  unfolding blocking_exits set_do_not_enter on_instance
+  blocking_exits_walks w order t says to c =
+      let r = end_reopens (instance_of n t) order t in
+      exit_stops_walks (returned_last n (task_of n t) (register_of n 0 t) w r to (shifted_task (reopened_shifted (instance_of n t) order t) n)) (returned_rest (task_of n t) (register_of n 0 t) w r says to c)
 
   -- the thread m goes on, under which n ran
-  direct_exits_rest : (m v : ℕ) (t : Core) → a.turn ≡ turn.Run n → a.next ≡ turn.Run m → place_of m a.base ≡ Some (place.Under n) → Keep a b (set_end (task_of n t) call_end.Returned t) → Trip a b (direct_exits n m v t)
-  unfolding direct_exits
-  direct_exits_rest m v t runs to under c =
-      let u = set_end (task_of n t) call_end.Returned t in
-      let gone : is_none (get (ended n u).threads n) ≡ true = ap (λ (o : Option Thread). is_none o) (ended_gone n u) in
-      let e = ended_walks n c in
-      subst (λ (y : Core). Trip a b (set_how_far m (how_far.Answered v) y)) (placing_shifted (Move m place.Running) (ended n u)).only (GoesBack e.before (ended n u) n m v (keep_stay e.stays) is runs to under e.settles (Uncovers n is to under gone refl))
-
-  direct_exits_walks : (m v : ℕ) {t : Core} → a.turn ≡ turn.Run n → MayEnd a (task_of n t) call_end.Returned t → SaysEnd a (task_of n t) status.Returned → a.next ≡ turn.Run m → place_of m a.base ≡ Some (place.Under n) → Keep a b t → Trip a b (direct_exits n m v t)
-  direct_exits_walks m v {t = t} runs ok says to under c = direct_exits_rest m v t runs to under (word (SetEnd (task_of n t) call_end.Returned) (ok, says) c)
+  direct_exits_walks : (m v : ℕ) (t : Core) → is_direct (goal_of (task_of n t) t) ≡ true → a.turn ≡ Turn.Run n → a.next ≡ Turn.Run m → place_of m a.base ≡ Some (Place.Under n) → Keep a b (call_ends (task_of n t) CallEnd.Returned t) → Trip a b (direct_exits n m v t) × (get (direct_exits n m v t).threads n ≡ None)
+  unfolding direct_exits set_how_far set_place on_thread
+  direct_exits_walks m v t direct runs to under c =
+      let u = set_end (task_of n t) CallEnd.Returned t in
+      let e = ended_walks n (ended_last n (task_of n t) CallEnd.Returned t refl) (subst (λ (u : Core). Keep a b u) (sym (ends_untold (task_of n t) CallEnd.Returned t (grind (arith, direct)))) c) in
+      let gone = left_gone n e in
+      (subst (λ (y : Core). Trip a b (set_how_far m (HowFar.Answered v) y)) (placing_shifted (Move m Place.Running) (ended n u)).only (GoesBack e.before (ended n u) n m v (keep_stay e.stays) is runs to under e.settles (Uncovers n is to under (ap (λ (o : Option Thread). is_none o) gone) refl)), grind (arith, nat_tests, get-change, gone))
 
   code_stops_walks : (order : List ℕ) {t : Core} → MayBar a (instance_of n t) false → Keep a b t → Keep a b (code_stops n order t)
   unfolding code_stops
   code_stops_walks order {t = t} bar c = shifted (stopped_shifts (foot_of n t) (end_reopens (instance_of n t) order t)) (reopens_walks (instance_of n t) order bar c)
 
-  code_exits_walks : (order : List ℕ) {t : Core} → MayBar a (instance_of n t) false → Leaves a n → Keep a b t → Trip a b (code_exits n order t)
-  unfolding code_exits
-  code_exits_walks order {t = t} bar go c = exits_trip n go (ended_walks n (shifted (checked_shifts (instance_of n t) (code_stops n order t)) (code_stops_walks order bar c)))
-
-  code_yields_walks : (order : List ℕ) {t : Core} → MayBar a (instance_of n t) false → Leaves a n → EndsActivation a n → MayOwe a (task_of n t) (own_or_none (own_event_of (task_of n t) t)) (code_stops n order t) → Keep a b t → Trip a b (code_yields n order t)
-  unfolding code_yields
-  code_yields_walks order {t = t} bar leave ends owes c = lands (Put mark.Low n (why.Delivery delivery.Yield)) (ComesAgain leave ends refl) (word (SetOwnEvent (task_of n t) (own_or_none (own_event_of (task_of n t) t))) owes (code_stops_walks order bar c))
-
-  code_finds_walks : (y : ℕ) (order : List ℕ) {t : Core} → MayBar a (instance_of n t) false → Leaves a n → EndsActivation a n → HasSet a n y → Keep a b t → Trip a b (code_finds n y order t)
-  unfolding code_finds
-  code_finds_walks y order bar leave ends has c = lands (Put mark.High n (why.Delivery (delivery.Set y))) (FindsEvent y leave ends has refl) (code_stops_walks order bar c)
-
-  code_waits_walks : (y : ℕ) (order : List ℕ) {t : Core} → MayBar a (instance_of n t) false → Leaves a n → EndsActivation a n → HasSet a n y → Keep a b t → Trip a b (code_waits n y order t)
-  unfolding code_waits
-  code_waits_walks y order bar leave ends has c = lands (Move n (place.Waiting y true)) (AwaitsEvent y leave ends has refl) (code_stops_walks order bar c)
-
-exit_stops_gone : (n : ℕ) (t : Core) → get (exit_stops n t).threads n ≡ None
-unfolding exit_stops
-exit_stops_gone n t = ended_gone n (stopped (foot_of n t) (checked (instance_of n t) t))
-
--- the calls after held threads are released
-reopened_calls : (i : ℕ) (order : List ℕ) (s : Core) → (end_reopens i order s).calls ≡ s.calls
-unfolding end_reopens set_do_not_enter on_instance
-reopened_calls i order s = shifted_calls (shifts_shifted (released_shifts order (set_do_not_enter i false s)))
-
-reopened_chosen : (i : ℕ) (order : List ℕ) (x : ℕ) (w : Option ℕ) (s : Core) → Chosen x w s → Chosen x w (end_reopens i order s)
-unfolding end_reopens set_do_not_enter on_instance
-reopened_chosen i order x w s h = chosen_released order x w (set_do_not_enter i false s) h
-
-restored_calls : (n : ℕ) (s : Core) → (exit_restores n s).calls ≡ s.calls
-unfolding exit_restores set_do_not_suspend on_instance
-restored_calls n s = refl
-
-restored_threads : (n : ℕ) (s : Core) → (exit_restores n s).threads ≡ s.threads
-unfolding exit_restores set_do_not_suspend on_instance
-restored_threads n s = refl
-
-restored_task : (n : ℕ) (s : Core) → task_of n (exit_restores n s) ≡ task_of n s
-restored_task n s = ap (λ (m : Records Thread). option_map_or (λ t. t.call) (get m n) 0) (restored_threads n s)
-
-restored_chosen : (n y : ℕ) (w : Option ℕ) (s : Core) → Chosen y w s → Chosen y w (exit_restores n s)
-unfolding exit_restores set_do_not_suspend on_instance
-restored_chosen n y w s h = h
-
-restores_walks : {a : Scene} (n : ℕ) (s : Core) → Keep a s (exit_restores n s)
-unfolding exit_restores
-restores_walks n s = word (SetDoNotSuspend (instance_of n s) (unwrap_or (saved_own_of n s) false)) tt NoWord
-
-same_call : (k : ℕ) (s t : Core) → t.calls ≡ s.calls → SameCall k s t
-same_call k s t e = ap (λ (m : Records Call). option_map unanswered (get m k)) e
-
-sync_exits_gone : (n : ℕ) (w : Option ℕ) (s : Core) → get (sync_exits n w s).threads n ≡ None
-unfolding sync_exits
-sync_exits_gone n w s = ended_gone n (stopped (foot_of n s) (returned (task_of n s) (register_of n 0 s) w (exit_restores n s)))
-
-blocking_exits_gone : (n : ℕ) (w : Option ℕ) (order : List ℕ) (s : Core) → get (blocking_exits n w order s).threads n ≡ None
-unfolding blocking_exits
-blocking_exits_gone n w order s = exit_stops_gone n (returned (task_of n s) (register_of n 0 s) w (end_reopens (instance_of n s) order s))
-
-code_exits_gone : (n : ℕ) (order : List ℕ) (s : Core) → get (code_exits n order s).threads n ≡ None
-unfolding code_exits
-code_exits_gone n order s = ended_gone n (checked (instance_of n s) (code_stops n order s))
-
 -- the thread that is under n
-pub under_place : (n m : ℕ) (s : Core) → under_of n s ≡ Some m → place_of m s ≡ Some (place.Under n)
+pub under_place : (n m : ℕ) (s : Core) → under_of n s ≡ Some m → place_of m s ≡ Some (Place.Under n)
 unfolding under_of
 under_place n m s h = grind (arith, nat_tests, find_passes (λ k. is_at k s (is_under n)) (numbers s.threads) m)
 
-none_changed : {X : Type 0} (m : Records X) (n k : ℕ) (f : X → X) → get m k ≡ None → get (change n f m) k ≡ None
-none_changed m n k f h = grind (arith, get-change)
-
-direct_exits_gone : (n m v : ℕ) (t : Core) → get (direct_exits n m v t).threads n ≡ None
-unfolding direct_exits set_how_far set_place on_thread
-direct_exits_gone n m v t =
-    let e = ended n (set_end (task_of n t) call_end.Returned t) in
-    none_changed (set_place m place.Running e).threads m n (λ r. record r { how_far = how_far.Answered v }) (none_changed e.threads m n (λ r. record r { place = place.Running }) (ended_gone n (set_end (task_of n t) call_end.Returned t)))
-
 direct_exits_runs : (n m v : ℕ) (t : Core) → option_map_or is_running (place_of m (direct_exits n m v t)) true ≡ true
-unfolding direct_exits set_how_far on_thread
-direct_exits_runs n m v t =
-    let u = set_place m place.Running (ended n (set_end (task_of n t) call_end.Returned t)) in
-    ap (λ (o : Option Place). option_map_or is_running o true) (change-field (λ r. r.place) m (λ r. record r { how_far = how_far.Answered v }) (λ r. refl) u.threads m) ∙ running_moved m (ended n (set_end (task_of n t) call_end.Returned t))
+unfolding direct_exits set_how_far set_place on_thread
+direct_exits_runs n m v t = grind (arith, nat_tests, get-change)
+
+-- ---- The running thread
 
 module _ (x : Setting) (main : Main) (s : Core) (n : ℕ) (l : Label) (next : Turn) where
+  abbrev pub running_scene : Scene
+  running_scene = seen x main (Turn.Run n) s n l next
+
   abbrev a : Scene
-  a = running_scene x main s n l next
+  a = running_scene
 
-  go_told : (k : Label) (t : Core) → is_plain k ≡ true → (l ≡ k → next ≡ turn.Run n → EndWords a t) → (l ≡ k → Going a s n t) → Leads a s (Goes k t n)
-  go_told k t plain says c = goes_on_told x main s n l next k t plain says c
+  quiet_ends : {k : Label} {t : Core} → l ≡ k → is_quiet s k ≡ true → ((m : ℕ) → next ≡ Turn.Run m → (Turn.Run n ≡ Turn.Run m) ⊎ (option_map_or is_running (place_of m t) true ≡ true)) → (is_exit k ≡ true → get t.threads n ≡ None) → EndWords a t → LastWords a t
+  quiet_ends {k = k} {t = t} is quiet runs gone says =
+      let p = both_none (outcome_of_label k) (begun_holder s k) quiet in
+      record {
+        laid = λ m at take. absurd (subst T (sym take) tt);
+        runs = runs;
+        outcome = λ o at. none_said (ap outcome_of_label is ∙ p.0) at;
+        gone = λ m at exit. subst (λ (j : ℕ). get t.threads j ≡ None) (ap (λ (o : Option ℕ). unwrap_or o 0) at) (gone (sym (ap is_exit is) ∙ exit));
+        says = says;
+        shut = λ i begun. none_said (ap (λ (y : Label). begun_holder s y) is ∙ p.1) begun;
+      }
 
-  go : (k : Label) (t : Core) → is_still k ≡ true → Going a s n t → Leads a s (Goes k t n)
-  go k t plain c = goes_on x main s n l next k t plain c
+  -- n goes on, as the label says
+  pub goes_on_told : (k : Label) (t : Core) → is_plain s k ≡ true → (l ≡ k → next ≡ Turn.Run n → EndWords a t) → (l ≡ k → Going a s n t) → Leads a s (Goes k t n)
+  goes_on_told k t plain says c is to =
+      let p = and_parts (is_quiet s k) (not (is_exit k)) plain in
+      (Remains t (c is to) (λ m at. sym to ∙ at), quiet_ends is p.0 (λ m at. inl (sym to ∙ at)) (λ exit. absurd (subst T (sym p.1 ∙ ap not exit) tt)) (says is to))
+
+  -- n goes on
+  pub goes_on : (k : Label) (t : Core) → is_still a t k ≡ true → Going a s n t → Leads a s (Goes k t n)
+  goes_on k t still c = let p = and_parts (is_plain s k) (is_mute a t k) still in goes_on_told k t p.0 (λ is to. mute_words a t is p.1) (λ is. c)
+
+  -- no thread goes on
+  stops_so : (k : Label) (t : Core) → is_quiet s k ≡ true → (l ≡ k → Leaves a n → EndWords a t) → (l ≡ k → Leaves a n → Trip a s t × (is_exit k ≡ true → get t.threads n ≡ None)) → Leads a s (Stops k t)
+  stops_so k t quiet says c is to = let r = c is (refl, (to, refl)) in (r.0, quiet_ends is quiet (λ m at. not_main m (sym to ∙ at)) r.1 (says is (refl, (to, refl))))
+
+  -- n is gone
+  gone_here : (k : Label) (t : Core) → is_quiet s k ≡ true → (l ≡ k → Leaves a n → EndWords a t) → (l ≡ k → Left a s n t) → Leads a s (Stops k t)
+  gone_here k t quiet says c = stops_so k t quiet says (λ is leave. let e = c is in (exits_trip n leave e, λ exit. left_gone n e))
+
+  -- n stops
+  pub stops_here : (k : Label) (t : Core) → is_still a t k ≡ true → (Leaves a n → Trip a s t) → Leads a s (Stops k t)
+  stops_here k t still c =
+      let r = and_parts (is_plain s k) (is_mute a t k) still in
+      let p = and_parts (is_quiet s k) (not (is_exit k)) r.0 in
+      stops_so k t p.0 (λ is leave. mute_words a t is r.1) (λ is leave. (c leave, λ exit. absurd (subst T (sym p.1 ∙ ap not exit) tt)))
+
+  -- another thread, which runs now, goes on
+  pub goes_over : (k : Label) (m : ℕ) (t : Core) → is_quiet s k ≡ true → (Turn.Run n ≡ Turn.Run m) ⊎ (option_map_or is_running (place_of m t) true ≡ true) → (l ≡ k → EndWords a t) → (l ≡ k → next ≡ Turn.Run m → Trip a s t × (is_exit k ≡ true → get t.threads n ≡ None)) → Leads a s (Goes k t m)
+  goes_over k m t quiet runs says c is to =
+      let r = c is to in
+      (r.0, quiet_ends is quiet (λ j at. subst (λ (i : ℕ). (Turn.Run n ≡ Turn.Run i) ⊎ (option_map_or is_running (place_of i t) true ≡ true)) (one_runner m j (sym to ∙ at)) runs) r.1 (says is))
 
   -- ---- The ops on registers and words
 
   skip_row_leads : Stands a s n → (ops : ℕ) (b : Bool) → Leads a s (skip_row x.component n ops s b)
   unfolding skipped
-  skip_row_leads on ops true = go (label.Data (data_label.SkipEq n)) (skipped x.component n ops s) refl (moved_to_walks n refl (min (position_of n s + 1 + ops) (length (script_of x.component n s))) refl (min_below _ _) NoWord)
-  skip_row_leads on ops false = go (label.Data (data_label.SkipEq n)) (advanced n s) refl (advanced_walks n refl on NoWord)
+  skip_row_leads on ops true = goes_on (Label.Data (DataLabel.SkipEq n)) (skipped x.component n ops s) refl (moved_to_walks n refl (min (position_of n s + 1 + ops) (length (script_of x.component n s))) refl (grind arith) NoWord)
+  skip_row_leads on ops false = goes_on (Label.Data (DataLabel.SkipEq n)) (advanced n s) refl (advanced_walks n refl on NoWord)
 
   pub data_row_leads : Stands a s n → (o : DataOp) → Leads a s (data_row x.component n s o)
   unfolding stored
-  data_row_leads on (data_op.Store w y) = go _ _ refl (advanced_walks n refl on (word (SetWord (instance_of n s) w (value_of n s y)) tt NoWord))
-  data_row_leads on (data_op.SkipEq y z ops) = skip_row_leads on ops (value_of n s y == value_of n s z)
-  data_row_leads on o = go _ _ refl (assigned_walks n refl on _ _ NoWord)
+  data_row_leads on (DataOp.Store w y) = goes_on _ _ refl (advanced_walks n refl on (word (SetWord (instance_of n s) w (value_of n s y)) tt NoWord))
+  data_row_leads on (DataOp.SkipEq y z ops) = skip_row_leads on ops (value_of n s y == value_of n s z)
+  data_row_leads on o = goes_on _ _ refl (assigned_walks n refl on _ _ NoWord)
 
   -- ---- Exits
 
-  exit_says : (t : Core) (w : Option ℕ) → l ≡ exit_label n w → is_explicit n s ≡ false → (is_direct (goal_of (task_of n s) s) ≡ true) ⊎ (is_async_lifted (kind_of (task_of n s) s) ≡ false) → written_by x.component s l t ≡ task_end n status.Returned s
-  exit_says t w is implicit kind = ap (λ (k : Label). written_by x.component s k t) is ∙ (exit_writes w ∙ ap (λ b. if b then task_end n status.Returned s else None) (ends (is_explicit n s) (is_direct (goal_of (task_of n s) s)) (is_async_lifted (kind_of (task_of n s) s)) implicit kind))
-    where
-      exit_writes : (v : Option ℕ) → written_by x.component s (exit_label n v) t ≡ written_by_exit n s
-      exit_writes v = grind arith
+  exit_ends : (w : Option ℕ) (t : Core) → is_explicit n s ≡ false → (is_direct (goal_of (task_of n s) s) ≡ true) ⊎ (is_async_lifted (kind_of (task_of n s) s) ≡ false) → written_by x.component s (exit_label n w) t ≡ task_end n Status.Returned s
+  exit_ends w t implicit kind = grind (arith, implicit, kind)
 
-      ends : (e d h : Bool) → e ≡ false → (d ≡ true) ⊎ (h ≡ false) → (not e && (d || not h)) ≡ true
-      ends e d h i k = grind arith
+  exit_says : (t : Core) (w : Option ℕ) → l ≡ exit_label n w → is_explicit n s ≡ false → (is_direct (goal_of (task_of n s) s) ≡ true) ⊎ (is_async_lifted (kind_of (task_of n s) s) ≡ false) → written_by x.component s l t ≡ task_end n Status.Returned s
+  exit_says t w is implicit kind = ap (λ (k : Label). written_by x.component s k t) is ∙ exit_ends w t implicit kind
 
   -- the label says an end of the task
-  writes_task : (f : Status) (t u : Core) → written_by x.component s l t ≡ task_end n f s → EndsCall a (task_of n s) → is_over (task_of n s) u ≡ true → Walk a u t → (sub : Subtask) (e : Status) → written_by x.component s l t ≡ Some (end_for e sub) → Writes a t sub
+  writes_task : (f : Status) (t u : Core) {o : Option SubtaskEnd} → o ≡ task_end n f s → EndsCall a (task_of n s) → is_over (task_of n s) u ≡ true → Walk a u t → (sub : Subtask) (e : Status) → o ≡ Some (end_for e sub) → Writes a t sub
   writes_task f t u is ends over c sub e says = said_is (λ d g. Writes a t d) (sym is ∙ says) (WritesCall (task_of n s) u ends over c)
 
   -- an exit that ends no task
   exit_is_none : (t : Core) → is_ending_exit n s ≡ false → l ≡ exit_label n None → EndWords a t
-  exit_is_none t none is = record {
-    writes = λ sub e says. none_said (ap (λ (y : Label). written_by x.component s y t) is ∙ ap (λ b. if b then task_end n status.Returned s else None) none) says;
-    hands = λ sub e out. none_said (ap (λ (y : Label). handed_by x.component main s y t) is ∙ ap (λ b. if b then task_end n status.Returned s else None) (not_direct (is_explicit n s) (is_direct (goal_of (task_of n s) s)) (is_async_lifted (kind_of (task_of n s) s)) none)) out;
-  }
-    where
-      not_direct : (e d h : Bool) → (not e && (d || not h)) ≡ false → (not e && d) ≡ false
-      not_direct e d h k = grind arith
+  exit_is_none t none is = mute_words a t is (grind (arith, none))
 
   -- an exit that ends the task
   exit_says_end : (w : Option ℕ) (t : Core) → l ≡ exit_label n w → is_explicit n s ≡ false → is_async_lifted (kind_of (task_of n s) s) ≡ false → is_direct (goal_of (task_of n s) s) ≡ false → (u : Core) → is_over (task_of n s) u ≡ true → Walk a u t → EndWords a t
-  exit_says_end w t is implicit kind direct u over c = record {
-    writes = writes_task status.Returned t u (exit_says t w is implicit (inr kind)) (EndsByExit (n, (refl, (refl, (implicit, inr kind))))) over c;
-    hands = λ sub e out. none_said (ap (λ (y : Label). handed_by x.component main s y t) is ∙ none_out w) out;
-  }
-    where
-      none_out : (v : Option ℕ) → handed_by x.component main s (exit_label n v) t ≡ None
-      none_out v = grind arith
+  exit_says_end w t is implicit kind direct u over c = writes_by a t is (grind (arith, direct)) (writes_task Status.Returned t u (exit_ends w t implicit (inr kind)) (EndsByExit (n, (refl, (refl, (implicit, inr kind))))) over c)
 
   thread_exit_row_leads : is_ending_exit n s ≡ false → Leads a s (thread_exit_row n s)
   thread_exit_row_leads none =
-      trap_if_leads a s (not (passes_check (instance_of n s) s)) trap.CannotBlockSyncTask _ (λ e.
-      trap_if_leads a s (leaves_no_result n s) trap.NoAsyncResult _ (λ f.
-      gone_here x main s n l next (exit_label n None) (exit_stops n s) refl (exit_stops_gone n s) (λ is. exit_is_none (exit_stops n s) none is) (λ is leave. exit_stops_walks n refl leave NoWord)))
+      trap_if_leads a s (not (passes_check (instance_of n s) s)) Trap.CannotBlockSyncTask _ (λ e.
+      trap_if_leads a s (leaves_no_result n s) Trap.NoAsyncResult _ (λ f.
+      gone_here (exit_label n None) (exit_stops n s) refl (λ is leave. exit_is_none (exit_stops n s) none is) (λ is. exit_stops_walks n refl (last_of n s f) NoWord)))
 
-  exits : (w : Option ℕ) (t : Core) → l ≡ exit_label n w → is_explicit n s ≡ false → (is_direct (goal_of (task_of n s) s) ≡ true) ⊎ (is_async_lifted (kind_of (task_of n s) s) ≡ false) → t.calls ≡ s.calls → MayEnd a (task_of n s) call_end.Returned t
-  exits w t is implicit kind same = Exits n refl (ap is_exit is ∙ exit_is n w) refl implicit kind (ap (λ (m : Records Call). get m (task_of n s)) same) refl
+  exits : (w : Option ℕ) (t : Core) → l ≡ exit_label n w → is_explicit n s ≡ false → (is_direct (goal_of (task_of n s) s) ≡ true) ⊎ (is_async_lifted (kind_of (task_of n s) s) ≡ false) → t.calls ≡ s.calls → MayEnd a (task_of n s) CallEnd.Returned t
+  exits w t is implicit kind same = Exits n refl refl (ap is_exit is ∙ (exit_is n w s).1.0) refl implicit kind (ap (λ (m : Records Call). get m (task_of n s)) same) refl
 
   sync_exit_row_leads : (w : Option ℕ) → is_explicit n s ≡ false → is_async_lifted (kind_of (task_of n s) s) ≡ false → is_direct (goal_of (task_of n s) s) ≡ false → Leads a s (sync_exit_row n w s)
+  unfolding exit_restores set_do_not_suspend on_instance
   sync_exit_row_leads w implicit kind direct =
       may_leads a s (may_tell (task_of n s) w s) _ (λ may.
-      let told = still_told_to (task_of n s) s (exit_restores n s) (same_call (task_of n s) s (exit_restores n s) (restored_calls n s)) w (λ y chosen. restored_chosen n y w s chosen) (told_to (task_of n s) w s may) in
-      λ is to.
-      gone_here x main s n l next (exit_label n w) (sync_exits n w s) (exit_quiet n w) (sync_exits_gone n w s)
-      (λ at. exit_says_end w (sync_exits n w s) at implicit kind direct (set_end (task_of n s) call_end.Returned (exit_restores n s)) (over_now (task_of n s) call_end.Returned (exit_restores n s)) (trip_walk (sync_exits_rest n refl w s (exit_says s w at implicit (inr kind)) told (refl, (to, refl)) NoWord)))
-      (λ at leave. sync_exits_walks n refl w (exits w (exit_restores n s) at implicit (inr kind) (restored_calls n s)) (exit_says s w at implicit (inr kind)) told leave NoWord) is to)
+      let k = task_of n s in
+      let t = exit_restores n s in
+      let told = told_to k w s may in
+      gone_here (exit_label n w) (sync_exits n w s) (exit_is n w s).0
+      (λ at leave. exit_says_end w (sync_exits n w s) at implicit kind direct (call_ends k CallEnd.Returned t) (over_now k CallEnd.Returned t) (trip_walk (exits_trip n leave (sync_exits_walks n refl w s (exit_says s w at implicit (inr kind)) told NoWord))))
+      (λ at. sync_exits_walks n refl w s (exit_says s w at implicit (inr kind)) told (word (EndCall k CallEnd.Returned) (exits w t at implicit (inr kind) refl, exit_says s w at implicit (inr kind)) (word (SetDoNotSuspend (instance_of n s) (unwrap_or (saved_own_of n s) false)) tt NoWord))))
 
   -- where a holding entry returns
   bars : (w : Option ℕ) → l ≡ exit_label n w → is_explicit n s ≡ false → is_holding (kind_of (task_of n s) s) ≡ true → is_direct (goal_of (task_of n s) s) ≡ false → MayBar a (instance_of n s) false
-  bars w is implicit holding direct = ap (λ k. returned_holder s k) is ∙ (exit_returns n w s ∙ ap (λ b. if b then Some (instance_of n s) else None) (all_three (is_explicit n s) (is_holding (kind_of (task_of n s) s)) (is_direct (goal_of (task_of n s) s)) implicit holding direct))
-    where
-      all_three : (e h d : Bool) → e ≡ false → h ≡ true → d ≡ false → (not e && (h && not d)) ≡ true
-      all_three e h d p q r = grind arith
+  bars w is implicit holding direct = ap (λ k. returned_holder s k) is ∙ ((exit_is n w s).1.1 ∙ grind (arith, implicit, holding, direct))
 
-  blocking_exit_row_leads : (w : Option ℕ) → is_explicit n s ≡ false → kind_of (task_of n s) s ≡ kind.Blocking → is_direct (goal_of (task_of n s) s) ≡ false → Leads a s (blocking_exit_row n w s)
+  blocking_exit_row_leads : (w : Option ℕ) → is_explicit n s ≡ false → kind_of (task_of n s) s ≡ ExportKind.Blocking → is_direct (goal_of (task_of n s) s) ≡ false → Leads a s (blocking_exit_row n w s)
+  unfolding end_reopens set_do_not_enter on_instance
   blocking_exit_row_leads w implicit kind direct =
-      trap_if_leads a s (not (passes_after_return n w s)) trap.CannotBlockSyncTask _ (λ e.
-      may_leads a s (may_tell (task_of n s) w s) _ (λ may order is to.
+      trap_if_leads a s (not (passes_after_return n w s)) Trap.CannotBlockSyncTask _ (λ e.
+      may_leads a s (may_tell (task_of n s) w s) _ (λ may order.
       let i = instance_of n s in
       let k = task_of n s in
       let t = end_reopens i order s in
+      let same = shifted_calls (reopened_shifted i order s) in
       let lifted : is_async_lifted (kind_of (task_of n s) s) ≡ false = ap (λ y. is_async_lifted y) kind in
-      let told = still_told_to k s t (same_call k s t (reopened_calls i order s)) w (λ y chosen. reopened_chosen i order y w s chosen) (told_to k w s may) in
-      gone_here x main s n l next (exit_label n w) (blocking_exits n w order s) (exit_quiet n w) (blocking_exits_gone n w order s)
-      (λ at. exit_says_end w (blocking_exits n w order s) at implicit lifted direct (set_end k call_end.Returned t) (over_now k call_end.Returned t) (trip_walk (blocking_exits_rest n refl w order s (exit_says s w at implicit (inr lifted)) told (refl, (to, refl)) NoWord)))
-      (λ at leave. blocking_exits_walks n refl w order (bars w at implicit (ap (λ y. is_holding y) kind) direct) (exits w t at implicit (inr lifted) (reopened_calls i order s)) (exit_says s w at implicit (inr lifted)) told leave NoWord) is to))
+      let told : ToldTo k w t = λ is y at. chosen_released order y w (set_do_not_enter i false s) (told_to k w s may (grind (arith, is, same)) y (grind (arith, at, same))) in
+      gone_here (exit_label n w) (blocking_exits n w order s) (exit_is n w s).0
+      (λ at leave. exit_says_end w (blocking_exits n w order s) at implicit lifted direct (call_ends k CallEnd.Returned t) (over_now k CallEnd.Returned t) (trip_walk (exits_trip n leave (blocking_exits_walks n refl w order s (exit_says s w at implicit (inr lifted)) told NoWord))))
+      (λ at. blocking_exits_walks n refl w order s (exit_says s w at implicit (inr lifted)) told (word (EndCall k CallEnd.Returned) (exits w t at implicit (inr lifted) same, exit_says s w at implicit (inr lifted)) (reopens_walks n refl i order (bars w at implicit (ap (λ y. is_holding y) kind) direct) NoWord)))))
 
   direct_leads : (m : ℕ) (t : Core) → under_of n s ≡ Some m → is_explicit n s ≡ false → is_direct (goal_of (task_of n s) s) ≡ true → task_of n t ≡ task_of n s → t.calls ≡ s.calls → Keep a s t → Leads a s (Goes (exit_label n None) (direct_exits n m (register_of n 0 s) t) m)
   direct_leads m t under implicit direct task calls c =
       let v = register_of n 0 s in
       let k = task_of n s in
+      let is_so : is_direct (goal_of (task_of n t) t) ≡ true = grind arith in
+      let says : l ≡ exit_label n None → SaysEnd a (task_of n t) Status.Returned = λ is. subst (λ (k : ℕ). SaysEnd a k Status.Returned) (sym task) (exit_says s None is implicit (inl direct)) in
       λ here over.
-      goes_over x main s n l next (exit_label n None) m (direct_exits n m v t) refl (λ e. direct_exits_gone n m v t) (inr (direct_exits_runs n m v t))
-      (λ at. record {
-        writes = writes_task status.Returned _ (set_end (task_of n t) call_end.Returned t) (exit_says _ None at implicit (inl direct)) (EndsByExit (n, (refl, (refl, (implicit, inl direct))))) (subst (λ (i : ℕ). is_over k (set_end i call_end.Returned t) ≡ true) (sym task) (over_now k call_end.Returned t)) (trip_walk (direct_exits_rest n refl m v t refl over (under_place n m s under) NoWord));
-        hands = λ sub e out. said_is (HandsOut a (direct_exits n m v t)) (sym (ap (λ (y : Label). handed_by x.component main s y (direct_exits n m v t)) at ∙ ap (λ b. if b then task_end n status.Returned s else None) (ap₂ (λ (f g : Bool). not f && g) implicit direct)) ∙ out) (WritesToo k status.Returned (exit_says s None at implicit (inl direct)) (inl direct));
-      })
+      goes_over (exit_label n None) m (direct_exits n m v t) refl (inr (direct_exits_runs n m v t))
+      (λ at. says_by a _ at
+      (writes_task Status.Returned _ (call_ends (task_of n t) CallEnd.Returned t) (exit_ends None (direct_exits n m v t) implicit (inl direct)) (EndsByExit (n, (refl, (refl, (implicit, inl direct))))) (subst (λ (i : ℕ). is_over k (call_ends i CallEnd.Returned t) ≡ true) (sym task) (over_now k CallEnd.Returned t)) (trip_walk (direct_exits_walks n refl m v t is_so refl over (under_place n m s under) NoWord).0))
+      (λ sub e out. said_is (HandsOut a (direct_exits n m v t)) (sym (ap₂ (λ (f g : Bool). if not f && g then task_end n Status.Returned s else None) implicit direct) ∙ out) (WritesToo k Status.Returned (exit_says s None at implicit (inl direct)) (inl direct))))
       (λ is to.
-      direct_exits_walks n refl m v refl (subst (λ (k : ℕ). MayEnd a k call_end.Returned t) (sym task) (exits None t is implicit (inl direct) calls)) (subst (λ (k : ℕ). SaysEnd a k status.Returned) (sym task) (exit_says s None is implicit (inl direct))) to (under_place n m s under) c) here over
+      let r = direct_exits_walks n refl m v t is_so refl to (under_place n m s under) (word (EndCall (task_of n t) CallEnd.Returned) (subst (λ (k : ℕ). MayEnd a k CallEnd.Returned t) (sym task) (exits None t is implicit (inl direct) calls), says is) c) in
+      (r.0, λ exit. r.1)) here over
 
   direct_exit_to_leads : (k : ExportKind) (o : Option ℕ) → under_of n s ≡ o → is_explicit n s ≡ false → is_direct (goal_of (task_of n s) s) ≡ true → Leads a s (direct_exit_to n k s o)
+  unfolding exit_restores set_do_not_suspend on_instance
   direct_exit_to_leads k None under implicit direct = tt
-  direct_exit_to_leads kind.Sync (Some m) under implicit direct = direct_leads m (exit_restores n s) under implicit direct (restored_task n s) (restored_calls n s) (restores_walks n s)
+  direct_exit_to_leads ExportKind.Sync (Some m) under implicit direct = direct_leads m (exit_restores n s) under implicit direct refl refl (word (SetDoNotSuspend (instance_of n s) (unwrap_or (saved_own_of n s) false)) tt NoWord)
   direct_exit_to_leads k (Some m) under implicit direct =
       let h : Shifted s (checked (instance_of n s) s) = shifts_shifted (checked_shifts (instance_of n s) s) in
-      trap_if_leads a s (not (passes_check (instance_of n s) s)) trap.CannotBlockSyncTask _ (λ e.
+      trap_if_leads a s (not (passes_check (instance_of n s) s)) Trap.CannotBlockSyncTask _ (λ e.
       direct_leads m (checked (instance_of n s) s) under implicit direct (shifted_task h n) (shifted_calls h) (shifted (checked_shifts (instance_of n s) s) NoWord))
 
   -- ---- The ends of activations
@@ -480,35 +327,38 @@ module _ (x : Setting) (main : Main) (s : Core) (n : ℕ) (l : Label) (next : Tu
   owes None has ends t = inr (n, (ends, (refl, ap own_or_none has)))
   owes (Some e) has ends t = inr (n, (ends, (refl, ap own_or_none has)))
 
-  code_wait_row_leads : (k : Label) (y : ℕ) (held : List ℕ) (b : Bool) → is_still k ≡ true → (l ≡ k → MayBar a (instance_of n s) false) → EndsActivation a n → HasSet a n y → Leads a s (code_wait_row k n y held s b)
-  code_wait_row_leads k y held true plain bar ends has = λ order is to. stops_here x main s n l next k (code_finds n y order s) plain (λ leave. code_finds_walks n refl y order (bar is) leave ends has NoWord) is to
-  code_wait_row_leads k y held false plain bar ends has = λ order is to. stops_here x main s n l next k (code_waits n y order s) plain (λ leave. code_waits_walks n refl y order (bar is) leave ends has NoWord) is to
+  code_wait_row_leads : (k : Label) (y : ℕ) (held : List ℕ) (b : Bool) → ((t : Core) → is_still a t k ≡ true) → (l ≡ k → MayBar a (instance_of n s) false) → EndsActivation a n → HasSet a n y → Leads a s (code_wait_row k n y held s b)
+  unfolding code_finds code_waits
+  code_wait_row_leads k y held true plain bar ends has = λ order is to. stops_here k (code_finds n y order s) (plain _) (λ leave. lands (Put Mark.High n (Why.Delivery (Delivery.Set y))) (FindsEvent y leave ends has refl) (code_stops_walks n refl order (bar is) NoWord)) is to
+  code_wait_row_leads k y held false plain bar ends has = λ order is to. stops_here k (code_waits n y order s) (plain _) (λ leave. lands (Move n (Place.Waiting y true)) (AwaitsEvent y leave ends has refl) (code_stops_walks n refl order (bar is) NoWord)) is to
 
-  code_exits_leads : (k : Label) (held : List ℕ) → is_quiet k ≡ true → ((t : Core) → l ≡ k → EndWords a t) → (l ≡ k → MayBar a (instance_of n s) false) → (rest : ℕ) → Leads a s (code_kind_row k n held s zero rest)
+  code_exits_leads : (k : Label) (held : List ℕ) → is_quiet s k ≡ true → ((t : Core) → l ≡ k → EndWords a t) → (l ≡ k → MayBar a (instance_of n s) false) → (rest : ℕ) → Leads a s (code_kind_row k n held s zero rest)
+  unfolding code_exits code_stops set_do_not_enter on_instance
   code_exits_leads k held quiet says bar rest =
-      trap_if_leads a s (not (passes_after_stop (instance_of n s) (foot_of n s) held s)) trap.CannotBlockSyncTask _ (λ e.
-      trap_if_leads a s (leaves_no_result n s) trap.NoAsyncResult _ (λ f order.
-      gone_here x main s n l next k (code_exits n order s) quiet (code_exits_gone n order s) (says (code_exits n order s)) (λ is leave. code_exits_walks n refl order (bar is) leave NoWord)))
+      trap_if_leads a s (not (passes_after_stop (instance_of n s) (foot_of n s) held s)) Trap.CannotBlockSyncTask _ (λ e.
+      trap_if_leads a s (leaves_no_result n s) Trap.NoAsyncResult _ (λ f order.
+      let h = checked_shifts (instance_of n s) (code_stops n order s) in
+      gone_here k (code_exits n order s) quiet (λ is leave. says (code_exits n order s) is) (λ is. ended_walks n (last_shifted n (shifted_after (reopened_shifted (instance_of n s) order s) (shifted_after (shifts_shifted (stopped_shifts (foot_of n s) (end_reopens (instance_of n s) order s))) (shifts_shifted h))) (last_of n s f)) (shifted h (code_stops_walks n refl order (bar is) NoWord)))))
 
-  code_kind_row_leads : (k : Label) (held : List ℕ) (low rest : ℕ) → is_still k ≡ true → (l ≡ k → MayBar a (instance_of n s) false) → EndsActivation a n → Leads a s (code_kind_row k n held s low rest)
+  code_kind_row_leads : (k : Label) (held : List ℕ) (low rest : ℕ) → ((t : Core) → is_still a t k ≡ true) → (l ≡ k → MayBar a (instance_of n s) false) → EndsActivation a n → Leads a s (code_kind_row k n held s low rest)
+  unfolding code_yields
   code_kind_row_leads k held zero rest plain bar ends =
-      let r = still_parts (is_plain k) (is_mute k) plain in
-      code_exits_leads k held (plain_quiet (is_quiet k) (is_exit k) r.0).0 (λ t is. mute_words a t (ap is_mute is ∙ r.1)) bar rest
-  code_kind_row_leads k held (suc zero) rest plain bar ends = λ order is to. stops_here x main s n l next k (code_yields n order s) plain (λ leave. code_yields_walks n refl order (bar is) leave ends (owes (own_event_of (task_of n s) s) refl ends (code_stops n order s)) NoWord) is to
-  code_kind_row_leads k held (suc (suc zero)) rest plain bar ends = or_trap_leads a s (set_at (instance_of n s) rest s) trap.BadHandle _ (λ y named. code_wait_row_leads k y held (has_event_for (task_of n s) y s) plain bar ends (BySetHandle rest named))
+      code_exits_leads k held (and_parts (is_quiet s k) (not (is_exit k)) (and_parts (is_plain s k) (is_mute a s k) (plain s)).0).0 (λ t is. mute_words a t is (and_parts (is_plain s k) (is_mute a t k) (plain t)).1) bar rest
+  code_kind_row_leads k held (suc zero) rest plain bar ends = λ order is to. stops_here k (code_yields n order s) (plain _) (λ leave. lands (Put Mark.Low n (Why.Delivery Delivery.Yield)) (ComesAgain leave ends refl) (word (SetOwnEvent (task_of n s) (own_or_none (own_event_of (task_of n s) s))) (owes (own_event_of (task_of n s) s) refl ends (code_stops n order s)) (code_stops_walks n refl order (bar is) NoWord))) is to
+  code_kind_row_leads k held (suc (suc zero)) rest plain bar ends = or_trap_leads a s (set_at (instance_of n s) rest s) Trap.BadHandle _ (λ y named. code_wait_row_leads k y held (has_event_for (task_of n s) y s) plain bar ends (BySetHandle rest named))
   code_kind_row_leads k held (suc (suc (suc low))) rest plain bar ends = tt
 
-  code_row_leads : (k : Label) (code : ℕ) → is_still k ≡ true → (l ≡ k → MayBar a (instance_of n s) false) → EndsActivation a n → Leads a s (code_row k n s code)
-  code_row_leads k code plain bar ends = trap_if_leads a s (nat_lt 4294967295 code) trap.UnsupportedCallbackCode _ (λ e. code_kind_row_leads k (held_by_flag (instance_of n s) s) (code % 16) (code / 16) plain bar ends)
+  code_row_leads : (k : Label) (code : ℕ) → ((t : Core) → is_still a t k ≡ true) → (l ≡ k → MayBar a (instance_of n s) false) → EndsActivation a n → Leads a s (code_row k n s code)
+  code_row_leads k code plain bar ends = trap_if_leads a s (nat_lt 4294967295 code) Trap.UnsupportedCallbackCode _ (λ e. code_kind_row_leads k (held_by_flag (instance_of n s) s) (code % 16) (code / 16) plain bar ends)
 
   not_ending : is_explicit n s ≡ false → is_direct (goal_of (task_of n s) s) ≡ false → is_async_lifted (kind_of (task_of n s) s) ≡ true → is_ending_exit n s ≡ false
   not_ending implicit direct lifted = ap₂ (λ e d. not e && (d || not (is_async_lifted (kind_of (task_of n s) s)))) implicit direct ∙ ap (λ h. not h) lifted
 
   kind_exit_row_leads : (w : Option ℕ) (k : ExportKind) → kind_of (task_of n s) s ≡ k → is_explicit n s ≡ false → is_direct (goal_of (task_of n s) s) ≡ false → Leads a s (kind_exit_row n w s k)
-  kind_exit_row_leads w kind.Sync kind implicit direct = sync_exit_row_leads w implicit (ap (λ y. is_async_lifted y) kind) direct
-  kind_exit_row_leads w kind.Blocking kind implicit direct = blocking_exit_row_leads w implicit kind direct
-  kind_exit_row_leads w kind.Stackful kind implicit direct = thread_exit_row_leads (not_ending implicit direct (ap (λ y. is_async_lifted y) kind))
-  kind_exit_row_leads w kind.Callback kind implicit direct = code_exits_leads (exit_label n None) (held_by_flag (instance_of n s) s) refl (λ t is. exit_is_none t (not_ending implicit direct (ap (λ y. is_async_lifted y) kind)) is) (λ is. bars None is implicit (ap (λ y. is_holding y) kind) direct) 0
+  kind_exit_row_leads w ExportKind.Sync kind implicit direct = sync_exit_row_leads w implicit (ap (λ y. is_async_lifted y) kind) direct
+  kind_exit_row_leads w ExportKind.Blocking kind implicit direct = blocking_exit_row_leads w implicit kind direct
+  kind_exit_row_leads w ExportKind.Stackful kind implicit direct = thread_exit_row_leads (not_ending implicit direct (ap (λ y. is_async_lifted y) kind))
+  kind_exit_row_leads w ExportKind.Callback kind implicit direct = code_exits_leads (exit_label n None) (held_by_flag (instance_of n s) s) refl (λ t is. exit_is_none t (not_ending implicit direct (ap (λ y. is_async_lifted y) kind)) is) (λ is. bars None is implicit (ap (λ y. is_holding y) kind) direct) 0
 
   implicit_exit_row_leads : (w : Option ℕ) (b : Bool) → is_direct (goal_of (task_of n s) s) ≡ b → is_explicit n s ≡ false → Leads a s (implicit_exit_row n w s b)
   implicit_exit_row_leads w true direct implicit = direct_exit_to_leads (kind_of (task_of n s) s) (under_of n s) refl implicit direct
@@ -521,58 +371,64 @@ module _ (x : Setting) (main : Main) (s : Core) (n : ℕ) (l : Label) (next : Tu
   -- ---- The task and backpressure
 
   -- the task comes to an end that it hadn't
-  task_says : (f : Status) (t : Core) → written_by x.component s l t ≡ task_end n f s → handed_by x.component main s l t ≡ None → has_ended (task_of n s) s ≡ false → (u : Core) → is_over (task_of n s) u ≡ true → Walk a u t → EndWords a t
-  task_says f t is none unended u over c = record { writes = writes_task f t u is (EndsOwn n refl refl unended) over c; hands = λ sub e out. none_said none out }
+  task_says : (f : Status) (t : Core) {k : Label} → l ≡ k → written_by x.component s k t ≡ task_end n f s → handed_by x.component main s k t ≡ None → has_ended (task_of n s) s ≡ false → (u : Core) → is_over (task_of n s) u ≡ true → Walk a u t → EndWords a t
+  task_says f t at is none unended u over c = writes_by a t at none (writes_task f t u is (EndsOwn n refl refl unended) over c)
 
-  on_after_end : Stands a s n → (k : ℕ) (e : CallEnd) → Stands a (set_end k e s) n
-  unfolding set_end on_call
+  on_after_end : Stands a s n → (k : ℕ) (e : CallEnd) → Stands a (call_ends k e s) n
+  unfolding on_call
   on_after_end on k e = on
 
   ret_row_leads : Stands a s n → (v : ℕ) (w : Option ℕ) → Leads a s (ret_row n v w s)
   unfolding ret_done
   ret_row_leads on v w =
-      trap_if_leads a s (has_ended (task_of n s) s) trap.TaskCancelOrReturnTwice _ (λ unended.
-      trap_if_leads a s (not (is_async_lifted (kind_of (task_of n s) s))) trap.TaskReturnInvalid _ (λ lifted.
+      trap_if_leads a s (has_ended (task_of n s) s) Trap.TaskCancelOrReturnTwice _ (λ unended.
+      trap_if_leads a s (not (is_async_lifted (kind_of (task_of n s) s))) Trap.TaskReturnInvalid _ (λ lifted.
       may_leads a s (may_tell (task_of n s) w s) _ (λ may.
-      go_told (ret_label n v w) (ret_done n v w s) (ret_plain n v w)
-      (λ is to. task_says status.Returned (ret_done n v w s) (ap (λ (k : Label). written_by x.component s k (ret_done n v w s)) is ∙ ret_writes x.component n v w s _) (ap (λ (y : Label). handed_by x.component main s y (ret_done n v w s)) is ∙ ret_hands x.component main n v w s (ret_done n v w s)) unended
-      (set_end (task_of n s) call_end.Returned s) (over_now (task_of n s) call_end.Returned s) (stay_walk (advanced_walks n refl (on_after_end on (task_of n s) call_end.Returned) (returned_rest (task_of n s) v w s (ap (λ (k : Label). written_by x.component s k s) is ∙ ret_writes x.component n v w s s) (told_to (task_of n s) w s may) NoWord) to)))
-      (λ is. advanced_walks n refl on (returned_walks (task_of n s) v w (ReturnsNow n refl refl unended (unnot (is_async_lifted (kind_of (task_of n s) s)) lifted) refl) (ap (λ (k : Label). written_by x.component s k s) is ∙ ret_writes x.component n v w s s) (told_to (task_of n s) w s may) NoWord)))))
+      let k = task_of n s in
+      let told = told_to k w s may in
+      let is_so = ret_is x.component main n v w s in
+      goes_on_told (ret_label n v w) (ret_done n v w s) (is_so s).0
+      (λ is to. task_says Status.Returned (ret_done n v w s) is (is_so (ret_done n v w s)).1.0 (is_so (ret_done n v w s)).1.1 unended (call_ends k CallEnd.Returned s) (over_now k CallEnd.Returned s)
+      (stay_walk (advanced_walks n refl (on_after_end on k CallEnd.Returned) (returned_rest k v w s (ap (λ (k : Label). written_by x.component s k s) is ∙ (is_so s).1.0) told NoWord) to)))
+      (λ is.
+      let says : SaysEnd a k Status.Returned = ap (λ (k : Label). written_by x.component s k s) is ∙ (is_so s).1.0 in
+      advanced_walks n refl on (returned_rest k v w s says told (word (EndCall k CallEnd.Returned) (ReturnsNow n refl refl refl unended (unnot (is_async_lifted (kind_of k s)) lifted) refl, says) NoWord))))))
 
   task_cancel_row_leads : Stands a s n → (w : Option ℕ) → Leads a s (task_cancel_row n w s)
   unfolding task_cancel_done
   task_cancel_row_leads on w =
-      trap_if_leads a s (not (cancel_was_delivered (task_of n s) s)) trap.TaskCancelNotCancelled _ (λ delivered.
-      trap_if_leads a s (has_ended (task_of n s) s) trap.TaskCancelOrReturnTwice _ (λ unended.
+      trap_if_leads a s (not (cancel_was_delivered (task_of n s) s)) Trap.TaskCancelNotCancelled _ (λ delivered.
+      trap_if_leads a s (has_ended (task_of n s) s) Trap.TaskCancelOrReturnTwice _ (λ unended.
       may_leads a s (may_tell (task_of n s) w s) _ (λ may.
-      go_told (task_cancel_label n w) (task_cancel_done n w s) (task_cancel_plain n w)
-      (λ is to. task_says status.ReturnCancelled (task_cancel_done n w s) (ap (λ (k : Label). written_by x.component s k (task_cancel_done n w s)) is ∙ task_cancel_writes x.component n w s _) (ap (λ (y : Label). handed_by x.component main s y (task_cancel_done n w s)) is ∙ task_cancel_hands x.component main n w s (task_cancel_done n w s)) unended
-      (set_end (task_of n s) call_end.ReturnCancelled s) (over_now (task_of n s) call_end.ReturnCancelled s) (stay_walk (advanced_walks n refl (on_after_end on (task_of n s) call_end.ReturnCancelled) (cancelled_rest (task_of n s) w s (ap (λ (k : Label). written_by x.component s k s) is ∙ task_cancel_writes x.component n w s s) (told_to (task_of n s) w s may) NoWord) to)))
-      (λ is. advanced_walks n refl on (cancelled_walks (task_of n s) w (GivesUp n refl refl unended (unnot (cancel_was_delivered (task_of n s) s) delivered) refl) (ap (λ (k : Label). written_by x.component s k s) is ∙ task_cancel_writes x.component n w s s) (told_to (task_of n s) w s may) NoWord)))))
+      let k = task_of n s in
+      let told = told_to k w s may in
+      let is_so = task_cancel_is x.component main n w s in
+      goes_on_told (task_cancel_label n w) (task_cancel_done n w s) (is_so s).0
+      (λ is to. task_says Status.ReturnCancelled (task_cancel_done n w s) is (is_so (task_cancel_done n w s)).1.0 (is_so (task_cancel_done n w s)).1.1 unended (call_ends k CallEnd.ReturnCancelled s) (over_now k CallEnd.ReturnCancelled s)
+      (stay_walk (advanced_walks n refl (on_after_end on k CallEnd.ReturnCancelled) (cancelled_rest k w s told NoWord) to)))
+      (λ is. advanced_walks n refl on (cancelled_rest k w s told (word (EndCall k CallEnd.ReturnCancelled) (GivesUp n refl refl refl unended (unnot (cancel_was_delivered k s) delivered) refl, ap (λ (k : Label). written_by x.component s k s) is ∙ (is_so s).1.0) NoWord))))))
 
   dec_from_leads : Stands a s n → (b : ℕ) → Leads a s (dec_from n s b)
   unfolding dec_lowers dec_opens
   dec_from_leads on zero = tt
-  dec_from_leads on (suc zero) = λ order. go (label.Task (task_label.BpDec n)) (dec_opens n order s) refl (advanced_walks n refl on (shifted (released_shifts order (set_backpressure (instance_of n s) 0 s)) (word (SetBackpressure (instance_of n s) 0) tt NoWord)))
-  dec_from_leads on (suc (suc b)) = go (label.Task (task_label.BpDec n)) (dec_lowers n s) refl (advanced_walks n refl on (word (SetBackpressure (instance_of n s) (backpressure_of (instance_of n s) s - 1)) tt NoWord))
+  dec_from_leads on (suc zero) = λ order. goes_on (Label.Task (TaskLabel.BpDec n)) (dec_opens n order s) refl (advanced_walks n refl on (shifted (released_shifts order (set_backpressure (instance_of n s) 0 s)) (word (SetBackpressure (instance_of n s) 0) tt NoWord)))
+  dec_from_leads on (suc (suc b)) = goes_on (Label.Task (TaskLabel.BpDec n)) (dec_lowers n s) refl (advanced_walks n refl on (word (SetBackpressure (instance_of n s) (backpressure_of (instance_of n s) s - 1)) tt NoWord))
 
-  inc_row_leads : Stands a s n → Leads a s (inc_row n s)
-  unfolding inc_raises
-  inc_row_leads on = trap_if_leads a s (nat_le 65535 (backpressure_of (instance_of n s) s)) trap.BackpressureOverflow _ (λ e. go (label.Task (task_label.BpInc n)) (inc_raises n s) refl (advanced_walks n refl on (word (SetBackpressure (instance_of n s) (backpressure_of (instance_of n s) s + 1)) tt NoWord)))
-
-  ends_by : (o : TaskOp) → op_in a n ≡ op.Task o → is_code_op o ≡ true → EndsActivation a n
+  ends_by : (o : TaskOp) → op_in a n ≡ Op.Task o → is_code_op o ≡ true → EndsActivation a n
   ends_by o is code = (refl, ap (λ p. ends_activation p) is ∙ code)
 
-  stands : {o : TaskOp} → op_in a n ≡ op.Task o → is_exit_op (op.Task o) ≡ false → Stands a s n
+  stands : {o : TaskOp} → op_in a n ≡ Op.Task o → is_exit_op (Op.Task o) ≡ false → Stands a s n
   stands is other = (refl, op_stands x.component n s (ap is_exit_op is ∙ other))
 
-  pub task_row_leads : (ch : Choice) (o : TaskOp) → op_in a n ≡ op.Task o → Leads a s (task_row n s ch o)
-  task_row_leads ch (task_op.Ret v) is = ret_row_leads (stands is refl) (value_of n s v) ch.woken
-  task_row_leads ch (task_op.RetBad v) is = trap_if_leads a s (has_ended (task_of n s) s) trap.TaskCancelOrReturnTwice _ (λ e. tt)
-  task_row_leads ch task_op.TaskCancel is = task_cancel_row_leads (stands is refl) ch.woken
-  task_row_leads ch task_op.Exit is = exit_row_for_leads ch.woken (is_explicit n s) refl
-  task_row_leads ch task_op.CbYield is = code_row_leads (label.Task (task_label.CbYield n)) 1 refl (λ shows. ap (λ k. returned_holder s k) shows) (ends_by task_op.CbYield is refl)
-  task_row_leads ch (task_op.CbWait v) is = code_row_leads (label.Task (task_label.CbWait n)) (16 * value_of n s v + 2) refl (λ shows. ap (λ k. returned_holder s k) shows) (ends_by (task_op.CbWait v) is refl)
-  task_row_leads ch (task_op.Code v) is = code_row_leads (label.Task (task_label.Code n)) (value_of n s v) refl (λ shows. ap (λ k. returned_holder s k) shows) (ends_by (task_op.Code v) is refl)
-  task_row_leads ch task_op.BpInc is = inc_row_leads (stands is refl)
-  task_row_leads ch task_op.BpDec is = dec_from_leads (stands is refl) (backpressure_of (instance_of n s) s)
+  pub task_row_leads : (ch : Choice) (o : TaskOp) → op_in a n ≡ Op.Task o → Leads a s (task_row n s ch o)
+  unfolding inc_raises
+  task_row_leads ch (TaskOp.Ret v) is = ret_row_leads (stands is refl) (value_of n s v) ch.woken
+  task_row_leads ch (TaskOp.RetBad v) is = trap_if_leads a s (has_ended (task_of n s) s) Trap.TaskCancelOrReturnTwice _ (λ e. tt)
+  task_row_leads ch TaskOp.TaskCancel is = task_cancel_row_leads (stands is refl) ch.woken
+  task_row_leads ch TaskOp.Exit is = exit_row_for_leads ch.woken (is_explicit n s) refl
+  task_row_leads ch TaskOp.CbYield is = code_row_leads (Label.Task (TaskLabel.CbYield n)) 1 (λ t. refl) (λ shows. ap (λ k. returned_holder s k) shows) (ends_by TaskOp.CbYield is refl)
+  task_row_leads ch (TaskOp.CbWait v) is = code_row_leads (Label.Task (TaskLabel.CbWait n)) (16 * value_of n s v + 2) (λ t. refl) (λ shows. ap (λ k. returned_holder s k) shows) (ends_by (TaskOp.CbWait v) is refl)
+  task_row_leads ch (TaskOp.Code v) is = code_row_leads (Label.Task (TaskLabel.Code n)) (value_of n s v) (λ t. refl) (λ shows. ap (λ k. returned_holder s k) shows) (ends_by (TaskOp.Code v) is refl)
+  task_row_leads ch TaskOp.BpInc is =
+      trap_if_leads a s (nat_le 65535 (backpressure_of (instance_of n s) s)) Trap.BackpressureOverflow _ (λ e. goes_on (Label.Task (TaskLabel.BpInc n)) (inc_raises n s) refl (advanced_walks n refl (stands is refl) (word (SetBackpressure (instance_of n s) (backpressure_of (instance_of n s) s + 1)) tt NoWord)))
+  task_row_leads ch TaskOp.BpDec is = dec_from_leads (stands is refl) (backpressure_of (instance_of n s) s)

@@ -5,7 +5,7 @@ use Rattle.std.specs.Prelude.{◌≤◌, length, Bool, None, Option, Some, [], f
 use Rattle.task_machine.specs.Core.{Core, MainPlace, Scripted, Unscripted}
 use Rattle.task_machine.specs.Maps.{get}
 use Rattle.task_machine.specs.Moves.{has_entry, is_callback_waiter, is_deletable, is_group_done}
-use Rattle.task_machine.specs.Read.{caller_of, cancel_was_delivered, course_of, course_value, end_of, goal_of, has_ended, has_member, has_waiters, how_far_of, position_of, instance_of, is_async_lifted, is_at, is_direct, is_end, is_explicit, is_joined, is_stage_ended, is_waiter, join_of, kind_of, may_not_enter, next_entry, own_event_of, phase_of, place_of, set_at, stage_of, subtask_at, subtask_ended, subtask_handle, task_of, thread_group, was_started, work_caller_of, is_guest_call, is_aborted, is_blocked_on, foot_of}
+use Rattle.task_machine.specs.Read.{caller_of, cancel_was_delivered, course_of, course_value, end_of, event_of, goal_of, has_ended, has_member, has_waiters, how_far_of, position_of, instance_of, is_async_lifted, is_at, is_direct, is_explicit, is_joined, is_stage_ended, is_waiter, join_of, kind_of, may_not_enter, next_entry, own_event_of, phase_of, place_of, set_at, stage_of, subtask_at, subtask_ended, subtask_handle, task_of, thread_group, was_started, work_caller_of, is_guest_call, is_aborted, is_blocked_on, foot_of}
 use Rattle.task_machine.specs.declared.component.Callee.{Callee}
 use Rattle.task_machine.specs.declared.component.ExportKind.{ExportKind}
 use Rattle.task_machine.specs.declared.label.Label.{Label}
@@ -33,7 +33,7 @@ use Rattle.task_rules.specs.OpParts.{callee_of_main_op, callee_of_op, can_come, 
 use Rattle.task_rules.specs.Scenes.{Scene, component_of, op_in}
 use Rattle.task_rules.specs.Scripts.{export_kind, is_script, registers_for, script_of, slot_at}
 use Rattle.task_rules.specs.Threads.{resume_why}
-use Rattle.task_rules.specs.Words.{AddGroup, Advance, Restart, CloseSet, CountWork, EndWork, Enter, FinishWork, GoBehind, MakeCall, MakeThread, Move, NameCall, NameWork, OpenSet, Pend, Places, Placing, Pop, Promote, Put, QueueWork, RemoveCall, RemoveGroup, RemoveThread, RemoveWork, SetCallEvent, SetCallJoin, SetCancelDelivered, SetCancelled, SetDoNotEnter, SetEnd, SetHowFar, SetOwnEvent, SetPhase, SetStarted, TakeWorkEvent, SetWorkJoin, Stop, TakeHost, TakePush, UnnameCall, UnnameWork, Withdraw, Word, GiveResult, SetUninteresting, SetTrapped}
+use Rattle.task_rules.specs.Words.{AddGroup, Advance, Restart, CloseSet, CountWork, EndWork, Enter, FinishWork, GoBehind, MakeCall, MakeThread, Move, NameCall, NameWork, OpenSet, Pend, Places, Placing, Pop, Promote, Put, QueueWork, RemoveCall, RemoveGroup, RemoveThread, RemoveWork, SetCallEvent, SetCallJoin, SetCancelDelivered, SetCancelled, SetDoNotEnter, EndCall, SetHowFar, SetOwnEvent, SetPhase, SetStarted, TakeWorkEvent, SetWorkJoin, Stop, TakeHost, TakePush, UnnameCall, UnnameWork, Withdraw, Word, status_of_end, GiveResult, SetUninteresting, SetTrapped}
 use Rattle.task_rules.specs.Works.{next_polled, has_end}
 use Rattle.task_rules.specs.SubtaskEnds.{end_for, written_by}
 use Rattle.task_machine.specs.declared.words.Mark.TheVariants as mark
@@ -105,6 +105,11 @@ subtask_under_way _ = None
 pub data HasSubtask (a : Scene) (n : ℕ) (sub : Subtask) : Type 0 where
   ByHandle : (h : ℕ) → subtask_at (instance_of n a.base) h a.base ≡ Some sub → HasSubtask a n sub
   ByOp : subtask_under_way (how_far_of n a.base) ≡ Some sub → HasSubtask a n sub
+
+-- the op cancels a subtask that a handle names, or cancels it already
+abbrev pub MayCancel : Scene → ℕ → Subtask → Type 0
+MayCancel a n sub = ((h : ℕ) × (subtask_at (instance_of n a.base) h a.base ≡ Some sub)) ⊎
+    ((how_far_of n a.base ≡ how_far.Cancels sub) ⊎ (how_far_of n a.base ≡ how_far.AwaitsEnd sub))
 
 -- a handle of the running thread's instance names it
 abbrev pub IsNamed : Scene → Subtask → Type 0
@@ -223,15 +228,23 @@ MayLeave a p s = MayLand a p s
 abbrev pub IsCalled : ℕ → ℕ → Core → Type 0
 IsCalled n k s = (caller_of k s ≡ caller.Thread n) × (subtask_handle (subtask.Guest k) s ≡ None)
 
+-- the call hasn't ended, and no cancel has come to it
+abbrev pub IsUntouched : ℕ → Core → Type 0
+IsUntouched k s = (end_of k s ≡ None) × ((own_event_of k s ≡ None) × (cancel_was_delivered k s ≡ false))
+
+-- the thread has just made the call
+abbrev pub HasCalled : ℕ → ℕ → Core → Type 0
+HasCalled n k s = IsCalled n k s × IsUntouched k s
+
 -- how far an op comes: it waits on a set of its instance, stays inside its call or makes one, or is about a subtask of its own or a new one
 abbrev pub MayCome : Scene → ℕ → HowFar → Core → Type 0
 MayCome a n (how_far.Waits x) s = IsRunner a n × HasSet a n x
 MayCome a n (how_far.Calls (subtask.Guest k)) s = IsRunner a n × (((how_far_of n a.base ≡ how_far.Calls (subtask.Guest k)) ×
-    (how_far_of n s ≡ how_far.Calls (subtask.Guest k))) ⊎ (IsNew a (subtask.Guest k) s × IsCalled n k s))
+    (how_far_of n s ≡ how_far.Calls (subtask.Guest k))) ⊎ (IsNew a (subtask.Guest k) s × HasCalled n k s))
 MayCome a n (how_far.Calls (subtask.Host i)) s = IsRunner a n × (IsNew a (subtask.Host i) s × ((work_caller_of i s ≡ work_caller.Sync n) ×
     (option_map_or (is_blocked_on (subtask.Host i)) (place_of n s) true ≡ true)))
-MayCome a n (how_far.Cancels sub) s = IsRunner a n × HasSubtask a n sub
-MayCome a n (how_far.AwaitsEnd sub) s = IsRunner a n × HasSubtask a n sub
+MayCome a n (how_far.Cancels sub) s = IsRunner a n × MayCancel a n sub
+MayCome a n (how_far.AwaitsEnd sub) s = IsRunner a n × MayCancel a n sub
 -- its direct callee, which ran, has come to a value
 MayCome a n (how_far.Answered v) s = (m : ℕ) × (IsRunner a m × ((a.next ≡ turn.Run n) × (place_of n a.base ≡ Some (place.Under m))))
 MayCome a n h s = IsRunner a n
@@ -258,7 +271,7 @@ HasSlot a n x = is_script (slot_at (component_of a) (instance_of n a.base) x) �
 abbrev pub MayMake : Scene → Thread → Core → Type 0
 MayMake a t s = (n : ℕ) × (IsRunner a n × ((s.made.threads ≡ a.base.made.threads) × ((x : ℕ) × ((v : ℕ) ×
     ((t ≡ new_thread (task_of n a.base) true (script.Slot x) (registers_for (v ∷ [])) None) ×
-    ((s.calls ≡ a.base.calls) × HasSlot a n x))))))
+    ((s.calls ≡ a.base.calls) × (HasSlot a n x × (a.turn ≡ turn.Run n))))))))
 
 -- Who is gone.
 pub data MayGo (a : Scene) (n : ℕ) (s : Core) : Type 0 where
@@ -270,9 +283,9 @@ pub data MayGo (a : Scene) (n : ℕ) (s : Core) : Type 0 where
   Falls : a.next ≡ turn.Over →
       IsRunner a n ⊎ ((m : ℕ) × ((place_of n a.base ≡ Some (place.Under m)) × (is_none (get s.threads m) ≡ true))) → MayGo a n s
 
--- the start of a call of the running thread's, which hasn't begun or ended
+-- the start of a call that a handle of the running thread's instance names, which hasn't begun or ended
 abbrev pub MayWithdraw : Scene → ℕ → Core → Type 0
-MayWithdraw a k s = (n : ℕ) × (IsRunner a n × (HasSubtask a n (subtask.Guest k) × ((was_started k s ≡ false) × ((has_ended k s ≡ false) ×
+MayWithdraw a k s = (n : ℕ) × (IsRunner a n × (IsNamed a (subtask.Guest k) × ((was_started k s ≡ false) × ((has_ended k s ≡ false) ×
     ((a.turn ≡ turn.Run n) × (was_started k a.base ≡ false))))))
 
 -- ---- Calls
@@ -303,55 +316,69 @@ MayStart a k s = ((n : ℕ) × (IsRunner a n × (WasReady a n why.Start × (k �
 
 -- Why the call comes to the end.
 pub data MayEnd (a : Scene) (k : ℕ) (e : CallEnd) (s : Core) : Type 0 where
-  ReturnsNow : (n : ℕ) → IsRunner a n → k ≡ task_of n a.base → has_ended k s ≡ false → is_async_lifted (kind_of k s) ≡ true →
-      e ≡ call_end.Returned → MayEnd a k e s
+  ReturnsNow : (n : ℕ) → IsRunner a n → a.turn ≡ turn.Run n → k ≡ task_of n a.base → has_ended k s ≡ false →
+      is_async_lifted (kind_of k s) ≡ true → e ≡ call_end.Returned → MayEnd a k e s
   -- a cancel was delivered
-  GivesUp : (n : ℕ) → IsRunner a n → k ≡ task_of n a.base → has_ended k s ≡ false → cancel_was_delivered k s ≡ true →
-      e ≡ call_end.ReturnCancelled → MayEnd a k e s
+  GivesUp : (n : ℕ) → IsRunner a n → a.turn ≡ turn.Run n → k ≡ task_of n a.base → has_ended k s ≡ false →
+      cancel_was_delivered k s ≡ true → e ≡ call_end.ReturnCancelled → MayEnd a k e s
   -- the first thread of a call exits that is direct or not of an async-lifted export; nothing was done to the call before
-  Exits : (n : ℕ) → IsRunner a n → is_exit a.label ≡ true → k ≡ task_of n a.base → is_explicit n a.base ≡ false →
+  Exits : (n : ℕ) → IsRunner a n → a.turn ≡ turn.Run n → is_exit a.label ≡ true → k ≡ task_of n a.base → is_explicit n a.base ≡ false →
       (is_direct (goal_of k a.base) ≡ true) ⊎ (is_async_lifted (kind_of k a.base) ≡ false) → get s.calls k ≡ get a.base.calls k →
       e ≡ call_end.Returned → MayEnd a k e s
   -- its start is withdrawn, and its thread is gone
   IsWithdrawn : MayWithdraw a k s → is_none (get s.threads k) ≡ true → e ≡ call_end.StartCancelled → MayEnd a k e s
 
-abbrev pub status_of_end : CallEnd → Status
-status_of_end call_end.Returned = status.Returned
-status_of_end call_end.StartCancelled = status.StartCancelled
-status_of_end call_end.ReturnCancelled = status.ReturnCancelled
-
 -- the label says that the step writes this end of the call
 abbrev pub SaysEnd : Scene → ℕ → Status → Type 0
 SaysEnd a k e = written_by (component_of a) a.base a.label a.base ≡ Some (end_for e (subtask.Guest k))
 
--- the call has come to where this status says
+-- the call has come to where this status says, which is none of an end: those are told as they come
 abbrev pub Tells : Status → ℕ → Core → Type 0
 Tells status.Starting k s = Unit {0}
 Tells status.Started k s = was_started k s ≡ true
-Tells status.Returned k s = end_of k s ≡ Some call_end.Returned
-Tells status.ReturnCancelled k s = end_of k s ≡ Some call_end.ReturnCancelled
-Tells status.StartCancelled k s = ⊥
+Tells _ k s = ⊥
+
+-- the call of the first thread that was taken to start, which hasn't come to an end since
+abbrev pub IsStarting : Scene → ℕ → Core → Type 0
+IsStarting a k s = (n : ℕ) × (IsRunner a n × (WasReady a n why.Start × ((is_explicit n a.base ≡ false) × ((k ≡ task_of n a.base) ×
+    (end_of k s ≡ end_of k a.base)))))
 
 -- a subtask of the running thread
 abbrev pub IsOwn : Scene → Subtask → Type 0
 IsOwn a sub = (n : ℕ) × (IsRunner a n × HasSubtask a n sub)
 
--- the call's status is told to the calling thread, or the running thread takes it
-abbrev pub MayTell : Scene → ℕ → Option Status → Core → Type 0
-MayTell a k (Some e) s = (is_told k s ≡ true) × (Tells e k s × (is_end e ≡ true → SaysEnd a k e))
-MayTell a k None s = IsOwn a (subtask.Guest k)
+-- Why the running thread takes the event of a call.
+pub data MayTakeEvent (a : Scene) (k : ℕ) (s : Core) : Type 0 where
+  TakesNamed : IsNamed a (subtask.Guest k) → MayTakeEvent a k s
+  -- its op cancels the call
+  TakesCancelled : (n : ℕ) → IsRunner a n → (how_far_of n a.base ≡ how_far.Cancels (subtask.Guest k)) ⊎
+      (how_far_of n a.base ≡ how_far.AwaitsEnd (subtask.Guest k)) → MayTakeEvent a k s
+  -- its op was inside of the call, and is done, or the call hasn't returned
+  TakesCalled : (n : ℕ) → IsRunner a n → how_far_of n a.base ≡ how_far.Calls (subtask.Guest k) →
+      (how_far_of n s ≡ how_far.Fresh) ⊎ (event_of (subtask.Guest k) s ≡ Some status.Returned → ⊥) → MayTakeEvent a k s
 
--- Cancelled comes to a task that is started and hasn't ended; to one that yields comes what it has, or None; what is there is taken by the
--- running thread
+-- how far its start has come is told to the calling thread, or the running thread takes the event
+abbrev pub MayTell : Scene → ℕ → Option Status → Core → Type 0
+MayTell a k (Some e) s = (is_told k s ≡ true) × (Tells e k s × IsStarting a k s)
+MayTell a k None s = MayTakeEvent a k s
+
+-- Cancelled comes to a task that a handle names, and that is started and hasn't ended; to one that yields comes what it has, or None; what is
+-- there is taken by the running thread
 abbrev pub MayOwe : Scene → ℕ → Option OwnEvent → Core → Type 0
 MayOwe a k (Some e) s =
-    ((e ≡ own.Cancelled) × (IsOwn a (subtask.Guest k) × ((was_started k s ≡ true) × (has_ended k s ≡ false))))
+    ((e ≡ own.Cancelled) × (IsNamed a (subtask.Guest k) × ((was_started k s ≡ true) × (has_ended k s ≡ false))))
     ⊎ ((n : ℕ) × (EndsActivation a n × ((k ≡ task_of n a.base) × (own_or_none (own_event_of k a.base) ≡ Some e))))
 MayOwe a k None s = (n : ℕ) × (IsRunner a n × (k ≡ task_of n a.base))
 
--- a thread that was taken with a delivery finds its task's own event
+-- a thread that was taken with a delivery finds Cancelled as its task's own event
 abbrev pub MayDeliver : Scene → ℕ → Type 0
-MayDeliver a k = (n : ℕ) × (IsRunner a n × ((k ≡ task_of n a.base) × ((d : Delivery) × WasReady a n (why.Delivery d))))
+MayDeliver a k = (n : ℕ) × (IsRunner a n × ((k ≡ task_of n a.base) × (((d : Delivery) × WasReady a n (why.Delivery d)) ×
+    (own_event_of k a.base ≡ Some own.Cancelled))))
+
+-- a call that nothing keeps goes where it has ended, or where the running thread's op, which was inside of it, is done
+abbrev pub MayRemoveCall : Scene → ℕ → Core → Type 0
+MayRemoveCall a k s = (is_deletable k s ≡ true) × ((has_ended k s ≡ true) ⊎ ((n : ℕ) × (IsRunner a n ×
+    ((how_far_of n a.base ≡ how_far.Calls (subtask.Guest k)) × (how_far_of n s ≡ how_far.Fresh)))))
 
 -- ---- Subtasks
 
@@ -445,10 +472,10 @@ Allowed a (RemoveThread n) s = MayGo a n s
 Allowed a (Withdraw k) s = MayWithdraw a k s
 Allowed a (MakeCall f e x g group words) s = MayMakeCall a f e x g group s
 Allowed a (SetStarted k) s = MayStart a k s
-Allowed a (SetEnd k e) s = MayEnd a k e s × SaysEnd a k (status_of_end e)
+Allowed a (EndCall k e) s = MayEnd a k e s × SaysEnd a k (status_of_end e)
 Allowed a (SetOwnEvent k e) s = MayOwe a k e s
 Allowed a (SetCancelDelivered k) s = MayDeliver a k
-Allowed a (RemoveCall k) s = is_deletable k s ≡ true
+Allowed a (RemoveCall k) s = MayRemoveCall a k s
 Allowed a (SetCallEvent k e) s = MayTell a k e s
 Allowed a (SetCallJoin k j) s = MayJoin a (subtask.Guest k) j s
 Allowed a (NameCall i k) s = MayNameCall a i k s
@@ -487,7 +514,7 @@ Stays a w s = Allowed a w s
 -- What becomes of a call whose thread is gone.
 abbrev pub IsSettling : Word → Core → Type 0
 IsSettling (SetUninteresting k) s = Unit {0}
-IsSettling (RemoveCall k) s = is_deletable k s ≡ true
+IsSettling (RemoveCall k) s = (is_deletable k s ≡ true) × (has_ended k s ≡ true)
 IsSettling (RemoveGroup g) s = is_group_done g s ≡ true
 IsSettling _ s = ⊥
 

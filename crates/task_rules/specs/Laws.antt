@@ -157,24 +157,24 @@ is_free (place.Behind f) = false
 is_free _ = true
 
 -- n stops at such a place: each thread has its place
-abbrev pub StopKeepsPlaces : Type 0
+unfoldable pub StopKeepsPlaces : Type 0
 StopKeepsPlaces =
     (n f : ℕ) (p : Place) (s : Core) → is_free p ≡ true → place_of n s ≡ Some place.Running → ((k : ℕ) → HasPlace k s) → (k : ℕ) →
     HasPlace k (set_place n p (stopped f s))
 
 -- held threads are released, in whatever order
-abbrev pub ReleaseKeepsPlaces : Type 0
+unfoldable pub ReleaseKeepsPlaces : Type 0
 ReleaseKeepsPlaces = (n : ℕ) (ns : List ℕ) (s : Core) → place_of n s ≡ Some place.Running → ((k : ℕ) → HasPlace k s) → (k : ℕ) →
     HasPlace k (released ns s)
 
 -- a waiter is woken, whichever is chosen
-abbrev pub WakeKeepsPlaces : Type 0
+unfoldable pub WakeKeepsPlaces : Type 0
 WakeKeepsPlaces =
     (n x : ℕ) (w : Option ℕ) (s : Core) → may_wake x w s ≡ true → place_of n s ≡ Some place.Running → ((k : ℕ) → HasPlace k s) → (k : ℕ) →
     HasPlace k (wake x w s)
 
 -- the running thread is gone
-abbrev pub RemovalKeepsPlaces : Type 0
+unfoldable pub RemovalKeepsPlaces : Type 0
 RemovalKeepsPlaces = (n : ℕ) (s : Core) → place_of n s ≡ Some place.Running → ((k : ℕ) → HasPlace k s) → (k : ℕ) →
     HasPlace k (remove_thread n s)
 

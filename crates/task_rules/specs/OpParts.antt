@@ -3,7 +3,6 @@ use Rattle.std.specs.Prelude.{Bool, None, Option, Some, false, is_some, true}
 use Rattle.task_machine.specs.declared.component.Callee.{Callee}
 use Rattle.task_machine.specs.declared.op.CallOp.{CallOp}
 use Rattle.task_machine.specs.declared.op.Op.{Op}
-use Rattle.task_machine.specs.declared.op.SetOp.{SetOp}
 use Rattle.task_machine.specs.declared.op.TaskOp.{TaskOp}
 use Rattle.task_machine.specs.declared.op.ThreadOp.{ThreadOp}
 use Rattle.task_machine.specs.declared.records.HowFar.{HowFar}

@@ -63,11 +63,11 @@ abbrev pub host_result : WorkCaller → Option ℕ → Core → Core
 host_result (work_caller.Async n q) (Some v) s = set_register n q v s
 host_result _ _ s = s
 
--- the value, if there is one, goes to the calling thread, the end is published, and the subtask is done
+-- the subtask is done, its end is published, and the value, if there is one, goes to the calling thread
 unfoldable pub host_done : ℕ → Option ℕ → Core → Core
 host_done i w s =
     let v = course_value (course_of i s) in
-    set_stage i stage.Ended (published (subtask.Host i) (host_status v) w (host_result (work_caller_of i s) v s))
+    host_result (work_caller_of i s) v (published (subtask.Host i) (host_status v) w (set_stage i stage.Ended s))
 
 abbrev pub host_row : Mark → ℕ → Option ℕ → Core → Progress
 host_row m i w s = may (may_publish (subtask.Host i) w s) (Stops (host_label m i w) (host_done i w s))

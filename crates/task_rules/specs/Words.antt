@@ -1,12 +1,13 @@
 -- The words that every step is made of: each a change that keeps what is said of states.
-use Rattle.task_machine.specs.Read.{course_of, course_value}
-use Rattle.std.specs.Prelude.{Bool, List, None, Option, ℕ, ◌+◌, Some}
+use Rattle.task_machine.specs.Read.{course_of, course_value, is_direct, is_guest_call}
+use Rattle.std.specs.Prelude.{Bool, List, None, Option, false, if◌then◌else◌, not, ℕ, ◌+◌, ◌&&◌, Some}
 use Rattle.task_machine.specs.Core.{Core}
 use Rattle.task_machine.specs.Moves.{behind_one, less_switch, promoted, put_high, put_low, put_switch, stopped, unqueued}
-use Rattle.task_machine.specs.Write.{add_group, add_set, add_thread, count_work, free_handle, free_thread_handle, give_handle, give_result, push_high, remove_call, remove_group, remove_set, remove_thread, remove_work, set_backpressure, set_cancel_delivered, set_cancelled, set_course, set_do_not_enter, set_do_not_suspend, set_end, set_event, set_exited, set_how_far, set_join, set_own_event, set_phase, set_place, set_position, set_register, set_result, set_saved_callee, set_saved_own, set_script, set_stage, set_started, set_starting_published, set_subtask_handle, set_trapped, set_uninteresting, set_word, take_result, with_switch}
+use Rattle.task_machine.specs.Write.{add_group, add_set, add_thread, count_work, free_handle, free_thread_handle, give_handle, give_result, push_high, remove_call, remove_group, remove_set, remove_thread, remove_work, set_backpressure, set_cancel_delivered, set_cancelled, set_course, set_do_not_enter, set_do_not_suspend, on_call, set_event, set_exited, set_how_far, set_join, set_own_event, set_phase, set_place, set_position, set_register, set_result, set_saved_callee, set_saved_own, set_script, set_stage, set_started, set_starting_published, set_subtask_handle, set_trapped, set_uninteresting, set_word, take_result, with_switch}
 use Rattle.task_machine.specs.declared.component.Callee.{Callee}
 use Rattle.task_machine.specs.declared.component.ExportKind.{ExportKind}
 use Rattle.task_machine.specs.declared.component.HostDef.{HostDef}
+use Rattle.task_machine.specs.declared.records.Call.{Call}
 use Rattle.task_machine.specs.declared.records.CallEnd.{CallEnd}
 use Rattle.task_machine.specs.declared.records.Caller.{Caller}
 use Rattle.task_machine.specs.declared.records.Course.{Course}
@@ -26,6 +27,7 @@ use Rattle.task_machine.specs.declared.words.Status.{Status}
 use Rattle.task_rules.specs.Calls.{call_made, with_handle, with_thread_handle, work_queued}
 use Rattle.task_rules.specs.Takes.{popped, host_status}
 use Rattle.task_rules.specs.Works.{poll_pends}
+use Rattle.task_machine.specs.declared.records.CallEnd.TheVariants as call_end
 use Rattle.task_machine.specs.declared.records.Entry.TheVariants as entry
 use Rattle.task_machine.specs.declared.records.Named.TheVariants as named
 use Rattle.task_machine.specs.declared.records.Place.TheVariants as place
@@ -33,6 +35,7 @@ use Rattle.task_machine.specs.declared.records.Stage.TheVariants as stage
 use Rattle.task_machine.specs.declared.records.Subtask.TheVariants as subtask
 use Rattle.task_machine.specs.declared.words.Mark.TheVariants as mark
 use Rattle.task_machine.specs.declared.words.Phase.TheVariants as phase
+use Rattle.task_machine.specs.declared.words.Status.TheVariants as status
 
 -- ---- Where threads are
 
@@ -94,7 +97,7 @@ pub data Word : Type 0 where
   MakeCall : (caller : Caller) → (callee : Callee) → (kind : ExportKind) → (goal : Goal) → (group : ℕ) → (words : List ℕ) → Word
   SetStarted : (call : ℕ) → Word
   SetStartingPublished : (call : ℕ) → Word
-  SetEnd : (call : ℕ) → (end : CallEnd) → Word
+  EndCall : (call : ℕ) → (end : CallEnd) → Word
   SetOwnEvent : (call : ℕ) → (event : Option OwnEvent) → Word
   SetCancelDelivered : (call : ℕ) → Word
   SetExited : (call : ℕ) → Word
@@ -136,6 +139,20 @@ pub data Word : Type 0 where
   RemoveGroup : (group : ℕ) → Word
   SetTrapped : Word
 
+abbrev pub status_of_end : CallEnd → Status
+status_of_end call_end.Returned = status.Returned
+status_of_end call_end.StartCancelled = status.StartCancelled
+status_of_end call_end.ReturnCancelled = status.ReturnCancelled
+
+-- whether this end of the call is told to its caller, as `is_told` says; that of a withdrawn start isn't
+abbrev pub is_told_of : Call → CallEnd → Bool
+is_told_of c call_end.StartCancelled = false
+is_told_of c e = is_guest_call c.caller && not (is_direct c.goal)
+
+-- the call comes to the end, and has it to tell
+abbrev pub ended_as : CallEnd → Call → Call
+ended_as e c = record c { «end» = Some e; event = if is_told_of c e then Some (status_of_end e) else c.event }
+
 -- the core after the word; a change of places is written so that all else is seen to stay
 abbrev pub after_word : Word → Core → Core
 after_word (Places p) s = placed_as (after_placing p s) s
@@ -153,7 +170,7 @@ after_word (Withdraw k) s = remove_thread k (record s { queues = with_switch (le
 after_word (MakeCall f e x g group words) s = call_made f e x g group words s
 after_word (SetStarted k) s = set_started k s
 after_word (SetStartingPublished k) s = set_starting_published k s
-after_word (SetEnd k e) s = set_end k e s
+after_word (EndCall k e) s = on_call k (ended_as e) s
 after_word (SetOwnEvent k e) s = set_own_event k e s
 after_word (SetCancelDelivered k) s = set_cancel_delivered k s
 after_word (SetExited k) s = set_exited k s

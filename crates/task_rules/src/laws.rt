@@ -75,21 +75,25 @@ pub fn callback_check_is_after()
 
 /// Where each thread has its place, a running thread that stops comes to its next place, and each
 /// other one has its own: its callers, too, who go behind another thread or get entries.
+#[tactic(auto, using(crate::proofs::MoveLemmas::stop_keeps_places))]
 pub fn stop_keeps_places()
     ensures { StopKeepsPlaces }
 {}
 
 /// So it is where held threads are released.
+#[tactic(auto, using(crate::proofs::MoveLemmas::release_keeps_places))]
 pub fn release_keeps_places()
     ensures { ReleaseKeepsPlaces }
 {}
 
 /// So it is where a waiter is woken.
+#[tactic(auto, using(crate::proofs::MoveLemmas::wake_keeps_places))]
 pub fn wake_keeps_places()
     ensures { WakeKeepsPlaces }
 {}
 
 /// So it is where the running thread is gone.
+#[tactic(auto, using(crate::proofs::MoveLemmas::removal_keeps_places))]
 pub fn removal_keeps_places()
     ensures { RemovalKeepsPlaces }
 {}
@@ -110,6 +114,7 @@ pub fn runs_are_steady()
 
 /// Whether a blocking export may leave is the check on the state that the release and the return
 /// leave, in whatever order its held threads are released.
+#[tactic(auto, using(crate::proofs::CheckLemmas::blocking_check))]
 pub fn blocking_check_is_after()
     ensures { BlockingCheckIsAfter }
 {}

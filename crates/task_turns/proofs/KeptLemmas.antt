@@ -28,7 +28,7 @@ use Rattle.task_rules.specs.Turns.{at_turn}
 use Rattle.task_turns.specs.Kept.{FinishInOrder, MadeInOrder, RefusalInOrder, StartInOrder}
 use Rattle.task_turns.specs.Turn.{Sits, state_at}
 
-abbrev setting : Component → Setting
+abbrev pub setting : Component → Setting
 setting c = record { component = c; script = []; idle = idle_line.Wait }
 
 pub made_in_order : MadeInOrder
@@ -53,6 +53,9 @@ at_turn_of c s m k p q runs o = record {
   works = o.works;
   awaited = o.awaited;
   fits = o.fits;
+  names = o.names;
+  calls = o.calls;
+  unbegun = o.unbegun;
 }
 
 -- an act of main that takes no running thread away

@@ -1,10 +1,9 @@
 use Rattle.make_words.proofs.RestoreLemmas.{image_restored, item_restored, sound_restored}
-use Rattle.std.proofs.Common.{ap, arith, subst, sym, true, ◌+◌, ◌<◌, ◌^◌, ◌≡◌, ◌∙◌, ℕ}
+use Rattle.std.proofs.Common.{ap, arith, subst, sym, true, ◌+◌, ◌<◌, ◌^◌, ◌≡◌, ◌∙◌}
 use Rattle.std.specs.Prelude.{IsSome}
 use Rattle.strand_words.proofs.MainLemmas.{fits_fewer, fits_grouped, group_restored, strand_loose_beside}
 use Rattle.strand_words.proofs.calls.add_main_strand.Goals as goal
 use Rattle.strand_words.specs.Loose.{AreStrandLoose}
-use Rattle.task_machine.specs.Core.{Core}
 use Rattle.task_machine.specs.Maps.{get}
 use Rattle.task_machine.specs.Read.{fits}
 use Rattle.task_machine.specs.Write.{add_group}

@@ -1,6 +1,5 @@
 use Rattle.make_words.proofs.RestoreLemmas.{image_restored, sound_restored}
 use Rattle.std.proofs.Common.{ap, sym, ◌+◌, ◌∙◌}
-use Rattle.std.specs.Prelude.{Ok}
 use Rattle.strand_words.proofs.StrandUndoLemmas.{item_written, made_instance, named_core, strand_restored}
 use Rattle.strand_words.proofs.calls.add_named_strand.Goals as goal
 use Rattle.task_records.specs.Image.{Parts}

@@ -1,7 +1,7 @@
 use Rattle.make_words.proofs.RestoreLemmas.{Restores-deleted, Restores-same, sound_restored}
 use Rattle.make_words.specs.Restored.{Restores}
 use Rattle.std.proofs.Common.{arith, ap, refl, subst, sym, ◌+◌, ◌<◌, ◌^◌, ◌≡◌, ◌∙◌, ℕ}
-use Rattle.strand_words.proofs.StrandAddLemmas.{as_made, call_named, group_few, interesting_few, made, strand_core, strand_sound, strand_tags, thread_named, used_few}
+use Rattle.strand_words.proofs.StrandAddLemmas.{as_made, call_named, group_few, interesting_few, strand_core, strand_sound, strand_tags, thread_named, used_few}
 use Rattle.strand_words.proofs.strands.push_strand.Goals as goal
 use Rattle.task_machine.specs.Write.{add_call, add_thread}
 use Rattle.task_records.proofs.MakeLemmas.{number_new}

@@ -1,8 +1,12 @@
 use Rattle.std.proofs.Common.{arith, subst, sym, ◌∙◌}
 use Rattle.std.proofs.lemmas.Bool.Decides.{nat_tests}
 use Rattle.std.specs.Prelude.{true, ◌≡◌}
-use Rattle.task_calls.proofs.ReturnLemmas.{position_fits, returned}
+use Rattle.task_calls.proofs.ReturnLemmas.{position_fits, return_in_order, returned}
 use Rattle.task_calls.specs.Calls.{Returns, is_own_type}
+use Rattle.task_machine.specs.Labels.{choice_of}
+use Rattle.task_ops.specs.Came.{Meets}
+use Rattle.task_ops.specs.Steps.{label_of}
+use Rattle.task_rules.specs.Task.{ret_row}
 use Rattle.task_turns.proofs.OrderLemmas.{number_at, runner_at}
 use Rattle.task_turns.specs.Runner.{Runner}
 use Rattle.task_words.specs.StateView.{thread_of}
@@ -34,6 +38,7 @@ returns g c =
     let n = number_at c.args.number s c.requires.runs c.in-Some.thread (sym c.current.ensures ∙ c.in-Some.is) in
     let own : is_own_type c.args.ty c.args.encoding c.args.memory ≡ true = (let x = c.if-ty-ne0.false in let y = c.if-encoding-ne0.false in let z = c.if-memory-ne0.false in grind (arith, nat_tests)) in
     record {
+      order = λ x is value. return_in_order c.args.component.now c.args.number v x s.core t.core is value c.ret.result c.requires.order (subst (λ k. Meets (ret_row k v (choice_of (label_of k c.ret.result)).woken s.core) s.core c.ret.result t.core) n c.ret.ensures.meets);
       returns =
           subst (λ k. Returns k v (is_own_type c.args.ty c.args.encoding c.args.memory) s c.answer-2.result t) n
           (subst (λ b. Returns (thread_of s c.in-Some.thread) v b s c.answer-2.result t) (sym own)

@@ -1,5 +1,0 @@
-use Rattle.task_rules.proofs.MoveLemmas as moves
-use Rattle.task_rules.proofs.laws.wake_keeps_places.Goals as goal
-
-pub returns : goal.returns
-returns c = moves.wake_keeps_places
