@@ -12,4 +12,5 @@ mod thread_calls;
 
 pub use calls::make_call_by_main;
 pub use members::make_thread;
-pub use thread_calls::{make_call, make_direct_call};
+pub use strands::{one_less, one_more};
+pub use thread_calls::{group_of, make_call, make_direct_call};

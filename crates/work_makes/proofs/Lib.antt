@@ -3,3 +3,4 @@ pub mod WorkAddLemmas
 pub mod EntryLemmas
 pub mod LooseLemmas
 pub mod LiveLemmas
+pub mod WorkUndoLemmas

@@ -1,8 +1,9 @@
 -- A host work more, as a core: it is sound, and contracts see just that.
-use Rattle.std.proofs.Common.{inl, inr, ◌≡◌, ◌+◌, ◌==◌, ◌&&◌, ◌||◌, ◌<◌, ◌≤◌, ◌^◌, ℕ, suc, true, false, cond, not, List, [], ◌∷◌, map, Option, Some, None, IsSome, filter, length, is_some, nat_lt, refl, sym, ap, ap₂, subst, ◌∙◌, arith}
+use Rattle.std.proofs.Common.{inl, inr, Ok, ◌≡◌, ◌+◌, ◌==◌, ◌&&◌, ◌||◌, ◌<◌, ◌≤◌, ◌^◌, ℕ, suc, true, false, cond, not, List, [], ◌∷◌, map, Option, Some, None, IsSome, filter, length, is_some, nat_lt, refl, sym, ap, ap₂, subst, ◌∙◌, arith}
 use Rattle.std.proofs.lemmas.Bool.{eq-eqb, eqb-true, ne_eqb}
 use Rattle.std.proofs.lemmas.List.Sums.{count_by-le-length}
-use Rattle.std.specs.Option.{option_map_or}
+use Rattle.std.proofs.lemmas.Option.{same_Some}
+use Rattle.std.specs.Option.{option_map, option_map_or}
 use Rattle.make_words.proofs.MoreLemmas.{early, passing_more, table_bare}
 use Rattle.task_table.proofs.RecordCountLemmas.{size-records-le}
 use Rattle.make_words.proofs.RestoreLemmas.{handles_grown}
@@ -17,22 +18,23 @@ use Rattle.removal_words.specs.Counted.{IsIn, uncalled}
 use Rattle.task_index.specs.Counts.{one_if_passes, passing}
 use Rattle.task_index.specs.Rows.{Each}
 use Rattle.task_machine.specs.Core.{Core}
-use Rattle.task_machine.specs.Maps.{Records, size}
+use Rattle.task_machine.specs.Maps.{Records, get, size}
 use Rattle.task_machine.specs.Read.{is_aborted, is_host_call, is_never, is_stage_live}
 use Rattle.task_machine.specs.Write.{add_work, count_work}
 use Rattle.task_machine.specs.declared.records.Entry.{Entry}
 use Rattle.task_machine.specs.declared.records.Entry.TheVariants as entry
 use Rattle.task_machine.specs.declared.records.Call.{Call}
 use Rattle.task_machine.specs.declared.records.Work.{Work}
-use Rattle.task_records.proofs.KindLemmas.{item_stands, table_written}
+use Rattle.task_records.proofs.HomeLemmas.{place_in_bare}
+use Rattle.task_records.proofs.KindLemmas.{item_number, item_read, item_stands, table_written}
 use Rattle.task_records.proofs.MakeLemmas.{number_kept, number_new, records_more, table_more}
 use Rattle.task_records.proofs.ReadLemmas.{work_shown}
 use Rattle.task_records.specs.Image.{Parts, core_of}
 use Rattle.task_records.specs.Kept.{IsGroupKept, calls_of, is_of_group}
 use Rattle.task_records.specs.Keys.{call_key, group_key, work_key}
 use Rattle.task_records.specs.declared.calls.GuestTask.{GuestTask}
-use Rattle.task_records.specs.Kinds.{on_item}
-use Rattle.task_records.specs.Names.{AtPlace, Target, kinds}
+use Rattle.task_records.specs.Kinds.{item_of, on_item}
+use Rattle.task_records.specs.Names.{AtPlace, HasNumber, Target, kinds, work_caller_target}
 use Rattle.task_records.specs.Rows.{High, IsSeated, row}
 use Rattle.task_records.specs.Seen.{IsSound, parts_of, seen}
 use Rattle.task_records.specs.Sound.{EachEntry, IsWhole, SoundTable, bare, bare_call, bare_work, loose_call, uninterested, loose_work, unmoved}
@@ -45,8 +47,10 @@ use Rattle.task_records.specs.declared.works.HostWork.{HostWork}
 use Rattle.task_rules.specs.Works.{is_moving}
 use Rattle.task_table.proofs.MappedLemmas.{mapped-pushed}
 use Rattle.task_table.specs.Changes.{next_place, pushed}
+use Rattle.task_table.specs.Answers.{item_at}
 use Rattle.task_table.specs.Mapped.{mapped}
-use Rattle.task_table.specs.Records.{AreApart, records}
+use Rattle.task_table.proofs.RecordLemmas.{get-records}
+use Rattle.task_table.specs.Records.{AreApart, key_in, number_in, records}
 use Rattle.task_table.specs.Table.{IsTable, Table, table_len}
 use Rattle.task_table.specs.declared.id.TableId.{TableId}
 use Rattle.task_wait.specs.declared.keys.GroupKey.{GroupKey}
@@ -55,7 +59,9 @@ use Rattle.task_words.specs.Apart.{work_entries}
 use Rattle.task_words.specs.StateView.{Keeps, call_number, set_number, thread_number, work_of}
 use Rattle.work_makes.proofs.WorkMoreLemmas.{at_more, more, more_whole, works_counted}
 use Rattle.work_makes.specs.Loose.{AreWorkLoose, nodes_of}
-use Rattle.work_makes.specs.Raised.{IsWorkNext, Raises}
+use Rattle.work_makes.specs.Raised.{GroupHere, IsHere, IsWorkNext, Raises, group_name, raised, record_for}
+use Rattle.work_makes.specs.declared.nodes.WorkNodes.{WorkNodes}
+use Rattle.work_makes.specs.declared.requests.WorkRequest.{WorkRequest}
 
 abbrev number : HostWork → ℕ
 number w = w.number
@@ -257,3 +263,42 @@ module _ (a : CoreParts) (sound : IsSound a) where
 
       pub made_named : (id : TableId HostTaskKey) → id.rep ≡ next_place a.works → id.serial ≡ a.works.given → work_of (seen (work_made t)) id ≡ a.made.works + 1
       made_named id rep serial = subst (λ (u : Table (Single HostWork)). work_of (seen (work_made u)) id ≡ a.made.works + 1) (sym are) (named_with id rep serial)
+
+-- ---- The group that a work is made in
+
+pub raises_of : (t : Table (Single TaskGroup)) (group : GroupHere) (o : Option ℕ) → o ≡ group_name group → IsHere t group → (u : Table (Single TaskGroup)) → u ≡ raised t group → Raises t u o (option_map (λ g. g.0) group)
+raises_of t None o is here u raised_is = subst (λ (x : Option ℕ). Raises t u x None) (sym is) raised_is
+raises_of t (Some g) o is here u raised_is = subst (λ (x : Option ℕ). Raises t u x (Some g.0)) (sym is) (g.1, (here, (refl, raised_is)))
+
+-- The record of a request is the next.
+module _ (a : CoreParts) (sound : IsSound a) where
+  group_positive : (id : TableId GroupKey) (r : TaskGroup) → Ok r ≡ item_at item_of a.groups id.rep id.serial → 0 < r.number
+  unfolding IsSound
+  group_positive id r here = by r.number refl
+    where
+      reads : Some r.calls ≡ get (records group_key a.groups.places) r.number
+      reads = item_read group_number group_calls a.groups a.made.groups sound.tables.groups id.rep id.serial r here ∙ ap (get (records group_key a.groups.places)) (item_number group_number group_calls a.groups id.rep id.serial r here)
+
+      by : (n : ℕ) → r.number ≡ n → 0 < r.number
+      by ℕ.zero is = absurd (let none : ◌≡◌ {A = Option ℕ} (Some r.calls) None = reads ∙ (ap (get (records group_key a.groups.places)) is ∙ (get-records group_key a.groups.places 0 ∙ sound.tables.groups.above_zero)) in cc)
+      by (suc n) is = omega (arith, is)
+
+  group_known : (id : TableId GroupKey) (r : TaskGroup) → Ok r ≡ item_at item_of a.groups id.rep id.serial → HasNumber group_key a.groups id.rep r.number × (0 < r.number)
+  unfolding IsSound
+  group_known id r here =
+      let placed = item_stands group_number group_calls a.groups a.made.groups sound.tables.groups id.rep id.serial r here in
+      (ap (λ o. number_in (key_in group_key o)) placed.1.0 ∙ ap (λ (e : Single TaskGroup). e.item.number) placed.1.1.1, group_positive id r here)
+
+  group_next : (group : GroupHere) → IsHere a.groups group → (n : ℕ) → group_name group ≡ Some n → HasNumber group_key a.groups (option_map_or (λ (g : TableId GroupKey × TaskGroup). g.0.rep) group 0) n × (0 < n)
+  group_next None here n is = absurd (cc)
+  group_next (Some g) here n is = subst (λ (m : ℕ). HasNumber group_key a.groups g.0.rep m × (0 < m)) (same_Some g.1.number n is) (group_known g.0 g.1 here)
+
+  pub record_next : (q : WorkRequest) (group : GroupHere) (nodes : WorkNodes) → IsHere a.groups group → AtPlace (parts_of a) q.maker (work_caller_target q.caller) → (g : HostWork) → g ≡ record_for (a.made.works + 1) q group nodes → IsWorkNext (bare (parts_of a)) (bare_work g)
+  record_next q group nodes here caller g is = subst (λ (w : HostWork). IsWorkNext (bare (parts_of a)) (bare_work w)) (sym is) (record {
+    number = refl;
+    stage = refl;
+    event = refl;
+    join = refl;
+    caller = place_in_bare a q.maker (work_caller_target q.caller) caller;
+    group = group_next group here;
+  })

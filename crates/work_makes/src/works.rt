@@ -1,47 +1,34 @@
-ghost use Rattle.std.specs.Prelude.{◌≡◌, ◌+◌, ◌<◌, ◌^◌, ℕ, IfOk, IsSome, OnErr, OnOk, Some, if◌then◌else◌, true};
+ghost use Rattle.std.specs.Prelude.{◌≡◌, ◌+◌, ◌<◌, ◌^◌, IfOk, IsSome, OnErr, OnOk, if◌then◌else◌, true};
 ghost use Rattle.task_machine.specs.Read.{fits, is_host_call};
 ghost use Rattle.task_machine.specs.Write.{add_work, count_work};
-ghost use Rattle.task_records.specs.Keys.{group_key};
-ghost use Rattle.task_records.specs.Names.{HasNumber};
 ghost use Rattle.task_records.specs.Seen.{IsSound, parts_of, seen};
 ghost use Rattle.task_records.specs.Sound.{bare, bare_work};
 ghost use Rattle.task_records.specs.declared.calls.TaskGroup.{TaskGroup};
-ghost use Rattle.task_table.specs.Changes.{next_place, pushed};
 ghost use Rattle.removal_words.specs.Counted.{IsIn};
 ghost use Rattle.task_words.specs.Apart.{work_entries};
 ghost use Rattle.task_words.specs.StateView.{Keeps, work_of};
 ghost use Rattle.work_makes.specs.Loose.{AreWorkLoose, nodes_of};
-ghost use Rattle.work_makes.specs.Raised.{IsWorkNext, Raises};
+ghost use Rattle.work_makes.specs.Raised.{IsHere, IsWorkNext, PushesWork, group_name, raised};
 
-use removal_words::group_there;
+use strand_words::one_more;
 use task_machine::NoMemory;
 use task_records::{CoreParts, HostWork, Single, TaskGroup};
 use task_table::{ResourceTable, TableId};
 use task_wait::{GroupKey, HostTaskKey};
 use task_words::WorkId;
 
-// The group of a host call has one call more, and the id names it; a spawned work has none.
+// The group of a host call has one call more; a spawned work has none.
 fn raise_group(
     groups: &mut ResourceTable<Single<TaskGroup>>,
-    place: u32,
-    group: Option<u64>,
-) -> Option<TableId<GroupKey>>
-    requires named { (n : ℕ) → group ≡ Some n → HasNumber group_key groups.old place n × (0 < n) }
+    group: Option<(TableId<GroupKey>, TaskGroup)>,
+)
+    requires here { IsHere groups.old group }
     requires few { (r : TaskGroup) → IsIn r groups.old → r.calls + 1 < 2 ^ 64 }
-    ensures { Raises groups.old groups.new group result }
+    ensures { groups.new ≡ raised groups.old group }
 {
-    if group.is_none() {
-        return None;
+    if let Some((id, found)) = group {
+        one_more(groups, id, found);
     }
-    let (id, mut counted) = group_there(groups, place);
-    counted.calls += 1;
-    match groups.get_mut(id) {
-        Ok(entry) => {
-            *entry = counted;
-        }
-        Err(_) => unreachable!(),
-    }
-    Some(id)
 }
 
 // A handle's room more, where there is one.
@@ -53,11 +40,17 @@ fn counted(used: u64, more: bool) -> u64
 }
 
 /// The record of a host work, with its nodes and its chain.
-pub(crate) fn push_work(parts: &mut CoreParts, work: HostWork) -> Result<WorkId, NoMemory>
+pub(crate) fn push_work(
+    parts: &mut CoreParts,
+    work: HostWork,
+    group: Option<(TableId<GroupKey>, TaskGroup)>,
+) -> Result<WorkId, NoMemory>
     requires sound { IsSound parts.old }
     requires next { IsWorkNext (bare (parts_of parts.old)) (bare_work work) }
     requires few { (seen parts.old).core.made.works + 1 < 2 ^ 64 }
     requires room { is_host_call work.work ≡ true → fits 1 (seen parts.old).core ≡ true }
+    requires here { IsHere parts.old.groups group }
+    requires named { work.work.group ≡ group_name group }
     requires loose { AreWorkLoose (bare (parts_of parts.old)) (nodes_of work) }
     requires high { IsSome parts.old.high }
     requires live { IsSome parts.old.live }
@@ -67,14 +60,15 @@ pub(crate) fn push_work(parts: &mut CoreParts, work: HostWork) -> Result<WorkId,
     ensures current { (seen parts.new).current ≡ (seen parts.old).current }
     ensures tags { Keeps (seen parts.old).tags (seen parts.new).tags }
     ensures unqueued { OnOk result (work_entries ((seen parts.old).core.made.works + 1) (seen parts.new).core.queues.high ≡ 0) }
+    ensures pushes { IfOk result (λ id. PushesWork parts.old parts.new work group id.rep (if is_host_call work.work then 1 else 0)) }
     ensures err { OnErr result (parts.new ≡ parts.old) }
 {
-    let group = work.work.group;
+    let called = work.work.group.is_some();
     match parts.works.push::<HostTaskKey>(work) {
         Ok(id) => {
-            raise_group(&mut parts.groups, work.group, group);
+            raise_group(&mut parts.groups, group);
             parts.made.works += 1;
-            parts.kept.used = counted(parts.kept.used, group.is_some());
+            parts.kept.used = counted(parts.kept.used, called);
             Ok(id)
         }
         Err(_) => Err(NoMemory),
