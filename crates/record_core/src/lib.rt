@@ -12,5 +12,6 @@ mod sets;
 mod subtasks;
 mod task_core;
 mod threads;
+mod works;
 
 pub use crate::task_core::TaskCore;

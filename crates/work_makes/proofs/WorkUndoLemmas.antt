@@ -1,8 +1,7 @@
 -- A work that was made is taken back, and one that has its handle is pushed.
 use Rattle.std.proofs.Common.{Ok, ◌≡◌, ◌+◌, ◌-◌, ℕ, Some, refl, ap, ap₂, ◌∙◌, arith}
-use Rattle.make_words.proofs.RestoreLemmas.{Restores-deleted, Restores-same, Restores-written, restored_from}
+use Rattle.make_words.proofs.RestoreLemmas.{Restores-deleted, Restores-pushed, Restores-same, Restores-written, restored_from}
 use Rattle.make_words.specs.Restored.{IsRestored}
-use Rattle.strand_words.proofs.StrandUndoLemmas.{Restores-pushed}
 use Rattle.task_machine.specs.Core.{Core}
 use Rattle.task_machine.specs.Read.{new_handle}
 use Rattle.task_machine.specs.Write as write
