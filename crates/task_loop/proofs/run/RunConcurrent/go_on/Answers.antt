@@ -3,6 +3,7 @@ use Rattle.std.proofs.Common.{arith, refl, ap, sym, ◌∙◌}
 use Rattle.std.specs.Prelude.{None, Some}
 use Rattle.task_turns.proofs.DriveLemmas.{on_ends, on_more, on_out_at, on_rests, on_turned_none, turned_same}
 use Rattle.task_turns.specs.Turn.{given, idle_line_of, setting_of, state_at}
+use Rattle.task_machine.specs.Core.{Unscripted}
 use Rattle.task_loop.proofs.run.RunConcurrent.go_on.Goals as goal
 
 pub returns-in_default-clause-ok : goal.returns-in_default-clause-ok
@@ -22,6 +23,18 @@ returns-in-Some-outcome_of-clause-ok g c =
     let x = setting_of c.args.component.now (script c.args.main.now) c.args.self.now.trap_on_idle in
     let turned = turned_same c.args.component.now (script c.turns.main) (script c.args.main.now) c.turns.self.trap_on_idle c.args.self.now.trap_on_idle c.turns.self.turn (part c.turns.main) c.turns.store.state (Some c.in-Some.made) (part c.turn.new.main) c.turn.new.store.state c.turns.invariant.script c.turns.invariant.idle (rw c.in-Some.is at c.in_ok-made.ensures.turned) in
     on_ends x (state_at s.core (part c.args.main.now) c.args.self.now.turn) c.args.trace.now (given s.core) c.turns.self.turn (part c.turns.main) c.turns.store.state c.turns.trace c.turns.added c.turns.invariant.on c.in-Some.made (part c.turn.new.main) c.turn.new.store.state turned c.push.new.self c.in-Ok.ensures.ok c.args.steps c.in-Some-outcome_of.outcome (omega arith) (sym c.in-Some-outcome_of.ensures)
+
+pub compute-requires-clause-order : goal.compute-requires-clause-order
+compute-requires-clause-order g c =
+    let s = c.args.store.now.state in
+    let part = g.M.MainTask.part in
+    let script = g.M.MainTask.script in
+    let x = setting_of c.args.component.now (script c.args.main.now) c.args.self.now.trap_on_idle in
+    let turned = turned_same c.args.component.now (script c.turns.main) (script c.args.main.now) c.turns.self.trap_on_idle c.args.self.now.trap_on_idle c.turns.self.turn (part c.turns.main) c.turns.store.state (Some c.in-Some.made) (part c.turn.new.main) c.turn.new.store.state c.turns.invariant.script c.turns.invariant.idle (rw c.in-Some.is at c.in_ok-made.ensures.turned) in
+    (on_more x (state_at s.core (part c.args.main.now) c.args.self.now.turn) c.args.trace.now (given s.core) c.turns.self.turn (part c.turns.main) c.turns.store.state c.turns.trace c.turns.added c.turns.invariant.on c.in-Some.made (part c.turn.new.main) c.turn.new.store.state turned c.push.new.self c.in-Ok.ensures.ok (sym c.in_default-outcome_of.ensures)).at.order
+
+pub is_idle-requires : goal.is_idle-requires
+is_idle-requires g c = (c.turns.invariant.on.at.order.order Unscripted).works
 
 pub turns-preserved : goal.turns-preserved
 turns-preserved g c =
