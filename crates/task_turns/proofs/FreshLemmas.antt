@@ -2,6 +2,7 @@
 use Rattle.std.proofs.Common.{arith, refl}
 use Rattle.std.specs.Prelude.{None, Some, false, true, ℕ, ◌||◌, ◌≡◌}
 use Rattle.task_laws.specs.Lacks.{LacksOps, LacksSets}
+use Rattle.task_laws.specs.Order.{OpeningInOrder}
 use Rattle.task_laws.specs.Settings.{CodesInCallbacks}
 use Rattle.task_machine.specs.Core.{fresh}
 use Rattle.task_machine.specs.Maps.{empty, get, get-empty}
@@ -38,6 +39,7 @@ lacks_fresh n handles capacity = record {
 }
 
 pub sits_fresh : (c : Component) → IsCovered c → CodesInCallbacks c → (n handles capacity : ℕ) → Sits c turn.Main (fresh n handles capacity)
+unfolding OpeningInOrder
 sits_fresh c covered codes n handles capacity = record {
   order = λ m. opening_in_order c codes n handles capacity m;
   ops = covered_lacks c covered;
