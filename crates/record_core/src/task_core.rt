@@ -4,7 +4,7 @@ ghost use Rattle.task_records.specs.Seen.{nothing};
 use std::alloc::Global;
 use std::marker::Model;
 use task_records::CoreParts;
-use task_words::{ThreadId, View};
+use task_words::{ThreadId, View, Words};
 
 /// The core of a store.
 #[derive(Drop)]
@@ -56,3 +56,5 @@ impl View for TaskCore {
         task_records::none_is_zero(&self.parts);
     }
 }
+
+impl Words for TaskCore {}

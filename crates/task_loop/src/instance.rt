@@ -40,6 +40,14 @@ impl Instance {
             unreachable!()
         };
         let number = store.state.number(thread);
-        task_return(&mut store.state, component, number, ty, encoding, memory, value)
+        task_return(
+            &mut store.state,
+            component,
+            number,
+            ty,
+            encoding,
+            memory,
+            value,
+        )
     }
 }

@@ -5,7 +5,9 @@ ghost use Rattle.task_turns.specs.Drive.{Drives, Drove};
 ghost use Rattle.task_turns.specs.Turn.{IsAtTurn, IsSettled, PendsIn, Sits, Turned, Turns, given, goes_on, is_open, running_of, runs_in, setting_of, state_at};
 
 use crate::main_task::MainTask;
-use task_machine::{CallLabel, Component, Label, LoopLabel, MainLabel, NoMemory, Outcome, Trap, Turn};
+use task_machine::{
+    CallLabel, Component, Label, LoopLabel, MainLabel, NoMemory, Outcome, Trap, Turn,
+};
 use task_store::{Access, StandingRun, Store};
 use task_turns::{Made, Trace, compute, is_idle, made_by_main, poll, step_run, take};
 
@@ -157,7 +159,14 @@ impl RunConcurrent {
             if let Some(outcome) = outcome_of(made.label) {
                 return Ok(outcome);
             }
-            added = compute(component, &mut store.state, self.turn, trace, added + 1, steps)?;
+            added = compute(
+                component,
+                &mut store.state,
+                self.turn,
+                trace,
+                added + 1,
+                steps,
+            )?;
         }
         if is_idle(&store.state, self.turn, self.trap_on_idle) {
             return Ok(Outcome::Idle);
