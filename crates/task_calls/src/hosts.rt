@@ -26,7 +26,6 @@ pub fn start_call<W: Words>(
     words: &[u64],
 ) -> Result<u64, TaskError>
     requires there { IsSome (export_at component.now callee) }
-    requires instance { IsSome (get (W.view w.old).core.instances callee.instance) }
     requires words { IfSome (export_at component.now callee) (λ e. length words.now ≡ e.params) }
     requires few_words { length words.now ≤ 16 }
     requires order { (p : Turn) × Sits component.now p (W.view w.old).core }

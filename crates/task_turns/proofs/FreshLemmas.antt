@@ -1,6 +1,7 @@
 -- The core of a new store sits at main's turn.
 use Rattle.std.proofs.Common.{arith, refl}
-use Rattle.std.specs.Prelude.{None, Some, false, true, ℕ, ◌||◌, ◌≡◌}
+use Rattle.std.proofs.lemmas.Bool.Decides.{nat_tests}
+use Rattle.std.specs.Prelude.{None, Some, false, is_some, length, true, ℕ, ◌<◌, ◌||◌, ◌≡◌, ◌≤◌}
 use Rattle.task_laws.specs.Lacks.{LacksOps, LacksSets}
 use Rattle.task_laws.specs.Order.{OpeningInOrder}
 use Rattle.task_laws.specs.Settings.{CodesInCallbacks}
@@ -14,6 +15,7 @@ use Rattle.task_machine.specs.declared.records.Thread.{Thread}
 use Rattle.task_machine.specs.declared.records.Turn.TheVariants as turn
 use Rattle.task_machine.specs.declared.records.Work.{Work}
 use Rattle.task_places.proofs.OrderLemmas.{opening_in_order}
+use Rattle.task_rules.proofs.Machine.{filled, get-insert, untouched}
 use Rattle.task_rules.specs.OpParts.{calls_host, makes_set}
 use Rattle.task_rules.specs.Scripts.{script_in}
 use Rattle.task_turns.proofs.RunLemmas.{covered_at}
@@ -38,10 +40,15 @@ lacks_fresh n handles capacity = record {
   works = λ i w at. let o = get-empty {X = Work} i in absurd (cc);
 }
 
-pub sits_fresh : (c : Component) → IsCovered c → CodesInCallbacks c → (n handles capacity : ℕ) → Sits c turn.Main (fresh n handles capacity)
-unfolding OpeningInOrder
-sits_fresh c covered codes n handles capacity = record {
+filled_at : {X : Type 0} (x : X) (n i : ℕ) → i < n → is_some (get (filled x n) i) ≡ true
+filled_at x ℕ.zero i below = absurd (omega arith)
+filled_at x (ℕ.suc n) i below = let rest = filled_at x n i in grind (arith, nat_tests, get-insert)
+
+pub sits_fresh : (c : Component) → IsCovered c → CodesInCallbacks c → (n handles capacity : ℕ) → length c.instances ≤ n → Sits c turn.Main (fresh n handles capacity)
+unfolding OpeningInOrder fresh
+sits_fresh c covered codes n handles capacity enough = record {
   order = λ m. opening_in_order c codes n handles capacity m;
+  there = λ i below. filled_at untouched n i (omega arith);
   ops = covered_lacks c covered;
   lacks = lacks_fresh n handles capacity;
 }

@@ -2,6 +2,7 @@
 use Rattle.std.proofs.Common.{ap, arith, refl, subst, sym, ◌∙◌}
 use Rattle.std.proofs.lemmas.Bool.Decides.{nat_tests}
 use Rattle.std.specs.Prelude.{List, Some, [], false, is_some, true, ℕ, ◌+◌, ◌==◌, ◌≡◌, ◌≤◌}
+use Rattle.task_laws.proofs.Exported.{instances_stay}
 use Rattle.task_laws.specs.Order.{InOrder}
 use Rattle.task_machine.proofs.CommuteLemmas.{get-change}
 use Rattle.task_machine.specs.Core.{Began, Core, Main, Unscripted}
@@ -62,6 +63,7 @@ sits_after x s t m k p q l sits step =
     let after = step_in_order x (state_at s m p) l (state_at t k q) (sits.order m) step in
     record {
       order = λ j. at_turn_of x.component t k j q q after.in_place.runs after;
+      there = λ i below. instances_stay x (state_at s m p) l (state_at t k q) step i ∙ sits.there i below;
       ops = sits.ops;
       lacks = steps_lack_sets x sits.ops (state_at s m p) l (state_at t k q) (sits.order m) sits.lacks step;
     }
@@ -75,6 +77,7 @@ unfolding Step at_turn
 acted c p act l s t may row kept sits =
     let before : Sits c turn.Main s = record {
       order = λ m. at_turn_of c s m m p turn.Main (λ n e. absurd (cc)) (sits.order m);
+      there = sits.there;
       ops = sits.ops;
       lacks = sits.lacks;
     } in
@@ -83,6 +86,7 @@ acted c p act l s t may row kept sits =
     let after = sits_after (setting c) s t Unscripted Unscripted turn.Main turn.Main (label.Main l) before (1, (act, (may, shown))) in
     record {
       order = λ m. at_turn_of c t m m turn.Main p (λ n e. kept n ((sits.order m).in_place.runs n e)) (after.order m);
+      there = after.there;
       ops = after.ops;
       lacks = after.lacks;
     }

@@ -1,10 +1,11 @@
 -- What a turn of the loop makes.
-use Rattle.std.specs.Prelude.{◌≡◌, ◌<◌, ◌≤◌, ◌+◌, List, ℕ, Bool, true, false, Option, Some, None, is_none, option_map}
+use Rattle.std.specs.Prelude.{◌≡◌, ◌<◌, ◌≤◌, ◌+◌, List, ℕ, Bool, true, false, Option, Some, None, is_none, is_some, length, option_map}
 use Rattle.task_laws.specs.Lacks.{LacksOps, LacksSets}
 use Rattle.task_laws.specs.Order.{InOrder}
 use Rattle.task_machine.specs.Core.{Core, Main, One, State}
 use Rattle.task_machine.specs.Read.{next_entry}
 use Rattle.task_machine.specs.declared.component.Component.{Component}
+use Rattle.task_machine.specs.Maps.{get}
 use Rattle.task_machine.specs.declared.records.Turn.{Turn}
 use Rattle.task_machine.specs.declared.records.Turn.TheVariants as turn
 use Rattle.task_ops.specs.Running.{IsTopmost}
@@ -27,9 +28,10 @@ abbrev pub state_at : Core → Main → Turn → State
 state_at s m p = record { version = One; core = s; main = m; turn = p }
 
 -- The core is in order at this turn, whatever main's part is. No op of the component makes a set or calls a host asynchronously, and the
--- core has no set and no such call.
+-- core has no set and no such call. Each instance of the component is there.
 pub record Sits (c : Component) (p : Turn) (s : Core) : Type 0 where
   pub order : (m : Main) → InOrder c (state_at s m p)
+  pub there : (i : ℕ) → i < length c.instances → is_some (get s.instances i) ≡ true
   pub ops : LacksOps c
   pub lacks : LacksSets s
 

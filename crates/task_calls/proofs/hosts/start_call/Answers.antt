@@ -2,9 +2,13 @@ use Rattle.std.proofs.Common.{subst, sym}
 use Rattle.task_machine.specs.Core.{Unscripted}
 use Rattle.task_calls.proofs.CallLemmas.{found_kind, found_words, in_order, refused, started, wanting}
 use Rattle.task_calls.proofs.ApartLemmas.{trap_in_order}
+use Rattle.task_turns.proofs.CoveredLemmas.{home_there}
 use Rattle.task_turns.specs.Turn.{Sits}
 use Rattle.task_words.specs.StateView.{StateView}
 use Rattle.task_calls.proofs.hosts.start_call.Goals as goal
+
+pub start-requires-clause-there : goal.start-requires-clause-there
+start-requires-clause-there g c = home_there c.args.component.now c.args.callee c.requires.order.0 (g.W.View.view c.args.w.now).core c.requires.order.1 c.requires.there
 
 pub start-requires-clause-placed : goal.start-requires-clause-placed
 start-requires-clause-placed g c = (c.requires.order.1.order Unscripted).in_place.placed
