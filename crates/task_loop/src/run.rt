@@ -2,14 +2,14 @@ ghost use Rattle.std.specs.Prelude.{◌≡◌, ◌*◌, ◌+◌, ◌<◌, ◌≤
 ghost use Rattle.task_rules.specs.Outcome.{outcome_of_label};
 ghost use Rattle.task_turns.specs.Covered.{IsCovered};
 ghost use Rattle.task_turns.specs.Drive.{Drives, Drove};
+ghost use Rattle.task_turns.specs.Main.{Steps};
 ghost use Rattle.task_turns.specs.Turn.{IsAtTurn, IsSettled, PendsIn, Sits, Turned, Turns, given, goes_on, is_open, running_of, runs_in, setting_of, state_at};
 
 use crate::main_task::MainTask;
-use task_machine::{
-    CallLabel, Component, Label, LoopLabel, MainLabel, NoMemory, Outcome, Trap, Turn,
-};
+use task_calls::TaskError;
+use task_machine::{CallLabel, Component, Label, LoopLabel, MainLabel, NoMemory, Outcome, Trap, Turn};
 use task_store::{Access, StandingRun, Store};
-use task_turns::{Made, Trace, compute, is_idle, made_by_main, poll, step_run, take};
+use task_turns::{Made, MainStep, Trace, compute, is_idle, made_by_main, poll, step_run, take};
 
 /// A run of the event loop on a store.
 #[derive(Drop)]
@@ -57,6 +57,26 @@ fn outcome_of(label: Label) -> Option<Outcome>
 }
 
 // Lends the store to main for an op.
+fn ask_main<T, H, M: MainTask<T, H>>(
+    component: &Component,
+    store: &mut Store<T, H>,
+    main: &mut M,
+) -> Result<MainStep, TaskError>
+    requires covered { IsCovered component.now }
+    requires order { Sits component.now Turn.Main store.old.state.core }
+    requires suits { M.suits main.old component.now }
+    requires given { given store.old.state.core + 4 < 2 ^ 61 }
+    ensures stands { store.new.running ≡ store.old.running }
+    ensures script { M.script main.new ≡ M.script main.old }
+    ensures suits { OnOk result (M.suits main.new component.now) }
+    ensures current { OnOk result (running_of store.new.state ≡ running_of store.old.state) }
+    ensures ok { IfOk result (λ step. Steps component.now (M.script main.old) (M.part main.old) store.old.state.core step (M.part main.new) store.new.state.core) }
+{
+    let mut access = Access::new(store);
+    main.step(&mut access, component)
+}
+
+// Takes an op of main.
 fn step_main<T, H, M: MainTask<T, H>>(
     component: &Component,
     store: &mut Store<T, H>,
@@ -71,8 +91,7 @@ fn step_main<T, H, M: MainTask<T, H>>(
     ensures suits { OnOk result (M.suits main.new component.now) }
     ensures turns { IfOk result (λ made. (trap_on_idle : Bool) → Turns (setting_of component.now (M.script main.old) trap_on_idle) Turn.Main (M.part main.old) store.old.state made (M.part main.new) store.new.state) }
 {
-    let mut access = Access::new(store);
-    let Ok(step) = main.step(&mut access, component) else {
+    let Ok(step) = ask_main(component, store, main) else {
         return Err(NoMemory);
     };
     Ok(made_by_main(&store.state, step))
@@ -159,14 +178,7 @@ impl RunConcurrent {
             if let Some(outcome) = outcome_of(made.label) {
                 return Ok(outcome);
             }
-            added = compute(
-                component,
-                &mut store.state,
-                self.turn,
-                trace,
-                added + 1,
-                steps,
-            )?;
+            added = compute(component, &mut store.state, self.turn, trace, added + 1, steps)?;
         }
         if is_idle(&store.state, self.turn, self.trap_on_idle) {
             return Ok(Outcome::Idle);

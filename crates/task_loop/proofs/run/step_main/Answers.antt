@@ -2,8 +2,5 @@
 use Rattle.task_loop.proofs.run.step_main.Goals as goal
 use Rattle.task_turns.specs.Turn.{setting_of}
 
-pub step-requires-clause-order : goal.step-requires-clause-order
-step-requires-clause-order g c = rw c.new-access.ensures c.requires.at.order
-
 pub returns-clause-turns : goal.returns-clause-turns
-returns-clause-turns g c = λ b. c.made_by_main.ensures (setting_of c.args.component.now (g.M.MainTask.script c.args.main.now) b) (g.M.MainTask.part c.args.main.now) (g.M.MainTask.part c.step.new.self) c.args.store.now.state (rw c.new-access.ensures at c.in-Ok.ensures.ok)
+returns-clause-turns g c = λ b. c.made_by_main.ensures (setting_of c.args.component.now (g.M.MainTask.script c.args.main.now) b) (g.M.MainTask.part c.args.main.now) (g.M.MainTask.part c.ask_main.new.main) c.args.store.now.state c.in-Ok.ensures.ok
