@@ -7,7 +7,9 @@ ghost use Rattle.task_turns.specs.Turn.{IsAtTurn, IsSettled, PendsIn, Sits, Turn
 
 use crate::main_task::MainTask;
 use task_calls::TaskError;
-use task_machine::{CallLabel, Component, Label, LoopLabel, MainLabel, NoMemory, Outcome, Trap, Turn};
+use task_machine::{
+    CallLabel, Component, Label, LoopLabel, MainLabel, NoMemory, Outcome, Trap, Turn,
+};
 use task_store::{Access, StandingRun, Store};
 use task_turns::{Made, MainStep, Trace, compute, is_idle, made_by_main, poll, step_run, take};
 
@@ -178,7 +180,14 @@ impl RunConcurrent {
             if let Some(outcome) = outcome_of(made.label) {
                 return Ok(outcome);
             }
-            added = compute(component, &mut store.state, self.turn, trace, added + 1, steps)?;
+            added = compute(
+                component,
+                &mut store.state,
+                self.turn,
+                trace,
+                added + 1,
+                steps,
+            )?;
         }
         if is_idle(&store.state, self.turn, self.trap_on_idle) {
             return Ok(Outcome::Idle);
