@@ -1,6 +1,7 @@
 -- A component of one export, and a store in which its one instance was made.
-use Rattle.std.proofs.Common.{ap, arith, refl, ◌+◌, ◌<◌}
-use Rattle.std.specs.Prelude.{[], Option, Some, None, option_map, true, ℕ, ◌≡◌}
+use Rattle.std.proofs.Common.{ap, arith, refl, subst, sym, ◌+◌, ◌<◌, ◌∙◌}
+use Rattle.std.specs.Prelude.{[], IfSome, Ok, Option, Some, None, length, option_map, true, ℕ, ◌≡◌}
+use Rattle.task_machine.specs.Read.{instance_of}
 use Rattle.task_machine.proofs.SizeLemmas.{size-empty}
 use Rattle.task_machine.specs.Core.{Core, Unscripted, fresh}
 use Rattle.task_machine.specs.Maps.{empty, size}
@@ -15,7 +16,14 @@ use Rattle.task_rules.specs.MainOps as row
 use Rattle.task_rules.specs.MainOps.{main_started}
 use Rattle.task_rules.specs.Turns.{at_turn}
 use Rattle.task_turns.specs.Main.{Answers}
-use Rattle.task_turns.specs.Turn.{given, runs_in}
+use Rattle.task_turns.specs.Turn.{Sits, given, running_of, runs_in}
+use Rattle.task_turns.specs.Covered.{HasPlainExports}
+use Rattle.task_turns.proofs.CoveredLemmas.{codes_of, covered_of}
+use Rattle.task_turns.proofs.FreshLemmas.{given_fresh, sits_fresh}
+use Rattle.task_calls.specs.Calls.{Starts}
+use Rattle.task_machine.specs.declared.trap.Trap.{Trap}
+use Rattle.task_records.specs.Seen.{nothing}
+use Rattle.task_words.specs.StateView.{StateView, thread_of, with_core}
 use Rattle.std.specs.Prelude.{List}
 
 -- a start makes a thread and a group
@@ -32,3 +40,41 @@ answers_now c s v = record { part = refl; core = refl; step = (0, (row.Answer v,
 pub turn_of : (p : Turn) (n : ℕ) → runs_in p ≡ Some n → p ≡ turn.Run n
 turn_of (turn.Run k) n e = cc
 turn_of p n e = absurd (cc)
+
+-- the new store sits at main's turn
+pub opens : (c : Component) → HasPlainExports c → length c.instances ≡ 1 → (s : StateView) → s ≡ with_core (fresh 1 100000 1000000) nothing → Sits c turn.Main s.core
+opens c plain one s is = subst (λ (u : StateView). Sits c turn.Main u.core) (sym is) (sits_fresh c (covered_of c plain) (codes_of c plain) 1 100000 1000000 (omega (arith, one)))
+
+-- few numbers were given in it
+pub opens_given : (s : StateView) → s ≡ with_core (fresh 1 100000 1000000) nothing → given s.core ≡ 0
+opens_given s is = ap (λ (u : StateView). given u.core) is ∙ given_fresh 1 100000 1000000
+
+pub opens_current : (s : StateView) → s ≡ with_core (fresh 1 100000 1000000) nothing → running_of s ≡ None
+opens_current s is = ap (option_map (λ k. thread_of s k)) (ap (λ (u : StateView). u.current) is)
+
+-- the store after a start: two numbers more were given
+pub begun_given : (c : Component) (e : Callee) (words : List ℕ) (s t : StateView) (n : ℕ) (o : Option Trap) → Starts c e words s o (Ok n) t → given t.core ≡ given s.core + 2
+begun_given c e words s t n (Some why) k = let refused = k.0 in absurd (cc)
+begun_given c e words s t n None k = ap given k.1.core ∙ started_given c e words s.core
+
+none_still : {X : Type 0} (f g : X → ℕ) (a b : Option X) → b ≡ a → option_map f a ≡ None → option_map g b ≡ None
+none_still f g None None e none = refl
+none_still f g a (Some x) e none = absurd (cc)
+none_still f g (Some x) b e none = absurd (cc)
+
+-- no thread runs in it, where none did
+pub begun_current : (c : Component) (e : Callee) (words : List ℕ) (s t : StateView) (n : ℕ) (o : Option Trap) → running_of s ≡ None → Starts c e words s o (Ok n) t → running_of t ≡ None
+begun_current c e words s t n (Some why) none k = let refused = k.0 in absurd (cc)
+begun_current c e words s t n None none k = none_still (λ k. thread_of s k) (λ k. thread_of t k) s.current t.current k.1.current none
+
+-- ---- The thread that runs
+
+pub running_order : (c : Component) (p : Turn) (s : StateView) → running_of s ≡ runs_in p → Sits c p s.core → IfSome (running_of s) (λ n. Sits c (turn.Run n) s.core)
+running_order c p s current sits = go (running_of s) current
+  where
+    go : (o : Option ℕ) → o ≡ runs_in p → IfSome o (λ n. Sits c (turn.Run n) s.core)
+    go None e = tt
+    go (Some n) e = subst (λ (q : Turn). Sits c q s.core) (turn_of p n (sym e)) sits
+
+pub running_instance : (s : StateView) (n i : ℕ) → running_of s ≡ Some n → i ≡ instance_of n s.core → IfSome (running_of s) (λ n. instance_of n s.core ≡ i)
+running_instance s n i current e = subst (λ o. IfSome o (λ n. instance_of n s.core ≡ i)) (sym current) (sym e)

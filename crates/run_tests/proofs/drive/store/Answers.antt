@@ -1,15 +1,12 @@
--- One instance was made.
-use Rattle.std.proofs.Common.{ap, arith, ◌∙◌}
-use Rattle.task_machine.specs.Core.{Core}
-use Rattle.task_machine.specs.Maps.{size}
-use Rattle.task_records.specs.Seen.{nothing}
-use Rattle.task_store.proofs.FreshLemmas.{fresh_more, size_fresh}
-use Rattle.task_words.specs.StateView.{StateView, with_core}
+-- The new store sits at main's turn.
+use Rattle.run_tests.proofs.DriveLemmas.{opens, opens_current, opens_given}
 use Rattle.run_tests.proofs.drive.store.Goals as goal
 
-pub add_instance-requires : goal.add_instance-requires
-add_instance-requires g c =
-    let none = ap (λ (s : StateView). size s.core.instances) c.new-store.ensures.state ∙ size_fresh 0 100000 1000000 in omega (arith, none)
+pub returns-clause-order : goal.returns-clause-order
+returns-clause-order g c = opens c.args.component.now c.requires.exports c.requires.one c.new_store.result.state c.new_store.ensures
 
-pub returns : goal.returns
-returns g c = rw (c.in-Ok.ensures.ok, c.new-store.ensures.state) (ap (λ (u : Core). with_core u nothing) (fresh_more 0 100000 1000000))
+pub returns-clause-given : goal.returns-clause-given
+returns-clause-given g c = opens_given c.new_store.result.state c.new_store.ensures
+
+pub returns-clause-current : goal.returns-clause-current
+returns-clause-current g c = opens_current c.new_store.result.state c.new_store.ensures
