@@ -1,5 +1,5 @@
 //! The main: it doubles its word by one call, then adds one by another, and answers that.
-ghost use Rattle.std.specs.Prelude.{◌≡◌, ◌+◌, ◌<◌, ◌^◌, [], IfErr, IfOk, OnOk};
+ghost use Rattle.std.specs.Prelude.{◌≡◌, ◌+◌, ◌<◌, ◌^◌, [], IfErr, IfOk, None, OnOk};
 ghost use Rattle.task_machine.specs.Core.{Unscripted};
 ghost use Rattle.task_calls.specs.declared.error.TaskError.TheVariants as task_error;
 ghost use Rattle.task_turns.specs.Covered.{IsCovered};
@@ -44,6 +44,7 @@ fn start(
     requires covered { IsCovered component.now }
     requires order { Sits component.now Turn.Main access.old.store.now.state.core }
     requires takes { TakesOne component.now func }
+    requires current { running_of access.old.store.now.state ≡ None }
     requires given { given access.old.store.now.state.core + 4 < 2 ^ 61 }
     ensures same { access.new.store.ghost_name ≡ access.old.store.ghost_name }
     ensures stands { access.new.store.now.running ≡ access.old.store.now.running }

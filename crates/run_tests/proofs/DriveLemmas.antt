@@ -57,16 +57,6 @@ pub begun_given : (c : Component) (e : Callee) (words : List ℕ) (s t : StateVi
 begun_given c e words s t n (Some why) k = let refused = k.0 in absurd (cc)
 begun_given c e words s t n None k = ap given k.1.core ∙ started_given c e words s.core
 
-none_still : {X : Type 0} (f g : X → ℕ) (a b : Option X) → b ≡ a → option_map f a ≡ None → option_map g b ≡ None
-none_still f g None None e none = refl
-none_still f g a (Some x) e none = absurd (cc)
-none_still f g (Some x) b e none = absurd (cc)
-
--- no thread runs in it, where none did
-pub begun_current : (c : Component) (e : Callee) (words : List ℕ) (s t : StateView) (n : ℕ) (o : Option Trap) → running_of s ≡ None → Starts c e words s o (Ok n) t → running_of t ≡ None
-begun_current c e words s t n (Some why) none k = let refused = k.0 in absurd (cc)
-begun_current c e words s t n None none k = none_still (λ k. thread_of s k) (λ k. thread_of t k) s.current t.current k.1.current none
-
 -- ---- The thread that runs
 
 pub running_order : (c : Component) (p : Turn) (s : StateView) → running_of s ≡ runs_in p → Sits c p s.core → IfSome (running_of s) (λ n. Sits c (turn.Run n) s.core)

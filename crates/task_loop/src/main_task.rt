@@ -1,4 +1,4 @@
-ghost use Rattle.std.specs.Prelude.{◌≡◌, ◌+◌, ◌<◌, ◌^◌, IfErr, IfOk, List, OnOk};
+ghost use Rattle.std.specs.Prelude.{◌≡◌, ◌+◌, ◌<◌, ◌^◌, IfErr, IfOk, List, None, OnOk};
 ghost use Rattle.task_machine.specs.Core.{Main};
 ghost use Rattle.task_machine.specs.declared.component.Component.{Component};
 ghost use Rattle.task_machine.specs.declared.scenario.MainOpDef.{MainOpDef};
@@ -23,8 +23,8 @@ pub trait MainTask<T, H> {
     // What main needs of the component, as that the exports that a script names are there.
     ghost suits: { Self → Component → Type 0 };
 
-    /// Takes the next op, in a store in order, of a component that suits main, in which fewer than 2^61 - 4
-    /// numbers were given. The label of an op that is done is lawful, and store and main are as it
+    /// Takes the next op, in a store in order, of a component that suits main, in which no thread runs and
+    /// fewer than 2^61 - 4 numbers were given. The label of an op that is done is lawful, and store and main are as it
     /// leaves them; else they are as before. A run stands on the store as before. It answers no error
     /// but want of memory, after which nothing else is said of either.
     fn step(
@@ -35,6 +35,7 @@ pub trait MainTask<T, H> {
         requires covered { IsCovered component.now }
         requires order { Sits component.now Turn.Main access.old.store.now.state.core }
         requires suits { suits self.old component.now }
+        requires current { running_of access.old.store.now.state ≡ None }
         requires given { given access.old.store.now.state.core + 4 < 2 ^ 61 }
         ensures same { access.new.store.ghost_name ≡ access.old.store.ghost_name }
         ensures stands { access.new.store.now.running ≡ access.old.store.now.running }

@@ -67,6 +67,7 @@ fn ask_main<T, H, M: MainTask<T, H>>(
     requires covered { IsCovered component.now }
     requires order { Sits component.now Turn.Main store.old.state.core }
     requires suits { M.suits main.old component.now }
+    requires current { running_of store.old.state ≡ None }
     requires given { given store.old.state.core + 4 < 2 ^ 61 }
     ensures stands { store.new.running ≡ store.old.running }
     ensures script { M.script main.new ≡ M.script main.old }

@@ -1,4 +1,4 @@
-ghost use Rattle.std.specs.Prelude.{◌≡◌, ◌+◌, ◌<◌, ◌^◌, ◌-◌, ◌++◌, ◌∷◌, [], length, option_copied, IfOk, IfErr, IfSome, OnOk, OnErr, Some, slice_get, slice_set};
+ghost use Rattle.std.specs.Prelude.{◌≡◌, ◌+◌, ◌<◌, ◌^◌, ◌-◌, ◌++◌, ◌∷◌, [], length, option_copied, IfOk, IfErr, IfSome, None, OnOk, OnErr, Some, slice_get, slice_set};
 ghost use Rattle.task_machine.specs.declared.component.ExportDef.{ExportDef};
 ghost use Rattle.task_rules.specs.MainOps.{started_at};
 ghost use Rattle.task_rules.specs.Run.{main_opening};
@@ -131,6 +131,7 @@ fn make_start<T, H>(
 ) -> Result<MainStep, TaskError>
     requires covered { IsCovered component.now }
     requires order { Sits component.now Turn.Main access.old.store.now.state.core }
+    requires current { running_of access.old.store.now.state ≡ None }
     requires given { given access.old.store.now.state.core + 4 < 2 ^ 61 }
     requires op { slice_get main.old.ops.now main.old.at ≡ Some (main_op.Start func params.now) }
     requires there { (e : ExportDef) × ((export_at component.now (callee_of func) ≡ Some e) × (length params.now ≡ e.params)) }

@@ -1,7 +1,8 @@
 -- A start gives two numbers, and no thread runs by it.
 use Rattle.std.proofs.Common.{arith}
 use Rattle.task_machine.specs.declared.records.Turn.TheVariants as turn
-use Rattle.run_tests.proofs.DriveLemmas.{begun_current, begun_given}
+use Rattle.task_loop.proofs.StartLemmas.{start_current}
+use Rattle.run_tests.proofs.DriveLemmas.{begun_given}
 use Rattle.run_tests.proofs.drive.called.Goals as goal
 
 pub start_call_concurrent-requires-clause-order : goal.start_call_concurrent-requires-clause-order
@@ -14,4 +15,4 @@ pub returns-clause-given : goal.returns-clause-given
 returns-clause-given g c = let more = begun_given _ _ _ _ _ _ _ c.in-Ok.ensures.starts in let none = c.requires.given in omega (arith, more, none)
 
 pub returns-clause-current : goal.returns-clause-current
-returns-clause-current g c = begun_current _ _ _ _ _ _ _ c.requires.current c.in-Ok.ensures.starts
+returns-clause-current g c = start_current _ _ _ _ _ _ _ c.requires.current c.in-Ok.ensures.starts
