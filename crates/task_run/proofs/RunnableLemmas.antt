@@ -164,10 +164,10 @@ module _ (s : ScenarioText) (formed : IsWellFormed s) where
   slots_empty : (i j : ℕ) → slot_script (slot_at c i j) ≡ []
   slots_empty i j = go (slice_get c.instances i) (slice_get-map instance_def s.instances i)
     where
-      go : (o : Option InstanceDef) → o ≡ option_map instance_def (slice_get s.instances i) → slot_script (option_map_or (λ (d : InstanceDef). unwrap_or (slice_get d.slots j) slot.Empty) o slot.Empty) ≡ []
+      go : (o : Option InstanceDef) → o ≡ option_map instance_def (slice_get s.instances i) → slot_script (unwrap_or (option_and_then (λ (d : InstanceDef). slice_get d.slots j) o) slot.Empty) ≡ []
       go o e = by (slice_get s.instances i) o e
         where
-          by : (t : Option InstanceText) (o : Option InstanceDef) → o ≡ option_map instance_def t → slot_script (option_map_or (λ (d : InstanceDef). unwrap_or (slice_get d.slots j) slot.Empty) o slot.Empty) ≡ []
+          by : (t : Option InstanceText) (o : Option InstanceDef) → o ≡ option_map instance_def t → slot_script (unwrap_or (option_and_then (λ (d : InstanceDef). slice_get d.slots j) o) slot.Empty) ≡ []
           by None o e = rw e refl
           by (Some t) o e = rw e (empty_slot 16 j)
 
