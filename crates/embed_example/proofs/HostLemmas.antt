@@ -17,19 +17,20 @@ use Rattle.task_machine.specs.declared.trap.Trap.{Trap}
 use Rattle.task_machine.specs.Core.{Began, Core, State, Unscripted, fresh}
 use Rattle.task_machine.specs.Maps.{get, size}
 use Rattle.task_machine.specs.Write.{take_result}
-use Rattle.task_core.specs.declared.error.TaskError.TheVariants as task_error
-use Rattle.task_core.proofs.Laws.{size-fresh}
+use Rattle.task_calls.specs.Calls.{Finishes, Starts}
+use Rattle.task_calls.specs.declared.error.TaskError.TheVariants as task_error
+use Rattle.task_store.proofs.FreshLemmas.{size_fresh}
 use Rattle.task_rules.specs.MainOps as row
 use Rattle.task_rules.specs.MainOps.{finish_result, start_act, start_refusal, takes_words}
 use Rattle.task_rules.specs.Stalled.{Setting}
 use Rattle.task_rules.specs.Step.{OpenProgresses}
 use Rattle.task_rules.specs.Turns.{at_turn}
-use Rattle.task_loop.specs.declared.call.FuncCallConcurrent.{FuncCallConcurrent}
 use Rattle.futures.specs.declared.task.Poll.TheVariants.{Pending, Ready}
-use Rattle.task_loop.specs.Calls.{Finishes, Starts, callee_of}
-use Rattle.task_loop.specs.Drive.{Drives}
-use Rattle.task_loop.specs.Main.{Answers, Did, Pends, state_at}
-use Rattle.task_state.specs.StepView.{StepView}
+use Rattle.task_loop.specs.Calls.{callee_of}
+use Rattle.task_turns.specs.Drive.{Drives}
+use Rattle.task_turns.specs.Main.{Answers, Did, Pends}
+use Rattle.task_turns.specs.Turn.{running_of, state_at}
+use Rattle.task_words.specs.StateView.{StateView}
 
 -- ---- A start
 
@@ -41,12 +42,12 @@ takes_in (Some d) some h = ap (λ n. n == 1) (sym h)
 pub takes_one : (c : Component) (f : Func) → TakesOne c f → takes_words c (callee_of f) 1 ≡ true
 takes_one c f h = takes_in (export_at c (callee_of f)) h.0 h.1
 
-module _ (c : Component) (e : Callee) (words : List ℕ) (s t : StepView) (k : ℕ) where
-  started_in : (o : Option Trap) (call : FuncCallConcurrent) → Starts c e words s o (Ok call) t
-      → OpenProgresses (state_at s.core Unscripted turn.Main) (start_act c k e words s.core o) (label.Main (main_label.Start k call.thread)) (state_at t.core Unscripted turn.Main)
+module _ (c : Component) (e : Callee) (words : List ℕ) (s t : StateView) (k : ℕ) where
+  started_in : (o : Option Trap) (n : ℕ) → Starts c e words s o (Ok n) t
+      → OpenProgresses (state_at s.core Unscripted turn.Main) (start_act c k e words s.core o) (label.Main (main_label.Start k n)) (state_at t.core Unscripted turn.Main)
   unfolding at_turn
-  started_in None call h = (ap (λ n. label.Main (main_label.Start k n)) h.0, ap (λ (u : StepView). state_at u.core Unscripted turn.Main) h.1)
-  started_in (Some why) call h = absurd (let clash = h.0 in cc)
+  started_in None n h = (ap (λ i. label.Main (main_label.Start k i)) h.0, ap (λ (u : Core). state_at u Unscripted turn.Main) h.1.core)
+  started_in (Some why) n h = absurd (let clash = h.0 in cc)
 
   refused_in : (o : Option Trap) (why : Trap) → Starts c e words s o (Err (task_error.Trap why)) t
       → OpenProgresses (state_at s.core Unscripted turn.Main) (start_act c k e words s.core o) (label.Main (main_label.StartRefused why k)) (state_at t.core Unscripted turn.Main)
@@ -55,17 +56,17 @@ module _ (c : Component) (e : Callee) (words : List ℕ) (s t : StepView) (k : �
   refused_in (Some other) why h =
       let is = h.0 in
       let same : why ≡ other = cc in
-      (ap (λ w. label.Main (main_label.StartRefused w k)) same, ap (λ (u : StepView). state_at u.core Unscripted turn.Main) h.1)
+      (ap (λ w. label.Main (main_label.StartRefused w k)) same, ap (λ (u : Core). state_at u Unscripted turn.Main) h.1.core)
 
-  pub did_start : takes_words c e (length words) ≡ true → (call : FuncCallConcurrent) → Starts c e words s (start_refusal s.core) (Ok call) t → Did c [] Unscripted s.core (label.Main (main_label.Start k call.thread)) Unscripted t.core
-  did_start takes call h = record { op = tt; step = (k, (row.Start e words, (takes, started_in (start_refusal s.core) call h))) }
+  pub did_start : takes_words c e (length words) ≡ true → (n : ℕ) → Starts c e words s (start_refusal s.core) (Ok n) t → Did c [] Unscripted s.core (label.Main (main_label.Start k n)) Unscripted t.core
+  did_start takes n h = record { op = tt; step = (k, (row.Start e words, (takes, started_in (start_refusal s.core) n h))) }
 
   pub did_refuse : takes_words c e (length words) ≡ true → (why : Trap) → Starts c e words s (start_refusal s.core) (Err (task_error.Trap why)) t → Did c [] Unscripted s.core (label.Main (main_label.StartRefused why k)) Unscripted t.core
   did_refuse takes why h = record { op = tt; step = (k, (row.Start e words, (takes, refused_in (start_refusal s.core) why h))) }
 
 -- ---- The other ops
 
-module _ (c : Component) (s t : StepView) where
+module _ (c : Component) (s t : StateView) where
   finished_in : (n k v : ℕ) → get s.core.results n ≡ Some v → Did c [] Unscripted s.core (label.Main (main_label.Finish k v)) Unscripted (take_result n s.core)
   unfolding at_turn
   finished_in n k v there = record {
@@ -80,16 +81,16 @@ module _ (c : Component) (s t : StepView) where
   }
 
   pub did_finish : (n k v : ℕ) → Finishes n s (Ready v) t → Did c [] Unscripted s.core (label.Main (main_label.Finish k v)) Unscripted t.core
-  did_finish n k v h = subst (λ (u : StepView). Did c [] Unscripted s.core (label.Main (main_label.Finish k v)) Unscripted u.core) (sym h.1) (finished_in n k v h.0)
+  did_finish n k v h = subst (λ (u : StateView). Did c [] Unscripted s.core (label.Main (main_label.Finish k v)) Unscripted u.core) (sym h.1) (finished_in n k v h.0)
 
-  pub finish_keeps : (n v : ℕ) → Finishes n s (Ready v) t → t.running ≡ s.running
-  finish_keeps n v h = ap (λ (u : StepView). u.running) h.1
+  pub finish_keeps : (n v : ℕ) → Finishes n s (Ready v) t → running_of t ≡ running_of s
+  finish_keeps n v h = ap running_of h.1
 
   pub pends_in : (n : ℕ) → Finishes n s Pending t → Pends c [] Unscripted s.core Unscripted t.core
-  pends_in n h = record { part = refl; core = ap (λ (u : StepView). u.core) h.1; pends = refl }
+  pends_in n h = record { part = refl; core = ap (λ (u : StateView). u.core) h.1; pends = refl }
 
-  pub pending_keeps : (n : ℕ) → Finishes n s Pending t → t.running ≡ s.running
-  pending_keeps n h = ap (λ (u : StepView). u.running) h.1
+  pub pending_keeps : (n : ℕ) → Finishes n s Pending t → running_of t ≡ running_of s
+  pending_keeps n h = ap running_of h.1
 
 pub answers_now : (c : Component) (s : Core) (v : ℕ) → Answers c [] Unscripted s v Unscripted s
 unfolding at_turn
@@ -99,7 +100,7 @@ answers_now c s v = record { part = refl; core = refl; step = (0, (row.Answer v,
 
 -- its few instances can be counted
 pub is_few : (n : ℕ) (s : Core) → n ≤ 2 → s ≡ fresh n 100000 1000000 → size s.instances < 4294967295
-is_few n s few is = let count : size s.instances ≡ n = ap (λ (u : Core). size u.instances) is ∙ size-fresh n 100000 1000000 in omega (arith, count, few)
+is_few n s few is = let count : size s.instances ≡ n = ap (λ (u : Core). size u.instances) is ∙ size_fresh n 100000 1000000 in omega (arith, count, few)
 
 -- what was driven, with its setting, its first state and its trace before named otherwise
 pub driven : (y x : Setting) (s o : State) (before : List Label) (t : State) (after : List Label) (steps : ℕ) (outcome : Outcome) → y ≡ x → s ≡ o → before ≡ [] → Drives y s before t after steps outcome → Drives x o [] t after steps outcome

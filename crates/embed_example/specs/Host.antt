@@ -6,12 +6,12 @@ use Rattle.task_machine.specs.declared.component.InstanceDef.{InstanceDef}
 use Rattle.task_rules.specs.Scripts.{export_at}
 use Rattle.task_loop.specs.declared.call.Func.{Func}
 use Rattle.task_loop.specs.Calls.{callee_of}
-use Rattle.task_loop.specs.Fit.{IsPlainExport}
+use Rattle.task_turns.specs.Covered.{IsPlainExport}
 
 -- the export is there, and takes one word
 abbrev pub TakesOne : Component → Func → Type 0
 TakesOne c f = IsSome (export_at c (callee_of f)) × IfSome (export_at c (callee_of f)) (λ e. 1 ≡ e.params)
 
--- the instance has one export, of today's kind, which takes one word
+-- the instance has one export, of today's kind, which takes one word, and no slots
 abbrev pub HasOneExport : InstanceDef → Type 0
-HasOneExport d = (e : ExportDef) × ((d.exports ≡ e ∷ []) × (IsPlainExport e × (e.params ≡ 1)))
+HasOneExport d = (e : ExportDef) × ((d.exports ≡ e ∷ []) × (IsPlainExport e × ((e.params ≡ 1) × (d.slots ≡ []))))

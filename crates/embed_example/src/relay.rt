@@ -1,16 +1,16 @@
 //! The main: it doubles its word by one call, then adds one by another, and answers that.
-ghost use Rattle.std.specs.Prelude.{◌≡◌, ◌+◌, ◌<◌, ◌^◌, [], IfErr, IfOk, OnOk};
+ghost use Rattle.std.specs.Prelude.{◌≡◌, ◌+◌, ◌<◌, ◌^◌, [], IfErr, IfOk, None, OnOk};
 ghost use Rattle.task_machine.specs.Core.{Unscripted};
-ghost use Rattle.task_core.specs.declared.error.TaskError.TheVariants as task_error;
-ghost use Rattle.task_loop.specs.Fit.{Fits, HasPlainExports, given};
-ghost use Rattle.task_loop.specs.Main.{Steps};
-ghost use Rattle.task_state.specs.State.{running_of};
+ghost use Rattle.task_calls.specs.declared.error.TaskError.TheVariants as task_error;
+ghost use Rattle.task_turns.specs.Covered.{IsCovered};
+ghost use Rattle.task_turns.specs.Main.{Steps};
+ghost use Rattle.task_turns.specs.Turn.{Sits, given, running_of};
 ghost use Rattle.embed_example.specs.Host.{TakesOne};
 
 use crate::parts::{DOUBLE, NEXT};
 use futures::task::Poll;
 use task_loop::{Component, Func, FuncCallConcurrent, Label, MainStep, MainTask, TaskError};
-use task_machine::MainLabel;
+use task_machine::{MainLabel, Turn};
 use task_store::{Access, Whole};
 
 /// Where main is.
@@ -41,13 +41,14 @@ fn start(
     component: &Component,
     func: Func,
 ) -> Result<MainStep, TaskError>
-    requires exports { HasPlainExports component.now }
-    requires fits { Fits component.now access.old.store.now.state.core }
+    requires covered { IsCovered component.now }
+    requires order { Sits component.now Turn.Main access.old.store.now.state.core }
     requires takes { TakesOne component.now func }
+    requires current { running_of access.old.store.now.state ≡ None }
     requires given { given access.old.store.now.state.core + 4 < 2 ^ 61 }
     ensures same { access.new.store.ghost_name ≡ access.old.store.ghost_name }
+    ensures stands { access.new.store.now.running ≡ access.old.store.now.running }
     ensures current { OnOk result (running_of access.new.store.now.state ≡ running_of access.old.store.now.state) }
-    ensures fits { OnOk result (Fits component.now access.new.store.now.state.core) }
     ensures ok { IfOk result (λ step. Steps component.now [] Unscripted access.old.store.now.state.core step Unscripted access.new.store.now.state.core) }
     ensures err { IfErr result (λ e. e ≡ task_error.NoMemory) }
 {

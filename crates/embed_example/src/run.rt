@@ -2,11 +2,11 @@
 ghost use Rattle.std.specs.Prelude.{◌≡◌, [], length, true, false, IfOk};
 ghost use Rattle.task_machine.specs.Core.{State, Unscripted, fresh};
 ghost use Rattle.task_machine.specs.declared.records.Turn.TheVariants as turn;
-ghost use Rattle.task_loop.specs.Drive.{Drives};
-ghost use Rattle.task_loop.specs.Fit.{HasPlainExports};
-ghost use Rattle.task_loop.specs.Main.{state_at};
-ghost use Rattle.task_loop.specs.Turn.{setting_of};
-ghost use Rattle.task_core.specs.StateView.{nothing, with_core};
+ghost use Rattle.task_records.specs.Seen.{nothing};
+ghost use Rattle.task_turns.specs.Covered.{HasPlainExports};
+ghost use Rattle.task_turns.specs.Drive.{Drives};
+ghost use Rattle.task_turns.specs.Turn.{setting_of, state_at};
+ghost use Rattle.task_words.specs.StateView.{with_core};
 ghost use Rattle.embed_example.specs.Host.{TakesOne};
 
 use crate::parts::{DOUBLE, NEXT};

@@ -1,58 +1,70 @@
 -- A component of one export, and a store in which its one instance was made.
-use Rattle.std.proofs.Common.{ap, arith, inl, inr, refl, subst, sym, ◌∙◌, ◌<◌, ◌≤◌}
-use Rattle.std.proofs.lemmas.Option.{slice_get_cases, slice_get_past}
-use Rattle.std.specs.Prelude.{List, None, [], length, true, is_some, slice_get, ℕ, ◌≡◌}
+use Rattle.std.proofs.Common.{ap, arith, refl, subst, sym, ◌+◌, ◌<◌, ◌∙◌}
+use Rattle.std.specs.Prelude.{[], IfSome, Ok, Option, Some, None, length, option_map, true, ℕ, ◌≡◌}
+use Rattle.task_machine.specs.Read.{instance_of}
+use Rattle.task_machine.proofs.SizeLemmas.{size-empty}
+use Rattle.task_machine.specs.Core.{Core, Unscripted, fresh}
+use Rattle.task_machine.specs.Maps.{empty, size}
+use Rattle.task_machine.specs.Moves.{put_high}
+use Rattle.task_machine.specs.Write.{add_call, add_group, add_thread, on_thread, push_high, set_place}
+use Rattle.task_machine.specs.declared.component.Callee.{Callee}
 use Rattle.task_machine.specs.declared.component.Component.{Component}
-use Rattle.task_machine.specs.declared.component.InstanceDef.{InstanceDef}
-use Rattle.task_machine.specs.Core.{Core, fresh, untouched}
-use Rattle.task_machine.specs.Maps.{Records, empty, get, get-empty, insert, size}
-use Rattle.task_machine.specs.Core.{Unscripted}
-use Rattle.task_machine.specs.declared.records.Call.{Call}
-use Rattle.task_machine.specs.declared.records.Instance.{Instance}
-use Rattle.task_machine.specs.declared.records.Thread.{Thread}
-use Rattle.task_machine.proofs.MapLemmas.{get-insert_other, get-insert_same}
-use Rattle.task_core.specs.StateView.{with_instance}
+use Rattle.task_machine.specs.declared.records.Turn.{Turn}
+use Rattle.task_machine.specs.declared.records.Turn.TheVariants as turn
+use Rattle.task_rules.specs.Calls.{call_made}
 use Rattle.task_rules.specs.MainOps as row
+use Rattle.task_rules.specs.MainOps.{main_started}
 use Rattle.task_rules.specs.Turns.{at_turn}
-use Rattle.task_simple.proofs.CaseLemmas.{either}
-use Rattle.task_loop.specs.Fit.{Fits, given}
-use Rattle.task_loop.specs.Main.{Answers}
+use Rattle.task_turns.specs.Main.{Answers}
+use Rattle.task_turns.specs.Turn.{Sits, given, running_of, runs_in}
+use Rattle.task_turns.specs.Covered.{HasPlainExports}
+use Rattle.task_turns.proofs.CoveredLemmas.{codes_of, covered_of}
+use Rattle.task_turns.proofs.FreshLemmas.{given_fresh, sits_fresh}
+use Rattle.task_calls.specs.Calls.{Starts}
+use Rattle.task_machine.specs.declared.trap.Trap.{Trap}
+use Rattle.task_records.specs.Seen.{nothing}
+use Rattle.task_words.specs.StateView.{StateView, thread_of, with_core}
+use Rattle.std.specs.Prelude.{List}
 
-there_at : {X : Type 0} (xs : List X) (i : ℕ) → i < length xs → is_some (slice_get xs i) ≡ true
-there_at xs i within =
-    elim (slice_get_cases xs i).1 [
-      | inl w ↦ ap is_some w.2
-      | inr w ↦ let past = w.0 in absurd (omega arith)
-    ]
-
-module _ (xs : List InstanceDef) (one : length xs ≡ 1) (m : Records Instance) (r : Instance) (nothing : (q : ℕ) → get m q ≡ None) where
-  instances_at : (i : ℕ) → is_some (get (insert m 0 r) i) ≡ is_some (slice_get xs i)
-  instances_at i =
-      either i 0
-      (λ e. let within : i < length xs = omega (arith, one) in ap is_some (ap (get (insert m 0 r)) e ∙ get-insert_same m 0 r) ∙ sym (there_at xs i within))
-      (λ ne. let past : length xs ≤ i = omega (arith, one) in ap is_some (get-insert_other m 0 r i ne ∙ nothing i) ∙ sym (ap is_some (slice_get_past xs i past)))
-
--- no call is there
-fits_opened : (c : Component) → length c.instances ≡ 1 → Fits c (with_instance (fresh 0 100000 1000000))
-unfolding with_instance fresh size empty
-fits_opened c one = record {
-  instances = instances_at c.instances one empty untouched get-empty;
-  calls = λ k x found. absurd (let none = get-empty {X = Call} k in cc);
-  threads = λ n t found. absurd (let none = get-empty {X = Thread} n in cc);
-}
-
-pub fits_one : (s : Core) → s ≡ with_instance (fresh 0 100000 1000000) → (c : Component) → length c.instances ≡ 1 → Fits c s
-fits_one s is c one = subst (Fits c) (sym is) (fits_opened c one)
-
-pub given_one : (s : Core) → s ≡ with_instance (fresh 0 100000 1000000) → given s ≡ 0
-unfolding with_instance fresh
-given_one s is = ap given is
+-- a start makes a thread and a group
+pub started_given : (c : Component) (e : Callee) (words : List ℕ) (s : Core) → given (main_started c e words s) ≡ given s + 2
+unfolding main_started put_high push_high set_place on_thread call_made add_thread add_call add_group
+started_given c e words s = omega arith
 
 -- a main that is no script may answer
 pub answers_now : (c : Component) (s : Core) (v : ℕ) → Answers c [] Unscripted s v Unscripted s
 unfolding at_turn
 answers_now c s v = record { part = refl; core = refl; step = (0, (row.Answer v, (refl, (refl, refl)))) }
 
-pub small : (s : Core) → s ≡ fresh 0 100000 1000000 → size s.instances < 4294967295
-unfolding fresh size empty
-small s is = let none : size s.instances ≡ 0 = ap (λ (u : Core). size u.instances) is in omega (arith, none)
+-- a turn in which a thread runs is its
+pub turn_of : (p : Turn) (n : ℕ) → runs_in p ≡ Some n → p ≡ turn.Run n
+turn_of (turn.Run k) n e = cc
+turn_of p n e = absurd (cc)
+
+-- the new store sits at main's turn
+pub opens : (c : Component) → HasPlainExports c → length c.instances ≡ 1 → (s : StateView) → s ≡ with_core (fresh 1 100000 1000000) nothing → Sits c turn.Main s.core
+opens c plain one s is = subst (λ (u : StateView). Sits c turn.Main u.core) (sym is) (sits_fresh c (covered_of c plain) (codes_of c plain) 1 100000 1000000 (omega (arith, one)))
+
+-- few numbers were given in it
+pub opens_given : (s : StateView) → s ≡ with_core (fresh 1 100000 1000000) nothing → given s.core ≡ 0
+opens_given s is = ap (λ (u : StateView). given u.core) is ∙ given_fresh 1 100000 1000000
+
+pub opens_current : (s : StateView) → s ≡ with_core (fresh 1 100000 1000000) nothing → running_of s ≡ None
+opens_current s is = ap (option_map (λ k. thread_of s k)) (ap (λ (u : StateView). u.current) is)
+
+-- the store after a start: two numbers more were given
+pub begun_given : (c : Component) (e : Callee) (words : List ℕ) (s t : StateView) (n : ℕ) (o : Option Trap) → Starts c e words s o (Ok n) t → given t.core ≡ given s.core + 2
+begun_given c e words s t n (Some why) k = let refused = k.0 in absurd (cc)
+begun_given c e words s t n None k = ap given k.1.core ∙ started_given c e words s.core
+
+-- ---- The thread that runs
+
+pub running_order : (c : Component) (p : Turn) (s : StateView) → running_of s ≡ runs_in p → Sits c p s.core → IfSome (running_of s) (λ n. Sits c (turn.Run n) s.core)
+running_order c p s current sits = go (running_of s) current
+  where
+    go : (o : Option ℕ) → o ≡ runs_in p → IfSome o (λ n. Sits c (turn.Run n) s.core)
+    go None e = tt
+    go (Some n) e = subst (λ (q : Turn). Sits c q s.core) (turn_of p n (sym e)) sits
+
+pub running_instance : (s : StateView) (n i : ℕ) → running_of s ≡ Some n → i ≡ instance_of n s.core → IfSome (running_of s) (λ n. instance_of n s.core ≡ i)
+running_instance s n i current e = subst (λ o. IfSome o (λ n. instance_of n s.core ≡ i)) (sym current) (sym e)

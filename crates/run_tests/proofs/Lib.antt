@@ -1,2 +1,1 @@
-mod DriveLemmas
-mod StateLemmas
+pub mod DriveLemmas

@@ -1,10 +1,12 @@
 ghost use Rattle.std.specs.Prelude.{◌≡◌, ◌≤◌, [], true, IfOk, OnOk, None, length, IsSome, IfSome};
 ghost use Rattle.std.specs.List.{list_all};
-ghost use Rattle.task_machine.specs.Core.{Main, Unscripted};
+ghost use Rattle.task_machine.specs.Core.{Main, Unscripted, fresh};
+ghost use Rattle.task_records.specs.Seen.{nothing};
 ghost use Rattle.task_rules.specs.Scripts.{export_at};
 ghost use Rattle.task_loop.specs.Calls.{callee_of};
-ghost use Rattle.task_loop.specs.Fit.{HasPlainExports, Fits, given, is_plain_op};
-ghost use Rattle.task_state.specs.State.{running_of};
+ghost use Rattle.task_turns.specs.Covered.{HasPlainExports, IsCovered, is_covered_op};
+ghost use Rattle.task_turns.specs.Turn.{Sits, given, running_of};
+ghost use Rattle.task_words.specs.StateView.{with_core};
 
 use futures::task::Poll;
 use std::alloc::{AllocError, Global};
@@ -13,8 +15,9 @@ use task_loop::{
     Component, ExportDef, Func, FuncCallConcurrent, Instance, InstanceDef, Label, MainStep,
     MainTask, Op, Operand, Outcome, TaskError, Trace, run_concurrent,
 };
-use task_machine::{DataOp, ExportKind, LoopLabel, MainLabel, NoMemory, Seq, TaskOp, Trap};
+use task_machine::{DataOp, ExportKind, LoopLabel, MainLabel, NoMemory, Seq, TaskOp, Trap, Turn};
 use task_store::{Access, Store, Whole};
+use task_words::{ThreadWords, View};
 
 const CALLEE: Func = Func {
     instance: Instance { index: 0 },
@@ -23,7 +26,7 @@ const CALLEE: Func = Func {
 
 // Adds 2 to the first parameter, by way of the instance's words, and returns it.
 fn script(alloc: Global) -> Result<Seq<Op>, AllocError>
-    ensures plain { IfOk result (λ ops. list_all is_plain_op ops ≡ true) }
+    ensures plain { IfOk result (λ ops. list_all is_covered_op ops ≡ true) }
     ensures short { IfOk result (λ ops. length ops ≤ 4096) }
 {
     let value = Operand::Register(2);
@@ -80,6 +83,7 @@ fn made_component(alloc: Global) -> Result<Component, AllocError>
 
 fn component(rt: &impl Abort, alloc: Global) -> Component
     ensures exports { HasPlainExports result }
+    ensures covered { IsCovered result }
     ensures there { IsSome (export_at result (callee_of CALLEE)) }
     ensures params { IfSome (export_at result (callee_of CALLEE)) (λ e. 1 ≡ e.params) }
     ensures one { length result.instances ≡ 1 }
@@ -90,11 +94,9 @@ fn component(rt: &impl Abort, alloc: Global) -> Component
     }
 }
 
-// A store with that component's one instance.
-fn store(rt: &impl Abort, alloc: Global) -> Store<(), ()>
-    ensures fits { (c : Component) → length c.instances ≡ 1 → Fits c result.state.core }
-    ensures given { given result.state.core ≡ 0 }
-    ensures current { running_of result.state ≡ None }
+// A new store with one instance.
+fn new_store(rt: &impl Abort, alloc: Global) -> Store<(), ()>
+    ensures { result.state ≡ with_core (fresh 1 100000 1000000) nothing }
 {
     let mut store: Store<(), ()> = Store::new(alloc, (), true, 1);
     match store.add_instance() {
@@ -103,15 +105,27 @@ fn store(rt: &impl Abort, alloc: Global) -> Store<(), ()>
     }
 }
 
+// A store with that component's one instance.
+fn store(rt: &impl Abort, alloc: Global, component: &Component) -> Store<(), ()>
+    requires exports { HasPlainExports component.now }
+    requires one { length component.now.instances ≡ 1 }
+    ensures order { Sits component.now Turn.Main result.state.core }
+    ensures given { given result.state.core ≡ 0 }
+    ensures current { running_of result.state ≡ None }
+{
+    let _component = component;
+    new_store(rt, alloc)
+}
+
 // A call of that export with 7, in a store in which nothing was made but the instance.
 fn called(rt: &impl Abort, component: &Component, store: &mut Store<(), ()>) -> FuncCallConcurrent
-    requires exports { HasPlainExports component.now }
+    requires covered { IsCovered component.now }
     requires there { IsSome (export_at component.now (callee_of CALLEE)) }
     requires params { IfSome (export_at component.now (callee_of CALLEE)) (λ e. 1 ≡ e.params) }
-    requires fits { Fits component.now store.old.state.core }
+    requires order { Sits component.now Turn.Main store.old.state.core }
     requires given { given store.old.state.core ≡ 0 }
     requires current { running_of store.old.state ≡ None }
-    ensures fits { Fits component.now store.new.state.core }
+    ensures order { Sits component.now Turn.Main store.new.state.core }
     ensures given { given store.new.state.core ≡ 2 }
     ensures current { running_of store.new.state ≡ None }
 {
@@ -157,7 +171,7 @@ fn is_recursive(store: &mut Store<(), ()>) -> bool
 fn a_call_runs_while_main_waits(rt: HostRuntime) {
     let component = component(&rt, rt.alloc());
     assert!(rt; CALLEE.param_count(&component) == 1);
-    let mut store = store(&rt, rt.alloc());
+    let mut store = store(&rt, rt.alloc(), &component);
     let mut call = called(&rt, &component, &mut store);
     assert!(rt; call.thread() == 1);
     let Ok(mut run) = run_concurrent(&mut store, false) else {
@@ -182,7 +196,7 @@ fn ran(
     answer: Option<u64>,
 ) -> (Option<Label>, Result<Outcome, NoMemory>) {
     let component = component(rt, alloc);
-    let mut store = store(rt, alloc);
+    let mut store = store(rt, alloc, &component);
     let Ok(mut run) = run_concurrent(&mut store, true) else {
         panic!(rt; "a run")
     };
@@ -206,7 +220,7 @@ fn a_run_ends_where_main_answers_or_nothing_goes_on(rt: HostRuntime) {
 // What the return of a thread that has just begun comes to, with this type.
 fn returned(rt: &impl Abort, alloc: Global, ty: u32) -> Result<(), TaskError> {
     let component = component(rt, alloc);
-    let mut store = store(rt, alloc);
+    let mut store = store(rt, alloc, &component);
     called(rt, &component, &mut store);
     let Ok(mut run) = run_concurrent(&mut store, true) else {
         panic!(rt; "a run")
@@ -217,12 +231,11 @@ fn returned(rt: &impl Abort, alloc: Global, ty: u32) -> Result<(), TaskError> {
     let Ok(Outcome::OutOfSteps) = outcome else {
         panic!(rt; "a thread that runs")
     };
-    store.state.is_whole();
-    let Some(running) = store.state.running() else {
+    let Some(thread) = store.state.current() else {
         panic!(rt; "a thread")
     };
     let instance = Instance {
-        index: running.callee.instance,
+        index: store.state.instance_of(thread),
     };
     instance.task_return(&component, &mut store, ty, 0, 0, 7)
 }

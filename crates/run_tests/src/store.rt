@@ -17,12 +17,12 @@ fn a_store_has_its_limits(rt: HostRuntime) {
 #[test]
 fn a_table_has_the_capacity_of_its_store(rt: HostRuntime) {
     let mut store: Store<u8, u8> = Store::new(rt.alloc(), 5, true, 1);
-    assert!(rt; store.given() == 0 && store.state.is_drained());
+    assert!(rt; store.given() == 0);
     store.set_table_capacity(4);
     let Some(table) = store.concurrent_resource_table() else {
         panic!(rt; "a table")
     };
-    assert!(rt; table.max_capacity() == 4);
+    assert!(rt; table.max_capacity == 4 && table.len == 0);
 }
 
 #[test]
@@ -34,8 +34,12 @@ fn a_store_without_concurrency_has_no_table(rt: HostRuntime) {
 #[test]
 fn access_lends_the_store(rt: HostRuntime) {
     let mut store = store(rt.alloc(), true);
-    store.set_running(true);
+    let Ok(run) = store.begin_run() else {
+        panic!(rt; "a run")
+    };
     assert!(rt; store.running() && !store.trapped());
+    store.end_run(run);
+    assert!(rt; !store.running());
     let mut access: Access<'_, u8, Whole, u8> = Access::new(&mut store);
     access.as_context_mut().set_trapped();
     assert!(rt; access.as_context().trapped());

@@ -1,5 +1,5 @@
 ghost use Rattle.std.specs.Prelude.{◌≡◌, ◌≢◌, ◌≤◌, ◌↔◌, IsTrue, IfOk, OnOk, OnErr, Err};
-ghost use Rattle.task_handles.specs.Handles.{no_handles, held_by, live_count};
+ghost use Rattle.task_handles.specs.Handles.{IsWhole, no_handles, held_by, live_count, next_handle};
 ghost use Rattle.task_handles.specs.Counted.{Counts, CountsHandle, Inserts, Removes, Unchanged};
 ghost use Rattle.task_handles.specs.Held.{guest_subtask, host_subtask, waitable_set, subtask_of, waitable_of, set_of};
 
@@ -94,6 +94,21 @@ impl HandleTable {
     {
         let kind = HandleKind::Set;
         self.slots.insert_counted(counter, Held { kind, rep })
+    }
+
+    /// What a handle names, if it is live.
+    pub fn get(&self, handle: u32) -> Option<Held>
+        ensures { result ≡ held_by self.now handle }
+    {
+        self.slots.get(handle)
+    }
+
+    /// The handle that the next insert gives.
+    pub fn next(&self) -> u32
+        ensures handle { result ≡ next_handle self.now }
+        ensures whole { IsWhole self.now }
+    {
+        self.slots.next()
     }
 
     /// The subtask that a handle names, and whether it is a host's.

@@ -62,6 +62,17 @@ impl<T: Copy> Slots<T> {
         self.slots.len() == self.freed as usize
     }
 
+    // The handle that the next insert gives.
+    pub fn next(&self) -> u32
+        ensures handle { result ≡ next_handle self.now }
+        ensures whole { IsWhole self.now }
+    {
+        if self.freed == 0 {
+            return self.slots.len() as u32 + 1;
+        }
+        self.last_freed
+    }
+
     // A new live handle: the one freed last, else the next.
     pub fn insert(&mut self, value: T) -> Result<u32, AllocError>
         requires { live_count self.old < MAX_HANDLES }

@@ -1,5 +1,5 @@
 ghost use Rattle.std.specs.Prelude.{◌≡◌, ◌≢◌, ◌≤◌, ◌↔◌, IfOk, OnOk, OnErr, Err};
-ghost use Rattle.task_handles.specs.Handles.{no_handles, held_by};
+ghost use Rattle.task_handles.specs.Handles.{IsWhole, no_handles, held_by, next_handle};
 ghost use Rattle.task_handles.specs.Counted.{Counts, CountsHandle, Inserts, Removes, Unchanged};
 ghost use Rattle.task_handles.specs.Held.{thread_of};
 
@@ -55,6 +55,21 @@ impl ThreadHandleTable {
         ensures err { OnErr result (Unchanged self.old self.new counter.old counter.new) }
     {
         self.slots.insert_counted(counter, rep)
+    }
+
+    /// What a handle names, if it is live.
+    pub fn get(&self, handle: u32) -> Option<Rep>
+        ensures { result ≡ held_by self.now handle }
+    {
+        self.slots.get(handle)
+    }
+
+    /// The handle that the next insert gives.
+    pub fn next(&self) -> u32
+        ensures handle { result ≡ next_handle self.now }
+        ensures whole { IsWhole self.now }
+    {
+        self.slots.next()
     }
 
     /// The thread that a handle names.

@@ -71,7 +71,7 @@ module _ (a : Scene) where
   pub telling_came : (w : Word) (s : Core) → Allowed a w s → (k : ℕ) → TellingCame a s k (telling_of k s) (telling_of k (after_word w s))
   unfolding add_call add_group add_set add_thread add_work count_work free_handle free_thread_handle give_handle give_result give_thread_handle on_call on_instance on_thread on_work push_high remove_call remove_group remove_set remove_thread remove_work set_backpressure set_cancel_delivered set_cancelled set_course set_do_not_enter set_do_not_suspend set_end set_event set_exited set_how_far set_join set_own_event set_phase set_position set_register set_result set_saved_callee set_saved_own set_script set_stage set_started set_starting_published set_subtask_handle set_thread_handle set_trapped set_uninteresting set_word take_result call_made with_handle with_thread_handle work_queued poll_pends
   telling_came (MakeCall f e x g group words) s ok k =
-      after_insert (CallTells s k) s.calls _ k (λ o. Same refl) _ (λ at. Made f g at ok.1.1.1.1 refl)
+      after_insert (CallTells s k) s.calls _ k (λ o. Same refl) _ (λ at. Made f g at ok.1.1.1.1.0 refl)
   telling_came (RemoveCall j) s ok k = after_remove (CallTells s k) s.calls j k (λ o. Same refl) (λ at. Gone refl (rw at ok))
   telling_came (SetCallEvent j e) s ok k = telling_changed j _ s k (λ c. TellsNow (telling c) e refl ok refl)
   telling_came (EndCall j x) s ok k = telling_changed j _ s k (λ c. EndsNow (telling c) x refl ok (ap (λ r. Some r) (ending_is x c)))

@@ -30,3 +30,4 @@ pub mod NamedCalls
 pub mod AwaitedCalls
 pub mod NamedWorks
 pub mod SyncWorks
+pub mod LackLemmas

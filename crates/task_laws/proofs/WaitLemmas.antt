@@ -15,11 +15,11 @@ of_word i x w s h = record { made = h.made; home = h.home }
 
 -- ---- Threads
 
-abbrev set_at_place : Option Place → Option ℕ
+abbrev pub set_at_place : Option Place → Option ℕ
 set_at_place o = option_and_then (λ p. set_of_place p) o
 
 -- the thread runs or was taken, and has the set, or has a delivery for it
-abbrev Brings : Scene → ℕ → ℕ → Type 0
+abbrev pub Brings : Scene → ℕ → ℕ → Type 0
 Brings a n x = IsRunner a n × (HasSet a n x ⊎ (set_at_place (place_of n a.base) ≡ Some x))
 
 put_set : (s : Core) (n : ℕ) (w : Why) → MayPut n w s → IfSome (set_of_why w) (λ x. set_at_place (place_of n s) ≡ Some x)
@@ -64,14 +64,14 @@ shifted_set may x o p c h = grind arith
 turned_set : (a : Scene) (s t : Core) (n x : ℕ) (o p : Option Place) → Turned a s t n o p → set_at_place p ≡ Some x → ⊥
 turned_set a s t n x o p c h = grind arith
 
-place_set : (a : Scene) (s t : Core) (n x : ℕ) (p : Option Place) → Came a s t n (place_of n s) p → set_at_place p ≡ Some x →
+pub place_set : (a : Scene) (s t : Core) (n x : ℕ) (p : Option Place) → Came a s t n (place_of n s) p → set_at_place p ≡ Some x →
     (set_at_place (place_of n s) ≡ Some x) ⊎ Brings a n x
 place_set a s t n x p (Shifts c) h =
     ⊎_elim (λ e. inl e) (λ e. stand_set a s n x e.0 e.1.0 e.1.1) (shifted_set (MayStand a s n) x (place_of n s) p c h)
 place_set a s t n x p (Comes r ok e there) h = let is : set_of_place r ≡ Some x = cc in inr (rw is at (move_set a s n r ok))
 place_set a s t n x p (Turns c) h = absurd (turned_set a s t n x (place_of n s) p c h)
 
-op_set : (a : Scene) (w : Word) (s : Core) → Allowed a w s → (n x : ℕ) → set_of_op (how_far_of n (after_word w s)) ≡ Some x →
+pub op_set : (a : Scene) (w : Word) (s : Core) → Allowed a w s → (n x : ℕ) → set_of_op (how_far_of n (after_word w s)) ≡ Some x →
     (set_of_op (how_far_of n s) ≡ Some x) ⊎ Brings a n x
 op_set a w s ok n x h =
     ⊎_elim (λ e. inl e) (λ g. inr (rw g.1.1 at (come_set a s n g.0 g.1.0))) (op_came (λ g. set_of_op g) x w s ok n refl h)

@@ -1,18 +1,18 @@
-ghost use Rattle.std.specs.Prelude.{◌≡◌, ◌<◌, ◌≤◌, ◌^◌, length, IsSome, IfSome};
+ghost use Rattle.std.specs.Prelude.{◌≡◌, ◌<◌, ◌^◌, IfSome, IsSome, length};
+ghost use Rattle.task_calls.specs.Calls.{Finishes, Starts};
+ghost use Rattle.task_loop.specs.Calls.{callee_of, number_of_start};
+ghost use Rattle.task_machine.specs.declared.records.Turn.{Turn};
 ghost use Rattle.task_rules.specs.MainOps.{start_refusal};
 ghost use Rattle.task_rules.specs.Scripts.{export_at};
-ghost use Rattle.task_machine.specs.Write.{set_trapped};
-ghost use Rattle.task_core.specs.StateView.{KeepsTags};
-ghost use Rattle.task_state.specs.State.{Becomes, step_view};
-ghost use Rattle.task_loop.specs.Fit.{HasPlainExports, Fits, given};
-ghost use Rattle.task_loop.specs.Calls.{callee_of, Starts, Finishes};
+ghost use Rattle.task_turns.specs.Covered.{IsCovered};
+ghost use Rattle.task_turns.specs.Turn.{Sits, given};
 
-use crate::component::export_def;
 use crate::instance::Instance;
 use futures::task::Poll;
-use task_core::TaskError;
-use task_machine::{Callee, Component, Trap};
+use task_calls::{TaskError, finish_call, start_call};
+use task_machine::{Callee, Component};
 use task_store::Store;
+use task_turns::export_def;
 
 /// Names an export by its instance and its place there, from 0.
 #[derive(Clone, Copy)]
@@ -34,16 +34,6 @@ impl FuncCallConcurrent {
     {
         self.thread
     }
-}
-
-// The start is refused, and the store is trapped.
-fn refuse<T, H>(store: &mut Store<T, H>, why: Trap) -> TaskError
-    ensures error { result ≡ TaskError.Trap why }
-    ensures state { Becomes (set_trapped store.old.state.core) store.old.state store.new.state }
-    ensures rest { store.new ≡ record store.old { state = store.new.state } }
-{
-    store.set_trapped();
-    TaskError::Trap(why)
 }
 
 impl Func {
@@ -77,30 +67,18 @@ impl Func {
         store: &mut Store<T, H>,
         params: &[u64],
     ) -> Result<FuncCallConcurrent, TaskError>
-        requires exports { HasPlainExports component.now }
+        requires covered { IsCovered component.now }
         requires there { IsSome (export_at component.now (callee_of self)) }
         requires params { IfSome (export_at component.now (callee_of self)) (λ e. length params.now ≡ e.params) }
-        requires fits { Fits component.now store.old.state.core }
+        requires order { (p : Turn) × Sits component.now p store.old.state.core }
         requires given { given store.old.state.core < 2 ^ 61 }
-        ensures starts { Starts component.now (callee_of self) params.now (step_view store.old.state) (start_refusal store.old.state.core) result (step_view store.new.state) }
-        ensures fits { Fits component.now store.new.state.core }
-        ensures tags { KeepsTags store.old.state.tags store.new.state.tags }
+        ensures starts { Starts component.now (callee_of self) params.now store.old.state (start_refusal store.old.state.core) (number_of_start result) store.new.state }
+        ensures order { (p : Turn) → Sits component.now p store.old.state.core → Sits component.now p store.new.state.core }
         ensures rest { store.new ≡ record store.old { state = store.new.state } }
     {
-        let _component = component;
-        store.state.is_whole();
-        if store.state.trapped() {
-            return Err(refuse(store, Trap::CannotEnterComponent));
-        }
-        if !store.state.has_room(4) {
-            return Err(refuse(store, Trap::TableFull));
-        }
-        match store.state.start_call(self.callee(), params) {
+        match start_call(&mut store.state, component, self.callee(), params) {
             Ok(thread) => Ok(FuncCallConcurrent { thread }),
-            Err(_) => {
-                store.set_trapped();
-                Err(TaskError::NoMemory)
-            }
+            Err(e) => Err(e),
         }
     }
 
@@ -111,15 +89,11 @@ impl Func {
         store: &mut Store<T, H>,
         call: &mut FuncCallConcurrent,
     ) -> Poll<u64>
-        ensures finishes { Finishes call.old.thread (step_view store.old.state) result (step_view store.new.state) }
+        ensures finishes { Finishes call.old.thread store.old.state result store.new.state }
         ensures call { call.new ≡ call.old }
-        ensures fits { (c : Component) → Fits c store.old.state.core → Fits c store.new.state.core }
-        ensures tags { store.new.state.tags ≡ store.old.state.tags }
+        ensures order { (c : Component) → (p : Turn) → Sits c p store.old.state.core → Sits c p store.new.state.core }
         ensures rest { store.new ≡ record store.old { state = store.new.state } }
     {
-        match store.state.take_result(call.thread) {
-            Some(value) => Poll::Ready(value),
-            None => Poll::Pending,
-        }
+        finish_call(&mut store.state, call.thread)
     }
 }

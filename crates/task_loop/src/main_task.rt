@@ -1,25 +1,15 @@
-ghost use Rattle.std.specs.Prelude.{◌≡◌, ◌+◌, ◌<◌, ◌^◌, List, IfOk, IfErr, OnOk};
+ghost use Rattle.std.specs.Prelude.{◌≡◌, ◌+◌, ◌<◌, ◌^◌, IfErr, IfOk, List, None, OnOk};
 ghost use Rattle.task_machine.specs.Core.{Main};
 ghost use Rattle.task_machine.specs.declared.component.Component.{Component};
 ghost use Rattle.task_machine.specs.declared.scenario.MainOpDef.{MainOpDef};
-ghost use Rattle.task_loop.specs.Fit.{HasPlainExports, Fits, given};
-ghost use Rattle.task_loop.specs.Main.{Steps};
-ghost use Rattle.task_state.specs.State.{running_of};
+ghost use Rattle.task_turns.specs.Covered.{IsCovered};
+ghost use Rattle.task_turns.specs.Main.{Steps};
+ghost use Rattle.task_turns.specs.Turn.{Sits, given, running_of};
 
-use task_core::TaskError;
-use task_machine::{Component, Label};
+use task_calls::TaskError;
+use task_machine::{Component, Turn};
 use task_store::{Access, Whole};
-
-/// What main's next op came to.
-#[derive(Clone, Copy)]
-pub enum MainStep {
-    /// The op is done, with this label.
-    Did(Label),
-    /// The op waits for a call.
-    Pends,
-    /// Main is over.
-    Answer(u64),
-}
+use task_turns::MainStep;
 
 /// The host's own task, which starts calls and waits for them. It is a script, or any other
 /// program: then its part says so, and its labels need only be lawful in the store.
@@ -33,24 +23,25 @@ pub trait MainTask<T, H> {
     // What main needs of the component, as that the exports that a script names are there.
     ghost suits: { Self → Component → Type 0 };
 
-    /// Takes the next op, in a store that fits the component, which suits main, and in which fewer than 2^61 - 4
-    /// numbers were given. The label of an op that is done is lawful, and store and main are as it
-    /// leaves them; else they are as before. It answers no error but want of memory, after which
-    /// nothing is said of either.
+    /// Takes the next op, in a store in order, of a component that suits main, in which no thread runs and
+    /// fewer than 2^61 - 4 numbers were given. The label of an op that is done is lawful, and store and main are as it
+    /// leaves them; else they are as before. A run stands on the store as before. It answers no error
+    /// but want of memory, after which nothing else is said of either.
     fn step(
         &mut self,
         access: &mut Access<'_, T, Whole, H>,
         component: &Component,
     ) -> Result<MainStep, TaskError>
-        requires exports { HasPlainExports component.now }
-        requires fits { Fits component.now access.old.store.now.state.core }
+        requires covered { IsCovered component.now }
+        requires order { Sits component.now Turn.Main access.old.store.now.state.core }
         requires suits { suits self.old component.now }
+        requires current { running_of access.old.store.now.state ≡ None }
         requires given { given access.old.store.now.state.core + 4 < 2 ^ 61 }
         ensures same { access.new.store.ghost_name ≡ access.old.store.ghost_name }
+        ensures stands { access.new.store.now.running ≡ access.old.store.now.running }
         ensures script { script self.new ≡ script self.old }
         ensures suits { OnOk result (suits self.new component.now) }
         ensures current { OnOk result (running_of access.new.store.now.state ≡ running_of access.old.store.now.state) }
-        ensures fits { OnOk result (Fits component.now access.new.store.now.state.core) }
         ensures ok { IfOk result (λ step. Steps component.now (script self.old) (part self.old) access.old.store.now.state.core step (part self.new) access.new.store.now.state.core) }
         ensures err { IfErr result (λ e. e ≡ TaskError.NoMemory) };
 }

@@ -7,5 +7,7 @@ mod order;
 mod places;
 
 pub use once::runs_are_once;
-pub use order::{opening_in_order, reached_in_order, step_in_order, steps_make_few};
+pub use order::{
+    opening_in_order, reached_in_order, step_in_order, steps_lack_sets, steps_make_few,
+};
 pub use places::{reached_are_placed, steps_keep_places};

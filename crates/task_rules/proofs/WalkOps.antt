@@ -1,5 +1,5 @@
 -- The rows of the ops on sets, subtasks and threads as chains of words.
-use Rattle.task_rules.proofs.Machine.{[], aborted_phase, AbortsOwn, add_work, advanced, after_word, AlreadyEnded, and_parts, answered, Answers, ap, arith, assigned, Async, at_handle_limit, AtOnce, blocked_code, Bool, ByHandle, ByOp, BySetHandle, ByThread, ByWait, call_answered, call_begins, call_host_polled, call_instance, call_of_op, call_pending, call_queues, call_resumes, call_returned, call_row, call_settled, call_status, call_sync_begins, call_sync_host_polled, call_sync_host_row, call_sync_host_stops, call_sync_row, call_sync_status, call_sync_stops, CallbackWaits, CallbackYields, Callee, callee_of_op, CallEnd, Caller, caller_of, CallLabel, CallOp, cancel_aborts_host, cancel_asks, cancel_by_end, cancel_case, cancel_ended_row, cancel_guest, cancel_label, cancel_promotes_yield, cancel_resumed, cancel_row, cancel_stops, cancel_subtask, cancel_takes_end, cancel_target, cancel_wakes_callback, cancel_withdraws, CancelCase, cancelled_of_op, Cancels, checked, Choice, chosen, CloseSet, Core, count_work, CountWork, Delivery, dropped, end_for, ended, EndsSubtask, EndWords, enter_runs, event_of, export_kind, Failing, false, finds_nothing, first_poll, FirstPoll, fits, free_handle, get, get-change, get-insert_same, get-remove, Gift, gift, give_handle, Goal, Goes, group_settled, handed_by, handed_by_cancel, handed_by_event, handed_on, handed_out, HandsAtOnce, HandsOut, has_ended, has_member, has_waiters, HasSubtask, host_answered, host_at, host_end, host_pending, host_ready, HostDef, how_far_of, HowFar, inl, inr, instance_of, is_async_lifted, is_async_work, is_callback_yield, is_cancel, is_direct, is_for_main, is_joined, is_ready_to_resume, is_script, is_some, is_sync_call, is_sync_cancel, is_sync_host_call, is_thread_op, is_wait, is_waiting_on, is_watched, is_yielded, IsNamed, IsNew, IsReadyAtOnce, Join, join_done, join_label, join_of, join_to, joined, joins, Label, Later, Leaves, List, Made, Main, MakeThread, Mark, may, may_hand_on, may_wake_new, MayCancel, MayJoin, MayMakeCall, MemberGift, Mode, Move, moved_to, NameCall, NameThread, NameWork, nat_tests, new_handle, new_thread, new_thread_handle, new_work, next_thread, next_work, NoGift, None, not, NoWord, on_call, on_instance, on_thread, on_work, Op, op_in, op_of, OpenSet, Option, option_map, option_map_or, OtherwiseRuns, OwnEvent, OwnGift, packed, passes_check, pauses, phase_of, Place, place_of, Progress, promoted_unless, push_high, Put, put_back, put_switch, QueueWork, received, received_woken, Records, refl, registers_for, registers_of, remove_group, remove_thread, remove_work, result_of, Resumes, returned_of_op, saved_callee_of, says, Scene, Script, set_at, set_cancelled, set_do_not_suspend, set_dropped, set_end, set_event, set_given, set_how_far, set_join, set_made, set_own_event, set_phase, set_position, set_register, set_result, set_row, set_saved_callee, set_subtask_handle, SetCancelled, SetExited, SetLabel, SetOp, SetOwnEvent, SetPhase, SetRegister, SetResult, SetSavedCallee, Setting, SetUninteresting, Shifts, Slot, slot_at, Some, StartNotRun, Status, status_code, status_found, Stay, Stops, subst, Subtask, subtask_at, subtask_ended, subtask_handle, subtask_instance, subtask_row, subtask_under_way, suc, Suspends, suspends, sym, Sync, T, TakesEvent, task_of, Then, Thread, thread_at, thread_group, thread_handle_of, ThreadLabel, ThreadOp, Trap, trap_if, Trip, true, Turn, undelivered_end, UnnameCall, UnnameWork, unwrap_or, value_of, values_in, wait_begins, wait_goes_on, wait_label, wait_row, wait_stops, wait_stops_checked, wakes_joined, Walk, was_cancelled, was_started, Why, with_handle, Withdraw, withdrawn, Work, work_answered, work_caller_of, work_deleted, work_queued, work_value, WorkCaller, Writes, WritesAtOnce, WritesCall, WritesNever, WritesToo, written_by, written_by_cancel, Yields, yields, zero, ℕ, ◌+◌, ◌==◌, ◌∙◌, ◌∷◌, ◌≡◌, ◌⊎◌}
+use Rattle.task_rules.proofs.Machine.{[], aborted_phase, AbortsOwn, add_work, advanced, after_word, AlreadyEnded, and_parts, answered, Answers, ap, arith, assigned, Async, at_handle_limit, AtOnce, blocked_code, Bool, ByHandle, ByOp, BySetHandle, ByThread, ByWait, call_answered, call_begins, call_host_polled, call_instance, call_of_op, call_pending, call_queues, call_resumes, call_returned, call_row, call_settled, call_status, call_sync_begins, call_sync_host_polled, call_sync_host_row, call_sync_host_stops, call_sync_row, call_sync_status, call_sync_stops, CallbackWaits, CallbackYields, Callee, callee_of_op, CallEnd, Caller, caller_of, CallLabel, CallOp, cancel_aborts_host, cancel_asks, cancel_by_end, cancel_case, cancel_ended_row, cancel_guest, cancel_label, cancel_promotes_yield, cancel_resumed, cancel_row, cancel_stops, cancel_subtask, cancel_takes_end, cancel_target, cancel_wakes_callback, cancel_withdraws, CancelCase, cancelled_of_op, Cancels, checked, Choice, chosen, CloseSet, Core, count_work, CountWork, Delivery, dropped, end_for, ended, EndsSubtask, EndWords, enter_runs, event_of, export_kind, Failing, false, finds_nothing, first_poll, FirstPoll, fits, free_handle, get, get-change, get-insert_same, get-remove, Gift, gift, give_handle, Goal, Goes, group_settled, handed_by, handed_by_cancel, handed_by_event, handed_on, handed_out, HandsAtOnce, HandsOut, has_ended, has_member, has_waiters, HasSubtask, host_answered, host_at, host_end, host_pending, host_ready, HostDef, how_far_of, HowFar, inl, inr, instance_of, is_async_lifted, is_async_work, is_callback_yield, is_cancel, is_direct, is_for_main, is_joined, is_ready_to_resume, is_script, is_some, is_sync_call, is_sync_cancel, is_sync_host_call, is_thread_op, is_wait, is_waiting_on, is_watched, is_yielded, IsNamed, IsNew, IsReadyAtOnce, Join, join_done, join_label, join_of, join_to, joined, joins, Label, Later, Leaves, List, Made, Main, MakeThread, Mark, may, may_hand_on, may_wake_new, MayCancel, MayJoin, MayMakeCall, MemberGift, Mode, Move, moved_to, NameCall, NameThread, NameWork, nat_tests, new_handle, new_thread, new_thread_handle, new_work, next_thread, next_work, NoGift, None, not, NoWord, on_call, on_instance, on_thread, on_work, Op, op_in, op_of, OpenSet, Option, option_map, option_map_or, OtherwiseRuns, OwnEvent, OwnGift, packed, passes_check, pauses, phase_of, Place, place_of, Progress, promoted_unless, push_high, Put, put_back, put_switch, QueueWork, received, received_woken, Records, refl, registers_for, registers_of, remove_group, remove_thread, remove_work, result_of, Resumes, returned_of_op, saved_callee_of, says, Scene, Script, set_at, set_cancelled, set_do_not_suspend, set_dropped, set_end, set_event, set_given, set_how_far, set_join, set_made, set_own_event, set_phase, set_position, set_register, set_result, set_row, set_saved_callee, set_subtask_handle, SetCancelled, SetExited, SetLabel, SetOp, SetOwnEvent, SetPhase, SetRegister, SetResult, SetSavedCallee, Setting, SetUninteresting, Shifts, Slot, slot_at, Some, StartNotRun, Status, status_code, status_found, Stay, Stops, subst, Subtask, subtask_at, subtask_ended, subtask_handle, subtask_instance, subtask_row, subtask_under_way, suc, Suspends, suspends, sym, Sync, T, TakesEvent, task_of, Then, Thread, thread_at, thread_group, thread_handle_of, ThreadLabel, ThreadOp, Trap, trap_if, Trip, true, Turn, undelivered_end, UnnameCall, UnnameWork, unwrap_or, value_of, values_in, wait_begins, wait_goes_on, wait_label, wait_row, wait_stops, wait_stops_checked, wakes_joined, Walk, was_cancelled, was_started, Why, with_handle, Withdraw, withdrawn, Work, work_answered, work_caller_of, work_deleted, work_queued, work_value, WorkCaller, Writes, WritesAtOnce, WritesCall, WritesNever, WritesToo, written_by, written_by_cancel, Yields, yields, zero, ℕ, ◌+◌, ◌==◌, ◌∙◌, ◌∷◌, ◌≡◌, ◌⊎◌, calls_host, makes_set}
 use Rattle.task_rules.specs.Threads.{by_how_far, Halt, halt_row, halted, halted_checked, halted_promoting, halted_resuming, halting, halts, has_yielded, resume_why, resumed_later, Suspension, then_promote, then_promote_row, then_resume_row, thread_made, thread_new_row, thread_row, Yielding}
 use Rattle.task_rules.proofs.ChainLemmas.{Going, join, stay_walk, Keep, keep_stay}
 use Rattle.task_rules.proofs.WalkMoves.{keep_still, MayTake, checked_shifts, chosen_of, handed_on_shifts, shifted, wake_shifts, word, lands_at, promoted_walks, call_done_walks, settled, call_settles}
@@ -126,7 +126,7 @@ module _ (x : Setting) (main : Main) (s : Core) (n : ℕ) (l : Label) (next : Tu
   set_row_leads ch (SetOp.New r) is =
       trap_if_leads a s (not (fits 1 s)) Trap.TableFull _ (λ e.
       trap_if_leads a s (at_handle_limit s) Trap.HandleLimit _ (λ f.
-      go _ (set_made n r s) refl (assigned_walks n refl on r (new_handle (instance_of n s) s) (word (OpenSet (instance_of n s)) (refl, (n, (refl, refl))) NoWord))))
+      go _ (set_made n r s) refl (assigned_walks n refl on r (new_handle (instance_of n s) s) (word (OpenSet (instance_of n s)) (refl, (n, (refl, (refl, (refl, ap makes_set is))))) NoWord))))
   set_row_leads ch (SetOp.Drop v) is =
       or_trap_leads a s (set_at (instance_of n s) (value_of n s v) s) Trap.BadHandle _ (λ y named.
       trap_if_leads a s (has_waiters y s) Trap.WaitableSetDropHasWaiters _ (λ unwaited.
@@ -146,7 +146,7 @@ module _ (x : Setting) (main : Main) (s : Core) (n : ℕ) (l : Label) (next : Tu
 
   -- what its op calls
   makes_call : (e : Callee) (g : Goal) → callee_of_op (op_in a n) ≡ Some e → (is_direct g ≡ true → (is_async_lifted (export_kind x.component e) ≡ false) × (next ≡ Turn.Run (next_thread s))) → is_for_main g ≡ false → MayMakeCall a (Caller.Thread n) e (export_kind x.component e) g (thread_group n s) s
-  makes_call e g callee lifted other = (ByThread n refl callee refl refl, (refl, (refl, (lifted, other))))
+  makes_call e g callee lifted other = (ByThread n refl callee refl refl, (refl, (refl, (lifted, (other, (refl, refl))))))
 
   no_direct : {A : Type 0} → false ≡ true → A
   no_direct e = absurd (subst T (sym e) tt)
@@ -219,19 +219,19 @@ module _ (x : Setting) (main : Main) (s : Core) (n : ℕ) (l : Label) (next : Tu
 
   -- ---- Calls of a host
 
-  call_host_polled_leads : (r q : ℕ) (f : FirstPoll) → Leads a s (call_host_polled n r q s f)
+  call_host_polled_leads : (r q : ℕ) (f : FirstPoll) → calls_host (op_in a n) ≡ true → Leads a s (call_host_polled n r q s f)
   unfolding host_ready host_pending assigned advanced moved_to set_how_far set_position on_thread set_register count_work work_queued push_high add_work
-  call_host_polled_leads r q (AtOnce v) =
+  call_host_polled_leads r q (AtOnce v) calls =
       told (Label.Call (CallLabel.CallPolls 2 n (next_work s))) (host_ready n r q v s) refl
       (λ is. at_once_says _ (host_ready n r q v s) refl refl (refl, (refl, refl)) is)
       (λ is. assigned_walks n refl on r 2 (word (SetRegister n q v) tt (word CountWork refl NoWord)))
-  call_host_polled_leads r q Failing = tt
-  call_host_polled_leads r q (Later host) =
+  call_host_polled_leads r q Failing calls = tt
+  call_host_polled_leads r q (Later host) calls =
       let v = packed (new_handle (instance_of n s) s) Status.Started in
       trap_if_leads a s (not (fits 1 s)) Trap.TableFull _ (λ e.
       trap_if_leads a s (at_handle_limit s) Trap.HandleLimit _ (λ f.
       go _ (host_pending n r q v host s) ((call_still (new_handle (instance_of n s) s) Status.Started (host_pending n r q v host s) (λ h. absurd (cc))).1 (next_work s)) (assigned_walks n refl on r v (word (NameWork (instance_of n s) (next_work s)) ((n, (refl, (refl, inr (refl, refl)))), ap (λ f. is_async_work f) (queued_caller (WorkCaller.Async n q) host (Some (thread_group n s)) s))
-      (word (QueueWork (WorkCaller.Async n q) host (Some (thread_group n s))) (refl, (refl, refl)) NoWord)))))
+      (word (QueueWork (WorkCaller.Async n q) host (Some (thread_group n s))) (refl, (refl, (refl, (refl, calls)))) NoWord)))))
 
   host_stops_walks : (host : HostDef) → is_sync_host_call (op_in a n) ≡ true → Leaves a n → Trip a s (call_sync_host_stops n host s)
   unfolding call_sync_host_stops work_queued push_high add_work count_work
@@ -244,7 +244,7 @@ module _ (x : Setting) (main : Main) (s : Core) (n : ℕ) (l : Label) (next : Tu
       let new : (u : Core) → Shifted queued u → IsNew a (Subtask.Host (next_work s)) u = λ u d. (refl, ap (λ (m : Made). m.works) (shifted_made d) ∙ ap (λ (k : ℕ). k + 1) made) in
       let caller : (u : Core) → Shifted queued u → work_caller_of (next_work s) u ≡ WorkCaller.Sync n = λ u d. ap (λ (c : Core). work_caller_of (next_work s) c) (sym d.only) ∙ (ap (λ (k : ℕ). work_caller_of (k + 1) queued) (sym made) ∙ queued_caller (WorkCaller.Sync n) host group t) in
       call_stops_walks n refl at_ops (Subtask.Host (next_work s)) queued can leave (λ u d. inr (new u d)) (λ u d at. (refl, (new u d, (caller u d, at))))
-      (word (QueueWork (WorkCaller.Sync n) host group) (made, (refl, refl)) (checked_walks n refl (instance_of n s) NoWord))
+      (word (QueueWork (WorkCaller.Sync n) host group) (shifted_made h, (refl, refl)) (checked_walks n refl (instance_of n s) NoWord))
 
   call_sync_host_polled_leads : (r : ℕ) (f : FirstPoll) → is_sync_host_call (op_in a n) ≡ true → Leads a s (call_sync_host_polled n r s f)
   unfolding host_answered assigned advanced moved_to set_how_far set_position on_thread set_register count_work
@@ -387,7 +387,7 @@ module _ (x : Setting) (main : Main) (s : Core) (n : ℕ) (l : Label) (next : Tu
   pub subtask_row_leads : (o : CallOp) → op_in a n ≡ Op.Call o → Leads a s (subtask_row x.component n s o)
   subtask_row_leads (CallOp.Call r q e xs) is = call_row_leads r q e (values_in (registers_of n s) xs) (how_far_of n s) (ap (λ p. callee_of_op p) is) refl
   subtask_row_leads (CallOp.CallSync r e xs) is = call_sync_row_leads r e (values_in (registers_of n s) xs) (how_far_of n s) (ap is_sync_call is) (ap (λ p. callee_of_op p) is) refl
-  subtask_row_leads (CallOp.CallHost r q h) is = call_host_polled_leads r q (first_poll (host_at x.component h))
+  subtask_row_leads (CallOp.CallHost r q h) is = call_host_polled_leads r q (first_poll (host_at x.component h)) (ap calls_host is)
   subtask_row_leads (CallOp.CallSyncHost r h) is = call_sync_host_row_leads r h (how_far_of n s) (ap is_sync_host_call is) refl
   subtask_row_leads (CallOp.Cancel r v) is = cancel_row_leads Async r (value_of n s v) (how_far_of n s) (ap is_cancel is) (ap (cancel_target n s) is) refl
   subtask_row_leads (CallOp.CancelSync r v) is = cancel_row_leads Sync r (value_of n s v) (how_far_of n s) (ap is_sync_cancel is) (ap (cancel_target n s) is) refl

@@ -29,7 +29,7 @@ use Rattle.task_rules.specs.Cancels.{aborted_phase, is_callback_wait}
 use Rattle.task_rules.specs.Ends.{is_told, own_or_none}
 use Rattle.task_rules.specs.MainOps.{op_at, takes_words, spawned_at, is_spawn}
 use Rattle.task_rules.specs.Once.{returned_holder}
-use Rattle.task_rules.specs.OpParts.{callee_of_main_op, callee_of_op, can_come, ends_activation, is_sync_call}
+use Rattle.task_rules.specs.OpParts.{callee_of_main_op, callee_of_op, calls_host, can_come, ends_activation, is_sync_call, makes_set}
 use Rattle.task_rules.specs.Scenes.{Scene, component_of, op_in}
 use Rattle.task_rules.specs.Scripts.{export_kind, is_script, registers_for, script_of, slot_at}
 use Rattle.task_rules.specs.Threads.{resume_why}
@@ -269,7 +269,7 @@ HasSlot a n x = is_script (slot_at (component_of a) (instance_of n a.base) x) �
 
 -- a thread beside the first one of its task, by an op that names a script
 abbrev pub MayMake : Scene → Thread → Core → Type 0
-MayMake a t s = (n : ℕ) × (IsRunner a n × ((s.made.threads ≡ a.base.made.threads) × ((x : ℕ) × ((v : ℕ) ×
+MayMake a t s = (n : ℕ) × (IsRunner a n × ((s.made ≡ a.base.made) × ((x : ℕ) × ((v : ℕ) ×
     ((t ≡ new_thread (task_of n a.base) true (script.Slot x) (registers_for (v ∷ [])) None) ×
     ((s.calls ≡ a.base.calls) × (HasSlot a n x × (a.turn ≡ turn.Run n))))))))
 
@@ -308,7 +308,7 @@ abbrev pub MayMakeCall : Scene → Caller → Callee → ExportKind → Goal →
 MayMakeCall a f e x g group s = MayCall a f e group s × ((s.made.threads ≡ a.base.made.threads) ×
     ((x ≡ export_kind (component_of a) e) ×
     ((is_direct g ≡ true → (is_async_lifted x ≡ false) × (a.next ≡ turn.Run (next_thread a.base))) ×
-    (is_for_main g ≡ not (is_guest_call f)))))
+    ((is_for_main g ≡ not (is_guest_call f)) × ((s.made.works ≡ a.base.made.works) × (s.made.sets ≡ a.base.made.sets))))))
 
 -- the call of the thread that was taken to start, or a new direct one
 abbrev pub MayStart : Scene → ℕ → Core → Type 0
@@ -412,7 +412,7 @@ MayUnname a i h sub s = (n : ℕ) ×
 -- main's op spawns it, or the op of the running thread calls it
 abbrev pub MayQueue : Scene → WorkCaller → Option ℕ → Type 0
 MayQueue a work_caller.Spawn group = group ≡ None
-MayQueue a (work_caller.Async n q) group = IsRunner a n × (group ≡ Some (thread_group n a.base))
+MayQueue a (work_caller.Async n q) group = IsRunner a n × ((group ≡ Some (thread_group n a.base)) × ((a.turn ≡ turn.Run n) × (calls_host (op_in a n) ≡ true)))
 MayQueue a (work_caller.Sync n) group = IsRunner a n × (group ≡ Some (thread_group n a.base))
 
 abbrev pub is_async_work : WorkCaller → Bool
@@ -447,7 +447,7 @@ pub data MayAbort (a : Scene) (i : ℕ) : Type 0 where
 -- ---- Sets and instances
 
 abbrev pub MayOpen : Scene → ℕ → Core → Type 0
-MayOpen a i s = (s.made.sets ≡ a.base.made.sets) × ((n : ℕ) × (IsRunner a n × (i ≡ instance_of n a.base)))
+MayOpen a i s = (s.made ≡ a.base.made) × ((n : ℕ) × (IsRunner a n × ((i ≡ instance_of n a.base) × ((a.turn ≡ turn.Run n) × (makes_set (op_in a n) ≡ true)))))
 
 -- the handle names it, and nobody waits on it or is in it
 abbrev pub MayClose : Scene → ℕ → ℕ → ℕ → Core → Type 0
@@ -480,8 +480,8 @@ Allowed a (SetCallEvent k e) s = MayTell a k e s
 Allowed a (SetCallJoin k j) s = MayJoin a (subtask.Guest k) j s
 Allowed a (NameCall i k) s = MayNameCall a i k s
 Allowed a (UnnameCall i h k) s = MayUnname a i h (subtask.Guest k) s
-Allowed a CountWork s = s.made.works ≡ a.base.made.works
-Allowed a (QueueWork f host group) s = (s.made.works ≡ a.base.made.works) × MayQueue a f group
+Allowed a CountWork s = s.made ≡ a.base.made
+Allowed a (QueueWork f host group) s = (s.made ≡ a.base.made) × MayQueue a f group
 Allowed a (TakePush m i) s = next_entry s ≡ Some (m, entry.Push i)
 Allowed a (Pend i host) s = IsPolled a i s
 Allowed a (EndWork i c) s = MayFinish a i c s × (is_async_work (work_caller_of i s) ≡ false)
@@ -499,7 +499,7 @@ Allowed a (OpenSet i) s = MayOpen a i s
 Allowed a (CloseSet i h x) s = MayClose a i h x s
 Allowed a (SetDoNotEnter i b) s = MayBar a i b
 Allowed a (GiveResult k v) s = SaysEnd a k status.Returned × (goal_of k s ≡ goal.Main)
-Allowed a AddGroup s = s.made.groups ≡ a.base.made.groups
+Allowed a AddGroup s = s.made ≡ a.base.made
 Allowed a (RemoveGroup g) s = is_group_done g s ≡ true
 Allowed a _ s = Unit {0}
 

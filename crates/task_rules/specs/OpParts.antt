@@ -41,6 +41,14 @@ abbrev pub callee_of_main_op : MainOpDef → Option Callee
 callee_of_main_op (main_op.Start e xs) = Some e
 callee_of_main_op _ = None
 
+abbrev pub makes_set : Op → Bool
+makes_set (op.Set (set_op.New r)) = true
+makes_set _ = false
+
+abbrev pub calls_host : Op → Bool
+calls_host (op.Call (call_op.CallHost r q h)) = true
+calls_host _ = false
+
 -- ---- How far an op can come
 
 abbrev pub is_wait : Op → Bool

@@ -9,8 +9,8 @@ use Rattle.task_machine.specs.Core.{Core, State, Scripted, fresh}
 use Rattle.task_rules.specs.Outcome.{IsOutcome}
 use Rattle.task_rules.specs.Run.{Run, main_opening, opens}
 use Rattle.task_rules.specs.Stalled.{Setting, setting_of}
-use Rattle.task_loop.specs.Drive.{Drives}
-use Rattle.task_loop.specs.Main.{state_at}
+use Rattle.task_turns.specs.Drive.{Drives}
+use Rattle.task_turns.specs.Turn.{state_at}
 use Rattle.task_run.specs.Runnable.{IsRunnable}
 use Rattle.task_scenario.specs.Lower.{Reads}
 use Rattle.task_run.specs.Tool.{IsRun}

@@ -2,6 +2,5 @@ pub mod Fronts
 pub mod Says
 pub mod ScriptLemmas
 pub mod RunnableLemmas
-pub mod StoreLemmas
 pub mod HeadlineLemmas
 pub mod ToolLemmas

@@ -2,7 +2,7 @@
 use Rattle.std.proofs.Common.{inl, inr, ◌≡◌, ◌<◌, ◌≤◌, ◌+◌, ℕ, suc, zero, true, false, List, [], ◌∷◌, ◌++◌, Option, Some, None, map, length, take, slice_get, refl, sym, ap, subst, ◌∙◌, arith}
 use Rattle.std.specs.Prelude.{Bool, nat_lt, ◌&&◌}
 use Rattle.std.specs.List.{list_all}
-use Rattle.std.specs.Option.{option_map, option_and_then}
+use Rattle.std.specs.Option.{option_map, option_and_then, option_map_or}
 use Rattle.std.proofs.Common.{◌⊎◌}
 use Rattle.std.proofs.lemmas.Option.{same_Some}
 use Rattle.std.proofs.lemmas.Bool.{leb-true}
@@ -27,12 +27,15 @@ use Rattle.task_machine.specs.declared.op.Op.TheVariants as op
 use Rattle.task_machine.specs.declared.op.Operand.{Operand}
 use Rattle.task_machine.specs.declared.op.TaskOp.{TaskOp}
 use Rattle.task_machine.specs.declared.op.TaskOp.TheVariants as task
-use Rattle.task_rules.specs.Scripts.{export_at}
+use Rattle.std.specs.Prelude.{replicate, unwrap_or}
+use Rattle.task_machine.specs.declared.component.Slot.TheVariants as slot
+use Rattle.task_rules.specs.Scripts.{export_at, slot_at, slot_script}
 use Rattle.task_loop.specs.declared.call.Func.{Func}
 use Rattle.task_scenario.specs.declared.scenario.MainOp.{MainOp}
 use Rattle.task_scenario.specs.declared.scenario.MainOp.TheVariants as main_op
-use Rattle.task_loop.specs.Fit as fit
-use Rattle.task_loop.specs.Fit.{HasPlainExports, IsPlainExport}
+use Rattle.task_turns.proofs.CoveredLemmas.{codes_of, covered_of}
+use Rattle.task_turns.specs.Covered as fit
+use Rattle.task_turns.specs.Covered.{HasPlainExports, IsPlainExport}
 use Rattle.task_run.specs.Runnable.{IsRunnable}
 use Rattle.task_scenario.specs.Lower as lower
 use Rattle.task_scenario.specs.Lower.{export_def, instance_def, scenario_of}
@@ -76,18 +79,18 @@ callback kind.Sync fits = absurd (cc)
 callback kind.Blocking fits = absurd (cc)
 callback kind.Stackful fits = absurd (cc)
 
-plain_task : (o : TaskOp) → task_op_fits o ≡ true → fit.is_plain_op (op.Task o) ≡ true
+plain_task : (o : TaskOp) → task_op_fits o ≡ true → fit.is_covered_op (op.Task o) ≡ true
 plain_task (task.Ret x) fits = refl
 plain_task (task.RetBad x) fits = refl
 plain_task task.Exit fits = refl
 plain_task o fits = absurd (cc)
 
-plain_op : (o : Op) → op_fits o ≡ true → fit.is_plain_op o ≡ true
+plain_op : (o : Op) → op_fits o ≡ true → fit.is_covered_op o ≡ true
 plain_op (op.Task o) fits = plain_task o fits
 plain_op (op.Data o) fits = refl
 plain_op o fits = absurd (cc)
 
-all_plain : (before xs : List Op) → EachStands OpStands before xs → list_all fit.is_plain_op xs ≡ true
+all_plain : (before xs : List Op) → EachStands OpStands before xs → list_all fit.is_covered_op xs ≡ true
 all_plain before [] stands = refl
 all_plain before (x ∷ xs) stands = rw (plain_op x stands.0.fits, all_plain (before ++ x ∷ []) xs stands.1) refl
 
@@ -120,6 +123,7 @@ plain_export before others e stands = record {
   few_params = stands.params;
   short = let few = short [] e.start stands.start (omega arith) in omega arith;
   ops = all_plain [] e.start stands.start;
+  react = refl;
 }
 
 first_of_and : (a b : Bool) → (a && b) ≡ true → a ≡ true
@@ -143,13 +147,32 @@ module _ (s : ScenarioText) (formed : IsWellFormed s) where
   at_lowered : (f : Callee) → export_at c f ≡ here s.instances f (slice_get s.instances f.instance)
   at_lowered f = ap (option_and_then (λ (d : InstanceDef). slice_get d.exports f.export)) (slice_get-map instance_def s.instances f.instance)
 
-  plain_component : HasPlainExports c
-  plain_component f d at =
+  plain_at : (f : Callee) (d : ExportDef) → export_at c f ≡ Some d → IsPlainExport d
+  plain_at f d at =
       let e = export_text s.instances f d (sym (at_lowered f) ∙ at) in
       let i = stands_at InstanceStands s.instances f.instance e.0 formed.instances e.1.0 in
       let x = e.1.1 in
       let stands = stands_at (ExportStands (take f.instance s.instances)) e.0.exports f.export x.0 i.exports x.1.0 in
       subst IsPlainExport x.1.1 (plain_export (take f.instance s.instances) (take f.export e.0.exports) x.0 stands)
+
+  -- no slot has a script
+  empty_slot : (n j : ℕ) → slot_script (unwrap_or (slice_get (replicate n slot.Empty) j) slot.Empty) ≡ []
+  empty_slot zero j = refl
+  empty_slot (suc n) zero = refl
+  empty_slot (suc n) (suc j) = empty_slot n j
+
+  slots_empty : (i j : ℕ) → slot_script (slot_at c i j) ≡ []
+  slots_empty i j = go (slice_get c.instances i) (slice_get-map instance_def s.instances i)
+    where
+      go : (o : Option InstanceDef) → o ≡ option_map instance_def (slice_get s.instances i) → slot_script (unwrap_or (option_and_then (λ (d : InstanceDef). slice_get d.slots j) o) slot.Empty) ≡ []
+      go o e = by (slice_get s.instances i) o e
+        where
+          by : (t : Option InstanceText) (o : Option InstanceDef) → o ≡ option_map instance_def t → slot_script (unwrap_or (option_and_then (λ (d : InstanceDef). slice_get d.slots j) o) slot.Empty) ≡ []
+          by None o e = rw e refl
+          by (Some t) o e = rw e (empty_slot 16 j)
+
+  plain_component : HasPlainExports c
+  plain_component = record { exports = plain_at; slots = slots_empty }
 
   few_instances : length c.instances ≤ 64
   few_instances = let few = below_64 [] s.instances formed.instances (omega arith) in let same = length-map s.instances instance_def in omega arith
@@ -190,6 +213,7 @@ module _ (s : ScenarioText) (formed : IsWellFormed s) where
   runnable_scenario = record {
     handles = leb-true s.handles 268435455 formed.handles;
     few = few_instances;
-    component = plain_component;
+    component = covered_of c plain_component;
+    codes = codes_of c plain_component;
     main = suits;
   }

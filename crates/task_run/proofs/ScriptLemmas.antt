@@ -13,19 +13,19 @@ use Rattle.task_rules.specs.Step.{MainProgresses, ScriptStep}
 use Rattle.task_rules.specs.Stalled.{is_pending, pends_at}
 use Rattle.task_rules.specs.Turns.{at_turn}
 use Rattle.std.proofs.Common.{ap₂, Result, Ok, Err}
-use Rattle.task_core.specs.declared.error.TaskError.{TaskError}
-use Rattle.task_core.specs.declared.error.TaskError.TheVariants as task_error
+use Rattle.task_calls.specs.declared.error.TaskError.{TaskError}
+use Rattle.task_calls.specs.declared.error.TaskError.TheVariants as task_error
 use Rattle.task_machine.specs.declared.component.Callee.{Callee}
 use Rattle.task_machine.specs.declared.trap.Trap.{Trap}
 use Rattle.task_rules.specs.MainOps.{start_act}
-use Rattle.task_loop.specs.declared.call.FuncCallConcurrent.{FuncCallConcurrent}
-use Rattle.task_loop.specs.Calls.{Starts}
-use Rattle.task_state.specs.StepView.{StepView}
+use Rattle.task_calls.specs.Calls.{Starts}
+use Rattle.task_words.specs.StateView.{StateView}
 use Rattle.std.proofs.Common.{false}
 use Rattle.task_scenario.specs.declared.scenario.MainOp.{MainOp}
 use Rattle.task_run.specs.Script.{SuitsOps, is_start_finish_or_answer}
-use Rattle.task_loop.specs.Main as main
-use Rattle.task_loop.specs.Main.{IsOpOfMain, main_setting, state_at}
+use Rattle.task_turns.specs.Main as main
+use Rattle.task_turns.specs.Main.{IsOpOfMain, main_setting}
+use Rattle.task_turns.specs.Turn.{state_at}
 
 module _ (c : Component) (ops : List MainOpDef) (p : MainPlace) (s : Core) (o : MainOpDef) (at : op_at ops p ≡ Some o) where
   -- the op is done
@@ -63,25 +63,17 @@ pends_past c ops p s none = record { part = refl; core = refl; pends = ap (pends
 
 -- ---- What a start came to, in the words of its row
 
-module _ (c : Component) (e : Callee) (words : List ℕ) (s t : StepView) (k : ℕ) where
-  pub started_row : (o : Option Trap) (call : FuncCallConcurrent) → Starts c e words s o (Ok call) t → start_act c k e words s.core o ≡ Does (main_label.Start k call.thread) t.core
-  started_row None call starts = ap₂ (λ n new. Does (main_label.Start k n) new) (sym starts.0) (ap (λ (u : StepView). u.core) (sym starts.1))
-  started_row (Some why) call starts = let no : Ok call ≡ Err (task_error.Trap why) = starts.0 in absurd (cc)
+module _ (c : Component) (e : Callee) (words : List ℕ) (s t : StateView) (k : ℕ) where
+  pub started_row : (o : Option Trap) (n : ℕ) → Starts c e words s o (Ok n) t → start_act c k e words s.core o ≡ Does (main_label.Start k n) t.core
+  started_row None n starts = ap₂ (λ i new. Does (main_label.Start k i) new) (sym starts.0) (sym starts.1.core)
+  started_row (Some why) n starts = let no : Ok n ≡ Err (task_error.Trap why) = starts.0 in absurd (cc)
 
   pub refused_row : (o : Option Trap) (why : Trap) → Starts c e words s o (Err (task_error.Trap why)) t → start_act c k e words s.core o ≡ Does (main_label.StartRefused why k) t.core
   refused_row None why starts = let no : task_error.Trap why ≡ task_error.NoMemory = starts.0 in absurd (cc)
   refused_row (Some other) why starts =
-      let same : Path (Result FuncCallConcurrent TaskError) (Err (task_error.Trap why)) (Err (task_error.Trap other)) = starts.0 in
+      let same : Path (Result ℕ TaskError) (Err (task_error.Trap why)) (Err (task_error.Trap other)) = starts.0 in
       let equal : other ≡ why = cc in
-      ap₂ (λ w new. Does (main_label.StartRefused w k) new) equal (ap (λ (u : StepView). u.core) (sym starts.1))
-
-  pub started_running : (o : Option Trap) (call : FuncCallConcurrent) → Starts c e words s o (Ok call) t → t.running ≡ s.running
-  started_running None call starts = ap (λ (u : StepView). u.running) starts.1
-  started_running (Some why) call starts = let no : Ok call ≡ Err (task_error.Trap why) = starts.0 in absurd (cc)
-
-  pub refused_running : (o : Option Trap) (why : Trap) → Starts c e words s o (Err (task_error.Trap why)) t → t.running ≡ s.running
-  refused_running None why starts = let no : task_error.Trap why ≡ task_error.NoMemory = starts.0 in absurd (cc)
-  refused_running (Some other) why starts = ap (λ (u : StepView). u.running) starts.1
+      ap₂ (λ w new. Does (main_label.StartRefused w k) new) equal (sym starts.1.core)
 
 -- no other op stands in such a script
 pub no_other_op : (ops : List MainOp) (c : Component) → SuitsOps ops c → (i : ℕ) (o : MainOp) → slice_get ops i ≡ Some o → is_start_finish_or_answer o ≡ false → ⊥

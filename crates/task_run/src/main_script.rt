@@ -1,21 +1,22 @@
-ghost use Rattle.std.specs.Prelude.{◌≡◌, ◌+◌, ◌<◌, ◌^◌, ◌-◌, ◌++◌, ◌∷◌, [], length, option_copied, IfOk, IfErr, IfSome, OnOk, OnErr, Some, slice_get, slice_set};
+ghost use Rattle.std.specs.Prelude.{◌≡◌, ◌+◌, ◌<◌, ◌^◌, ◌-◌, ◌++◌, ◌∷◌, [], length, option_copied, IfOk, IfErr, IfSome, None, OnOk, OnErr, Some, slice_get, slice_set};
 ghost use Rattle.task_machine.specs.declared.component.ExportDef.{ExportDef};
 ghost use Rattle.task_rules.specs.MainOps.{started_at};
 ghost use Rattle.task_rules.specs.Run.{main_opening};
 ghost use Rattle.task_rules.specs.Scripts.{export_at, values_in};
-ghost use Rattle.task_core.specs.declared.error.TaskError.TheVariants as task_error;
+ghost use Rattle.task_calls.specs.declared.error.TaskError.TheVariants as task_error;
 ghost use Rattle.task_scenario.specs.declared.scenario.MainOp.TheVariants as main_op;
 ghost use Rattle.task_loop.specs.Calls.{callee_of};
-ghost use Rattle.task_loop.specs.Fit.{Fits, HasPlainExports, given};
-ghost use Rattle.task_loop.specs.Main.{Steps};
+ghost use Rattle.task_turns.specs.Covered.{IsCovered};
+ghost use Rattle.task_turns.specs.Main.{Steps};
+ghost use Rattle.task_turns.specs.Turn.{Sits, given, running_of};
 ghost use Rattle.task_run.specs.Script.{Suits, part_of, place_of, script_of, started};
-ghost use Rattle.task_state.specs.State.{running_of};
 
+use futures::task::Poll;
 use std::alloc::{AllocError, Global};
-use task_loop::{Func, MainStep, MainTask, operand_value};
-use task_machine::{Component, Label, MainLabel, Operand, Trap};
+use task_calls::finish_call as take_result;
+use task_loop::{Func, MainStep, MainTask, TaskError, operand_value};
+use task_machine::{Component, Label, MainLabel, Operand, Trap, Turn};
 use task_scenario::MainOp;
-use task_state::TaskError;
 use task_store::{Access, Whole};
 
 // A start by main: the number of its call, or why it was refused.
@@ -128,15 +129,16 @@ fn make_start<T, H>(
     func: Func,
     params: &[Operand],
 ) -> Result<MainStep, TaskError>
-    requires exports { HasPlainExports component.now }
-    requires fits { Fits component.now access.old.store.now.state.core }
+    requires covered { IsCovered component.now }
+    requires order { Sits component.now Turn.Main access.old.store.now.state.core }
+    requires current { running_of access.old.store.now.state ≡ None }
     requires given { given access.old.store.now.state.core + 4 < 2 ^ 61 }
     requires op { slice_get main.old.ops.now main.old.at ≡ Some (main_op.Start func params.now) }
     requires there { (e : ExportDef) × ((export_at component.now (callee_of func) ≡ Some e) × (length params.now ≡ e.params)) }
     ensures same { access.new.store.ghost_name ≡ access.old.store.ghost_name }
+    ensures stands { access.new.store.now.running ≡ access.old.store.now.running }
     ensures ops { main.new.ops ≡ main.old.ops }
     ensures current { OnOk result (running_of access.new.store.now.state ≡ running_of access.old.store.now.state) }
-    ensures fits { OnOk result (Fits component.now access.new.store.now.state.core) }
     ensures ok { IfOk result (λ step. Steps component.now (script_of main.old) (part_of main.old) access.old.store.now.state.core step (part_of main.new) access.new.store.now.state.core) }
     ensures err { IfErr result (λ e. e ≡ task_error.NoMemory) }
 {
@@ -167,25 +169,25 @@ fn finish_call<T, H>(
     start: u32,
     register: u8,
 ) -> Result<MainStep, TaskError>
-    requires fits { Fits component.now access.old.store.now.state.core }
+    requires order { Sits component.now Turn.Main access.old.store.now.state.core }
     requires op { slice_get main.old.ops.now main.old.at ≡ Some (main_op.Finish start register) }
     ensures same { access.new.store.ghost_name ≡ access.old.store.ghost_name }
+    ensures stands { access.new.store.now.running ≡ access.old.store.now.running }
     ensures ops { main.new.ops ≡ main.old.ops }
     ensures current { OnOk result (running_of access.new.store.now.state ≡ running_of access.old.store.now.state) }
-    ensures fits { OnOk result (Fits component.now access.new.store.now.state.core) }
     ensures ok { IfOk result (λ step. Steps component.now (script_of main.old) (part_of main.old) access.old.store.now.state.core step (part_of main.new) access.new.store.now.state.core) }
     ensures err { IfErr result (λ e. e ≡ task_error.NoMemory) }
 {
     let _component = component;
     let at = main.next_place();
     match main.call_at(start) {
-        Ok(number) => match access.store.state.take_result(number) {
-            Some(value) => {
+        Ok(number) => match take_result(&mut access.store.state, number) {
+            Poll::Ready(value) => {
                 main.set_register(register, value);
                 main.at = at;
                 Ok(MainStep::Did(Label::Main(MainLabel::Finish(start, value))))
             }
-            None => Ok(MainStep::Pends),
+            Poll::Pending => Ok(MainStep::Pends),
         },
         Err(why) => {
             main.at = at;

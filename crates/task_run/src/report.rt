@@ -1,8 +1,9 @@
 ghost use Rattle.std.specs.Prelude.{◌≡◌, ◌<◌, ◌≤◌, ◌++◌, ℕ, false, length, IfOk, IsOk, IsErrOf, IsOkUnless, OnOk};
 ghost use Rattle.scenario_text.specs.Grammar.{IsBadLine};
 ghost use Rattle.task_machine.specs.Core.{fresh};
-ghost use Rattle.task_loop.specs.Turn.{idle_line_of};
-ghost use Rattle.task_core.specs.StateView.{nothing, with_core};
+ghost use Rattle.task_records.specs.Seen.{nothing};
+ghost use Rattle.task_turns.specs.Turn.{idle_line_of};
+ghost use Rattle.task_words.specs.StateView.{with_core};
 ghost use Rattle.task_run.specs.Runnable.{IsRunnable};
 ghost use Rattle.task_run.specs.Headline.{IsReportOf, IsRunOf, machine_scenario};
 ghost use Rattle.task_scenario.specs.Lower.{Reads};

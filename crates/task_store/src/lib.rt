@@ -5,5 +5,6 @@ mod access;
 mod store;
 
 pub use access::{Access, Project, Whole};
-pub use store::{ComponentInstanceId, Store};
-pub use task_state::NoMemory;
+pub use record_core::TaskCore;
+pub use store::{ComponentInstanceId, ConcurrentTable, StandingRun, Store};
+pub use task_machine::NoMemory;

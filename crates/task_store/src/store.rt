@@ -1,18 +1,35 @@
-ghost use Rattle.std.specs.Prelude.{◌≡◌, ◌+◌, ◌-◌, ◌<◌, ◌≤◌, ◌^◌, ◌↔◌, true, false, min, cond, IsSome, IfSome, IfOk, OnOk, OnErr};
+ghost use Rattle.std.specs.Prelude.{◌≡◌, ◌+◌, ◌-◌, ◌<◌, ◌≤◌, ◌^◌, ◌↔◌, cond, false, min, true, IfErr, IfOk, IfSome, IsSome, OnErr, OnOk};
+ghost use Rattle.make_words.specs.Instances.{with_instance};
+ghost use Rattle.count_words.specs.Limits.{with_capacity, with_handle_limit};
 ghost use Rattle.task_machine.specs.Maps.{size};
+ghost use Rattle.task_machine.specs.Read.{table_use};
 ghost use Rattle.task_machine.specs.Write.{set_trapped};
-ghost use Rattle.task_core.specs.Image.{IsTableOf};
-ghost use Rattle.task_core.specs.StateView.{nothing, with_capacity, with_core, with_handle_limit, with_instance};
-ghost use Rattle.task_state.specs.State.{Becomes};
+ghost use Rattle.task_records.specs.Seen.{nothing};
+ghost use Rattle.task_turns.specs.Turn.{given};
+ghost use Rattle.task_words.specs.StateView.{on_core};
 
+use record_core::TaskCore;
 use std::alloc::Global;
-use task_core::Entry;
-use task_state::{ConcurrentState, NoMemory};
-use task_table::ResourceTable;
+use task_machine::{NoMemory, Trap};
+use task_words::ResultWords;
 
 /// Names an instance by its number, from 0.
 #[derive(Clone, Copy)]
 pub struct ComponentInstanceId(pub u32);
+
+/// The table of a concurrent store, as it is told: how many entries stand in it, and for how many it
+/// has room.
+#[derive(Clone, Copy)]
+pub struct ConcurrentTable {
+    pub len: u64,
+    pub max_capacity: usize,
+}
+
+/// A run that stands on a store. Only `Store::begin_run` makes one.
+#[derive(Drop)]
+pub struct StandingRun {
+    begun: (),
+}
 
 /// A store of a host's value `T` and host works of the type `H`.
 #[derive(Drop)]
@@ -21,8 +38,8 @@ pub struct Store<T, H> {
     id: u64,
     concurrent: bool,
     /// The calls and threads of the store.
-    pub state: ConcurrentState,
-    // No work stands here yet.
+    pub state: TaskCore,
+    // The host's own works: a scenario's are scripted, and are kept by the state alone.
     works: Vec<H>,
     // Whether a run stands on the store.
     running: bool,
@@ -42,7 +59,7 @@ impl<T, H> Store<T, H> {
             value,
             id,
             concurrent,
-            state: ConcurrentState::new(alloc),
+            state: TaskCore::new(alloc),
             works: Vec::new(alloc),
             running: false,
         }
@@ -53,7 +70,7 @@ impl<T, H> Store<T, H> {
     pub fn add_instance(&mut self) -> Result<ComponentInstanceId, NoMemory>
         requires { size self.old.state.core.instances < 4294967295 }
         ensures number { IfOk result (λ i. i.0 ≡ size self.old.state.core.instances) }
-        ensures ok { OnOk result (self.new ≡ record self.old { state = with_core (with_instance self.old.state.core) self.old.state }) }
+        ensures ok { OnOk result (self.new ≡ record self.old { state = on_core with_instance self.old.state }) }
         ensures err { OnErr result (self.new ≡ self.old) }
     {
         match self.state.add_instance() {
@@ -65,22 +82,25 @@ impl<T, H> Store<T, H> {
     /// How many threads, host works, sets and groups were made in the store, up to 2^64 - 1; 0
     /// where it isn't concurrent.
     pub fn given(&self) -> u64
-        ensures { result ≡ cond self.now.concurrent (min (self.now.state.core.made.threads + self.now.state.core.made.works + self.now.state.core.made.sets + self.now.state.core.made.groups) (2 ^ 64 - 1)) 0 }
+        ensures { result ≡ cond self.now.concurrent (min (given self.now.state.core) (2 ^ 64 - 1)) 0 }
     {
-        if self.concurrent {
-            self.state.given()
-        } else {
-            0
+        if !self.concurrent {
+            return 0;
         }
+        let made = self.state.made();
+        made.threads
+            .saturating_add(made.works)
+            .saturating_add(made.sets)
+            .saturating_add(made.groups)
     }
 
     /// Sets how many entries the table of a concurrent store has room for, at most 4,294,967,295,
     /// where nothing was made in it: a new store has room for 1,000,000.
     pub fn set_table_capacity(&mut self, n: usize)
         requires concurrent { self.old.concurrent ≡ true }
-        requires given { self.old.state.core.made.threads + self.old.state.core.made.works + self.old.state.core.made.sets + self.old.state.core.made.groups ≡ 0 }
+        requires given { given self.old.state.core ≡ 0 }
         requires bound { n ≤ 4294967295 }
-        ensures { self.new ≡ record self.old { state = with_core (with_capacity n self.old.state.core) self.old.state } }
+        ensures { self.new ≡ record self.old { state = on_core (with_capacity n) self.old.state } }
     {
         self.state.set_capacity(n);
     }
@@ -98,21 +118,25 @@ impl<T, H> Store<T, H> {
     /// takes none away.
     pub fn set_max_component_handles(&mut self, limit: usize)
         requires { limit ≤ 268435455 }
-        ensures { self.new ≡ record self.old { state = with_core (with_handle_limit limit self.old.state.core) self.old.state } }
+        ensures { self.new ≡ record self.old { state = on_core (with_handle_limit limit) self.old.state } }
     {
         self.state.set_handle_limit(limit as u32);
     }
 
-    /// The table of a concurrent store: its calls and threads, their sync-call sets, and the groups.
-    /// None exactly where the store isn't concurrent.
-    pub fn concurrent_resource_table(&self) -> Option<&ResourceTable<Entry>>
+    /// The table of a concurrent store, of its calls, threads, sets, host calls and groups. None
+    /// exactly where the store isn't concurrent.
+    pub fn concurrent_resource_table(&self) -> Option<ConcurrentTable>
         ensures some { IsSome result ↔ (self.now.concurrent ≡ true) }
-        ensures table { IfSome result (λ table. IsTableOf self.now.state.core table.now) }
+        ensures len { IfSome result (λ table. table.len ≡ table_use self.now.state.core) }
+        ensures capacity { IfSome result (λ table. table.max_capacity ≡ self.now.state.core.capacity) }
     {
         if !self.concurrent {
             return None;
         }
-        Some(self.state.table())
+        Some(ConcurrentTable {
+            len: self.state.used(),
+            max_capacity: self.state.capacity(),
+        })
     }
 
     /// Whether the store is trapped: then it takes no further call.
@@ -124,8 +148,7 @@ impl<T, H> Store<T, H> {
 
     /// Traps the store, and finishes all groups.
     pub fn set_trapped(&mut self)
-        ensures state { Becomes (set_trapped self.old.state.core) self.old.state self.new.state }
-        ensures rest { self.new ≡ record self.old { state = self.new.state } }
+        ensures { self.new ≡ record self.old { state = on_core set_trapped self.old.state } }
     {
         self.state.set_trapped();
     }
@@ -137,10 +160,25 @@ impl<T, H> Store<T, H> {
         self.running
     }
 
-    /// Says whether a run stands on the store.
-    pub fn set_running(&mut self, running: bool)
-        ensures { self.new ≡ record self.old { running = running } }
+    /// A run stands on the store from now on. Refused with trap 21 exactly where one does, and then
+    /// nothing is changed.
+    pub fn begin_run(&mut self) -> Result<StandingRun, Trap>
+        ensures refused { IfErr result (λ trap. (trap ≡ Trap.RecursiveRun) × (self.old.running ≡ true)) }
+        ensures begun { OnOk result (self.old.running ≡ false) }
+        ensures store { self.new ≡ record self.old { running = true } }
     {
-        self.running = running;
+        if self.running {
+            return Err(Trap::RecursiveRun);
+        }
+        self.running = true;
+        Ok(StandingRun { begun: () })
+    }
+
+    /// The run stands on the store no longer.
+    pub fn end_run(&mut self, run: StandingRun)
+        ensures { self.new ≡ record self.old { running = false } }
+    {
+        let StandingRun { begun: () } = run;
+        self.running = false;
     }
 }

@@ -1,5 +1,5 @@
 ghost use Rattle.std.specs.Prelude.{◌≡◌, ◌<◌, ◌≤◌, ◌+◌, ◌-◌, ◌==◌, if◌then◌else◌, false, Some, None, IsSome, is_some, length, IfSome, IfOk, IfErr, OnOk, OnErr};
-ghost use Rattle.std.specs.Option.{option_map, option_copied};
+ghost use Rattle.std.specs.Option.{option_and_then, option_copied, option_map};
 ghost use Rattle.std.specs.Result.{result_err};
 ghost use Rattle.std.specs.Borrow.{sem};
 ghost use Rattle.task_table.specs.Answers.{item_at, deletion, pair_refusal, parent_of, or_not_child, result_copied, result_copied_mut};
@@ -272,6 +272,26 @@ impl<E> ResourceTable<E> {
                 None => false,
             },
             None => false,
+        }
+    }
+
+    /// The serial of what stands at a place, so that an id may be made of the place alone.
+    pub fn serial_at(&self, rep: u32) -> Option<u64>
+        ensures { result ≡ option_map (λ p. p.serial) (place_at self.now rep) }
+    {
+        match self.slot_at(rep) {
+            Some(slot) => Some(slot.serial),
+            None => None,
+        }
+    }
+
+    /// The item of what stands at a place, whatever its serial, if it is of this kind.
+    pub fn item_at<K: Kind<E>>(&self, rep: u32) -> Option<&K::Item>
+        ensures { option_copied result ≡ option_and_then (λ p. K.item_of p.entry) (place_at self.now rep) }
+    {
+        match self.slot_at(rep) {
+            Some(slot) => K::view(&slot.entry),
+            None => None,
         }
     }
 

@@ -1,21 +1,32 @@
 -- What came of the start is an op of main.
-use Rattle.std.specs.Prelude.{Err, [], ◌∷◌}
-use Rattle.std.proofs.Common.{subst}
-use Rattle.task_core.specs.declared.error.TaskError.{TaskError}
+use Rattle.std.specs.Prelude.{Err, Ok, [], ◌∷◌}
+use Rattle.std.proofs.Common.{subst, sym, ◌∙◌}
+use Rattle.task_calls.specs.Calls.{Starts}
+use Rattle.task_calls.specs.declared.error.TaskError.{TaskError}
 use Rattle.task_rules.specs.MainOps.{start_refusal}
-use Rattle.task_loop.specs.Calls.{Starts, callee_of}
-use Rattle.task_state.specs.State.{step_view}
+use Rattle.task_loop.proofs.StartLemmas.{start_current}
+use Rattle.task_loop.specs.Calls.{callee_of}
 use Rattle.embed_example.proofs.HostLemmas.{did_refuse, did_start, takes_one}
 use Rattle.embed_example.proofs.relay.start.Goals as goal
 
 pub returns-in-Ok-clause-ok : goal.returns-in-Ok-clause-ok
 returns-in-Ok-clause-ok c =
     rw c.thread-thread.ensures
-    (did_start c.args.component.now (callee_of c.args.func) (c.args.relay.now.word ∷ []) (step_view c.args.access.now.store.now.state) (step_view c.start_call_concurrent.new.store.state) c.saturating_add-number.result (takes_one c.args.component.now c.args.func c.requires.takes) c.in-Ok.call c.in-Ok.ensures.starts)
+    (did_start c.args.component.now (callee_of c.args.func) (c.args.relay.now.word ∷ []) c.args.access.now.store.now.state c.start_call_concurrent.new.store.state c.saturating_add-number.result (takes_one c.args.component.now c.args.func c.requires.takes) c.in-Ok.call.thread c.in-Ok.ensures.starts)
 
 pub returns-in-Err-Trap-clause-ok : goal.returns-in-Err-Trap-clause-ok
 returns-in-Err-Trap-clause-ok c =
-    let before = step_view c.args.access.now.store.now.state in
-    let after = step_view c.start_call_concurrent.new.store.state in
+    let before = c.args.access.now.store.now.state in
+    let after = c.start_call_concurrent.new.store.state in
     let refused = subst (λ (e : TaskError). Starts c.args.component.now (callee_of c.args.func) (c.args.relay.now.word ∷ []) before (start_refusal before.core) (Err e) after) c.in-Err-Trap.field-0-is c.in-Err-Trap.ensures.starts in
     did_refuse c.args.component.now (callee_of c.args.func) (c.args.relay.now.word ∷ []) before after c.saturating_add-number.result (takes_one c.args.component.now c.args.func c.requires.takes) c.in-Err-Trap.trap refused
+
+pub returns-in-Ok-clause-current : goal.returns-in-Ok-clause-current
+returns-in-Ok-clause-current c =
+    let before = c.args.access.now.store.now.state in
+    start_current c.args.component.now (callee_of c.args.func) (c.args.relay.now.word ∷ []) before c.start_call_concurrent.new.store.state (start_refusal before.core) (Ok c.in-Ok.call.thread) c.requires.current c.in-Ok.ensures.starts ∙ sym c.requires.current
+
+pub returns-in-Err-Trap-clause-current : goal.returns-in-Err-Trap-clause-current
+returns-in-Err-Trap-clause-current c =
+    let before = c.args.access.now.store.now.state in
+    start_current c.args.component.now (callee_of c.args.func) (c.args.relay.now.word ∷ []) before c.start_call_concurrent.new.store.state (start_refusal before.core) _ c.requires.current c.in-Err-Trap.ensures.starts ∙ sym c.requires.current

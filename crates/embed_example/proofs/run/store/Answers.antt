@@ -1,7 +1,9 @@
 -- Two instances were made.
 use Rattle.std.proofs.Common.{ap, arith, refl, ◌∙◌}
-use Rattle.task_core.specs.StateView.{nothing, with_core, with_instance}
-use Rattle.task_core.proofs.Laws.{fresh_more}
+use Rattle.make_words.specs.Instances.{with_instance}
+use Rattle.task_records.specs.Seen.{nothing}
+use Rattle.task_store.proofs.FreshLemmas.{fresh_more}
+use Rattle.task_words.specs.StateView.{with_core}
 use Rattle.embed_example.proofs.HostLemmas.{is_few}
 use Rattle.embed_example.proofs.run.store.Goals as goal
 

@@ -1,13 +1,12 @@
--- One instance was made.
-use Rattle.std.proofs.Common.{refl}
-use Rattle.run_tests.proofs.DriveLemmas.{fits_one, given_one, small}
+-- The new store sits at main's turn.
+use Rattle.run_tests.proofs.DriveLemmas.{opens, opens_current, opens_given}
 use Rattle.run_tests.proofs.drive.store.Goals as goal
 
-pub add_instance-requires : goal.add_instance-requires
-add_instance-requires g c = small c.new-store.result.state.core (rw c.new-store.ensures.state refl)
-
-pub returns-clause-fits : goal.returns-clause-fits
-returns-clause-fits g c = λ d one. fits_one c.add_instance.new.self.state.core (rw (c.in-Ok.ensures.ok, c.new-store.ensures.state) refl) d one
+pub returns-clause-order : goal.returns-clause-order
+returns-clause-order g c = opens c.args.component.now c.requires.exports c.requires.one c.new_store.result.state c.new_store.ensures
 
 pub returns-clause-given : goal.returns-clause-given
-returns-clause-given g c = given_one c.add_instance.new.self.state.core (rw (c.in-Ok.ensures.ok, c.new-store.ensures.state) refl)
+returns-clause-given g c = opens_given c.new_store.result.state c.new_store.ensures
+
+pub returns-clause-current : goal.returns-clause-current
+returns-clause-current g c = opens_current c.new_store.result.state c.new_store.ensures

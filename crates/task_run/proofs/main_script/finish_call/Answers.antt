@@ -5,23 +5,19 @@ use Rattle.task_machine.specs.declared.label.MainLabel.TheVariants as main_label
 use Rattle.task_machine.specs.declared.scenario.MainOpDef.TheVariants as machine
 use Rattle.task_rules.specs.MainOps.{finish_act, finish_result}
 use Rattle.task_run.specs.Script.{machine_op, place_of, script_of}
-use Rattle.task_loop.proofs.FitLemmas.{fits-take_result}
 use Rattle.task_run.proofs.ScriptLemmas.{did_by_row, pends_by_row}
 use Rattle.task_run.proofs.main_script.finish_call.Goals as goal
 
-pub returns-in-Some-clause-fits : goal.returns-in-Some-clause-fits
-returns-in-Some-clause-fits c w = rw (w.in-Some.ensures.taken refl) (fits-take_result w.args.component.now w.args.access.now.store.now.state.core w.requires.fits _)
+pub returns-in-Ready-clause-ok : goal.returns-in-Ready-clause-ok
+returns-in-Ready-clause-ok c w =
+    let row = ap (finish_act w.args.start w.args.access.now.store.now.state.core) w.in-Ok.ensures ∙ ap (finish_result w.args.start _ w.args.access.now.store.now.state.core) w.in-Ready.ensures.finishes.0 in
+    rw (w.in-Ready.ensures.finishes.1, w.set_register.ensures, w.next_place-at.ensures)
+    (did_by_row w.args.component.now (script_of w.args.main.now) (place_of w.args.main.now) w.args.access.now.store.now.state.core (machine.Finish w.args.start w.args.register) (slice_get-map machine_op w.args.main.now.ops.now w.args.main.now.at ∙ ap (option_map machine_op) w.requires.op) (main_label.Finish w.args.start w.in-Ready.value) _ row tt)
 
-pub returns-in-Some-clause-ok : goal.returns-in-Some-clause-ok
-returns-in-Some-clause-ok c w =
-    let row = ap (finish_act w.args.start w.args.access.now.store.now.state.core) w.in-Ok.ensures ∙ ap (finish_result w.args.start _ w.args.access.now.store.now.state.core) (sym w.in-Some.ensures.value) in
-    rw (w.in-Some.ensures.taken refl, w.set_register.ensures, w.next_place-at.ensures)
-    (did_by_row w.args.component.now (script_of w.args.main.now) (place_of w.args.main.now) w.args.access.now.store.now.state.core (machine.Finish w.args.start w.args.register) (slice_get-map machine_op w.args.main.now.ops.now w.args.main.now.at ∙ ap (option_map machine_op) w.requires.op) (main_label.Finish w.args.start w.in-Some.value) _ row tt)
-
-pub returns-in-None-clause-ok : goal.returns-in-None-clause-ok
-returns-in-None-clause-ok c w =
-    let row = ap (finish_act w.args.start w.args.access.now.store.now.state.core) w.in-Ok.ensures ∙ ap (finish_result w.args.start _ w.args.access.now.store.now.state.core) (sym w.in-None.ensures.value) in
-    rw w.in-None.ensures.none (pends_by_row w.args.component.now (script_of w.args.main.now) (place_of w.args.main.now) w.args.access.now.store.now.state.core (machine.Finish w.args.start w.args.register) (slice_get-map machine_op w.args.main.now.ops.now w.args.main.now.at ∙ ap (option_map machine_op) w.requires.op) row)
+pub returns-in-Pending-clause-ok : goal.returns-in-Pending-clause-ok
+returns-in-Pending-clause-ok c w =
+    let row = ap (finish_act w.args.start w.args.access.now.store.now.state.core) w.in-Ok.ensures ∙ ap (finish_result w.args.start _ w.args.access.now.store.now.state.core) w.in-Pending.ensures.finishes.0 in
+    rw w.in-Pending.ensures.finishes.1 (pends_by_row w.args.component.now (script_of w.args.main.now) (place_of w.args.main.now) w.args.access.now.store.now.state.core (machine.Finish w.args.start w.args.register) (slice_get-map machine_op w.args.main.now.ops.now w.args.main.now.at ∙ ap (option_map machine_op) w.requires.op) row)
 
 pub returns-in-Err-clause-ok : goal.returns-in-Err-clause-ok
 returns-in-Err-clause-ok c w =

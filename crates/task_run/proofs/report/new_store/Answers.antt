@@ -1,15 +1,16 @@
 use Rattle.std.proofs.Common.{◌≡◌, ◌<◌, ◌≤◌, ◌+◌, ◌∙◌, suc, ap, arith}
-use Rattle.task_core.specs.StateView.{StateView, nothing, with_core, with_instance}
-use Rattle.task_core.proofs.Laws.{fresh_more, size-fresh}
+use Rattle.make_words.specs.Instances.{with_instance}
 use Rattle.task_machine.specs.Core.{fresh}
 use Rattle.task_machine.specs.Maps.{size}
-use Rattle.task_loop.proofs.FreshLemmas.{given_fresh}
-use Rattle.task_run.proofs.StoreLemmas.{limits_set}
+use Rattle.task_records.specs.Seen.{nothing}
+use Rattle.task_store.proofs.FreshLemmas.{fresh_more, limits_set, size_fresh}
+use Rattle.task_turns.proofs.FreshLemmas.{given_fresh}
+use Rattle.task_words.specs.StateView.{StateView, with_core}
 use Rattle.task_run.proofs.report.new_store.Goals as goal
 
 pub add_instance-requires : goal.add_instance-requires
 add_instance-requires c =
-    let count : size c.loop-made.store.state.core.instances ≡ c.loop-made._made = ap (λ (s : StateView). size s.core.instances) c.loop-made.invariant.state ∙ size-fresh c.loop-made._made c.args.handles c.args.table in
+    let count : size c.loop-made.store.state.core.instances ≡ c.loop-made._made = ap (λ (s : StateView). size s.core.instances) c.loop-made.invariant.state ∙ size_fresh c.loop-made._made c.args.handles c.args.table in
     let few : c.args.instances ≤ 4294967295 = c.requires.instances in
     let below : c.loop-made._made < c.args.instances = c.loop-made-test.true in
     omega arith

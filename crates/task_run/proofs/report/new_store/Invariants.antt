@@ -1,6 +1,7 @@
 use Rattle.std.proofs.Common.{◌≡◌, false}
 use Rattle.task_machine.specs.Core.{fresh}
-use Rattle.task_core.specs.StateView.{nothing, with_core}
+use Rattle.task_records.specs.Seen.{nothing}
+use Rattle.task_words.specs.StateView.{with_core}
 use Rattle.task_run.proofs.report.new_store.Given as goal
 
 abbrev pub invariant-loop-made : goal.invariant-loop-made

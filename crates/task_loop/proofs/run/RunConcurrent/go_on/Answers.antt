@@ -1,62 +1,72 @@
 -- Each turn adds to the run, until it is over.
 use Rattle.std.proofs.Common.{arith, refl, ap, sym, ◌∙◌}
 use Rattle.std.specs.Prelude.{None, Some}
-use Rattle.task_loop.specs.Fit.{given}
-use Rattle.task_loop.specs.Main.{state_at}
-use Rattle.task_loop.specs.Turn.{idle_line_of, setting_of}
-use Rattle.task_loop.proofs.DriveLemmas.{on_ends, on_more, on_out_at, on_rests, on_turned_none}
-use Rattle.task_loop.proofs.TurnLemmas.{turned_same}
-use Rattle.task_state.specs.State.{step_view}
+use Rattle.task_turns.proofs.DriveLemmas.{on_ends, on_more, on_out_at, on_rests, on_turned_none, turned_same}
+use Rattle.task_turns.specs.Turn.{given, idle_line_of, setting_of, state_at}
+use Rattle.task_machine.specs.Core.{Unscripted}
 use Rattle.task_loop.proofs.run.RunConcurrent.go_on.Goals as goal
 
 pub returns-in_default-clause-ok : goal.returns-in_default-clause-ok
 returns-in_default-clause-ok g c =
-    let s = step_view c.args.store.now.state in
+    let s = c.args.store.now.state in
     let part = g.M.MainTask.part in
     let script = g.M.MainTask.script in
     let x = setting_of c.args.component.now (script c.args.main.now) c.args.self.now.trap_on_idle in
-    let turned = turned_same c.args.component.now (script c.turns.main) (script c.args.main.now) c.turns.self.trap_on_idle c.args.self.now.trap_on_idle c.turns.self.turn (part c.turns.main) (step_view c.turns.store.state) None (part c.turn.new.main) (step_view c.turn.new.store.state) c.turns.invariant.script c.turns.invariant.idle (rw c.in_default.is at c.in_ok-made.ensures.turned) in
-    on_turned_none x (state_at s.core (part c.args.main.now) c.args.self.now.turn) c.args.trace.now (given s.core) c.turns.self.turn (part c.turns.main) (part c.turn.new.main) (step_view c.turns.store.state) (step_view c.turn.new.store.state) c.turns.trace c.turns.added c.args.steps c.turns.invariant.on (omega arith) turned
+    let turned = turned_same c.args.component.now (script c.turns.main) (script c.args.main.now) c.turns.self.trap_on_idle c.args.self.now.trap_on_idle c.turns.self.turn (part c.turns.main) c.turns.store.state None (part c.turn.new.main) c.turn.new.store.state c.turns.invariant.script c.turns.invariant.idle (rw c.in_default.is at c.in_ok-made.ensures.turned) in
+    on_turned_none x (state_at s.core (part c.args.main.now) c.args.self.now.turn) c.args.trace.now (given s.core) c.turns.self.turn (part c.turns.main) (part c.turn.new.main) c.turns.store.state c.turn.new.store.state c.turns.trace c.turns.added c.args.steps c.turns.invariant.on (omega arith) turned
 
 pub returns-in-Some-outcome_of-clause-ok : goal.returns-in-Some-outcome_of-clause-ok
 returns-in-Some-outcome_of-clause-ok g c =
-    let s = step_view c.args.store.now.state in
+    let s = c.args.store.now.state in
     let part = g.M.MainTask.part in
     let script = g.M.MainTask.script in
     let x = setting_of c.args.component.now (script c.args.main.now) c.args.self.now.trap_on_idle in
-    let turned = turned_same c.args.component.now (script c.turns.main) (script c.args.main.now) c.turns.self.trap_on_idle c.args.self.now.trap_on_idle c.turns.self.turn (part c.turns.main) (step_view c.turns.store.state) (Some c.in-Some.made) (part c.turn.new.main) (step_view c.turn.new.store.state) c.turns.invariant.script c.turns.invariant.idle (rw c.in-Some.is at c.in_ok-made.ensures.turned) in
-    on_ends x (state_at s.core (part c.args.main.now) c.args.self.now.turn) c.args.trace.now (given s.core) c.turns.self.turn (part c.turns.main) (step_view c.turns.store.state) c.turns.trace c.turns.added c.turns.invariant.on c.in-Some.made (part c.turn.new.main) (step_view c.turn.new.store.state) turned c.push.new.self c.in-Ok.ensures.ok c.args.steps c.in-Some-outcome_of.outcome (omega arith) (sym c.in-Some-outcome_of.ensures)
+    let turned = turned_same c.args.component.now (script c.turns.main) (script c.args.main.now) c.turns.self.trap_on_idle c.args.self.now.trap_on_idle c.turns.self.turn (part c.turns.main) c.turns.store.state (Some c.in-Some.made) (part c.turn.new.main) c.turn.new.store.state c.turns.invariant.script c.turns.invariant.idle (rw c.in-Some.is at c.in_ok-made.ensures.turned) in
+    on_ends x (state_at s.core (part c.args.main.now) c.args.self.now.turn) c.args.trace.now (given s.core) c.turns.self.turn (part c.turns.main) c.turns.store.state c.turns.trace c.turns.added c.turns.invariant.on c.in-Some.made (part c.turn.new.main) c.turn.new.store.state turned c.push.new.self c.in-Ok.ensures.ok c.args.steps c.in-Some-outcome_of.outcome (omega arith) (sym c.in-Some-outcome_of.ensures)
+
+pub compute-requires-clause-order : goal.compute-requires-clause-order
+compute-requires-clause-order g c =
+    let s = c.args.store.now.state in
+    let part = g.M.MainTask.part in
+    let script = g.M.MainTask.script in
+    let x = setting_of c.args.component.now (script c.args.main.now) c.args.self.now.trap_on_idle in
+    let turned = turned_same c.args.component.now (script c.turns.main) (script c.args.main.now) c.turns.self.trap_on_idle c.args.self.now.trap_on_idle c.turns.self.turn (part c.turns.main) c.turns.store.state (Some c.in-Some.made) (part c.turn.new.main) c.turn.new.store.state c.turns.invariant.script c.turns.invariant.idle (rw c.in-Some.is at c.in_ok-made.ensures.turned) in
+    (on_more x (state_at s.core (part c.args.main.now) c.args.self.now.turn) c.args.trace.now (given s.core) c.turns.self.turn (part c.turns.main) c.turns.store.state c.turns.trace c.turns.added c.turns.invariant.on c.in-Some.made (part c.turn.new.main) c.turn.new.store.state turned c.push.new.self c.in-Ok.ensures.ok (sym c.in_default-outcome_of.ensures)).at.order
+
+pub is_idle-requires : goal.is_idle-requires
+is_idle-requires g c = (c.turns.invariant.on.at.order.order Unscripted).works
 
 pub turns-preserved : goal.turns-preserved
 turns-preserved g c =
-    let s = step_view c.args.store.now.state in
+    let s = c.args.store.now.state in
     let part = g.M.MainTask.part in
     let script = g.M.MainTask.script in
     let x = setting_of c.args.component.now (script c.args.main.now) c.args.self.now.trap_on_idle in
-    let turned = turned_same c.args.component.now (script c.turns.main) (script c.args.main.now) c.turns.self.trap_on_idle c.args.self.now.trap_on_idle c.turns.self.turn (part c.turns.main) (step_view c.turns.store.state) (Some c.in-Some.made) (part c.turn.new.main) (step_view c.turn.new.store.state) c.turns.invariant.script c.turns.invariant.idle (rw c.in-Some.is at c.in_ok-made.ensures.turned) in
-    let on = on_more x (state_at s.core (part c.args.main.now) c.args.self.now.turn) c.args.trace.now (given s.core) c.turns.self.turn (part c.turns.main) (step_view c.turns.store.state) c.turns.trace c.turns.added c.turns.invariant.on c.in-Some.made (part c.turn.new.main) (step_view c.turn.new.store.state) turned c.push.new.self c.in-Ok.ensures.ok (sym c.in_default-outcome_of.ensures) in
+    let turned = turned_same c.args.component.now (script c.turns.main) (script c.args.main.now) c.turns.self.trap_on_idle c.args.self.now.trap_on_idle c.turns.self.turn (part c.turns.main) c.turns.store.state (Some c.in-Some.made) (part c.turn.new.main) c.turn.new.store.state c.turns.invariant.script c.turns.invariant.idle (rw c.in-Some.is at c.in_ok-made.ensures.turned) in
+    let on = on_more x (state_at s.core (part c.args.main.now) c.args.self.now.turn) c.args.trace.now (given s.core) c.turns.self.turn (part c.turns.main) c.turns.store.state c.turns.trace c.turns.added c.turns.invariant.on c.in-Some.made (part c.turn.new.main) c.turn.new.store.state turned c.push.new.self c.in-Ok.ensures.ok (sym c.in_default-outcome_of.ensures) in
     record {
       script = c.in_ok-made.ensures.script ∙ c.turns.invariant.script;
       suits = c.in_ok-made.ensures.suits;
       idle = c.turns.invariant.idle;
+      stands = c.in_ok-made.ensures.stands ∙ c.turns.invariant.stands;
       on = c.in_ok-added.ensures.on x refl (state_at s.core (part c.args.main.now) c.args.self.now.turn) c.args.trace.now (given s.core) (part c.turn.new.main) on;
       few = c.in_ok-added.ensures.few.1;
     }
 
 pub returns-then-is_idle-clause-ok : goal.returns-then-is_idle-clause-ok
 returns-then-is_idle-clause-ok g c =
-    let s = step_view c.args.store.now.state in
+    let s = c.args.store.now.state in
     let part = g.M.MainTask.part in
     let x = setting_of c.args.component.now (g.M.MainTask.script c.args.main.now) c.args.self.now.trap_on_idle in
     let on = c.turns.invariant.on in
     let rests = c.is_idle.ensures x (ap idle_line_of (sym c.turns.invariant.idle)) (part c.turns.main) on.pends ∙ c.if-is_idle.true in
-    on_rests x (state_at s.core (part c.args.main.now) c.args.self.now.turn) c.args.trace.now (given s.core) c.turns.self.turn (part c.turns.main) (step_view c.turns.store.state) c.turns.trace c.turns.added on c.args.steps (omega arith) rests
+    on_rests x (state_at s.core (part c.args.main.now) c.args.self.now.turn) c.args.trace.now (given s.core) c.turns.self.turn (part c.turns.main) c.turns.store.state c.turns.trace c.turns.added on c.args.steps (omega arith) rests
 
 pub returns-clause-ok : goal.returns-clause-ok
 returns-clause-ok g c =
-    let s = step_view c.args.store.now.state in
+    let s = c.args.store.now.state in
     let part = g.M.MainTask.part in
     let x = setting_of c.args.component.now (g.M.MainTask.script c.args.main.now) c.args.self.now.trap_on_idle in
     let on = c.turns.invariant.on in
     let moves = c.is_idle.ensures x (ap idle_line_of (sym c.turns.invariant.idle)) (part c.turns.main) on.pends ∙ c.if-is_idle.false in
-    on_out_at x (state_at s.core (part c.args.main.now) c.args.self.now.turn) c.args.trace.now (given s.core) c.turns.self.turn (part c.turns.main) (step_view c.turns.store.state) c.turns.trace c.turns.added c.args.steps on (omega arith) moves
+    on_out_at x (state_at s.core (part c.args.main.now) c.args.self.now.turn) c.args.trace.now (given s.core) c.turns.self.turn (part c.turns.main) c.turns.store.state c.turns.trace c.turns.added c.args.steps on (omega arith) moves

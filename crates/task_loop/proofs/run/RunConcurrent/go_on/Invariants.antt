@@ -1,10 +1,7 @@
 -- So far a run was made, and it can go on.
 use Rattle.std.proofs.Common.{◌≡◌, ◌≤◌, ◌-◌}
-use Rattle.task_loop.specs.Fit.{given}
-use Rattle.task_loop.specs.Main.{state_at}
-use Rattle.task_loop.specs.Turn.{setting_of}
-use Rattle.task_loop.specs.Drive.{IsOn}
-use Rattle.task_state.specs.State.{step_view}
+use Rattle.task_turns.specs.Drive.{IsOn}
+use Rattle.task_turns.specs.Turn.{given, setting_of, state_at}
 use Rattle.task_loop.proofs.run.RunConcurrent.go_on.Given as goal
 
 abbrev pub invariant-turns : goal.invariant-turns
@@ -12,7 +9,8 @@ invariant-turns g l = record {
   script : g.M.MainTask.script l.main ≡ g.M.MainTask.script l.initial.main;
   suits : g.M.MainTask.suits l.main l.component;
   idle : l.self.trap_on_idle ≡ l.initial.self.trap_on_idle;
-  on : IsOn (setting_of l.component (g.M.MainTask.script l.initial.main) l.initial.self.trap_on_idle) (state_at l.initial.store.state.core (g.M.MainTask.part l.initial.main) l.initial.self.turn) l.initial.trace (given l.initial.store.state.core) l.self.turn (g.M.MainTask.part l.main) (step_view l.store.state) l.trace l.added;
+  stands : l.store.running ≡ l.initial.store.running;
+  on : IsOn (setting_of l.component (g.M.MainTask.script l.initial.main) l.initial.self.trap_on_idle) (state_at l.initial.store.state.core (g.M.MainTask.part l.initial.main) l.initial.self.turn) l.initial.trace (given l.initial.store.state.core) l.self.turn (g.M.MainTask.part l.main) l.store.state l.trace l.added;
   few : l.added ≤ l.steps;
 }
 

@@ -1,0 +1,7 @@
+pub mod RoomLemmas
+pub mod TrapLemmas
+pub mod BesideLemmas
+pub mod ResultLemmas
+pub mod ScanLemmas
+pub mod MemberLemmas
+pub mod LimitLemmas

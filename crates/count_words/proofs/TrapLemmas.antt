@@ -1,0 +1,86 @@
+-- The store is trapped: the groups up to the last that was made are finished, which are all.
+use Rattle.count_words.proofs.BesideLemmas.{beside, beside_whole}
+use Rattle.std.proofs.Common.{◌≡◌, ◌<◌, ◌≤◌, ◌+◌, ◌*◌, ◌-◌, ℕ, Bool, true, false, cond, List, [], ◌∷◌, Option, Some, None, filter, map, length, nat_lt, refl, sym, ap, ◌∙◌, arith, ltb-true}
+use Rattle.std.proofs.lemmas.Bool.{eq-eqb}
+use Rattle.std.specs.Cmp.{unsigned_tied}
+use Rattle.std.specs.Ordering.{eq_by_cmp, nat_cmp}
+use Rattle.std.specs.FinMap.Entries.{find}
+use Rattle.task_machine.specs.Maps.{get, numbers}
+use Rattle.task_machine.specs.Read.{table_use}
+use Rattle.task_machine.specs.Write.{set_trapped}
+use Rattle.task_records.proofs.KeptLemmas.{groups_are, used_is}
+use Rattle.task_records.specs.Image.{Parts, image}
+use Rattle.task_records.specs.Keys.{group_key}
+use Rattle.task_records.specs.Seen.{IsSound, parts_of, seen}
+use Rattle.task_records.specs.Sound.{IsWhole, bare}
+use Rattle.task_records.specs.declared.parts.CoreParts.{CoreParts}
+use Rattle.task_table.proofs.RecordLemmas.{get-records}
+use Rattle.task_table.specs.Records.{records}
+use Rattle.task_words.specs.StateView.{on_core}
+
+module _ {X : Type 0} (k : ℕ) where
+  tail_none : (b : Bool) (x : X) (o : Option X) → cond b (Some x) o ≡ None → o ≡ None
+  tail_none true x o none = absurd (cc)
+  tail_none false x o none = none
+
+  none_over : (e : ℕ × X) (es : List (ℕ × X)) → ((n : ℕ) → k < n → find nat_cmp n (e ∷ es) ≡ None) → (b : Bool) → nat_lt k e.0 ≡ b → filter (nat_lt k) (map (λ f. f.0) es) ≡ [] → cond b (e.0 ∷ filter (nat_lt k) (map (λ f. f.0) es)) (filter (nat_lt k) (map (λ f. f.0) es)) ≡ []
+  none_over e es none true is rest =
+      let here : cond true (Some e.1) (find nat_cmp e.0 es) ≡ None = sym (ap (λ b. cond b (Some e.1) (find nat_cmp e.0 es)) (unsigned_tied e.0 e.0 ∙ eq-eqb e.0 e.0 refl)) ∙ none e.0 (ltb-true k e.0 is) in
+      absurd (cc)
+  none_over e es none false is rest = rest
+
+  -- where the map has nothing above k, no number passes
+  pub all_within : (es : List (ℕ × X)) → ((n : ℕ) → k < n → find nat_cmp n es ≡ None) → filter (nat_lt k) (map (λ f. f.0) es) ≡ []
+  all_within [] none = refl
+  all_within (e ∷ es) none = none_over e es none (nat_lt k e.0) refl (all_within es (λ n more. tail_none (eq_by_cmp nat_cmp n e.0) e.1 (find nat_cmp n es) (none n more)))
+
+less_groups : (u g l m a b c d : ℕ) → u ≡ l + a + 2 * b + c + d → g ≡ l → m ≡ 0 → u - g ≡ m + a + 2 * b + c + d
+less_groups u g l m a b c d used groups none = omega (arith, used, groups, none)
+
+all_made : (n : ℕ) → n ≤ n
+all_made n = omega arith
+
+abbrev pub after_trap : Parts → Parts
+after_trap p = beside p p.made.groups (record p.kept { used = p.kept.used - p.kept.groups; groups = 0 }) p.results p.capacity
+
+module _ (p : Parts) (none : filter (nat_lt p.made.groups) (numbers (records group_key p.groups.places)) ≡ []) where
+  pub trapped_whole : IsWhole p → IsWhole (after_trap p)
+  unfolding table_use
+  trapped_whole whole =
+      beside_whole p p.made.groups (record p.kept { used = p.kept.used - p.kept.groups; groups = 0 }) p.results p.capacity whole
+      (record {
+        used = less_groups _ _ _ _ _ _ _ _ whole.counted.kept.used whole.counted.kept.groups (ap length none);
+        groups = sym (ap length none);
+        live = whole.counted.kept.live;
+      })
+      whole.counted.results
+      (all_made p.made.groups)
+      whole.counted.few
+
+module _ (a : CoreParts) (sound : IsSound a) where
+  none_left : filter (nat_lt a.made.groups) (numbers (records group_key a.groups.places)) ≡ []
+  unfolding IsSound get numbers
+  none_left = all_within a.made.groups (records group_key a.groups.places).list (λ n more. sym (sym (get-records group_key a.groups.places n)) ∙ sound.tables.groups.later n more)
+
+  pub groups_within : a.kept.groups ≤ a.kept.used
+  unfolding table_use
+  groups_within = omega (arith, groups_are a sound, used_is a sound)
+
+  abbrev pub trapped_parts : CoreParts
+  trapped_parts = record a { trapped = true; finished = a.made.groups; kept = record a.kept { used = a.kept.used - a.kept.groups; groups = 0 } }
+
+  pub trapped_sound : IsSound trapped_parts
+  unfolding IsSound
+  trapped_sound = record {
+    tables = record { threads = sound.tables.threads; calls = sound.tables.calls; works = sound.tables.works; sets = sound.tables.sets; groups = sound.tables.groups };
+    whole = trapped_whole (bare (parts_of a)) none_left sound.whole;
+    interesting = sound.interesting;
+    moving = sound.moving;
+    handles = sound.handles;
+    owned = sound.owned;
+    live = sound.live;
+  }
+
+  pub trapped_seen : seen trapped_parts ≡ on_core set_trapped (seen a)
+  unfolding seen set_trapped
+  trapped_seen = ap (λ (gs : List ℕ). record (image (parts_of a)) { core = record (image (parts_of a)).core { trapped = true; groups = gs } }) none_left

@@ -1,0 +1,11 @@
+use Rattle.count_words.proofs.TrapLemmas.{groups_within, trapped_seen, trapped_sound}
+use Rattle.count_words.proofs.limits.set_trapped.Goals as goal
+
+pub overflow_sub-parts : goal.overflow_sub-parts
+overflow_sub-parts c = groups_within c.args.parts.now c.requires
+
+pub returns-clause-sound : goal.returns-clause-sound
+returns-clause-sound c = trapped_sound c.args.parts.now c.requires
+
+pub returns-clause-new : goal.returns-clause-new
+returns-clause-new c = trapped_seen c.args.parts.now c.requires

@@ -1,0 +1,14 @@
+use Rattle.count_words.proofs.MemberLemmas.{some_member}
+use Rattle.count_words.proofs.members.has_member.Goals as goal
+use Rattle.std.proofs.Common.{ap, nat_lt, sym, ◌∙◌}
+use Rattle.task_machine.specs.Read.{has_member}
+use Rattle.task_records.proofs.KeptLemmas.{set_members}
+use Rattle.task_records.proofs.ReadLemmas.{set_named}
+use Rattle.task_records.specs.Seen.{seen}
+
+pub returns : goal.returns
+returns c =
+    let a = c.args.parts.now in
+    let x = c.in-Some.entry.now in
+    ap (nat_lt 0) (set_members a c.requires.sound c.args.set x c.in-Some.ensures.item)
+    ∙ (sym (some_member x.number (seen a).core) ∙ ap (λ n. has_member n (seen a).core) (set_named a c.args.set x c.in-Some.ensures.item))

@@ -1,0 +1,11 @@
+use Rattle.count_words.proofs.LimitLemmas.{capacity_sound}
+use Rattle.count_words.proofs.settings.set_capacity.Goals as goal
+use Rattle.std.proofs.Common.{refl}
+use Rattle.task_records.specs.Seen.{seen}
+
+pub returns-clause-sound : goal.returns-clause-sound
+returns-clause-sound c = capacity_sound c.args.parts.now c.requires.sound c.args.entries c.requires.few
+
+pub returns-clause-new : goal.returns-clause-new
+unfolding seen
+returns-clause-new c = refl

@@ -1,0 +1,15 @@
+use Rattle.count_words.proofs.LimitLemmas.{limit_sound}
+use Rattle.count_words.proofs.settings.set_handle_limit.Goals as goal
+use Rattle.std.proofs.Common.{ap, subst, sym}
+use Rattle.task_handles.specs.declared.counter.HandleCounter.{HandleCounter}
+use Rattle.task_records.specs.Seen.{IsSound, seen}
+use Rattle.task_words.specs.StateView.{StateView}
+
+pub returns-clause-sound : goal.returns-clause-sound
+returns-clause-sound c =
+    subst (λ (k : HandleCounter). IsSound (record c.args.parts.now { counter = k })) (sym c.set_limit.ensures)
+    (limit_sound c.args.parts.now c.requires.sound c.args.handles)
+
+pub returns-clause-new : goal.returns-clause-new
+unfolding seen
+returns-clause-new c = ap (λ (k : HandleCounter). seen (record c.args.parts.now { counter = k })) c.set_limit.ensures

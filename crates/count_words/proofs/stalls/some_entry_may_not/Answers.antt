@@ -1,0 +1,12 @@
+use Rattle.count_words.proofs.stalls.some_entry_may_not.Goals as goal
+use Rattle.std.proofs.Common.{rules, tests}
+use Rattle.std.proofs.lemmas.Iterator.Consumers.{YieldsList-from_first}
+use Rattle.std.proofs.lemmas.Iterator.Search.{any_from_yields_List}
+use Rattle.task_machine.specs.Read.{may_not_suspend}
+use Rattle.task_records.specs.Seen.{seen}
+
+pub returns : goal.returns
+returns c =
+    any_from_yields_List (λ e. may_not_suspend e.1.item.call.callee.instance (seen c.args.parts.now).core) _ _ _ c.any.ensures.ran
+    (YieldsList-from_first (λ item. (item.0, item.1.now)) (λ rest. rest) _ c.iter.ensures.entries)
+    (λ x b q k. search (rules, tests))

@@ -1,0 +1,11 @@
+use Rattle.count_words.proofs.ScanLemmas.{scanned}
+use Rattle.count_words.proofs.stalls.some_may_not_suspend.Goals as goal
+use Rattle.std.proofs.Common.{◌∙◌}
+use Rattle.task_machine.specs.Read.{may_not_suspend}
+use Rattle.task_records.specs.Seen.{IsSound, seen}
+
+pub returns : goal.returns
+unfolding IsSound seen
+returns c =
+    c.some_entry_may_not.ensures
+    ∙ scanned (λ g. g.number) (λ g. g.call) (λ k. may_not_suspend k.callee.instance (seen c.args.parts.now).core) c.args.parts.now.calls c.requires.tables.calls.apart

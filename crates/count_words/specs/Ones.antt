@@ -1,0 +1,5 @@
+-- One for what holds.
+use Rattle.std.specs.Prelude.{ℕ, Bool, if◌then◌else◌}
+
+abbrev pub one_if : Bool → ℕ
+one_if b = if b then 1 else 0

@@ -1,0 +1,23 @@
+//! Words that a core answers by the numbers that it keeps: what is left of a call or a set, how
+//! full a store is, and whether something moves.
+#![tactic(auto)]
+
+mod limits;
+mod members;
+mod results;
+mod settings;
+mod stalls;
+mod works;
+
+pub use limits::{
+    at_handle_limit, count_work, current, fits, has_interesting, made, set_current, set_trapped,
+    set_uninteresting, trapped,
+};
+pub use members::{
+    has_member, has_thread, has_waiters, is_deletable, is_last_thread, set_instance, set_number,
+    threads,
+};
+pub use results::{give_result, make_room, result, take_result};
+pub use settings::{capacity, handle_limit, set_capacity, set_handle_limit, used};
+pub use stalls::some_may_not_suspend;
+pub use works::{has_live_work, has_moving_work, is_moving, recounted, set_course, set_phase};

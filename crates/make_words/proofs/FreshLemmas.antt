@@ -1,0 +1,153 @@
+-- A number that was not made yet: no record names it, so that nothing is filed or counted under it.
+use Rattle.std.proofs.Common.{◌≡◌, ◌==◌, ◌<◌, ◌≤◌, ◌||◌, ◌&&◌, ℕ, Bool, true, false, cond, List, [], ◌∷◌, nat_lt, Option, Some, None, refl, sym, ap, ap₂, subst, ◌∙◌, arith}
+use Rattle.std.proofs.lemmas.Bool.{eq-eqb, ne_eqb}
+use Rattle.std.proofs.lemmas.Option.{same_Some}
+use Rattle.task_index.proofs.Tables.{none_in_records}
+use Rattle.task_index.specs.Counts.{passing}
+use Rattle.task_machine.specs.Read.{is_delivery_for, is_in_set, is_inside_wait, is_resumption, keeps_set}
+use Rattle.task_machine.specs.declared.records.Delivery.TheVariants as delivery
+use Rattle.task_machine.specs.declared.records.HowFar.{HowFar}
+use Rattle.task_machine.specs.declared.records.HowFar.TheVariants as how_far
+use Rattle.task_machine.specs.declared.records.Join.{Join}
+use Rattle.task_machine.specs.declared.records.Join.TheVariants as join
+use Rattle.task_machine.specs.declared.records.Place.{Place}
+use Rattle.task_machine.specs.declared.records.Place.TheVariants as place
+use Rattle.task_machine.specs.declared.records.Thread.{Thread}
+use Rattle.task_machine.specs.declared.records.Why.{Why}
+use Rattle.task_machine.specs.declared.records.Why.TheVariants as why
+use Rattle.task_machine.specs.declared.words.Status.{Status}
+use Rattle.task_records.proofs.KeptLemmas.{any_passing}
+use Rattle.task_records.specs.Names.{IsNamedAt, Kinds, how_far_target, join_target, place_target, why_target}
+use Rattle.task_records.specs.Places.{BlockedOn, HeldIn, UnderOf, WaitsOn, Where, ready_in, where_at}
+use Rattle.task_records.specs.declared.single.Single.{Single}
+use Rattle.task_table.proofs.RecordChangeLemmas.{PutsRecord-pushed}
+use Rattle.task_records.specs.Sound.{EachEntry}
+use Rattle.task_table.proofs.Laws.{place_at-pushed}
+use Rattle.task_table.specs.Changes.{next_place, pushed}
+use Rattle.task_table.specs.Records.{AreApart, PutsRecord, found_record, key_in, record_at, records}
+use Rattle.task_table.specs.Table.{IsTable, Placed, Table, place_at}
+
+-- ---- What a new record is found by
+
+module _ {T X Y : Type 0} (number : T → ℕ) (rec : T → X) (chain : T → Y) (t : Table (Single T)) where
+  abbrev key : Single T → Option (ℕ × X)
+  key e = Some (number e.item, rec e.item)
+
+  abbrev chain_key : Single T → Option (ℕ × Y)
+  chain_key e = Some (number e.item, chain e.item)
+
+  record_as : (r n : ℕ) (y : Y) → record_at chain_key t.places r ≡ Some (n, y) → (x : X) × (record_at key t.places r ≡ Some (n, x))
+  record_as r n y is = by_place (place_at t r) is
+    where
+      by_place : (o : Option (Placed (Single T))) → key_in chain_key o ≡ Some (n, y) → (x : X) × (key_in key o ≡ Some (n, x))
+      by_place None is = absurd (cc)
+      by_place (Some p) is = (rec p.entry.item, ap (λ (m : ℕ). Some (m, rec p.entry.item)) (ap (λ (e : ℕ × Y). e.0) (same_Some (number p.entry.item, chain p.entry.item) (n, y) is)))
+
+  pub apart_as : AreApart key t.places → AreApart chain_key t.places
+  apart_as apart = record { one_place = λ r s n x y at_r at_s. let a = record_as r n x at_r in let b = record_as s n y at_s in apart.one_place r s n a.0 b.0 a.1 b.1 }
+
+  none_as : (n : ℕ) (ps : List (Option (Placed (Single T)))) → found_record key n ps ≡ None → found_record chain_key n ps ≡ None
+  unfolding found_record
+  none_as n [] none = refl
+  none_as n (None ∷ ps) none = none_as n ps none
+  none_as n (Some p ∷ ps) none = by_test (n == number p.entry.item) none (λ rest. none_as n ps rest)
+    where
+      by_test : (b : Bool) → cond b (Some (rec p.entry.item)) (found_record key n ps) ≡ None → (found_record key n ps ≡ None → found_record chain_key n ps ≡ None) → cond b (Some (chain p.entry.item)) (found_record chain_key n ps) ≡ None
+      by_test true none more = absurd (cc)
+      by_test false none more = more none
+
+  module _ (g : T) (table : IsTable t) (apart : AreApart key t.places) (new : found_record key (number g) t.places ≡ None) where
+    chain_puts : PutsRecord chain_key t.places (pushed (record { item = g }) t).places (number g) (chain g)
+    chain_puts = PutsRecord-pushed chain_key t (record { item = g }) (number g) (chain g) table (apart_as apart) refl (none_as (number g) t.places new)
+
+    -- the new one has its chain, and each other has what it had
+    pub chain_new : found_record chain_key (number g) (pushed (record { item = g }) t).places ≡ Some (chain g)
+    chain_new = chain_puts.found (number g) ∙ ap (λ b. cond b (Some (chain g)) (found_record chain_key (number g) t.places)) (eq-eqb (number g) (number g) refl)
+
+    pub chain_other : (n : ℕ) → (n ≡ number g → ⊥) → found_record chain_key n (pushed (record { item = g }) t).places ≡ found_record chain_key n t.places
+    chain_other n other = chain_puts.found n ∙ ap (λ b. cond b (Some (chain g)) (found_record chain_key n t.places)) (ne_eqb n (number g) other)
+
+-- what holds of each entry and of the new one
+pub each_more : {E : Type 0} (Good : E → Type 0) (t : Table (Single E)) (e : E) → IsTable t → EachEntry Good t → Good e → EachEntry Good (pushed (record { item = e }) t)
+each_more {E} Good t e table each good rep q at = by_test (rep == next_place t) (sym (place_at-pushed t (record { item = e }) rep table) ∙ at)
+  where
+    by_test : (b : Bool) → cond b (Some (record { serial = t.given; parent = None; entry = record { item = e } })) (place_at t rep) ≡ Some q → Good q.entry.item
+    by_test true is = subst (λ (z : Placed (Single E)). Good z.entry.item) (same_Some _ q is) good
+    by_test false is = each rep q is
+
+-- ---- Nothing is counted
+
+module _ {E X : Type 0} (test : X → Bool) (key : E → Option (ℕ × X)) where
+  pub none_passing : (ps : List (Option (Placed E))) → ((r : ℕ) (e : ℕ × X) → record_at key ps r ≡ Some e → test e.1 ≡ false) → passing test (records key ps) ≡ 0
+  none_passing ps fails = zero_is (passing test (records key ps)) (any_passing test (records key ps) ∙ none_in_records (λ (e : ℕ × X). test e.1) key ps fails)
+    where
+      zero_is : (n : ℕ) → nat_lt 0 n ≡ false → n ≡ 0
+      zero_is ℕ.zero is = refl
+      zero_is (ℕ.suc n) is = absurd (let some : nat_lt 0 (ℕ.suc n) ≡ true = grind arith in cc)
+
+-- ---- A set that was not made
+
+abbrev set_in : Where → ℕ
+set_in (WaitsOn z) = z
+set_in _ = 0
+
+module _ (k : Kinds) (n : ℕ) (new : k.made.sets < n) where
+  not_new : (x : ℕ) → x ≤ k.made.sets → n ≡ x → ⊥
+  not_new x early same = omega arith
+
+  pub waits_on_none : (i : ℕ) (x : Place) (rep : ℕ) → IsNamedAt k rep (place_target x) → where_at i x ≡ Some (WaitsOn n) → ⊥
+  waits_on_none i place.New rep at is = absurd (cc)
+  waits_on_none i (place.Ready m w) rep at is = absurd (cc)
+  waits_on_none i place.Running rep at is = absurd (cc)
+  waits_on_none i (place.Under m) rep at is = absurd (let one = same_Some (UnderOf m) (WaitsOn n) is in cc)
+  waits_on_none i (place.Behind m) rep at is = absurd (cc)
+  waits_on_none i (place.Waiting y by_callback) rep at is = not_new y at.0 (sym (ap set_in (same_Some (WaitsOn y) (WaitsOn n) is)))
+  waits_on_none i (place.Blocked sub) rep at is = absurd (let one = same_Some (BlockedOn sub) (WaitsOn n) is in cc)
+  waits_on_none i (place.Held w) rep at is = absurd (let one = same_Some (HeldIn i) (WaitsOn n) is in cc)
+  waits_on_none i place.Suspended rep at is = absurd (cc)
+
+  pub none_ready : (e : Option Status) (j : Join) (rep : ℕ) → IsNamedAt k rep (join_target j) → ready_in e j ≡ Some n → ⊥
+  none_ready None j rep at is = absurd (cc)
+  none_ready (Some e) join.Nowhere rep at is = absurd (cc)
+  none_ready (Some e) (join.Set x) rep at is = not_new x at.0 (sym (same_Some x n is))
+  none_ready (Some e) (join.Watched m) rep at is = absurd (cc)
+
+  pub none_in : (j : Join) (rep : ℕ) → IsNamedAt k rep (join_target j) → is_in_set n j ≡ false
+  none_in join.Nowhere rep at = refl
+  none_in (join.Set x) rep at = ne_eqb n x (not_new x at.0)
+  none_in (join.Watched m) rep at = refl
+
+  none_delivered : (w : Why) (rep : ℕ) → IsNamedAt k rep (why_target w) → is_delivery_for n w ≡ false
+  none_delivered why.Start rep at = refl
+  none_delivered (why.Delivery (delivery.Set x)) rep at = ne_eqb n x (not_new x at.0)
+  none_delivered (why.Delivery delivery.Yield) rep at = refl
+  none_delivered (why.Delivery delivery.Cancel) rep at = refl
+  none_delivered why.Resumption rep at = refl
+
+  none_inside : (h : HowFar) (rep : ℕ) → IsNamedAt k rep (how_far_target h) → is_inside_wait n h ≡ false
+  none_inside how_far.Fresh rep at = refl
+  none_inside (how_far.Waits x) rep at = ne_eqb n x (not_new x at.0)
+  none_inside (how_far.Calls sub) rep at = refl
+  none_inside (how_far.Answered v) rep at = refl
+  none_inside (how_far.Cancels sub) rep at = refl
+  none_inside (how_far.AwaitsEnd sub) rep at = refl
+  none_inside how_far.Suspends rep at = refl
+  none_inside how_far.Yields rep at = refl
+
+  neither : (a b c : Bool) → a ≡ false → c ≡ false → (a || (b && c)) ≡ false
+  neither a true c no_a no_c = ap₂ (λ (x y : Bool). x || (true && y)) no_a no_c
+  neither a false c no_a no_c = ap (λ (x : Bool). x || false) no_a
+
+  pub none_keeps : (t : Thread) (beside awaited : ℕ) → IsNamedAt k beside (place_target t.place) → IsNamedAt k awaited (how_far_target t.how_far) → keeps_set n t t.place ≡ false
+  none_keeps t beside awaited at far = by_place t.place at
+    where
+      by_place : (x : Place) → IsNamedAt k beside (place_target x) → keeps_set n t x ≡ false
+      by_place place.New at = refl
+      by_place (place.Ready m w) at = neither (is_delivery_for n w) (is_resumption w) (is_inside_wait n t.how_far) (none_delivered w beside at) (none_inside t.how_far awaited far)
+      by_place place.Running at = refl
+      by_place (place.Under m) at = refl
+      by_place (place.Behind m) at = refl
+      by_place (place.Waiting y by_callback) at = ne_eqb n y (not_new y at.0)
+      by_place (place.Blocked sub) at = refl
+      by_place (place.Held w) at = none_delivered w beside at
+      by_place place.Suspended at = refl

@@ -1,0 +1,223 @@
+-- An instance more, with chains that hung on nothing: the parts stay whole.
+use Rattle.std.proofs.Common.{inl, inr, ◌⊎◌, ◌≡◌, ℕ, Bool, false, List, [], ◌∷◌, ◌++◌, Option, Some, None, IsSome, filter, length, slice_get, zero, suc, cond, refl, sym, ap, ap₂, subst, ◌∙◌}
+use Rattle.std.proofs.lemmas.Bool.{cases_eq, ne_eqb}
+use Rattle.std.proofs.lemmas.Option.{same_Some}
+use Rattle.std.specs.Option.{option_map}
+use Rattle.make_words.proofs.LooseLemmas.{IsIndex-opened}
+use Rattle.make_words.proofs.MarkLemmas.{row_is}
+use Rattle.make_words.specs.Loose.{AreLoose}
+use Rattle.task_index.proofs.Rows.{IsRows-opened}
+use Rattle.task_index.specs.Index.{Filing, IsIndex, filings, said}
+use Rattle.task_index.specs.Rows.{Each, IsRows, part}
+use Rattle.task_machine.specs.Read.{table_use}
+use Rattle.task_machine.specs.declared.records.Entry.{Entry}
+use Rattle.task_machine.specs.declared.records.Entry.TheVariants as entry
+use Rattle.task_machine.specs.declared.records.Place.{Place}
+use Rattle.task_machine.specs.declared.records.Place.TheVariants as place
+use Rattle.task_machine.specs.declared.records.Subtask.TheVariants as subtask
+use Rattle.task_records.specs.Image.{Parts, chained}
+use Rattle.task_records.specs.Names.{HasHome, IsCallNamed, IsWorkNamed}
+use Rattle.task_records.specs.Places.{BlockedOn, HeldIn, UnderOf, WaitsOn, Where, place_chain, place_filing, where_at}
+use Rattle.task_records.specs.Rows.{High, IsSeated, Low, Row, entry_seated, host_entry, is_of_instance, push_entry, row, row_chain, shelf_chain, shelf_in, thread_entry}
+use Rattle.task_records.specs.Sound.{IsWhole}
+use Rattle.task_records.specs.declared.calls.GuestTask.{GuestTask}
+use Rattle.task_records.specs.declared.instances.InstanceRecord.{InstanceRecord}
+use Rattle.task_records.specs.declared.single.Single.{Single}
+use Rattle.task_records.specs.declared.threads.GuestThread.{GuestThread}
+use Rattle.task_records.specs.declared.threads.Queued.{Queued}
+use Rattle.task_records.specs.declared.works.HostWork.{HostWork}
+use Rattle.task_table.specs.Table.{Placed, place_at}
+
+module _ {X : Type 0} where
+  pub pushed_last : (xs : List X) (x : X) → slice_get (xs ++ x ∷ []) (length xs) ≡ Some x
+  pushed_last [] x = refl
+  pushed_last (y ∷ xs) x = pushed_last xs x
+
+  pub pushed_other : (xs : List X) (j : ℕ) (x : X) → (j ≡ length xs → ⊥) → slice_get (xs ++ x ∷ []) j ≡ slice_get xs j
+  pushed_other [] zero x other = absurd (other refl)
+  pushed_other [] (suc j) x other = refl
+  pushed_other (y ∷ xs) zero x other = refl
+  pushed_other (y ∷ xs) (suc j) x other = pushed_other xs j x (λ same. other (ap suc same))
+
+  no_last : (xs : List X) → slice_get xs (length xs) ≡ None
+  no_last [] = refl
+  no_last (x ∷ xs) = no_last xs
+
+  not_none : {Y : Type 0} (o : Option X) → o ≡ None → IsSome o → Y
+  not_none None none some = absurd (cc)
+  not_none (Some x) none some = absurd (cc)
+
+  -- what is there stands before the place of the new one
+  pub there_before : (xs : List X) (j : ℕ) → IsSome (slice_get xs j) → j ≡ length xs → ⊥
+  there_before xs j some same = not_none (slice_get xs j) (ap (slice_get xs) same ∙ no_last xs) some
+
+  pub there_still : (xs : List X) (x : X) (j : ℕ) → IsSome (slice_get xs j) → IsSome (slice_get (xs ++ x ∷ []) j)
+  there_still xs x j some = subst (λ (o : Option X). IsSome o) (sym (pushed_other xs j x (there_before xs j some))) some
+
+  filter_none : (Known : X → Type 0) (t : X → Bool) → ((x : X) → Known x → t x ≡ false) → (xs : List X) → Each Known xs → filter t xs ≡ []
+  filter_none Known t fails [] each = refl
+  filter_none Known t fails (x ∷ xs) each = ap (λ b. cond b (x ∷ filter t xs) (filter t xs)) (fails x each.0) ∙ filter_none Known t fails xs each.1
+
+abbrev held_number : Where → ℕ
+held_number (HeldIn i) = i
+held_number _ = 0
+
+held_is : (n : ℕ) (k : Where) → (k ≡ HeldIn n) ⊎ (k ≡ HeldIn n → ⊥)
+held_is n (WaitsOn x) = inr (λ same. absurd (cc))
+held_is n (HeldIn i) = elim (cases_eq i n) [
+  | inl same ↦ inl (ap HeldIn same)
+  | inr other ↦ inr (λ same. other (ap held_number same))
+]
+held_is n (UnderOf m) = inr (λ same. absurd (cc))
+held_is n (BlockedOn sub) = inr (λ same. absurd (cc))
+
+shelf_is : (n : ℕ) (r : Row) (k : ℕ × Row) → (k ≡ (n, r)) ⊎ (k ≡ (n, r) → ⊥)
+shelf_is n r k = elim (cases_eq k.0 n) [
+  | inl same ↦ elim (row_is k.1 r) [
+    | inl one ↦ inl (ap₂ (λ (i : ℕ) (s : Row). (i, s)) same one)
+    | inr other ↦ inr (λ same. other (ap (λ (j : ℕ × Row). j.1) same))
+  ]
+  | inr other ↦ inr (λ same. other (ap (λ (j : ℕ × Row). j.0) same))
+]
+
+-- who is held is so in its own instance
+held_where : (i n : ℕ) (x : Place) → where_at i x ≡ Some (HeldIn n) → i ≡ n
+held_where i n place.New is = absurd (cc)
+held_where i n (place.Ready m w) is = absurd (cc)
+held_where i n place.Running is = absurd (cc)
+held_where i n (place.Under m) is = absurd (let one = same_Some (UnderOf m) (HeldIn n) is in cc)
+held_where i n (place.Behind m) is = absurd (cc)
+held_where i n (place.Waiting y by_callback) is = absurd (let one = same_Some (WaitsOn y) (HeldIn n) is in cc)
+held_where i n (place.Blocked sub) is = absurd (let one = same_Some (BlockedOn sub) (HeldIn n) is in cc)
+held_where i n (place.Held w) is = ap held_number (same_Some (HeldIn i) (HeldIn n) is)
+held_where i n place.Suspended is = absurd (cc)
+
+module _ (p : Parts) (whole : IsWhole p) (r : InstanceRecord) (loose : AreLoose p r.held r.high r.low) (high : IsSome p.high) (low : IsSome p.low) where
+  abbrev pub grown : Parts
+  grown = record p { instances = p.instances ++ r ∷ [] }
+
+  abbrev next : ℕ
+  next = length p.instances
+
+  home_grown : (g : GuestThread) → HasHome p g → HasHome grown g
+  home_grown g h = record { call = h.call; there = h.there; instance = h.instance; within = there_still p.instances r g.instance h.within; place = h.place; how_far = h.how_far }
+
+  call_grown : (g : GuestTask) → IsCallNamed p g → IsCallNamed grown g
+  call_grown g h = record { caller = h.caller; join = h.join; group = h.group; positive = h.positive }
+
+  work_grown : (w : HostWork) → IsWorkNamed p w → IsWorkNamed grown w
+  work_grown w h = record { caller = h.caller; join = h.join; group = h.group }
+
+  -- no thread is of the new instance
+  not_next : (rep : ℕ) (q : Placed (Single GuestThread)) → place_at p.threads rep ≡ Some q → q.entry.item.instance ≡ next → ⊥
+  not_next rep q at same = there_before p.instances q.entry.item.instance (whole.named.threads rep q at).within same
+
+  -- ---- Who is held there
+
+  place_others : (k : Where) → (k ≡ HeldIn next → ⊥) → place_chain grown k ≡ place_chain p k
+  place_others (WaitsOn x) other = refl
+  place_others (HeldIn i) other = ap (option_map (λ (x : InstanceRecord). x.held)) (pushed_other p.instances i r (λ same. other (ap HeldIn same)))
+  place_others (UnderOf n) other = refl
+  place_others (BlockedOn (subtask.Guest k)) other = refl
+  place_others (BlockedOn (subtask.Host i)) other = refl
+
+  none_held : (rep : ℕ) (f : Filing Where ℕ) → filings place_filing p.threads rep ≡ Some f → f.key ≡ Some (HeldIn next) → ⊥
+  unfolding filings
+  none_held rep f is key = by_place (place_at p.threads rep) refl is
+    where
+      by_place : (o : Option (Placed (Single GuestThread))) → place_at p.threads rep ≡ o → said place_filing rep o ≡ Some f → ⊥
+      by_place None at is = absurd (cc)
+      by_place (Some q) at is =
+          let g = q.entry.item in
+          let one : where_at g.instance g.thread.place ≡ f.key = ap (λ (h : Filing Where ℕ). h.key) (same_Some _ f is) in
+          not_next rep q at (held_where g.instance next g.thread.place (one ∙ key))
+
+  places_grown : IsIndex (place_chain grown) p.places (filings place_filing p.threads)
+  places_grown = IsIndex-opened (place_chain p) (place_chain grown) p.places (HeldIn next) (held_is next) place_others r.held (ap (option_map (λ (x : InstanceRecord). x.held)) (pushed_last p.instances r)) loose.held (filings place_filing p.threads) whole.chained.places none_held
+
+  -- ---- Its entries at the marks
+
+  by_seat : (rep : ℕ) (q : Queued) (o : Option (Placed (Single GuestThread))) → place_at p.threads rep ≡ o → option_map (λ (x : Placed (Single GuestThread)). thread_entry rep x.entry.item) o ≡ Some q → is_of_instance next q ≡ false
+  by_seat rep q None at is = absurd (cc)
+  by_seat rep q (Some x) at is = ap (is_of_instance next) (sym (same_Some (thread_entry rep x.entry.item) q is)) ∙ ne_eqb x.entry.item.instance next (not_next rep x at)
+
+  by_work : {E : Type 0} (seat : ℕ → E → Queued) (rep : ℕ) (q : Queued) → ((x : E) → is_of_instance next (seat rep x) ≡ false) → (o : Option (Placed (Single E))) → option_map (λ (x : Placed (Single E)). seat rep x.entry.item) o ≡ Some q → is_of_instance next q ≡ false
+  by_work seat rep q out None is = absurd (cc)
+  by_work seat rep q out (Some x) is = ap (is_of_instance next) (sym (same_Some (seat rep x.entry.item) q is)) ∙ out x.entry.item
+
+  seat_apart : (e : Entry) (rep : ℕ) (q : Queued) → entry_seated p e rep ≡ Some q → is_of_instance next q ≡ false
+  seat_apart (entry.Thread n) rep q is = by_seat rep q (place_at p.threads rep) refl is
+  seat_apart (entry.Push i) rep q is = by_work push_entry rep q (λ w. refl) (place_at p.works rep) is
+  seat_apart (entry.Host i) rep q is = by_work host_entry rep q (λ w. refl) (place_at p.works rep) is
+
+  none_there : (s : Row) → filter (is_of_instance next) (row p s) ≡ []
+  none_there s = by_chain (row_chain p s) refl
+    where
+      by_chain : (o : Option ℕ) → row_chain p s ≡ o → filter (is_of_instance next) (row p s) ≡ []
+      by_chain None is = ap (λ o. filter (is_of_instance next) (chained p.marks o)) is
+      by_chain (Some c) is = filter_none (IsSeated p) (is_of_instance next) (λ q seat. seat_apart q.entry q.place q seat) (row p s) (whole.chained.marks.all_known s c is)
+
+  -- with the chain of high alone
+  abbrev mid : ℕ × Row → Option ℕ
+  mid (i, High) = shelf_chain grown (i, High)
+  mid (i, Low) = shelf_chain p (i, Low)
+
+  mid_others : (k : ℕ × Row) → (k ≡ (next, High) → ⊥) → mid k ≡ shelf_chain p k
+  mid_others (i, High) other = ap (option_map (shelf_in High)) (pushed_other p.instances i r (λ same. other (ap (λ (j : ℕ). (j, High)) same)))
+  mid_others (i, Low) other = refl
+
+  last_others : (k : ℕ × Row) → (k ≡ (next, Low) → ⊥) → shelf_chain grown k ≡ mid k
+  last_others (i, High) other = refl
+  last_others (i, Low) other = ap (option_map (shelf_in Low)) (pushed_other p.instances i r (λ same. other (ap (λ (j : ℕ). (j, Low)) same)))
+
+  shelf_none : (s : Row) → shelf_chain p (next, s) ≡ None
+  shelf_none s = ap (option_map (shelf_in s)) (no_last p.instances)
+
+  shelf_new : (s : Row) → shelf_chain grown (next, s) ≡ Some (shelf_in s r)
+  shelf_new s = ap (option_map (shelf_in s)) (pushed_last p.instances r)
+
+  low_apart : (k : ℕ × Row) → mid k ≡ Some r.low → ⊥
+  low_apart k at = elim (shelf_is next High k) [
+    | inl same ↦ loose.two (same_Some r.high r.low (sym (shelf_new High) ∙ (sym (ap mid same) ∙ at)))
+    | inr other ↦ loose.low.apart k (sym (mid_others k other) ∙ at)
+  ]
+
+  mid_rows : IsRows mid (λ q. q.shelf.index) (IsSeated p) p.shelves (part is_of_instance (row p))
+  mid_rows = IsRows-opened (shelf_chain p) (λ q. q.shelf.index) (IsSeated p) p.shelves (part is_of_instance (row p)) whole.chained.shelves mid (part is_of_instance (row p)) (next, High) (shelf_is next High) mid_others (λ k other. refl) r.high (shelf_none High) (shelf_new High) (none_there High) loose.high.empty loose.high.apart
+
+  shelves_grown : IsRows (shelf_chain grown) (λ q. q.shelf.index) (IsSeated p) p.shelves (part is_of_instance (row p))
+  shelves_grown = IsRows-opened mid (λ q. q.shelf.index) (IsSeated p) p.shelves (part is_of_instance (row p)) mid_rows (shelf_chain grown) (part is_of_instance (row p)) (next, Low) (shelf_is next Low) last_others (λ k other. refl) r.low (shelf_none Low) (shelf_new Low) (none_there Low) loose.low.empty low_apart
+
+  pub grown_whole : IsWhole grown
+  unfolding table_use
+  grown_whole = record {
+    named = record {
+      threads = λ rep q at. home_grown q.entry.item (whole.named.threads rep q at);
+      calls = λ rep q at. call_grown q.entry.item (whole.named.calls rep q at);
+      works = λ rep q at. work_grown q.entry.item (whole.named.works rep q at);
+      switch = whole.named.switch;
+    };
+    chained = record {
+      places = places_grown;
+      ready_calls = whole.chained.ready_calls;
+      ready_works = whole.chained.ready_works;
+      polled = whole.chained.polled;
+      marks = whole.chained.marks;
+      shelves = shelves_grown;
+      low = whole.chained.low;
+      behind = whole.chained.behind;
+    };
+    nodes = record { marks = whole.nodes.marks; shelves = whole.nodes.shelves; callers = whole.nodes.callers; works = whole.nodes.works; apart = whole.nodes.apart };
+    counted = record {
+      kept = record { used = whole.counted.kept.used; groups = whole.counted.kept.groups; live = whole.counted.kept.live };
+      calls = whole.counted.calls;
+      sets = λ rep q at. let one = whole.counted.sets rep q at in record { members = one.members; entries = one.entries };
+      groups = whole.counted.groups;
+      few = whole.counted.few;
+      finished = whole.counted.finished;
+      high = λ some. high;
+      low = λ some. low;
+      works = whole.counted.works;
+      results = whole.counted.results;
+    };
+  }

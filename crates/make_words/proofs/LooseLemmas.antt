@@ -1,0 +1,120 @@
+-- Chains that hang on nothing: how they are made, what keeps them, and how a key gets one.
+use Rattle.std.proofs.Common.{inl, inr, ◌⊎◌, ◌≡◌, ℕ, List, [], Option, Some, None, IsSome, refl, sym, ap, subst, ◌∙◌}
+use Rattle.std.proofs.lemmas.Option.{same_Some}
+use Rattle.make_words.specs.Loose.{AreLoose, AreSetLoose, IsLoose}
+use Rattle.task_index.proofs.Indexes.{IsIndex-rechained, new_for_chains}
+use Rattle.task_index.proofs.Rows.{no_chain}
+use Rattle.task_index.specs.Index.{Filing, IsIndex, filings}
+use Rattle.task_index.specs.Rows.{IsRows, part}
+use Rattle.task_records.specs.Places.{place_chain, place_filing, ready_call, ready_call_chain, ready_work, ready_work_chain}
+use Rattle.task_records.specs.Rows.{IsSeated, is_of_instance, row, shelf_chain}
+use Rattle.task_records.specs.Seen.{IsSound, parts_of}
+use Rattle.task_records.specs.Sound.{bare}
+use Rattle.task_records.specs.declared.parts.CoreParts.{CoreParts}
+use Rattle.task_records.specs.declared.sets.WaitSet.{WaitSet}
+use Rattle.task_links.specs.Links.{ChainOf, Renames, Spot, Unmade, list_of, spot_list}
+
+no_list : {P X : Type 0} (o : Option (List (ℕ × P))) → o ≡ None → o ≡ Some [] → X
+no_list None none empty = absurd (cc)
+no_list (Some l) none empty = absurd (cc)
+
+module _ {K P : Type 0} (chain : K → Option ℕ) where
+  -- ---- A chain is made
+
+  pub loose_index : (links new : List (Spot P)) (filing : ℕ → Option (Filing K P)) → IsIndex chain links filing → (c : ℕ) → Renames links new c Unmade (ChainOf []) → IsLoose chain new c
+  loose_index links new filing index c names = record { empty = ap spot_list names.names; apart = new_for_chains chain links filing index new c (ChainOf []) names }
+
+  pub loose_row : (node : P → ℕ) (Known : P → Type 0) (links new : List (Spot P)) (list : K → List P) → IsRows chain node Known links list → (c : ℕ) → Renames links new c Unmade (ChainOf []) → IsLoose chain new c
+  loose_row node Known links new list rows c names = record { empty = ap spot_list names.names; apart = no_chain chain node Known links list rows c (ap spot_list names.named) }
+
+  module _ (links new : List (Spot P)) (c d : ℕ) (loose : IsLoose chain links c) (is : Spot P) (names : Renames links new d Unmade is) where
+    -- what is made next is another one
+    pub next_other : c ≡ d → ⊥
+    next_other same = no_list (list_of links c) (ap (list_of links) same ∙ ap spot_list names.named) loose.empty
+
+    pub loose_kept : IsLoose chain new c
+    loose_kept = record { empty = ap spot_list (names.others c next_other) ∙ loose.empty; apart = loose.apart }
+
+  -- ---- A key without entries gets it
+
+  module _ (chain' : K → Option ℕ) (links : List (Spot P)) (k : K) (decides : (j : K) → (j ≡ k) ⊎ (j ≡ k → ⊥)) (others : (j : K) → (j ≡ k → ⊥) → chain' j ≡ chain j) (c : ℕ) (has : chain' k ≡ Some c) (loose : IsLoose chain links c) where
+    is_c : (j : K) (d : ℕ) → j ≡ k → chain' j ≡ Some d → d ≡ c
+    is_c j d same at = same_Some d c (sym at ∙ ap chain' same ∙ has)
+
+    pub IsIndex-opened : (filing : ℕ → Option (Filing K P)) → IsIndex chain links filing → ((r : ℕ) (f : Filing K P) → filing r ≡ Some f → f.key ≡ Some k → ⊥) → IsIndex chain' links filing
+    IsIndex-opened filing index unfiled = IsIndex-rechained chain links filing index chain'
+        (λ j d at. elim (decides j) [
+          | inl same ↦ subst (λ e. IsSome (list_of links e)) (sym (is_c j d same at)) (subst IsSome (sym loose.empty) refl)
+          | inr other ↦ index.live j d (sym (others j other) ∙ at)
+        ])
+        (λ i j d at_i at_j. elim (decides i) [
+          | inl i_is ↦ elim (decides j) [
+            | inl j_is ↦ i_is ∙ sym j_is
+            | inr j_not ↦ absurd (loose.apart j (sym (others j j_not) ∙ at_j ∙ ap (λ (e : ℕ). Some e) (is_c i d i_is at_i)))
+          ]
+          | inr i_not ↦ elim (decides j) [
+            | inl j_is ↦ absurd (loose.apart i (sym (others i i_not) ∙ at_i ∙ ap (λ (e : ℕ). Some e) (is_c j d j_is at_j)))
+            | inr j_not ↦ index.own_chain i j d (sym (others i i_not) ∙ at_i) (sym (others j j_not) ∙ at_j)
+          ]
+        ])
+        (λ r f j at key. others j (λ same. unfiled r f at (key ∙ ap (λ (i : K). Some i) same)))
+
+-- ---- Those of an instance, made one after another
+
+module _ (a b c d : CoreParts) (h i l : ℕ) (sound_a : IsSound a) (sound_b : IsSound b) (sound_c : IsSound c) (only_b : b ≡ record a { places = b.places }) (only_c : c ≡ record b { shelves = c.shelves }) (only_d : d ≡ record c { shelves = d.shelves }) (made_h : Renames a.places b.places h Unmade (ChainOf [])) (made_i : Renames b.shelves c.shelves i Unmade (ChainOf [])) (made_l : Renames c.shelves d.shelves l Unmade (ChainOf [])) where
+  held_new : IsLoose (place_chain (bare (parts_of a))) b.places h
+  unfolding IsSound
+  held_new = loose_index (place_chain (bare (parts_of a))) a.places b.places (filings place_filing (bare (parts_of a)).threads) sound_a.whole.chained.places h made_h
+
+  abbrev IsHeldChain : CoreParts → Type 0
+  IsHeldChain x = IsLoose (place_chain (bare (parts_of x))) x.places h
+
+  held_last : IsHeldChain d
+  held_last = subst IsHeldChain (sym only_d) (subst IsHeldChain (sym only_c) (subst (λ (x : CoreParts). IsLoose (place_chain (bare (parts_of x))) b.places h) (sym only_b) held_new))
+
+  high_new : IsLoose (shelf_chain (bare (parts_of b))) c.shelves i
+  unfolding IsSound
+  high_new = let p = bare (parts_of b) in loose_row (shelf_chain p) (λ q. q.shelf.index) (IsSeated p) b.shelves c.shelves (part is_of_instance (row p)) sound_b.whole.chained.shelves i made_i
+
+  low_new : IsLoose (shelf_chain (bare (parts_of c))) d.shelves l
+  unfolding IsSound
+  low_new = let p = bare (parts_of c) in loose_row (shelf_chain p) (λ q. q.shelf.index) (IsSeated p) c.shelves d.shelves (part is_of_instance (row p)) sound_c.whole.chained.shelves l made_l
+
+  abbrev IsShelfChain : ℕ → CoreParts → Type 0
+  IsShelfChain n x = IsLoose (shelf_chain (bare (parts_of x))) d.shelves n
+
+  pub made_loose : AreLoose (bare (parts_of d)) h i l
+  made_loose = record {
+    held = held_last;
+    high = subst (IsShelfChain i) (sym only_d) (subst (IsShelfChain i) (sym only_c) (loose_kept (shelf_chain (bare (parts_of b))) c.shelves d.shelves i l high_new (ChainOf []) made_l));
+    low = subst (IsShelfChain l) (sym only_d) low_new;
+    two = next_other (shelf_chain (bare (parts_of b))) c.shelves d.shelves i l high_new (ChainOf []) made_l;
+  }
+
+-- ---- Those of a set, made one after another
+
+module _ (a b c d : CoreParts) (x : WaitSet) (sound_a : IsSound a) (sound_b : IsSound b) (sound_c : IsSound c) (only_b : b ≡ record a { places = b.places }) (only_c : c ≡ record b { ready_calls = c.ready_calls }) (only_d : d ≡ record c { ready_works = d.ready_works }) (made_w : Renames a.places b.places x.waiters Unmade (ChainOf [])) (made_c : Renames b.ready_calls c.ready_calls x.ready_calls Unmade (ChainOf [])) (made_d : Renames c.ready_works d.ready_works x.ready_works Unmade (ChainOf [])) where
+  waiters_new : IsLoose (place_chain (bare (parts_of a))) b.places x.waiters
+  unfolding IsSound
+  waiters_new = loose_index (place_chain (bare (parts_of a))) a.places b.places (filings place_filing (bare (parts_of a)).threads) sound_a.whole.chained.places x.waiters made_w
+
+  calls_new : IsLoose (ready_call_chain (bare (parts_of b))) c.ready_calls x.ready_calls
+  unfolding IsSound
+  calls_new = loose_index (ready_call_chain (bare (parts_of b))) b.ready_calls c.ready_calls (filings ready_call (bare (parts_of b)).calls) sound_b.whole.chained.ready_calls x.ready_calls made_c
+
+  works_new : IsLoose (ready_work_chain (bare (parts_of c))) d.ready_works x.ready_works
+  unfolding IsSound
+  works_new = loose_index (ready_work_chain (bare (parts_of c))) c.ready_works d.ready_works (filings ready_work (bare (parts_of c)).works) sound_c.whole.chained.ready_works x.ready_works made_d
+
+  abbrev HasWaiters : CoreParts → Type 0
+  HasWaiters y = IsLoose (place_chain (bare (parts_of y))) y.places x.waiters
+
+  abbrev HasCalls : CoreParts → Type 0
+  HasCalls y = IsLoose (ready_call_chain (bare (parts_of y))) y.ready_calls x.ready_calls
+
+  pub made_set_loose : AreSetLoose (bare (parts_of d)) x
+  made_set_loose = record {
+    waiters = subst HasWaiters (sym only_d) (subst HasWaiters (sym only_c) (subst (λ (y : CoreParts). IsLoose (place_chain (bare (parts_of y))) b.places x.waiters) (sym only_b) waiters_new));
+    ready_calls = subst HasCalls (sym only_d) (subst (λ (y : CoreParts). IsLoose (ready_call_chain (bare (parts_of y))) c.ready_calls x.ready_calls) (sym only_c) calls_new);
+    ready_works = subst (λ (y : CoreParts). IsLoose (ready_work_chain (bare (parts_of y))) d.ready_works x.ready_works) (sym only_d) works_new;
+  }

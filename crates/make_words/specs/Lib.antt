@@ -1,0 +1,3 @@
+pub mod Loose
+pub mod Instances
+pub mod Restored

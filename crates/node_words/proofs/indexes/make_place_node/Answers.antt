@@ -1,0 +1,19 @@
+use Rattle.node_words.proofs.indexes.make_place_node.Goals as goal
+use Rattle.std.proofs.Common.{List, refl, subst, sym, ℕ}
+use Rattle.task_links.specs.Links.{Spot}
+use Rattle.task_records.proofs.LinkLemmas.{place_made_sound}
+use Rattle.task_records.specs.Seen.{IsSound, seen}
+
+pub returns-in-Ok-clause-sound : goal.returns-in-Ok-clause-sound
+returns-in-Ok-clause-sound c = place_made_sound c.args.parts.now c.requires _ _ _ c.in-Ok.ensures.made refl
+
+pub returns-in-Ok-clause-seen : goal.returns-in-Ok-clause-seen
+unfolding seen
+returns-in-Ok-clause-seen c = refl
+
+pub returns-in-Err-clause-sound : goal.returns-in-Err-clause-sound
+returns-in-Err-clause-sound c = subst (λ (l : List (Spot ℕ)). IsSound (record c.args.parts.now { places = l })) (sym c.in-Err.ensures.err) c.requires
+
+pub returns-in-Err-clause-seen : goal.returns-in-Err-clause-seen
+unfolding seen
+returns-in-Err-clause-seen c = refl

@@ -1,0 +1,18 @@
+use Rattle.node_words.proofs.RowLemmas.{mark_made_seen, mark_made_sound}
+use Rattle.node_words.proofs.rows.make_mark_chain.Goals as goal
+use Rattle.std.proofs.Common.{List, ap, refl, subst, sym}
+use Rattle.task_links.specs.Links.{Spot}
+use Rattle.task_records.specs.Seen.{IsSound, seen}
+use Rattle.task_records.specs.declared.threads.Queued.{Queued}
+
+pub returns-in-Ok-clause-sound : goal.returns-in-Ok-clause-sound
+returns-in-Ok-clause-sound c = mark_made_sound c.args.parts.now c.requires _ _ _ c.in-Ok.ensures.made refl
+
+pub returns-in-Ok-clause-seen : goal.returns-in-Ok-clause-seen
+returns-in-Ok-clause-seen c = mark_made_seen c.args.parts.now c.requires _ _ _ c.in-Ok.ensures.made refl
+
+pub returns-in-Err-clause-sound : goal.returns-in-Err-clause-sound
+returns-in-Err-clause-sound c = subst (λ (l : List (Spot Queued)). IsSound (record c.args.parts.now { marks = l })) (sym c.in-Err.ensures.err) c.requires
+
+pub returns-in-Err-clause-seen : goal.returns-in-Err-clause-seen
+returns-in-Err-clause-seen c = ap (λ (l : List (Spot Queued)). seen (record c.args.parts.now { marks = l })) c.in-Err.ensures.err

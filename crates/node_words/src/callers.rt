@@ -1,0 +1,37 @@
+ghost use Rattle.std.specs.Prelude.{◌≡◌, [], IfOk, OnErr};
+ghost use Rattle.task_links.specs.Links.{ChainOf, FreeNode, Renames, Unmade};
+ghost use Rattle.task_records.specs.Seen.{IsSound, seen};
+
+use task_links::Node;
+use task_machine::NoMemory;
+use task_records::CoreParts;
+
+/// A new chain among the callers of threads, which hangs on nothing yet. Where memory is wanting, all is as before.
+pub fn make_caller_chain(parts: &mut CoreParts) -> Result<usize, NoMemory>
+    requires { IsSound parts.old }
+    ensures sound { IsSound parts.new }
+    ensures seen { seen parts.new ≡ seen parts.old }
+    ensures made { IfOk result (λ chain. Renames parts.old.behind parts.new.behind chain Unmade (ChainOf [])) }
+    ensures only { parts.new ≡ record parts.old { behind = parts.new.behind } }
+    ensures err { OnErr result (parts.new ≡ parts.old) }
+{
+    match parts.behind.make_chain() {
+        Ok(chain) => Ok(chain),
+        Err(why) => Err(why),
+    }
+}
+
+/// A new node among the callers of threads, which hangs on nothing yet. Where memory is wanting, all is as before.
+pub fn make_caller_node(parts: &mut CoreParts) -> Result<Node, NoMemory>
+    requires { IsSound parts.old }
+    ensures sound { IsSound parts.new }
+    ensures seen { seen parts.new ≡ seen parts.old }
+    ensures made { IfOk result (λ node. Renames parts.old.behind parts.new.behind node.index Unmade FreeNode) }
+    ensures only { parts.new ≡ record parts.old { behind = parts.new.behind } }
+    ensures err { OnErr result (parts.new ≡ parts.old) }
+{
+    match parts.behind.make_node() {
+        Ok(node) => Ok(node),
+        Err(why) => Err(why),
+    }
+}

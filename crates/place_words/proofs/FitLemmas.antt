@@ -1,0 +1,80 @@
+-- The number of a set's entries is above 0 where one is taken away, and small.
+use Rattle.std.proofs.Common.{◌≡◌, ◌+◌, ◌-◌, ◌==◌, ◌≤◌, ℕ, suc, Bool, true, false, cond, length, List, [], ◌∷◌, Option, Some, None, is_some, sym, ap, ◌∙◌, arith}
+use Rattle.std.proofs.lemmas.Bool.{eq-eqb}
+use Rattle.std.proofs.lemmas.List.Sums.{count_by-le-length}
+use Rattle.std.specs.Prelude.{Ok}
+use Rattle.task_index.specs.Counts.{passing}
+use Rattle.task_machine.proofs.SizeLemmas.{size-empty, size-insert}
+use Rattle.task_machine.specs.Maps.{Records, get, size}
+use Rattle.task_machine.specs.declared.records.Thread.{Thread}
+use Rattle.task_records.proofs.KindLemmas.{item_number, item_stands}
+use Rattle.task_records.specs.Keys.{set_key, thread_key}
+use Rattle.task_records.specs.Kinds.{item_of}
+use Rattle.task_records.specs.Seen.{IsSound, seen}
+use Rattle.task_records.specs.Sound.{bare_thread, loose_thread}
+use Rattle.task_records.specs.declared.parts.CoreParts.{CoreParts}
+use Rattle.task_records.specs.declared.sets.WaitSet.{WaitSet}
+use Rattle.task_records.specs.declared.single.Single.{Single}
+use Rattle.task_records.specs.declared.threads.GuestThread.{GuestThread}
+use Rattle.task_table.specs.Answers.{item_at}
+use Rattle.task_table.specs.Records.{key_in, number_of, records, with_record}
+use Rattle.task_table.specs.Table.{Placed}
+use Rattle.task_table.specs.declared.id.TableId.{TableId}
+use Rattle.task_wait.specs.declared.keys.SetKey.{SetKey}
+use Rattle.task_wait.specs.declared.keys.ThreadKey.{ThreadKey}
+use Rattle.task_words.specs.StateView.{set_of}
+use Rattle.place_words.proofs.EntryLemmas.{keeps_is, recounted_each, recounted_sound}
+use Rattle.place_words.proofs.PlacedLemmas.{entries_then, from_number, set_positive, set_there, set_was, sets_less}
+use Rattle.place_words.proofs.PutLemmas.{counted_there, keeps}
+use Rattle.place_words.specs.Moved.{entry_set, set_named, still_thread}
+
+module _ {E X : Type 0} (key : E → Option (ℕ × X)) where
+  -- no more records than places
+  pub records_fit : (ps : List (Option (Placed E))) → size (records key ps) ≤ length ps
+  unfolding records
+  records_fit [] = let none = size-empty X in omega (arith, none)
+  records_fit (o ∷ os) = by (key_in key o) (records key os) (records_fit os)
+    where
+      more : (b : Bool) (n m : ℕ) → n ≤ m → cond b n (n + 1) ≤ suc m
+      more true n m less = omega (arith, less)
+      more false n m less = omega (arith, less)
+
+      by : (e : Option (ℕ × X)) (m : Records X) → size m ≤ length os → size (with_record e m) ≤ suc (length os)
+      by None m less = omega (arith, less)
+      by (Some e) m less = let one = size-insert m e.0 e.1 in let two = more (is_some (get m e.0)) (size m) (length os) less in omega (arith, one, two)
+
+module _ (a : CoreParts) (sound : IsSound a) (id : TableId ThreadKey) (g : GuestThread) (is : Ok g ≡ item_at item_of a.threads id.rep id.serial) (h : GuestThread) (stays : still_thread (bare_thread h) ≡ still_thread (bare_thread g)) (handle : h.thread.handle ≡ g.thread.handle) (from to : TableId SetKey) (from_is : set_of (seen a) from ≡ set_named (entry_set g.thread.place g.thread.how_far) (seen a).core) (to_is : set_of (seen a) to ≡ set_named (entry_set h.thread.place h.thread.how_far) (seen a).core) where
+  pub less_fits : (x : WaitSet) → Ok x ≡ item_at item_of a.sets from.rep from.serial → 1 ≤ x.entries
+  unfolding IsSound
+  less_fits x is_x =
+      let one = item_stands (λ (x : WaitSet). x.number) (λ (x : WaitSet). x.set) a.sets a.made.sets sound.tables.sets from.rep from.serial x is_x in
+      let p = one.0 in
+      let n = p.entry.item.number in
+      let named : n ≡ number_of set_key a.sets from.rep from.serial = ap (λ (e : Single WaitSet). e.item.number) one.1.1.1 ∙ sym (item_number (λ (x : WaitSet). x.number) (λ (x : WaitSet). x.set) a.sets from.rep from.serial x is_x) in
+      let some : keeps n g.thread ≡ true = keeps_is n (loose_thread g.thread) (loose_thread g.thread).place ∙ (sym (from_number a sound id g is h stays handle from to from_is to_is n (set_positive a sound id g is h stays handle from to from_is to_is [] from.rep p one.1.0) (set_there a sound id g is h stays handle from to from_is to_is [] from.rep p one.1.0)) ∙ eq-eqb n (number_of set_key a.sets from.rep from.serial) named) in
+      let counted = counted_there a sound id.rep id.serial g is n some in
+      let was : p.entry.item.entries ≡ passing (keeps n) (records thread_key a.threads.places) = (set_was a sound id g is h stays handle from to from_is to_is [] from.rep p one.1.0).entries ∙ entries_then a sound id g is h stays handle from to from_is to_is [] n in
+      let entry : p.entry.item.entries ≡ x.entries = ap (λ (e : Single WaitSet). e.item.entries) one.1.1.1 in
+      omega (arith, counted, was, entry)
+
+  pub more_fits : (x : WaitSet) → Ok x ≡ item_at item_of (sets_less a sound id g is h stays handle from to from_is to_is) to.rep to.serial → x.entries ≤ 4294967295
+  unfolding IsSound size
+  more_fits x is_x =
+      let less_sound = recounted_sound (λ n. n - 1) a.sets a.made.sets sound.tables.sets from.rep from.serial in
+      let one = item_stands (λ (x : WaitSet). x.number) (λ (x : WaitSet). x.set) (sets_less a sound id g is h stays handle from to from_is to_is) a.made.sets less_sound to.rep to.serial x is_x in
+      let was = recounted_each (λ n. n - 1) a.sets a.made.sets sound.tables.sets from.rep from.serial to.rep one.0 one.1.0 in
+      let p = was.1.0 in
+      let n = p.entry.item.number in
+      let kept : p.entry.item.entries ≡ passing (keeps n) (records thread_key a.threads.places) = (set_was a sound id g is h stays handle from to from_is to_is [] to.rep p was.1.1.0).entries ∙ entries_then a sound id g is h stays handle from to from_is to_is [] n in
+      let few = count_by-le-length (λ (e : ℕ × Thread). keeps n e.1) (records thread_key a.threads.places).list in
+      let fit = records_fit thread_key a.threads.places in
+      let places = sound.tables.threads.table.places_fit in
+      let same : p.entry.item.entries ≡ was.0.entries = ap (λ (y : WaitSet). y.entries) was.1.1.1.0 in
+      let now : one.0.entry.item.entries ≡ cond (was.0.number == number_of set_key a.sets from.rep from.serial) (was.0.entries - 1) was.0.entries = ap (λ (y : WaitSet). y.entries) was.1.1.1.1 in
+      let entry : one.0.entry.item.entries ≡ x.entries = ap (λ (e : Single WaitSet). e.item.entries) one.1.1.1 in
+      let fewer = smaller (was.0.number == number_of set_key a.sets from.rep from.serial) was.0.entries in
+      omega (arith, kept, few, fit, places, same, now, entry, fewer)
+    where
+      smaller : (b : Bool) (n : ℕ) → cond b (n - 1) n ≤ n
+      smaller true n = omega arith
+      smaller false n = omega arith

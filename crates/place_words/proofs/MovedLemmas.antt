@@ -1,0 +1,141 @@
+-- A thread is written that gets another place, and the numbers of entries of sets: what else holds of the parts stays.
+use Rattle.std.proofs.Common.{◌≡◌, ◌+◌, ◌*◌, ℕ, List, Option, Some, None, IfSome, count_by, length, refl, sym, ap, ap₂, subst, ◌∙◌}
+use Rattle.task_index.proofs.Indexes.{IsIndex-same_chains}
+use Rattle.task_index.specs.Index.{IsIndex, filings}
+use Rattle.task_index.specs.Rows.{Each, IsRows, part, with_nodes}
+use Rattle.task_links.specs.Links.{Spot}
+use Rattle.task_machine.specs.Maps.{size}
+use Rattle.task_machine.specs.Read.{is_host_call, table_use}
+use Rattle.task_machine.specs.declared.records.Entry.{Entry}
+use Rattle.task_machine.specs.declared.records.Entry.TheVariants as entry
+use Rattle.task_machine.specs.declared.records.Subtask.TheVariants as subtask
+use Rattle.task_records.specs.Image.{Parts, chained, core_of}
+use Rattle.task_records.specs.Kept.{IsSetKept, threads_of}
+use Rattle.task_records.specs.Names.{AtPlace, CallOf, HasHome, IsCallNamed, IsWorkNamed, Nothing, SetOf, Target, ThreadOf, WorkOf}
+use Rattle.task_records.specs.Places.{BlockedOn, HeldIn, UnderOf, WaitsOn, Where, place_chain, place_filing, ready_call_chain, ready_work_chain}
+use Rattle.task_records.specs.Rows.{IsFollower, IsSeated, callers_chain, callers_row, entry_seated, follower, is_of_instance, row, row_chain, shelf_chain, thread_entry}
+use Rattle.task_records.specs.Sound.{AreChained, AreCounted, EachEntry, HaveRowNodes, IsWhole}
+use Rattle.task_records.specs.declared.calls.GuestTask.{GuestTask}
+use Rattle.task_records.specs.declared.sets.WaitSet.{WaitSet}
+use Rattle.task_records.specs.declared.single.Single.{Single}
+use Rattle.task_records.specs.declared.threads.Follower.{Follower}
+use Rattle.task_records.specs.declared.threads.GuestThread.{GuestThread}
+use Rattle.task_records.specs.declared.threads.Queued.{Queued}
+use Rattle.task_records.specs.declared.works.HostWork.{HostWork}
+use Rattle.task_table.specs.Table.{Table}
+use Rattle.place_words.proofs.AlikeLemmas.{found_alike, nodes_alike, place_alike, seated_alike, stands_alike}
+use Rattle.place_words.specs.Moved.{Alike, still, still_thread, uncounted}
+use Rattle.queue_words.proofs.ListLemmas.{Each-weaker}
+
+-- the same rows, by chains, lists and knowledge that say the same
+pub IsRows-alike : {K P : Type 0} (chain chain' : K → Option ℕ) (node : P → ℕ) (Known Known' : P → Type 0) (links : List (Spot P)) (list list' : K → List P) → IsRows chain node Known links list → ((k : K) → chain' k ≡ chain k) → ((x : P) → Known x → Known' x) → ((k : K) → list' k ≡ list k) → IsRows chain' node Known' links list'
+IsRows-alike chain chain' node Known Known' links list list' rows chains knows lists = record {
+  live = λ k c at. rows.live k c (sym (chains k) ∙ at);
+  own_chain = λ j k c at_j at_k. rows.own_chain j k c (sym (chains j) ∙ at_j) (sym (chains k) ∙ at_k);
+  has_list = λ k c at. rows.has_list k c (sym (chains k) ∙ at) ∙ ap (with_nodes node) (sym (lists k));
+  all_known = λ k c at. subst (Each Known') (sym (lists k)) (Each-weaker Known Known' knows (list k) (rows.all_known k c (sym (chains k) ∙ at)));
+  owner = λ n c v link. let one = rows.owner n c v link in (one.0, chains one.0 ∙ one.1);
+}
+
+module _ (p : Parts) (whole : IsWhole p) (threads : Table (Single GuestThread)) (alike : Alike still_thread threads p.threads) (sets : Table (Single WaitSet)) (sets_alike : Alike uncounted sets p.sets) (places : List (Spot ℕ)) where
+  abbrev pub moved : Parts
+  moved = record p { threads = threads; sets = sets; places = places }
+
+  pub at_moved : (rep : ℕ) (t : Target) → AtPlace p rep t → AtPlace moved rep t
+  at_moved rep Nothing at = tt
+  at_moved rep (ThreadOf n) at = (at.0, stands_alike still_thread threads p.threads alike (λ (g : GuestThread). g.number) (λ g. refl) (λ (g : GuestThread). g.thread) still (λ g. refl) rep n at.1)
+  at_moved rep (CallOf k) at = at
+  at_moved rep (WorkOf i) at = at
+  at_moved rep (SetOf x) at = (at.0, stands_alike uncounted sets p.sets sets_alike (λ (x : WaitSet). x.number) (λ x. refl) (λ (x : WaitSet). x.set) (λ s. s) (λ x. refl) rep x at.1)
+
+  pub home_moved : (g : GuestThread) → HasHome p g → HasHome moved g
+  home_moved g h = record { call = h.call; there = h.there; instance = h.instance; within = h.within; place = at_moved g.beside _ h.place; how_far = at_moved g.awaited _ h.how_far }
+
+  call_moved : (g : GuestTask) → IsCallNamed p g → IsCallNamed moved g
+  call_moved g h = record { caller = at_moved g.maker _ h.caller; join = at_moved g.joined _ h.join; group = h.group; positive = h.positive }
+
+  work_moved : (w : HostWork) → IsWorkNamed p w → IsWorkNamed moved w
+  work_moved w h = record { caller = at_moved w.maker _ h.caller; join = at_moved w.joined _ h.join; group = h.group }
+
+  follows_moved : (f : Follower) → IsFollower p f → IsFollower moved f
+  follows_moved f is = seated_alike still_thread threads p.threads alike follower (λ r g. refl) f.place ∙ is
+
+  seated_moved : (q : Queued) → IsSeated p q → IsSeated moved q
+  seated_moved q is = by q.entry ∙ is
+    where
+      by : (e : Entry) → entry_seated moved e q.place ≡ entry_seated p e q.place
+      by (entry.Thread n) = seated_alike still_thread threads p.threads alike thread_entry (λ r g. refl) q.place
+      by (entry.Push i) = refl
+      by (entry.Host i) = refl
+
+  switch_moved : IfSome p.switch (IsFollower moved)
+  switch_moved = by p.switch whole.named.switch
+    where
+      by : (o : Option Follower) → IfSome o (IsFollower p) → IfSome o (IsFollower moved)
+      by None is = tt
+      by (Some f) is = follows_moved f is
+
+  place_chain_moved : (k : Where) → place_chain moved k ≡ place_chain p k
+  place_chain_moved (WaitsOn x) = found_alike uncounted sets p.sets sets_alike (λ (x : WaitSet). x.number) (λ x. refl) (λ (x : WaitSet). x.waiters) (λ x. refl) x
+  place_chain_moved (HeldIn i) = refl
+  place_chain_moved (UnderOf n) = found_alike still_thread threads p.threads alike (λ (g : GuestThread). g.number) (λ g. refl) (λ (g : GuestThread). g.under) (λ g. refl) n
+  place_chain_moved (BlockedOn (subtask.Guest k)) = refl
+  place_chain_moved (BlockedOn (subtask.Host i)) = refl
+
+  ready_calls_moved : (x : ℕ) → ready_call_chain moved x ≡ ready_call_chain p x
+  ready_calls_moved x = found_alike uncounted sets p.sets sets_alike (λ (x : WaitSet). x.number) (λ x. refl) (λ (x : WaitSet). x.ready_calls) (λ x. refl) x
+
+  ready_works_moved : (x : ℕ) → ready_work_chain moved x ≡ ready_work_chain p x
+  ready_works_moved x = found_alike uncounted sets p.sets sets_alike (λ (x : WaitSet). x.number) (λ x. refl) (λ (x : WaitSet). x.ready_works) (λ x. refl) x
+
+  callers_moved : (n : ℕ) → callers_chain moved n ≡ callers_chain p n
+  callers_moved n = found_alike still_thread threads p.threads alike (λ (g : GuestThread). g.number) (λ g. refl) (λ (g : GuestThread). g.callers) (λ g. refl) n
+
+  chained_moved : IsIndex (place_chain p) places (filings place_filing threads) → AreChained moved
+  chained_moved index = record {
+    places = IsIndex-same_chains (place_chain p) places (filings place_filing threads) index (place_chain moved) place_chain_moved;
+    ready_calls = IsIndex-same_chains (ready_call_chain p) p.ready_calls _ whole.chained.ready_calls (ready_call_chain moved) ready_calls_moved;
+    ready_works = IsIndex-same_chains (ready_work_chain p) p.ready_works _ whole.chained.ready_works (ready_work_chain moved) ready_works_moved;
+    polled = whole.chained.polled;
+    marks = IsRows-alike (row_chain p) (row_chain moved) (λ q. q.mark.index) (IsSeated p) (IsSeated moved) p.marks (row p) (row moved) whole.chained.marks (λ k. refl) seated_moved (λ k. refl);
+    shelves = IsRows-alike (shelf_chain p) (shelf_chain moved) (λ q. q.shelf.index) (IsSeated p) (IsSeated moved) p.shelves (part is_of_instance (row p)) (part is_of_instance (row moved)) whole.chained.shelves (λ k. refl) seated_moved (λ k. refl);
+    low = whole.chained.low;
+    behind = IsRows-alike (callers_chain p) (callers_chain moved) (λ f. f.node.index) (IsFollower p) (IsFollower moved) p.behind (callers_row p) (callers_row moved) whole.chained.behind callers_moved follows_moved (λ n. ap (chained p.behind) (callers_moved n));
+  }
+
+  nodes_moved : HaveRowNodes moved
+  nodes_moved = record {
+    marks = nodes_alike still_thread threads p.threads alike (λ g. g.mark.index) (λ g. refl) p.marks whole.nodes.marks;
+    shelves = nodes_alike still_thread threads p.threads alike (λ g. g.shelf.index) (λ g. refl) p.shelves whole.nodes.shelves;
+    callers = nodes_alike still_thread threads p.threads alike (λ g. g.caller.index) (λ g. refl) p.behind whole.nodes.callers;
+    works = whole.nodes.works;
+    apart = λ r s q w at_q at_w same. let one = place_alike still_thread threads p.threads alike r q at_q in whole.nodes.apart r s one.0 w one.1.0 at_w (ap (λ (g : GuestThread). g.mark.index) one.1.1 ∙ same);
+  }
+
+  counted_moved : size (core_of moved).threads ≡ size (core_of p).threads → size (core_of moved).sets ≡ size (core_of p).sets → ((k : ℕ) → threads_of k (core_of moved) ≡ threads_of k (core_of p)) → EachEntry (IsSetKept (core_of moved)) sets → AreCounted moved
+  unfolding table_use
+  counted_moved same_threads same_sets same_calls sets_kept = record {
+    kept = record { used = whole.counted.kept.used ∙ ap₂ (λ (m k : ℕ). length (core_of p).groups + size (core_of p).calls + 2 * m + count_by (λ e. is_host_call e.1) (core_of p).works.list + k) (sym same_threads) (sym same_sets); groups = whole.counted.kept.groups; live = whole.counted.kept.live };
+    calls = λ rep q at. whole.counted.calls rep q at ∙ sym (same_calls q.entry.item.number);
+    sets = sets_kept;
+    groups = whole.counted.groups;
+    few = whole.counted.few;
+    finished = whole.counted.finished;
+    high = whole.counted.high;
+    low = whole.counted.low;
+    works = whole.counted.works;
+    results = whole.counted.results;
+  }
+
+  pub moved_whole : EachEntry (HasHome moved) threads → IsIndex (place_chain p) places (filings place_filing threads) → size (core_of moved).threads ≡ size (core_of p).threads → size (core_of moved).sets ≡ size (core_of p).sets → ((k : ℕ) → threads_of k (core_of moved) ≡ threads_of k (core_of p)) → EachEntry (IsSetKept (core_of moved)) sets → IsWhole moved
+  moved_whole homes index same_threads same_sets same_calls sets_kept = record {
+    named = record {
+      threads = homes;
+      calls = λ rep q at. call_moved q.entry.item (whole.named.calls rep q at);
+      works = λ rep q at. work_moved q.entry.item (whole.named.works rep q at);
+      switch = switch_moved;
+    };
+    chained = chained_moved index;
+    nodes = nodes_moved;
+    counted = counted_moved same_threads same_sets same_calls sets_kept;
+  }

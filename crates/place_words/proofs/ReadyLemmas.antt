@@ -1,0 +1,208 @@
+-- The ready members of a set.
+use Rattle.std.proofs.Common.{◌≡◌, ◌==◌, ◌++◌, ◌&&◌, ◌||◌, ℕ, Bool, true, false, List, [], ◌∷◌, map, Option, Some, None, IsSome, is_some, refl, sym, ap, ap₂, ◌∙◌}
+use Rattle.std.proofs.lemmas.Bool.{eq-eqb, eqb-true}
+use Rattle.std.proofs.lemmas.Option.{same_Some}
+use Rattle.std.specs.List.{list_any}
+use Rattle.std.specs.Option.{option_and_then, option_map_or}
+use Rattle.std.specs.Prelude.{Ok}
+use Rattle.task_index.proofs.Indexes.{IsIndex-same, filed_held}
+use Rattle.task_index.proofs.Tables.{filings_at, held_passes}
+use Rattle.task_index.proofs.Members.{IsMembers-numbers}
+use Rattle.task_index.specs.Index.{Filing, Holds, IsIndex, Tests, filings, said}
+use Rattle.task_index.specs.Members.{has}
+use Rattle.task_machine.specs.Core.{Core}
+use Rattle.task_links.specs.Links.{Spot, list_of}
+use Rattle.task_machine.specs.Maps.{get, numbers}
+use Rattle.task_machine.specs.Read.{has_ready_member, is_in_set, is_ready_member, subtasks}
+use Rattle.task_machine.specs.declared.records.Call.{Call}
+use Rattle.task_machine.specs.declared.records.Join.{Join}
+use Rattle.task_machine.specs.declared.records.Join.TheVariants as join
+use Rattle.task_machine.specs.declared.records.Subtask.{Subtask}
+use Rattle.task_machine.specs.declared.records.Subtask.TheVariants as subtask
+use Rattle.task_machine.specs.declared.records.Work.{Work}
+use Rattle.task_machine.specs.declared.words.Status.{Status}
+use Rattle.task_records.specs.Keys.{call_key, work_key}
+use Rattle.task_records.specs.Kinds.{item_of, on_item}
+use Rattle.task_records.specs.Places.{ready_call, ready_call_chain, ready_in, ready_work, ready_work_chain}
+use Rattle.task_records.specs.Seen.{IsSound, parts_of, seen}
+use Rattle.task_records.specs.Sound.{bare, bare_call, bare_work}
+use Rattle.task_records.specs.declared.calls.GuestTask.{GuestTask}
+use Rattle.task_records.specs.declared.parts.CoreParts.{CoreParts}
+use Rattle.task_records.specs.declared.sets.WaitSet.{WaitSet}
+use Rattle.task_records.specs.declared.single.Single.{Single}
+use Rattle.task_records.specs.declared.works.HostWork.{HostWork}
+use Rattle.task_table.proofs.MappedLemmas.{place_at-mapped}
+use Rattle.task_table.proofs.RecordLemmas.{get-records, record_found}
+use Rattle.task_table.specs.Answers.{item_at}
+use Rattle.task_table.specs.Mapped.{placed_as}
+use Rattle.task_table.specs.Records.{key_in, number_in, record_at, records}
+use Rattle.task_table.specs.Table.{Placed, Table, place_at}
+use Rattle.place_words.proofs.FiledLemmas.{kept_under, passes_number}
+
+-- what has this event and is joined so is a ready member
+abbrev pub is_ready : ℕ → Join → Option Status → Bool
+is_ready x j e = is_in_set x j && is_some e
+
+ready_passes : (x : ℕ) (e : Option Status) (j : Join) → ready_in e j ≡ Some x → is_ready x j e ≡ true
+ready_passes x (Some e) (join.Set y) is = ap (λ b. b && true) (eq-eqb x y (sym (same_Some y x is)))
+ready_passes x (Some e) join.Nowhere is = absurd (cc)
+ready_passes x (Some e) (join.Watched n) is = absurd (cc)
+ready_passes x None j is = absurd (cc)
+
+ready_filed : (x : ℕ) (e : Option Status) (j : Join) → is_ready x j e ≡ true → ready_in e j ≡ Some x
+ready_filed x (Some e) (join.Set y) is = ap (λ z. Some z) (sym (eqb-true x y (both (x == y) is)))
+  where
+    both : (b : Bool) → (b && true) ≡ true → b ≡ true
+    both true is = refl
+    both false is = is
+ready_filed x (Some e) join.Nowhere is = absurd (cc)
+ready_filed x (Some e) (join.Watched n) is = absurd (cc)
+ready_filed x None j is = absurd (never (is_in_set x j) is)
+  where
+    never : (b : Bool) → (b && false) ≡ true → ⊥
+    never true is = absurd (cc)
+    never false is = absurd (cc)
+
+call_tests : (x : ℕ) → Tests ready_call call_key x (λ (e : ℕ × Call). is_ready x e.1.join e.1.event)
+call_tests x = record {
+  passes = λ rep serial e f says is_k. ((e.item.number, e.item.call), (refl, ready_passes x e.item.call.event e.item.call.join (ap (λ (g : Filing ℕ ℕ). g.key) (same_Some (record { node = e.item.ready.index; key = ready_in e.item.call.event e.item.call.join; value = rep }) f says) ∙ is_k)));
+  filed = λ rep serial e y says is. (record { node = e.item.ready.index; key = ready_in e.item.call.event e.item.call.join; value = rep }, (refl, ready_filed x e.item.call.event e.item.call.join (ap (λ (z : ℕ × Call). is_ready x z.1.join z.1.event) (same_Some (e.item.number, e.item.call) y says) ∙ is)));
+}
+
+work_tests : (x : ℕ) → Tests ready_work work_key x (λ (e : ℕ × Work). is_ready x e.1.join e.1.event)
+work_tests x = record {
+  passes = λ rep serial e f says is_k. ((e.item.number, e.item.work), (refl, ready_passes x e.item.work.event e.item.work.join (ap (λ (g : Filing ℕ ℕ). g.key) (same_Some (record { node = e.item.ready.index; key = ready_in e.item.work.event e.item.work.join; value = rep }) f says) ∙ is_k)));
+  filed = λ rep serial e y says is. (record { node = e.item.ready.index; key = ready_in e.item.work.event e.item.work.join; value = rep }, (refl, ready_filed x e.item.work.event e.item.work.join (ap (λ (z : ℕ × Work). is_ready x z.1.join z.1.event) (same_Some (e.item.number, e.item.work) y says) ∙ is)));
+}
+
+-- where the chain of a key is empty no record passes
+none_at : {E K X : Type 0} (says : ℕ → ℕ → E → Option (Filing K ℕ)) (chain : K → Option ℕ) (t : Table E) (links : List (Spot ℕ)) (index : IsIndex chain links (filings says t)) (k : K) (c : ℕ) → chain k ≡ Some c → (key : E → Option (ℕ × X)) (test : ℕ × X → Bool) → Tests says key k test → ((v : ℕ) → Holds links c v → ⊥) → (n : ℕ) (x : X) → get (records key t.places) n ≡ Some x → test (n, x) ≡ false
+none_at {E} {K} {X} says chain t links index k c has key test tests empty n x is = by (test (n, x)) refl (record_found key t.places n x (sym (get-records key t.places n) ∙ is))
+  where
+    by_place : (r : ℕ) (o : Option (Placed E)) → place_at t r ≡ o → key_in key o ≡ Some (n, x) → test (n, x) ≡ true → ⊥
+    by_place r None at is passes = absurd (cc)
+    by_place r (Some p) at is passes =
+        let f = tests.filed r p.serial p.entry (n, x) is passes in
+        empty f.0.value (filed_held chain links (filings says t) index k c has f.0.value (r, (f.0, (filings_at says t r (Some p) at ∙ f.1.0, (f.1.1, refl)))))
+
+    by : (b : Bool) → test (n, x) ≡ b → (r : ℕ) × (record_at key t.places r ≡ Some (n, x)) → b ≡ false
+    by true passes one = absurd (by_place one.0 (place_at t one.0) refl one.1 passes)
+    by false passes one = refl
+
+none_both : {X : Type 0} (u : X → Bool) (f g : ℕ → X) (ns ms : List ℕ) → ((n : ℕ) → u (f n) ≡ false) → ((n : ℕ) → u (g n) ≡ false) → list_any u (map f ns ++ map g ms) ≡ false
+none_both u f g [] [] none_f none_g = refl
+none_both u f g [] (m ∷ ms) none_f none_g = ap₂ (λ b c. b || c) (none_g m) (none_both u f g [] ms none_f none_g)
+none_both u f g (n ∷ ns) ms none_f none_g = ap₂ (λ b c. b || c) (none_f n) (none_both u f g ns ms none_f none_g)
+
+module _ (a : CoreParts) (sound : IsSound a) where
+  calls_filed : IsIndex (ready_call_chain (bare (parts_of a))) a.ready_calls (filings ready_call a.calls)
+  unfolding IsSound filings
+  calls_filed = IsIndex-same (ready_call_chain (bare (parts_of a))) a.ready_calls _ sound.whole.chained.ready_calls (filings ready_call a.calls) (λ r. sym (ap (said ready_call r) (place_at-mapped (on_item bare_call) a.calls r) ∙ by r (place_at a.calls r)))
+    where
+      by : (r : ℕ) (o : Option (Placed (Single GuestTask))) → said ready_call r (placed_as (on_item bare_call) o) ≡ said ready_call r o
+      by r None = refl
+      by r (Some p) = refl
+
+  works_filed : IsIndex (ready_work_chain (bare (parts_of a))) a.ready_works (filings ready_work a.works)
+  unfolding IsSound filings
+  works_filed = IsIndex-same (ready_work_chain (bare (parts_of a))) a.ready_works _ sound.whole.chained.ready_works (filings ready_work a.works) (λ r. sym (ap (said ready_work r) (place_at-mapped (on_item bare_work) a.works r) ∙ by r (place_at a.works r)))
+    where
+      by : (r : ℕ) (o : Option (Placed (Single HostWork))) → said ready_work r (placed_as (on_item bare_work) o) ≡ said ready_work r o
+      by r None = refl
+      by r (Some p) = refl
+
+  module _ (rep serial : ℕ) (g : WaitSet) (is : Ok g ≡ item_at item_of a.sets rep serial) where
+    calls_chain : ready_call_chain (bare (parts_of a)) g.number ≡ Some g.ready_calls
+    unfolding IsSound
+    calls_chain = kept_under (λ (x : WaitSet). x.number) (λ (x : WaitSet). x.set) (λ (x : WaitSet). x.ready_calls) a.sets a.made.sets sound.tables.sets rep serial g is
+
+    works_chain : ready_work_chain (bare (parts_of a)) g.number ≡ Some g.ready_works
+    unfolding IsSound
+    works_chain = kept_under (λ (x : WaitSet). x.number) (λ (x : WaitSet). x.set) (λ (x : WaitSet). x.ready_works) a.sets a.made.sets sound.tables.sets rep serial g is
+
+    pub ready_calls_live : IsSome (list_of a.ready_calls g.ready_calls)
+    ready_calls_live = calls_filed.live g.number g.ready_calls calls_chain
+
+    pub ready_works_live : IsSome (list_of a.ready_works g.ready_works)
+    ready_works_live = works_filed.live g.number g.ready_works works_chain
+
+    -- what the chains hold is the place of a ready member
+    pub call_held : (v : ℕ) → Holds a.ready_calls g.ready_calls v → (x n : ℕ) → g.number ≡ x → n ≡ number_in (record_at call_key a.calls.places v) → is_ready_member x (subtask.Guest n) (seen a).core ≡ true
+    unfolding seen IsSound
+    call_held v holds x n same at =
+        let one = held_passes ready_call (ready_call_chain (bare (parts_of a))) a.calls a.ready_calls calls_filed g.number g.ready_calls calls_chain call_key (λ (e : ℕ × Call). is_ready g.number e.1.join e.1.event) (call_tests g.number) sound.tables.calls.apart v holds in
+        let here : one.place ≡ v = ap (λ (f : Filing ℕ ℕ). f.value) (same_Some (record { node = one.placed.entry.item.ready.index; key = ready_in one.placed.entry.item.call.event one.placed.entry.item.call.join; value = one.place }) one.filed one.is_said) ∙ one.is_value in
+        let number : one.entry.0 ≡ n = passes_number (λ (h : GuestTask). h.number) (λ (h : GuestTask). h.call) ready_call a.calls (λ (e : ℕ × Call). is_ready g.number e.1.join e.1.event) v n one here at in
+        let found : get (records call_key a.calls.places) n ≡ Some one.entry.1 = ap (get (records call_key a.calls.places)) (sym number) ∙ one.is_found in
+        ap (λ o. is_in_set x (option_map_or (λ (c : Call). c.join) o join.Nowhere) && is_some (option_and_then (λ (c : Call). c.event) o)) found ∙ (ap (λ y. is_ready y one.entry.1.join one.entry.1.event) (sym same) ∙ one.passes)
+
+    pub work_held : (v : ℕ) → Holds a.ready_works g.ready_works v → (x n : ℕ) → g.number ≡ x → n ≡ number_in (record_at work_key a.works.places v) → is_ready_member x (subtask.Host n) (seen a).core ≡ true
+    unfolding seen IsSound
+    work_held v holds x n same at =
+        let one = held_passes ready_work (ready_work_chain (bare (parts_of a))) a.works a.ready_works works_filed g.number g.ready_works works_chain work_key (λ (e : ℕ × Work). is_ready g.number e.1.join e.1.event) (work_tests g.number) sound.tables.works.apart v holds in
+        let here : one.place ≡ v = ap (λ (f : Filing ℕ ℕ). f.value) (same_Some (record { node = one.placed.entry.item.ready.index; key = ready_in one.placed.entry.item.work.event one.placed.entry.item.work.join; value = one.place }) one.filed one.is_said) ∙ one.is_value in
+        let number : one.entry.0 ≡ n = passes_number (λ (h : HostWork). h.number) (λ (h : HostWork). h.work) ready_work a.works (λ (e : ℕ × Work). is_ready g.number e.1.join e.1.event) v n one here at in
+        let found : get (records work_key a.works.places) n ≡ Some one.entry.1 = ap (get (records work_key a.works.places)) (sym number) ∙ one.is_found in
+        ap (λ o. is_in_set x (option_map_or (λ (c : Work). c.join) o join.Nowhere) && is_some (option_and_then (λ (c : Work). c.event) o)) found ∙ (ap (λ y. is_ready y one.entry.1.join one.entry.1.event) (sym same) ∙ one.passes)
+
+    -- where both chains are empty no member is ready
+    pub none_ready : ((v : ℕ) → Holds a.ready_calls g.ready_calls v → ⊥) → ((v : ℕ) → Holds a.ready_works g.ready_works v → ⊥) → (x : ℕ) → g.number ≡ x → has_ready_member x (seen a).core ≡ false
+    unfolding seen has_ready_member
+    none_ready no_calls no_works x same =
+        ap (λ y. list_any (λ sub. is_ready_member y sub (seen a).core) (subtasks (seen a).core)) (sym same)
+        ∙ none_both (λ sub. is_ready_member g.number sub (seen a).core) (λ n. subtask.Guest n) (λ n. subtask.Host n) (numbers (seen a).core.calls) (numbers (seen a).core.works)
+        (λ n. call_not n (get (records call_key a.calls.places) n) refl) (λ n. work_not n (get (records work_key a.works.places) n) refl)
+      where
+        call_not : (n : ℕ) (o : Option Call) → get (records call_key a.calls.places) n ≡ o → is_ready_member g.number (subtask.Guest n) (seen a).core ≡ false
+        call_not n None is = ap (λ o. is_in_set g.number (option_map_or (λ (c : Call). c.join) o join.Nowhere) && is_some (option_and_then (λ (c : Call). c.event) o)) is
+        call_not n (Some c) is = ap (λ o. is_in_set g.number (option_map_or (λ (c : Call). c.join) o join.Nowhere) && is_some (option_and_then (λ (c : Call). c.event) o)) is
+            ∙ none_at ready_call (ready_call_chain (bare (parts_of a))) a.calls a.ready_calls calls_filed g.number g.ready_calls calls_chain call_key (λ (e : ℕ × Call). is_ready g.number e.1.join e.1.event) (call_tests g.number) no_calls n c is
+
+        work_not : (n : ℕ) (o : Option Work) → get (records work_key a.works.places) n ≡ o → is_ready_member g.number (subtask.Host n) (seen a).core ≡ false
+        work_not n None is = ap (λ o. is_in_set g.number (option_map_or (λ (c : Work). c.join) o join.Nowhere) && is_some (option_and_then (λ (c : Work). c.event) o)) is
+        work_not n (Some c) is = ap (λ o. is_in_set g.number (option_map_or (λ (c : Work). c.join) o join.Nowhere) && is_some (option_and_then (λ (c : Work). c.event) o)) is
+            ∙ none_at ready_work (ready_work_chain (bare (parts_of a))) a.works a.ready_works works_filed g.number g.ready_works works_chain work_key (λ (e : ℕ × Work). is_ready g.number e.1.join e.1.event) (work_tests g.number) no_works n c is
+
+-- ---- Some member is ready
+
+pub any_mapped : {X : Type 0} (u : X → Bool) (f : ℕ → X) (n : ℕ) (ns : List ℕ) → has n ns ≡ true → u (f n) ≡ true → list_any u (map f ns) ≡ true
+any_mapped u f n [] there is = absurd (cc)
+any_mapped u f n (m ∷ ns) there is = by (n == m) refl there (λ rest. any_mapped u f n ns rest is)
+  where
+    or_right : (b : Bool) → list_any u (map f ns) ≡ true → (b || list_any u (map f ns)) ≡ true
+    or_right true any = refl
+    or_right false any = any
+
+    by : (b : Bool) → (n == m) ≡ b → (b || has n ns) ≡ true → (has n ns ≡ true → list_any u (map f ns) ≡ true) → (u (f m) || list_any u (map f ns)) ≡ true
+    by true same there rest = ap (λ b. b || list_any u (map f ns)) (ap (λ k. u (f k)) (sym (eqb-true n m same)) ∙ is)
+    by false same there rest = or_right (u (f m)) (rest there)
+
+pub any_left : {X : Type 0} (u : X → Bool) (xs ys : List X) → list_any u xs ≡ true → list_any u (xs ++ ys) ≡ true
+any_left u [] ys any = absurd (cc)
+any_left u (x ∷ xs) ys any = by (u x) any (any_left u xs ys)
+  where
+    by : (b : Bool) → (b || list_any u xs) ≡ true → (list_any u xs ≡ true → list_any u (xs ++ ys) ≡ true) → (b || list_any u (xs ++ ys)) ≡ true
+    by true any rest = refl
+    by false any rest = rest any
+
+pub any_right : {X : Type 0} (u : X → Bool) (xs ys : List X) → list_any u ys ≡ true → list_any u (xs ++ ys) ≡ true
+any_right u [] ys any = any
+any_right u (x ∷ xs) ys any = by (u x) (any_right u xs ys any)
+  where
+    by : (b : Bool) → list_any u (xs ++ ys) ≡ true → (b || list_any u (xs ++ ys)) ≡ true
+    by true any = refl
+    by false any = any
+
+-- a ready member is there
+pub some_ready : (s : Core) (x : ℕ) (sub : Subtask) → is_ready_member x sub s ≡ true → has_ready_member x s ≡ true
+unfolding has_ready_member
+some_ready s x (subtask.Guest n) is = any_left (λ sub. is_ready_member x sub s) (map (λ n. subtask.Guest n) (numbers s.calls)) (map (λ n. subtask.Host n) (numbers s.works)) (any_mapped (λ sub. is_ready_member x sub s) (λ n. subtask.Guest n) n (numbers s.calls) ((IsMembers-numbers s.calls).are n ∙ by (get s.calls n) is) is)
+  where
+    by : (o : Option Call) → (is_in_set x (option_map_or (λ (c : Call). c.join) o join.Nowhere) && is_some (option_and_then (λ (c : Call). c.event) o)) ≡ true → is_some o ≡ true
+    by None is = absurd (cc)
+    by (Some c) is = refl
+some_ready s x (subtask.Host n) is = any_right (λ sub. is_ready_member x sub s) (map (λ n. subtask.Guest n) (numbers s.calls)) (map (λ n. subtask.Host n) (numbers s.works)) (any_mapped (λ sub. is_ready_member x sub s) (λ n. subtask.Host n) n (numbers s.works) ((IsMembers-numbers s.works).are n ∙ by (get s.works n) is) is)
+  where
+    by : (o : Option Work) → (is_in_set x (option_map_or (λ (c : Work). c.join) o join.Nowhere) && is_some (option_and_then (λ (c : Work). c.event) o)) ≡ true → is_some o ≡ true
+    by None is = absurd (cc)
+    by (Some c) is = refl

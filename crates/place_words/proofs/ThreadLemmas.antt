@@ -1,0 +1,52 @@
+-- Words on one thread: its record is read, or there is none.
+use Rattle.std.proofs.Common.{◌≡◌, ℕ, Some, None, refl, sym, ap, subst, ◌∙◌}
+use Rattle.std.specs.Option.{option_map, option_map_or}
+use Rattle.std.specs.Prelude.{Ok}
+use Rattle.task_machine.specs.Maps.{change, changed, get}
+use Rattle.task_machine.specs.Moves.{ready_why, why_of}
+use Rattle.task_machine.specs.Write.{on_thread}
+use Rattle.task_machine.specs.declared.records.Thread.{Thread}
+use Rattle.task_machine.specs.declared.records.Why.{Why}
+use Rattle.task_machine.specs.declared.records.Why.TheVariants as why
+use Rattle.task_records.proofs.HomeLemmas.{place_bare, thread_home}
+use Rattle.task_records.proofs.KindLemmas.{item_stands}
+use Rattle.task_records.specs.Keys.{thread_key}
+use Rattle.task_records.specs.Kinds.{entry_of, item_of, on_item}
+use Rattle.task_records.specs.Names.{AtPlace, how_far_target, why_target}
+use Rattle.task_records.specs.Seen.{IsSound, parts_of}
+use Rattle.task_records.specs.declared.parts.CoreParts.{CoreParts}
+use Rattle.task_records.specs.declared.threads.GuestThread.{GuestThread}
+use Rattle.task_table.proofs.MappedLemmas.{mapped-with_entry_same}
+use Rattle.task_table.specs.Answers.{item_at}
+use Rattle.task_table.specs.Changes.{with_entry}
+use Rattle.task_table.specs.Records.{number_in, record_at}
+use Rattle.task_table.specs.declared.id.TableId.{TableId}
+use Rattle.task_wait.specs.declared.keys.ThreadKey.{ThreadKey}
+use Rattle.task_words.specs.StateView.{StateView, on_core}
+use Rattle.place_words.proofs.AlikeLemmas.{number_alike}
+use Rattle.place_words.specs.Moved.{still, still_thread}
+use Rattle.place_words.proofs.WaiterLemmas.{delivery_at}
+
+-- a write of a thread that isn't there changes nothing
+pub thread_gone : (s : StateView) (n : ℕ) → None ≡ get s.core.threads n → (f : Thread → Thread) → s ≡ on_core (on_thread n f) s
+unfolding on_thread change
+thread_gone s n none f = ap (λ m. record s { core = record s.core { threads = m } }) (ap (changed s.core.threads n f) none)
+
+-- why the entry of a thread is queued, as its record says
+pub why_is : (s : StateView) (n : ℕ) (t : Thread) → Some t ≡ get s.core.threads n → (w : Why) → w ≡ ready_why t.place → why_of n s.core ≡ w
+why_is s n t is w reason = sym (ap (λ o. option_map_or ready_why (option_map (λ (t : Thread). t.place) o) why.Resumption) is) ∙ sym reason
+
+module _ (a : CoreParts) (sound : IsSound a) (id : TableId ThreadKey) (g : GuestThread) (is : Ok g ≡ item_at item_of a.threads id.rep id.serial) where
+  pub how_far_at : AtPlace (parts_of a) g.awaited (how_far_target g.thread.how_far)
+  how_far_at = place_bare a _ _ (thread_home a sound id g is).how_far
+
+  pub why_at : (w : Why) → w ≡ ready_why g.thread.place → AtPlace (parts_of a) g.beside (why_target w)
+  why_at w reason = subst (λ v. AtPlace (parts_of a) g.beside (why_target v)) (sym reason) (delivery_at (parts_of a) g.beside g.thread.place (place_bare a _ _ (thread_home a sound id g is).place))
+
+  -- the numbers at places stay where the thread is at another place
+  pub numbers_put : (h : GuestThread) → still_thread h ≡ still_thread g → (r : ℕ) → number_in (record_at thread_key (with_entry id.rep (entry_of h) a.threads).places r) ≡ number_in (record_at thread_key a.threads.places r)
+  unfolding IsSound
+  numbers_put h same r =
+      let one = item_stands (λ (g : GuestThread). g.number) (λ (g : GuestThread). g.thread) a.threads a.made.threads sound.tables.threads id.rep id.serial g is in
+      number_alike still_thread (with_entry id.rep (entry_of h) a.threads) a.threads (mapped-with_entry_same (on_item still_thread) a.threads id.rep (entry_of h) one.0 one.1.0 (ap entry_of same ∙ sym (ap (on_item still_thread) one.1.1.1)))
+      (λ (g : GuestThread). g.number) (λ g. refl) (λ (g : GuestThread). g.thread) still (λ g. refl) r

@@ -1,0 +1,92 @@
+-- The waiters of a set.
+use Rattle.std.proofs.Common.{◌≡◌, ◌<◌, ℕ, true, false, Some, IsSome, sym, ap, subst, ◌∙◌}
+use Rattle.std.proofs.lemmas.Bool.{eq-eqb, eqb-true}
+use Rattle.std.proofs.lemmas.Option.{same_Some}
+use Rattle.std.specs.Option.{option_map, option_map_or}
+use Rattle.std.specs.Prelude.{Ok}
+use Rattle.task_index.proofs.Tables.{held_passes, none_passes}
+use Rattle.task_index.specs.Index.{Filing, Holds}
+use Rattle.task_links.specs.Links.{list_of}
+use Rattle.task_machine.specs.Maps.{get}
+use Rattle.task_machine.specs.Read.{has_waiter, is_waiter, is_waiting_on}
+use Rattle.task_machine.specs.declared.records.Place.{Place}
+use Rattle.task_machine.specs.declared.records.Place.TheVariants as place
+use Rattle.task_machine.specs.declared.records.Thread.{Thread}
+use Rattle.task_records.specs.Keys.{thread_key}
+use Rattle.task_records.specs.Kinds.{item_of}
+use Rattle.task_records.specs.Names.{AtPlace, place_target, why_target}
+use Rattle.task_machine.specs.Moves.{ready_why}
+use Rattle.task_records.specs.Places.{WaitsOn, Where, place_chain, place_filing, where_at}
+use Rattle.task_records.specs.Image.{Parts}
+use Rattle.task_records.specs.Seen.{IsSound, parts_of, seen}
+use Rattle.task_records.specs.Sound.{bare}
+use Rattle.task_records.specs.declared.parts.CoreParts.{CoreParts}
+use Rattle.task_records.specs.declared.sets.WaitSet.{WaitSet}
+use Rattle.task_records.specs.declared.threads.GuestThread.{GuestThread}
+use Rattle.task_table.specs.Answers.{item_at}
+use Rattle.task_table.specs.Records.{key_in, number_in, record_at, records}
+use Rattle.place_words.proofs.FiledLemmas.{kept_under, passes_number, place_tests, places_filed}
+use Rattle.queue_words.proofs.BareLemmas.{number_positive}
+
+-- the set of a queued delivery is what the place names
+pub delivery_at : (p : Parts) (rep : ℕ) (o : Place) → AtPlace p rep (place_target o) → AtPlace p rep (why_target (ready_why o))
+delivery_at p rep (place.Ready m w) at = at
+delivery_at p rep place.New at = tt
+delivery_at p rep place.Running at = tt
+delivery_at p rep (place.Under n) at = tt
+delivery_at p rep (place.Behind n) at = tt
+delivery_at p rep (place.Waiting x b) at = tt
+delivery_at p rep (place.Blocked sub) at = tt
+delivery_at p rep (place.Held w) at = tt
+delivery_at p rep place.Suspended at = tt
+
+waits_passes : (x i : ℕ) (p : Place) → where_at i p ≡ Some (WaitsOn x) → is_waiting_on x p ≡ true
+waits_passes x i (place.Waiting y b) is = eq-eqb x y (same x y is)
+  where
+    same : (x y : ℕ) → Some (WaitsOn y) ≡ Some (WaitsOn x) → x ≡ y
+    same x y is = cc
+waits_passes x i (place.Ready m w) is = absurd (cc)
+waits_passes x i place.New is = absurd (cc)
+waits_passes x i place.Running is = absurd (cc)
+waits_passes x i (place.Under n) is = absurd (cc)
+waits_passes x i (place.Behind n) is = absurd (cc)
+waits_passes x i (place.Blocked sub) is = absurd (cc)
+waits_passes x i (place.Held w) is = absurd (cc)
+waits_passes x i place.Suspended is = absurd (cc)
+
+waits_filed : (x i : ℕ) (p : Place) → is_waiting_on x p ≡ true → where_at i p ≡ Some (WaitsOn x)
+waits_filed x i (place.Waiting y b) is = ap (λ z. Some (WaitsOn z)) (sym (eqb-true x y is))
+waits_filed x i (place.Ready m w) is = absurd (cc)
+waits_filed x i place.New is = absurd (cc)
+waits_filed x i place.Running is = absurd (cc)
+waits_filed x i (place.Under n) is = absurd (cc)
+waits_filed x i (place.Behind n) is = absurd (cc)
+waits_filed x i (place.Blocked sub) is = absurd (cc)
+waits_filed x i (place.Held w) is = absurd (cc)
+waits_filed x i place.Suspended is = absurd (cc)
+
+module _ (a : CoreParts) (sound : IsSound a) (rep serial : ℕ) (g : WaitSet) (is : Ok g ≡ item_at item_of a.sets rep serial) where
+  waiters_chain : place_chain (bare (parts_of a)) (WaitsOn g.number) ≡ Some g.waiters
+  unfolding IsSound
+  waiters_chain = kept_under (λ (x : WaitSet). x.number) (λ (x : WaitSet). x.set) (λ (x : WaitSet). x.waiters) a.sets a.made.sets sound.tables.sets rep serial g is
+
+  pub waiters_live : IsSome (list_of a.places g.waiters)
+  waiters_live = (places_filed a sound).live (WaitsOn g.number) g.waiters waiters_chain
+
+  -- an empty chain, no waiter
+  pub no_waiter : (x : ℕ) → g.number ≡ x → ((v : ℕ) → Holds a.places g.waiters v → ⊥) → has_waiter x (seen a).core ≡ false
+  unfolding seen has_waiter
+  no_waiter x same empty = ap (λ y. has_waiter y (seen a).core) (sym same) ∙ none_passes place_filing (place_chain (bare (parts_of a))) a.threads a.places (places_filed a sound) (WaitsOn g.number) g.waiters waiters_chain thread_key (λ (e : ℕ × Thread). is_waiting_on g.number e.1.place) (place_tests (WaitsOn g.number) (is_waiting_on g.number) (waits_passes g.number) (waits_filed g.number)) empty
+
+  -- what the chain holds is the place of a waiter
+  module _ (v : ℕ) (holds : Holds a.places g.waiters v) where
+    pub waiter_held : (x n : ℕ) → g.number ≡ x → n ≡ number_in (record_at thread_key a.threads.places v) → (is_waiter x n (seen a).core ≡ true) × (0 < n)
+    unfolding seen IsSound
+    waiter_held x n same at =
+        let one = held_passes place_filing (place_chain (bare (parts_of a))) a.threads a.places (places_filed a sound) (WaitsOn g.number) g.waiters waiters_chain thread_key (λ (e : ℕ × Thread). is_waiting_on g.number e.1.place) (place_tests (WaitsOn g.number) (is_waiting_on g.number) (waits_passes g.number) (waits_filed g.number)) sound.tables.threads.apart v holds in
+        let here : one.place ≡ v = ap (λ (f : Filing Where ℕ). f.value) (same_Some (record { node = one.placed.entry.item.node.index; key = where_at one.placed.entry.item.instance one.placed.entry.item.thread.place; value = one.place }) one.filed one.is_said) ∙ one.is_value in
+        let number : one.entry.0 ≡ n = passes_number (λ (h : GuestThread). h.number) (λ (h : GuestThread). h.thread) place_filing a.threads (λ (e : ℕ × Thread). is_waiting_on g.number e.1.place) v n one here at in
+        let found : get (records thread_key a.threads.places) n ≡ Some one.entry.1 = ap (get (records thread_key a.threads.places)) (sym number) ∙ one.is_found in (
+          ap (λ o. option_map_or (is_waiting_on x) (option_map (λ (t : Thread). t.place) o) false) found ∙ (ap (λ y. is_waiting_on y one.entry.1.place) (sym same) ∙ one.passes),
+          subst (λ m. 0 < m) (sym (at ∙ ap (λ r. number_in (record_at thread_key a.threads.places r)) (sym here) ∙ ap (λ o. number_in (key_in thread_key o)) one.stands)) (number_positive (λ (h : GuestThread). h.number) (λ (h : GuestThread). h.thread) a.threads a.made.threads sound.tables.threads one.place one.placed one.stands),
+        )

@@ -1,0 +1,63 @@
+use Rattle.std.proofs.Common.{Option, ap, refl, subst, sym, ◌+◌, ◌∙◌, ◌≡◌, ℕ}
+use Rattle.std.specs.Option.{option_map}
+use Rattle.place_words.proofs.GoneLemmas.{work_gone}
+use Rattle.place_words.proofs.JoinLemmas.{in_is, less_fits, more_fits, sets_sound}
+use Rattle.place_words.proofs.HearLemmas.{heard_seen, heard_sound, joined_alike, joined_now, kept_joined, ready_live, ready_made, some_member, stays_live, work_join_at}
+use Rattle.place_words.proofs.joins.set_work_join.Goals as goal
+use Rattle.place_words.specs.Moved.{joined_set, rejoined}
+use Rattle.task_index.specs.Index.{Refiles}
+use Rattle.task_machine.specs.Write.{on_work, set_join}
+use Rattle.task_machine.specs.declared.records.Join.{Join}
+use Rattle.task_machine.specs.declared.records.Work.{Work}
+use Rattle.task_records.specs.Kinds.{entry_of, item_of}
+use Rattle.task_records.specs.Seen.{IsSound, seen}
+use Rattle.task_records.specs.declared.sets.WaitSet.{WaitSet}
+use Rattle.task_records.specs.declared.single.Single.{Single}
+use Rattle.task_table.specs.Answers.{item_at}
+use Rattle.task_table.specs.Changes.{with_entry}
+use Rattle.task_table.specs.Table.{Table}
+use Rattle.task_words.specs.StateView.{work_of, on_core}
+
+pub joined_set-from-requires-clause-at : goal.joined_set-from-requires-clause-at
+joined_set-from-requires-clause-at c = work_join_at c.args.parts.now c.requires c.args.work c.in-Some.found.now c.in-Some.ensures.item
+
+pub leave-requires : goal.leave-requires
+leave-requires c = let a = c.args.parts.now in let g = c.in-Some.found.now in less_fits a c.requires (joined_set g.work.join) (joined_set c.named_join-named.result.0) c.joined_set-from.result c.joined_set-to.result c.joined_set-from.ensures c.joined_set-to.ensures (λ n in_set. some_member a c.requires c.args.work g c.in-Some.ensures.item n (in_is n g.work.join ∙ in_set))
+
+pub enter-requires : goal.enter-requires
+enter-requires c x is =
+    let a = c.args.parts.now in
+    let g = c.in-Some.found.now in
+    more_fits a c.requires (joined_set g.work.join) (joined_set c.named_join-named.result.0) c.joined_set-from.result c.joined_set-to.result c.joined_set-from.ensures c.joined_set-to.ensures x (is ∙ ap (λ (t : Table (Single WaitSet)). item_at item_of t c.joined_set-to.result.rep c.joined_set-to.result.serial) c.leave.ensures)
+
+pub refile-requires-clause-made : goal.refile-requires-clause-made
+refile-requires-clause-made c = ready_made c.args.parts.now c.requires c.args.work c.in-Some.found.now c.in-Some.ensures.item
+
+pub refile-requires-clause-live : goal.refile-requires-clause-live
+refile-requires-clause-live c = ready_live c.args.parts.now c.requires c.args.work c.in-Some.found.now c.in-Some.ensures.item _ _ _ c.work_chain-chain.ensures
+
+pub returns-in-Ok-clause-sound : goal.returns-in-Ok-clause-sound
+returns-in-Ok-clause-sound c =
+    let a = c.args.parts.now in
+    let g = c.in-Some.found.now in
+    let h = record g { work = record g.work { join = c.named_join-named.result.0 }; joined = c.named_join-named.result.1 } in
+    let links = c.refile.new.links in
+    subst (λ (t : Table (Single WaitSet)). IsSound (record a { works = with_entry c.args.work.rep (entry_of h) a.works; sets = t; ready_works = links })) (sym (c.enter.ensures ∙ ap (rejoined (λ n. n + 1) c.joined_set-to.result.rep c.joined_set-to.result.serial) c.leave.ensures))
+    (heard_sound a c.requires c.args.work g c.in-Some.ensures.item h refl (joined_now a c.requires c.args.work g c.in-Some.ensures.item h refl c.joined_set-from.result c.joined_set-to.result c.joined_set-from.ensures c.joined_set-to.ensures links) (joined_alike a c.requires c.args.work g c.in-Some.ensures.item h refl c.joined_set-from.result c.joined_set-to.result c.joined_set-from.ensures c.joined_set-to.ensures links) links a.polled a.kept.live a.kept.moving c.named_join-named.ensures.at (sets_sound a c.requires (joined_set g.work.join) (joined_set c.named_join-named.result.0) c.joined_set-from.result c.joined_set-to.result c.joined_set-from.ensures c.joined_set-to.ensures) (kept_joined a c.requires c.args.work g c.in-Some.ensures.item h refl c.joined_set-from.result c.joined_set-to.result c.joined_set-from.ensures c.joined_set-to.ensures links) refl refl (stays_live a c.requires c.args.work g c.in-Some.ensures.item h refl refl)
+    (subst (λ (l : Option (ℕ × ℕ)). Refiles a.ready_works links g.ready.index l)
+    (ap (λ r. option_map (λ k. (k, r)) c.work_chain-chain.result) c.rep.ensures ∙ ap (option_map (λ k. (k, c.args.work.rep))) (sym c.work_chain-chain.ensures)) c.refile.ensures.links))
+
+pub returns-in-Ok-clause-new : goal.returns-in-Ok-clause-new
+unfolding set_join
+returns-in-Ok-clause-new c =
+    let a = c.args.parts.now in
+    let g = c.in-Some.found.now in
+    let h = record g { work = record g.work { join = c.named_join-named.result.0 }; joined = c.named_join-named.result.1 } in
+    let links = c.refile.new.links in
+    subst (λ (t : Table (Single WaitSet)). seen (record a { works = with_entry c.args.work.rep (entry_of h) a.works; sets = t; ready_works = links }) ≡ on_core (on_work (work_of (seen a) c.args.work) (λ (x : Work). record x { join = c.named_join-named.result.0 })) (seen a)) (sym (c.enter.ensures ∙ ap (rejoined (λ n. n + 1) c.joined_set-to.result.rep c.joined_set-to.result.serial) c.leave.ensures))
+    (heard_seen a c.requires c.args.work g c.in-Some.ensures.item h refl (joined_now a c.requires c.args.work g c.in-Some.ensures.item h refl c.joined_set-from.result c.joined_set-to.result c.joined_set-from.ensures c.joined_set-to.ensures links) (joined_alike a c.requires c.args.work g c.in-Some.ensures.item h refl c.joined_set-from.result c.joined_set-to.result c.joined_set-from.ensures c.joined_set-to.ensures links) links a.polled a.kept.live a.kept.moving (λ (x : Work). record x { join = c.named_join-named.result.0 }) refl)
+    ∙ ap (λ (j : Join). on_core (on_work (work_of (seen a) c.args.work) (λ (x : Work). record x { join = j })) (seen a)) (sym c.named_join-named.ensures.is)
+
+pub returns-in_default-clause-new : goal.returns-in_default-clause-new
+unfolding set_join
+returns-in_default-clause-new c = work_gone _ _ c.in_default.ensures.is _

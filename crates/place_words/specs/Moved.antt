@@ -1,0 +1,105 @@
+-- What is written where a thread gets another place, or a subtask another event or set: the record but for these, and what a set counts.
+use Rattle.std.specs.Prelude.{◌≡◌, ℕ, if◌then◌else◌, Option, Some, None, Result, Ok, Err}
+use Rattle.task_machine.specs.Core.{Core}
+use Rattle.task_machine.specs.declared.records.Call.{Call}
+use Rattle.task_machine.specs.declared.records.Delivery.TheVariants as delivery
+use Rattle.task_machine.specs.declared.records.HowFar.{HowFar}
+use Rattle.task_machine.specs.declared.records.HowFar.TheVariants as how_far
+use Rattle.task_machine.specs.declared.records.Join.{Join}
+use Rattle.task_machine.specs.declared.records.Join.TheVariants as join
+use Rattle.task_machine.specs.declared.records.Place.{Place}
+use Rattle.task_machine.specs.declared.records.Place.TheVariants as place
+use Rattle.task_machine.specs.Read.{is_stage_live}
+use Rattle.task_machine.specs.declared.records.Stage.{Stage}
+use Rattle.task_machine.specs.declared.records.Stage.TheVariants as stage
+use Rattle.task_machine.specs.declared.records.Thread.{Thread}
+use Rattle.task_machine.specs.declared.records.Why.{Why}
+use Rattle.task_machine.specs.declared.records.Work.{Work}
+use Rattle.task_machine.specs.declared.records.Why.TheVariants as why
+use Rattle.task_records.specs.Kinds.{entry_of, item_of, on_item}
+use Rattle.task_records.specs.declared.calls.GuestTask.{GuestTask}
+use Rattle.task_records.specs.declared.sets.WaitSet.{WaitSet}
+use Rattle.task_records.specs.declared.single.Single.{Single}
+use Rattle.task_records.specs.declared.threads.GuestThread.{GuestThread}
+use Rattle.task_records.specs.declared.works.HostWork.{HostWork}
+use Rattle.task_table.specs.Answers.{item_at}
+use Rattle.task_table.specs.Changes.{with_entry}
+use Rattle.task_table.specs.Mapped.{mapped}
+use Rattle.task_table.specs.Table.{Table}
+use Rattle.task_table.specs.declared.error.ResourceTableError.{ResourceTableError}
+use Rattle.task_words.specs.Live.{delivered_set, kept_in}
+
+abbrev pub still : Thread → Thread
+still t = record t { place = place.New; how_far = how_far.Fresh }
+
+-- a thread without where it is and how far it has come
+abbrev pub still_thread : GuestThread → GuestThread
+still_thread g = record g { thread = still g.thread; beside = 0; awaited = 0 }
+
+-- a set without the numbers of its entries and of its members
+abbrev pub uncounted : WaitSet → WaitSet
+uncounted x = record x { entries = 0; members = 0 }
+
+-- The tables have the same entries at the same places, as far as the function sees.
+abbrev pub Alike : {T : Type 0} → (T → T) → Table (Single T) → Table (Single T) → Type 0
+Alike f new old = mapped (on_item f) new ≡ mapped (on_item f) old
+
+-- the set for which a thread at this place that has come so far has an entry, or on which it waits
+abbrev pub resumed_set : HowFar → Option ℕ
+resumed_set (how_far.Waits x) = Some x
+resumed_set _ = None
+
+abbrev pub queued_set : Why → HowFar → Option ℕ
+queued_set (why.Delivery (delivery.Set x)) h = Some x
+queued_set why.Resumption h = resumed_set h
+queued_set _ h = None
+
+abbrev pub entry_set : Place → HowFar → Option ℕ
+entry_set (place.Waiting x by_callback) h = Some x
+entry_set (place.Ready m w) h = queued_set w h
+entry_set (place.Held w) h = delivered_set w
+entry_set _ h = None
+
+abbrev pub rewritten_by : (WaitSet → WaitSet) → ℕ → Result WaitSet ResourceTableError → Table (Single WaitSet) → Table (Single WaitSet)
+rewritten_by f rep (Ok x) t = with_entry rep (entry_of (f x)) t
+rewritten_by f rep (Err e) t = t
+
+-- the set that the id names, if it names one, is written
+abbrev pub rewritten : (WaitSet → WaitSet) → ℕ → ℕ → Table (Single WaitSet) → Table (Single WaitSet)
+rewritten f rep serial t = rewritten_by f rep (item_at item_of t rep serial) t
+
+-- it has another number of entries
+abbrev pub recounted : (ℕ → ℕ) → ℕ → ℕ → Table (Single WaitSet) → Table (Single WaitSet)
+recounted f = rewritten (λ x. record x { entries = f x.entries })
+
+-- it has another number of members
+abbrev pub rejoined : (ℕ → ℕ) → ℕ → ℕ → Table (Single WaitSet) → Table (Single WaitSet)
+rejoined f = rewritten (λ x. record x { members = f x.members })
+
+-- the number of a set that is there, 0 where there is none
+abbrev pub set_named : Option ℕ → Core → ℕ
+set_named None s = 0
+set_named (Some x) s = kept_in s.sets x
+
+-- the set that something is in
+abbrev pub joined_set : Join → Option ℕ
+joined_set (join.Set x) = Some x
+joined_set _ = None
+
+-- a call without its event and its set
+abbrev pub quiet_call : Call → Call
+quiet_call c = record c { event = None; join = join.Nowhere }
+
+abbrev pub still_call : GuestTask → GuestTask
+still_call g = record g { call = quiet_call g.call; joined = 0 }
+
+-- a host work without its event, its set and its stage
+abbrev pub quiet_work : Work → Work
+quiet_work w = record w { event = None; join = join.Nowhere; stage = stage.Ended }
+
+abbrev pub still_work : HostWork → HostWork
+still_work w = record w { work = quiet_work w.work; joined = 0 }
+
+-- whether a work of the stage is in the list of the live works
+abbrev pub live_key : Stage → Option (Unit {0})
+live_key x = if is_stage_live x then Some tt else None

@@ -1,0 +1,82 @@
+//! How many threads wait on a set or have an entry for it.
+ghost use Rattle.std.specs.Prelude.{◌≡◌, ◌+◌, ◌<◌, ◌≤◌, ◌-◌, ◌^◌, Ok};
+ghost use Rattle.place_words.specs.Moved.{entry_set, queued_set, recounted, resumed_set, set_named};
+ghost use Rattle.task_records.specs.Kinds.{item_of};
+ghost use Rattle.task_records.specs.Names.{AtPlace, how_far_target, place_target, why_target};
+ghost use Rattle.task_records.specs.Seen.{IsSound, parts_of, seen};
+ghost use Rattle.task_records.specs.declared.sets.WaitSet.{WaitSet};
+ghost use Rattle.task_table.specs.Answers.{item_at};
+ghost use Rattle.task_words.specs.Live.{delivered_set};
+ghost use Rattle.task_words.specs.StateView.{set_of};
+
+use task_machine::{Delivery, HowFar, Place, Why};
+use task_records::{CoreParts, GuestThread, Single, WaitSet, named_set, set_at};
+use task_table::ResourceTable;
+use task_words::SetId;
+
+/// One entry less of the set, if the id names one.
+pub(crate) fn one_less(sets: &mut ResourceTable<Single<WaitSet>>, id: SetId)
+    requires { (x : WaitSet) → Ok x ≡ item_at item_of sets.old id.rep id.serial → 1 ≤ x.entries }
+    ensures { sets.new ≡ recounted (λ n. n - 1) id.rep id.serial sets.old }
+{
+    if let Ok(found) = sets.get_mut(id) {
+        found.entries -= 1;
+    }
+}
+
+/// One entry more of the set, if the id names one.
+pub(crate) fn one_more(sets: &mut ResourceTable<Single<WaitSet>>, id: SetId)
+    requires { (x : WaitSet) → Ok x ≡ item_at item_of sets.old id.rep id.serial → x.entries + 1 < 2 ^ 64 }
+    ensures { sets.new ≡ recounted (λ n. n + 1) id.rep id.serial sets.old }
+{
+    if let Ok(found) = sets.get_mut(id) {
+        found.entries += 1;
+    }
+}
+
+/// An id that names no set: no table has this place.
+pub(crate) fn no_set(parts: &CoreParts) -> SetId
+    requires { IsSound parts.now }
+    ensures { set_of (seen parts.now) result ≡ 0 }
+{
+    set_at(parts, u32::MAX)
+}
+
+fn resumed_set(parts: &CoreParts, place: u32, how_far: HowFar) -> SetId
+    requires sound { IsSound parts.now }
+    requires at { AtPlace (parts_of parts.now) place (how_far_target how_far) }
+    ensures { set_of (seen parts.now) result ≡ set_named (resumed_set how_far) (seen parts.now).core }
+{
+    match how_far {
+        HowFar::Waits { set } => named_set(parts, place, set),
+        _ => no_set(parts),
+    }
+}
+
+/// The set for which a thread has an entry, or on which it waits; the id names none where there is none.
+pub(crate) fn entry_set(parts: &CoreParts, thread: GuestThread) -> SetId
+    requires sound { IsSound parts.now }
+    requires place { AtPlace (parts_of parts.now) thread.beside (place_target thread.thread.place) }
+    requires how_far { AtPlace (parts_of parts.now) thread.awaited (how_far_target thread.thread.how_far) }
+    ensures { set_of (seen parts.now) result ≡ set_named (entry_set thread.thread.place thread.thread.how_far) (seen parts.now).core }
+{
+    match thread.thread.place {
+        Place::Waiting { set, .. } => named_set(parts, thread.beside, set),
+        Place::Ready {
+            why: Why::Delivery {
+                delivery: Delivery::Set { set },
+            },
+            ..
+        } => named_set(parts, thread.beside, set),
+        Place::Held {
+            why: Why::Delivery {
+                delivery: Delivery::Set { set },
+            },
+        } => named_set(parts, thread.beside, set),
+        Place::Ready {
+            why: Why::Resumption,
+            ..
+        } => resumed_set(parts, thread.awaited, thread.thread.how_far),
+        _ => no_set(parts),
+    }
+}

@@ -1,0 +1,135 @@
+//! The sets that subtasks are in.
+ghost use Rattle.place_words.specs.Moved.{joined_set, rejoined, set_named};
+ghost use Rattle.std.specs.Prelude.{◌≡◌, ◌+◌, ◌<◌, ◌≤◌, ◌-◌, ◌^◌, Ok};
+ghost use Rattle.task_machine.specs.Write.{set_join};
+ghost use Rattle.task_machine.specs.declared.records.Subtask.TheVariants as subtasks_of;
+ghost use Rattle.task_records.specs.Kinds.{item_of};
+ghost use Rattle.task_records.specs.Names.{AtPlace, join_target};
+ghost use Rattle.task_records.specs.Seen.{IsSound, parts_of, seen};
+ghost use Rattle.task_records.specs.declared.sets.WaitSet.{WaitSet};
+ghost use Rattle.task_table.specs.Answers.{item_at};
+ghost use Rattle.task_words.specs.Names.{join_in, subtask_in};
+ghost use Rattle.task_words.specs.StateView.{call_of, on_core, set_of, work_of};
+
+use crate::entries::no_set;
+use crate::events::{call_chain, work_chain};
+use crate::moves::refile;
+use count_words::set_number;
+use record_words::number;
+use task_machine::Join;
+use task_records::{CoreParts, Single, WaitSet, named_set};
+use task_table::ResourceTable;
+use task_words::{CallId, JoinId, SetId, SubtaskId, WorkId};
+
+// A member less of the set, if the id names one.
+fn leave(sets: &mut ResourceTable<Single<WaitSet>>, id: SetId)
+    requires { (x : WaitSet) → Ok x ≡ item_at item_of sets.old id.rep id.serial → 1 ≤ x.members }
+    ensures { sets.new ≡ rejoined (λ n. n - 1) id.rep id.serial sets.old }
+{
+    if let Ok(found) = sets.get_mut(id) {
+        found.members -= 1;
+    }
+}
+
+// A member more of the set, if the id names one.
+fn enter(sets: &mut ResourceTable<Single<WaitSet>>, id: SetId)
+    requires { (x : WaitSet) → Ok x ≡ item_at item_of sets.old id.rep id.serial → x.members + 1 < 2 ^ 64 }
+    ensures { sets.new ≡ rejoined (λ n. n + 1) id.rep id.serial sets.old }
+{
+    if let Ok(found) = sets.get_mut(id) {
+        found.members += 1;
+    }
+}
+
+// The set that something is in; the id names none where there is none.
+fn joined_set(parts: &CoreParts, place: u32, join: Join) -> SetId
+    requires sound { IsSound parts.now }
+    requires at { AtPlace (parts_of parts.now) place (join_target join) }
+    ensures { set_of (seen parts.now) result ≡ set_named (joined_set join) (seen parts.now).core }
+{
+    match join {
+        Join::Set { set } => named_set(parts, place, set),
+        Join::Nowhere | Join::Watched { .. } => no_set(parts),
+    }
+}
+
+fn named_join(parts: &CoreParts, join: JoinId) -> (Join, u32)
+    requires { IsSound parts.now }
+    ensures is { join_in (seen parts.now).tags join ≡ result.0 }
+    ensures at { AtPlace (parts_of parts.now) result.1 (join_target result.0) }
+{
+    match join {
+        JoinId::Nowhere => (Join::Nowhere, 0),
+        JoinId::Set(id) => {
+            let set = set_number(parts, id);
+            (Join::Set { set }, id.rep())
+        }
+        JoinId::Watched(id) => {
+            let thread = number(parts, id);
+            (Join::Watched { thread }, id.rep())
+        }
+    }
+}
+
+fn set_call_join(parts: &mut CoreParts, call: CallId, join: JoinId)
+    requires { IsSound parts.old }
+    ensures sound { IsSound parts.new }
+    ensures new { seen parts.new ≡ on_core (set_join (subtasks_of.Guest (call_of (seen parts.old) call)) (join_in (seen parts.old).tags join)) (seen parts.old) }
+{
+    if let Some(found) = task_records::call(parts, call) {
+        let old = *found;
+        let (named, joined) = named_join(parts, join);
+        let from = joined_set(parts, old.joined, old.call.join);
+        let to = joined_set(parts, joined, named);
+        let chain = call_chain(parts, joined, old.call.event, named);
+        let mut new = old;
+        new.call.join = named;
+        new.joined = joined;
+        leave(&mut parts.sets, from);
+        enter(&mut parts.sets, to);
+        refile(&mut parts.ready_calls, old.ready, chain, call.rep());
+        match parts.calls.get_mut(call) {
+            Ok(entry) => {
+                *entry = new;
+            }
+            Err(_) => unreachable!(),
+        }
+    }
+}
+
+fn set_work_join(parts: &mut CoreParts, work: WorkId, join: JoinId)
+    requires { IsSound parts.old }
+    ensures sound { IsSound parts.new }
+    ensures new { seen parts.new ≡ on_core (set_join (subtasks_of.Host (work_of (seen parts.old) work)) (join_in (seen parts.old).tags join)) (seen parts.old) }
+{
+    if let Some(found) = task_records::work(parts, work) {
+        let old = *found;
+        let (named, joined) = named_join(parts, join);
+        let from = joined_set(parts, old.joined, old.work.join);
+        let to = joined_set(parts, joined, named);
+        let chain = work_chain(parts, joined, old.work.event, named);
+        let mut new = old;
+        new.work.join = named;
+        new.joined = joined;
+        leave(&mut parts.sets, from);
+        enter(&mut parts.sets, to);
+        refile(&mut parts.ready_works, old.ready, chain, work.rep());
+        match parts.works.get_mut(work) {
+            Ok(entry) => {
+                *entry = new;
+            }
+            Err(_) => unreachable!(),
+        }
+    }
+}
+
+pub fn set_join(parts: &mut CoreParts, subtask: SubtaskId, join: JoinId)
+    requires { IsSound parts.old }
+    ensures sound { IsSound parts.new }
+    ensures new { seen parts.new ≡ on_core (set_join (subtask_in (seen parts.old).tags subtask) (join_in (seen parts.old).tags join)) (seen parts.old) }
+{
+    match subtask {
+        SubtaskId::Guest(call) => set_call_join(parts, call, join),
+        SubtaskId::Host(work) => set_work_join(parts, work, join),
+    }
+}

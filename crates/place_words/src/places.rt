@@ -1,0 +1,153 @@
+ghost use Rattle.std.specs.Prelude.{◌≡◌, IsSome, Ok, Some, option_map, ℕ};
+ghost use Rattle.task_links.specs.Links.{removed};
+ghost use Rattle.task_machine.specs.Moves.{held_why_of, ready_why, stand, why_of};
+ghost use Rattle.task_machine.specs.Read.{place_of};
+ghost use Rattle.task_machine.specs.Write.{set_place};
+ghost use Rattle.task_machine.specs.declared.records.Place.TheVariants as places;
+ghost use Rattle.task_machine.specs.declared.records.Why.{Why};
+ghost use Rattle.task_machine.specs.declared.words.Mark.TheVariants as marks;
+ghost use Rattle.task_records.specs.Keys.{thread_key};
+ghost use Rattle.task_records.specs.Kinds.{item_of};
+ghost use Rattle.task_records.specs.Names.{AtPlace, why_target};
+ghost use Rattle.task_records.specs.Seen.{IsSound, parts_of, seen};
+ghost use Rattle.task_records.specs.declared.threads.GuestThread.{GuestThread};
+ghost use Rattle.task_table.specs.Answers.{item_at};
+ghost use Rattle.task_table.specs.Records.{number_in, record_at};
+ghost use Rattle.task_words.specs.Live.{delivered_set, live_set};
+ghost use Rattle.task_words.specs.Names.{place_in};
+ghost use Rattle.task_words.specs.StateView.{on_core, set_of, thread_of};
+
+use crate::moves::put;
+use crate::targets::{chain_at, held_chain, named_place};
+use task_machine::{Delivery, Mark, Place, Why};
+use task_records::{CoreParts, named_set};
+use task_words::{PlaceId, SetId, ThreadId};
+
+pub fn place(parts: &CoreParts, thread: ThreadId) -> Option<Place>
+    requires { IsSound parts.now }
+    ensures { result ≡ place_of (thread_of (seen parts.now) thread) (seen parts.now).core }
+{
+    match task_records::thread(parts, thread) {
+        Some(found) => Some(found.thread.place),
+        None => None,
+    }
+}
+
+// Why an entry at the place is queued.
+fn ready_why(place: Place) -> Why
+    ensures { result ≡ ready_why place }
+{
+    match place {
+        Place::Ready { why, .. } => why,
+        _ => Why::Resumption,
+    }
+}
+
+/// Why the thread's entry is queued.
+pub fn why(parts: &CoreParts, thread: ThreadId) -> Why
+    requires { IsSound parts.now }
+    ensures { result ≡ why_of (thread_of (seen parts.now) thread) (seen parts.now).core }
+{
+    match task_records::thread(parts, thread) {
+        Some(found) => ready_why(found.thread.place),
+        None => Why::Resumption,
+    }
+}
+
+// The set that a delivery is for, by its number and the place that was kept with it.
+fn named_delivery(parts: &CoreParts, place: u32, why: Why) -> Option<SetId>
+    requires sound { IsSound parts.now }
+    requires at { AtPlace (parts_of parts.now) place (why_target why) }
+    ensures { option_map (λ id. set_of (seen parts.now) id) result ≡ option_map (λ x. live_set x (seen parts.now).core) (delivered_set why) }
+{
+    match why {
+        Why::Delivery {
+            delivery: Delivery::Set { set },
+        } => Some(named_set(parts, place, set)),
+        _ => None,
+    }
+}
+
+/// The set that the thread's queued delivery is for.
+pub fn delivered_set(parts: &CoreParts, thread: ThreadId) -> Option<SetId>
+    requires { IsSound parts.now }
+    ensures { option_map (λ id. set_of (seen parts.now) id) result ≡ option_map (λ x. live_set x (seen parts.now).core) (delivered_set (why_of (thread_of (seen parts.now) thread) (seen parts.now).core)) }
+{
+    match task_records::thread(parts, thread) {
+        Some(found) => named_delivery(parts, found.beside, ready_why(found.thread.place)),
+        None => None,
+    }
+}
+
+pub fn set_place(parts: &mut CoreParts, thread: ThreadId, place: PlaceId)
+    requires { IsSound parts.old }
+    ensures sound { IsSound parts.new }
+    ensures new { seen parts.new ≡ on_core (set_place (thread_of (seen parts.old) thread) (place_in (seen parts.old).tags place)) (seen parts.old) }
+{
+    if let Some(found) = task_records::thread(parts, thread) {
+        let old = *found;
+        let (named, beside) = named_place(parts, place);
+        let chain = chain_at(parts, old.instance, place);
+        let mut new = old;
+        new.thread.place = named;
+        new.beside = beside;
+        put(parts, thread, old, new, chain);
+    }
+}
+
+/// The thread's entry is at this mark from now on, for the same reason.
+pub fn set_mark(parts: &mut CoreParts, thread: ThreadId, mark: Mark)
+    requires { IsSound parts.old }
+    ensures sound { IsSound parts.new }
+    ensures new { seen parts.new ≡ on_core (λ s. stand (thread_of (seen parts.old) thread) mark (why_of (thread_of (seen parts.old) thread) s) s) (seen parts.old) }
+{
+    if let Some(found) = task_records::thread(parts, thread) {
+        let old = *found;
+        let why = ready_why(old.thread.place);
+        let mut new = old;
+        new.thread.place = Place::Ready { mark, why };
+        put(parts, thread, old, new, None);
+    }
+}
+
+/// The thread is held with its entry, which was taken.
+pub fn hold(parts: &mut CoreParts, thread: ThreadId)
+    requires { IsSound parts.old }
+    ensures sound { IsSound parts.new }
+    ensures new { seen parts.new ≡ on_core (λ s. set_place (thread_of (seen parts.old) thread) (places.Held (why_of (thread_of (seen parts.old) thread) s)) s) (seen parts.old) }
+{
+    if let Some(found) = task_records::thread(parts, thread) {
+        let old = *found;
+        let why = ready_why(old.thread.place);
+        let chain = held_chain(parts, old.instance);
+        let mut new = old;
+        new.thread.place = Place::Held { why };
+        put(parts, thread, old, new, chain);
+    }
+}
+
+/// The thread that is held has its entry at high from now on, for the same reason.
+pub fn unhold(parts: &mut CoreParts, thread: ThreadId)
+    requires sound { IsSound parts.old }
+    requires held { IsSome (held_why_of (thread_of (seen parts.old) thread) (seen parts.old).core) }
+    ensures sound { IsSound parts.new }
+    ensures new { (w : Why) → held_why_of (thread_of (seen parts.old) thread) (seen parts.old).core ≡ Some w → seen parts.new ≡ on_core (stand (thread_of (seen parts.old) thread) marks.High w) (seen parts.old) }
+    ensures numbers { (r : ℕ) → number_in (record_at thread_key parts.new.threads.places r) ≡ number_in (record_at thread_key parts.old.threads.places r) }
+    ensures left { (g : GuestThread) → Ok g ≡ item_at item_of parts.old.threads thread.rep thread.serial → parts.new.places ≡ removed g.node.index parts.old.places }
+{
+    let Some(found) = task_records::thread(parts, thread) else {
+        unreachable!()
+    };
+    let old = *found;
+    match old.thread.place {
+        Place::Held { why } => {
+            let mut new = old;
+            new.thread.place = Place::Ready {
+                mark: Mark::High,
+                why,
+            };
+            put(parts, thread, old, new, None);
+        }
+        _ => unreachable!(),
+    }
+}

@@ -1,0 +1,56 @@
+ghost use Rattle.std.specs.Prelude.{◌≡◌, ◌<◌, IfNone, IfSome, false, true};
+ghost use Rattle.task_machine.specs.Read.{has_member, has_ready_member, has_waiter, is_ready_member, is_waiter};
+ghost use Rattle.task_records.specs.Seen.{IsSound, seen};
+ghost use Rattle.task_words.specs.Names.{subtask_in};
+ghost use Rattle.task_words.specs.StateView.{set_of, thread_of};
+
+use task_records::{CoreParts, call_at, thread_at, work_at};
+use task_words::{SetId, SubtaskId, ThreadId};
+
+/// The first waiter of a set, in the order of the set's chain.
+pub fn first_waiter(parts: &CoreParts, set: SetId) -> Option<ThreadId>
+    requires sound { IsSound parts.now }
+    requires live { 0 < set_of (seen parts.now) set }
+    ensures none { IfNone result (has_waiter (set_of (seen parts.now) set) (seen parts.now).core ≡ false) }
+    ensures some { IfSome result (λ id. is_waiter (set_of (seen parts.now) set) (thread_of (seen parts.now) id) (seen parts.now).core ≡ true) }
+    ensures live { IfSome result (λ id. 0 < thread_of (seen parts.now) id) }
+{
+    match task_records::set(parts, set) {
+        Some(found) => match task_index::first(&parts.places, found.waiters) {
+            Some((_, place)) => Some(thread_at(parts, place)),
+            None => None,
+        },
+        None => unreachable!(),
+    }
+}
+
+/// The first ready member of a set, in the order of the set's chains: calls, then host works.
+pub fn first_ready(parts: &CoreParts, set: SetId) -> Option<SubtaskId>
+    requires sound { IsSound parts.now }
+    requires live { 0 < set_of (seen parts.now) set }
+    ensures none { IfNone result (has_ready_member (set_of (seen parts.now) set) (seen parts.now).core ≡ false) }
+    ensures some { IfSome result (λ member. is_ready_member (set_of (seen parts.now) set) (subtask_in (seen parts.now).tags member) (seen parts.now).core ≡ true) }
+{
+    match task_records::set(parts, set) {
+        Some(found) => match task_index::first(&parts.ready_calls, found.ready_calls) {
+            Some((_, place)) => Some(SubtaskId::Guest(call_at(parts, place))),
+            None => match task_index::first(&parts.ready_works, found.ready_works) {
+                Some((_, place)) => Some(SubtaskId::Host(work_at(parts, place))),
+                None => None,
+            },
+        },
+        None => unreachable!(),
+    }
+}
+
+/// Whether a set has a member that has an event.
+pub fn has_ready_member(parts: &CoreParts, set: SetId) -> bool
+    requires sound { IsSound parts.now }
+    requires live { 0 < set_of (seen parts.now) set }
+    ensures { result ≡ has_ready_member (set_of (seen parts.now) set) (seen parts.now).core }
+{
+    match first_ready(parts, set) {
+        Some(_) => true,
+        None => false,
+    }
+}

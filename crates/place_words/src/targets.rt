@@ -1,0 +1,188 @@
+//! What ids name, as records keep it: the machine's record with numbers, and the place of what it
+//! names.
+ghost use Rattle.std.specs.Prelude.{◌≡◌, option_and_then};
+ghost use Rattle.task_records.specs.Names.{AtPlace, how_far_target, place_target, subtask_target, why_target};
+ghost use Rattle.task_records.specs.Places.{BlockedOn, HeldIn, UnderOf, WaitsOn, place_chain, where_at};
+ghost use Rattle.task_records.specs.Seen.{IsSound, parts_of, seen};
+ghost use Rattle.task_records.specs.Sound.{bare};
+ghost use Rattle.task_words.specs.Names.{how_far_in, place_in, subtask_in, why_in};
+ghost use Rattle.task_words.specs.StateView.{set_of, thread_of};
+
+use count_words::set_number;
+use record_words::{call_number, number, work_number};
+use task_machine::{Delivery, HowFar, Place, Subtask, Why};
+use task_records::CoreParts;
+use task_words::{DeliveryId, HowFarId, PlaceId, SetId, SubtaskId, ThreadId, WhyId};
+
+pub(crate) fn named_subtask(parts: &CoreParts, subtask: SubtaskId) -> (Subtask, u32)
+    requires { IsSound parts.now }
+    ensures is { subtask_in (seen parts.now).tags subtask ≡ result.0 }
+    ensures at { AtPlace (parts_of parts.now) result.1 (subtask_target result.0) }
+{
+    match subtask {
+        SubtaskId::Guest(id) => {
+            let call = call_number(parts, id);
+            (Subtask::Guest { call }, id.rep())
+        }
+        SubtaskId::Host(id) => {
+            let work = work_number(parts, id);
+            (Subtask::Host { work }, id.rep())
+        }
+    }
+}
+
+fn named_why(parts: &CoreParts, why: WhyId) -> (Why, u32)
+    requires { IsSound parts.now }
+    ensures is { why_in (seen parts.now).tags why ≡ result.0 }
+    ensures at { AtPlace (parts_of parts.now) result.1 (why_target result.0) }
+{
+    match why {
+        WhyId::Start => (Why::Start, 0),
+        WhyId::Delivery(DeliveryId::Set(id)) => {
+            let set = set_number(parts, id);
+            let delivery = Delivery::Set { set };
+            (Why::Delivery { delivery }, id.rep())
+        }
+        WhyId::Delivery(DeliveryId::Yield) => {
+            let delivery = Delivery::Yield;
+            (Why::Delivery { delivery }, 0)
+        }
+        WhyId::Delivery(DeliveryId::Cancel) => {
+            let delivery = Delivery::Cancel;
+            (Why::Delivery { delivery }, 0)
+        }
+        WhyId::Resumption => (Why::Resumption, 0),
+    }
+}
+
+pub(crate) fn named_place(parts: &CoreParts, place: PlaceId) -> (Place, u32)
+    requires { IsSound parts.now }
+    ensures is { place_in (seen parts.now).tags place ≡ result.0 }
+    ensures at { AtPlace (parts_of parts.now) result.1 (place_target result.0) }
+{
+    match place {
+        PlaceId::New => (Place::New, 0),
+        PlaceId::Ready { mark, why } => {
+            let (why, rep) = named_why(parts, why);
+            (Place::Ready { mark, why }, rep)
+        }
+        PlaceId::Running => (Place::Running, 0),
+        PlaceId::Under(id) => {
+            let callee = number(parts, id);
+            (Place::Under { callee }, id.rep())
+        }
+        PlaceId::Behind(id) => {
+            let thread = number(parts, id);
+            (Place::Behind { thread }, id.rep())
+        }
+        PlaceId::Waiting {
+            set: id,
+            by_callback,
+        } => {
+            let set = set_number(parts, id);
+            (Place::Waiting { set, by_callback }, id.rep())
+        }
+        PlaceId::Blocked(subtask) => {
+            let (on, rep) = named_subtask(parts, subtask);
+            (Place::Blocked { on }, rep)
+        }
+        PlaceId::Held(why) => {
+            let (why, rep) = named_why(parts, why);
+            (Place::Held { why }, rep)
+        }
+        PlaceId::Suspended => (Place::Suspended, 0),
+    }
+}
+
+pub(crate) fn named_how_far(parts: &CoreParts, how_far: HowFarId) -> (HowFar, u32)
+    requires { IsSound parts.now }
+    ensures is { how_far_in (seen parts.now).tags how_far ≡ result.0 }
+    ensures at { AtPlace (parts_of parts.now) result.1 (how_far_target result.0) }
+{
+    match how_far {
+        HowFarId::Fresh => (HowFar::Fresh, 0),
+        HowFarId::Waits(id) => {
+            let set = set_number(parts, id);
+            (HowFar::Waits { set }, id.rep())
+        }
+        HowFarId::Calls(subtask) => {
+            let (subtask, rep) = named_subtask(parts, subtask);
+            (HowFar::Calls { subtask }, rep)
+        }
+        HowFarId::Answered(value) => (HowFar::Answered { value }, 0),
+        HowFarId::Cancels(subtask) => {
+            let (subtask, rep) = named_subtask(parts, subtask);
+            (HowFar::Cancels { subtask }, rep)
+        }
+        HowFarId::AwaitsEnd(subtask) => {
+            let (subtask, rep) = named_subtask(parts, subtask);
+            (HowFar::AwaitsEnd { subtask }, rep)
+        }
+        HowFarId::Suspends => (HowFar::Suspends, 0),
+        HowFarId::Yields => (HowFar::Yields, 0),
+    }
+}
+
+fn blocked_chain(parts: &CoreParts, subtask: SubtaskId) -> Option<usize>
+    requires { IsSound parts.now }
+    ensures { place_chain (bare (parts_of parts.now)) (BlockedOn (subtask_in (seen parts.now).tags subtask)) ≡ result }
+{
+    match subtask {
+        SubtaskId::Guest(id) => match task_records::call(parts, id) {
+            Some(found) => Some(found.blocked),
+            None => None,
+        },
+        SubtaskId::Host(id) => match task_records::work(parts, id) {
+            Some(found) => Some(found.blocked),
+            None => None,
+        },
+    }
+}
+
+/// The chain of the held threads of an instance.
+pub(crate) fn held_chain(parts: &CoreParts, instance: u32) -> Option<usize>
+    ensures { place_chain (bare (parts_of parts.now)) (HeldIn instance) ≡ result }
+{
+    match task_records::instance(parts, instance) {
+        Some(found) => Some(found.held),
+        None => None,
+    }
+}
+
+fn waiters_chain(parts: &CoreParts, set: SetId) -> Option<usize>
+    requires { IsSound parts.now }
+    ensures { place_chain (bare (parts_of parts.now)) (WaitsOn (set_of (seen parts.now) set)) ≡ result }
+{
+    match task_records::set(parts, set) {
+        Some(found) => Some(found.waiters),
+        None => None,
+    }
+}
+
+fn under_chain(parts: &CoreParts, thread: ThreadId) -> Option<usize>
+    requires { IsSound parts.now }
+    ensures { place_chain (bare (parts_of parts.now)) (UnderOf (thread_of (seen parts.now) thread)) ≡ result }
+{
+    match task_records::thread(parts, thread) {
+        Some(found) => Some(found.under),
+        None => None,
+    }
+}
+
+/// The chain that a thread of the instance is filed in at a place, if it is.
+pub(crate) fn chain_at(parts: &CoreParts, instance: u32, place: PlaceId) -> Option<usize>
+    requires { IsSound parts.now }
+    ensures { option_and_then (place_chain (bare (parts_of parts.now))) (where_at instance (place_in (seen parts.now).tags place)) ≡ result }
+{
+    match place {
+        PlaceId::Waiting { set, .. } => waiters_chain(parts, set),
+        PlaceId::Held(_) => held_chain(parts, instance),
+        PlaceId::Under(thread) => under_chain(parts, thread),
+        PlaceId::Blocked(subtask) => blocked_chain(parts, subtask),
+        PlaceId::New
+        | PlaceId::Ready { .. }
+        | PlaceId::Running
+        | PlaceId::Behind(_)
+        | PlaceId::Suspended => None,
+    }
+}

@@ -1,0 +1,11 @@
+pub mod ListLemmas
+pub mod SeatLemmas
+pub mod WholeLemmas
+pub mod BareLemmas
+pub mod RowLemmas
+pub mod SeenLemmas
+pub mod PushLemmas
+pub mod LeaveLemmas
+pub mod SwitchLemmas
+pub mod TopLemmas
+pub mod CallerLemmas

@@ -1,0 +1,140 @@
+-- Whose an entry is, and what its nodes say of it.
+use Rattle.std.proofs.Common.{inl, inr, ◌≡◌, ◌==◌, ◌&&◌, ◌⊎◌, ℕ, Bool, true, false, Option, Some, None, IsSome, refl, sym, ap, subst, ◌∙◌}
+use Rattle.std.proofs.lemmas.Bool.{eq-eqb, eqb-true}
+use Rattle.std.proofs.lemmas.Option.{same_Some}
+use Rattle.std.specs.Option.{option_map}
+use Rattle.task_machine.specs.Read.{is_entry_of}
+use Rattle.task_machine.specs.declared.records.Entry.{Entry}
+use Rattle.task_machine.specs.declared.records.Entry.TheVariants as entry
+use Rattle.task_records.specs.Image.{Parts}
+use Rattle.task_records.specs.Rows.{IsOfThread, IsSeated, entry_seated, host_entry, is_of_instance, push_entry, thread_entry}
+use Rattle.task_records.specs.Sound.{IsWhole}
+use Rattle.task_records.specs.declared.single.Single.{Single}
+use Rattle.task_records.specs.declared.threads.GuestThread.{GuestThread}
+use Rattle.task_records.specs.declared.threads.Queued.{Queued}
+use Rattle.task_records.specs.declared.works.HostWork.{HostWork}
+use Rattle.task_table.specs.Table.{Placed, is_number, place_at}
+use Rattle.queue_words.specs.Seats.{OfThread, OfWork, is_entry_of_work, leaves, same_instance}
+use Rattle.queue_words.proofs.ListLemmas.{same_test}
+
+pub same_instance-true : (a b : Option ℕ) → same_instance a b ≡ true → b ≡ a
+same_instance-true None None is = refl
+same_instance-true None (Some j) is = absurd (cc)
+same_instance-true (Some i) None is = absurd (cc)
+same_instance-true (Some i) (Some j) is = ap (λ (k : ℕ). Some k) (eqb-true j i is)
+
+pub same_instance-same : (a b : Option ℕ) → b ≡ a → same_instance a b ≡ true
+same_instance-same None b is = ap (same_instance None) is
+same_instance-same (Some i) b is = ap (same_instance (Some i)) is ∙ eq-eqb i i refl
+
+pub leaves_mark : (q x : Queued) → leaves q x ≡ true → x.mark.index ≡ q.mark.index
+leaves_mark q x is = by (x.mark.index == q.mark.index) refl is
+  where
+    by : (b : Bool) → (x.mark.index == q.mark.index) ≡ b → (b && same_instance q.instance x.instance) ≡ true → x.mark.index ≡ q.mark.index
+    by true same is = eqb-true x.mark.index q.mark.index same
+    by false same is = absurd (cc)
+
+pub leaves_instance : (q x : Queued) → leaves q x ≡ true → x.instance ≡ q.instance
+leaves_instance q x is = by (x.mark.index == q.mark.index) is
+  where
+    by : (b : Bool) → (b && same_instance q.instance x.instance) ≡ true → x.instance ≡ q.instance
+    by true is = same_instance-true q.instance x.instance is
+    by false is = absurd (cc)
+
+-- what leaves is in the instance of what is taken
+pub leaves_alike : (q : Queued) (i : ℕ) (x : Queued) → leaves q x ≡ true → is_of_instance i x ≡ is_of_instance i q
+leaves_alike q i x is = ap (is_number i) (leaves_instance q x is)
+
+pub leaves_same : (q x : Queued) → x.mark.index ≡ q.mark.index → x.instance ≡ q.instance → leaves q x ≡ true
+leaves_same q x mark instance = ap (λ b. b && same_instance q.instance x.instance) (eq-eqb x.mark.index q.mark.index mark) ∙ same_instance-same q.instance x.instance instance
+
+pub leaves_itself : (q : Queued) → leaves q q ≡ true
+leaves_itself q = leaves_same q q refl refl
+
+module _ (p : Parts) where
+  -- an entry is a thread's or a work's
+  pub seat_of : (x : Queued) → IsSeated p x → OfThread p x ⊎ OfWork p x
+  seat_of x is = by x.entry refl is
+    where
+      of_thread : (o : Option (Placed (Single GuestThread))) → place_at p.threads x.place ≡ o → option_map (λ (q : Placed (Single GuestThread)). thread_entry x.place q.entry.item) o ≡ Some x → OfThread p x
+      of_thread None at is = absurd (cc)
+      of_thread (Some q) at is = record { placed = q; at = at; is = same_Some (thread_entry x.place q.entry.item) x is }
+
+      of_push : (o : Option (Placed (Single HostWork))) → place_at p.works x.place ≡ o → option_map (λ (w : Placed (Single HostWork)). push_entry x.place w.entry.item) o ≡ Some x → OfWork p x
+      of_push None at is = absurd (cc)
+      of_push (Some w) at is =
+          let same = same_Some (push_entry x.place w.entry.item) x is in
+          record { placed = w; at = at; mark = ap (λ (y : Queued). y.mark) same; entry = subst (λ (y : Queued). is_entry_of_work w.entry.item.number y.entry ≡ true) same (eq-eqb w.entry.item.number w.entry.item.number refl); alone = sym (ap (λ (y : Queued). y.instance) same) }
+
+      of_host : (o : Option (Placed (Single HostWork))) → place_at p.works x.place ≡ o → option_map (λ (w : Placed (Single HostWork)). host_entry x.place w.entry.item) o ≡ Some x → OfWork p x
+      of_host None at is = absurd (cc)
+      of_host (Some w) at is =
+          let same = same_Some (host_entry x.place w.entry.item) x is in
+          record { placed = w; at = at; mark = ap (λ (y : Queued). y.mark) same; entry = subst (λ (y : Queued). is_entry_of_work w.entry.item.number y.entry ≡ true) same (eq-eqb w.entry.item.number w.entry.item.number refl); alone = sym (ap (λ (y : Queued). y.instance) same) }
+
+      by : (e : Entry) → x.entry ≡ e → entry_seated p e x.place ≡ Some x → OfThread p x ⊎ OfWork p x
+      by (entry.Thread n) e is = inl (of_thread (place_at p.threads x.place) refl is)
+      by (entry.Push i) e is = inr (of_push (place_at p.works x.place) refl is)
+      by (entry.Host i) e is = inr (of_host (place_at p.works x.place) refl is)
+
+  pub thread_seated : (rep : ℕ) (q : Placed (Single GuestThread)) → place_at p.threads rep ≡ Some q → IsSeated p (thread_entry rep q.entry.item)
+  thread_seated rep q at = ap (option_map (λ (q : Placed (Single GuestThread)). thread_entry rep q.entry.item)) at
+
+  pub host_seated : (rep : ℕ) (w : Placed (Single HostWork)) → place_at p.works rep ≡ Some w → IsSeated p (host_entry rep w.entry.item)
+  host_seated rep w at = ap (option_map (λ (w : Placed (Single HostWork)). host_entry rep w.entry.item)) at
+
+  -- an entry that is in an instance is a thread's
+  pub threads_own : (x : Queued) → IsSeated p x → IsOfThread x → OfThread p x
+  threads_own x is of_thread = elim (seat_of x is) [
+    | inl seat ↦ seat
+    | inr seat ↦ absurd (let none : IsSome {T = ℕ} None = subst IsSome seat.alone of_thread in cc)
+  ]
+
+  -- threads at one place have one entry
+  pub same_thread : (x y : Queued) → OfThread p x → OfThread p y → x.place ≡ y.place → x ≡ y
+  same_thread x y at_x at_y same =
+      let placed : at_x.placed ≡ at_y.placed = same_Some at_x.placed at_y.placed (sym at_x.at ∙ (ap (place_at p.threads) same ∙ at_y.at)) in
+      sym at_x.is ∙ (ap (λ (r : ℕ). thread_entry r at_x.placed.entry.item) same ∙ (ap (λ (q : Placed (Single GuestThread)). thread_entry y.place q.entry.item) placed ∙ at_y.is))
+
+  module _ (whole : IsWhole p) where
+    -- a node among the entries of the marks, or of an instance there, is one thread's
+    pub one_mark : (x y : Queued) → OfThread p x → OfThread p y → x.mark.index ≡ y.mark.index → x ≡ y
+    one_mark x y at_x at_y same = same_thread x y at_x at_y (whole.nodes.marks.own x.place y.place at_x.placed at_y.placed at_x.at at_y.at (ap (λ (z : Queued). z.mark.index) at_x.is ∙ (same ∙ sym (ap (λ (z : Queued). z.mark.index) at_y.is))))
+
+    pub one_shelf : (x y : Queued) → OfThread p x → OfThread p y → x.shelf.index ≡ y.shelf.index → x ≡ y
+    one_shelf x y at_x at_y same = same_thread x y at_x at_y (whole.nodes.shelves.own x.place y.place at_x.placed at_y.placed at_x.at at_y.at (ap (λ (z : Queued). z.shelf.index) at_x.is ∙ (same ∙ sym (ap (λ (z : Queued). z.shelf.index) at_y.is))))
+
+    pub apart_marks : {X : Type 0} (x y : Queued) → OfThread p x → OfWork p y → (x.mark.index ≡ y.mark.index) → X
+    apart_marks x y at_x at_y same = absurd (whole.nodes.apart x.place y.place at_x.placed at_y.placed at_x.at at_y.at (ap (λ (z : Queued). z.mark.index) at_x.is ∙ (same ∙ sym (ap (λ m. m.index) at_y.mark))))
+
+    -- one node, one instance
+    one_instance : (x y : Queued) → IsSeated p x → IsSeated p y → x.mark.index ≡ y.mark.index → x.instance ≡ y.instance
+    one_instance x y is_x is_y same = elim (seat_of x is_x) [
+      | inl at_x ↦ elim (seat_of y is_y) [
+        | inl at_y ↦ ap (λ (z : Queued). z.instance) (one_mark x y at_x at_y same)
+        | inr at_y ↦ apart_marks x y at_x at_y same
+      ]
+      | inr at_x ↦ elim (seat_of y is_y) [
+        | inl at_y ↦ apart_marks y x at_y at_x (sym same)
+        | inr at_y ↦ at_x.alone ∙ sym at_y.alone
+      ]
+    ]
+
+    -- the test knows the node at the marks
+    pub knows_mark : (q : Queued) → IsSeated p q → (x : Queued) → IsSeated p x → leaves q x ≡ (x.mark.index == q.mark.index)
+    knows_mark q is_q x is_x = same_test (leaves q x) (x.mark.index == q.mark.index) (λ is. eq-eqb x.mark.index q.mark.index (leaves_mark q x is)) (λ is.
+        let same = eqb-true x.mark.index q.mark.index is in
+        leaves_same q x same (one_instance x q is_x is_q same))
+
+    -- and among the entries of an instance
+    pub knows_shelf : (q : Queued) → OfThread p q → (x : Queued) → OfThread p x → leaves q x ≡ (x.shelf.index == q.shelf.index)
+    knows_shelf q at_q x at_x = same_test (leaves q x) (x.shelf.index == q.shelf.index)
+        (λ is. eq-eqb x.shelf.index q.shelf.index (ap (λ (z : Queued). z.shelf.index) (one_mark x q at_x at_q (leaves_mark q x is))))
+        (λ is. subst (λ (z : Queued). leaves q z ≡ true) (sym (one_shelf x q at_x at_q (eqb-true x.shelf.index q.shelf.index is))) (leaves_itself q))
+
+    -- what leaves with a thread's entry is an entry of this thread
+    pub leaves_thread : (q : Queued) → OfThread p q → (n : ℕ) → q.entry ≡ entry.Thread n → (x : Queued) → IsSeated p x → leaves q x ≡ true → is_entry_of n x.entry ≡ true
+    leaves_thread q at_q n is_n x is_x is = elim (seat_of x is_x) [
+      | inl at_x ↦ ap (λ (z : Queued). is_entry_of n z.entry) (one_mark x q at_x at_q (leaves_mark q x is)) ∙ (ap (is_entry_of n) is_n ∙ eq-eqb n n refl)
+      | inr at_x ↦ apart_marks q x at_q at_x (sym (leaves_mark q x is))
+    ]

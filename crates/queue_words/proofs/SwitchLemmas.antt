@@ -1,0 +1,73 @@
+-- The thread at switch.
+use Rattle.std.proofs.Common.{◌≡◌, ◌<◌, ℕ, Option, Some, None, IfSome, refl, sym, ap, subst, ◌∙◌}
+use Rattle.std.proofs.lemmas.Option.{same_Some}
+use Rattle.std.specs.Option.{option_map}
+use Rattle.std.specs.Prelude.{Ok}
+use Rattle.task_machine.specs.Write.{set_switch}
+use Rattle.task_records.proofs.KindLemmas.{item_stands}
+use Rattle.task_records.proofs.ReadLemmas.{thread_named}
+use Rattle.task_records.specs.Keys.{thread_key}
+use Rattle.task_records.specs.Kinds.{item_of, on_item}
+use Rattle.task_records.specs.Rows.{IsFollower, follower}
+use Rattle.task_records.specs.Seen.{IsSound, parts_of, seen}
+use Rattle.task_records.specs.Sound.{bare, bare_thread}
+use Rattle.task_records.specs.declared.parts.CoreParts.{CoreParts}
+use Rattle.task_records.specs.declared.single.Single.{Single}
+use Rattle.task_records.specs.declared.threads.Follower.{Follower}
+use Rattle.task_records.specs.declared.threads.GuestThread.{GuestThread}
+use Rattle.task_table.specs.Answers.{item_at}
+use Rattle.task_table.specs.Records.{key_in, number_in, record_at}
+use Rattle.task_table.specs.Table.{Placed, place_at}
+use Rattle.task_table.specs.declared.id.TableId.{TableId}
+use Rattle.task_wait.specs.declared.keys.ThreadKey.{ThreadKey}
+use Rattle.task_words.specs.StateView.{on_core, thread_of}
+use Rattle.queue_words.proofs.BareLemmas.{mapped_place, number_positive, place_mapped}
+use Rattle.queue_words.proofs.WholeLemmas.{chains_sound, chains_whole}
+
+module _ (a : CoreParts) where
+  module _ (sound : IsSound a) (id : TableId ThreadKey) (g : GuestThread) (is : Ok g ≡ item_at item_of a.threads id.rep id.serial) (rep : ℕ) (rep_is : rep ≡ id.rep) where
+    -- a thread as it stands among callers, or at switch
+    pub follower_kept : IsFollower (bare (parts_of a)) (record { number = g.number; place = rep; node = g.caller })
+    unfolding IsSound
+    follower_kept =
+        let one = item_stands (λ (g : GuestThread). g.number) (λ (g : GuestThread). g.thread) a.threads a.made.threads sound.tables.threads id.rep id.serial g is in
+        subst (λ r. IsFollower (bare (parts_of a)) (record { number = g.number; place = r; node = g.caller })) (sym rep_is)
+        (ap (option_map (λ q. follower id.rep q.entry.item)) (place_mapped (on_item bare_thread) a.threads id.rep one.0 one.1.0) ∙ ap (λ (e : Single GuestThread). Some (follower id.rep (bare_thread e.item))) one.1.1.1)
+
+  pub follower_number : (id : TableId ThreadKey) (g : GuestThread) → Ok g ≡ item_at item_of a.threads id.rep id.serial → Some g.number ≡ Some (thread_of (seen a) id)
+  follower_number id g is = ap (λ (n : ℕ). Some n) (thread_named a id g is)
+
+  -- a thread that is kept as a follower stands at its place
+  module _ (sound : IsSound a) (f : Follower) (is : IsFollower (bare (parts_of a)) f) where
+    follower_placed : (q : Placed (Single GuestThread)) × ((place_at a.threads f.place ≡ Some q) × (f.number ≡ q.entry.item.number))
+    follower_placed = by (place_at (bare (parts_of a)).threads f.place) refl is
+      where
+        by : (o : Option (Placed (Single GuestThread))) → place_at (bare (parts_of a)).threads f.place ≡ o → option_map (λ (q : Placed (Single GuestThread)). follower f.place q.entry.item) o ≡ Some f → (q : Placed (Single GuestThread)) × ((place_at a.threads f.place ≡ Some q) × (f.number ≡ q.entry.item.number))
+        by None at is = absurd (cc)
+        by (Some q) at is =
+            let one = mapped_place (on_item bare_thread) a.threads f.place q at in
+            (one.0, (one.1.0, sym (ap (λ (g : Follower). g.number) (same_Some (follower f.place q.entry.item) f is)) ∙ sym (ap (λ (e : Single GuestThread). e.item.number) one.1.1)))
+
+    pub follower_here : number_in (record_at thread_key a.threads.places f.place) ≡ f.number
+    follower_here = ap (λ o. number_in (key_in thread_key o)) follower_placed.1.0 ∙ sym follower_placed.1.1
+
+    pub follower_positive : 0 < f.number
+    unfolding IsSound
+    follower_positive = subst (λ n. 0 < n) (sym follower_placed.1.1) (number_positive (λ (g : GuestThread). g.number) (λ (g : GuestThread). g.thread) a.threads a.made.threads sound.tables.threads f.place follower_placed.0 follower_placed.1.0)
+
+  pub switch_follows : IsSound a → (f : Follower) → a.switch ≡ Some f → IsFollower (bare (parts_of a)) f
+  unfolding IsSound
+  switch_follows sound f is = subst (λ o. IfSome o (IsFollower (bare (parts_of a)))) is sound.whole.named.switch
+
+  module _ (switch : Option Follower) where
+    abbrev pub switch_after : CoreParts
+    switch_after = record a { switch = switch }
+
+    pub switch_sound : IsSound a → IfSome switch (IsFollower (bare (parts_of a))) → IsSound switch_after
+    unfolding IsSound
+    switch_sound sound follows = chains_sound a a.marks a.shelves a.behind switch sound
+        (chains_whole (bare (parts_of a)) sound.whole a.marks a.shelves a.behind switch follows (λ n made. made) (λ n made. made) (λ n made. made) sound.whole.chained.marks sound.whole.chained.shelves sound.whole.chained.low sound.whole.chained.behind)
+
+    pub switch_seen : (n : Option ℕ) → option_map (λ (f : Follower). f.number) switch ≡ n → seen switch_after ≡ on_core (set_switch n) (seen a)
+    unfolding seen set_switch
+    switch_seen n is = ap (λ (o : Option ℕ). record (seen a) { core = record (seen a).core { queues = record (seen a).core.queues { switch = o } } }) is

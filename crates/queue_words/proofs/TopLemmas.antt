@@ -1,0 +1,235 @@
+-- What stands first at a mark, and of an instance there.
+use Rattle.std.proofs.Common.{inl, inr, ◌≡◌, ◌<◌, ℕ, Bool, true, false, cond, List, [], ◌∷◌, map, filter, Option, Some, None, IsSome, IfSome, slice_get, refl, sym, ap, subst, ◌∙◌}
+use Rattle.std.proofs.lemmas.Bool.{eq-eqb, eqb-true}
+use Rattle.std.proofs.lemmas.Option.{same_Some}
+use Rattle.std.specs.List.{find}
+use Rattle.std.specs.Option.{option_and_then, option_map}
+use Rattle.std.specs.Prelude.{Ok}
+use Rattle.task_index.proofs.Rows.{values_are}
+use Rattle.task_index.specs.Rows.{Each, part}
+use Rattle.task_links.specs.Links.{list_of}
+use Rattle.task_machine.specs.Moves.{first_entry, first_low}
+use Rattle.task_machine.specs.Read.{entry_thread, first_in, first_of, instance_of, is_entry_in, next_entry, or_first, or_high}
+use Rattle.task_machine.specs.declared.records.Entry.{Entry}
+use Rattle.task_machine.specs.declared.records.Entry.TheVariants as entry
+use Rattle.task_machine.specs.declared.words.Mark.{Mark}
+use Rattle.task_machine.specs.declared.words.Mark.TheVariants as mark
+use Rattle.task_records.proofs.HomeLemmas.{thread_instance}
+use Rattle.task_records.proofs.ReadLemmas.{thread_named}
+use Rattle.task_records.proofs.TableLemmas.{number_at_mapped}
+use Rattle.task_records.specs.Image.{Parts, chained}
+use Rattle.task_records.specs.Keys.{thread_key, work_key}
+use Rattle.task_records.specs.Kinds.{item_of, on_item}
+use Rattle.task_records.specs.Rows.{High, IsSeated, Low, Row, is_of_instance, row, row_chain, shelf_chain, shelf_in, thread_entry}
+use Rattle.task_records.specs.Seen.{IsSound, parts_of, seen}
+use Rattle.task_records.specs.Sound.{IsWhole, bare, bare_thread, bare_work, loose_work, unmoved}
+use Rattle.task_records.specs.declared.instances.InstanceRecord.{InstanceRecord}
+use Rattle.task_records.specs.declared.parts.CoreParts.{CoreParts}
+use Rattle.task_records.specs.declared.single.Single.{Single}
+use Rattle.task_records.specs.declared.threads.Follower.{Follower}
+use Rattle.task_records.specs.declared.threads.GuestThread.{GuestThread}
+use Rattle.task_records.specs.declared.threads.Queued.{Queued}
+use Rattle.task_table.proofs.TableLemmas.{found_here}
+use Rattle.task_table.specs.Answers.{item_at, item_in}
+use Rattle.task_table.specs.Records.{key_in, number_in, record_at}
+use Rattle.task_table.specs.Table.{is_number}
+use Rattle.task_table.specs.declared.id.TableId.{TableId}
+use Rattle.task_wait.specs.declared.keys.ThreadKey.{ThreadKey}
+use Rattle.queue_words.specs.Seats.{OfThread, is_entry_of_work, top}
+use Rattle.queue_words.proofs.BareLemmas.{mapped_place, shelf_bare, thread_number_here, thread_number_positive}
+use Rattle.queue_words.proofs.ListLemmas.{find-known, find-none, find-some}
+use Rattle.queue_words.proofs.PushLemmas.{instance_there}
+use Rattle.queue_words.proofs.RowLemmas.{of_some_instance, row_known, shelf_threads}
+use Rattle.queue_words.proofs.SeatLemmas.{seat_of, threads_own}
+use Rattle.queue_words.proofs.SeenLemmas.{row_seen}
+
+-- the first of a part is what is found
+top-filter : {P : Type 0} (t : P → Bool) (xs : List P) → top (filter t xs) ≡ find t xs
+top-filter t [] = refl
+top-filter {P} t (x ∷ xs) = by (t x) (top-filter t xs)
+  where
+    by : (b : Bool) → top (filter t xs) ≡ find t xs → top (cond b (x ∷ filter t xs) (filter t xs)) ≡ cond b (Some x) (find t xs)
+    by true rest = refl
+    by false rest = rest
+
+pub top-map : {P Q : Type 0} (f : P → Q) (xs : List P) → top (map f xs) ≡ option_map f (top xs)
+top-map f [] = refl
+top-map f (x ∷ xs) = refl
+
+pub top-known : {P : Type 0} (Known : P → Type 0) (xs : List P) (x : P) → Each Known xs → Some x ≡ top xs → Known x
+top-known Known [] x all is = absurd (cc)
+top-known Known (y ∷ ys) x all is = subst Known (sym (same_Some x y is)) all.0
+
+no_work_of : (i : ℕ) (e : Entry) (n : ℕ) → e ≡ entry.Thread n → is_entry_of_work i e ≡ true → ⊥
+no_work_of i e n is work = absurd (let two = sym (ap (is_entry_of_work i) is) ∙ work in cc)
+
+first_is : (m : Mark) (es : List Entry) (o : Option Entry) → top es ≡ o → first_of m es ≡ option_map (λ e. (m, e)) o
+first_is m [] o is = ap (option_map (λ e. (m, e))) is
+first_is m (e ∷ es) o is = ap (option_map (λ e. (m, e))) is
+
+module _ (a : CoreParts) where
+  abbrev bared : Parts
+  bared = bare (parts_of a)
+
+  -- the thread of an entry, read at its place
+  placed_item : (x : Queued) (of_thread : OfThread bared x) → (id : TableId ThreadKey) × ((id.rep ≡ x.place) × ((g : GuestThread) × ((Ok g ≡ item_at item_of a.threads id.rep id.serial) × (x ≡ thread_entry x.place g))))
+  placed_item x of_thread =
+      let one = mapped_place (on_item bare_thread) a.threads x.place of_thread.placed of_thread.at in (
+        record { rep = x.place; serial = one.0.serial; kind = record {} },
+        (
+          refl,
+          (
+            one.0.entry.item,
+            (sym (ap (item_in item_of) (found_here a.threads x.place one.0 one.1.0)), sym of_thread.is ∙ sym (ap (λ (e : Single GuestThread). thread_entry x.place e.item) one.1.1)),
+          ),
+        ),
+      )
+
+  module _ (sound : IsSound a) where
+    is_whole : IsWhole bared
+    unfolding IsSound
+    is_whole = sound.whole
+
+    -- an entry is in the instance of its thread
+    entry_instance : (x : Queued) (of_thread : OfThread bared x) (n : ℕ) → x.entry ≡ entry.Thread n → x.instance ≡ Some (instance_of n (seen a).core)
+    entry_instance x of_thread n is =
+        let one = placed_item x of_thread in
+        let g = one.1.1.0 in
+        let number : g.number ≡ n = thread_number_of g.number n (sym (ap (λ (q : Queued). q.entry) one.1.1.1.1) ∙ is) in
+        ap (λ (q : Queued). q.instance) one.1.1.1.1
+        ∙ ap (λ (i : ℕ). Some i) (thread_instance a sound one.0 g one.1.1.1.0 ∙ ap (λ m. instance_of m (seen a).core) (sym (thread_named a one.0 g one.1.1.1.0) ∙ number))
+      where
+        thread_number_of : (m n : ℕ) → entry.Thread m ≡ entry.Thread n → m ≡ n
+        thread_number_of m n is = cc
+
+    -- which is there
+    entry_within : (x : Queued) (of_thread : OfThread bared x) (i : ℕ) → is_of_instance i x ≡ true → IsSome (slice_get a.instances.items i)
+    entry_within x of_thread i of_i =
+        let one = placed_item x of_thread in
+        let g = one.1.1.0 in
+        let same : g.instance ≡ i = eqb-true g.instance i (sym (ap (λ (q : Queued). is_number i q.instance) one.1.1.1.1) ∙ of_i) in
+        subst (λ j. IsSome (slice_get a.instances.items j)) same (instance_there a sound one.0 g one.1.1.1.0)
+
+    -- the entry is of the instance as the machine says
+    same_group : (i : ℕ) (x : Queued) → IsSeated bared x → is_of_instance i x ≡ is_entry_in i (seen a).core x.entry
+    same_group i x is_x = elim (seat_of bared x is_x) [
+      | inl at ↦ by_entry x.entry refl (entry_instance x at) (sym (ap (λ (q : Queued). q.entry) at.is))
+      | inr at ↦ ap (is_number i) at.alone ∙ sym (no_instance x.entry at.placed.entry.item.number at.entry)
+    ]
+      where
+        by_entry : (e : Entry) → x.entry ≡ e → ((n : ℕ) → x.entry ≡ entry.Thread n → x.instance ≡ Some (instance_of n (seen a).core)) → {m : ℕ} → x.entry ≡ entry.Thread m → is_of_instance i x ≡ is_entry_in i (seen a).core e
+        by_entry (entry.Thread n) is instance thread = ap (is_number i) (instance n is)
+        by_entry (entry.Push j) is instance thread = absurd (let two = sym is ∙ thread in cc)
+        by_entry (entry.Host j) is instance thread = absurd (let two = sym is ∙ thread in cc)
+
+        no_instance : (e : Entry) (j : ℕ) → is_entry_of_work j e ≡ true → is_entry_in i (seen a).core e ≡ false
+        no_instance (entry.Thread n) j is = absurd (cc)
+        no_instance (entry.Push k) j is = refl
+        no_instance (entry.Host k) j is = refl
+
+    -- ---- The first of an instance
+
+    first_of_row : (i : ℕ) (r : Row) → first_in i (seen a).core (row_seen a r) ≡ option_and_then (λ (q : Queued). entry_thread q.entry) (find (is_of_instance i) (row bared r))
+    first_of_row i r = ap (option_and_then entry_thread) (find-known (IsSeated bared) (λ (q : Queued). q.entry) (is_of_instance i) (is_entry_in i (seen a).core) (same_group i) (row bared r) (row_known bared is_whole r)) ∙ by_option (find (is_of_instance i) (row bared r))
+      where
+        by_option : (o : Option Queued) → option_and_then entry_thread (option_map (λ (q : Queued). q.entry) o) ≡ option_and_then (λ (q : Queued). entry_thread q.entry) o
+        by_option None = refl
+        by_option (Some q) = refl
+
+    -- past the instances nothing is found
+    first_nowhere : (i : ℕ) (r : Row) → None ≡ slice_get a.instances.items i → first_in i (seen a).core (row_seen a r) ≡ None
+    first_nowhere i r none = first_of_row i r ∙ ap (option_and_then (λ (q : Queued). entry_thread q.entry)) (find-none (IsSeated bared) (is_of_instance i) (λ x is_x. nobody x is_x (is_of_instance i x) refl) (row bared r) (row_known bared is_whole r))
+      where
+        nobody : (x : Queued) → IsSeated bared x → (b : Bool) → is_of_instance i x ≡ b → is_of_instance i x ≡ false
+        nobody x is_x false is = is
+        nobody x is_x true is = absurd (let some : IsSome {T = InstanceRecord} None = subst IsSome (sym none) (entry_within x (threads_own bared x is_x (of_some_instance i x.instance is)) i is) in cc)
+
+    module _ (i : ℕ) (record_at_i : InstanceRecord) (at : Some record_at_i ≡ slice_get a.instances.items i) (r : Row) where
+      shelf_is : shelf_chain bared (i, r) ≡ Some (shelf_in r record_at_i)
+      shelf_is = shelf_bare a (i, r) record_at_i (sym at)
+
+      pub shelf_live : IsSome (list_of a.shelves (shelf_in r record_at_i))
+      shelf_live = is_whole.chained.shelves.live (i, r) (shelf_in r record_at_i) shelf_is
+
+      shelf_top : top (chained a.shelves (Some (shelf_in r record_at_i))) ≡ find (is_of_instance i) (row bared r)
+      shelf_top = ap top (values_are (shelf_chain bared) (λ q. q.shelf.index) (OfThread bared) a.shelves (part is_of_instance (row bared)) (shelf_threads bared is_whole) (i, r) (shelf_in r record_at_i) shelf_is) ∙ top-filter (is_of_instance i) (row bared r)
+
+      pub first_none : None ≡ top (chained a.shelves (Some (shelf_in r record_at_i))) → first_in i (seen a).core (row_seen a r) ≡ None
+      first_none none = first_of_row i r ∙ ap (option_and_then (λ (q : Queued). entry_thread q.entry)) (sym (none ∙ shelf_top))
+
+      pub first_some : (q : Queued) → Some q ≡ top (chained a.shelves (Some (shelf_in r record_at_i))) → (first_in i (seen a).core (row_seen a r) ≡ Some (number_in (record_at thread_key a.threads.places q.place))) × (0 < number_in (record_at thread_key a.threads.places q.place))
+      first_some q some =
+          let found : find (is_of_instance i) (row bared r) ≡ Some q = sym (some ∙ shelf_top) in
+          let known = find-some (IsSeated bared) (is_of_instance i) (row bared r) q (row_known bared is_whole r) found in
+          let of_thread = threads_own bared q known.0 (of_some_instance i q.instance known.1) in
+          let here = thread_number_here a sound q of_thread in
+          (first_of_row i r ∙ (ap (option_and_then (λ (q : Queued). entry_thread q.entry)) found ∙ (ap (λ (x : Queued). entry_thread x.entry) (sym of_thread.is) ∙ ap (λ (n : ℕ). Some n) (sym here))), subst (λ n. 0 < n) (sym here) (thread_number_positive a sound q of_thread))
+
+      pub first_high : (q : Queued) → r ≡ High → Some q ≡ top (chained a.shelves (Some (shelf_in r record_at_i))) → first_entry i (seen a).core ≡ Some (number_in (record_at thread_key a.threads.places q.place))
+      unfolding first_entry seen
+      first_high q high some = ap (first_low i (seen a).core) (ap (λ j. first_in i (seen a).core (row_seen a j)) (sym high) ∙ (first_some q some).0)
+
+    -- high has none of the instance
+    pub first_from_low : (i : ℕ) (o : Option ℕ) → first_in i (seen a).core (row_seen a High) ≡ None → first_in i (seen a).core (row_seen a Low) ≡ o → first_entry i (seen a).core ≡ o
+    unfolding first_entry seen
+    first_from_low i o none is = ap (first_low i (seen a).core) none ∙ is
+
+    pub first_past : (i : ℕ) → None ≡ slice_get a.instances.items i → None ≡ first_entry i (seen a).core
+    first_past i none = sym (first_from_low i None (first_nowhere i High none) (first_nowhere i Low none))
+
+    -- ---- The first of all
+
+    pub mark_live : (r : Row) → IfSome (row_chain bared r) (λ c. IsSome (list_of a.marks c))
+    mark_live r = by (row_chain bared r) refl
+      where
+        by : (o : Option ℕ) → row_chain bared r ≡ o → IfSome o (λ c. IsSome (list_of a.marks c))
+        by None is = tt
+        by (Some c) is = is_whole.chained.marks.live r c is
+
+    pub top_seated : (r : Row) (q : Queued) → Some q ≡ top (row bared r) → IsSeated bared q
+    top_seated r q is = top-known (IsSeated bared) (row bared r) q (row_known bared is_whole r) is
+
+    top_seen : (r : Row) (o : Option Queued) → o ≡ top (row bared r) → top (row_seen a r) ≡ option_map (λ (q : Queued). q.entry) o
+    top_seen r o is = top-map (λ (q : Queued). q.entry) (row bared r) ∙ ap (option_map (λ (q : Queued). q.entry)) (sym is)
+
+    pub next_switch : (f : Follower) → a.switch ≡ Some f → next_entry (seen a).core ≡ Some (mark.Switch, entry.Thread f.number)
+    unfolding next_entry seen
+    next_switch f is = ap (λ o. or_high (option_map (λ (g : Follower). g.number) o) (row_seen a High) (row_seen a Low)) is
+
+    module _ (no_switch : a.switch ≡ None) where
+      next_unless : next_entry (seen a).core ≡ or_first (first_of mark.High (row_seen a High)) (row_seen a Low)
+      unfolding next_entry seen
+      next_unless = ap (λ o. or_high (option_map (λ (g : Follower). g.number) o) (row_seen a High) (row_seen a Low)) no_switch
+
+      pub next_high : (q : Queued) → Some q ≡ top (row bared High) → next_entry (seen a).core ≡ Some (mark.High, q.entry)
+      next_high q is = next_unless ∙ ap (λ o. or_first o (row_seen a Low)) (first_is mark.High (row_seen a High) (Some q.entry) (top_seen High (Some q) is))
+
+      module _ (no_high : None ≡ top (row bared High)) where
+        next_at_low : next_entry (seen a).core ≡ first_of mark.Low (row_seen a Low)
+        next_at_low = next_unless ∙ ap (λ o. or_first o (row_seen a Low)) (first_is mark.High (row_seen a High) None (top_seen High None no_high))
+
+        pub next_low : (q : Queued) → Some q ≡ top (row bared Low) → next_entry (seen a).core ≡ Some (mark.Low, q.entry)
+        next_low q is = next_at_low ∙ first_is mark.Low (row_seen a Low) (Some q.entry) (top_seen Low (Some q) is)
+
+        pub next_none : None ≡ top (row bared Low) → next_entry (seen a).core ≡ None
+        next_none is = next_at_low ∙ first_is mark.Low (row_seen a Low) None (top_seen Low None is)
+
+    -- ---- Ids of entries
+
+    pub thread_id : (x : Queued) → IsSeated bared x → (n : ℕ) → x.entry ≡ entry.Thread n → (m : ℕ) → m ≡ number_in (record_at thread_key a.threads.places x.place) → entry.Thread m ≡ x.entry
+    thread_id x is_x n is m at = elim (seat_of bared x is_x) [
+      | inl seat ↦ ap (λ k. entry.Thread k) (at ∙ thread_number_here a sound x seat) ∙ ap (λ (q : Queued). q.entry) seat.is
+      | inr seat ↦ absurd (no_work_of seat.placed.entry.item.number x.entry n is seat.entry)
+    ]
+
+    pub work_number : (x : Queued) → IsSeated bared x → (i : ℕ) → ((n : ℕ) → x.entry ≡ entry.Thread n → ⊥) → is_entry_of_work i x.entry ≡ true → ((j : ℕ) → is_entry_of_work j x.entry ≡ true → j ≡ i) → number_in (record_at work_key a.works.places x.place) ≡ i
+    work_number x is_x i no_thread is one = elim (seat_of bared x is_x) [
+      | inl seat ↦ absurd (no_thread seat.placed.entry.item.number (sym (ap (λ (q : Queued). q.entry) seat.is)))
+      | inr seat ↦ sym (number_at_mapped work_key work_key (on_item bare_work) (λ w. unmoved (loose_work w)) (λ e. refl) a.works x.place) ∙ (ap (λ o. number_in (key_in work_key o)) seat.at ∙ one seat.placed.entry.item.number seat.entry)
+    ]
+
+    pub push_id : (x : Queued) → IsSeated bared x → (i : ℕ) → x.entry ≡ entry.Push i → (m : ℕ) → m ≡ number_in (record_at work_key a.works.places x.place) → entry.Push m ≡ x.entry
+    push_id x is_x i is m at = ap (λ k. entry.Push k) (at ∙ work_number x is_x i (λ n thread. absurd (let two = sym is ∙ thread in cc)) (ap (is_entry_of_work i) is ∙ eq-eqb i i refl) (λ j of. eqb-true j i (sym (ap (is_entry_of_work j) is) ∙ of))) ∙ sym is
+
+    pub host_id : (x : Queued) → IsSeated bared x → (i : ℕ) → x.entry ≡ entry.Host i → (m : ℕ) → m ≡ number_in (record_at work_key a.works.places x.place) → entry.Host m ≡ x.entry
+    host_id x is_x i is m at = ap (λ k. entry.Host k) (at ∙ work_number x is_x i (λ n thread. absurd (let two = sym is ∙ thread in cc)) (ap (is_entry_of_work i) is ∙ eq-eqb i i refl) (λ j of. eqb-true j i (sym (ap (is_entry_of_work j) is) ∙ of))) ∙ sym is

@@ -1,0 +1,130 @@
+-- What hangs on the chains of marks and of callers, and on switch, and what does not.
+use Rattle.std.proofs.Common.{◌≡◌, ℕ, true, List, [], Option, Some, None, IfSome, filter, refl, sym, ap, subst}
+use Rattle.task_index.specs.Rows.{Each, IsRows, part}
+use Rattle.task_index.proofs.Rows.{IsRows-same, values_are}
+use Rattle.task_links.specs.Links.{Spot, is_made}
+use Rattle.task_machine.specs.Read.{table_use}
+use Rattle.task_records.specs.Image.{Parts, chained, core_of}
+use Rattle.task_records.specs.Names.{HasHome, IsCallNamed, IsWorkNamed}
+use Rattle.task_records.specs.Kept.{IsSetKept}
+use Rattle.task_records.specs.Rows.{High, IsFollower, IsOfThread, IsSeated, Low, Row, callers_chain, callers_row, is_of_instance, row, row_chain, shelf_chain}
+use Rattle.task_records.specs.Seen.{IsSound, parts_of}
+use Rattle.task_records.specs.Sound.{AreCounted, AreNamed, HaveRowNodes, IsWhole, bare}
+use Rattle.task_records.specs.declared.parts.CoreParts.{CoreParts}
+use Rattle.task_records.specs.declared.calls.GuestTask.{GuestTask}
+use Rattle.task_records.specs.declared.sets.WaitSet.{WaitSet}
+use Rattle.task_records.specs.declared.threads.Follower.{Follower}
+use Rattle.task_records.specs.declared.threads.GuestThread.{GuestThread}
+use Rattle.task_records.specs.declared.threads.Queued.{Queued}
+use Rattle.task_records.specs.declared.works.HostWork.{HostWork}
+
+-- the parts with other chains of marks and callers
+abbrev pub with_chains : Parts → List (Spot Queued) → List (Spot Queued) → List (Spot Follower) → Option Follower → Parts
+with_chains p marks shelves behind switch = record p { marks = marks; shelves = shelves; behind = behind; switch = switch }
+
+-- Each node that was made is made.
+abbrev pub KeepsNodes : {P : Type 0} → List (Spot P) → List (Spot P) → Type 0
+KeepsNodes old new = (n : ℕ) → is_made old n ≡ true → is_made new n ≡ true
+
+module _ (p : Parts) (whole : IsWhole p) (marks shelves : List (Spot Queued)) (behind : List (Spot Follower)) (switch : Option Follower) where
+  abbrev now : Parts
+  now = with_chains p marks shelves behind switch
+
+  home_same : (g : GuestThread) → HasHome p g → HasHome now g
+  home_same g h = record { call = h.call; there = h.there; instance = h.instance; within = h.within; place = h.place; how_far = h.how_far }
+
+  call_same : (g : GuestTask) → IsCallNamed p g → IsCallNamed now g
+  call_same g h = record { caller = h.caller; join = h.join; group = h.group; positive = h.positive }
+
+  work_same : (w : HostWork) → IsWorkNamed p w → IsWorkNamed now w
+  work_same w h = record { caller = h.caller; join = h.join; group = h.group }
+
+  set_same : (x : WaitSet) → IsSetKept (core_of p) x → IsSetKept (core_of now) x
+  set_same x h = record { members = h.members; entries = h.entries }
+
+  counted_same : AreCounted now
+  unfolding table_use
+  counted_same = record {
+    kept = record { used = whole.counted.kept.used; groups = whole.counted.kept.groups; live = whole.counted.kept.live };
+    calls = whole.counted.calls;
+    sets = λ rep q at. set_same q.entry.item (whole.counted.sets rep q at);
+    groups = whole.counted.groups;
+    few = whole.counted.few;
+    finished = whole.counted.finished;
+    high = whole.counted.high;
+    low = whole.counted.low;
+    works = whole.counted.works;
+    results = whole.counted.results;
+  }
+
+  nodes_same : KeepsNodes p.marks marks → KeepsNodes p.shelves shelves → KeepsNodes p.behind behind → HaveRowNodes now
+  nodes_same keeps_marks keeps_shelves keeps_behind = record {
+    marks = record { made = λ rep q at. keeps_marks _ (whole.nodes.marks.made rep q at); own = whole.nodes.marks.own };
+    shelves = record { made = λ rep q at. keeps_shelves _ (whole.nodes.shelves.made rep q at); own = whole.nodes.shelves.own };
+    callers = record { made = λ rep q at. keeps_behind _ (whole.nodes.callers.made rep q at); own = whole.nodes.callers.own };
+    works = record { made = λ rep q at. keeps_marks _ (whole.nodes.works.made rep q at); own = whole.nodes.works.own };
+    apart = whole.nodes.apart;
+  }
+
+  named_same : IfSome switch (IsFollower p) → AreNamed now
+  named_same follows = record {
+    threads = λ rep q at. home_same q.entry.item (whole.named.threads rep q at);
+    calls = λ rep q at. call_same q.entry.item (whole.named.calls rep q at);
+    works = λ rep q at. work_same q.entry.item (whole.named.works rep q at);
+    switch = follows;
+  }
+
+  pub chains_whole :
+      IfSome switch (IsFollower p) → KeepsNodes p.marks marks → KeepsNodes p.shelves shelves → KeepsNodes p.behind behind
+      → IsRows (row_chain p) (λ q. q.mark.index) (IsSeated p) marks (row now) → IsRows (shelf_chain p) (λ q. q.shelf.index) (IsSeated p) shelves (part is_of_instance (row now)) → Each IsOfThread (row now Low)
+      → IsRows (callers_chain p) (λ f. f.node.index) (IsFollower p) behind (callers_row now) → IsWhole now
+  chains_whole follows keeps_marks keeps_shelves keeps_behind marks_are shelves_are low behind_are = record {
+    named = named_same follows;
+    chained = record {
+      places = whole.chained.places;
+      ready_calls = whole.chained.ready_calls;
+      ready_works = whole.chained.ready_works;
+      polled = whole.chained.polled;
+      marks = marks_are;
+      shelves = shelves_are;
+      low = low;
+      behind = behind_are;
+    };
+    nodes = nodes_same keeps_marks keeps_shelves keeps_behind;
+    counted = counted_same;
+  }
+
+-- so that a core with other chains is sound where its parts are whole
+pub chains_sound : (a : CoreParts) (marks shelves : List (Spot Queued)) (behind : List (Spot Follower)) (switch : Option Follower) → IsSound a → IsWhole (with_chains (bare (parts_of a)) marks shelves behind switch) → IsSound (record a { marks = marks; shelves = shelves; behind = behind; switch = switch })
+unfolding IsSound
+chains_sound a marks shelves behind switch sound whole = record {
+  tables = record { threads = sound.tables.threads; calls = sound.tables.calls; works = sound.tables.works; sets = sound.tables.sets; groups = sound.tables.groups };
+  whole = whole;
+  interesting = sound.interesting;
+  moving = sound.moving;
+  handles = sound.handles;
+  owned = sound.owned;
+  live = sound.live;
+}
+
+-- ---- The entries of the marks
+
+module _ (p : Parts) (whole : IsWhole p) (marks shelves : List (Spot Queued)) (list : Row → List Queued) (rows : IsRows (row_chain p) (λ q. q.mark.index) (IsSeated p) marks list) (empty : (r : Row) → row_chain p r ≡ None → list r ≡ []) where
+  abbrev pub with_rows : Parts
+  with_rows = record p { marks = marks; shelves = shelves }
+
+  row_at : (r : Row) (o : Option ℕ) → row_chain p r ≡ o → chained marks o ≡ list r
+  row_at r None is = sym (empty r is)
+  row_at r (Some c) is = values_are (row_chain p) (λ q. q.mark.index) (IsSeated p) marks list rows r c is
+
+  -- they are those of the chains now
+  pub row_is : (r : Row) → row with_rows r ≡ list r
+  row_is High = row_at High p.high refl
+  row_is Low = row_at Low p.low refl
+
+  pub rows_whole : KeepsNodes p.marks marks → KeepsNodes p.shelves shelves → IsRows (shelf_chain p) (λ q. q.shelf.index) (IsSeated p) shelves (part is_of_instance list) → Each IsOfThread (list Low) → IsWhole with_rows
+  rows_whole keeps_marks keeps_shelves shelf_rows low = chains_whole p whole marks shelves p.behind p.switch whole.named.switch keeps_marks keeps_shelves (λ n made. made)
+      (IsRows-same (row_chain p) (λ q. q.mark.index) (IsSeated p) marks list rows (row with_rows) (λ r c at. row_is r))
+      (IsRows-same (shelf_chain p) (λ q. q.shelf.index) (IsSeated p) shelves (part is_of_instance list) shelf_rows (part is_of_instance (row with_rows)) (λ k c at. ap (filter (is_of_instance k.0)) (row_is k.1)))
+      (subst (Each IsOfThread) (sym (row_is Low)) low)
+      whole.chained.behind

@@ -1,0 +1,19 @@
+use Rattle.queue_words.proofs.LeaveLemmas.{left_sound, pop_high_nothing, pop_high_seen}
+use Rattle.queue_words.proofs.TopLemmas.{mark_live, top_seated}
+use Rattle.queue_words.proofs.removals.pop_high.Goals as goal
+use Rattle.task_records.specs.Rows.{High}
+
+pub first_queued-requires : goal.first_queued-requires
+first_queued-requires c = mark_live c.args.parts.now c.requires High
+
+pub leave-requires-clause-seated : goal.leave-requires-clause-seated
+leave-requires-clause-seated c = top_seated c.args.parts.now c.requires High c.in-Some.queued c.in-Some.ensures
+
+pub returns-in-Some-clause-sound : goal.returns-in-Some-clause-sound
+returns-in-Some-clause-sound c = left_sound c.args.parts.now c.requires c.in-Some.queued (top_seated c.args.parts.now c.requires High c.in-Some.queued c.in-Some.ensures) c.leave.ensures.links c.leave.new.parts c.leave.ensures.rows c.leave.ensures.rest
+
+pub returns-in-Some-clause-new : goal.returns-in-Some-clause-new
+returns-in-Some-clause-new c = pop_high_seen c.args.parts.now c.requires c.in-Some.queued (top_seated c.args.parts.now c.requires High c.in-Some.queued c.in-Some.ensures) c.leave.ensures.links c.leave.new.parts c.leave.ensures.rows c.leave.ensures.rest c.in-Some.ensures
+
+pub returns-in_default-clause-new : goal.returns-in_default-clause-new
+returns-in_default-clause-new c = pop_high_nothing c.args.parts.now c.requires c.in_default.ensures

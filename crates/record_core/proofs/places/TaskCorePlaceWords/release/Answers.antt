@@ -1,0 +1,7 @@
+use Rattle.std.proofs.Common.{subst, sym}
+use Rattle.task_rules.specs.Places.{Placed}
+use Rattle.task_words.specs.StateView.{StateView}
+use Rattle.record_core.proofs.places.TaskCorePlaceWords.release.Goals as goal
+
+pub release-requires-clause-placed : goal.release-requires-clause-placed
+release-requires-clause-placed c = subst (λ (s : StateView). Placed s.core) (sym c.self.view_is) c.requires

@@ -1,0 +1,17 @@
+//! The core of a store: threads, calls, host works, sets and instances, as what contracts see of
+//! them, with every word of `task_words`.
+#![tactic(auto)]
+
+mod calls;
+mod instances;
+mod limits;
+mod places;
+mod queues;
+mod results;
+mod sets;
+mod subtasks;
+mod task_core;
+mod threads;
+mod works;
+
+pub use crate::task_core::TaskCore;

@@ -1,0 +1,69 @@
+use crate::task_core::TaskCore;
+use task_machine::{Mark, Place, Why};
+use task_words::{PlaceId, PlaceWords, SetId, SubtaskId, ThreadId};
+
+impl PlaceWords for TaskCore {
+    fn place(&self, thread: ThreadId) -> Option<Place> {
+        place_words::place(&self.parts, thread)
+    }
+
+    fn why(&self, thread: ThreadId) -> Why {
+        place_words::why(&self.parts, thread)
+    }
+
+    fn delivered_set(&self, thread: ThreadId) -> Option<SetId> {
+        place_words::delivered_set(&self.parts, thread)
+    }
+
+    fn set_place(&mut self, thread: ThreadId, place: PlaceId) {
+        place_words::set_place(&mut self.parts, thread, place);
+    }
+
+    fn set_mark(&mut self, thread: ThreadId, mark: Mark) {
+        place_words::set_mark(&mut self.parts, thread, mark);
+    }
+
+    fn hold(&mut self, thread: ThreadId) {
+        place_words::hold(&mut self.parts, thread);
+    }
+
+    fn threads(&self) -> u64 {
+        count_words::threads(&self.parts)
+    }
+
+    fn under(&self, thread: ThreadId) -> Option<ThreadId> {
+        walk_words::under(&self.parts, thread)
+    }
+
+    fn blocked_on(&self, subtask: SubtaskId) -> Option<ThreadId> {
+        walk_words::blocked_on(&self.parts, subtask)
+    }
+
+    fn first_waiter(&self, set: SetId) -> Option<ThreadId> {
+        place_words::first_waiter(&self.parts, set)
+    }
+
+    fn has_callers(&self, thread: ThreadId) -> bool {
+        queue_words::has_callers(&self.parts, thread)
+    }
+
+    fn add_caller(&mut self, thread: ThreadId, other: ThreadId) {
+        queue_words::add_caller(&mut self.parts, thread, other);
+    }
+
+    fn pop_caller(&mut self, thread: ThreadId) -> Option<ThreadId> {
+        queue_words::pop_caller(&mut self.parts, thread)
+    }
+
+    fn pop_newest_caller(&mut self, thread: ThreadId) -> Option<ThreadId> {
+        queue_words::pop_newest_caller(&mut self.parts, thread)
+    }
+
+    fn has_admitted(&self, instance: u32) -> bool {
+        walk_words::has_admitted(&self.parts, instance)
+    }
+
+    fn release(&mut self, instance: u32) {
+        walk_words::release(&mut self.parts, instance);
+    }
+}

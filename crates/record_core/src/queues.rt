@@ -1,0 +1,45 @@
+use crate::task_core::TaskCore;
+use task_machine::Mark;
+use task_words::{EntryId, QueueWords, ThreadId, WorkId};
+
+impl QueueWords for TaskCore {
+    fn switch(&self) -> Option<ThreadId> {
+        queue_words::switch(&self.parts)
+    }
+
+    fn first_entry(&self, instance: u32) -> Option<ThreadId> {
+        queue_words::first_entry(&self.parts, instance)
+    }
+
+    fn next_entry(&self) -> Option<(Mark, EntryId)> {
+        queue_words::next_entry(&self.parts)
+    }
+
+    fn pop(&mut self, mark: Mark) {
+        queue_words::pop(&mut self.parts, mark);
+    }
+
+    fn set_switch(&mut self, thread: Option<ThreadId>) {
+        queue_words::set_switch(&mut self.parts, thread);
+    }
+
+    fn push_high(&mut self, thread: ThreadId) {
+        queue_words::push_high(&mut self.parts, thread);
+    }
+
+    fn push_high_first(&mut self, thread: ThreadId) {
+        queue_words::push_high_first(&mut self.parts, thread);
+    }
+
+    fn push_low(&mut self, thread: ThreadId) {
+        queue_words::push_low(&mut self.parts, thread);
+    }
+
+    fn push_host(&mut self, work: WorkId) {
+        queue_words::push_host(&mut self.parts, work);
+    }
+
+    fn unqueue(&mut self, thread: ThreadId) {
+        queue_words::unqueue(&mut self.parts, thread);
+    }
+}

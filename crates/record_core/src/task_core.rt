@@ -1,0 +1,60 @@
+ghost use Rattle.std.specs.Prelude.{◌≡◌};
+ghost use Rattle.task_records.specs.Seen.{nothing};
+
+use std::alloc::Global;
+use std::marker::Model;
+use task_records::CoreParts;
+use task_words::{ThreadId, View, Words};
+
+/// The core of a store.
+#[derive(Drop)]
+pub struct TaskCore {
+    pub(crate) parts: CoreParts,
+}
+
+impl Model for TaskCore {
+    ghost use Rattle.task_words.specs.StateView.{StateView};
+    ghost use Rattle.record_core.specs.Codes.{state_view_code};
+
+    ghost Value = { StateView };
+
+    ghost coded = { state_view_code };
+
+    ghost use Rattle.task_records.specs.Seen.{IsSound, seen};
+
+    ghost view = { λ a. seen a.parts };
+
+    ghost invariant = { λ a. IsSound a.parts };
+}
+
+impl TaskCore {
+    /// A core in which nothing was made: no instance, a limit of 100,000 handles, and room for
+    /// 1,000,000 entries.
+    pub fn new(alloc: Global) -> TaskCore
+        ensures { result ≡ nothing }
+    {
+        TaskCore {
+            parts: CoreParts::new(alloc),
+        }
+    }
+}
+
+impl View for TaskCore {
+    ghost use Rattle.record_core.specs.Codes.{itself};
+
+    ghost view = { itself };
+
+    fn current(&self) -> Option<ThreadId> {
+        count_words::current(&self.parts)
+    }
+
+    fn set_current(&mut self, thread: Option<ThreadId>) {
+        count_words::set_current(&mut self.parts, thread);
+    }
+
+    fn none_is_zero(&self) {
+        task_records::none_is_zero(&self.parts);
+    }
+}
+
+impl Words for TaskCore {}

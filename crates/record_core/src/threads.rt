@@ -1,0 +1,113 @@
+use crate::task_core::TaskCore;
+use task_machine::{NoMemory, Script};
+use task_words::{CallId, HowFarId, ThreadId, ThreadWords};
+
+impl ThreadWords for TaskCore {
+    fn number(&self, thread: ThreadId) -> u64 {
+        record_words::number(&self.parts, thread)
+    }
+
+    fn task_of(&self, thread: ThreadId) -> CallId {
+        task_records::task_of(&self.parts, thread)
+    }
+
+    fn instance_of(&self, thread: ThreadId) -> u32 {
+        record_words::instance_of(&self.parts, thread)
+    }
+
+    fn thread_group(&self, thread: ThreadId) -> u64 {
+        record_words::thread_group(&self.parts, thread)
+    }
+
+    fn register(&self, thread: ThreadId, register: u8) -> u64 {
+        record_words::register(&self.parts, thread, register)
+    }
+
+    fn registers(&self, thread: ThreadId) -> [u64; 16] {
+        record_words::registers(&self.parts, thread)
+    }
+
+    fn position(&self, thread: ThreadId) -> u32 {
+        record_words::position(&self.parts, thread)
+    }
+
+    fn script(&self, thread: ThreadId) -> Script {
+        record_words::script(&self.parts, thread)
+    }
+
+    fn how_far(&self, thread: ThreadId) -> HowFarId {
+        record_words::how_far(&self.parts, thread)
+    }
+
+    fn is_explicit(&self, thread: ThreadId) -> bool {
+        record_words::is_explicit(&self.parts, thread)
+    }
+
+    fn is_last_thread(&self, thread: ThreadId) -> bool {
+        count_words::is_last_thread(&self.parts, thread)
+    }
+
+    fn thread_handle(&self, thread: ThreadId) -> Option<u32> {
+        record_words::thread_handle(&self.parts, thread)
+    }
+
+    fn saved_own(&self, thread: ThreadId) -> Option<bool> {
+        record_words::saved_own(&self.parts, thread)
+    }
+
+    fn saved_callee(&self, thread: ThreadId) -> Option<bool> {
+        record_words::saved_callee(&self.parts, thread)
+    }
+
+    fn set_register(&mut self, thread: ThreadId, register: u8, value: u64) {
+        record_words::set_register(&mut self.parts, thread, register, value);
+    }
+
+    fn set_position(&mut self, thread: ThreadId, position: u32) {
+        record_words::set_position(&mut self.parts, thread, position);
+    }
+
+    fn set_how_far(&mut self, thread: ThreadId, how_far: HowFarId) {
+        place_words::set_how_far(&mut self.parts, thread, how_far);
+    }
+
+    fn set_script(&mut self, thread: ThreadId, script: Script) {
+        record_words::set_script(&mut self.parts, thread, script);
+    }
+
+    fn set_saved_own(&mut self, thread: ThreadId, flag: Option<bool>) {
+        record_words::set_saved_own(&mut self.parts, thread, flag);
+    }
+
+    fn set_saved_callee(&mut self, thread: ThreadId, flag: Option<bool>) {
+        record_words::set_saved_callee(&mut self.parts, thread, flag);
+    }
+
+    fn set_context(&mut self, thread: ThreadId, position: u32, registers: &[u64; 16]) {
+        place_words::set_context(&mut self.parts, thread, position, registers);
+    }
+
+    fn move_to(&mut self, thread: ThreadId, position: u32) {
+        place_words::move_to(&mut self.parts, thread, position);
+    }
+
+    fn advance(&mut self, thread: ThreadId) {
+        place_words::advance(&mut self.parts, thread);
+    }
+
+    fn assign(&mut self, thread: ThreadId, register: u8, value: u64) {
+        place_words::assign(&mut self.parts, thread, register, value);
+    }
+
+    fn make_thread(&mut self, task: CallId, slot: u8, words: &[u64]) -> Result<ThreadId, NoMemory> {
+        strand_words::make_thread(&mut self.parts, task, slot, words)
+    }
+
+    fn retire_thread(&mut self, thread: ThreadId) {
+        removal_words::retire_thread(&mut self.parts, thread);
+    }
+
+    fn remove_thread(&mut self, thread: ThreadId) {
+        removal_words::remove_thread(&mut self.parts, thread);
+    }
+}

@@ -1,0 +1,18 @@
+use Rattle.record_words.proofs.handles.new_handle.Goals as goal
+use Rattle.std.proofs.Common.{Option, ap, ◌∙◌}
+use Rattle.std.specs.Option.{option_map_or}
+use Rattle.task_machine.specs.Core.{Table}
+use Rattle.task_machine.specs.Read.{new_handle, next_handle}
+use Rattle.task_machine.specs.declared.records.Named.{Named}
+use Rattle.task_records.proofs.HandleReads.{next_given}
+use Rattle.task_records.specs.Instances.{named_of}
+
+pub returns-in-Some : goal.returns-in-Some
+unfolding new_handle
+returns-in-Some c =
+    c.next.ensures.handle ∙ (next_given named_of c.in-Some.entry.now.handles c.next.ensures.whole
+    ∙ ap (λ (o : Option (Table Named)). option_map_or (λ (t : Table Named). next_handle t t.freed) o 1) c.in-Some.ensures.handles)
+
+pub returns-in-None : goal.returns-in-None
+unfolding new_handle
+returns-in-None c = ap (λ (o : Option (Table Named)). option_map_or (λ (t : Table Named). next_handle t t.freed) o 1) c.in-None.ensures.handles

@@ -1,0 +1,17 @@
+use Rattle.record_words.proofs.handles.new_thread_handle.Goals as goal
+use Rattle.std.proofs.Common.{Option, ap, ◌∙◌, ℕ}
+use Rattle.std.specs.Option.{option_map_or}
+use Rattle.task_machine.specs.Core.{Table}
+use Rattle.task_machine.specs.Read.{new_thread_handle, next_handle}
+use Rattle.task_records.proofs.HandleReads.{next_given}
+use Rattle.task_records.specs.Instances.{thread_of as thread_named}
+
+pub returns-in-Some : goal.returns-in-Some
+unfolding new_thread_handle
+returns-in-Some c =
+    c.next.ensures.handle ∙ (next_given thread_named c.in-Some.entry.now.thread_handles c.next.ensures.whole
+    ∙ ap (λ (o : Option (Table ℕ)). option_map_or (λ (t : Table ℕ). next_handle t t.freed) o 1) c.in-Some.ensures.thread_handles)
+
+pub returns-in-None : goal.returns-in-None
+unfolding new_thread_handle
+returns-in-None c = ap (λ (o : Option (Table ℕ)). option_map_or (λ (t : Table ℕ). next_handle t t.freed) o 1) c.in-None.ensures.thread_handles

@@ -1,0 +1,221 @@
+ghost use Rattle.std.specs.Prelude.{◌≡◌, false};
+ghost use Rattle.std.specs.Option.{option_map_or};
+ghost use Rattle.task_machine.specs.Maps.{get};
+ghost use Rattle.task_machine.specs.Moves.{is_finished};
+ghost use Rattle.task_machine.specs.Read.{call_group, callee_of, cancel_was_delivered, end_of, goal_of, kind_of, own_event_of, result_of, thread_group, was_started};
+ghost use Rattle.task_machine.specs.Write.{set_cancel_delivered, set_end, set_exited, set_own_event, set_result, set_started, set_starting_published};
+ghost use Rattle.task_records.specs.Seen.{IsSound, seen};
+ghost use Rattle.task_rules.specs.Takes.{starting_is_published};
+ghost use Rattle.task_words.specs.StateView.{call_of, on_core, thread_of};
+
+use task_machine::{CallEnd, Callee, ExportKind, Goal, OwnEvent};
+use task_records::{CoreParts, task_of};
+use task_words::{CallId, ThreadId};
+
+/// The number of a call; 0 where the id names none.
+pub fn call_number(parts: &CoreParts, call: CallId) -> u64
+    requires { IsSound parts.now }
+    ensures { result ≡ call_of (seen parts.now) call }
+{
+    match task_records::call(parts, call) {
+        Some(entry) => entry.number,
+        None => 0,
+    }
+}
+
+pub fn callee(parts: &CoreParts, call: CallId) -> Callee
+    requires { IsSound parts.now }
+    ensures { result ≡ callee_of (call_of (seen parts.now) call) (seen parts.now).core }
+{
+    match task_records::call(parts, call) {
+        Some(entry) => entry.call.callee,
+        None => Callee {
+            instance: 0,
+            export: 0,
+        },
+    }
+}
+
+pub fn kind(parts: &CoreParts, call: CallId) -> ExportKind
+    requires { IsSound parts.now }
+    ensures { result ≡ kind_of (call_of (seen parts.now) call) (seen parts.now).core }
+{
+    match task_records::call(parts, call) {
+        Some(entry) => entry.call.kind,
+        None => ExportKind::Callback,
+    }
+}
+
+pub fn goal(parts: &CoreParts, call: CallId) -> Goal
+    requires { IsSound parts.now }
+    ensures { result ≡ goal_of (call_of (seen parts.now) call) (seen parts.now).core }
+{
+    match task_records::call(parts, call) {
+        Some(entry) => entry.call.goal,
+        None => Goal::Nowhere,
+    }
+}
+
+pub fn end_of(parts: &CoreParts, call: CallId) -> Option<CallEnd>
+    requires { IsSound parts.now }
+    ensures { result ≡ end_of (call_of (seen parts.now) call) (seen parts.now).core }
+{
+    match task_records::call(parts, call) {
+        Some(entry) => entry.call.end,
+        None => None,
+    }
+}
+
+pub fn was_started(parts: &CoreParts, call: CallId) -> bool
+    requires { IsSound parts.now }
+    ensures { result ≡ was_started (call_of (seen parts.now) call) (seen parts.now).core }
+{
+    match task_records::call(parts, call) {
+        Some(entry) => entry.call.started,
+        None => false,
+    }
+}
+
+pub fn starting_is_published(parts: &CoreParts, call: CallId) -> bool
+    requires { IsSound parts.now }
+    ensures { result ≡ starting_is_published (call_of (seen parts.now) call) (seen parts.now).core }
+{
+    match task_records::call(parts, call) {
+        Some(entry) => entry.call.starting_published,
+        None => false,
+    }
+}
+
+pub fn own_event(parts: &CoreParts, call: CallId) -> Option<OwnEvent>
+    requires { IsSound parts.now }
+    ensures { result ≡ own_event_of (call_of (seen parts.now) call) (seen parts.now).core }
+{
+    match task_records::call(parts, call) {
+        Some(entry) => entry.call.own_event,
+        None => None,
+    }
+}
+
+pub fn cancel_was_delivered(parts: &CoreParts, call: CallId) -> bool
+    requires { IsSound parts.now }
+    ensures { result ≡ cancel_was_delivered (call_of (seen parts.now) call) (seen parts.now).core }
+{
+    match task_records::call(parts, call) {
+        Some(entry) => entry.call.cancel_delivered,
+        None => false,
+    }
+}
+
+/// The result of a `call_sync` that wasn't taken yet; 0 where there is none.
+pub fn result_of(parts: &CoreParts, call: CallId) -> u64
+    requires { IsSound parts.now }
+    ensures { result ≡ result_of (call_of (seen parts.now) call) (seen parts.now).core }
+{
+    match task_records::call(parts, call) {
+        Some(entry) => match entry.call.result {
+            Some(value) => value,
+            None => 0,
+        },
+        None => 0,
+    }
+}
+
+/// The number of the call's group.
+pub fn call_group(parts: &CoreParts, call: CallId) -> u64
+    requires { IsSound parts.now }
+    ensures { result ≡ call_group (call_of (seen parts.now) call) (seen parts.now).core }
+{
+    match task_records::call(parts, call) {
+        Some(entry) => entry.call.group,
+        None => 0,
+    }
+}
+
+/// Whether the call's first thread and its task have ended.
+pub fn is_finished(parts: &CoreParts, call: CallId) -> bool
+    requires { IsSound parts.now }
+    ensures { result ≡ option_map_or is_finished (get (seen parts.now).core.calls (call_of (seen parts.now) call)) false }
+{
+    match task_records::call(parts, call) {
+        Some(entry) => entry.call.exited && entry.call.end.is_some(),
+        None => false,
+    }
+}
+
+/// The number of the thread's group.
+pub fn thread_group(parts: &CoreParts, thread: ThreadId) -> u64
+    requires { IsSound parts.now }
+    ensures { result ≡ thread_group (thread_of (seen parts.now) thread) (seen parts.now).core }
+{
+    call_group(parts, task_of(parts, thread))
+}
+
+pub fn set_started(parts: &mut CoreParts, call: CallId)
+    requires { IsSound parts.old }
+    ensures sound { IsSound parts.new }
+    ensures new { seen parts.new ≡ on_core (set_started (call_of (seen parts.old) call)) (seen parts.old) }
+{
+    if let Ok(entry) = parts.calls.get_mut(call) {
+        entry.call.started = true;
+    }
+}
+
+pub fn set_starting_published(parts: &mut CoreParts, call: CallId)
+    requires { IsSound parts.old }
+    ensures sound { IsSound parts.new }
+    ensures new { seen parts.new ≡ on_core (set_starting_published (call_of (seen parts.old) call)) (seen parts.old) }
+{
+    if let Ok(entry) = parts.calls.get_mut(call) {
+        entry.call.starting_published = true;
+    }
+}
+
+pub fn set_end(parts: &mut CoreParts, call: CallId, end_of_call: CallEnd)
+    requires { IsSound parts.old }
+    ensures sound { IsSound parts.new }
+    ensures new { seen parts.new ≡ on_core (set_end (call_of (seen parts.old) call) end_of_call) (seen parts.old) }
+{
+    if let Ok(entry) = parts.calls.get_mut(call) {
+        entry.call.end = Some(end_of_call);
+    }
+}
+
+pub fn set_own_event(parts: &mut CoreParts, call: CallId, event: Option<OwnEvent>)
+    requires { IsSound parts.old }
+    ensures sound { IsSound parts.new }
+    ensures new { seen parts.new ≡ on_core (set_own_event (call_of (seen parts.old) call) event) (seen parts.old) }
+{
+    if let Ok(entry) = parts.calls.get_mut(call) {
+        entry.call.own_event = event;
+    }
+}
+
+pub fn set_cancel_delivered(parts: &mut CoreParts, call: CallId)
+    requires { IsSound parts.old }
+    ensures sound { IsSound parts.new }
+    ensures new { seen parts.new ≡ on_core (set_cancel_delivered (call_of (seen parts.old) call)) (seen parts.old) }
+{
+    if let Ok(entry) = parts.calls.get_mut(call) {
+        entry.call.cancel_delivered = true;
+    }
+}
+
+pub fn set_exited(parts: &mut CoreParts, call: CallId)
+    requires { IsSound parts.old }
+    ensures sound { IsSound parts.new }
+    ensures new { seen parts.new ≡ on_core (set_exited (call_of (seen parts.old) call)) (seen parts.old) }
+{
+    if let Ok(entry) = parts.calls.get_mut(call) {
+        entry.call.exited = true;
+    }
+}
+
+pub fn set_result(parts: &mut CoreParts, call: CallId, value: Option<u64>)
+    requires { IsSound parts.old }
+    ensures sound { IsSound parts.new }
+    ensures new { seen parts.new ≡ on_core (set_result (call_of (seen parts.old) call) value) (seen parts.old) }
+{
+    if let Ok(entry) = parts.calls.get_mut(call) {
+        entry.call.result = value;
+    }
+}

@@ -1,0 +1,88 @@
+ghost use Rattle.std.specs.Prelude.{◌≡◌};
+ghost use Rattle.task_machine.specs.Read.{backpressure_of, may_not_enter, may_not_suspend, word_of};
+ghost use Rattle.task_machine.specs.Write.{set_backpressure, set_do_not_enter, set_do_not_suspend, set_word};
+ghost use Rattle.task_records.specs.Seen.{IsSound, seen};
+ghost use Rattle.task_words.specs.StateView.{on_core};
+
+use crate::words::{put_word, word_in};
+use task_records::CoreParts;
+
+pub fn backpressure(parts: &CoreParts, instance: u32) -> u16
+    ensures { result ≡ backpressure_of instance (seen parts.now).core }
+{
+    match task_records::instance(parts, instance) {
+        Some(entry) => entry.instance.backpressure,
+        None => 0,
+    }
+}
+
+pub fn may_not_enter(parts: &CoreParts, instance: u32) -> bool
+    ensures { result ≡ may_not_enter instance (seen parts.now).core }
+{
+    match task_records::instance(parts, instance) {
+        Some(entry) => entry.instance.do_not_enter,
+        None => false,
+    }
+}
+
+pub fn may_not_suspend(parts: &CoreParts, instance: u32) -> bool
+    ensures { result ≡ may_not_suspend instance (seen parts.now).core }
+{
+    match task_records::instance(parts, instance) {
+        Some(entry) => entry.instance.do_not_suspend,
+        None => false,
+    }
+}
+
+pub fn word(parts: &CoreParts, instance: u32, word: u8) -> u64
+    ensures { result ≡ word_of instance word (seen parts.now).core }
+{
+    match task_records::instance(parts, instance) {
+        Some(entry) => word_in(&entry.instance.words, word),
+        None => 0,
+    }
+}
+
+pub fn set_backpressure(parts: &mut CoreParts, instance: u32, count: u16)
+    requires { IsSound parts.old }
+    ensures sound { IsSound parts.new }
+    ensures new { seen parts.new ≡ on_core (set_backpressure instance count) (seen parts.old) }
+{
+    if (instance as usize) < parts.instances.len() {
+        let entry = &mut parts.instances[instance as usize];
+        entry.instance.backpressure = count;
+    }
+}
+
+pub fn set_do_not_enter(parts: &mut CoreParts, instance: u32, flag: bool)
+    requires { IsSound parts.old }
+    ensures sound { IsSound parts.new }
+    ensures new { seen parts.new ≡ on_core (set_do_not_enter instance flag) (seen parts.old) }
+{
+    if (instance as usize) < parts.instances.len() {
+        let entry = &mut parts.instances[instance as usize];
+        entry.instance.do_not_enter = flag;
+    }
+}
+
+pub fn set_do_not_suspend(parts: &mut CoreParts, instance: u32, flag: bool)
+    requires { IsSound parts.old }
+    ensures sound { IsSound parts.new }
+    ensures new { seen parts.new ≡ on_core (set_do_not_suspend instance flag) (seen parts.old) }
+{
+    if (instance as usize) < parts.instances.len() {
+        let entry = &mut parts.instances[instance as usize];
+        entry.instance.do_not_suspend = flag;
+    }
+}
+
+pub fn set_word(parts: &mut CoreParts, instance: u32, word: u8, value: u64)
+    requires { IsSound parts.old }
+    ensures sound { IsSound parts.new }
+    ensures new { seen parts.new ≡ on_core (set_word instance word value) (seen parts.old) }
+{
+    if (instance as usize) < parts.instances.len() {
+        let entry = &mut parts.instances[instance as usize];
+        put_word(&mut entry.instance.words, word, value);
+    }
+}

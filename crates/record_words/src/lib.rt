@@ -1,0 +1,31 @@
+//! Words on the records of a core: what is read of one record, and writes of its fields.
+//!
+//! Each is one equation of what contracts see, as the traits of `task_words` say it.
+#![tactic(auto)]
+
+mod calls;
+mod handles;
+mod instances;
+mod names;
+mod subtasks;
+mod threads;
+mod words;
+mod works;
+
+pub use calls::{
+    call_group, call_number, callee, cancel_was_delivered, end_of, goal, is_finished, kind,
+    own_event, result_of, set_cancel_delivered, set_end, set_exited, set_own_event, set_result,
+    set_started, set_starting_published, starting_is_published, thread_group, was_started,
+};
+pub use handles::{new_handle, new_thread_handle, set_at, subtask_at, thread_at};
+pub use instances::{
+    backpressure, may_not_enter, may_not_suspend, set_backpressure, set_do_not_enter,
+    set_do_not_suspend, set_word, word,
+};
+pub use names::{caller, how_far, join, work_caller};
+pub use subtasks::{event, has_ended, set_subtask_handle, subtask_handle};
+pub use threads::{
+    instance_of, is_explicit, number, position, register, registers, saved_callee, saved_own,
+    script, set_position, set_register, set_saved_callee, set_saved_own, set_script, thread_handle,
+};
+pub use works::{course, phase, set_cancelled, stage, was_cancelled, work_group, work_number};

@@ -1,0 +1,167 @@
+ghost use Rattle.std.specs.Prelude.{◌≡◌, ◌<◌, Some};
+ghost use Rattle.task_machine.specs.Maps.{get};
+ghost use Rattle.task_machine.specs.Read.{instance_of, is_explicit, position_of, register_of, registers_of, saved_callee_of, saved_own_of, thread_handle_of};
+ghost use Rattle.task_machine.specs.Write.{set_position, set_register, set_saved_callee, set_saved_own, set_script};
+ghost use Rattle.task_machine.specs.declared.records.Thread.{Thread};
+ghost use Rattle.task_records.specs.Seen.{IsSound, seen};
+ghost use Rattle.task_words.specs.StateView.{on_core, thread_of};
+
+use crate::words::{put_word, word_in};
+use task_machine::Script;
+use task_records::CoreParts;
+use task_words::ThreadId;
+
+/// The number of a thread; 0 where the id names none.
+pub fn number(parts: &CoreParts, thread: ThreadId) -> u64
+    requires { IsSound parts.now }
+    ensures { result ≡ thread_of (seen parts.now) thread }
+{
+    match task_records::thread(parts, thread) {
+        Some(entry) => entry.number,
+        None => 0,
+    }
+}
+
+pub fn instance_of(parts: &CoreParts, thread: ThreadId) -> u32
+    requires { IsSound parts.now }
+    ensures { result ≡ instance_of (thread_of (seen parts.now) thread) (seen parts.now).core }
+{
+    match task_records::thread(parts, thread) {
+        Some(entry) => entry.instance,
+        None => 0,
+    }
+}
+
+pub fn register(parts: &CoreParts, thread: ThreadId, register: u8) -> u64
+    requires { IsSound parts.now }
+    ensures { result ≡ register_of (thread_of (seen parts.now) thread) register (seen parts.now).core }
+{
+    match task_records::thread(parts, thread) {
+        Some(entry) => word_in(&entry.thread.registers, register),
+        None => 0,
+    }
+}
+
+/// All registers.
+pub fn registers(parts: &CoreParts, thread: ThreadId) -> [u64; 16]
+    requires sound { IsSound parts.now }
+    requires live { 0 < thread_of (seen parts.now) thread }
+    ensures { result ≡ registers_of (thread_of (seen parts.now) thread) (seen parts.now).core }
+{
+    match task_records::thread(parts, thread) {
+        Some(entry) => entry.thread.registers,
+        None => unreachable!(),
+    }
+}
+
+pub fn position(parts: &CoreParts, thread: ThreadId) -> u32
+    requires { IsSound parts.now }
+    ensures { result ≡ position_of (thread_of (seen parts.now) thread) (seen parts.now).core }
+{
+    match task_records::thread(parts, thread) {
+        Some(entry) => entry.thread.position,
+        None => 0,
+    }
+}
+
+/// The script that a thread runs.
+pub fn script(parts: &CoreParts, thread: ThreadId) -> Script
+    requires sound { IsSound parts.now }
+    requires live { 0 < thread_of (seen parts.now) thread }
+    ensures { (t : Thread) → get (seen parts.now).core.threads (thread_of (seen parts.now) thread) ≡ Some t → result ≡ t.script }
+{
+    match task_records::thread(parts, thread) {
+        Some(entry) => entry.thread.script,
+        None => unreachable!(),
+    }
+}
+
+pub fn is_explicit(parts: &CoreParts, thread: ThreadId) -> bool
+    requires { IsSound parts.now }
+    ensures { result ≡ is_explicit (thread_of (seen parts.now) thread) (seen parts.now).core }
+{
+    match task_records::thread(parts, thread) {
+        Some(entry) => entry.thread.explicit,
+        None => false,
+    }
+}
+
+pub fn thread_handle(parts: &CoreParts, thread: ThreadId) -> Option<u32>
+    requires { IsSound parts.now }
+    ensures { result ≡ thread_handle_of (thread_of (seen parts.now) thread) (seen parts.now).core }
+{
+    match task_records::thread(parts, thread) {
+        Some(entry) => entry.thread.handle,
+        None => None,
+    }
+}
+
+pub fn saved_own(parts: &CoreParts, thread: ThreadId) -> Option<bool>
+    requires { IsSound parts.now }
+    ensures { result ≡ saved_own_of (thread_of (seen parts.now) thread) (seen parts.now).core }
+{
+    match task_records::thread(parts, thread) {
+        Some(entry) => entry.thread.saved_own,
+        None => None,
+    }
+}
+
+pub fn saved_callee(parts: &CoreParts, thread: ThreadId) -> Option<bool>
+    requires { IsSound parts.now }
+    ensures { result ≡ saved_callee_of (thread_of (seen parts.now) thread) (seen parts.now).core }
+{
+    match task_records::thread(parts, thread) {
+        Some(entry) => entry.thread.saved_callee,
+        None => None,
+    }
+}
+
+pub fn set_register(parts: &mut CoreParts, thread: ThreadId, register: u8, value: u64)
+    requires { IsSound parts.old }
+    ensures sound { IsSound parts.new }
+    ensures new { seen parts.new ≡ on_core (set_register (thread_of (seen parts.old) thread) register value) (seen parts.old) }
+{
+    if let Ok(entry) = parts.threads.get_mut(thread) {
+        put_word(&mut entry.thread.registers, register, value);
+    }
+}
+
+pub fn set_position(parts: &mut CoreParts, thread: ThreadId, position: u32)
+    requires { IsSound parts.old }
+    ensures sound { IsSound parts.new }
+    ensures new { seen parts.new ≡ on_core (set_position (thread_of (seen parts.old) thread) position) (seen parts.old) }
+{
+    if let Ok(entry) = parts.threads.get_mut(thread) {
+        entry.thread.position = position;
+    }
+}
+
+pub fn set_script(parts: &mut CoreParts, thread: ThreadId, script: Script)
+    requires { IsSound parts.old }
+    ensures sound { IsSound parts.new }
+    ensures new { seen parts.new ≡ on_core (set_script (thread_of (seen parts.old) thread) script) (seen parts.old) }
+{
+    if let Ok(entry) = parts.threads.get_mut(thread) {
+        entry.thread.script = script;
+    }
+}
+
+pub fn set_saved_own(parts: &mut CoreParts, thread: ThreadId, flag: Option<bool>)
+    requires { IsSound parts.old }
+    ensures sound { IsSound parts.new }
+    ensures new { seen parts.new ≡ on_core (set_saved_own (thread_of (seen parts.old) thread) flag) (seen parts.old) }
+{
+    if let Ok(entry) = parts.threads.get_mut(thread) {
+        entry.thread.saved_own = flag;
+    }
+}
+
+pub fn set_saved_callee(parts: &mut CoreParts, thread: ThreadId, flag: Option<bool>)
+    requires { IsSound parts.old }
+    ensures sound { IsSound parts.new }
+    ensures new { seen parts.new ≡ on_core (set_saved_callee (thread_of (seen parts.old) thread) flag) (seen parts.old) }
+{
+    if let Ok(entry) = parts.threads.get_mut(thread) {
+        entry.thread.saved_callee = flag;
+    }
+}

@@ -1,0 +1,82 @@
+ghost use Rattle.std.specs.Prelude.{◌≡◌};
+ghost use Rattle.task_machine.specs.Read.{course_of, phase_of, stage_of, was_cancelled};
+ghost use Rattle.task_machine.specs.Write.{set_cancelled};
+ghost use Rattle.task_records.specs.Seen.{IsSound, seen};
+ghost use Rattle.task_rules.specs.Calls.{work_group};
+ghost use Rattle.task_words.specs.StateView.{on_core, work_of};
+
+use task_machine::{Course, Phase, Stage};
+use task_records::CoreParts;
+use task_words::WorkId;
+
+/// The number of a work; 0 where the id names none.
+pub fn work_number(parts: &CoreParts, work: WorkId) -> u64
+    requires { IsSound parts.now }
+    ensures { result ≡ work_of (seen parts.now) work }
+{
+    match task_records::work(parts, work) {
+        Some(entry) => entry.number,
+        None => 0,
+    }
+}
+
+pub fn course(parts: &CoreParts, work: WorkId) -> Course
+    requires { IsSound parts.now }
+    ensures { result ≡ course_of (work_of (seen parts.now) work) (seen parts.now).core }
+{
+    match task_records::work(parts, work) {
+        Some(entry) => entry.work.course,
+        None => Course::NoValue,
+    }
+}
+
+pub fn phase(parts: &CoreParts, work: WorkId) -> Phase
+    requires { IsSound parts.now }
+    ensures { result ≡ phase_of (work_of (seen parts.now) work) (seen parts.now).core }
+{
+    match task_records::work(parts, work) {
+        Some(entry) => entry.work.phase,
+        None => Phase::Complete,
+    }
+}
+
+pub fn stage(parts: &CoreParts, work: WorkId) -> Stage
+    requires { IsSound parts.now }
+    ensures { result ≡ stage_of (work_of (seen parts.now) work) (seen parts.now).core }
+{
+    match task_records::work(parts, work) {
+        Some(entry) => entry.work.stage,
+        None => Stage::Ended,
+    }
+}
+
+/// The number of the work's group, if it is a call.
+pub fn work_group(parts: &CoreParts, work: WorkId) -> Option<u64>
+    requires { IsSound parts.now }
+    ensures { result ≡ work_group (work_of (seen parts.now) work) (seen parts.now).core }
+{
+    match task_records::work(parts, work) {
+        Some(entry) => entry.work.group,
+        None => None,
+    }
+}
+
+pub fn was_cancelled(parts: &CoreParts, work: WorkId) -> bool
+    requires { IsSound parts.now }
+    ensures { result ≡ was_cancelled (work_of (seen parts.now) work) (seen parts.now).core }
+{
+    match task_records::work(parts, work) {
+        Some(entry) => entry.work.cancelled,
+        None => false,
+    }
+}
+
+pub fn set_cancelled(parts: &mut CoreParts, work: WorkId)
+    requires { IsSound parts.old }
+    ensures sound { IsSound parts.new }
+    ensures new { seen parts.new ≡ on_core (set_cancelled (work_of (seen parts.old) work)) (seen parts.old) }
+{
+    if let Ok(entry) = parts.works.get_mut(work) {
+        entry.work.cancelled = true;
+    }
+}

@@ -1,0 +1,49 @@
+-- One record of a table goes: the seats and the nodes of the others stay.
+use Rattle.std.proofs.Common.{inl, inr, ◌≡◌, ℕ, true, cond, List, Option, Some, None, sym, ap, ◌∙◌}
+use Rattle.std.proofs.lemmas.Bool.{cases_eq, eq-eqb, ne_eqb}
+use Rattle.std.proofs.lemmas.Option.{same_Some}
+use Rattle.std.specs.Option.{option_map}
+use Rattle.std.specs.Prelude.{Ok}
+use Rattle.removal_words.proofs.LessLemmas.{placed_before}
+use Rattle.task_links.specs.Links.{FreeNode, Renames, Spot, Unmade, is_made, spot_is_made}
+use Rattle.task_records.proofs.KindLemmas.{item_stands}
+use Rattle.task_records.specs.Kinds.{entry_of, item_of}
+use Rattle.task_records.specs.Rows.{HaveNodes, seated}
+use Rattle.task_records.specs.Sound.{SoundTable}
+use Rattle.task_records.specs.declared.single.Single.{Single}
+use Rattle.task_table.proofs.Laws.{place_at-deleted}
+use Rattle.task_table.specs.Answers.{item_at}
+use Rattle.task_table.specs.Changes.{deleted}
+use Rattle.task_table.specs.Table.{Placed, Table, place_at}
+
+-- a number that is renamed leaves the nodes of others
+pub renamed_made : {P : Type 0} (old new : List (Spot P)) (k : ℕ) → Renames old new k FreeNode Unmade → (n : ℕ) → (n ≡ k → ⊥) → is_made old n ≡ true → is_made new n ≡ true
+renamed_made old new k names n other made = ap spot_is_made (names.others n other) ∙ made
+
+module _ {T X : Type 0} (number : T → ℕ) (rec : T → X) (t : Table (Single T)) (made : ℕ) (sound : SoundTable (λ (e : Single T). Some (number e.item, rec e.item)) t made) (rep serial : ℕ) (g : T) (is : Ok g ≡ item_at item_of t rep serial) where
+  stands : (q : Placed (Single T)) × ((place_at t rep ≡ Some q) × ((q.serial ≡ serial) × (q.entry ≡ entry_of g)))
+  stands = item_stands number rec t made sound rep serial g is
+
+  here : {Q : Type 0} (seat : ℕ → T → Q) → seated seat t rep ≡ Some (seat rep g)
+  here seat = ap (option_map (λ (q : Placed (Single T)). seat rep q.entry.item)) stands.1.0 ∙ ap (λ (e : Single T). Some (seat rep e.item)) stands.1.1.1
+
+  pub seated_left : {Q : Type 0} (seat : ℕ → T → Q) (r : ℕ) (x : Q) → (seat rep g ≡ x → ⊥) → seated seat t r ≡ Some x → seated seat (deleted rep t) r ≡ Some x
+  seated_left seat r x differs is_x = elim (cases_eq r rep) [
+    | inl same ↦ absurd (differs (same_Some (seat rep g) x (sym (here seat) ∙ (ap (seated seat t) (sym same) ∙ is_x))))
+    | inr other ↦ ap (option_map (λ (q : Placed (Single T)). seat r q.entry.item)) (place_at-deleted t rep r ∙ ap (λ b. cond b None (place_at t r)) (ne_eqb r rep other)) ∙ is_x
+  ]
+
+  away : (r : ℕ) (q : Placed (Single T)) → place_at (deleted rep t) r ≡ Some q → r ≡ rep → ⊥
+  away r q at same = none (sym (ap (λ b. cond b None (place_at t r)) (eq-eqb r rep same)) ∙ (sym (place_at-deleted t rep r) ∙ at))
+    where
+      none : ◌≡◌ {A = Option (Placed (Single T))} None (Some q) → ⊥
+      none is = absurd (cc)
+
+  before : (r : ℕ) (q : Placed (Single T)) → place_at (deleted rep t) r ≡ Some q → place_at t r ≡ Some q
+  before = placed_before number rec t made sound rep serial g is
+
+  pub nodes_left : {P : Type 0} (node : T → ℕ) (old new : List (Spot P)) → ((n : ℕ) → (n ≡ node g → ⊥) → is_made old n ≡ true → is_made new n ≡ true) → HaveNodes node t old → HaveNodes node (deleted rep t) new
+  nodes_left node old new keeps have = record {
+    made = λ r q at. keeps (node q.entry.item) (λ same. away r q at (have.own r rep q stands.0 (before r q at) stands.1.0 (same ∙ sym (ap (λ (e : Single T). node e.item) stands.1.1.1)))) (have.made r q (before r q at));
+    own = λ r s q w at_q at_w same. have.own r s q w (before r q at_q) (before s w at_w) same;
+  }

@@ -1,0 +1,238 @@
+-- A group of which nothing is left is finished.
+use Rattle.std.proofs.Common.{inl, inr, ◌≡◌, ◌+◌, ◌==◌, ◌<◌, ◌≤◌, ◌||◌, ℕ, suc, zero, Bool, true, false, cond, not, List, Some, None, filter, length, nat_lt, refl, sym, ap, ap₂, subst, ◌∙◌, arith}
+use Rattle.std.proofs.lemmas.Bool.{cases_eq, eq-eqb, ne_eqb}
+use Rattle.std.specs.List.{list_any}
+use Rattle.std.specs.Option.{option_map_or}
+use Rattle.std.specs.Prelude.{Err, Ok, Result}
+use Rattle.removal_words.proofs.BareTables.{sound_mapped}
+use Rattle.removal_words.proofs.GroupLemmas.{numbers_fewer, numbers_left}
+use Rattle.removal_words.proofs.LessLemmas.{each_left, passes_not, read_at}
+use Rattle.removal_words.proofs.RewriteLemmas.{each_there}
+use Rattle.task_index.specs.Counts.{passing}
+use Rattle.task_machine.specs.Maps.{Records, get, numbers, remove}
+use Rattle.task_machine.specs.Moves.{group_settled, is_group_done}
+use Rattle.task_machine.specs.Read.{table_use}
+use Rattle.task_machine.specs.Write.{remove_group}
+use Rattle.task_machine.specs.declared.records.Call.{Call}
+use Rattle.task_machine.specs.declared.records.Work.{Work}
+use Rattle.task_records.proofs.KeptLemmas.{any_passing, count_calls, count_works}
+use Rattle.task_records.proofs.KindLemmas.{item_number, item_read, item_stands}
+use Rattle.task_records.proofs.MakeLemmas.{records_less, table_less}
+use Rattle.task_records.specs.Image.{Parts, core_of}
+use Rattle.task_records.specs.Kept.{IsGroupKept, calls_of, is_of_group}
+use Rattle.task_records.specs.Keys.{call_key, group_key, work_key}
+use Rattle.task_records.specs.Kinds.{entry_of, item_of}
+use Rattle.task_records.specs.Names.{HasHome, HasNumber}
+use Rattle.task_records.specs.Seen.{IsSound, parts_of, seen}
+use Rattle.task_records.specs.Sound.{AreCounted, IsWhole, SoundTable, bare, bare_call, bare_work, loose_call, loose_work, uninterested, unmoved}
+use Rattle.task_records.specs.declared.calls.GuestTask.{GuestTask}
+use Rattle.task_records.specs.declared.calls.TaskGroup.{TaskGroup}
+use Rattle.task_records.specs.declared.parts.CoreParts.{CoreParts}
+use Rattle.task_records.specs.declared.parts.Kept.{Kept}
+use Rattle.task_records.specs.declared.single.Single.{Single}
+use Rattle.task_records.specs.declared.threads.GuestThread.{GuestThread}
+use Rattle.task_records.specs.declared.works.HostWork.{HostWork}
+use Rattle.task_table.proofs.ItemLemmas.{deletion_refused}
+use Rattle.task_table.proofs.Laws.{place_at-deleted}
+use Rattle.task_table.specs.Answers.{deletion, item_at}
+use Rattle.task_table.specs.Changes.{deleted}
+use Rattle.task_table.specs.Records.{key_in, number_in, number_of, record_at, records}
+use Rattle.task_table.specs.Table.{IsTable, Placed, Table, place_at}
+use Rattle.task_table.specs.declared.error.ResourceTableError.{ResourceTableError}
+use Rattle.task_table.specs.declared.id.TableId.{TableId}
+use Rattle.task_wait.specs.declared.keys.GroupKey.{GroupKey}
+use Rattle.task_words.specs.StateView.{on_core, with_core}
+
+abbrev number : TaskGroup → ℕ
+number r = r.number
+
+abbrev count : TaskGroup → ℕ
+count r = r.calls
+
+abbrev call_number : GuestTask → ℕ
+call_number c = c.number
+
+abbrev call_machine : GuestTask → Call
+call_machine c = c.call
+
+abbrev work_number : HostWork → ℕ
+work_number w = w.number
+
+abbrev work_machine : HostWork → Work
+work_machine w = w.work
+
+some_of : (m n : ℕ) → (nat_lt 0 m || nat_lt 0 n) ≡ nat_lt 0 (m + n)
+some_of zero n = let same : 0 + n ≡ n = omega arith in sym (ap (nat_lt 0) same)
+some_of (suc m) n = grind arith
+
+pub one_above : (f n : ℕ) → f < n → cond {A = ℕ} (nat_lt f n) 1 0 ≡ 1
+one_above f n more = let is : nat_lt f n ≡ true = grind arith in ap (λ b. cond b 1 0) is
+
+pub none_above : (f n : ℕ) → n ≤ f → cond {A = ℕ} (nat_lt f n) 1 0 ≡ 0
+none_above f n less = let is : nat_lt f n ≡ false = grind arith in ap (λ b. cond b 1 0) is
+
+module _ (p : Parts) (whole : IsWhole p) (made made_calls made_works : ℕ) (sound : SoundTable group_key p.groups made) (calls_sound : SoundTable call_key p.calls made_calls) (works_sound : SoundTable work_key p.works made_works) (rep serial : ℕ) (r : TaskGroup) (is : Ok r ≡ item_at item_of p.groups rep serial) (empty : calls_of r.number (core_of p) ≡ 0) where
+  stands : (q : Placed (Single TaskGroup)) × ((place_at p.groups rep ≡ Some q) × ((q.serial ≡ serial) × (q.entry ≡ entry_of r)))
+  stands = item_stands number count p.groups made sound rep serial r is
+
+  at_other : (s n : ℕ) → (n ≡ r.number → ⊥) → HasNumber group_key p.groups s n → HasNumber group_key (deleted rep p.groups) s n
+  at_other s n other at = elim (cases_eq s rep) [
+    | inl same ↦ absurd (other (sym at ∙ (ap (λ t. number_in (record_at group_key p.groups.places t)) same ∙ (ap (λ o. number_in (key_in group_key o)) stands.1.0 ∙ ap (λ (e : Single TaskGroup). e.item.number) stands.1.1.1))))
+    | inr apart ↦ ap (λ o. number_in (key_in group_key o)) (place_at-deleted p.groups rep s ∙ ap (λ b. cond b None (place_at p.groups s)) (ne_eqb s rep apart)) ∙ at
+  ]
+
+  no_call : list_any (λ (e : ℕ × Call). e.1.group == r.number) (core_of p).calls.list ≡ false
+  no_call = sym (any_passing (λ (c : Call). c.group == r.number) (core_of p).calls) ∙ ap (nat_lt 0) (let all = empty in let none : passing (λ (c : Call). c.group == r.number) (core_of p).calls ≡ 0 = omega arith in none)
+
+  no_work : list_any (λ (e : ℕ × Work). is_of_group r.number e.1) (core_of p).works.list ≡ false
+  no_work = sym (any_passing (is_of_group r.number) (core_of p).works) ∙ ap (nat_lt 0) (let all = empty in let none : passing (is_of_group r.number) (core_of p).works ≡ 0 = omega arith in none)
+
+  call_else : (s : ℕ) (q : Placed (Single GuestTask)) → place_at p.calls s ≡ Some q → q.entry.item.call.group ≡ r.number → ⊥
+  call_else s q at same = passes_not (λ (c : Call). c.group == r.number) (core_of p).calls no_call q.entry.item.number q.entry.item.call (read_at call_number call_machine p.calls made_calls calls_sound s q at) (eq-eqb q.entry.item.call.group r.number same)
+
+  work_else : (s : ℕ) (q : Placed (Single HostWork)) → place_at p.works s ≡ Some q → (n : ℕ) → q.entry.item.work.group ≡ Some n → n ≡ r.number → ⊥
+  work_else s q at n has same = passes_not (is_of_group r.number) (core_of p).works no_work q.entry.item.number q.entry.item.work (read_at work_number work_machine p.works made_works works_sound s q at) (ap (λ o. option_map_or (λ h. h == r.number) o false) has ∙ eq-eqb n r.number same)
+
+  here : get (records group_key p.groups.places) r.number ≡ Some r.calls
+  here = sym (item_read number count p.groups made sound rep serial r is ∙ ap (get (records group_key p.groups.places)) (item_number number count p.groups rep serial r is))
+
+  module _ (kept : Kept) where
+    abbrev pub less : Parts
+    less = record p { groups = deleted rep p.groups; kept = kept }
+
+    pub groups_left : (core_of less).groups ≡ filter (λ q. not (r.number == q)) (core_of p).groups
+    groups_left = ap (λ (m : Records ℕ). filter (nat_lt p.finished) (numbers m)) (records_less number count p.groups made sound rep serial r is) ∙ numbers_left (records group_key p.groups.places) r.number r.calls here p.finished
+
+    pub groups_fewer : length (core_of less).groups + cond (nat_lt p.finished r.number) 1 0 ≡ length (core_of p).groups
+    groups_fewer =
+        let law = numbers_fewer (records group_key p.groups.places) r.number r.calls here p.finished in
+        let map : length (core_of less).groups ≡ length (filter (nat_lt p.finished) (numbers (remove (records group_key p.groups.places) r.number))) = ap (λ (m : Records ℕ). length (filter (nat_lt p.finished) (numbers m))) (records_less number count p.groups made sound rep serial r is) in
+        omega arith
+
+    module _ (used : kept.used + cond (nat_lt p.finished r.number) 1 0 ≡ p.kept.used) (groups : kept.groups + cond (nat_lt p.finished r.number) 1 0 ≡ p.kept.groups) (live : kept.live ≡ p.kept.live) where
+      home_left : (g : GuestThread) → HasHome p g → HasHome less g
+      home_left g h = record { call = h.call; there = h.there; instance = h.instance; within = h.within; place = h.place; how_far = h.how_far }
+
+      counted_left : AreCounted less
+      unfolding table_use
+      counted_left = record {
+        kept = record {
+          used = let all = whole.counted.kept.used in let fewer = groups_fewer in omega arith;
+          groups = let all = whole.counted.kept.groups in let fewer = groups_fewer in omega arith;
+          live = live ∙ whole.counted.kept.live;
+        };
+        calls = whole.counted.calls;
+        sets = λ s q at. let one = whole.counted.sets s q at in record { members = one.members; entries = one.entries };
+        groups = each_left number count p.groups made sound rep serial r is (IsGroupKept (core_of p)) whole.counted.groups;
+        few = whole.counted.few;
+        finished = whole.counted.finished;
+        high = whole.counted.high;
+        low = whole.counted.low;
+        works = whole.counted.works;
+        results = whole.counted.results;
+      }
+
+      pub less_whole : IsWhole less
+      less_whole = record {
+        named = record {
+          threads = λ s q at. home_left q.entry.item (whole.named.threads s q at);
+          calls = λ s q at. let one = whole.named.calls s q at in record { caller = one.caller; join = one.join; group = at_other q.entry.item.group q.entry.item.call.group (call_else s q at) one.group; positive = one.positive };
+          works = λ s q at. let one = whole.named.works s q at in record { caller = one.caller; join = one.join; group = λ n has. let two = one.group n has in (at_other q.entry.item.group n (work_else s q at n has) two.0, two.1) };
+          switch = whole.named.switch;
+        };
+        chained = record { places = whole.chained.places; ready_calls = whole.chained.ready_calls; ready_works = whole.chained.ready_works; polled = whole.chained.polled; marks = whole.chained.marks; shelves = whole.chained.shelves; low = whole.chained.low; behind = whole.chained.behind };
+        nodes = record { marks = whole.nodes.marks; shelves = whole.nodes.shelves; callers = whole.nodes.callers; works = whole.nodes.works; apart = whole.nodes.apart };
+        counted = counted_left;
+      }
+
+module _ (a : CoreParts) (sound : IsSound a) (id : TableId GroupKey) (r : TaskGroup) (is : Ok r ≡ item_at item_of a.groups id.rep id.serial) where
+  abbrev bared : Parts
+  bared = bare (parts_of a)
+
+  whole : IsWhole bared
+  unfolding IsSound
+  whole = sound.whole
+
+  groups_sound : SoundTable group_key a.groups a.made.groups
+  unfolding IsSound
+  groups_sound = sound.tables.groups
+
+  bare_calls : SoundTable call_key bared.calls a.made.threads
+  unfolding IsSound
+  bare_calls = sound_mapped call_number call_machine bare_call (λ c. uninterested (loose_call c)) (λ x. refl) (λ x. refl) a.calls a.made.threads sound.tables.calls
+
+  bare_works : SoundTable work_key bared.works a.made.works
+  unfolding IsSound
+  bare_works = sound_mapped work_number work_machine bare_work (λ w. unmoved (loose_work w)) (λ x. refl) (λ x. refl) a.works a.made.works sound.tables.works
+
+  named : number_of group_key a.groups id.rep id.serial ≡ r.number
+  named = item_number number count a.groups id.rep id.serial r is
+
+  kept_is : r.calls ≡ calls_of r.number (core_of bared)
+  kept_is = each_there number count a.groups a.made.groups groups_sound id.rep id.serial r is (IsGroupKept (core_of bared)) whole.counted.groups
+
+  -- it is done where none of it is left
+  done_is : is_group_done r.number (seen a).core ≡ not (nat_lt 0 r.calls)
+  unfolding is_group_done
+  done_is =
+      ap not (ap₂ (λ b d. b || d)
+      (sym (any_passing (λ (c : Call). c.group == r.number) (seen a).core.calls) ∙ ap (nat_lt 0) (sym (count_calls a (λ (c : Call). c.group == r.number))))
+      (sym (any_passing (is_of_group r.number) (seen a).core.works) ∙ ap (nat_lt 0) (sym (count_works a (is_of_group r.number))))
+      ∙ (some_of (passing (λ (c : Call). c.group == r.number) (core_of bared).calls) (passing (is_of_group r.number) (core_of bared).works) ∙ ap (nat_lt 0) (sym kept_is)))
+
+  settled_is : (b : Bool) → is_group_done r.number (seen a).core ≡ b → on_core (group_settled (number_of group_key a.groups id.rep id.serial)) (seen a) ≡ with_core (cond b (remove_group r.number (seen a).core) (seen a).core) (seen a)
+  unfolding group_settled
+  settled_is b done = ap (λ n. with_core (cond (is_group_done n (seen a).core) (remove_group n (seen a).core) (seen a).core) (seen a)) named ∙ ap (λ d. with_core (cond d (remove_group r.number (seen a).core) (seen a).core) (seen a)) done
+
+  pub group_stays : 0 < r.calls → seen a ≡ on_core (group_settled (number_of group_key a.groups id.rep id.serial)) (seen a)
+  group_stays some = let is : nat_lt 0 r.calls ≡ true = grind arith in sym (settled_is false (done_is ∙ ap not is))
+
+  pub group_deleted : (why : ResourceTableError) → Err why ≡ deletion item_of a.groups id.rep id.serial → ⊥
+  unfolding IsSound
+  group_deleted why refused = by (is ∙ sym (deletion_refused item_of a.groups id.rep id.serial why refused (sound.tables.groups.childless id.rep)))
+    where
+      by : ◌≡◌ {A = Result TaskGroup ResourceTableError} (Ok r) (Err why) → ⊥
+      by same = absurd (cc)
+
+  module _ (none : r.calls ≡ 0) where
+    empty : calls_of r.number (core_of bared) ≡ 0
+    empty = sym kept_is ∙ none
+
+    pub groups_counted : cond (nat_lt a.finished r.number) 1 0 ≤ a.kept.groups
+    groups_counted = let law = groups_fewer bared whole a.made.groups a.made.threads a.made.works groups_sound bare_calls bare_works id.rep id.serial r is empty a.kept in let all = whole.counted.kept.groups in omega arith
+
+    pub use_counted : cond (nat_lt a.finished r.number) 1 0 ≤ a.kept.used
+    unfolding table_use
+    use_counted = let law = groups_fewer bared whole a.made.groups a.made.threads a.made.works groups_sound bare_calls bare_works id.rep id.serial r is empty a.kept in let all = whole.counted.kept.used in omega arith
+
+    module _ (used groups : ℕ) (is_used : used + cond (nat_lt a.finished r.number) 1 0 ≡ a.kept.used) (is_groups : groups + cond (nat_lt a.finished r.number) 1 0 ≡ a.kept.groups) where
+      abbrev pub group_removed : Table (Single TaskGroup) → CoreParts
+      group_removed t = record a { groups = t; kept = record a.kept { used = used; groups = groups } }
+
+      abbrev bare_kept : Kept
+      bare_kept = record a.kept { used = used; groups = groups; interesting = 0; moving = 0 }
+
+      sound_without : IsTable (deleted id.rep a.groups) → IsSound (group_removed (deleted id.rep a.groups))
+      unfolding IsSound
+      sound_without table = record {
+        tables = record { threads = sound.tables.threads; calls = sound.tables.calls; works = sound.tables.works; sets = sound.tables.sets; groups = table_less number count a.groups a.made.groups sound.tables.groups id.rep id.serial r is table };
+        whole = less_whole bared whole a.made.groups a.made.threads a.made.works groups_sound bare_calls bare_works id.rep id.serial r is empty bare_kept is_used is_groups refl;
+        interesting = sound.interesting;
+        moving = sound.moving;
+        handles = sound.handles;
+        owned = sound.owned;
+        live = sound.live;
+      }
+
+      seen_without : seen (group_removed (deleted id.rep a.groups)) ≡ on_core (group_settled (number_of group_key a.groups id.rep id.serial)) (seen a)
+      unfolding seen remove_group
+      seen_without =
+          ap (λ (gs : List ℕ). with_core (record (seen a).core { groups = gs }) (seen a)) (groups_left bared whole a.made.groups a.made.threads a.made.works groups_sound bare_calls bare_works id.rep id.serial r is empty bare_kept)
+          ∙ sym (settled_is true (done_is ∙ ap (λ n. not (nat_lt 0 n)) none))
+
+      module _ (t : Table (Single TaskGroup)) (are : t ≡ deleted id.rep a.groups) where
+        pub settled_sound : IsTable t → IsSound (group_removed t)
+        settled_sound table = subst (λ (u : Table (Single TaskGroup)). IsSound (group_removed u)) (sym are) (sound_without (subst (λ (u : Table (Single TaskGroup)). IsTable u) are table))
+
+        pub settled_seen : seen (group_removed t) ≡ on_core (group_settled (number_of group_key a.groups id.rep id.serial)) (seen a)
+        settled_seen = ap (λ (u : Table (Single TaskGroup)). seen (group_removed u)) are ∙ seen_without

@@ -1,0 +1,262 @@
+-- Parts without one thread, which is in no list: they are whole.
+use Rattle.std.proofs.Common.{inl, inr, ◌⊎◌, ◌≡◌, ◌+◌, ◌==◌, ℕ, Bool, false, cond, List, Option, Some, None, IfSome, filter, refl, sym, ap, subst, ◌∙◌, arith}
+use Rattle.std.proofs.lemmas.Bool.{cases_eq, eq-eqb}
+use Rattle.std.specs.List.{list_any}
+use Rattle.std.specs.Option.{option_map_or}
+use Rattle.std.specs.Prelude.{Ok}
+use Rattle.place_words.proofs.AlikeLemmas.{filings_alike, found_alike, number_alike, place_alike, stands_alike}
+use Rattle.place_words.proofs.FiledLemmas.{kept_under}
+use Rattle.place_words.specs.Moved.{Alike}
+use Rattle.queue_words.proofs.ListLemmas.{none_in_part}
+use Rattle.queue_words.proofs.RowLemmas.{IsRows-known}
+use Rattle.removal_words.proofs.GoneLemmas.{Each-but, IsIndex-gone, IsIndex-shut, IsRows-dropped, IsRows-shut}
+use Rattle.removal_words.proofs.LeftLemmas.{Leaves, named_left}
+use Rattle.removal_words.proofs.LessLemmas.{found_gone, found_still, one_fewer, placed_before}
+use Rattle.removal_words.proofs.SeatGoneLemmas.{nodes_left, renamed_made, seated_left}
+use Rattle.removal_words.specs.Chains.{Closes, Drops}
+use Rattle.removal_words.specs.Counted.{unthreaded}
+use Rattle.task_index.proofs.Counts.{passing-with_at}
+use Rattle.task_index.proofs.Indexes.{IsIndex-same}
+use Rattle.task_index.proofs.Rows.{IsRows-same, values_are}
+use Rattle.task_index.specs.Counts.{one_if_passes, passing}
+use Rattle.task_index.specs.Index.{filings}
+use Rattle.task_index.specs.Rows.{Each, IsRows, part}
+use Rattle.task_links.specs.Links.{FreeNode, Renames, Spot, Unmade}
+use Rattle.task_machine.specs.Maps.{Records, get, remove, same_map, size}
+use Rattle.task_machine.specs.Read.{call_instance, is_entry_of, is_in_set, keeps_set, no_callee, table_use}
+use Rattle.task_machine.specs.declared.records.Call.{Call}
+use Rattle.task_machine.specs.declared.records.Entry.{Entry}
+use Rattle.task_machine.specs.declared.records.Entry.TheVariants as entry
+use Rattle.task_machine.specs.declared.records.Subtask.TheVariants as subtask
+use Rattle.task_machine.specs.declared.records.Thread.{Thread}
+use Rattle.task_machine.specs.declared.records.Work.{Work}
+use Rattle.task_records.proofs.KindLemmas.{item_number, item_read, item_stands}
+use Rattle.task_records.proofs.MakeLemmas.{records_less, stands_less}
+use Rattle.task_records.specs.Image.{Parts, chained, core_of}
+use Rattle.task_records.specs.Kept.{IsCallKept, is_of_group, threads_of}
+use Rattle.task_records.specs.Keys.{call_key, thread_key}
+use Rattle.task_records.specs.Kinds.{entry_of, item_of}
+use Rattle.task_records.specs.Names.{HasHome, IsCallNamed, IsWorkNamed, kinds}
+use Rattle.task_records.specs.Places.{BlockedOn, HeldIn, UnderOf, WaitsOn, Where, place_chain, place_filing, ready_call, ready_call_chain, where_at}
+use Rattle.task_records.specs.Rows.{High, IsFollower, IsOfThread, IsSeated, Low, Row, callers_chain, callers_row, entry_seated, follower, is_of_instance, row, row_chain, shelf_chain, thread_entry}
+use Rattle.task_records.specs.Sound.{AreChained, AreCounted, EachEntry, HaveRowNodes, IsWhole, SoundTable}
+use Rattle.task_records.specs.declared.calls.GuestTask.{GuestTask}
+use Rattle.task_records.specs.declared.parts.Kept.{Kept}
+use Rattle.task_records.specs.declared.single.Single.{Single}
+use Rattle.task_records.specs.declared.threads.Follower.{Follower}
+use Rattle.task_records.specs.declared.threads.GuestThread.{GuestThread}
+use Rattle.task_records.specs.declared.threads.Queued.{Queued}
+use Rattle.task_records.specs.declared.works.HostWork.{HostWork}
+use Rattle.task_table.proofs.RecordLemmas.{get-records}
+use Rattle.task_table.specs.Answers.{item_at}
+use Rattle.task_table.specs.Changes.{deleted}
+use Rattle.task_table.specs.Table.{Placed, Table, place_at}
+
+abbrev number : GuestThread → ℕ
+number g = g.number
+
+abbrev machine : GuestThread → Thread
+machine g = g.thread
+
+module _ (p : Parts) (whole : IsWhole p) (made : ℕ) (sound : SoundTable thread_key p.threads made) (rep serial : ℕ) (g : GuestThread) (is : Ok g ≡ item_at item_of p.threads rep serial) where
+  stands : (q : Placed (Single GuestThread)) × ((place_at p.threads rep ≡ Some q) × ((q.serial ≡ serial) × (q.entry ≡ entry_of g)))
+  stands = item_stands number machine p.threads made sound rep serial g is
+
+  before : (r : ℕ) (q : Placed (Single GuestThread)) → place_at (deleted rep p.threads) r ≡ Some q → place_at p.threads r ≡ Some q
+  before = placed_before number machine p.threads made sound rep serial g is
+
+  -- ---- The parts without it, with one thread less of its call
+
+  module _ (calls : Table (Single GuestTask)) (alike : Alike unthreaded calls p.calls) (places : List (Spot ℕ)) (marks shelves : List (Spot Queued)) (behind : List (Spot Follower)) (kept : Kept) where
+    abbrev pub less : Parts
+    less = record p { threads = deleted rep p.threads; calls = calls; places = places; marks = marks; shelves = shelves; behind = behind; kept = kept }
+
+    -- what is counted of its threads
+    one_less : (test : Thread → Bool) → passing test (core_of less).threads + one_if_passes test (Some g.thread) ≡ passing test (core_of p).threads
+    one_less test =
+        let law = passing-with_at test (core_of p).threads g.number None in
+        let map : passing test (core_of less).threads ≡ passing test (remove (core_of p).threads g.number) = ap (passing test) (records_less number machine p.threads made sound rep serial g is) in
+        let one : one_if_passes test (get (core_of p).threads g.number) ≡ one_if_passes test (Some g.thread) =
+        ap (one_if_passes test) (sym (item_read number machine p.threads made sound rep serial g is ∙ ap (get (core_of p).threads) (item_number number machine p.threads rep serial g is))) in
+        omega arith
+
+    pub threads_counted : (k : ℕ) → threads_of k (core_of less) + cond (g.thread.call == k) 1 0 ≡ threads_of k (core_of p)
+    threads_counted k = one_less (λ t. t.call == k)
+
+    calls_same : (core_of less).calls ≡ (core_of p).calls
+    calls_same = same_map _ _ (λ n. get-records call_key calls.places n ∙ (found_alike unthreaded calls p.calls alike (λ (c : GuestTask). c.number) (λ c. refl) (λ (c : GuestTask). c.call) (λ c. refl) n ∙ sym (get-records call_key p.calls.places n)))
+
+    pub left : Leaves (kinds p) (kinds less)
+    left = record {
+      threads = stands_less number machine p.threads made sound rep serial g is;
+      calls = λ r n at. stands_alike unthreaded calls p.calls alike (λ (c : GuestTask). c.number) (λ c. refl) (λ (c : GuestTask). c.call) (λ (c : Call). c) (λ c. refl) r n at;
+      works = λ r n at. at;
+      sets = λ r n at. at;
+      made = refl;
+    }
+
+    instance_same : (k : ℕ) → call_instance k (core_of less) ≡ call_instance k (core_of p)
+    instance_same k = ap (λ (m : Records Call). (option_map_or (λ (c : Call). c.callee) (get m k) no_callee).instance) calls_same
+
+    home_left : (h : GuestThread) → HasHome p h → HasHome less h
+    home_left h home = record {
+      call = number_alike unthreaded calls p.calls alike (λ (c : GuestTask). c.number) (λ c. refl) (λ (c : GuestTask). c.call) (λ (c : Call). c) (λ c. refl) h.task ∙ home.call;
+      there = home.there;
+      instance = instance_same h.thread.call ∙ home.instance;
+      within = home.within;
+      place = named_left (kinds p) (kinds less) left h.beside _ home.place;
+      how_far = named_left (kinds p) (kinds less) left h.awaited _ home.how_far;
+    }
+
+    call_left : (x y : GuestTask) → unthreaded x ≡ unthreaded y → IsCallNamed p x → IsCallNamed less y
+    call_left x y same named =
+        let bare : IsCallNamed less (unthreaded x) = record { caller = named_left (kinds p) (kinds less) left x.maker _ named.caller; join = named_left (kinds p) (kinds less) left x.joined _ named.join; group = named.group; positive = named.positive } in
+        let one : IsCallNamed less (unthreaded y) = subst (IsCallNamed less) same bare in
+        record { caller = one.caller; join = one.join; group = one.group; positive = one.positive }
+
+    work_left : (w : HostWork) → IsWorkNamed p w → IsWorkNamed less w
+    work_left w named = record { caller = named_left (kinds p) (kinds less) left w.maker _ named.caller; join = named_left (kinds p) (kinds less) left w.joined _ named.join; group = named.group }
+
+    follows_left : (f : Follower) → IsFollower p f → (g.number == f.number) ≡ false → IsFollower less f
+    follows_left f is_f other = seated_left number machine p.threads made sound rep serial g is follower f.place f (λ same. absurd (let two = sym other ∙ eq-eqb g.number f.number (ap (λ (x : Follower). x.number) same) in cc)) is_f
+
+    entry_left : (q : Queued) → IsSeated p q → is_entry_of g.number q.entry ≡ false → IsSeated less q
+    entry_left q is_q other = by q.entry refl is_q
+      where
+        by : (e : Entry) → q.entry ≡ e → entry_seated p e q.place ≡ Some q → entry_seated less e q.place ≡ Some q
+        by (entry.Thread n) e at = seated_left number machine p.threads made sound rep serial g is thread_entry q.place q (λ same. absurd (let two = sym other ∙ (ap (λ (x : Queued). is_entry_of g.number x.entry) (sym same) ∙ eq-eqb g.number g.number refl) in cc)) at
+        by (entry.Push i) e at = at
+        by (entry.Host i) e at = at
+
+    -- ---- Keys
+
+    under_is : place_chain p (UnderOf g.number) ≡ Some g.under
+    under_is = kept_under number machine (λ (x : GuestThread). x.under) p.threads made sound rep serial g is
+
+    callers_is : callers_chain p g.number ≡ Some g.callers
+    callers_is = kept_under number machine (λ (x : GuestThread). x.callers) p.threads made sound rep serial g is
+
+    place_else : (k : Where) → (k ≡ UnderOf g.number) ⊎ (place_chain less k ≡ place_chain p k)
+    place_else (WaitsOn x) = inr refl
+    place_else (HeldIn i) = inr refl
+    place_else (UnderOf n) = elim (cases_eq n g.number) [
+      | inl same ↦ inl (ap (λ m. UnderOf m) same)
+      | inr other ↦ inr (found_still number machine p.threads made sound rep serial g is (λ (x : GuestThread). x.under) n other)
+    ]
+    place_else (BlockedOn (subtask.Guest k)) = inr (found_alike unthreaded calls p.calls alike (λ (c : GuestTask). c.number) (λ c. refl) (λ (c : GuestTask). c.blocked) (λ c. refl) k)
+    place_else (BlockedOn (subtask.Host i)) = inr refl
+
+    callers_else : (n : ℕ) → (n ≡ g.number) ⊎ (callers_chain less n ≡ callers_chain p n)
+    callers_else n = elim (cases_eq n g.number) [
+      | inl same ↦ inl same
+      | inr other ↦ inr (found_still number machine p.threads made sound rep serial g is (λ (x : GuestThread). x.callers) n other)
+    ]
+
+    module _ (unqueued : (r : Row) → list_any (λ (q : Queued). is_entry_of g.number q.entry) (row p r) ≡ false) (not_behind : (n : ℕ) → list_any (λ (f : Follower). g.number == f.number) (callers_row p n) ≡ false) (not_switch : (f : Follower) → p.switch ≡ Some f → (g.number == f.number) ≡ false) (unkept : (x : ℕ) → keeps_set x g.thread g.thread.place ≡ false) where
+      module _ (middle : List (Spot ℕ)) (shut : Closes p.places middle g.under) (node_out : Drops middle places g.node.index) (mark_out : Renames p.marks marks g.mark.index FreeNode Unmade) (shelf_out : Renames p.shelves shelves g.shelf.index FreeNode Unmade) (middle_behind : List (Spot Follower)) (callers_shut : Closes p.behind middle_behind g.callers) (caller_out : Renames middle_behind behind g.caller.index FreeNode Unmade) where
+        marks_left : IsRows (row_chain p) (λ q. q.mark.index) (IsSeated less) marks (row p)
+        marks_left =
+            let rows = IsRows-dropped (row_chain p) (λ q. q.mark.index) (IsSeated p) p.marks (row p) whole.chained.marks marks g.mark.index mark_out in
+            IsRows-known (row_chain p) (λ q. q.mark.index) (IsSeated p) (IsSeated less) marks (row p) rows (λ r c at. Each-but (IsSeated p) (IsSeated less) (λ (q : Queued). is_entry_of g.number q.entry) entry_left (row p r) (unqueued r) (rows.all_known r c at))
+
+        row_at : (r : Row) (o : Option ℕ) → row_chain p r ≡ o → chained marks o ≡ row p r
+        row_at r None at = sym (ap (chained p.marks) at)
+        row_at r (Some c) at = values_are (row_chain p) (λ q. q.mark.index) (IsSeated less) marks (row p) marks_left r c at
+
+        pub row_left : (r : Row) → row less r ≡ row p r
+        row_left High = row_at High p.high refl
+        row_left Low = row_at Low p.low refl
+
+        shelves_left : IsRows (shelf_chain p) (λ q. q.shelf.index) (IsSeated less) shelves (part is_of_instance (row p))
+        shelves_left =
+            let rows = IsRows-dropped (shelf_chain p) (λ q. q.shelf.index) (IsSeated p) p.shelves (part is_of_instance (row p)) whole.chained.shelves shelves g.shelf.index shelf_out in
+            IsRows-known (shelf_chain p) (λ q. q.shelf.index) (IsSeated p) (IsSeated less) shelves (part is_of_instance (row p)) rows
+            (λ k c at. Each-but (IsSeated p) (IsSeated less) (λ (q : Queued). is_entry_of g.number q.entry) entry_left (filter (is_of_instance k.0) (row p k.1)) (none_in_part (is_of_instance k.0) (λ (q : Queued). is_entry_of g.number q.entry) (row p k.1) (unqueued k.1)) (rows.all_known k c at))
+
+        behind_left : IsRows (callers_chain less) (λ f. f.node.index) (IsFollower less) behind (callers_row p)
+        behind_left =
+            let shut_rows = IsRows-shut (callers_chain p) (callers_chain less) p.behind middle_behind g.number g.callers callers_is (found_gone number machine p.threads made sound rep serial g is (λ (x : GuestThread). x.callers)) callers_else callers_shut (λ f. f.node.index) (IsFollower p) (callers_row p) whole.chained.behind in
+            let rows = IsRows-dropped (callers_chain less) (λ f. f.node.index) (IsFollower p) middle_behind (callers_row p) shut_rows behind g.caller.index caller_out in
+            IsRows-known (callers_chain less) (λ f. f.node.index) (IsFollower p) (IsFollower less) behind (callers_row p) rows (λ n c at. Each-but (IsFollower p) (IsFollower less) (λ (f : Follower). g.number == f.number) follows_left (callers_row p n) (not_behind n) (rows.all_known n c at))
+
+        pub callers_left : (n c : ℕ) → callers_chain less n ≡ Some c → callers_row less n ≡ callers_row p n
+        callers_left n c at = ap (chained behind) at ∙ values_are (callers_chain less) (λ f. f.node.index) (IsFollower less) behind (callers_row p) behind_left n c at
+
+        chained_left : AreChained less
+        chained_left = record {
+          places = IsIndex-gone place_filing (place_chain less) p.threads rep stands.0 stands.1.0 (record { node = stands.0.entry.item.node.index; key = where_at stands.0.entry.item.instance stands.0.entry.item.thread.place; value = rep }) refl middle places
+              (subst (λ (e : Single GuestThread). Drops middle places e.item.node.index) (sym stands.1.1.1) node_out)
+              (IsIndex-shut (place_chain p) (place_chain less) p.places middle (UnderOf g.number) g.under under_is (found_gone number machine p.threads made sound rep serial g is (λ (x : GuestThread). x.under)) place_else shut (filings place_filing p.threads) whole.chained.places);
+          ready_calls = IsIndex-same (ready_call_chain p) p.ready_calls _ whole.chained.ready_calls (filings ready_call calls) (filings_alike unthreaded ready_call (λ r s x. refl) calls p.calls alike);
+          ready_works = whole.chained.ready_works;
+          polled = whole.chained.polled;
+          marks = IsRows-same (row_chain p) (λ q. q.mark.index) (IsSeated less) marks (row p) marks_left (row less) (λ r c at. row_left r);
+          shelves = IsRows-same (shelf_chain p) (λ q. q.shelf.index) (IsSeated less) shelves (part is_of_instance (row p)) shelves_left (part is_of_instance (row less)) (λ k c at. ap (filter (is_of_instance k.0)) (row_left k.1));
+          low = subst (Each IsOfThread) (sym (row_left Low)) whole.chained.low;
+          behind = IsRows-same (callers_chain less) (λ f. f.node.index) (IsFollower less) behind (callers_row p) behind_left (callers_row less) callers_left;
+        }
+
+        not_mark : (r : ℕ) (w : Placed (Single HostWork)) → place_at p.works r ≡ Some w → w.entry.item.mark.index ≡ g.mark.index → ⊥
+        not_mark r w at same = whole.nodes.apart rep r stands.0 w stands.1.0 at (ap (λ (e : Single GuestThread). e.item.mark.index) stands.1.1.1 ∙ sym same)
+
+        nodes_kept : HaveRowNodes less
+        nodes_kept = record {
+          marks = nodes_left number machine p.threads made sound rep serial g is (λ (x : GuestThread). x.mark.index) p.marks marks (renamed_made p.marks marks g.mark.index mark_out) whole.nodes.marks;
+          shelves = nodes_left number machine p.threads made sound rep serial g is (λ (x : GuestThread). x.shelf.index) p.shelves shelves (renamed_made p.shelves shelves g.shelf.index shelf_out) whole.nodes.shelves;
+          callers = nodes_left number machine p.threads made sound rep serial g is (λ (x : GuestThread). x.caller.index) p.behind behind (λ n other made. renamed_made middle_behind behind g.caller.index caller_out n other (callers_shut.made n made)) whole.nodes.callers;
+          works = record { made = λ r w at. renamed_made p.marks marks g.mark.index mark_out w.entry.item.mark.index (not_mark r w at) (whole.nodes.works.made r w at); own = whole.nodes.works.own };
+          apart = λ r s q w at_q at_w same. whole.nodes.apart r s q w (before r q at_q) at_w same;
+        }
+
+        switch_left : IfSome p.switch (IsFollower less)
+        switch_left = by p.switch refl whole.named.switch
+          where
+            by : (o : Option Follower) → p.switch ≡ o → IfSome o (IsFollower p) → IfSome o (IsFollower less)
+            by None at is_f = tt
+            by (Some f) at is_f = follows_left f is_f (not_switch f at)
+
+        module _ (used : kept.used + 2 ≡ p.kept.used) (groups : kept.groups ≡ p.kept.groups) (live : kept.live ≡ p.kept.live) (calls_kept : EachEntry (IsCallKept (core_of less)) calls) where
+          counted_left : AreCounted less
+          unfolding table_use
+          counted_left = record {
+            kept = record {
+              used =
+                  let all = whole.counted.kept.used in
+                  let fewer = one_fewer number machine p.threads made sound rep serial g is in
+                  let same : size (core_of less).calls ≡ size (core_of p).calls = ap size calls_same in
+                  omega arith;
+              groups = groups ∙ whole.counted.kept.groups;
+              live = live ∙ whole.counted.kept.live;
+            };
+            calls = calls_kept;
+            sets = λ r q at.
+                let one = whole.counted.sets r q at in
+                record {
+                  members = one.members ∙ ap (λ (m : Records Call). passing (λ c. is_in_set q.entry.item.number c.join) m + passing (λ (w : Work). is_in_set q.entry.item.number w.join) (core_of p).works) (sym calls_same);
+                  entries =
+                      let law = one_less (λ t. keeps_set q.entry.item.number t t.place) in
+                      let none : one_if_passes (λ (t : Thread). keeps_set q.entry.item.number t t.place) (Some g.thread) ≡ 0 = ap (λ b. cond b 1 0) (unkept q.entry.item.number) in
+                      let old = one.entries in
+                      omega arith;
+                };
+            groups = λ r q at. whole.counted.groups r q at ∙ ap (λ (m : Records Call). passing (λ c. c.group == q.entry.item.number) m + passing (is_of_group q.entry.item.number) (core_of p).works) (sym calls_same);
+            few = whole.counted.few;
+            finished = whole.counted.finished;
+            high = whole.counted.high;
+            low = whole.counted.low;
+            works = whole.counted.works;
+            results = λ k c at. whole.counted.results k c (ap (λ (m : Records Call). get m k) (sym calls_same) ∙ at);
+          }
+
+          pub less_whole : IsWhole less
+          less_whole = record {
+            named = record {
+              threads = λ r q at. home_left q.entry.item (whole.named.threads r q (before r q at));
+              calls = λ r q at. let one = place_alike unthreaded calls p.calls alike r q at in call_left one.0.entry.item q.entry.item one.1.1 (whole.named.calls r one.0 one.1.0);
+              works = λ r q at. work_left q.entry.item (whole.named.works r q at);
+              switch = switch_left;
+            };
+            chained = chained_left;
+            nodes = nodes_kept;
+            counted = counted_left;
+          }

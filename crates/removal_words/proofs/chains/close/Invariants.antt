@@ -1,0 +1,11 @@
+use Rattle.std.proofs.Common.{length}
+use Rattle.removal_words.proofs.chains.close.Given as goal
+use Rattle.removal_words.specs.Chains.{Empties}
+use Rattle.task_links.specs.Links.{entries}
+
+-- all else stays as nodes leave
+abbrev pub invariant-loop-node : goal.invariant-loop-node
+invariant-loop-node g l = Empties l.initial.links l.links l.chain
+
+abbrev pub decreases-loop-node : goal.decreases-loop-node
+decreases-loop-node g l = length (entries l.links l.chain)

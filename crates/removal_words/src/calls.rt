@@ -1,0 +1,69 @@
+ghost use Rattle.std.specs.Prelude.{◌≡◌, ◌<◌, false};
+ghost use Rattle.task_machine.specs.Moves.{group_settled};
+ghost use Rattle.task_machine.specs.Read.{call_group, has_thread, join_of};
+ghost use Rattle.task_machine.specs.Write.{remove_call};
+ghost use Rattle.task_machine.specs.declared.records.Join.TheVariants as joins;
+ghost use Rattle.task_machine.specs.declared.records.Subtask.TheVariants as subtasks;
+ghost use Rattle.task_records.specs.Keys.{group_key};
+ghost use Rattle.task_records.specs.Seen.{IsSound, seen};
+ghost use Rattle.task_table.specs.Records.{number_of};
+ghost use Rattle.task_words.specs.StateView.{KeepsBut, call_of, lost_call};
+
+use crate::chains::{close, drop_node};
+use crate::groups::{group_there, one_if, settle_group};
+use place_words::set_join;
+use task_records::CoreParts;
+use task_table::TableId;
+use task_wait::GroupKey;
+use task_words::{CallId, JoinId, SubtaskId};
+
+// A call in no set is gone; its group may be finished.
+fn drop_call(parts: &mut CoreParts, call: CallId) -> TableId<GroupKey>
+    requires sound { IsSound parts.old }
+    requires live { 0 < call_of (seen parts.old) call }
+    requires last { has_thread (call_of (seen parts.old) call) (seen parts.old).core ≡ false }
+    requires join { join_of (subtasks.Guest (call_of (seen parts.old) call)) (seen parts.old).core ≡ joins.Nowhere }
+    ensures sound { IsSound parts.new }
+    ensures core { (seen parts.new).core ≡ remove_call (call_of (seen parts.old) call) (seen parts.old).core }
+    ensures current { (seen parts.new).current ≡ (seen parts.old).current }
+    ensures tags { KeepsBut (lost_call (call_of (seen parts.old) call)) (seen parts.old).tags (seen parts.new).tags }
+    ensures group { number_of group_key parts.new.groups result.rep result.serial ≡ call_group (call_of (seen parts.old) call) (seen parts.old).core }
+    ensures positive { 0 < call_group (call_of (seen parts.old) call) (seen parts.old).core }
+{
+    let found = match task_records::call(parts, call) {
+        Some(found) => *found,
+        None => unreachable!(),
+    };
+    let (group, mut counted) = group_there(&parts.groups, found.group);
+    counted.calls -= 1;
+    close(&mut parts.places, found.blocked);
+    drop_node(&mut parts.ready_calls, found.ready);
+    match parts.groups.get_mut(group) {
+        Ok(entry) => {
+            *entry = counted;
+        }
+        Err(_) => unreachable!(),
+    }
+    match parts.calls.delete(call) {
+        Ok(_) => {}
+        Err(_) => unreachable!(),
+    }
+    parts.kept.used -= 1;
+    parts.kept.interesting -= one_if(found.call.interesting);
+    group
+}
+
+/// A call is gone, and its group is finished, if nothing of it is left.
+pub fn delete_call(parts: &mut CoreParts, call: CallId)
+    requires sound { IsSound parts.old }
+    requires live { 0 < call_of (seen parts.old) call }
+    requires last { has_thread (call_of (seen parts.old) call) (seen parts.old).core ≡ false }
+    ensures sound { IsSound parts.new }
+    ensures core { (seen parts.new).core ≡ group_settled (call_group (call_of (seen parts.old) call) (seen parts.old).core) (remove_call (call_of (seen parts.old) call) (seen parts.old).core) }
+    ensures current { (seen parts.new).current ≡ (seen parts.old).current }
+    ensures tags { KeepsBut (lost_call (call_of (seen parts.old) call)) (seen parts.old).tags (seen parts.new).tags }
+{
+    set_join(parts, SubtaskId::Guest(call), JoinId::Nowhere);
+    let group = drop_call(parts, call);
+    settle_group(parts, group);
+}

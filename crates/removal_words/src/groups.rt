@@ -1,0 +1,97 @@
+//! Groups, which are finished when nothing of them is left.
+ghost use Rattle.removal_words.specs.Counted.{IsIn, Lowers};
+ghost use Rattle.std.specs.Prelude.{◌≡◌, ◌<◌, ◌≤◌, ℕ, Ok, Some, if◌then◌else◌};
+ghost use Rattle.task_machine.specs.Moves.{group_settled};
+ghost use Rattle.task_records.specs.Keys.{group_key};
+ghost use Rattle.task_records.specs.Kinds.{item_of};
+ghost use Rattle.task_records.specs.Names.{HasNumber};
+ghost use Rattle.task_records.specs.Seen.{IsSound, seen};
+ghost use Rattle.task_records.specs.declared.calls.TaskGroup.{TaskGroup};
+ghost use Rattle.task_table.specs.Answers.{item_at};
+ghost use Rattle.task_table.specs.Records.{number_in, number_of, record_at};
+ghost use Rattle.task_words.specs.StateView.{on_core};
+
+use task_records::{CoreParts, Single, TaskGroup};
+use task_table::{ResourceTable, TableId};
+use task_wait::GroupKey;
+
+/// One where it is so.
+pub fn one_if(flag: bool) -> u64
+    ensures { result ≡ (if flag then 1 else 0) }
+{
+    if flag { 1 } else { 0 }
+}
+
+// The id of the group that stands at a place.
+fn group_at(groups: &ResourceTable<Single<TaskGroup>>, place: u32) -> TableId<GroupKey>
+    ensures { number_of group_key groups.now result.rep result.serial ≡ number_in (record_at group_key groups.now.places place) }
+{
+    match groups.serial_at(place) {
+        Some(serial) => TableId::new(place, serial),
+        None => TableId::new(place, 0),
+    }
+}
+
+/// The group that stands at a place, with its id.
+pub fn group_there(
+    groups: &ResourceTable<Single<TaskGroup>>,
+    place: u32,
+) -> (TableId<GroupKey>, TaskGroup)
+    requires { 0 < number_in (record_at group_key groups.now.places place) }
+    ensures item { Ok result.1 ≡ item_at item_of groups.now result.0.rep result.0.serial }
+    ensures number { result.1.number ≡ number_in (record_at group_key groups.now.places place) }
+{
+    let id = group_at(groups, place);
+    match groups.get(id) {
+        Ok(found) => (id, *found),
+        Err(_) => unreachable!(),
+    }
+}
+
+/// The group of a host call has one call less, and the id names it; a spawned work has none.
+pub(crate) fn lower_group(
+    groups: &mut ResourceTable<Single<TaskGroup>>,
+    place: u32,
+    group: Option<u64>,
+) -> Option<TableId<GroupKey>>
+    requires named { (n : ℕ) → group ≡ Some n → HasNumber group_key groups.old place n × (0 < n) }
+    requires some { (n : ℕ) (r : TaskGroup) → group ≡ Some n → r.number ≡ n → IsIn r groups.old → 1 ≤ r.calls }
+    ensures { Lowers groups.old groups.new group result }
+{
+    if group.is_none() {
+        return None;
+    }
+    let (id, mut counted) = group_there(groups, place);
+    counted.calls -= 1;
+    match groups.get_mut(id) {
+        Ok(entry) => {
+            *entry = counted;
+        }
+        Err(_) => unreachable!(),
+    }
+    Some(id)
+}
+
+/// The group is finished, if nothing of it is left.
+pub(crate) fn settle_group(parts: &mut CoreParts, group: TableId<GroupKey>)
+    requires sound { IsSound parts.old }
+    requires live { 0 < number_of group_key parts.old.groups group.rep group.serial }
+    ensures sound { IsSound parts.new }
+    ensures new { seen parts.new ≡ on_core (group_settled (number_of group_key parts.old.groups group.rep group.serial)) (seen parts.old) }
+{
+    let found = match parts.groups.get(group) {
+        Ok(found) => *found,
+        Err(_) => unreachable!(),
+    };
+    if found.calls > 0 {
+        return;
+    }
+    match parts.groups.delete(group) {
+        Ok(_) => {}
+        Err(_) => unreachable!(),
+    }
+    if found.number > parts.finished {
+        parts.kept.groups -= 1;
+        parts.kept.used -= 1;
+    }
+}

@@ -1,0 +1,59 @@
+ghost use Rattle.std.specs.Prelude.{◌≡◌, ◌<◌, IsSome};
+ghost use Rattle.task_machine.specs.Read.{set_at};
+ghost use Rattle.task_machine.specs.Write.{free_handle, remove_set};
+ghost use Rattle.task_records.specs.Seen.{IsSound, seen};
+ghost use Rattle.task_words.specs.StateView.{KeepsBut, lost_set, on_core, set_of};
+
+use crate::chains::close;
+use task_records::CoreParts;
+use task_words::SetId;
+
+// A set is gone, as it stands.
+fn remove_set(parts: &mut CoreParts, set: SetId)
+    requires sound { IsSound parts.old }
+    requires live { 0 < set_of (seen parts.old) set }
+    ensures sound { IsSound parts.new }
+    ensures core { (seen parts.new).core ≡ remove_set (set_of (seen parts.old) set) (seen parts.old).core }
+    ensures current { (seen parts.new).current ≡ (seen parts.old).current }
+    ensures tags { KeepsBut (lost_set (set_of (seen parts.old) set)) (seen parts.old).tags (seen parts.new).tags }
+{
+    let found = match task_records::set(parts, set) {
+        Some(found) => *found,
+        None => unreachable!(),
+    };
+    close(&mut parts.places, found.waiters);
+    close(&mut parts.ready_calls, found.ready_calls);
+    close(&mut parts.ready_works, found.ready_works);
+    match parts.sets.delete(set) {
+        Ok(_) => {}
+        Err(_) => unreachable!(),
+    }
+    parts.kept.used -= 1;
+}
+
+// Takes a handle of a set back.
+fn free_set_handle(parts: &mut CoreParts, instance: u32, handle: u32)
+    requires sound { IsSound parts.old }
+    requires names { IsSome (set_at instance handle (seen parts.old).core) }
+    ensures sound { IsSound parts.new }
+    ensures new { seen parts.new ≡ on_core (free_handle instance handle) (seen parts.old) }
+{
+    let entry = &mut parts.instances[instance as usize];
+    let _ = entry
+        .handles
+        .waitable_set_remove(&mut parts.counter, handle);
+}
+
+/// A set is gone, and its handle in the instance.
+pub fn close_set(parts: &mut CoreParts, instance: u32, handle: u32, set: SetId)
+    requires sound { IsSound parts.old }
+    requires live { 0 < set_of (seen parts.old) set }
+    requires names { IsSome (set_at instance handle (seen parts.old).core) }
+    ensures sound { IsSound parts.new }
+    ensures core { (seen parts.new).core ≡ remove_set (set_of (seen parts.old) set) (free_handle instance handle (seen parts.old).core) }
+    ensures current { (seen parts.new).current ≡ (seen parts.old).current }
+    ensures tags { KeepsBut (lost_set (set_of (seen parts.old) set)) (seen parts.old).tags (seen parts.new).tags }
+{
+    free_set_handle(parts, instance, handle);
+    remove_set(parts, set);
+}

@@ -1,0 +1,118 @@
+ghost use Rattle.std.specs.Prelude.{◌≡◌, ◌<◌, ℕ, IsSome, None, Ok, Some};
+ghost use Rattle.task_machine.specs.Maps.{get};
+ghost use Rattle.task_machine.specs.Moves.{freed_thread_handle};
+ghost use Rattle.task_machine.specs.Read.{instance_of, place_of, thread_at, thread_handle_of};
+ghost use Rattle.task_machine.specs.Write.{free_thread_handle, remove_thread};
+ghost use Rattle.task_machine.specs.declared.records.Place.TheVariants as places;
+ghost use Rattle.task_records.specs.Kinds.{item_of};
+ghost use Rattle.task_records.specs.Seen.{IsSound, seen};
+ghost use Rattle.task_table.specs.Answers.{item_at};
+ghost use Rattle.task_words.specs.Apart.{IsApart};
+ghost use Rattle.task_words.specs.StateView.{KeepsBut, lost_thread, on_core, thread_of};
+
+use crate::chains::{close, drop_node};
+use place_words::set_place;
+use task_records::{CoreParts, GuestTask, GuestThread, task_of};
+use task_words::{CallId, PlaceId, ThreadId};
+
+// The record of a thread that is there, and that of its call.
+fn with_call(parts: &CoreParts, thread: ThreadId) -> (GuestThread, CallId, GuestTask)
+    requires sound { IsSound parts.now }
+    requires live { 0 < thread_of (seen parts.now) thread }
+    ensures thread { Ok result.0 ≡ item_at item_of parts.now.threads thread.rep thread.serial }
+    ensures call { Ok result.2 ≡ item_at item_of parts.now.calls result.1.rep result.1.serial }
+    ensures of { result.2.number ≡ result.0.thread.call }
+{
+    let found = match task_records::thread(parts, thread) {
+        Some(found) => *found,
+        None => unreachable!(),
+    };
+    let task = task_of(parts, thread);
+    match task_records::call(parts, task) {
+        Some(call) => (found, task, *call),
+        None => unreachable!(),
+    }
+}
+
+// A thread that is suspended is gone.
+fn drop_thread(parts: &mut CoreParts, thread: ThreadId)
+    requires sound { IsSound parts.old }
+    requires live { 0 < thread_of (seen parts.old) thread }
+    requires apart { IsApart (thread_of (seen parts.old) thread) (seen parts.old).core }
+    requires place { place_of (thread_of (seen parts.old) thread) (seen parts.old).core ≡ Some places.Suspended }
+    ensures sound { IsSound parts.new }
+    ensures core { (seen parts.new).core ≡ remove_thread (thread_of (seen parts.old) thread) (seen parts.old).core }
+    ensures current { (seen parts.new).current ≡ (seen parts.old).current }
+    ensures tags { KeepsBut (lost_thread (thread_of (seen parts.old) thread)) (seen parts.old).tags (seen parts.new).tags }
+{
+    let (found, task, mut call) = with_call(parts, thread);
+    call.threads -= 1;
+    close(&mut parts.places, found.under);
+    drop_node(&mut parts.places, found.node);
+    parts.behind.no_node_is_twice();
+    close(&mut parts.behind, found.callers);
+    parts.behind.drop_node(found.caller);
+    parts.marks.no_node_is_twice();
+    parts.marks.drop_node(found.mark);
+    parts.shelves.no_node_is_twice();
+    parts.shelves.drop_node(found.shelf);
+    match parts.calls.get_mut(task) {
+        Ok(entry) => {
+            *entry = call;
+        }
+        Err(_) => unreachable!(),
+    }
+    match parts.threads.delete(thread) {
+        Ok(_) => {}
+        Err(_) => unreachable!(),
+    }
+    parts.kept.used -= 2;
+}
+
+/// A thread is gone, as it stands, and no thread is behind it any more.
+pub fn remove_thread(parts: &mut CoreParts, thread: ThreadId)
+    requires sound { IsSound parts.old }
+    requires live { 0 < thread_of (seen parts.old) thread }
+    requires apart { IsApart (thread_of (seen parts.old) thread) (seen parts.old).core }
+    ensures sound { IsSound parts.new }
+    ensures core { (seen parts.new).core ≡ remove_thread (thread_of (seen parts.old) thread) (seen parts.old).core }
+    ensures current { (seen parts.new).current ≡ (seen parts.old).current }
+    ensures tags { KeepsBut (lost_thread (thread_of (seen parts.old) thread)) (seen parts.old).tags (seen parts.new).tags }
+{
+    set_place(parts, thread, PlaceId::Suspended);
+    drop_thread(parts, thread);
+}
+
+// Takes back the handle of a thread that is gone.
+fn free_thread_handle(parts: &mut CoreParts, instance: u32, handle: u32)
+    requires sound { IsSound parts.old }
+    requires names { IsSome (thread_at instance handle (seen parts.old).core) }
+    requires gone { (n : ℕ) → thread_at instance handle (seen parts.old).core ≡ Some n → get (seen parts.old).core.threads n ≡ None }
+    ensures sound { IsSound parts.new }
+    ensures new { seen parts.new ≡ on_core (free_thread_handle instance handle) (seen parts.old) }
+{
+    let entry = &mut parts.instances[instance as usize];
+    let _ = entry
+        .thread_handles
+        .guest_thread_remove(&mut parts.counter, handle);
+}
+
+/// A thread gives back its handle and is gone.
+pub fn retire_thread(parts: &mut CoreParts, thread: ThreadId)
+    requires sound { IsSound parts.old }
+    requires live { 0 < thread_of (seen parts.old) thread }
+    requires apart { IsApart (thread_of (seen parts.old) thread) (seen parts.old).core }
+    ensures sound { IsSound parts.new }
+    ensures core { (seen parts.new).core ≡ remove_thread (thread_of (seen parts.old) thread) (freed_thread_handle (instance_of (thread_of (seen parts.old) thread) (seen parts.old).core) (thread_handle_of (thread_of (seen parts.old) thread) (seen parts.old).core) (seen parts.old).core) }
+    ensures current { (seen parts.new).current ≡ (seen parts.old).current }
+    ensures tags { KeepsBut (lost_thread (thread_of (seen parts.old) thread)) (seen parts.old).tags (seen parts.new).tags }
+{
+    let (instance, handle) = match task_records::thread(parts, thread) {
+        Some(found) => (found.instance, found.thread.handle),
+        None => unreachable!(),
+    };
+    remove_thread(parts, thread);
+    if let Some(handle) = handle {
+        free_thread_handle(parts, instance, handle);
+    }
+}

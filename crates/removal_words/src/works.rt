@@ -1,0 +1,68 @@
+ghost use Rattle.removal_words.specs.Counted.{IsNamedBy};
+ghost use Rattle.std.specs.Prelude.{◌≡◌, ◌<◌};
+ghost use Rattle.task_machine.specs.Read.{join_of, stage_of};
+ghost use Rattle.task_machine.specs.Write.{remove_work};
+ghost use Rattle.task_machine.specs.declared.records.Join.TheVariants as joins;
+ghost use Rattle.task_machine.specs.declared.records.Stage.TheVariants as stages;
+ghost use Rattle.task_machine.specs.declared.records.Subtask.TheVariants as subtasks;
+ghost use Rattle.task_records.specs.Seen.{IsSound, seen};
+ghost use Rattle.task_rules.specs.Calls.{work_deleted, work_group};
+ghost use Rattle.task_words.specs.Apart.{work_entries};
+ghost use Rattle.task_words.specs.StateView.{KeepsBut, lost_work, work_of};
+
+use crate::chains::{close, drop_node};
+use crate::groups::{lower_group, one_if, settle_group};
+use place_words::{set_join, set_stage};
+use task_machine::Stage;
+use task_records::CoreParts;
+use task_table::TableId;
+use task_wait::GroupKey;
+use task_words::{JoinId, SubtaskId, WorkId};
+
+// A work that has ended and is in no set is gone; its group, if it has one, may be finished.
+fn drop_work(parts: &mut CoreParts, work: WorkId) -> Option<TableId<GroupKey>>
+    requires sound { IsSound parts.old }
+    requires live { 0 < work_of (seen parts.old) work }
+    requires unqueued { work_entries (work_of (seen parts.old) work) (seen parts.old).core.queues.high ≡ 0 }
+    requires join { join_of (subtasks.Host (work_of (seen parts.old) work)) (seen parts.old).core ≡ joins.Nowhere }
+    requires stage { stage_of (work_of (seen parts.old) work) (seen parts.old).core ≡ stages.Ended }
+    ensures sound { IsSound parts.new }
+    ensures core { (seen parts.new).core ≡ remove_work (work_of (seen parts.old) work) (seen parts.old).core }
+    ensures current { (seen parts.new).current ≡ (seen parts.old).current }
+    ensures tags { KeepsBut (lost_work (work_of (seen parts.old) work)) (seen parts.old).tags (seen parts.new).tags }
+    ensures group { IsNamedBy parts.new.groups (work_group (work_of (seen parts.old) work) (seen parts.old).core) result }
+{
+    let found = match task_records::work(parts, work) {
+        Some(found) => *found,
+        None => unreachable!(),
+    };
+    let group = lower_group(&mut parts.groups, found.group, found.work.group);
+    close(&mut parts.places, found.blocked);
+    drop_node(&mut parts.ready_works, found.ready);
+    drop_node(&mut parts.polled, found.live);
+    parts.marks.no_node_is_twice();
+    parts.marks.drop_node(found.mark);
+    match parts.works.delete(work) {
+        Ok(_) => {}
+        Err(_) => unreachable!(),
+    }
+    parts.kept.used -= one_if(found.work.group.is_some());
+    group
+}
+
+/// A work is gone, and its group is finished, if nothing of it is left.
+pub fn delete_work(parts: &mut CoreParts, work: WorkId)
+    requires sound { IsSound parts.old }
+    requires live { 0 < work_of (seen parts.old) work }
+    requires unqueued { work_entries (work_of (seen parts.old) work) (seen parts.old).core.queues.high ≡ 0 }
+    ensures sound { IsSound parts.new }
+    ensures core { (seen parts.new).core ≡ work_deleted (work_of (seen parts.old) work) (seen parts.old).core }
+    ensures current { (seen parts.new).current ≡ (seen parts.old).current }
+    ensures tags { KeepsBut (lost_work (work_of (seen parts.old) work)) (seen parts.old).tags (seen parts.new).tags }
+{
+    set_join(parts, SubtaskId::Host(work), JoinId::Nowhere);
+    set_stage(parts, work, Stage::Ended);
+    if let Some(group) = drop_work(parts, work) {
+        settle_group(parts, group);
+    }
+}

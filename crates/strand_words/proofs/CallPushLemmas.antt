@@ -1,0 +1,75 @@
+-- A call more, whose node and chain hung on nothing: the chains and the nodes of the parts.
+use Rattle.std.proofs.Common.{inl, inr, ◌⊎◌, ◌≡◌, ◌<◌, ℕ, Some, None, refl, sym, ap, ◌∙◌, arith}
+use Rattle.std.proofs.lemmas.Option.{same_Some}
+use Rattle.std.proofs.lemmas.Bool.{cases_eq}
+use Rattle.make_words.proofs.FreshLemmas.{chain_new, chain_other}
+use Rattle.make_words.proofs.LooseLemmas.{IsIndex-opened}
+use Rattle.make_words.proofs.MoreLemmas.{index_more}
+use Rattle.strand_words.proofs.ThreadPushLemmas.{PlacesNamed, none_in_list}
+use Rattle.strand_words.specs.Loose.{AreCallLoose}
+use Rattle.strand_words.specs.declared.nodes.CallNodes.{CallNodes}
+use Rattle.task_index.specs.Index.{filings}
+use Rattle.task_machine.specs.declared.records.Subtask.TheVariants as subtask
+use Rattle.task_records.specs.Image.{Parts}
+use Rattle.task_records.specs.Keys.{call_key}
+use Rattle.task_records.specs.Names.{Kinds}
+use Rattle.task_records.specs.Places.{BlockedOn, HeldIn, UnderOf, WaitsOn, Where, place_chain, place_filing, ready_call_chain, ready_in}
+use Rattle.task_records.specs.Sound.{AreChained, HaveRowNodes}
+use Rattle.task_records.specs.declared.calls.GuestTask.{GuestTask}
+use Rattle.task_table.specs.Changes.{pushed}
+use Rattle.task_table.specs.Records.{AreApart, found_record}
+use Rattle.task_table.specs.Table.{IsTable}
+
+abbrev guest_in : Where → ℕ
+guest_in (BlockedOn (subtask.Guest k)) = k
+guest_in _ = 0
+
+blocked_is : (n : ℕ) (k : Where) → (k ≡ BlockedOn (subtask.Guest n)) ⊎ (k ≡ BlockedOn (subtask.Guest n) → ⊥)
+blocked_is n (WaitsOn x) = inr (λ same. absurd (cc))
+blocked_is n (HeldIn i) = inr (λ same. absurd (cc))
+blocked_is n (UnderOf m) = inr (λ same. absurd (cc))
+blocked_is n (BlockedOn (subtask.Guest k)) = elim (cases_eq k n) [
+  | inl same ↦ inl (ap (λ m. BlockedOn (subtask.Guest m)) same)
+  | inr other ↦ inr (λ same. other (ap guest_in same))
+]
+blocked_is n (BlockedOn (subtask.Host i)) = inr (λ same. absurd (cc))
+
+abbrev pub nodes_of : GuestTask → CallNodes
+nodes_of g = record { ready = g.ready; blocked = g.blocked }
+
+module _ (p : Parts) (g : GuestTask) (table : IsTable p.calls) (apart : AreApart call_key p.calls.places) (new : found_record call_key g.number p.calls.places ≡ None) (loose : AreCallLoose p (nodes_of g)) where
+  abbrev pub with_call : Parts
+  with_call = record p { calls = pushed (record { item = g }) p.calls }
+
+  place_others : (k : Where) → (k ≡ BlockedOn (subtask.Guest g.number) → ⊥) → place_chain with_call k ≡ place_chain p k
+  place_others (WaitsOn n) other = refl
+  place_others (HeldIn i) other = refl
+  place_others (UnderOf n) other = refl
+  place_others (BlockedOn (subtask.Guest k)) other = chain_other (λ (h : GuestTask). h.number) (λ (h : GuestTask). h.call) (λ (h : GuestTask). h.blocked) p.calls g table apart new k (λ same. other (ap (λ m. BlockedOn (subtask.Guest m)) same))
+  place_others (BlockedOn (subtask.Host i)) other = refl
+
+  has_blocked : place_chain with_call (BlockedOn (subtask.Guest g.number)) ≡ Some g.blocked
+  has_blocked = chain_new (λ (h : GuestTask). h.number) (λ (h : GuestTask). h.call) (λ (h : GuestTask). h.blocked) p.calls g table apart new
+
+  -- a chain that was nobody's is nobody's still, if it isn't the call's
+  pub nobody_still : (d : ℕ) → (d ≡ g.blocked → ⊥) → ((k : Where) → place_chain p k ≡ Some d → ⊥) → (k : Where) → place_chain with_call k ≡ Some d → ⊥
+  nobody_still d other nobody k is = elim (blocked_is g.number k) [
+    | inl same ↦ other (same_Some d g.blocked (sym is ∙ (ap (place_chain with_call) same ∙ has_blocked)))
+    | inr not_it ↦ nobody k (sym (place_others k not_it) ∙ is)
+  ]
+
+  pub call_chained : (k : Kinds) → k.made.threads < g.number → PlacesNamed k p.threads → ready_in g.call.event g.call.join ≡ None → AreChained p → AreChained with_call
+  call_chained k later named unfiled was = record {
+    places = IsIndex-opened (place_chain p) (place_chain with_call) p.places (BlockedOn (subtask.Guest g.number)) (blocked_is g.number) place_others g.blocked has_blocked loose.blocked (filings place_filing p.threads) was.places
+        (none_in_list k p.threads (BlockedOn (subtask.Guest g.number)) named (λ rep at. let few = at.0 in omega arith));
+    ready_calls = index_more p.calls g table (λ h. h.ready.index) (λ h. ready_in h.call.event h.call.join) p.ready_calls loose.ready (ready_call_chain p) was.ready_calls unfiled;
+    ready_works = was.ready_works;
+    polled = was.polled;
+    marks = was.marks;
+    shelves = was.shelves;
+    low = was.low;
+    behind = was.behind;
+  }
+
+  pub call_nodes : HaveRowNodes p → HaveRowNodes with_call
+  call_nodes was = record { marks = was.marks; shelves = was.shelves; callers = was.callers; works = was.works; apart = was.apart }

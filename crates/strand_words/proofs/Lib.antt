@@ -1,0 +1,16 @@
+pub mod ThreadPushLemmas
+pub mod CallPushLemmas
+pub mod ThreadSeenLemmas
+pub mod GroupLemmas
+pub mod GrowLemmas
+pub mod StrandCountLemmas
+pub mod StrandLemmas
+pub mod NodeLemmas
+pub mod StrandAddLemmas
+pub mod GroupPushLemmas
+pub mod RequestLemmas
+pub mod MainLemmas
+pub mod GroupFindLemmas
+pub mod StrandUndoLemmas
+pub mod MemberLemmas
+pub mod MemberAddLemmas

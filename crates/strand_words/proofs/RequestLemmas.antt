@@ -1,0 +1,108 @@
+-- The records that a request makes are a call and its first thread.
+use Rattle.std.proofs.Common.{◌≡◌, ◌+◌, ℕ, Bool, true, false, cond, is_some, List, None, Option, Some, IsSome, slice_get, refl, sym, ap, ap₂, subst, ◌∙◌}
+use Rattle.std.proofs.lemmas.Bool.{eq-eqb}
+use Rattle.std.proofs.lemmas.Option.{slice_get-map}
+use Rattle.std.specs.BTreeMap.{is_at}
+use Rattle.std.specs.Map.{lookup}
+use Rattle.std.specs.Option.{option_map, option_map_or}
+use Rattle.std.specs.Ordering.{nat_cmp}
+use Rattle.strand_words.specs.Member.{IsMember}
+use Rattle.strand_words.specs.Strand.{IsStrand}
+use Rattle.strand_words.specs.declared.records.Request.{Request}
+use Rattle.task_machine.specs.Core.{Core}
+use Rattle.task_machine.specs.Maps.{get, get-insert}
+use Rattle.task_machine.specs.Read.{call_instance, instance_of, no_callee}
+use Rattle.task_machine.specs.Write.{add_call, add_thread}
+use Rattle.task_machine.specs.declared.records.Call.{Call}
+use Rattle.task_machine.specs.declared.records.Goal.TheVariants as goal
+use Rattle.task_machine.specs.declared.records.Script.{Script}
+use Rattle.task_machine.specs.declared.records.Script.TheVariants as script
+use Rattle.task_machine.specs.declared.records.Thread.{Thread}
+use Rattle.task_records.proofs.HomeLemmas.{place_in_bare}
+use Rattle.task_records.proofs.InstanceReads.{handles_read, instance_read}
+use Rattle.task_records.specs.Instances.{handle_table, named_of}
+use Rattle.task_records.specs.Kinds.{on_item}
+use Rattle.task_records.specs.Names.{AtPlace, caller_target}
+use Rattle.task_records.specs.Seen.{parts_of, seen}
+use Rattle.task_records.specs.Sound.{bare, bare_call, bare_instance, bare_thread}
+use Rattle.task_records.specs.declared.calls.GuestTask.{GuestTask}
+use Rattle.task_records.specs.declared.instances.InstanceRecord.{InstanceRecord}
+use Rattle.task_records.specs.declared.parts.CoreParts.{CoreParts}
+use Rattle.task_records.specs.declared.threads.GuestThread.{GuestThread}
+use Rattle.task_rules.specs.Calls.{new_call, new_thread}
+use Rattle.task_table.proofs.MappedLemmas.{next_place-mapped}
+use Rattle.task_table.specs.Changes.{next_place}
+
+module _ (a : CoreParts) (i : ℕ) where
+  mapped_some : {X Y : Type 0} (f : X → Y) (o : Option X) → IsSome (option_map f o) → IsSome o
+  mapped_some f None some = absurd (cc)
+  mapped_some f (Some x) some = refl
+
+  some_mapped : {X Y : Type 0} (f : X → Y) (o : Option X) → IsSome o → IsSome (option_map f o)
+  some_mapped f None some = absurd (cc)
+  some_mapped f (Some x) some = refl
+
+  -- an instance that is there is there where the parts are bare
+  item_within : IsSome (slice_get a.instances.items i) → IsSome (slice_get (bare (parts_of a)).instances i)
+  item_within some = subst (λ (x : Option InstanceRecord). IsSome x) (sym (slice_get-map bare_instance a.instances.items i)) (some_mapped bare_instance (slice_get a.instances.items i) some)
+
+  pub bare_within : IsSome (get (seen a).core.instances i) → IsSome (slice_get (bare (parts_of a)).instances i)
+  bare_within there = let o = slice_get a.instances.items i in item_within (mapped_some (λ (r : InstanceRecord). r.instance) o (subst IsSome (sym (instance_read a i o refl)) there))
+
+  handles_within : IsSome (get (seen a).core.handles i) → IsSome (slice_get (bare (parts_of a)).instances i)
+  handles_within there = let o = slice_get a.instances.items i in item_within (mapped_some (λ (r : InstanceRecord). handle_table named_of r.handles) o (subst IsSome (sym (handles_read a i o refl)) there))
+
+module _ (a : CoreParts) (request : Request) (group : ℕ) (words : List ℕ) (c : GuestTask) (g : GuestThread)
+    (call_number : c.number ≡ a.made.threads + 1) (call_is : c.call ≡ new_call request.caller request.callee request.kind request.goal group) (maker : c.maker ≡ request.maker) (one : c.threads ≡ 1)
+    (thread_number : g.number ≡ a.made.threads + 1) (thread_is : g.thread ≡ new_thread (a.made.threads + 1) false script.Start words None) (instance : g.instance ≡ request.callee.instance) where
+  pub request_strand :
+      AtPlace (parts_of a) request.maker (caller_target request.caller)
+      → IsSome (get (seen a).core.instances request.callee.instance)
+      → (request.goal ≡ goal.Main → IsSome (lookup (is_at (nat_cmp (a.made.threads + 1))) a.results.entries))
+      → IsStrand (bare (parts_of a)) (bare_call c) (bare_thread (record g { task = next_place a.calls }))
+  request_strand caller there room = record {
+    call_next = call_number;
+    thread_next = thread_number;
+    first = ap (λ (t : Thread). t.call) thread_is ∙ sym call_number;
+    one = one;
+    eventless = ap (λ (k : Call). k.event) call_is;
+    nowhere = ap (λ (k : Call). k.join) call_is;
+    unplaced = ap (λ (t : Thread). t.place) thread_is;
+    fresh = ap (λ (t : Thread). t.how_far) thread_is;
+    task = sym (next_place-mapped (on_item bare_call) a.calls);
+    instance = instance ∙ sym (ap (λ (k : Call). k.callee.instance) call_is);
+    within = subst (λ (i : ℕ). IsSome (slice_get (bare (parts_of a)).instances i)) (sym instance) (bare_within a request.callee.instance there);
+    caller =
+        subst (λ (m : ℕ). AtPlace (bare (parts_of a)) m (caller_target c.call.caller)) (sym maker)
+        (subst (λ (k : Call). AtPlace (bare (parts_of a)) request.maker (caller_target k.caller)) (sym call_is) (place_in_bare a request.maker (caller_target request.caller) caller));
+    room = λ main. subst (λ (m : ℕ). IsSome (lookup (is_at (nat_cmp m)) a.results.entries)) (sym call_number) (room (sym (ap (λ (k : Call). k.goal) call_is) ∙ main));
+  }
+
+  pub request_core : (s : Core) → add_thread g.thread (add_call c.number c.call s) ≡ add_thread (new_thread (a.made.threads + 1) false script.Start words None) (add_call (a.made.threads + 1) (new_call request.caller request.callee request.kind request.goal group) s)
+  request_core s =
+      ap (λ (t : Thread). add_thread t (add_call c.number c.call s)) thread_is
+      ∙ ap₂ (λ (n : ℕ) (k : Call). add_thread (new_thread (a.made.threads + 1) false script.Start words None) (add_call n k s)) call_number call_is
+
+-- ---- A thread of a call that is there
+
+module _ (a : CoreParts) (k : ℕ) (c : GuestTask) (rep : ℕ) (x : Script) (words : List ℕ) (g : GuestThread)
+    (number : g.number ≡ a.made.threads + 1) (thread : g.thread ≡ new_thread c.number true x words None) (task : g.task ≡ rep) (instance : g.instance ≡ c.call.callee.instance) (found : Some c.call ≡ get (seen a).core.calls k) where
+  callee_is : c.call.callee.instance ≡ call_instance k (seen a).core
+  callee_is = ap (λ (o : Option Call). (option_map_or (λ (d : Call). d.callee) o no_callee).instance) found
+
+  pub request_member : is_some (get (seen a).core.handles (call_instance k (seen a).core)) ≡ true → IsMember (bare (parts_of a)) (bare_call c) rep (bare_thread g)
+  request_member there = record {
+    next = number;
+    of_call = ap (λ (t : Thread). t.call) thread;
+    unplaced = ap (λ (t : Thread). t.place) thread;
+    fresh = ap (λ (t : Thread). t.how_far) thread;
+    task = task;
+    instance = instance;
+    within = subst (λ (i : ℕ). IsSome (slice_get (bare (parts_of a)).instances i)) (sym (instance ∙ callee_is)) (handles_within a (call_instance k (seen a).core) there);
+  }
+
+pub member_instance : (t : Thread) (s : Core) → instance_of (s.made.threads + 1) (add_thread t s) ≡ call_instance t.call s
+unfolding add_thread
+member_instance t s =
+    let n = s.made.threads + 1 in
+    ap (λ (o : Option Thread). call_instance (option_map_or (λ (u : Thread). u.call) o 0) s) (get-insert s.threads n t n ∙ ap (λ (b : Bool). cond b (Some t) (get s.threads n)) (eq-eqb n n refl))

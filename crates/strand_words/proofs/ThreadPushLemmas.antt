@@ -1,0 +1,148 @@
+-- A thread more, whose nodes and chains hung on nothing: the chains and the nodes of the parts.
+use Rattle.std.proofs.Common.{inl, inr, ◌⊎◌, ◌≡◌, ◌<◌, ℕ, [], Option, Some, None, map, refl, sym, ap, subst, ◌∙◌, arith}
+use Rattle.std.proofs.lemmas.Bool.{cases_eq}
+use Rattle.std.proofs.lemmas.Option.{same_Some}
+use Rattle.make_words.proofs.FreshLemmas.{chain_new, chain_other}
+use Rattle.make_words.proofs.LooseLemmas.{IsIndex-opened}
+use Rattle.make_words.proofs.MoreLemmas.{IsRows-known, index_more, new_or_old, nodes_more, seat_stays}
+use Rattle.queue_words.proofs.CallerLemmas.{none_as}
+use Rattle.strand_words.specs.Loose.{AreThreadLoose}
+use Rattle.strand_words.specs.declared.nodes.ThreadNodes.{ThreadNodes}
+use Rattle.task_index.proofs.Rows.{IsRows-opened}
+use Rattle.task_index.specs.Index.{Filing, filings, said}
+use Rattle.task_links.specs.Links.{list_or_nil}
+use Rattle.task_machine.specs.declared.records.Entry.{Entry}
+use Rattle.task_machine.specs.declared.records.Entry.TheVariants as entry
+use Rattle.task_machine.specs.declared.records.Place.{Place}
+use Rattle.task_machine.specs.declared.records.Place.TheVariants as place
+use Rattle.task_machine.specs.declared.records.Subtask.TheVariants as subtask
+use Rattle.task_records.specs.Image.{Parts, chained}
+use Rattle.task_records.specs.Keys.{thread_key}
+use Rattle.task_records.specs.Names.{IsNamedAt, Kinds, Nothing, SetOf, Target, ThreadOf, place_target, subtask_target}
+use Rattle.task_records.specs.Places.{BlockedOn, HeldIn, UnderOf, WaitsOn, Where, place_chain, place_filing, where_at}
+use Rattle.task_records.specs.Rows.{IsFollower, IsSeated, callers_chain, callers_row, entry_seated, follower, thread_entry}
+use Rattle.task_records.specs.Sound.{AreChained, EachEntry, HaveRowNodes}
+use Rattle.task_records.specs.declared.single.Single.{Single}
+use Rattle.task_records.specs.declared.threads.Follower.{Follower}
+use Rattle.task_records.specs.declared.threads.GuestThread.{GuestThread}
+use Rattle.task_records.specs.declared.threads.Queued.{Queued}
+use Rattle.task_table.specs.Changes.{pushed}
+use Rattle.task_table.specs.Records.{AreApart, found_record}
+use Rattle.task_table.specs.Table.{IsTable, Placed, Table, place_at}
+
+-- ---- What a list is named by
+
+abbrev pub target_of : Where → Target
+target_of (WaitsOn x) = SetOf x
+target_of (HeldIn i) = Nothing
+target_of (UnderOf n) = ThreadOf n
+target_of (BlockedOn sub) = subtask_target sub
+
+-- who is in a list names what the list hangs on
+pub names_list : (k : Kinds) (rep i : ℕ) (x : Place) (w : Where) → IsNamedAt k rep (place_target x) → where_at i x ≡ Some w → IsNamedAt k rep (target_of w)
+names_list k rep i place.New w at is = absurd (cc)
+names_list k rep i (place.Ready m y) w at is = absurd (cc)
+names_list k rep i place.Running w at is = absurd (cc)
+names_list k rep i (place.Under m) w at is = subst (λ v. IsNamedAt k rep (target_of v)) (same_Some (UnderOf m) w is) at
+names_list k rep i (place.Behind m) w at is = absurd (cc)
+names_list k rep i (place.Waiting y by_callback) w at is = subst (λ v. IsNamedAt k rep (target_of v)) (same_Some (WaitsOn y) w is) at
+names_list k rep i (place.Blocked sub) w at is = subst (λ v. IsNamedAt k rep (target_of v)) (same_Some (BlockedOn sub) w is) at
+names_list k rep i (place.Held y) w at is = subst (λ v. IsNamedAt k rep (target_of v)) (same_Some (HeldIn i) w is) tt
+names_list k rep i place.Suspended w at is = absurd (cc)
+
+abbrev pub PlacesNamed : Kinds → Table (Single GuestThread) → Type 0
+PlacesNamed k t = EachEntry (λ (g : GuestThread). IsNamedAt k g.beside (place_target g.thread.place)) t
+
+-- nobody is in the list of what was not made
+pub none_in_list : (k : Kinds) (t : Table (Single GuestThread)) (w : Where) → PlacesNamed k t → ((rep : ℕ) → IsNamedAt k rep (target_of w) → ⊥) → (rep : ℕ) (f : Filing Where ℕ) → filings place_filing t rep ≡ Some f → f.key ≡ Some w → ⊥
+unfolding filings
+none_in_list k t w named new rep f is key = by (place_at t rep) refl is
+  where
+    by : (o : Option (Placed (Single GuestThread))) → place_at t rep ≡ o → said place_filing rep o ≡ Some f → ⊥
+    by None at is = absurd (cc)
+    by (Some q) at is =
+        let g = q.entry.item in
+        new g.beside (names_list k g.beside g.instance g.thread.place w (named rep q at) (ap (λ (h : Filing Where ℕ). h.key) (same_Some _ f is) ∙ key))
+
+abbrev under_in : Where → ℕ
+under_in (UnderOf n) = n
+under_in _ = 0
+
+under_is : (n : ℕ) (k : Where) → (k ≡ UnderOf n) ⊎ (k ≡ UnderOf n → ⊥)
+under_is n (WaitsOn x) = inr (λ same. absurd (cc))
+under_is n (HeldIn i) = inr (λ same. absurd (cc))
+under_is n (UnderOf m) = elim (cases_eq m n) [
+  | inl same ↦ inl (ap UnderOf same)
+  | inr other ↦ inr (λ same. other (ap under_in same))
+]
+under_is n (BlockedOn sub) = inr (λ same. absurd (cc))
+
+-- ---- The thread
+
+abbrev pub nodes_of : GuestThread → ThreadNodes
+nodes_of g = record { node = g.node; mark = g.mark; shelf = g.shelf; caller = g.caller; callers = g.callers; under = g.under }
+
+module _ (p : Parts) (g : GuestThread) (table : IsTable p.threads) (apart : AreApart thread_key p.threads.places) (new : found_record thread_key g.number p.threads.places ≡ None) (loose : AreThreadLoose p (nodes_of g)) where
+  abbrev pub with_thread : Parts
+  with_thread = record p { threads = pushed (record { item = g }) p.threads }
+
+  module _ (chain : GuestThread → ℕ) where
+    has_chain : found_record (λ (e : Single GuestThread). Some (e.item.number, chain e.item)) g.number with_thread.threads.places ≡ Some (chain g)
+    has_chain = chain_new (λ (h : GuestThread). h.number) (λ (h : GuestThread). h.thread) chain p.threads g table apart new
+
+    other_chain : (n : ℕ) → (n ≡ g.number → ⊥) → found_record (λ (e : Single GuestThread). Some (e.item.number, chain e.item)) n with_thread.threads.places ≡ found_record (λ (e : Single GuestThread). Some (e.item.number, chain e.item)) n p.threads.places
+    other_chain = chain_other (λ (h : GuestThread). h.number) (λ (h : GuestThread). h.thread) chain p.threads g table apart new
+
+  place_others : (k : Where) → (k ≡ UnderOf g.number → ⊥) → place_chain with_thread k ≡ place_chain p k
+  place_others (WaitsOn n) other = refl
+  place_others (HeldIn i) other = refl
+  place_others (UnderOf n) other = other_chain (λ h. h.under) n (λ same. other (ap UnderOf same))
+  place_others (BlockedOn (subtask.Guest k)) other = refl
+  place_others (BlockedOn (subtask.Host i)) other = refl
+
+  seated_still : (x : Queued) → IsSeated p x → IsSeated with_thread x
+  seated_still x is = by x.entry is
+    where
+      by : (e : Entry) → entry_seated p e x.place ≡ Some x → entry_seated with_thread e x.place ≡ Some x
+      by (entry.Thread n) is = seat_stays p.threads g table thread_entry x.place x is
+      by (entry.Push i) is = is
+      by (entry.Host i) is = is
+
+  pub follower_still : (f : Follower) → IsFollower p f → IsFollower with_thread f
+  follower_still f is = seat_stays p.threads g table follower f.place f is
+
+  callers_others : (n : ℕ) → (n ≡ g.number → ⊥) → callers_chain with_thread n ≡ callers_chain p n
+  callers_others = other_chain (λ h. h.callers)
+
+  no_callers : callers_row with_thread g.number ≡ []
+  no_callers = ap (chained p.behind) (has_chain (λ h. h.callers)) ∙ ap (λ o. map (λ e. e.1) (list_or_nil o)) loose.callers.empty
+
+  pub thread_chained : (k : Kinds) → k.made.threads < g.number → PlacesNamed k p.threads → where_at g.instance g.thread.place ≡ None → AreChained p → AreChained with_thread
+  thread_chained k later named filed was = record {
+    places = index_more p.threads g table (λ h. h.node.index) (λ h. where_at h.instance h.thread.place) p.places loose.node (place_chain with_thread)
+        (IsIndex-opened (place_chain p) (place_chain with_thread) p.places (UnderOf g.number) (under_is g.number) place_others g.under (has_chain (λ h. h.under)) loose.under (filings place_filing p.threads) was.places
+        (none_in_list k p.threads (UnderOf g.number) named (λ rep at. let few = at.0 in omega arith)))
+        filed;
+    ready_calls = was.ready_calls;
+    ready_works = was.ready_works;
+    polled = was.polled;
+    marks = IsRows-known _ _ (IsSeated p) (IsSeated with_thread) _ _ seated_still was.marks;
+    shelves = IsRows-known _ _ (IsSeated p) (IsSeated with_thread) _ _ seated_still was.shelves;
+    low = was.low;
+    behind = IsRows-opened (callers_chain p) (λ f. f.node.index) (IsFollower with_thread) p.behind (callers_row p)
+        (IsRows-known _ _ (IsFollower p) (IsFollower with_thread) _ _ follower_still was.behind)
+        (callers_chain with_thread) (callers_row with_thread) g.number (λ n. cases_eq n g.number) callers_others (λ n other. ap (chained p.behind) (callers_others n other))
+        g.callers (none_as (λ (h : GuestThread). h.number) (λ (h : GuestThread). h.thread) (λ (h : GuestThread). h.callers) g.number p.threads.places new) (has_chain (λ h. h.callers)) no_callers loose.callers.empty loose.callers.apart;
+  }
+
+  pub thread_nodes : HaveRowNodes p → HaveRowNodes with_thread
+  thread_nodes was = record {
+    marks = nodes_more p.threads g table (λ h. h.mark.index) p.marks loose.mark was.marks;
+    shelves = nodes_more p.threads g table (λ h. h.shelf.index) p.shelves loose.shelf was.shelves;
+    callers = nodes_more p.threads g table (λ h. h.caller.index) p.behind loose.caller was.callers;
+    works = was.works;
+    apart = λ r s q w at_q at_w same. elim (new_or_old p.threads g table r q at_q) [
+      | inl here ↦ loose.no_work s w at_w (sym same ∙ ap (λ (z : Placed (Single GuestThread)). z.entry.item.mark.index) here.1)
+      | inr old ↦ was.apart r s q w old at_w same
+    ];
+  }

@@ -1,0 +1,39 @@
+use Rattle.std.proofs.Common.{ap, arith, ◌+◌, ◌<◌, ◌^◌, ◌∙◌}
+use Rattle.strand_words.proofs.RequestLemmas.{request_core, request_strand}
+use Rattle.strand_words.proofs.calls.add_strand.Goals as goal
+use Rattle.task_records.specs.Seen.{seen}
+use Rattle.task_records.specs.declared.calls.GuestTask.{GuestTask}
+use Rattle.task_records.specs.declared.threads.GuestThread.{GuestThread}
+use Rattle.task_rules.specs.Calls.{call_made}
+use Rattle.task_rules.specs.Scripts.{registers_for}
+
+pub overflow_add-number : goal.overflow_add-number
+unfolding seen
+overflow_add-number c = let few : c.args.parts.now.made.threads + 1 < 2 ^ 64 = c.requires.few in omega arith
+
+pub push_strand-requires-clause-strand : goal.push_strand-requires-clause-strand
+push_strand-requires-clause-strand c =
+    let call = c.call_record-call.ensures in
+    let thread = c.thread_record-thread.ensures in
+    request_strand c.args.parts.now c.args.request c.args.group.number (registers_for c.args.words.now) _ c.thread_record-thread.result
+    (ap (λ (d : GuestTask). d.number) call) (ap (λ (d : GuestTask). d.call) call ∙ c.new_call-call.ensures) (ap (λ (d : GuestTask). d.maker) call) (ap (λ (d : GuestTask). d.threads) call)
+    (ap (λ (h : GuestThread). h.number) thread) (ap (λ (h : GuestThread). h.thread) thread ∙ c.new_thread-thread.ensures) (ap (λ (h : GuestThread). h.instance) thread)
+    c.requires.caller c.requires.there c.requires.result
+
+pub returns-in-Ok-clause-thread : goal.returns-in-Ok-clause-thread
+unfolding seen
+returns-in-Ok-clause-thread c = c.in-Ok.ensures.thread
+
+pub returns-in-Ok-clause-call : goal.returns-in-Ok-clause-call
+unfolding seen
+returns-in-Ok-clause-call c = c.in-Ok.ensures.call
+
+pub returns-in-Ok-clause-core : goal.returns-in-Ok-clause-core
+unfolding call_made seen
+returns-in-Ok-clause-core c =
+    let call = c.call_record-call.ensures in
+    let thread = c.thread_record-thread.ensures in
+    c.in-Ok.ensures.core
+    ∙ request_core c.args.parts.now c.args.request c.args.group.number (registers_for c.args.words.now) c.call_record-call.result c.thread_record-thread.result
+    (ap (λ (d : GuestTask). d.number) call) (ap (λ (d : GuestTask). d.call) call ∙ c.new_call-call.ensures) (ap (λ (d : GuestTask). d.maker) call) (ap (λ (d : GuestTask). d.threads) call)
+    (ap (λ (h : GuestThread). h.number) thread) (ap (λ (h : GuestThread). h.thread) thread ∙ c.new_thread-thread.ensures) (ap (λ (h : GuestThread). h.instance) thread) (seen c.args.parts.now).core

@@ -1,0 +1,7 @@
+use Rattle.std.proofs.Common.{arith, ◌+◌, ◌<◌, ◌^◌}
+use Rattle.strand_words.proofs.calls.prepare.Goals as goal
+use Rattle.task_records.specs.Seen.{seen}
+
+pub overflow_add-number : goal.overflow_add-number
+unfolding seen
+overflow_add-number c = let few : c.args.parts.now.made.threads + 1 < 2 ^ 64 = c.requires.few in omega arith

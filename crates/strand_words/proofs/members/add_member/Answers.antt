@@ -1,0 +1,69 @@
+use Rattle.make_words.proofs.RestoreLemmas.{image_restored, sound_restored}
+use Rattle.std.proofs.Common.{None, ap, arith, sym, true, ◌+◌, ◌<◌, ◌^◌, ◌∙◌, ℕ}
+use Rattle.strand_words.proofs.MemberAddLemmas.{member_restored, threads_few}
+use Rattle.strand_words.proofs.RequestLemmas.{member_instance, request_member}
+use Rattle.strand_words.proofs.StrandUndoLemmas.{item_written, named_core}
+use Rattle.strand_words.proofs.members.add_member.Goals as goal
+use Rattle.task_machine.specs.Write.{add_thread}
+use Rattle.task_machine.specs.declared.records.Script.TheVariants as script
+use Rattle.task_machine.specs.declared.records.Thread.{Thread}
+use Rattle.task_records.specs.Image.{Parts}
+use Rattle.task_records.specs.Kinds.{item_of}
+use Rattle.task_records.specs.Seen.{IsSound, parts_of, seen}
+use Rattle.task_records.specs.declared.calls.GuestTask.{GuestTask}
+use Rattle.task_records.specs.declared.single.Single.{Single}
+use Rattle.task_records.specs.declared.threads.GuestThread.{GuestThread}
+use Rattle.task_rules.specs.Calls.{new_thread}
+use Rattle.task_rules.specs.Scripts.{registers_for}
+use Rattle.task_table.specs.Answers.{item_at}
+use Rattle.task_table.specs.Table.{Table}
+use Rattle.task_words.specs.StateView.{StateView, call_of, thread_of}
+
+pub overflow_add-number : goal.overflow_add-number
+unfolding seen
+overflow_add-number c = let few : c.args.parts.now.made.threads + 1 < 2 ^ 64 = c.requires.few in omega arith
+
+pub push_thread-requires-clause-member : goal.push_thread-requires-clause-member
+push_thread-requires-clause-member c =
+    let a = c.args.parts.now in
+    let thread = c.thread_record-thread.ensures in
+    request_member a (call_of (seen a) c.args.task) c.in-Some.found.now c.args.task.rep (script.Slot c.args.slot) (registers_for c.args.words.now) c.thread_record-thread.result
+    (ap (λ (h : GuestThread). h.number) thread) (ap (λ (h : GuestThread). h.thread) thread ∙ c.new_thread-thread.ensures) (ap (λ (h : GuestThread). h.task) thread ∙ c.rep.ensures) (ap (λ (h : GuestThread). h.instance) thread)
+    c.in-Some.ensures.is c.requires.there
+
+pub drop_member-requires-clause-call : goal.drop_member-requires-clause-call
+drop_member-requires-clause-call c =
+    let call = c.in-Some.found.now in
+    item_written c.args.parts.now.calls c.args.task.rep c.args.task.serial call (record call { threads = call.threads + 1 }) c.in-Some.ensures.item
+    ∙ sym (ap (λ (t : Table (Single GuestTask)). item_at item_of t c.args.task.rep c.args.task.serial) (ap (λ (q : Parts). q.calls) c.in-Err-name_thread.ensures.same ∙ c.in-Ok.ensures.pushes.calls))
+
+pub drop_member-requires-clause-few : goal.drop_member-requires-clause-few
+drop_member-requires-clause-few c = threads_few c.args.parts.now c.requires.sound c.args.task c.in-Some.found.now c.in-Some.ensures.item c.thread_record-thread.result
+
+pub returns-in-Ok-name_thread-clause-thread : goal.returns-in-Ok-name_thread-clause-thread
+returns-in-Ok-name_thread-clause-thread c = ap (λ (v : StateView). thread_of v c.in-Ok.new) c.in-Ok-name_thread.ensures.new ∙ c.in-Ok.ensures.thread
+
+pub returns-in-Ok-name_thread-clause-core : goal.returns-in-Ok-name_thread-clause-core
+returns-in-Ok-name_thread-clause-core c =
+    let s = (seen c.args.parts.now).core in
+    let n = call_of (seen c.args.parts.now) c.args.task in
+    ap (λ (v : StateView). v.core) c.in-Ok-name_thread.ensures.new
+    ∙ named_core _ _ _ _ _
+    (c.in-Ok.ensures.core ∙ ap (λ (t : Thread). add_thread t s) (ap (λ (h : GuestThread). h.thread) c.thread_record-thread.ensures ∙ (c.new_thread-thread.ensures ∙ ap (λ (k : ℕ). new_thread k true (script.Slot c.args.slot) (registers_for c.args.words.now) None) c.in-Some.ensures.number)))
+    c.in-Ok.ensures.thread
+    (member_instance (new_thread n true (script.Slot c.args.slot) (registers_for c.args.words.now) None) s)
+
+pub returns-in-Err-name_thread-clause-sound : goal.returns-in-Err-name_thread-clause-sound
+unfolding IsSound
+returns-in-Err-name_thread-clause-sound c =
+    let d = c.drop_member.ensures in
+    sound_restored (parts_of c.args.parts.now) (parts_of c.drop_member.new.parts)
+    (member_restored c.args.parts.now c.push_thread.new.parts c.name_thread.new.parts c.drop_member.new.parts c.requires.sound c.in-Ok.ensures.sound c.args.task c.in-Some.found.now c.in-Some.ensures.item c.in-Ok.new c.in-Ok.ensures.pushes c.in-Err-name_thread.ensures.same d.only d.threads d.calls d.table)
+    c.requires.sound
+
+pub returns-in-Err-name_thread-clause-err : goal.returns-in-Err-name_thread-clause-err
+unfolding seen
+returns-in-Err-name_thread-clause-err c =
+    let d = c.drop_member.ensures in
+    image_restored (parts_of c.args.parts.now) (parts_of c.drop_member.new.parts)
+    (member_restored c.args.parts.now c.push_thread.new.parts c.name_thread.new.parts c.drop_member.new.parts c.requires.sound c.in-Ok.ensures.sound c.args.task c.in-Some.found.now c.in-Some.ensures.item c.in-Ok.new c.in-Ok.ensures.pushes c.in-Err-name_thread.ensures.same d.only d.threads d.calls d.table)

@@ -1,0 +1,12 @@
+use Rattle.std.proofs.Common.{arith}
+use Rattle.strand_words.proofs.strands.drop_call.Goals as goal
+use Rattle.task_records.proofs.KindLemmas.{refused_number}
+use Rattle.task_records.specs.Kinds.{item_of}
+use Rattle.task_records.specs.declared.calls.GuestTask.{GuestTask}
+use Rattle.task_table.proofs.ItemLemmas.{deletion_refused}
+
+pub unreachable-requires : goal.unreachable-requires
+unreachable-requires c =
+    let zero = refused_number (λ (g : GuestTask). g.number) (λ (g : GuestTask). g.call) c.args.calls.now c.args.id.rep c.args.id.serial _ (deletion_refused item_of c.args.calls.now c.args.id.rep c.args.id.serial _ c.in-Err.ensures.answer c.requires.childless) in
+    let live = c.requires.live in
+    omega arith

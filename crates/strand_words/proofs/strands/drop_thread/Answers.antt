@@ -1,0 +1,12 @@
+use Rattle.std.proofs.Common.{arith}
+use Rattle.strand_words.proofs.strands.drop_thread.Goals as goal
+use Rattle.task_records.proofs.KindLemmas.{refused_number}
+use Rattle.task_records.specs.Kinds.{item_of}
+use Rattle.task_records.specs.declared.threads.GuestThread.{GuestThread}
+use Rattle.task_table.proofs.ItemLemmas.{deletion_refused}
+
+pub unreachable-requires : goal.unreachable-requires
+unreachable-requires c =
+    let zero = refused_number (λ (g : GuestThread). g.number) (λ (g : GuestThread). g.thread) c.args.threads.now c.args.id.rep c.args.id.serial _ (deletion_refused item_of c.args.threads.now c.args.id.rep c.args.id.serial _ c.in-Err.ensures.answer c.requires.childless) in
+    let live = c.requires.live in
+    omega arith

@@ -1,0 +1,5 @@
+pub mod Loose
+pub mod Extends
+pub mod Strand
+pub mod Pushed
+pub mod Member

@@ -1,0 +1,43 @@
+-- What a make of records changed, so that it can be taken back.
+use Rattle.std.specs.Prelude.{◌≡◌, ◌+◌}
+use Rattle.task_records.specs.Kinds.{entry_of}
+use Rattle.task_records.specs.declared.calls.GuestTask.{GuestTask}
+use Rattle.task_records.specs.declared.calls.TaskGroup.{TaskGroup}
+use Rattle.task_records.specs.declared.parts.CoreParts.{CoreParts}
+use Rattle.task_records.specs.declared.threads.GuestThread.{GuestThread}
+use Rattle.task_table.specs.Changes.{next_place, pushed, with_entry}
+use Rattle.task_table.specs.declared.id.TableId.{TableId}
+use Rattle.task_wait.specs.declared.keys.GroupKey.{GroupKey}
+use Rattle.task_wait.specs.declared.keys.GuestTaskKey.{GuestTaskKey}
+use Rattle.task_wait.specs.declared.keys.ThreadKey.{ThreadKey}
+
+-- A call more, of this group, and its first thread.
+pub record PushesStrand
+    (a b : CoreParts) (id : TableId GroupKey) (group : TaskGroup) (first : TableId ThreadKey) (task : TableId GuestTaskKey) : Type 0 where
+  pub thread : GuestThread
+  pub call : GuestTask
+  pub threads : b.threads ≡ pushed (entry_of thread) a.threads
+  pub calls : b.calls ≡ pushed (entry_of call) a.calls
+  pub groups : b.groups ≡ with_entry id.rep (entry_of (record group { calls = group.calls + 1 })) a.groups
+  pub first_at : first.rep ≡ next_place a.threads
+  pub task_at : task.rep ≡ next_place a.calls
+  pub only : b ≡ record a {
+    threads = b.threads;
+    calls = b.calls;
+    groups = b.groups;
+    made = record a.made { threads = a.made.threads + 1 };
+    kept = record a.kept { used = a.kept.used + 3; interesting = a.kept.interesting + 1 };
+  }
+
+-- A thread more of this call.
+pub record PushesThread (a b : CoreParts) (id : TableId GuestTaskKey) (call : GuestTask) (new : TableId ThreadKey) : Type 0 where
+  pub thread : GuestThread
+  pub threads : b.threads ≡ pushed (entry_of thread) a.threads
+  pub calls : b.calls ≡ with_entry id.rep (entry_of (record call { threads = call.threads + 1 })) a.calls
+  pub thread_at : new.rep ≡ next_place a.threads
+  pub only : b ≡ record a {
+    threads = b.threads;
+    calls = b.calls;
+    made = record a.made { threads = a.made.threads + 1 };
+    kept = record a.kept { used = a.kept.used + 2 };
+  }

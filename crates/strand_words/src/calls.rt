@@ -1,0 +1,206 @@
+ghost use Rattle.std.specs.BTreeMap.{is_at};
+ghost use Rattle.std.specs.Map.{lookup};
+ghost use Rattle.std.specs.Ordering.{nat_cmp};
+ghost use Rattle.std.specs.Prelude.{◌≡◌, ◌+◌, ◌<◌, ◌≤◌, ◌^◌, IfOk, IsSome, Ok, OnErr, OnOk, length, true};
+ghost use Rattle.make_words.specs.Restored.{IsRestored};
+ghost use Rattle.strand_words.specs.Loose.{AreStrandLoose};
+ghost use Rattle.strand_words.specs.Pushed.{PushesStrand};
+ghost use Rattle.task_machine.specs.Maps.{get};
+ghost use Rattle.task_machine.specs.Read.{fits};
+ghost use Rattle.task_machine.specs.Write.{add_group};
+ghost use Rattle.task_machine.specs.declared.records.Caller.TheVariants as callers;
+ghost use Rattle.task_machine.specs.declared.records.Goal.TheVariants as goals;
+ghost use Rattle.task_records.specs.Kinds.{item_of};
+ghost use Rattle.task_records.specs.Names.{AtPlace, caller_target};
+ghost use Rattle.task_records.specs.Seen.{IsSound, parts_of, seen};
+ghost use Rattle.task_records.specs.Sound.{bare};
+ghost use Rattle.task_rules.specs.Calls.{call_made, next_thread, with_thread_handle};
+ghost use Rattle.task_table.specs.Answers.{item_at};
+ghost use Rattle.task_words.specs.StateView.{Keeps, call_of, thread_of};
+
+use crate::groups::{drop_group, push_group};
+use crate::nodes::{CallNodes, ThreadNodes, new_strand_nodes};
+use crate::records::{Request, call_record, new_call, new_thread, thread_record};
+use crate::strands::{drop_strand, push_strand};
+use count_words::make_room;
+use handle_words::name_thread;
+use task_machine::{Callee, Caller, ExportKind, Goal, NoMemory, Script};
+use task_records::{CoreParts, TaskGroup};
+use task_table::TableId;
+use task_wait::GroupKey;
+use task_words::{CallId, ThreadId};
+
+// A call of a group that is there, and its first thread, with nodes that were made for them. Where
+// memory is wanting, neither is there.
+pub fn add_strand(
+    parts: &mut CoreParts,
+    id: TableId<GroupKey>,
+    group: TaskGroup,
+    request: Request,
+    words: &[u64],
+    nodes: (CallNodes, ThreadNodes),
+) -> Result<(ThreadId, CallId), NoMemory>
+    requires sound { IsSound parts.old }
+    requires words { length words.now ≤ 16 }
+    requires few { (seen parts.old).core.made.threads + 1 < 2 ^ 64 }
+    requires room { fits 3 (seen parts.old).core ≡ true }
+    requires group { Ok group ≡ item_at item_of parts.old.groups id.rep id.serial }
+    requires caller { AtPlace (parts_of parts.old) request.maker (caller_target request.caller) }
+    requires there { IsSome (get (seen parts.old).core.instances request.callee.instance) }
+    requires result { request.goal ≡ goals.Main → IsSome (lookup (is_at (nat_cmp (parts.old.made.threads + 1))) parts.old.results.entries) }
+    requires loose { AreStrandLoose (bare (parts_of parts.old)) nodes.0 nodes.1 }
+    ensures sound { IsSound parts.new }
+    ensures thread { IfOk result (λ ids. thread_of (seen parts.new) ids.0 ≡ (seen parts.old).core.made.threads + 1) }
+    ensures call { IfOk result (λ ids. call_of (seen parts.new) ids.1 ≡ (seen parts.old).core.made.threads + 1) }
+    ensures core { OnOk result ((seen parts.new).core ≡ call_made request.caller request.callee request.kind request.goal group.number words.now (seen parts.old).core) }
+    ensures current { OnOk result ((seen parts.new).current ≡ (seen parts.old).current) }
+    ensures tags { OnOk result (Keeps (seen parts.old).tags (seen parts.new).tags) }
+    ensures pushes { IfOk result (λ ids. PushesStrand parts.old parts.new id group ids.0 ids.1) }
+    ensures err { OnErr result (IsRestored (parts_of parts.old) (parts_of parts.new)) }
+{
+    let number = parts.made.threads + 1;
+    let call = new_call(request, group.number);
+    let call = call_record(number, call, request.maker, id.rep(), nodes.0);
+    let thread = new_thread(number, false, Script::Start, words);
+    let thread = thread_record(number, thread, 0, request.callee.instance, nodes.1);
+    match push_strand(parts, id, group, call, thread) {
+        Ok(ids) => Ok(ids),
+        Err(why) => Err(why),
+    }
+}
+
+// The nodes of a call and of its first thread, and room for a result that goes to main. Where memory
+// is wanting, all is as before.
+pub fn prepare(parts: &mut CoreParts, goal: Goal) -> Result<(CallNodes, ThreadNodes), NoMemory>
+    requires sound { IsSound parts.old }
+    requires few { (seen parts.old).core.made.threads + 1 < 2 ^ 64 }
+    ensures sound { IsSound parts.new }
+    ensures seen { seen parts.new ≡ seen parts.old }
+    ensures loose { IfOk result (λ nodes. AreStrandLoose (bare (parts_of parts.new)) nodes.0 nodes.1) }
+    ensures result { OnOk result (goal ≡ goals.Main → IsSome (lookup (is_at (nat_cmp (parts.new.made.threads + 1))) parts.new.results.entries)) }
+{
+    if let Goal::Main = goal {
+        let number = parts.made.threads + 1;
+        make_room(parts, number)?;
+    }
+    let nodes = new_strand_nodes(parts)?;
+    Ok(nodes)
+}
+
+// A call by main in a group that is made for it. Where memory is wanting, neither is there.
+fn add_main_strand(
+    parts: &mut CoreParts,
+    request: Request,
+    words: &[u64],
+    nodes: (CallNodes, ThreadNodes),
+) -> Result<(ThreadId, CallId), NoMemory>
+    requires sound { IsSound parts.old }
+    requires words { length words.now ≤ 16 }
+    requires few { (seen parts.old).core.made.threads + 1 < 2 ^ 64 }
+    requires groups { (seen parts.old).core.made.groups + 1 < 2 ^ 64 }
+    requires room { fits 4 (seen parts.old).core ≡ true }
+    requires caller { request.caller ≡ callers.Main }
+    requires there { IsSome (get (seen parts.old).core.instances request.callee.instance) }
+    requires result { request.goal ≡ goals.Main → IsSome (lookup (is_at (nat_cmp (parts.old.made.threads + 1))) parts.old.results.entries) }
+    requires loose { AreStrandLoose (bare (parts_of parts.old)) nodes.0 nodes.1 }
+    ensures sound { IsSound parts.new }
+    ensures thread { IfOk result (λ ids. thread_of (seen parts.new) ids.0 ≡ (seen parts.old).core.made.threads + 1) }
+    ensures call { IfOk result (λ ids. call_of (seen parts.new) ids.1 ≡ (seen parts.old).core.made.threads + 1) }
+    ensures core { OnOk result ((seen parts.new).core ≡ call_made request.caller request.callee request.kind request.goal ((seen parts.old).core.made.groups + 1) words.now (add_group (seen parts.old).core)) }
+    ensures current { OnOk result ((seen parts.new).current ≡ (seen parts.old).current) }
+    ensures tags { OnOk result (Keeps (seen parts.old).tags (seen parts.new).tags) }
+    ensures err { OnErr result (seen parts.new ≡ seen parts.old) }
+{
+    let number = parts.made.groups + 1;
+    match push_group(parts) {
+        Ok(id) => {
+            let group = TaskGroup { number, calls: 0 };
+            match add_strand(parts, id, group, request, words, nodes) {
+                Ok(ids) => Ok(ids),
+                Err(why) => {
+                    drop_group(parts, id, group);
+                    Err(why)
+                }
+            }
+        }
+        Err(why) => Err(why),
+    }
+}
+
+/// Makes a group, a call by main in it, with room for a result that goes to main, and the call's
+/// first thread. Where memory is wanting, all is as before.
+pub fn make_call_by_main(
+    parts: &mut CoreParts,
+    callee: Callee,
+    kind: ExportKind,
+    goal: Goal,
+    words: &[u64],
+) -> Result<(ThreadId, CallId), NoMemory>
+    requires sound { IsSound parts.old }
+    requires there { IsSome (get (seen parts.old).core.instances callee.instance) }
+    requires words { length words.now ≤ 16 }
+    requires few { (seen parts.old).core.made.threads + 1 < 2 ^ 64 }
+    requires groups { (seen parts.old).core.made.groups + 1 < 2 ^ 64 }
+    requires room { fits 4 (seen parts.old).core ≡ true }
+    ensures sound { IsSound parts.new }
+    ensures thread { IfOk result (λ ids. thread_of (seen parts.new) ids.0 ≡ next_thread (seen parts.old).core) }
+    ensures call { IfOk result (λ ids. call_of (seen parts.new) ids.1 ≡ next_thread (seen parts.old).core) }
+    ensures core { OnOk result ((seen parts.new).core ≡ call_made callers.Main callee kind goal ((seen parts.old).core.made.groups + 1) words.now (add_group (seen parts.old).core)) }
+    ensures current { (seen parts.new).current ≡ (seen parts.old).current }
+    ensures tags { Keeps (seen parts.old).tags (seen parts.new).tags }
+    ensures err { OnErr result (seen parts.new ≡ seen parts.old) }
+{
+    let request = Request {
+        caller: Caller::Main,
+        maker: 0,
+        callee,
+        kind,
+        goal,
+    };
+    match prepare(parts, goal) {
+        Ok(nodes) => match add_main_strand(parts, request, words, nodes) {
+            Ok(ids) => Ok(ids),
+            Err(why) => Err(why),
+        },
+        Err(why) => Err(why),
+    }
+}
+
+// A call of a group that is there, and its first thread with its handle. Where memory is wanting,
+// neither is there.
+pub fn add_named_strand(
+    parts: &mut CoreParts,
+    id: TableId<GroupKey>,
+    group: TaskGroup,
+    request: Request,
+    words: &[u64],
+    nodes: (CallNodes, ThreadNodes),
+) -> Result<(ThreadId, CallId), NoMemory>
+    requires sound { IsSound parts.old }
+    requires words { length words.now ≤ 16 }
+    requires few { (seen parts.old).core.made.threads + 1 < 2 ^ 64 }
+    requires room { fits 3 (seen parts.old).core ≡ true }
+    requires group { Ok group ≡ item_at item_of parts.old.groups id.rep id.serial }
+    requires caller { AtPlace (parts_of parts.old) request.maker (caller_target request.caller) }
+    requires there { IsSome (get (seen parts.old).core.instances request.callee.instance) }
+    requires result { request.goal ≡ goals.Main → IsSome (lookup (is_at (nat_cmp (parts.old.made.threads + 1))) parts.old.results.entries) }
+    requires loose { AreStrandLoose (bare (parts_of parts.old)) nodes.0 nodes.1 }
+    ensures sound { IsSound parts.new }
+    ensures thread { IfOk result (λ ids. thread_of (seen parts.new) ids.0 ≡ next_thread (seen parts.old).core) }
+    ensures call { IfOk result (λ ids. call_of (seen parts.new) ids.1 ≡ next_thread (seen parts.old).core) }
+    ensures core { OnOk result ((seen parts.new).core ≡ with_thread_handle request.callee.instance (next_thread (seen parts.old).core) (call_made request.caller request.callee request.kind request.goal group.number words.now (seen parts.old).core)) }
+    ensures current { OnOk result ((seen parts.new).current ≡ (seen parts.old).current) }
+    ensures tags { OnOk result (Keeps (seen parts.old).tags (seen parts.new).tags) }
+    ensures err { OnErr result (seen parts.new ≡ seen parts.old) }
+{
+    match add_strand(parts, id, group, request, words, nodes) {
+        Ok((first, task)) => match name_thread(parts, first) {
+            Ok(_) => Ok((first, task)),
+            Err(why) => {
+                drop_strand(parts, id, group, first, task);
+                Err(why)
+            }
+        },
+        Err(why) => Err(why),
+    }
+}

@@ -1,0 +1,113 @@
+ghost use Rattle.std.specs.Prelude.{◌≡◌, ◌≤◌, None, length};
+ghost use Rattle.task_rules.specs.Calls.{new_call, new_thread};
+ghost use Rattle.task_rules.specs.Scripts.{registers_for};
+
+use crate::nodes::{CallNodes, ThreadNodes};
+use task_machine::{Call, Callee, Caller, ExportKind, Goal, HowFar, Join, Place, Script, Thread};
+use task_records::{GuestTask, GuestThread};
+
+/// Who calls, from which place in the table of threads, what, and where the result goes.
+#[derive(Clone, Copy)]
+pub struct Request {
+    pub caller: Caller,
+    pub maker: u32,
+    pub callee: Callee,
+    pub kind: ExportKind,
+    pub goal: Goal,
+}
+
+// The registers of a thread that begins with these words.
+pub fn registers_of(words: &[u64]) -> [u64; 16]
+    requires { length words.now ≤ 16 }
+    ensures { result ≡ registers_for words.now }
+{
+    let mut registers = [0; 16];
+    registers[..words.len()].copy_from_slice(words);
+    registers
+}
+
+// A call of a group, as it is made.
+pub fn new_call(request: Request, group: u64) -> Call
+    ensures { result ≡ new_call request.caller request.callee request.kind request.goal group }
+{
+    Call {
+        caller: request.caller,
+        callee: request.callee,
+        kind: request.kind,
+        goal: request.goal,
+        started: false,
+        starting_published: false,
+        end: None,
+        event: None,
+        own_event: None,
+        cancel_delivered: false,
+        exited: false,
+        interesting: true,
+        result: None,
+        join: Join::Nowhere,
+        handle: None,
+        group,
+        borrows: 0,
+    }
+}
+
+// A thread of a call, as it is made.
+pub fn new_thread(call: u64, explicit: bool, script: Script, words: &[u64]) -> Thread
+    requires { length words.now ≤ 16 }
+    ensures { result ≡ new_thread call explicit script (registers_for words.now) None }
+{
+    Thread {
+        call,
+        explicit,
+        script,
+        position: 0,
+        how_far: HowFar::Fresh,
+        registers: registers_of(words),
+        handle: None,
+        saved_own: None,
+        saved_callee: None,
+        place: Place::New,
+    }
+}
+
+// The record of a call, under its number, in the group at a place.
+pub fn call_record(number: u64, call: Call, maker: u32, group: u32, nodes: CallNodes) -> GuestTask
+    ensures { result ≡ record { number = number; call = call; maker = maker; joined = 0; group = group; threads = 1; ready = nodes.ready; blocked = nodes.blocked } }
+{
+    GuestTask {
+        number,
+        call,
+        maker,
+        joined: 0,
+        group,
+        threads: 1,
+        ready: nodes.ready,
+        blocked: nodes.blocked,
+    }
+}
+
+// The record of a thread, under its number, of the call at a place.
+pub fn thread_record(
+    number: u64,
+    thread: Thread,
+    task: u32,
+    instance: u32,
+    nodes: ThreadNodes,
+) -> GuestThread
+    ensures { result ≡ record { number = number; thread = thread; task = task; instance = instance; beside = 0; awaited = 0; node = nodes.node; mark = nodes.mark; shelf = nodes.shelf; caller = nodes.caller; callers = nodes.callers; under = nodes.under } }
+{
+    GuestThread {
+        number,
+        thread,
+        task,
+        instance,
+        beside: 0,
+        awaited: 0,
+        node: nodes.node,
+        mark: nodes.mark,
+        shelf: nodes.shelf,
+        caller: nodes.caller,
+        callers: nodes.callers,
+        under: nodes.under,
+    }
+}

@@ -1,0 +1,163 @@
+ghost use Rattle.std.specs.Prelude.{◌≡◌, ◌+◌, ◌-◌, ◌<◌, ◌≤◌, ◌^◌, IfOk, None, Ok, OnErr, OnOk, true};
+ghost use Rattle.make_words.specs.Restored.{IsRestored};
+ghost use Rattle.strand_words.specs.Loose.{AreStrandLoose};
+ghost use Rattle.strand_words.specs.Pushed.{PushesStrand};
+ghost use Rattle.strand_words.specs.Strand.{IsStrand};
+ghost use Rattle.task_machine.specs.Read.{fits};
+ghost use Rattle.task_machine.specs.Write.{add_call, add_thread};
+ghost use Rattle.task_records.specs.Keys.{call_key, thread_key};
+ghost use Rattle.task_records.specs.Kinds.{entry_of, item_of};
+ghost use Rattle.task_records.specs.Seen.{IsSound, parts_of, seen};
+ghost use Rattle.task_records.specs.Sound.{bare, bare_call, bare_thread};
+ghost use Rattle.task_table.specs.Answers.{item_at};
+ghost use Rattle.task_table.specs.Changes.{deleted, next_place, with_entry};
+ghost use Rattle.task_table.specs.Records.{number_of};
+ghost use Rattle.task_table.specs.Table.{IsTable, children_of};
+ghost use Rattle.task_words.specs.StateView.{Keeps, call_of, thread_of};
+
+use task_machine::NoMemory;
+use task_records::{CoreParts, GuestTask, GuestThread, Single, TaskGroup};
+use task_table::{ResourceTable, TableId};
+use task_wait::{GroupKey, GuestTaskKey, ThreadKey};
+use task_words::{CallId, ThreadId};
+
+// One call more is of the group.
+pub fn one_more(
+    groups: &mut ResourceTable<Single<TaskGroup>>,
+    id: TableId<GroupKey>,
+    group: TaskGroup,
+)
+    requires item { Ok group ≡ item_at item_of groups.old id.rep id.serial }
+    requires few { group.calls + 1 < 2 ^ 64 }
+    ensures { groups.new ≡ with_entry id.rep (entry_of (record group { calls = group.calls + 1 })) groups.old }
+{
+    match groups.get_mut(id) {
+        Ok(entry) => {
+            entry.calls += 1;
+        }
+        Err(_) => unreachable!(),
+    }
+}
+
+// One call less is of the group: as many as before one more was.
+pub fn one_less(
+    groups: &mut ResourceTable<Single<TaskGroup>>,
+    id: TableId<GroupKey>,
+    group: TaskGroup,
+)
+    requires item { Ok (record group { calls = group.calls + 1 }) ≡ item_at item_of groups.old id.rep id.serial }
+    ensures { groups.new ≡ with_entry id.rep (entry_of group) groups.old }
+{
+    match groups.get_mut(id) {
+        Ok(entry) => {
+            *entry = group;
+        }
+        Err(_) => unreachable!(),
+    }
+}
+
+// The record of a thread that was just pushed is gone.
+pub fn drop_thread(threads: &mut ResourceTable<Single<GuestThread>>, id: ThreadId)
+    requires live { 0 < number_of thread_key threads.old id.rep id.serial }
+    requires childless { children_of threads.old id.rep ≡ 0 }
+    ensures table { IsTable threads.new }
+    ensures deleted { threads.new ≡ deleted id.rep threads.old }
+{
+    match threads.delete(id) {
+        Ok(_) => {}
+        Err(_) => unreachable!(),
+    }
+}
+
+// The record of a call that was just pushed is gone.
+pub fn drop_call(calls: &mut ResourceTable<Single<GuestTask>>, id: CallId)
+    requires live { 0 < number_of call_key calls.old id.rep id.serial }
+    requires childless { children_of calls.old id.rep ≡ 0 }
+    ensures table { IsTable calls.new }
+    ensures deleted { calls.new ≡ deleted id.rep calls.old }
+{
+    match calls.delete(id) {
+        Ok(_) => {}
+        Err(_) => unreachable!(),
+    }
+}
+
+// The record of a call, in a group that is there, and that of its first thread. Where memory is
+// wanting, neither is there.
+pub fn push_strand(
+    parts: &mut CoreParts,
+    id: TableId<GroupKey>,
+    group: TaskGroup,
+    call: GuestTask,
+    thread: GuestThread,
+) -> Result<(ThreadId, CallId), NoMemory>
+    requires sound { IsSound parts.old }
+    requires few { parts.old.made.threads + 1 < 2 ^ 64 }
+    requires room { fits 3 (seen parts.old).core ≡ true }
+    requires group { Ok group ≡ item_at item_of parts.old.groups id.rep id.serial }
+    requires place { call.group ≡ id.rep }
+    requires of_group { group.number ≡ call.call.group }
+    requires strand { IsStrand (bare (parts_of parts.old)) (bare_call call) (bare_thread (record thread { task = next_place parts.old.calls })) }
+    requires loose { AreStrandLoose (bare (parts_of parts.old)) (record { ready = call.ready; blocked = call.blocked }) (record { node = thread.node; mark = thread.mark; shelf = thread.shelf; caller = thread.caller; callers = thread.callers; under = thread.under }) }
+    requires unnamed { thread.thread.handle ≡ None }
+    requires interests { call.call.interesting ≡ true }
+    ensures sound { IsSound parts.new }
+    ensures thread { IfOk result (λ ids. thread_of (seen parts.new) ids.0 ≡ parts.old.made.threads + 1) }
+    ensures call { IfOk result (λ ids. call_of (seen parts.new) ids.1 ≡ parts.old.made.threads + 1) }
+    ensures core { OnOk result ((seen parts.new).core ≡ add_thread thread.thread (add_call call.number call.call (seen parts.old).core)) }
+    ensures current { OnOk result ((seen parts.new).current ≡ (seen parts.old).current) }
+    ensures tags { OnOk result (Keeps (seen parts.old).tags (seen parts.new).tags) }
+    ensures pushes { IfOk result (λ ids. PushesStrand parts.old parts.new id group ids.0 ids.1) }
+    ensures err { OnErr result (IsRestored (parts_of parts.old) (parts_of parts.new)) }
+{
+    match parts.calls.push::<GuestTaskKey>(call) {
+        Ok(task) => {
+            let mut thread = thread;
+            thread.task = task.rep();
+            match parts.threads.push::<ThreadKey>(thread) {
+                Ok(first) => {
+                    one_more(&mut parts.groups, id, group);
+                    parts.made.threads += 1;
+                    parts.kept.used += 3;
+                    parts.kept.interesting += 1;
+                    Ok((first, task))
+                }
+                Err(_) => {
+                    drop_call(&mut parts.calls, task);
+                    Err(NoMemory)
+                }
+            }
+        }
+        Err(_) => Err(NoMemory),
+    }
+}
+
+// The records of a call and of its first thread that were just pushed are gone.
+pub fn drop_strand(
+    parts: &mut CoreParts,
+    id: TableId<GroupKey>,
+    group: TaskGroup,
+    first: ThreadId,
+    task: CallId,
+)
+    requires sound { IsSound parts.old }
+    requires thread { 0 < thread_of (seen parts.old) first }
+    requires call { 0 < call_of (seen parts.old) task }
+    requires item { Ok (record group { calls = group.calls + 1 }) ≡ item_at item_of parts.old.groups id.rep id.serial }
+    requires made { 0 < parts.old.made.threads }
+    requires used { 3 ≤ parts.old.kept.used }
+    requires interesting { 0 < parts.old.kept.interesting }
+    ensures threads_table { IsTable parts.new.threads }
+    ensures calls_table { IsTable parts.new.calls }
+    ensures threads { parts.new.threads ≡ deleted first.rep parts.old.threads }
+    ensures calls { parts.new.calls ≡ deleted task.rep parts.old.calls }
+    ensures groups { parts.new.groups ≡ with_entry id.rep (entry_of group) parts.old.groups }
+    ensures only { parts.new ≡ record parts.old { threads = parts.new.threads; calls = parts.new.calls; groups = parts.new.groups; made = record parts.old.made { threads = parts.old.made.threads - 1 }; kept = record parts.old.kept { used = parts.old.kept.used - 3; interesting = parts.old.kept.interesting - 1 } } }
+{
+    drop_thread(&mut parts.threads, first);
+    drop_call(&mut parts.calls, task);
+    one_less(&mut parts.groups, id, group);
+    parts.made.threads -= 1;
+    parts.kept.used -= 3;
+    parts.kept.interesting -= 1;
+}

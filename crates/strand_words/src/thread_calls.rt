@@ -1,0 +1,128 @@
+ghost use Rattle.std.specs.Prelude.{◌≡◌, ◌+◌, ◌<◌, ◌≤◌, ◌^◌, IfOk, IsSome, Ok, OnErr, OnOk, length, true};
+ghost use Rattle.task_machine.specs.Maps.{get};
+ghost use Rattle.task_machine.specs.Read.{fits, thread_group};
+ghost use Rattle.task_machine.specs.declared.records.Caller.TheVariants as callers;
+ghost use Rattle.task_machine.specs.declared.records.Goal.TheVariants as goals;
+ghost use Rattle.task_records.specs.Kinds.{item_of};
+ghost use Rattle.task_records.specs.Seen.{IsSound, seen};
+ghost use Rattle.task_rules.specs.Calls.{call_made, next_thread, with_thread_handle};
+ghost use Rattle.task_table.specs.Answers.{item_at};
+ghost use Rattle.task_words.specs.StateView.{Keeps, call_of, thread_of};
+
+use crate::calls::{add_named_strand, add_strand, prepare};
+use crate::records::Request;
+use record_words::number;
+use task_machine::{Callee, Caller, ExportKind, Goal, NoMemory};
+use task_records::{CoreParts, TaskGroup, task_of};
+use task_table::TableId;
+use task_wait::GroupKey;
+use task_words::{CallId, ThreadId};
+
+// The group of a thread's call, and how many calls are of it.
+pub fn group_of(parts: &CoreParts, thread: ThreadId) -> (TableId<GroupKey>, TaskGroup)
+    requires sound { IsSound parts.now }
+    requires live { 0 < thread_of (seen parts.now) thread }
+    ensures item { Ok result.1 ≡ item_at item_of parts.now.groups result.0.rep result.0.serial }
+    ensures number { result.1.number ≡ thread_group (thread_of (seen parts.now) thread) (seen parts.now).core }
+{
+    let place = match task_records::call(parts, task_of(parts, thread)) {
+        Some(call) => call.group,
+        None => unreachable!(),
+    };
+    match parts.groups.serial_at(place) {
+        Some(serial) => match parts.groups.item_at::<GroupKey>(place) {
+            Some(group) => (TableId::new(place, serial), *group),
+            None => unreachable!(),
+        },
+        None => unreachable!(),
+    }
+}
+
+/// Makes a call by a thread, in the thread's group, and the call's first thread. Where memory is
+/// wanting, all is as before.
+pub fn make_call(
+    parts: &mut CoreParts,
+    thread: ThreadId,
+    callee: Callee,
+    kind: ExportKind,
+    goal: Goal,
+    words: &[u64],
+) -> Result<(ThreadId, CallId), NoMemory>
+    requires sound { IsSound parts.old }
+    requires live { 0 < thread_of (seen parts.old) thread }
+    requires there { IsSome (get (seen parts.old).core.instances callee.instance) }
+    requires words { length words.now ≤ 16 }
+    requires few { (seen parts.old).core.made.threads + 1 < 2 ^ 64 }
+    requires room { fits 3 (seen parts.old).core ≡ true }
+    ensures sound { IsSound parts.new }
+    ensures thread { IfOk result (λ ids. thread_of (seen parts.new) ids.0 ≡ next_thread (seen parts.old).core) }
+    ensures call { IfOk result (λ ids. call_of (seen parts.new) ids.1 ≡ next_thread (seen parts.old).core) }
+    ensures core { OnOk result ((seen parts.new).core ≡ call_made (callers.Thread (thread_of (seen parts.old) thread)) callee kind goal (thread_group (thread_of (seen parts.old) thread) (seen parts.old).core) words.now (seen parts.old).core) }
+    ensures current { (seen parts.new).current ≡ (seen parts.old).current }
+    ensures tags { Keeps (seen parts.old).tags (seen parts.new).tags }
+    ensures err { OnErr result (seen parts.new ≡ seen parts.old) }
+{
+    let request = Request {
+        caller: Caller::Thread {
+            thread: number(parts, thread),
+        },
+        maker: thread.rep(),
+        callee,
+        kind,
+        goal,
+    };
+    match prepare(parts, goal) {
+        Ok(nodes) => {
+            let (id, group) = group_of(parts, thread);
+            match add_strand(parts, id, group, request, words, nodes) {
+                Ok(ids) => Ok(ids),
+                Err(why) => Err(why),
+            }
+        }
+        Err(why) => Err(why),
+    }
+}
+
+/// Makes a direct call by a thread, in the thread's group, and gives the call's first thread its
+/// handle. Where memory is wanting, all is as before.
+pub fn make_direct_call(
+    parts: &mut CoreParts,
+    thread: ThreadId,
+    callee: Callee,
+    kind: ExportKind,
+    words: &[u64],
+) -> Result<(ThreadId, CallId), NoMemory>
+    requires sound { IsSound parts.old }
+    requires live { 0 < thread_of (seen parts.old) thread }
+    requires there { IsSome (get (seen parts.old).core.instances callee.instance) }
+    requires words { length words.now ≤ 16 }
+    requires few { (seen parts.old).core.made.threads + 1 < 2 ^ 64 }
+    requires room { fits 3 (seen parts.old).core ≡ true }
+    ensures sound { IsSound parts.new }
+    ensures thread { IfOk result (λ ids. thread_of (seen parts.new) ids.0 ≡ next_thread (seen parts.old).core) }
+    ensures call { IfOk result (λ ids. call_of (seen parts.new) ids.1 ≡ next_thread (seen parts.old).core) }
+    ensures core { OnOk result ((seen parts.new).core ≡ with_thread_handle callee.instance (next_thread (seen parts.old).core) (call_made (callers.Thread (thread_of (seen parts.old) thread)) callee kind goals.Direct (thread_group (thread_of (seen parts.old) thread) (seen parts.old).core) words.now (seen parts.old).core)) }
+    ensures current { (seen parts.new).current ≡ (seen parts.old).current }
+    ensures tags { Keeps (seen parts.old).tags (seen parts.new).tags }
+    ensures err { OnErr result (seen parts.new ≡ seen parts.old) }
+{
+    let request = Request {
+        caller: Caller::Thread {
+            thread: number(parts, thread),
+        },
+        maker: thread.rep(),
+        callee,
+        kind,
+        goal: Goal::Direct,
+    };
+    match prepare(parts, request.goal) {
+        Ok(nodes) => {
+            let (id, group) = group_of(parts, thread);
+            match add_named_strand(parts, id, group, request, words, nodes) {
+                Ok(ids) => Ok(ids),
+                Err(why) => Err(why),
+            }
+        }
+        Err(why) => Err(why),
+    }
+}

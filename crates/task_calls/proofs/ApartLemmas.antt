@@ -1,0 +1,79 @@
+-- Order hangs neither on limits, nor on groups, nor on whether the store is trapped.
+use Rattle.std.specs.Prelude.{Bool, List, Some, ℕ, ◌≡◌}
+use Rattle.task_laws.specs.Order.{InOrder, JoinNamed}
+use Rattle.task_machine.specs.Core.{Core, Main}
+use Rattle.task_machine.specs.Read.{join_of, subtask_at, subtask_handle}
+use Rattle.task_machine.specs.Write.{set_trapped}
+use Rattle.task_machine.specs.declared.component.Component.{Component}
+use Rattle.task_machine.specs.declared.records.Join.TheVariants as join
+use Rattle.task_machine.specs.declared.records.Subtask.{Subtask}
+use Rattle.task_machine.specs.declared.records.Subtask.TheVariants as subtask
+use Rattle.task_machine.specs.declared.records.Turn.{Turn}
+use Rattle.task_turns.specs.Turn.{Sits, state_at}
+
+module _ (trapped : Bool) (groups : List ℕ) (handle_limit capacity : ℕ) where
+  abbrev beside : Core → Core
+  beside s = record s { trapped = trapped; groups = groups; handle_limit = handle_limit; capacity = capacity }
+
+  beside_in_order : (c : Component) (p : Turn) (s : Core) (m : Main) → InOrder c (state_at s m p) → InOrder c (state_at (beside s) m p)
+  beside_in_order c p s m o = record {
+    codes = o.codes;
+    in_place = record {
+      placed = λ n. let h = o.in_place.placed n in record { number = h.number; behind = h.behind; switch = h.switch; high = h.high; low = h.low; callers = h.callers };
+      runs = o.in_place.runs;
+    };
+    strands = record { below = o.strands.below; made = o.strands.made; alone = o.strands.alone };
+    directs = o.directs;
+    works = record {
+      each = λ i w e. let h = o.works.each i w e in record { push = h.push; host = h.host };
+      low = o.works.low;
+      made = o.works.made;
+      gone = o.works.gone;
+    };
+    awaited = o.awaited;
+    numbered = record {
+      threads = λ n t e. let h = o.numbered.threads n t e in record { number = h.number; call = h.call; own = h.own; nameless = h.nameless };
+      calls = o.numbered.calls;
+    };
+    calls_there = o.calls_there;
+    calls_named = record {
+      by_handle = λ i h k e. let w = o.calls_named.by_handle i h k e in record { number = w.number; first = w.first };
+      by_op = λ n k e. let w = o.calls_named.by_op n k e in record { number = w.number; first = w.first };
+    };
+    sets_named = record { number = o.sets_named.number; home = o.sets_named.home; once = o.sets_named.once };
+    joins_named = record {
+      tables = o.joins_named.tables;
+      sets = o.joins_named.sets;
+      joins = joins;
+    };
+    waits = record {
+      by_place = λ n x e. let h = o.waits.by_place n x e in record { made = h.made; home = h.home };
+      by_op = λ n x e. let h = o.waits.by_op n x e in record { made = h.made; home = h.home };
+    };
+    kinds = λ k x e. let h = o.kinds k x e in record { kind = h.kind; direct = h.direct; uncancelled = h.uncancelled; gone = h.gone };
+    deliveries = o.deliveries;
+    fits = λ n t e. let h = o.fits n t e in record { script = h.script; position = h.position; op = h.op; under = h.under; first = h.first };
+    starts = o.starts;
+    names = record { there = there; once = o.names.once; called = o.names.called };
+    calls = record { inside = o.calls.inside; apart = o.calls.apart };
+    unbegun = λ k t e first waits. let h = o.unbegun k t e first waits in record { unended = h.unended; alone = h.alone };
+  }
+    where
+      there : (i h k : ℕ) → subtask_at i h (beside s) ≡ Some (subtask.Guest k) → subtask_handle (subtask.Guest k) (beside s) ≡ Some h
+      there i h k e = o.names.there i h k e
+
+      named : (sub : Subtask) (x : ℕ) → JoinNamed sub x s → JoinNamed sub x (beside s)
+      named sub x j = record { instance = j.instance; handle = j.handle; home = j.home; named = j.named }
+
+      joins : (sub : Subtask) (x : ℕ) → join_of sub (beside s) ≡ join.Set x → JoinNamed sub x (beside s)
+      joins (subtask.Guest k) x e = named (subtask.Guest k) x (o.joins_named.joins (subtask.Guest k) x e)
+      joins (subtask.Host i) x e = named (subtask.Host i) x (o.joins_named.joins (subtask.Host i) x e)
+
+pub trap_in_order : (c : Component) (p : Turn) (s : Core) → Sits c p s → Sits c p (set_trapped s)
+unfolding set_trapped
+trap_in_order c p s sits = record {
+  order = λ m. beside_in_order _ _ s.handle_limit s.capacity c p s m (sits.order m);
+  there = sits.there;
+  ops = sits.ops;
+  lacks = record { sets = sits.lacks.sets; places = sits.lacks.places; ops = sits.lacks.ops; works = sits.lacks.works };
+}

@@ -1,0 +1,4 @@
+pub mod ApartLemmas
+pub mod CallLemmas
+pub mod ReturnLemmas
+pub mod TaskLemmas

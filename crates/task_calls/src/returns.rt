@@ -1,0 +1,56 @@
+//! The return of a guest's task.
+ghost use Rattle.std.specs.Prelude.{◌≡◌, Some};
+ghost use Rattle.task_calls.specs.Calls.{Returns, answer_of, is_own_type};
+ghost use Rattle.task_machine.specs.declared.records.Turn.{Turn};
+ghost use Rattle.task_machine.specs.declared.op.Op.{Op};
+ghost use Rattle.task_machine.specs.declared.op.Operand.{Operand};
+ghost use Rattle.task_machine.specs.declared.op.TaskOp.{TaskOp};
+ghost use Rattle.task_rules.specs.Scripts.{op_of, value_of};
+ghost use Rattle.task_turns.specs.Covered.{IsCovered};
+ghost use Rattle.task_turns.specs.Turn.{Sits, running_of};
+
+use crate::error::TaskError;
+use task_machine::Component;
+use task_ops::{Came, ret, ret_bad};
+use task_words::Words;
+
+// A call that trapped is refused.
+fn answer(came: Came) -> Result<(), TaskError>
+    ensures { result ≡ answer_of came }
+{
+    match came {
+        Came::Traps(trap) => Err(TaskError::Trap(trap)),
+        _ => Ok(()),
+    }
+}
+
+/// `task.return`: the task of the current thread, which has this number, ends as returned with the
+/// value, and the thread goes on after its op. The type, the encoding and the memory are those of the
+/// lifted function where all three are 0. Refused with trap 1 exactly where the task has ended, and
+/// else with trap 3 exactly where they aren't 0; nothing is changed then. The store stays in order
+/// where the op at the thread's place is this return.
+pub fn task_return<W: Words>(
+    w: &mut W,
+    component: &Component,
+    number: u64,
+    ty: u32,
+    encoding: u32,
+    memory: u32,
+    value: u64,
+) -> Result<(), TaskError>
+    requires covered { IsCovered component.now }
+    requires order { Sits component.now (Turn.Run number) (W.view w.old).core }
+    requires runs { running_of (W.view w.old) ≡ Some number }
+    ensures order { (x : Operand) → op_of component.now number (W.view w.old).core ≡ Op.Task (TaskOp.Ret x) → value_of number (W.view w.old).core x ≡ value → Sits component.now (Turn.Run number) (W.view w.new).core }
+    ensures returns { Returns number value (is_own_type ty encoding memory) (W.view w.old) result (W.view w.new) }
+{
+    let _component = component;
+    w.none_is_zero();
+    let Some(thread) = w.current() else {
+        unreachable!()
+    };
+    if ty != 0 || encoding != 0 || memory != 0 {
+        return answer(ret_bad(w, thread));
+    }
+    answer(ret(w, thread, value))
+}

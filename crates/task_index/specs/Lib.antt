@@ -1,0 +1,5 @@
+pub mod Index
+pub mod Rows
+pub mod Counts
+pub mod Members
+pub mod Walks

@@ -1,0 +1,8 @@
+-- The access is to the store.
+use Rattle.task_loop.proofs.run.ask_main.Goals as goal
+
+pub step-requires-clause-order : goal.step-requires-clause-order
+step-requires-clause-order g c = rw c.new-access.ensures c.requires.order
+
+pub step-requires-clause-current : goal.step-requires-clause-current
+step-requires-clause-current g c = rw c.new-access.ensures c.requires.current

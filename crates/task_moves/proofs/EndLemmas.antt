@@ -1,0 +1,56 @@
+-- The end of a thread, step by step.
+use Rattle.std.proofs.Common.{ap, ap₂, arith, refl, subst, sym, ◌∙◌}
+use Rattle.std.specs.Prelude.{Bool, Option, false, true, ℕ, ◌<◌, ◌≡◌, ◌≢◌}
+use Rattle.task_table.specs.declared.id.TableId.{TableId}
+use Rattle.task_wait.specs.declared.keys.GuestTaskKey.{GuestTaskKey}
+use Rattle.task_wait.specs.declared.keys.ThreadKey.{ThreadKey}
+use Rattle.task_machine.proofs.MapLemmas.{change-field}
+use Rattle.task_machine.specs.Core.{Core}
+use Rattle.task_machine.specs.Moves.{call_settled, ended, exited_if, freed_thread_handle, interest_settled}
+use Rattle.task_machine.specs.Read.{instance_of, is_explicit, no_callee, task_of, thread_handle_of}
+use Rattle.task_machine.specs.Write.{on_call, remove_thread, set_exited}
+use Rattle.task_machine.specs.declared.component.Callee.{Callee}
+use Rattle.task_machine.specs.declared.records.Call.{Call}
+use Rattle.task_moves.proofs.TellLemmas.{map_or_is}
+use Rattle.task_words.specs.Apart.{IsApart}
+use Rattle.task_words.specs.StateView.{KeepsBut, StateView, call_of, lost_thread, on_core, thread_of}
+
+exited_instance : (b : Bool) (k n : ℕ) (s : Core) → instance_of n (exited_if b k s) ≡ instance_of n s
+unfolding set_exited on_call
+exited_instance true k n s = refl
+exited_instance false k n s = ap (λ (c : Callee). c.instance) (map_or_is (λ (c : Call). c.callee) no_callee _ _ (change-field (λ (c : Call). c.callee) k (λ c. record c { exited = true }) (λ c. refl) s.calls (task_of n s)))
+
+exited_handle : (b : Bool) (k n : ℕ) (s : Core) → thread_handle_of n (exited_if b k s) ≡ thread_handle_of n s
+unfolding set_exited on_call
+exited_handle true k n s = refl
+exited_handle false k n s = refl
+
+exited_apart : (b : Bool) (k n : ℕ) (s : Core) → IsApart n s → IsApart n (exited_if b k s)
+unfolding set_exited on_call
+exited_apart true k n s a = a
+exited_apart false k n s a = record { unqueued = record { high = a.unqueued.high; low = a.unqueued.low }; switch = a.switch; behind = a.behind }
+
+pub apart_after_exit : (n : TableId ThreadKey) (b : Bool) (k : ℕ) (s t : StateView) → t ≡ on_core (exited_if b k) s → IsApart (thread_of s n) s.core → IsApart (thread_of t n) t.core
+apart_after_exit n b k s t e a = subst (λ (v : StateView). IsApart (thread_of v n) v.core) (sym e) (exited_apart b k (thread_of s n) s.core a)
+
+positive : (n : ℕ) → 0 < n → n ≢ 0
+positive n live e = absurd (none (subst (λ k. 0 < k) e live))
+  where
+    none : ◌<◌ 0 0 → ⊥
+    none h = omega (arith, h)
+
+-- the call keeps its id where the thread is gone
+pub call_kept : (n : ℕ) (k : TableId GuestTaskKey) (t u : StateView) → 0 < call_of t k → KeepsBut (lost_thread n) t.tags u.tags → call_of u k ≡ call_of t k
+call_kept n k t u live keeps = keeps.calls k (positive (call_of t k) live)
+
+pub ended_is : (n : TableId ThreadKey) (k : TableId GuestTaskKey) (s t u v x : StateView) → call_of s k ≡ task_of (thread_of s n) s.core → t ≡ on_core (exited_if (is_explicit (thread_of s n) s.core) (call_of s k)) s → u.core ≡ remove_thread (thread_of t n) (freed_thread_handle (instance_of (thread_of t n) t.core) (thread_handle_of (thread_of t n) t.core) t.core) → call_of u k ≡ call_of t k → v ≡ on_core (interest_settled (call_of u k)) u → x.core ≡ call_settled (call_of v k) v.core → x.core ≡ ended (thread_of s n) s.core
+unfolding ended
+ended_is n k s t u v x task a b kept d e =
+    let N = thread_of s n in
+    let K = task_of N s.core in
+    let over = exited_if (is_explicit N s.core) K s.core in
+    let named : call_of t k ≡ K = ap (λ (y : StateView). call_of y k) a ∙ task in
+    let core_t : t.core ≡ over = ap (λ (y : StateView). y.core) a ∙ ap (λ j. exited_if (is_explicit N s.core) j s.core) task in
+    let gone = b ∙ (ap₂ (λ (j : ℕ) (c : Core). remove_thread j (freed_thread_handle (instance_of j c) (thread_handle_of j c) c)) (ap (λ (y : StateView). thread_of y n) a) core_t
+    ∙ ap₂ (λ (i : ℕ) (h : Option ℕ). remove_thread N (freed_thread_handle i h over)) (exited_instance (is_explicit N s.core) K N s.core) (exited_handle (is_explicit N s.core) K N s.core)) in
+    e ∙ (ap (λ (y : StateView). call_settled (call_of y k) y.core) d ∙ ap₂ (λ (j : ℕ) (c : Core). call_settled j (interest_settled j c)) (kept ∙ named) gone)

@@ -1,0 +1,7 @@
+pub mod UntouchedLemmas
+pub mod MoveLemmas
+pub mod FootLemmas
+pub mod StopLemmas
+pub mod PublishLemmas
+pub mod TellLemmas
+pub mod EndLemmas

@@ -1,0 +1,100 @@
+//! Put, Check and the other promotions.
+ghost use Rattle.std.specs.Prelude.{◌≡◌, ◌<◌};
+ghost use Rattle.task_machine.specs.Moves.{checked, displaced, passes_check, promoted, promoted_unless, put_high, put_low, put_switch};
+ghost use Rattle.task_words.specs.Apart.{IsSwitchUnqueued, IsUnqueued};
+ghost use Rattle.task_words.specs.Names.{why_in};
+ghost use Rattle.task_words.specs.StateView.{on_core, thread_of};
+
+use task_machine::Mark;
+use task_words::{PlaceId, ThreadId, WhyId, Words};
+
+/// A thread without an entry gets one at high.
+#[tactic(auto, unfolding(task_machine::specs::Moves::put_high))]
+pub fn put_high<W: Words>(w: &mut W, thread: ThreadId, why: WhyId)
+    requires live { 0 < thread_of (W.view w.old) thread }
+    requires unqueued { IsUnqueued (thread_of (W.view w.old) thread) (W.view w.old).core }
+    ensures { W.view w.new ≡ on_core (put_high (thread_of (W.view w.old) thread) (why_in (W.view w.old).tags why)) (W.view w.old) }
+{
+    let mark = Mark::High;
+    w.set_place(thread, PlaceId::Ready { mark, why });
+    w.push_high(thread);
+}
+
+/// A thread without an entry gets one at low.
+#[tactic(auto, unfolding(task_machine::specs::Moves::put_low))]
+pub fn put_low<W: Words>(w: &mut W, thread: ThreadId, why: WhyId)
+    requires live { 0 < thread_of (W.view w.old) thread }
+    requires unqueued { IsUnqueued (thread_of (W.view w.old) thread) (W.view w.old).core }
+    ensures { W.view w.new ≡ on_core (put_low (thread_of (W.view w.old) thread) (why_in (W.view w.old).tags why)) (W.view w.old) }
+{
+    let mark = Mark::Low;
+    w.set_place(thread, PlaceId::Ready { mark, why });
+    w.push_low(thread);
+}
+
+// What was at switch goes to the front of high.
+fn displace<W: Words>(w: &mut W)
+    requires { IsSwitchUnqueued (W.view w.old).core }
+    ensures { W.view w.new ≡ on_core (displaced (W.view w.old).core.queues.switch) (W.view w.old) }
+{
+    if let Some(thread) = w.switch() {
+        w.set_mark(thread, Mark::High);
+        w.push_high_first(thread);
+    }
+}
+
+/// A thread without an entry gets the one at switch.
+#[tactic(auto, unfolding(task_machine::specs::Moves::put_switch))]
+pub fn put_switch<W: Words>(w: &mut W, thread: ThreadId, why: WhyId)
+    requires live { 0 < thread_of (W.view w.old) thread }
+    requires switch { IsSwitchUnqueued (W.view w.old).core }
+    ensures { W.view w.new ≡ on_core (put_switch (thread_of (W.view w.old) thread) (why_in (W.view w.old).tags why)) (W.view w.old) }
+{
+    displace(w);
+    let mark = Mark::Switch;
+    w.set_place(thread, PlaceId::Ready { mark, why });
+    w.set_switch(Some(thread));
+}
+
+/// The entry of a thread moves to switch, where none stands.
+#[tactic(auto, using(crate::proofs::MoveLemmas::promoted_is))]
+pub fn promote<W: Words>(w: &mut W, thread: ThreadId)
+    requires { 0 < thread_of (W.view w.old) thread }
+    ensures { W.view w.new ≡ on_core (promoted (thread_of (W.view w.old) thread)) (W.view w.old) }
+{
+    w.unqueue(thread);
+    w.set_mark(thread, Mark::Switch);
+    w.set_switch(Some(thread));
+}
+
+/// The same, unless an entry stands at switch.
+#[tactic(auto, unfolding(task_machine::specs::Moves::promoted_unless))]
+pub fn promote_unless<W: Words>(w: &mut W, thread: ThreadId)
+    requires { 0 < thread_of (W.view w.old) thread }
+    ensures { W.view w.new ≡ on_core (promoted_unless (thread_of (W.view w.old) thread)) (W.view w.old) }
+{
+    if w.switch().is_none() {
+        promote(w, thread);
+    }
+}
+
+/// Whether a check of the instance passes.
+#[tactic(auto, unfolding(task_machine::specs::Moves::passes_check))]
+pub fn passes_check<W: Words>(w: &W, instance: u32) -> bool
+    ensures { result ≡ passes_check instance (W.view w.now).core }
+{
+    !w.may_not_suspend(instance) || w.switch().is_some() || w.first_entry(instance).is_some()
+}
+
+/// A check that passes: where the instance may not block, its first entry moves to switch.
+#[tactic(auto, unfolding(task_machine::specs::Moves::checked))]
+pub fn check<W: Words>(w: &mut W, instance: u32)
+    ensures { W.view w.new ≡ on_core (checked instance) (W.view w.old) }
+{
+    if !w.may_not_suspend(instance) || w.switch().is_some() {
+        return;
+    }
+    if let Some(thread) = w.first_entry(instance) {
+        promote(w, thread);
+    }
+}

@@ -1,0 +1,29 @@
+//! What the end of a thread settles.
+ghost use Rattle.std.specs.Prelude.{◌≡◌, ◌<◌};
+ghost use Rattle.task_machine.specs.Moves.{call_settled, interest_settled};
+ghost use Rattle.task_words.specs.StateView.{KeepsBut, call_of, lost_call, on_core};
+
+use task_words::{CallId, Words};
+
+/// A task that has exited and ended isn't interesting any more.
+#[tactic(auto, unfolding(task_machine::specs::Moves::interest_settled))]
+pub fn settle_interest<W: Words>(w: &mut W, call: CallId)
+    ensures { W.view w.new ≡ on_core (interest_settled (call_of (W.view w.old) call)) (W.view w.old) }
+{
+    if w.is_finished(call) {
+        w.set_uninteresting(call);
+    }
+}
+
+/// The call is deleted, if nothing keeps it.
+#[tactic(auto, using(crate::proofs::MoveLemmas::no_thread_left, crate::proofs::MoveLemmas::keeps_all), unfolding(task_machine::specs::Moves::call_settled))]
+pub fn settle_call<W: Words>(w: &mut W, call: CallId)
+    requires { 0 < call_of (W.view w.old) call }
+    ensures core { (W.view w.new).core ≡ call_settled (call_of (W.view w.old) call) (W.view w.old).core }
+    ensures current { (W.view w.new).current ≡ (W.view w.old).current }
+    ensures tags { KeepsBut (lost_call (call_of (W.view w.old) call)) (W.view w.old).tags (W.view w.new).tags }
+{
+    if w.is_deletable(call) {
+        w.delete_call(call);
+    }
+}

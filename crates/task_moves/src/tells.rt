@@ -1,0 +1,88 @@
+//! The end of a task, and what its caller is told.
+ghost use Rattle.std.specs.Prelude.{◌≡◌, ◌<◌, IfSome, option_map, true};
+ghost use Rattle.task_machine.specs.Read.{goal_of};
+ghost use Rattle.task_machine.specs.declared.records.Goal.TheVariants as goals;
+ghost use Rattle.task_moves.specs.Idle.{CanPublish, IsJoinThere, IsWaiting};
+ghost use Rattle.task_machine.specs.declared.records.Subtask.TheVariants as subtasks;
+ghost use Rattle.task_rules.specs.Ends.{cancelled, is_told, may_tell, result_given, returned, told};
+ghost use Rattle.task_words.specs.Names.{caller_in};
+ghost use Rattle.task_words.specs.StateView.{call_of, on_core, thread_of};
+
+use crate::publishes::{publish, publish_waiter};
+use task_machine::{CallEnd, Goal, Status};
+use task_words::{CallId, CallerId, SubtaskId, ThreadId, Words};
+
+// Whether the call's statuses are told to its caller.
+fn is_told<W: Words>(w: &W, call: CallId) -> bool
+    ensures { result ≡ is_told (call_of (W.view w.now) call) (W.view w.now).core }
+{
+    match w.caller(call) {
+        CallerId::Main => false,
+        CallerId::Thread(_) => !matches!(w.goal(call), Goal::Direct),
+    }
+}
+
+/// The waiter that is woken where a status of the call is told now.
+#[tactic(auto, unfolding(task_rules::specs::Ends::may_tell))]
+pub fn tell_waiter<W: Words>(w: &W, call: CallId) -> Option<ThreadId>
+    requires { IsJoinThere (subtasks.Guest (call_of (W.view w.now) call)) (W.view w.now).core }
+    ensures choice { may_tell (call_of (W.view w.now) call) (option_map (λ id. thread_of (W.view w.now) id) result) (W.view w.now).core ≡ true }
+    ensures live { IfSome result (λ id. 0 < thread_of (W.view w.now) id) }
+    ensures waits { IfSome result (λ id. IsWaiting (thread_of (W.view w.now) id) (W.view w.now).core) }
+{
+    if is_told(w, call) {
+        publish_waiter(w, SubtaskId::Guest(call))
+    } else {
+        None
+    }
+}
+
+/// A status of the call is told to its caller, unless main or a thread under it made the call.
+#[tactic(auto, unfolding(task_rules::specs::Ends::told))]
+pub fn tell<W: Words>(w: &mut W, call: CallId, status: Status, waiter: Option<ThreadId>)
+    requires { CanPublish (subtasks.Guest (call_of (W.view w.old) call)) waiter (W.view w.old) }
+    ensures { W.view w.new ≡ on_core (told (call_of (W.view w.old) call) status (option_map (λ id. thread_of (W.view w.old) id) waiter)) (W.view w.old) }
+{
+    if is_told(w, call) {
+        publish(w, SubtaskId::Guest(call), status, waiter);
+    }
+}
+
+// The result goes where the call says.
+fn give_result<W: Words>(w: &mut W, goal: Goal, caller: CallerId, call: CallId, value: u64)
+    requires { goal ≡ goals.Main → goal_of (call_of (W.view w.old) call) (W.view w.old).core ≡ goals.Main }
+    ensures { W.view w.new ≡ on_core (result_given goal (caller_in (W.view w.old).tags caller) (call_of (W.view w.old) call) value) (W.view w.old) }
+{
+    match (goal, caller) {
+        (Goal::Main, _) => w.give_result(call, value),
+        (Goal::Register { register }, CallerId::Thread(thread)) => {
+            w.set_register(thread, register, value)
+        }
+        (Goal::Answer, _) => w.set_result(call, Some(value)),
+        _ => {}
+    }
+}
+
+/// The task ends as Returned with the value.
+#[tactic(auto, unfolding(task_rules::specs::Ends::returned))]
+pub fn return_value<W: Words>(w: &mut W, call: CallId, value: u64, waiter: Option<ThreadId>)
+    requires { CanPublish (subtasks.Guest (call_of (W.view w.old) call)) waiter (W.view w.old) }
+    ensures { W.view w.new ≡ on_core (returned (call_of (W.view w.old) call) value (option_map (λ id. thread_of (W.view w.old) id) waiter)) (W.view w.old) }
+{
+    w.none_is_zero();
+    let goal = w.goal(call);
+    let caller = w.caller(call);
+    w.set_end(call, CallEnd::Returned);
+    give_result(w, goal, caller, call, value);
+    tell(w, call, Status::Returned, waiter);
+}
+
+/// The task ends as ReturnCancelled.
+#[tactic(auto, unfolding(task_rules::specs::Ends::cancelled))]
+pub fn cancel_task<W: Words>(w: &mut W, call: CallId, waiter: Option<ThreadId>)
+    requires { CanPublish (subtasks.Guest (call_of (W.view w.old) call)) waiter (W.view w.old) }
+    ensures { W.view w.new ≡ on_core (cancelled (call_of (W.view w.old) call) (option_map (λ id. thread_of (W.view w.old) id) waiter)) (W.view w.old) }
+{
+    w.set_end(call, CallEnd::ReturnCancelled);
+    tell(w, call, Status::ReturnCancelled, waiter);
+}

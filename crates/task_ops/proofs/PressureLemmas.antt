@@ -1,0 +1,67 @@
+-- Backpressure, by its count.
+use Rattle.std.proofs.Common.{ap, ap₂, refl, subst, sym, ◌∙◌}
+use Rattle.std.specs.Prelude.{IsPermutation, List, [], suc, zero, ℕ, ◌+◌, ◌-◌, ◌<◌, ◌≡◌}
+use Rattle.task_table.specs.declared.id.TableId.{TableId}
+use Rattle.task_wait.specs.declared.keys.ThreadKey.{ThreadKey}
+use Rattle.task_machine.specs.Core.{Core}
+use Rattle.task_machine.specs.Moves.{released}
+use Rattle.task_machine.specs.Read.{admitted_held, backpressure_of, instance_of, position_of}
+use Rattle.task_machine.specs.Write.{set_backpressure}
+use Rattle.task_machine.specs.declared.label.Label.TheVariants as label
+use Rattle.task_machine.specs.declared.label.TaskLabel.TheVariants as task_label
+use Rattle.task_machine.specs.declared.records.Place.TheVariants as place
+use Rattle.task_ops.specs.Came.{Meets}
+use Rattle.task_ops.specs.declared.came.Came.TheVariants as came
+use Rattle.task_ops.proofs.PositionLemmas.{position_pressure, position_released}
+use Rattle.task_ops.proofs.RunLemmas.{stands_on}
+use Rattle.task_moves.proofs.UntouchedLemmas.{on_instance_untouched}
+use Rattle.task_ops.proofs.BesideLemmas.{all_of, quiet_stand}
+use Rattle.task_ops.specs.Running.{Stand}
+use Rattle.task_rules.specs.Data.{advanced}
+use Rattle.task_rules.specs.Places.{Placed}
+use Rattle.task_rules.specs.Task.{dec_from, dec_lowers, dec_opens, dec_row, held_by_counter}
+use Rattle.task_words.specs.StateView.{StateView, on_core, thread_of}
+
+-- ---- The counter falls
+
+pub lowered_places : (n : TableId ThreadKey) (i k : ℕ) (s t : StateView) → Stand (thread_of s n) place.Running [] s.core → t ≡ on_core (set_backpressure i k) s → Placed t.core
+unfolding set_backpressure
+lowered_places n i k s t st e = all_of (thread_of t n) place.Running t.core refl (stands_on n place.Running (set_backpressure i k) s t e (quiet_stand (thread_of s n) place.Running [] s.core _ (on_instance_untouched i (λ r. record r { backpressure = k }) s.core) st))
+
+-- held threads of the instance were put at high
+abbrev Opened : ℕ → StateView → StateView → Type 0
+Opened i s t = (order : List ℕ) × (IsPermutation (admitted_held i s.core) order × (t ≡ on_core (released order) s))
+
+pub opened_position : (n : TableId ThreadKey) (i k b : ℕ) (s t u : StateView) → position_of (thread_of s n) s.core + 1 < b → t ≡ on_core (set_backpressure i k) s → Opened i t u → position_of (thread_of u n) u.core + 1 < b
+opened_position n i k b s t u small e o =
+    let kept = ap (λ (v : StateView). position_of (thread_of v n) v.core) o.1.1 ∙ (position_released (thread_of t n) o.0 t.core ∙ (ap (λ (v : StateView). position_of (thread_of v n) v.core) e ∙ position_pressure (thread_of s n) i k s.core)) in
+    subst (λ (p : ℕ). p + 1 < b) (sym kept) small
+
+same_came : (m n : ℕ) → m ≡ n → came.Goes (label.Task (task_label.BpDec m)) m ≡ came.Goes (label.Task (task_label.BpDec n)) n
+same_came m n e = ap (λ (k : ℕ). came.Goes (label.Task (task_label.BpDec k)) k) e
+
+opening_is : (n m : ℕ) (order : List ℕ) (s : Core) → backpressure_of (instance_of n s) s ≡ 1 → IsPermutation (held_by_counter (instance_of n s) s) order → m ≡ n → Meets (dec_row n s) s (came.Goes (label.Task (task_label.BpDec m)) m) (dec_opens n order s)
+opening_is n m order s one held is = subst (λ (b : ℕ). Meets (dec_from n s b) s (came.Goes (label.Task (task_label.BpDec m)) m) (dec_opens n order s)) (sym one) (order, (held, (same_came m n is, refl)))
+
+pub opening_meets : (n : TableId ThreadKey) (i c k m : ℕ) (s t u v : StateView) → i ≡ instance_of (thread_of s n) s.core → c ≡ backpressure_of i s.core → c ≡ 1 → k ≡ 0 → m ≡ thread_of s n → t ≡ on_core (set_backpressure i k) s → Opened i t u → v ≡ on_core (advanced (thread_of u n)) u → Meets (dec_row (thread_of s n) s.core) s.core (came.Goes (label.Task (task_label.BpDec m)) m) v.core
+unfolding dec_opens held_by_counter
+opening_meets n i c k m s t u v at count one none is e o d =
+    let N = thread_of s n in
+    let I = instance_of N s.core in
+    let held = ap (λ (w : StateView). admitted_held i w.core) e ∙ ap₂ (λ (j b : ℕ). admitted_held j (set_backpressure j b s.core)) at none in
+    let core = ap (λ (w : StateView). w.core) d ∙ (ap (λ (w : StateView). advanced (thread_of w n) w.core) o.1.1 ∙ (ap (λ (w : StateView). advanced (thread_of w n) (released o.0 w.core)) e ∙ ap₂ (λ (j b : ℕ). advanced N (released o.0 (set_backpressure j b s.core))) at none)) in
+    subst (λ (x : Core). Meets (dec_row N s.core) s.core (came.Goes (label.Task (task_label.BpDec m)) m) x) (sym core)
+    (opening_is N m o.0 s.core (ap (λ (j : ℕ). backpressure_of j s.core) (sym at) ∙ (sym count ∙ one)) (subst (λ (l : List ℕ). IsPermutation l o.0) held o.1.0) is)
+
+lowering_is : (n m c : ℕ) (s : Core) → backpressure_of (instance_of n s) s ≡ suc (suc c) → m ≡ n → Meets (dec_row n s) s (came.Goes (label.Task (task_label.BpDec m)) m) (dec_lowers n s)
+lowering_is n m c s more is = subst (λ (b : ℕ). Meets (dec_from n s b) s (came.Goes (label.Task (task_label.BpDec m)) m) (dec_lowers n s)) (sym more) (same_came m n is, refl)
+
+pub lowering_meets : (n : TableId ThreadKey) (i c m : ℕ) (s t v : StateView) → i ≡ instance_of (thread_of s n) s.core → c ≡ backpressure_of i s.core → (c ≡ 0 → ⊥) → (c ≡ 1 → ⊥) → m ≡ thread_of s n → t ≡ on_core (set_backpressure i (c - 1)) s → v ≡ on_core (advanced (thread_of t n)) t → Meets (dec_row (thread_of s n) s.core) s.core (came.Goes (label.Task (task_label.BpDec m)) m) v.core
+unfolding dec_lowers
+lowering_meets n i zero m s t v at count some more is e d = absurd (some refl)
+lowering_meets n i (suc zero) m s t v at count some more is e d = absurd (more refl)
+lowering_meets n i (suc (suc c)) m s t v at count some more is e d =
+    let N = thread_of s n in
+    let here : backpressure_of (instance_of N s.core) s.core ≡ suc (suc c) = ap (λ (j : ℕ). backpressure_of j s.core) (sym at) ∙ sym count in
+    let core = ap (λ (w : StateView). w.core) d ∙ (ap (λ (w : StateView). advanced (thread_of w n) w.core) e ∙ ap₂ (λ (j b : ℕ). advanced N (set_backpressure j (b - 1) s.core)) at (sym here)) in
+    subst (λ (x : Core). Meets (dec_row N s.core) s.core (came.Goes (label.Task (task_label.BpDec m)) m) x) (sym core) (lowering_is N m c s.core here is)

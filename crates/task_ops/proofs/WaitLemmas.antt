@@ -1,0 +1,92 @@
+-- Waits that go on.
+use Rattle.std.proofs.Common.{T, ap, refl, subst, sym, ◌∙◌}
+use Rattle.std.specs.Prelude.{Bool, None, Option, Some, false, if◌then◌else◌, true, unwrap_or, ℕ, ◌+◌, ◌<◌, ◌≡◌}
+use Rattle.task_table.specs.declared.id.TableId.{TableId}
+use Rattle.task_wait.specs.declared.keys.GuestTaskKey.{GuestTaskKey}
+use Rattle.task_wait.specs.declared.keys.ThreadKey.{ThreadKey}
+use Rattle.task_machine.proofs.MapLemmas.{change-field}
+use Rattle.task_machine.specs.Core.{Core}
+use Rattle.task_machine.specs.Labels.{choice_of, wait_label}
+use Rattle.task_machine.specs.Moves as moves
+use Rattle.task_machine.specs.Moves.{handed_on, hands_on, is_callback_waiter, may_hand_on, put_high, wake, waken_by}
+use Rattle.task_machine.specs.Read.{position_of, task_of}
+use Rattle.task_machine.specs.Write.{on_thread, push_high, set_place}
+use Rattle.task_machine.specs.declared.label.Label.{Label}
+use Rattle.task_machine.specs.declared.records.Delivery.TheVariants as delivery
+use Rattle.task_machine.specs.declared.records.HowFar.TheVariants as how_far
+use Rattle.task_machine.specs.declared.records.Place.TheVariants as place
+use Rattle.task_machine.specs.declared.records.Thread.{Thread}
+use Rattle.task_machine.specs.declared.records.Why.{Why}
+use Rattle.task_machine.specs.declared.records.Why.TheVariants as why
+use Rattle.task_machine.specs.declared.words.Given.{Given}
+use Rattle.task_machine.specs.declared.words.Mark.TheVariants as mark
+use Rattle.task_moves.proofs.TellLemmas.{map_or_is}
+use Rattle.task_ops.proofs.PositionLemmas.{position_wake, still_below}
+use Rattle.task_ops.specs.Came.{Meets}
+use Rattle.task_ops.specs.Gifts.{gift_in, handle_in, member_in}
+use Rattle.task_ops.specs.declared.came.Came.TheVariants as came
+use Rattle.task_ops.specs.declared.gifts.Gift.{Gift}
+use Rattle.task_ops.specs.declared.gifts.Gift.TheVariants as gifts
+use Rattle.task_rules.specs.Progress.{Goes, Progress, may, or_never}
+use Rattle.task_rules.specs.Sets.{received, received_woken, wait_goes_on, wait_row}
+use Rattle.task_words.specs.StateView.{StateView, Tags, call_of, on_core, thread_of}
+
+-- ---- A wake leaves the call and the position of each thread
+
+task_high : (n m : ℕ) (w : Why) (s : Core) → task_of n (put_high m w s) ≡ task_of n s
+unfolding put_high push_high set_place on_thread
+task_high n m w s = map_or_is (λ (t : Thread). t.call) 0 _ _ (change-field (λ (t : Thread). t.call) m (λ t. record t { place = place.Ready mark.High w }) (λ t. refl) s.threads n)
+
+task_waken : (n : ℕ) (b : Bool) (x m : ℕ) (s : Core) → task_of n (waken_by b x m s) ≡ task_of n s
+task_waken n true x m s = task_high n m (why.Delivery (delivery.Set x)) s
+task_waken n false x m s = task_high n m why.Resumption s
+
+task_wake : (n x : ℕ) (w : Option ℕ) (s : Core) → task_of n (wake x w s) ≡ task_of n s
+unfolding wake
+task_wake n x None s = refl
+task_wake n x (Some m) s = task_waken n (is_callback_waiter m s) x m s
+
+task_handed : (n x : ℕ) (g : moves.Gift) (w : Option ℕ) (s : Core) → task_of n (handed_on x g w s) ≡ task_of n s
+unfolding handed_on
+task_handed n x g w s = go (hands_on x g s)
+  where
+    go : (b : Bool) → task_of n (if b then wake x w s else s) ≡ task_of n s
+    go true = task_wake n x w s
+    go false = refl
+
+position_handed : (n x : ℕ) (g : moves.Gift) (w : Option ℕ) (s : Core) → position_of n (handed_on x g w s) ≡ position_of n s
+unfolding handed_on
+position_handed n x g w s = go (hands_on x g s)
+  where
+    go : (b : Bool) → position_of n (if b then wake x w s else s) ≡ position_of n s
+    go true = position_wake n x w s
+    go false = refl
+
+module _ (n : TableId ThreadKey) (x : ℕ) (g : moves.Gift) (w : Option ℕ) (s t : StateView) (e : t ≡ on_core (handed_on x g w) s) where
+  pub handed_task : (k : TableId GuestTaskKey) → call_of s k ≡ task_of (thread_of s n) s.core → call_of t k ≡ task_of (thread_of t n) t.core
+  handed_task k at = ap (λ (v : StateView). call_of v k) e ∙ (at ∙ (sym (task_handed (thread_of s n) x g w s.core) ∙ sym (ap (λ (v : StateView). task_of (thread_of v n) v.core) e)))
+
+  pub handed_below : (b : ℕ) → position_of (thread_of s n) s.core + 1 < b → position_of (thread_of t n) t.core + 1 < b
+  handed_below b small = still_below n b (handed_on x g w) s t e (position_handed (thread_of s n) x g w s.core) small
+
+-- ---- The row where another waiter is woken
+
+goes_on_is : (n x r h w : ℕ) (tags : Tags) (g : Gift) (v : Given) (s : Core) → moves.gift false (task_of n s) x (member_in tags g) s ≡ Some (gift_in tags g) → v ≡ moves.given_for (gift_in tags g) (unwrap_or (handle_in g) 0) s → may_hand_on x (gift_in tags g) (Some w) s ≡ true → wait_row n r h (choice_of (wait_label n v (Some w))) s (how_far.Waits x) ≡ Goes (wait_label n v (Some w)) (received_woken n x r (Some w) (gift_in tags g) v s) n
+unfolding may_hand_on
+goes_on_is n x r h w tags (gifts.Own e) v s given is hands =
+    ap (λ o. or_never o (wait_goes_on n x r (choice_of (wait_label n v (Some w))) s)) given
+    ∙ (ap (λ b. may b (Goes (wait_label n (moves.given_for (moves.OwnGift e) 0 s) (Some w)) (received_woken n x r (Some w) (moves.OwnGift e) (moves.given_for (moves.OwnGift e) 0 s) s) n)) hands
+    ∙ ap (λ (y : Given). Goes (wait_label n y (Some w)) (received_woken n x r (Some w) (moves.OwnGift e) y s) n) (sym is))
+goes_on_is n x r h w tags (gifts.Member sub k) v s given is hands = absurd (subst T (sym hands) tt)
+goes_on_is n x r h w tags gifts.Nothing v s given is hands = absurd (subst T (sym hands) tt)
+
+pub goes_on_meets : (n : TableId ThreadKey) (x r k m w o : ℕ) (l : Label) (g : Gift) (v : Given) (s t u : StateView) → l ≡ wait_label m v (Some o) → k ≡ task_of (thread_of s n) s.core → m ≡ thread_of s n → o ≡ w → moves.gift false k x (member_in s.tags g) s.core ≡ Some (gift_in s.tags g) → v ≡ moves.given_for (gift_in s.tags g) (unwrap_or (handle_in g) 0) s.core → may_hand_on x (gift_in s.tags g) (Some w) s.core ≡ true → t ≡ on_core (handed_on x (gift_in s.tags g) (Some w)) s → u ≡ on_core (received (thread_of t n) r (gift_in t.tags g) v) t → (h : ℕ) → Meets (wait_row (thread_of s n) r h (choice_of l) s.core (how_far.Waits x)) s.core (came.Goes l m) u.core
+unfolding received_woken
+goes_on_meets n x r k m w o l g v s t u shown task number woken given is hands e d h =
+    let N = thread_of s n in
+    let row = goes_on_is N x r h w s.tags g v s.core (ap (λ (j : ℕ). moves.gift false j x (member_in s.tags g) s.core) (sym task) ∙ given) is hands in
+    let core = ap (λ (y : StateView). y.core) d ∙ ap (λ (y : StateView). received (thread_of y n) r (gift_in y.tags g) v y.core) e in
+    subst (λ (y : Label). Meets (wait_row N r h (choice_of y) s.core (how_far.Waits x)) s.core (came.Goes y m) u.core) (sym shown)
+    (subst (λ (j : ℕ). Meets (wait_row N r h (choice_of (wait_label j v (Some o))) s.core (how_far.Waits x)) s.core (came.Goes (wait_label j v (Some o)) j) u.core) (sym number)
+    (subst (λ (j : ℕ). Meets (wait_row N r h (choice_of (wait_label N v (Some j))) s.core (how_far.Waits x)) s.core (came.Goes (wait_label N v (Some j)) N) u.core) (sym woken)
+    (subst (λ (p : Progress). Meets p s.core (came.Goes (wait_label N v (Some w)) N) u.core) (sym row) (refl, core))))

@@ -1,0 +1,14 @@
+use Rattle.std.proofs.Common.{ap, ◌∙◌}
+use Rattle.task_ops.proofs.CodeLemmas.{code_yields_meets, owned_unqueued}
+use Rattle.task_ops.proofs.codes.code_yields.Goals as goal
+use Rattle.task_rules.specs.Ends.{own_or_none}
+
+pub put_low-requires-clause-unqueued : goal.put_low-requires-clause-unqueued
+put_low-requires-clause-unqueued g c =
+    let v = g.W.View.view in
+    owned_unqueued c.args.thread _ _ (v c.args.w.now) (v c.stop_reopened.new.w) _ c.requires.running c.stop_reopened.ensures c.set_own_event.ensures
+
+pub returns-clause-meets : goal.returns-clause-meets
+returns-clause-meets g c =
+    let v = g.W.View.view in
+    code_yields_meets c.args.thread c.task_of-call.result _ c.args.label (v c.args.w.now) (v c.stop_reopened.new.w) (v c.set_own_event.new.self) (v c.put_low.new.w) c.task_of-call.ensures.is (c.own_or_none-event.ensures ∙ ap own_or_none c.own_event.ensures) c.stop_reopened.ensures c.set_own_event.ensures c.put_low.ensures

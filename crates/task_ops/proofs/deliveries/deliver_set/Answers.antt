@@ -1,0 +1,16 @@
+use Rattle.std.proofs.Common.{ap, ◌∙◌}
+use Rattle.task_ops.proofs.DeliveryLemmas.{set_meets}
+use Rattle.task_ops.proofs.WaitLemmas.{handed_task}
+use Rattle.task_words.specs.StateView.{StateView, thread_of}
+use Rattle.task_ops.proofs.deliveries.deliver_set.Goals as goal
+
+pub activate-requires : goal.activate-requires
+activate-requires g c = handed_task c.args.thread _ _ _ (g.W.View.view c.args.w.now) _ c.hand_on-waiter.ensures.new c.task_of-call.result c.task_of-call.ensures.is
+
+pub returns-in-Some-clause-meets : goal.returns-in-Some-clause-meets
+returns-in-Some-clause-meets g c =
+    let v = g.W.View.view in
+    let s = v c.args.w.now in
+    let named = λ (y : StateView). thread_of y c.in-Some.woken in
+    let woken = c.number.ensures ∙ (ap named c.activate.ensures ∙ ap named c.in-Some.ensures.new) in
+    set_meets c.args.thread c.args.mark _ _ _ _ _ _ c.gift_for-gift.result c.given-given.result s (v c.hand_on-waiter.new.w) _ c.event_label-in-Some.ensures c.task_of-call.ensures.is c.number-number.ensures woken c.gift_for-gift.ensures.is c.given-given.ensures.is c.in-Some.ensures.choice c.in-Some.ensures.new c.activate.ensures

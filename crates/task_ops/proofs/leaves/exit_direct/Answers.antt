@@ -1,0 +1,16 @@
+use Rattle.task_machine.specs.declared.records.Place.TheVariants as place
+use Rattle.task_ops.proofs.LeaveLemmas.{check_under, restored_runs, restored_under}
+use Rattle.task_ops.proofs.RunLemmas.{checked_stands}
+use Rattle.task_ops.proofs.leaves.exit_direct.Goals as goal
+
+pub leave_to-requires-clause-running : goal.leave_to-requires-clause-running
+leave_to-requires-clause-running g c = restored_runs c.args.thread (g.W.View.view c.args.w.now) _ c.requires.running c.restore.ensures
+
+pub leave_to-requires-clause-under : goal.leave_to-requires-clause-under
+leave_to-requires-clause-under g c = restored_under c.args.thread c.in-Some.below (g.W.View.view c.args.w.now) _ c.restore.ensures c.in-Some.ensures.is
+
+pub leave_to-requires-2-clause-running : goal.leave_to-requires-2-clause-running
+leave_to-requires-2-clause-running g c = checked_stands c.args.thread place.Running _ (g.W.View.view c.args.w.now) _ c.requires.running c.check.ensures
+
+pub leave_to-requires-2-clause-under : goal.leave_to-requires-2-clause-under
+leave_to-requires-2-clause-under g c = check_under c.args.thread c.in-Some.below _ (g.W.View.view c.args.w.now) _ c.requires.running c.check.ensures c.in-Some.ensures.is

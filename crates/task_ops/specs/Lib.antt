@@ -1,0 +1,9 @@
+pub mod Came
+pub mod Steps
+pub mod Running
+pub mod Halting
+pub mod Reopens
+pub mod Acted
+pub mod Stays
+pub mod Gifts
+pub mod Polled

@@ -1,0 +1,111 @@
+//! The ops on registers and words.
+ghost use Rattle.std.specs.Prelude.{◌≡◌, ◌+◌, ◌<◌, ◌^◌, length, min};
+ghost use Rattle.task_machine.specs.Read.{position_of};
+ghost use Rattle.task_machine.specs.declared.component.Component.{Component};
+ghost use Rattle.task_machine.specs.declared.op.DataOp.TheVariants as data_ops;
+ghost use Rattle.task_ops.specs.Came.{Meets};
+ghost use Rattle.task_rules.specs.Data.{data_row, moved_to};
+ghost use Rattle.task_rules.specs.Scripts.{script_of, value_of};
+ghost use Rattle.task_words.specs.StateView.{on_core, thread_of};
+
+use crate::came::Came;
+use task_machine::{DataLabel, DataOp, Label, Operand};
+use task_words::{ThreadId, Words};
+
+/// An operand's value for the thread.
+pub fn value_of<W: Words>(w: &W, thread: ThreadId, operand: Operand) -> u64
+    ensures { result ≡ value_of (thread_of (W.view w.now) thread) (W.view w.now).core operand }
+{
+    match operand {
+        Operand::Number(value) => value,
+        Operand::Register(register) => w.register(thread, register),
+    }
+}
+
+// The place after `skip_eq`: so many ops past the next one where the operands are equal, at most the script's end.
+fn skip<W: Words>(w: &mut W, thread: ThreadId, ops: u32, end: u32)
+    requires { position_of (thread_of (W.view w.old) thread) (W.view w.old).core < end }
+    ensures { W.view w.new ≡ on_core (moved_to (thread_of (W.view w.old) thread) (min (position_of (thread_of (W.view w.old) thread) (W.view w.old).core + 1 + ops) end)) (W.view w.old) }
+{
+    let place = u64::from(w.position(thread)) + 1 + u64::from(ops);
+    w.move_to(thread, place.min(u64::from(end)) as u32);
+}
+
+// `skip_eq X Y N`
+#[tactic(auto, unfolding(task_rules::specs::Data::skipped))]
+fn skip_equal<W: Words>(
+    w: &mut W,
+    thread: ThreadId,
+    left: Operand,
+    right: Operand,
+    ops: u32,
+    end: u32,
+) -> Came
+    requires { position_of (thread_of (W.view w.old) thread) (W.view w.old).core < end }
+    ensures meets { (c : Component) → length (script_of c (thread_of (W.view w.old) thread) (W.view w.old).core) ≡ end → Meets (data_row c (thread_of (W.view w.old) thread) (W.view w.old).core (data_ops.SkipEq left right ops)) (W.view w.old).core result (W.view w.new).core }
+    ensures tags { (W.view w.new).tags ≡ (W.view w.old).tags }
+    ensures current { (W.view w.new).current ≡ (W.view w.old).current }
+{
+    let number = w.number(thread);
+    if value_of(w, thread, left) == value_of(w, thread, right) {
+        skip(w, thread, ops, end);
+    } else {
+        w.advance(thread);
+    }
+    Came::Goes(Label::Data(DataLabel::SkipEq(number)), number)
+}
+
+// `store W X`
+#[tactic(auto, using(crate::proofs::PositionLemmas::position_word), unfolding(task_rules::specs::Data::stored))]
+fn store<W: Words>(w: &mut W, thread: ThreadId, word: u8, value: Operand, end: u32) -> Came
+    requires { position_of (thread_of (W.view w.old) thread) (W.view w.old).core < end }
+    ensures meets { (c : Component) → length (script_of c (thread_of (W.view w.old) thread) (W.view w.old).core) ≡ end → Meets (data_row c (thread_of (W.view w.old) thread) (W.view w.old).core (data_ops.Store word value)) (W.view w.old).core result (W.view w.new).core }
+    ensures tags { (W.view w.new).tags ≡ (W.view w.old).tags }
+    ensures current { (W.view w.new).current ≡ (W.view w.old).current }
+{
+    let number = w.number(thread);
+    let answer = value_of(w, thread, value);
+    w.set_word(w.instance_of(thread), word, answer);
+    w.advance(thread);
+    Came::Goes(Label::Data(DataLabel::Store(number, answer)), number)
+}
+
+/// An op on registers and words, of a script that ends at `end`.
+#[tactic(auto, using(crate::proofs::PositionLemmas::position_word))]
+pub fn compute<W: Words>(w: &mut W, thread: ThreadId, op: DataOp, end: u32) -> Came
+    requires { position_of (thread_of (W.view w.old) thread) (W.view w.old).core < end }
+    ensures meets { (c : Component) → length (script_of c (thread_of (W.view w.old) thread) (W.view w.old).core) ≡ end → Meets (data_row c (thread_of (W.view w.old) thread) (W.view w.old).core op) (W.view w.old).core result (W.view w.new).core }
+    ensures tags { (W.view w.new).tags ≡ (W.view w.old).tags }
+    ensures current { (W.view w.new).current ≡ (W.view w.old).current }
+{
+    let number = w.number(thread);
+    let label = match op {
+        DataOp::Set { to, value } => {
+            let answer = value_of(w, thread, value);
+            w.assign(thread, to, answer);
+            DataLabel::Set(number, answer)
+        }
+        DataOp::Add { to, value } => {
+            let answer = w
+                .register(thread, to)
+                .wrapping_add(value_of(w, thread, value));
+            w.assign(thread, to, answer);
+            DataLabel::Add(number, answer)
+        }
+        DataOp::Handle { to, value } => {
+            let answer = value_of(w, thread, value) / 16;
+            w.assign(thread, to, answer);
+            DataLabel::Handle(number, answer)
+        }
+        DataOp::Load { to, word } => {
+            let answer = w.word(w.instance_of(thread), word);
+            w.assign(thread, to, answer);
+            DataLabel::Load(number, answer)
+        }
+        DataOp::Store { word, value } => return store(w, thread, word, value, end),
+        DataOp::SkipEq { left, right, ops } => {
+            return skip_equal(w, thread, left, right, ops, end);
+        }
+    };
+    Came::Goes(Label::Data(label), number)
+}

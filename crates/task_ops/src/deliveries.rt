@@ -1,0 +1,138 @@
+//! The taking of deliveries and of resumptions.
+ghost use Rattle.std.specs.Prelude.{◌≡◌, ◌<◌, None};
+ghost use Rattle.task_machine.specs.Labels.{choice_of, event_label, held_label, take_label};
+ghost use Rattle.task_machine.specs.Moves.{own_gift_only, why_of};
+ghost use Rattle.task_machine.specs.Read.{instance_of, task_of};
+ghost use Rattle.task_machine.specs.declared.records.Delivery.TheVariants as deliveries;
+ghost use Rattle.task_ops.specs.Came.{Meets};
+ghost use Rattle.task_ops.specs.Gifts.{MembersNamed, gift_in};
+ghost use Rattle.task_ops.specs.Running.{IsTaken};
+ghost use Rattle.task_ops.specs.Steps.{label_of};
+ghost use Rattle.task_rules.specs.Takes.{activated, delivered, own_delivered, running, take_holds, wait_again};
+ghost use Rattle.task_words.specs.Apart.{AreWaitersUnqueued};
+ghost use Rattle.task_words.specs.StateView.{call_of, on_core, set_of, thread_of};
+
+use crate::came::Came;
+use crate::gifts::{Gift, gift_for, given, own_gift_only, take, write_given};
+use crate::waits::{hand_on, own_given};
+use task_machine::{Given, Label, Mark, Script, TakeLabel};
+use task_moves::{foot_of, stop};
+use task_words::{CallId, PlaceId, SetId, ThreadId, Words};
+
+// The thread is held with its entry, and its strand stops.
+fn hold<W: Words>(w: &mut W, thread: ThreadId)
+    requires live { 0 < thread_of (W.view w.old) thread }
+    requires taken { IsTaken (thread_of (W.view w.old) thread) (why_of (thread_of (W.view w.old) thread) (W.view w.old).core) (W.view w.old).core }
+    ensures { W.view w.new ≡ on_core (take_holds (thread_of (W.view w.old) thread) (why_of (thread_of (W.view w.old) thread) (W.view w.old).core)) (W.view w.old) }
+{
+    let foot = foot_of(w, thread);
+    stop(w, foot);
+    w.hold(thread);
+}
+
+// What the gift hands out is in r0, r1 and r2, and the react script runs.
+#[tactic(auto, unfolding(task_rules::specs::Takes::activated))]
+fn activate<W: Words>(w: &mut W, thread: ThreadId, call: CallId, gift: Gift, given: Given)
+    requires { call_of (W.view w.old) call ≡ task_of (thread_of (W.view w.old) thread) (W.view w.old).core }
+    ensures { W.view w.new ≡ on_core (activated (thread_of (W.view w.old) thread) (gift_in (W.view w.old).tags gift) given) (W.view w.old) }
+{
+    let instance = w.instance_of(thread);
+    take(w, gift, call);
+    write_given(w, thread, 0, given);
+    w.set_do_not_enter(instance, true);
+    w.set_script(thread, Script::React);
+    w.move_to(thread, 0);
+    w.set_place(thread, PlaceId::Running);
+}
+
+// What an activation shows.
+fn event_label(mark: Mark, thread: u64, given: Given, woken: Option<u64>) -> Label
+    ensures { result ≡ event_label mark thread given woken }
+{
+    match woken {
+        None => Label::Take(TakeLabel::Event(mark, given, thread)),
+        Some(woken) => Label::Take(TakeLabel::EventWakes(mark, own_given(given), thread, woken)),
+    }
+}
+
+/// A delivery of a yield or of a cancel, which is admitted.
+pub fn deliver_own<W: Words>(w: &mut W, mark: Mark, thread: ThreadId) -> Came
+    ensures meets { Meets (own_delivered mark (thread_of (W.view w.old) thread) (W.view w.old).core (own_gift_only (task_of (thread_of (W.view w.old) thread) (W.view w.old).core) (W.view w.old).core)) (W.view w.old).core result (W.view w.new).core }
+    ensures tags { (W.view w.new).tags ≡ (W.view w.old).tags }
+    ensures current { (W.view w.new).current ≡ (W.view w.old).current }
+{
+    let number = w.number(thread);
+    let call = w.task_of(thread);
+    let gift = own_gift_only(w, call);
+    let given = given(w, gift);
+    activate(w, thread, call, gift, given);
+    Came::Goes(event_label(mark, number, given, None), number)
+}
+
+/// A resumption, or the start of an explicit thread: the thread goes on.
+#[tactic(auto, unfolding(task_rules::specs::Takes::running))]
+pub fn resume<W: Words>(w: &mut W, mark: Mark, thread: ThreadId) -> Came
+    ensures label { result ≡ Came.Goes (take_label mark (thread_of (W.view w.old) thread) None) (thread_of (W.view w.old) thread) }
+    ensures new { W.view w.new ≡ on_core (running (thread_of (W.view w.old) thread)) (W.view w.old) }
+{
+    let number = w.number(thread);
+    w.set_place(thread, PlaceId::Running);
+    Came::Goes(Label::Take(TakeLabel::Thread(mark, number)), number)
+}
+
+/// A delivery that is not admitted.
+pub fn hold_delivery<W: Words>(w: &mut W, mark: Mark, thread: ThreadId) -> Came
+    requires live { 0 < thread_of (W.view w.old) thread }
+    requires taken { IsTaken (thread_of (W.view w.old) thread) (why_of (thread_of (W.view w.old) thread) (W.view w.old).core) (W.view w.old).core }
+    ensures label { result ≡ Came.Stops (held_label mark (thread_of (W.view w.old) thread) None) }
+    ensures new { W.view w.new ≡ on_core (take_holds (thread_of (W.view w.old) thread) (why_of (thread_of (W.view w.old) thread) (W.view w.old).core)) (W.view w.old) }
+{
+    let number = w.number(thread);
+    hold(w, thread);
+    Came::Stops(Label::Take(TakeLabel::Held(mark, number)))
+}
+
+// The callback waits again.
+#[tactic(auto, unfolding(task_rules::specs::Takes::wait_again))]
+fn wait_again<W: Words>(w: &mut W, thread: ThreadId, set: SetId)
+    requires live { 0 < thread_of (W.view w.old) thread }
+    requires taken { IsTaken (thread_of (W.view w.old) thread) (why_of (thread_of (W.view w.old) thread) (W.view w.old).core) (W.view w.old).core }
+    ensures { W.view w.new ≡ on_core (wait_again (thread_of (W.view w.old) thread) (set_of (W.view w.old) set)) (W.view w.old) }
+{
+    let foot = foot_of(w, thread);
+    stop(w, foot);
+    let by_callback = true;
+    w.set_place(thread, PlaceId::Waiting { set, by_callback });
+}
+
+/// A delivery for the set, which is admitted.
+#[tactic(auto, unfolding(task_rules::specs::Takes::activated_woken))]
+pub fn deliver_set<W: Words>(w: &mut W, mark: Mark, thread: ThreadId, set: SetId) -> Came
+    requires live { 0 < thread_of (W.view w.old) thread }
+    requires set { 0 < set_of (W.view w.old) set }
+    requires taken { IsTaken (thread_of (W.view w.old) thread) (why_of (thread_of (W.view w.old) thread) (W.view w.old).core) (W.view w.old).core }
+    requires unqueued { AreWaitersUnqueued (set_of (W.view w.old) set) (W.view w.old).core }
+    requires members { MembersNamed (instance_of (thread_of (W.view w.old) thread) (W.view w.old).core) (set_of (W.view w.old) set) (W.view w.old).core }
+    ensures meets { Meets (delivered mark (thread_of (W.view w.old) thread) (choice_of (label_of (thread_of (W.view w.old) thread) result)) (W.view w.old).core (deliveries.Set (set_of (W.view w.old) set))) (W.view w.old).core result (W.view w.new).core }
+    ensures tags { (W.view w.new).tags ≡ (W.view w.old).tags }
+    ensures current { (W.view w.new).current ≡ (W.view w.old).current }
+{
+    let number = w.number(thread);
+    let instance = w.instance_of(thread);
+    let call = w.task_of(thread);
+    let gift = gift_for(w, true, call, set, instance);
+    if matches!(gift, Gift::Nothing) {
+        wait_again(w, thread, set);
+        return Came::Stops(Label::Take(TakeLabel::Again(mark, number)));
+    }
+    let given = given(w, gift);
+    let waiter = hand_on(w, set, gift);
+    activate(w, thread, call, gift, given);
+    match waiter {
+        None => Came::Goes(event_label(mark, number, given, None), number),
+        Some(woken) => Came::Goes(
+            event_label(mark, number, given, Some(w.number(woken))),
+            number,
+        ),
+    }
+}

@@ -1,0 +1,175 @@
+//! The ops of main, and the deadlock.
+ghost use Rattle.std.specs.Prelude.{◌≡◌, ◌+◌, ◌<◌, ◌≤◌, ◌^◌, IfOk, IsSome, None, OnErr, Some, length, ℕ};
+ghost use Rattle.task_machine.specs.Core.{Began, Refused};
+ghost use Rattle.task_machine.specs.Maps.{get};
+ghost use Rattle.task_machine.specs.Write.{set_trapped};
+ghost use Rattle.task_machine.specs.declared.component.Component.{Component};
+ghost use Rattle.task_machine.specs.declared.label.LoopLabel.TheVariants as loop_labels;
+ghost use Rattle.task_ops.specs.Acted.{MainMeets};
+ghost use Rattle.task_rules.specs.Cancels.{aborted_phase};
+ghost use Rattle.task_rules.specs.MainOps.{Abort, Answer, Await, Finish, Quiet, Ready, Spawn, Start, main_row, start_refusal};
+ghost use Rattle.task_rules.specs.Places.{Placed};
+ghost use Rattle.task_rules.specs.Scripts.{export_kind, host_at};
+ghost use Rattle.task_rules.specs.Stalled.{deadlock_trap};
+ghost use Rattle.task_words.specs.StateView.{Keeps, on_core, work_of};
+
+use task_machine::{Callee, ExportKind, Goal, HostDef, LoopLabel, MainLabel, Phase, Trap};
+use task_moves::put_high;
+use task_words::{NoMemory, WhyId, Words, WorkId};
+
+/// What an op of main came to.
+#[derive(Clone, Copy)]
+pub enum Acted {
+    Does(MainLabel),
+    Pends,
+    Answers(u64),
+}
+
+// Why a start by main is refused.
+#[tactic(auto, unfolding(task_rules::specs::MainOps::start_refusal))]
+fn start_refusal<W: Words>(w: &W) -> Option<Trap>
+    ensures { result ≡ start_refusal (W.view w.now).core }
+{
+    if w.trapped() {
+        return Some(Trap::CannotEnterComponent);
+    }
+    if w.fits(4) {
+        return None;
+    }
+    Some(Trap::TableFull)
+}
+
+/// `start F X*`, the start of this line. Where memory is wanting, all is as before.
+#[tactic(auto, unfolding(task_rules::specs::MainOps::main_started, task_rules::specs::MainOps::start_refusal))]
+pub fn start<W: Words>(
+    w: &mut W,
+    line: u32,
+    callee: Callee,
+    kind: ExportKind,
+    words: &[u64],
+) -> Result<Acted, NoMemory>
+    requires placed { Placed (W.view w.old).core }
+    requires there { IsSome (get (W.view w.old).core.instances callee.instance) }
+    requires words { length words.now ≤ 16 }
+    requires few { (W.view w.old).core.made.threads + 1 < 2 ^ 64 }
+    requires groups { (W.view w.old).core.made.groups + 1 < 2 ^ 64 }
+    ensures meets { IfOk result (λ acted. (c : Component) → export_kind c callee ≡ kind → MainMeets (main_row c line (W.view w.old).core (Start callee words.now)) (W.view w.old).core acted (W.view w.new).core) }
+    ensures tags { Keeps (W.view w.old).tags (W.view w.new).tags }
+    ensures current { (W.view w.new).current ≡ (W.view w.old).current }
+    ensures asked { OnErr result (start_refusal (W.view w.old).core ≡ None) }
+    ensures err { OnErr result (W.view w.new ≡ W.view w.old) }
+{
+    if let Some(trap) = start_refusal(w) {
+        w.set_trapped();
+        return Ok(Acted::Does(MainLabel::StartRefused(trap, line)));
+    }
+    let (thread, _) = w.make_call_by_main(callee, kind, Goal::Main, words)?;
+    put_high(w, thread, WhyId::Start);
+    Ok(Acted::Does(MainLabel::Start(line, w.number(thread))))
+}
+
+/// `finish K R`, of the start that made this call, or was refused.
+pub fn finish<W: Words>(w: &mut W, line: u32, call: u64) -> Acted
+    ensures meets { (c : Component) → MainMeets (main_row c line (W.view w.old).core (Finish (Began call))) (W.view w.old).core result (W.view w.new).core }
+    ensures tags { (W.view w.new).tags ≡ (W.view w.old).tags }
+    ensures current { (W.view w.new).current ≡ (W.view w.old).current }
+{
+    match w.result(call) {
+        None => Acted::Pends,
+        Some(value) => {
+            w.take_result(call);
+            Acted::Does(MainLabel::Finish(line, value))
+        }
+    }
+}
+
+/// `spawn H`. Where memory is wanting, all is as before.
+#[tactic(auto, unfolding(task_rules::specs::MainOps::main_spawned))]
+pub fn spawn<W: Words>(w: &mut W, line: u32, host: HostDef) -> Result<Acted, NoMemory>
+    requires few { (W.view w.old).core.made.works + 1 < 2 ^ 64 }
+    ensures meets { IfOk result (λ acted. (c : Component) → (h : ℕ) → host_at c h ≡ host → MainMeets (main_row c line (W.view w.old).core (Spawn h)) (W.view w.old).core acted (W.view w.new).core) }
+    ensures tags { Keeps (W.view w.old).tags (W.view w.new).tags }
+    ensures current { (W.view w.new).current ≡ (W.view w.old).current }
+    ensures err { OnErr result (W.view w.new ≡ W.view w.old) }
+{
+    let work = w.queue_spawn(host)?;
+    Ok(Acted::Does(MainLabel::Spawn(line, w.work_number(work))))
+}
+
+// The phase after an abort.
+fn aborted(phase: Phase) -> Phase
+    ensures { result ≡ aborted_phase phase }
+{
+    match phase {
+        Phase::Running => Phase::AbortRequested,
+        phase => phase,
+    }
+}
+
+/// `abort K`, of the spawn that made this work.
+#[tactic(auto, unfolding(task_rules::specs::MainOps::main_aborted))]
+pub fn abort<W: Words>(w: &mut W, line: u32, work: WorkId) -> Acted
+    ensures meets { (c : Component) → MainMeets (main_row c line (W.view w.old).core (Abort (work_of (W.view w.old) work))) (W.view w.old).core result (W.view w.new).core }
+    ensures tags { (W.view w.new).tags ≡ (W.view w.old).tags }
+    ensures current { (W.view w.new).current ≡ (W.view w.old).current }
+{
+    let phase = w.phase(work);
+    w.set_phase(work, aborted(phase));
+    Acted::Does(MainLabel::Abort(phase, line))
+}
+
+/// `await K`, of the spawn that made this work.
+pub fn await_spawn<W: Words>(w: &W, line: u32, work: WorkId) -> Acted
+    ensures { (c : Component) → MainMeets (main_row c line (W.view w.now).core (Await (work_of (W.view w.now) work))) (W.view w.now).core result (W.view w.now).core }
+{
+    if matches!(w.phase(work), Phase::Complete) {
+        Acted::Does(MainLabel::Await(line))
+    } else {
+        Acted::Pends
+    }
+}
+
+/// `quiet`
+pub fn quiet<W: Words>(w: &W) -> Acted
+    ensures { (c : Component) → (k : ℕ) → MainMeets (main_row c k (W.view w.now).core Quiet) (W.view w.now).core result (W.view w.now).core }
+{
+    if w.has_interesting() {
+        Acted::Pends
+    } else {
+        Acted::Does(MainLabel::Quiet)
+    }
+}
+
+/// `ready F`, of an export of this instance.
+#[tactic(auto, unfolding(task_rules::specs::MainOps::is_ready_for_call))]
+pub fn ready<W: Words>(w: &W, instance: u32) -> Acted
+    ensures { (c : Component) → (k : ℕ) → MainMeets (main_row c k (W.view w.now).core (Ready instance)) (W.view w.now).core result (W.view w.now).core }
+{
+    if w.may_not_enter(instance) || w.backpressure(instance) != 0 {
+        Acted::Pends
+    } else {
+        Acted::Does(MainLabel::Ready)
+    }
+}
+
+/// `answer X`
+pub fn answer<W: Words>(w: &W, value: u64) -> Acted
+    ensures { (c : Component) → (k : ℕ) → MainMeets (main_row c k (W.view w.now).core (Answer value)) (W.view w.now).core result (W.view w.now).core }
+{
+    let _state = w;
+    Acted::Answers(value)
+}
+
+/// Nothing can go on, and main waits: the store is trapped, and all groups are finished.
+pub fn deadlock<W: Words>(w: &mut W) -> LoopLabel
+    ensures label { result ≡ loop_labels.Deadlock (deadlock_trap (W.view w.old).core) }
+    ensures new { W.view w.new ≡ on_core set_trapped (W.view w.old) }
+{
+    let trap = if w.some_may_not_suspend() {
+        Trap::CannotBlockSyncTask
+    } else {
+        Trap::AsyncDeadlock
+    };
+    w.set_trapped();
+    LoopLabel::Deadlock(trap)
+}

@@ -1,0 +1,58 @@
+//! Waiting on a set, and polling it.
+ghost use Rattle.std.specs.Prelude.{◌≡◌, ◌+◌, ◌<◌, ◌≤◌, ◌^◌};
+ghost use Rattle.task_machine.specs.Labels.{choice_of};
+ghost use Rattle.task_machine.specs.Read.{instance_of, position_of, task_of};
+ghost use Rattle.task_ops.specs.Came.{Meets};
+ghost use Rattle.task_ops.specs.Gifts.{AllMembersNamed, gift_in};
+ghost use Rattle.task_ops.specs.Running.{SetsThere};
+ghost use Rattle.task_ops.specs.Steps.{label_of};
+ghost use Rattle.task_rules.specs.Sets.{poll_row, received};
+ghost use Rattle.task_words.specs.StateView.{call_of, on_core, thread_of};
+
+use crate::came::Came;
+use crate::gifts::{Gift, gift_for, given, take, write_given};
+use crate::names::set_named;
+use task_machine::{Given, Label, SetLabel, Trap};
+use task_words::{CallId, ThreadId, Words};
+
+// The gift is taken, and what it hands out is in the register and the two after it.
+#[tactic(auto, unfolding(task_rules::specs::Sets::received))]
+pub(crate) fn receive<W: Words>(
+    w: &mut W,
+    thread: ThreadId,
+    call: CallId,
+    to: u8,
+    gift: Gift,
+    given: Given,
+)
+    requires task { call_of (W.view w.old) call ≡ task_of (thread_of (W.view w.old) thread) (W.view w.old).core }
+    requires register { to ≤ 13 }
+    requires position { position_of (thread_of (W.view w.old) thread) (W.view w.old).core + 1 < 2 ^ 32 }
+    ensures { W.view w.new ≡ on_core (received (thread_of (W.view w.old) thread) to (gift_in (W.view w.old).tags gift) given) (W.view w.old) }
+{
+    take(w, gift, call);
+    write_given(w, thread, to, given);
+    w.advance(thread);
+}
+
+/// `poll R X`
+pub fn poll<W: Words>(w: &mut W, thread: ThreadId, to: u8, handle: u64) -> Came
+    requires register { to ≤ 13 }
+    requires position { position_of (thread_of (W.view w.old) thread) (W.view w.old).core + 1 < 2 ^ 32 }
+    requires sets { SetsThere (W.view w.old).core }
+    requires members { AllMembersNamed (instance_of (thread_of (W.view w.old) thread) (W.view w.old).core) (W.view w.old).core }
+    ensures meets { Meets (poll_row (thread_of (W.view w.old) thread) to handle (choice_of (label_of (thread_of (W.view w.old) thread) result)) (W.view w.old).core) (W.view w.old).core result (W.view w.new).core }
+    ensures tags { (W.view w.new).tags ≡ (W.view w.old).tags }
+    ensures current { (W.view w.new).current ≡ (W.view w.old).current }
+{
+    let number = w.number(thread);
+    let instance = w.instance_of(thread);
+    let Some(set) = set_named(w, instance, handle) else {
+        return Came::Traps(Trap::BadHandle);
+    };
+    let call = w.task_of(thread);
+    let gift = gift_for(w, false, call, set, instance);
+    let given = given(w, gift);
+    receive(w, thread, call, to, gift, given);
+    Came::Goes(Label::Set(SetLabel::Poll(given, number)), number)
+}

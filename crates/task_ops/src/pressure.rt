@@ -1,0 +1,56 @@
+//! Backpressure.
+ghost use Rattle.std.specs.Prelude.{◌≡◌, ◌+◌, ◌<◌, ◌^◌};
+ghost use Rattle.task_machine.specs.Read.{position_of};
+ghost use Rattle.task_ops.specs.Came.{Meets};
+ghost use Rattle.task_ops.specs.Running.{IsRunning};
+ghost use Rattle.task_rules.specs.Task.{dec_row, inc_row};
+ghost use Rattle.task_words.specs.StateView.{thread_of};
+
+use crate::came::Came;
+use task_machine::{Label, TaskLabel, Trap};
+use task_words::{ThreadId, Words};
+
+/// `bp_inc`
+#[tactic(auto, using(crate::proofs::PositionLemmas::position_pressure), unfolding(task_rules::specs::Task::inc_raises))]
+pub fn raise<W: Words>(w: &mut W, thread: ThreadId) -> Came
+    requires { position_of (thread_of (W.view w.old) thread) (W.view w.old).core + 1 < 2 ^ 32 }
+    ensures meets { Meets (inc_row (thread_of (W.view w.old) thread) (W.view w.old).core) (W.view w.old).core result (W.view w.new).core }
+    ensures tags { (W.view w.new).tags ≡ (W.view w.old).tags }
+    ensures current { (W.view w.new).current ≡ (W.view w.old).current }
+{
+    let instance = w.instance_of(thread);
+    let count = w.backpressure(instance);
+    if count == 65535 {
+        return Came::Traps(Trap::BackpressureOverflow);
+    }
+    w.set_backpressure(instance, count + 1);
+    w.advance(thread);
+    let number = w.number(thread);
+    Came::Goes(Label::Task(TaskLabel::BpInc(number)), number)
+}
+
+/// `bp_dec`
+#[tactic(auto, using(crate::proofs::PositionLemmas::position_pressure))]
+pub fn lower<W: Words>(w: &mut W, thread: ThreadId) -> Came
+    requires running { IsRunning (thread_of (W.view w.old) thread) (W.view w.old).core }
+    requires position { position_of (thread_of (W.view w.old) thread) (W.view w.old).core + 1 < 2 ^ 32 }
+    ensures meets { Meets (dec_row (thread_of (W.view w.old) thread) (W.view w.old).core) (W.view w.old).core result (W.view w.new).core }
+    ensures tags { (W.view w.new).tags ≡ (W.view w.old).tags }
+    ensures current { (W.view w.new).current ≡ (W.view w.old).current }
+{
+    let instance = w.instance_of(thread);
+    let count = w.backpressure(instance);
+    if count == 0 {
+        return Came::Traps(Trap::BackpressureOverflow);
+    }
+    let number = w.number(thread);
+    let label = Label::Task(TaskLabel::BpDec(number));
+    w.set_backpressure(instance, count - 1);
+    if count == 1 {
+        w.release(instance);
+        w.advance(thread);
+        return Came::Goes(label, number);
+    }
+    w.advance(thread);
+    Came::Goes(label, number)
+}

@@ -1,0 +1,166 @@
+//! The taking of a start.
+ghost use Rattle.std.specs.Prelude.{◌≡◌, ◌<◌, IfOk, IfSome, OnErr, OnOk, false, option_map, true};
+ghost use Rattle.task_machine.specs.Labels.{choice_of, held_label, take_label};
+ghost use Rattle.task_machine.specs.Read.{admits, at_handle_limit, is_sync, task_of};
+ghost use Rattle.task_machine.specs.declared.records.Subtask.TheVariants as subtasks;
+ghost use Rattle.task_machine.specs.declared.records.Why.TheVariants as whys;
+ghost use Rattle.task_moves.specs.Idle.{CanPublish, IsJoinThere, IsWaiting};
+ghost use Rattle.task_ops.specs.Came.{Meets};
+ghost use Rattle.task_ops.specs.Running.{IsStartTaken};
+ghost use Rattle.task_ops.specs.Steps.{label_of};
+ghost use Rattle.task_rules.specs.Takes.{may_tell_starting, start_begins, start_holds, start_row, start_sets_flags, starting_told};
+ghost use Rattle.task_words.specs.StateView.{call_of, on_core, thread_of};
+
+use crate::came::Came;
+use task_machine::{ExportKind, Label, Mark, Status, TakeLabel, Trap};
+use task_moves::{foot_of, stop, tell, tell_waiter};
+use task_words::{CallId, NoMemory, PlaceId, ThreadId, WhyId, Words};
+
+// What a taking shows, with the thread that it woke.
+fn take_label(mark: Mark, thread: u64, woken: Option<u64>) -> Label
+    ensures { result ≡ take_label mark thread woken }
+{
+    match woken {
+        None => Label::Take(TakeLabel::Thread(mark, thread)),
+        Some(woken) => Label::Take(TakeLabel::ThreadWakes(mark, thread, woken)),
+    }
+}
+
+// The same, of an entry that isn't admitted.
+fn held_label(mark: Mark, thread: u64, woken: Option<u64>) -> Label
+    ensures { result ≡ held_label mark thread woken }
+{
+    match woken {
+        None => Label::Take(TakeLabel::Held(mark, thread)),
+        Some(woken) => Label::Take(TakeLabel::HeldWakes(mark, thread, woken)),
+    }
+}
+
+fn woken_number<W: Words>(w: &W, waiter: Option<ThreadId>) -> Option<u64>
+    ensures { result ≡ option_map (λ id. thread_of (W.view w.now) id) waiter }
+{
+    match waiter {
+        None => None,
+        Some(thread) => Some(w.number(thread)),
+    }
+}
+
+// A sync export saves and sets `do_not_suspend`; a blocking one and a callback set `do_not_enter`.
+fn set_flags<W: Words>(w: &mut W, thread: ThreadId, kind: ExportKind)
+    ensures { W.view w.new ≡ on_core (start_sets_flags (thread_of (W.view w.old) thread) kind) (W.view w.old) }
+{
+    let instance = w.instance_of(thread);
+    match kind {
+        ExportKind::Sync => {
+            let flag = w.may_not_suspend(instance);
+            w.set_saved_own(thread, Some(flag));
+            w.set_do_not_suspend(instance, true);
+        }
+        ExportKind::Stackful => {}
+        _ => w.set_do_not_enter(instance, true),
+    }
+}
+
+// Whether a start of the thread may begin.
+fn admits_start<W: Words>(w: &W, thread: ThreadId) -> bool
+    ensures { result ≡ admits (thread_of (W.view w.now) thread) (W.view w.now).core whys.Start }
+{
+    if w.is_explicit(thread) || matches!(w.kind(w.task_of(thread)), ExportKind::Sync) {
+        return true;
+    }
+    let instance = w.instance_of(thread);
+    !w.may_not_enter(instance) && w.backpressure(instance) == 0
+}
+
+// The call's first thread has its handle, Started is told, and the flags of its kind are set.
+#[tactic(auto, unfolding(task_rules::specs::Takes::start_begins))]
+fn begin<W: Words>(w: &mut W, thread: ThreadId, waiter: Option<ThreadId>) -> Result<(), NoMemory>
+    requires live { 0 < thread_of (W.view w.old) thread }
+    requires can { CanPublish (subtasks.Guest (task_of (thread_of (W.view w.old) thread) (W.view w.old).core)) waiter (W.view w.old) }
+    requires limit { at_handle_limit (W.view w.old).core ≡ false }
+    ensures ok { OnOk result (W.view w.new ≡ on_core (start_begins (thread_of (W.view w.old) thread) (option_map (λ id. thread_of (W.view w.old) id) waiter)) (W.view w.old)) }
+    ensures err { OnErr result (W.view w.new ≡ W.view w.old) }
+{
+    let call = w.task_of(thread);
+    let kind = w.kind(call);
+    w.name_thread(thread)?;
+    w.set_started(call);
+    tell(w, call, Status::Started, waiter);
+    set_flags(w, thread, kind);
+    w.set_place(thread, PlaceId::Running);
+    Ok(())
+}
+
+// The waiter that is woken where Starting is told now, if it wasn't told before.
+#[tactic(auto, unfolding(task_rules::specs::Takes::may_tell_starting))]
+fn starting_waiter<W: Words>(w: &W, call: CallId) -> Option<ThreadId>
+    requires { IsJoinThere (subtasks.Guest (call_of (W.view w.now) call)) (W.view w.now).core }
+    ensures choice { may_tell_starting (call_of (W.view w.now) call) (option_map (λ id. thread_of (W.view w.now) id) result) (W.view w.now).core ≡ true }
+    ensures live { IfSome result (λ id. 0 < thread_of (W.view w.now) id) }
+    ensures waits { IfSome result (λ id. IsWaiting (thread_of (W.view w.now) id) (W.view w.now).core) }
+{
+    if w.starting_is_published(call) {
+        None
+    } else {
+        tell_waiter(w, call)
+    }
+}
+
+// Starting is told once.
+#[tactic(auto, unfolding(task_rules::specs::Takes::starting_told))]
+fn tell_starting<W: Words>(w: &mut W, call: CallId, waiter: Option<ThreadId>)
+    requires { CanPublish (subtasks.Guest (call_of (W.view w.old) call)) waiter (W.view w.old) }
+    ensures { W.view w.new ≡ on_core (starting_told (call_of (W.view w.old) call) (option_map (λ id. thread_of (W.view w.old) id) waiter)) (W.view w.old) }
+{
+    if !w.starting_is_published(call) {
+        w.set_starting_published(call);
+        tell(w, call, Status::Starting, waiter);
+    }
+}
+
+// Starting is told, the thread is held with its entry, and its strand stops.
+#[tactic(auto, unfolding(task_rules::specs::Takes::start_holds, task_rules::specs::Takes::take_holds))]
+fn hold_start<W: Words>(w: &mut W, thread: ThreadId, waiter: Option<ThreadId>)
+    requires live { 0 < thread_of (W.view w.old) thread }
+    requires taken { IsStartTaken (thread_of (W.view w.old) thread) (W.view w.old).core }
+    requires can { CanPublish (subtasks.Guest (task_of (thread_of (W.view w.old) thread) (W.view w.old).core)) waiter (W.view w.old) }
+    ensures { W.view w.new ≡ on_core (start_holds (thread_of (W.view w.old) thread) (option_map (λ id. thread_of (W.view w.old) id) waiter)) (W.view w.old) }
+{
+    let call = w.task_of(thread);
+    tell_starting(w, call, waiter);
+    let foot = foot_of(w, thread);
+    stop(w, foot);
+    w.set_place(thread, PlaceId::Held(WhyId::Start));
+}
+
+/// A start that was taken from the mark. Where memory is wanting, all is as before.
+#[tactic(auto, unfolding(task_rules::specs::Takes::running))]
+pub fn take_start<W: Words>(w: &mut W, mark: Mark, thread: ThreadId) -> Result<Came, NoMemory>
+    requires live { 0 < thread_of (W.view w.old) thread }
+    requires taken { IsStartTaken (thread_of (W.view w.old) thread) (W.view w.old).core }
+    requires there { IsJoinThere (subtasks.Guest (task_of (thread_of (W.view w.old) thread) (W.view w.old).core)) (W.view w.old).core }
+    ensures meets { IfOk result (λ came. Meets (start_row mark (thread_of (W.view w.old) thread) (choice_of (label_of (thread_of (W.view w.old) thread) came)).woken (W.view w.old).core (admits (thread_of (W.view w.old) thread) (W.view w.old).core whys.Start)) (W.view w.old).core came (W.view w.new).core) }
+    ensures tags { (W.view w.new).tags ≡ (W.view w.old).tags }
+    ensures current { (W.view w.new).current ≡ (W.view w.old).current }
+    ensures err { OnErr result (W.view w.new ≡ W.view w.old) }
+{
+    let number = w.number(thread);
+    let call = w.task_of(thread);
+    if !admits_start(w, thread) {
+        let waiter = starting_waiter(w, call);
+        let woken = woken_number(w, waiter);
+        hold_start(w, thread, waiter);
+        return Ok(Came::Stops(held_label(mark, number, woken)));
+    }
+    if w.is_explicit(thread) {
+        w.set_place(thread, PlaceId::Running);
+        return Ok(Came::Goes(take_label(mark, number, None), number));
+    }
+    if w.at_handle_limit() {
+        return Ok(Came::Traps(Trap::HandleLimit));
+    }
+    let waiter = tell_waiter(w, call);
+    let woken = woken_number(w, waiter);
+    begin(w, thread, waiter)?;
+    Ok(Came::Goes(take_label(mark, number, woken), number))
+}

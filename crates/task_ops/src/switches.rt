@@ -1,0 +1,146 @@
+//! The ops on threads that make one, or let another one run first.
+ghost use Rattle.std.specs.Prelude.{◌≡◌, ◌+◌, ◌<◌, ◌^◌, IfOk, OnErr, is_some, true};
+ghost use Rattle.task_machine.specs.Maps.{get};
+ghost use Rattle.task_machine.specs.Read.{instance_of, position_of};
+ghost use Rattle.task_machine.specs.declared.component.Slot.TheVariants as slots;
+ghost use Rattle.task_ops.specs.Came.{Meets};
+ghost use Rattle.task_ops.specs.Halting.{halt_of};
+ghost use Rattle.task_ops.specs.Running.{IsRunning};
+ghost use Rattle.task_rules.specs.Threads.{has_yielded, then_promote_row, then_resume_row, thread_index_row, thread_new_row};
+ghost use Rattle.task_words.specs.StateView.{Keeps, thread_of};
+
+use crate::came::Came;
+use crate::threads::{halt, resume_why, stop_top};
+use task_machine::{Label, Place, Slot, ThreadLabel, Trap, Why};
+use task_moves::{promote_unless, put_switch};
+use task_words::{HowFarId, NoMemory, ThreadId, Words};
+
+/// `suspend_then_resume X` and `yield_then_resume X`, as they begin
+#[tactic(auto, unfolding(task_rules::specs::Threads::halted_resuming))]
+pub fn halt_then_resume<W: Words>(w: &mut W, thread: ThreadId, handle: u64, yielding: bool) -> Came
+    requires live { 0 < thread_of (W.view w.old) thread }
+    requires running { IsRunning (thread_of (W.view w.old) thread) (W.view w.old).core }
+    ensures meets { Meets (then_resume_row (halt_of yielding) (thread_of (W.view w.old) thread) handle (W.view w.old).core) (W.view w.old).core result (W.view w.new).core }
+    ensures tags { (W.view w.new).tags ≡ (W.view w.old).tags }
+    ensures current { (W.view w.new).current ≡ (W.view w.old).current }
+{
+    w.none_is_zero();
+    let number = w.number(thread);
+    let instance = w.instance_of(thread);
+    let Some(other) = w.thread_at(instance, handle) else {
+        return Came::Traps(Trap::BadHandle);
+    };
+    if w.number(other) == number {
+        return Came::Traps(Trap::CannotResumeThread);
+    }
+    let Some(why) = resume_why(w, other) else {
+        return Came::Traps(Trap::CannotResumeThread);
+    };
+    put_switch(w, other, why);
+    stop_top(w, thread, yielding);
+    Came::Stops(Label::Thread(ThreadLabel::Pauses(number)))
+}
+
+// The thread has yielded, and its entry is queued.
+#[tactic(auto, unfolding(task_rules::specs::Threads::has_yielded))]
+fn has_yielded<W: Words>(w: &W, thread: ThreadId) -> bool
+    ensures { result ≡ has_yielded (thread_of (W.view w.now) thread) (W.view w.now).core }
+{
+    match w.place(thread) {
+        Some(
+            Place::Ready {
+                mark: _,
+                why: Why::Resumption,
+            },
+        ) => matches!(w.how_far(thread), HowFarId::Yields),
+        _ => false,
+    }
+}
+
+/// `suspend_then_promote X` and `yield_then_promote X`, as they begin
+#[tactic(auto, unfolding(task_rules::specs::Threads::halted_promoting))]
+pub fn halt_then_promote<W: Words>(
+    w: &mut W,
+    thread: ThreadId,
+    handle: u64,
+    yielding: bool,
+    label: Label,
+) -> Came
+    requires live { 0 < thread_of (W.view w.old) thread }
+    requires running { IsRunning (thread_of (W.view w.old) thread) (W.view w.old).core }
+    requires position { position_of (thread_of (W.view w.old) thread) (W.view w.old).core + 1 < 2 ^ 32 }
+    ensures meets { Meets (then_promote_row (halt_of yielding) (thread_of (W.view w.old) thread) handle label (W.view w.old).core) (W.view w.old).core result (W.view w.new).core }
+    ensures tags { (W.view w.new).tags ≡ (W.view w.old).tags }
+    ensures current { (W.view w.new).current ≡ (W.view w.old).current }
+{
+    w.none_is_zero();
+    let number = w.number(thread);
+    let instance = w.instance_of(thread);
+    let Some(other) = w.thread_at(instance, handle) else {
+        return Came::Traps(Trap::BadHandle);
+    };
+    if w.number(other) == number {
+        return Came::Traps(Trap::CannotResumeThread);
+    }
+    if !has_yielded(w, other) {
+        return halt(w, thread, yielding, label);
+    }
+    promote_unless(w, other);
+    stop_top(w, thread, yielding);
+    Came::Stops(Label::Thread(ThreadLabel::Pauses(number)))
+}
+
+/// `thread_index R`
+pub fn thread_index<W: Words>(w: &mut W, thread: ThreadId, register: u8) -> Came
+    requires position { position_of (thread_of (W.view w.old) thread) (W.view w.old).core + 1 < 2 ^ 32 }
+    ensures meets { Meets (thread_index_row (thread_of (W.view w.old) thread) register (W.view w.old).core) (W.view w.old).core result (W.view w.new).core }
+    ensures tags { (W.view w.new).tags ≡ (W.view w.old).tags }
+    ensures current { (W.view w.new).current ≡ (W.view w.old).current }
+{
+    let number = w.number(thread);
+    let handle = w.thread_handle(thread).unwrap_or(0);
+    w.assign(thread, register, u64::from(handle));
+    Came::Goes(Label::Thread(ThreadLabel::Index(handle, number)), number)
+}
+
+/// `thread_new R S X`, where the slot has a script. Where memory is wanting, all is as before.
+#[tactic(auto, unfolding(task_rules::specs::Threads::thread_made))]
+pub fn thread_new<W: Words>(
+    w: &mut W,
+    thread: ThreadId,
+    register: u8,
+    slot: u8,
+    value: u64,
+    line: &Slot,
+) -> Result<Came, NoMemory>
+    requires live { 0 < thread_of (W.view w.old) thread }
+    requires there { is_some (get (W.view w.old).core.handles (instance_of (thread_of (W.view w.old) thread) (W.view w.old).core)) ≡ true }
+    requires position { position_of (thread_of (W.view w.old) thread) (W.view w.old).core + 1 < 2 ^ 32 }
+    requires few { (W.view w.old).core.made.threads + 1 < 2 ^ 64 }
+    ensures meets { IfOk result (λ came. Meets (thread_new_row (thread_of (W.view w.old) thread) register slot value (W.view w.old).core line.now) (W.view w.old).core came (W.view w.new).core) }
+    ensures tags { Keeps (W.view w.old).tags (W.view w.new).tags }
+    ensures current { (W.view w.new).current ≡ (W.view w.old).current }
+    ensures err { OnErr result (W.view w.new ≡ W.view w.old) }
+{
+    match line {
+        Slot::Empty => return Ok(Came::Traps(Trap::ThreadNewIndirectUninitialized)),
+        Slot::Bad => return Ok(Came::Traps(Trap::ThreadNewIndirectInvalidType)),
+        Slot::Script(_) => {}
+    }
+    if !w.fits(2) {
+        return Ok(Came::Traps(Trap::TableFull));
+    }
+    if w.at_handle_limit() {
+        return Ok(Came::Traps(Trap::HandleLimit));
+    }
+    let number = w.number(thread);
+    let handle = w.new_thread_handle(w.instance_of(thread));
+    let task = w.task_of(thread);
+    let other = w.make_thread(task, slot, &[value])?;
+    w.assign(thread, register, u64::from(handle));
+    let other = w.number(other);
+    Ok(Came::Goes(
+        Label::Thread(ThreadLabel::New(handle, number, other)),
+        number,
+    ))
+}

@@ -1,0 +1,95 @@
+//! The ops that end a task.
+ghost use Rattle.std.specs.Prelude.{◌≡◌, ◌+◌, ◌<◌, ◌^◌};
+ghost use Rattle.task_machine.specs.Labels.{choice_of};
+ghost use Rattle.task_machine.specs.Read.{is_async_lifted, position_of, task_of};
+ghost use Rattle.task_machine.specs.declared.records.Subtask.TheVariants as subtasks;
+ghost use Rattle.task_moves.specs.Idle.{IsJoinThere};
+ghost use Rattle.task_ops.specs.Came.{Meets};
+ghost use Rattle.task_ops.specs.Running.{IsRunning};
+ghost use Rattle.task_ops.specs.Steps.{label_of};
+ghost use Rattle.task_rules.specs.Task.{ret_bad_row, ret_row, task_cancel_row};
+ghost use Rattle.task_words.specs.StateView.{thread_of};
+
+use crate::came::Came;
+use task_machine::{ExportKind, Label, TaskLabel, Trap};
+use task_moves::{cancel_task, return_value, tell_waiter};
+use task_words::{ThreadId, Words};
+
+// A stackful or a callback export.
+fn is_async_lifted(kind: ExportKind) -> bool
+    ensures { result ≡ is_async_lifted kind }
+{
+    matches!(kind, ExportKind::Stackful | ExportKind::Callback)
+}
+
+/// `ret X`
+#[tactic(auto, unfolding(task_rules::specs::Task::ret_done))]
+pub fn ret<W: Words>(w: &mut W, thread: ThreadId, value: u64) -> Came
+    requires live { 0 < thread_of (W.view w.old) thread }
+    requires running { IsRunning (thread_of (W.view w.old) thread) (W.view w.old).core }
+    requires there { IsJoinThere (subtasks.Guest (task_of (thread_of (W.view w.old) thread) (W.view w.old).core)) (W.view w.old).core }
+    requires position { position_of (thread_of (W.view w.old) thread) (W.view w.old).core + 1 < 2 ^ 32 }
+    ensures meets { Meets (ret_row (thread_of (W.view w.old) thread) value (choice_of (label_of (thread_of (W.view w.old) thread) result)).woken (W.view w.old).core) (W.view w.old).core result (W.view w.new).core }
+    ensures tags { (W.view w.new).tags ≡ (W.view w.old).tags }
+    ensures current { (W.view w.new).current ≡ (W.view w.old).current }
+{
+    let call = w.task_of(thread);
+    if w.end_of(call).is_some() {
+        return Came::Traps(Trap::TaskCancelOrReturnTwice);
+    }
+    if !is_async_lifted(w.kind(call)) {
+        return Came::Traps(Trap::TaskReturnInvalid);
+    }
+    let number = w.number(thread);
+    let waiter = tell_waiter(w, call);
+    return_value(w, call, value, waiter);
+    w.advance(thread);
+    match waiter {
+        None => Came::Goes(Label::Task(TaskLabel::Ret(number, value)), number),
+        Some(woken) => Came::Goes(Label::RetWakes(number, value, w.number(woken)), number),
+    }
+}
+
+/// `ret_bad X`
+pub fn ret_bad<W: Words>(w: &W, thread: ThreadId) -> Came
+    ensures { Meets (ret_bad_row (thread_of (W.view w.now) thread) (W.view w.now).core) (W.view w.now).core result (W.view w.now).core }
+{
+    if w.end_of(w.task_of(thread)).is_some() {
+        return Came::Traps(Trap::TaskCancelOrReturnTwice);
+    }
+    Came::Traps(Trap::TaskReturnInvalid)
+}
+
+/// `task_cancel`
+#[tactic(auto, unfolding(task_rules::specs::Task::task_cancel_done))]
+pub fn task_cancel<W: Words>(w: &mut W, thread: ThreadId) -> Came
+    requires live { 0 < thread_of (W.view w.old) thread }
+    requires running { IsRunning (thread_of (W.view w.old) thread) (W.view w.old).core }
+    requires there { IsJoinThere (subtasks.Guest (task_of (thread_of (W.view w.old) thread) (W.view w.old).core)) (W.view w.old).core }
+    requires position { position_of (thread_of (W.view w.old) thread) (W.view w.old).core + 1 < 2 ^ 32 }
+    ensures meets { Meets (task_cancel_row (thread_of (W.view w.old) thread) (choice_of (label_of (thread_of (W.view w.old) thread) result)).woken (W.view w.old).core) (W.view w.old).core result (W.view w.new).core }
+    ensures tags { (W.view w.new).tags ≡ (W.view w.old).tags }
+    ensures current { (W.view w.new).current ≡ (W.view w.old).current }
+{
+    let call = w.task_of(thread);
+    if !w.cancel_was_delivered(call) {
+        return Came::Traps(Trap::TaskCancelNotCancelled);
+    }
+    if w.end_of(call).is_some() {
+        return Came::Traps(Trap::TaskCancelOrReturnTwice);
+    }
+    let number = w.number(thread);
+    let waiter = tell_waiter(w, call);
+    cancel_task(w, call, waiter);
+    w.advance(thread);
+    match waiter {
+        None => Came::Goes(Label::Task(TaskLabel::TaskCancel(number)), number),
+        Some(woken) => {
+            let woken = w.number(woken);
+            Came::Goes(
+                Label::Task(TaskLabel::TaskCancelWakes(number, woken)),
+                number,
+            )
+        }
+    }
+}

@@ -1,0 +1,94 @@
+//! The ops on threads that are there.
+ghost use Rattle.std.specs.Prelude.{◌≡◌, ◌+◌, ◌<◌, ◌^◌, option_map};
+ghost use Rattle.task_machine.specs.Read.{position_of};
+ghost use Rattle.task_ops.specs.Came.{Meets};
+ghost use Rattle.task_ops.specs.Halting.{halt_of};
+ghost use Rattle.task_ops.specs.Running.{IsRunning};
+ghost use Rattle.task_rules.specs.Threads.{halt_row, halted, resume_later_row, resume_why};
+ghost use Rattle.task_words.specs.Names.{why_in};
+ghost use Rattle.task_words.specs.StateView.{on_core, thread_of};
+
+use crate::came::Came;
+use task_machine::{Label, Place, ThreadLabel, Trap};
+use task_moves::{check, foot_of, passes_check, put_low, stop};
+use task_words::{HowFarId, PlaceId, ThreadId, WhyId, Words};
+
+// The strand stops; its top is suspended, or gets a low entry.
+#[tactic(auto, unfolding(task_rules::specs::Threads::halted))]
+pub(crate) fn stop_top<W: Words>(w: &mut W, thread: ThreadId, yielding: bool)
+    requires live { 0 < thread_of (W.view w.old) thread }
+    requires running { IsRunning (thread_of (W.view w.old) thread) (W.view w.old).core }
+    ensures { W.view w.new ≡ on_core (halted (halt_of yielding) (thread_of (W.view w.old) thread)) (W.view w.old) }
+{
+    let foot = foot_of(w, thread);
+    stop(w, foot);
+    if yielding {
+        put_low(w, thread, WhyId::Resumption);
+        w.set_how_far(thread, HowFarId::Yields);
+    } else {
+        w.set_place(thread, PlaceId::Suspended);
+        w.set_how_far(thread, HowFarId::Suspends);
+    }
+}
+
+/// `suspend` and `yield`, as they begin
+#[tactic(auto, unfolding(task_rules::specs::Threads::halted_checked))]
+pub fn halt<W: Words>(w: &mut W, thread: ThreadId, yielding: bool, label: Label) -> Came
+    requires live { 0 < thread_of (W.view w.old) thread }
+    requires running { IsRunning (thread_of (W.view w.old) thread) (W.view w.old).core }
+    requires position { position_of (thread_of (W.view w.old) thread) (W.view w.old).core + 1 < 2 ^ 32 }
+    ensures meets { Meets (halt_row (halt_of yielding) (thread_of (W.view w.old) thread) label (W.view w.old).core) (W.view w.old).core result (W.view w.new).core }
+    ensures tags { (W.view w.new).tags ≡ (W.view w.old).tags }
+    ensures current { (W.view w.new).current ≡ (W.view w.old).current }
+{
+    let number = w.number(thread);
+    let instance = w.instance_of(thread);
+    if passes_check(w, instance) {
+        check(w, instance);
+        stop_top(w, thread, yielding);
+        return Came::Stops(Label::Thread(ThreadLabel::Pauses(number)));
+    }
+    if yielding {
+        w.advance(thread);
+        return Came::Goes(label, number);
+    }
+    Came::Traps(Trap::CannotBlockSyncTask)
+}
+
+// Why the thread is resumed, if it may be.
+pub(crate) fn resume_why<W: Words>(w: &W, thread: ThreadId) -> Option<WhyId>
+    ensures { option_map (why_in (W.view w.now).tags) result ≡ resume_why (thread_of (W.view w.now) thread) (W.view w.now).core }
+{
+    match w.place(thread) {
+        Some(Place::New) if w.is_explicit(thread) => Some(WhyId::Start),
+        Some(Place::Suspended) => Some(WhyId::Resumption),
+        _ => None,
+    }
+}
+
+/// `resume_later X`
+#[tactic(auto, unfolding(task_rules::specs::Threads::resumed_later))]
+pub fn resume_later<W: Words>(w: &mut W, thread: ThreadId, handle: u64) -> Came
+    requires live { 0 < thread_of (W.view w.old) thread }
+    requires running { IsRunning (thread_of (W.view w.old) thread) (W.view w.old).core }
+    requires position { position_of (thread_of (W.view w.old) thread) (W.view w.old).core + 1 < 2 ^ 32 }
+    ensures meets { Meets (resume_later_row (thread_of (W.view w.old) thread) handle (W.view w.old).core) (W.view w.old).core result (W.view w.new).core }
+    ensures tags { (W.view w.new).tags ≡ (W.view w.old).tags }
+    ensures current { (W.view w.new).current ≡ (W.view w.old).current }
+{
+    w.none_is_zero();
+    let number = w.number(thread);
+    let instance = w.instance_of(thread);
+    let Some(other) = w.thread_at(instance, handle) else {
+        return Came::Traps(Trap::BadHandle);
+    };
+    if w.number(other) == number {
+        return Came::Traps(Trap::CannotResumeThread);
+    }
+    let Some(why) = resume_why(w, other) else {
+        return Came::Traps(Trap::CannotResumeThread);
+    };
+    put_low(w, other, why);
+    w.advance(thread);
+    Came::Goes(Label::Thread(ThreadLabel::ResumeLater(number)), number)
+}

@@ -1,0 +1,126 @@
+-- The records of one kind where one more is made, or one is taken away.
+use Rattle.std.proofs.Common.{inl, inr, ◌⊎◌, ◌≡◌, ◌+◌, ◌==◌, ◌<◌, ◌≤◌, ℕ, Bool, true, false, cond, Option, Some, None, IsSome, refl, sym, ap, subst, ◌∙◌, arith}
+use Rattle.std.proofs.lemmas.Bool.{cases_eq, eq-eqb, ne_eqb}
+use Rattle.std.specs.Prelude.{Ok}
+use Rattle.task_machine.specs.Maps.{insert, remove}
+use Rattle.task_records.proofs.KindLemmas.{absent, item_stands}
+use Rattle.task_records.specs.Kinds.{entry_of, item_of, no_other}
+use Rattle.task_records.specs.Names.{HasNumber, StandsAt}
+use Rattle.task_records.specs.Sound.{SoundTable}
+use Rattle.task_records.specs.declared.single.Single.{Single}
+use Rattle.task_table.proofs.ItemLemmas.{record_at-item}
+use Rattle.task_table.proofs.Laws.{children_of-deleted, children_of-pushed, next_place_free, place_at-deleted, place_at-pushed}
+use Rattle.task_table.proofs.NumberLemmas.{number_of-deleted_apart, number_of-pushed_kept, number_of-pushed_new}
+use Rattle.task_table.proofs.RecordChangeLemmas.{PutsRecord-pushed, TakesRecord-deleted}
+use Rattle.task_table.specs.Answers.{item_at}
+use Rattle.task_table.specs.Changes.{deleted, next_place, pushed}
+use Rattle.task_table.specs.Records.{PutsRecord, TakesRecord, found_record, key_in, number_in, number_of, record_at, records}
+use Rattle.task_table.specs.Table.{IsTable, Table, place_at}
+
+module _ {T X : Type 0} (number : T → ℕ) (rec : T → X) (t : Table (Single T)) (made : ℕ) (sound : SoundTable (λ (e : Single T). Some (number e.item, rec e.item)) t made) where
+  abbrev key : Single T → Option (ℕ × X)
+  key e = Some (number e.item, rec e.item)
+
+  -- ---- One more, with the next number
+
+  module _ (g : T) (next : number g ≡ made + 1) where
+    abbrev pub more : Table (Single T)
+    more = pushed (entry_of g) t
+
+    puts : PutsRecord key t.places more.places (number g) (rec g)
+    puts = PutsRecord-pushed key t (entry_of g) (number g) (rec g) sound.table sound.apart refl (sound.later (number g) (omega arith))
+
+    pub records_more : records key more.places ≡ insert (records key t.places) (number g) (rec g)
+    records_more = puts.map
+
+    found_more : (n : ℕ) → (n ≡ number g → ⊥) → found_record key n t.places ≡ None → found_record key n more.places ≡ None
+    found_more n other none = puts.found n ∙ (ap (λ b. cond b (Some (rec g)) (found_record key n t.places)) (ne_eqb n (number g) other) ∙ none)
+
+    pub table_more : IsTable more → SoundTable key more (made + 1)
+    table_more table = record {
+      table = table;
+      childless = λ r. children_of-pushed t (entry_of g) r sound.table ∙ sound.childless r;
+      apart = puts.apart;
+      above_zero = found_more 0 (λ same. omega arith) sound.above_zero;
+      later = λ n later. found_more n (λ same. omega arith) (sound.later n (omega arith));
+    }
+
+    -- an id that named something names it still
+    pub number_kept : (r s : ℕ) → 0 < number_of key t r s → number_of key more r s ≡ number_of key t r s
+    number_kept r s live = number_of-pushed_kept key t (entry_of g) r s sound.table live
+
+    -- and the new id names the new one
+    pub number_new : (r s : ℕ) → r ≡ next_place t → s ≡ t.given → number_of key more r s ≡ number g
+    number_new r s at serial = number_of-pushed_new key t (entry_of g) r s sound.table at serial
+
+    -- what was made before stands where it stood
+    pub stands_more : (rep n : ℕ) → n ≤ made → StandsAt key t rep n → StandsAt key more rep n
+    stands_more rep n early stands some = by_place (cases_eq rep (next_place t))
+      where
+        old : found_record key n more.places ≡ found_record key n t.places
+        old = puts.found n ∙ ap (λ b. cond b (Some (rec g)) (found_record key n t.places)) (ne_eqb n (number g) (λ same. omega arith))
+
+        was : HasNumber key t rep n
+        was = stands (subst IsSome old some)
+
+        gone : (o : Option X) → found_record key n t.places ≡ o → IsSome o → n ≡ 0 → ⊥
+        gone None is there zero = absurd (cc)
+        gone (Some x) is there zero = absent x (sym sound.above_zero ∙ (ap (λ m. found_record key m t.places) (sym zero) ∙ is))
+
+        by_place : (rep ≡ next_place t) ⊎ (rep ≡ next_place t → ⊥) → HasNumber key more rep n
+        by_place (inl same) = absurd (gone (found_record key n t.places) refl (subst IsSome old some) (sym (sym (ap (λ r. number_in (record_at key t.places r)) same ∙ ap (λ o. number_in (key_in key o)) (next_place_free t sound.table)) ∙ was)))
+        by_place (inr other) = ap (λ o. number_in (key_in key o)) (place_at-pushed t (entry_of g) rep sound.table ∙ ap (λ b. cond b (Some (record { serial = t.given; parent = None; entry = entry_of g })) (place_at t rep)) (ne_eqb rep (next_place t) other)) ∙ was
+
+  -- ---- One less
+
+  module _ (rep serial : ℕ) (g : T) (is : Ok g ≡ item_at item_of t rep serial) where
+    abbrev pub less : Table (Single T)
+    less = deleted rep t
+
+    takes : TakesRecord key t.places less.places (number g)
+    takes = TakesRecord-deleted key t rep (number g) (rec g) sound.apart (record_at-item item_of entry_of no_other key t rep serial g is)
+
+    pub records_less : records key less.places ≡ remove (records key t.places) (number g)
+    records_less = takes.map
+
+    found_less : (n : ℕ) → found_record key n t.places ≡ None → found_record key n less.places ≡ None
+    found_less n none = takes.found n ∙ by_test (n == number g)
+      where
+        by_test : (b : Bool) → cond b None (found_record key n t.places) ≡ None
+        by_test true = refl
+        by_test false = none
+
+    pub table_less : IsTable less → SoundTable key less made
+    table_less table = record {
+      table = table;
+      childless = λ r.
+          let one = item_stands number rec t made sound rep serial g is in
+          let law = children_of-deleted t rep r one.0 one.1.0 in
+          let was = sound.childless r in
+          omega arith;
+      apart = takes.apart;
+      above_zero = found_less 0 sound.above_zero;
+      later = λ n later. found_less n (sound.later n later);
+    }
+
+    -- what is left stands where it stood
+    pub stands_less : (r n : ℕ) → StandsAt key t r n → StandsAt key less r n
+    stands_less r n stands some = by_number (cases_eq n (number g))
+      where
+        none_some : {Y : Type 0} (o : Option X) → o ≡ None → IsSome o → Y
+        none_some None is some = absurd (cc)
+        none_some (Some x) is some = absurd (cc)
+
+        by_number : (n ≡ number g) ⊎ (n ≡ number g → ⊥) → HasNumber key less r n
+        by_number (inl same) = none_some (found_record key n less.places) (takes.found n ∙ ap (λ b. cond b None (found_record key n t.places)) (eq-eqb n (number g) same)) some
+        by_number (inr other) =
+            let was : HasNumber key t r n = stands (subst (λ (o : Option X). IsSome o) (takes.found n ∙ ap (λ b. cond b None (found_record key n t.places)) (ne_eqb n (number g) other)) some) in
+            let here : record_at key t.places rep ≡ Some (number g, rec g) = record_at-item item_of entry_of no_other key t rep serial g is in
+            elim (cases_eq r rep) [
+              | inl same ↦ absurd (other (sym was ∙ (ap (λ q. number_in (record_at key t.places q)) same ∙ ap number_in here)))
+              | inr apart ↦ ap (λ o. number_in (key_in key o)) (place_at-deleted t rep r ∙ ap (λ b. cond b None (place_at t r)) (ne_eqb r rep apart)) ∙ was
+            ]
+
+    -- an id of another number names what it named
+    pub number_left : (r s : ℕ) → (number_of key t r s ≡ number g → ⊥) → number_of key less r s ≡ number_of key t r s
+    number_left r s other = number_of-deleted_apart key t rep r s (λ same. other (same ∙ ap number_in (record_at-item item_of entry_of no_other key t rep serial g is)))

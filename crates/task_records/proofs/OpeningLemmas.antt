@@ -1,0 +1,167 @@
+-- A core in which nothing was made.
+use Rattle.std.proofs.Common.{◌≡◌, ℕ, [], List, Option, None, false, ◌≤◌, refl, sym, ◌∙◌, arith}
+use Rattle.task_index.specs.Index.{Filing, IsIndex}
+use Rattle.task_index.specs.Rows.{IsRows}
+use Rattle.task_index.proofs.Indexes.{IsIndex-nothing, IsIndex-same_chains}
+use Rattle.task_machine.specs.Core.{fresh, nothing_made}
+use Rattle.task_machine.specs.Maps.{empty, get-empty, numbers, size}
+use Rattle.task_machine.specs.Read.{live_count, table_use}
+use Rattle.task_machine.specs.declared.records.Subtask.TheVariants as subtask
+use Rattle.task_records.proofs.KindLemmas.{absent}
+use Rattle.task_records.specs.Image.{Parts, image}
+use Rattle.task_records.specs.Instances.{by_place_from}
+use Rattle.task_records.specs.Keys.{call_key, group_key, set_key, thread_key, work_key}
+use Rattle.task_records.specs.Places.{BlockedOn, HeldIn, UnderOf, WaitsOn, Where, place_chain}
+use Rattle.task_records.specs.Rows.{High, Low, Row, row_chain}
+use Rattle.task_records.specs.Seen.{nothing}
+use Rattle.task_records.specs.Sound.{AreChained, AreCounted, AreNamed, HaveRowNodes, Sound, SoundTable, bare}
+use Rattle.task_records.specs.declared.single.Single.{Single}
+use Rattle.task_index.specs.Index.{filings}
+use Rattle.task_table.proofs.RecordChangeLemmas.{AreApart-new_table}
+use Rattle.task_table.specs.Changes.{with_capacity}
+use Rattle.task_table.specs.Mapped.{mapped}
+use Rattle.task_table.specs.Records.{found_record, records}
+use Rattle.task_table.specs.Table.{IsTable, Table, new_table}
+
+abbrev pub no_records : {T : Type 0} → Table (Single T)
+no_records = with_capacity 4294967295 new_table
+
+-- the parts of such a core
+abbrev pub opening : Parts
+opening = record {
+  threads = no_records;
+  calls = no_records;
+  works = no_records;
+  sets = no_records;
+  groups = no_records;
+  instances = [];
+  counter = record { limit = 100000; live = 0 };
+  places = [];
+  ready_calls = [];
+  ready_works = [];
+  polled = [];
+  marks = [];
+  shelves = [];
+  behind = [];
+  high = None;
+  low = None;
+  live = None;
+  switch = None;
+  current = None;
+  results = [];
+  kept = record { used = 0; groups = 0; interesting = 0; live = 0; moving = 0 };
+  finished = 0;
+  capacity = 1000000;
+  made = nothing_made;
+  trapped = false;
+}
+
+pub opening_shown : image opening ≡ nothing
+unfolding records by_place_from fresh with_capacity numbers empty
+opening_shown = refl
+
+opening_table : {T X : Type 0} (key : Single T → Option (ℕ × X)) → IsTable (no_records {T = T}) → SoundTable key no_records 0
+unfolding with_capacity found_record
+opening_table key table = record {
+  table = table;
+  childless = λ rep. refl;
+  apart = AreApart-new_table key;
+  above_zero = refl;
+  later = λ n later. refl;
+}
+
+no_index : {K P : Type 0} (chain : K → Option ℕ) (filing : ℕ → Option (Filing K P)) → ((k : K) → chain k ≡ None) → ((r : ℕ) → filing r ≡ None) → IsIndex chain [] filing
+no_index chain filing none unfiled = IsIndex-same_chains (λ k. None) [] filing (IsIndex-nothing filing unfiled) chain none
+
+no_rows : {K P : Type 0} (chain : K → Option ℕ) (node : P → ℕ) (Known : P → Type 0) (list : K → List P) → ((k : K) → chain k ≡ None) → IsRows chain node Known [] list
+no_rows chain node Known list none = record {
+  live = λ k c at. absent c (sym (none k) ∙ at);
+  own_chain = λ j k c at_j at_k. absent c (sym (none j) ∙ at_j);
+  has_list = λ k c at. absent c (sym (none k) ∙ at);
+  all_known = λ k c at. absent c (sym (none k) ∙ at);
+  owner = λ n c v link. absent (c, v) link;
+}
+
+no_place : (k : Where) → place_chain (bare opening) k ≡ None
+unfolding found_record mapped with_capacity
+no_place (WaitsOn x) = refl
+no_place (HeldIn i) = refl
+no_place (UnderOf n) = refl
+no_place (BlockedOn (subtask.Guest k)) = refl
+no_place (BlockedOn (subtask.Host i)) = refl
+
+no_row : (r : Row) → row_chain (bare opening) r ≡ None
+no_row High = refl
+no_row Low = refl
+
+opening_chained : AreChained (bare opening)
+unfolding found_record filings mapped with_capacity
+opening_chained = record {
+  places = no_index _ _ no_place (λ r. refl);
+  ready_calls = no_index _ _ (λ x. refl) (λ r. refl);
+  ready_works = no_index _ _ (λ x. refl) (λ r. refl);
+  polled = no_index _ _ (λ k. refl) (λ r. refl);
+  marks = no_rows _ _ _ _ no_row;
+  shelves = no_rows _ _ _ _ (λ k. refl);
+  low = tt;
+  behind = no_rows _ _ _ _ (λ k. refl);
+}
+
+opening_named : AreNamed (bare opening)
+unfolding mapped with_capacity
+opening_named = record {
+  threads = λ rep q at. absent q at;
+  calls = λ rep q at. absent q at;
+  works = λ rep q at. absent q at;
+  switch = tt;
+}
+
+opening_nodes : HaveRowNodes (bare opening)
+unfolding mapped with_capacity
+opening_nodes = record {
+  marks = record { made = λ rep q at. absent q at; own = λ r s p q at. absent p at };
+  shelves = record { made = λ rep q at. absent q at; own = λ r s p q at. absent p at };
+  callers = record { made = λ rep q at. absent q at; own = λ r s p q at. absent p at };
+  works = record { made = λ rep q at. absent q at; own = λ r s p q at. absent p at };
+  apart = λ r s q w at. absent q at;
+}
+
+few : 1000000 ≤ 4294967295
+few = omega arith
+
+opening_counted : AreCounted (bare opening)
+unfolding records by_place_from table_use live_count size empty numbers mapped with_capacity
+opening_counted = record {
+  kept = record { used = refl; groups = refl; live = refl };
+  calls = λ rep q at. absent q at;
+  sets = λ rep q at. absent q at;
+  groups = λ rep q at. absent q at;
+  few = few;
+  finished = omega arith;
+  high = λ some. absurd (some refl);
+  low = λ some. absurd (some refl);
+  works = λ rep q at. absent q at;
+  results = λ k c at. absent c (sym (get-empty k) ∙ at);
+}
+
+within : 0 ≤ 4294967295
+within = omega arith
+
+same : 4294967295 ≤ 4294967295
+same = omega arith
+
+table : (T : Type 0) → IsTable (no_records {T = T})
+unfolding with_capacity
+table T = record { places_fit = within; capacity_fits = same; free_once = λ rep. refl; free_or_taken = refl; serials = λ rep p at. absent p at; parents = λ rep none. refl }
+
+pub opening_sound : Sound opening
+unfolding records with_capacity empty live_count size by_place_from
+opening_sound = record {
+  handles = λ i r at. absent r at;
+  owned = λ rep q at. absent q at;
+  live = refl;
+  interesting = refl;
+  moving = refl;
+  tables = record { threads = opening_table thread_key (table _); calls = opening_table call_key (table _); works = opening_table work_key (table _); sets = opening_table set_key (table _); groups = opening_table group_key (table _) };
+  whole = record { named = opening_named; chained = opening_chained; nodes = opening_nodes; counted = opening_counted };
+}

@@ -1,0 +1,112 @@
+-- What is read under an id is the machine's record of what the id names.
+use Rattle.std.proofs.Common.{◌≡◌, ap, ◌∙◌, sym, Some, None}
+use Rattle.std.specs.Prelude.{Ok, Err}
+use Rattle.task_machine.specs.Maps.{get}
+use Rattle.task_records.proofs.KindLemmas.{item_number, item_read, number_shown, refused_number, refused_read}
+use Rattle.task_records.specs.Keys.{call_key, set_key, thread_key, work_key}
+use Rattle.task_records.specs.Kinds.{item_of}
+use Rattle.task_records.specs.Seen.{IsSound, seen}
+use Rattle.task_records.specs.declared.calls.GuestTask.{GuestTask}
+use Rattle.task_records.specs.declared.parts.CoreParts.{CoreParts}
+use Rattle.task_records.specs.declared.sets.WaitSet.{WaitSet}
+use Rattle.task_records.specs.declared.threads.GuestThread.{GuestThread}
+use Rattle.task_records.specs.declared.works.HostWork.{HostWork}
+use Rattle.task_table.specs.Answers.{item_at}
+use Rattle.task_table.specs.Records.{number_of, records}
+use Rattle.task_table.specs.declared.error.ResourceTableError.{ResourceTableError}
+use Rattle.task_table.specs.declared.id.TableId.{TableId}
+use Rattle.task_wait.specs.declared.keys.GuestTaskKey.{GuestTaskKey}
+use Rattle.task_wait.specs.declared.keys.HostTaskKey.{HostTaskKey}
+use Rattle.task_wait.specs.declared.keys.SetKey.{SetKey}
+use Rattle.task_wait.specs.declared.keys.ThreadKey.{ThreadKey}
+use Rattle.task_words.specs.StateView.{call_number, call_of, set_number, set_of, thread_number, thread_of, work_number, work_of}
+
+module _ (a : CoreParts) where
+  pub thread_shown : (id : TableId ThreadKey) → thread_of (seen a) id ≡ number_of thread_key a.threads id.rep id.serial
+  unfolding seen thread_number
+  thread_shown id = number_shown (λ (g : GuestThread). g.number) (λ (g : GuestThread). g.thread) a.threads id.rep id.serial
+
+  pub call_shown : (id : TableId GuestTaskKey) → call_of (seen a) id ≡ number_of call_key a.calls id.rep id.serial
+  unfolding seen call_number
+  call_shown id = number_shown (λ (g : GuestTask). g.number) (λ (g : GuestTask). g.call) a.calls id.rep id.serial
+
+  pub work_shown : (id : TableId HostTaskKey) → work_of (seen a) id ≡ number_of work_key a.works id.rep id.serial
+  unfolding seen work_number
+  work_shown id = number_shown (λ (w : HostWork). w.number) (λ (w : HostWork). w.work) a.works id.rep id.serial
+
+  pub set_shown : (id : TableId SetKey) → set_of (seen a) id ≡ number_of set_key a.sets id.rep id.serial
+  unfolding seen set_number
+  set_shown id = number_shown (λ (x : WaitSet). x.number) (λ (x : WaitSet). x.set) a.sets id.rep id.serial
+
+  pub thread_named : (id : TableId ThreadKey) (g : GuestThread) → Ok g ≡ item_at item_of a.threads id.rep id.serial → g.number ≡ thread_of (seen a) id
+  thread_named id g is = sym (thread_shown id ∙ item_number (λ (g : GuestThread). g.number) (λ (g : GuestThread). g.thread) a.threads id.rep id.serial g is)
+
+  pub thread_unnamed : (id : TableId ThreadKey) (why : ResourceTableError) → Err why ≡ item_at item_of a.threads id.rep id.serial → thread_of (seen a) id ≡ 0
+  thread_unnamed id why is = thread_shown id ∙ refused_number (λ (g : GuestThread). g.number) (λ (g : GuestThread). g.thread) a.threads id.rep id.serial why is
+
+  pub call_named : (id : TableId GuestTaskKey) (g : GuestTask) → Ok g ≡ item_at item_of a.calls id.rep id.serial → g.number ≡ call_of (seen a) id
+  call_named id g is = sym (call_shown id ∙ item_number (λ (g : GuestTask). g.number) (λ (g : GuestTask). g.call) a.calls id.rep id.serial g is)
+
+  pub call_unnamed : (id : TableId GuestTaskKey) (why : ResourceTableError) → Err why ≡ item_at item_of a.calls id.rep id.serial → call_of (seen a) id ≡ 0
+  call_unnamed id why is = call_shown id ∙ refused_number (λ (g : GuestTask). g.number) (λ (g : GuestTask). g.call) a.calls id.rep id.serial why is
+
+  pub work_named : (id : TableId HostTaskKey) (w : HostWork) → Ok w ≡ item_at item_of a.works id.rep id.serial → w.number ≡ work_of (seen a) id
+  work_named id w is = sym (work_shown id ∙ item_number (λ (w : HostWork). w.number) (λ (w : HostWork). w.work) a.works id.rep id.serial w is)
+
+  pub work_unnamed : (id : TableId HostTaskKey) (why : ResourceTableError) → Err why ≡ item_at item_of a.works id.rep id.serial → work_of (seen a) id ≡ 0
+  work_unnamed id why is = work_shown id ∙ refused_number (λ (w : HostWork). w.number) (λ (w : HostWork). w.work) a.works id.rep id.serial why is
+
+  pub set_named : (id : TableId SetKey) (x : WaitSet) → Ok x ≡ item_at item_of a.sets id.rep id.serial → x.number ≡ set_of (seen a) id
+  set_named id x is = sym (set_shown id ∙ item_number (λ (x : WaitSet). x.number) (λ (x : WaitSet). x.set) a.sets id.rep id.serial x is)
+
+  pub set_unnamed : (id : TableId SetKey) (why : ResourceTableError) → Err why ≡ item_at item_of a.sets id.rep id.serial → set_of (seen a) id ≡ 0
+  set_unnamed id why is = set_shown id ∙ refused_number (λ (x : WaitSet). x.number) (λ (x : WaitSet). x.set) a.sets id.rep id.serial why is
+
+  module _ (sound : IsSound a) where
+    pub thread_read : (id : TableId ThreadKey) (g : GuestThread) → Ok g ≡ item_at item_of a.threads id.rep id.serial → Some g.thread ≡ get (seen a).core.threads (thread_of (seen a) id)
+    unfolding seen IsSound
+    thread_read id g is =
+        item_read (λ (g : GuestThread). g.number) (λ (g : GuestThread). g.thread) a.threads a.made.threads sound.tables.threads id.rep id.serial g is
+        ∙ ap (get (records thread_key a.threads.places)) (sym (thread_shown id))
+
+    pub thread_unread : (id : TableId ThreadKey) (why : ResourceTableError) → Err why ≡ item_at item_of a.threads id.rep id.serial → None ≡ get (seen a).core.threads (thread_of (seen a) id)
+    unfolding seen IsSound
+    thread_unread id why is =
+        refused_read (λ (g : GuestThread). g.number) (λ (g : GuestThread). g.thread) a.threads a.made.threads sound.tables.threads id.rep id.serial why is
+        ∙ ap (get (records thread_key a.threads.places)) (sym (thread_shown id))
+
+    pub call_read : (id : TableId GuestTaskKey) (g : GuestTask) → Ok g ≡ item_at item_of a.calls id.rep id.serial → Some g.call ≡ get (seen a).core.calls (call_of (seen a) id)
+    unfolding seen IsSound
+    call_read id g is =
+        item_read (λ (g : GuestTask). g.number) (λ (g : GuestTask). g.call) a.calls a.made.threads sound.tables.calls id.rep id.serial g is
+        ∙ ap (get (records call_key a.calls.places)) (sym (call_shown id))
+
+    pub call_unread : (id : TableId GuestTaskKey) (why : ResourceTableError) → Err why ≡ item_at item_of a.calls id.rep id.serial → None ≡ get (seen a).core.calls (call_of (seen a) id)
+    unfolding seen IsSound
+    call_unread id why is =
+        refused_read (λ (g : GuestTask). g.number) (λ (g : GuestTask). g.call) a.calls a.made.threads sound.tables.calls id.rep id.serial why is
+        ∙ ap (get (records call_key a.calls.places)) (sym (call_shown id))
+
+    pub work_read : (id : TableId HostTaskKey) (w : HostWork) → Ok w ≡ item_at item_of a.works id.rep id.serial → Some w.work ≡ get (seen a).core.works (work_of (seen a) id)
+    unfolding seen IsSound
+    work_read id w is =
+        item_read (λ (w : HostWork). w.number) (λ (w : HostWork). w.work) a.works a.made.works sound.tables.works id.rep id.serial w is
+        ∙ ap (get (records work_key a.works.places)) (sym (work_shown id))
+
+    pub work_unread : (id : TableId HostTaskKey) (why : ResourceTableError) → Err why ≡ item_at item_of a.works id.rep id.serial → None ≡ get (seen a).core.works (work_of (seen a) id)
+    unfolding seen IsSound
+    work_unread id why is =
+        refused_read (λ (w : HostWork). w.number) (λ (w : HostWork). w.work) a.works a.made.works sound.tables.works id.rep id.serial why is
+        ∙ ap (get (records work_key a.works.places)) (sym (work_shown id))
+
+    pub set_read : (id : TableId SetKey) (x : WaitSet) → Ok x ≡ item_at item_of a.sets id.rep id.serial → Some x.set ≡ get (seen a).core.sets (set_of (seen a) id)
+    unfolding seen IsSound
+    set_read id x is =
+        item_read (λ (x : WaitSet). x.number) (λ (x : WaitSet). x.set) a.sets a.made.sets sound.tables.sets id.rep id.serial x is
+        ∙ ap (get (records set_key a.sets.places)) (sym (set_shown id))
+
+    pub set_unread : (id : TableId SetKey) (why : ResourceTableError) → Err why ≡ item_at item_of a.sets id.rep id.serial → None ≡ get (seen a).core.sets (set_of (seen a) id)
+    unfolding seen IsSound
+    set_unread id why is =
+        refused_read (λ (x : WaitSet). x.number) (λ (x : WaitSet). x.set) a.sets a.made.sets sound.tables.sets id.rep id.serial why is
+        ∙ ap (get (records set_key a.sets.places)) (sym (set_shown id))

@@ -1,0 +1,13 @@
+use Rattle.task_records.proofs.StandLemmas.{shown_here, shown_nowhere}
+use Rattle.task_records.proofs.ids.call_at.Goals as goal
+use Rattle.task_records.specs.Seen.{seen}
+use Rattle.task_records.specs.declared.calls.GuestTask.{GuestTask}
+use Rattle.task_words.specs.StateView.{call_number}
+
+pub returns-in-Some : goal.returns-in-Some
+unfolding seen call_number
+returns-in-Some c = shown_here (λ (g : GuestTask). g.number) (λ (g : GuestTask). g.call) c.args.parts.now.calls c.new.result.rep c.new.result.serial c.args.place c.in-Some.serial c.new.ensures.rep c.new.ensures.serial c.in-Some.ensures
+
+pub returns-in-None : goal.returns-in-None
+unfolding seen call_number
+returns-in-None c = shown_nowhere (λ (g : GuestTask). g.number) (λ (g : GuestTask). g.call) c.args.parts.now.calls c.new-in-None.result.rep c.new-in-None.result.serial c.args.place c.new-in-None.ensures.rep c.in-None.ensures

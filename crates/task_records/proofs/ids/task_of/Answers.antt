@@ -1,0 +1,28 @@
+use Rattle.std.proofs.Common.{ap, arith, subst, sym, ◌<◌, ◌∙◌, ℕ}
+use Rattle.std.specs.Option.{option_map_or}
+use Rattle.task_machine.specs.declared.records.Thread.{Thread}
+use Rattle.task_records.proofs.HomeLemmas.{task_live, task_place}
+use Rattle.task_records.proofs.StandLemmas.{shown_beyond}
+use Rattle.task_records.proofs.ids.task_of.Goals as goal
+use Rattle.task_records.specs.Seen.{IsSound, seen}
+use Rattle.task_records.specs.declared.calls.GuestTask.{GuestTask}
+use Rattle.task_words.specs.StateView.{call_number}
+
+pub returns-in-Some-clause-is : goal.returns-in-Some-clause-is
+returns-in-Some-clause-is c = c.call_at.ensures ∙ task_place c.args.parts.now c.requires c.args.thread c.in-Some.entry.now c.in-Some.ensures.item
+
+pub returns-in-None-clause-is : goal.returns-in-None-clause-is
+unfolding seen IsSound call_number
+returns-in-None-clause-is c =
+    let a = c.args.parts.now in
+    shown_beyond (λ (g : GuestTask). g.number) (λ (g : GuestTask). g.call) a.calls c.nowhere.result.rep c.nowhere.result.serial a.made.threads c.requires.tables.calls c.nowhere.ensures
+    ∙ ap (λ o. option_map_or (λ (t : Thread). t.call) o 0) c.in-None.ensures.is
+
+pub returns-in-Some-clause-live : goal.returns-in-Some-clause-live
+returns-in-Some-clause-live c there =
+    let a = c.args.parts.now in
+    let at = c.call_at.ensures ∙ task_place a c.requires c.args.thread c.in-Some.entry.now c.in-Some.ensures.item in
+    subst (λ (k : ℕ). 0 < k) (sym at) (task_live a c.requires c.args.thread c.in-Some.entry.now c.in-Some.ensures.item)
+
+pub returns-in-None-clause-live : goal.returns-in-None-clause-live
+returns-in-None-clause-live c there = let none = c.in-None.ensures.nothing in absurd (omega (arith, none, there))

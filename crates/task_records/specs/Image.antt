@@ -1,0 +1,116 @@
+-- The machine's core that the parts of a core stand for, and what ids name.
+use Rattle.std.specs.Prelude.{ℕ, Bool, List, [], ◌∷◌, Option, Some, None, filter, map, nat_lt, option_map}
+use Rattle.task_handles.specs.Counter.{Counter}
+use Rattle.task_index.specs.Rows.{values}
+use Rattle.task_links.specs.Links.{Spot}
+use Rattle.task_machine.specs.Core.{Core}
+use Rattle.task_machine.specs.Maps.{Records, empty, insert, numbers, remove}
+use Rattle.task_machine.specs.declared.records.Made.{Made}
+use Rattle.task_records.specs.Instances.{by_place, handle_table, named_of, thread_of}
+use Rattle.task_records.specs.Keys.{call_key, group_key, set_key, thread_key, work_key}
+use Rattle.task_records.specs.declared.calls.GuestTask.{GuestTask}
+use Rattle.task_records.specs.declared.calls.TaskGroup.{TaskGroup}
+use Rattle.task_records.specs.declared.instances.InstanceRecord.{InstanceRecord}
+use Rattle.task_records.specs.declared.parts.Kept.{Kept}
+use Rattle.task_records.specs.declared.single.Single.{Single}
+use Rattle.task_records.specs.declared.sets.WaitSet.{WaitSet}
+use Rattle.task_records.specs.declared.threads.Follower.{Follower}
+use Rattle.task_records.specs.declared.threads.GuestThread.{GuestThread}
+use Rattle.task_records.specs.declared.threads.Queued.{Queued}
+use Rattle.task_records.specs.declared.works.HostWork.{HostWork}
+use Rattle.task_table.specs.Records.{number_in, records}
+use Rattle.task_table.specs.Table.{Placed, Table}
+use Rattle.task_table.specs.declared.id.TableId.{TableId}
+use Rattle.task_wait.specs.declared.keys.ThreadKey.{ThreadKey}
+use Rattle.task_words.specs.StateView.{StateView, Tag, Tags}
+
+-- the fields of a core, as tables, lists and numbers
+pub record Parts : Type 0 where
+  pub threads : Table (Single GuestThread)
+  pub calls : Table (Single GuestTask)
+  pub works : Table (Single HostWork)
+  pub sets : Table (Single WaitSet)
+  pub groups : Table (Single TaskGroup)
+  pub instances : List InstanceRecord
+  pub counter : Counter
+  pub places : List (Spot ℕ)
+  pub ready_calls : List (Spot ℕ)
+  pub ready_works : List (Spot ℕ)
+  pub polled : List (Spot ℕ)
+  pub marks : List (Spot Queued)
+  pub shelves : List (Spot Queued)
+  pub behind : List (Spot Follower)
+  pub high : Option ℕ
+  pub low : Option ℕ
+  pub live : Option ℕ
+  pub switch : Option Follower
+  pub current : Option (TableId ThreadKey)
+  pub results : List (ℕ × Option ℕ)
+  pub kept : Kept
+  pub finished : ℕ
+  pub capacity : ℕ
+  pub made : Made
+  pub trapped : Bool
+
+-- the values of a chain, where it was made
+abbrev pub chained : {P : Type 0} → List (Spot P) → Option ℕ → List P
+chained links None = []
+chained links (Some c) = values links c
+
+-- the threads behind one, by the chain of its callers
+abbrev pub callers_in : List (Spot Follower) → Single GuestThread → Option (ℕ × List ℕ)
+callers_in behind g = Some (g.item.number, map (λ f. f.number) (values behind g.item.callers))
+
+-- the results that were given, of those that there is room for
+abbrev pub given_results : List (ℕ × Option ℕ) → Records ℕ
+given_results [] = empty
+given_results ((k, None) ∷ rs) = remove (given_results rs) k
+given_results ((k, Some v) ∷ rs) = insert (given_results rs) k v
+
+abbrev pub core_of : Parts → Core
+core_of p = record {
+  calls = records call_key p.calls.places;
+  threads = records thread_key p.threads.places;
+  callers = records (callers_in p.behind) p.threads.places;
+  works = records work_key p.works.places;
+  sets = records set_key p.sets.places;
+  instances = by_place (map (λ i. i.instance) p.instances);
+  handles = by_place (map (λ i. handle_table named_of i.handles) p.instances);
+  thread_handles = by_place (map (λ i. handle_table thread_of i.thread_handles) p.instances);
+  queues = record { switch = option_map (λ f. f.number) p.switch; high = map (λ q. q.entry) (chained p.marks p.high); low = map (λ q. q.entry) (chained p.marks p.low) };
+  results = given_results p.results;
+  groups = filter (nat_lt p.finished) (numbers (records group_key p.groups.places));
+  trapped = p.trapped;
+  handle_limit = p.counter.limit;
+  capacity = p.capacity;
+  made = p.made;
+}
+
+-- what contracts see at a place
+abbrev pub tag_of : {E X : Type 0} → (E → Option (ℕ × X)) → Option (Placed E) → Option Tag
+tag_of key None = None
+tag_of key (Some p) = Some (record { serial = p.serial; number = number_in (key p.entry) })
+
+-- a list without what is free at its end, so that an entry that was made and taken back leaves no trace
+abbrev pub with_first : {X : Type 0} → Option X → List (Option X) → List (Option X)
+with_first None [] = []
+with_first None (o ∷ os) = None ∷ o ∷ os
+with_first (Some x) os = Some x ∷ os
+
+abbrev pub trimmed : {X : Type 0} → List (Option X) → List (Option X)
+trimmed [] = []
+trimmed (o ∷ os) = with_first o (trimmed os)
+
+abbrev pub tags_in : {E X : Type 0} → (E → Option (ℕ × X)) → Table E → List (Option Tag)
+tags_in key t = trimmed (map (tag_of key) t.places)
+
+abbrev pub tags_of : Parts → Tags
+tags_of p = record {
+  threads = tags_in thread_key p.threads;
+  calls = tags_in call_key p.calls;
+  sets = tags_in set_key p.sets;
+  works = tags_in work_key p.works;
+}
+
+abbrev pub image : Parts → StateView
+image p = record { core = core_of p; tags = tags_of p; current = p.current }

@@ -1,0 +1,10 @@
+pub mod Kinds
+pub mod Keys
+pub mod Instances
+pub mod Image
+pub mod Names
+pub mod Places
+pub mod Rows
+pub mod Kept
+pub mod Sound
+pub mod Seen

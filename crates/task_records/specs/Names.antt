@@ -1,0 +1,151 @@
+-- What the numbers in records name, and where it stands.
+use Rattle.std.specs.Prelude.{◌≡◌, ◌<◌, ◌≤◌, ℕ, Option, Some, IsSome, slice_get}
+use Rattle.task_handles.specs.Handles.{held_by}
+use Rattle.task_handles.specs.declared.kinds.HandleKind.{HandleKind}
+use Rattle.task_handles.specs.declared.kinds.HandleKind.TheVariants as handle
+use Rattle.task_handles.specs.declared.kinds.Held.{Held}
+use Rattle.task_handles.specs.declared.kinds.Rep.{Rep}
+use Rattle.task_handles.specs.declared.kinds.WaitableKind.TheVariants as waitable
+use Rattle.task_machine.specs.Read.{call_instance, thread_at}
+use Rattle.task_machine.specs.declared.records.Caller.{Caller}
+use Rattle.task_machine.specs.declared.records.Caller.TheVariants as caller
+use Rattle.task_machine.specs.declared.records.Delivery.TheVariants as delivery
+use Rattle.task_machine.specs.declared.records.HowFar.{HowFar}
+use Rattle.task_machine.specs.declared.records.HowFar.TheVariants as how_far
+use Rattle.task_machine.specs.declared.records.Join.{Join}
+use Rattle.task_machine.specs.declared.records.Join.TheVariants as join
+use Rattle.task_machine.specs.declared.records.Made.{Made}
+use Rattle.task_machine.specs.declared.records.Place.{Place}
+use Rattle.task_machine.specs.declared.records.Place.TheVariants as place
+use Rattle.task_machine.specs.declared.records.Subtask.{Subtask}
+use Rattle.task_machine.specs.declared.records.Subtask.TheVariants as subtask
+use Rattle.task_machine.specs.declared.records.Why.{Why}
+use Rattle.task_machine.specs.declared.records.Why.TheVariants as why
+use Rattle.task_machine.specs.declared.records.WorkCaller.{WorkCaller}
+use Rattle.task_machine.specs.declared.records.WorkCaller.TheVariants as work_caller
+use Rattle.task_records.specs.Image.{Parts, core_of}
+use Rattle.task_records.specs.Keys.{call_key, group_key, set_key, thread_key, work_key}
+use Rattle.task_records.specs.declared.calls.GuestTask.{GuestTask}
+use Rattle.task_records.specs.declared.instances.InstanceRecord.{InstanceRecord}
+use Rattle.task_records.specs.declared.sets.WaitSet.{WaitSet}
+use Rattle.task_records.specs.declared.single.Single.{Single}
+use Rattle.task_records.specs.declared.threads.GuestThread.{GuestThread}
+use Rattle.task_records.specs.declared.works.HostWork.{HostWork}
+use Rattle.task_table.specs.Records.{found_record, number_in, record_at}
+use Rattle.task_table.specs.Table.{Table}
+
+-- What a number names, by kind.
+pub data Target : Type 0 where
+  Nothing : Target
+  ThreadOf : (number : ℕ) → Target
+  CallOf : (number : ℕ) → Target
+  WorkOf : (number : ℕ) → Target
+  SetOf : (number : ℕ) → Target
+
+abbrev pub subtask_target : Subtask → Target
+subtask_target (subtask.Guest k) = CallOf k
+subtask_target (subtask.Host i) = WorkOf i
+
+abbrev pub why_target : Why → Target
+why_target (why.Delivery (delivery.Set x)) = SetOf x
+why_target _ = Nothing
+
+abbrev pub place_target : Place → Target
+place_target (place.Ready m w) = why_target w
+place_target (place.Under n) = ThreadOf n
+place_target (place.Behind n) = ThreadOf n
+place_target (place.Waiting x by_callback) = SetOf x
+place_target (place.Blocked sub) = subtask_target sub
+place_target (place.Held w) = why_target w
+place_target _ = Nothing
+
+abbrev pub how_far_target : HowFar → Target
+how_far_target (how_far.Waits x) = SetOf x
+how_far_target (how_far.Calls sub) = subtask_target sub
+how_far_target (how_far.Cancels sub) = subtask_target sub
+how_far_target (how_far.AwaitsEnd sub) = subtask_target sub
+how_far_target _ = Nothing
+
+abbrev pub join_target : Join → Target
+join_target join.Nowhere = Nothing
+join_target (join.Set x) = SetOf x
+join_target (join.Watched n) = ThreadOf n
+
+abbrev pub caller_target : Caller → Target
+caller_target caller.Main = Nothing
+caller_target (caller.Thread n) = ThreadOf n
+
+abbrev pub work_caller_target : WorkCaller → Target
+work_caller_target work_caller.Spawn = Nothing
+work_caller_target (work_caller.Async n r) = ThreadOf n
+work_caller_target (work_caller.Sync n) = ThreadOf n
+
+-- What stands at the place has the number.
+abbrev pub HasNumber : {E X : Type 0} → (E → Option (ℕ × X)) → Table E → ℕ → ℕ → Type 0
+HasNumber key t rep n = number_in (record_at key t.places rep) ≡ n
+
+-- The record of the number, if there is one, stands at the place.
+abbrev pub StandsAt : {E X : Type 0} → (E → Option (ℕ × X)) → Table E → ℕ → ℕ → Type 0
+StandsAt key t rep n = IsSome (found_record key n t.places) → HasNumber key t rep n
+
+-- The tables in which what is named stands, and how many were made.
+pub record Kinds : Type 0 where
+  pub threads : Table (Single GuestThread)
+  pub calls : Table (Single GuestTask)
+  pub works : Table (Single HostWork)
+  pub sets : Table (Single WaitSet)
+  pub made : Made
+
+abbrev pub kinds : Parts → Kinds
+kinds p = record { threads = p.threads; calls = p.calls; works = p.works; sets = p.sets; made = p.made }
+
+-- What is named was made and, if it is there, stands at the place.
+abbrev pub IsNamedAt : Kinds → ℕ → Target → Type 0
+IsNamedAt p rep Nothing = Unit {0}
+IsNamedAt p rep (ThreadOf n) = (n ≤ p.made.threads) × StandsAt thread_key p.threads rep n
+IsNamedAt p rep (CallOf k) = (k ≤ p.made.threads) × StandsAt call_key p.calls rep k
+IsNamedAt p rep (WorkOf i) = (i ≤ p.made.works) × StandsAt work_key p.works rep i
+IsNamedAt p rep (SetOf x) = (x ≤ p.made.sets) × StandsAt set_key p.sets rep x
+
+abbrev pub AtPlace : Parts → ℕ → Target → Type 0
+AtPlace p rep t = IsNamedAt (kinds p) rep t
+
+-- A thread's call is there, in an instance that is there.
+pub record HasHome (p : Parts) (g : GuestThread) : Type 0 where
+  pub call : HasNumber call_key p.calls g.task g.thread.call
+  pub there : 0 < g.thread.call
+  pub instance : call_instance g.thread.call (core_of p) ≡ g.instance
+  pub within : IsSome (slice_get p.instances g.instance)
+  pub place : AtPlace p g.beside (place_target g.thread.place)
+  pub how_far : AtPlace p g.awaited (how_far_target g.thread.how_far)
+
+-- The handle that a thread has, if it has one, names it.
+abbrev pub OwnsHandle : Parts → GuestThread → Type 0
+OwnsHandle p g = (h : ℕ) → g.thread.handle ≡ Some h → thread_at g.instance h (core_of p) ≡ Some g.number
+
+-- What a call names.
+pub record IsCallNamed (p : Parts) (g : GuestTask) : Type 0 where
+  pub caller : AtPlace p g.maker (caller_target g.call.caller)
+  pub join : AtPlace p g.joined (join_target g.call.join)
+  pub group : HasNumber group_key p.groups g.group g.call.group
+  pub positive : 0 < g.call.group
+
+-- What a host work names.
+pub record IsWorkNamed (p : Parts) (w : HostWork) : Type 0 where
+  pub caller : AtPlace p w.maker (work_caller_target w.work.caller)
+  pub join : AtPlace p w.joined (join_target w.work.join)
+  pub group : (n : ℕ) → w.work.group ≡ Some n → HasNumber group_key p.groups w.group n × (0 < n)
+
+-- A handle is of a subtask or of a set; the number that it keeps is the machine's.
+abbrev pub IsHeldNamed : Kinds → HandleKind → Rep → Type 0
+IsHeldNamed p (handle.Waitable waitable.GuestSubtask) r = IsNamedAt p r.id (CallOf r.serial)
+IsHeldNamed p (handle.Waitable waitable.HostSubtask) r = IsNamedAt p r.id (WorkOf r.serial)
+IsHeldNamed p (handle.Waitable _) r = ⊥
+IsHeldNamed p handle.Set r = IsNamedAt p r.id (SetOf r.serial)
+
+-- What the handles of an instance name.
+pub record AreHandlesNamed (p : Kinds) (i : InstanceRecord) : Type 0 where
+  pub small : (h : ℕ) (x : Held) → held_by i.handles h ≡ Some x → h ≤ 268435455
+  pub small_threads : (h : ℕ) (r : Rep) → held_by i.thread_handles h ≡ Some r → h ≤ 268435455
+  pub handles : (h : ℕ) (x : Held) → held_by i.handles h ≡ Some x → IsHeldNamed p x.kind x.rep
+  pub thread_handles : (h : ℕ) (r : Rep) → held_by i.thread_handles h ≡ Some r → IsNamedAt p r.id (ThreadOf r.serial)

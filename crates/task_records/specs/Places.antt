@@ -1,0 +1,67 @@
+-- The lists that the machine finds by a test of its records, as indexes: who waits on a set, is held in an instance, is under a thread or blocked on a subtask; the ready members of a set; the live works.
+use Rattle.std.specs.Prelude.{ℕ, Option, Some, None, slice_get, option_map, if◌then◌else◌}
+use Rattle.task_index.specs.Index.{Filing}
+use Rattle.task_machine.specs.Read.{is_stage_live}
+use Rattle.task_machine.specs.declared.records.Join.{Join}
+use Rattle.task_machine.specs.declared.records.Join.TheVariants as join
+use Rattle.task_machine.specs.declared.records.Place.{Place}
+use Rattle.task_machine.specs.declared.records.Place.TheVariants as place
+use Rattle.task_machine.specs.declared.records.Subtask.{Subtask}
+use Rattle.task_machine.specs.declared.records.Subtask.TheVariants as subtask
+use Rattle.task_machine.specs.declared.words.Status.{Status}
+use Rattle.task_records.specs.Image.{Parts}
+use Rattle.task_records.specs.Keys.{blocked_key, ready_calls_key, ready_works_key, under_key, waiters_key, work_blocked_key}
+use Rattle.task_records.specs.declared.calls.GuestTask.{GuestTask}
+use Rattle.task_records.specs.declared.single.Single.{Single}
+use Rattle.task_records.specs.declared.threads.GuestThread.{GuestThread}
+use Rattle.task_records.specs.declared.works.HostWork.{HostWork}
+use Rattle.task_table.specs.Records.{found_record}
+
+-- In which list a thread is: it is in one at a time.
+pub data Where : Type 0 where
+  WaitsOn : (set : ℕ) → Where
+  HeldIn : (instance : ℕ) → Where
+  UnderOf : (thread : ℕ) → Where
+  BlockedOn : (subtask : Subtask) → Where
+
+-- the list of a thread of the instance that is at this place
+abbrev pub where_at : ℕ → Place → Option Where
+where_at i (place.Waiting x by_callback) = Some (WaitsOn x)
+where_at i (place.Held w) = Some (HeldIn i)
+where_at i (place.Under n) = Some (UnderOf n)
+where_at i (place.Blocked sub) = Some (BlockedOn sub)
+where_at i _ = None
+
+abbrev pub place_filing : ℕ → ℕ → Single GuestThread → Option (Filing Where ℕ)
+place_filing rep serial g = Some (record { node = g.item.node.index; key = where_at g.item.instance g.item.thread.place; value = rep })
+
+abbrev pub place_chain : Parts → Where → Option ℕ
+place_chain p (WaitsOn x) = found_record waiters_key x p.sets.places
+place_chain p (HeldIn i) = option_map (λ r. r.held) (slice_get p.instances i)
+place_chain p (UnderOf n) = found_record under_key n p.threads.places
+place_chain p (BlockedOn (subtask.Guest k)) = found_record blocked_key k p.calls.places
+place_chain p (BlockedOn (subtask.Host i)) = found_record work_blocked_key i p.works.places
+
+-- the set of which what has this event and is joined so is a ready member
+abbrev pub ready_in : Option Status → Join → Option ℕ
+ready_in (Some e) (join.Set x) = Some x
+ready_in _ _ = None
+
+abbrev pub ready_call : ℕ → ℕ → Single GuestTask → Option (Filing ℕ ℕ)
+ready_call rep serial g = Some (record { node = g.item.ready.index; key = ready_in g.item.call.event g.item.call.join; value = rep })
+
+abbrev pub ready_work : ℕ → ℕ → Single HostWork → Option (Filing ℕ ℕ)
+ready_work rep serial w = Some (record { node = w.item.ready.index; key = ready_in w.item.work.event w.item.work.join; value = rep })
+
+abbrev pub ready_call_chain : Parts → ℕ → Option ℕ
+ready_call_chain p x = found_record ready_calls_key x p.sets.places
+
+abbrev pub ready_work_chain : Parts → ℕ → Option ℕ
+ready_work_chain p x = found_record ready_works_key x p.sets.places
+
+-- the live works are one list
+abbrev pub live_work : ℕ → ℕ → Single HostWork → Option (Filing (Unit {0}) ℕ)
+live_work rep serial w = Some (record { node = w.item.live.index; key = if is_stage_live w.item.work.stage then Some tt else None; value = rep })
+
+abbrev pub live_chain : Parts → Unit {0} → Option ℕ
+live_chain p one = p.live

@@ -1,0 +1,154 @@
+-- What holds of the parts of every core: how they stand for the machine's records, and no more.
+--     SoundTable         the records of one kind
+--     bare               the parts without the fields of records on which nothing hangs
+--     IsWhole            names, indexes, rows and kept numbers
+use Rattle.std.specs.Prelude.{◌≡◌, ◌+◌, ◌<◌, ◌≤◌, ℕ, false, [], Option, None, Some, IfSome, IsSome, map, slice_get}
+use Rattle.std.specs.BTreeMap.{is_at}
+use Rattle.std.specs.Map.{lookup}
+use Rattle.std.specs.Ordering.{nat_cmp}
+use Rattle.task_handles.specs.Handles.{no_handles}
+use Rattle.task_index.specs.Counts.{passing}
+use Rattle.task_index.specs.Index.{IsIndex, filings}
+use Rattle.task_index.specs.Rows.{Each, IsRows, part}
+use Rattle.task_machine.specs.Core.{untouched}
+use Rattle.task_machine.specs.Maps.{get}
+use Rattle.task_machine.specs.Read.{live_in}
+use Rattle.task_machine.specs.declared.component.ExportKind.TheVariants as kind
+use Rattle.task_machine.specs.declared.records.Call.{Call}
+use Rattle.task_machine.specs.declared.records.Course.TheVariants as course
+use Rattle.task_machine.specs.declared.records.Goal.TheVariants as goal
+use Rattle.task_machine.specs.declared.records.Script.TheVariants as script
+use Rattle.task_machine.specs.declared.records.Thread.{Thread}
+use Rattle.task_machine.specs.declared.records.Work.{Work}
+use Rattle.task_machine.specs.declared.words.Phase.TheVariants as phase
+use Rattle.task_records.specs.Image.{Parts, core_of}
+use Rattle.task_records.specs.Kept.{AreKept, IsCallKept, IsGroupKept, IsSetKept}
+use Rattle.task_records.specs.Keys.{call_key, group_key, set_key, thread_key, work_key}
+use Rattle.task_records.specs.Kinds.{on_item}
+use Rattle.task_records.specs.Names.{AreHandlesNamed, HasHome, IsCallNamed, IsWorkNamed, OwnsHandle, kinds}
+use Rattle.task_records.specs.Places.{live_chain, live_work, place_chain, place_filing, ready_call, ready_call_chain, ready_work, ready_work_chain}
+use Rattle.task_records.specs.Rows.{HaveNodes, IsFollower, IsOfThread, IsSeated, Low, callers_chain, callers_row, is_of_instance, row, row_chain, shelf_chain}
+use Rattle.task_records.specs.declared.calls.GuestTask.{GuestTask}
+use Rattle.task_records.specs.declared.instances.InstanceRecord.{InstanceRecord}
+use Rattle.task_records.specs.declared.single.Single.{Single}
+use Rattle.task_records.specs.declared.threads.GuestThread.{GuestThread}
+use Rattle.task_records.specs.declared.works.HostWork.{HostWork}
+use Rattle.task_rules.specs.Works.{is_moving}
+use Rattle.task_table.specs.Mapped.{mapped}
+use Rattle.task_table.specs.Records.{AreApart, found_record}
+use Rattle.task_table.specs.Table.{IsTable, Placed, Table, children_of, place_at}
+
+-- The records of one kind: no number is twice, none is 0, and none is above those that were made.
+pub record SoundTable {E X : Type 0} (key : E → Option (ℕ × X)) (t : Table E) (made : ℕ) : Type 0 where
+  pub table : IsTable t
+  pub childless : (rep : ℕ) → children_of t rep ≡ 0
+  pub apart : AreApart key t.places
+  pub above_zero : found_record key 0 t.places ≡ None
+  pub later : (n : ℕ) → made < n → found_record key n t.places ≡ None
+
+pub record AreTables (p : Parts) : Type 0 where
+  pub threads : SoundTable thread_key p.threads p.made.threads
+  pub calls : SoundTable call_key p.calls p.made.threads
+  pub works : SoundTable work_key p.works p.made.works
+  pub sets : SoundTable set_key p.sets p.made.sets
+  pub groups : SoundTable group_key p.groups p.made.groups
+
+-- a record without what nothing hangs on
+abbrev pub loose_thread : Thread → Thread
+loose_thread t = record t { position = 0; registers = []; script = script.Start; handle = None; saved_own = None; saved_callee = None }
+
+abbrev pub bare_thread : GuestThread → GuestThread
+bare_thread g = record g { thread = loose_thread g.thread }
+
+-- of calls and works two fields are only counted
+abbrev pub loose_call : Call → Call
+loose_call c =
+    record c { kind = kind.Sync; started = false; starting_published = false; «end» = None; own_event = None; cancel_delivered = false; exited = false; result = None; handle = None; borrows = 0 }
+
+abbrev pub uninterested : Call → Call
+uninterested c = record c { interesting = false }
+
+abbrev pub bare_call : GuestTask → GuestTask
+bare_call g = record g { call = uninterested (loose_call g.call) }
+
+abbrev pub loose_work : Work → Work
+loose_work w = record w { cancelled = false; handle = None; borrows = 0 }
+
+abbrev pub unmoved : Work → Work
+unmoved w = record w { course = course.NoValue; phase = phase.Complete }
+
+abbrev pub bare_work : HostWork → HostWork
+bare_work w = record w { work = unmoved (loose_work w.work) }
+
+abbrev pub bare_instance : InstanceRecord → InstanceRecord
+bare_instance i = record i { instance = untouched; handles = no_handles; thread_handles = no_handles }
+
+abbrev pub bare : Parts → Parts
+bare p = record p {
+  threads = mapped (on_item bare_thread) p.threads;
+  calls = mapped (on_item bare_call) p.calls;
+  works = mapped (on_item bare_work) p.works;
+  instances = map bare_instance p.instances;
+  kept = record p.kept { interesting = 0; moving = 0 };
+  counter = record { limit = 0; live = 0 };
+  current = None;
+  trapped = false;
+}
+
+-- what holds of each entry of a table
+abbrev pub EachEntry : {E : Type 0} → (E → Type 0) → Table (Single E) → Type 0
+EachEntry {E} P t = (rep : ℕ) (q : Placed (Single E)) → place_at t rep ≡ Some q → P q.entry.item
+
+-- Names: what a record names stands where the record says.
+pub record AreNamed (p : Parts) : Type 0 where
+  pub threads : EachEntry (HasHome p) p.threads
+  pub calls : EachEntry (IsCallNamed p) p.calls
+  pub works : EachEntry (IsWorkNamed p) p.works
+  pub switch : IfSome p.switch (IsFollower p)
+
+-- Indexes and rows: each chain has just what the machine finds or keeps.
+pub record AreChained (p : Parts) : Type 0 where
+  pub places : IsIndex (place_chain p) p.places (filings place_filing p.threads)
+  pub ready_calls : IsIndex (ready_call_chain p) p.ready_calls (filings ready_call p.calls)
+  pub ready_works : IsIndex (ready_work_chain p) p.ready_works (filings ready_work p.works)
+  pub polled : IsIndex (live_chain p) p.polled (filings live_work p.works)
+  pub marks : IsRows (row_chain p) (λ q. q.mark.index) (IsSeated p) p.marks (row p)
+  pub shelves : IsRows (shelf_chain p) (λ q. q.shelf.index) (IsSeated p) p.shelves (part is_of_instance (row p))
+  pub low : Each IsOfThread (row p Low)
+  pub behind : IsRows (callers_chain p) (λ f. f.node.index) (IsFollower p) p.behind (callers_row p)
+
+-- Nodes: each entry has those by which it may stand in a row.
+pub record HaveRowNodes (p : Parts) : Type 0 where
+  pub marks : HaveNodes (λ (g : GuestThread). g.mark.index) p.threads p.marks
+  pub shelves : HaveNodes (λ (g : GuestThread). g.shelf.index) p.threads p.shelves
+  pub callers : HaveNodes (λ (g : GuestThread). g.caller.index) p.threads p.behind
+  pub works : HaveNodes (λ (w : HostWork). w.mark.index) p.works p.marks
+  pub apart : (r s : ℕ) (q : Placed (Single GuestThread)) (w : Placed (Single HostWork)) → place_at p.threads r ≡ Some q → place_at p.works s ≡ Some w → q.entry.item.mark.index ≡ w.entry.item.mark.index → ⊥
+
+-- Kept numbers, the groups that the trap finished, the rows of a core that has instances or host works, and room for results.
+pub record AreCounted (p : Parts) : Type 0 where
+  pub kept : AreKept (core_of p) p.kept
+  pub calls : EachEntry (IsCallKept (core_of p)) p.calls
+  pub sets : EachEntry (IsSetKept (core_of p)) p.sets
+  pub groups : EachEntry (IsGroupKept (core_of p)) p.groups
+  pub few : p.capacity ≤ 4294967295
+  pub finished : p.finished ≤ p.made.groups
+  pub high : (p.instances ≡ [] → ⊥) → IsSome p.high
+  pub low : (p.instances ≡ [] → ⊥) → IsSome p.low
+  pub works : EachEntry (λ (w : HostWork). IsSome p.high × IsSome p.live) p.works
+  pub results : (k : ℕ) (c : Call) → get (core_of p).calls k ≡ Some c → c.goal ≡ goal.Main → IsSome (lookup (is_at (nat_cmp k)) p.results)
+
+pub record IsWhole (p : Parts) : Type 0 where
+  pub named : AreNamed p
+  pub chained : AreChained p
+  pub nodes : HaveRowNodes p
+  pub counted : AreCounted p
+
+pub record Sound (p : Parts) : Type 0 where
+  pub tables : AreTables p
+  pub whole : IsWhole (bare p)
+  pub interesting : p.kept.interesting ≡ passing (λ c. c.interesting) (core_of p).calls
+  pub moving : p.kept.moving ≡ passing is_moving (core_of p).works
+  pub handles : (i : ℕ) (r : InstanceRecord) → slice_get p.instances i ≡ Some r → AreHandlesNamed (kinds (bare p)) r
+  pub owned : EachEntry (OwnsHandle p) p.threads
+  pub live : p.counter.live ≡ live_in (core_of p).handles + live_in (core_of p).thread_handles

@@ -1,0 +1,15 @@
+use task_handles::{HandleTable, ThreadHandleTable};
+use task_machine::Instance;
+
+/// An instance, with the handles that its guest has.
+#[derive(Drop)]
+pub struct InstanceRecord {
+    pub instance: Instance,
+    pub handles: HandleTable,
+    pub thread_handles: ThreadHandleTable,
+    /// The chain of its held threads.
+    pub held: usize,
+    /// The chains of its entries at high and at low.
+    pub high: usize,
+    pub low: usize,
+}

@@ -1,0 +1,138 @@
+ghost use Rattle.std.specs.Prelude.{◌≡◌};
+ghost use Rattle.task_records.specs.Seen.{IsSound, nothing, seen};
+ghost use Rattle.task_table.specs.Changes.{with_capacity};
+ghost use Rattle.task_table.specs.Table.{IsTable, new_table};
+
+use crate::calls::{GuestTask, TaskGroup};
+use crate::instances::InstanceRecord;
+use crate::sets::WaitSet;
+use crate::single::Single;
+use crate::threads::{Follower, GuestThread, Queued};
+use crate::works::HostWork;
+use std::alloc::Global;
+use std::collections::BTreeMap;
+use task_handles::HandleCounter;
+use task_links::Links;
+use task_machine::Made;
+use task_table::{ResourceTable, TableId};
+use task_wait::ThreadKey;
+
+/// Numbers that the machine counts in its records.
+#[derive(Clone, Copy)]
+pub struct Kept {
+    /// How many entries of the resource table are taken.
+    pub used: u64,
+    /// How many groups are live.
+    pub groups: u64,
+    /// How many calls are interesting.
+    pub interesting: u64,
+    /// How many host works are live, and how many of these move.
+    pub live: u64,
+    pub moving: u64,
+}
+
+/// The parts of a core.
+#[derive(Drop)]
+pub struct CoreParts {
+    pub alloc: Global,
+    pub threads: ResourceTable<Single<GuestThread>>,
+    pub calls: ResourceTable<Single<GuestTask>>,
+    pub works: ResourceTable<Single<HostWork>>,
+    pub sets: ResourceTable<Single<WaitSet>>,
+    pub groups: ResourceTable<Single<TaskGroup>>,
+    pub instances: Vec<InstanceRecord>,
+    /// How many handles are live, over all instances, and how many may be.
+    pub counter: HandleCounter,
+    /// The threads that wait, are blocked or held, or are under a thread.
+    pub places: Links<u32>,
+    /// The ready members of sets: calls, and host works.
+    pub ready_calls: Links<u32>,
+    pub ready_works: Links<u32>,
+    /// The live works.
+    pub polled: Links<u32>,
+    /// The entries at high and low, and of each instance there.
+    pub marks: Links<Queued>,
+    pub shelves: Links<Queued>,
+    /// The callers of threads.
+    pub behind: Links<Follower>,
+    /// The chains of high, of low and of the live works, made with the first instance or work.
+    pub high: Option<usize>,
+    pub low: Option<usize>,
+    pub live: Option<usize>,
+    /// The thread at switch.
+    pub switch: Option<Follower>,
+    /// The thread that runs.
+    pub current: Option<TableId<ThreadKey>>,
+    /// Of each call by main that was not taken yet its result, if it has returned.
+    pub results: BTreeMap<u64, Option<u64>>,
+    pub kept: Kept,
+    /// The groups up to this number were finished by the trap of the store.
+    pub finished: u64,
+    /// How many entries the resource table has room for.
+    pub capacity: usize,
+    pub made: Made,
+    pub trapped: bool,
+}
+
+const NOTHING_MADE: Made = Made {
+    threads: 0,
+    works: 0,
+    sets: 0,
+    groups: 0,
+};
+
+const NOTHING_KEPT: Kept = Kept {
+    used: 0,
+    groups: 0,
+    interesting: 0,
+    live: 0,
+    moving: 0,
+};
+
+// A table for one kind of record, whose places are as many as there can be.
+fn records<T>(alloc: Global) -> ResourceTable<Single<T>>
+    ensures empty { result ≡ with_capacity 4294967295 new_table }
+    ensures sound { IsTable result }
+{
+    let mut table = ResourceTable::new(alloc);
+    table.set_max_capacity(4_294_967_295);
+    table
+}
+
+impl CoreParts {
+    /// A core in which nothing was made: no instance, a limit of 100,000 handles, and room for
+    /// 1,000,000 entries.
+    pub fn new(alloc: Global) -> CoreParts
+        ensures sound { IsSound result }
+        ensures seen { seen result ≡ nothing }
+    {
+        CoreParts {
+            alloc,
+            threads: records(alloc),
+            calls: records(alloc),
+            works: records(alloc),
+            sets: records(alloc),
+            groups: records(alloc),
+            instances: Vec::new(alloc),
+            counter: HandleCounter::new(100_000),
+            places: Links::new(alloc),
+            ready_calls: Links::new(alloc),
+            ready_works: Links::new(alloc),
+            polled: Links::new(alloc),
+            marks: Links::new(alloc),
+            shelves: Links::new(alloc),
+            behind: Links::new(alloc),
+            high: None,
+            low: None,
+            live: None,
+            switch: None,
+            current: None,
+            results: BTreeMap::new(alloc),
+            kept: NOTHING_KEPT,
+            finished: 0,
+            capacity: 1_000_000,
+            made: NOTHING_MADE,
+            trapped: false,
+        }
+    }
+}

@@ -1,0 +1,128 @@
+ghost use Rattle.std.specs.Prelude.{◌<◌, ◌^◌, ◌≡◌, IfNone, IfSome, Ok, option_copied, option_map, slice_get};
+ghost use Rattle.task_machine.specs.Maps.{get};
+ghost use Rattle.task_machine.specs.Read.{instance_of, named_by, thread_at};
+ghost use Rattle.task_records.specs.Instances.{handle_table, named_of, thread_of as thread_named};
+ghost use Rattle.task_records.specs.Kinds.{item_of};
+ghost use Rattle.task_records.specs.Keys.{thread_key};
+ghost use Rattle.task_records.specs.Names.{IsHeldNamed, StandsAt, kinds};
+ghost use Rattle.task_records.specs.Seen.{IsSound, parts_of, seen};
+ghost use Rattle.task_table.specs.Answers.{item_at};
+ghost use Rattle.task_words.specs.StateView.{call_of, set_of, thread_of, work_of};
+
+use crate::calls::GuestTask;
+use crate::instances::InstanceRecord;
+use crate::parts::CoreParts;
+use crate::sets::WaitSet;
+use crate::threads::GuestThread;
+use crate::works::HostWork;
+use task_handles::{Held, Rep};
+use task_words::{CallId, SetId, ThreadId, WorkId};
+
+/// The record of a thread, if the id names one.
+pub fn thread(parts: &CoreParts, id: ThreadId) -> Option<&GuestThread>
+    requires { IsSound parts.now }
+    ensures is { option_map (λ g. g.now.thread) result ≡ get (seen parts.now).core.threads (thread_of (seen parts.now) id) }
+    ensures item { IfSome result (λ g. Ok g.now ≡ item_at item_of parts.now.threads id.rep id.serial) }
+    ensures number { IfSome result (λ g. g.now.number ≡ thread_of (seen parts.now) id) }
+    ensures nothing { IfNone result (thread_of (seen parts.now) id ≡ 0) }
+    ensures instance { IfSome result (λ g. g.now.instance ≡ instance_of (thread_of (seen parts.now) id) (seen parts.now).core) }
+    ensures stranger { IfNone result (0 ≡ instance_of (thread_of (seen parts.now) id) (seen parts.now).core) }
+{
+    match parts.threads.get(id) {
+        Ok(entry) => Some(entry),
+        Err(_) => None,
+    }
+}
+
+/// The record of a call, if the id names one.
+pub fn call(parts: &CoreParts, id: CallId) -> Option<&GuestTask>
+    requires { IsSound parts.now }
+    ensures is { option_map (λ g. g.now.call) result ≡ get (seen parts.now).core.calls (call_of (seen parts.now) id) }
+    ensures item { IfSome result (λ g. Ok g.now ≡ item_at item_of parts.now.calls id.rep id.serial) }
+    ensures number { IfSome result (λ g. g.now.number ≡ call_of (seen parts.now) id) }
+    ensures nothing { IfNone result (call_of (seen parts.now) id ≡ 0) }
+{
+    match parts.calls.get(id) {
+        Ok(entry) => Some(entry),
+        Err(_) => None,
+    }
+}
+
+/// The record of a host work, if the id names one.
+pub fn work(parts: &CoreParts, id: WorkId) -> Option<&HostWork>
+    requires { IsSound parts.now }
+    ensures is { option_map (λ g. g.now.work) result ≡ get (seen parts.now).core.works (work_of (seen parts.now) id) }
+    ensures item { IfSome result (λ g. Ok g.now ≡ item_at item_of parts.now.works id.rep id.serial) }
+    ensures number { IfSome result (λ g. g.now.number ≡ work_of (seen parts.now) id) }
+    ensures nothing { IfNone result (work_of (seen parts.now) id ≡ 0) }
+{
+    match parts.works.get(id) {
+        Ok(entry) => Some(entry),
+        Err(_) => None,
+    }
+}
+
+/// The record of a set, if the id names one.
+pub fn set(parts: &CoreParts, id: SetId) -> Option<&WaitSet>
+    requires { IsSound parts.now }
+    ensures is { option_map (λ g. g.now.set) result ≡ get (seen parts.now).core.sets (set_of (seen parts.now) id) }
+    ensures item { IfSome result (λ g. Ok g.now ≡ item_at item_of parts.now.sets id.rep id.serial) }
+    ensures number { IfSome result (λ g. g.now.number ≡ set_of (seen parts.now) id) }
+    ensures nothing { IfNone result (set_of (seen parts.now) id ≡ 0) }
+{
+    match parts.sets.get(id) {
+        Ok(entry) => Some(entry),
+        Err(_) => None,
+    }
+}
+
+/// An instance, if there is one of this number.
+pub fn instance(parts: &CoreParts, index: u32) -> Option<&InstanceRecord>
+    ensures is { option_map (λ r. r.now.instance) result ≡ get (seen parts.now).core.instances index }
+    ensures handles { option_map (λ r. handle_table named_of r.now.handles) result ≡ get (seen parts.now).core.handles index }
+    ensures thread_handles { option_map (λ r. handle_table thread_named r.now.thread_handles) result ≡ get (seen parts.now).core.thread_handles index }
+    ensures item { option_copied result ≡ slice_get parts.now.instances.items index }
+{
+    if (index as usize) < parts.instances.len() {
+        Some(&parts.instances[index as usize])
+    } else {
+        None
+    }
+}
+
+/// What a handle of an instance names; the numbers past those of handles name nothing.
+pub fn held(parts: &CoreParts, index: u32, handle: u64) -> Option<Held>
+    requires { IsSound parts.now }
+    ensures is { option_map named_of result ≡ named_by (seen parts.now).core.handles index handle }
+    ensures named { IfSome result (λ held. IsHeldNamed (kinds (parts_of parts.now)) held.kind held.rep) }
+    ensures small { IfSome result (λ held. handle < 2 ^ 32) }
+{
+    match instance(parts, index) {
+        Some(entry) => {
+            if handle > 4_294_967_295 {
+                None
+            } else {
+                entry.handles.get(handle as u32)
+            }
+        }
+        None => None,
+    }
+}
+
+/// What a thread handle of an instance names; the numbers past those of handles name nothing.
+pub fn held_thread(parts: &CoreParts, index: u32, handle: u64) -> Option<Rep>
+    requires { IsSound parts.now }
+    ensures is { option_map thread_named result ≡ thread_at index handle (seen parts.now).core }
+    ensures named { IfSome result (λ rep. StandsAt thread_key parts.now.threads rep.id rep.serial) }
+{
+    match instance(parts, index) {
+        Some(entry) => {
+            if handle > 4_294_967_295 {
+                None
+            } else {
+                entry.thread_handles.get(handle as u32)
+            }
+        }
+        None => None,
+    }
+}

@@ -1,0 +1,55 @@
+use crate::single::Single;
+use task_links::Node;
+use task_machine::Work;
+use task_table::Kind;
+use task_wait::HostTaskKey;
+
+/// A host work, under its number.
+#[derive(Clone, Copy)]
+pub struct HostWork {
+    pub number: u64,
+    pub work: Work,
+    /// The place of the thread that made it, if one did.
+    pub maker: u32,
+    /// The place of what `work.join` names, if it names anything.
+    pub joined: u32,
+    /// The place of its group, if it has one.
+    pub group: u32,
+    /// Its nodes among the ready members of a set, and among the live works.
+    pub ready: Node,
+    pub live: Node,
+    /// Its node among the entries of a mark.
+    pub mark: Node,
+    /// The chain of the threads that are blocked on it.
+    pub blocked: usize,
+}
+
+impl Kind<Single<HostWork>> for HostTaskKey {
+    ghost use Rattle.task_records.specs.Kinds.{entry_of, item_of, no_other, wrapped};
+
+    type Item = HostWork;
+
+    ghost entry_of = { entry_of };
+
+    ghost item_of = { item_of };
+
+    ghost wrapped = { wrapped };
+
+    ghost no_other = { no_other };
+
+    fn wrap(item: HostWork) -> Single<HostWork> {
+        Single { item }
+    }
+
+    fn view(entry: &Single<HostWork>) -> Option<&HostWork> {
+        Some(&entry.item)
+    }
+
+    fn view_mut(entry: &mut Single<HostWork>) -> Option<&mut HostWork> {
+        Some(&mut entry.item)
+    }
+
+    fn unwrap(entry: Single<HostWork>) -> Result<HostWork, Single<HostWork>> {
+        Ok(entry.item)
+    }
+}

@@ -1,0 +1,36 @@
+-- The first states of a store: its limits, and its instances one by one.
+use Rattle.std.proofs.Common.{arith, refl, suc, zero, ℕ, ◌≡◌, ◌≤◌, ◌∙◌}
+use Rattle.std.specs.Prelude.{None}
+use Rattle.make_words.specs.Instances.{with_instance}
+use Rattle.count_words.specs.Limits.{with_capacity, with_handle_limit}
+use Rattle.task_machine.proofs.MapLemmas.{get-insert_other}
+use Rattle.task_machine.proofs.SizeLemmas.{size-empty, size-insert_new}
+use Rattle.task_machine.specs.Core.{filled, fresh, untouched}
+use Rattle.task_machine.specs.Maps.{get, get-empty, size}
+
+module _ {X : Type 0} (x : X) where
+  past_filled : (n q : ℕ) → n ≤ q → get (filled x n) q ≡ None
+  past_filled zero q past = get-empty q
+  past_filled (suc n) q past = get-insert_other (filled x n) n x q (λ same. omega arith) ∙ past_filled n q (omega arith)
+
+  size_filled : (n : ℕ) → size (filled x n) ≡ n
+  size_filled zero = size-empty X
+  size_filled (suc n) =
+      let one = size-insert_new (filled x n) n x (past_filled n n (omega arith)) in
+      let rest = size_filled n in
+      omega arith
+
+-- how many instances a first state has
+pub size_fresh : (n handles capacity : ℕ) → size (fresh n handles capacity).instances ≡ n
+unfolding fresh
+size_fresh n handles capacity = size_filled untouched n
+
+-- one instance more is a first state, too
+pub fresh_more : (n handles capacity : ℕ) → with_instance (fresh n handles capacity) ≡ fresh (suc n) handles capacity
+unfolding fresh with_instance
+fresh_more n handles capacity = rw (size_filled untouched n) refl
+
+-- the limits of a new store may be set at once
+pub limits_set : (handles capacity : ℕ) → with_handle_limit handles (with_capacity capacity (fresh 0 100000 1000000)) ≡ fresh 0 handles capacity
+unfolding fresh
+limits_set handles capacity = refl

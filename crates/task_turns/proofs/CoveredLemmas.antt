@@ -1,0 +1,61 @@
+-- Components of callbacks with start scripts alone.
+use Rattle.std.proofs.Common.{ap, arith, refl, subst, sym}
+use Rattle.std.specs.List.{list_all}
+use Rattle.std.specs.Option.{option_and_then, option_map_or}
+use Rattle.std.proofs.lemmas.Option.{slice_get_within}
+use Rattle.std.specs.Prelude.{IsSome, List, None, Option, Some, [], is_some, length, slice_get, true, ◌<◌, ◌≡◌, ◌≤◌}
+use Rattle.task_laws.specs.Settings.{CodesInCallbacks, HasNoCode}
+use Rattle.task_machine.specs.Core.{Core}
+use Rattle.task_machine.specs.Maps.{get}
+use Rattle.task_machine.specs.Read.{is_callback}
+use Rattle.task_machine.specs.declared.component.Callee.{Callee}
+use Rattle.task_machine.specs.declared.component.Component.{Component}
+use Rattle.task_machine.specs.declared.component.ExportDef.{ExportDef}
+use Rattle.task_machine.specs.declared.component.InstanceDef.{InstanceDef}
+use Rattle.task_machine.specs.declared.op.Op.{Op}
+use Rattle.task_machine.specs.declared.records.Script.{Script}
+use Rattle.task_machine.specs.declared.records.Turn.{Turn}
+use Rattle.task_machine.specs.declared.records.Script.TheVariants as script
+use Rattle.task_rules.specs.Scripts.{export_at, script_in}
+use Rattle.task_turns.specs.Covered.{HasPlainExports, IsCovered, IsPlainExport, is_covered_op}
+use Rattle.task_turns.specs.Turn.{Sits}
+
+module _ (c : Component) (plain : HasPlainExports c) where
+  -- a start script is an export's, and there are no other scripts
+  each_script : (P : List Op → Type 0) → P [] → ((e : ExportDef) → IsPlainExport e → P e.start) → (f : Callee) (x : Script) → P (script_in c f x)
+  each_script P none start f script.Start = go (export_at c f) refl
+    where
+      go : (o : Option ExportDef) → export_at c f ≡ o → P (option_map_or (λ (d : ExportDef). d.start) o [])
+      go None e = none
+      go (Some d) e = start d (plain.exports f d e)
+  each_script P none start f script.React = go (export_at c f) refl
+    where
+      go : (o : Option ExportDef) → export_at c f ≡ o → P (option_map_or (λ (d : ExportDef). d.react) o [])
+      go None e = none
+      go (Some d) e = subst P (sym (plain.exports f d e).react) none
+  each_script P none start f (script.Slot j) = subst P (sym (plain.slots f.instance j)) none
+
+  pub covered_of : IsCovered c
+  covered_of = record {
+    called_back = λ f d at. (plain.exports f d at).called_back;
+    few_params = λ f d at. (plain.exports f d at).few_params;
+    short = each_script (λ (ops : List Op). length ops ≤ 4096) (omega arith) (λ e p. p.short);
+    ops = each_script (λ (ops : List Op). list_all is_covered_op ops ≡ true) refl (λ e p. p.ops);
+  }
+
+  pub codes_of : CodesInCallbacks c
+  codes_of = record {
+    starts = λ f d at other. absurd (let called = ap is_callback (plain.exports f d at).called_back in cc);
+    reacts = λ f d at other. absurd (let called = ap is_callback (plain.exports f d at).called_back in cc);
+    slots = λ i j. subst HasNoCode (sym (plain.slots i j)) (λ p o e. absurd (cc));
+  }
+
+-- ---- Instances
+
+-- the instance of an export is there
+pub home_there : (c : Component) (f : Callee) (p : Turn) (s : Core) → Sits c p s → IsSome (export_at c f) → IsSome (get s.instances f.instance)
+home_there c f p s sits there = sits.there f.instance (below (slice_get c.instances f.instance) refl there)
+  where
+    below : (o : Option InstanceDef) → slice_get c.instances f.instance ≡ o → IsSome (option_and_then (λ (d : InstanceDef). slice_get d.exports f.export) o) → f.instance < length c.instances
+    below None e h = absurd (cc)
+    below (Some d) e h = slice_get_within c.instances f.instance d e

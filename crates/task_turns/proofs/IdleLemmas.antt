@@ -1,0 +1,163 @@
+-- What comes of a turn that finds nothing, and of polls.
+use Rattle.std.proofs.Common.{ap, ap₂, arith, inl, inr, refl, subst, sym, ◌∙◌}
+use Rattle.std.proofs.lemmas.Bool.Decides.{nat_tests}
+use Rattle.std.specs.List.{list_any}
+use Rattle.std.specs.Option.{option_map_or}
+use Rattle.std.specs.Prelude.{Bool, List, None, Option, Some, [], false, is_none, is_some, not, suc, true, zero, ℕ, ◌&&◌, ◌+◌, ◌<◌, ◌∷◌, ◌≡◌, ◌||◌, ◌⊎◌}
+use Rattle.task_laws.proofs.PolledWorks.{none_passes, polled_is_live}
+use Rattle.task_laws.specs.Order.{WorkEntries, WorksQueued, is_finishing, is_host_of, is_push_of, is_queued, stands}
+use Rattle.task_machine.specs.Core.{Core, Main}
+use Rattle.task_machine.specs.Maps.{get, numbers}
+use Rattle.task_machine.specs.Read.{blocked_on, is_at, is_blocked_on, is_live, next_entry, or_first, or_high, place_of}
+use Rattle.task_machine.specs.declared.component.Component.{Component}
+use Rattle.task_machine.specs.declared.records.Entry.{Entry}
+use Rattle.task_machine.specs.declared.records.Entry.TheVariants as entry
+use Rattle.task_machine.specs.declared.records.Place.{Place}
+use Rattle.task_machine.specs.declared.records.Place.TheVariants as place
+use Rattle.task_machine.specs.declared.records.Stage.{Stage}
+use Rattle.task_machine.specs.declared.records.Stage.TheVariants as stage
+use Rattle.task_machine.specs.declared.records.Subtask.{Subtask}
+use Rattle.task_machine.specs.declared.records.Turn.{Turn}
+use Rattle.task_machine.specs.declared.records.Turn.TheVariants as turn
+use Rattle.task_machine.specs.declared.records.Work.{Work}
+use Rattle.task_machine.specs.declared.words.Mark.{Mark}
+use Rattle.task_rules.specs.Outcome.{is_at_rest}
+use Rattle.task_rules.proofs.StopLemmas.{find_passes}
+use Rattle.task_rules.specs.Places.{HasPlace, Placed, is_at_high, is_at_low, one_if, says}
+use Rattle.task_rules.specs.Stalled.{Setting, is_idle, is_idle_trap, is_queued_or_finishing, is_unended_take, main_pends, works_rest}
+use Rattle.task_rules.specs.Turns.{nothing_stands, settled_futures, settled_take, settled_turn}
+use Rattle.task_rules.specs.Works.{has_live_work, has_moving_work, next_polled}
+use Rattle.task_turns.proofs.OrderLemmas.{none_some}
+use Rattle.task_ops.specs.Steps.{turn_after}
+use Rattle.task_ops.specs.declared.came.Came.{Came}
+use Rattle.task_ops.specs.declared.came.Came.TheVariants as came
+use Rattle.task_turns.specs.Turn.{IsFree, IsSettled, Makes, PendsIn, Turned, Turns, idle_line_of, state_at}
+use Rattle.task_turns.specs.declared.made.Made.{Made}
+use Rattle.task_words.specs.Apart.{IsBlockedUnqueued, IsUnqueued, work_entries}
+use Rattle.task_words.specs.StateView.{StateView}
+
+-- ---- Nothing stands
+
+none_high : (o : Option ℕ) (h l : List Entry) → or_high o h l ≡ None → h ≡ []
+none_high (Some n) h l e = absurd (cc)
+none_high None [] l e = refl
+none_high None (x ∷ es) l e = absurd (cc)
+
+nothing_high : (s : Core) → next_entry s ≡ None → s.queues.high ≡ []
+unfolding next_entry
+nothing_high s none = none_high s.queues.switch s.queues.high s.queues.low none
+
+stage_rests : (g : Stage) → 0 ≡ one_if (is_queued g) → 0 ≡ one_if (is_finishing g) → is_queued_or_finishing g ≡ false
+stage_rests g push host = grind arith
+
+-- a work that is queued or finishing has its entry
+pub rest_of : (s : Core) → WorksQueued s → next_entry s ≡ None → has_moving_work s ≡ false → works_rest s ≡ true
+rest_of s q none moving =
+    let high = nothing_high s none in
+    let off = none_passes (λ (w : Work). is_queued_or_finishing w.stage) s.works (λ i w at. let e : WorkEntries s i w = q.each i w at in
+    stage_rests w.stage (sym (ap (stands (is_push_of i)) high) ∙ e.push) (sym (ap (stands (is_host_of i)) high) ∙ e.host)) in
+    ap₂ (λ a b. not a && not b) moving off
+
+-- ---- Where nothing can go on
+
+trap_of : (b : Bool) → is_idle_trap (idle_line_of b) ≡ b
+trap_of true = refl
+trap_of false = refl
+
+none_of : {X : Type 0} (o : Option X) → is_none o ≡ true → o ≡ None
+none_of None e = refl
+none_of (Some v) e = absurd (cc)
+
+flip : (a b : Bool) → (not a || b) ≡ (b || not a)
+flip true true = refl
+flip true false = refl
+flip false true = refl
+flip false false = refl
+
+no_idle : (a b c d : Bool) → a ≡ false ⊎ (b ≡ false ⊎ c ≡ false) → ((a && (b && c)) && d) ≡ false
+no_idle a b c d off = grind arith
+
+module _ (x : Setting) (s : Core) (m : Main) (b : Bool) (idle : x.idle ≡ idle_line_of b) where
+  -- another turn, an entry that stands and a work that goes on are no rest
+  pub rest_else : (p : Turn) → is_unended_take p ≡ false → is_at_rest x (state_at s m p) ≡ false
+  unfolding is_at_rest is_idle
+  rest_else p other = no_idle (is_unended_take p && main_pends x s m) (nothing_stands s) (works_rest s) (not (is_idle_trap x.idle) || has_live_work s) (inl (ap (λ v. v && main_pends x s m) other))
+
+  pub rest_stands : (p : Turn) → nothing_stands s ≡ false → is_at_rest x (state_at s m p) ≡ false
+  unfolding is_at_rest is_idle
+  rest_stands p stands = no_idle (is_unended_take p && main_pends x s m) (nothing_stands s) (works_rest s) (not (is_idle_trap x.idle) || has_live_work s) (inr (inl stands))
+
+  pub rest_moves : (p : Turn) → has_moving_work s ≡ true → is_at_rest x (state_at s m p) ≡ false
+  unfolding is_at_rest is_idle
+  rest_moves p moving = no_idle (is_unended_take p && main_pends x s m) (nothing_stands s) (works_rest s) (not (is_idle_trap x.idle) || has_live_work s)
+      (inr (inr (ap (λ v. not v && not (list_any (λ e. is_queued_or_finishing e.1.stage) s.works.list)) moving)))
+
+  pub rest_take : (p : Turn) → is_unended_take p ≡ true → WorksQueued s → nothing_stands s ≡ true → has_moving_work s ≡ false → PendsIn x s m p → is_at_rest x (state_at s m p) ≡ (has_live_work s || not b)
+  unfolding is_at_rest is_idle
+  rest_take (turn.Take false) take q none moving pends =
+      let rest = rest_of s q (none_of (next_entry s) none) moving in
+      rw none (rw pends (rw rest (ap (λ v. not v || has_live_work s) (ap is_idle_trap idle ∙ trap_of b) ∙ flip b (has_live_work s))))
+  rest_take p take q none moving pends = absurd (cc)
+
+-- ---- Polls
+
+-- a settled turn of polls has a work to be polled
+pub polled_some : (k : ℕ) (s : Core) → IsSettled s (turn.Futures k) → next_polled k s ≡ None → ⊥
+polled_some k s settled none = absurd (let e = sym (ap (settled_futures k s) none) ∙ settled in cc)
+
+-- and one after a work ended has an entry to be taken
+pub ended_some : (s : Core) → IsSettled s (turn.Take true) → next_entry s ≡ None → ⊥
+ended_some s settled none = absurd (let e = sym (ap (λ (o : Option (Mark × Entry)). settled_take true (is_none o)) none) ∙ settled in cc)
+
+pub polled_live : (k i : ℕ) (s : Core) → get s.works 0 ≡ None → next_polled k s ≡ Some i → 0 < i
+polled_live k zero s none e = absurd (let l = polled_is_live k s 0 e in let z = ap (λ (o : Option Work). option_map_or is_live o false) none in cc)
+polled_live k (suc i) s none e = omega arith
+
+both : (i : ℕ) (es : List Entry) → stands (is_push_of i) es ≡ 0 → stands (is_host_of i) es ≡ 0 → work_entries i es ≡ 0
+both i [] push host = refl
+both i (entry.Push j ∷ es) push host = let r = both i es in grind arith
+both i (entry.Host j ∷ es) push host = let r = both i es in grind arith
+both i (entry.Thread n ∷ es) push host = let r = both i es in grind arith
+
+live_stage : (i : ℕ) (s : Core) → WorksQueued s → (o : Option Work) → get s.works i ≡ o → option_map_or is_live o false ≡ true → work_entries i s.queues.high ≡ 0
+live_stage i s q None at live = absurd (cc)
+live_stage i s q (Some w) at live = let e : WorkEntries s i w = q.each i w at in both i s.queues.high (e.push ∙ not_queued w live) (e.host ∙ not_finishing w live)
+  where
+    not_queued : (w : Work) → is_live w ≡ true → one_if (is_queued w.stage) ≡ 0
+    not_queued w live = grind arith
+
+    not_finishing : (w : Work) → is_live w ≡ true → one_if (is_finishing w.stage) ≡ 0
+    not_finishing w live = grind arith
+
+-- a live work has no entry
+pub polled_unqueued : (k i : ℕ) (s : Core) → WorksQueued s → next_polled k s ≡ Some i → work_entries i s.queues.high ≡ 0
+polled_unqueued k i s q e = live_stage i s q (get s.works i) refl (polled_is_live k s i e)
+
+apart_from_marks : (sub : Subtask) (o : Option Place) → option_map_or (is_blocked_on sub) o false ≡ true → (says is_at_high o ≡ 0) × (says is_at_low o ≡ 0)
+apart_from_marks sub None h = absurd (cc)
+apart_from_marks sub (Some (place.Blocked other)) h = (refl, refl)
+apart_from_marks sub (Some p) h = absurd (cc)
+
+-- who is blocked has no entry
+pub blocked_out : (sub : Subtask) (s : Core) → Placed s → IsBlockedUnqueued sub s
+unfolding blocked_on
+blocked_out sub s placed n at =
+    let p : HasPlace n s = placed n in
+    let e = apart_from_marks sub (place_of n s) (find_passes (λ k. is_at k s (is_blocked_on sub)) (numbers s.threads) n at) in
+    record { high = p.high ∙ e.0; low = p.low ∙ e.1 }
+
+-- ---- A turn in which main has no part
+
+-- the turn after an op or a taking
+pub after_free : (r : Came) → IsFree (turn_after r)
+after_free (came.Goes l n) x s m = tt
+after_free (came.Stops l) x s m = tt
+after_free (came.Traps why) x s m = tt
+after_free (came.Fails i) x s m = tt
+
+pub free_at : (p q : Turn) → p ≡ q → IsFree q → IsFree p
+free_at p q same free = subst (λ (r : Turn). IsFree r) (sym same) free
+
+-- a step that main has no part in
+pub makes_turns : (x : Setting) (p : Turn) (s : StateView) (made : Made) (t : StateView) → Makes x.component p s made t → (m : Main) → PendsIn x t.core m made.turn → Turns x p m s made m t
+makes_turns x p s made t h m pends = record { step = h.step x refl m; running = h.running; over = h.over; pends = pends }

@@ -1,0 +1,16 @@
+pub mod GoesLemmas
+pub mod OrderLemmas
+pub mod RunLemmas
+pub mod ContextLemmas
+pub mod DriveLemmas
+pub mod StretchLemmas
+pub mod TakenLemmas
+pub mod ShowLemmas
+pub mod KeptLemmas
+pub mod PollLemmas
+pub mod RestLemmas
+pub mod SettleLemmas
+pub mod IdleLemmas
+pub mod MainLemmas
+pub mod FreshLemmas
+pub mod CoveredLemmas

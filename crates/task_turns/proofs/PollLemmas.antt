@@ -1,0 +1,141 @@
+-- The poll of a live work makes a step.
+use Rattle.std.proofs.Common.{ap, arith, refl, subst, sym, ◌∙◌}
+use Rattle.std.proofs.lemmas.Bool.Decides.{nat_tests}
+use Rattle.std.specs.Prelude.{Bool, List, None, Option, Some, false, is_none, not, option_map, true, ℕ, ◌≡◌}
+use Rattle.task_machine.proofs.CommuteLemmas.{get-change}
+use Rattle.task_machine.specs.Core.{Began, MainPlace, Refused, Scripted, Unscripted}
+use Rattle.task_machine.specs.Maps.{get}
+use Rattle.task_machine.specs.Read.{phase_of}
+use Rattle.task_machine.specs.Write.{on_work, set_course}
+use Rattle.task_machine.specs.declared.component.Callee.{Callee}
+use Rattle.task_machine.specs.declared.component.HostDef.{HostDef}
+use Rattle.task_machine.specs.declared.label.MainLabel.{MainLabel}
+use Rattle.task_machine.specs.declared.label.MainLabel.TheVariants as main_label
+use Rattle.task_machine.specs.declared.scenario.MainOpDef.{MainOpDef}
+use Rattle.task_machine.specs.declared.trap.Trap.{Trap}
+use Rattle.task_rules.specs.MainOps.{Abort, Answer, Await, Finish, MainAct, MainProgress, Quiet, Ready, Spawn, Start, act_of, finish_result, has_interesting, is_complete, is_ready_for_call, line_of, main_row, op_at, start_act, start_refusal, unless_pending}
+use Rattle.task_machine.specs.Core.{Core, Main}
+use Rattle.task_machine.specs.declared.component.Component.{Component}
+use Rattle.task_machine.specs.declared.label.Label.{Label}
+use Rattle.task_machine.specs.declared.label.Label.TheVariants as label
+use Rattle.task_machine.specs.declared.label.LoopLabel.TheVariants as loop_label
+use Rattle.task_machine.specs.declared.records.Turn.{Turn}
+use Rattle.task_machine.specs.declared.records.Turn.TheVariants as turn
+use Rattle.task_ops.specs.Polled.{PollMeets}
+use Rattle.task_ops.specs.declared.works.Polled.{Polled}
+use Rattle.task_ops.specs.declared.works.Polled.TheVariants as polled
+use Rattle.task_rules.specs.Outcome.{outcome_of_label}
+use Rattle.task_rules.specs.Stalled.{Setting, is_pending, main_pends, pends_at}
+use Rattle.task_rules.specs.Step.{FuturesStep, Step}
+use Rattle.task_rules.specs.Step as machine
+use Rattle.task_rules.specs.Turns.{at_turn, nothing_stands, settled_futures, settled_take, settled_turn}
+use Rattle.task_rules.specs.Works.{Ends, FailsNow, Poll, StillPends, next_polled, poll_of, poll_pends}
+use Rattle.task_turns.specs.Turn.{Makes, PendsIn, is_open, runs_in, state_at}
+use Rattle.task_turns.specs.declared.made.Made.{Made}
+use Rattle.task_words.specs.StateView.{StateView, thread_of}
+
+abbrev pub label_by : ℕ → Polled → Label
+label_by i polled.Pends = label.Loop (loop_label.FuturePends i)
+label_by i polled.Ends = label.Loop (loop_label.FutureEnds i)
+label_by i polled.Fails = label.Loop (loop_label.FutureFails i)
+
+abbrev pub turn_by : ℕ → Polled → Core → Turn
+turn_by i polled.Pends t = settled_turn t (turn.Futures i)
+turn_by i polled.Ends t = settled_turn t (turn.Take true)
+turn_by i polled.Fails t = turn.Over
+
+polled_as : (k i : ℕ) (s t : Core) (m : Main) (r : Polled) (p : Poll) → PollMeets i p s r t → machine.Polled (state_at s m (turn.Futures k)) i p (label_by i r) (state_at t m (turn_by i r t))
+unfolding at_turn
+polled_as k i s t m r (StillPends host) h = (ap (label_by i) h.0, ap (λ (q : Polled). state_at t m (turn_by i q t)) h.0 ∙ ap (λ (u : Core). state_at u m (turn_by i polled.Pends u)) h.1)
+polled_as k i s t m r (Ends v) h = (ap (label_by i) h.0, ap (λ (q : Polled). state_at t m (turn_by i q t)) h.0 ∙ ap (λ (u : Core). state_at u m (turn_by i polled.Ends u)) h.1)
+polled_as k i s t m r FailsNow h = (ap (label_by i) h.0, ap (λ (q : Polled). state_at t m (turn_by i q t)) h.0 ∙ ap (λ (u : Core). state_at u m (turn_by i polled.Fails u)) h.1)
+
+poll_step : (k i : ℕ) (s t : Core) (m : Main) (r : Polled) → next_polled k s ≡ Some i → PollMeets i (poll_of i s) s r t → (x : Setting) → Step x (state_at s m (turn.Futures k)) (label_by i r) (state_at t m (turn_by i r t))
+unfolding Step
+poll_step k i s t m r next h x = subst (λ (o : Option ℕ). FuturesStep (state_at s m (turn.Futures k)) o (label_by i r) (state_at t m (turn_by i r t))) (sym next) (polled_as k i s t m r (poll_of i s) h)
+
+-- ---- The turn then
+
+pub futures_open : (n : ℕ) (s : Core) (o : Option ℕ) → (is_open (settled_futures n s o) ≡ true) × (runs_in (settled_futures n s o) ≡ None)
+futures_open n s None = (refl, refl)
+futures_open n s (Some i) = (refl, refl)
+
+take_open : (b : Bool) → (is_open (settled_take true b) ≡ true) × (runs_in (settled_take true b) ≡ None)
+take_open true = (refl, refl)
+take_open false = (refl, refl)
+
+none_runs : (i : ℕ) (r : Polled) (t : Core) → runs_in (turn_by i r t) ≡ None
+none_runs i polled.Pends t = (futures_open i t (next_polled i t)).1
+none_runs i polled.Ends t = (take_open (nothing_stands t)).1
+none_runs i polled.Fails t = refl
+
+over_by : (i : ℕ) (r : Polled) (t : Core) → is_none (outcome_of_label (label_by i r)) ≡ is_open (turn_by i r t)
+over_by i polled.Pends t = sym (futures_open i t (next_polled i t)).0
+over_by i polled.Ends t = sym (take_open (nothing_stands t)).0
+over_by i polled.Fails t = refl
+
+pub poll_makes : (c : Component) (k i : ℕ) (s t : StateView) (r : Polled) (made : Made) → next_polled k s.core ≡ Some i → PollMeets i (poll_of i s.core) s.core r t.core → s.current ≡ None → t.current ≡ s.current → made.label ≡ label_by i r → made.turn ≡ turn_by i r t.core → Makes c (turn.Futures k) s made t
+poll_makes c k i s t r made next meets none current label_is turn_is = record {
+  step = λ x component m. subst (λ (l : Label). Step x (state_at s.core m (turn.Futures k)) l (state_at t.core m made.turn)) (sym label_is)
+      (subst (λ (p : Turn). Step x (state_at s.core m (turn.Futures k)) (label_by i r) (state_at t.core m p)) (sym turn_is) (poll_step k i s.core t.core m r next meets x));
+  running = ap (option_map (λ id. thread_of t id)) (current ∙ none) ∙ sym (ap runs_in turn_is ∙ none_runs i r t.core);
+  over = ap (λ (l : Label). is_none (outcome_of_label l)) label_is ∙ (over_by i r t.core ∙ ap is_open (sym turn_is));
+}
+
+-- ---- Main's op pends still
+
+no_start : (c : Component) (k : ℕ) (e : Callee) (words : List ℕ) (s : Core) (o : Option Trap) → is_pending (start_act c k e words s o) ≡ false
+no_start c k e words s None = refl
+no_start c k e words s (Some why) = refl
+
+finish_same : (k n : ℕ) (s t : Core) (o : Option ℕ) → is_pending (finish_result k n s o) ≡ is_pending (finish_result k n t o)
+finish_same k n s t None = refl
+finish_same k n s t (Some v) = refl
+
+unless_same : (b : Bool) (l k : MainLabel) (s t : Core) → is_pending (unless_pending b l s) ≡ is_pending (unless_pending b k t)
+unless_same true l k s t = refl
+unless_same false l k s t = refl
+
+phase_same : (i j : ℕ) (host : HostDef) (s : Core) → phase_of j (poll_pends i host s) ≡ phase_of j s
+unfolding poll_pends set_course on_work
+phase_same i j host s = grind (arith, nat_tests, get-change)
+
+row_same : (c : Component) (k i : ℕ) (host : HostDef) (s : Core) (act : MainAct) → is_pending (main_row c k s act) ≡ true → is_pending (main_row c k (poll_pends i host s) act) ≡ true
+unfolding poll_pends set_course on_work has_interesting is_ready_for_call
+row_same c k i host s (Start e words) h = absurd (let none = no_start c k e words s (start_refusal s) in cc)
+row_same c k i host s (Finish (Began n)) h = finish_same k n (poll_pends i host s) s (get s.results n) ∙ h
+row_same c k i host s (Finish (Refused why)) h = absurd (cc)
+row_same c k i host s (Spawn n) h = absurd (cc)
+row_same c k i host s (Abort n) h = absurd (cc)
+row_same c k i host s (Await n) h =
+    ap (λ p. is_pending (unless_pending (is_complete p) (main_label.Await k) (poll_pends i host s))) (phase_same i n host s)
+    ∙ (unless_same (is_complete (phase_of n s)) (main_label.Await k) (main_label.Await k) (poll_pends i host s) s ∙ h)
+row_same c k i host s Quiet h = unless_same (not (has_interesting s)) main_label.Quiet main_label.Quiet (poll_pends i host s) s ∙ h
+row_same c k i host s (Ready n) h = unless_same (is_ready_for_call n s) main_label.Ready main_label.Ready (poll_pends i host s) s ∙ h
+row_same c k i host s (Answer v) h = absurd (cc)
+
+at_same : (x : Setting) (i : ℕ) (host : HostDef) (s : Core) (p : MainPlace) (o : Option MainOpDef) → pends_at x s p o ≡ true → pends_at x (poll_pends i host s) p o ≡ true
+at_same x i host s p None h = refl
+at_same x i host s p (Some o) h = row_same x.component (line_of p o) i host s (act_of p o) h
+
+pends_same : (x : Setting) (i : ℕ) (host : HostDef) (s : Core) (m : Main) → main_pends x s m ≡ true → main_pends x (poll_pends i host s) m ≡ true
+pends_same x i host s (Scripted p) h = at_same x i host s p (op_at x.script p) h
+pends_same x i host s Unscripted h = refl
+
+pub in_futures : (x : Setting) (s : Core) (m : Main) (n : ℕ) (o : Option ℕ) → main_pends x s m ≡ true → PendsIn x s m (settled_futures n s o)
+in_futures x s m n None h = h
+in_futures x s m n (Some i) h = h
+
+in_take : (x : Setting) (s : Core) (m : Main) (b : Bool) → PendsIn x s m (settled_take true b)
+in_take x s m true = tt
+in_take x s m false = tt
+
+pending_by : (x : Setting) (i : ℕ) (s t : Core) (m : Main) (p : Poll) (r : Polled) → PollMeets i p s r t → main_pends x s m ≡ true → PendsIn x t m (turn_by i r t)
+pending_by x i s t m (StillPends host) r h pends = subst (λ (q : Polled). PendsIn x t m (turn_by i q t)) (sym h.0)
+    (in_futures x t m i (next_polled i t) (subst (λ (u : Core). main_pends x u m ≡ true) (sym h.1) (pends_same x i host s m pends)))
+pending_by x i s t m (Ends v) r h pends = subst (λ (q : Polled). PendsIn x t m (turn_by i q t)) (sym h.0) (in_take x t m (nothing_stands t))
+pending_by x i s t m FailsNow r h pends = subst (λ (q : Polled). PendsIn x t m (turn_by i q t)) (sym h.0) tt
+
+-- after a poll main's op pends still, where it is to
+pub poll_pending : (x : Setting) (i : ℕ) (s t : Core) (m : Main) (r : Polled) (p : Turn) → PollMeets i (poll_of i s) s r t → p ≡ turn_by i r t → main_pends x s m ≡ true → PendsIn x t m p
+poll_pending x i s t m r p h is pends = subst (PendsIn x t m) (sym is) (pending_by x i s t m (poll_of i s) r h pends)

@@ -1,0 +1,116 @@
+-- A step of the running thread.
+use Rattle.std.proofs.Common.{arith, ap, refl, subst, sym, ◌∙◌}
+use Rattle.std.specs.List.{list_all}
+use Rattle.std.specs.Option.{option_map_or}
+use Rattle.std.specs.Prelude.{Bool, List, Option, Some, [], slice_get, suc, true, unwrap_or, zero, ℕ, ◌∷◌, ◌≡◌}
+use Rattle.task_machine.specs.Core.{Core, Main}
+use Rattle.task_machine.specs.Labels.{choice_of}
+use Rattle.task_machine.specs.Maps.{get}
+use Rattle.task_machine.specs.Read.{callee_of, next_entry, place_of, position_of, task_of}
+use Rattle.task_machine.specs.declared.component.Callee.{Callee}
+use Rattle.task_machine.specs.declared.component.Component.{Component}
+use Rattle.task_machine.specs.declared.label.Label.{Label}
+use Rattle.task_machine.specs.declared.label.Label.TheVariants as label
+use Rattle.task_machine.specs.declared.label.TakeLabel.TheVariants as take_label
+use Rattle.task_machine.specs.declared.records.Entry.TheVariants as entry
+use Rattle.task_machine.specs.declared.words.Mark.{Mark}
+use Rattle.task_machine.specs.declared.op.Op.{Op}
+use Rattle.task_machine.specs.declared.op.Op.TheVariants as op
+use Rattle.task_machine.specs.declared.op.TaskOp.TheVariants as task
+use Rattle.task_machine.specs.declared.records.Script.{Script}
+use Rattle.task_machine.specs.declared.records.Thread.{Thread}
+use Rattle.task_machine.specs.declared.records.Turn.{Turn}
+use Rattle.task_machine.specs.declared.records.Turn.TheVariants as turn
+use Rattle.task_ops.proofs.MeetLemmas.{meeting_is_step, taking_is_step}
+use Rattle.task_ops.specs.Came.{Meets}
+use Rattle.task_ops.specs.Stays.{StaysAfter}
+use Rattle.task_ops.specs.Steps.{core_after, label_of, turn_after}
+use Rattle.task_ops.specs.declared.came.Came.{Came}
+use Rattle.task_ops.specs.declared.came.Came.TheVariants as came
+use Rattle.task_rules.specs.Scripts.{op_of, script_in, script_of}
+use Rattle.task_rules.specs.Stalled.{Setting}
+use Rattle.task_rules.specs.Step.{Step, did, op_row}
+use Rattle.task_rules.specs.Takes.{popped, pushed, thread_taken}
+use Rattle.task_rules.specs.Turns.{at_turn, goes_to}
+use Rattle.task_table.specs.declared.id.TableId.{TableId}
+use Rattle.task_turns.specs.Covered.{is_covered_op}
+use Rattle.task_turns.specs.Turn.{state_at}
+use Rattle.task_wait.specs.declared.keys.ThreadKey.{ThreadKey}
+use Rattle.task_words.specs.StateView.{StateView, thread_of}
+
+-- ---- The op
+
+module _ (c : Component) (n : ℕ) (s : Core) (t : Thread) (here : get s.threads n ≡ Some t) (ops : List Op) (f : Callee) (k p : ℕ) (x : Script) (callee : f ≡ callee_of k s) (call : k ≡ task_of n s)
+    (script : x ≡ t.script) (read : ops ≡ script_in c f x) (place : p ≡ position_of n s) where
+  pub script_is : script_of c n s ≡ ops
+  unfolding script_of
+  script_is =
+      ap (λ (o : Option Thread). option_map_or (λ (u : Thread). script_in c (callee_of u.call s) u.script) o []) here
+      ∙ (ap (λ j. script_in c (callee_of j s) t.script) (sym (call ∙ ap (λ (o : Option Thread). option_map_or (λ (u : Thread). u.call) o 0) here))
+      ∙ (ap (λ g. script_in c g t.script) (sym callee) ∙ (ap (script_in c f) (sym script) ∙ sym read)))
+
+  -- the row of the op at the thread's place; at the script's end it exits
+  pub row_at : (o : Option Op) → o ≡ slice_get ops p → (r : Came) (u : Core) → Meets (op_row c n s (choice_of (label_of n r)) (unwrap_or o (op.Task task.Exit))) s r u → Meets (did c n s (choice_of (label_of n r))) s r u
+  unfolding did op_of
+  row_at o e r u h = subst (λ (q : Option Op). Meets (op_row c n s (choice_of (label_of n r)) (unwrap_or q (op.Task task.Exit))) s r u) (e ∙ (ap (slice_get ops) place ∙ ap (λ (os : List Op). slice_get os (position_of n s)) (sym script_is))) h
+
+pub covered_at : (ops : List Op) (p : ℕ) (o : Op) → list_all is_covered_op ops ≡ true → slice_get ops p ≡ Some o → is_covered_op o ≡ true
+covered_at [] p o all e = absurd (cc)
+covered_at (x ∷ ops) zero o all e = grind arith
+covered_at (x ∷ ops) (suc p) o all e = covered_at ops p o (grind arith) e
+
+-- ---- The step
+
+pub settled : (r : Came) (s : Core) (m : Main) (p : Turn) (t : Core) → goes_to (state_at s m p) t (turn_after r) ≡ state_at t m (turn_after r)
+unfolding at_turn
+settled (came.Goes l k) s m p t = refl
+settled (came.Stops l) s m p t = refl
+settled (came.Traps why) s m p t = refl
+settled (came.Fails i) s m p t = refl
+
+module _ (id : TableId ThreadKey) (n : ℕ) (s t : StateView) (number : thread_of s id ≡ n) where
+  pub label_same : (r : Came) → StaysAfter r s t → label_of (thread_of t id) r ≡ label_of n r
+  label_same (came.Goes l k) e = refl
+  label_same (came.Stops l) e = refl
+  label_same (came.Traps why) e = ap (λ (v : StateView). label_of (thread_of v id) (came.Traps why)) e ∙ ap (λ k. label_of k (came.Traps why)) number
+  label_same (came.Fails i) e = ap (λ (v : StateView). label_of (thread_of v id) (came.Fails i)) e ∙ ap (λ k. label_of k (came.Fails i)) number
+
+  pub core_same : (r : Came) → StaysAfter r s t → core_after (thread_of t id) r t.core ≡ core_after n r t.core
+  core_same (came.Goes l k) e = refl
+  core_same (came.Stops l) e = refl
+  core_same (came.Traps why) e = ap (λ k. core_after k (came.Traps why) t.core) (ap (λ (v : StateView). thread_of v id) e ∙ number)
+  core_same (came.Fails i) e = ap (λ k. core_after k (came.Fails i) t.core) (ap (λ (v : StateView). thread_of v id) e ∙ number)
+
+  -- an op that met its row makes a step
+  pub ran : (c : Component) (r : Came) (l : Label) (p : Turn) (u : Core) → Meets (did c n s.core (choice_of (label_of n r))) s.core r t.core → StaysAfter r s t → l ≡ label_of (thread_of t id) r → p ≡ turn_after r
+      → u ≡ core_after (thread_of t id) r t.core → (x : Setting) → x.component ≡ c → (m : Main) → Step x (state_at s.core m (turn.Run n)) l (state_at u m p)
+  ran c r l p u meets stays label_is turn_is core_is x component m =
+      let step = meeting_is_step x (state_at s.core m (turn.Run n)) n r t.core refl (subst (λ (d : Component). Meets (did d n s.core (choice_of (label_of n r))) s.core r t.core) (sym component) meets) in
+      let shown = label_is ∙ label_same r stays in
+      let after : state_at u m p ≡ goes_to (state_at s.core m (turn.Run n)) (core_after n r t.core) (turn_after r) =
+      ap (λ (q : Turn). state_at u m q) turn_is ∙ (ap (λ (v : Core). state_at v m (turn_after r)) (core_is ∙ core_same r stays) ∙ sym (settled r s.core m (turn.Run n) (core_after n r t.core))) in
+      rw shown (rw after step)
+
+  -- the same, where the op met the row of the id's thread
+  pub ran_at : (c : Component) (r : Came) (l : Label) (p : Turn) (u : Core) → Meets (did c (thread_of s id) s.core (choice_of (label_of (thread_of s id) r))) s.core r t.core → StaysAfter r s t → l ≡ label_of (thread_of t id) r → p ≡ turn_after r
+      → u ≡ core_after (thread_of t id) r t.core → (x : Setting) → x.component ≡ c → (m : Main) → Step x (state_at s.core m (turn.Run n)) l (state_at u m p)
+  ran_at c r l p u meets = ran c r l p u (subst (λ k. Meets (did c k s.core (choice_of (label_of k r))) s.core r t.core) number meets)
+
+-- a taking that met its row makes a step
+pub took : (c : Component) (ended : Bool) (mark : Mark) (id : TableId ThreadKey) (n : ℕ) (s u t : StateView) (r : Came) (l : Label) (p : Turn) (z : Core) → thread_of u id ≡ n → u.core ≡ popped mark s.core
+    → next_entry s.core ≡ Some (mark, entry.Thread n) → Meets (thread_taken mark (thread_of u id) (choice_of (label_of (thread_of u id) r)) u.core (place_of (thread_of u id) u.core)) u.core r t.core → StaysAfter r u t
+    → l ≡ label_of (thread_of t id) r → p ≡ turn_after r → z ≡ core_after (thread_of t id) r t.core → (x : Setting) → x.component ≡ c → (m : Main) → Step x (state_at s.core m (turn.Take ended)) l (state_at z m p)
+took c ended mark id n s u t r l p z number base next meets stays label_is turn_is core_is x component m =
+    let named = subst (λ k. Meets (thread_taken mark k (choice_of (label_of k r)) u.core (place_of k u.core)) u.core r t.core) number meets in
+    let based = subst (λ (b : Core). Meets (thread_taken mark n (choice_of (label_of n r)) b (place_of n b)) b r t.core) base named in
+    let step = taking_is_step x (state_at s.core m (turn.Take ended)) ended (mark, entry.Thread n) r t.core refl next based in
+    let shown = label_is ∙ label_same id n u t number r stays in
+    let after : state_at z m p ≡ goes_to (state_at s.core m (turn.Take ended)) (core_after n r t.core) (turn_after r) =
+    ap (λ (q : Turn). state_at z m q) turn_is ∙ (ap (λ (v : Core). state_at v m (turn_after r)) (core_is ∙ core_same id n u t number r stays) ∙ sym (settled r s.core m (turn.Take ended) (core_after n r t.core))) in
+    rw shown (rw after step)
+
+pub took_push : (c : Component) (ended : Bool) (mark : Mark) (i : ℕ) (s t : StateView) → next_entry s.core ≡ Some (mark, entry.Push i) → t.core ≡ pushed i (popped mark s.core) → (x : Setting) → x.component ≡ c → (m : Main)
+    → Step x (state_at s.core m (turn.Take ended)) (label.Take (take_label.Push mark i)) (state_at t.core m turn.Main)
+took_push c ended mark i s t next core x component m =
+    subst (Step x (state_at s.core m (turn.Take ended)) (label.Take (take_label.Push mark i))) (settled (came.Stops (label.Take (take_label.Push mark i))) s.core m (turn.Take ended) t.core)
+    (taking_is_step x (state_at s.core m (turn.Take ended)) ended (mark, entry.Push i) (came.Stops (label.Take (take_label.Push mark i))) t.core refl next (refl, core))

@@ -1,0 +1,124 @@
+-- A run goes on by the ops of a stretch.
+use Rattle.std.proofs.Common.{ap, ap₂, arith, refl, subst, sym, ◌∙◌, ◌++◌, ◌∷◌, []}
+use Rattle.std.specs.Option.{option_map_or}
+use Rattle.std.specs.Prelude.{List, None, Option, Some, slice_get, unwrap_or, ℕ, ◌+◌, ◌≡◌}
+use Rattle.task_machine.specs.Core.{Core, Main}
+use Rattle.task_machine.specs.Labels.{choice_of}
+use Rattle.task_machine.specs.Maps.{Records, get}
+use Rattle.task_machine.specs.Read.{callee_of, how_far_of, instance_of, no_callee, position_of, registers_of, task_of}
+use Rattle.task_machine.specs.Write.{on_thread}
+use Rattle.task_machine.specs.declared.component.Callee.{Callee}
+use Rattle.task_machine.specs.declared.component.Component.{Component}
+use Rattle.task_machine.specs.declared.label.DataLabel.{DataLabel}
+use Rattle.task_machine.specs.declared.label.Label.{Label}
+use Rattle.task_machine.specs.declared.label.Label.TheVariants as label
+use Rattle.task_machine.specs.declared.op.DataOp.{DataOp}
+use Rattle.task_machine.specs.declared.op.Op.{Op}
+use Rattle.task_machine.specs.declared.op.Op.TheVariants as op
+use Rattle.task_machine.specs.declared.op.TaskOp.TheVariants as task
+use Rattle.task_machine.specs.declared.records.Call.{Call}
+use Rattle.task_machine.specs.declared.records.HowFar.TheVariants as how_far
+use Rattle.task_machine.specs.declared.records.Script.{Script}
+use Rattle.task_machine.specs.declared.records.Thread.{Thread}
+use Rattle.task_machine.specs.declared.records.Turn.TheVariants as turn
+use Rattle.task_ops.proofs.MeetLemmas.{meeting_is_step}
+use Rattle.task_ops.specs.Came.{Meets}
+use Rattle.task_ops.specs.declared.came.Came.TheVariants as came
+use Rattle.task_rules.specs.Data.{data_row}
+use Rattle.task_rules.specs.Progress.{Goes, Progress}
+use Rattle.task_rules.specs.Scripts.{op_of, script_in, script_of}
+use Rattle.task_rules.specs.Stalled.{Setting}
+use Rattle.task_rules.specs.Step.{Step, did, op_row}
+use Rattle.task_turns.proofs.ContextLemmas.{context_same, position-context, script-context}
+use Rattle.task_turns.proofs.DriveLemmas.{on_more}
+use Rattle.task_turns.proofs.OrderLemmas.{number_at, runner, runner_at, runs_still}
+use Rattle.task_turns.proofs.RunLemmas.{script_is, settled}
+use Rattle.task_turns.specs.Context.{KeepsBeside, in_context, state_in}
+use Rattle.task_table.specs.declared.id.TableId.{TableId}
+use Rattle.task_turns.specs.Covered.{IsCovered}
+use Rattle.task_turns.specs.Drive.{KeepsOn}
+use Rattle.task_turns.specs.Runner.{Runner}
+use Rattle.task_turns.specs.Turn.{Sits, Turns, given, running_of, state_at}
+use Rattle.task_turns.specs.declared.context.ThreadContext.{ThreadContext}
+use Rattle.task_turns.specs.declared.made.Made.{Made}
+use Rattle.task_words.specs.Context.{with_context}
+use Rattle.task_wait.specs.declared.keys.ThreadKey.{ThreadKey}
+use Rattle.task_words.specs.StateView.{StateView, Tags, on_core, thread_number, thread_of}
+
+pub beside_same : (s : StateView) → KeepsBeside s s
+beside_same s = record { threads = refl; calls = refl; made = refl; tags = refl; current = refl }
+
+pub beside_both : (s t u : StateView) → KeepsBeside s t → KeepsBeside t u → KeepsBeside s u
+beside_both s t u a b = record { threads = b.threads ∙ a.threads; calls = b.calls ∙ a.calls; made = b.made ∙ a.made; tags = b.tags ∙ a.tags; current = b.current ∙ a.current }
+
+pub beside_script : (c : Component) (n : ℕ) (s t : StateView) → KeepsBeside s t → script_of c n t.core ≡ script_of c n s.core
+unfolding script_of
+beside_script c n s t b = ap₂ (λ (ts : Records Thread) (cs : Records Call). option_map_or (λ (u : Thread). script_in c (option_map_or (λ (x : Call). x.callee) (get cs u.call) no_callee) u.script) (get ts n) []) b.threads b.calls
+
+pub beside_instance : (n : ℕ) (s t : StateView) → KeepsBeside s t → instance_of n t.core ≡ instance_of n s.core
+beside_instance n s t b = ap₂ (λ (ts : Records Thread) (cs : Records Call). (option_map_or (λ (x : Call). x.callee) (get cs (option_map_or (λ (u : Thread). u.call) (get ts n) 0)) no_callee).instance) b.threads b.calls
+
+pub beside_there : (n : ℕ) (s t : StateView) → KeepsBeside s t → (u : Thread) → get s.core.threads n ≡ Some u → get t.core.threads n ≡ Some u
+beside_there n s t b u e = ap (λ (ts : Records Thread). get ts n) b.threads ∙ e
+
+-- the context that the thread's record has
+pub begins : (n : ℕ) (s : Core) (t : Thread) → get s.threads n ≡ Some t → how_far_of n s ≡ how_far.Fresh → (x : ThreadContext) → x.position ≡ position_of n s → x.registers ≡ registers_of n s → in_context n x s ≡ s
+begins n s t found fresh x position registers =
+    ap (λ p. with_context n p x.registers s) position
+    ∙ (ap (λ rs. with_context n (position_of n s) rs s) registers
+    ∙ context_same n s t found (sym (ap (λ (o : Option Thread). option_map_or (λ (u : Thread). u.how_far) o how_far.Fresh) found) ∙ fresh))
+
+module _ (c : Component) (n : ℕ) (t : StateView) (th : Thread) (found : get t.core.threads n ≡ Some th) (runs : running_of t ≡ Some n) (ops : List Op) (script : script_of c n t.core ≡ ops) (x : ThreadContext) where
+  abbrev there : Core
+  there = in_context n x t.core
+
+  pub script_there : script_of c n there ≡ ops
+  script_there = script-context n t.core th found c x.position x.registers ∙ script
+
+  op_there : (o : Op) → slice_get ops x.position ≡ Some o → op_of c n there ≡ o
+  unfolding op_of
+  op_there o e =
+      ap (λ (os : List Op). unwrap_or (slice_get os (position_of n there)) (op.Task task.Exit)) script_there
+      ∙ (ap (λ p. unwrap_or (slice_get ops p) (op.Task task.Exit)) (position-context n t.core th found x.position x.registers)
+      ∙ ap (λ (q : Option Op). unwrap_or q (op.Task task.Exit)) e)
+
+  module _ (o : DataOp) (l : DataLabel) (y : ThreadContext) (u : StateView) (beside : KeepsBeside t u) (row : data_row c n there o ≡ Goes (label.Data l) (in_context n y u.core) n) (here : slice_get ops x.position ≡ Some (op.Data o)) where
+    abbrev made : Made
+    made = record { label = label.Data l; turn = turn.Run n }
+
+    meets : Meets (did c n there (choice_of (label.Data l))) there (came.Goes (label.Data l) n) (in_context n y u.core)
+    unfolding did
+    meets = subst (λ (q : Op). Meets (op_row c n there (choice_of (label.Data l)) q) there (came.Goes (label.Data l) n) (in_context n y u.core)) (sym (op_there (op.Data o) here))
+        (subst (λ (p : Progress). Meets p there (came.Goes (label.Data l) n) (in_context n y u.core)) (sym row) (refl, refl))
+
+    step : (z : Setting) → z.component ≡ c → (m : Main) → Step z (state_at there m (turn.Run n)) (label.Data l) (state_at (in_context n y u.core) m (turn.Run n))
+    step z component m =
+        subst (Step z (state_at there m (turn.Run n)) (label.Data l)) (settled (came.Goes (label.Data l) n) there m (turn.Run n) (in_context n y u.core))
+        (meeting_is_step z (state_at there m (turn.Run n)) n (came.Goes (label.Data l) n) (in_context n y u.core) refl
+        (subst (λ (d : Component). Meets (did d n there (choice_of (label.Data l))) there (came.Goes (label.Data l) n) (in_context n y u.core)) (sym component) meets))
+
+    turns : (z : Setting) → z.component ≡ c → (m : Main) → Turns z (turn.Run n) m (state_in n x t) made m (state_in n y u)
+    turns z component m = record {
+      step = step z component m;
+      running = runs_still t u beside.tags beside.current ∙ runs;
+      over = refl;
+      pends = tt;
+    }
+
+    -- the op is done
+    pub keeps_on : (s : StateView) (before mid : List Label) (added k : ℕ) → KeepsOn c (turn.Run n) s before added (state_in n x t) mid k → KeepsOn c (turn.Run n) s before added (state_in n y u) (mid ++ label.Data l ∷ []) (k + 1)
+    keeps_on s before mid added k kept z component first trace numbers m going =
+        on_more z first trace numbers (turn.Run n) m (state_in n x t) mid k (kept z component first trace numbers m going) made m (state_in n y u) (turns z component m) (mid ++ label.Data l ∷ []) refl refl
+
+-- what the thread that runs is, and which script it has
+pub begun : (c : Component) → IsCovered c → (n : ℕ) (s : StateView) → Sits c (turn.Run n) s.core → get s.core.threads 0 ≡ None → running_of s ≡ Some n → (id : TableId ThreadKey) → s.current ≡ Some id
+    → (f : Callee) (k : ℕ) (x : Script) (ops : List Op) → f ≡ callee_of k s.core → k ≡ task_of (thread_of s id) s.core → ((t : Thread) → get s.core.threads (thread_of s id) ≡ Some t → x ≡ t.script) → ops ≡ script_in c f x
+    → Runner n s × (script_of c n s.core ≡ ops)
+begun c covered n s order none runs id current f k x ops callee call script read =
+    let q = runner_at c covered n s order none runs id current in
+    let own = script_is c (thread_of s id) s.core q.thread q.here ops f k (position_of (thread_of s id) s.core) x callee call (script q.thread q.here) read refl in
+    (runner c covered n s order none runs, subst (λ j. script_of c j s.core ≡ ops) (number_at n s runs id current) own)
+
+-- the context is written back
+pub written : (n : ℕ) (s t u : StateView) (id : TableId ThreadKey) (x : ThreadContext) → thread_of s id ≡ n → KeepsBeside s t → u ≡ on_core (with_context (thread_of t id) x.position x.registers) t → u ≡ state_in n x t
+written n s t u id x number beside e = e ∙ ap (λ k. on_core (with_context k x.position x.registers) t) (ap (λ (g : Tags). thread_number g id) beside.tags ∙ number)

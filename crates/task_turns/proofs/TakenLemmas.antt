@@ -1,0 +1,159 @@
+-- What a state in order gives to the thread whose entry is taken.
+use Rattle.std.proofs.Common.{ap, arith, refl, subst, sym, ◌∙◌}
+use Rattle.std.specs.Option.{option_map_or}
+use Rattle.std.specs.Prelude.{Bool, List, None, Option, Some, option_and_then, [], ℕ, ◌≡◌, ◌≤◌, ◌∷◌}
+use Rattle.task_laws.specs.Order.{InOrder, WorkEntries, is_host_of, set_of_place, set_of_why, stands}
+use Rattle.task_machine.specs.Core.{Core, Unscripted}
+use Rattle.task_machine.specs.Maps.{get}
+use Rattle.task_machine.specs.Moves.{ready_why, why_of}
+use Rattle.task_machine.specs.Read.{next_entry, place_of, task_of}
+use Rattle.task_machine.specs.Write.{set_high, set_low, set_switch}
+use Rattle.task_machine.specs.declared.component.Component.{Component}
+use Rattle.task_machine.specs.declared.records.Delivery.TheVariants as delivery
+use Rattle.task_machine.specs.declared.records.Work.{Work}
+use Rattle.task_words.specs.Live.{delivered_set}
+use Rattle.task_machine.specs.declared.records.Entry.{Entry}
+use Rattle.task_machine.specs.declared.records.Entry.TheVariants as entry
+use Rattle.task_machine.specs.declared.records.Place.{Place}
+use Rattle.task_machine.specs.declared.records.Place.TheVariants as place
+use Rattle.task_machine.specs.declared.records.Subtask.{Subtask}
+use Rattle.task_machine.specs.declared.records.Subtask.TheVariants as subtask
+use Rattle.task_machine.specs.declared.records.Thread.{Thread}
+use Rattle.task_machine.specs.declared.records.Turn.TheVariants as turn
+use Rattle.task_machine.specs.declared.records.Why.{Why}
+use Rattle.task_machine.specs.declared.records.Why.TheVariants as why
+use Rattle.task_machine.specs.declared.words.Mark.{Mark}
+use Rattle.task_machine.specs.declared.words.Mark.TheVariants as mark
+use Rattle.task_moves.specs.Idle.{IsJoinThere}
+use Rattle.task_ops.specs.Running.{Stand}
+use Rattle.task_places.proofs.Entries.{Cleared, First, next_first, popped_cleared}
+use Rattle.task_rules.proofs.MoveLemmas.{no_time, one_time}
+use Rattle.task_rules.proofs.StandLemmas.{Loose, by_number, eq_refl, left_placed, zero_one}
+use Rattle.task_rules.specs.Places.{HasPlace, entries, is_at_high, is_at_low, is_at_switch, is_behind_of, one_if, says, switch_entries, times}
+use Rattle.task_rules.specs.Takes.{popped}
+use Rattle.task_turns.proofs.OrderLemmas.{positive, some_from}
+use Rattle.task_turns.specs.Taken.{FindsSet, Taken}
+use Rattle.task_turns.specs.Turn.{Sits, state_at}
+
+abbrev IsAt : Mark → Option Place → Type 0
+IsAt m o = (w : Why) × (o ≡ Some (place.Ready m w))
+
+high_at : (p : Place) → 1 ≤ one_if (is_at_high p) → IsAt mark.High (Some p)
+high_at (place.Ready mark.High w) h = (w, refl)
+high_at (place.Ready mark.Switch w) h = absurd (omega arith)
+high_at (place.Ready mark.Low w) h = absurd (omega arith)
+high_at _ h = absurd (omega arith)
+
+low_at : (p : Place) → 1 ≤ one_if (is_at_low p) → IsAt mark.Low (Some p)
+low_at (place.Ready mark.Low w) h = (w, refl)
+low_at (place.Ready mark.Switch w) h = absurd (omega arith)
+low_at (place.Ready mark.High w) h = absurd (omega arith)
+low_at _ h = absurd (omega arith)
+
+switch_at : (p : Place) → 1 ≤ one_if (is_at_switch p) → IsAt mark.Switch (Some p)
+switch_at (place.Ready mark.Switch w) h = (w, refl)
+switch_at (place.Ready mark.High w) h = absurd (omega arith)
+switch_at (place.Ready mark.Low w) h = absurd (omega arith)
+switch_at _ h = absurd (omega arith)
+
+says_at : (m : Mark) (test : Place → Bool) → ((p : Place) → 1 ≤ one_if (test p) → IsAt m (Some p)) → (o : Option Place) → 1 ≤ says test o → IsAt m o
+says_at m test each None h = absurd (omega arith)
+says_at m test each (Some p) h = each p h
+
+first_stands : (n : ℕ) (es es' : List Entry) → es ≡ entry.Thread n ∷ es' → 1 ≤ entries n es
+first_stands n es es' e = let x = ap (entries n) e in let y = ap one_if (eq_refl n) in omega (arith, x, y)
+
+-- the thread stands at the mark at which its entry comes first
+ready_at : (m : Mark) (n : ℕ) (s : Core) → First m (entry.Thread n) s → HasPlace n s → IsAt m (place_of n s)
+ready_at mark.Switch n s f h = says_at mark.Switch is_at_switch switch_at (place_of n s) (let x = h.switch in let y = ap (switch_entries n) (f.1.0 ∙ ap (λ (e : Entry). Some (named e)) (sym f.1.1)) in let z = ap one_if (eq_refl n) in omega (arith, x, y, z))
+  where
+    named : Entry → ℕ
+    named (entry.Thread k) = k
+    named _ = 0
+ready_at mark.High n s f h = says_at mark.High is_at_high high_at (place_of n s) (let x = h.high in let y = first_stands n s.queues.high _ f in omega (arith, x, y))
+ready_at mark.Low n s f h = says_at mark.Low is_at_low low_at (place_of n s) (let x = h.low in let y = first_stands n s.queues.low _ f in omega (arith, x, y))
+
+one_or_none : (n k : ℕ) → times k (n ∷ []) ≤ 1
+one_or_none n k = grind arith
+
+-- the thread whose entry was taken is loose, and each other one has its place
+popped_stand : (m : Mark) (w : Why) (n : ℕ) (s : Core) → First m (entry.Thread n) s → place_of n s ≡ Some (place.Ready m w) → ((k : ℕ) → HasPlace k s) → Stand n (place.Ready m w) [] (popped m s)
+popped_stand m w n s front at all = record {
+  here = c.places n ∙ at;
+  once = one_or_none n;
+  loose = λ k h. by_number k n (Loose k t) (λ e. subst (λ (j : ℕ). Loose j t) (sym e) (c.own (λ f. ap (says (is_behind_of f)) at))) (λ e. zero_one (no_time k n e) h);
+  there = λ k h. zero_one refl h;
+  placed = λ k h. by_number k n (HasPlace k t) (λ e. zero_one (subst (λ (j : ℕ). times j (n ∷ []) ≡ 0) e h) (one_time n)) (λ e. left_placed k s t (c.left k e) (c.places k) (all k));
+  kept = λ k h. absurd (grind arith);
+}
+  where
+    t : Core
+    t = popped m s
+
+    c : Cleared n s t
+    c = (popped_cleared m n s front (all n)).0
+
+pub popped_place : (m : Mark) (n : ℕ) (s : Core) → place_of n (popped m s) ≡ place_of n s
+unfolding popped set_switch set_high set_low
+popped_place mark.Switch n s = refl
+popped_place mark.High n s = refl
+popped_place mark.Low n s = refl
+
+popped_join : (m : Mark) (n : ℕ) (s : Core) → ((sub : Subtask) → IsJoinThere sub s) → IsJoinThere (subtask.Guest (task_of n (popped m s))) (popped m s)
+unfolding popped set_switch set_high set_low
+popped_join mark.Switch n s all = all (subtask.Guest (task_of n s))
+popped_join mark.High n s all = all (subtask.Guest (task_of n s))
+popped_join mark.Low n s all = all (subtask.Guest (task_of n s))
+
+module _ (c : Component) (ended : Bool) (s : Core) (sits : Sits c (turn.Take ended) s) (none : get s.threads 0 ≡ None) where
+  order : InOrder c (state_at s Unscripted (turn.Take ended))
+  order = sits.order Unscripted
+
+  joined : (sub : Subtask) → IsJoinThere sub s
+  joined sub x e = let j = order.joins_named.joins sub x e in some_from _ (get s.sets x) j.instance j.home
+
+  pub taken : (m : Mark) (n : ℕ) → next_entry s ≡ Some (m, entry.Thread n) → Taken m n (popped m s)
+  taken m n next =
+      let front = next_first s m (entry.Thread n) next in
+      let at = ready_at m n s front (order.in_place.placed n) in
+      let there = popped_place m n s ∙ at.1 in
+      let stand = popped_stand m at.0 n s front at.1 order.in_place.placed in
+      record {
+        live = positive n s none (some_from (λ (t : Thread). t.place) (get s.threads n) (place.Ready m at.0) at.1);
+        stands = subst (λ (w : Why). Stand n (place.Ready m w) [] (popped m s)) (sym (ap (λ (o : Option Place). option_map_or ready_why o why.Resumption) there)) stand;
+        join = popped_join m n s joined;
+      }
+
+-- ---- Nothing is delivered for a set, and no async call of a host ends
+
+module _ (c : Component) (ended : Bool) (s : Core) (sits : Sits c (turn.Take ended) s) where
+  no_delivery : (o : Option Place) (x : ℕ) → delivered_set (option_map_or ready_why o why.Resumption) ≡ Some x → option_and_then set_of_place o ≡ Some x
+  no_delivery None x e = absurd (cc)
+  no_delivery (Some (place.Ready m w)) x e = delivered w e
+    where
+      delivered : (w : Why) → delivered_set w ≡ Some x → set_of_why w ≡ Some x
+      delivered (why.Delivery (delivery.Set y)) h = h
+      delivered _ h = absurd (cc)
+  no_delivery (Some p) x e = absurd (cc)
+
+  pub finds : (m : Mark) (n : ℕ) → FindsSet n (popped m s)
+  finds m n = record { there = λ x e. absurd (no_set x e); members = λ x e. absurd (no_set x e) }
+    where
+      no_set : (x : ℕ) → delivered_set (why_of n (popped m s)) ≡ Some x → ⊥
+      no_set x e = sits.lacks.places n x (ap (option_and_then set_of_place) (sym (popped_place m n s)) ∙ no_delivery (place_of n (popped m s)) x e)
+
+  no_host : (i : ℕ) → stands (is_host_of i) s.queues.high ≡ 0
+  no_host i = go (get s.works i) refl
+    where
+      go : (o : Option Work) → get s.works i ≡ o → stands (is_host_of i) s.queues.high ≡ 0
+      go None e = ((sits.order Unscripted).works.gone i e).1
+      go (Some w) e = let h : WorkEntries s i w = (sits.order Unscripted).works.each i w e in h.host ∙ ap one_if (sits.lacks.works i w e).1
+
+  first_host : (m : Mark) (i : ℕ) → First m (entry.Host i) s → ⊥
+  first_host mark.Switch i f = absurd (let e = f.1.1 in cc)
+  first_host mark.High i f = absurd (let a = sym (ap (stands (is_host_of i)) f) ∙ no_host i in let one = ap one_if (eq_refl i) in omega (arith, a, one))
+  first_host mark.Low i f = absurd (let a = sym (ap (stands (is_host_of i)) f) ∙ ((sits.order Unscripted).works.low i).1 in let one = ap one_if (eq_refl i) in omega (arith, a, one))
+
+  -- the next entry isn't that of an ended host work
+  pub no_host_next : (m : Mark) (i : ℕ) → next_entry s ≡ Some (m, entry.Host i) → ⊥
+  no_host_next m i e = first_host m i (next_first s m (entry.Host i) e)

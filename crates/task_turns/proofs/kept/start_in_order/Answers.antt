@@ -1,0 +1,5 @@
+use Rattle.task_turns.proofs.KeptLemmas as lemmas
+use Rattle.task_turns.proofs.kept.start_in_order.Goals as goal
+
+pub returns : goal.returns
+returns c = lemmas.start_in_order

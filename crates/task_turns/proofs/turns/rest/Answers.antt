@@ -1,0 +1,29 @@
+use Rattle.std.proofs.Common.{ap, ap₂, refl, sym, ◌∙◌}
+use Rattle.std.specs.Prelude.{false, is_none, not, ◌||◌}
+use Rattle.task_machine.specs.declared.records.Turn.TheVariants as turn
+use Rattle.task_turns.proofs.IdleLemmas.{free_at, makes_turns, rest_of, rest_take}
+use Rattle.task_turns.proofs.turns.rest.Goals as goal
+use Rattle.task_turns.specs.Turn.{idle_line_of}
+
+pub returns-then-has_moving_work : goal.returns-then-has_moving_work
+returns-then-has_moving_work g c d x component idle m pends = makes_turns x (turn.Take false) _ _ _ (c.step_rest.ensures.makes x.component) m (free_at _ _ c.step_rest.ensures.turn (λ y s k. tt) x _ m)
+
+pub returns-then-has_live_work : goal.returns-then-has_live_work
+returns-then-has_live_work g c d x component idle m pends = (
+  rest_take x _ m c.args.trap_on_idle idle (turn.Take false) refl c.requires.works (ap is_none c.requires.none) (sym c.has_moving_work.ensures ∙ c.if-has_moving_work.false) pends
+      ∙ ap (λ b. b || not c.args.trap_on_idle) (sym c.has_live_work.ensures ∙ c.if-has_live_work.true),
+  (refl, refl),
+)
+
+pub returns-then-not-trap_on_idle : goal.returns-then-not-trap_on_idle
+returns-then-not-trap_on_idle g c d x component idle m pends = (
+  rest_take x _ m c.args.trap_on_idle idle (turn.Take false) refl c.requires.works (ap is_none c.requires.none) (sym c.has_moving_work.ensures ∙ c.if-has_moving_work.false) pends
+      ∙ ap₂ (λ a b. a || not b) (sym c.has_live_work.ensures ∙ c.if-has_live_work.false) c.if-not-trap_on_idle.true,
+  (refl, refl),
+)
+
+pub step_deadlock-requires-clause-rest : goal.step_deadlock-requires-clause-rest
+step_deadlock-requires-clause-rest g c = rest_of _ c.requires.works c.requires.none (sym c.has_moving_work.ensures ∙ c.if-has_moving_work.false)
+
+pub returns : goal.returns
+returns g c d x component idle m pends = c.step_deadlock.ensures x (idle ∙ ap idle_line_of c.if-not-trap_on_idle.false) m pends

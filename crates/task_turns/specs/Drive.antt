@@ -1,0 +1,55 @@
+-- What driving a run adds to a trace.
+use Rattle.std.specs.Prelude.{◌≡◌, ℕ, ◌+◌, ◌*◌, ◌≤◌, List, ◌++◌, None, length, true}
+use Rattle.task_machine.specs.declared.component.Component.{Component}
+use Rattle.task_machine.specs.declared.label.Label.{Label}
+use Rattle.task_machine.specs.declared.outcome.Outcome.{Outcome}
+use Rattle.task_machine.specs.Core.{Main, State}
+use Rattle.task_rules.specs.Stalled.{Setting}
+use Rattle.task_rules.specs.Run.{Run}
+use Rattle.task_rules.specs.Outcome.{last_outcome, IsOutcome}
+use Rattle.task_machine.specs.declared.records.Turn.{Turn}
+use Rattle.task_turns.specs.Turn.{IsAtTurn, IsSettled, PendsIn, Sits, given, goes_on, is_open, running_of, runs_in, state_at}
+use Rattle.task_words.specs.StateView.{StateView}
+
+-- A run of n labels was added, of which the last gives no outcome.
+pub record Going (x : Setting) (s : State) (before : List Label) (t : State) (after : List Label) (n : ℕ) : Type 0 where
+  pub added : List Label
+  pub trace : after ≡ before ++ added
+  pub run : Run x s added t
+  pub count : length added ≡ n
+  pub going_on : last_outcome added ≡ None
+
+-- A run of at most so many labels was added, and this is what it has come to.
+pub record Drives (x : Setting) (s : State) (before : List Label) (t : State) (after : List Label) (steps : ℕ)
+    (outcome : Outcome) : Type 0 where
+  pub added : List Label
+  pub trace : after ≡ before ++ added
+  pub run : Run x s added t
+  pub few : length added ≤ steps
+  pub ends : IsOutcome x t added steps outcome
+
+-- What the turns came to: a run, and how the store stands then.
+pub record Drove (x : Setting) (s : State) (before : List Label) (numbers : ℕ) (p : Turn) (m : Main) (t : StateView) (after : List Label)
+    (steps : ℕ) (outcome : Outcome) : Type 0 where
+  pub drives : Drives x s before (state_at t.core m p) after steps outcome
+  pub unfinished : is_open p ≡ goes_on outcome
+  pub order : Sits x.component p t.core
+  pub settled : IsSettled t.core p
+  pub few : given t.core ≤ numbers + 2 * steps
+  pub running : running_of t ≡ runs_in p
+  pub pends : PendsIn x t.core m p
+
+-- The run has gone on for n labels, and the store stands so that it can go on.
+pub record IsOn (x : Setting) (s : State) (before : List Label) (numbers : ℕ) (p : Turn) (m : Main) (t : StateView) (after : List Label)
+    (n : ℕ) : Type 0 where
+  pub going : Going x s before (state_at t.core m p) after n
+  pub at : IsAtTurn x.component p t
+  pub few : given t.core ≤ numbers + 2 * n
+  pub pends : PendsIn x t.core m p
+
+-- Where a run has gone on for so many labels in this turn, it goes on to this state and trace in the same turn, main as it was.
+abbrev pub KeepsOn : Component → Turn → StateView → List Label → ℕ → StateView → List Label → ℕ → Type 0
+KeepsOn c p s before added t after k =
+    (x : Setting) → x.component ≡ c → (o : State) (trace : List Label) (numbers : ℕ) (m : Main) →
+    IsOn x o trace numbers p m s before added →
+    IsOn x o trace numbers p m t after k

@@ -1,0 +1,35 @@
+-- What turns and the calls of a host keep in order.
+use Rattle.std.specs.Prelude.{List, None, Some, length, true, ℕ, ◌≡◌}
+use Rattle.task_machine.specs.Core.{Core}
+use Rattle.task_machine.specs.Maps.{get}
+use Rattle.task_machine.specs.Write.{set_trapped, take_result}
+use Rattle.task_machine.specs.declared.component.Callee.{Callee}
+use Rattle.task_machine.specs.declared.component.Component.{Component}
+use Rattle.task_machine.specs.declared.records.Turn.{Turn}
+use Rattle.task_machine.specs.declared.trap.Trap.{Trap}
+use Rattle.task_rules.specs.MainOps.{main_started, start_refusal, takes_words}
+use Rattle.task_turns.specs.Turn.{Makes, Sits}
+use Rattle.task_turns.specs.declared.made.Made.{Made}
+use Rattle.task_words.specs.StateView.{StateView}
+
+-- a step that was made from a state in order leads to one
+abbrev pub MadeInOrder : Type 0
+MadeInOrder =
+    (c : Component) (p : Turn) (s : StateView) (made : Made) (t : StateView) → Sits c p s.core → Makes c p s made t →
+    Sits c made.turn t.core
+
+-- a start by the host keeps order, whosever turn it is
+abbrev pub StartInOrder : Type 0
+StartInOrder =
+    (c : Component) (p : Turn) (e : Callee) (words : List ℕ) (s : Core) → takes_words c e (length words) ≡ true → start_refusal s ≡ None →
+    Sits c p s → Sits c p (main_started c e words s)
+
+-- so does a start that is refused
+abbrev pub RefusalInOrder : Type 0
+RefusalInOrder =
+    (c : Component) (p : Turn) (e : Callee) (words : List ℕ) (why : Trap) (s : Core) → takes_words c e (length words) ≡ true →
+    start_refusal s ≡ Some why → Sits c p s → Sits c p (set_trapped s)
+
+-- and the finish of a call that has a result
+abbrev pub FinishInOrder : Type 0
+FinishInOrder = (c : Component) (p : Turn) (k v : ℕ) (s : Core) → get s.results k ≡ Some v → Sits c p s → Sits c p (take_result k s)

@@ -1,0 +1,27 @@
+-- A thread whose entry was taken, as its taking needs it.
+use Rattle.std.specs.Prelude.{◌≡◌, ◌<◌, ℕ, None, Option, Some, [], is_some, true}
+use Rattle.task_machine.specs.Core.{Core}
+use Rattle.task_machine.specs.Maps.{get}
+use Rattle.task_machine.specs.Moves.{why_of}
+use Rattle.task_machine.specs.Read.{instance_of, task_of}
+use Rattle.task_machine.specs.declared.records.Entry.{Entry}
+use Rattle.task_machine.specs.declared.records.Entry.TheVariants as entry
+use Rattle.task_machine.specs.declared.records.Place.TheVariants as place
+use Rattle.task_machine.specs.declared.records.Subtask.TheVariants as subtask
+use Rattle.task_machine.specs.declared.words.Mark.{Mark}
+use Rattle.task_moves.specs.Idle.{IsJoinThere}
+use Rattle.task_ops.specs.Gifts.{MembersNamed}
+use Rattle.task_ops.specs.Running.{Stand}
+use Rattle.task_rules.specs.Takes.{popped}
+use Rattle.task_words.specs.Live.{delivered_set}
+
+-- Its entry left the mark, and each other thread has its place. The set that its call is joined to is there.
+pub record Taken (m : Mark) (n : ℕ) (s : Core) : Type 0 where
+  pub live : 0 < n
+  pub stands : Stand n (place.Ready m (why_of n s)) [] s
+  pub join : IsJoinThere (subtask.Guest (task_of n s)) s
+
+-- The set for which a delivery stands is there, and its ready members are named in the thread's instance.
+pub record FindsSet (n : ℕ) (s : Core) : Type 0 where
+  pub there : (x : ℕ) → delivered_set (why_of n s) ≡ Some x → is_some (get s.sets x) ≡ true
+  pub members : (x : ℕ) → delivered_set (why_of n s) ≡ Some x → MembersNamed (instance_of n s) x s

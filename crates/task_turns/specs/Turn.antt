@@ -1,0 +1,136 @@
+-- What a turn of the loop makes.
+use Rattle.std.specs.Prelude.{◌≡◌, ◌<◌, ◌≤◌, ◌+◌, List, ℕ, Bool, true, false, Option, Some, None, is_none, is_some, length, option_map}
+use Rattle.task_laws.specs.Lacks.{LacksOps, LacksSets}
+use Rattle.task_laws.specs.Order.{InOrder}
+use Rattle.task_machine.specs.Core.{Core, Main, One, State}
+use Rattle.task_machine.specs.Read.{next_entry}
+use Rattle.task_machine.specs.declared.component.Component.{Component}
+use Rattle.task_machine.specs.Maps.{get}
+use Rattle.task_machine.specs.declared.records.Turn.{Turn}
+use Rattle.task_machine.specs.declared.records.Turn.TheVariants as turn
+use Rattle.task_ops.specs.Running.{IsTopmost}
+use Rattle.task_ops.specs.declared.came.Came.{Came}
+use Rattle.task_ops.specs.declared.came.Came.TheVariants as came
+use Rattle.task_machine.specs.declared.outcome.Outcome.{Outcome}
+use Rattle.task_machine.specs.declared.outcome.Outcome.TheVariants as outcome
+use Rattle.task_machine.specs.declared.scenario.IdleLine.{IdleLine}
+use Rattle.task_machine.specs.declared.scenario.IdleLine.TheVariants as idle_line
+use Rattle.task_machine.specs.declared.scenario.MainOpDef.{MainOpDef}
+use Rattle.task_rules.specs.Outcome.{is_at_rest, outcome_of_label}
+use Rattle.task_rules.specs.Stalled.{Setting, main_pends}
+use Rattle.task_rules.specs.Step.{Step}
+use Rattle.task_rules.specs.Turns.{settled_turn}
+use Rattle.task_turns.specs.declared.made.Made.{Made}
+use Rattle.task_words.specs.StateView.{StateView, thread_of}
+
+-- the state with this core and this part of main, at this turn
+abbrev pub state_at : Core → Main → Turn → State
+state_at s m p = record { version = One; core = s; main = m; turn = p }
+
+-- The core is in order at this turn, whatever main's part is. No op of the component makes a set or calls a host asynchronously, and the
+-- core has no set and no such call. Each instance of the component is there.
+pub record Sits (c : Component) (p : Turn) (s : Core) : Type 0 where
+  pub order : (m : Main) → InOrder c (state_at s m p)
+  pub there : (i : ℕ) → i < length c.instances → is_some (get s.instances i) ≡ true
+  pub ops : LacksOps c
+  pub lacks : LacksSets s
+
+-- the number of the thread that runs
+abbrev pub running_of : StateView → Option ℕ
+running_of s = option_map (λ id. thread_of s id) s.current
+
+-- the thread that runs in this turn
+abbrev pub runs_in : Turn → Option ℕ
+runs_in (turn.Run n) = Some n
+runs_in _ = None
+
+-- the run goes on
+abbrev pub is_open : Turn → Bool
+is_open turn.Over = false
+is_open _ = true
+
+-- The step that was made is one of the machine, whatever main's part, its script and the idle line are. Its label gives an outcome exactly
+-- where the run is over.
+pub record Makes (c : Component) (p : Turn) (s : StateView) (made : Made) (t : StateView) : Type 0 where
+  pub step : (x : Setting) → x.component ≡ c → (m : Main) → Step x (state_at s.core m p) made.label (state_at t.core m made.turn)
+  pub running : running_of t ≡ runs_in made.turn
+  pub over : is_none (outcome_of_label made.label) ≡ is_open made.turn
+
+-- how many threads, works, sets and groups were made
+abbrev pub given : Core → ℕ
+given s = s.made.threads + s.made.works + s.made.sets + s.made.groups
+
+-- where main has pended, its op pends still
+abbrev pub PendsIn : Setting → Core → Main → Turn → Type 0
+PendsIn x s m (turn.Futures n) = main_pends x s m ≡ true
+PendsIn x s m (turn.Take false) = main_pends x s m ≡ true
+PendsIn x s m _ = Unit {0}
+
+-- main's op need not pend in the turn
+abbrev pub IsFree : Turn → Type 0
+IsFree p = (x : Setting) (s : Core) (m : Main) → PendsIn x s m p
+
+-- the run can go on after this outcome
+abbrev pub goes_on : Outcome → Bool
+goes_on outcome.Idle = true
+goes_on outcome.OutOfSteps = true
+goes_on _ = false
+
+-- the moves of the turn that show no label are made
+abbrev pub IsSettled : Core → Turn → Type 0
+IsSettled s p = settled_turn s p ≡ p
+
+-- The run may go on with this turn: the core is in order, the turn's thread runs, and the turn is settled and not over.
+pub record IsAtTurn (c : Component) (p : Turn) (s : StateView) : Type 0 where
+  pub order : Sits c p s.core
+  pub running : running_of s ≡ runs_in p
+  pub settled : IsSettled s.core p
+  pub unfinished : is_open p ≡ true
+
+-- The step that was made is one of the machine, and its label gives an outcome exactly where the run is over.
+pub record Turns (x : Setting) (p : Turn) (m : Main) (s : StateView) (made : Made) (m' : Main) (t : StateView) : Type 0 where
+  pub step : Step x (state_at s.core m p) made.label (state_at t.core m' made.turn)
+  pub running : running_of t ≡ runs_in made.turn
+  pub over : is_none (outcome_of_label made.label) ≡ is_open made.turn
+  pub pends : PendsIn x t.core m' made.turn
+
+-- A step was made, or nothing can go on and that is no deadlock, and nothing is changed.
+abbrev pub Turned : Setting → Turn → Main → StateView → Option Made → Main → StateView → Type 0
+Turned x p m s (Some made) m' t = Turns x p m s made m' t
+Turned x p m s None m' t = (is_at_rest x (state_at s.core m p) ≡ true) × ((m' ≡ m) × (t ≡ s))
+
+-- what happens where nothing can go on
+abbrev pub idle_line_of : Bool → IdleLine
+idle_line_of true = idle_line.Trap
+idle_line_of false = idle_line.Wait
+
+abbrev pub setting_of : Component → List MainOpDef → (trap_on_idle : Bool) → Setting
+setting_of c ops b = record { component = c; script = ops; idle = idle_line_of b }
+
+-- the strand of a thread that trapped is there
+abbrev pub CanStrike : Came → ℕ → Core → Type 0
+CanStrike (came.Traps why) n s = (0 < n) × IsTopmost n s
+CanStrike (came.Fails i) n s = (0 < n) × IsTopmost n s
+CanStrike _ n s = Unit {0}
+
+-- a thread that goes on is the one that runs, and what is shown gives no outcome
+abbrev pub GoesOn : Came → StateView → Type 0
+GoesOn (came.Goes l m) s = (running_of s ≡ Some m) × (outcome_of_label l ≡ None)
+GoesOn (came.Stops l) s = outcome_of_label l ≡ None
+GoesOn _ s = Unit {0}
+
+-- if a thread goes on, it is this one, and what is shown gives no outcome
+abbrev pub Shows : ℕ → Came → Type 0
+Shows n (came.Goes l m) = (m ≡ n) × (outcome_of_label l ≡ None)
+Shows n (came.Stops l) = outcome_of_label l ≡ None
+Shows n _ = Unit {0}
+
+-- the same of a turn in which main has no part, whatever main is
+abbrev pub TurnedBeside : Component → (trap_on_idle : Bool) → Turn → StateView → Option Made → StateView → Type 0
+TurnedBeside c b p s made t =
+    (x : Setting) → x.component ≡ c → x.idle ≡ idle_line_of b → (m : Main) → PendsIn x s.core m p → Turned x p m s made m t
+
+-- nothing stood there and nothing is changed, or a step was made
+abbrev pub Took : Component → Bool → StateView → Option Made → StateView → Type 0
+Took c ended s None t = (next_entry s.core ≡ None) × (t ≡ s)
+Took c ended s (Some made) t = Makes c (turn.Take ended) s made t × IsFree made.turn

@@ -1,0 +1,43 @@
+//! The poll of a live work.
+ghost use Rattle.std.specs.Prelude.{◌≡◌, ◌<◌, None, Some, true};
+ghost use Rattle.task_machine.specs.Core.{Main};
+ghost use Rattle.task_machine.specs.declared.component.Component.{Component};
+ghost use Rattle.task_machine.specs.declared.records.Subtask.TheVariants as subtasks;
+ghost use Rattle.task_rules.specs.Stalled.{Setting, main_pends};
+ghost use Rattle.task_rules.specs.Works.{next_polled};
+ghost use Rattle.task_turns.specs.Turn.{Makes, PendsIn};
+ghost use Rattle.task_words.specs.Apart.{IsBlockedUnqueued, work_entries};
+ghost use Rattle.task_words.specs.StateView.{work_of};
+
+use crate::made::Made;
+use crate::settles::{turn_after_end, turn_after_polls};
+use task_machine::{Label, LoopLabel, Turn};
+use task_ops::{Polled, poll_work};
+use task_words::{Words, WorkId};
+
+/// The next live work past those with numbers up to `polled` is polled.
+pub fn step_poll<W: Words>(w: &mut W, work: WorkId, polled: u64) -> Made
+    requires live { 0 < work_of (W.view w.old) work }
+    requires next { next_polled polled (W.view w.old).core ≡ Some (work_of (W.view w.old) work) }
+    requires current { (W.view w.old).current ≡ None }
+    requires blocked { IsBlockedUnqueued (subtasks.Host (work_of (W.view w.old) work)) (W.view w.old).core }
+    requires unqueued { work_entries (work_of (W.view w.old) work) (W.view w.old).core.queues.high ≡ 0 }
+    ensures makes { (c : Component) → Makes c (Turn.Futures polled) (W.view w.old) result (W.view w.new) }
+    ensures pends { (x : Setting) → (m : Main) → main_pends x (W.view w.old).core m ≡ true → PendsIn x (W.view w.new).core m result.turn }
+{
+    let number = w.work_number(work);
+    match poll_work(w, work) {
+        Polled::Pends => Made {
+            label: Label::Loop(LoopLabel::FuturePends(number)),
+            turn: turn_after_polls(w, number),
+        },
+        Polled::Ends => Made {
+            label: Label::Loop(LoopLabel::FutureEnds(number)),
+            turn: turn_after_end(w),
+        },
+        Polled::Fails => Made {
+            label: Label::Loop(LoopLabel::FutureFails(number)),
+            turn: Turn::Over,
+        },
+    }
+}

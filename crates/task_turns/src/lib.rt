@@ -1,0 +1,31 @@
+//! The turns of the loop over the words of a core: each makes a step of the machine, from a state
+//! in order to one.
+#![tactic(auto)]
+
+mod context;
+mod futures;
+mod kept;
+mod made;
+mod mains;
+mod rests;
+mod runs;
+mod scripts;
+mod settles;
+mod stretches;
+mod takes;
+mod trace;
+mod turns;
+
+pub use context::{ThreadContext, operand_value};
+pub use futures::step_poll;
+pub use kept::{finish_in_order, made_in_order, refusal_in_order, start_in_order};
+pub use made::Made;
+pub use mains::{MainStep, made_by_main};
+pub use rests::{step_deadlock, step_rest};
+pub use runs::step_run;
+pub use scripts::{export_def, script_ops};
+pub use settles::{turn_after_end, turn_after_polls};
+pub use stretches::stretch;
+pub use takes::step_take;
+pub use trace::Trace;
+pub use turns::{compute, is_idle, poll, take};

@@ -1,0 +1,45 @@
+//! What a step of main shows.
+ghost use Rattle.std.specs.Prelude.{◌≡◌, None};
+ghost use Rattle.task_machine.specs.Core.{Main};
+ghost use Rattle.task_rules.specs.Stalled.{Setting};
+ghost use Rattle.task_turns.specs.Main.{Steps};
+ghost use Rattle.task_turns.specs.Turn.{Turns, running_of};
+ghost use Rattle.task_words.specs.StateView.{StateView};
+
+use crate::made::Made;
+use crate::settles::turn_after_polls;
+use task_machine::{Label, LoopLabel, MainLabel, Turn};
+use task_words::Words;
+
+/// What main's next op came to.
+#[derive(Clone, Copy)]
+pub enum MainStep {
+    /// The op is done, with this label.
+    Did(Label),
+    /// The op waits for a call.
+    Pends,
+    /// Main is over.
+    Answer(u64),
+}
+
+/// What main's step shows, in the state that it has left. Where main waits, the live works are polled, or else an
+/// entry is taken.
+pub fn made_by_main<W: Words>(w: &W, step: MainStep) -> Made
+    requires { running_of (W.view w.now) ≡ None }
+    ensures { (x : Setting) → (m new : Main) → (s : StateView) → Steps x.component x.script m s.core step new (W.view w.now).core → Turns x Turn.Main m s result new (W.view w.now) }
+{
+    match step {
+        MainStep::Did(label) => Made {
+            label,
+            turn: Turn::Main,
+        },
+        MainStep::Pends => Made {
+            label: Label::Loop(LoopLabel::MainPends),
+            turn: turn_after_polls(w, 0),
+        },
+        MainStep::Answer(value) => Made {
+            label: Label::Main(MainLabel::Answer(value)),
+            turn: Turn::Over,
+        },
+    }
+}

@@ -1,0 +1,43 @@
+//! What comes where nothing stands.
+ghost use Rattle.std.specs.Prelude.{◌≡◌, None, false, true};
+ghost use Rattle.task_machine.specs.Core.{Main};
+ghost use Rattle.task_machine.specs.Read.{next_entry};
+ghost use Rattle.task_machine.specs.declared.component.Component.{Component};
+ghost use Rattle.task_rules.specs.Stalled.{Setting, main_pends, works_rest};
+ghost use Rattle.task_rules.specs.Works.{has_live_work, has_moving_work};
+ghost use Rattle.task_turns.specs.Turn.{Makes, Turns};
+
+use crate::made::Made;
+use task_machine::{IdleLine, Label, LoopLabel, Turn};
+use task_ops::deadlock;
+use task_words::Words;
+
+/// Some live work goes on, and the turn rests.
+pub fn step_rest<W: Words>(w: &W) -> Made
+    requires current { (W.view w.now).current ≡ None }
+    requires none { next_entry (W.view w.now).core ≡ None }
+    requires moving { has_moving_work (W.view w.now).core ≡ true }
+    ensures makes { (c : Component) → Makes c (Turn.Take false) (W.view w.now) result (W.view w.now) }
+    ensures turn { result.turn ≡ Turn.Main }
+{
+    let _state = w;
+    Made {
+        label: Label::Loop(LoopLabel::Rest),
+        turn: Turn::Main,
+    }
+}
+
+/// Nothing can go on, no work is live, and main waits: the store is trapped.
+pub fn step_deadlock<W: Words>(w: &mut W) -> Made
+    requires current { (W.view w.old).current ≡ None }
+    requires none { next_entry (W.view w.old).core ≡ None }
+    requires moving { has_moving_work (W.view w.old).core ≡ false }
+    requires live { has_live_work (W.view w.old).core ≡ false }
+    requires rest { works_rest (W.view w.old).core ≡ true }
+    ensures { (x : Setting) → x.idle ≡ IdleLine.Trap → (m : Main) → main_pends x (W.view w.old).core m ≡ true → Turns x (Turn.Take false) m (W.view w.old) result m (W.view w.new) }
+{
+    Made {
+        label: Label::Loop(deadlock(w)),
+        turn: Turn::Over,
+    }
+}

@@ -1,0 +1,52 @@
+//! The scripts of a component.
+ghost use Rattle.std.specs.Prelude.{◌≡◌, option_copied, slice_get};
+ghost use Rattle.task_rules.specs.Scripts.{export_at, script_in, slot_at, slot_script};
+
+use task_machine::{Callee, Component, ExportDef, Op, Script, Slot};
+
+/// What runs under an export, none where the component has no such export.
+pub fn export_def(component: &Component, callee: Callee) -> Option<&ExportDef>
+    ensures { option_copied result ≡ export_at component.now callee }
+{
+    let instance = component
+        .instances
+        .as_slice()
+        .get(callee.instance as usize)?;
+    instance.exports.as_slice().get(callee.export as usize)
+}
+
+// The script of a slot; empty where there is none.
+fn slot_ops(component: &Component, instance: u32, slot: u8) -> &[Op]
+    ensures { result.now ≡ slot_script (slot_at component.now instance slot) }
+{
+    let Some(def) = component.instances.as_slice().get(instance as usize) else {
+        return &[];
+    };
+    match def.slots.as_slice().get(slot as usize) {
+        Some(Slot::Script(ops)) => ops.as_slice(),
+        _ => &[],
+    }
+}
+
+/// A script; empty where the component has none.
+pub fn script_ops(component: &Component, callee: Callee, script: Script) -> &[Op]
+    ensures { result.now ≡ script_in component.now callee script }
+{
+    if let Script::Slot { slot } = script {
+        return slot_ops(component, callee.instance, slot);
+    }
+    let Some(def) = export_def(component, callee) else {
+        return &[];
+    };
+    match script {
+        Script::React => def.react.as_slice(),
+        _ => def.start.as_slice(),
+    }
+}
+
+/// The op at a place of a script, none at its end.
+pub fn op_at(script: &[Op], position: u32) -> Option<&Op>
+    ensures { option_copied result ≡ slice_get script.now position }
+{
+    script.get(position as usize)
+}

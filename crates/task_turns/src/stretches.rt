@@ -1,0 +1,69 @@
+//! A stretch of ops on registers and words, which the running thread does one after another. It works with the
+//! thread's context, which is written back in the end, so that no op looks the thread up.
+ghost use Rattle.std.specs.Prelude.{◌≡◌, ◌≤◌, IfOk, Some, true};
+ghost use Rattle.task_machine.specs.Read.{how_far_of};
+ghost use Rattle.task_machine.specs.declared.records.HowFar.TheVariants as how_far;
+ghost use Rattle.task_turns.specs.Covered.{IsCovered};
+ghost use Rattle.task_turns.specs.Drive.{KeepsOn};
+ghost use Rattle.task_turns.specs.Turn.{Sits, running_of};
+ghost use Rattle.task_words.specs.StateView.{thread_of};
+
+use crate::context::{computes_in, context_of};
+use crate::scripts::{op_at, script_ops};
+use crate::trace::Trace;
+use task_machine::{Component, Label, NoMemory, Op, Turn};
+use task_words::{HowFarId, ThreadId, Words};
+
+// The op at the thread's place is on registers and words, and hasn't begun.
+fn is_plain<W: Words>(w: &W, thread: ThreadId, script: &[Op]) -> bool
+    ensures fresh { result ≡ true → how_far_of (thread_of (W.view w.now) thread) (W.view w.now).core ≡ how_far.Fresh }
+{
+    let Some(Op::Data(_)) = op_at(script, w.position(thread)) else {
+        return false;
+    };
+    matches!(w.how_far(thread), HowFarId::Fresh)
+}
+
+/// The running thread, which has this number, does its ops on registers and words one after another, up to another
+/// op, to its script's end or to so many labels, of which some were added before. Answers how many labels were
+/// added then.
+pub fn stretch<W: Words>(
+    component: &Component,
+    w: &mut W,
+    number: u64,
+    trace: &mut Trace,
+    added: u32,
+    steps: u32,
+) -> Result<u32, NoMemory>
+    requires covered { IsCovered component.now }
+    requires order { Sits component.now (Turn.Run number) (W.view w.old).core }
+    requires runs { running_of (W.view w.old) ≡ Some number }
+    requires few { added ≤ steps }
+    ensures few { IfOk result (λ k. (added ≤ k) × (k ≤ steps)) }
+    ensures on { IfOk result (λ k. KeepsOn component.now (Turn.Run number) (W.view w.old) trace.old added (W.view w.new) trace.new k) }
+{
+    w.none_is_zero();
+    let Some(thread) = w.current() else {
+        unreachable!()
+    };
+    let call = w.task_of(thread);
+    let script = script_ops(component, w.callee(call), w.script(thread));
+    if !is_plain(w, thread, script) {
+        return Ok(added);
+    }
+    let instance = w.instance_of(thread);
+    let end = script.len() as u32;
+    let mut context = context_of(w, thread);
+    'ops: for count in added..steps {
+        let Some(Op::Data(op)) = op_at(script, context.position) else {
+            w.set_context(thread, context.position, &context.registers);
+            return Ok(count);
+        };
+        let label = computes_in(w, &mut context, number, instance, end, *op);
+        let Ok(()) = trace.push(Label::Data(label)) else {
+            return Err(NoMemory);
+        };
+    }
+    w.set_context(thread, context.position, &context.registers);
+    Ok(steps)
+}

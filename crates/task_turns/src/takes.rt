@@ -1,0 +1,123 @@
+//! The taking of an entry of a thread.
+ghost use Rattle.std.specs.Prelude.{◌≡◌, Bool, IfOk, None, Some};
+ghost use Rattle.task_machine.specs.Labels.{choice_of};
+ghost use Rattle.task_machine.specs.Moves.{why_of};
+ghost use Rattle.task_machine.specs.Read.{admits, next_entry, place_of};
+ghost use Rattle.task_machine.specs.declared.component.Component.{Component};
+ghost use Rattle.task_machine.specs.declared.records.Entry.TheVariants as entries;
+ghost use Rattle.task_machine.specs.declared.records.Why.TheVariants as whys;
+ghost use Rattle.task_ops.specs.Came.{Meets};
+ghost use Rattle.task_ops.specs.Stays.{StaysAfter};
+ghost use Rattle.task_ops.specs.Steps.{label_of};
+ghost use Rattle.task_rules.specs.Takes.{delivery_row, popped, thread_taken};
+ghost use Rattle.task_turns.specs.Taken.{FindsSet, Taken};
+ghost use Rattle.task_turns.specs.Turn.{IsFree, Makes, Shows, Sits, Took};
+ghost use Rattle.task_words.specs.StateView.{thread_of, work_of};
+
+use crate::made::{Made, made_of};
+use task_machine::{Component, Delivery, Label, Mark, NoMemory, TakeLabel, Turn, Why};
+use task_ops::{Came, deliver_own, deliver_set, hold_delivery, resume, take_push, take_start};
+use task_words::{EntryId, ThreadId, Words, WorkId};
+
+// A delivery to the thread was taken: it is held where it isn't admitted.
+fn take_delivery<W: Words>(w: &mut W, mark: Mark, thread: ThreadId, delivery: Delivery) -> Came
+    requires taken { Taken mark (thread_of (W.view w.old) thread) (W.view w.old).core }
+    requires finds { FindsSet (thread_of (W.view w.old) thread) (W.view w.old).core }
+    requires why { why_of (thread_of (W.view w.old) thread) (W.view w.old).core ≡ whys.Delivery delivery }
+    ensures meets { Meets (delivery_row mark (thread_of (W.view w.old) thread) (choice_of (label_of (thread_of (W.view w.old) thread) result)) (W.view w.old).core delivery (admits (thread_of (W.view w.old) thread) (W.view w.old).core (whys.Delivery delivery))) (W.view w.old).core result (W.view w.new).core }
+    ensures shows { Shows (thread_of (W.view w.old) thread) result }
+    ensures stays { StaysAfter result (W.view w.old) (W.view w.new) }
+    ensures tags { (W.view w.new).tags ≡ (W.view w.old).tags }
+    ensures current { (W.view w.new).current ≡ (W.view w.old).current }
+{
+    w.none_is_zero();
+    if w.may_not_enter(w.instance_of(thread)) {
+        return hold_delivery(w, mark, thread);
+    }
+    match delivery {
+        Delivery::Set { set: _ } => {
+            let Some(set) = w.delivered_set(thread) else {
+                unreachable!()
+            };
+            deliver_set(w, mark, thread, set)
+        }
+        Delivery::Yield => deliver_own(w, mark, thread),
+        Delivery::Cancel => deliver_own(w, mark, thread),
+    }
+}
+
+// An entry of the thread was taken from the mark: the thread starts, is given what is there for it, or goes on.
+fn take_thread<W: Words>(w: &mut W, mark: Mark, thread: ThreadId) -> Result<Came, NoMemory>
+    requires taken { Taken mark (thread_of (W.view w.old) thread) (W.view w.old).core }
+    requires finds { FindsSet (thread_of (W.view w.old) thread) (W.view w.old).core }
+    ensures meets { IfOk result (λ came. Meets (thread_taken mark (thread_of (W.view w.old) thread) (choice_of (label_of (thread_of (W.view w.old) thread) came)) (W.view w.old).core (place_of (thread_of (W.view w.old) thread) (W.view w.old).core)) (W.view w.old).core came (W.view w.new).core) }
+    ensures shows { IfOk result (λ came. Shows (thread_of (W.view w.old) thread) came) }
+    ensures stays { IfOk result (λ came. StaysAfter came (W.view w.old) (W.view w.new)) }
+    ensures tags { (W.view w.new).tags ≡ (W.view w.old).tags }
+    ensures current { (W.view w.new).current ≡ (W.view w.old).current }
+{
+    match w.why(thread) {
+        Why::Start => take_start(w, mark, thread),
+        Why::Resumption => Ok(resume(w, mark, thread)),
+        Why::Delivery { delivery } => Ok(take_delivery(w, mark, thread, delivery)),
+    }
+}
+
+// The next entry is the thread's, at this mark: it is taken.
+fn step_thread<W: Words>(
+    component: &Component,
+    w: &mut W,
+    ended: bool,
+    mark: Mark,
+    thread: ThreadId,
+) -> Result<Made, NoMemory>
+    requires order { Sits component.now (Turn.Take ended) (W.view w.old).core }
+    requires next { next_entry (W.view w.old).core ≡ Some (mark, entries.Thread (thread_of (W.view w.old) thread)) }
+    requires finds { FindsSet (thread_of (W.view w.old) thread) (popped mark (W.view w.old).core) }
+    ensures makes { IfOk result (λ made. Makes component.now (Turn.Take ended) (W.view w.old) made (W.view w.new)) }
+    ensures free { IfOk result (λ made. IsFree made.turn) }
+{
+    let _component = component;
+    w.none_is_zero();
+    w.pop(mark);
+    w.set_current(Some(thread));
+    let came = take_thread(w, mark, thread)?;
+    Ok(made_of(w, thread, came))
+}
+
+// The next entry is the push of the work, at this mark: it is taken, and the work is live.
+fn step_push<W: Words>(w: &mut W, mark: Mark, work: WorkId) -> Made
+    requires current { (W.view w.old).current ≡ None }
+    requires next { next_entry (W.view w.old).core ≡ Some (mark, entries.Push (work_of (W.view w.old) work)) }
+    ensures makes { (c : Component) → (ended : Bool) → Makes c (Turn.Take ended) (W.view w.old) result (W.view w.new) }
+    ensures turn { result.turn ≡ Turn.Main }
+{
+    w.pop(mark);
+    let number = w.work_number(work);
+    let _ = take_push(w, mark, work);
+    Made {
+        label: Label::Take(TakeLabel::Push(mark, number)),
+        turn: Turn::Main,
+    }
+}
+
+/// The next entry is taken; none where nothing stands.
+pub fn step_take<W: Words>(
+    component: &Component,
+    w: &mut W,
+    ended: bool,
+) -> Result<Option<Made>, NoMemory>
+    requires order { Sits component.now (Turn.Take ended) (W.view w.old).core }
+    requires current { (W.view w.old).current ≡ None }
+    ensures { IfOk result (λ made. Took component.now ended (W.view w.old) made (W.view w.new)) }
+{
+    match w.next_entry() {
+        None => Ok(None),
+        Some((mark, EntryId::Thread(thread))) => {
+            let made = step_thread(component, w, ended, mark, thread)?;
+            Ok(Some(made))
+        }
+        Some((mark, EntryId::Push(work))) => Ok(Some(step_push(w, mark, work))),
+        Some((_, EntryId::Host(_))) => unreachable!(),
+    }
+}

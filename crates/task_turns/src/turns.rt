@@ -1,0 +1,118 @@
+//! The turns of a run in which main has no part.
+ghost use Rattle.std.specs.Prelude.{◌≡◌, ◌≤◌, IfOk, None, false};
+ghost use Rattle.task_laws.specs.Order.{WorksQueued};
+ghost use Rattle.task_machine.specs.Core.{Main};
+ghost use Rattle.task_machine.specs.Read.{next_entry};
+ghost use Rattle.task_rules.specs.Outcome.{is_at_rest};
+ghost use Rattle.task_rules.specs.Places.{Placed};
+ghost use Rattle.task_rules.specs.Stalled.{Setting, is_unended_take};
+ghost use Rattle.task_turns.specs.Covered.{IsCovered};
+ghost use Rattle.task_turns.specs.Drive.{KeepsOn};
+ghost use Rattle.task_turns.specs.Turn.{IsAtTurn, IsSettled, PendsIn, Sits, TurnedBeside, Turns, idle_line_of, running_of, runs_in, state_at};
+
+use crate::futures::step_poll;
+use crate::made::Made;
+use crate::rests::{step_deadlock, step_rest};
+use crate::settles::nothing_stands;
+use crate::stretches::stretch;
+use crate::takes::step_take;
+use crate::trace::Trace;
+use task_machine::{Component, NoMemory, Turn};
+use task_words::Words;
+
+/// The live work that is next is polled.
+pub fn poll<W: Words>(w: &mut W, polled: u64) -> Made
+    requires placed { Placed (W.view w.old).core }
+    requires works { WorksQueued (W.view w.old).core }
+    requires current { (W.view w.old).current ≡ None }
+    requires settled { IsSettled (W.view w.old).core (Turn.Futures polled) }
+    ensures { (x : Setting) → (m : Main) → PendsIn x (W.view w.old).core m (Turn.Futures polled) → Turns x (Turn.Futures polled) m (W.view w.old) result m (W.view w.new) }
+{
+    w.none_is_zero();
+    let Some(work) = w.next_polled(polled) else {
+        unreachable!()
+    };
+    step_poll(w, work, polled)
+}
+
+// Nothing stands, and no work ended in this turn.
+fn rest<W: Words>(w: &mut W, trap_on_idle: bool) -> Option<Made>
+    requires works { WorksQueued (W.view w.old).core }
+    requires current { (W.view w.old).current ≡ None }
+    requires none { next_entry (W.view w.old).core ≡ None }
+    ensures { (c : Component) → TurnedBeside c trap_on_idle (Turn.Take false) (W.view w.old) result (W.view w.new) }
+{
+    if w.has_moving_work() {
+        return Some(step_rest(w));
+    }
+    if w.has_live_work() {
+        return None;
+    }
+    if !trap_on_idle {
+        return None;
+    }
+    Some(step_deadlock(w))
+}
+
+/// The next entry is taken, or else it is seen what it is that nothing stands.
+pub fn take<W: Words>(
+    component: &Component,
+    w: &mut W,
+    ended: bool,
+    trap_on_idle: bool,
+) -> Result<Option<Made>, NoMemory>
+    requires at { IsAtTurn component.now (Turn.Take ended) (W.view w.old) }
+    ensures { IfOk result (λ made. TurnedBeside component.now trap_on_idle (Turn.Take ended) (W.view w.old) made (W.view w.new)) }
+{
+    match step_take(component, w, ended)? {
+        Some(made) => Ok(Some(made)),
+        None if ended => unreachable!(),
+        None => Ok(rest(w, trap_on_idle)),
+    }
+}
+
+/// The ops on registers and words that come next, where a thread runs.
+pub fn compute<W: Words>(
+    component: &Component,
+    w: &mut W,
+    turn: Turn,
+    trace: &mut Trace,
+    added: u32,
+    steps: u32,
+) -> Result<u32, NoMemory>
+    requires covered { IsCovered component.now }
+    requires order { Sits component.now turn (W.view w.old).core }
+    requires runs { running_of (W.view w.old) ≡ runs_in turn }
+    requires few { added ≤ steps }
+    ensures few { IfOk result (λ k. (added ≤ k) × (k ≤ steps)) }
+    ensures on { IfOk result (λ k. KeepsOn component.now turn (W.view w.old) trace.old added (W.view w.new) trace.new k) }
+{
+    match turn {
+        Turn::Run { thread } => stretch(component, w, thread, trace, added, steps),
+        _ => Ok(added),
+    }
+}
+
+// Whether an entry is to be taken, and no work ended in this turn.
+fn is_take(turn: Turn) -> bool
+    ensures { result ≡ is_unended_take turn }
+{
+    matches!(turn, Turn::Take { ended: false })
+}
+
+/// Whether nothing can go on in this turn, and that is no deadlock.
+pub fn is_idle<W: Words>(w: &W, turn: Turn, trap_on_idle: bool) -> bool
+    requires { WorksQueued (W.view w.now).core }
+    ensures { (x : Setting) → x.idle ≡ idle_line_of trap_on_idle → (m : Main) → PendsIn x (W.view w.now).core m turn → is_at_rest x (state_at (W.view w.now).core m turn) ≡ result }
+{
+    if !is_take(turn) {
+        return false;
+    }
+    if !nothing_stands(w) {
+        return false;
+    }
+    if w.has_moving_work() {
+        return false;
+    }
+    w.has_live_work() || !trap_on_idle
+}

@@ -1,0 +1,5 @@
+pub mod StateView
+pub mod Names
+pub mod Live
+pub mod Apart
+pub mod Context

@@ -1,0 +1,98 @@
+-- The machine's records for those that name others by ids.
+use Rattle.std.specs.Prelude.{ℕ}
+use Rattle.task_machine.specs.declared.records.Caller.{Caller}
+use Rattle.task_machine.specs.declared.records.Caller.TheVariants as caller
+use Rattle.task_machine.specs.declared.records.Delivery.{Delivery}
+use Rattle.task_machine.specs.declared.records.Delivery.TheVariants as delivery
+use Rattle.task_machine.specs.declared.records.Entry.{Entry}
+use Rattle.task_machine.specs.declared.records.Entry.TheVariants as entry
+use Rattle.task_machine.specs.declared.records.HowFar.{HowFar}
+use Rattle.task_machine.specs.declared.records.HowFar.TheVariants as how_far
+use Rattle.task_machine.specs.declared.records.Join.{Join}
+use Rattle.task_machine.specs.declared.records.Join.TheVariants as join
+use Rattle.task_machine.specs.declared.records.Place.{Place}
+use Rattle.task_machine.specs.declared.records.Place.TheVariants as place
+use Rattle.task_machine.specs.declared.records.Subtask.{Subtask}
+use Rattle.task_machine.specs.declared.records.Subtask.TheVariants as subtask
+use Rattle.task_machine.specs.declared.records.Why.{Why}
+use Rattle.task_machine.specs.declared.records.Why.TheVariants as why
+use Rattle.task_machine.specs.declared.records.WorkCaller.{WorkCaller}
+use Rattle.task_machine.specs.declared.records.WorkCaller.TheVariants as work_caller
+use Rattle.task_words.specs.StateView.{Tags, call_number, set_number, thread_number, work_number}
+use Rattle.task_words.specs.declared.names.CallerId.{CallerId}
+use Rattle.task_words.specs.declared.names.CallerId.TheVariants as callers
+use Rattle.task_words.specs.declared.names.DeliveryId.{DeliveryId}
+use Rattle.task_words.specs.declared.names.DeliveryId.TheVariants as deliveries
+use Rattle.task_words.specs.declared.names.EntryId.{EntryId}
+use Rattle.task_words.specs.declared.names.EntryId.TheVariants as entries
+use Rattle.task_words.specs.declared.names.HowFarId.{HowFarId}
+use Rattle.task_words.specs.declared.names.HowFarId.TheVariants as how_fars
+use Rattle.task_words.specs.declared.names.JoinId.{JoinId}
+use Rattle.task_words.specs.declared.names.JoinId.TheVariants as joins
+use Rattle.task_words.specs.declared.names.PlaceId.{PlaceId}
+use Rattle.task_words.specs.declared.names.PlaceId.TheVariants as places
+use Rattle.task_words.specs.declared.names.SubtaskId.{SubtaskId}
+use Rattle.task_words.specs.declared.names.SubtaskId.TheVariants as subtasks
+use Rattle.task_words.specs.declared.names.WhyId.{WhyId}
+use Rattle.task_words.specs.declared.names.WhyId.TheVariants as whys
+use Rattle.task_words.specs.declared.names.WorkCallerId.{WorkCallerId}
+use Rattle.task_words.specs.declared.names.WorkCallerId.TheVariants as work_callers
+
+abbrev pub subtask_in : Tags → SubtaskId → Subtask
+subtask_in tags (subtasks.Guest id) = subtask.Guest (call_number tags id)
+subtask_in tags (subtasks.Host id) = subtask.Host (work_number tags id)
+
+-- the number of the call or the work
+abbrev pub number_in : Tags → SubtaskId → ℕ
+number_in tags (subtasks.Guest id) = call_number tags id
+number_in tags (subtasks.Host id) = work_number tags id
+
+abbrev pub delivery_in : Tags → DeliveryId → Delivery
+delivery_in tags (deliveries.Set id) = delivery.Set (set_number tags id)
+delivery_in tags deliveries.Yield = delivery.Yield
+delivery_in tags deliveries.Cancel = delivery.Cancel
+
+abbrev pub why_in : Tags → WhyId → Why
+why_in tags whys.Start = why.Start
+why_in tags (whys.Delivery d) = why.Delivery (delivery_in tags d)
+why_in tags whys.Resumption = why.Resumption
+
+abbrev pub place_in : Tags → PlaceId → Place
+place_in tags places.New = place.New
+place_in tags (places.Ready m w) = place.Ready m (why_in tags w)
+place_in tags places.Running = place.Running
+place_in tags (places.Under id) = place.Under (thread_number tags id)
+place_in tags (places.Behind id) = place.Behind (thread_number tags id)
+place_in tags (places.Waiting id by_callback) = place.Waiting (set_number tags id) by_callback
+place_in tags (places.Blocked sub) = place.Blocked (subtask_in tags sub)
+place_in tags (places.Held w) = place.Held (why_in tags w)
+place_in tags places.Suspended = place.Suspended
+
+abbrev pub how_far_in : Tags → HowFarId → HowFar
+how_far_in tags how_fars.Fresh = how_far.Fresh
+how_far_in tags (how_fars.Waits id) = how_far.Waits (set_number tags id)
+how_far_in tags (how_fars.Calls sub) = how_far.Calls (subtask_in tags sub)
+how_far_in tags (how_fars.Answered v) = how_far.Answered v
+how_far_in tags (how_fars.Cancels sub) = how_far.Cancels (subtask_in tags sub)
+how_far_in tags (how_fars.AwaitsEnd sub) = how_far.AwaitsEnd (subtask_in tags sub)
+how_far_in tags how_fars.Suspends = how_far.Suspends
+how_far_in tags how_fars.Yields = how_far.Yields
+
+abbrev pub join_in : Tags → JoinId → Join
+join_in tags joins.Nowhere = join.Nowhere
+join_in tags (joins.Set id) = join.Set (set_number tags id)
+join_in tags (joins.Watched id) = join.Watched (thread_number tags id)
+
+abbrev pub caller_in : Tags → CallerId → Caller
+caller_in tags callers.Main = caller.Main
+caller_in tags (callers.Thread id) = caller.Thread (thread_number tags id)
+
+abbrev pub work_caller_in : Tags → WorkCallerId → WorkCaller
+work_caller_in tags work_callers.Spawn = work_caller.Spawn
+work_caller_in tags (work_callers.Async id r) = work_caller.Async (thread_number tags id) r
+work_caller_in tags (work_callers.Sync id) = work_caller.Sync (thread_number tags id)
+
+abbrev pub entry_in : Tags → EntryId → Entry
+entry_in tags (entries.Thread id) = entry.Thread (thread_number tags id)
+entry_in tags (entries.Push id) = entry.Push (work_number tags id)
+entry_in tags (entries.Host id) = entry.Host (work_number tags id)

@@ -1,0 +1,62 @@
+ghost use Rattle.std.specs.Prelude.{◌≡◌, ◌+◌, ◌<◌, ◌^◌, IfNone, IfOk, IfSome, IsSome, OnErr, OnOk, false, is_some, true};
+ghost use Rattle.task_machine.specs.Maps.{get};
+ghost use Rattle.task_machine.specs.Read.{at_handle_limit, fits, has_member, has_ready_member, has_waiters, is_ready_member, set_at, set_instance};
+ghost use Rattle.task_machine.specs.Write.{add_set, free_handle, give_handle, remove_set};
+ghost use Rattle.task_machine.specs.declared.records.Named.TheVariants as names;
+ghost use Rattle.task_words.specs.Names.{subtask_in};
+ghost use Rattle.task_words.specs.StateView.{Keeps, KeepsBut, lost_set, set_of};
+
+use crate::names::{SetId, SubtaskId};
+use crate::view::View;
+use task_machine::NoMemory;
+
+/// Waitable sets, their members and what keeps them.
+pub trait SetWords: View {
+    /// The number of a set; 0 where the id names none.
+    fn set_number(&self, set: SetId) -> u64
+        ensures { result ≡ set_of (Self.view self.now) set };
+
+    fn set_instance(&self, set: SetId) -> u32
+        ensures { result ≡ set_instance (set_of (Self.view self.now) set) (Self.view self.now).core };
+
+    fn has_member(&self, set: SetId) -> bool
+        requires { 0 < set_of (Self.view self.now) set }
+        ensures { result ≡ has_member (set_of (Self.view self.now) set) (Self.view self.now).core };
+
+    fn has_ready_member(&self, set: SetId) -> bool
+        requires { 0 < set_of (Self.view self.now) set }
+        ensures { result ≡ has_ready_member (set_of (Self.view self.now) set) (Self.view self.now).core };
+
+    /// Whether a thread waits on the set or has an entry for it.
+    fn has_waiters(&self, set: SetId) -> bool
+        requires { 0 < set_of (Self.view self.now) set }
+        ensures { result ≡ has_waiters (set_of (Self.view self.now) set) (Self.view self.now).core };
+
+    /// The first ready member of a set, in the order of the set's chain.
+    fn first_ready(&self, set: SetId) -> Option<SubtaskId>
+        requires { 0 < set_of (Self.view self.now) set }
+        ensures none { IfNone result (has_ready_member (set_of (Self.view self.now) set) (Self.view self.now).core ≡ false) }
+        ensures some { IfSome result (λ member. is_ready_member (set_of (Self.view self.now) set) (subtask_in (Self.view self.now).tags member) (Self.view self.now).core ≡ true) };
+
+    /// Makes a set of an instance, and its handle there. Where memory is wanting, all is as before.
+    fn open_set(&mut self, instance: u32) -> Result<SetId, NoMemory>
+        requires there { is_some (get (Self.view self.old).core.handles instance) ≡ true }
+        requires few { (Self.view self.old).core.made.sets + 1 < 2 ^ 64 }
+        requires room { fits 1 (Self.view self.old).core ≡ true }
+        requires limit { at_handle_limit (Self.view self.old).core ≡ false }
+        ensures set { IfOk result (λ id. set_of (Self.view self.new) id ≡ (Self.view self.old).core.made.sets + 1) }
+        ensures core { OnOk result ((Self.view self.new).core ≡ give_handle instance (names.Set ((Self.view self.old).core.made.sets + 1)) (add_set (record { instance = instance }) (Self.view self.old).core)) }
+        ensures current { (Self.view self.new).current ≡ (Self.view self.old).current }
+        ensures tags { Keeps (Self.view self.old).tags (Self.view self.new).tags }
+        ensures err { OnErr result (Self.view self.new ≡ Self.view self.old) };
+
+    /// A set without members and waiters is gone, and its handle in the instance.
+    fn close_set(&mut self, instance: u32, handle: u32, set: SetId)
+        requires live { 0 < set_of (Self.view self.old) set }
+        requires names { IsSome (set_at instance handle (Self.view self.old).core) }
+        requires members { has_member (set_of (Self.view self.old) set) (Self.view self.old).core ≡ false }
+        requires waiters { has_waiters (set_of (Self.view self.old) set) (Self.view self.old).core ≡ false }
+        ensures core { (Self.view self.new).core ≡ remove_set (set_of (Self.view self.old) set) (free_handle instance handle (Self.view self.old).core) }
+        ensures current { (Self.view self.new).current ≡ (Self.view self.old).current }
+        ensures tags { KeepsBut (lost_set (set_of (Self.view self.old) set)) (Self.view self.old).tags (Self.view self.new).tags };
+}

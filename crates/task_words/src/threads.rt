@@ -1,0 +1,140 @@
+ghost use Rattle.std.specs.Prelude.{◌≡◌, ◌+◌, ◌<◌, ◌≤◌, ◌^◌, IfOk, None, OnErr, OnOk, Some, false, is_some, length, true, ℕ};
+ghost use Rattle.task_machine.specs.Maps.{get};
+ghost use Rattle.task_machine.specs.Moves.{freed_thread_handle};
+ghost use Rattle.task_machine.specs.Read.{at_handle_limit, call_instance, fits, how_far_of, instance_of, is_explicit, is_last_thread, position_of, register_of, registers_of, saved_callee_of, saved_own_of, task_of, thread_group, thread_handle_of};
+ghost use Rattle.task_machine.specs.Write.{add_thread, remove_thread, set_how_far, set_position, set_register, set_saved_callee, set_saved_own, set_script};
+ghost use Rattle.task_machine.specs.declared.records.Script.TheVariants as scripts;
+ghost use Rattle.task_machine.specs.declared.records.Thread.{Thread};
+ghost use Rattle.task_rules.specs.Calls.{new_thread, next_thread, with_thread_handle};
+ghost use Rattle.task_rules.specs.Data.{advanced, assigned, moved_to};
+ghost use Rattle.task_rules.specs.Scripts.{registers_for};
+ghost use Rattle.task_words.specs.Apart.{IsApart};
+ghost use Rattle.task_words.specs.Context.{with_context};
+ghost use Rattle.task_words.specs.Live.{live_how_far};
+ghost use Rattle.task_words.specs.Names.{how_far_in};
+ghost use Rattle.task_words.specs.StateView.{Keeps, KeepsBut, call_of, lost_thread, on_core, thread_of};
+
+use crate::names::{CallId, HowFarId, ThreadId};
+use crate::view::View;
+use task_machine::{NoMemory, Script};
+
+/// The records of threads.
+pub trait ThreadWords: View {
+    /// The number of a thread; 0 where the id names none.
+    fn number(&self, thread: ThreadId) -> u64
+        ensures { result ≡ thread_of (Self.view self.now) thread };
+
+    /// The thread's call, which is there as long as the thread.
+    fn task_of(&self, thread: ThreadId) -> CallId
+        ensures is { call_of (Self.view self.now) result ≡ task_of (thread_of (Self.view self.now) thread) (Self.view self.now).core }
+        ensures live { 0 < thread_of (Self.view self.now) thread → 0 < call_of (Self.view self.now) result };
+
+    fn instance_of(&self, thread: ThreadId) -> u32
+        ensures { result ≡ instance_of (thread_of (Self.view self.now) thread) (Self.view self.now).core };
+
+    /// The number of the thread's group.
+    fn thread_group(&self, thread: ThreadId) -> u64
+        ensures { result ≡ thread_group (thread_of (Self.view self.now) thread) (Self.view self.now).core };
+
+    fn register(&self, thread: ThreadId, register: u8) -> u64
+        ensures { result ≡ register_of (thread_of (Self.view self.now) thread) register (Self.view self.now).core };
+
+    /// All registers.
+    fn registers(&self, thread: ThreadId) -> [u64; 16]
+        requires { 0 < thread_of (Self.view self.now) thread }
+        ensures { result ≡ registers_of (thread_of (Self.view self.now) thread) (Self.view self.now).core };
+
+    fn position(&self, thread: ThreadId) -> u32
+        ensures { result ≡ position_of (thread_of (Self.view self.now) thread) (Self.view self.now).core };
+
+    /// The script that a thread runs.
+    fn script(&self, thread: ThreadId) -> Script
+        requires { 0 < thread_of (Self.view self.now) thread }
+        ensures { (t : Thread) → get (Self.view self.now).core.threads (thread_of (Self.view self.now) thread) ≡ Some t → result ≡ t.script };
+
+    fn how_far(&self, thread: ThreadId) -> HowFarId
+        ensures { how_far_in (Self.view self.now).tags result ≡ live_how_far (how_far_of (thread_of (Self.view self.now) thread) (Self.view self.now).core) (Self.view self.now).core };
+
+    fn is_explicit(&self, thread: ThreadId) -> bool
+        ensures { result ≡ is_explicit (thread_of (Self.view self.now) thread) (Self.view self.now).core };
+
+    /// It is the only thread of its call.
+    fn is_last_thread(&self, thread: ThreadId) -> bool
+        ensures { result ≡ is_last_thread (thread_of (Self.view self.now) thread) (Self.view self.now).core };
+
+    fn thread_handle(&self, thread: ThreadId) -> Option<u32>
+        ensures { result ≡ thread_handle_of (thread_of (Self.view self.now) thread) (Self.view self.now).core };
+
+    fn saved_own(&self, thread: ThreadId) -> Option<bool>
+        ensures { result ≡ saved_own_of (thread_of (Self.view self.now) thread) (Self.view self.now).core };
+
+    fn saved_callee(&self, thread: ThreadId) -> Option<bool>
+        ensures { result ≡ saved_callee_of (thread_of (Self.view self.now) thread) (Self.view self.now).core };
+
+    fn set_register(&mut self, thread: ThreadId, register: u8, value: u64)
+        ensures { Self.view self.new ≡ on_core (set_register (thread_of (Self.view self.old) thread) register value) (Self.view self.old) };
+
+    fn set_position(&mut self, thread: ThreadId, position: u32)
+        ensures { Self.view self.new ≡ on_core (set_position (thread_of (Self.view self.old) thread) position) (Self.view self.old) };
+
+    fn set_how_far(&mut self, thread: ThreadId, how_far: HowFarId)
+        ensures { Self.view self.new ≡ on_core (set_how_far (thread_of (Self.view self.old) thread) (how_far_in (Self.view self.old).tags how_far)) (Self.view self.old) };
+
+    fn set_script(&mut self, thread: ThreadId, script: Script)
+        ensures { Self.view self.new ≡ on_core (set_script (thread_of (Self.view self.old) thread) script) (Self.view self.old) };
+
+    fn set_saved_own(&mut self, thread: ThreadId, flag: Option<bool>)
+        ensures { Self.view self.new ≡ on_core (set_saved_own (thread_of (Self.view self.old) thread) flag) (Self.view self.old) };
+
+    fn set_saved_callee(&mut self, thread: ThreadId, flag: Option<bool>)
+        ensures { Self.view self.new ≡ on_core (set_saved_callee (thread_of (Self.view self.old) thread) flag) (Self.view self.old) };
+
+    /// The thread is about to begin the op at this position, with these registers.
+    fn set_context(&mut self, thread: ThreadId, position: u32, registers: &[u64; 16])
+        ensures { Self.view self.new ≡ on_core (with_context (thread_of (Self.view self.old) thread) position registers.now) (Self.view self.old) };
+
+    /// The thread goes on with the op at this position.
+    fn move_to(&mut self, thread: ThreadId, position: u32)
+        ensures { Self.view self.new ≡ on_core (moved_to (thread_of (Self.view self.old) thread) position) (Self.view self.old) };
+
+    /// The op is done.
+    fn advance(&mut self, thread: ThreadId)
+        requires { position_of (thread_of (Self.view self.old) thread) (Self.view self.old).core + 1 < 2 ^ 32 }
+        ensures { Self.view self.new ≡ on_core (advanced (thread_of (Self.view self.old) thread)) (Self.view self.old) };
+
+    /// The op is done, with its answer in a register.
+    fn assign(&mut self, thread: ThreadId, register: u8, value: u64)
+        requires { position_of (thread_of (Self.view self.old) thread) (Self.view self.old).core + 1 < 2 ^ 32 }
+        ensures { Self.view self.new ≡ on_core (assigned (thread_of (Self.view self.old) thread) register value) (Self.view self.old) };
+
+    /// Makes an explicit thread of a call with these words, and gives it its handle. Where memory is
+    /// wanting, all is as before.
+    fn make_thread(&mut self, task: CallId, slot: u8, words: &[u64]) -> Result<ThreadId, NoMemory>
+        requires words { length words.now ≤ 16 }
+        requires task { 0 < call_of (Self.view self.old) task }
+        requires there { is_some (get (Self.view self.old).core.handles (call_instance (call_of (Self.view self.old) task) (Self.view self.old).core)) ≡ true }
+        requires few { (Self.view self.old).core.made.threads + 1 < 2 ^ 64 }
+        requires room { fits 2 (Self.view self.old).core ≡ true }
+        requires limit { at_handle_limit (Self.view self.old).core ≡ false }
+        ensures thread { IfOk result (λ id. thread_of (Self.view self.new) id ≡ next_thread (Self.view self.old).core) }
+        ensures core { OnOk result ((i : ℕ) → i ≡ call_instance (call_of (Self.view self.old) task) (Self.view self.old).core → (Self.view self.new).core ≡ with_thread_handle i (next_thread (Self.view self.old).core) (add_thread (new_thread (call_of (Self.view self.old) task) true (scripts.Slot slot) (registers_for words.now) None) (Self.view self.old).core)) }
+        ensures current { (Self.view self.new).current ≡ (Self.view self.old).current }
+        ensures tags { Keeps (Self.view self.old).tags (Self.view self.new).tags }
+        ensures err { OnErr result (Self.view self.new ≡ Self.view self.old) };
+
+    /// A thread gives back its handle and is gone.
+    fn retire_thread(&mut self, thread: ThreadId)
+        requires live { 0 < thread_of (Self.view self.old) thread }
+        requires apart { IsApart (thread_of (Self.view self.old) thread) (Self.view self.old).core }
+        ensures core { (Self.view self.new).core ≡ remove_thread (thread_of (Self.view self.old) thread) (freed_thread_handle (instance_of (thread_of (Self.view self.old) thread) (Self.view self.old).core) (thread_handle_of (thread_of (Self.view self.old) thread) (Self.view self.old).core) (Self.view self.old).core) }
+        ensures current { (Self.view self.new).current ≡ (Self.view self.old).current }
+        ensures tags { KeepsBut (lost_thread (thread_of (Self.view self.old) thread)) (Self.view self.old).tags (Self.view self.new).tags };
+
+    /// A thread is gone, as it stands, and no thread is behind it any more.
+    fn remove_thread(&mut self, thread: ThreadId)
+        requires live { 0 < thread_of (Self.view self.old) thread }
+        requires apart { IsApart (thread_of (Self.view self.old) thread) (Self.view self.old).core }
+        ensures core { (Self.view self.new).core ≡ remove_thread (thread_of (Self.view self.old) thread) (Self.view self.old).core }
+        ensures current { (Self.view self.new).current ≡ (Self.view self.old).current }
+        ensures tags { KeepsBut (lost_thread (thread_of (Self.view self.old) thread)) (Self.view self.old).tags (Self.view self.new).tags };
+}

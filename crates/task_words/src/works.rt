@@ -1,0 +1,116 @@
+ghost use Rattle.std.specs.Prelude.{◌≡◌, ◌+◌, ◌<◌, ◌^◌, IfOk, None, OnErr, OnOk, Some, false, option_map, true};
+ghost use Rattle.task_machine.specs.Read.{at_handle_limit, course_of, fits, instance_of, phase_of, stage_of, thread_group, was_cancelled, work_caller_of};
+ghost use Rattle.task_machine.specs.Write.{count_work, set_cancelled, set_course, set_phase, set_stage};
+ghost use Rattle.task_machine.specs.declared.records.Subtask.TheVariants as subtasks;
+ghost use Rattle.task_machine.specs.declared.records.WorkCaller.TheVariants as work_callers;
+ghost use Rattle.task_rules.specs.Calls.{next_work, with_handle, work_deleted, work_group, work_queued};
+ghost use Rattle.task_rules.specs.Works.{has_live_work, has_moving_work, next_polled};
+ghost use Rattle.task_words.specs.Apart.{work_entries};
+ghost use Rattle.task_words.specs.Live.{live_work_caller};
+ghost use Rattle.task_words.specs.Names.{work_caller_in};
+ghost use Rattle.task_words.specs.StateView.{Keeps, KeepsBut, lost_work, on_core, thread_of, work_of};
+
+use crate::names::{ThreadId, WorkCallerId, WorkId};
+use crate::view::View;
+use task_machine::{Course, HostDef, NoMemory, Phase, Stage};
+
+/// The records of host works.
+pub trait WorkWords: View {
+    /// The number of a work; 0 where the id names none.
+    fn work_number(&self, work: WorkId) -> u64
+        ensures { result ≡ work_of (Self.view self.now) work };
+
+    fn course(&self, work: WorkId) -> Course
+        ensures { result ≡ course_of (work_of (Self.view self.now) work) (Self.view self.now).core };
+
+    fn phase(&self, work: WorkId) -> Phase
+        ensures { result ≡ phase_of (work_of (Self.view self.now) work) (Self.view self.now).core };
+
+    fn stage(&self, work: WorkId) -> Stage
+        ensures { result ≡ stage_of (work_of (Self.view self.now) work) (Self.view self.now).core };
+
+    fn work_caller(&self, work: WorkId) -> WorkCallerId
+        ensures { work_caller_in (Self.view self.now).tags result ≡ live_work_caller (work_caller_of (work_of (Self.view self.now) work) (Self.view self.now).core) (Self.view self.now).core };
+
+    /// The number of the work's group, if it is a call.
+    fn work_group(&self, work: WorkId) -> Option<u64>
+        ensures { result ≡ work_group (work_of (Self.view self.now) work) (Self.view self.now).core };
+
+    fn was_cancelled(&self, work: WorkId) -> bool
+        ensures { result ≡ was_cancelled (work_of (Self.view self.now) work) (Self.view self.now).core };
+
+    /// The live work that is polled next, where those with numbers up to this one were.
+    fn next_polled(&self, polled: u64) -> Option<WorkId>
+        ensures { option_map (λ id. work_of (Self.view self.now) id) result ≡ next_polled polled (Self.view self.now).core };
+
+    fn has_live_work(&self) -> bool
+        ensures { result ≡ has_live_work (Self.view self.now).core };
+
+    /// Whether some live work is polled to no end.
+    fn has_moving_work(&self) -> bool
+        ensures { result ≡ has_moving_work (Self.view self.now).core };
+
+    fn set_course(&mut self, work: WorkId, course: Course)
+        ensures { Self.view self.new ≡ on_core (set_course (work_of (Self.view self.old) work) course) (Self.view self.old) };
+
+    fn set_phase(&mut self, work: WorkId, phase: Phase)
+        ensures { Self.view self.new ≡ on_core (set_phase (work_of (Self.view self.old) work) phase) (Self.view self.old) };
+
+    fn set_stage(&mut self, work: WorkId, stage: Stage)
+        ensures { Self.view self.new ≡ on_core (set_stage (work_of (Self.view self.old) work) stage) (Self.view self.old) };
+
+    fn set_cancelled(&mut self, work: WorkId)
+        ensures { Self.view self.new ≡ on_core (set_cancelled (work_of (Self.view self.old) work)) (Self.view self.old) };
+
+    /// A host was ready at its first poll: its work has its number, and no record.
+    fn count_work(&mut self)
+        requires { (Self.view self.old).core.made.works + 1 < 2 ^ 64 }
+        ensures { Self.view self.new ≡ on_core count_work (Self.view self.old) };
+
+    /// Makes a spawned work, and its push. Where memory is wanting, all is as before.
+    fn queue_spawn(&mut self, host: HostDef) -> Result<WorkId, NoMemory>
+        requires { (Self.view self.old).core.made.works + 1 < 2 ^ 64 }
+        ensures work { IfOk result (λ id. work_of (Self.view self.new) id ≡ next_work (Self.view self.old).core) }
+        ensures core { OnOk result ((Self.view self.new).core ≡ work_queued work_callers.Spawn host None (Self.view self.old).core) }
+        ensures current { (Self.view self.new).current ≡ (Self.view self.old).current }
+        ensures tags { Keeps (Self.view self.old).tags (Self.view self.new).tags }
+        ensures err { OnErr result (Self.view self.new ≡ Self.view self.old) };
+
+    /// Makes the work of a thread's `call_sync`, in the thread's group, and its push. Where memory
+    /// is wanting, all is as before.
+    fn queue_sync_call(&mut self, thread: ThreadId, host: HostDef) -> Result<WorkId, NoMemory>
+        requires live { 0 < thread_of (Self.view self.old) thread }
+        requires few { (Self.view self.old).core.made.works + 1 < 2 ^ 64 }
+        requires room { fits 1 (Self.view self.old).core ≡ true }
+        ensures work { IfOk result (λ id. work_of (Self.view self.new) id ≡ next_work (Self.view self.old).core) }
+        ensures core { OnOk result ((Self.view self.new).core ≡ work_queued (work_callers.Sync (thread_of (Self.view self.old) thread)) host (Some (thread_group (thread_of (Self.view self.old) thread) (Self.view self.old).core)) (Self.view self.old).core) }
+        ensures current { (Self.view self.new).current ≡ (Self.view self.old).current }
+        ensures tags { Keeps (Self.view self.old).tags (Self.view self.new).tags }
+        ensures err { OnErr result (Self.view self.new ≡ Self.view self.old) };
+
+    /// Makes the work of a thread's `call`, in the thread's group, with its push, and gives it a
+    /// handle in the thread's instance. Where memory is wanting, all is as before.
+    fn queue_call(
+        &mut self,
+        thread: ThreadId,
+        register: u8,
+        host: HostDef,
+    ) -> Result<WorkId, NoMemory>
+        requires live { 0 < thread_of (Self.view self.old) thread }
+        requires few { (Self.view self.old).core.made.works + 1 < 2 ^ 64 }
+        requires room { fits 1 (Self.view self.old).core ≡ true }
+        requires limit { at_handle_limit (Self.view self.old).core ≡ false }
+        ensures work { IfOk result (λ id. work_of (Self.view self.new) id ≡ next_work (Self.view self.old).core) }
+        ensures core { OnOk result ((Self.view self.new).core ≡ with_handle (instance_of (thread_of (Self.view self.old) thread) (Self.view self.old).core) (subtasks.Host (next_work (Self.view self.old).core)) (work_queued (work_callers.Async (thread_of (Self.view self.old) thread) register) host (Some (thread_group (thread_of (Self.view self.old) thread) (Self.view self.old).core)) (Self.view self.old).core)) }
+        ensures current { (Self.view self.new).current ≡ (Self.view self.old).current }
+        ensures tags { Keeps (Self.view self.old).tags (Self.view self.new).tags }
+        ensures err { OnErr result (Self.view self.new ≡ Self.view self.old) };
+
+    /// A work is gone, and its group is finished, if nothing of it is left.
+    fn delete_work(&mut self, work: WorkId)
+        requires live { 0 < work_of (Self.view self.old) work }
+        requires unqueued { work_entries (work_of (Self.view self.old) work) (Self.view self.old).core.queues.high ≡ 0 }
+        ensures core { (Self.view self.new).core ≡ work_deleted (work_of (Self.view self.old) work) (Self.view self.old).core }
+        ensures current { (Self.view self.new).current ≡ (Self.view self.old).current }
+        ensures tags { KeepsBut (lost_work (work_of (Self.view self.old) work)) (Self.view self.old).tags (Self.view self.new).tags };
+}

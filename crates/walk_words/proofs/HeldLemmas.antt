@@ -1,0 +1,167 @@
+-- The chain of an instance's held threads has just these.
+use Rattle.std.proofs.Common.{◌≡◌, ◌==◌, ◌&&◌, ◌||◌, ℕ, Bool, true, false, cond, not, filter, List, [], ◌∷◌, Option, Some, None, IsSome, is_some, slice_get, refl, sym, ap, subst, ◌∙◌}
+use Rattle.std.proofs.lemmas.Bool.{eq-eqb, eqb-true}
+use Rattle.std.proofs.lemmas.List.Sorted.{list_any-IsPermutation}
+use Rattle.std.proofs.lemmas.Option.{same_Some, slice_get-map}
+use Rattle.std.specs.List.{list_any}
+use Rattle.std.specs.Option.{option_and_then, option_map, option_map_or}
+use Rattle.std.specs.Prelude.{map}
+use Rattle.task_index.proofs.Members.{IsMembers-nothing, admitted_permute}
+use Rattle.task_index.proofs.Walks.{IsMembers-walked}
+use Rattle.task_index.specs.Index.{Filing, Tests}
+use Rattle.task_index.specs.Members.{IsMembers, is_held_in}
+use Rattle.task_index.specs.Walks.{passes_in}
+use Rattle.task_links.specs.Links.{IsLinks}
+use Rattle.task_machine.specs.Maps.{get}
+use Rattle.task_machine.specs.Read.{admitted_held, call_instance, held_why, is_nil}
+use Rattle.task_machine.specs.declared.records.Place.{Place}
+use Rattle.task_machine.specs.declared.records.Place.TheVariants as place
+use Rattle.task_machine.specs.declared.records.Thread.{Thread}
+use Rattle.task_records.proofs.HomeLemmas.{bare_instance}
+use Rattle.task_records.specs.Keys.{thread_key}
+use Rattle.task_records.specs.Kinds.{on_item}
+use Rattle.task_records.specs.Names.{HasHome}
+use Rattle.task_records.specs.Places.{HeldIn, Where, place_chain, place_filing, where_at}
+use Rattle.task_records.specs.Seen.{IsSound, parts_of, seen}
+use Rattle.task_records.specs.Sound.{bare, bare_instance as bare_record, bare_thread}
+use Rattle.task_records.specs.declared.instances.InstanceRecord.{InstanceRecord}
+use Rattle.task_records.specs.declared.parts.CoreParts.{CoreParts}
+use Rattle.task_records.specs.declared.single.Single.{Single}
+use Rattle.task_records.specs.declared.threads.GuestThread.{GuestThread}
+use Rattle.task_table.proofs.RecordLemmas.{found_record_at, get-records, record_found}
+use Rattle.task_table.specs.Records.{key_in, number_in, records}
+use Rattle.task_table.specs.Table.{Placed, place_at}
+use Rattle.place_words.proofs.FiledLemmas.{places_filed}
+use Rattle.queue_words.proofs.BareLemmas.{place_mapped}
+use Rattle.queue_words.proofs.CallerLemmas.{apart_as, none_as}
+use Rattle.walk_words.specs.Held.{is_admitted}
+use Rattle.walk_words.specs.Walks.{at_place, of_chain}
+
+-- a thread with its instance
+abbrev pub held_key : Single GuestThread → Option (ℕ × (Thread × ℕ))
+held_key g = Some (g.item.number, (g.item.thread, g.item.instance))
+
+abbrev holds_in : ℕ → ℕ × (Thread × ℕ) → Bool
+holds_in i e = (e.1.1 == i) && is_some (held_why e.1.0.place)
+
+both : (b c : Bool) → (b && c) ≡ true → (b ≡ true) × (c ≡ true)
+both true true is = (refl, refl)
+both true false is = absurd (cc)
+both false c is = absurd (cc)
+
+held_filed : (i j : ℕ) (p : Place) → (j == i) ≡ true → is_some (held_why p) ≡ true → where_at j p ≡ Some (HeldIn i)
+held_filed i j (place.Held w) same is = ap (λ k. Some (HeldIn k)) (eqb-true j i same)
+held_filed i j (place.Waiting x b) same is = absurd (cc)
+held_filed i j (place.Ready m w) same is = absurd (cc)
+held_filed i j place.New same is = absurd (cc)
+held_filed i j place.Running same is = absurd (cc)
+held_filed i j (place.Behind m) same is = absurd (cc)
+held_filed i j (place.Under m) same is = absurd (cc)
+held_filed i j (place.Blocked sub) same is = absurd (cc)
+held_filed i j place.Suspended same is = absurd (cc)
+
+held_passes : (i j : ℕ) (p : Place) → where_at j p ≡ Some (HeldIn i) → ((j == i) && is_some (held_why p)) ≡ true
+held_passes i j (place.Held w) is = ap (λ b. b && true) (eq-eqb j i (same j i is))
+  where
+    same : (j i : ℕ) → Some (HeldIn j) ≡ Some (HeldIn i) → j ≡ i
+    same j i is = cc
+held_passes i j (place.Waiting x b) is = absurd (cc)
+held_passes i j (place.Ready m w) is = absurd (cc)
+held_passes i j place.New is = absurd (cc)
+held_passes i j place.Running is = absurd (cc)
+held_passes i j (place.Behind m) is = absurd (cc)
+held_passes i j (place.Under m) is = absurd (cc)
+held_passes i j (place.Blocked sub) is = absurd (cc)
+held_passes i j place.Suspended is = absurd (cc)
+
+held_tests : (i : ℕ) → Tests place_filing held_key (HeldIn i) (holds_in i)
+held_tests i = record {
+  passes = λ rep serial e f says is_k. ((e.item.number, (e.item.thread, e.item.instance)), (refl, held_passes i e.item.instance e.item.thread.place (ap (λ (g : Filing Where ℕ). g.key) (same_Some (record { node = e.item.node.index; key = where_at e.item.instance e.item.thread.place; value = rep }) f says) ∙ is_k)));
+  filed = λ rep serial e x says is.
+      let one = both _ _ (ap (holds_in i) (same_Some (e.item.number, (e.item.thread, e.item.instance)) x says) ∙ is) in
+      (record { node = e.item.node.index; key = where_at e.item.instance e.item.thread.place; value = rep }, (refl, held_filed i e.item.instance e.item.thread.place one.0 one.1));
+}
+
+none_in : (b : Bool) → (b && false) ≡ false
+none_in true = refl
+none_in false = refl
+
+-- the chain of an instance that is there
+pub held_chain : (a : CoreParts) (i : ℕ) (r : InstanceRecord) → Some r ≡ slice_get a.instances.items i → place_chain (bare (parts_of a)) (HeldIn i) ≡ Some r.held
+held_chain a i r is = ap (option_map (λ (x : InstanceRecord). x.held)) (slice_get-map bare_record a.instances.items i ∙ ap (option_map bare_record) (sym is))
+
+module _ (a : CoreParts) (sound : IsSound a) where
+  home_at : (r : ℕ) (q : Placed (Single GuestThread)) → place_at a.threads r ≡ Some q → HasHome (bare (parts_of a)) (bare_thread q.entry.item)
+  unfolding IsSound
+  home_at r q at = sound.whole.named.threads r _ (place_mapped (on_item bare_thread) a.threads r q at)
+
+  module _ (i n : ℕ) where
+    -- a thread that stands at a place is in the instance that its entry has
+    held_at : (r : ℕ) (t : Thread) (j : ℕ) (o : Option (Placed (Single GuestThread))) → place_at a.threads r ≡ o → key_in held_key o ≡ Some (n, (t, j)) → is_held_in i (seen a).core n ≡ holds_in i (n, (t, j))
+    unfolding seen IsSound
+    held_at r t j None at is = absurd (cc)
+    held_at r t j (Some q) at is =
+        let entry = same_Some (q.entry.item.number, (q.entry.item.thread, q.entry.item.instance)) (n, (t, j)) is in
+        let found : get (records thread_key a.threads.places) n ≡ Some t = get-records thread_key a.threads.places n
+        ∙ found_record_at thread_key a.threads.places r n t sound.tables.threads.apart (ap (key_in thread_key) at ∙ ap (λ (x : ℕ × (Thread × ℕ)). Some (x.0, x.1.0)) entry) in
+        let where_in : call_instance t.call (seen a).core ≡ j = ap (λ (x : ℕ × (Thread × ℕ)). call_instance x.1.0.call (seen a).core) (sym entry) ∙ (sym (bare_instance a q.entry.item.thread.call) ∙ ((home_at r q at).instance ∙ ap (λ (x : ℕ × (Thread × ℕ)). x.1.1) entry)) in
+        ap (λ o. (call_instance (option_map_or (λ (t : Thread). t.call) o 0) (seen a).core == i) && is_some (option_and_then held_why (option_map (λ (t : Thread). t.place) o))) found ∙ ap (λ k. (k == i) && is_some (held_why t.place)) where_in
+
+    held_is : (o : Option (Thread × ℕ)) → get (records held_key a.threads.places) n ≡ o → passes_in (holds_in i) n o ≡ is_held_in i (seen a).core n
+    unfolding seen
+    held_is None is =
+        let none : get (records thread_key a.threads.places) n ≡ None = get-records thread_key a.threads.places n
+        ∙ none_as (λ (g : GuestThread). g.number) (λ (g : GuestThread). (g.thread, g.instance)) (λ (g : GuestThread). g.thread) n a.threads.places (sym (get-records held_key a.threads.places n) ∙ is) in
+        sym (ap (λ o. (call_instance (option_map_or (λ (t : Thread). t.call) o 0) (seen a).core == i) && is_some (option_and_then held_why (option_map (λ (t : Thread). t.place) o))) none ∙ none_in _)
+    held_is (Some (t, j)) is = let one = record_found held_key a.threads.places n (t, j) (sym (get-records held_key a.threads.places n) ∙ is) in sym (held_at one.0 t j (place_at a.threads one.0) refl one.1)
+
+  reads : (r : ℕ) (p : Placed (Single GuestThread)) (f : Filing Where ℕ) (x : ℕ × (Thread × ℕ)) → place_at a.threads r ≡ Some p → place_filing r p.serial p.entry ≡ Some f → held_key p.entry ≡ Some x → at_place a f.value ≡ x.0
+  reads r p f x at says key =
+      ap (λ (g : Filing Where ℕ). at_place a g.value) (sym (same_Some (record { node = p.entry.item.node.index; key = where_at p.entry.item.instance p.entry.item.thread.place; value = r }) f says))
+      ∙ (ap (λ o. number_in (key_in thread_key o)) at ∙ ap number_in key)
+
+  pub held_members : IsLinks a.places → (i c : ℕ) → place_chain (bare (parts_of a)) (HeldIn i) ≡ Some c → IsMembers (is_held_in i (seen a).core) (of_chain a c)
+  unfolding IsSound
+  held_members links i c chain =
+      let walked = IsMembers-walked place_filing (place_chain (bare (parts_of a))) a.threads a.places (places_filed a sound) (HeldIn i) c chain held_key (holds_in i) (held_tests i) links (apart_as (λ (g : GuestThread). g.number) (λ (g : GuestThread). g.thread) (λ (g : GuestThread). (g.thread, g.instance)) a.threads.places sound.tables.threads.apart) (at_place a) reads in
+      record { once = walked.once; are = λ n. walked.are n ∙ held_is i n (get (records held_key a.threads.places) n) refl }
+
+  -- ---- Whether some are admitted
+
+  some_left : (test : ℕ → Bool) (ns : List ℕ) → list_any test ns ≡ list_any (λ n. true) (filter test ns)
+  some_left test [] = refl
+  some_left test (n ∷ ns) = by (test n) (some_left test ns)
+    where
+      by : (b : Bool) → list_any test ns ≡ list_any (λ n. true) (filter test ns) → (b || list_any test ns) ≡ list_any (λ n. true) (cond b (n ∷ filter test ns) (filter test ns))
+      by true rest = refl
+      by false rest = rest
+
+  not_nil : (ns : List ℕ) → list_any (λ n. true) ns ≡ not (is_nil ns)
+  not_nil [] = refl
+  not_nil (n ∷ ns) = refl
+
+  pub some_held : (i : ℕ) (list : List ℕ) → IsMembers (is_held_in i (seen a).core) list → list_any (is_admitted i (seen a).core) list ≡ not (is_nil (admitted_held i (seen a).core))
+  some_held i list members =
+      some_left (is_admitted i (seen a).core) list
+      ∙ (sym (list_any-IsPermutation (λ n. true) (admitted_held i (seen a).core) (filter (is_admitted i (seen a).core) list) (admitted_permute i (seen a).core list members))
+      ∙ not_nil (admitted_held i (seen a).core))
+
+  -- in an instance that isn't there nobody is held
+  pub nobody_held : (i : ℕ) → None ≡ slice_get a.instances.items i → IsMembers (is_held_in i (seen a).core) []
+  nobody_held i none = IsMembers-nothing (is_held_in i (seen a).core) (λ n. sym (held_is i n (get (records held_key a.threads.places) n) refl) ∙ by n (get (records held_key a.threads.places) n) refl)
+    where
+      past : (xs : List InstanceRecord) (k : ℕ) → slice_get xs k ≡ None → IsSome (slice_get (map bare_record xs) k) → ⊥
+      past [] k is some = absurd (cc)
+      past (x ∷ xs) ℕ.zero is some = absurd (cc)
+      past (x ∷ xs) (ℕ.suc k) is some = past xs k is some
+
+      off : (n r : ℕ) (t : Thread) (j : ℕ) (o : Option (Placed (Single GuestThread))) → place_at a.threads r ≡ o → key_in held_key o ≡ Some (n, (t, j)) → (b : Bool) → (j == i) ≡ b → (b && is_some (held_why t.place)) ≡ false
+      off n r t j None at is b same = absurd (cc)
+      off n r t j (Some q) at is false same = refl
+      off n r t j (Some q) at is true same =
+          let entry = same_Some (q.entry.item.number, (q.entry.item.thread, q.entry.item.instance)) (n, (t, j)) is in
+          absurd (past a.instances.items i (sym none) (subst (λ k. IsSome (slice_get (map bare_record a.instances.items) k)) (ap (λ (x : ℕ × (Thread × ℕ)). x.1.1) entry ∙ eqb-true j i same) (home_at r q at).within))
+
+      by : (n : ℕ) (o : Option (Thread × ℕ)) → get (records held_key a.threads.places) n ≡ o → passes_in (holds_in i) n o ≡ false
+      by n None is = refl
+      by n (Some (t, j)) is = let one = record_found held_key a.threads.places n (t, j) (sym (get-records held_key a.threads.places n) ∙ is) in off n one.0 t j (place_at a.threads one.0) refl one.1 (j == i) refl

@@ -1,0 +1,6 @@
+pub mod WalkLemmas
+pub mod LeastLemmas
+pub mod ChainLemmas
+pub mod PollLemmas
+pub mod HeldLemmas
+pub mod ReleaseLemmas

@@ -1,0 +1,16 @@
+use Rattle.std.proofs.Common.{[], refl}
+use Rattle.task_index.proofs.Members.{admitted_permute}
+use Rattle.task_machine.specs.Moves.{released}
+use Rattle.task_records.specs.Seen.{seen}
+use Rattle.walk_words.proofs.HeldLemmas.{held_chain, nobody_held}
+use Rattle.walk_words.proofs.releases.release.Goals as goal
+
+pub release_chain-requires-clause-chain : goal.release_chain-requires-clause-chain
+release_chain-requires-clause-chain c = held_chain c.args.parts.now c.args.instance c.in-Some.found.now c.in-Some.ensures.item
+
+pub returns-in-Some-clause-new : goal.returns-in-Some-clause-new
+returns-in-Some-clause-new c = (_, (c.release_chain.ensures.order, c.release_chain.ensures.new))
+
+pub returns-in_default-clause-new : goal.returns-in_default-clause-new
+unfolding released
+returns-in_default-clause-new c = let a = c.args.parts.now in ([], (admitted_permute c.args.instance (seen a).core [] (nobody_held a c.requires.sound c.args.instance c.in_default.ensures.item), refl))

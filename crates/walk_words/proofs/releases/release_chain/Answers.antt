@@ -1,0 +1,64 @@
+use Rattle.std.proofs.Common.{ap, is_some, option_map, subst, sym}
+use Rattle.task_index.proofs.Members.{admitted_permute}
+use Rattle.task_links.specs.Links.{entries}
+use Rattle.task_records.specs.Places.{HeldIn}
+use Rattle.task_records.specs.Seen.{seen}
+use Rattle.walk_words.proofs.ChainLemmas.{chain_live}
+use Rattle.walk_words.proofs.HeldLemmas.{held_members}
+use Rattle.walk_words.proofs.ReleaseLemmas.{next_unqueued, release_begins, release_ends, release_smaller, release_step}
+use Rattle.walk_words.proofs.WalkLemmas.{walk_begins, walk_ends, walk_good, walk_link}
+use Rattle.walk_words.proofs.releases.release_chain.Goals as goal
+use Rattle.walk_words.specs.Held.{Releases}
+use Rattle.walk_words.specs.Walks.{Walk, of_chain}
+
+pub first-next-requires : goal.first-next-requires
+first-next-requires c = chain_live c.args.parts.now c.requires.sound (HeldIn c.args.instance) c.args.chain c.requires.chain
+
+pub loop-next-init : goal.loop-next-init
+loop-next-init c =
+    let a = c.args.parts.now in
+    let list = entries a.places c.args.chain in
+    record {
+      sound = c.requires.sound;
+      links = c.first-next.ensures.sound;
+      walk = subst (Walk (Releases c.args.instance (seen a) (of_chain a c.args.chain) a) list) (sym c.first-next.ensures.entry)
+          (walk_begins (Releases c.args.instance (seen a) (of_chain a c.args.chain) a) list (release_begins c.args.instance a list c.requires.placed (held_members a c.requires.sound c.first-next.ensures.sound c.args.instance c.args.chain c.requires.chain)));
+    }
+
+pub next-next-requires : goal.next-next-requires
+next-next-requires c = ap is_some (walk_link _ c.loop-next.parts.places c.args.chain c.loop-next.invariant.links _ (c.in-Some.entry.0.index, c.in-Some.entry.1) c.loop-next.invariant.walk (ap (option_map (λ e. (e.0.index, e.1))) c.in-Some.is)).1
+
+pub release_node-requires-clause-sound : goal.release_node-requires-clause-sound
+release_node-requires-clause-sound c = c.loop-next.invariant.sound
+
+pub release_node-requires-clause-link : goal.release_node-requires-clause-link
+release_node-requires-clause-link c = ap is_some (walk_link _ c.loop-next.parts.places c.args.chain c.loop-next.invariant.links _ (c.in-Some.entry.0.index, c.in-Some.entry.1) c.loop-next.invariant.walk (ap (option_map (λ e. (e.0.index, e.1))) c.in-Some.is)).1
+
+pub release_node-requires-clause-unqueued : goal.release_node-requires-clause-unqueued
+release_node-requires-clause-unqueued c =
+    let a = c.args.parts.now in
+    walk_good _ c.loop-next.parts.places c.args.chain c.loop-next.invariant.links _ (c.in-Some.entry.0.index, c.in-Some.entry.1) c.loop-next.invariant.walk (ap (option_map (λ e. (e.0.index, e.1))) c.in-Some.is)
+    (λ b was. next_unqueued c.args.instance (seen a) (of_chain a c.args.chain) c.loop-next.parts (c.in-Some.entry.0.index, c.in-Some.entry.1) b was)
+
+pub loop-next-smaller : goal.loop-next-smaller
+loop-next-smaller c = release_smaller c.args.instance (seen c.args.parts.now) (of_chain c.args.parts.now c.args.chain) c.loop-next.parts c.loop-next.invariant.links c.args.chain _ (c.in-Some.entry.0.index, c.in-Some.entry.1) c.loop-next.invariant.walk (ap (option_map (λ e. (e.0.index, e.1))) c.in-Some.is) (option_map (λ e. (e.0.index, e.1)) c.next-next.result) c.next-next.ensures.entry c.release_node.new.parts c.release_node.ensures.stays c.release_node.ensures.left
+
+pub loop-next-preserved : goal.loop-next-preserved
+loop-next-preserved c = record {
+  sound = c.release_node.ensures.sound;
+  links = c.release_node.ensures.links;
+  walk = release_step c.args.instance (seen c.args.parts.now) (of_chain c.args.parts.now c.args.chain) c.loop-next.parts c.loop-next.invariant.links c.args.chain _ (c.in-Some.entry.0.index, c.in-Some.entry.1) c.loop-next.invariant.walk (ap (option_map (λ e. (e.0.index, e.1))) c.in-Some.is) (option_map (λ e. (e.0.index, e.1)) c.next-next.result) c.next-next.ensures.entry c.release_node.new.parts c.release_node.ensures.stays c.release_node.ensures.left c.release_node.ensures.puts c.release_node.ensures.numbers;
+}
+
+pub returns-clause-sound : goal.returns-clause-sound
+returns-clause-sound c = c.loop-next.invariant.sound
+
+pub returns-clause-order : goal.returns-clause-order
+returns-clause-order c =
+    let a = c.args.parts.now in
+    admitted_permute c.args.instance (seen a).core (of_chain a c.args.chain) (held_members a c.requires.sound c.first-next.ensures.sound c.args.instance c.args.chain c.requires.chain)
+
+pub returns-clause-new : goal.returns-clause-new
+returns-clause-new c =
+    let a = c.args.parts.now in
+    release_ends c.args.instance (seen a) (of_chain a c.args.chain) c.loop-next.parts (walk_ends _ (entries c.loop-next.parts.places c.args.chain) _ c.loop-next.invariant.walk (ap (option_map (λ e. (e.0.index, e.1))) c.in_default.is))

@@ -1,0 +1,34 @@
+-- The held threads of an instance, as a walk goes through them.
+use Rattle.std.specs.List.{list_any}
+use Rattle.std.specs.Prelude.{◌≡◌, ℕ, Bool, true, List, filter, map}
+use Rattle.task_index.specs.Members.{Once, has}
+use Rattle.task_machine.specs.Core.{Core}
+use Rattle.task_machine.specs.Maps.{get}
+use Rattle.task_machine.specs.Moves.{held_why_of, released}
+use Rattle.task_machine.specs.Read.{is_held_admitted}
+use Rattle.task_records.specs.Seen.{seen}
+use Rattle.task_records.specs.declared.parts.CoreParts.{CoreParts}
+use Rattle.task_words.specs.Apart.{IsUnqueued}
+use Rattle.task_words.specs.StateView.{StateView, on_core}
+use Rattle.walk_words.specs.Walks.{of_node}
+
+-- the thread is held in the instance and is admitted
+abbrev pub is_admitted : ℕ → Core → ℕ → Bool
+is_admitted i s n = is_held_admitted i s n (held_why_of n s)
+
+-- some of what is left passes just where some of all does
+abbrev pub AnyLeft : {P : Type 0} → (ℕ → ℕ) → (ℕ → Bool) → List ℕ → List (ℕ × P) → Type 0
+AnyLeft number test all left = list_any test (map (λ e. number e.0) left) ≡ list_any test all
+
+-- nothing that a release looks at has changed for the thread, and it has no entry
+pub record IsUntouched (n : ℕ) (s t : Core) : Type 0 where
+  pub thread : get t.threads n ≡ get s.threads n
+  pub unqueued : IsUnqueued n t
+
+-- A release of all that are admitted is one of those that are left, from here on.
+pub record Releases {P : Type 0} (i : ℕ) (s : StateView) (all : List ℕ) (a : CoreParts) (left : List (ℕ × P)) : Type 0 where
+  pub again : on_core (released (filter (is_admitted i s.core) (map (λ e. of_node a e.0) left))) (seen a) ≡ on_core (released (filter (is_admitted i s.core) all)) s
+  pub calls : (seen a).core.calls ≡ s.core.calls
+  pub instances : (seen a).core.instances ≡ s.core.instances
+  pub once : Once (map (λ e. of_node a e.0) left)
+  pub untouched : (n : ℕ) → has n (map (λ e. of_node a e.0) left) ≡ true → IsUntouched n s.core (seen a).core

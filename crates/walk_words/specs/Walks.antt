@@ -1,0 +1,46 @@
+-- A walk through a chain, from its first node on.
+use Rattle.std.specs.Prelude.{◌≡◌, ◌==◌, ◌++◌, ℕ, if◌then◌else◌, List, [], ◌∷◌, Option, None, Some, length}
+use Rattle.task_index.specs.Walks.{number_at, walked}
+use Rattle.task_links.specs.Links.{head_of}
+use Rattle.task_records.specs.Keys.{thread_key, work_key}
+use Rattle.task_records.specs.declared.parts.CoreParts.{CoreParts}
+use Rattle.task_table.specs.Records.{number_in, record_at}
+
+-- the number of the thread at a place
+abbrev pub at_place : CoreParts → ℕ → ℕ
+at_place a place = number_in (record_at thread_key a.threads.places place)
+
+-- the number of the thread that a node stands for, and those of a chain, in order
+abbrev pub of_node : CoreParts → ℕ → ℕ
+of_node a n = number_at (at_place a) a.places n
+
+abbrev pub of_chain : CoreParts → ℕ → List ℕ
+of_chain a c = walked (at_place a) a.places c
+
+-- the same of host works, in the chain of the live ones
+abbrev pub work_at_place : CoreParts → ℕ → ℕ
+work_at_place a place = number_in (record_at work_key a.works.places place)
+
+abbrev pub of_live_node : CoreParts → ℕ → ℕ
+of_live_node a n = number_at (work_at_place a) a.polled n
+
+abbrev pub of_live_chain : CoreParts → ℕ → List ℕ
+of_live_chain a c = walked (work_at_place a) a.polled c
+
+module _ {P : Type 0} where
+  -- A walk has come to the next entry: what holds of the entries that are left.
+  pub record Walk (Good : List (ℕ × P) → Type 0) (list : List (ℕ × P)) (next : Option (ℕ × P)) : Type 0 where
+    pub front : List (ℕ × P)
+    pub back : List (ℕ × P)
+    pub parts : list ≡ front ++ back
+    pub next_is : next ≡ head_of back
+    pub good : Good back
+
+  -- how many entries there are from one on
+  abbrev pub from : ℕ → List (ℕ × P) → ℕ
+  from n [] = 0
+  from n (e ∷ es) = if e.0 == n then length (e ∷ es) else from n es
+
+  abbrev pub left_from : Option (ℕ × P) → List (ℕ × P) → ℕ
+  left_from None list = 0
+  left_from (Some e) list = from e.0 list

@@ -1,0 +1,83 @@
+//! The held threads of an instance, and which of them are admitted.
+ghost use Rattle.std.specs.List.{list_any};
+ghost use Rattle.std.specs.Prelude.{◌≡◌, IsSome, not};
+ghost use Rattle.task_links.specs.Links.{IsLinks, list_of};
+ghost use Rattle.task_machine.specs.Moves.{held_why_of};
+ghost use Rattle.task_machine.specs.Read.{admits, admitted_held, is_held_admitted, is_nil};
+ghost use Rattle.task_machine.specs.declared.records.Why.TheVariants as whys;
+ghost use Rattle.task_records.specs.Seen.{IsSound, seen};
+ghost use Rattle.task_words.specs.StateView.{thread_of};
+ghost use Rattle.walk_words.specs.Walks.{of_chain};
+
+use crate::chains::node_thread;
+use record_words::{backpressure, instance_of, is_explicit, kind, may_not_enter};
+use task_machine::{ExportKind, Place, Why};
+use task_records::{CoreParts, task_of};
+use task_words::ThreadId;
+
+// Whether a start of the thread may begin.
+fn admits_start(parts: &CoreParts, thread: ThreadId) -> bool
+    requires { IsSound parts.now }
+    ensures { result ≡ admits (thread_of (seen parts.now) thread) (seen parts.now).core whys.Start }
+{
+    if is_explicit(parts, thread)
+        || matches!(kind(parts, task_of(parts, thread)), ExportKind::Sync)
+    {
+        return true;
+    }
+    let instance = instance_of(parts, thread);
+    !may_not_enter(parts, instance) && backpressure(parts, instance) == 0
+}
+
+// Whether such an entry of the thread may begin.
+fn admits(parts: &CoreParts, thread: ThreadId, why: Why) -> bool
+    requires { IsSound parts.now }
+    ensures { result ≡ admits (thread_of (seen parts.now) thread) (seen parts.now).core why }
+{
+    match why {
+        Why::Start => admits_start(parts, thread),
+        Why::Delivery { .. } => !may_not_enter(parts, instance_of(parts, thread)),
+        Why::Resumption => true,
+    }
+}
+
+/// Whether the thread is held in the instance and is admitted now.
+pub(crate) fn is_admitted(parts: &CoreParts, instance: u32, thread: ThreadId) -> bool
+    requires { IsSound parts.now }
+    ensures { result ≡ is_held_admitted instance (seen parts.now).core (thread_of (seen parts.now) thread) (held_why_of (thread_of (seen parts.now) thread) (seen parts.now).core) }
+{
+    match task_records::thread(parts, thread) {
+        Some(found) => match found.thread.place {
+            Place::Held { why } => found.instance == instance && admits(parts, thread, why),
+            _ => false,
+        },
+        None => false,
+    }
+}
+
+fn some_admitted(parts: &CoreParts, instance: u32, chain: usize) -> bool
+    requires sound { IsSound parts.now }
+    requires live { IsSome (list_of parts.now.places chain) }
+    ensures is { result ≡ list_any (λ n. is_held_admitted instance (seen parts.now).core n (held_why_of n (seen parts.now).core)) (of_chain parts.now chain) }
+    ensures links { IsLinks parts.now.places }
+{
+    let mut next = parts.places.first(chain);
+    while let Some(entry) = next {
+        if is_admitted(parts, instance, node_thread(parts, entry.0)) {
+            return true;
+        }
+        next = parts.places.next(entry.0);
+    }
+    false
+}
+
+/// Whether a held thread of the instance is admitted.
+pub fn has_admitted(parts: &CoreParts, instance: u32) -> bool
+    requires { IsSound parts.now }
+    ensures { result ≡ not (is_nil (admitted_held instance (seen parts.now).core)) }
+{
+    match task_records::instance(parts, instance) {
+        Some(found) => some_admitted(parts, instance, found.held),
+        None => false,
+    }
+}

@@ -1,0 +1,20 @@
+//! The nodes of a chain of threads.
+ghost use Rattle.std.specs.Prelude.{◌≡◌, IsSome};
+ghost use Rattle.task_links.specs.Links.{link_of};
+ghost use Rattle.task_records.specs.Seen.{seen};
+ghost use Rattle.task_words.specs.StateView.{thread_of};
+ghost use Rattle.walk_words.specs.Walks.{of_node};
+
+use task_records::{CoreParts, Node, thread_at};
+use task_words::ThreadId;
+
+/// The thread that a node stands for.
+pub(crate) fn node_thread(parts: &CoreParts, node: Node) -> ThreadId
+    requires { IsSome (link_of parts.now.places node.index) }
+    ensures { thread_of (seen parts.now) result ≡ of_node parts.now node.index }
+{
+    match parts.places.get(node) {
+        Some((_, place)) => thread_at(parts, place),
+        None => unreachable!(),
+    }
+}

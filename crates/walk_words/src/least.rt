@@ -1,0 +1,78 @@
+//! The thread of the least number in a chain: the only one, where the machine has come there itself.
+ghost use Rattle.std.specs.Prelude.{◌≡◌, ◌<◌, IfSome, IsSome, option_map};
+ghost use Rattle.task_links.specs.Links.{IsLinks, list_of};
+ghost use Rattle.task_machine.specs.Read.{blocked_on, under_of};
+ghost use Rattle.task_records.specs.Seen.{IsSound, seen};
+ghost use Rattle.task_words.specs.Names.{number_in, subtask_in};
+ghost use Rattle.task_words.specs.StateView.{thread_of};
+ghost use Rattle.walk_words.specs.Least.{least_of, lesser};
+ghost use Rattle.walk_words.specs.Walks.{of_chain};
+
+use crate::chains::node_thread;
+use record_words::number;
+use task_records::CoreParts;
+use task_words::{SubtaskId, ThreadId};
+
+// Of a thread and of one that was found before that of the smaller number.
+fn lesser(parts: &CoreParts, least: Option<ThreadId>, thread: ThreadId) -> ThreadId
+    requires { IsSound parts.now }
+    ensures { thread_of (seen parts.now) result ≡ lesser (option_map (λ id. thread_of (seen parts.now) id) least) (thread_of (seen parts.now) thread) }
+{
+    match least {
+        Some(other) => {
+            if number(parts, other) < number(parts, thread) {
+                other
+            } else {
+                thread
+            }
+        }
+        None => thread,
+    }
+}
+
+fn least(parts: &CoreParts, chain: usize) -> Option<ThreadId>
+    requires sound { IsSound parts.now }
+    requires live { IsSome (list_of parts.now.places chain) }
+    ensures is { option_map (λ id. thread_of (seen parts.now) id) result ≡ least_of (of_chain parts.now chain) }
+    ensures links { IsLinks parts.now.places }
+{
+    let mut least = None;
+    let mut next = parts.places.first(chain);
+    while let Some(entry) = next {
+        least = Some(lesser(parts, least, node_thread(parts, entry.0)));
+        next = parts.places.next(entry.0);
+    }
+    least
+}
+
+/// The thread that waits under this one for its direct callee.
+pub fn under(parts: &CoreParts, thread: ThreadId) -> Option<ThreadId>
+    requires sound { IsSound parts.now }
+    requires live { 0 < thread_of (seen parts.now) thread }
+    ensures is { option_map (λ id. thread_of (seen parts.now) id) result ≡ under_of (thread_of (seen parts.now) thread) (seen parts.now).core }
+    ensures live { IfSome result (λ id. 0 < thread_of (seen parts.now) id) }
+{
+    match task_records::thread(parts, thread) {
+        Some(found) => least(parts, found.under),
+        None => unreachable!(),
+    }
+}
+
+/// The thread that is blocked on a subtask.
+pub fn blocked_on(parts: &CoreParts, subtask: SubtaskId) -> Option<ThreadId>
+    requires sound { IsSound parts.now }
+    requires live { 0 < number_in (seen parts.now).tags subtask }
+    ensures is { option_map (λ id. thread_of (seen parts.now) id) result ≡ blocked_on (subtask_in (seen parts.now).tags subtask) (seen parts.now).core }
+    ensures live { IfSome result (λ id. 0 < thread_of (seen parts.now) id) }
+{
+    match subtask {
+        SubtaskId::Guest(call) => match task_records::call(parts, call) {
+            Some(found) => least(parts, found.blocked),
+            None => unreachable!(),
+        },
+        SubtaskId::Host(work) => match task_records::work(parts, work) {
+            Some(found) => least(parts, found.blocked),
+            None => unreachable!(),
+        },
+    }
+}

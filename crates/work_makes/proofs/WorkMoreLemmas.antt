@@ -1,0 +1,202 @@
+-- Parts with one host work more, whose nodes and chain hung on nothing: they are whole.
+use Rattle.std.proofs.Common.{inl, inr, ◌⊎◌, ◌≡◌, ◌+◌, ◌<◌, ℕ, Bool, false, cond, Option, Some, None, IsSome, filter, length, nat_lt, refl, sym, ap, subst, ◌∙◌, arith}
+use Rattle.std.proofs.lemmas.Bool.{cases_eq}
+use Rattle.make_words.proofs.FreshLemmas.{chain_new, chain_other, each_more}
+use Rattle.make_words.proofs.LooseLemmas.{IsIndex-opened}
+use Rattle.make_words.proofs.MoreLemmas.{IsRows-known, index_more, new_or_old, nodes_more, passing_more, seat_stays}
+use Rattle.place_words.proofs.AlikeLemmas.{number_alike}
+use Rattle.place_words.specs.Moved.{Alike}
+use Rattle.removal_words.proofs.GroupLemmas.{numbers_alike}
+use Rattle.removal_words.specs.Counted.{uncalled}
+use Rattle.strand_words.proofs.ThreadPushLemmas.{none_in_list}
+use Rattle.task_index.specs.Counts.{one_if_passes, passing}
+use Rattle.task_index.specs.Index.{filings}
+use Rattle.task_machine.specs.Read.{is_host_call, is_in_set, is_live, is_stage_live, table_use}
+use Rattle.task_machine.specs.declared.records.Entry.{Entry}
+use Rattle.task_machine.specs.declared.records.Entry.TheVariants as entry
+use Rattle.task_machine.specs.declared.words.Status.{Status}
+use Rattle.task_machine.specs.declared.records.Subtask.TheVariants as subtask
+use Rattle.task_machine.specs.declared.records.Work.{Work}
+use Rattle.task_records.proofs.MakeLemmas.{stands_more}
+use Rattle.task_records.specs.Image.{Parts, core_of}
+use Rattle.task_records.specs.Kept.{IsGroupKept, calls_of, is_of_group}
+use Rattle.task_records.specs.Keys.{group_key, work_key}
+use Rattle.task_records.specs.Names.{AtPlace, CallOf, HasHome, HasNumber, IsCallNamed, IsWorkNamed, Nothing, SetOf, Target, ThreadOf, WorkOf, join_target, kinds}
+use Rattle.task_records.specs.Places.{BlockedOn, HeldIn, UnderOf, WaitsOn, Where, live_chain, place_chain, place_filing, ready_in, ready_work_chain}
+use Rattle.task_records.specs.Rows.{IsSeated, entry_seated, host_entry, is_of_instance, push_entry, row, row_chain, shelf_chain}
+use Rattle.task_records.specs.Sound.{AreChained, AreCounted, EachEntry, HaveRowNodes, IsWhole, SoundTable}
+use Rattle.task_records.specs.declared.calls.GuestTask.{GuestTask}
+use Rattle.task_records.specs.declared.calls.TaskGroup.{TaskGroup}
+use Rattle.task_records.specs.declared.parts.Kept.{Kept}
+use Rattle.task_records.specs.declared.single.Single.{Single}
+use Rattle.task_records.specs.declared.threads.GuestThread.{GuestThread}
+use Rattle.task_records.specs.declared.threads.Queued.{Queued}
+use Rattle.task_records.specs.declared.works.HostWork.{HostWork}
+use Rattle.task_index.specs.Rows.{part}
+use Rattle.task_table.specs.Changes.{pushed}
+use Rattle.task_table.specs.Table.{Placed, Table}
+use Rattle.work_makes.specs.Loose.{AreWorkLoose, nodes_of}
+use Rattle.work_makes.specs.Raised.{IsWorkNext}
+
+abbrev number : HostWork → ℕ
+number w = w.number
+
+abbrev machine : HostWork → Work
+machine w = w.work
+
+abbrev host_in : Where → ℕ
+host_in (BlockedOn (subtask.Host i)) = i
+host_in _ = 0
+
+blocked_is : (n : ℕ) (k : Where) → (k ≡ BlockedOn (subtask.Host n)) ⊎ (k ≡ BlockedOn (subtask.Host n) → ⊥)
+blocked_is n (WaitsOn x) = inr (λ same. absurd (cc))
+blocked_is n (HeldIn i) = inr (λ same. absurd (cc))
+blocked_is n (UnderOf m) = inr (λ same. absurd (cc))
+blocked_is n (BlockedOn (subtask.Guest k)) = inr (λ same. absurd (cc))
+blocked_is n (BlockedOn (subtask.Host i)) = elim (cases_eq i n) [
+  | inl same ↦ inl (ap (λ m. BlockedOn (subtask.Host m)) same)
+  | inr other ↦ inr (λ same. other (ap host_in same))
+]
+
+module _ (p : Parts) (whole : IsWhole p) (sound : SoundTable work_key p.works p.made.works) (g : HostWork) (next : IsWorkNext p g) (loose : AreWorkLoose p (nodes_of g)) (high : IsSome p.high) (live : IsSome p.live) (groups : Table (Single TaskGroup)) (alike : Alike uncalled groups p.groups) (kept : Kept) where
+  abbrev pub more : Parts
+  more = record p { works = pushed (record { item = g }) p.works; groups = groups; made = record p.made { works = p.made.works + 1 }; kept = kept }
+
+  later : p.made.works < g.number
+  later = let is = next.number in omega arith
+
+  -- what is counted of its works
+  one_more : (test : Work → Bool) → passing test (core_of more).works ≡ passing test (core_of p).works + one_if_passes test (Some g.work)
+  one_more = passing_more number machine p.works p.made.works sound g next.number
+
+  pub works_counted : (n : ℕ) → calls_of n (core_of more) ≡ calls_of n (core_of p) + cond (is_of_group n g.work) 1 0
+  works_counted n = let law = one_more (is_of_group n) in omega arith
+
+  -- ---- Names
+
+  pub at_more : (rep : ℕ) (t : Target) → AtPlace p rep t → AtPlace more rep t
+  at_more rep Nothing at = tt
+  at_more rep (ThreadOf n) at = at
+  at_more rep (CallOf n) at = at
+  at_more rep (WorkOf n) at = (let few = at.0 in omega arith, stands_more number machine p.works p.made.works sound g next.number rep n at.0 at.1)
+  at_more rep (SetOf n) at = at
+
+  group_more : (r n : ℕ) → HasNumber group_key p.groups r n → HasNumber group_key groups r n
+  group_more r n at = number_alike uncalled groups p.groups alike (λ (x : TaskGroup). x.number) (λ x. refl) (λ (x : TaskGroup). x.calls) (λ (k : ℕ). 0) (λ x. refl) r ∙ at
+
+  home_more : (h : GuestThread) → HasHome p h → HasHome more h
+  home_more h home = record { call = home.call; there = home.there; instance = home.instance; within = home.within; place = at_more h.beside _ home.place; how_far = at_more h.awaited _ home.how_far }
+
+  call_more : (x : GuestTask) → IsCallNamed p x → IsCallNamed more x
+  call_more x named = record { caller = at_more x.maker _ named.caller; join = at_more x.joined _ named.join; group = group_more x.group x.call.group named.group; positive = named.positive }
+
+  work_more : (w : HostWork) → IsWorkNamed p w → IsWorkNamed more w
+  work_more w named = record { caller = at_more w.maker _ named.caller; join = at_more w.joined _ named.join; group = λ n at. let one = named.group n at in (group_more w.group n one.0, one.1) }
+
+  new_named : IsWorkNamed more g
+  new_named = record {
+    caller = at_more g.maker _ next.caller;
+    join = subst (λ j. AtPlace more g.joined (join_target j)) (sym next.join) tt;
+    group = λ n at. let one = next.group n at in (group_more g.group n one.0, one.1);
+  }
+
+  entry_more : (q : Queued) → IsSeated p q → IsSeated more q
+  entry_more q is_q = by q.entry is_q
+    where
+      by : (e : Entry) → entry_seated p e q.place ≡ Some q → entry_seated more e q.place ≡ Some q
+      by (entry.Thread n) at = at
+      by (entry.Push i) at = seat_stays p.works g sound.table push_entry q.place q at
+      by (entry.Host i) at = seat_stays p.works g sound.table host_entry q.place q at
+
+  -- ---- Keys
+
+  place_others : (k : Where) → (k ≡ BlockedOn (subtask.Host g.number) → ⊥) → place_chain more k ≡ place_chain p k
+  place_others (WaitsOn x) other = refl
+  place_others (HeldIn i) other = refl
+  place_others (UnderOf n) other = refl
+  place_others (BlockedOn (subtask.Guest k)) other = refl
+  place_others (BlockedOn (subtask.Host i)) other = chain_other number machine (λ (x : HostWork). x.blocked) p.works g sound.table sound.apart (sound.later g.number later) i (λ same. other (ap (λ m. BlockedOn (subtask.Host m)) same))
+
+  has_blocked : place_chain more (BlockedOn (subtask.Host g.number)) ≡ Some g.blocked
+  has_blocked = chain_new number machine (λ (x : HostWork). x.blocked) p.works g sound.table sound.apart (sound.later g.number later)
+
+  not_live : is_live g.work ≡ false
+  not_live = ap is_stage_live next.stage
+
+  chained_more : AreChained more
+  chained_more = record {
+    places = IsIndex-opened (place_chain p) (place_chain more) p.places (BlockedOn (subtask.Host g.number)) (blocked_is g.number) place_others g.blocked has_blocked loose.blocked (filings place_filing p.threads) whole.chained.places
+        (none_in_list (kinds p) p.threads (BlockedOn (subtask.Host g.number)) (λ rep q at. (whole.named.threads rep q at).place) (λ rep at. let few = at.0 in let is = later in omega arith));
+    ready_calls = whole.chained.ready_calls;
+    ready_works = index_more p.works g sound.table (λ h. h.ready.index) (λ h. ready_in h.work.event h.work.join) p.ready_works loose.ready (ready_work_chain p) whole.chained.ready_works (ap (λ (e : Option Status). ready_in e g.work.join) next.event);
+    polled = index_more p.works g sound.table (λ h. h.live.index) (λ h. cond (is_stage_live h.work.stage) (Some tt) None) p.polled loose.live (live_chain p) whole.chained.polled (ap (λ b. cond b (Some tt) None) not_live);
+    marks = IsRows-known (row_chain p) (λ q. q.mark.index) (IsSeated p) (IsSeated more) p.marks (row p) entry_more whole.chained.marks;
+    shelves = IsRows-known (shelf_chain p) (λ q. q.shelf.index) (IsSeated p) (IsSeated more) p.shelves (part is_of_instance (row p)) entry_more whole.chained.shelves;
+    low = whole.chained.low;
+    behind = whole.chained.behind;
+  }
+
+  nodes_kept : HaveRowNodes more
+  nodes_kept = record {
+    marks = whole.nodes.marks;
+    shelves = whole.nodes.shelves;
+    callers = whole.nodes.callers;
+    works = nodes_more p.works g sound.table (λ (h : HostWork). h.mark.index) p.marks loose.mark whole.nodes.works;
+    apart = λ r s q w at_q at_w same. elim (new_or_old p.works g sound.table s w at_w) [
+      | inl new ↦ loose.no_thread r q at_q (same ∙ ap (λ (z : Placed (Single HostWork)). z.entry.item.mark.index) new.1)
+      | inr old ↦ whole.nodes.apart r s q w at_q old same
+    ];
+  }
+
+  groups_same : (core_of more).groups ≡ (core_of p).groups
+  groups_same = ap (filter (nat_lt p.finished)) (numbers_alike groups p.groups alike)
+
+  module _ (used : kept.used ≡ p.kept.used + cond (is_host_call g.work) 1 0) (same_groups : kept.groups ≡ p.kept.groups) (same_live : kept.live ≡ p.kept.live) (groups_kept : EachEntry (IsGroupKept (core_of more)) groups) where
+    counted_more : AreCounted more
+    unfolding table_use
+    counted_more = record {
+      kept = record {
+        used =
+            let all = whole.counted.kept.used in
+            let law = one_more is_host_call in
+            let same : length (core_of more).groups ≡ length (core_of p).groups = ap length groups_same in
+            omega arith;
+        groups = same_groups ∙ (whole.counted.kept.groups ∙ ap length (sym groups_same));
+        live =
+            let all = whole.counted.kept.live in
+            let law = one_more is_live in
+            let none : one_if_passes is_live (Some g.work) ≡ 0 = ap (λ b. cond b 1 0) not_live in
+            omega arith;
+      };
+      calls = whole.counted.calls;
+      sets = λ r q at.
+          let one = whole.counted.sets r q at in
+          record {
+            members =
+                let law = one_more (λ w. is_in_set q.entry.item.number w.join) in
+                let none : one_if_passes (λ (w : Work). is_in_set q.entry.item.number w.join) (Some g.work) ≡ 0 = ap (λ j. cond (is_in_set q.entry.item.number j) 1 0) next.join in
+                let old = one.members in
+                omega arith;
+            entries = one.entries;
+          };
+      groups = groups_kept;
+      few = whole.counted.few;
+      finished = whole.counted.finished;
+      high = whole.counted.high;
+      low = whole.counted.low;
+      works = each_more (λ (w : HostWork). IsSome p.high × IsSome p.live) p.works g sound.table whole.counted.works (high, live);
+      results = whole.counted.results;
+    }
+
+    pub more_whole : IsWhole more
+    more_whole = record {
+      named = record {
+        threads = λ r q at. home_more q.entry.item (whole.named.threads r q at);
+        calls = λ r q at. call_more q.entry.item (whole.named.calls r q at);
+        works = each_more (IsWorkNamed more) p.works g sound.table (λ r q at. work_more q.entry.item (whole.named.works r q at)) new_named;
+        switch = whole.named.switch;
+      };
+      chained = chained_more;
+      nodes = nodes_kept;
+      counted = counted_more;
+    }

@@ -1,0 +1,16 @@
+use Rattle.std.proofs.Common.{arith, ◌<◌, subst, ℕ}
+use Rattle.task_records.proofs.KindLemmas.{refused_number}
+use Rattle.task_records.proofs.ReadLemmas.{work_shown}
+use Rattle.task_records.specs.Kinds.{item_of}
+use Rattle.task_records.specs.Seen.{IsSound}
+use Rattle.task_records.specs.declared.works.HostWork.{HostWork}
+use Rattle.task_table.proofs.ItemLemmas.{deletion_refused}
+use Rattle.work_makes.proofs.calls.drop_work.Goals as goal
+
+pub unreachable-requires : goal.unreachable-requires
+unfolding IsSound
+unreachable-requires c =
+    let a = c.args.parts.now in
+    let zero = refused_number (λ (w : HostWork). w.number) (λ (w : HostWork). w.work) a.works c.args.new.rep c.args.new.serial _ (deletion_refused item_of a.works c.args.new.rep c.args.new.serial _ c.in-Err.ensures.answer (c.requires.sound.tables.works.childless c.args.new.rep)) in
+    let live = subst (λ (n : ℕ). 0 < n) (work_shown a c.args.new) c.requires.work in
+    omega arith

@@ -1,0 +1,25 @@
+use Rattle.std.proofs.Common.{ap, ap₂, arith, ℕ, ◌+◌, ◌<◌, ◌^◌, ◌∙◌}
+use Rattle.task_machine.specs.Core.{Core}
+use Rattle.task_machine.specs.Write.{add_work, count_work, push_high}
+use Rattle.task_machine.specs.declared.records.Entry.TheVariants as entry
+use Rattle.task_records.specs.Seen.{seen}
+use Rattle.task_records.specs.declared.works.HostWork.{HostWork}
+use Rattle.task_rules.specs.Calls.{work_queued}
+use Rattle.task_words.specs.StateView.{StateView}
+use Rattle.work_makes.proofs.WorkAddLemmas.{record_next}
+use Rattle.work_makes.proofs.queued.queue_work.Goals as goal
+
+pub overflow_add-number : goal.overflow_add-number
+unfolding seen
+overflow_add-number c = let few : c.args.parts.now.made.works + 1 < 2 ^ 64 = c.requires.few in omega arith
+
+pub push_work-requires-clause-next : goal.push_work-requires-clause-next
+push_work-requires-clause-next c = record_next c.args.parts.now c.requires.sound c.args.request c.args.group c.args.nodes c.requires.here c.requires.caller _ c.record_for-work.ensures
+
+pub returns-in-Ok-clause-core : goal.returns-in-Ok-clause-core
+unfolding seen work_queued
+returns-in-Ok-clause-core c =
+    let s = (seen c.args.parts.now).core in
+    ap (λ (v : StateView). v.core) c.queue_push.ensures.new
+    ∙ (ap₂ (λ (n : ℕ) (x : Core). push_high (entry.Push n) x) c.in-Ok.ensures.work c.in-Ok.ensures.core
+    ∙ ap (λ (w : HostWork). push_high (entry.Push (s.made.works + 1)) (add_work w.number w.work (count_work s))) c.record_for-work.ensures)

@@ -1,0 +1,46 @@
+ghost use Rattle.std.specs.Prelude.{◌≡◌, ◌<◌};
+ghost use Rattle.task_machine.specs.Write.{push_high};
+ghost use Rattle.task_machine.specs.declared.records.Entry.TheVariants as entries;
+ghost use Rattle.task_records.specs.Rows.{push_entry};
+ghost use Rattle.task_records.specs.Seen.{IsSound, seen};
+ghost use Rattle.task_words.specs.Apart.{work_entries};
+ghost use Rattle.task_words.specs.StateView.{on_core, work_of};
+
+use task_machine::Entry;
+use task_records::{CoreParts, HostWork, Queued};
+use task_words::WorkId;
+
+// The push of the work at a place.
+fn push_of(place: u32, work: HostWork) -> Queued
+    ensures { result ≡ push_entry place work }
+{
+    Queued {
+        entry: Entry::Push { work: work.number },
+        place,
+        instance: None,
+        mark: work.mark,
+        shelf: work.mark,
+    }
+}
+
+/// Queues the push of a work.
+pub(crate) fn queue_push(parts: &mut CoreParts, work: WorkId)
+    requires sound { IsSound parts.old }
+    requires live { 0 < work_of (seen parts.old) work }
+    requires unqueued { work_entries (work_of (seen parts.old) work) (seen parts.old).core.queues.high ≡ 0 }
+    ensures sound { IsSound parts.new }
+    ensures new { seen parts.new ≡ on_core (push_high (entries.Push (work_of (seen parts.old) work))) (seen parts.old) }
+{
+    let found = match task_records::work(parts, work) {
+        Some(found) => *found,
+        None => unreachable!(),
+    };
+    let queued = push_of(work.rep(), found);
+    match parts.high {
+        Some(chain) => {
+            parts.marks.no_node_is_twice();
+            parts.marks.push_back(chain, queued.mark, queued);
+        }
+        None => unreachable!(),
+    }
+}

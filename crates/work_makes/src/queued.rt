@@ -1,0 +1,119 @@
+ghost use Rattle.std.specs.Prelude.{◌≡◌, ◌+◌, ◌<◌, ◌^◌, IfOk, IsSome, None, OnErr, OnOk, Some, is_some, true};
+ghost use Rattle.task_machine.specs.Read.{fits, thread_group};
+ghost use Rattle.task_machine.specs.declared.records.WorkCaller.TheVariants as callers;
+ghost use Rattle.task_records.specs.Names.{AtPlace, work_caller_target};
+ghost use Rattle.task_records.specs.Seen.{IsSound, parts_of, seen};
+ghost use Rattle.task_records.specs.Sound.{bare};
+ghost use Rattle.task_rules.specs.Calls.{next_work, work_queued};
+ghost use Rattle.task_words.specs.StateView.{Keeps, thread_of, work_of};
+ghost use Rattle.work_makes.specs.Loose.{AreWorkLoose};
+ghost use Rattle.work_makes.specs.Raised.{IsHere, group_name};
+
+use crate::entries::queue_push;
+use crate::nodes::{WorkNodes, new_work_nodes};
+use crate::requests::{WorkRequest, record_for};
+use crate::works::push_work;
+use record_words::number;
+use strand_words::group_of;
+use task_machine::{HostDef, NoMemory, WorkCaller};
+use task_records::{CoreParts, TaskGroup};
+use task_table::TableId;
+use task_wait::GroupKey;
+use task_words::{ThreadId, WorkId};
+
+// A work that is queued, with nodes that were made for it, and its push. Where memory is wanting, all
+// is as before.
+fn queue_work(
+    parts: &mut CoreParts,
+    request: WorkRequest,
+    group: Option<(TableId<GroupKey>, TaskGroup)>,
+    nodes: WorkNodes,
+) -> Result<WorkId, NoMemory>
+    requires sound { IsSound parts.old }
+    requires few { (seen parts.old).core.made.works + 1 < 2 ^ 64 }
+    requires room { is_some group ≡ true → fits 1 (seen parts.old).core ≡ true }
+    requires caller { AtPlace (parts_of parts.old) request.maker (work_caller_target request.caller) }
+    requires here { IsHere parts.old.groups group }
+    requires loose { AreWorkLoose (bare (parts_of parts.old)) nodes }
+    requires high { IsSome parts.old.high }
+    requires live { IsSome parts.old.live }
+    ensures sound { IsSound parts.new }
+    ensures work { IfOk result (λ id. work_of (seen parts.new) id ≡ next_work (seen parts.old).core) }
+    ensures core { OnOk result ((seen parts.new).core ≡ work_queued request.caller request.host (group_name group) (seen parts.old).core) }
+    ensures current { (seen parts.new).current ≡ (seen parts.old).current }
+    ensures tags { Keeps (seen parts.old).tags (seen parts.new).tags }
+    ensures err { OnErr result (seen parts.new ≡ seen parts.old) }
+{
+    let number = parts.made.works + 1;
+    let work = record_for(number, request, group, nodes);
+    match push_work(parts, work, group) {
+        Ok(id) => {
+            queue_push(parts, id);
+            Ok(id)
+        }
+        Err(why) => Err(why),
+    }
+}
+
+/// Makes a spawned work, and its push. Where memory is wanting, all is as before.
+pub fn queue_spawn(parts: &mut CoreParts, host: HostDef) -> Result<WorkId, NoMemory>
+    requires sound { IsSound parts.old }
+    requires few { (seen parts.old).core.made.works + 1 < 2 ^ 64 }
+    ensures sound { IsSound parts.new }
+    ensures work { IfOk result (λ id. work_of (seen parts.new) id ≡ next_work (seen parts.old).core) }
+    ensures core { OnOk result ((seen parts.new).core ≡ work_queued callers.Spawn host None (seen parts.old).core) }
+    ensures current { (seen parts.new).current ≡ (seen parts.old).current }
+    ensures tags { Keeps (seen parts.old).tags (seen parts.new).tags }
+    ensures err { OnErr result (seen parts.new ≡ seen parts.old) }
+{
+    let request = WorkRequest {
+        caller: WorkCaller::Spawn,
+        maker: 0,
+        host,
+    };
+    match new_work_nodes(parts) {
+        Ok(nodes) => match queue_work(parts, request, None, nodes) {
+            Ok(id) => Ok(id),
+            Err(why) => Err(why),
+        },
+        Err(why) => Err(why),
+    }
+}
+
+/// Makes the work of a thread's `call_sync`, in the thread's group, and its push. Where memory is
+/// wanting, all is as before.
+pub fn queue_sync_call(
+    parts: &mut CoreParts,
+    thread: ThreadId,
+    host: HostDef,
+) -> Result<WorkId, NoMemory>
+    requires sound { IsSound parts.old }
+    requires live { 0 < thread_of (seen parts.old) thread }
+    requires few { (seen parts.old).core.made.works + 1 < 2 ^ 64 }
+    requires room { fits 1 (seen parts.old).core ≡ true }
+    ensures sound { IsSound parts.new }
+    ensures work { IfOk result (λ id. work_of (seen parts.new) id ≡ next_work (seen parts.old).core) }
+    ensures core { OnOk result ((seen parts.new).core ≡ work_queued (callers.Sync (thread_of (seen parts.old) thread)) host (Some (thread_group (thread_of (seen parts.old) thread) (seen parts.old).core)) (seen parts.old).core) }
+    ensures current { (seen parts.new).current ≡ (seen parts.old).current }
+    ensures tags { Keeps (seen parts.old).tags (seen parts.new).tags }
+    ensures err { OnErr result (seen parts.new ≡ seen parts.old) }
+{
+    let caller = WorkCaller::Sync {
+        thread: number(parts, thread),
+    };
+    let request = WorkRequest {
+        caller,
+        maker: thread.rep(),
+        host,
+    };
+    match new_work_nodes(parts) {
+        Ok(nodes) => {
+            let group = group_of(parts, thread);
+            match queue_work(parts, request, Some(group), nodes) {
+                Ok(id) => Ok(id),
+                Err(why) => Err(why),
+            }
+        }
+        Err(why) => Err(why),
+    }
+}
