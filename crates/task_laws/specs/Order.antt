@@ -6,12 +6,12 @@ use Rattle.task_machine.specs.declared.records.Stage.{Stage}
 use Rattle.task_machine.specs.declared.records.Entry.{Entry}
 use Rattle.task_machine.specs.declared.records.Subtask.{Subtask}
 use Rattle.task_machine.specs.declared.records.Named.{Named}
-use Rattle.task_rules.specs.Allowed.{subtask_under_way}
+use Rattle.task_rules.specs.Allowed.{is_async_work, subtask_under_way}
 use Rattle.std.specs.Prelude.{Bool, None, Option, Some, false, is_none, is_some, option_and_then, option_map, true, ℕ, ◌+◌, ◌≡◌, ◌≤◌, length, List, [], ◌∷◌, ◌==◌, ◌⊎◌, ◌&&◌, ◌||◌, not}
 use Rattle.task_laws.specs.Settings.{CodesInCallbacks}
 use Rattle.task_machine.specs.Core.{Core, Main, State, Table}
 use Rattle.task_machine.specs.Maps.{get, size}
-use Rattle.task_machine.specs.Read.{call_instance, how_far_of, instance_of, is_async_lifted, is_callback, is_direct, is_explicit, goal_of, kind_of, place_of, task_of, set_at, subtask_at, end_of, is_guest_call, subtask_handle, join_of, is_stage_ended, stage_of}
+use Rattle.task_machine.specs.Read.{call_instance, how_far_of, instance_of, is_async_lifted, is_callback, is_direct, is_explicit, goal_of, kind_of, place_of, task_of, set_at, subtask_at, end_of, is_guest_call, subtask_handle, join_of, is_stage_ended, stage_of, work_caller_of}
 use Rattle.task_machine.specs.declared.component.Component.{Component}
 use Rattle.task_machine.specs.declared.label.Label.{Label}
 use Rattle.task_machine.specs.declared.records.Call.{Call}
@@ -35,7 +35,7 @@ use Rattle.task_machine.specs.declared.records.Thread.{Thread}
 use Rattle.task_machine.specs.declared.records.Turn.TheVariants as turn
 use Rattle.task_machine.specs.declared.records.Why.{Why}
 use Rattle.task_machine.specs.declared.records.Why.TheVariants as why
-use Rattle.task_rules.specs.Places.{Placed, is_fresh, times, one_if}
+use Rattle.task_rules.specs.Places.{Placed, is_fresh, is_paused, times, one_if}
 use Rattle.task_rules.specs.Run.{opening}
 use Rattle.task_rules.specs.Scripts.{export_kind, is_script, op_of_thread, script_of_thread, slot_at}
 use Rattle.task_rules.specs.OpParts.{can_come, is_sync_call}
@@ -128,6 +128,15 @@ pub record CallsAwaited (s : Core) : Type 0 where
       (place_of n s ≡ Some (place.Under k)) ⊎ (option_map_or is_awaited (get s.calls k) false ≡ true)
   pub apart : (n m k : ℕ) → how_far_of n s ≡ how_far.Calls (subtask.Guest k) → cancelled_call (how_far_of m s) ≡ Some k → ⊥
 
+-- The record of a host's work says which handle names it, in one instance. None names the work of a sync call, and a thread inside a sync
+-- call of a host is inside the work of one, which was made.
+pub record WorksKnown (s : Core) : Type 0 where
+  pub there : (i h j : ℕ) → subtask_at i h s ≡ Some (subtask.Host j) → subtask_handle (subtask.Host j) s ≡ Some h
+  pub once : (i l h g j : ℕ) → subtask_at i h s ≡ Some (subtask.Host j) → subtask_at l g s ≡ Some (subtask.Host j) → i ≡ l
+  pub async : (h j : ℕ) → subtask_handle (subtask.Host j) s ≡ Some h → is_async_work (work_caller_of j s) ≡ true
+  pub called : (n j : ℕ) → how_far_of n s ≡ how_far.Calls (subtask.Host j) →
+      (j ≤ s.made.works) × (is_async_work (work_caller_of j s) ≡ false)
+
 -- A handle of a set names a set of its own instance, which was made, and no other handle names it.
 pub record SetsNamed (s : Core) : Type 0 where
   pub number : (i h x : ℕ) → set_at i h s ≡ Some x → x ≤ s.made.sets
@@ -174,15 +183,19 @@ abbrev pub set_of_op : HowFar → Option ℕ
 set_of_op (how_far.Waits x) = Some x
 set_of_op _ = None
 
--- the set was made, and if it is there, it is of the instance
-pub record IsOf (i x : ℕ) (s : Core) : Type 0 where
-  pub made : x ≤ s.made.sets
-  pub home : (r : Set) → get s.sets x ≡ Some r → r.instance ≡ i
+-- the set is there, and of the instance
+abbrev pub IsOf : ℕ → ℕ → Core → Type 0
+IsOf i x s = option_map (λ (r : Set). r.instance) (get s.sets x) ≡ Some i
 
--- A thread that waits on a set, has a delivery for it or is inside a wait on it is of the set's instance.
+-- A set on which a thread waits, for which it has a delivery, or inside a wait on which it is, is there and of the thread's instance.
 pub record WaitsAtHome (s : Core) : Type 0 where
   pub by_place : (n x : ℕ) → option_and_then set_of_place (place_of n s) ≡ Some x → IsOf (instance_of n s) x s
   pub by_op : (n x : ℕ) → set_of_op (how_far_of n s) ≡ Some x → IsOf (instance_of n s) x s
+
+-- a thread that is inside a wait on a set stands where that puts it, or runs
+abbrev pub WaitsPaused : Core → Type 0
+WaitsPaused s = (n x : ℕ) → how_far_of n s ≡ how_far.Waits x →
+    (place_of n s ≡ Some place.Running) ⊎ (option_map_or (is_paused x) (place_of n s) false ≡ true)
 
 -- ---- Calls
 
@@ -327,9 +340,11 @@ pub record InOrder (c : Component) (s : State) : Type 0 where
   pub calls_named : CallsNamed s.core
   pub names : NamesKnown s.core
   pub calls : CallsAwaited s.core
+  pub works_known : WorksKnown s.core
   pub sets_named : SetsNamed s.core
   pub joins_named : JoinsNamed s.core
   pub waits : WaitsAtHome s.core
+  pub paused : WaitsPaused s.core
   pub kinds : CallKinds c s.core
   pub deliveries : DeliveredByCallback s.core
   pub fits : Fits c s.core

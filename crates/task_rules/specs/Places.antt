@@ -7,7 +7,7 @@ use Rattle.task_machine.specs.declared.records.Why.TheVariants as why
 use Rattle.task_machine.specs.declared.words.Mark.TheVariants as mark
 use Rattle.task_machine.specs.declared.records.Place.TheVariants as place
 use Rattle.task_machine.specs.Core.{Core}
-use Rattle.task_machine.specs.Read.{callers_of, is_entry_of, place_of}
+use Rattle.task_machine.specs.Read.{callers_of, is_entry_of, is_resumption, place_of}
 
 abbrev pub one_if : Bool → ℕ
 one_if true = 1
@@ -61,6 +61,12 @@ is_fresh (Some place.New) = true
 is_fresh (Some (place.Ready m w)) = is_for_start w
 is_fresh (Some (place.Held w)) = is_for_start w
 is_fresh _ = false
+
+-- the thread stands where a wait on the set puts it: it waits, or is to resume
+abbrev pub is_paused : ℕ → Place → Bool
+is_paused x (place.Waiting y false) = x == y
+is_paused x (place.Ready m w) = is_resumption w
+is_paused x _ = false
 
 -- some thread has the number
 abbrev pub is_there : ℕ → Core → Bool
