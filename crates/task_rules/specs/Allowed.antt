@@ -5,7 +5,8 @@ use Rattle.std.specs.Prelude.{◌≤◌, length, Bool, None, Option, Some, [], f
 use Rattle.task_machine.specs.Core.{Core, MainPlace, Scripted, Unscripted}
 use Rattle.task_machine.specs.Maps.{get}
 use Rattle.task_machine.specs.Moves.{has_entry, is_callback_waiter, is_deletable, is_group_done}
-use Rattle.task_machine.specs.Read.{caller_of, cancel_was_delivered, course_of, course_value, end_of, event_of, goal_of, has_ended, has_member, has_waiters, how_far_of, position_of, instance_of, is_async_lifted, is_at, is_direct, is_explicit, is_joined, is_stage_ended, is_waiter, join_of, kind_of, may_not_enter, next_entry, own_event_of, phase_of, place_of, set_at, stage_of, subtask_at, subtask_ended, subtask_handle, task_of, thread_group, was_started, work_caller_of, is_guest_call, is_aborted, is_blocked_on, foot_of}
+use Rattle.task_machine.specs.Read.{admits, caller_of, cancel_was_delivered, course_of, course_value, end_of, event_of, goal_of, has_ended, has_member, has_waiters, how_far_of, position_of, instance_of, is_async_lifted, is_at, is_direct, is_explicit, is_joined, is_stage_ended, is_waiter, join_of, kind_of, may_not_enter, next_entry, own_event_of, phase_of, place_of, set_at, stage_of, subtask_at, subtask_ended, subtask_handle, task_of, thread_group, was_started, work_caller_of, is_guest_call, is_aborted, is_blocked_on, foot_of}
+use Rattle.task_machine.specs.Write.{set_backpressure, set_do_not_enter}
 use Rattle.task_machine.specs.declared.component.Callee.{Callee}
 use Rattle.task_machine.specs.declared.component.ExportKind.{ExportKind}
 use Rattle.task_machine.specs.declared.label.Label.{Label}
@@ -33,7 +34,7 @@ use Rattle.task_rules.specs.OpParts.{callee_of_main_op, callee_of_op, can_come, 
 use Rattle.task_rules.specs.Scenes.{Scene, component_of, op_in}
 use Rattle.task_rules.specs.Scripts.{export_kind, is_script, registers_for, script_of, slot_at}
 use Rattle.task_rules.specs.Threads.{resume_why}
-use Rattle.task_rules.specs.Words.{AddGroup, Advance, Restart, CloseSet, CountWork, EndWork, Enter, FinishWork, GoBehind, MakeCall, MakeThread, Move, NameCall, NameWork, OpenSet, Pend, Places, Placing, Pop, Promote, Put, QueueWork, RemoveCall, RemoveGroup, RemoveThread, RemoveWork, SetCallEvent, SetCallJoin, SetCancelDelivered, SetCancelled, SetDoNotEnter, EndCall, SetHowFar, SetOwnEvent, SetPhase, SetStarted, TakeWorkEvent, SetWorkJoin, Stop, TakeHost, TakePush, UnnameCall, UnnameWork, Withdraw, Word, status_of_end, GiveResult, SetUninteresting, SetTrapped}
+use Rattle.task_rules.specs.Words.{AddGroup, Advance, Restart, CloseSet, CountWork, EndWork, Enter, FinishWork, GoBehind, MakeCall, MakeThread, Move, NameCall, NameWork, OpenSet, Pend, Places, Placing, Pop, Promote, Put, QueueWork, RemoveCall, RemoveGroup, RemoveThread, RemoveWork, SetCallEvent, SetCallJoin, SetCancelDelivered, SetCancelled, SetBackpressure, SetDoNotEnter, EndCall, SetHowFar, SetOwnEvent, SetPhase, SetStarted, TakeWorkEvent, SetWorkJoin, Stop, TakeHost, TakePush, UnnameCall, UnnameWork, Withdraw, Word, status_of_end, GiveResult, SetUninteresting, SetTrapped}
 use Rattle.task_rules.specs.Works.{next_polled, has_end}
 use Rattle.task_rules.specs.SubtaskEnds.{end_for, written_by}
 use Rattle.task_machine.specs.declared.words.Mark.TheVariants as mark
@@ -180,8 +181,8 @@ pub data MayMove (a : Scene) (n : ℕ) (p : Place) (s : Core) : Type 0 where
   Runs : IsRunner a n → a.next ≡ turn.Run n →
       (is_explicit n a.base ≡ false → WasReady a n why.Start → is_begun (task_of n a.base) s ≡ true) →
       p ≡ place.Running → MayMove a n p s
-  -- it was taken, and is held
-  Holds : (w : Why) → IsLaid a n → WasReady a n w → p ≡ place.Held w → MayMove a n p s
+  -- it was taken, isn't admitted, and is held
+  Holds : (w : Why) → IsLaid a n → WasReady a n w → admits n s w ≡ false → p ≡ place.Held w → MayMove a n p s
   -- it was taken, found nothing, and waits again
   WaitsAgain : (x : ℕ) → IsLaid a n → WasReady a n (why.Delivery (delivery.Set x)) → p ≡ place.Waiting x true → MayMove a n p s
   -- its activation ends, and it waits for an event
@@ -459,6 +460,18 @@ abbrev pub MayBar : Scene → ℕ → Bool → Type 0
 MayBar a i true = may_not_enter i a.base ≡ false
 MayBar a i false = returned_holder a.base a.label ≡ Some i
 
+-- no held thread of the instance is admitted
+abbrev pub NoneHeldIn : ℕ → Core → Type 0
+NoneHeldIn i s = (n : ℕ) (w : Why) → place_of n s ≡ Some (place.Held w) → instance_of n s ≡ i → admits n s w ≡ false
+
+-- where a flag that kept entries out falls, those that it alone kept out were released
+abbrev pub Releasing : ℕ → Bool → Core → Type 0
+Releasing i true s = Unit {0}
+Releasing i false s = NoneHeldIn i (set_do_not_enter i false s)
+
+abbrev pub MayCount : ℕ → ℕ → Core → Type 0
+MayCount i c s = c ≡ 0 → NoneHeldIn i (set_backpressure i c s)
+
 -- ---- All words
 
 -- Where the word is done in this step, right after s.
@@ -497,7 +510,8 @@ Allowed a (UnnameWork i h w) s = MayUnname a i h (subtask.Host w) s
 Allowed a (RemoveWork i) s = MayRemoveWork a i s
 Allowed a (OpenSet i) s = MayOpen a i s
 Allowed a (CloseSet i h x) s = MayClose a i h x s
-Allowed a (SetDoNotEnter i b) s = MayBar a i b
+Allowed a (SetDoNotEnter i b) s = MayBar a i b × Releasing i b s
+Allowed a (SetBackpressure i c) s = MayCount i c s
 Allowed a (GiveResult k v) s = SaysEnd a k status.Returned × (goal_of k s ≡ goal.Main)
 Allowed a AddGroup s = s.made.groups ≡ a.base.made.groups
 Allowed a (RemoveGroup g) s = is_group_done g s ≡ true
