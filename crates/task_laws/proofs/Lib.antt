@@ -7,6 +7,7 @@ pub mod StrandLemmas
 pub mod WaitLemmas
 pub mod SceneLemmas
 pub mod HousedLemmas
+pub mod HeldLemmas
 pub mod Subtasks
 pub mod HandleTables
 pub mod Joins

@@ -332,7 +332,7 @@ module _ {a : Scene} {b : Core} {n : ℕ} {q : Option Place} (f : Frame a b n q)
         λ implicit. let x = fresh_ready h.0 h.1.follows.busy (ap is_fresh (sym h.1.home) ∙ w) in
             starts implicit (x.0, h.1.home ∙ ap (λ (y : Place). Some y) x.1),
       )))
-  moves k r s (Holds w l was at) c =
+  moves k r s (Holds w l was out at) c =
       let h = beside k l.0 in
       comes h.1 c r _ (set_place_adds k r h.0 s (ap is_free at) (stands h.1 c).here) (λ m next. not_main m (sym l.1 ∙ next)) (λ g. inl (let e = was.1 in grind arith))
   moves k r s (WaitsAgain x l was at) c =
