@@ -9,6 +9,7 @@ use Rattle.task_machine.specs.declared.records.Named.{Named}
 use Rattle.task_rules.specs.Allowed.{subtask_under_way}
 use Rattle.std.specs.Prelude.{Bool, None, Option, Some, false, is_none, is_some, option_and_then, option_map, true, ℕ, ◌+◌, ◌≡◌, ◌≤◌, length, List, [], ◌∷◌, ◌==◌, ◌⊎◌, ◌&&◌, ◌||◌, not}
 use Rattle.task_laws.specs.Settings.{CodesInCallbacks}
+use Rattle.task_laws.specs.Wakes.{NoneAdmitted}
 use Rattle.task_machine.specs.Core.{Core, Main, State, Table}
 use Rattle.task_machine.specs.Maps.{get, size}
 use Rattle.task_machine.specs.Read.{call_instance, how_far_of, instance_of, is_async_lifted, is_callback, is_direct, is_explicit, goal_of, kind_of, place_of, task_of, set_at, subtask_at, end_of, is_guest_call, subtask_handle, join_of, is_stage_ended, stage_of}
@@ -335,6 +336,7 @@ pub record InOrder (c : Component) (s : State) : Type 0 where
   pub fits : Fits c s.core
   pub starts : StartsAwaited s.core
   pub unbegun : StartsFirst s.core
+  pub held : NoneAdmitted s.core
 
 -- each opening state is in order
 unfoldable pub OpeningInOrder : Type 0

@@ -1,5 +1,7 @@
 -- A state in order: each opening state is, and each step leads from one to one.
 use Rattle.task_rules.proofs.Machine.{[], ap, arith, Bool, ByHandle, ByOp, Call, call_instance, callee_of, can_come, Component, Core, empty, false, fresh, get, get-empty, HasSubtask, how_far_of, HowFar, inl, inr, instance_of, is_fresh, is_some, is_sync_call, is_there, IsRunner, Label, length, List, None, Op, op_of_thread, opening, Option, option_and_then, option_map, option_map_or, Place, place_of, Placed, refl, Run, Scene, scene_of, Script, script_in, Setting, slice_get, Some, State, Steady, subst, Subtask, subtask_under_way, sym, task_of, TaskOp, Thread, true, Turn, unwrap_or, Walk, Walked, was_started, Work, ℕ, ⊎_elim, ◌∙◌, ◌∷◌, ◌≡◌, ◌≤◌, ◌⊎◌}
+use Rattle.task_laws.specs.Wakes.{NoneAdmitted}
+use Rattle.task_laws.proofs.HeldLemmas.{held_word}
 use Rattle.task_places.proofs.HostsAwaited.{Asked, step_asked, step_works}
 use Rattle.task_places.proofs.Directs.{directs_on_top}
 use Rattle.task_laws.proofs.Joins.{joins_word, opening_joins}
@@ -247,6 +249,15 @@ module _ (x : Setting) (s : State) (l : Label) (t : State) (h : InOrder x.compon
   pub unbegun_kept : StartsFirst t.core
   unbegun_kept k r at first waits = let q = last.1 in let f = first_waits k t.core in q.rest k (q.came k (grind arith)) (grind arith)
 
+  -- ---- Wakes
+
+  pub held_kept : NoneAdmitted t.core
+  held_kept =
+      let b = plain x s l w.next (λ c. CallsHold x.component c.base × CallsGo c s.core) (calls_begin x s l w.next (held_of h)) in
+      (along (λ u. CallsGo a u × (CallsThere u × NoneAdmitted u))
+      (λ v m ok q. (word_goes a h.codes b.0 v m ok q.0, (housed_word a runner_housed v m ok q.1.0, held_word a v m ok q.1.0 q.0.numbered q.1.1)))
+      (b.1, (h.calls_there, h.held)) walk).1.1
+
   pub fits_kept : Steady s.core t.core → Fits x.component t.core
   fits_kept steady n r at =
       let f = last.0 n r at in
@@ -327,6 +338,7 @@ step_in_order x s l t h step =
       fits = fits_kept x s l t h w (steady x s l t step);
       starts = starts_kept x s l t h w (steady x s l t step);
       unbegun = unbegun_kept x s l t h w;
+      held = held_kept x s l t h w;
     }
 
 -- ---- The first state
@@ -359,6 +371,7 @@ opening_in_order c codes instances handle_limit capacity main =
       fits = λ n t at. let o = get-empty {X = Thread} n in absurd (cc);
       starts = λ k c at e. let o = get-empty {X = Call} k in absurd (cc);
       unbegun = λ k t at first waits. let o = get-empty {X = Thread} k in absurd (cc);
+      held = λ n v at. let o = get-empty {X = Thread} n in absurd (cc);
     }
 
 -- ---- Runs
