@@ -7,3 +7,4 @@ pub mod WorksQueued
 pub mod HostsAwaited
 pub mod OrderLemmas
 pub mod OnceSteps
+pub mod WakeLines
