@@ -36,7 +36,7 @@ use Rattle.task_machine.specs.declared.records.Thread.{Thread}
 use Rattle.task_machine.specs.declared.records.Turn.TheVariants as turn
 use Rattle.task_machine.specs.declared.records.Why.{Why}
 use Rattle.task_machine.specs.declared.records.Why.TheVariants as why
-use Rattle.task_rules.specs.Places.{Placed, is_fresh, times, one_if}
+use Rattle.task_rules.specs.Places.{Placed, is_fresh, is_inside, times, one_if}
 use Rattle.task_rules.specs.Run.{opening}
 use Rattle.task_rules.specs.Scripts.{export_kind, is_script, op_of_thread, script_of_thread, slot_at}
 use Rattle.task_rules.specs.OpParts.{can_come, is_sync_call}
@@ -185,6 +185,10 @@ pub record IsOf (i x : ℕ) (s : Core) : Type 0 where
 pub record WaitsAtHome (s : Core) : Type 0 where
   pub by_place : (n x : ℕ) → option_and_then set_of_place (place_of n s) ≡ Some x → IsOf (instance_of n s) x s
   pub by_op : (n x : ℕ) → set_of_op (how_far_of n s) ≡ Some x → IsOf (instance_of n s) x s
+
+-- a thread that waits, but not by callback, or is blocked is inside the op that says so
+abbrev pub InsideOps : Core → Type 0
+InsideOps s = (n : ℕ) (p : Place) → place_of n s ≡ Some p → is_inside p (how_far_of n s) ≡ true
 
 -- ---- Calls
 
@@ -336,6 +340,7 @@ pub record InOrder (c : Component) (s : State) : Type 0 where
   pub fits : Fits c s.core
   pub starts : StartsAwaited s.core
   pub unbegun : StartsFirst s.core
+  pub inside : InsideOps s.core
   pub held : NoneAdmitted s.core
 
 -- each opening state is in order

@@ -110,8 +110,8 @@ module _ {a : Scene} {b : Core} {n : ℕ} {q : Option Place} (f : Frame a b n q)
 
   pub trip_works : {t : Core} → Working a b → Trip a b t → Working a t
   trip_works first (Remains t c still) = stays first c
-  trip_works first (Lands s p c ok) = landed s p first c ok
-  trip_works first (LandsAt s p m h c ok comes) =
+  trip_works first (Lands s p c ok fit) = landed s p first c ok
+  trip_works first (LandsAt s p m h c ok fit comes) =
       working_word a asked (SetHowFar m h) (after_word (Places p) s) comes (unmoved (SetHowFar m h) (after_word (Places p) s) refl) (landed s p first c ok)
   trip_works first (Quits s t k c leave d) =
       settles (working_word a asked (RemoveThread k) s (Departs leave) (unmoved (RemoveThread k) s refl) (stays first c)) d

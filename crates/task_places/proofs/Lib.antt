@@ -5,6 +5,7 @@ pub mod Directs
 pub mod CallsBack
 pub mod WorksQueued
 pub mod HostsAwaited
+pub mod InsideLemmas
 pub mod OrderLemmas
 pub mod OnceSteps
 pub mod WakeLines

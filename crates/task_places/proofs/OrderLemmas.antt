@@ -2,6 +2,7 @@
 use Rattle.task_rules.proofs.Machine.{[], ap, arith, Bool, ByHandle, ByOp, Call, call_instance, callee_of, can_come, Component, Core, empty, false, fresh, get, get-empty, HasSubtask, how_far_of, HowFar, inl, inr, instance_of, is_fresh, is_some, is_sync_call, is_there, IsRunner, Label, length, List, None, Op, op_of_thread, opening, Option, option_and_then, option_map, option_map_or, Place, place_of, Placed, refl, Run, Scene, scene_of, Script, script_in, Setting, slice_get, Some, State, Steady, subst, Subtask, subtask_under_way, sym, task_of, TaskOp, Thread, true, Turn, unwrap_or, Walk, Walked, was_started, Work, ℕ, ⊎_elim, ◌∙◌, ◌∷◌, ◌≡◌, ◌≤◌, ◌⊎◌}
 use Rattle.task_laws.specs.Wakes.{NoneAdmitted}
 use Rattle.task_laws.proofs.HeldLemmas.{held_word}
+use Rattle.task_places.proofs.InsideLemmas.{step_inside}
 use Rattle.task_places.proofs.HostsAwaited.{Asked, step_asked, step_works}
 use Rattle.task_places.proofs.Directs.{directs_on_top}
 use Rattle.task_laws.proofs.Joins.{joins_word, opening_joins}
@@ -338,6 +339,7 @@ step_in_order x s l t h step =
       fits = fits_kept x s l t h w (steady x s l t step);
       starts = starts_kept x s l t h w (steady x s l t step);
       unbegun = unbegun_kept x s l t h w;
+      inside = step_inside x s l t w h.in_place (withdrawable x s l t h w) h.inside;
       held = held_kept x s l t h w;
     }
 
@@ -371,6 +373,7 @@ opening_in_order c codes instances handle_limit capacity main =
       fits = λ n t at. let o = get-empty {X = Thread} n in absurd (cc);
       starts = λ k c at e. let o = get-empty {X = Call} k in absurd (cc);
       unbegun = λ k t at first waits. let o = get-empty {X = Thread} k in absurd (cc);
+      inside = λ n p at. let o = get-empty {X = Thread} n in absurd (cc);
       held = λ n v at. let o = get-empty {X = Thread} n in absurd (cc);
     }
 

@@ -443,8 +443,8 @@ module _ {a : Scene} {b : Core} {n : ℕ} {q : Option Place} (f : Frame a b n q)
         covered = λ k m at. inl (covered_still a st k m at);
         entered = λ m none to. let r = f.running m (still m to) in absurd (cc);
       }
-  trip_arrives (Lands s p c ok) w = subst (λ (t : Core). Arrives a t) (sym (placing_shifted p s).only) (lands p s ok c)
-  trip_arrives (LandsAt s p m h c ok comes) w =
+  trip_arrives (Lands s p c ok fit) w = subst (λ (t : Core). Arrives a t) (sym (placing_shifted p s).only) (lands p s ok c)
+  trip_arrives (LandsAt s p m h c ok fit comes) w =
       far_arrives a m h _ (subst (λ (t : Core). Arrives a t) (sym (placing_shifted p s).only) (lands p s ok c))
   trip_arrives (Quits s t k c leave d) w =
       let e = exits k s t leave.0 c d in

@@ -417,8 +417,8 @@ module _ (x : Setting) (main : Main) (s : Core) (n : ℕ) (l : Label) (next : Tu
 
   halted_walks : (h : Halt) (t : Core) → HaltOp h → Leaves a n → Keep a s t → Trip a s (halted h n t)
   unfolding halted
-  halted_walks Suspension t by leave c = lands_at (Move n Place.Suspended) n HowFar.Suspends (Suspends leave refl) refl (at_ops _ (stopped_walks n refl t c)) by (stopped_walks n refl t c)
-  halted_walks Yielding t by leave c = lands_at (Put Mark.Low n Why.Resumption) n HowFar.Yields (Yields leave refl) refl (at_ops _ (stopped_walks n refl t c)) by (stopped_walks n refl t c)
+  halted_walks Suspension t by leave c = lands_at (Move n Place.Suspended) n HowFar.Suspends refl (Suspends leave refl) refl (at_ops _ (stopped_walks n refl t c)) by (stopped_walks n refl t c)
+  halted_walks Yielding t by leave c = lands_at (Put Mark.Low n Why.Resumption) n HowFar.Yields refl (Yields leave refl) refl (at_ops _ (stopped_walks n refl t c)) by (stopped_walks n refl t c)
 
   halts_leads : (h : Halt) (k : ThreadLabel) (b : Bool) → HaltOp h → Leads a s (halts h n (Label.Thread k) s b)
   unfolding halted_checked

@@ -74,7 +74,7 @@ module _ {a : Scene} {b : Core} (n : ℕ) (is : IsRunner a n) where
 
   pub wait_stops_walks : AtOps a b n → (y : ℕ) {t : Core} → is_wait (op_in a n) ≡ true → Leaves a n → HasSet a n y → Keep a b t → Trip a b (wait_stops n y t)
   unfolding wait_stops
-  wait_stops_walks at y {t = t} can leave has c = lands_at (Move n (Place.Waiting y false)) n (HowFar.Waits y) (Waits y leave has refl) (is, has) (at _ (stopped_walks t c)) can (stopped_walks t c)
+  wait_stops_walks at y {t = t} can leave has c = lands_at (Move n (Place.Waiting y false)) n (HowFar.Waits y) (grind (arith, nat_tests)) (Waits y leave has refl) (is, has) (at _ (stopped_walks t c)) can (stopped_walks t c)
 
   pub join_walks : (sub : Subtask) (j : Join) {t : Core} → MayJoin a sub j t → Keep a b t → Keep a b (set_join sub j t)
   join_walks (Subtask.Guest k) j ok c = word (SetCallJoin k j) ok c
@@ -108,7 +108,7 @@ module _ {a : Scene} {b : Core} (n : ℕ) (is : IsRunner a n) where
   call_stops_walks at sub t can leave own come c =
       let u = stopped (foot_of n t) t in
       let h : Shifted t u = placing_shifted (Stop (foot_of n t)) t in
-      lands_at (Move n (Place.Blocked sub)) n (HowFar.Calls sub) (Blocks sub leave (own u h) refl) (come (set_place n (Place.Blocked sub) u) (shifted_after h (placing_shifted (Move n (Place.Blocked sub)) u)) (moved_passes (is_blocked_on sub) (Place.Blocked sub) (grind (arith, nat_tests)) n u)) (at u (stopped_walks t c)) can (stopped_walks t c)
+      lands_at (Move n (Place.Blocked sub)) n (HowFar.Calls sub) (grind (arith, nat_tests)) (Blocks sub leave (own u h) refl) (come (set_place n (Place.Blocked sub) u) (shifted_after h (placing_shifted (Move n (Place.Blocked sub)) u)) (moved_passes (is_blocked_on sub) (Place.Blocked sub) (grind (arith, nat_tests)) n u)) (at u (stopped_walks t c)) can (stopped_walks t c)
 
   pub sync_sets_flag_walks : (m j : ℕ) (k : ExportKind) {t : Core} → Keep a b t → Keep a b (sync_sets_flag m j k t)
   sync_sets_flag_walks m j ExportKind.Sync {t = t} c = word (SetDoNotSuspend j true) tt (word (SetSavedOwn m (Some (may_not_suspend j t))) tt c)
@@ -131,11 +131,11 @@ module _ {a : Scene} {b : Core} (n : ℕ) (is : IsRunner a n) where
   cancel_stops_walks at sub {t = t} can leave has free c =
       let u = set_join sub (Join.Watched n) (set_saved_callee n None t) in
       let d = stopped_walks (checked (instance_of n t) u) (checked_walks (instance_of n t) (join_walks sub (Join.Watched n) (is, (cancels_own a n sub has, free)) (word (SetSavedCallee n None) tt c))) in
-      lands_at (Move n (Place.Blocked sub)) n (HowFar.AwaitsEnd sub) (Blocks sub leave (inl (cancels_own a n sub has)) refl) (is, has) (at _ d) can d
+      lands_at (Move n (Place.Blocked sub)) n (HowFar.AwaitsEnd sub) (grind (arith, nat_tests)) (Blocks sub leave (inl (cancels_own a n sub has)) refl) (is, has) (at _ d) can d
 
   behind_switch_walks : (o : Option ℕ) (h : HowFar) {t : Core} → t.queues.switch ≡ o → Leaves a n → ((u : Core) → MayCome a n h u) → AtOp a n t → can_come (op_in a n) h ≡ true → Keep a b t → Trip a b (set_how_far n h (behind_switch n o t))
   behind_switch_walks None h {t = t} is leave comes at can c = Remains (set_how_far n h t) (keep_stay (word (SetHowFar n h) (comes t, InOp at can) c)) (λ m to. not_main m (sym leave.1.0 ∙ to))
-  behind_switch_walks (Some m) h {t = t} is leave comes at can c = lands_at (GoBehind (foot_of m t) n) n h (leave, inr (m, (is, refl))) (comes (after_placing (GoBehind (foot_of m t) n) t)) at can c
+  behind_switch_walks (Some m) h {t = t} is leave comes at can c = lands_at (GoBehind (foot_of m t) n) n h refl (leave, inr (m, (is, refl))) (comes (after_placing (GoBehind (foot_of m t) n) t)) at can c
 
   pub cancel_goes_behind_walks : AtOps a b n → (k : ℕ) {t : Core} → is_cancel (op_in a n) ≡ true → Leaves a n → MayCancel a n (Subtask.Guest k) → is_joined (join_of (Subtask.Guest k) a.base) ≡ false → Keep a b t → Trip a b (cancel_goes_behind n k t)
   unfolding cancel_goes_behind set_join on_call set_do_not_suspend on_instance set_saved_callee on_thread
@@ -248,7 +248,7 @@ module _ {a : Scene} (n : ℕ) (is : IsRunner a n) where
       let w = behind_one m n v in
       let c : Keep a s v = call_clears_flag_walks n is e.instance k (placed p (inl (Starts (born_place h) (born_explicit h) (ap (λ (y : Goal). is_direct y) (born_goal h) ∙ plain) refl)) (word (MakeCall (Caller.Thread n) e k g (thread_group n s) words) ok NoWord)) in
       let called : HasCalled n m w = called_as n m t w (shifted_calls (placing_shifted (GoBehind m n) v) ∙ (same.1.1.1 ∙ shifted_calls d)) (made_called n e k g (thread_group n s) words s) in
-      lands_at (GoBehind m n) n (HowFar.Calls (Subtask.Guest m)) (leave, inl (same.1.1.0 ∙ ap (λ (o : Option Place). is_some o) (put_place Mark.Switch m Why.Start t (ap (λ (o : Option Place). is_some o) (born_place h))))) (is, inr (shifted_new a m v w refl (placing_shifted (GoBehind m n) v) new, called)) (keep_still n runs c) can c
+      lands_at (GoBehind m n) n (HowFar.Calls (Subtask.Guest m)) refl (leave, inl (same.1.1.0 ∙ ap (λ (o : Option Place). is_some o) (put_place Mark.Switch m Why.Start t (ap (λ (o : Option Place). is_some o) (born_place h))))) (is, inr (shifted_new a m v w refl (placing_shifted (GoBehind m n) v) new, called)) (keep_still n runs c) can c
 
   pub enter_runs_walks : is_sync_call (op_in a n) ≡ true → is_some (callee_of_op (op_in a n)) ≡ true → (e : Callee) (k : ExportKind) (words : List ℕ) → a.turn ≡ Turn.Run n → a.next ≡ Turn.Run (next_thread a.base) → MayMakeCall a (Caller.Thread n) e k Goal.Direct (thread_group n a.base) a.base → Trip a a.base (enter_runs n e k words a.base)
   unfolding enter_runs
@@ -260,7 +260,7 @@ module _ {a : Scene} (n : ℕ) (is : IsRunner a n) where
       let new = entered n e k words (thread_group n s) s in
       let h : Born m Goal.Direct u = new.1.0 in
       let c : Keep a s u = sync_sets_flag_walks n is m e.instance k (word (SetStarted m) (inr (refl, new.0)) (word (NameThread e.instance m) tt (word (MakeCall (Caller.Thread n) e k Goal.Direct (thread_group n s) words) ok NoWord))) in
-      lands_at (Enter n m) n (HowFar.Calls (Subtask.Guest m)) (is, (to, (refl, (born_place h, (ap (λ (y : Goal). is_direct y) (born_goal h), (runs, (new.1.1.0, (keep_still n runs c, sync)))))))) (is, inr (shifted_new a m u _ refl (placing_shifted (Enter n m) u) (h.made, born_explicit h), called_as n m u (after_placing (Enter n m) u) (shifted_calls (placing_shifted (Enter n m) u)) new.1.1.1)) (keep_still n runs c) can c
+      lands_at (Enter n m) n (HowFar.Calls (Subtask.Guest m)) refl (is, (to, (refl, (born_place h, (ap (λ (y : Goal). is_direct y) (born_goal h), (runs, (new.1.1.0, (keep_still n runs c, sync)))))))) (is, inr (shifted_new a m u _ refl (placing_shifted (Enter n m) u) (h.made, born_explicit h), called_as n m u (after_placing (Enter n m) u) (shifted_calls (placing_shifted (Enter n m) u)) new.1.1.1)) (keep_still n runs c) can c
 
 pub enter_gives : (n : ℕ) (e : Callee) (k : ExportKind) (words : List ℕ) (s : Core) → (next_thread s == n) ≡ false → option_map_or is_running (place_of (next_thread s) (enter_runs n e k words s)) true ≡ true
 unfolding enter_runs set_how_far set_place on_thread

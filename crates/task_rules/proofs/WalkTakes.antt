@@ -5,6 +5,8 @@ use Rattle.task_rules.proofs.SayLemmas.{given_out}
 use Rattle.task_rules.proofs.PlacingLemmas.{shifted_instance, shifted_task, shifts_shifted, shifted_calls}
 use Rattle.task_rules.proofs.ChainLemmas.{Keep, chain_if}
 use Rattle.std.specs.Prelude.{if◌then◌else◌}
+use Rattle.task_rules.specs.Places.{is_inside}
+use Rattle.task_machine.specs.declared.records.HowFar.{HowFar}
 use Rattle.task_rules.proofs.ReleaseLemmas.{shifted_admits}
 use Rattle.task_rules.proofs.WalkMoves.{MayTake, ToldTo, handed_on_shifts, lands, shifted, stopped_shifts, taken_walks, told_to, told_walks, word, told_shifts}
 use Rattle.task_rules.proofs.WalkParts.{gift_is, set_given_walks, sync_sets_flag_walks}
@@ -84,14 +86,14 @@ module _ (x : Setting) (main : Main) (ended : Bool) (s : Core) (n : ℕ) (l : La
       quiet = and_parts (is_none (outcome_of_label k)) (not (is_exit k)) taking
 
   runs_taken : (k : Label) (t : Core) → (is_explicit n s ≡ false → WasReady taking_scene n Why.Start → is_begun (task_of n s) t ≡ true) → is_taking k ≡ true → (l ≡ k → EndWords taking_scene (set_place n Place.Running t)) → Shuts k (set_place n Place.Running t) → (next ≡ Turn.Run n → Keep taking_scene s t) → Leads taking_scene s (Goes k (set_place n Place.Running t) n)
-  runs_taken k t begun taking says shuts c is to = (lands (Move n Place.Running) (Runs refl to begun refl) (c to), taken_ends k Place.Running t is taking refl (λ m at. (one_runner m n (sym at ∙ to), refl)) says shuts)
+  runs_taken k t begun taking says shuts c is to = (lands (Move n Place.Running) refl (Runs refl to begun refl) (c to), taken_ends k Place.Running t is taking refl (λ m at. (one_runner m n (sym at ∙ to), refl)) says shuts)
 
-  lays_taken : (k : Label) (p : Place) (t : Core) → is_taking k ≡ true → is_mute taking_scene (set_place n p t) k ≡ true → is_free p ≡ true → ((i : ℕ) → begun_holder s k ≡ Some i → ⊥) → (IsLaid taking_scene n → MayMove taking_scene n p t) → Keep taking_scene s t → Leads taking_scene s (Stops k (set_place n p t))
-  lays_taken k p t taking mute free none may c is to = (lands (Move n p) (may (refl, to)) c, taken_ends k p t is taking free (λ m at. not_main m (sym to ∙ at)) (λ at. mute_words taking_scene _ at mute) (λ i begun. absurd (none i begun)))
+  lays_taken : (k : Label) (p : Place) (t : Core) → is_taking k ≡ true → is_mute taking_scene (set_place n p t) k ≡ true → is_free p ≡ true → is_inside p HowFar.Fresh ≡ true → ((i : ℕ) → begun_holder s k ≡ Some i → ⊥) → (IsLaid taking_scene n → MayMove taking_scene n p t) → Keep taking_scene s t → Leads taking_scene s (Stops k (set_place n p t))
+  lays_taken k p t taking mute free fit none may c is to = (lands (Move n p) fit (may (refl, to)) c, taken_ends k p t is taking free (λ m at. not_main m (sym to ∙ at)) (λ at. mute_words taking_scene _ at mute) (λ i begun. absurd (none i begun)))
 
   holds_leads : (k : Label) (w : Why) (t : Core) → is_taking k ≡ true → is_mute taking_scene (take_holds n w t) k ≡ true → begun_holder s k ≡ None → WasReady taking_scene n w → admits n t w ≡ false → Keep taking_scene s t → Leads taking_scene s (Stops k (take_holds n w t))
   unfolding take_holds
-  holds_leads k w t taking mute none ready out c = lays_taken k (Place.Held w) (stopped (foot_of n t) t) taking mute refl (λ i begun. none_said none begun) (λ leave. Holds w leave ready (shifted_admits (shifts_shifted (stopped_shifts (foot_of n t) t)) n w ∙ out) refl) (shifted (stopped_shifts (foot_of n t) t) c)
+  holds_leads k w t taking mute none ready out c = lays_taken k (Place.Held w) (stopped (foot_of n t) t) taking mute refl refl (λ i begun. none_said none begun) (λ leave. Holds w leave ready (shifted_admits (shifts_shifted (stopped_shifts (foot_of n t) t)) n w ∙ out) refl) (shifted (stopped_shifts (foot_of n t) t) c)
 
   -- ---- Starts
 
@@ -211,7 +213,7 @@ module _ (x : Setting) (main : Main) (ended : Bool) (s : Core) (n : ℕ) (l : La
 
   set_delivered_leads : (m : Mark) (y : ℕ) (ch : Choice) (g : Gift) → gift true (task_of n s) y (chosen n ch s) s ≡ Some g → WasReady taking_scene n (Why.Delivery (Delivery.Set y)) → MayTake taking_scene (task_of n s) g → may_not_enter (instance_of n s) s ≡ false → Leads taking_scene s (set_delivered m n y ch s g)
   unfolding wait_again
-  set_delivered_leads m y ch NoGift h0 ready ok open_at = lays_taken (Label.Take (TakeLabel.Again m n)) (Place.Waiting y true) (stopped (foot_of n s) s) refl refl refl (λ i begun. none_said refl begun) (λ leave. WaitsAgain y leave ready refl) (shifted (stopped_shifts (foot_of n s) s) NoWord)
+  set_delivered_leads m y ch NoGift h0 ready ok open_at = lays_taken (Label.Take (TakeLabel.Again m n)) (Place.Waiting y true) (stopped (foot_of n s) s) refl refl refl refl (λ i begun. none_said refl begun) (λ leave. WaitsAgain y leave ready refl) (shifted (stopped_shifts (foot_of n s) s) NoWord)
   set_delivered_leads m y ch (OwnGift v) h0 ready ok open_at = woken_goes m y ch (OwnGift v) ready h0 ok open_at
   set_delivered_leads m y ch (MemberGift sub) h0 ready ok open_at = woken_goes m y ch (MemberGift sub) ready h0 ok open_at
 

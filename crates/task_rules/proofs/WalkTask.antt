@@ -340,8 +340,8 @@ module _ (x : Setting) (main : Main) (s : Core) (n : ℕ) (l : Label) (next : Tu
 
   code_wait_row_leads : (k : Label) (y : ℕ) (b : Bool) → ((t : Core) → is_still a t k ≡ true) → (l ≡ k → MayBar a (instance_of n s) false) → EndsActivation a n → HasSet a n y → Leads a s (code_wait_row k n y (held_by_flag (instance_of n s) s) s b)
   unfolding code_finds code_waits
-  code_wait_row_leads k y true plain bar ends has = λ order perm is to. stops_here k (code_finds n y order s) (plain _) (λ leave. lands (Put Mark.High n (Why.Delivery (Delivery.Set y))) (FindsEvent y leave ends has refl) (code_stops_walks n refl order (bar is) perm NoWord)) is to
-  code_wait_row_leads k y false plain bar ends has = λ order perm is to. stops_here k (code_waits n y order s) (plain _) (λ leave. lands (Move n (Place.Waiting y true)) (AwaitsEvent y leave ends has refl) (code_stops_walks n refl order (bar is) perm NoWord)) is to
+  code_wait_row_leads k y true plain bar ends has = λ order perm is to. stops_here k (code_finds n y order s) (plain _) (λ leave. lands (Put Mark.High n (Why.Delivery (Delivery.Set y))) refl (FindsEvent y leave ends has refl) (code_stops_walks n refl order (bar is) perm NoWord)) is to
+  code_wait_row_leads k y false plain bar ends has = λ order perm is to. stops_here k (code_waits n y order s) (plain _) (λ leave. lands (Move n (Place.Waiting y true)) refl (AwaitsEvent y leave ends has refl) (code_stops_walks n refl order (bar is) perm NoWord)) is to
 
   code_exits_leads : (k : Label) → is_quiet s k ≡ true → ((t : Core) → l ≡ k → EndWords a t) → (l ≡ k → MayBar a (instance_of n s) false) → (rest : ℕ) → Leads a s (code_kind_row k n (held_by_flag (instance_of n s) s) s zero rest)
   unfolding code_exits code_stops set_do_not_enter on_instance
@@ -355,7 +355,7 @@ module _ (x : Setting) (main : Main) (s : Core) (n : ℕ) (l : Label) (next : Tu
   unfolding code_yields
   code_kind_row_leads k zero rest plain bar ends =
       code_exits_leads k (and_parts (is_quiet s k) (not (is_exit k)) (and_parts (is_plain s k) (is_mute a s k) (plain s)).0).0 (λ t is. mute_words a t is (and_parts (is_plain s k) (is_mute a t k) (plain t)).1) bar rest
-  code_kind_row_leads k (suc zero) rest plain bar ends = λ order perm is to. stops_here k (code_yields n order s) (plain _) (λ leave. lands (Put Mark.Low n (Why.Delivery Delivery.Yield)) (ComesAgain leave ends refl) (word (SetOwnEvent (task_of n s) (own_or_none (own_event_of (task_of n s) s))) (owes (own_event_of (task_of n s) s) refl ends (code_stops n order s)) (code_stops_walks n refl order (bar is) perm NoWord))) is to
+  code_kind_row_leads k (suc zero) rest plain bar ends = λ order perm is to. stops_here k (code_yields n order s) (plain _) (λ leave. lands (Put Mark.Low n (Why.Delivery Delivery.Yield)) refl (ComesAgain leave ends refl) (word (SetOwnEvent (task_of n s) (own_or_none (own_event_of (task_of n s) s))) (owes (own_event_of (task_of n s) s) refl ends (code_stops n order s)) (code_stops_walks n refl order (bar is) perm NoWord))) is to
   code_kind_row_leads k (suc (suc zero)) rest plain bar ends = or_trap_leads a s (set_at (instance_of n s) rest s) Trap.BadHandle _ (λ y named. code_wait_row_leads k y (has_event_for (task_of n s) y s) plain bar ends (BySetHandle rest named))
   code_kind_row_leads k (suc (suc (suc low))) rest plain bar ends = tt
 
