@@ -9,6 +9,7 @@ pub mod SceneLemmas
 pub mod HousedLemmas
 pub mod HeldLemmas
 pub mod Subtasks
+pub mod WatchLemmas
 pub mod HandleTables
 pub mod Joins
 pub mod CountLemmas

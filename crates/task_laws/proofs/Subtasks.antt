@@ -3,7 +3,9 @@ use Rattle.task_rules.proofs.Machine.{add_call, add_group, add_set, add_thread, 
 use Rattle.task_laws.proofs.CallsCame.{ThreadAfter, op_came, thread_came}
 use Rattle.task_laws.proofs.CountLemmas.{made_threads_word}
 use Rattle.task_laws.proofs.SetHandles.{given_names, none_named}
-use Rattle.task_laws.specs.Order.{CallsNamed, WasCall}
+use Rattle.task_laws.proofs.CountLemmas.{made_works_word}
+use Rattle.std.proofs.Common.{le_trans, ◌≤◌}
+use Rattle.task_laws.specs.Order.{WorksNamed, CallsNamed, WasCall}
 use Rattle.task_rules.proofs.WalkParts.{cancels_own}
 
 -- a subtask of the thread, or a new one
@@ -40,8 +42,8 @@ module _ (a : Scene) (s : Core) where
   come_known n (HowFar.Calls (Subtask.Guest k)) (is, inl was) = (n, inl (ByOp (ap (λ f. subtask_under_way f) was.0)))
   come_known n (HowFar.Calls (Subtask.Guest k)) (is, inr new) = (n, inr new.0)
   come_known n (HowFar.Calls (Subtask.Host i)) ok = (n, inr ok.1.0)
-  come_known n (HowFar.Cancels sub) ok = (n, inl (cancels_own a n sub ok.1))
-  come_known n (HowFar.AwaitsEnd sub) ok = (n, inl (cancels_own a n sub ok.1))
+  come_known n (HowFar.Cancels sub) ok = (n, inl (cancels_own a n sub ok.1.0))
+  come_known n (HowFar.AwaitsEnd sub) ok = (n, inl (cancels_own a n sub ok.1.0))
   come_known n f ok = tt
 
 -- ---- Calls that were made
@@ -72,6 +74,21 @@ module _ (a : Scene) (known : CallsNamed a.base) (s : Core) (q : Traced a s) whe
     };
   }
 
+-- ---- Works that were made
+
+-- a work of the thread's was made
+work_known : (a : Scene) (s : Core) → WorksNamed a.base → a.base.made.works ≤ s.made.works → (j : ℕ) → Known a s (Subtask.Host j) → j ≤ s.made.works
+work_known a s known more j (n, inl (ByHandle h e)) = le_trans (known.by_handle _ h j e) more
+work_known a s known more j (n, inl (ByOp e)) = le_trans (known.by_op n j e) more
+work_known a s known more j (n, inr new) = grind arith
+
+pub works_named_word : (a : Scene) → WorksNamed a.base → (w : Word) (s : Core) → Allowed a w s → a.base.made.works ≤ s.made.works → WorksNamed s →
+    WorksNamed (after_word w s)
+works_named_word a known w s ok more q = record {
+  by_handle = λ i h j e. le_trans (⊎_elim (q.by_handle i h j) (λ now. work_known a s known more j (named_known a s (Subtask.Host j) now)) (handle_named a s w ok i h (Subtask.Host j) e)) (made_works_word a w s);
+  by_op = λ n j e. le_trans (⊎_elim (q.by_op n j) (λ g. work_known a s known more j (rw g.1.1 at (come_known a s n g.0 g.1.0))) (op_came (λ f. subtask_under_way f) (Subtask.Host j) w s ok n refl e)) (made_works_word a w s);
+}
+
 -- ---- The first state
 
 pub opening_named : (instances handle_limit capacity : ℕ) → CallsNamed (fresh instances handle_limit capacity)
@@ -79,4 +96,11 @@ unfolding fresh
 opening_named instances handle_limit capacity = record {
   by_handle = λ i h k e. let n = none_named instances i h in absurd (cc);
   by_op = λ n k e. let o = get-empty {X = Thread} n in absurd (cc);
+}
+
+pub opening_works_named : (instances handle_limit capacity : ℕ) → WorksNamed (fresh instances handle_limit capacity)
+unfolding fresh
+opening_works_named instances handle_limit capacity = record {
+  by_handle = λ i h j e. let n = none_named instances i h in absurd (cc);
+  by_op = λ n j e. let o = get-empty {X = Thread} n in absurd (cc);
 }

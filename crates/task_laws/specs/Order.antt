@@ -6,7 +6,7 @@ use Rattle.task_machine.specs.declared.records.Stage.{Stage}
 use Rattle.task_machine.specs.declared.records.Entry.{Entry}
 use Rattle.task_machine.specs.declared.records.Subtask.{Subtask}
 use Rattle.task_machine.specs.declared.records.Named.{Named}
-use Rattle.task_rules.specs.Allowed.{subtask_under_way}
+use Rattle.task_rules.specs.Allowed.{subtask_under_way, watches}
 use Rattle.std.specs.Prelude.{Bool, None, Option, Some, false, is_none, is_some, option_and_then, option_map, true, ℕ, ◌+◌, ◌≡◌, ◌≤◌, length, List, [], ◌∷◌, ◌==◌, ◌⊎◌, ◌&&◌, ◌||◌, not}
 use Rattle.task_laws.specs.Settings.{CodesInCallbacks}
 use Rattle.task_laws.specs.Wakes.{NoneAdmitted}
@@ -129,6 +129,21 @@ pub record CallsAwaited (s : Core) : Type 0 where
   pub inside : (n k : ℕ) → how_far_of n s ≡ how_far.Calls (subtask.Guest k) →
       (place_of n s ≡ Some (place.Under k)) ⊎ (option_map_or is_awaited (get s.calls k) false ≡ true)
   pub apart : (n m k : ℕ) → how_far_of n s ≡ how_far.Calls (subtask.Guest k) → cancelled_call (how_far_of m s) ≡ Some k → ⊥
+
+-- Each work that a handle names, or that an op under way is about, was made.
+pub record WorksNamed (s : Core) : Type 0 where
+  pub by_handle : (i h j : ℕ) → subtask_at i h s ≡ Some (subtask.Host j) → j ≤ s.made.works
+  pub by_op : (n j : ℕ) → subtask_under_way (how_far_of n s) ≡ Some (subtask.Host j) → j ≤ s.made.works
+
+-- the subtask that an op under way cancels
+abbrev pub cancelled_by : HowFar → Option Subtask
+cancelled_by (how_far.Cancels sub) = Some sub
+cancelled_by (how_far.AwaitsEnd sub) = Some sub
+cancelled_by _ = None
+
+-- a subtask that an op cancels is in the thread's own set, or gone
+abbrev pub CancelsWatched : Core → Type 0
+CancelsWatched s = (n : ℕ) (sub : Subtask) → cancelled_by (how_far_of n s) ≡ Some sub → watches n sub s ≡ true
 
 -- A handle of a set names a set of its own instance, which was made, and no other handle names it.
 pub record SetsNamed (s : Core) : Type 0 where
@@ -330,6 +345,7 @@ pub record InOrder (c : Component) (s : State) : Type 0 where
   pub numbered : Numbered s.core
   pub calls_there : CallsThere s.core
   pub calls_named : CallsNamed s.core
+  pub works_named : WorksNamed s.core
   pub names : NamesKnown s.core
   pub calls : CallsAwaited s.core
   pub sets_named : SetsNamed s.core
@@ -340,6 +356,7 @@ pub record InOrder (c : Component) (s : State) : Type 0 where
   pub fits : Fits c s.core
   pub starts : StartsAwaited s.core
   pub unbegun : StartsFirst s.core
+  pub watched : CancelsWatched s.core
   pub inside : InsideOps s.core
   pub held : NoneAdmitted s.core
 

@@ -6,7 +6,12 @@ use Rattle.task_places.proofs.InsideLemmas.{step_inside}
 use Rattle.task_places.proofs.HostsAwaited.{Asked, step_asked, step_works}
 use Rattle.task_places.proofs.Directs.{directs_on_top}
 use Rattle.task_laws.proofs.Joins.{joins_word, opening_joins}
-use Rattle.task_laws.proofs.Subtasks.{Traced, opening_named, traced_word}
+use Rattle.task_laws.proofs.Subtasks.{Traced, opening_named, opening_works_named, traced_word, works_named_word}
+use Rattle.task_laws.proofs.WatchLemmas.{queued_watched, watched_word}
+use Rattle.task_laws.proofs.CountLemmas.{made_works_word}
+use Rattle.task_rules.specs.Scenes.{base_at}
+use Rattle.std.proofs.Common.{le_refl, le_trans}
+use Rattle.task_laws.specs.Order.{CancelsWatched, WorksNamed}
 use Rattle.task_rules.proofs.WalkSteps.{step_walks}
 use Rattle.task_rules.proofs.ChainLemmas.{along}
 use Rattle.task_laws.proofs.WaitLemmas.{Homed, KnownHome, homed_word}
@@ -127,6 +132,20 @@ module _ (x : Setting) (s : State) (l : Label) (t : State) (h : InOrder x.compon
   named_kept =
       let first : Traced a s.core = record { was = λ k q. assumption; named = h.calls_named } in
       (along (Traced a) (λ v m ok q. traced_word a known m q v ok) first walk).named
+
+  -- the works that are named, and the subtasks that ops cancel
+  watches_kept : WorksNamed t.core × CancelsWatched t.core
+  watches_kept =
+      let works : WorksNamed a.base = record { by_handle = h.works_named.by_handle; by_op = h.works_named.by_op } in
+      let first : Traced a s.core = record { was = λ k q. assumption; named = h.calls_named } in
+      (along (λ u. Traced a u × ((a.base.made.works ≤ u.made.works) × (WorksNamed u × CancelsWatched u)))
+      (λ v m ok q. (
+        traced_word a known m q.0 v ok,
+        (
+          le_trans q.1.0 (made_works_word a v m),
+          (works_named_word a works v m ok q.1.0 q.1.1.0, watched_word a (queued_watched (base_at s.turn s.core).queues s.core h.watched) v m ok q.0.named q.1.1.0 q.1.1.1),
+        ),
+      )) (first, (le_refl _, (h.works_named, h.watched))) walk).1.1
 
   -- a call's start that the running thread may withdraw
   withdrawable : Withdrawable (scene_of x s l w.next)
@@ -329,6 +348,7 @@ step_in_order x s l t h step =
       numbered = q.numbered;
       calls_there = calls_kept x s l t h w;
       calls_named = named_kept x s l t h w;
+      works_named = (watches_kept x s l t h w).0;
       names = (called x s l t h w).0.known;
       calls = awaited_kept x s l t h w;
       waits = waits_kept x s l t h w (steady x s l t step);
@@ -339,6 +359,7 @@ step_in_order x s l t h step =
       fits = fits_kept x s l t h w (steady x s l t step);
       starts = starts_kept x s l t h w (steady x s l t step);
       unbegun = unbegun_kept x s l t h w;
+      watched = (watches_kept x s l t h w).1;
       inside = step_inside x s l t w h.in_place (withdrawable x s l t h w) h.inside;
       held = held_kept x s l t h w;
     }
@@ -364,6 +385,7 @@ opening_in_order c codes instances handle_limit capacity main =
       calls_there = λ n k e. let o = get-empty {X = Thread} n in absurd (cc);
       waits = grind (arith, get-empty);
       calls_named = opening_named instances handle_limit capacity;
+      works_named = opening_works_named instances handle_limit capacity;
       names = opening_names_known instances handle_limit capacity;
       calls = grind (arith, get-empty);
       sets_named = opening_sets instances handle_limit capacity;
@@ -373,6 +395,7 @@ opening_in_order c codes instances handle_limit capacity main =
       fits = λ n t at. let o = get-empty {X = Thread} n in absurd (cc);
       starts = λ k c at e. let o = get-empty {X = Call} k in absurd (cc);
       unbegun = λ k t at first waits. let o = get-empty {X = Thread} k in absurd (cc);
+      watched = λ n sub far. let o = get-empty {X = Thread} n in absurd (cc);
       inside = λ n p at. let o = get-empty {X = Thread} n in absurd (cc);
       held = λ n v at. let o = get-empty {X = Thread} n in absurd (cc);
     }
