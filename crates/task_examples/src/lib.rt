@@ -20,7 +20,6 @@ pub mod generated9;
 pub mod guests;
 pub mod hosts;
 pub mod limits;
-pub mod lost;
 pub mod requests;
 pub mod sets;
 pub mod strands;

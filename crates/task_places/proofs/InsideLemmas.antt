@@ -1,7 +1,5 @@
 -- Who waits or is blocked is inside the op that says so, along the words of a step.
-use Rattle.task_rules.proofs.Machine.{[], after_placing, after_word, Allowed, ap, arith, behind_one, Bool, Collapses, Core, Enter, false, get, get-change, get-remove, GoBehind, GoesBack, how_far_of, HowFar, inl, inr, IsRunner, IsFall, Lands, LandsAt, Mark, MayCome, MayLand, MayMove, Move, nat_tests, on_thread, Option, Place, place_of, Places, Placing, Pop, popped, Promote, Put, put_high, put_low, Quits, refl, Remains, remove_thread, RemoveThread, Scene, scene_of, set_callers, set_high, set_how_far, set_low, set_place, set_switch, SetHowFar, Setting, Settles, SetTrapped, set_trapped, Some, State, Label, Stay, Stays, Stop, subst, sym, Thread, Trip, true, Walked, Word, ℕ, ⊎_elim, ◌==◌, ◌∙◌, ◌≡◌, ◌⊎◌}
-use Rattle.task_rules.specs.Chains.{lands_inside}
-use Rattle.task_rules.specs.Places.{is_inside}
+use Rattle.task_rules.proofs.Machine.{[], after_placing, after_word, Allowed, ap, arith, Bool, Collapses, Core, Enter, false, get, get-change, get-remove, GoBehind, GoesBack, how_far_of, HowFar, inl, inr, is_inside, IsFall, IsRunner, Label, Lands, lands_inside, LandsAt, Mark, MayCome, MayLand, MayMove, Move, nat_tests, on_thread, Option, Place, place_of, Places, Placing, Pop, popped, Promote, Put, Quits, refl, Remains, remove_thread, RemoveThread, Scene, scene_of, set_high, set_how_far, set_low, set_place, set_switch, set_trapped, SetHowFar, Setting, Settles, SetTrapped, Some, State, Stay, Stays, Stop, sym, Thread, Trip, true, Walked, Word, ℕ, ⊎_elim, ◌==◌, ◌∙◌, ◌≡◌, ◌⊎◌}
 use Rattle.task_rules.proofs.MoveLemmas.{is_busy}
 use Rattle.task_places.proofs.PlaceSteps.{Reads, Withdrawable, step_by}
 use Rattle.task_places.proofs.PlaceLaw.{Frame, covered_still, stay_stand, stay_word, watch}

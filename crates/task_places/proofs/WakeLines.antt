@@ -1,11 +1,5 @@
 -- The lines of Stalled that the facts on wakes give.
-use Rattle.task_rules.proofs.Machine.{[], admitted_held, arith, Bool, Core, false, held_why_of, instance_of, is_held_admitted, is_nil, list_any, List, nat_tests, not, numbers, refl, State, true, ℕ, ◌∷◌, ◌≡◌}
-use Rattle.std.specs.List.{All}
-use Rattle.std.specs.Prelude.{option_and_then}
-use Rattle.task_machine.specs.declared.records.Instance.{Instance}
-use Rattle.std.proofs.lemmas.List.Elements.{filter_passes}
-use Rattle.task_machine.specs.Read.{admits, held_why, place_of}
-use Rattle.task_rules.specs.Stalled.{Setting, none_admitted}
+use Rattle.task_rules.proofs.Machine.{[], admitted_held, All, arith, Bool, Core, false, filter_passes, held_why, Instance, is_held_admitted, is_nil, List, list_any, not, numbers, option_and_then, place_of, refl, true, ℕ, ◌∷◌, ◌≡◌}
 use Rattle.task_laws.specs.Settings.{Reached}
 use Rattle.task_laws.specs.Wakes.{NoneAdmitted}
 use Rattle.task_places.proofs.OrderLemmas.{reached_in_order}

@@ -1,15 +1,17 @@
 -- The words of std, of the machine and of its rules that the proofs cite, in one place.
-pub use Rattle.task_machine.specs.declared.{component.Callee.Callee, component.Component.Component, component.ExportKind.ExportKind, component.HostDef.HostDef, component.Slot.Slot, label.CallLabel.CallLabel, label.DataLabel.DataLabel, label.Label.Label, label.LoopLabel.LoopLabel, label.MainLabel.MainLabel, label.SetLabel.SetLabel, label.TakeLabel.TakeLabel, label.TaskLabel.TaskLabel, label.ThreadLabel.ThreadLabel, op.CallOp.CallOp, op.DataOp.DataOp, op.Op.Op, op.SetOp.SetOp, op.TaskOp.TaskOp, op.ThreadOp.ThreadOp, outcome.Outcome.Outcome, records.Call.Call, records.CallEnd.CallEnd, records.Caller.Caller, records.Course.Course, records.Delivery.Delivery, records.Entry.Entry, records.Goal.Goal, records.HowFar.HowFar, records.Join.Join, records.Made.Made, records.Named.Named, records.Place.Place, records.Script.Script, records.Set.Set, records.Stage.Stage, records.Subtask.Subtask, records.Thread.Thread, records.Turn.Turn, records.Why.Why, records.Work.Work, records.WorkCaller.WorkCaller, scenario.MainOpDef.MainOpDef, trap.Trap.Trap, words.Given.Given, words.Mark.Mark, words.OwnEvent.OwnEvent, words.Phase.Phase, words.Status.Status}
+pub use Rattle.task_machine.specs.declared.{component.Callee.Callee, component.Component.Component, component.ExportKind.ExportKind, component.HostDef.HostDef, component.Slot.Slot, label.CallLabel.CallLabel, label.DataLabel.DataLabel, label.Label.Label, label.LoopLabel.LoopLabel, label.MainLabel.MainLabel, label.SetLabel.SetLabel, label.TakeLabel.TakeLabel, label.TaskLabel.TaskLabel, label.ThreadLabel.ThreadLabel, op.CallOp.CallOp, op.DataOp.DataOp, op.Op.Op, op.SetOp.SetOp, op.TaskOp.TaskOp, op.ThreadOp.ThreadOp, outcome.Outcome.Outcome, records.Call.Call, records.CallEnd.CallEnd, records.Caller.Caller, records.Course.Course, records.Delivery.Delivery, records.Entry.Entry, records.Goal.Goal, records.HowFar.HowFar, records.Instance.Instance, records.Join.Join, records.Made.Made, records.Named.Named, records.Place.Place, records.Script.Script, records.Set.Set, records.Stage.Stage, records.Subtask.Subtask, records.Thread.Thread, records.Turn.Turn, records.Why.Why, records.Work.Work, records.WorkCaller.WorkCaller, scenario.MainOpDef.MainOpDef, trap.Trap.Trap, words.Given.Given, words.Mark.Mark, words.OwnEvent.OwnEvent, words.Phase.Phase, words.Status.Status}
 pub use Rattle.std.proofs.Common.{ap, ap₂, arith, cond, inl, inr, le_refl, le_trans, refl, subst, sym, T, ⊎_elim, ◌∙◌}
 pub use Rattle.std.proofs.lemmas.Bool.{and_parts, eq-eqb, eqb-false, eqb-true, not-true}
 pub use Rattle.std.proofs.lemmas.Bool.Decides.{nat_tests}
+pub use Rattle.std.proofs.lemmas.List.Elements.{filter_passes}
 pub use Rattle.std.proofs.lemmas.List.Folds.{list_any-append}
+pub use Rattle.std.proofs.lemmas.List.Sorted.{All-permutation, IsPermutation-refl, length_permutation, list_any-IsPermutation}
 pub use Rattle.std.specs.Cmp.{nat_cmp_total, unsigned_tied}
 pub use Rattle.std.specs.FinMap.Entries.{below_all, is_sorted}
-pub use Rattle.std.specs.List.{list_any}
+pub use Rattle.std.specs.List.{All, list_any}
 pub use Rattle.std.specs.Option.{option_map_or, option_or}
 pub use Rattle.std.specs.Ordering.{is_lt, nat_cmp}
-pub use Rattle.std.specs.Prelude.{[], All, Bool, count_by, false, filter, find, IfSome, if◌then◌else◌, is_none, is_some, IsPermutation, length, List, map, min, nat_le, nat_lt, None, not, Option, option_and_then, option_map, slice_get, Some, suc, true, unwrap_or, zero, ℕ, ◌%◌, ◌&&◌, ◌*◌, ◌++◌, ◌+◌, ◌-◌, ◌/◌, ◌<◌, ◌==◌, ◌||◌, ◌∷◌, ◌≡◌, ◌≢◌, ◌≤◌, ◌⊎◌}
+pub use Rattle.std.specs.Prelude.{[], Bool, count_by, false, filter, find, IfSome, if◌then◌else◌, is_none, is_some, IsPermutation, length, List, map, min, nat_le, nat_lt, None, not, Option, option_and_then, option_map, slice_get, Some, suc, true, unwrap_or, zero, ℕ, ◌%◌, ◌&&◌, ◌*◌, ◌++◌, ◌+◌, ◌-◌, ◌/◌, ◌<◌, ◌==◌, ◌||◌, ◌∷◌, ◌≡◌, ◌≢◌, ◌≤◌, ◌⊎◌}
 pub use Rattle.task_machine.proofs.CommuteLemmas.{change-change_same, get-change}
 pub use Rattle.task_machine.proofs.MapLemmas.{change-field, get-insert_same, get-remove_other, get-remove_same}
 pub use Rattle.task_machine.specs.Core.{Began, Core, filled, Main, MainPlace, no_handles, Queues, Refused, Scripted, Started, State, Table, Unscripted, untouched}
@@ -24,12 +26,12 @@ unfoldable pub use Rattle.task_machine.specs.Read.{admitted_held, at_handle_limi
 pub use Rattle.task_machine.specs.Statuses.{packed, status_code}
 pub use Rattle.task_machine.specs.Write.{giving, less_one, remove_threads, taking}
 unfoldable pub use Rattle.task_machine.specs.Write.{add_call, add_group, add_set, add_thread, add_work, count_work, free_handle, free_thread_handle, give_handle, give_result, give_thread_handle, on_call, on_instance, on_thread, on_work, push_high, push_high_first, push_low, remove_call, remove_group, remove_set, remove_thread, remove_work, set_backpressure, set_callers, set_cancel_delivered, set_cancelled, set_course, set_do_not_enter, set_do_not_suspend, set_end, set_event, set_exited, set_high, set_how_far, set_join, set_low, set_own_event, set_phase, set_place, set_position, set_register, set_result, set_saved_callee, set_saved_own, set_script, set_stage, set_started, set_starting_published, set_subtask_handle, set_switch, set_thread_handle, set_trapped, set_uninteresting, set_word, take_result}
-pub use Rattle.task_rules.specs.Allowed.{AbortsOwn, Allowed, AtOp, AwaitsEvent, Blocks, ByDelivery, ByHandle, ByOp, ByProgram, ByScript, BySetHandle, ByThread, ByWait, Cancels, CanCome, ComesAgain, Departs, EndsActivation, EndsOver, Exits, Falls, FindsEvent, GivesUp, HasCalled, HasSet, HasSubtask, Holds, InOp, is_async_work, is_begun, is_done_host, is_exit, is_for_main, IsCalled, IsFall, IsFoot, IsLaid, IsNamed, IsNew, IsPolled, IsRunner, IsSettling, IsStarting, IsWithdrawn, Leaves, MayAbort, MayAdvance, MayBar, MayCall, MayCancel, MayCome, MayDeliver, MayEnd, MayFinish, MayGo, MayJoin, MayLand, MayLeave, MayMake, MayMakeCall, MayMove, MayNameCall, MayOwe, MayPut, MayRemoveCall, MayRemoveWork, MayRestart, MayShift, MayStart, MayTakeEvent, MayTell, MayWithdraw, MayYield, ProgramAborts, Releases, Resumes, ReturnsNow, Runs, SaysEnd, ScriptAborts, Starts, Stays, subtask_under_way, Suspends, TakesCalled, TakesCancelled, TakesNamed, Tells, Unblocks, Uncovers, Waits, WaitsAgain, wake_why, Wakes, WasReady, WasUnder, Yields}
+pub use Rattle.task_rules.specs.Allowed.{AbortsOwn, Allowed, AtOp, AwaitsEvent, Blocks, ByDelivery, ByHandle, ByOp, ByProgram, ByScript, BySetHandle, ByThread, ByWait, Cancelling, Cancels, CanCome, ComesAgain, Departs, EndsActivation, EndsOver, Exits, Falls, FindsEvent, GivesUp, HasCalled, HasSet, HasSubtask, Holds, InOp, is_async_work, is_begun, is_done_host, is_exit, is_for_main, IsCalled, IsFall, IsFoot, IsLaid, IsNamed, IsNew, IsPolled, IsRunner, IsSettling, IsStarting, IsWithdrawn, Leaves, MayAbort, MayAdvance, MayBar, MayCall, MayCancel, MayCome, MayDeliver, MayEnd, MayFinish, MayGo, MayJoin, MayLand, MayLeave, MayMake, MayMakeCall, MayMove, MayNameCall, MayOwe, MayPut, MayRemoveCall, MayRemoveWork, MayRestart, MayShift, MayStart, MayTakeEvent, MayTell, MayWithdraw, MayYield, NoneHeldIn, ProgramAborts, Releases, Resumes, ReturnsNow, Runs, SaysEnd, ScriptAborts, Starts, Stays, subtask_under_way, Suspends, TakesCalled, TakesCancelled, TakesNamed, Tells, Unblocks, Uncovers, Waits, WaitsAgain, wake_why, Wakes, WasReady, WasUnder, watches, Yields}
 pub use Rattle.task_rules.specs.Calls.{AtOnce, call_begins, call_clears_flag, call_host_polled, call_row, call_status, call_sync_begins, call_sync_host_polled, call_sync_host_row, call_sync_row, call_sync_status, Failing, first_poll, FirstPoll, Later, new_call, new_thread, new_work, next_thread, next_work, put_back, settle_group_of, status_found, sync_sets_flag, work_group, work_value}
 unfoldable pub use Rattle.task_rules.specs.Calls.{answered, call_answered, call_made, call_pending, call_queues, call_resumes, call_returned, call_stops, call_sync_host_stops, call_sync_stops, enter_runs, host_answered, host_pending, host_ready, with_handle, with_thread_handle, work_answered, work_deleted, work_queued}
 pub use Rattle.task_rules.specs.Cancels.{aborted_phase, AlreadyEnded, Async, behind_switch, blocked_code, CallbackWaits, CallbackYields, cancel_by_end, cancel_case, cancel_ended_row, cancel_guest, cancel_label, cancel_row, cancel_subtask, CancelCase, Mode, OtherwiseRuns, pauses, StartNotRun, subtask_instance, subtask_row, Sync}
 unfoldable pub use Rattle.task_rules.specs.Cancels.{cancel_aborts_host, cancel_asks, cancel_goes_behind, cancel_promotes_yield, cancel_resumed, cancel_stops, cancel_takes_end, cancel_wakes_callback, cancel_withdraws, dropped}
-pub use Rattle.task_rules.specs.Chains.{Answers, Chain, Collapses, EndsByExit, EndsCall, EndsOwn, EndsSubtask, EndWords, GoesBack, HandsAtOnce, HandsOut, is_over, is_running, is_take, IsReadyAtOnce, IsShift, Lands, LandsAt, LastWords, NoWord, Quits, Remains, SameMain, Settles, Shifts, SpawnsNamed, start_of, Stay, StepsAreWalks, TakesEvent, TakesResult, Then, Trip, Walk, Walked, Writes, WritesAtOnce, WritesCall, WritesNever, WritesPolled, WritesToo}
+pub use Rattle.task_rules.specs.Chains.{Answers, Chain, Collapses, EndsByExit, EndsCall, EndsOwn, EndsSubtask, EndWords, GoesBack, HandsAtOnce, HandsOut, is_over, is_running, is_take, IsReadyAtOnce, IsShift, Lands, lands_inside, LandsAt, LastWords, NoWord, Quits, Remains, SameMain, Settles, Shifts, SpawnsNamed, start_of, Stay, StepsAreWalks, TakesEvent, TakesResult, Then, Trip, Walk, Walked, Writes, WritesAtOnce, WritesCall, WritesNever, WritesPolled, WritesToo}
 pub use Rattle.task_rules.specs.Data.{data_row, skip_row}
 unfoldable pub use Rattle.task_rules.specs.Data.{advanced, assigned, moved_to, skipped, stored}
 pub use Rattle.task_rules.specs.Ends.{blocking_exit_row, blocking_returned, code_kind_row, code_row, code_wait_row, direct_exit_to, exit_row_for, first_waiter, implicit_exit_row, is_told, kind_exit_row, own_or_none, result_given, sync_exit_row, thread_exit_row, waiter_told}
@@ -42,7 +44,7 @@ unfoldable pub use Rattle.task_rules.specs.MainOps.{has_interesting, is_ready_fo
 pub use Rattle.task_rules.specs.Once.{begun_holder, changes_end, covers_end, end_code, EndsOnce, handed, hands_out, hands_out_written, holder_at_exit, holder_at_start, holds_one, is_among, is_end_of, is_known, is_other, is_start, is_written, less_holder, returned_holder, same_end, with_end, with_holder, writes_end, written}
 pub use Rattle.task_rules.specs.OpParts.{callee_of_op, can_come, ends_activation, is_cancel, is_code_op, is_sync_call, is_sync_cancel, is_sync_host_call, is_thread_op, is_wait, suspends, yields}
 pub use Rattle.task_rules.specs.Outcome.{main_outcome, outcome_of_label}
-pub use Rattle.task_rules.specs.Places.{entries, HasPlace, is_at_high, is_at_low, is_at_switch, is_behind_of, is_for_start, is_fresh, is_there, one_if, Placed, says, switch_entries, times}
+pub use Rattle.task_rules.specs.Places.{entries, HasPlace, is_at_high, is_at_low, is_at_switch, is_behind_of, is_for_start, is_fresh, is_inside, is_there, one_if, Placed, says, switch_entries, times}
 pub use Rattle.task_rules.specs.Progress.{Fails, Goes, may, Never, or_never, or_trap, Ordered, Progress, Stops, trap_if, Traps}
 pub use Rattle.task_rules.specs.Run.{main_opening, opening, Run}
 pub use Rattle.task_rules.specs.Scenes.{base_at, base_without, component_of, op_in, runner_at, Scene, scene_of, thread_of_entry}
