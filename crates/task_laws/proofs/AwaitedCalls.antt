@@ -2,8 +2,8 @@
 use Rattle.task_rules.proofs.Machine.{after_word, Allowed, ap, arith, Bool, Call, CallEnd, Core, end_of, false, get, goal_of, has_ended, HasCalled, how_far_of, HowFar, inl, inr, is_deletable, is_direct, is_none, IsNamed, IsRunner, IsStarting, MayCome, MayTakeEvent, MayTell, next_thread, None, Option, option_map_or, Place, place_of, refl, Scene, Some, Status, subst, Subtask, sym, TakesCalled, TakesCancelled, TakesNamed, Thread, true, Turn, Word, ℕ, ⊎_elim, ◌&&◌, ◌||◌, ◌∙◌, ◌≡◌, ◌≤◌, ◌⊎◌}
 use Rattle.task_laws.proofs.CallsCame.{call_came, CallAfter, op_came}
 use Rattle.task_laws.proofs.CallEnds.{Telling, telling_of, telling_came, TellingCame, Same, Gone, Made, TellsNow, EndsNow, is_for_guest, ending}
-use Rattle.task_laws.proofs.NamedCalls.{called_call, calls_call, NamesGo, WasInside, unnamed_inside}
-use Rattle.task_laws.specs.Order.{CallsAwaited, cancelled_call, is_awaited, is_returned, NamesKnown, Numbered, StartsFirst, OnlyCalled}
+use Rattle.task_laws.proofs.NamedCalls.{NamesHold, called_call, calls_call, NamesGo, WasInside, unnamed_inside}
+use Rattle.task_laws.specs.Order.{CallsAwaited, cancelled_call, is_awaited, is_returned, Numbered, StartsFirst, OnlyCalled}
 
 -- ---- Which calls are direct
 
@@ -53,7 +53,7 @@ cancel_named a m k s (HowFar.Cancels (Subtask.Guest j)) may is = grind arith
 cancel_named a m k s (HowFar.AwaitsEnd (Subtask.Guest j)) may is = grind arith
 cancel_named a m k s g may is = absurd (grind arith)
 
-module _ (a : Scene) (base : NamesKnown a.base) (calls : CallsAwaited a.base) (starts : StartsFirst a.base) (numbered : Numbered a.base) (least : (m k : ℕ) → cancelled_call (how_far_of m a.base) ≡ Some k → k ≤ a.base.made.threads) where
+module _ (a : Scene) (base : NamesHold a.base) (calls : CallsAwaited a.base) (starts : StartsFirst a.base) (numbered : Numbered a.base) (least : (m k : ℕ) → cancelled_call (how_far_of m a.base) ≡ Some k → k ≤ a.base.made.threads) where
   -- the call of a thread that was taken to start hasn't ended
   starting_unended : (k : ℕ) (s : Core) → IsStarting a k s → end_of k s ≡ None
   starting_unended k s (m, (runner, (ready, (first, (own, same))))) = same ∙ by (get a.base.threads m) refl
@@ -87,9 +87,9 @@ module _ (a : Scene) (base : NamesKnown a.base) (calls : CallsAwaited a.base) (s
         go : TellingCame a s k (telling_of k s) (telling_of k (after_word w s)) → awaits (telling_of k s) ≡ true → awaits (telling_of k (after_word w s)) ≡ true
         go (Same is) h = ap awaits is ∙ h
         go (Gone is may) h = absurd (⊎_elim (λ ended. kept_ended k s aw may.0 ended) (λ m. own m.0 m.1.1.0 m.1.1.1) may.1)
-        go (Made f g is fits at) h = absurd (let low = q.known.number k in grind arith)
+        go (Made f g is fits at) h = absurd (let low = q.hold.number k in grind arith)
         go (TellsNow u e is may at) h = ap awaits at ∙ tells u e (ap awaits (sym is) ∙ h) is may
-        go (EndsNow u x is may at) h = ap awaits at ∙ ends_returned n k (after_word w s) u x (after.known.called n k far).1 at (ap awaits (sym is) ∙ h)
+        go (EndsNow u x is may at) h = ap awaits at ∙ ends_returned n k (after_word w s) u x (after.hold.known.called n k far) at (ap awaits (sym is) ∙ h)
 
   -- the op that is inside of the call and is done is that of n
   module _ (w : Word) (s : Core) (ok : Allowed a w s) (q : NamesGo a s) (after : NamesGo a (after_word w s)) (direct : DirectsRun a s) (p : CallsInside a s) where
@@ -111,7 +111,7 @@ module _ (a : Scene) (base : NamesKnown a.base) (calls : CallsAwaited a.base) (s
             new : k ≡ next_thread a.base → IsRunner a n → HasCalled n k s → (b : Bool) → is_direct (goal_of k s) ≡ b → Inside a n k (after_word w s)
             new is runner called true d = let c = numbered.calls k in inr (inr (is, (runner, ⊎_elim (λ was. absurd (grind arith)) (λ next. next) (direct k d))))
             new is runner called false d = let e = called.1.0 in let c = called.0.0 in
-                stays (λ m at done. let low = (base.called m k at).0 in absurd (grind arith)) (inr (inl (grind arith)))
+                stays (λ m at done. let low = base.least m k at in absurd (grind arith)) (inr (inl (grind arith)))
 
             come : MayCome a n (HowFar.Calls (Subtask.Guest k)) s → Inside a n k (after_word w s)
             come (is, inl (was, far)) = old far
@@ -127,11 +127,11 @@ module _ (a : Scene) (base : NamesKnown a.base) (calls : CallsAwaited a.base) (s
           where
             one : (o : Option Call) → get a.base.calls k ≡ o → m ≡ n
             one None is = absurd (grind arith)
-            one (Some c) is = let x = ((base.called n k at).1 c is).0 in let y = ((base.called m k also).1 c is).0 in grind arith
+            one (Some c) is = let x = (base.known.called n k at c is).0 in let y = (base.known.called m k also c is).0 in grind arith
 
         by : WasInside a n k → Inside a n k (after_word w s)
         by (inl was) = ⊎_elim (λ under. inl under) (λ aw. goes (inl was) (λ m at. whose m was at aw)) (calls.inside n k was)
-        by (inr new) = goes (inr new) (λ m at. let low = (base.called m k at).0 in absurd (grind arith))
+        by (inr new) = goes (inr new) (λ m at. let low = base.least m k at in absurd (grind arith))
 
     pub inside_word : CallsInside a (after_word w s)
     inside_word = record {

@@ -1,5 +1,5 @@
 -- Calls along the words of a step: a status only rises, an end stays, numbers name what they named, deliveries are for callbacks.
-use Rattle.task_rules.proofs.Machine.{arith, Bool, Call, Callee, CallEnd, Component, component_of, Core, ends_activation, EndsActivation, export_kind, false, get, goal_of, has_ended, is_async_lifted, is_callback, is_direct, is_exit, is_explicit, is_none, is_some, IsRunner, Join, kind_of, LaterBy, MayEnd, MayMove, None, Op, op_of, Option, option_map_or, OwnEvent, Place, place_of, SameThread, Scene, Script, script_in, script_of, slice_get, Some, task_of, TaskOp, true, unwrap_or, WasReady, Why, Word, ℕ, ⊎_elim, ◌≡◌, ◌≤◌, ◌⊎◌}
+use Rattle.task_rules.proofs.Machine.{arith, Bool, Call, Callee, CallEnd, Component, component_of, Core, ends_activation, EndsActivation, export_kind, false, get, goal_of, has_ended, is_async_lifted, is_callback, is_direct, is_exit, is_explicit, is_none, is_some, IsRunner, Join, kind_of, LaterBy, MayEnd, MayMove, None, op_at_place, op_of, Option, option_map_or, OwnEvent, Place, place_of, SameThread, Scene, Script, script_in, script_of, Some, task_of, true, WasReady, Why, Word, ℕ, ⊎_elim, ◌≡◌, ◌≤◌, ◌⊎◌}
 use Rattle.task_laws.proofs.CallsCame.{Grew, Grows}
 use Rattle.task_laws.proofs.CameLemmas.{Came, Comes, Moved, Shifts, Turned, Turns, MayStand}
 use Rattle.task_laws.specs.Order.{CallKinds, DeliveredByCallback, Numbered, is_delivered, is_delivery}
@@ -73,7 +73,7 @@ delivered_in o = option_map_or (λ p. is_delivered p) o false
 
 -- a script that isn't of a callback export has no op that ends an activation
 script_no_code : {c : Component} → CodesInCallbacks c → (f : Callee) → is_callback (export_kind c f) ≡ false → (x : Script) (p : ℕ) →
-    ends_activation (unwrap_or (slice_get (script_in c f x) p) (Op.Task TaskOp.Exit)) ≡ false
+    ends_activation (op_at_place (script_in c f x) p) ≡ false
 script_no_code {c = c} codes f plain x p = grind (arith, codes.starts f, codes.reacts f, codes.slots f.instance)
 
 -- who ends an activation is of a callback export

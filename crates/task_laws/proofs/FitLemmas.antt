@@ -1,5 +1,5 @@
 -- What script each thread runs, and where in it, along the words of a step.
-use Rattle.task_rules.proofs.Machine.{[], after_word, Allowed, ap, arith, AtOp, Bool, call_instance, Callee, callee_of, can_come, Component, component_of, Core, ends_activation, EndsActivation, false, get, HowFar, inl, InOp, inr, is_explicit, is_some, is_sync_call, length, MayMove, new_thread, next_thread, None, Op, op_in, op_of, op_of_thread, Option, option_map, option_map_or, Place, place_of, refl, registers_for, Scene, Script, script_in, script_of, script_of_thread, slice_get, Some, sym, task_of, TaskOp, Thread, true, Turn, unwrap_or, WasReady, WasUnder, Why, Word, ℕ, ⊎_elim, ◌∙◌, ◌∷◌, ◌≡◌, ◌≤◌, ◌⊎◌}
+use Rattle.task_rules.proofs.Machine.{[], after_word, Allowed, ap, arith, AtOp, Bool, call_instance, Callee, callee_of, can_come, Component, component_of, Core, ends_activation, EndsActivation, false, get, HowFar, inl, InOp, inr, is_explicit, is_some, is_sync_call, length, MayMove, new_thread, next_thread, None, Op, op_at_place, op_in, op_of, op_of_thread, Option, option_map, option_map_or, Place, place_of, refl, registers_for, Scene, Script, script_in, script_of, script_of_thread, Some, sym, task_of, Thread, true, Turn, WasReady, WasUnder, Why, Word, ℕ, ⊎_elim, ◌∙◌, ◌∷◌, ◌≡◌, ◌≤◌, ◌⊎◌}
 use Rattle.task_rules.proofs.WalkTask.{one_runner}
 use Rattle.task_laws.proofs.CallsCame.{IsBeside, IsFirst, IsGone, IsSame, RunsOn, ThreadAfter, thread_came, Ends}
 use Rattle.task_laws.proofs.Basics.{no_way, some_none}
@@ -35,7 +35,7 @@ module _ (a : Scene) (s : Core) (n : ℕ) where
 
 module _ (c : Component) (codes : CodesInCallbacks c) where
   slot_no_code : (f : Callee) (x : Script) (p : ℕ) → names_script c f.instance true x ≡ true →
-      ends_activation (unwrap_or (slice_get (script_in c f x) p) (Op.Task TaskOp.Exit)) ≡ false
+      ends_activation (op_at_place (script_in c f x) p) ≡ false
   slot_no_code f x p h = grind (arith, codes.slots f.instance)
 
   -- whose op ends an activation is a first thread
@@ -43,8 +43,8 @@ module _ (c : Component) (codes : CodesInCallbacks c) where
   unfolding op_of script_of
   ends_first n s fits ends = by (get s.threads n) refl ends
     where
-      by : (o : Option Thread) → get s.threads n ≡ o → ends_activation (unwrap_or (slice_get (option_map_or (script_of_thread c s) o [])
-          (option_map_or (λ (t : Thread). t.position) o 0)) (Op.Task TaskOp.Exit)) ≡ true →
+      by : (o : Option Thread) → get s.threads n ≡ o → ends_activation (op_at_place (option_map_or (script_of_thread c s) o [])
+          (option_map_or (λ (t : Thread). t.position) o 0)) ≡ true →
           option_map_or (λ (t : Thread). t.explicit) o false ≡ false
       by None at ends = refl
       by (Some t) at ends = let f = (fits n t at).script in let no = slot_no_code (callee_of t.call s) t.script t.position in grind arith
@@ -206,6 +206,20 @@ module _ (a : Scene) (codes : CodesInCallbacks (component_of a)) (h : CallsHold 
     made_new : {A : Type 0} → n ≡ next_thread s → (b : Thread) → get a.base.threads n ≡ Some b → A
     made_new new b is = let c = go.counted in let d = (h.numbered.threads n b is).number in absurd (omega (arith, new, c, d))
 
+    new_fits : (t : Thread) → n ≡ next_thread s → names_script c (call_instance t.call a.base) t.explicit t.script ≡ true →
+        (t.explicit ≡ true → is_some (get a.base.calls t.call) ≡ true) → t.place ≡ Place.New → t.how_far ≡ HowFar.Fresh → t.position ≡ 0 →
+        FitsSo a n t
+    new_fits t new script call place far zero = record {
+      script = script;
+      call = call;
+      first = λ d. absurd (grind arith);
+      position = inl zero;
+      same = λ to b at. made_new new b at;
+      op = inl far;
+      under = λ d. absurd (grind arith);
+      still = λ d b at. made_new new b at;
+    }
+
     fits_after : (t : Thread) → get (after_word w s).threads n ≡ Some t → ThreadAfter a w s n → FitsSo a n t
     fits_after t at (IsSame r u e f call x h m z) = let same : t ≡ u = cc in let came = came_word w s ok n in rw same (record {
       script = script_after w s ok go q n r e u call x z;
@@ -221,26 +235,9 @@ module _ (a : Scene) (codes : CodesInCallbacks (component_of a)) (h : CallsHold 
     fits_after t at (IsGone e) = some_none (sym at ∙ e)
     fits_after t at (IsBeside u is l same (m, (runner, (made, (y, (v, (fresh, (calls, slot))))))) e) =
         let new : t ≡ new_thread (task_of m a.base) true (Script.Slot y) (registers_for (v ∷ [])) None = cc in let g = known m runner in
-        rw new (record {
-          script = slot.0;
-          call = λ d. g;
-          first = λ d. no_way d;
-          position = inl refl;
-          same = λ to b at. made_new is b at;
-          op = inl refl;
-          under = λ d. no_way d;
-          still = λ d b at. made_new is b at;
-        })
-    fits_after t at (IsFirst u is l there x y far new e z) = let same : t ≡ u = cc in rw same (record {
-      script = grind arith;
-      call = λ d. grind arith;
-      first = λ d. x;
-      position = inl z.1;
-      same = λ to b at. made_new is b at;
-      op = inl far;
-      under = λ d. absurd (grind arith);
-      still = λ d b at. made_new is b at;
-    })
+        rw new (new_fits _ is slot.0 (λ d. g) refl refl refl)
+    fits_after t at (IsFirst u is l there x y far new e z) = let same : t ≡ u = cc in
+        rw same (new_fits u is (grind arith) (λ d. grind arith) new far z.1)
 
   pub fits_word : (w : Word) (s : Core) → Allowed a w s → CallsGo a s → AllFit a s → AllFit a (after_word w s)
   fits_word w s ok go q n t at = fits_after w s ok go q n t at (thread_came w s ok n)

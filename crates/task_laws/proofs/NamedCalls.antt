@@ -18,6 +18,12 @@ called_call f = None
 pub calls_call : (f : HowFar) (k : ℕ) → called_call f ≡ Some k → f ≡ HowFar.Calls (Subtask.Guest k)
 calls_call f k h = grind arith
 
+-- what is known of names, and that the numbers of calls were given
+pub record NamesHold (s : Core) : Type 0 where
+  pub known : NamesKnown s
+  pub number : (k : ℕ) (c : Call) → get s.calls k ≡ Some c → k ≤ s.made.threads
+  pub least : (n k : ℕ) → how_far_of n s ≡ HowFar.Calls (Subtask.Guest k) → k ≤ s.made.threads
+
 -- ---- What an op is inside of
 
 -- the op was inside of the call before the step, or has just made it
@@ -27,33 +33,33 @@ WasInside a n k = (how_far_of n a.base ≡ HowFar.Calls (Subtask.Guest k)) ⊎ (
 abbrev pub WereInside : Scene → Core → Type 0
 WereInside a s = (n k : ℕ) → how_far_of n s ≡ HowFar.Calls (Subtask.Guest k) → WasInside a n k
 
-module _ (a : Scene) (w : Word) (s : Core) (ok : Allowed a w s) (q : NamesKnown s) (were : WereInside a s) where
+module _ (a : Scene) (w : Word) (s : Core) (ok : Allowed a w s) (q : NamesHold s) (were : WereInside a s) where
   -- right before the word
   pub inside : (n k : ℕ) → how_far_of n (after_word w s) ≡ HowFar.Calls (Subtask.Guest k) → WasInside a n k × ((k ≤ s.made.threads) × OnlyCalled n k s)
   inside n k far = go (op_came called_call k w s ok n refl (ap called_call far))
     where
       come : MayCome a n (HowFar.Calls (Subtask.Guest k)) s → WasInside a n k × ((k ≤ s.made.threads) × OnlyCalled n k s)
-      come (is, inl (was, far)) = (inl was, q.called n k far)
+      come (is, inl (was, far)) = (inl was, (q.least n k far, q.known.called n k far))
       come (is, inr (new, called)) = (inr new.0, (grind (arith, new.1.0), λ c at. (grind (arith, called.0.0), (grind (arith, called.0.1), let e = called.1.0 in let o = called.1.1.0 in let d = called.1.1.1 in grind arith))))
 
       go : (called_call (how_far_of n s) ≡ Some k) ⊎ ((g : HowFar) × (MayCome a n g s × (called_call g ≡ Some k))) → WasInside a n k × ((k ≤ s.made.threads) × OnlyCalled n k s)
-      go (inl was) = let far = calls_call (how_far_of n s) k was in (were n k far, q.called n k far)
+      go (inl was) = let far = calls_call (how_far_of n s) k was in (were n k far, (q.least n k far, q.known.called n k far))
       go (inr (g, (may, is))) = come (subst (λ f. MayCome a n f s) (calls_call g k is) may)
 
 -- no handle named it before the step, and no cancel had come to it
-module _ (a : Scene) (base : NamesKnown a.base) (n k : ℕ) (was : WasInside a n k) where
+module _ (a : Scene) (base : NamesHold a.base) (n k : ℕ) (was : WasInside a n k) where
   base_call : (o : Option Call) → get a.base.calls k ≡ o → is_some o ≡ true → (c : Call) × ((o ≡ Some c) × ((c.handle ≡ None) × (is_uncancelled c ≡ true)))
   base_call None at there = absurd (grind arith)
-  base_call (Some c) at there = ⊎_elim (λ far. let r = (base.called n k far).1 c at in (c, (refl, (r.1.0, r.1.1)))) (λ new. let low = base.number k c at in absurd (omega (arith, low, new))) was
+  base_call (Some c) at there = ⊎_elim (λ far. let r = base.known.called n k far c at in (c, (refl, (r.1.0, r.1.1)))) (λ new. let low = base.number k c at in absurd (omega (arith, low, new))) was
 
   pub unnamed_inside : IsNamed a (Subtask.Guest k) → ⊥
-  unnamed_inside (m, (h, (runner, named))) = let e = base.there (instance_of m a.base) h k named in let c = base_call (get a.base.calls k) refl (grind arith) in let at = c.1.0 in let free = c.1.1.0 in grind arith
+  unnamed_inside (m, (h, (runner, named))) = let e = base.known.there (instance_of m a.base) h k named in let c = base_call (get a.base.calls k) refl (grind arith) in let at = c.1.0 in let free = c.1.1.0 in grind arith
 
   unasked_inside : own_event_of k a.base ≡ Some OwnEvent.Cancelled → ⊥
   unasked_inside e = let c = base_call (get a.base.calls k) refl (grind arith) in let at = c.1.0 in let un = c.1.1.1 in grind arith
 
 -- what is so of a call that an op is inside of stays so by a word that gives it no handle
-module _ (a : Scene) (base : NamesKnown a.base) (n k : ℕ) (was : WasInside a n k) where
+module _ (a : Scene) (base : NamesHold a.base) (n k : ℕ) (was : WasInside a n k) where
   not_owed : (o : Option OwnEvent) (s : Core) → MayOwe a k o s → is_cancelled o ≡ false
   not_owed o s may = let named = unnamed_inside a base n k was in let asked = unasked_inside a base n k was in grind arith
 
@@ -74,12 +80,12 @@ module _ (a : Scene) (base : NamesKnown a.base) (n k : ℕ) (was : WasInside a n
 -- ---- Each word
 
 -- the call that gets a handle is there, the thread's, and has none
-named_called : (a : Scene) (i k : ℕ) (s : Core) → NamesKnown a.base → InsideThere a → (m : MayNameCall a i k s) → IsCalled m.0 k s
+named_called : (a : Scene) (i k : ℕ) (s : Core) → NamesHold a.base → InsideThere a → (m : MayNameCall a i k s) → IsCalled m.0 k s
 named_called a i k s base there (n, (runs, (at, (far, (done, (whose, handle)))))) = go (get a.base.calls k) refl (there n k runs far)
   where
     go : (o : Option Call) → get a.base.calls k ≡ o → is_some o ≡ true → IsCalled n k s
     go None is h = absurd (grind arith)
-    go (Some c) is h = let r = (base.called n k far).1 c is in (whose ∙ (ap (λ (o : Option Call). option_map_or (λ d. d.caller) o Caller.Main) is ∙ r.0), handle ∙ (ap (λ (o : Option Call). option_and_then (λ d. d.handle) o) is ∙ r.1.0))
+    go (Some c) is h = let r = base.known.called n k far c is in (whose ∙ (ap (λ (o : Option Call). option_map_or (λ d. d.caller) o Caller.Main) is ∙ r.0), handle ∙ (ap (λ (o : Option Call). option_and_then (λ d. d.handle) o) is ∙ r.1.0))
 
 next_given : (i : ℕ) (s : Core) → new_handle i s ≡ handle_of_table s.handles i
 unfolding new_handle
@@ -89,33 +95,39 @@ deletable_unnamed : (k : ℕ) (s : Core) → is_deletable k s ≡ true → subta
 unfolding is_deletable
 deletable_unnamed k s h = grind arith
 
-module _ (a : Scene) (base : NamesKnown a.base) (there : InsideThere a) where
-  numbers_word : (w : Word) (s : Core) → Allowed a w s → NamesKnown s → (k : ℕ) (c : Call) → get (after_word w s).calls k ≡ Some c → k ≤ (after_word w s).made.threads
+module _ (a : Scene) (base : NamesHold a.base) (there : InsideThere a) where
+  numbers_word : (w : Word) (s : Core) → Allowed a w s → NamesHold s → (k : ℕ) (c : Call) → get (after_word w s).calls k ≡ Some c → k ≤ (after_word w s).made.threads
   numbers_word w s ok q k c at = let i : CallAfter a w s k = call_came w s ok k in let m = made_threads_word a w s in grind (arith, q.number k)
 
   -- what an op is inside of, after a word that gives no call a handle
-  called_stays : (w : Word) (s : Core) (ok : Allowed a w s) → NamesKnown s → WereInside a s → ((i j : ℕ) → w ≡ NameCall i j → ⊥) → (n k : ℕ) → how_far_of n (after_word w s) ≡ HowFar.Calls (Subtask.Guest k) → (k ≤ (after_word w s).made.threads) × OnlyCalled n k (after_word w s)
+  called_stays : (w : Word) (s : Core) (ok : Allowed a w s) → NamesHold s → WereInside a s → ((i j : ℕ) → w ≡ NameCall i j → ⊥) → (n k : ℕ) → how_far_of n (after_word w s) ≡ HowFar.Calls (Subtask.Guest k) → (k ≤ (after_word w s).made.threads) × OnlyCalled n k (after_word w s)
   called_stays w s ok q were not n k far =
       let r = inside a w s ok q were n k far in
       (le_trans r.1.0 (made_threads_word a w s), only_stays a base n k r.0 w s r.1.0 (λ i. not i k) r.1.1 (call_came w s ok k))
 
   -- what is known after a word that gives no call a handle: handles name no more than before
-  known_after : (w : Word) (s : Core) → Allowed a w s → NamesKnown s → WereInside a s → ((i j : ℕ) → w ≡ NameCall i j → ⊥) →
-      ((i h k : ℕ) → subtask_at i h (after_word w s) ≡ Some (Subtask.Guest k) → (subtask_at i h s ≡ Some (Subtask.Guest k)) × (subtask_handle (Subtask.Guest k) (after_word w s) ≡ Some h)) → NamesKnown (after_word w s)
+  known_after : (w : Word) (s : Core) → Allowed a w s → NamesHold s → WereInside a s → ((i j : ℕ) → w ≡ NameCall i j → ⊥) →
+      ((i h k : ℕ) → subtask_at i h (after_word w s) ≡ Some (Subtask.Guest k) → (subtask_at i h s ≡ Some (Subtask.Guest k)) × (subtask_handle (Subtask.Guest k) (after_word w s) ≡ Some h)) → NamesHold (after_word w s)
   known_after w s ok q were not old = record {
-    there = λ i h k e. (old i h k e).1;
-    once = λ i j h g k e f. q.once i j h g k (old i h k e).0 (old j g k f).0;
+    known = record {
+      there = λ i h k e. (old i h k e).1;
+      once = λ i j h g k e f. q.known.once i j h g k (old i h k e).0 (old j g k f).0;
+      called = λ n k far. (called_stays w s ok q were not n k far).1;
+    };
     number = numbers_word w s ok q;
-    called = called_stays w s ok q were not;
+    least = λ n k far. (called_stays w s ok q were not n k far).0;
   }
 
-  names_known_word : (w : Word) (s : Core) → Allowed a w s → NamesKnown s → WereInside a s → NamesKnown (after_word w s)
+  names_known_word : (w : Word) (s : Core) → Allowed a w s → NamesHold s → WereInside a s → NamesHold (after_word w s)
   unfolding add_call add_group add_set add_thread add_work call_made count_work free_handle free_thread_handle give_handle give_result give_thread_handle on_call on_instance on_thread on_work poll_pends push_high remove_call remove_group remove_set remove_thread remove_work set_backpressure set_cancel_delivered set_cancelled set_course set_do_not_enter set_do_not_suspend set_end set_event set_exited set_how_far set_join set_own_event set_phase set_position set_register set_result set_saved_callee set_saved_own set_script set_stage set_started set_starting_published set_subtask_handle set_thread_handle set_trapped set_uninteresting set_word take_result with_handle with_thread_handle work_queued
   names_known_word (NameCall i j) s ok q were = record {
-    there = λ l g k e. ⊎_elim (λ f. old l g k f) (λ f. grind (arith, nat_tests, get-change, is.0, is.1, f.0, f.1.1, next_given i s)) (new l g k e);
-    once = λ l m g f k e h. grind (arith, q.once l m g f k, q.there l g k, q.there m f k, is.1, new l g k e, new m f k h);
+    known = record {
+      there = λ l g k e. ⊎_elim (λ f. old l g k f) (λ f. grind (arith, nat_tests, get-change, is.0, is.1, f.0, f.1.1, next_given i s)) (new l g k e);
+      once = λ l m g f k e h. grind (arith, q.known.once l m g f k, q.known.there l g k, q.known.there m f k, is.1, new l g k e, new m f k h);
+      called = named;
+    };
     number = numbers_word (NameCall i j) s ok q;
-    called = λ n k far. named n k far;
+    least = q.least;
   }
     where
       is : IsCalled ok.0 j s
@@ -126,40 +138,40 @@ module _ (a : Scene) (base : NamesKnown a.base) (there : InsideThere a) where
       new l g k e = given_names as_subtask s.handles i (Named.Subtask (Subtask.Guest j)) l g (Subtask.Guest k) e
 
       old : (l g k : ℕ) → subtask_at l g s ≡ Some (Subtask.Guest k) → subtask_handle (Subtask.Guest k) (after_word (NameCall i j) s) ≡ Some g
-      old l g k e = let h = q.there l g k e in grind (arith, nat_tests, get-change, is.1)
+      old l g k e = let h = q.known.there l g k e in grind (arith, nat_tests, get-change, is.1)
 
       mine : (n : ℕ) → how_far_of n s ≡ HowFar.Calls (Subtask.Guest j) → ⊥
       mine n far = by_call (get s.calls j) refl
         where
           by_call : (o : Option Call) → get s.calls j ≡ o → ⊥
           by_call None at = grind (arith, is.0)
-          by_call (Some c) at = let r = (q.called n j far).1 c at in grind (arith, is.0, ok.1.1.1.1.0)
+          by_call (Some c) at = let r = q.known.called n j far c at in grind (arith, is.0, ok.1.1.1.1.0)
 
-      named : (n k : ℕ) → how_far_of n s ≡ HowFar.Calls (Subtask.Guest k) → (k ≤ s.made.threads) × OnlyCalled n k (after_word (NameCall i j) s)
-      named n k far = let r = q.called n k far in (r.0, only_stays a base n k (were n k far) (NameCall i j) s r.0 (λ m e. mine n (grind (arith, far))) r.1 (call_came (NameCall i j) s ok k))
+      named : (n k : ℕ) → how_far_of n s ≡ HowFar.Calls (Subtask.Guest k) → OnlyCalled n k (after_word (NameCall i j) s)
+      named n k far = only_stays a base n k (were n k far) (NameCall i j) s (q.least n k far) (λ m e. mine n (grind (arith, far))) (q.known.called n k far) (call_came (NameCall i j) s ok k)
   names_known_word (UnnameCall i h j) s ok q were = known_after (UnnameCall i h j) s ok q were (λ m n e. grind arith)
-      (λ l g k e. let o = other l g k e in (o.0, grind (arith, nat_tests, get-change, q.there l g k o.0, q.there i h k, q.once l i g h k o.0)))
+      (λ l g k e. let o = other l g k e in (o.0, grind (arith, nat_tests, get-change, q.known.there l g k o.0, q.known.there i h k, q.known.once l i g h k o.0)))
     where
       other : (l g k : ℕ) → subtask_in (change i (taking h) s.handles) l g ≡ Some (Subtask.Guest k) → (subtask_at l g s ≡ Some (Subtask.Guest k)) × (l ≡ i → g ≡ h → ⊥)
       other l g k e = grind (arith, nat_tests, get-change, get-remove)
-  names_known_word (MakeCall f e x g group words) s ok q were = known_after (MakeCall f e x g group words) s ok q were (λ m n e. grind arith) (λ l h k d. (d, made h k (get s.calls k) refl (q.there l h k d)))
+  names_known_word (MakeCall f e x g group words) s ok q were = known_after (MakeCall f e x g group words) s ok q were (λ m n e. grind arith) (λ l h k d. (d, made h k (get s.calls k) refl (q.known.there l h k d)))
     where
       made : (h k : ℕ) (o : Option Call) → get s.calls k ≡ o → option_and_then (λ c. c.handle) o ≡ Some h → subtask_handle (Subtask.Guest k) (after_word (MakeCall f e x g group words) s) ≡ Some h
       made h k None is t = absurd (grind arith)
       made h k (Some c) is t = let below = q.number k c is in grind (arith, nat_tests, get-insert)
   names_known_word (RemoveCall j) s ok q were = known_after (RemoveCall j) s ok q were (λ m n e. grind arith)
-      (λ l h k d. let r = q.there l h k d in let f = deletable_unnamed j s ok.0 in (d, grind (arith, nat_tests, get-remove)))
-  names_known_word w s ok q were = known_after w s ok q were (λ m n e. grind arith) (λ l g k e. grind (arith, nat_tests, get-change, get-insert, get-remove, q.there l g k))
+      (λ l h k d. let r = q.known.there l h k d in let f = deletable_unnamed j s ok.0 in (d, grind (arith, nat_tests, get-remove)))
+  names_known_word w s ok q were = known_after w s ok q were (λ m n e. grind arith) (λ l g k e. grind (arith, nat_tests, get-change, get-insert, get-remove, q.known.there l g k))
 
 -- Which calls handles and ops name, on the way of a step.
 pub record NamesGo (a : Scene) (s : Core) : Type 0 where
-  pub known : NamesKnown s
+  pub hold : NamesHold s
   pub were : WereInside a s
 
-pub names_go_word : (a : Scene) → NamesKnown a.base → InsideThere a → (w : Word) (s : Core) → Allowed a w s → NamesGo a s → NamesGo a (after_word w s)
+pub names_go_word : (a : Scene) → NamesHold a.base → InsideThere a → (w : Word) (s : Core) → Allowed a w s → NamesGo a s → NamesGo a (after_word w s)
 names_go_word a base there w s ok q = record {
-  known = names_known_word a base there w s ok q.known q.were;
-  were = λ n k far. (inside a w s ok q.known q.were n k far).0;
+  hold = names_known_word a base there w s ok q.hold q.were;
+  were = λ n k far. (inside a w s ok q.hold q.were n k far).0;
 }
 
 pub opening_names_known : (instances handle_limit capacity : ℕ) → NamesKnown (fresh instances handle_limit capacity)
@@ -167,6 +179,5 @@ unfolding fresh
 opening_names_known instances handle_limit capacity = record {
   there = λ i h k e. let n = none_named instances i h in absurd (cc);
   once = λ i j h g k e f. let n = none_named instances i h in absurd (cc);
-  number = λ k c at. let n = get-empty {X = Call} k in absurd (cc);
   called = λ n k far. let o = get-empty {X = Thread} n in absurd (grind arith);
 }

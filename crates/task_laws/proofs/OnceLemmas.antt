@@ -1,34 +1,19 @@
 -- From facts of each step to all that is once in a run.
-use Rattle.task_rules.proofs.Machine.{[], arith, Bool, changes_end, Component, Core, count_by, covers_end, end_code, end_for, EndsOnce, event_of, false, get, handed, hands_out, hands_out_written, history, if◌then◌else◌, inl, inr, is_end_of, is_known, is_other, is_some, is_written, Label, List, Moment, nat_tests, None, not, Option, option_map_or, refl, Run, same_end, same_subtask, Setting, Some, State, Status, Step, Subtask, SubtaskEnd, sym, true, undelivered_end, with_end, writes_end, written, ℕ, ⊎_elim, ◌&&◌, ◌+◌, ◌==◌, ◌||◌, ◌∙◌, ◌∷◌, ◌≡◌, ◌≤◌, ◌⊎◌}
-use Rattle.std.proofs.lemmas.List.Recursion.{is_count_by}
+use Rattle.task_rules.proofs.Machine.{[], arith, Bool, changes_end, Component, cond, Core, count_by, covers_end, end_code, end_for, EndsOnce, event_of, false, get, handed, hands_out, hands_out_written, history, inl, inr, is_end_of, is_known, is_other, is_some, is_written, Label, List, Moment, nat_tests, None, not, Option, option_map_or, refl, Run, same_subtask, Setting, Some, State, Status, Step, Subtask, SubtaskEnd, sym, true, undelivered_end, with_end, writes_end, written, ℕ, ⊎_elim, ◌&&◌, ◌+◌, ◌==◌, ◌||◌, ◌∙◌, ◌∷◌, ◌≡◌, ◌≤◌, ◌⊎◌}
+use Rattle.std.proofs.lemmas.List.Sums.{sum_by-cons}
 use Rattle.task_laws.proofs.Basics.{no_way}
 use Rattle.task_laws.proofs.WorksCame.{doing_of}
 use Rattle.task_laws.proofs.Works.{due_in}
-
--- ---- Counting
-
-abbrev pub counted : (Moment → Bool) → List Moment → ℕ
-counted p [] = 0
-counted p (m ∷ ms) = if p m then 1 + counted p ms else counted p ms
-
-counted_is : (p : Moment → Bool) (ms : List Moment) → counted p ms ≡ count_by p ms
-counted_is p ms = is_count_by (counted p) p refl (λ m ms. refl) ms
 
 -- ---- The same end
 
 same_is : (a b : Subtask) → same_subtask a b ≡ true → a ≡ b
 same_is a b h = grind (arith, nat_tests)
 
-same_self : (a : Subtask) → same_subtask a a ≡ true
-same_self a = grind (arith, nat_tests)
-
-end_self : (e : SubtaskEnd) → same_end e e ≡ true
-end_self e = let s = same_self e.subtask in grind (arith, nat_tests)
-
 known_now : (o : Option SubtaskEnd) (ends : List SubtaskEnd) (e : SubtaskEnd) → (is_known ends (Some e) ≡ true) ⊎ (o ≡ Some e) →
     is_known (with_end o ends) (Some e) ≡ true
 known_now o ends e (inl known) = grind arith
-known_now o ends e (inr is) = rw is (let s = end_self e in grind arith)
+known_now o ends e (inr is) = rw is (grind (arith, nat_tests))
 
 -- the end of which a test speaks
 pub end_there : (sub : Subtask) (o : Option SubtaskEnd) → is_end_of sub o ≡ true → (e : Status) × (o ≡ Some (end_for e sub))
@@ -126,9 +111,9 @@ module _ {c : Component} {m : Moment} {sub : Subtask} (q : EndStep c m sub) wher
 
 -- one step more, for which b says whether it passes
 one_more : {Q R : Type 0} (b : Bool) (n : ℕ) → (b ≡ true → (Q → ⊥) × R) → (Q → R) → (n ≤ 1) × (R → n ≡ 0) →
-    ((if b then 1 + n else n) ≤ 1) × (Q → (if b then 1 + n else n) ≡ 0)
+    (cond b 1 0 + n ≤ 1) × (Q → cond b 1 0 + n ≡ 0)
 one_more true n now stays rest = let r = now refl in (omega (arith, rest.1 r.1), λ is. absurd (r.0 is))
-one_more false n now stays rest = (rest.0, λ is. rest.1 (stays is))
+one_more false n now stays rest = (omega (arith, rest.0), λ is. omega (arith, rest.1 (stays is)))
 
 -- where each step for which p passes makes Q true, Q stays, and p passes for no step where Q holds, p passes at most once
 module _ (x : Setting) (Inv : State → Type 0) (inv_stays : (s : State) (l : Label) (t : State) → Inv s → Step x s l t → Inv t)
@@ -136,14 +121,15 @@ module _ (x : Setting) (Inv : State → Type 0) (inv_stays : (s : State) (l : La
     (facts : (s : State) (l : Label) (t : State) → Inv s → Step x s l t →
     (p (record { before = s; label = l; after = t }) ≡ true → (Q s.core → ⊥) × Q t.core) × (Q s.core → Q t.core)) where
   passes : (s : State) → Inv s → (ls : List Label) (t : State) → (run : Run x s ls t) →
-      (counted p (history x s ls t run) ≤ 1) × (Q s.core → counted p (history x s ls t run) ≡ 0)
+      (count_by p (history x s ls t run) ≤ 1) × (Q s.core → count_by p (history x s ls t run) ≡ 0)
   passes s inv [] t run = (omega arith, λ is. refl)
   passes s inv (l ∷ ls) t run =
-      let f = facts s l run.0 inv run.1.0 in
-      one_more (p (record { before = s; label = l; after = run.0 })) _ f.0 f.1 (passes run.0 (inv_stays s l run.0 inv run.1.0) ls t run.1.1)
+      let m : Moment = record { before = s; label = l; after = run.0 } in let f = facts s l run.0 inv run.1.0 in
+      rw (sum_by-cons (λ m. cond (p m) 1 0) m (history x run.0 ls t run.1.1))
+      (one_more (p m) _ f.0 f.1 (passes run.0 (inv_stays s l run.0 inv run.1.0) ls t run.1.1))
 
   pub counts_once : (s : State) → Inv s → (ls : List Label) (t : State) → (run : Run x s ls t) → count_by p (history x s ls t run) ≤ 1
-  counts_once s inv ls t run = rw counted_is at (passes s inv ls t run).0
+  counts_once s inv ls t run = (passes s inv ls t run).0
 
 module _ (x : Setting) (Inv : State → Type 0)
     (inv_stays : (s : State) (l : Label) (t : State) → Inv s → Step x s l t → Inv t)

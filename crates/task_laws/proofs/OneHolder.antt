@@ -1,5 +1,5 @@
 -- At most one holding entry of an instance runs at a time: each word, each step, and each run.
-use Rattle.task_rules.proofs.Machine.{[], add_call, add_group, add_set, add_thread, add_work, AddGroup, after_word, Allowed, arith, begun_holder, Bool, Call, call_instance, call_made, Callee, callee_of, callee_of_op, Caller, Component, component_of, Core, count_work, false, filled, filter, free_handle, free_thread_handle, fresh, get, get-change, get-empty, get-insert, give_handle, give_result, give_thread_handle, history, holds_one, is_among, is_some, Label, LastWords, less_holder, List, list_any, Main, may_not_enter, MayCall, nat_tests, None, not, on_call, on_instance, on_thread, on_work, Op, op_of, Option, option_map_or, poll_pends, push_high, Queues, refl, remove_call, remove_group, remove_set, remove_thread, remove_work, returned_holder, Run, SameMain, Scene, Script, script_in, script_of, script_of_thread, Scripted, set_backpressure, set_cancel_delivered, set_cancelled, set_course, set_do_not_enter, set_do_not_suspend, set_end, set_event, set_exited, set_how_far, set_join, set_own_event, set_phase, set_position, set_register, set_result, set_saved_callee, set_saved_own, set_script, set_stage, set_started, set_starting_published, set_subtask_handle, set_thread_handle, set_trapped, set_uninteresting, set_word, SetDoNotEnter, Setting, slice_get, Some, State, Step, take_result, TaskOp, Thread, true, Unscripted, untouched, unwrap_or, Walk, Walked, with_handle, with_holder, with_thread_handle, Word, work_queued, ℕ, ◌<◌, ◌==◌, ◌∙◌, ◌∷◌, ◌≡◌, ◌⊎◌}
+use Rattle.task_rules.proofs.Machine.{[], add_call, add_group, add_set, add_thread, add_work, AddGroup, after_word, Allowed, arith, begun_holder, Bool, Call, call_instance, call_made, Callee, callee_of, callee_of_op, Caller, Component, component_of, Core, count_work, false, filled, filter, free_handle, free_thread_handle, fresh, get, get-change, get-empty, get-insert, give_handle, give_result, give_thread_handle, history, holds_one, is_among, is_some, Label, LastWords, less_holder, List, list_any, Main, may_not_enter, MayCall, nat_tests, None, not, on_call, on_instance, on_thread, on_work, Op, op_at_place, op_of, Option, option_map_or, poll_pends, push_high, Queues, refl, remove_call, remove_group, remove_set, remove_thread, remove_work, returned_holder, Run, SameMain, Scene, Script, script_in, script_of, script_of_thread, Scripted, set_backpressure, set_cancel_delivered, set_cancelled, set_course, set_do_not_enter, set_do_not_suspend, set_end, set_event, set_exited, set_how_far, set_join, set_own_event, set_phase, set_position, set_register, set_result, set_saved_callee, set_saved_own, set_script, set_stage, set_started, set_starting_published, set_subtask_handle, set_thread_handle, set_trapped, set_uninteresting, set_word, SetDoNotEnter, Setting, slice_get, Some, State, Step, take_result, Thread, true, Unscripted, untouched, Walk, Walked, with_handle, with_holder, with_thread_handle, Word, work_queued, ℕ, ◌<◌, ◌==◌, ◌∙◌, ◌∷◌, ◌≡◌, ◌⊎◌}
 use Rattle.task_laws.proofs.CallsCame.{CallAfter, Grown, NewCall, NoCall, call_came}
 use Rattle.task_laws.proofs.CallsSteps.{plain, plain_scene}
 use Rattle.task_laws.specs.Holders.{CalleesExist, RunsHoldOne}
@@ -41,7 +41,7 @@ IsScripted Unscripted = ⊥
 
 -- ---- The exports that are called
 
-callee_at : (ops : List Op) (p : ℕ) (e : Callee) → callee_of_op (unwrap_or (slice_get ops p) (Op.Task TaskOp.Exit)) ≡ Some e →
+callee_at : (ops : List Op) (p : ℕ) (e : Callee) → callee_of_op (op_at_place ops p) ≡ Some e →
     (o : Op) × ((slice_get ops p ≡ Some o) × (callee_of_op o ≡ Some e))
 callee_at ops p e is = grind arith
 
@@ -62,9 +62,9 @@ op_callee c P calls n s e is =
 module _ (a : Scene) (instances : ℕ) (exist : CalleesExist a.setting instances) (main : IsScripted a.main)
     (b : Housed instances a.base) where
   callee_there : (f : Caller) (e : Callee) (group : ℕ) (s : Core) → MayCall a f e group s → e.instance < instances
-  callee_there f e group s (may.ByScript p o m at callee is same) = exist.starts p.position o e at callee
+  callee_there f e group s (may.ByScript p o m at callee is same) = exist.callees.starts p.position o e at callee
   callee_there f e group s (may.ByProgram words m takes is same) = absurd (rw m at main)
-  callee_there f e group s (may.ByThread n r callee is same) = op_callee (component_of a) (λ e. e.instance < instances) exist.calls n a.base e callee
+  callee_there f e group s (may.ByThread n r callee is same) = op_callee (component_of a) (λ e. e.instance < instances) exist.callees.calls n a.base e callee
 
   word_holds : (w : Word) (s : Core) → Allowed a w s → HoldersGo a s → HoldersGo a (after_word w s)
   word_holds w s ok q = record {

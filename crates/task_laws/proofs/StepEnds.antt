@@ -1,11 +1,10 @@
 -- What a step owes of the end of a subtask: of a call, and of a host work.
 use Rattle.task_rules.proofs.LawLemmas.{never_fewer}
-use Rattle.task_laws.proofs.CallsSteps.{of_base, calls_begin, step_goes}
+use Rattle.task_laws.proofs.CallsSteps.{calls_begin, step_goes}
 use Rattle.task_laws.proofs.CallEnds.{ends_go, tells_there}
 use Rattle.task_rules.proofs.Machine.{after_word, Allowed, Answers, ap, arith, Call, CallEnd, Core, course_of, course_value, covers_end, end_code, end_for, EndsByExit, EndsCall, EndsOwn, EndsSubtask, EndWords, event_of, false, get, goal_of, HandsAtOnce, HandsOut, has_end, has_ended, host_status, how_far_of, HowFar, inl, inr, is_async_work, is_direct, is_over, is_some, is_stage_ended, IsNamed, IsPolled, IsReadyAtOnce, IsRunner, Label, LaterBy, le_trans, Moment, nat_tests, None, Option, option_and_then, option_map, refl, SaysEnd, Scene, scene_of, Setting, Some, stage_of, State, Status, status_of_end, Step, Subtask, sym, TakesEvent, TakesResult, task_of, true, Turn, undelivered_end, Walked, Word, work_caller_of, Writes, WritesAtOnce, WritesCall, WritesNever, WritesPolled, WritesToo, written, ℕ, ⊎_elim, ◌∙◌, ◌≡◌, ◌≤◌, ◌⊎◌}
-use Rattle.task_laws.specs.Order.{Numbered}
-use Rattle.task_laws.specs.Rises.{CallsRise, Rises}
-use Rattle.task_laws.proofs.CallsLaw.{CallsGo, CallsHold, exits_unended}
+use Rattle.task_laws.specs.Rises.{Rises}
+use Rattle.task_laws.proofs.CallsLaw.{CallsHold, exits_unended}
 use Rattle.task_laws.proofs.CallsSteps.{plain, plain_scene}
 use Rattle.task_laws.specs.Settings.{CodesInCallbacks}
 use Rattle.task_rules.proofs.ChainLemmas.{along}
@@ -19,37 +18,10 @@ use Rattle.task_laws.proofs.Basics.{too_high}
 use Rattle.task_laws.proofs.WorksCame.{Doing, doing, doing_of}
 use Rattle.task_laws.proofs.Works.{doing_or, doing_there, WorksGo, WorksHold, Lasts, due_in, stage_ended, number_of}
 
--- ---- Calls before a step, and on its way
-
 -- the calls that come to an end are there: that of the running thread, and one that a handle names
 pub record CallsFound (a : Scene) : Type 0 where
   pub own : (n : ℕ) → IsRunner a n → is_some (get a.base.calls (task_of n a.base)) ≡ true
   pub named : (k : ℕ) → IsNamed a (Subtask.Guest k) → is_some (get a.base.calls k) ≡ true
-
--- What is known of the calls before a step, on its way and after it.
-pub record CallsKnown (x : Setting) (s : State) (t : Core) (a : Scene) : Type 0 where
-  pub base : CallsHold x.component a.base
-  pub told_base : EndsTold a.base
-  pub before : CallsHold x.component s.core
-  pub go : CallsGo a t
-  pub ends : EndsGo a t
-  pub rises : CallsRise s.core t
-  pub made : s.core.made.threads ≤ t.made.threads
-  pub says : EndWords a t
-
-pub calls_known : (x : Setting) (s : State) (l : Label) (t : State) → CodesInCallbacks x.component → CallsHold x.component s.core →
-    EndsTold s.core → Step x s l t → (w : Walked x s l t) → CallsKnown x s t.core (scene_of x s l w.next)
-calls_known x s l t codes h told step w =
-    let g = ends_go codes h told w in record {
-      base = (calls_begin x s l w.next h).0;
-      told_base = of_base EndsTold s.turn s.core (record { goals = told.goals; events = told.events; results = told.results });
-      before = h;
-      go = g.0;
-      ends = g.1;
-      rises = (step_goes x s l t codes h step).1;
-      made = (never_fewer x s l t step).threads;
-      says = w.ends.says;
-    }
 
 -- ---- Ends
 
@@ -58,13 +30,6 @@ call_code k s = grind (arith, nat_tests)
 
 work_code : (i : ℕ) (s : Core) → is_over_code (end_code (Subtask.Host i) s) ≡ has_end (course_of i s)
 work_code i s = grind (arith, nat_tests)
-
-pub call_keeps : {s t : Core} → Numbered s → CallsRise s t → s.made.threads ≤ t.made.threads → (k : ℕ) → Keeps s t (Subtask.Guest k)
-call_keeps numbered rises made k = record {
-  made = λ there. grind (arith, numbered.calls k);
-  counted = λ below. le_trans below made;
-  same = λ below over. let r = rises k below in grind (arith, nat_tests);
-}
 
 -- on the way too, of a call that was made before the step
 over_word : (a : Scene) (k : ℕ) → k ≤ a.base.made.threads → (w : Word) (s : Core) → Allowed a w s → is_over k s ≡ true →
@@ -116,61 +81,72 @@ host_keeps {S = S} x s l t next h go i = let q = plain x s l next (λ b. WorksGo
 
 -- ---- A step
 
-module _ (x : Setting) (s : State) (l : Label) (t : State) (next : Turn) (codes : CodesInCallbacks x.component)
-    (seen : CallsKnown x s t.core (scene_of x s l next)) where
+module _ (x : Setting) (s : State) (l : Label) (t : State) (codes : CodesInCallbacks x.component) (h : CallsHold x.component s.core)
+    (told : EndsTold s.core) (step : Step x s l t) (w : Walked x s l t) where
   abbrev a : Scene
-  a = plain_scene x s l next
+  a = plain_scene x s l w.next
 
   abbrev m : Moment
   m = record { before = s; label = l; after = t }
 
-  q : CallsKnown x s t.core a
-  q = plain x s l next (CallsKnown x s t.core) seen
+  ends : EndsGo a t.core
+  ends = plain x s l w.next (λ b. EndsGo b t.core) (ends_go codes h told w).1
+
+  words : EndWords a t.core
+  words = plain x s l w.next (λ b. EndWords b t.core) w.ends.says
+
+  pub keeps_call : (k : ℕ) → Keeps s.core t.core (Subtask.Guest k)
+  keeps_call k = record {
+    made = λ there. grind (arith, h.numbered.calls k);
+    counted = λ below. le_trans below (never_fewer x s l t step).threads;
+    same = λ below over. let r = (step_goes x s l t codes h step).1 k below in grind (arith, nat_tests);
+  }
 
   abbrev Written : Subtask → Status → Type 0
   Written sub e = written x.component m ≡ Some (end_for e sub)
 
   said : (k : ℕ) (e : Status) → SaysEnd a k e → Written (Subtask.Guest k) e
-  said = said_plain x s l next t.core
+  said = said_plain x s l w.next t.core
 
   writes : (sub : Subtask) (e : Status) → Written sub e → Writes a t.core sub
-  writes sub e is = q.says.writes sub e (written_at x.component s.core a.base.queues t.core l _ is)
+  writes sub e is = words.writes sub e (written_at x.component s.core a.base.queues t.core l _ is)
 
   abbrev event_at : ℕ → Core → Option Status
   event_at k c = undelivered_end (event_of (Subtask.Guest k) c)
 
   call_number : (k : ℕ) → is_some (get s.core.calls k) ≡ true → k ≤ s.core.made.threads
-  call_number k there = grind (arith, q.before.numbered.calls k)
+  call_number k there = grind (arith, h.numbered.calls k)
 
   ends_open : (k : ℕ) → EndsCall a k → has_ended k s.core ≡ false
   ends_open k (EndsOwn n runner is unended) = unended
   ends_open k (EndsSubtask named unended) = unended
   ends_open k (EndsByExit (n, (runner, (is, (first, how))))) =
-      let u = λ (c : Call). exits_unended a codes q.base n k c is first how in grind (arith, u)
+      let base = plain x s l w.next (λ b. CallsHold x.component b.base) (calls_begin x s l w.next h).0 in
+      let u = λ (c : Call). exits_unended a codes base n k c is first how in grind (arith, u)
 
   pub written_new : (k : ℕ) (e : Status) → Written (Subtask.Guest k) e → has_ended k s.core ≡ false
   written_new k e is = by _ refl (writes _ e is)
     where
       by : (sub : Subtask) → sub ≡ Subtask.Guest k → Writes a t.core sub → has_ended k s.core ≡ false
       by _ same (WritesCall j u end over walk) = let is : k ≡ j = cc in rw is (ends_open j end)
-      by _ same (WritesNever sub e) = let r = recorded a.base q.told_base k Status.StartCancelled (rw same at e) in
+      by _ same (WritesNever sub e) = let r = recorded s.core told k Status.StartCancelled (rw same at e) in
           no_withdrawal r.ends r.status r.ran
       by _ same w = absurd (grind arith)
 
   pub guest_covers : (k : ℕ) → covers_end (Subtask.Guest k) m ≡ true → ⊥
   guest_covers k = covers_none _ _ (λ y z e f. let below = call_number k (grind arith) in
-      one_end (get s.core.calls k) (get t.core.calls k) y z (q.rises k below) (recorded a.base q.told_base k y e)
-      (recorded t.core q.ends.told k z f))
+      one_end (get s.core.calls k) (get t.core.calls k) y z ((step_goes x s l t codes h step).1 k below) (recorded s.core told k y e)
+      (recorded t.core ends.told k z f))
 
   -- ---- What a call has to hand out
 
   pub events_come : (k : ℕ) (e : Status) → event_at k t.core ≡ Some e → (event_at k s.core ≡ Some e) ⊎ Written (Subtask.Guest k) e
   events_come k e tells = let r = tells_there k e t.core tells in
-      ⊎_elim (λ b. inl b) (λ now. inr (said k e now)) (q.ends.events k e r.0 r.1.0 r.1.1)
+      ⊎_elim (λ b. inl b) (λ now. inr (said k e now)) (ends.events k e r.0 r.1.0 r.1.1)
 
   pub results_come : (k : ℕ) → is_some (get t.core.results k) ≡ true →
       (is_some (get s.core.results k) ≡ true) ⊎ Written (Subtask.Guest k) Status.Returned
-  results_come k there = ⊎_elim (λ b. inl b) (λ now. inr (said k Status.Returned now.0)) (q.ends.results k there)
+  results_come k there = ⊎_elim (λ b. inl b) (λ now. inr (said k Status.Returned now.0)) (ends.results k there)
 
   guest_comes : (k : ℕ) (e : Status) → Due (Subtask.Guest k) e t.core → Due (Subtask.Guest k) e s.core ⊎ Written (Subtask.Guest k) e
   guest_comes k e (inl tells) = ⊎_elim (λ b. inl (inl b)) (λ now. inr now) (events_come k e tells)
@@ -179,48 +155,38 @@ module _ (x : Setting) (s : State) (l : Label) (t : State) (next : Turn) (codes 
   -- a call that tells a thread of its end has no result for main
   no_result : (k : ℕ) (e : Status) → event_at k s.core ≡ Some e → is_some (get s.core.results k) ≡ true → ⊥
   no_result k e tells there =
-      let r = tells_there k e a.base tells in let g = q.told_base.goals k r.0 r.1.0 in
-      let v = (q.told_base.events k e r.0 r.1.0 r.1.1).0 in let main = (q.told_base.results k there).1 r.0 r.1.0 in grind arith
+      let r = tells_there k e s.core tells in let g = told.goals k r.0 r.1.0 in
+      let v = (told.events k e r.0 r.1.0 r.1.1).0 in let main = (told.results k there).1 r.0 r.1.0 in grind arith
 
   -- the end of a direct call isn't told, and a result of it for main was there before
   direct_untold : (k : ℕ) → is_direct (goal_of k s.core) ≡ true → (e : Status) → Due (Subtask.Guest k) e t.core →
       is_some (get s.core.results k) ≡ true
   direct_untold k direct e (inl tells) =
-      let r = tells_there k e t.core tells in let v = (q.ends.told.events k e r.0 r.1.0 r.1.1).0 in
-      let g = q.ends.same k r.0 r.1.0 (call_number k (grind arith)) in absurd (grind arith)
+      let r = tells_there k e t.core tells in let v = (ends.told.events k e r.0 r.1.0 r.1.1).0 in
+      let g = ends.same k r.0 r.1.0 (call_number k (grind arith)) in absurd (grind arith)
   direct_untold k direct e (inr (is, there)) =
-      ⊎_elim (λ b. b) (λ now. let g = now.1 (call_number k (grind arith)) in absurd (grind arith)) (q.ends.results k there)
+      ⊎_elim (λ b. b) (λ now. let g = now.1 (call_number k (grind arith)) in absurd (grind arith)) (ends.results k there)
 
-  module _ (h : WorksHold (Unit {0}) s.core) (go : WorksGo (Unit {0}) (scene_of x s l next) t.core) where
+  module _ (works : WorksHold (Unit {0}) s.core) (go : WorksGo (Unit {0}) (scene_of x s l w.next) t.core) where
     v : WorksGo (Unit {0}) a t.core
-    v = plain x s l next (λ b. WorksGo (Unit {0}) b t.core) go
-
-    host_covers : (i : ℕ) → covers_end (Subtask.Host i) m ≡ true → ⊥
-    host_covers i = covers_none _ _ (λ y z e f.
-        let b = event_there i s.core y e in let u = event_there i t.core z f in let o = h.works i b.0 b.1.0 in let told = o.told y b.1.1 in
-        let same = same_course _ _ (v.was i (number_of h i b.0 b.1.0)) b.0 u.0 b.1.0 u.1.0 (o.late ∙ stage_ended b.0.stage told.0) in
-        let was = told.1.1 in let now = ((v.holds.works i u.0 u.1.0).told z u.1.1).1.1 in cc)
-
-    host_comes : (i : ℕ) (e : Status) → Due (Subtask.Host i) e t.core → Due (Subtask.Host i) e s.core ⊎ Written (Subtask.Host i) e
-    host_comes i e due = ⊎_elim (λ b. inl b)
-        (λ shows. inr (rw shows (ap (λ f. Some (end_for f (Subtask.Host i))) (due_status i e t.core due)))) (v.due i e due)
+    v = plain x s l w.next (λ b. WorksGo (Unit {0}) b t.core) go
 
     -- a host that was ready at once is gone
     ready_none : (i : ℕ) → IsReadyAtOnce a t.core i → doing_of i t.core ≡ None
     ready_none i (is, (made, same)) = ⊎_elim (λ none. let same_works = same in grind arith)
-        (λ u. absurd (too_high is (number_of h i u.0 u.1))) (doing_or i s.core)
+        (λ u. absurd (too_high is (number_of works i u.0 u.1))) (doing_or i s.core)
 
     polled_result : (j : ℕ) → IsPolled a j a.base → has_end (course_of j t.core) ≡ true →
         (Over (Subtask.Host j) s.core → ⊥) × Over (Subtask.Host j) t.core
     polled_result j polled ended =
         let live = polled_is_live polled.0 a.base j polled.1.1 in let u = doing_there j s.core (grind arith) in let at = u.1 in
-        let o = h.works j u.0 at in let late = o.late in (
+        let o = works.works j u.0 at in let late = o.late in (
           λ over. let has = work_code j s.core in let e = over.1 in grind arith,
-          (le_trans (number_of h j u.0 at) v.counted, work_code j t.core ∙ ended),
+          (le_trans (number_of works j u.0 at) v.counted, work_code j t.core ∙ ended),
         )
 
-    module _ (found : CallsFound (scene_of x s l next)) (over : (sub : Subtask) (e : Status) → Due sub e s.core → Over sub s.core)
-        (answered : Answered (scene_of x s l next)) where
+    module _ (found : CallsFound (scene_of x s l w.next)) (over : (sub : Subtask) (e : Status) → Due sub e s.core → Over sub s.core)
+        (answered : Answered (scene_of x s l w.next)) where
       -- the call that ends is there
       there : CallsFound a → (k : ℕ) → EndsCall a k → is_some (get s.core.calls k) ≡ true
       there f k (EndsOwn n runner is unended) = rw is (f.own n runner)
@@ -229,17 +195,17 @@ module _ (x : Setting) (s : State) (l : Label) (t : State) (next : Turn) (codes 
 
       says : (sub : Subtask) → Writes a t.core sub → (Over sub s.core → ⊥) × Over sub t.core
       says _ (WritesCall k u end over walk) =
-          let unended = ends_open k end in let r = there (plain x s l next CallsFound found) k end in let below = call_number k r in (
+          let unended = ends_open k end in let r = there (plain x s l w.next CallsFound found) k end in let below = call_number k r in (
             λ was. let o = sym (call_code k s.core) ∙ was.1 in grind arith,
-            (le_trans below q.made, call_code k t.core ∙ along (λ c. is_over k c ≡ true) (over_word a k below) over walk),
+            ((keeps_call k).counted below, call_code k t.core ∙ along (λ c. is_over k c ≡ true) (over_word a k below) over walk),
           )
       says _ (WritesPolled j shows polled ended) = polled_result j polled ended
       says _ (WritesAtOnce j ready) = let none = ready_none j ready in
           (λ over. too_high ready.0 over.0, (omega (arith, ready.1.0), grind arith))
-      says _ (WritesNever (Subtask.Guest k) e) = let r = recorded a.base q.told_base k Status.StartCancelled e in
+      says _ (WritesNever (Subtask.Guest k) e) = let r = recorded s.core told k Status.StartCancelled e in
           no_withdrawal r.ends r.status r.ran
       says _ (WritesNever (Subtask.Host i) e) = let r = event_there i s.core Status.StartCancelled e in
-          let o = ((h.works i r.0 r.1.0).told Status.StartCancelled r.1.1).1.1 in absurd (grind arith)
+          let o = ((works.works i r.0 r.1.0).told Status.StartCancelled r.1.1).1.1 in absurd (grind arith)
 
       -- where the subtask had an end to hand out, none is written
       unwritten : (sub : Subtask) (e f : Status) → Due sub e s.core → Written sub f → ⊥
@@ -267,15 +233,15 @@ module _ (x : Setting) (s : State) (l : Label) (t : State) (next : Turn) (codes 
           ⊎_elim (λ old. unwritten (Subtask.Guest k) f e old w) (λ said. told_end (grind arith) due) (guest_comes k f due)
         where
           told_end : f ≡ Status.StartCancelled → Due (Subtask.Guest k) f t.core → ⊥
-          told_end is (inl tells) = let r = recorded t.core q.ends.told k f tells in no_withdrawal r.ends (r.status ∙ is) r.ran
+          told_end is (inl tells) = let r = recorded t.core ends.told k f tells in no_withdrawal r.ends (r.status ∙ is) r.ran
           told_end is (inr (returned, there)) = absurd (cc)
 
       -- what has ended, and had its end told, isn't due any more
       host_out : (i : ℕ) (e : Status) → undelivered_end (event_of (Subtask.Host i) s.core) ≡ Some e →
           undelivered_end (event_of (Subtask.Host i) t.core) ≡ None → Due (Subtask.Host i) e s.core × Silent (Subtask.Host i)
       host_out i e had gone =
-          let b = event_there i s.core e had in let at = b.1.0 in let tells = b.1.1 in let ends = (h.works i b.0 at).told e tells in
-          (grind arith, λ f due. none_due _ _ (v.was i (number_of h i b.0 at)) b.0 at ends.0 ends.1.0 f (grind arith) due)
+          let b = event_there i s.core e had in let at = b.1.0 in let tells = b.1.1 in let ends = (works.works i b.0 at).told e tells in
+          (grind arith, λ f due. none_due _ _ (v.was i (number_of works i b.0 at)) b.0 at ends.0 ends.1.0 f (grind arith) due)
 
       none_out : (i : ℕ) → doing_of i t.core ≡ None → Silent (Subtask.Host i)
       none_out i none f due = absurd (cc)
@@ -287,22 +253,27 @@ module _ (x : Setting) (s : State) (l : Label) (t : State) (next : Turn) (codes 
       hands _ _ (WritesToo k e w why) = (inr (said k e w), own_out k e (said k e w) why)
       hands _ _ (HandsAtOnce i ready w) = (inr (said_at x.component s.core a.base.queues t.core l _ w), none_out i (ready_none i ready))
       hands _ _ (Answers n i runner far gone) =
-          let r = plain x s l next Answered answered n i runner far in let v = doing_there i s.core (grind arith) in let at = v.1 in
-          let o = h.works i v.0 at in let sync : is_sync_work v.0.caller ≡ true = grind arith in
+          let r = plain x s l w.next Answered answered n i runner far in let v = doing_there i s.core (grind arith) in let at = v.1 in
+          let o = works.works i v.0 at in let sync : is_sync_work v.0.caller ≡ true = grind arith in
           let ends : has_end v.0.course ≡ true = o.late ∙ stage_ended v.0.stage (grind arith) in
           (inl (value_due _ v.0 at sync ends ((o.sync tt sync).1 ends)), none_out i (ap (option_map doing) gone))
 
       keeps : (sub : Subtask) → Keeps s.core t.core sub
-      keeps (Subtask.Guest k) = call_keeps q.before.numbered q.rises q.made k
-      keeps (Subtask.Host i) = host_keeps x s l t next h go i
+      keeps (Subtask.Guest k) = keeps_call k
+      keeps (Subtask.Host i) = host_keeps x s l t w.next works go i
 
       covers : (sub : Subtask) → covers_end sub m ≡ true → ⊥
       covers (Subtask.Guest k) = guest_covers k
-      covers (Subtask.Host i) = host_covers i
+      covers (Subtask.Host i) = covers_none _ _ (λ y z e f.
+          let b = event_there i s.core y e in let u = event_there i t.core z f in let o = works.works i b.0 b.1.0 in
+          let told = o.told y b.1.1 in let later = v.was i (number_of works i b.0 b.1.0) in
+          let same = same_course _ _ later b.0 u.0 b.1.0 u.1.0 (o.late ∙ stage_ended b.0.stage told.0) in
+          let was = told.1.1 in let now = ((v.holds.works i u.0 u.1.0).told z u.1.1).1.1 in cc)
 
       comes : (sub : Subtask) (e : Status) → Due sub e t.core → Due sub e s.core ⊎ Written sub e
-      comes (Subtask.Guest k) = guest_comes k
-      comes (Subtask.Host i) = host_comes i
+      comes (Subtask.Guest k) e due = guest_comes k e due
+      comes (Subtask.Host i) e due = ⊎_elim (λ b. inl b)
+          (λ shows. inr (rw shows (ap (λ f. Some (end_for f (Subtask.Host i))) (due_status i e t.core due)))) (v.due i e due)
 
       pub step_ends : (sub : Subtask) → EndStep x.component m sub
       step_ends sub = record {
@@ -311,5 +282,5 @@ module _ (x : Setting) (s : State) (l : Label) (t : State) (next : Turn) (codes 
         over = over sub;
         says = λ e is. says sub (writes sub e is);
         comes = comes sub;
-        hands = λ e out. hands sub e (q.says.hands sub e (hands_at x.component s.main s.core a.base.queues t.core l _ out));
+        hands = λ e out. hands sub e (words.hands sub e (hands_at x.component s.main s.core a.base.queues t.core l _ out));
       }

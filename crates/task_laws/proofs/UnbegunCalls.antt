@@ -3,7 +3,7 @@ use Rattle.task_rules.proofs.Machine.{after_word, Allowed, arith, Bool, CallEnd,
 use Rattle.task_laws.proofs.CallsCame.{call_came, CallAfter, IsBeside, IsFirst, IsGone, IsSame, thread_came, ThreadAfter, Grown, NoCall, NewCall}
 use Rattle.task_laws.proofs.CallsLaw.{CallsGo, CallsHold}
 use Rattle.task_laws.proofs.CameLemmas.{came_word, Comes, Moved, MayStand, PlaceAfter, Shifts, Turns}
-use Rattle.task_laws.specs.Order.{IsUnbegun, StartsFirst}
+use Rattle.task_laws.specs.Order.{HasNotRun, StartsFirst}
 
 abbrev is_new_start : Option Place → Bool
 is_new_start o = is_some o && is_fresh o
@@ -18,7 +18,7 @@ Waited a k = (first_waits k a.base ≡ true) ⊎ (k ≡ next_thread a.base)
 
 pub record Unbegun (a : Scene) (s : Core) : Type 0 where
   pub came : (k : ℕ) → first_waits k s ≡ true → Waited a k
-  pub rest : (k : ℕ) → Waited a k → is_some (get s.threads k) ≡ true → IsUnbegun s k
+  pub rest : (k : ℕ) → Waited a k → is_some (get s.threads k) ≡ true → HasNotRun s k
 
 -- who waits for its start after a word did so before it, or before the step, or is new
 stands_fresh : (a : Scene) (s : Core) (k : ℕ) (o p : Option Place) → o ≡ place_of k s → is_explicit k s ≡ false → Moved (MayStand a s k) o p → is_new_start p ≡ true → is_new_start o ≡ true
@@ -65,7 +65,7 @@ module _ (a : Scene) (h : CallsHold (component_of a) a.base) (runs : (n : ℕ) �
     was_there : (k : ℕ) → ThreadAfter a w s k → is_some (get (after_word w s).threads k) ≡ true → (is_some (get s.threads k) ≡ true) ⊎ (k ≡ next_thread s)
     was_there k x there = grind arith
 
-    rest_after : (k : ℕ) → Waited a k → is_some (get (after_word w s).threads k) ≡ true → IsUnbegun (after_word w s) k
+    rest_after : (k : ℕ) → Waited a k → is_some (get (after_word w s).threads k) ≡ true → HasNotRun (after_word w s) k
     rest_after k waited there = by (was_there k (thread_came w s ok k) there)
       where
         ends : ((e : CallEnd) → MayEnd a k e s → is_some (get s.calls k) ≡ true → ⊥) → end_of k s ≡ None → CallAfter a w s k → end_of k (after_word w s) ≡ None
@@ -79,7 +79,7 @@ module _ (a : Scene) (h : CallsHold (component_of a) a.base) (runs : (n : ℕ) �
         alone n t at of before (IsBeside u is l same m e) = absurd (apart k m.0 waited m.1.1.1.1.1.1.1.1 (let made = m.1.1.1.1.1.0 in grind arith))
         alone n t at of before (IsFirst u is l there x y far new e z) = grind arith
 
-        by : (is_some (get s.threads k) ≡ true) ⊎ (k ≡ next_thread s) → IsUnbegun (after_word w s) k
+        by : (is_some (get s.threads k) ≡ true) ⊎ (k ≡ next_thread s) → HasNotRun (after_word w s) k
         by (inl old) = let r = q.rest k waited old in record {
           unended = ends (λ e may call. unended k e s waited old may) r.unended (call_came w s ok k);
           alone = λ n t at of. alone n t at of (r.alone n) (thread_came w s ok n);

@@ -1,42 +1,35 @@
 -- The laws of the ends of calls and works that hold by each step alone.
-use Rattle.task_rules.proofs.Machine.{Answers, arith, base_at, Bool, changes_end, end_for, EndWords, event_of, false, get, HandsAtOnce, HandsOut, inl, inr, is_some, Label, None, refl, scene_of, Setting, Some, State, Status, Step, Subtask, TakesEvent, TakesResult, true, Turn, undelivered_end, Walked, WritesToo, written_by, ◌≡◌, ◌⊎◌}
+use Rattle.task_rules.proofs.Machine.{Answers, arith, base_at, Bool, changes_end, end_for, EndWords, event_of, false, get, HandsAtOnce, HandsOut, inl, inr, is_some, Label, None, refl, Setting, Some, State, Status, Step, Subtask, TakesEvent, TakesResult, true, Turn, undelivered_end, Walked, WritesToo, written_by, ◌≡◌, ◌⊎◌}
 use Rattle.task_laws.specs.Written.{EndsHandedAsTold, EndsWrittenOnce, NewEndsAreSaid, NewResultsAreSaid, NoEndIsCovered, WrittenEndsAreNew}
 use Rattle.task_laws.proofs.Works.{WorksHold, opening_works, works_go}
 use Rattle.task_laws.proofs.CallEnds.{reached_ends_told}
 use Rattle.task_laws.proofs.CallsSteps.{plain, plain_scene, reached_holds}
 use Rattle.task_laws.proofs.SaidEnds.{hands_at, said_plain}
 use Rattle.task_laws.specs.Settings.{Reached}
-use Rattle.task_rules.proofs.LawLemmas.{never_fewer}
 use Rattle.task_rules.proofs.WalkSteps.{step_walks}
 use Rattle.task_laws.proofs.OnceLemmas.{Keeps, Over, counts_once, over_changes, over_stays}
-use Rattle.task_laws.proofs.StepEnds.{CallsKnown, calls_known, events_come, guest_covers, call_keeps, host_keeps, results_come, written_new}
+use Rattle.task_laws.proofs.StepEnds.{events_come, guest_covers, keeps_call, host_keeps, results_come, written_new}
 use Rattle.task_laws.proofs.ReachLemmas.{reached_keeps, reached_step}
 
 -- ---- What a label says of calls
 
-module _ (x : Setting) (s : State) (l : Label) (t : State) (r : Reached x s) (step : Step x s l t) where
-  abbrev w : Walked x s l t
-  w = step_walks x s l t step
-
-  known : CallsKnown x s t.core (scene_of x s l w.next)
-  known = calls_known x s l t r.scripts (reached_holds r) (reached_ends_told r) step w
-
 pub new_ends_are_said : NewEndsAreSaid
 unfolding NewEndsAreSaid
-new_ends_are_said x s l t r step = events_come x s l t (w x s l t r step).next r.scripts (known x s l t r step)
+new_ends_are_said x s l t r step = events_come x s l t r.scripts (reached_holds r) (reached_ends_told r) step (step_walks x s l t step)
 
 pub new_results_are_said : NewResultsAreSaid
-new_results_are_said x s l t r step = results_come x s l t (w x s l t r step).next r.scripts (known x s l t r step)
+new_results_are_said x s l t r step = results_come x s l t r.scripts (reached_holds r) (reached_ends_told r) step (step_walks x s l t step)
 
 pub no_end_is_covered : NoEndIsCovered
 unfolding NoEndIsCovered
-no_end_is_covered x s l t r step k = false_of _ (guest_covers x s l t (w x s l t r step).next r.scripts (known x s l t r step) k)
+no_end_is_covered x s l t r step k =
+    false_of _ (guest_covers x s l t r.scripts (reached_holds r) (reached_ends_told r) step (step_walks x s l t step) k)
   where
     false_of : (b : Bool) → (b ≡ true → ⊥) → b ≡ false
     false_of b not = grind arith
 
 pub written_ends_are_new : WrittenEndsAreNew
-written_ends_are_new x s l t r step = written_new x s l t (w x s l t r step).next r.scripts (known x s l t r step)
+written_ends_are_new x s l t r step = written_new x s l t r.scripts (reached_holds r) (reached_ends_told r) step (step_walks x s l t step)
 
 pub ends_handed_as_told : EndsHandedAsTold
 unfolding EndsHandedAsTold
@@ -64,7 +57,7 @@ reached_works {x = x} r = reached_keeps r (λ s. WorksHold ⊥ s.core)
 
 keeps : (x : Setting) (s : State) (l : Label) (t : State) → Reached x s → Step x s l t → (sub : Subtask) → Keeps s.core t.core sub
 keeps x s l t r step (Subtask.Guest k) =
-    call_keeps (reached_holds r).numbered (known x s l t r step).rises (never_fewer x s l t step).threads k
+    keeps_call x s l t r.scripts (reached_holds r) (reached_ends_told r) step (step_walks x s l t step) k
 keeps x s l t r step (Subtask.Host i) = let w = step_walks x s l t step in let h = reached_works r in
     host_keeps x s l t w.next h (works_go x s l t w (λ no. absurd no) h) i
 

@@ -1,28 +1,22 @@
 -- What steps keep of the exports and instances that a component has.
-use Rattle.std.specs.Prelude.{Some, is_some, slice_get, true, ℕ, ◌≡◌}
+use Rattle.std.specs.Prelude.{Some, is_some, true, ℕ, ◌≡◌}
+use Rattle.task_laws.specs.Settings.{CalleesAre}
 use Rattle.task_machine.specs.Core.{Core, State}
 use Rattle.task_machine.specs.Maps.{get}
 use Rattle.task_machine.specs.declared.component.Callee.{Callee}
 use Rattle.task_machine.specs.declared.component.Component.{Component}
 use Rattle.task_machine.specs.declared.label.Label.{Label}
-use Rattle.task_machine.specs.declared.op.Op.{Op}
 use Rattle.task_machine.specs.declared.records.Call.{Call}
-use Rattle.task_machine.specs.declared.records.Script.{Script}
-use Rattle.task_machine.specs.declared.scenario.MainOpDef.{MainOpDef}
-use Rattle.task_rules.specs.OpParts.{callee_of_main_op, callee_of_op}
-use Rattle.task_rules.specs.Scripts.{export_at, script_in}
+use Rattle.task_rules.specs.Scripts.{export_at}
 use Rattle.task_rules.specs.Stalled.{Setting}
 use Rattle.task_rules.specs.Step.{Step}
 
 abbrev pub IsExported : Component → Callee → Type 0
 IsExported c e = is_some (export_at c e) ≡ true
 
--- The component has each export that an op of main's script starts, or that one of its scripts calls.
-pub record ExportsExist (x : Setting) : Type 0 where
-  pub starts : (p : ℕ) (o : MainOpDef) (e : Callee) → slice_get x.script p ≡ Some o → callee_of_main_op o ≡ Some e →
-      IsExported x.component e
-  pub calls : (f : Callee) (w : Script) (p : ℕ) (o : Op) (e : Callee) → slice_get (script_in x.component f w) p ≡ Some o →
-      callee_of_op o ≡ Some e → IsExported x.component e
+-- the component has each export that is started or called
+abbrev pub ExportsExist : Setting → Type 0
+ExportsExist x = CalleesAre x (IsExported x.component)
 
 -- each call is of an export that the component has
 abbrev pub CallsExported : Component → Core → Type 0

@@ -107,8 +107,7 @@ OnlyCalled n k s = (c : Call) → get s.calls k ≡ Some c → (c.caller ≡ cal
 pub record NamesKnown (s : Core) : Type 0 where
   pub there : (i h k : ℕ) → subtask_at i h s ≡ Some (subtask.Guest k) → subtask_handle (subtask.Guest k) s ≡ Some h
   pub once : (i j h g k : ℕ) → subtask_at i h s ≡ Some (subtask.Guest k) → subtask_at j g s ≡ Some (subtask.Guest k) → i ≡ j
-  pub number : (k : ℕ) (c : Call) → get s.calls k ≡ Some c → k ≤ s.made.threads
-  pub called : (n k : ℕ) → how_far_of n s ≡ how_far.Calls (subtask.Guest k) → (k ≤ s.made.threads) × OnlyCalled n k s
+  pub called : (n k : ℕ) → how_far_of n s ≡ how_far.Calls (subtask.Guest k) → OnlyCalled n k s
 
 abbrev pub is_returned : Option Status → Bool
 is_returned (Some status.Returned) = true
@@ -267,13 +266,13 @@ abbrev pub StartsAwaited : Core → Type 0
 StartsAwaited s = (k : ℕ) (c : Call) → get s.calls k ≡ Some c → c.started ≡ false → is_fresh (place_of k s) ≡ true
 
 -- the call hasn't ended, and has no other thread than the first one
-pub record IsUnbegun (s : Core) (k : ℕ) : Type 0 where
+pub record HasNotRun (s : Core) (k : ℕ) : Type 0 where
   pub unended : end_of k s ≡ None
   pub alone : (n : ℕ) (t : Thread) → get s.threads n ≡ Some t → t.call ≡ k → n ≡ k
 
 -- where the first thread of a call waits for its start, the call has none of what comes after it
 abbrev pub StartsFirst : Core → Type 0
-StartsFirst s = (k : ℕ) (t : Thread) → get s.threads k ≡ Some t → t.explicit ≡ false → is_fresh (Some t.place) ≡ true → IsUnbegun s k
+StartsFirst s = (k : ℕ) (t : Thread) → get s.threads k ≡ Some t → t.explicit ≡ false → is_fresh (Some t.place) ≡ true → HasNotRun s k
 
 -- under the first thread of a direct call there is another one
 abbrev pub DirectsOnTop : Core → Type 0

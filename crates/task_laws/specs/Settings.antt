@@ -1,15 +1,17 @@
--- What the grammar of scenarios says of scripts: the ops that end an activation stand in the scripts of callback exports alone.
+-- What is asked of settings: as the grammar of scenarios has it, the ops that end an activation stand in the scripts of callback exports alone.
 use Rattle.std.specs.Prelude.{List, Some, false, slice_get, ℕ, ◌≡◌}
 use Rattle.task_machine.specs.declared.component.Callee.{Callee}
 use Rattle.task_machine.specs.declared.component.Component.{Component}
 use Rattle.task_machine.specs.declared.component.ExportDef.{ExportDef}
 use Rattle.task_machine.specs.declared.label.Label.{Label}
 use Rattle.task_machine.specs.declared.op.Op.{Op}
+use Rattle.task_machine.specs.declared.records.Script.{Script}
+use Rattle.task_machine.specs.declared.scenario.MainOpDef.{MainOpDef}
 use Rattle.task_machine.specs.Core.{Main, State}
 use Rattle.task_machine.specs.Read.{is_callback}
-use Rattle.task_rules.specs.OpParts.{ends_activation}
+use Rattle.task_rules.specs.OpParts.{callee_of_main_op, callee_of_op, ends_activation}
 use Rattle.task_rules.specs.Run.{Run, opening}
-use Rattle.task_rules.specs.Scripts.{export_at, slot_at, slot_script}
+use Rattle.task_rules.specs.Scripts.{export_at, script_in, slot_at, slot_script}
 use Rattle.task_rules.specs.Stalled.{Setting}
 
 -- no op of the script ends an activation
@@ -22,7 +24,13 @@ pub record CodesInCallbacks (c : Component) : Type 0 where
   pub reacts : (f : Callee) (d : ExportDef) → export_at c f ≡ Some d → is_callback d.kind ≡ false → HasNoCode d.react
   pub slots : (i x : ℕ) → HasNoCode (slot_script (slot_at c i x))
 
--- The state is reached from an opening state, under such scripts.
+-- Each callee that main's script starts, or that one of the component's scripts calls, is such a one.
+pub record CalleesAre (x : Setting) (P : Callee → Type 0) : Type 0 where
+  pub starts : (p : ℕ) (o : MainOpDef) (f : Callee) → slice_get x.script p ≡ Some o → callee_of_main_op o ≡ Some f → P f
+  pub calls : (f : Callee) (w : Script) (p : ℕ) (o : Op) (g : Callee) → slice_get (script_in x.component f w) p ≡ Some o →
+      callee_of_op o ≡ Some g → P g
+
+-- The state is reached from an opening state, under scripts that end activations in callbacks alone.
 pub record Reached (x : Setting) (s : State) : Type 0 where
   pub scripts : CodesInCallbacks x.component
   pub instances : ℕ

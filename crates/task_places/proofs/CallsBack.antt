@@ -12,7 +12,8 @@ answered_apart : (n k v : ℕ) (s : Core) → n ≡ k → subtask_under_way (how
 unfolding set_how_far on_thread
 answered_apart n k v s same = grind (arith, nat_tests, get-change)
 
-module _ {a : Scene} {b : Core} {n : ℕ} {q : Option Place} (f : Frame a b n q) (k m : ℕ) (at : place_of k a.base ≡ Some (Place.Under m)) (to : a.next ≡ Turn.Run k) where
+module _ {a : Scene} {b : Core} {n : ℕ} {q : Option Place} (f : Frame a b n q) (k m : ℕ) (at : place_of k a.base ≡ Some (Place.Under m))
+    (to : a.next ≡ Turn.Run k) where
   -- it isn't the runner
   apart : IsRunner a k → ⊥
   apart is = no_cover f k m is at
@@ -26,9 +27,11 @@ module _ {a : Scene} {b : Core} {n : ℕ} {q : Option Place} (f : Frame a b n q)
   lands_apart p s ok c = absurd (grind arith)
 
   pub back_apart : {t : Core} → Trip a b t → subtask_under_way (how_far_of k t) ≡ None
-  back_apart (Remains t c still) = let r = f.running k (still k to) in let home = f.home k in let here = f.follows.start.here in absurd (grind arith)
+  back_apart (Remains t c still) =
+      let r = f.running k (still k to) in let home = f.home k in let here = f.follows.start.here in absurd (grind arith)
   back_apart (Lands s p c ok fit) = absurd (lands_apart p s ok c)
   back_apart (LandsAt s p j h c ok fit comes) = absurd (lands_apart p s ok c)
   back_apart (Quits s t j c leave d) = not_main k (sym leave.1.0 ∙ to)
-  back_apart (GoesBack s t j i v c is runs next under d ok) = answered_apart i k v (after_word (Places (Move i Place.Running)) t) (one_runner i k (sym next ∙ to))
+  back_apart (GoesBack s t j i v c is runs next under d ok) =
+      answered_apart i k v (after_word (Places (Move i Place.Running)) t) (one_runner i k (sym next ∙ to))
   back_apart (Collapses t over c) = absurd (grind arith)

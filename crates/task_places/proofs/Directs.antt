@@ -1,20 +1,18 @@
 -- Under the first thread of a direct call there is another one, along the words of a step.
-use Rattle.task_rules.proofs.Machine.{ap, arith, Core, false, get, goal_of, inl, inr, is_direct, is_some, None, Option, option_map, Place, place_of, refl, Scene, Some, Steady, task_of, Thread, true, Turn, ℕ, ◌∙◌, ◌≡◌, ◌≤◌, ◌⊎◌}
+use Rattle.task_rules.proofs.MoveLemmas.{at_place}
+use Rattle.task_rules.proofs.Machine.{arith, Core, false, get, goal_of, inl, inr, is_direct, None, Option, Place, place_of, refl, Scene, Some, Steady, task_of, Thread, true, Turn, ℕ, ◌∙◌, ◌≡◌, ◌≤◌, ◌⊎◌}
 use Rattle.task_laws.proofs.AwaitedCalls.{DirectsRun}
 use Rattle.task_laws.specs.Order.{DirectsOnTop, Numbered}
 use Rattle.task_places.proofs.PlaceLaw.{Arrives, no_way}
 
 -- ---- After a step
 
-is_there_of : (o : Option Thread) → is_some (option_map (λ (t : Thread). t.place) o) ≡ true → (t : Thread) × (o ≡ Some t)
-is_there_of None h = no_way h
-is_there_of (Some t) h = (t, refl)
-
-module _ (a : Scene) (s t : Core) (steady : Steady s t) (before : Numbered s) (after : Numbered t) (arrives : Arrives a t) (home : (k : ℕ) → place_of k a.base ≡ place_of k s) (calls : (k : ℕ) → goal_of k a.base ≡ goal_of k s) where
+module _ (a : Scene) (s t : Core) (steady : Steady s t) (before : Numbered s) (after : Numbered t) (arrives : Arrives a t)
+    (home : (k : ℕ) → place_of k a.base ≡ place_of k s) (calls : (k : ℕ) → goal_of k a.base ≡ goal_of k s) where
   pub directs_on_top : DirectsOnTop s → DirectsRun a t → DirectsOnTop t
   directs_on_top top runs m there implicit direct =
-      let u = is_there_of (get t.threads m) there in
-      by_place u.0 u.1 (place_of m s) refl
+      let u = at_place (λ (r : Thread). true) (get t.threads m) (grind arith) in
+      by_place u.0 u.1.0 (place_of m s) refl
     where
       -- it is the call's first thread
       own : (u : Thread) → get t.threads m ≡ Some u → task_of m t ≡ m
@@ -44,6 +42,7 @@ module _ (a : Scene) (s t : Core) (steady : Steady s t) (before : Numbered s) (a
           let below : m ≤ s.made.threads = grind (arith, before.calls m) in
           let later = steady.threads m below in absurd (grind arith)
 
-      by_place : (u : Thread) → get t.threads m ≡ Some u → (o : Option Place) → place_of m s ≡ o → (n : ℕ) × (place_of n t ≡ Some (Place.Under m))
+      by_place : (u : Thread) → get t.threads m ≡ Some u → (o : Option Place) → place_of m s ≡ o →
+          (n : ℕ) × (place_of n t ≡ Some (Place.Under m))
       by_place u at None none = entered u at none (runs m (of_call u at))
-      by_place u at (Some p) is = let r = is_there_of (get s.threads m) (ap (λ (o : Option Place). is_some o) is) in still r.0 u r.1 at
+      by_place u at (Some p) is = let r = at_place (λ (r : Thread). true) (get s.threads m) (grind arith) in still r.0 u r.1.0 at

@@ -1,6 +1,6 @@
 -- Entries that are taken out, entries of works, and new threads, beside a busy thread.
-use Rattle.task_rules.proofs.Machine.{[], add_thread, ap, arith, Bool, Core, entries, Entry, false, get-insert, has_entry, HasPlace, if◌then◌else◌, is_behind_of, is_entry_of, is_fresh, le_refl, less, less_switch, List, Mark, nat_tests, next_entry, None, on_thread, one_if, Option, Place, place_of, popped, promoted, Queues, refl, remove_thread, rest_of, says, set_high, set_low, set_place, set_switch, Some, subst, switch_entries, sym, T, Thread, true, unqueued, Why, why_of, ℕ, ◌+◌, ◌==◌, ◌∙◌, ◌∷◌, ◌≡◌, ◌≤◌}
-use Rattle.task_rules.proofs.MoveLemmas.{removed_is, no_time, removed_gone, removed_loose, removed_placed, other_place}
+use Rattle.task_rules.proofs.Machine.{[], add_thread, ap, arith, Bool, callers_of, Core, entries, Entry, false, get-insert, has_entry, HasPlace, if◌then◌else◌, is_behind_of, is_entry_of, is_fresh, less, less_switch, List, Mark, nat_tests, next_entry, None, on_thread, one_if, Option, Place, place_of, popped, promoted, Queues, refl, remove_thread, rest_of, says, set_high, set_low, set_place, set_switch, Some, subst, switch_entries, sym, T, Thread, times, true, unqueued, Why, why_of, ℕ, ◌+◌, ◌==◌, ◌∙◌, ◌∷◌, ◌≡◌, ◌≤◌}
+use Rattle.task_rules.proofs.MoveLemmas.{at_place, removed_is, no_time, removed_gone, removed_loose, removed_placed, other_place}
 use Rattle.task_rules.proofs.StandLemmas.{Drops, moves_stand, Loose, Stand, by_number, entries-append, entries-less, eq_refl, zero_one, Watch, Left, left_loose, left_placed}
 use Rattle.task_rules.proofs.StopLemmas.{switch_adds, Untouched, fresh_apart, so_again}
 
@@ -38,7 +38,8 @@ cleared : (m : ℕ) (s : Core) (q : Queues) → HasPlace m s → switch_entries 
 cleared m s q h none left = record {
   places = λ k. refl;
   left = left;
-  own = λ free. record { number = h.number; switch = grind arith; high = grind arith; low = grind arith; callers = λ f. grind (arith, h.callers f, free f) };
+  own = λ free. let alone : (f : ℕ) → times m (callers_of f s) ≡ 0 = λ f. grind (arith, h.callers f, free f) in
+      grind arith;
 }
 
 -- its entry is taken out, wherever it stands
@@ -49,9 +50,14 @@ unqueued_cleared m s h = go (has_entry m s.queues.high) refl
     one : switch_entries m s.queues.switch + entries m s.queues.high + entries m s.queues.low ≤ 1
     one = has_one m s h
 
-    go : (b : Bool) → has_entry m s.queues.high ≡ b → Cleared m s (set_switch (less_switch m s.queues.switch) (if b then set_high (less m s.queues.high) s else set_low (less m s.queues.low) s))
-    go true e = cleared m s _ h (grind (arith, nat_tests, one, has_stands m s.queues.high, less_own m)) (λ k o. grind (arith, nat_tests, less_other k m))
-    go false e = cleared m s _ h (grind (arith, nat_tests, one, none_stands m s.queues.high, less_own m)) (λ k o. grind (arith, nat_tests, less_other k m))
+    go : (b : Bool) → has_entry m s.queues.high ≡ b → Cleared m s (set_switch (less_switch m s.queues.switch)
+        (if b then set_high (less m s.queues.high) s else set_low (less m s.queues.low) s))
+    go true e =
+        cleared m s _ h (grind (arith, nat_tests, one, has_stands m s.queues.high, less_own m))
+        (λ k o. grind (arith, nat_tests, less_other k m))
+    go false e =
+        cleared m s _ h (grind (arith, nat_tests, one, none_stands m s.queues.high, less_own m))
+        (λ k o. grind (arith, nat_tests, less_other k m))
 
 -- as an entry of a thread that stands ready
 ready_drops : (m : ℕ) (x : Mark) (w : Why) (s : Core) → HasPlace m s → place_of m s ≡ Some (Place.Ready x w) → s.queues.switch ≡ None →
@@ -75,14 +81,11 @@ pub next_first : (s : Core) (x : Mark) (e : Entry) → next_entry s ≡ Some (x,
 unfolding next_entry
 next_first s Mark.High e h = grind arith
 next_first s Mark.Low e h = grind arith
-next_first s Mark.Switch e h = go s.queues.switch refl
-  where
-    go : (o : Option ℕ) → s.queues.switch ≡ o → (n : ℕ) × ((s.queues.switch ≡ Some n) × (e ≡ Entry.Thread n))
-    go (Some n) at = (n, (at, grind arith))
-    go None at = absurd (grind arith)
+next_first s Mark.Switch e h = let r = at_place (λ (n : ℕ). true) s.queues.switch (grind arith) in (r.0, (r.1.0, grind arith))
 
 -- the entry of a thread leaves its mark
-pub popped_cleared : (x : Mark) (m : ℕ) (s : Core) → First x (Entry.Thread m) s → HasPlace m s → Cleared m s (popped x s) × (1 ≤ switch_entries m s.queues.switch + entries m s.queues.high + entries m s.queues.low)
+pub popped_cleared : (x : Mark) (m : ℕ) (s : Core) → First x (Entry.Thread m) s → HasPlace m s →
+    Cleared m s (popped x s) × (1 ≤ switch_entries m s.queues.switch + entries m s.queues.high + entries m s.queues.low)
 unfolding popped set_switch set_high set_low
 popped_cleared Mark.Switch m s f h =
     (cleared m s _ h (grind (arith, nat_tests, has_one m s h)) (λ k o. grind (arith, nat_tests)), grind (arith, nat_tests))
@@ -100,8 +103,8 @@ rest_same k e es is other = let x = ap (entries k) is in let y = ap one_if other
 pub popped_quiet : (x : Mark) (e : Entry) (s : Core) → First x e s → ((k : ℕ) → is_entry_of k e ≡ false) → Untouched s (popped x s)
 unfolding popped set_switch set_high set_low
 popped_quiet Mark.Switch e s f other = absurd (subst T (sym (sym (other f.0) ∙ (ap (is_entry_of f.0) f.1.1 ∙ eq_refl f.0))) tt)
-popped_quiet Mark.High e s f other = record { places = λ k. refl; switch = λ k. refl; high = λ k. rest_same k e s.queues.high f (other k); low = λ k. refl; callers = refl; made = le_refl _ }
-popped_quiet Mark.Low e s f other = record { places = λ k. refl; switch = λ k. refl; high = λ k. refl; low = λ k. rest_same k e s.queues.low f (other k); callers = refl; made = le_refl _ }
+popped_quiet Mark.High e s f other = let rest = λ (k : ℕ). rest_same k e s.queues.high f (other k) in grind (arith, rest)
+popped_quiet Mark.Low e s f other = let rest = λ (k : ℕ). rest_same k e s.queues.low f (other k) in grind (arith, rest)
 
 -- ---- An entry is promoted
 
@@ -127,7 +130,8 @@ pub withdrawn_stand : {P : ℕ → Watch} (n : ℕ) (q : Option Place) (m : ℕ)
 withdrawn_stand {P = P} n q m s apart fresh st = record {
   here = other_place n m u (flipped n m apart) ∙ (c.places n ∙ st.here);
   once = st.once;
-  loose = λ k h. removed_loose k m u (by_number k m _ (λ e. subst (λ (j : ℕ). Loose j u) (sym e) own) (λ e. left_loose k s u (c.left k e) (st.loose k h)));
+  loose = λ k h. removed_loose k m u (by_number k m _ (λ e. subst (λ (j : ℕ). Loose j u) (sym e) own)
+      (λ e. left_loose k s u (c.left k e) (st.loose k h)));
   there = λ k h. zero_one refl h;
   placed = λ k h. by_number k m _ (λ e. subst (λ (j : ℕ). HasPlace j (remove_thread m u)) (sym e) (removed_gone m u own))
       (λ e. removed_placed k m u e (left_placed k s u (c.left k e) (c.places k) (st.placed k h)));
@@ -146,13 +150,15 @@ withdrawn_stand {P = P} n q m s apart fresh st = record {
 -- ---- A thread more
 
 -- it has the next number, which was no thread's, and behind which nobody was
-pub added_stand : {P : ℕ → Watch} (n : ℕ) (q : Option Place) (t : Thread) (s : Core) → (n == s.made.threads + 1) ≡ false → t.place ≡ Place.New →
+pub added_stand : {P : ℕ → Watch} (n : ℕ) (q : Option Place) (t : Thread) (s : Core) → (n == s.made.threads + 1) ≡ false →
+    t.place ≡ Place.New →
     Stand P n q [] s → Stand P n q [] (add_thread t s)
 unfolding add_thread
 added_stand {P = P} n q t s apart new st = record {
   here = added_other n apart ∙ st.here;
   once = st.once;
-  loose = λ k h. let e : (k == s.made.threads + 1) ≡ false = by_number k n _ (λ e. grind (arith, e, apart)) (λ e. zero_one (no_time k n e) h) in
+  loose =
+      λ k h. let e : (k == s.made.threads + 1) ≡ false = by_number k n _ (λ e. grind (arith, e, apart)) (λ e. zero_one (no_time k n e) h) in
       let l = st.loose k h in grind (arith, nat_tests, get-insert, added_other k e);
   there = λ k h. zero_one refl h;
   placed = λ k h. by_number k (s.made.threads + 1) _ (λ e. subst (λ (j : ℕ). HasPlace j u) (sym e) own) (λ e. other k e (st.placed k h));

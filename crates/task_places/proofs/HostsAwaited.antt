@@ -1,11 +1,11 @@
 -- A thread inside a sync call of a host waits for its work, or that is done; and host works have their entries: along the words of a step.
-use Rattle.task_rules.proofs.Machine.{[], after_placing, after_word, Allowed, ap, arith, behind_one, Bool, Collapses, Core, Departs, EndsOver, Enter, false, get, GoBehind, GoesBack, how_far_of, HowFar, inl, inr, is_stage_ended, IsRunner, Label, Lands, LandsAt, Made, Mark, MayCome, MayLand, MayRemoveWork, Move, Option, option_map_or, Place, place_of, Places, Placing, push_high, push_low, Put, put_high, put_low, Quits, refl, Remains, RemoveThread, Scene, scene_of, set_callers, set_place, SetHowFar, Setting, Settles, Some, Stage, stage_of, State, Stay, subst, Subtask, sym, Thread, Trip, true, Walked, WasUnder, Word, Work, ℕ, ⊎_elim, ◌==◌, ◌∙◌, ◌≡◌, ◌≤◌, ◌⊎◌}
+use Rattle.task_rules.proofs.Machine.{[], after_placing, after_word, Allowed, ap, arith, behind_one, Collapses, Core, Departs, EndsOver, Enter, false, get, GoBehind, GoesBack, how_far_of, HowFar, inl, inr, is_stage_ended, IsRunner, Label, Lands, LandsAt, Made, Mark, MayCome, MayLand, MayRemoveWork, Move, Option, option_map_or, Place, place_of, Places, Placing, push_high, push_low, Put, put_high, put_low, Quits, refl, Remains, RemoveThread, Scene, scene_of, set_callers, set_place, SetHowFar, Setting, Settles, Some, Stage, stage_of, State, Stay, subst, Subtask, sym, Thread, Trip, true, Walked, WasUnder, Word, Work, ℕ, ⊎_elim, ◌==◌, ◌∙◌, ◌≡◌, ◌≤◌, ◌⊎◌}
 use Rattle.task_places.proofs.PlaceSteps.{Reads, Withdrawable, step_by}
 use Rattle.task_rules.proofs.PlacingLemmas.{placing_shifted, SameWorks}
 use Rattle.task_rules.proofs.WalkMoves.{blocked_place}
 use Rattle.task_laws.proofs.CallsCame.{IsBeside, IsFirst, IsGone, IsSame, ThreadAfter, thread_came}
 use Rattle.task_laws.specs.Order.{HostsAwaited, WorksQueued, InPlace}
-use Rattle.task_places.proofs.PlaceLaw.{Frame, beside, exits, move_runner, no_way, runner_there, stands, stay_word, stuck_word, watch, yield_leaves}
+use Rattle.task_places.proofs.PlaceLaw.{Frame, beside, exits, move_runner, runner_there, stands, stay_word, stuck_word, watch, yield_leaves}
 use Rattle.task_places.proofs.WorksQueued.{ended_word, works_word, others_move}
 use Rattle.task_laws.proofs.CountLemmas.{made_works_word}
 use Rattle.task_rules.proofs.ChainLemmas.{along, fall_allowed, land_allowed, stays_allowed, settle_stays}
@@ -13,7 +13,8 @@ use Rattle.task_rules.proofs.StandLemmas.{Stand, by_number, place_kept}
 
 -- a blocked thread stays, or the work is done, where the word is a change of places
 abbrev Stuck : Word → Core → Type 0
-Stuck w s = (m i : ℕ) → place_of m s ≡ Some (Place.Blocked (Subtask.Host i)) → (x : Placing) → w ≡ Places x → (place_of m (after_word w s) ≡ Some (Place.Blocked (Subtask.Host i))) ⊎ (is_stage_ended (stage_of i s) ≡ true)
+Stuck w s = (m i : ℕ) → place_of m s ≡ Some (Place.Blocked (Subtask.Host i)) → (x : Placing) → w ≡ Places x →
+    (place_of m (after_word w s) ≡ Some (Place.Blocked (Subtask.Host i))) ⊎ (is_stage_ended (stage_of i s) ≡ true)
 
 -- the thread is blocked on the work, or that has ended
 abbrev Awaited : ℕ → ℕ → Core → Type 0
@@ -23,9 +24,11 @@ awaited_word : (a : Scene) (w : Word) (s : Core) → Allowed a w s → ((i : ℕ
     WorksQueued s → Stuck w s → HostsAwaited s → HostsAwaited (after_word w s)
 awaited_word a w s ok ends q stuck h n i far = go (thread_came w s ok n)
   where
-    goes : (r u : Thread) → get s.threads n ≡ Some r → get (after_word w s).threads n ≡ Some u → (u.place ≡ r.place) ⊎ ((x : Placing) × (w ≡ Places x)) →
+    goes : (r u : Thread) → get s.threads n ≡ Some r → get (after_word w s).threads n ≡ Some u →
+        (u.place ≡ r.place) ⊎ ((x : Placing) × (w ≡ Places x)) →
         Awaited n i s → Awaited n i (after_word w s)
-    goes r u e f (inl same) old = let l = ended_word a w s ok ends q i old.0 in let m = made_works_word a w s in let o = old.1 in grind arith
+    goes r u e f (inl same) old =
+        let l = ended_word a w s ok ends q i old.0 in let m = made_works_word a w s in let o = old.1 in grind arith
     goes r u e f (inr x) old = let l = ended_word a w s ok ends q i old.0 in let m = made_works_word a w s in let o = old.1 in
         let b = λ (at : place_of n s ≡ Some (Place.Blocked (Subtask.Host i))). stuck n i at x.0 x.1 in grind arith
 
@@ -34,7 +37,8 @@ awaited_word a w s ok ends q stuck h n i far = go (thread_came w s ok n)
 
     go : ThreadAfter a w s n → Awaited n i (after_word w s)
     go (IsSame r u e f c y (inl same) p z) = goes r u e f p (h n i (cc))
-    go (IsSame r u e f c y (inr ok) p z) = goes r u e f p (come r e (let is : u.how_far ≡ HowFar.Calls (Subtask.Host i) = cc in subst (λ g. MayCome a n g s) is ok))
+    go (IsSame r u e f c y (inr ok) p z) =
+        goes r u e f p (come r e (let is : u.how_far ≡ HowFar.Calls (Subtask.Host i) = cc in subst (λ g. MayCome a n g s) is ok))
     go (IsGone e) = absurd (cc)
     go (IsBeside u is l same m e) = absurd (cc)
     go (IsFirst u is l there y z new m e x) = absurd (cc)
@@ -50,7 +54,8 @@ pub record Working (a : Scene) (s : Core) : Type 0 where
 
 -- the work that the runner called in sync, and which it was told of
 abbrev pub Asked : Scene → Type 0
-Asked a = (m i : ℕ) → IsRunner a m → how_far_of m a.base ≡ HowFar.Calls (Subtask.Host i) → (i ≤ a.base.made.works) × (is_stage_ended (stage_of i a.base) ≡ true)
+Asked a = (m i : ℕ) → IsRunner a m → how_far_of m a.base ≡ HowFar.Calls (Subtask.Host i) →
+    (i ≤ a.base.made.works) × (is_stage_ended (stage_of i a.base) ≡ true)
 
 goes_ended : (a : Scene) (i : ℕ) (s : Core) → Asked a → Working a s → MayRemoveWork a i s → is_stage_ended (stage_of i s) ≡ true
 goes_ended a i s asked h ok =
@@ -66,19 +71,13 @@ working_word a asked w s ok stuck h = record {
 
 -- ---- Trips
 
-abbrev is_places : Word → Bool
-is_places (Places p) = true
-is_places _ = false
-
--- words that move no thread to another place
-unmoved : (w : Word) (s : Core) → is_places w ≡ false → Stuck w s
-unmoved w s other m i at x e = no_way (sym other ∙ ap is_places e)
-
 module _ {a : Scene} {b : Core} {n : ℕ} {q : Option Place} (f : Frame a b n q) (asked : Asked a) where
   -- who is blocked is neither the one that lands nor a new one
   apart : (k m : ℕ) (s : Core) → IsRunner a k → Stay a b s → (sub : Subtask) → place_of m s ≡ Some (Place.Blocked sub) → (m == k) ≡ false
   apart k m s is c sub at =
-      let h = (beside f k is).1 in let busy = h.follows.busy in let here = (stands h c).here in by_number m k _ (λ e. absurd (grind arith)) (λ e. e)
+      let h = (beside f k is).1 in
+      let busy = h.follows.busy in
+      let here = (stands h c).here in by_number m k _ (λ e. absurd (grind arith)) (λ e. e)
 
   land_blocked : (p : Placing) (s : Core) → MayLand a p s → Stay a b s → (m : ℕ) (sub : Subtask) → place_of m s ≡ Some (Place.Blocked sub) →
       place_of m (after_placing p s) ≡ Some (Place.Blocked sub)
@@ -97,34 +96,44 @@ module _ {a : Scene} {b : Core} {n : ℕ} {q : Option Place} (f : Frame a b n q)
   stays : {t : Core} → Working a b → Stay a b t → Working a t
   stays first c =
       (along (λ (t : Core). Stand (watch a) n q [] t × Working a t)
-      (λ w s ok h. (stay_word f.follows w s ok h.0, working_word a asked w s (stays_allowed a w s ok) (λ m i at x e. stuck_word f.follows m (Subtask.Host i) w s ok h.0 at) h.1))
+      (λ w s ok h. (
+        stay_word f.follows w s ok h.0,
+        working_word a asked w s (stays_allowed a w s ok) (λ m i at x e. stuck_word f.follows m (Subtask.Host i) w s ok h.0 at) h.1,
+      ))
       (f.follows.start, first) c).1
 
   settles : {s t : Core} → Working a s → Settles s t → Working a t
-  settles first d = along (Working a) (λ w s ok h. working_word a asked w s (stays_allowed a w s (settle_stays a w s ok)) (unmoved w s (grind arith)) h) first d
+  settles first d = along (Working a)
+      (λ w s ok h. working_word a asked w s (stays_allowed a w s (settle_stays a w s ok)) (λ m i at x e. absurd (grind arith)) h) first d
 
   landed : (s : Core) (p : Placing) → Working a b → Stay a b s → MayLand a p s → Working a (after_word (Places p) s)
   landed s p first c ok =
       working_word a asked (Places p) s (land_allowed a p s ok)
-      (λ m i at x e. inl (ap (λ (t : Core). place_of m t) (placing_shifted p s).only ∙ land_blocked p s ok c m (Subtask.Host i) at)) (stays first c)
+      (λ m i at x e. inl (ap (λ (t : Core). place_of m t) (placing_shifted p s).only ∙ land_blocked p s ok c m (Subtask.Host i) at))
+      (stays first c)
 
   pub trip_works : {t : Core} → Working a b → Trip a b t → Working a t
   trip_works first (Remains t c still) = stays first c
   trip_works first (Lands s p c ok fit) = landed s p first c ok
   trip_works first (LandsAt s p m h c ok fit comes) =
-      working_word a asked (SetHowFar m h) (after_word (Places p) s) comes (unmoved (SetHowFar m h) (after_word (Places p) s) refl) (landed s p first c ok)
+      let t = after_word (Places p) s in
+      working_word a asked (SetHowFar m h) t comes (λ j i at x e. absurd (cc)) (landed s p first c ok)
   trip_works first (Quits s t k c leave d) =
-      settles (working_word a asked (RemoveThread k) s (Departs leave) (unmoved (RemoveThread k) s refl) (stays first c)) d
+      settles (working_word a asked (RemoveThread k) s (Departs leave) (λ j i at x e. absurd (cc)) (stays first c)) d
   trip_works first (GoesBack s t k m v c is runs to under d ok) =
-      let g = settles (working_word a asked (RemoveThread k) s (EndsOver m is to under) (unmoved (RemoveThread k) s refl) (stays first c)) d in
+      let g =
+      settles (working_word a asked (RemoveThread k) s (EndsOver m is to under) (λ j i at x e. absurd (cc)) (stays first c)) d in
       let low : place_of m t ≡ Some (Place.Under k) = (exits f k s t is c d).1.1 m k under in
       let back = after_word (Places (Move m Place.Running)) t in
-      let other = λ (j i : ℕ) (at : place_of j t ≡ Some (Place.Blocked (Subtask.Host i))). by_number j m _ (λ e. absurd (grind arith)) (λ e. e) in
+      let other =
+      λ (j i : ℕ) (at : place_of j t ≡ Some (Place.Blocked (Subtask.Host i))). by_number j m _ (λ e. absurd (grind arith)) (λ e. e) in
       working_word a asked (SetHowFar m (HowFar.Answered v)) back ((k, (is, (to, under))), WasUnder k v under refl)
-      (unmoved (SetHowFar m (HowFar.Answered v)) back refl)
+      (λ j i at x e. absurd (cc))
       (working_word a asked (Places (Move m Place.Running)) t (inr ok)
-      (λ j i at x y. inl (ap (λ (u : Core). place_of j u) (placing_shifted (Move m Place.Running) t).only ∙ (place_kept j m Place.Running t (other j i at) ∙ at))) g)
-  trip_works first (Collapses t over c) = along (Working a) (λ w s ok h. working_word a asked w s (fall_allowed a w s ok) (unmoved w s (grind arith)) h) first c
+      (λ j i at x y. inl (ap (λ (u : Core). place_of j u) (placing_shifted (Move m Place.Running) t).only ∙
+      (place_kept j m Place.Running t (other j i at) ∙ at))) g)
+  trip_works first (Collapses t over c) =
+      along (Working a) (λ w s ok h. working_word a asked w s (fall_allowed a w s ok) (λ m i at x e. absurd (grind arith)) h) first c
 
 -- ---- Steps
 
@@ -146,12 +155,14 @@ module _ (x : Setting) (s : State) (l : Label) (t : State) (w : Walked x s l t) 
 
   pub step_works : WorksQueued s.core → WorksQueued t.core × HostsAwaited t.core
   step_works works = step_by x s l t w h may (λ a u. WorksQueued u × HostsAwaited u)
-      (λ a b n q u base first same f c ends. let r = trip_works f (of_runner a b n q base f) (begins a b base first same) c in (r.works, r.awaited))
+      (λ a b n q u base first same f c ends.
+      let r = trip_works f (of_runner a b n q base f) (begins a b base first same) c in (r.works, r.awaited))
     where
       begins : (a : Scene) (b : Core) → Reads s.core a.base → Reads s.core b → SameWorks s.core b → Working a b
       begins a b base first same = record {
         works = others_move s.core b same first.1.0 (ap (λ (m : Made). m.works) first.1.1) works;
         awaited = read_awaited s.core b first awaited;
         made = let e = ap (λ (m : Made). m.works) (base.1.1 ∙ sym first.1.1) in omega (arith, e);
-        ended = λ i below e. ap (λ m. is_stage_ended (option_map_or (λ (w : Work). w.stage) (get m i) Stage.Ended)) (first.1.0 ∙ sym base.1.0) ∙ e;
+        ended = λ i below e.
+            ap (λ m. is_stage_ended (option_map_or (λ (w : Work). w.stage) (get m i) Stage.Ended)) (first.1.0 ∙ sym base.1.0) ∙ e;
       }

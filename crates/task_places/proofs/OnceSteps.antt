@@ -4,7 +4,7 @@ use Rattle.task_laws.proofs.NamedWorks.{NamesNoSync, abort_kept, names_word, ope
 use Rattle.task_laws.proofs.CallsLaw.{CallsHold}
 use Rattle.task_laws.proofs.CallsSteps.{of_base}
 use Rattle.task_rules.proofs.ChainLemmas.{along}
-use Rattle.task_laws.proofs.CallEnds.{EndsTold, opening_ends_told}
+use Rattle.task_laws.proofs.CallEnds.{EndsTold, ends_go, opening_ends_told}
 use Rattle.task_laws.proofs.OnceLemmas.{Due, Over, EndStep, due_over, ends_once}
 use Rattle.task_laws.proofs.SceneLemmas.{base_is, runner_there}
 use Rattle.task_laws.specs.Ends.{is_sync_work, MayBeAborted, SyncUnnamed}
@@ -13,7 +13,7 @@ use Rattle.task_laws.proofs.WorksCame.{Doing, doing_of}
 use Rattle.task_laws.proofs.Works.{WorksGo, WorksHold, number_of, opening_works, first_works, works_word}
 use Rattle.task_rules.proofs.WalkSteps.{step_walks}
 use Rattle.task_laws.specs.Order.{InOrder, OpeningInOrder}
-use Rattle.task_laws.proofs.StepEnds.{Answered, CallsFound, CallsKnown, calls_known, step_ends}
+use Rattle.task_laws.proofs.StepEnds.{Answered, CallsFound, step_ends}
 use Rattle.task_places.specs.Once.{RunsAreOnce, IsUnbegun}
 use Rattle.task_places.proofs.OrderLemmas.{asked, held_of, opening_in_order, step_in_order}
 
@@ -78,8 +78,8 @@ module _ (x : Setting) (s : State) (l : Label) (t : State) (k : Known x s) (step
           names_word a v u ok q.0.holds q.1.0,
           (
             λ i h. abort_kept a v u ok i (q.1.1.0 i h),
-            callers_word a (to_base (λ c. (i : ℕ) (v : Doing) → doing_of i c ≡ Some v → i ≤ c.made.works) (number_of k.works)) callers_base names_base v u ok
-                q.0 (λ i h. q.1.1.0 i (at_first i h)) q.1.1.1,
+            callers_word a (to_base (λ c. (i : ℕ) (v : Doing) → doing_of i c ≡ Some v → i ≤ c.made.works) (number_of k.works))
+                callers_base names_base v u ok q.0 (λ i h. q.1.1.0 i (at_first i h)) q.1.1.1,
           ),
         ),
       ))
@@ -99,25 +99,21 @@ module _ (x : Setting) (s : State) (l : Label) (t : State) (k : Known x s) (step
   answered : Answered a
   answered n i runner far = (ap (λ c. is_sync_work c) (callers_base n i far), (asked x s l t k.order w n i runner far).1)
 
-  holds : CallsHold x.component s.core
-  holds = held_of k.order
-
   found : CallsFound a
   found = record {
-    own = λ n runner. to_base (λ c. is_some (get c.calls (task_of n c)) ≡ true) (let there = runner_there x s l w.next k.order.in_place n runner in grind (arith, k.order.calls_there n (task_of n s.core)));
-    named = λ j named. to_base (λ c. (i h : ℕ) → subtask_at i h c ≡ Some (Subtask.Guest j) → is_some (get c.calls j) ≡ true) (λ i h e. let there = k.order.names.there i h j e in grind arith) (instance_of named.0 a.base) named.1.0 named.1.1.1;
+    own = λ n runner. let there = runner_there x s l w.next k.order.in_place n runner in
+        to_base (λ c. is_some (get c.calls (task_of n c)) ≡ true) (grind (arith, k.order.calls_there n (task_of n s.core)));
+    named = λ j named. to_base (λ c. (i h : ℕ) → subtask_at i h c ≡ Some (Subtask.Guest j) → is_some (get c.calls j) ≡ true)
+        (λ i h e. let there = k.order.names.there i h j e in grind arith) (instance_of named.0 a.base) named.1.0 named.1.1.1;
   }
 
-  calls : CallsKnown x s t.core a
-  calls = calls_known x s l t k.order.codes holds k.told step w
-
   end_step : (sub : Subtask) → EndStep x.component (record { before = s; label = l; after = t }) sub
-  end_step = step_ends x s l t w.next k.order.codes calls k.works works_after.0 found k.over answered
+  end_step = step_ends x s l t k.order.codes (held_of k.order) k.told step w k.works works_after.0 found k.over answered
 
   known_after : Known x t
   known_after = record {
     order = step_in_order x s l t k.order step;
-    told = calls.ends.told;
+    told = (ends_go k.order.codes (held_of k.order) k.told w).1.told;
     works = works_after.0.holds;
     unnamed = record { works = works_after.1.0; spawns = spawns_after };
     callers = works_after.1.1.1;
@@ -154,7 +150,10 @@ runs_are_once x codes instances handle_limit capacity main begun ls t run =
       order = opening_in_order x.component codes instances handle_limit capacity main;
       told = opening_ends_told instances handle_limit capacity;
       works = opening_works instances handle_limit capacity;
-      unnamed = record { works = opening_names instances handle_limit capacity; spawns = λ p j is. opening_spawns instances handle_limit capacity main begun p j is };
+      unnamed = record {
+        works = opening_names instances handle_limit capacity;
+        spawns = opening_spawns instances handle_limit capacity main begun;
+      };
       callers = opening_callers instances handle_limit capacity;
       zero = zero_unmade instances handle_limit capacity;
       over = λ sub e due. absurd (none_due instances handle_limit capacity sub e due);

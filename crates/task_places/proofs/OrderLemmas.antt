@@ -1,5 +1,5 @@
 -- A state in order: each opening state is, and each step leads from one to one.
-use Rattle.task_rules.proofs.Machine.{[], ap, arith, base_at, Bool, ByHandle, ByOp, Call, call_instance, callee_of, can_come, Component, Core, empty, false, fresh, get, get-empty, HasSubtask, how_far_of, HowFar, inl, inr, instance_of, is_fresh, is_some, is_sync_call, is_there, IsRunner, Label, le_refl, le_trans, length, List, None, Op, op_of_thread, opening, Option, option_and_then, option_map, option_map_or, Place, place_of, Placed, refl, Run, Scene, scene_of, Script, script_in, Setting, slice_get, Some, State, Steady, subst, Subtask, subtask_under_way, sym, task_of, TaskOp, Thread, true, Turn, unwrap_or, Walk, Walked, was_started, Work, ℕ, ⊎_elim, ◌∙◌, ◌∷◌, ◌≡◌, ◌≤◌, ◌⊎◌}
+use Rattle.task_rules.proofs.Machine.{[], ap, arith, base_at, Bool, ByHandle, ByOp, Call, callee_of, can_come, Component, Core, false, fresh, get, get-empty, HasSubtask, how_far_of, HowFar, inl, inr, instance_of, is_fresh, is_some, is_sync_call, is_there, IsRunner, Label, le_refl, le_trans, length, List, None, Op, op_at_place, op_of_thread, opening, option_map, option_map_or, Place, place_of, Placed, refl, Run, Scene, scene_of, Script, script_in, Setting, Some, State, Steady, subst, Subtask, subtask_under_way, sym, task_of, Thread, true, Turn, Walk, Walked, was_started, Work, ℕ, ⊎_elim, ◌∙◌, ◌∷◌, ◌≡◌, ◌≤◌, ◌⊎◌}
 use Rattle.task_laws.specs.Wakes.{NoneAdmitted}
 use Rattle.task_laws.proofs.HeldLemmas.{held_word}
 use Rattle.task_places.proofs.InsideLemmas.{step_inside}
@@ -8,8 +8,8 @@ use Rattle.task_places.proofs.Directs.{directs_on_top}
 use Rattle.task_laws.proofs.Joins.{joins_word, opening_joins}
 use Rattle.task_laws.proofs.Subtasks.{Traced, opening_named, opening_works_named, traced_word, works_named_word}
 use Rattle.task_laws.proofs.WatchLemmas.{queued_watched, watched_word}
-use Rattle.task_laws.proofs.CountLemmas.{made_works_word}
-use Rattle.task_laws.specs.Order.{CancelsWatched, WorksNamed}
+use Rattle.task_laws.proofs.CountLemmas.{made_works_word, few_word}
+use Rattle.task_laws.specs.Order.{CancelsWatched, WorksNamed, InPlace, StartsFirst, CallsAwaited, cancelled_call, is_awaited, HasNotRun, CallsNamed, InOrder, Numbered, OpeningInOrder, SetsNamed, StartsAwaited, StepInOrder, WasCall, CallsThere, MakesFew, Strands, WaitsAtHome, StepsMakeFew, JoinsNamed, DirectsOnTop, Fits, WorksQueued, HostsAwaited}
 use Rattle.task_rules.proofs.WalkSteps.{step_walks}
 use Rattle.task_rules.proofs.ChainLemmas.{along}
 use Rattle.task_laws.proofs.WaitLemmas.{Homed, KnownHome, homed_word}
@@ -17,15 +17,13 @@ use Rattle.task_laws.proofs.StrandLemmas.{Layered, layered_word}
 use Rattle.task_laws.proofs.SceneLemmas.{runner_there}
 use Rattle.task_laws.proofs.HousedLemmas.{RunnerHoused, housed_word}
 use Rattle.task_laws.proofs.FitLemmas.{AllFit, fits_word, OfBase}
-use Rattle.task_laws.proofs.CountLemmas.{few_word}
 use Rattle.task_laws.proofs.SetHandles.{opening_sets, sets_named_word}
 use Rattle.task_laws.proofs.CallsLaw.{CallsGo, CallsHold}
-use Rattle.task_laws.proofs.CallsSteps.{base_out, calls_begin, of_base, word_goes, opening_holds, plain, plain_scene, step_goes}
+use Rattle.task_laws.proofs.CallsSteps.{calls_begin, of_base, word_goes, opening_holds, plain, plain_scene, step_goes}
 use Rattle.task_laws.proofs.AwaitedCalls.{DirectsRun, Inside, directs_word, CallsInside, inside_word, apart_after}
-use Rattle.task_laws.proofs.NamedCalls.{NamesGo, InsideThere, names_go_word, opening_names_known}
+use Rattle.task_laws.proofs.NamedCalls.{NamesHold, NamesGo, InsideThere, names_go_word, opening_names_known}
 use Rattle.task_laws.proofs.UnbegunCalls.{first_waits, Unbegun, unbegun_word, Waited}
 use Rattle.task_places.proofs.CallsBack.{back_apart}
-use Rattle.task_laws.specs.Order.{InPlace, StartsFirst, NamesKnown, CallsAwaited, cancelled_call, is_awaited, IsUnbegun, CallsNamed, InOrder, Numbered, OpeningInOrder, SetsNamed, StartsAwaited, StepInOrder, WasCall, CallsThere, MakesFew, Strands, WaitsAtHome, set_of_op, set_of_place, StepsMakeFew, JoinsNamed, DirectsOnTop, Fits, WorksQueued, HostsAwaited, names_script}
 use Rattle.task_places.proofs.PlaceLaw.{Arrives}
 use Rattle.task_places.proofs.PlaceSteps.{step_by, Withdrawable, settled_run, step_arrives}
 use Rattle.task_places.specs.Kept.{ReachedInOrder, ReachedInPlace, StepsKeepPlaces}
@@ -51,18 +49,7 @@ was_awaited s t placed steady starts k c at e =
 
 -- ---- Who is there
 
-place_there : (o : Option Place) (x : ℕ) → option_and_then set_of_place o ≡ Some x → is_some o ≡ true
-place_there o x h = grind arith
-
-op_there : (o : Option Thread) (x : ℕ) → set_of_op (option_map_or (λ (t : Thread). t.how_far) o HowFar.Fresh) ≡ Some x →
-    is_some (option_map (λ (t : Thread). t.place) o) ≡ true
-op_there o x h = grind arith
-
--- a call that is there before and after is of one instance, and so is a thread
-same_call : (s t : Core) → Steady s t → Numbered s → (k : ℕ) → is_some (get s.calls k) ≡ true → is_some (get t.calls k) ≡ true →
-    call_instance k t ≡ call_instance k s
-same_call s t steady numbered k was now = grind (arith, steady.calls k, numbered.calls k)
-
+-- a call that is there before and after is of one export, and a thread of one instance
 same_callee : (s t : Core) → Steady s t → Numbered s → (k : ℕ) → is_some (get s.calls k) ≡ true → is_some (get t.calls k) ≡ true →
     callee_of k t ≡ callee_of k s
 same_callee s t steady numbered k was now = grind (arith, steady.calls k, numbered.calls k)
@@ -70,13 +57,8 @@ same_callee s t steady numbered k was now = grind (arith, steady.calls k, number
 same_instance : (s t : Core) → Steady s t → Numbered s → CallsThere s → CallsThere t → (n : ℕ) → is_there n s ≡ true → is_there n t ≡ true →
     instance_of n t ≡ instance_of n s
 same_instance s t steady numbered before after n was now =
-    let same = same_call s t steady numbered (task_of n s) in
+    let same = same_callee s t steady numbered (task_of n s) in
     grind (arith, steady.threads n, numbered.threads n, before n (task_of n s), after n (task_of n t))
-
--- the instance of the call matters to a thread beside the first one
-same_script : (c : Component) (i j : ℕ) (explicit : Bool) (x : Script) → (explicit ≡ true → i ≡ j) → names_script c j explicit x ≡ true →
-    names_script c i explicit x ≡ true
-same_script c i j explicit x same h = grind arith
 
 pub steps_make_few : StepsMakeFew
 steps_make_few x s l t step =
@@ -165,19 +147,22 @@ module _ (x : Setting) (s : State) (l : Label) (t : State) (h : InOrder x.compon
       let fresh = arrives.fresh k (was_awaited s.core t.core h.in_place.placed steady h.starts k c at e) in
       grind (arith, h.numbered.threads k, steady.calls k)
 
-  directs_run : DirectsRun a t.core
-  directs_run = along (DirectsRun a) (directs_word a) (λ k d. inl d) walk
-
-  pub directs_kept : Steady s.core t.core → Numbered t.core → DirectsOnTop t.core
-  directs_kept steady after = directs_on_top a s.core t.core steady h.numbered after arrives (λ k. refl) (λ k. refl) h.directs directs_run
-
   -- ---- Calls that ops are inside of
 
   unbegun_base : StartsFirst a.base
   unbegun_base k r at first waits = let q = h.unbegun k r at first waits in record { unended = q.unended; alone = q.alone }
 
-  names_base : NamesKnown a.base
-  names_base = record { there = h.names.there; once = h.names.once; number = h.names.number; called = h.names.called }
+  names_first : NamesHold s.core
+  names_first = record {
+    known = h.names;
+    number = λ k c at. (h.numbered.calls k c at).1;
+    least = λ n k far. (h.calls_named.by_op n k (ap subtask_under_way far)).number;
+  }
+
+  names_base : NamesHold a.base
+  names_base =
+      let n = names_first in
+      record { known = record { there = h.names.there; once = h.names.once; called = h.names.called }; number = n.number; least = n.least }
 
   calls_base : CallsAwaited a.base
   calls_base = record { inside = h.calls.inside; apart = h.calls.apart }
@@ -187,34 +172,47 @@ module _ (x : Setting) (s : State) (l : Label) (t : State) (h : InOrder x.compon
 
   -- a running thread is under none
   inside_there : InsideThere a
-  inside_there n k runs far = ⊎_elim (λ under. let at = h.in_place.runs n runs in absurd (grind arith)) (λ awaited. grind arith) (h.calls.inside n k far)
+  inside_there n k runs far =
+      ⊎_elim (λ under. let at = h.in_place.runs n runs in absurd (grind arith)) (λ awaited. grind arith) (h.calls.inside n k far)
 
   least : (m k : ℕ) → cancelled_call (how_far_of m a.base) ≡ Some k → k ≤ a.base.made.threads
   least m k e = (known.by_op m k (grind arith)).number
 
-  -- what handles and ops name, and the calls that ops are inside of
-  called : NamesGo a t.core × CallsInside a t.core
+  -- what handles and ops name, and the calls that are direct or that ops are inside of
+  called : DirectsRun a t.core × (NamesGo a t.core × CallsInside a t.core)
   called =
-      let q = along (λ u. DirectsRun a u × (NamesGo a u × CallsInside a u)) (λ v u ok q.
+      along (λ u. DirectsRun a u × (NamesGo a u × CallsInside a u)) (λ v u ok q.
       let names = names_go_word a names_base inside_there v u ok q.1.0 in (
         directs_word a v u ok q.0,
         (names, inside_word a names_base calls_base unbegun_base numbered_base least v u ok q.1.0 names q.0 q.1.1),
-      ))
-      (λ k d. inl d, (record { known = h.names; were = λ n k far. inl far }, record { inside = λ n k far. ⊎_elim inl (λ w. inr (inl w)) (h.calls.inside n k far); cancelled = λ m k e. inl e })) walk in
-      q.1
+      )) (
+        λ k d. inl d,
+        (
+          record { hold = names_first; were = λ n k far. inl far },
+          record { inside = λ n k far. ⊎_elim inl (λ w. inr (inl w)) (h.calls.inside n k far); cancelled = λ m k e. inl e },
+        ),
+      ) walk
+
+  pub directs_kept : Steady s.core t.core → Numbered t.core → DirectsOnTop t.core
+  directs_kept steady after = directs_on_top a s.core t.core steady h.numbered after arrives (λ k. refl) (λ k. refl) h.directs called.0
 
   pub awaited_kept : CallsAwaited t.core
   awaited_kept = record {
-    inside = λ n k far. inside n k far (called.1.inside n k far);
-    apart = apart_after a names_base calls_base unbegun_base numbered_base least t.core called.0 called.1;
+    inside = λ n k far. inside n k far (called.1.1.inside n k far);
+    apart = apart_after a names_base calls_base unbegun_base numbered_base least t.core called.1.0 called.1.1;
   }
     where
       back : (n k : ℕ) → place_of n s.core ≡ Some (Place.Under k) → a.next ≡ Turn.Run n → subtask_under_way (how_far_of n t.core) ≡ None
-      back n k at to = step_by x s l t w h.in_place withdrawable (λ c u. place_of n c.base ≡ Some (Place.Under k) → c.next ≡ Turn.Run n → subtask_under_way (how_far_of n u) ≡ None)
-          (λ c b m q u base first same f d ends at to. back_apart f n k at to d) (of_base (λ b. place_of n b ≡ Some (Place.Under k)) s.turn s.core at) to
+      back n k at to = step_by x s l t w h.in_place withdrawable
+          (λ c u. place_of n c.base ≡ Some (Place.Under k) → c.next ≡ Turn.Run n → subtask_under_way (how_far_of n u) ≡ None)
+          (λ c b m q u base first same f d ends at to. back_apart f n k at to d)
+          (of_base (λ b. place_of n b ≡ Some (Place.Under k)) s.turn s.core at) to
 
-      inside : (n k : ℕ) → how_far_of n t.core ≡ HowFar.Calls (Subtask.Guest k) → Inside a n k t.core → (place_of n t.core ≡ Some (Place.Under k)) ⊎ (option_map_or is_awaited (get t.core.calls k) false ≡ true)
-      inside n k far (inl under) = ⊎_elim inl (λ gone. absurd (⊎_elim (λ to. let y = back n k under to in grind arith) (λ none. grind arith) gone.1)) (arrives.covered n k under)
+      inside : (n k : ℕ) → how_far_of n t.core ≡ HowFar.Calls (Subtask.Guest k) → Inside a n k t.core →
+          (place_of n t.core ≡ Some (Place.Under k)) ⊎ (option_map_or is_awaited (get t.core.calls k) false ≡ true)
+      inside n k far (inl under) =
+          ⊎_elim inl (λ gone. absurd (⊎_elim (λ to. let y = back n k under to in grind arith) (λ none. grind arith) gone.1))
+          (arrives.covered n k under)
       inside n k far (inr (inl awaited)) = inr awaited
       inside n k far (inr (inr (new, (runner, next)))) =
           let number = (h.in_place.placed k).number in
@@ -230,7 +228,8 @@ module _ (x : Setting) (s : State) (l : Label) (t : State) (h : InOrder x.compon
   -- ---- Scripts
 
   fits_base : Fits x.component a.base
-  fits_base n r at = let f = h.fits n r at in record { script = f.script; position = f.position; op = f.op; under = f.under; first = f.first }
+  fits_base n r at =
+      let f = h.fits n r at in record { script = f.script; position = f.position; op = f.op; under = f.under; first = f.first }
 
   has_call : (n : ℕ) (r : Thread) → get s.core.threads n ≡ Some r → is_some (get s.core.calls r.call) ≡ true
   has_call n r at = h.calls_there n r.call (ap (λ o. option_map (λ (t : Thread). t.call) o) at)
@@ -244,7 +243,7 @@ module _ (x : Setting) (s : State) (l : Label) (t : State) (h : InOrder x.compon
     same = λ to b is. let e : r ≡ b = cc in (ap (λ (t : Thread). t.call) e, ap (λ (t : Thread). t.script) e);
     op = inr (has_call n r at, f.op);
     under = λ d. ((has_call n r at, f.under d), inl (grind arith));
-    still = λ d b is. let e : r ≡ b = cc in (ap (λ (t : Thread). t.call) e, (ap (λ (t : Thread). t.script) e, ap (λ (t : Thread). t.position) e));
+    still = λ d b is. let e : r ≡ b = cc in grind arith;
   }
 
   -- what is so of threads and their ops as the step ends
@@ -259,7 +258,7 @@ module _ (x : Setting) (s : State) (l : Label) (t : State) (h : InOrder x.compon
         ),
       )) (b.1, (fits_first, record { came = λ k f. inl f; rest = waited_first })) walk).1
     where
-      waited_first : (k : ℕ) → Waited a k → is_some (get s.core.threads k) ≡ true → IsUnbegun s.core k
+      waited_first : (k : ℕ) → Waited a k → is_some (get s.core.threads k) ≡ true → HasNotRun s.core k
       waited_first k f there =
           let r = at_place (λ (r : Thread). true) (get s.core.threads k) (grind arith) in
           let below = h.numbered.threads k r.0 r.1.0 in h.unbegun k r.0 r.1.0 (grind arith) (grind arith)
@@ -280,8 +279,8 @@ module _ (x : Setting) (s : State) (l : Label) (t : State) (h : InOrder x.compon
   fits_kept steady n r at =
       let f = last.0 n r at in
       record {
-        script = same_script x.component (call_instance r.call t.core) (call_instance r.call s.core) r.explicit r.script
-            (λ e. same_call s.core t.core steady h.numbered r.call (f.call e) now) f.script;
+        -- the instance of the call matters to a thread beside the first one
+        script = let home = λ (e : r.explicit ≡ true). ap (λ c. c.instance) (same (f.call e)) in let script = f.script in grind arith;
         position = ⊎_elim (λ zero. omega (arith, zero))
             (λ b. subst (λ e. r.position ≤ length (script_in x.component e r.script)) (sym (same b.0)) b.1) f.position;
         op = ⊎_elim (λ fresh. ap (can_come (op_of_thread x.component t.core r)) fresh) (λ e. at_op (λ o. can_come o r.how_far) e) f.op;
@@ -297,7 +296,7 @@ module _ (x : Setting) (s : State) (l : Label) (t : State) (h : InOrder x.compon
 
       at_op : (test : Op → Bool) → OfBase a r test → test (op_of_thread x.component t.core r) ≡ true
       at_op test e =
-          subst (λ f. test (unwrap_or (slice_get (script_in x.component f r.script) r.position) (Op.Task TaskOp.Exit)) ≡ true) (sym (same e.0)) e.1
+          subst (λ f. test (op_at_place (script_in x.component f r.script) r.position) ≡ true) (sym (same e.0)) e.1
 
   -- handles of sets, and the joins to them
   pub joined_kept : SetsNamed t.core × JoinsNamed t.core
@@ -314,8 +313,8 @@ module _ (x : Setting) (s : State) (l : Label) (t : State) (h : InOrder x.compon
   homed_first : Homed a s.core
   homed_first = record {
     homes = λ i y q. assumption;
-    by_place = λ n y e. (h.waits.by_place n y e, place_there (place_of n s.core) y e);
-    by_op = λ n y e. (h.waits.by_op n y e, op_there (get s.core.threads n) y e);
+    by_place = λ n y e. (h.waits.by_place n y e, grind arith);
+    by_op = λ n y e. (h.waits.by_op n y e, grind arith);
   }
 
   homed_last : Homed a t.core
@@ -323,8 +322,8 @@ module _ (x : Setting) (s : State) (l : Label) (t : State) (h : InOrder x.compon
 
   pub waits_kept : Steady s.core t.core → WaitsAtHome t.core
   waits_kept steady = record {
-    by_place = λ n y e. let q = homed_last.by_place n y e in rw (same n (place_there (place_of n t.core) y e) q.1) q.0;
-    by_op = λ n y e. let q = homed_last.by_op n y e in rw (same n (op_there (get t.core.threads n) y e) q.1) q.0;
+    by_place = λ n y e. let q = homed_last.by_place n y e in rw (same n (grind arith) q.1) q.0;
+    by_op = λ n y e. let q = homed_last.by_op n y e in rw (same n (grind arith) q.1) q.0;
   }
     where
       same : (n : ℕ) → is_there n t.core ≡ true → is_there n s.core ≡ true → instance_of n t.core ≡ instance_of n s.core
@@ -347,7 +346,7 @@ step_in_order x s l t h step =
       calls_there = calls_kept x s l t h w;
       calls_named = named_kept x s l t h w;
       works_named = (watches_kept x s l t h w).0;
-      names = (called x s l t h w).0.known;
+      names = (called x s l t h w).1.0.hold.known;
       calls = awaited_kept x s l t h w;
       waits = waits_kept x s l t h w (steady x s l t step);
       sets_named = (joined_kept x s l t h w).0;

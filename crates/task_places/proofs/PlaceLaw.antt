@@ -1,9 +1,9 @@
 -- Where each thread is along the words of a step: each has its place, and one that waits for its start still does, or its call has begun.
-use Rattle.task_rules.proofs.Machine.{[], add_call, add_group, add_set, add_work, after_placing, after_word, ap, arith, AwaitsEvent, Blocks, Bool, ByHandle, Call, call_made, Collapses, Core, count_work, Departs, EndsOver, Enter, entries, Entry, Falls, false, free_handle, free_thread_handle, get, get-change, give_handle, give_result, give_thread_handle, GoBehind, GoesBack, has_entry, HasPlace, HasSubtask, Holds, HowFar, if◌then◌else◌, inl, inr, is_at_high, is_at_low, is_at_switch, is_begun, is_done_host, is_explicit, is_for_start, is_free, is_fresh, is_none, is_some, is_there, is_under, IsFall, IsFoot, IsRunner, IsSettling, Lands, LandsAt, LastWords, Leaves, MakeCall, MakeThread, Mark, MayGo, MayLand, MayMove, MayPut, MayWithdraw, MayYield, Move, nat_tests, new_thread, next_thread, None, on_call, on_instance, on_thread, on_work, Option, option_map, option_map_or, Place, place_of, Places, Placing, poll_pends, Promote, promoted, push_high, Put, put_high, put_low, Quits, refl, registers_for, Remains, remove_call, remove_group, remove_set, remove_thread, remove_work, RemoveThread, Runs, says, Scene, Script, set_backpressure, set_cancel_delivered, set_cancelled, set_course, set_do_not_enter, set_do_not_suspend, set_end, set_event, set_exited, set_how_far, set_join, set_own_event, set_phase, set_place, set_position, set_register, set_result, set_saved_callee, set_saved_own, set_script, set_stage, set_started, set_starting_published, set_subtask_handle, set_thread_handle, set_trapped, set_uninteresting, set_word, Settles, SetTrapped, SetUninteresting, Some, Stay, Stays, Stop, subst, Subtask, Suspends, switch_entries, sym, T, take_result, TakeHost, TakePush, task_of, Thread, Trip, true, Turn, Uncovers, Waits, WaitsAgain, was_started, Why, with_handle, with_thread_handle, Withdraw, Word, work_queued, ℕ, ⊎_elim, ◌+◌, ◌==◌, ◌||◌, ◌∙◌, ◌≡◌, ◌≤◌, ◌⊎◌}
+use Rattle.task_rules.proofs.Machine.{[], add_call, add_group, add_set, add_work, after_placing, after_word, ap, arith, AwaitsEvent, Blocks, Bool, ByHandle, Call, call_made, Collapses, Core, count_work, Departs, EndsOver, Enter, entries, Entry, Falls, false, free_handle, free_thread_handle, get, get-change, give_handle, give_result, give_thread_handle, GoBehind, GoesBack, has_entry, HasPlace, HasSubtask, Holds, HowFar, if◌then◌else◌, inl, inr, is_at_high, is_at_low, is_at_switch, is_begun, is_done_host, is_explicit, is_for_start, is_free, is_fresh, is_none, is_some, is_there, is_under, IsFall, IsFoot, IsRunner, IsSettling, Lands, LandsAt, LastWords, Leaves, MakeCall, MakeThread, Mark, MayGo, MayLand, MayMove, MayPut, MayWithdraw, MayYield, Move, nat_tests, new_thread, next_thread, None, on_call, on_instance, on_thread, on_work, Option, option_map, option_map_or, Place, place_of, Placed, Places, Placing, poll_pends, Promote, promoted, push_high, Put, put_high, put_low, Quits, refl, registers_for, Remains, remove_call, remove_group, remove_set, remove_thread, remove_work, RemoveThread, Runs, says, Scene, Script, set_backpressure, set_cancel_delivered, set_cancelled, set_course, set_do_not_enter, set_do_not_suspend, set_end, set_event, set_exited, set_how_far, set_join, set_own_event, set_phase, set_place, set_position, set_register, set_result, set_saved_callee, set_saved_own, set_script, set_stage, set_started, set_starting_published, set_subtask_handle, set_thread_handle, set_trapped, set_uninteresting, set_word, Settles, SetTrapped, SetUninteresting, Some, Stay, Stays, Stop, subst, Subtask, Suspends, switch_entries, sym, T, take_result, TakeHost, TakePush, task_of, Thread, Trip, true, Turn, Uncovers, Waits, WaitsAgain, was_started, Why, with_handle, with_thread_handle, Withdraw, Word, work_queued, ℕ, ⊎_elim, ◌+◌, ◌==◌, ◌||◌, ◌∙◌, ◌≡◌, ◌≤◌, ◌⊎◌}
 use Rattle.task_rules.proofs.WalkMoves.{blocked_place}
 use Rattle.task_places.proofs.Entries.{added_stand, has_stands, next_first, popped_quiet, promoted_stand, removed_fresh, withdrawn_stand, flipped}
 use Rattle.task_rules.proofs.ChainLemmas.{along}
-use Rattle.task_rules.proofs.MoveLemmas.{at_place, removed_is, All, all_of, idle_loose, is_busy, is_idle, is_parked, loose_idle, put_stand, removed_all, no_time, one_time, stand_of, removed_gone, removed_placed, removed_loose, gone_place}
+use Rattle.task_rules.proofs.MoveLemmas.{at_place, removed_is, all_of, idle_loose, is_busy, is_idle, is_parked, loose_idle, put_stand, removed_all, no_time, one_time, stand_of, removed_gone, removed_placed, removed_loose, gone_place}
 use Rattle.task_rules.proofs.PlacingLemmas.{placing_shifted}
 use Rattle.task_rules.proofs.StandLemmas.{nobody, entries-append, set_place_is, Adds, adds_all, Loose, Stand, by_number, put_high_adds, put_low_adds, set_place_adds, place_kept, place_written, Given, Watch, Nothing, Awaits, Covered, is_so, is_watched, Stuck, watching}
 use Rattle.task_rules.proofs.StopLemmas.{Untouched, behind_adds, foot_there, given_there, quiet_placed, quiet_stand, stopped_stand, switch_there}
@@ -16,7 +16,8 @@ no_way h = absurd (subst T (sym h) tt)
 -- ---- Who is put, and who has an entry
 
 -- who is put was parked; one that waited for its start still does
-parked_at : (m : ℕ) (w : Why) (s : Core) → MayPut m w s → (option_map_or is_parked (place_of m s) false ≡ true) × (is_fresh (place_of m s) ≡ true → is_for_start w ≡ true)
+parked_at : (m : ℕ) (w : Why) (s : Core) → MayPut m w s →
+    (option_map_or is_parked (place_of m s) false ≡ true) × (is_fresh (place_of m s) ≡ true → is_for_start w ≡ true)
 parked_at m w s ok = (grind arith, λ h. grind arith)
 
 abbrev pub ReadyAt : Option Place → Type 0
@@ -27,10 +28,12 @@ ready_of (Some (Place.Ready x w)) h = (x, (w, refl))
 ready_of o h = absurd (grind arith)
 
 -- a thread that has its place and an entry
-pub entry_ready : (m : ℕ) (s : Core) → HasPlace m s → 1 ≤ switch_entries m s.queues.switch + entries m s.queues.high + entries m s.queues.low → ReadyAt (place_of m s)
+pub entry_ready : (m : ℕ) (s : Core) → HasPlace m s →
+    1 ≤ switch_entries m s.queues.switch + entries m s.queues.high + entries m s.queues.low → ReadyAt (place_of m s)
 entry_ready m s h one = ready_of (place_of m s) (let a = h.switch in let b = h.high in let c = h.low in omega (arith, a, b, c, one))
 
-listed : (m : ℕ) (s : Core) → (has_entry m s.queues.high || has_entry m s.queues.low) ≡ true → 1 ≤ switch_entries m s.queues.switch + entries m s.queues.high + entries m s.queues.low
+listed : (m : ℕ) (s : Core) → (has_entry m s.queues.high || has_entry m s.queues.low) ≡ true →
+    1 ≤ switch_entries m s.queues.switch + entries m s.queues.high + entries m s.queues.low
 listed m s h = grind (arith, has_stands m s.queues.high, has_stands m s.queues.low)
 
 -- ---- Beside a thread that stays
@@ -62,10 +65,12 @@ module _ (a : Scene) {n : ℕ} {q : Option Place} {s : Core} (st : Stand (watch 
   fresh_still k h = let e = fresh_watch (place_of k a.base) h in ap (λ v. is_so v (place_of k s)) (sym e) ∙ (st.kept k (ap is_watched e)).1
 
   pub covered_still : (k m : ℕ) → place_of k a.base ≡ Some (Place.Under m) → place_of k s ≡ Some (Place.Under m)
-  covered_still k m at = let e = ap watch_of at in under_is m (place_of k s) (ap (λ v. is_so v (place_of k s)) (sym e) ∙ (st.kept k (ap is_watched e)).1)
+  covered_still k m at =
+      let e = ap watch_of at in under_is m (place_of k s) (ap (λ v. is_so v (place_of k s)) (sym e) ∙ (st.kept k (ap is_watched e)).1)
 
 -- a parked thread that is put
-so_put : (o : Option Place) (p : Place) (x : Mark) (w : Why) → is_parked p ≡ true → (is_fresh (Some p) ≡ true → is_for_start w ≡ true) → is_so (watch_of o) (Some p) ≡ true → is_so (watch_of o) (Some (Place.Ready x w)) ≡ true
+so_put : (o : Option Place) (p : Place) (x : Mark) (w : Why) → is_parked p ≡ true → (is_fresh (Some p) ≡ true → is_for_start w ≡ true) →
+    is_so (watch_of o) (Some p) ≡ true → is_so (watch_of o) (Some (Place.Ready x w)) ≡ true
 so_put o p x w parked starts h = grind arith
 
 -- From b on the thread n stays at q, so nobody puts it; nor is it a call's that is withdrawn, or made.
@@ -77,7 +82,8 @@ pub record Follows (a : Scene) (b : Core) (n : ℕ) (q : Option Place) : Type 0 
   pub start : Stand (watch a) n q [] b
 
 -- a blocked thread is put once its host's work is done
-put_blocked : (m : ℕ) (sub : Subtask) (w : Why) (s : Core) → MayPut m w s → place_of m s ≡ Some (Place.Blocked sub) → is_done_host sub s ≡ true
+put_blocked : (m : ℕ) (sub : Subtask) (w : Why) (s : Core) → MayPut m w s → place_of m s ≡ Some (Place.Blocked sub) →
+    is_done_host sub s ≡ true
 put_blocked m sub w s ok at = grind arith
 
 module _ {a : Scene} {b : Core} {n : ℕ} {q : Option Place} (f : Follows a b n q) where
@@ -106,12 +112,14 @@ module _ {a : Scene} {b : Core} {n : ℕ} {q : Option Place} (f : Follows a b n 
   keeps_placing p s (inl ok) puts st = absurd ok
   keeps_placing p s (inr ok) puts st = absurd ok
 
-  keeps_word : {P : ℕ → Watch} (w : Word) (s : Core) → Stays a w s → Puts P w s → ((k : ℕ) → w ≡ Withdraw k → is_fresh (place_of k s) ≡ true) →
+  keeps_word : {P : ℕ → Watch} (w : Word) (s : Core) → Stays a w s → Puts P w s →
+      ((k : ℕ) → w ≡ Withdraw k → is_fresh (place_of k s) ≡ true) →
       Stand P n q [] s → Stand P n q [] (after_word w s)
   unfolding add_call add_group add_set add_work count_work free_handle free_thread_handle give_handle give_result give_thread_handle on_call on_instance on_work push_high remove_call remove_group remove_set remove_work set_backpressure set_cancel_delivered set_cancelled set_course set_do_not_enter set_do_not_suspend set_end set_event set_exited set_how_far set_join set_own_event set_phase set_position set_register set_result set_saved_callee set_saved_own set_script set_stage set_started set_starting_published set_subtask_handle set_thread_handle set_trapped set_uninteresting set_word take_result call_made with_handle with_thread_handle work_queued poll_pends on_thread
   keeps_word {P = P} (Places p) s ok puts fresh st =
       subst (λ (t : Core). Stand P n q [] t) (sym (placing_shifted p s).only) (keeps_placing p s ok puts st)
-  keeps_word (MakeThread t) s ok puts fresh st = added_stand n q t s (grind (arith, f.apart)) (ap (λ (r : Thread). r.place) ok.1.1.1.1.1.0) st
+  keeps_word (MakeThread t) s ok puts fresh st =
+      added_stand n q t s (grind (arith, f.apart)) (ap (λ (r : Thread). r.place) ok.1.1.1.1.1.0) st
   keeps_word (MakeCall g e x goal group words) s ok puts fresh st =
       added_stand n q (new_thread (next_thread s) false Script.Start (registers_for words) None) _ (grind (arith, f.apart)) refl
       (quiet_stand n q [] s _ (grind arith) st)
@@ -178,7 +186,7 @@ Begun a k t = ((is_there k a.base ≡ true) × (is_explicit k a.base ≡ false �
 -- Each thread has its place, and the one whose turn comes runs; who waited for its start still does, or its call has begun; who was under
 -- another still is, or that one is gone and its turn comes, or it's gone too; and one that was made and runs has the runner under it.
 pub record Arrives (a : Scene) (t : Core) : Type 0 where
-  pub placed : All t
+  pub placed : Placed t
   pub runs : (m : ℕ) → a.next ≡ Turn.Run m → place_of m t ≡ Some Place.Running
   pub fresh : (k : ℕ) → waits a k ≡ true → (is_fresh (place_of k t) ≡ true) ⊎ Begun a k t
   pub covered : (k m : ℕ) → place_of k a.base ≡ Some (Place.Under m) → (place_of k t ≡ Some (Place.Under m)) ⊎
@@ -238,7 +246,8 @@ module _ {a : Scene} {b : Core} {n : ℕ} {p : Place} (h : Beside a b n p) {s : 
     runs = λ m to. let e = runs m to in grind (arith, adds.own);
     fresh = λ k w. by_number k n _ (λ e. rw e (⊎_elim (λ i. inl (ap is_fresh adds.own ∙ i)) (λ i. inr i) (fresh (rw e at w))))
         (λ e. inl (grind (arith, adds.other k e, fresh_still a stands k w)));
-    covered = λ k m at. inl (by_number k n _ (λ e. no_way (sym h.top ∙ ap is_under_place (sym h.home ∙ (ap (λ (j : ℕ). place_of j a.base) (sym e) ∙ at))))
+    covered = λ k m at. inl (by_number k n _
+        (λ e. no_way (sym h.top ∙ ap is_under_place (sym h.home ∙ (ap (λ (j : ℕ). place_of j a.base) (sym e) ∙ at))))
         (λ e. adds.other k e ∙ covered_still a stands k m at));
     entered = λ m none to. let e = runs m to in let home = h.home in absurd (grind arith);
   }
@@ -257,7 +266,7 @@ module _ {a : Scene} {b : Core} {n : ℕ} {p : Place} (h : Beside a b n p) {s : 
       let idle = (h.follows.runs n ok.1.1.1.1.1.0).0 in
       let new = ok.1.1.1.0 in
       let u = set_place m Place.Running s in
-      let all : All u = adds_all m (Some Place.New) Place.Running s u (set_place_adds m Place.Running Place.New s refl new)
+      let all : Placed u = adds_all m (Some Place.New) Place.Running s u (set_place_adds m Place.Running Place.New s refl new)
       (stand_of {P = nobody} m (Some Place.New) s new refl (λ k w. absurd (grind arith)) (all_of n (Some p) s idle stands)) in
       let at : place_of n u ≡ Some p = place_kept n m Place.Running s (flipped n m apart) ∙ stands.here in
       let t = set_place n (Place.Under m) u in
@@ -266,11 +275,13 @@ module _ {a : Scene} {b : Core} {n : ℕ} {p : Place} (h : Beside a b n p) {s : 
             (stand_of {P = nobody} n (Some p) u at idle (λ k w. absurd (grind arith)) all);
         runs = λ k to. let e = one_runner k m (sym to ∙ ok.1.0) in
             grind (arith, nat_tests, apart, set_place_is m n (Place.Under m) u, set_place_is m m Place.Running s);
-        fresh = λ k w. by_number k m _ (λ e. inr (inr (rw e ok.1.1.1.1.1.1.0))) (λ e. let own = λ (g : waits a n ≡ true). begun {A = ⊥} ok.1.1.1.1.1.0 g in
-            inl (grind (arith, nat_tests, set_place_is k n (Place.Under m) u, set_place_is k m Place.Running s, fresh_still a stands k w, own)));
+        fresh = λ k w. by_number k m _ (λ e. inr (inr (rw e ok.1.1.1.1.1.1.0)))
+            (λ e. let own = λ (g : waits a n ≡ true). begun {A = ⊥} ok.1.1.1.1.1.0 g in let still = fresh_still a stands k w in
+            inl (grind (arith, nat_tests, set_place_is k n (Place.Under m) u, set_place_is k m Place.Running s, own)));
         covered = λ k j under. let still = covered_still a stands k j under in
             inl (grind (arith, nat_tests, set_place_is k n (Place.Under m) u, set_place_is k m Place.Running s, h.home, h.top));
-        entered = λ k none to. (n, (h.runner, let e = one_runner k m (sym to ∙ ok.1.0) in grind (arith, place_written n (Place.Under m) p u at)));
+        entered =
+            λ k none to. (n, (h.runner, let e = one_runner k m (sym to ∙ ok.1.0) in grind (arith, place_written n (Place.Under m) p u at)));
       }
     where
       apart : (m == n) ≡ false
@@ -279,7 +290,8 @@ module _ {a : Scene} {b : Core} {n : ℕ} {p : Place} (h : Beside a b n p) {s : 
   foot_given : (g : ℕ) → IsFoot g s → Given g s
   foot_given g (inl there) = given_there n (Some p) [] s stands g there
   foot_given g (inr m) =
-      given_there n (Some p) [] s stands g (ap (λ (j : ℕ). is_there j s) m.1.1 ∙ foot_there m.0 s (switch_there n (Some p) [] s stands m.0 m.1.0))
+      let there = switch_there n (Some p) [] s stands m.0 m.1.0 in
+      given_there n (Some p) [] s stands g (ap (λ (j : ℕ). is_there j s) m.1.1 ∙ foot_there m.0 s there)
 
 -- ---- The thread is gone
 
@@ -297,7 +309,8 @@ record Falling (a : Scene) (n : ℕ) (s : Core) : Type 0 where
   pub own : Loose n s
   pub idle : (k : ℕ) → is_idle (place_of k a.base) ≡ true → is_idle (place_of k s) ≡ true
   pub fresh : (k : ℕ) → waits a k ≡ true → is_fresh (place_of k s) ≡ true
-  pub covered : (k m : ℕ) → place_of k a.base ≡ Some (Place.Under m) → (place_of k s ≡ Some (Place.Under m)) ⊎ ((place_of m s ≡ None) × (place_of k s ≡ None))
+  pub covered : (k m : ℕ) → place_of k a.base ≡ Some (Place.Under m) →
+      (place_of k s ≡ Some (Place.Under m)) ⊎ ((place_of m s ≡ None) × (place_of k s ≡ None))
 
 -- How the words begin and end beside the thread n, which runs or was taken; or there is no such thread.
 pub record Frame (a : Scene) (b : Core) (n : ℕ) (q : Option Place) : Type 0 where
@@ -306,13 +319,15 @@ pub record Frame (a : Scene) (b : Core) (n : ℕ) (q : Option Place) : Type 0 wh
   pub one : (m : ℕ) → IsRunner a m → m ≡ n
   pub there : (m : ℕ) → IsRunner a m → (p : Place) × ((q ≡ Some p) × (is_under_place (Some p) ≡ false))
   pub running : (m : ℕ) → a.turn ≡ Turn.Run m → (m ≡ n) × (q ≡ Some Place.Running)
-  pub rests : (t : Core) → LastWords a t → (is_idle (place_of n a.base) ≡ true → is_idle (place_of n t) ≡ true) → is_idle (place_of n t) ≡ true
+  pub rests : (t : Core) → LastWords a t → (is_idle (place_of n a.base) ≡ true → is_idle (place_of n t) ≡ true) →
+      is_idle (place_of n t) ≡ true
 
 module _ {a : Scene} {b : Core} {n : ℕ} {q : Option Place} (f : Frame a b n q) where
   pub beside : (k : ℕ) → IsRunner a k → (p : Place) × Beside a b k p
   beside k is =
       let p = f.there k is in
-      let g : Follows a b k (Some p.0) = subst (λ o. Follows a b k o) p.1.0 (subst (λ (j : ℕ). Follows a b j q) (sym (f.one k is)) f.follows) in
+      let g : Follows a b k (Some p.0) =
+      subst (λ o. Follows a b k o) p.1.0 (subst (λ (j : ℕ). Follows a b j q) (sym (f.one k is)) f.follows) in
       (p.0, record { follows = g; runner = is; home = sym (f.home k) ∙ g.start.here; top = p.1.1 })
 
   -- the runner is there, and under none
@@ -334,10 +349,12 @@ module _ {a : Scene} {b : Core} {n : ℕ} {q : Option Place} (f : Frame a b n q)
       )))
   moves k r s (Holds w l was out at) c =
       let h = beside k l.0 in
-      comes h.1 c r _ (set_place_adds k r h.0 s (ap is_free at) (stands h.1 c).here) (λ m next. not_main m (sym l.1 ∙ next)) (λ g. inl (let e = was.1 in grind arith))
+      comes h.1 c r _ (set_place_adds k r h.0 s (ap is_free at) (stands h.1 c).here) (λ m next. not_main m (sym l.1 ∙ next))
+      (λ g. inl (let e = was.1 in grind arith))
   moves k r s (WaitsAgain x l was at) c =
       let h = beside k l.0 in
-      comes h.1 c r _ (set_place_adds k r h.0 s (ap is_free at) (stands h.1 c).here) (λ m next. not_main m (sym l.1 ∙ next)) (λ g. let e = was.1 in absurd (grind arith))
+      comes h.1 c r _ (set_place_adds k r h.0 s (ap is_free at) (stands h.1 c).here) (λ m next. not_main m (sym l.1 ∙ next))
+      (λ g. let e = was.1 in absurd (grind arith))
   moves k r s (Uncovers m is to under none at) c = no_way (sym (runner_there m s is c) ∙ none)
   moves k r s (AwaitsEvent x l d g at) c = let h = beside k l.0 in left h.1 c r _ l (set_place_adds k r h.0 s (ap is_free at))
   moves k r s (Waits x l g at) c = let h = beside k l.0 in left h.1 c r _ l (set_place_adds k r h.0 s (ap is_free at))
@@ -349,7 +366,8 @@ module _ {a : Scene} {b : Core} {n : ℕ} {q : Option Place} (f : Frame a b n q)
       let l = yield_leaves k w ok in let h = beside k l.0 in left h.1 c (Place.Ready Mark.High w) _ l (put_high_adds k w h.0 s)
   lands (Put Mark.Low k w) s ok c =
       let l = yield_leaves k w ok in let h = beside k l.0 in left h.1 c (Place.Ready Mark.Low w) _ l (put_low_adds k w h.0 s)
-  lands (GoBehind g k) s ok c = let h = beside k ok.0.0 in left h.1 c (Place.Behind g) _ ok.0 (behind_adds g k h.0 s (foot_given h.1 c g ok.1))
+  lands (GoBehind g k) s ok c =
+      let h = beside k ok.0.0 in left h.1 c (Place.Behind g) _ ok.0 (behind_adds g k h.0 s (foot_given h.1 c g ok.1))
   lands (Move k r) s ok c = moves k r s ok c
   lands (Enter k m) s ok c = enters (beside k ok.0).1 c m ok
   lands x s ok c = absurd ok
@@ -382,7 +400,8 @@ module _ {a : Scene} {b : Core} {n : ℕ} {q : Option Place} (f : Frame a b n q)
       loose (Falls over (inl is)) = loose_runner is
       loose (Falls over (inr u)) = by_number j n _ (λ e. subst (λ (m : ℕ). Loose m s) (sym e) h.own)
           (λ e. idle_loose j (place_of j s) s refl (h.idle j (ap is_idle u.1.0)) (h.others j e))
-  fall_word SetTrapped s ok h = record { others = λ k e. let p = h.others k e in assumption; own = assumption; idle = h.idle; fresh = h.fresh; covered = h.covered }
+  fall_word SetTrapped s ok h =
+      record { others = λ k e. let p = h.others k e in assumption; own = assumption; idle = h.idle; fresh = h.fresh; covered = h.covered }
   fall_word _ s ok h = absurd ok
 
   falling : Falling a n b
@@ -398,7 +417,7 @@ module _ {a : Scene} {b : Core} {n : ℕ} {q : Option Place} (f : Frame a b n q)
 
   -- the thread exits
   pub exits : (k : ℕ) (s t : Core) → IsRunner a k → Stay a b s → Settles (after_word (RemoveThread k) s) t →
-      All t × (((j : ℕ) → waits a j ≡ true → is_fresh (place_of j t) ≡ true) ×
+      Placed t × (((j : ℕ) → waits a j ≡ true → is_fresh (place_of j t) ≡ true) ×
       ((j m : ℕ) → place_of j a.base ≡ Some (Place.Under m) → place_of j t ≡ Some (Place.Under m)))
   exits k s t is c d =
       let u = settles_quiet d in
@@ -462,7 +481,8 @@ module _ {a : Scene} {b : Core} {n : ℕ} {q : Option Place} (f : Frame a b n q)
       let h = along (Falling a n) fall_word falling c in
       record {
         placed = λ k. by_number k n _
-            (λ e. subst (λ (j : ℕ). HasPlace j t) (sym e) (loose_idle n (place_of n t) t refl (f.rests t w (h.idle n)) h.own)) (λ e. h.others k e);
+            (λ e. subst (λ (j : ℕ). HasPlace j t) (sym e) (loose_idle n (place_of n t) t refl (f.rests t w (h.idle n)) h.own))
+            (λ e. h.others k e);
         runs = λ m to. absurd (cc);
         fresh = λ k g. inl (h.fresh k g);
         covered = λ k m at. ⊎_elim inl (λ g. inr (g.0, inr g.1)) (h.covered k m at);

@@ -1,34 +1,33 @@
 -- Where each thread is after a step.
-use Rattle.task_rules.proofs.Machine.{ap, arith, base_at, base_without, Bool, Core, Entry, false, get, HasSubtask, inr, is_behind_of, is_some, is_take, IsRunner, Label, LastWords, Made, Mark, nat_tests, next_entry, None, Option, option_map, Place, place_of, Pop, popped, refl, runner_at, says, Scene, scene_of, set_high, set_low, set_switch, Setting, settled_turn, Some, start_of, State, subst, Subtask, sym, T, Thread, thread_of_entry, Trip, true, Turn, Walked, was_started, ℕ, ◌+◌, ◌∙◌, ◌≡◌}
+use Rattle.task_rules.proofs.Machine.{ap, arith, base_at, base_without, Bool, Core, Entry, false, get, HasSubtask, inr, is_behind_of, is_take, IsRunner, Label, LastWords, Mark, nat_tests, next_entry, None, Option, option_map, Place, place_of, Placed, Pop, popped, refl, runner_at, says, Scene, scene_of, set_high, set_low, set_switch, Setting, settled_turn, Some, start_of, State, subst, Subtask, sym, T, Thread, thread_of_entry, Trip, true, Turn, Walked, was_started, ℕ, ◌+◌, ◌∙◌, ◌≡◌}
 use Rattle.task_rules.proofs.PlacingLemmas.{SameWorks, placing_works}
 use Rattle.task_laws.specs.Order.{InPlace}
 use Rattle.task_places.proofs.Entries.{Cleared, next_first, popped_cleared}
 use Rattle.task_places.proofs.PlaceLaw.{Arrives, Frame, entry_ready, is_run, no_way, trip_arrives, waits, ReadyAt, watch, so_self}
-use Rattle.task_rules.proofs.MoveLemmas.{All, is_idle, no_time, stand_of}
+use Rattle.task_rules.proofs.MoveLemmas.{is_idle, no_time, stand_of}
 use Rattle.task_rules.proofs.StandLemmas.{Loose, by_number, zero_one, is_so, left_placed}
 
 -- a start that the running thread may withdraw is awaited, or its thread is gone
 abbrev pub Withdrawable : Scene → Type 0
 Withdrawable a = (m k : ℕ) → IsRunner a m → HasSubtask a m (Subtask.Guest k) → was_started k a.base ≡ false → waits a k ≡ true
 
-no_runner : (a : Scene) (m : ℕ) {A : Type 0} → a.runner ≡ None → IsRunner a m → A
-no_runner a m none is = no_way (ap (λ (o : Option ℕ). is_some o) (sym none ∙ is))
-
 -- ---- No thread runs or is taken
 
-nobody_frame : (a : Scene) (b : Core) → a.runner ≡ None → ((m : ℕ) → a.turn ≡ Turn.Run m → ⊥) → ((k : ℕ) → place_of k b ≡ place_of k a.base) →
-    b.made.threads ≡ a.base.made.threads → All b → Frame a b (b.made.threads + 2) None
+nobody_frame : (a : Scene) (b : Core) → a.runner ≡ None → ((m : ℕ) → a.turn ≡ Turn.Run m → ⊥) →
+    ((k : ℕ) → place_of k b ≡ place_of k a.base) →
+    b.made.threads ≡ a.base.made.threads → Placed b → Frame a b (b.made.threads + 2) None
 nobody_frame a b none idle home made all = record {
   follows = record {
     busy = refl;
     runs = λ m e. absurd (idle m e);
     apart = grind (arith, nat_tests, made);
-    withdraws = λ m k is has unstarted. no_runner a m none is;
-    start = stand_of {P = watch a} (b.made.threads + 2) None b gone refl (λ k w. ap (is_so (watch a k)) (home k) ∙ so_self (place_of k a.base)) all;
+    withdraws = λ m k is has unstarted. absurd (cc);
+    start = stand_of {P = watch a} (b.made.threads + 2) None b gone refl
+        (λ k w. ap (is_so (watch a k)) (home k) ∙ so_self (place_of k a.base)) all;
   };
   home = home;
-  one = λ m is. no_runner a m none is;
-  there = λ m is. no_runner a m none is;
+  one = λ m is. absurd (cc);
+  there = λ m is. absurd (cc);
   running = λ m e. absurd (idle m e);
   rests = λ t w i. i (ap is_idle (sym (home (b.made.threads + 2)) ∙ gone));
 }
@@ -40,7 +39,7 @@ nobody_frame a b none idle home made all = record {
 -- ---- A thread runs
 
 running_frame : (a : Scene) (n : ℕ) → a.runner ≡ Some n → a.turn ≡ Turn.Run n → place_of n a.base ≡ Some Place.Running → Withdrawable a →
-    All a.base → Frame a a.base n (Some Place.Running)
+    Placed a.base → Frame a a.base n (Some Place.Running)
 running_frame a n is runs at may all = record {
   follows = record {
     busy = refl;
@@ -67,7 +66,7 @@ unfolding popped set_switch set_high set_low
 popped_reads x s = grind arith
 
 taken_frame : (a : Scene) (n : ℕ) (s : Core) → a.runner ≡ Some n → ((m : ℕ) → a.turn ≡ Turn.Run m → ⊥) → is_take a.turn ≡ true →
-    Cleared n s a.base → ReadyAt (place_of n s) → a.base.made ≡ s.made → Withdrawable a → All s → (p : Place) × Frame a a.base n (Some p)
+    Cleared n s a.base → ReadyAt (place_of n s) → a.base.made ≡ s.made → Withdrawable a → Placed s → (p : Place) × Frame a a.base n (Some p)
 taken_frame a n s is idle take c r made may all = (
   Place.Ready r.0 r.1.0,
   record {
@@ -96,38 +95,52 @@ taken_frame a n s is idle take c r made may all = (
 
 -- ---- A step
 
--- what holds of each trip with such a frame holds of the step
-module _ (x : Setting) (s : State) (l : Label) (next : Turn) (h : InPlace s) (C : Scene → Core → Type 0)
-    (goes : (a : Scene) (b : Core) (n : ℕ) (q : Option Place) (t : Core) → Reads s.core a.base → Reads s.core b → SameWorks s.core b → Frame a b n q → Trip a b t → LastWords a t → C a t) where
+-- what holds of each trip with such a frame
+abbrev pub OfTrips : Core → (Scene → Core → Type 0) → Type 0
+OfTrips s C = (a : Scene) (b : Core) (n : ℕ) (q : Option Place) (t : Core) → Reads s a.base → Reads s b → SameWorks s b → Frame a b n q →
+    Trip a b t → LastWords a t → C a t
+
+-- holds of the step
+module _ (x : Setting) (s : State) (l : Label) (next : Turn) (h : InPlace s) (C : Scene → Core → Type 0) (goes : OfTrips s.core C) where
   abbrev at : Turn → Core → Option ℕ → Scene
   at u base o = record { setting = x; main = s.main; turn = u; base = base; runner = o; label = l; next = next }
 
-  not_running : (u : Turn) → is_run u ≡ false → (m : ℕ) → u ≡ Turn.Run m → ⊥
-  not_running u idle m e = subst T (sym (sym idle ∙ ap is_run e)) tt
+  abbrev OfStep : Scene → Type 0
+  OfStep a = (t : Core) → Withdrawable a → Trip a (start_of a s.core) t → LastWords a t → C a t
 
-  nobody : (u : Turn) (base : Core) {t : Core} → is_run u ≡ false → Reads s.core base → Trip (at u base None) s.core t → LastWords (at u base None) t → C (at u base None) t
-  nobody u base idle reads c w = goes (at u base None) s.core _ _ _ reads (refl, (refl, refl)) (record { high = refl; low = refl }) (nobody_frame (at u base None) s.core refl (not_running u idle) (λ k. ap (λ m. option_map (λ (r : Thread). r.place) (get m k)) (sym reads.0)) (ap (λ (m : Made). m.threads) (sym reads.1.1)) h.placed) c w
+  same : Reads s.core s.core
+  same = (refl, (refl, refl))
 
-  by_entry : (ended : Bool) (o : Option (Mark × Entry)) {t : Core} → next_entry s.core ≡ o → Withdrawable (at (Turn.Take ended) (base_without o s.core) (thread_of_entry o)) → Trip (at (Turn.Take ended) (base_without o s.core) (thread_of_entry o)) (start_of (at (Turn.Take ended) (base_without o s.core) (thread_of_entry o)) s.core) t → LastWords (at (Turn.Take ended) (base_without o s.core) (thread_of_entry o)) t → C (at (Turn.Take ended) (base_without o s.core) (thread_of_entry o)) t
-  by_entry ended None e may c w = nobody (Turn.Take ended) s.core refl (refl, (refl, refl)) c w
-  by_entry ended (Some (y, Entry.Thread n)) e may c w =
+  nobody : (u : Turn) (base : Core) → is_run u ≡ false → Reads s.core base → OfStep (at u base None)
+  nobody u base idle reads t may c w =
+      let home = λ (k : ℕ). ap (λ m. option_map (λ (r : Thread). r.place) (get m k)) (sym reads.0) in
+      goes (at u base None) s.core _ _ t reads same (record { high = refl; low = refl })
+      (nobody_frame (at u base None) s.core refl (λ m e. absurd (grind arith)) home (grind arith) h.placed) c w
+
+  by_entry : (ended : Bool) (o : Option (Mark × Entry)) → next_entry s.core ≡ o →
+      OfStep (at (Turn.Take ended) (base_without o s.core) (thread_of_entry o))
+  by_entry ended None e t may c w = nobody (Turn.Take ended) s.core refl same t may c w
+  by_entry ended (Some (y, Entry.Thread n)) e t may c w =
       let a = at (Turn.Take ended) (popped y s.core) (Some n) in
       let took = popped_cleared y n s.core (next_first s.core y (Entry.Thread n) e) (h.placed n) in
       let reads = popped_reads y s.core in
-      goes a (popped y s.core) _ _ _ reads reads (placing_works (at (Turn.Take ended) s.core (Some n)) (Pop y) s.core (inr (n, (refl, e))))
-      (taken_frame a n s.core refl (not_running (Turn.Take ended) refl) refl took.0 (entry_ready n s.core (h.placed n) took.1) reads.1.1 may h.placed).1 c w
-  by_entry ended (Some (y, d)) e may c w = nobody (Turn.Take ended) (popped y s.core) refl (popped_reads y s.core) c w
+      goes a (popped y s.core) _ _ t reads reads (placing_works (at (Turn.Take ended) s.core (Some n)) (Pop y) s.core (inr (n, (refl, e))))
+      (taken_frame a n s.core refl (λ m e. absurd (cc)) refl took.0 (entry_ready n s.core (h.placed n) took.1) reads.1.1 may h.placed).1 c w
+  by_entry ended (Some (y, d)) e t may c w = nobody (Turn.Take ended) (popped y s.core) refl (popped_reads y s.core) t may c w
 
-  by_turn : (u : Turn) {t : Core} → s.turn ≡ u → Withdrawable (at u (base_at u s.core) (runner_at u s.core)) → Trip (at u (base_at u s.core) (runner_at u s.core)) (start_of (at u (base_at u s.core) (runner_at u s.core)) s.core) t → LastWords (at u (base_at u s.core) (runner_at u s.core)) t → C (at u (base_at u s.core) (runner_at u s.core)) t
-  by_turn (Turn.Run n) e may c w = goes (at (Turn.Run n) s.core (Some n)) s.core _ _ _ (refl, (refl, refl)) (refl, (refl, refl)) (record { high = refl; low = refl }) (running_frame (at (Turn.Run n) s.core (Some n)) n refl refl (h.runs n e) may h.placed) c w
-  by_turn (Turn.Take ended) e may c w = by_entry ended (next_entry s.core) refl may c w
-  by_turn u e may c w = nobody u s.core refl (refl, (refl, refl)) c w
+  by_turn : (u : Turn) → s.turn ≡ u → OfStep (at u (base_at u s.core) (runner_at u s.core))
+  by_turn (Turn.Run n) e t may c w =
+      let a = at (Turn.Run n) s.core (Some n) in
+      goes a s.core _ _ t same same (record { high = refl; low = refl }) (running_frame a n refl refl (h.runs n e) may h.placed) c w
+  by_turn (Turn.Take ended) e t may c w = by_entry ended (next_entry s.core) refl t may c w
+  by_turn u e t may c w = nobody u s.core refl same t may c w
 
-pub step_by : (x : Setting) (s : State) (l : Label) (t : State) (w : Walked x s l t) → InPlace s → Withdrawable (scene_of x s l w.next) → (C : Scene → Core → Type 0) →
-    ((a : Scene) (b : Core) (n : ℕ) (q : Option Place) (t : Core) → Reads s.core a.base → Reads s.core b → SameWorks s.core b → Frame a b n q → Trip a b t → LastWords a t → C a t) → C (scene_of x s l w.next) t.core
-step_by x s l t w h may C goes = by_turn x s l w.next h C goes s.turn refl may w.trip w.ends
+pub step_by : (x : Setting) (s : State) (l : Label) (t : State) (w : Walked x s l t) → InPlace s → Withdrawable (scene_of x s l w.next) →
+    (C : Scene → Core → Type 0) → OfTrips s.core C → C (scene_of x s l w.next) t.core
+step_by x s l t w h may C goes = by_turn x s l w.next h C goes s.turn refl t.core may w.trip w.ends
 
-pub step_arrives : (x : Setting) (s : State) (l : Label) (t : State) (w : Walked x s l t) → InPlace s → Withdrawable (scene_of x s l w.next) → Arrives (scene_of x s l w.next) t.core
+pub step_arrives : (x : Setting) (s : State) (l : Label) (t : State) (w : Walked x s l t) → InPlace s →
+    Withdrawable (scene_of x s l w.next) → Arrives (scene_of x s l w.next) t.core
 step_arrives x s l t w h may = step_by x s l t w h may Arrives (λ a b n q u base first same f c ends. trip_arrives f c ends)
 
 -- ---- The turn

@@ -3,6 +3,7 @@ use Rattle.task_rules.proofs.Machine.{[], admitted_held, All-permutation, ap, ar
 use Rattle.std.proofs.Math.Bool.{or-false}
 use Rattle.std.proofs.lemmas.List.{nil_from_length}
 use Rattle.std.specs.Prelude.{All}
+use Rattle.task_rules.proofs.StopLemmas.{find_passes}
 use Rattle.task_rules.proofs.PlacingLemmas.{placing_shifted, shifted_instance}
 use Rattle.std.specs.FinMap.Entries.{find as seek}
 
@@ -93,9 +94,6 @@ enter_passes : (i : ℕ) (b : Bool) (s : Core) → passes_check i (set_do_not_en
 unfolding passes_check first_entry set_do_not_enter on_instance
 enter_passes i b s = grind (arith, nat_tests, get-change)
 
-same_nil : (xs ys : List ℕ) → length ys ≡ length xs → is_nil ys ≡ is_nil xs
-same_nil xs ys e = grind arith
-
 -- an instance lets entries in again: told on the state before
 reopens_passes : (i : ℕ) (s : Core) (order : List ℕ) → IsPermutation (held_by_flag i s) order →
     passes_check i (end_reopens i order s) ≡ (passes_check i s || not (is_nil (held_by_flag i s)))
@@ -105,7 +103,7 @@ reopens_passes i s order perm =
     let held = admitted_held i v in
     let test : ℕ → Bool = λ m. is_held_admitted i v m (held_why_of m v) in
     let all = All-permutation (λ m. test m ≡ true) held order perm (filter_passes test (numbers v.threads)) in
-    grind (arith, release_passes i order v all, enter_passes i false s, same_nil held order (length_permutation held order perm))
+    grind (arith, release_passes i order v all, enter_passes i false s, length_permutation held order perm)
 
 pub callback_check : CallbackCheckIsAfter
 unfolding code_stops end_reopens held_by_flag passes_after_stop set_do_not_enter on_instance
@@ -147,16 +145,13 @@ unmet : {X Y : Type 0} (g : X → Y) (test : Y → Bool) (q : ℕ) (es : List (�
 unmet g test q [] h = refl
 unmet g test q (e ∷ es) h = grind (arith, unmet g test q es)
 
-none_passes : (test : ℕ → Bool) → ((n : ℕ) → test n ≡ false) → (ns : List ℕ) → find test ns ≡ None
-none_passes test off [] = refl
-none_passes test off (n ∷ ns) = grind (arith, off n, none_passes test off ns)
-
 -- a set without a waiter has no first one
-no_first : (x : ℕ) (s : Core) → not (has_waiter x s) ≡ true → first_at (is_waiting_on x) s ≡ None
+no_first : (x : ℕ) (s : Core) → not (has_waiter x s) ≡ true → (o : Option ℕ) → first_at (is_waiting_on x) s ≡ o → o ≡ None
 unfolding has_waiter get
-no_first x s none =
-    none_passes (λ n. is_at n s (is_waiting_on x))
-    (λ n. unmet (λ (t : Thread). t.place) (is_waiting_on x) n s.threads.list (not-true (has_waiter x s) none)) (numbers s.threads)
+no_first x s none None e = refl
+no_first x s none (Some m) e =
+    let met = find_passes (λ n. is_at n s (is_waiting_on x)) (numbers s.threads) m e in
+    let unmet = unmet (λ (t : Thread). t.place) (is_waiting_on x) m s.threads.list (not-true (has_waiter x s) none) in absurd (cc)
 
 -- it's all the same which waiter stands for the one that a lawful choice shows
 told_first : (k : ℕ) (e : Status) (w : Option ℕ) (s t : Core) → may_tell k w s ≡ true → is_told k t ≡ is_told k s →
@@ -167,7 +162,7 @@ told_first k e None s t lawful same = by_join (join_of (Subtask.Guest k) s) (is_
   where
     by_join : (j : Join) (b : Bool) → is_told k t ≡ b → (if b then may_wake_joined j None s else true) ≡ true →
         told k e (first_waiter j s) t ≡ told k e None t
-    by_join (Join.Set x) true is may = ap (λ w. told k e w t) (no_first x s may)
+    by_join (Join.Set x) true is may = ap (λ w. told k e w t) (no_first x s may _ refl)
     by_join (Join.Set x) false is may = grind arith
     by_join _ b is may = refl
 

@@ -10,13 +10,10 @@ use Rattle.task_rules.proofs.WalkSteps.{step_walks}
 pub step_ends : OutcomeEnds
 step_ends x s l t step o is = let c = step_walks x s l t step in c.turn ∙ ap (λ (u : Turn). settled_turn t.core u) (c.ends.outcome o is)
 
-over_steps : (x : Setting) (s : State) (u : Turn) (l : Label) (t : State) → u ≡ Turn.Over → TurnStep x s u l t → ⊥
-over_steps x s u l t is step = subst (λ (v : Turn). TurnStep x s v l t) is step
-
 -- nothing is lawful after that
 pub step_over : OverIsLast
 unfolding Step
-step_over x s l t is step = over_steps x s s.turn l t is step
+step_over x s l t is step = subst (λ (u : Turn). TurnStep x s u l t) is step
 
 -- ---- Runs
 
@@ -38,7 +35,8 @@ module _ (R : Core → Core → Type 0) (same : (s : Core) → R s s) where
   runs_keep after step x s [] t r = subst (λ (y : State). R s.core y.core) (sym r) (same s.core)
   runs_keep after step x s (l ∷ ls) t r = after s.core r.0.core t.core (step x s l r.0 r.1.0) (runs_keep after step x r.0 ls t r.1.1)
 
-not_last : (x : Setting) (m : State) (k : Label) (t : State) (o : Option Outcome) → ((p : Outcome) → o ≡ Some p → m.turn ≡ Turn.Over) → Step x m k t → o ≡ None
+not_last : (x : Setting) (m : State) (k : Label) (t : State) (o : Option Outcome) → ((p : Outcome) → o ≡ Some p → m.turn ≡ Turn.Over) →
+    Step x m k t → o ≡ None
 not_last x m k t None over step = refl
 not_last x m k t (Some p) over step = absurd (step_over x m k t (over p refl) step)
 

@@ -18,8 +18,8 @@ pub use Rattle.task_machine.specs.Core.{Began, Core, filled, Main, MainPlace, no
 unfoldable pub use Rattle.task_machine.specs.Core.{fresh}
 pub use Rattle.task_machine.specs.Labels.{Choice, choice_of, event_label, exit_label, held_label, host_label, join_label, ret_label, take_label, task_cancel_label, wait_label, woken_of}
 pub use Rattle.task_machine.specs.Maps.{get-empty, get-insert, get-remove, Records, same_map}
-unfoldable pub use Rattle.task_machine.specs.Maps.{change, empty, get, insert, numbers, remove, size}
-pub use Rattle.task_machine.specs.Moves.{behind, departed, displaced, exited_if, freed_thread_handle, Gift, gift_after_own, hands_on, has_entry, held_why_of, is_callback_waiter, is_deletable_call, is_finished, less, less_switch, may_wake_joined, MemberGift, newest, NoGift, older, own_gift_of, own_or_nothing, OwnGift, passed_on, promoted_first, released_one, resumed_all, resumed_callers, stand, unblocked, wake_joined, waken_by, why_of}
+unfoldable pub use Rattle.task_machine.specs.Maps.{change, get, insert, numbers, remove, size}
+pub use Rattle.task_machine.specs.Moves.{behind, departed, displaced, exited_if, freed_thread_handle, Gift, gift_after_own, hands_on, has_entry, held_why_of, is_callback_waiter, is_deletable_call, is_finished, less, less_switch, may_wake_joined, MemberGift, newest, NoGift, older, own_gift_of, own_or_nothing, OwnGift, passed_on, promoted_first, released_one, resumed_all, stand, unblocked, wake_joined, waken_by, why_of}
 unfoldable pub use Rattle.task_machine.specs.Moves.{behind_one, call_settled, checked, ended, first_entry, gift, given_for, group_settled, handed_on, interest_settled, is_deletable, is_group_done, may_hand_on, may_publish, may_wake, own_gift_only, passes_check, promoted, promoted_unless, published, put_high, put_low, put_switch, released, stopped, taken, unqueued, wake, withdrawn}
 pub use Rattle.task_machine.specs.Read.{admits, as_set, as_subtask, backpressure_of, call_group, call_instance, callee_of, caller_of, callers_of, cancel_was_delivered, course_of, course_value, end_of, event_of, first_at, first_in, foot_from, goal_of, handle_of_table, has_ended, held_why, how_far_of, instance_of, is_aborted, is_async_lifted, is_at, is_blocked_on, is_callback, is_callback_yield, is_direct, is_entry_in, is_entry_of, is_explicit, is_guest_call, is_held_admitted, is_holding, is_joined, is_live, is_member, is_nil, is_ready_to_resume, is_stage_ended, is_stage_live, is_under, is_waiter, is_waiting_on, is_watched, is_yielded, join_of, kind_of, may_not_enter, may_not_suspend, named_by, next_handle, or_high, own_event_of, phase_of, place_of, position_of, register_of, registers_of, result_of, same_subtask, saved_callee_of, saved_own_of, set_at, stage_of, strand_from, subtask_at, subtask_ended, subtask_handle, task_of, thread_at, thread_group, thread_handle_of, undelivered_end, was_cancelled, was_started, work_caller_of}
 unfoldable pub use Rattle.task_machine.specs.Read.{admitted_held, at_handle_limit, blocked_on, fits, foot_of, has_member, has_thread, has_waiter, has_waiters, is_last_thread, new_handle, new_thread_handle, next_entry, strand_of, under_of}
@@ -41,14 +41,14 @@ pub use Rattle.task_rules.specs.Laws.{BlockingCheckIsAfter, CallbackCheckIsAfter
 unfoldable pub use Rattle.task_rules.specs.Laws.{ReleaseKeepsPlaces, RemovalKeepsPlaces, StopKeepsPlaces, WakeKeepsPlaces}
 pub use Rattle.task_rules.specs.MainOps.{Abort, act_of, advanced_main, Answer, Await, Does, Finish, finish_act, finish_result, is_complete, is_spawn, line_of, main_row, MainAct, MainProgress, may_act, op_at, Pends, Quiet, Ready, Spawn, spawned_at, Start, start_act, started_at, unless_pending}
 unfoldable pub use Rattle.task_rules.specs.MainOps.{has_interesting, is_ready_for_call, main_aborted, main_spawned, main_started, start_refusal}
-pub use Rattle.task_rules.specs.Once.{begun_holder, changes_end, covers_end, end_code, EndsOnce, handed, hands_out, hands_out_written, holder_at_exit, holder_at_start, holds_one, is_among, is_end_of, is_known, is_other, is_start, is_written, less_holder, returned_holder, same_end, with_end, with_holder, writes_end, written}
+pub use Rattle.task_rules.specs.Once.{begun_holder, changes_end, covers_end, end_code, EndsOnce, handed, hands_out, hands_out_written, holder_at_exit, holder_at_start, holds_one, is_among, is_end_of, is_known, is_other, is_start, is_written, less_holder, returned_holder, with_end, with_holder, writes_end, written}
 pub use Rattle.task_rules.specs.OpParts.{callee_of_op, can_come, ends_activation, is_cancel, is_code_op, is_sync_call, is_sync_cancel, is_sync_host_call, is_thread_op, is_wait, suspends, yields}
 pub use Rattle.task_rules.specs.Outcome.{main_outcome, outcome_of_label}
 pub use Rattle.task_rules.specs.Places.{entries, HasPlace, is_at_high, is_at_low, is_at_switch, is_behind_of, is_for_start, is_fresh, is_inside, is_there, one_if, Placed, says, switch_entries, times}
 pub use Rattle.task_rules.specs.Progress.{Fails, Goes, may, Never, or_never, or_trap, Ordered, Progress, Stops, trap_if, Traps}
 pub use Rattle.task_rules.specs.Run.{main_opening, opening, Run}
 pub use Rattle.task_rules.specs.Scenes.{base_at, base_without, component_of, op_in, runner_at, Scene, scene_of, thread_of_entry}
-pub use Rattle.task_rules.specs.Scripts.{export_kind, host_at, is_script, op_of_thread, registers_for, script_in, script_of_thread, slot_at, value_of, values_in}
+pub use Rattle.task_rules.specs.Scripts.{export_kind, host_at, is_script, op_at_place, op_of_thread, registers_for, script_in, script_of_thread, slot_at, value_of, values_in}
 unfoldable pub use Rattle.task_rules.specs.Scripts.{op_of, script_of}
 pub use Rattle.task_rules.specs.Sets.{chosen, given_code, given_handle, given_result, handed_out, join_done, join_to, joins, may_wake_new, set_row, wait_begins, wait_goes_on, wait_row, wakes_joined}
 unfoldable pub use Rattle.task_rules.specs.Sets.{finds_nothing, joined, received, received_woken, set_dropped, set_given, set_made, wait_stops, wait_stops_checked}

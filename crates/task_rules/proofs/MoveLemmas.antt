@@ -1,5 +1,5 @@
 -- Moves beside a thread that runs or is taken: they leave each other thread its place.
-use Rattle.task_rules.proofs.Machine.{[], ap, arith, Bool, cond, Core, Delivery, displaced, false, get-remove, get-remove_other, get-remove_same, HasPlace, held_why, held_why_of, is_callback_waiter, is_free, is_there, is_waiter, List, Mark, may_wake, nat_tests, None, on_thread, one_if, Option, option_and_then, option_map, option_map_or, Place, place_of, push_high, push_high_first, push_low, put_at, put_high, put_low, put_switch, refl, released, released_one, ReleaseKeepsPlaces, RemovalKeepsPlaces, remove_thread, set_place, set_switch, Some, StopKeepsPlaces, stopped, subst, switch_entries, sym, Thread, times, true, wake, WakeKeepsPlaces, waken_by, Why, why_of, ℕ, ◌+◌, ◌==◌, ◌∙◌, ◌∷◌, ◌≡◌, ◌≤◌}
+use Rattle.task_rules.proofs.Machine.{[], ap, arith, Bool, cond, Core, Delivery, displaced, false, get-remove, get-remove_other, get-remove_same, HasPlace, held_why, held_why_of, is_callback_waiter, is_free, is_there, List, Mark, may_wake, nat_tests, None, on_thread, one_if, Option, option_and_then, option_map, option_map_or, Place, place_of, Placed, push_high, push_high_first, push_low, put_at, put_high, put_low, put_switch, refl, released, released_one, ReleaseKeepsPlaces, RemovalKeepsPlaces, remove_thread, set_place, set_switch, Some, StopKeepsPlaces, stopped, subst, switch_entries, sym, Thread, times, true, wake, WakeKeepsPlaces, waken_by, Why, why_of, ℕ, ◌+◌, ◌==◌, ◌∙◌, ◌∷◌, ◌≡◌, ◌≤◌}
 pub use Rattle.task_machine.proofs.CommuteLemmas.{get-change}
 use Rattle.task_rules.proofs.StandLemmas.{nobody, Loose, Stand, Watch, adds_all, by_count, eq_refl, free_drops, is_so, is_watched, moves_stand, not_eq, place_kept, put_high_adds, put_low_adds, set_place_adds, zero_one, Adds}
 use Rattle.task_rules.proofs.StopLemmas.{displaced_stand, stopped_stand, switch_adds}
@@ -23,7 +23,8 @@ is_parked (Place.Behind f) = false
 is_parked _ = true
 
 -- what passes is there
-pub at_place : {X : Type 0} (test : X → Bool) (o : Option X) → option_map_or test o false ≡ true → (x : X) × ((o ≡ Some x) × (test x ≡ true))
+pub at_place : {X : Type 0} (test : X → Bool) (o : Option X) → option_map_or test o false ≡ true →
+    (x : X) × ((o ≡ Some x) × (test x ≡ true))
 at_place test None h = absurd (grind arith)
 at_place test (Some x) h = (x, (refl, h))
 
@@ -77,7 +78,8 @@ put_place x m w s h = grind (arith, nat_tests, get-change)
 put_free : {P : ℕ → Watch} (n : ℕ) (q : Option Place) → is_busy q ≡ true → (m : ℕ) (p r : Place) (s t : Core) → place_of m s ≡ Some p →
     is_parked p ≡ true → (is_watched (P m) ≡ true → is_so (P m) (Some r) ≡ true) → Adds m r s t → Stand P n q [] s → Stand P n q [] t
 put_free n q busy m p r s t is parked fits adds st =
-    moves_stand n q [] m p r s s t (free_drops m p s (grind arith)) adds is (let here = st.here in grind (arith, nat_tests)) (λ so w. fits w) st
+    let here = st.here in
+    moves_stand n q [] m p r s s t (free_drops m p s (grind arith)) adds is (grind (arith, nat_tests)) (λ so w. fits w) st
 
 pub put_stand : {P : ℕ → Watch} (n : ℕ) (q : Option Place) → is_busy q ≡ true → (x : Mark) (m : ℕ) (w : Why) (p : Place) (s : Core) →
     place_of m s ≡ Some p → is_parked p ≡ true → (is_watched (P m) ≡ true → is_so (P m) (Some (Place.Ready x w)) ≡ true) →
@@ -92,9 +94,6 @@ put_stand n q busy Mark.Switch m w p s is parked fits st =
     put_free n q busy m p _ v _ still parked fits (switch_adds m w p v still refl) (displaced_stand n q [] s s.queues.switch refl st)
 
 -- ---- The thread itself
-
-abbrev pub All : Core → Type 0
-All s = (k : ℕ) → HasPlace k s
 
 -- a thread's place says nothing, or it is gone
 abbrev pub is_idle : Option Place → Bool
@@ -114,11 +113,12 @@ no_time k n e = ap (λ b. one_if b + 0) e
 
 -- where each thread has its place, each that is at no entry may be taken as n
 pub stand_of : {P : ℕ → Watch} (n : ℕ) (q : Option Place) (s : Core) → place_of n s ≡ q → is_idle q ≡ true →
-    ((k : ℕ) → is_watched (P k) ≡ true → is_so (P k) (place_of k s) ≡ true) → All s → Stand P n q [] s
+    ((k : ℕ) → is_watched (P k) ≡ true → is_so (P k) (place_of k s) ≡ true) → Placed s → Stand P n q [] s
 stand_of n q s is idle so all = record {
   here = is;
   once = λ k. at_most_one (k == n);
-  loose = λ k h. by_count k n _ (λ e x. subst (λ (j : ℕ). Loose j s) (sym e) (idle_loose n q s is idle (all n))) (λ e x. absurd (omega arith));
+  loose =
+      λ k h. by_count k n _ (λ e x. subst (λ (j : ℕ). Loose j s) (sym e) (idle_loose n q s is idle (all n))) (λ e x. absurd (omega arith));
   there = λ k h. zero_one refl h;
   placed = λ k h. all k;
   kept = λ k h. (refl, so k h);
@@ -127,14 +127,15 @@ stand_of n q s is idle so all = record {
     at_most_one : (b : Bool) → one_if b + 0 ≤ 1
     at_most_one b = grind arith
 
-pub all_of : {P : ℕ → Watch} (n : ℕ) (q : Option Place) (s : Core) → is_idle q ≡ true → Stand P n q [] s → All s
+pub all_of : {P : ℕ → Watch} (n : ℕ) (q : Option Place) (s : Core) → is_idle q ≡ true → Stand P n q [] s → Placed s
 all_of n q s idle st k =
     by_count k n _ (λ e x. loose_idle k q s (ap (λ (j : ℕ). place_of j s) e ∙ st.here) idle (st.loose k (omega arith)))
     (λ e x. st.placed k (omega arith))
 
-pub removed_all : {P : ℕ → Watch} (n : ℕ) (q : Option Place) (s : Core) → Stand P n q [] s → All (remove_thread n s)
+pub removed_all : {P : ℕ → Watch} (n : ℕ) (q : Option Place) (s : Core) → Stand P n q [] s → Placed (remove_thread n s)
 removed_all n q s st k =
-    by_count k n _ (λ e x. subst (λ (j : ℕ). Loose j s → HasPlace j (remove_thread n s)) (sym e) (removed_gone n s) (st.loose k (omega arith)))
+    by_count k n _
+    (λ e x. subst (λ (j : ℕ). Loose j s → HasPlace j (remove_thread n s)) (sym e) (removed_gone n s) (st.loose k (omega arith)))
     (λ e x. removed_placed k n s e (st.placed k (omega arith)))
 
 -- ---- The moves, where all threads have their places
@@ -143,14 +144,16 @@ removed_all n q s st k =
 abbrev Runs : ℕ → Core → Type 0
 Runs n s = Stand nobody n (Some Place.Running) [] s
 
-runs : (n : ℕ) (s : Core) → place_of n s ≡ Some Place.Running → All s → Runs n s
+runs : (n : ℕ) (s : Core) → place_of n s ≡ Some Place.Running → Placed s → Runs n s
 runs n s is all = stand_of n (Some Place.Running) s is refl (λ k h. absurd (grind arith)) all
 
-put_keeps : (n m : ℕ) (w : Why) (p : Place) (s : Core) → place_of m s ≡ Some p → is_parked p ≡ true → Runs n s → Runs n (put_high m w s)
-put_keeps n m w p s is parked st = put_stand n (Some Place.Running) refl Mark.High m w p s is parked (λ h. absurd (grind arith)) st
+put_keeps : (n m : ℕ) (w : Why) (s : Core) → option_map_or is_parked (place_of m s) false ≡ true → Runs n s → Runs n (put_high m w s)
+put_keeps n m w s parked st =
+    let p = at_place is_parked (place_of m s) parked in
+    put_stand n (Some Place.Running) refl Mark.High m w p.0 s p.1.0 p.1.1 (λ h. absurd (grind arith)) st
 
 release_one : (n m : ℕ) (o : Option Place) (s : Core) → place_of m s ≡ o → Runs n s → Runs n (released_one m (option_and_then held_why o) s)
-release_one n m (Some (Place.Held w)) s is st = put_keeps n m w (Place.Held w) s is refl st
+release_one n m (Some (Place.Held w)) s is st = put_keeps n m w s (grind arith) st
 release_one n m _ s is st = st
 
 release_stand : (n : ℕ) (ns : List ℕ) (s : Core) → Runs n s → Runs n (released ns s)
@@ -163,18 +166,19 @@ unfolding wake may_wake
 wake_stand n x None s h st = st
 wake_stand n x (Some m) s h st = by_callback (is_callback_waiter m s)
   where
-    waits : is_waiter x m s ≡ true → option_map_or is_parked (place_of m s) false ≡ true
-    waits h = grind arith
+    waits : option_map_or is_parked (place_of m s) false ≡ true
+    waits = grind arith
 
     by_callback : (b : Bool) → Runs n (waken_by b x m s)
-    by_callback true = let p = at_place is_parked (place_of m s) (waits h) in put_keeps n m (Why.Delivery (Delivery.Set x)) p.0 s p.1.0 p.1.1 st
-    by_callback false = let p = at_place is_parked (place_of m s) (waits h) in put_keeps n m Why.Resumption p.0 s p.1.0 p.1.1 st
+    by_callback true = put_keeps n m (Why.Delivery (Delivery.Set x)) s waits st
+    by_callback false = put_keeps n m Why.Resumption s waits st
 
 pub stop_keeps_places : StopKeepsPlaces
 unfolding StopKeepsPlaces
 stop_keeps_places n f p s free is all =
     let st = stopped_stand n (Some Place.Running) f s (runs n s is all) in
-    adds_all n (Some Place.Running) p (stopped f s) (set_place n p (stopped f s)) (set_place_adds n p Place.Running (stopped f s) free st.here) st
+    let adds = set_place_adds n p Place.Running (stopped f s) free st.here in
+    adds_all n (Some Place.Running) p (stopped f s) (set_place n p (stopped f s)) adds st
 
 pub release_keeps_places : ReleaseKeepsPlaces
 unfolding ReleaseKeepsPlaces

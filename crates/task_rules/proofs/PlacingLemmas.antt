@@ -46,7 +46,8 @@ resumed_shifted : (ns : List ℕ) (s : Core) → Shifted s (resumed_all ns s)
 unfolding put_high push_high set_place on_thread
 resumed_shifted [] s = shifted_same s
 resumed_shifted (n ∷ ns) s =
-    shifted_after (record { only = refl; threads = λ k. grind (arith, nat_tests, get-change) }) (resumed_shifted ns (put_high n Why.Resumption s))
+    shifted_after (record { only = refl; threads = λ k. grind (arith, nat_tests, get-change) })
+    (resumed_shifted ns (put_high n Why.Resumption s))
 
 put_switch_shifted : (n : ℕ) (w : Why) (s : Core) → Shifted s (put_switch n w s)
 unfolding put_switch set_switch push_high_first set_place on_thread
@@ -61,7 +62,8 @@ passed_on_shifted None (n ∷ ns) s = shifted_after (put_switch_shifted (newest 
 pub placing_shifted : (p : Placing) (s : Core) → Shifted s (after_placing p s)
 unfolding stopped put_high put_low promoted unqueued set_place on_thread set_high set_low set_callers set_switch push_high push_low behind_one popped
 placing_shifted (Put Mark.Switch n w) s = put_switch_shifted n w s
-placing_shifted (Stop f) s = shifted_after (record { only = refl; threads = λ k. refl }) (passed_on_shifted s.queues.switch (callers_of f s) _)
+placing_shifted (Stop f) s =
+    shifted_after (record { only = refl; threads = λ k. refl }) (passed_on_shifted s.queues.switch (callers_of f s) _)
 placing_shifted p s = record { only = grind arith; threads = λ k. grind (arith, nat_tests, get-change) }
 
 pub popped_shifted : (m : Mark) (s : Core) → Shifted s (popped m s)

@@ -1,16 +1,13 @@
 -- A promotion moves at most one entry, and keeps the order of all others.
 use Rattle.task_rules.proofs.Machine.{[], ap, arith, Bool, checked, CheckMovesOne, cond, Core, Entry, false, first_entry, first_in, has_entry, if◌then◌else◌, inl, inr, is_entry_of, is_some, less, List, Mark, may_not_suspend, nat_tests, None, not, on_thread, Option, promoted, promoted_first, promoted_unless, Promotes, PromotionMovesOne, refl, set_high, set_low, set_place, set_switch, Some, stand, Takes, true, unqueued, why_of, ℕ, ◌||◌, ◌∷◌, ◌≡◌, ◌⊎◌}
 
-entry_is : (n : ℕ) (e : Entry) → is_entry_of n e ≡ true → e ≡ Entry.Thread n
-entry_is n e h = grind (arith, nat_tests)
-
 less_takes : (n : ℕ) (es : List Entry) → has_entry n es ≡ true → Takes n es (less n es)
 less_takes n [] h = absurd (grind arith)
 less_takes n (e ∷ es) h = by_test (is_entry_of n e) refl (less_takes n es) h
   where
     by_test : (b : Bool) → is_entry_of n e ≡ b → (has_entry n es ≡ true → Takes n es (less n es)) → (b || has_entry n es) ≡ true →
         Takes n (e ∷ es) (cond b es (e ∷ less n es))
-    by_test true is rest h = record { front = []; back = es; before = ap (λ (x : Entry). x ∷ es) (entry_is n e is); after = refl }
+    by_test true is rest h = record { front = []; back = es; before = grind (arith, nat_tests); after = refl }
     by_test false is rest h =
         let r = rest h in
         record { front = e ∷ r.front; back = r.back; before = ap (λ xs. e ∷ xs) r.before; after = ap (λ xs. e ∷ xs) r.after }

@@ -204,7 +204,8 @@ module _ (m : ℕ) (p : Place) (s t : Core) (a : Adds m p s t) where
       own k = ap one_if (eq_refl k)
 
 -- the thread n itself is put at a place, and each thread has its place
-pub adds_all : {P : ℕ → Watch} (n : ℕ) (q : Option Place) (p : Place) (s t : Core) → Adds n p s t → Stand P n q [] s → (k : ℕ) → HasPlace k t
+pub adds_all : {P : ℕ → Watch} (n : ℕ) (q : Option Place) (p : Place) (s t : Core) → Adds n p s t → Stand P n q [] s → (k : ℕ) →
+    HasPlace k t
 adds_all n q p s t a st k =
     by_count k n _ (λ e x. subst (λ (j : ℕ). Loose j s → HasPlace j t) (sym e) (adds_own n p s t a) (st.loose k (omega arith)))
     (λ e x. adds_other n p s t a k e (st.placed k (omega arith)))
@@ -219,7 +220,8 @@ pub record Drops (m : ℕ) (p : Place) (s t : Core) : Type 0 where
   pub callers : (k f : ℕ) → times k (callers_of f s) ≡ times k (callers_of f t) + gain k m (one_if (is_behind_of f p))
 
 -- From the place p a thread comes to the place r.
-pub moves_stand : {P : ℕ → Watch} (n : ℕ) (q : Option Place) (xs : List ℕ) (m : ℕ) (p r : Place) (s u t : Core) → Drops m p s u → Adds m r u t →
+pub moves_stand : {P : ℕ → Watch} (n : ℕ) (q : Option Place) (xs : List ℕ) (m : ℕ) (p r : Place) (s u t : Core) → Drops m p s u →
+    Adds m r u t →
     place_of m s ≡ Some p → times m (n ∷ xs) ≡ 0 → (is_so (P m) (Some p) ≡ true → is_watched (P m) ≡ true → is_so (P m) (Some r) ≡ true) →
     Stand P n q xs s → Stand P n q xs t
 moves_stand {P = P} n q xs m p r s u t drops adds is none so st = record {

@@ -1,5 +1,5 @@
 -- What the rows of the ops are made of, as chains of words: what is read, gifts, moves, and a new call.
-use Rattle.task_rules.proofs.Machine.{[], add_call, add_thread, advanced, after_placing, after_word, answered, ap, ap₂, arith, assigned, AtOp, behind_one, behind_switch, Blocks, Bool, ByHandle, ByOp, call_clears_flag, call_instance, call_made, call_queues, call_resumes, call_settled, call_stops, Callee, callee_of_op, CallEnd, Caller, can_come, cancel_goes_behind, cancel_stops, Cancelling, change-change_same, checked, Choice, chosen, Core, EndCall, Enter, enter_runs, event_of, ExportKind, false, foot_of, get, get-change, get-insert, get-remove_same, Gift, gift, give_thread_handle, Given, given_code, given_handle, given_result, Goal, goal_of, GoBehind, group_settled, HasCalled, HasSet, HasSubtask, how_far_of, HowFar, inl, InOp, inr, instance_of, is_begun, is_blocked_on, is_cancel, is_deletable, is_deletable_call, is_direct, is_explicit, is_group_done, is_joined, is_none, is_running, is_some, is_sync_call, is_sync_cancel, is_wait, IsNew, IsRunner, IsWithdrawn, Join, join_of, Leaves, less_switch, List, Made, MakeCall, Mark, may_not_suspend, MayCancel, MayCome, MayDeliver, MayJoin, MayMakeCall, MayRemoveWork, MayWithdraw, MemberGift, Move, moved_to, NameThread, nat_tests, new_thread, next_thread, NoGift, None, not, NoWord, on_call, on_instance, on_thread, on_work, op_in, Option, option_map, option_map_or, own_event_of, OwnEvent, OwnGift, Place, place_of, Put, put_back, put_switch, received, refl, Remains, remove_call, remove_group, remove_thread, remove_work, RemoveWork, saved_callee_of, says, SaysEnd, Scene, Script, set_do_not_suspend, set_end, set_event, set_exited, set_given, set_high, set_how_far, set_join, set_low, set_place, set_position, set_register, set_saved_callee, set_saved_own, set_started, set_switch, set_thread_handle, set_uninteresting, SetCallEvent, SetCallJoin, SetDoNotSuspend, SetExited, SetHowFar, SetRegister, SetSavedCallee, SetSavedOwn, SetStarted, settle_group_of, SetUninteresting, SetWorkJoin, Some, Starts, Status, Stop, stopped, subst, Subtask, subtask_under_way, sym, sync_sets_flag, TakesCalled, TakesCancelled, TakesNamed, TakeWorkEvent, task_of, Then, Thread, thread_group, Trip, true, Turn, unqueued, unwrap_or, wait_stops, Waits, watches, Why, with_thread_handle, Withdraw, withdrawn, work_deleted, work_group, ℕ, ◌&&◌, ◌+◌, ◌==◌, ◌∙◌, ◌≡◌, ◌⊎◌}
+use Rattle.task_rules.proofs.Machine.{add_call, add_thread, advanced, after_placing, after_word, answered, ap, ap₂, arith, assigned, AtOp, behind_one, behind_switch, Blocks, Bool, ByHandle, ByOp, call_clears_flag, call_instance, call_made, call_queues, call_resumes, call_settled, call_stops, Callee, callee_of_op, CallEnd, Caller, can_come, cancel_goes_behind, cancel_stops, Cancelling, change-change_same, checked, Choice, chosen, Core, EndCall, Enter, enter_runs, event_of, ExportKind, false, foot_of, get, get-change, get-insert, get-remove_same, Gift, gift, give_thread_handle, Given, given_code, given_handle, given_result, Goal, goal_of, GoBehind, group_settled, HasCalled, HasSet, HasSubtask, how_far_of, HowFar, inl, InOp, inr, instance_of, is_begun, is_blocked_on, is_cancel, is_deletable, is_deletable_call, is_direct, is_explicit, is_group_done, is_joined, is_none, is_running, is_some, is_sync_call, is_sync_cancel, is_wait, IsNew, IsRunner, IsWithdrawn, Join, join_of, Leaves, less_switch, List, Made, MakeCall, Mark, may_not_suspend, MayCancel, MayCome, MayDeliver, MayJoin, MayMakeCall, MayRemoveWork, MayWithdraw, MemberGift, Move, moved_to, NameThread, nat_tests, next_thread, NoGift, None, not, NoWord, on_call, on_instance, on_thread, on_work, op_in, Option, option_map, option_map_or, own_event_of, OwnEvent, OwnGift, Place, place_of, Put, put_back, put_switch, received, refl, Remains, remove_call, remove_group, remove_thread, remove_work, RemoveWork, saved_callee_of, says, SaysEnd, Scene, set_do_not_suspend, set_end, set_event, set_exited, set_given, set_high, set_how_far, set_join, set_low, set_place, set_position, set_register, set_saved_callee, set_saved_own, set_started, set_switch, set_thread_handle, set_uninteresting, SetCallEvent, SetCallJoin, SetDoNotSuspend, SetExited, SetHowFar, SetRegister, SetSavedCallee, SetSavedOwn, SetStarted, settle_group_of, SetUninteresting, SetWorkJoin, Some, Starts, Status, Stop, stopped, subst, Subtask, subtask_under_way, sym, sync_sets_flag, TakesCalled, TakesCancelled, TakesNamed, TakeWorkEvent, task_of, Then, Thread, thread_group, Trip, true, Turn, unqueued, unwrap_or, wait_stops, Waits, watches, Why, with_thread_handle, Withdraw, withdrawn, work_deleted, work_group, ℕ, ◌&&◌, ◌+◌, ◌==◌, ◌∙◌, ◌≡◌, ◌⊎◌}
 use Rattle.task_rules.proofs.ChainLemmas.{Going, Keep, keep_stay}
 use Rattle.task_rules.proofs.WalkMoves.{keep_still, MayTake, checked_shifts, shifted, stopped_shifts, taken_walks, word, lands_at, settled, group_settles}
 use Rattle.task_rules.proofs.MoveLemmas.{put_place}
@@ -191,39 +191,12 @@ module _ {a : Scene} {b : Core} (n : ℕ) (is : IsRunner a n) where
 
 -- ---- A new call
 
--- the record of a thread as it was made, but for its place and whose it is
-abbrev pub birth : Thread → Thread
-birth r = record {
-  call = r.call;
-  explicit = r.explicit;
-  script = Script.Start;
-  position = 0;
-  how_far = HowFar.Fresh;
-  registers = [];
-  handle = None;
-  saved_own = None;
-  saved_callee = None;
-  place = r.place;
-}
-
 -- The call was just made with this goal, with its thread.
 pub record Born (m : ℕ) (g : Goal) (t : Core) : Type 0 where
-  pub thread : option_map birth (get t.threads m) ≡ Some (birth (new_thread m false Script.Start [] None))
-  pub goal : goal_of m t ≡ g
+  pub place : place_of m t ≡ Some Place.New
+  pub explicit : is_explicit m t ≡ false
+  pub goal : goal_of (task_of m t) t ≡ g
   pub made : t.made.threads ≡ m
-
-module _ {m : ℕ} {g : Goal} {t : Core} (h : Born m g t) where
-  pub born_place : place_of m t ≡ Some Place.New
-  born_place = grind (arith, h.thread)
-
-  pub born_explicit : is_explicit m t ≡ false
-  born_explicit = grind (arith, h.thread)
-
-  pub born_task : task_of m t ≡ m
-  born_task = grind (arith, h.thread)
-
-  pub born_goal : goal_of (task_of m t) t ≡ g
-  born_goal = ap (λ (k : ℕ). goal_of k t) born_task ∙ h.goal
 
 pub call_born : (f : Caller) (e : Callee) (x : ExportKind) (g : Goal) (group : ℕ) (words : List ℕ) (s : Core) → Born (next_thread s) g (call_made f e x g group words s)
 unfolding call_made add_thread add_call
@@ -283,11 +256,11 @@ module _ {a : Scene} (n : ℕ) (is : IsRunner a n) where
       let d : Shifted t u = placing_shifted p t in
       let v = call_clears_flag n e.instance k u in
       let same = cleared n e.instance k m u in
-      let new : (v.made.threads ≡ m) × (is_explicit m v ≡ false) = (same.0 ∙ (ap (λ (r : Made). r.threads) (shifted_made d) ∙ h.made), same.1.0 ∙ (shifted_explicit d m ∙ born_explicit h)) in
+      let new : (v.made.threads ≡ m) × (is_explicit m v ≡ false) = (same.0 ∙ (ap (λ (r : Made). r.threads) (shifted_made d) ∙ h.made), same.1.0 ∙ (shifted_explicit d m ∙ h.explicit)) in
       let w = behind_one m n v in
-      let c : Keep a s v = call_clears_flag_walks n is e.instance k (placed p (inl (Starts (born_place h) (born_explicit h) (ap (λ (y : Goal). is_direct y) (born_goal h) ∙ plain) refl)) (word (MakeCall (Caller.Thread n) e k g (thread_group n s) words) ok NoWord)) in
+      let c : Keep a s v = call_clears_flag_walks n is e.instance k (placed p (inl (Starts h.place h.explicit (ap (λ (y : Goal). is_direct y) h.goal ∙ plain) refl)) (word (MakeCall (Caller.Thread n) e k g (thread_group n s) words) ok NoWord)) in
       let called : HasCalled n m w = called_as n m t w (shifted_calls (placing_shifted (GoBehind m n) v) ∙ (same.1.1.1 ∙ shifted_calls d)) (made_called n e k g (thread_group n s) words s) in
-      lands_at (GoBehind m n) n (HowFar.Calls (Subtask.Guest m)) refl (leave, inl (same.1.1.0 ∙ ap (λ (o : Option Place). is_some o) (put_place Mark.Switch m Why.Start t (ap (λ (o : Option Place). is_some o) (born_place h))))) (is, inr (shifted_new a m v w refl (placing_shifted (GoBehind m n) v) new, called)) (keep_still n runs c) can c
+      lands_at (GoBehind m n) n (HowFar.Calls (Subtask.Guest m)) refl (leave, inl (same.1.1.0 ∙ ap (λ (o : Option Place). is_some o) (put_place Mark.Switch m Why.Start t (ap (λ (o : Option Place). is_some o) h.place)))) (is, inr (shifted_new a m v w refl (placing_shifted (GoBehind m n) v) new, called)) (keep_still n runs c) can c
 
   pub enter_runs_walks : is_sync_call (op_in a n) ≡ true → is_some (callee_of_op (op_in a n)) ≡ true → (e : Callee) (k : ExportKind) (words : List ℕ) → a.turn ≡ Turn.Run n → a.next ≡ Turn.Run (next_thread a.base) → MayMakeCall a (Caller.Thread n) e k Goal.Direct (thread_group n a.base) a.base → Trip a a.base (enter_runs n e k words a.base)
   unfolding enter_runs
@@ -299,7 +272,7 @@ module _ {a : Scene} (n : ℕ) (is : IsRunner a n) where
       let new = entered n e k words (thread_group n s) s in
       let h : Born m Goal.Direct u = new.1.0 in
       let c : Keep a s u = sync_sets_flag_walks n is m e.instance k (word (SetStarted m) (inr (refl, new.0)) (word (NameThread e.instance m) tt (word (MakeCall (Caller.Thread n) e k Goal.Direct (thread_group n s) words) ok NoWord))) in
-      lands_at (Enter n m) n (HowFar.Calls (Subtask.Guest m)) refl (is, (to, (refl, (born_place h, (ap (λ (y : Goal). is_direct y) (born_goal h), (runs, (new.1.1.0, (keep_still n runs c, sync)))))))) (is, inr (shifted_new a m u _ refl (placing_shifted (Enter n m) u) (h.made, born_explicit h), called_as n m u (after_placing (Enter n m) u) (shifted_calls (placing_shifted (Enter n m) u)) new.1.1.1)) (keep_still n runs c) can c
+      lands_at (Enter n m) n (HowFar.Calls (Subtask.Guest m)) refl (is, (to, (refl, (h.place, (ap (λ (y : Goal). is_direct y) h.goal, (runs, (new.1.1.0, (keep_still n runs c, sync)))))))) (is, inr (shifted_new a m u _ refl (placing_shifted (Enter n m) u) (h.made, h.explicit), called_as n m u (after_placing (Enter n m) u) (shifted_calls (placing_shifted (Enter n m) u)) new.1.1.1)) (keep_still n runs c) can c
 
 pub enter_gives : (n : ℕ) (e : Callee) (k : ExportKind) (words : List ℕ) (s : Core) → (next_thread s == n) ≡ false → option_map_or is_running (place_of (next_thread s) (enter_runs n e k words s)) true ≡ true
 unfolding enter_runs set_how_far set_place on_thread

@@ -8,7 +8,7 @@ use Rattle.task_rules.proofs.WalkTask.{is_exit_op, op_stands, Leads, data_row_le
 use Rattle.task_rules.proofs.PlacingLemmas.{placed, popped_shifted}
 use Rattle.task_rules.proofs.WalkMoves.{blocked_at, chosen_in_of, shifted, unblocked_shifts, word, published_shifts}
 use Rattle.task_rules.proofs.WalkOps.{set_row_leads, subtask_row_leads, thread_row_leads}
-use Rattle.task_rules.proofs.WalkParts.{Born, born_explicit, born_goal, born_place, call_born}
+use Rattle.task_rules.proofs.WalkParts.{Born, call_born}
 use Rattle.task_rules.proofs.WalkTakes.{thread_taken_leads}
 
 -- ---- A host call whose entry is taken
@@ -147,10 +147,6 @@ is_finish _ = false
 main_mute : (a : Scene) (t : Core) (k : MainLabel) → is_finish k ≡ false → is_mute a t (Label.Main k) ≡ true
 main_mute a t k other = grind arith
 
-abbrev is_unscripted : Main → Bool
-is_unscripted Unscripted = true
-is_unscripted (Scripted p) = false
-
 -- what an op of a script aborts is a work that it names
 script_aborts : (p : MainPlace) (o : MainOpDef) (i : ℕ) → act_of p o ≡ Abort i → (k : ℕ) × (i ≡ spawned_at p k)
 script_aborts p (MainOpDef.Abort k) i h = (k, grind arith)
@@ -196,7 +192,7 @@ module _ (x : Setting) (s : State) (l : Label) where
       let k = next_thread s.core in
       let g = add_group s.core in
       let h : Born k Goal.Main (call_made Caller.Main e (export_kind x.component e) Goal.Main (s.core.made.groups + 1) words g) = call_born Caller.Main e (export_kind x.component e) Goal.Main (s.core.made.groups + 1) words g in
-      placed (Put Mark.High k Why.Start) (inl (Starts (born_place h) (born_explicit h) (ap (λ (y : Goal). is_direct y) (born_goal h)) refl))
+      placed (Put Mark.High k Why.Start) (inl (Starts h.place h.explicit (ap (λ (y : Goal). is_direct y) h.goal) refl))
       (word (MakeCall Caller.Main e (export_kind x.component e) Goal.Main (s.core.made.groups + 1) words) (may, (refl, (refl, (λ d. absurd (subst T (sym d) tt), refl)))) (word AddGroup refl NoWord))
 
   -- an op whose label tells of no end
@@ -281,7 +277,7 @@ module _ (x : Setting) (s : State) (l : Label) where
 
   open_act_walks : (k : ℕ) (act : MainAct) (t : State) → s.main ≡ Unscripted → OpenAct x s k act l t → WalkedBy (idle_scene Turn.Main s.core) s.core s.main t
   unfolding add_group
-  open_act_walks k act t open_main h = open_progresses_walk (main_row x.component k s.core act) t (main_row_leads k act (λ e words at. ByProgram (length words) open_main (sym (ap (λ y. may_act x.component s.core y) at) ∙ h.0) refl refl) (λ y at p at2. absurd (subst T (ap is_unscripted (sym open_main ∙ at2)) tt)) (λ i at. ProgramAborts open_main (sym (ap (λ y. may_act x.component s.core y) at) ∙ h.0))) h.1
+  open_act_walks k act t open_main h = open_progresses_walk (main_row x.component k s.core act) t (main_row_leads k act (λ e words at. ByProgram (length words) open_main (sym (ap (λ y. may_act x.component s.core y) at) ∙ h.0) refl refl) (λ y at p at2. absurd (grind (arith, open_main, at2))) (λ i at. ProgramAborts open_main (sym (ap (λ y. may_act x.component s.core y) at) ∙ h.0))) h.1
 
   -- ---- Works
 

@@ -7,7 +7,7 @@ use Rattle.task_rules.proofs.ChainLemmas.{Keep, chain_if}
 use Rattle.task_rules.proofs.ReleaseLemmas.{shifted_admits}
 use Rattle.task_rules.proofs.WalkMoves.{MayTake, ToldTo, handed_on_shifts, lands, shifted, stopped_shifts, taken_walks, told_to, told_walks, word, told_shifts}
 use Rattle.task_rules.proofs.WalkParts.{gift_is, set_given_walks, sync_sets_flag_walks}
-use Rattle.task_rules.proofs.WalkTask.{Leads, may_leads, not_main, one_runner, or_never_leads, running_moved, seen, trap_if_leads, moved_passes}
+use Rattle.task_rules.proofs.WalkTask.{Leads, may_leads, not_main, one_runner, or_never_leads, seen, trap_if_leads, moved_passes}
 
 -- ---- What is read
 
@@ -72,7 +72,7 @@ module _ (x : Setting) (main : Main) (ended : Bool) (s : Core) (n : ℕ) (l : La
   taken_ends : (k : Label) (p : Place) (t : Core) → l ≡ k → is_taking k ≡ true → is_free p ≡ true → ((m : ℕ) → next ≡ Turn.Run m → (m ≡ n) × (p ≡ Place.Running)) → (l ≡ k → EndWords taking_scene (set_place n p t)) → Shuts k (set_place n p t) → LastWords taking_scene (set_place n p t)
   taken_ends k p t is taking free to says shuts = record {
     laid = λ m at take. subst (λ (j : ℕ). option_map_or is_free (place_of j (set_place n p t)) true ≡ true) (ap (λ (o : Option ℕ). unwrap_or o 0) at) (moved_passes is_free p free n t);
-    runs = λ m at. let r = to m at in inr (subst (λ (j : ℕ). option_map_or is_running (place_of j (set_place n p t)) true ≡ true) (sym r.0) (subst (λ (q : Place). option_map_or is_running (place_of n (set_place n q t)) true ≡ true) (sym r.1) (running_moved n t)));
+    runs = λ m at. let r = to m at in inr (subst (λ (j : ℕ). option_map_or is_running (place_of j (set_place n p t)) true ≡ true) (sym r.0) (subst (λ (q : Place). option_map_or is_running (place_of n (set_place n q t)) true ≡ true) (sym r.1) (moved_passes is_running Place.Running refl n t)));
     outcome = λ o at. absurd (subst T (sym quiet.0 ∙ ap (λ y. is_none y) (ap outcome_of_label (sym is) ∙ at)) tt);
     gone = λ m at exit. absurd (subst T (sym quiet.1 ∙ ap not (ap is_exit (sym is) ∙ exit)) tt);
     says = says is;

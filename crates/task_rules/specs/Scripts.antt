@@ -76,9 +76,12 @@ script_of_thread c s t = script_in c (callee_of t.call s) t.script
 unfoldable pub script_of : Component → ℕ → Core → List Op
 script_of c n s = option_map_or (script_of_thread c s) (get s.threads n) []
 
-abbrev pub op_of_thread : Component → Core → Thread → Op
-op_of_thread c s t = unwrap_or (slice_get (script_of_thread c s t) t.position) (op.Task task.Exit)
+-- the op at a place of a script. A script's end is an exit
+abbrev pub op_at_place : List Op → ℕ → Op
+op_at_place ops p = unwrap_or (slice_get ops p) (op.Task task.Exit)
 
--- the op at the thread's position. A script's end is an exit
+abbrev pub op_of_thread : Component → Core → Thread → Op
+op_of_thread c s t = op_at_place (script_of_thread c s t) t.position
+
 unfoldable pub op_of : Component → ℕ → Core → Op
-op_of c n s = unwrap_or (slice_get (script_of c n s) (option_map_or (λ t. t.position) (get s.threads n) 0)) (op.Task task.Exit)
+op_of c n s = op_at_place (script_of c n s) (option_map_or (λ t. t.position) (get s.threads n) 0)
