@@ -52,6 +52,10 @@ pub record InPlace (s : State) : Type 0 where
   pub placed : Placed s.core
   pub runs : (n : ℕ) → s.turn ≡ turn.Run n → place_of n s.core ≡ Some place.Running
 
+-- while the turns aren't over, no thread runs but the one whose turn it is
+abbrev pub RunsAlone : State → Type 0
+RunsAlone s = (n : ℕ) → (s.turn ≡ turn.Over → ⊥) → place_of n s.core ≡ Some place.Running → s.turn ≡ turn.Run n
+
 -- A thread that is under another has a smaller number than that one, whose number was given; and it is under it alone.
 pub record Strands (s : Core) : Type 0 where
   pub below : (n m : ℕ) → place_of n s ≡ Some (place.Under m) → n + 1 ≤ m
@@ -337,6 +341,7 @@ StepsMakeFew = (x : Setting) (s : State) (l : Label) (t : State) → Step x s l 
 pub record InOrder (c : Component) (s : State) : Type 0 where
   pub codes : CodesInCallbacks c
   pub in_place : InPlace s
+  pub alone : RunsAlone s
   pub strands : Strands s.core
   pub directs : DirectsOnTop s.core
   pub works : WorksQueued s.core

@@ -113,7 +113,7 @@ module _ {a : Scene} {b : Core} {n : ℕ} {q : Option Place} (f : Frame a b n q)
       (stays first c)
 
   pub trip_works : {t : Core} → Working a b → Trip a b t → Working a t
-  trip_works first (Remains t c still) = stays first c
+  trip_works first (Remains t c still on) = stays first c
   trip_works first (Lands s p c ok fit) = landed s p first c ok
   trip_works first (LandsAt s p m h c ok fit comes) =
       let t = after_word (Places p) s in

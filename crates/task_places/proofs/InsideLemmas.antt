@@ -148,7 +148,7 @@ module _ {a : Scene} {b : Core} {n : ℕ} {q : Option Place} (f : Frame a b n q)
       rest other came = ⊎_elim (loose_inside p _) (⊎_elim (q k p) (λ moves. loose_inside p _ (moved other moves))) came
 
   trip_inside : {t : Core} → InsideOps b → Trip a b t → InsideOps t
-  trip_inside first (Remains t c still) = stays first c
+  trip_inside first (Remains t c still on) = stays first c
   trip_inside first (Lands s x c ok fit) = λ k.
       inside_word a (Places x) s (land_allowed a x s ok) k (loose s (stay_stand f.follows c) k)
       (λ y is p at. ⊎_elim inl (⊎_elim inr (λ moves. inl (rw moves at fit))) (landed s x c k p at)) (stays first c k)

@@ -6,6 +6,7 @@ pub mod CallsBack
 pub mod WorksQueued
 pub mod HostsAwaited
 pub mod InsideLemmas
+pub mod AloneLemmas
 pub mod OrderLemmas
 pub mod OnceSteps
 pub mod WakeLines

@@ -3,6 +3,8 @@ use Rattle.task_rules.proofs.Machine.{[], ap, arith, base_at, Bool, ByHandle, By
 use Rattle.task_laws.specs.Wakes.{NoneAdmitted}
 use Rattle.task_laws.proofs.HeldLemmas.{held_word}
 use Rattle.task_places.proofs.InsideLemmas.{step_inside}
+use Rattle.task_places.proofs.AloneLemmas.{step_alone}
+use Rattle.task_rules.proofs.LawLemmas.{step_over}
 use Rattle.task_places.proofs.HostsAwaited.{Asked, step_asked, step_works}
 use Rattle.task_places.proofs.Directs.{directs_on_top}
 use Rattle.task_laws.proofs.Joins.{joins_word, opening_joins}
@@ -338,6 +340,7 @@ step_in_order x s l t h step =
     record {
       codes = h.codes;
       in_place = in_place_kept x s l t h w;
+      alone = step_alone x s l t w h.in_place (withdrawable x s l t h w) (λ over. step_over x s l t over step) h.alone;
       strands = strands_kept x s l t h w;
       directs = directs_kept x s l t h w (steady x s l t step) q.numbered;
       works = (works_kept x s l t h w).0;
@@ -374,6 +377,7 @@ opening_in_order c codes instances handle_limit capacity main =
     record {
       codes = codes;
       in_place = record { placed = opening_placed instances handle_limit capacity; runs = λ n e. absurd (cc) };
+      alone = λ n live is. let o = get-empty {X = Thread} n in absurd (cc);
       strands = grind (arith, get-empty);
       directs = λ n there implicit direct. let o = get-empty {X = Thread} n in absurd (cc);
       works = grind (arith, get-empty);

@@ -450,7 +450,7 @@ module _ {a : Scene} {b : Core} {n : ℕ} {q : Option Place} (f : Frame a b n q)
       }
 
   pub trip_arrives : {t : Core} → Trip a b t → LastWords a t → Arrives a t
-  trip_arrives (Remains t c still) w =
+  trip_arrives (Remains t c still on) w =
       let st = stay_stand f.follows c in
       let here = st.here in
       let home = f.home n in

@@ -5,6 +5,9 @@ use Rattle.task_rules.proofs.ChainLemmas.{Going, join, stay_walk, Keep, keep_sta
 use Rattle.task_rules.proofs.WalkMoves.{keep_still, MayTake, checked_shifts, chosen_of, handed_on_shifts, shifted, wake_shifts, word, lands_at, promoted_walks, call_done_walks, settled, call_settles}
 use Rattle.task_rules.proofs.PlacingLemmas.{Shifted, placed, placing_shifted, shifted_calls, shifted_far, shifted_made, shifted_task, shifts_shifted}
 use Rattle.task_rules.proofs.WalkParts.{parted_answers_walks, parted_takes_walks, rejoined, AtOps, call_queues_walks, call_resumes_walks, call_stops_walks, cancel_goes_behind_walks, cancel_stops_walks, checked_walks, enter_gives, enter_runs_walks, gift_is, join_walks, put_back_walks, received_walks, stopped_walks, wait_stops_walks, withdrawn_walks, work_deleted_walks, withdraws, answered_first, answered_settled, call_answers_walks, answered_fresh, assigned_fresh, event_taken_walks}
+use Rattle.task_machine.specs.Moves.{put_switch}
+use Rattle.task_machine.specs.Write.{set_switch}
+use Rattle.task_machine.specs.declared.records.Why.{Why}
 use Rattle.task_rules.proofs.MuteLemmas.{mute_words, none_said, says_by, hands_by}
 use Rattle.task_rules.proofs.SayLemmas.{cancel_hands_of, cancel_writes_of, HasNoEnd, said_is, given_out, settled_gone, event_gone, result_gone}
 use Rattle.task_rules.proofs.StandLemmas.{by_number}
@@ -347,6 +350,14 @@ module _ (x : Setting) (main : Main) (s : Core) (n : ℕ) (l : Label) (next : Tu
       (λ to f says. said_is (λ d g. Writes a t d) (sym ((cancel_is mode 3 t).0 ∙ ap (option_map (end_for Status.StartCancelled)) target) ∙ says) (WritesCall k u (EndsSubtask named unended) (over_now k CallEnd.StartCancelled v) rest))
       (λ to f out. said_is (HandsOut a t) (sym ((cancel_is mode 3 t).1 ∙ ap (option_map (end_for Status.StartCancelled)) target) ∙ out) (WritesToo k Status.StartCancelled (ap (λ (y : Label). written_by x.component s y s) at ∙ ((cancel_is mode 3 s).0 ∙ ap (option_map (end_for Status.StartCancelled)) target)) (inr refl)))
 
+  put_stands : (m : ℕ) (w : Why) (t : Core) → is_some (put_switch m w t).queues.switch ≡ true
+  unfolding put_switch set_switch
+  put_stands m w t = refl
+
+  promoted_stands : (m : ℕ) (t : Core) → is_some (promoted_unless m t).queues.switch ≡ true
+  unfolding promoted_unless promoted set_switch
+  promoted_stands m t = grind arith
+
   promoted_join : (m k : ℕ) (t : Core) → join_of (Subtask.Guest k) (promoted_unless m t) ≡ join_of (Subtask.Guest k) t
   unfolding promoted_unless
   promoted_join m k t = by (is_some t.queues.switch)
@@ -365,11 +376,11 @@ module _ (x : Setting) (main : Main) (s : Core) (n : ℕ) (l : Label) (next : Tu
       (λ at. answered_walks n refl on r 3 (withdrawn_walks n refl k (n, (refl, ((n, (h, (refl, named))), (says.1, (says.0, (refl, says.1)))))) (ap (λ (y : Label). written_by x.component s y s) at ∙ ((cancel_is mode 3 s).0 ∙ ap (option_map (end_for Status.StartCancelled)) target)) NoWord))
   cancel_guest_leads mode r h k CallbackWaits by target is named free =
       let asks = asks_walks k h named (grind (arith, is), grind (arith, is)) in
-      stop (pauses n) (cancel_wakes_callback n k s) refl (λ leave. cancel_goes_behind_walks n refl at_ops k (ap (λ m. option_map_or (λ c. c.join) (get m k) Join.Nowhere) (shifted_calls (placing_shifted (Put Mark.Switch k (Why.Delivery Delivery.Cancel)) (cancel_asks k s))) ∙ grind (arith, nat_tests, get-change)) (cancels mode by) leave (inl (h, named)) free
+      stop (pauses n) (cancel_wakes_callback n k s) refl (λ leave. cancel_goes_behind_walks n refl at_ops k (put_stands k (Why.Delivery Delivery.Cancel) (cancel_asks k s)) (ap (λ m. option_map_or (λ c. c.join) (get m k) Join.Nowhere) (shifted_calls (placing_shifted (Put Mark.Switch k (Why.Delivery Delivery.Cancel)) (cancel_asks k s))) ∙ grind (arith, nat_tests, get-change)) (cancels mode by) leave (inl (h, named)) free
       (placed (Put Mark.Switch k (Why.Delivery Delivery.Cancel)) (inl (Cancels (grind (arith, is)) refl)) asks))
   cancel_guest_leads mode r h k CallbackYields by target is named free =
       let asks = asks_walks k h named (grind (arith, is), grind (arith, is)) in
-      stop (pauses n) (cancel_promotes_yield n k s) refl (λ leave. cancel_goes_behind_walks n refl at_ops k (promoted_join k k (cancel_asks k s) ∙ grind (arith, nat_tests, get-change)) (cancels mode by) leave (inl (h, named)) free
+      stop (pauses n) (cancel_promotes_yield n k s) refl (λ leave. cancel_goes_behind_walks n refl at_ops k (promoted_stands k (cancel_asks k s)) (promoted_join k k (cancel_asks k s) ∙ grind (arith, nat_tests, get-change)) (cancels mode by) leave (inl (h, named)) free
       (promoted_walks n k refl (ready_at (place_of k s) (inr (grind (arith, is)))) asks))
   cancel_guest_leads mode r h k OtherwiseRuns by target is named free = cancel_by_end_leads mode r (Subtask.Guest k) (cancel_asks k s) (subtask_ended (Subtask.Guest k) (cancel_asks k s)) by target (grind (arith, nat_tests, get-change)) (grind (arith, nat_tests, get-change)) (inl (h, named)) (inl free) (asks_walks k h named (grind (arith, is), grind (arith, is)))
 

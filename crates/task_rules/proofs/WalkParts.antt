@@ -171,17 +171,17 @@ module _ {a : Scene} {b : Core} (n : ℕ) (is : IsRunner a n) where
   parted_takes_walks on r v (Subtask.Host i) far same c to =
       Then _ (TakeWorkEvent i) (parted_answers_walks on r v (Subtask.Host i) far same c to) (n, (is, cancels_own a n (Subtask.Host i) (inr far)))
 
-  behind_switch_walks : (o : Option ℕ) (h : HowFar) {t : Core} → t.queues.switch ≡ o → Leaves a n → ((u : Core) → Shifted t u → MayCome a n h u) → AtOp a n t → can_come (op_in a n) h ≡ true → Keep a b t → Trip a b (set_how_far n h (behind_switch n o t))
-  behind_switch_walks None h {t = t} is leave comes at can c = Remains (set_how_far n h t) (keep_stay (word (SetHowFar n h) (comes t (shifted_same t), InOp at can) c)) (λ m to. not_main m (sym leave.1.0 ∙ to))
-  behind_switch_walks (Some m) h {t = t} is leave comes at can c = lands_at (GoBehind (foot_of m t) n) n h refl (leave, inr (m, (is, refl))) (comes (after_placing (GoBehind (foot_of m t) n) t) (placing_shifted (GoBehind (foot_of m t) n) t)) at can c
+  behind_switch_walks : (o : Option ℕ) (h : HowFar) {t : Core} → is_some o ≡ true → t.queues.switch ≡ o → Leaves a n → ((u : Core) → Shifted t u → MayCome a n h u) → AtOp a n t → can_come (op_in a n) h ≡ true → Keep a b t → Trip a b (set_how_far n h (behind_switch n o t))
+  behind_switch_walks None h stands is leave comes at can c = absurd (grind arith)
+  behind_switch_walks (Some m) h {t = t} stands is leave comes at can c = lands_at (GoBehind (foot_of m t) n) n h refl (leave, inr (m, (is, refl))) (comes (after_placing (GoBehind (foot_of m t) n) t) (placing_shifted (GoBehind (foot_of m t) n) t)) at can c
 
-  pub cancel_goes_behind_walks : AtOps a b n → (k : ℕ) {t : Core} → join_of (Subtask.Guest k) t ≡ join_of (Subtask.Guest k) a.base → is_cancel (op_in a n) ≡ true → Leaves a n → MayCancel a n (Subtask.Guest k) → is_joined (join_of (Subtask.Guest k) a.base) ≡ false → Keep a b t → Trip a b (cancel_goes_behind n k t)
+  pub cancel_goes_behind_walks : AtOps a b n → (k : ℕ) {t : Core} → is_some t.queues.switch ≡ true → join_of (Subtask.Guest k) t ≡ join_of (Subtask.Guest k) a.base → is_cancel (op_in a n) ≡ true → Leaves a n → MayCancel a n (Subtask.Guest k) → is_joined (join_of (Subtask.Guest k) a.base) ≡ false → Keep a b t → Trip a b (cancel_goes_behind n k t)
   unfolding cancel_goes_behind set_join on_call set_do_not_suspend on_instance set_saved_callee on_thread
-  cancel_goes_behind_walks at k {t = t} same can leave has free c =
+  cancel_goes_behind_walks at k {t = t} stands same can leave has free c =
       let j = call_instance k t in
       let v = set_do_not_suspend j false (set_saved_callee n (Some (may_not_suspend j t)) t) in
       let d = join_walks (Subtask.Guest k) (Join.Watched n) (is, (cancels_own a n (Subtask.Guest k) has, (inl free, grind (arith, same)))) (word (SetDoNotSuspend j false) tt (word (SetSavedCallee n (Some (may_not_suspend j t))) tt c)) in
-      behind_switch_walks t.queues.switch (HowFar.Cancels (Subtask.Guest k)) refl leave (λ u moved. (is, (has, shifted_watches n (Subtask.Guest k) moved ∙ joined_watches n (Subtask.Guest k) v))) (at _ d) can d
+      behind_switch_walks t.queues.switch (HowFar.Cancels (Subtask.Guest k)) stands refl leave (λ u moved. (is, (has, shifted_watches n (Subtask.Guest k) moved ∙ joined_watches n (Subtask.Guest k) v))) (at _ d) can d
 
   pub withdrawn_walks : (k : ℕ) {t : Core} → MayWithdraw a k t → SaysEnd a k Status.StartCancelled → Keep a b t → Keep a b (withdrawn k t)
   unfolding withdrawn remove_thread set_end

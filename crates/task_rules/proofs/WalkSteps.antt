@@ -165,7 +165,7 @@ module _ (x : Setting) (s : State) (l : Label) where
   idle u b next m k new {t = t} quiet same is at says c =
       let q = idle_parts (outcome_of_label k) (begun_holder b k) next quiet in
       arrives (idle_scene u b) s.core s new m next t NoWord same at (
-        Remains new (keep_stay c) (λ j to. absurd (q.0 j to)),
+        Remains new (keep_stay c) (λ j to. absurd (q.0 j to)) (λ j none. none_said refl none),
         record {
           laid = λ j none take. none_said refl none;
           runs = λ j to. absurd (q.0 j to);

@@ -57,7 +57,8 @@ lands_inside _ h = true
 
 -- The running thread, or the one that was taken, stays and then comes to one place, or is gone.
 pub data Trip (a : Scene) (b : Core) : Core → Type 0 where
-  Remains : (t : Core) → Stay a b t → ((m : ℕ) → a.next ≡ turn.Run m → a.turn ≡ turn.Run m) → Trip a b t
+  Remains : (t : Core) → Stay a b t → ((m : ℕ) → a.next ≡ turn.Run m → a.turn ≡ turn.Run m) →
+      ((m : ℕ) → IsRunner a m → a.next ≡ turn.Run m) → Trip a b t
   Lands : (s : Core) → (p : Placing) → Stay a b s → MayLand a p s → lands_inside p how_far.Fresh ≡ true →
       Trip a b (after_word (Places p) s)
   -- and its op has come that far
