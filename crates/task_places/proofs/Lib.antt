@@ -10,3 +10,4 @@ pub mod AloneLemmas
 pub mod OrderLemmas
 pub mod OnceSteps
 pub mod WakeLines
+pub mod IdleLemmas

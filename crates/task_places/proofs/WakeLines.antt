@@ -16,7 +16,7 @@ none_held i s q =
     let test : ℕ → Bool = λ n. is_held_admitted i s n (option_and_then held_why (place_of n s)) in
     none_passes test (admitted_held i s) (filter_passes test (numbers s.threads)) (λ n is. let out = q n in absurd (grind arith))
 
-none_of : (s : Core) → NoneAdmitted s → (es : List (ℕ × Instance)) → list_any (λ e. not (is_nil (admitted_held e.0 s))) es ≡ false
+pub none_of : (s : Core) → NoneAdmitted s → (es : List (ℕ × Instance)) → list_any (λ e. not (is_nil (admitted_held e.0 s))) es ≡ false
 none_of s q [] = refl
 none_of s q (e ∷ es) = let none = none_held e.0 s q in let rest = none_of s q es in grind arith
 
