@@ -1,7 +1,5 @@
 -- Nobody runs but the thread whose turn it is, along the words of a step.
-use Rattle.task_rules.proofs.Machine.{[], after_placing, after_word, Allowed, ap, arith, behind_one, Bool, Collapses, Core, Enter, false, get, get-change, get-remove, GoBehind, GoesBack, HowFar, inl, inr, IsRunner, is_none, Label, Lands, LandsAt, Mark, MayLand, MayMove, Move, nat_tests, next_thread, None, on_thread, Option, option_map, Place, place_of, Places, Placing, Pop, Promote, push_high, push_low, Put, put_high, put_low, Quits, refl, Remains, remove_thread, RemoveThread, Scene, scene_of, set_callers, set_how_far, set_place, SetHowFar, Setting, Settles, Some, State, Stay, Stays, Stop, subst, sym, Thread, Trip, true, Turn, Walked, Why, Word, ℕ, ⊎_elim, ◌==◌, ◌∙◌, ◌≡◌, ◌⊎◌}
-use Rattle.task_rules.specs.Turns.{settled_turn}
-use Rattle.task_rules.specs.Scenes.{runner_at}
+use Rattle.task_rules.proofs.Machine.{after_placing, after_word, ap, arith, behind_one, Collapses, Core, Enter, false, get, get-change, get-remove, GoBehind, GoesBack, inl, inr, is_none, IsRunner, Label, Lands, LandsAt, Mark, MayLand, MayMove, Move, nat_tests, on_thread, Option, option_map, Place, place_of, Places, Placing, Promote, push_high, push_low, Put, put_high, put_low, Quits, Remains, remove_thread, RemoveThread, runner_at, Scene, scene_of, set_callers, set_how_far, set_place, Setting, settled_turn, Settles, Some, State, Stay, Stays, Stop, sym, Thread, Trip, true, Turn, Walked, Word, ℕ, ⊎_elim, ◌==◌, ◌∙◌, ◌≡◌, ◌⊎◌}
 use Rattle.task_places.proofs.PlaceSteps.{Reads, Withdrawable, step_by}
 use Rattle.task_places.proofs.PlaceLaw.{Frame, yield_leaves}
 use Rattle.task_rules.proofs.PlacingLemmas.{placing_shifted}

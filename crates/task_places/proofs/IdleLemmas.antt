@@ -1,11 +1,6 @@
 -- An idle state in order that has the facts on wakes is stalled.
-use Rattle.task_rules.proofs.Machine.{[], admitted_held, ap, arith, Bool, Core, false, get, has_entry, has_waiter, HasPlace, is_nil, is_some, List, list_any, Mark, nat_tests, next_entry, None, not, numbers, Option, option_map, Place, place_of, Placed, refl, Some, State, Subtask, Thread, true, Turn, Why, ℕ, ◌∙◌, ◌∷◌, ◌≡◌, ◌≤◌}
-use Rattle.std.specs.List.{count_by}
-use Rattle.std.specs.Prelude.{cond, suc, zero, ◌+◌}
-use Rattle.std.proofs.lemmas.List.Sums.{sum_by-cons}
-use Rattle.task_machine.specs.Read.{any_thread, event_of, has_ready_member, is_behind, is_ready_member, is_woken_for, subtasks, undelivered_end, woken}
+use Rattle.task_rules.proofs.Machine.{[], any_thread, ap, arith, Bool, cond, Core, count_by, event_of, false, get, has_ready_member, has_waiter, HasPlace, Idle, is_behind, is_blocked_on_end, is_held_for, is_idle, is_passed_over, is_ready_member, is_stalled, is_unended_take, is_woken_for, List, list_any, Mark, next_entry, None, numbers, Option, option_map, Place, place_of, Placed, refl, Some, Stalled, State, Subtask, subtasks, suc, sum_by-cons, Thread, true, Turn, undelivered_end, Why, woken, zero, ℕ, ◌∙◌, ◌∷◌, ◌≡◌, ◌≤◌}
 use Rattle.task_rules.proofs.CallThreads.{any_found, found_any}
-use Rattle.task_rules.specs.Stalled.{Idle, Setting, Stalled, is_blocked_on_end, is_held_for, is_idle, is_passed_over, is_stalled, is_unended_take, no_set_passed_over, none_admitted, none_behind, none_blocked_on_end}
 use Rattle.task_laws.specs.Order.{InOrder, RunsAlone}
 use Rattle.task_laws.specs.Wakes.{CallersGoOn, NoneAdmitted, NoneBlockedOnEnd, WakesCounted, goes_on_at, goes_on_within, ready_members}
 use Rattle.task_places.proofs.WakeLines.{none_of}

@@ -1,17 +1,18 @@
 -- The words of std, of the machine and of its rules that the proofs cite, in one place.
 pub use Rattle.task_machine.specs.declared.{component.Callee.Callee, component.Component.Component, component.ExportKind.ExportKind, component.HostDef.HostDef, component.Slot.Slot, label.CallLabel.CallLabel, label.DataLabel.DataLabel, label.Label.Label, label.LoopLabel.LoopLabel, label.MainLabel.MainLabel, label.SetLabel.SetLabel, label.TakeLabel.TakeLabel, label.TaskLabel.TaskLabel, label.ThreadLabel.ThreadLabel, op.CallOp.CallOp, op.DataOp.DataOp, op.Op.Op, op.SetOp.SetOp, op.TaskOp.TaskOp, op.ThreadOp.ThreadOp, outcome.Outcome.Outcome, records.Call.Call, records.CallEnd.CallEnd, records.Caller.Caller, records.Course.Course, records.Delivery.Delivery, records.Entry.Entry, records.Goal.Goal, records.HowFar.HowFar, records.Instance.Instance, records.Join.Join, records.Made.Made, records.Named.Named, records.Place.Place, records.Script.Script, records.Set.Set, records.Stage.Stage, records.Subtask.Subtask, records.Thread.Thread, records.Turn.Turn, records.Why.Why, records.Work.Work, records.WorkCaller.WorkCaller, scenario.MainOpDef.MainOpDef, trap.Trap.Trap, words.Given.Given, words.Mark.Mark, words.OwnEvent.OwnEvent, words.Phase.Phase, words.Status.Status}
-pub use Rattle.std.proofs.Common.{ap, ap₂, arith, cond, inl, inr, le_refl, le_trans, refl, subst, sym, T, ⊎_elim, ◌∙◌}
+pub use Rattle.std.proofs.Common.{ap, ap₂, arith, inl, inr, le_refl, le_trans, refl, subst, sym, T, ⊎_elim, ◌∙◌}
 pub use Rattle.std.proofs.lemmas.Bool.{and_parts, eq-eqb, eqb-false, eqb-true, not-true}
 pub use Rattle.std.proofs.lemmas.Bool.Decides.{nat_tests}
 pub use Rattle.std.proofs.lemmas.List.Elements.{filter_passes}
 pub use Rattle.std.proofs.lemmas.List.Folds.{list_any-append}
 pub use Rattle.std.proofs.lemmas.List.Sorted.{All-permutation, IsPermutation-refl, length_permutation, list_any-IsPermutation}
+pub use Rattle.std.proofs.lemmas.List.Sums.{sum_by-cons}
 pub use Rattle.std.specs.Cmp.{nat_cmp_total, unsigned_tied}
 pub use Rattle.std.specs.FinMap.Entries.{below_all, is_sorted}
-pub use Rattle.std.specs.List.{All, list_any}
+pub use Rattle.std.specs.List.{All, count_by, list_any}
 pub use Rattle.std.specs.Option.{option_map_or, option_or}
 pub use Rattle.std.specs.Ordering.{is_lt, nat_cmp}
-pub use Rattle.std.specs.Prelude.{[], Bool, count_by, false, filter, find, IfSome, if◌then◌else◌, is_none, is_some, IsPermutation, length, List, map, min, nat_le, nat_lt, None, not, Option, option_and_then, option_map, slice_get, Some, suc, true, unwrap_or, zero, ℕ, ◌%◌, ◌&&◌, ◌*◌, ◌++◌, ◌+◌, ◌-◌, ◌/◌, ◌<◌, ◌==◌, ◌||◌, ◌∷◌, ◌≡◌, ◌≢◌, ◌≤◌, ◌⊎◌}
+pub use Rattle.std.specs.Prelude.{[], Bool, cond, false, filter, find, IfSome, if◌then◌else◌, is_none, is_some, IsPermutation, length, List, map, min, nat_le, nat_lt, None, not, Option, option_and_then, option_map, slice_get, Some, suc, true, unwrap_or, zero, ℕ, ◌%◌, ◌&&◌, ◌*◌, ◌++◌, ◌+◌, ◌-◌, ◌/◌, ◌<◌, ◌==◌, ◌||◌, ◌∷◌, ◌≡◌, ◌≢◌, ◌≤◌, ◌⊎◌}
 pub use Rattle.task_machine.proofs.CommuteLemmas.{change-change_same, get-change}
 pub use Rattle.task_machine.proofs.MapLemmas.{change-field, get-insert_same, get-remove_other, get-remove_same}
 pub use Rattle.task_machine.specs.Core.{Began, Core, filled, Main, MainPlace, no_handles, Queues, Refused, Scripted, Started, State, Table, Unscripted, untouched}
@@ -21,8 +22,8 @@ pub use Rattle.task_machine.specs.Maps.{get-empty, get-insert, get-remove, Recor
 unfoldable pub use Rattle.task_machine.specs.Maps.{change, get, insert, numbers, remove, size}
 pub use Rattle.task_machine.specs.Moves.{behind, departed, displaced, exited_if, freed_thread_handle, Gift, gift_after_own, hands_on, has_entry, held_why_of, is_callback_waiter, is_deletable_call, is_finished, less, less_switch, may_wake_joined, MemberGift, newest, NoGift, older, own_gift_of, own_or_nothing, OwnGift, passed_on, promoted_first, released_one, resumed_all, stand, unblocked, wake_joined, waken_by, why_of}
 unfoldable pub use Rattle.task_machine.specs.Moves.{behind_one, call_settled, checked, ended, first_entry, gift, given_for, group_settled, handed_on, interest_settled, is_deletable, is_group_done, may_hand_on, may_publish, may_wake, own_gift_only, passes_check, promoted, promoted_unless, published, put_high, put_low, put_switch, released, stopped, taken, unqueued, wake, withdrawn}
-pub use Rattle.task_machine.specs.Read.{admits, as_set, as_subtask, backpressure_of, call_group, call_instance, callee_of, caller_of, callers_of, cancel_was_delivered, course_of, course_value, end_of, event_of, first_at, first_in, foot_from, goal_of, handle_of_table, has_ended, held_why, how_far_of, instance_of, is_aborted, is_async_lifted, is_at, is_blocked_on, is_callback, is_callback_yield, is_direct, is_entry_in, is_entry_of, is_explicit, is_guest_call, is_held_admitted, is_holding, is_joined, is_live, is_member, is_nil, is_ready_to_resume, is_stage_ended, is_stage_live, is_under, is_waiter, is_waiting_on, is_watched, is_yielded, join_of, kind_of, may_not_enter, may_not_suspend, named_by, next_handle, or_high, own_event_of, phase_of, place_of, position_of, register_of, registers_of, result_of, same_subtask, saved_callee_of, saved_own_of, set_at, stage_of, strand_from, subtask_at, subtask_ended, subtask_handle, task_of, thread_at, thread_group, thread_handle_of, undelivered_end, was_cancelled, was_started, work_caller_of}
-unfoldable pub use Rattle.task_machine.specs.Read.{admitted_held, at_handle_limit, blocked_on, fits, foot_of, has_member, has_thread, has_waiter, has_waiters, is_last_thread, new_handle, new_thread_handle, next_entry, strand_of, under_of}
+pub use Rattle.task_machine.specs.Read.{admits, any_thread, as_set, as_subtask, backpressure_of, call_group, call_instance, callee_of, caller_of, callers_of, cancel_was_delivered, course_of, course_value, end_of, event_of, first_at, first_in, foot_from, goal_of, handle_of_table, has_ended, held_why, how_far_of, instance_of, is_aborted, is_async_lifted, is_at, is_behind, is_blocked_on, is_callback, is_callback_yield, is_direct, is_entry_in, is_entry_of, is_explicit, is_guest_call, is_held_admitted, is_holding, is_joined, is_live, is_member, is_nil, is_ready_member, is_ready_to_resume, is_stage_ended, is_stage_live, is_under, is_waiter, is_waiting_on, is_watched, is_woken_for, is_yielded, join_of, kind_of, may_not_enter, may_not_suspend, named_by, next_handle, or_high, own_event_of, phase_of, place_of, position_of, register_of, registers_of, result_of, same_subtask, saved_callee_of, saved_own_of, set_at, stage_of, strand_from, subtask_at, subtask_ended, subtask_handle, subtasks, task_of, thread_at, thread_group, thread_handle_of, undelivered_end, was_cancelled, was_started, work_caller_of}
+unfoldable pub use Rattle.task_machine.specs.Read.{admitted_held, at_handle_limit, blocked_on, fits, foot_of, has_member, has_ready_member, has_thread, has_waiter, has_waiters, is_last_thread, new_handle, new_thread_handle, next_entry, strand_of, under_of, woken}
 pub use Rattle.task_machine.specs.Statuses.{packed, status_code}
 pub use Rattle.task_machine.specs.Write.{giving, less_one, remove_threads, taking}
 unfoldable pub use Rattle.task_machine.specs.Write.{add_call, add_group, add_set, add_thread, add_work, count_work, free_handle, free_thread_handle, give_handle, give_result, give_thread_handle, on_call, on_instance, on_thread, on_work, push_high, push_high_first, push_low, remove_call, remove_group, remove_set, remove_thread, remove_work, set_backpressure, set_callers, set_cancel_delivered, set_cancelled, set_course, set_do_not_enter, set_do_not_suspend, set_end, set_event, set_exited, set_high, set_how_far, set_join, set_low, set_own_event, set_phase, set_place, set_position, set_register, set_result, set_saved_callee, set_saved_own, set_script, set_stage, set_started, set_starting_published, set_subtask_handle, set_switch, set_thread_handle, set_trapped, set_uninteresting, set_word, take_result}
@@ -52,8 +53,8 @@ pub use Rattle.task_rules.specs.Scripts.{export_kind, host_at, is_script, op_at_
 unfoldable pub use Rattle.task_rules.specs.Scripts.{op_of, script_of}
 pub use Rattle.task_rules.specs.Sets.{chosen, given_code, given_handle, given_result, handed_out, join_done, join_to, joins, may_wake_new, set_row, wait_begins, wait_goes_on, wait_row, wakes_joined}
 unfoldable pub use Rattle.task_rules.specs.Sets.{finds_nothing, joined, received, received_woken, set_dropped, set_given, set_made, wait_stops, wait_stops_checked}
-pub use Rattle.task_rules.specs.Stalled.{deadlock_trap, is_unended_take, Setting}
-unfoldable pub use Rattle.task_rules.specs.Stalled.{may_deadlock}
+pub use Rattle.task_rules.specs.Stalled.{deadlock_trap, Idle, is_blocked_on_end, is_held_for, is_passed_over, is_unended_take, Setting, Stalled}
+unfoldable pub use Rattle.task_rules.specs.Stalled.{is_idle, is_stalled, may_deadlock}
 pub use Rattle.task_rules.specs.Step.{DeadlockStep, EmptyFor, entry_number, FuturesStep, MainProgresses, MainStep, op_row, OpenAct, OpenProgresses, Polled, Progresses, RestStep, ScriptStep, TakeStep, trap_label, TurnStep}
 unfoldable pub use Rattle.task_rules.specs.Step.{did, Step, struck}
 pub use Rattle.task_rules.specs.SubtaskEnds.{call_of_op, cancel_target, cancelled_of_op, end_answered, end_for, finished_call, handed_by, handed_by_cancel, handed_by_event, handed_by_main, has_result, host_end, is_ending_exit, is_handed_end, returned_of_op, started_end, SubtaskEnd, task_end, written_by, written_by_cancel}
