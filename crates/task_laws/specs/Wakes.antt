@@ -23,7 +23,7 @@ goes_on_at goes_on (Some (place.Under m)) = goes_on m
 goes_on_at goes_on (Some (place.Behind f)) = goes_on f
 goes_on_at goes_on _ = false
 
--- from n, through fewer than this many threads that one is behind or under, one comes to a thread that is Ready or Running
+-- of at most this many threads from n on, each behind or under the next, one is Ready or Running
 abbrev pub goes_on_within : ℕ → Core → ℕ → Bool
 goes_on_within zero s n = false
 goes_on_within (suc k) s n = goes_on_at (goes_on_within k s) (place_of n s)
