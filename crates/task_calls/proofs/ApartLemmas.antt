@@ -1,6 +1,6 @@
 -- Order hangs neither on limits, nor on groups, nor on whether the store is trapped.
 use Rattle.std.specs.Prelude.{Bool, List, Some, ℕ, ◌≡◌}
-use Rattle.task_laws.specs.Order.{InOrder, JoinNamed}
+use Rattle.task_laws.specs.Order.{CancelsWatched, InOrder, JoinNamed}
 use Rattle.task_machine.specs.Core.{Core, Main}
 use Rattle.task_machine.specs.Read.{join_of, subtask_at, subtask_handle}
 use Rattle.task_machine.specs.Write.{set_trapped}
@@ -57,10 +57,19 @@ module _ (trapped : Bool) (groups : List ℕ) (handle_limit capacity : ℕ) wher
     names = record { there = there; once = o.names.once; called = o.names.called };
     calls = record { inside = o.calls.inside; apart = o.calls.apart };
     unbegun = λ k t e first waits. let h = o.unbegun k t e first waits in record { unended = h.unended; alone = h.alone };
+    works_named = record { by_handle = o.works_named.by_handle; by_op = o.works_named.by_op };
+    watched = watched;
+    inside = o.inside;
+    held = o.held;
+    awake = λ e. let h = o.awake e in record { alone = h.alone };
   }
     where
       there : (i h k : ℕ) → subtask_at i h (beside s) ≡ Some (subtask.Guest k) → subtask_handle (subtask.Guest k) (beside s) ≡ Some h
       there i h k e = o.names.there i h k e
+
+      watched : CancelsWatched (beside s)
+      watched n (subtask.Guest k) e = o.watched n (subtask.Guest k) e
+      watched n (subtask.Host i) e = o.watched n (subtask.Host i) e
 
       named : (sub : Subtask) (x : ℕ) → JoinNamed sub x s → JoinNamed sub x (beside s)
       named sub x j = record { instance = j.instance; handle = j.handle; home = j.home; named = j.named }

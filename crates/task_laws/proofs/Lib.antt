@@ -7,7 +7,9 @@ pub mod StrandLemmas
 pub mod WaitLemmas
 pub mod SceneLemmas
 pub mod HousedLemmas
+pub mod HeldLemmas
 pub mod Subtasks
+pub mod WatchLemmas
 pub mod HandleTables
 pub mod Joins
 pub mod CountLemmas

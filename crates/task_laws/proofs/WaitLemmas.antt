@@ -71,7 +71,7 @@ stand_set a s n x w (inr (inl ok)) h = inl (rw h at (put_set s n w ok))
 stand_set a s n x w (inr (inr ok)) h = inr (rw h at (yield_set a n w ok))
 
 move_set : (a : Scene) (s : Core) (n : ℕ) (p : Place) → MayMove a n p s → IfSome (set_of_place p) (Brings a n)
-move_set a s n p (Holds w l r e) = rw e (held (set_of_why w) (ready_set w (place_of n a.base) r))
+move_set a s n p (Holds w l r out e) = rw e (held (set_of_why w) (ready_set w (place_of n a.base) r))
   where
     held : (o : Option ℕ) → IfSome o (λ x. set_at_place (place_of n a.base) ≡ Some x) → IfSome o (Brings a n)
     held None h = tt

@@ -5,7 +5,7 @@ use Rattle.task_rules.proofs.PlacingLemmas.{placing_shifted, SameWorks}
 use Rattle.task_rules.proofs.WalkMoves.{blocked_place}
 use Rattle.task_laws.proofs.CallsCame.{IsBeside, IsFirst, IsGone, IsSame, ThreadAfter, thread_came}
 use Rattle.task_laws.specs.Order.{HostsAwaited, WorksQueued, InPlace}
-use Rattle.task_places.proofs.PlaceLaw.{Frame, beside, exits, move_runner, no_way, runner_there, stands, stay_word, stuck_word, watch, yield_leaves}
+use Rattle.task_places.proofs.PlaceLaw.{Frame, beside, exits, move_runner, runner_there, stands, stay_word, stuck_word, watch, yield_leaves}
 use Rattle.task_places.proofs.WorksQueued.{ended_word, works_word, others_move}
 use Rattle.task_laws.proofs.CountLemmas.{made_works_word}
 use Rattle.task_rules.proofs.ChainLemmas.{along, fall_allowed, land_allowed, stays_allowed, settle_stays}
@@ -113,9 +113,9 @@ module _ {a : Scene} {b : Core} {n : ℕ} {q : Option Place} (f : Frame a b n q)
       (stays first c)
 
   pub trip_works : {t : Core} → Working a b → Trip a b t → Working a t
-  trip_works first (Remains t c still) = stays first c
-  trip_works first (Lands s p c ok) = landed s p first c ok
-  trip_works first (LandsAt s p m h c ok comes) =
+  trip_works first (Remains t c still on) = stays first c
+  trip_works first (Lands s p c ok fit) = landed s p first c ok
+  trip_works first (LandsAt s p m h c ok fit comes) =
       let t = after_word (Places p) s in
       working_word a asked (SetHowFar m h) t comes (λ j i at x e. absurd (cc)) (landed s p first c ok)
   trip_works first (Quits s t k c leave d) =

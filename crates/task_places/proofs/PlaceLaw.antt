@@ -347,7 +347,7 @@ module _ {a : Scene} {b : Core} {n : ℕ} {q : Option Place} (f : Frame a b n q)
         λ implicit. let x = fresh_ready h.0 h.1.follows.busy (ap is_fresh (sym h.1.home) ∙ w) in
             starts implicit (x.0, h.1.home ∙ ap (λ (y : Place). Some y) x.1),
       )))
-  moves k r s (Holds w l was at) c =
+  moves k r s (Holds w l was out at) c =
       let h = beside k l.0 in
       comes h.1 c r _ (set_place_adds k r h.0 s (ap is_free at) (stands h.1 c).here) (λ m next. not_main m (sym l.1 ∙ next))
       (λ g. inl (let e = was.1 in grind arith))
@@ -450,7 +450,7 @@ module _ {a : Scene} {b : Core} {n : ℕ} {q : Option Place} (f : Frame a b n q)
       }
 
   pub trip_arrives : {t : Core} → Trip a b t → LastWords a t → Arrives a t
-  trip_arrives (Remains t c still) w =
+  trip_arrives (Remains t c still on) w =
       let st = stay_stand f.follows c in
       let here = st.here in
       let home = f.home n in
@@ -462,8 +462,8 @@ module _ {a : Scene} {b : Core} {n : ℕ} {q : Option Place} (f : Frame a b n q)
         covered = λ k m at. inl (covered_still a st k m at);
         entered = λ m none to. let r = f.running m (still m to) in absurd (cc);
       }
-  trip_arrives (Lands s p c ok) w = subst (λ (t : Core). Arrives a t) (sym (placing_shifted p s).only) (lands p s ok c)
-  trip_arrives (LandsAt s p m h c ok comes) w =
+  trip_arrives (Lands s p c ok fit) w = subst (λ (t : Core). Arrives a t) (sym (placing_shifted p s).only) (lands p s ok c)
+  trip_arrives (LandsAt s p m h c ok fit comes) w =
       far_arrives a m h _ (subst (λ (t : Core). Arrives a t) (sym (placing_shifted p s).only) (lands p s ok c))
   trip_arrives (Quits s t k c leave d) w =
       let e = exits k s t leave.0 c d in

@@ -2,6 +2,7 @@
 use Rattle.std.specs.Prelude.{◌≡◌, ◌<◌, ◌≤◌, ◌+◌, List, ℕ, Bool, true, false, Option, Some, None, is_none, is_some, length, option_map}
 use Rattle.task_laws.specs.Lacks.{LacksOps, LacksSets}
 use Rattle.task_laws.specs.Order.{InOrder}
+pub use Rattle.task_laws.specs.Order.{is_open}
 use Rattle.task_machine.specs.Core.{Core, Main, One, State}
 use Rattle.task_machine.specs.Read.{next_entry}
 use Rattle.task_machine.specs.declared.component.Component.{Component}
@@ -43,11 +44,6 @@ running_of s = option_map (λ id. thread_of s id) s.current
 abbrev pub runs_in : Turn → Option ℕ
 runs_in (turn.Run n) = Some n
 runs_in _ = None
-
--- the run goes on
-abbrev pub is_open : Turn → Bool
-is_open turn.Over = false
-is_open _ = true
 
 -- The step that was made is one of the machine, whatever main's part, its script and the idle line are. Its label gives an outcome exactly
 -- where the run is over.
