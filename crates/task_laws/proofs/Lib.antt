@@ -34,3 +34,4 @@ pub mod NamedWorks
 pub mod SyncWorks
 pub mod LackLemmas
 pub mod KnownWorks
+pub mod MemberLemmas

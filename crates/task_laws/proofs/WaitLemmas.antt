@@ -1,11 +1,11 @@
 -- Of which instance the sets are that threads wait on, along the words of a step.
-use Rattle.task_rules.proofs.Machine.{add_call, add_group, add_set, add_thread, add_work, after_word, Allowed, ap, arith, AwaitsEvent, Blocks, ByDelivery, BySetHandle, ByWait, call_made, CloseSet, ComesAgain, Core, count_work, false, FindsEvent, free_handle, free_thread_handle, get, get-insert, get-remove, give_handle, give_result, give_thread_handle, has_waiters, HasSet, Holds, how_far_of, HowFar, IfSome, inl, inr, instance_of, is_paused, is_some, is_there, is_wait, IsLaid, IsRunner, keeps_set, Mark, MayClose, MayCome, MayMove, MayPut, MayYield, nat_tests, None, on_call, on_instance, on_thread, on_work, op_in, OpenSet, Option, option_and_then, option_map, option_map_or, Place, place_of, poll_pends, push_high, refl, remove_call, remove_group, remove_set, remove_thread, remove_work, Runs, Scene, set_backpressure, set_cancel_delivered, set_cancelled, set_course, set_do_not_enter, set_do_not_suspend, set_end, set_event, set_exited, set_how_far, set_join, set_own_event, set_phase, set_position, set_register, set_result, set_saved_callee, set_saved_own, set_script, set_stage, set_started, set_starting_published, set_subtask_handle, set_thread_handle, set_trapped, set_uninteresting, set_word, Some, Suspends, take_result, Thread, true, Turn, Uncovers, Waits, WaitsAgain, Why, with_handle, with_thread_handle, Word, work_queued, Yields, ℕ, ⊎_elim, ◌≡◌, ◌≤◌, ◌⊎◌}
+use Rattle.task_rules.proofs.Machine.{add_call, add_group, add_set, add_thread, add_work, after_word, Allowed, ap, arith, AwaitsEvent, Blocks, ByDelivery, BySetHandle, ByWait, call_made, CloseSet, ComesAgain, Core, count_work, false, FindsEvent, free_handle, free_thread_handle, get, get-insert, get-remove, give_handle, give_result, give_thread_handle, has_waiters, HasSet, Holds, how_far_of, HowFar, IfSome, inl, inr, instance_of, is_at_wait, is_some, is_there, is_wait, IsLaid, IsRunner, keeps_set, Mark, MayClose, MayCome, MayMove, MayPut, MayYield, nat_tests, None, on_call, on_instance, on_thread, on_work, op_in, OpenSet, Option, option_and_then, option_map, option_map_or, Place, place_of, poll_pends, push_high, refl, remove_call, remove_group, remove_set, remove_thread, remove_work, Runs, Scene, set_backpressure, set_cancel_delivered, set_cancelled, set_course, set_do_not_enter, set_do_not_suspend, set_end, set_event, set_exited, set_how_far, set_join, set_own_event, set_phase, set_position, set_register, set_result, set_saved_callee, set_saved_own, set_script, set_stage, set_started, set_starting_published, set_subtask_handle, set_thread_handle, set_trapped, set_uninteresting, set_word, Some, Suspends, take_result, Thread, true, Turn, Uncovers, Waits, WaitsAgain, Why, with_handle, with_thread_handle, Word, work_queued, Yields, ℕ, ⊎_elim, ◌≡◌, ◌≤◌, ◌⊎◌}
 use Rattle.task_rules.proofs.CallThreads.{any_found}
 use Rattle.task_rules.proofs.StandLemmas.{by_number}
 use Rattle.task_laws.proofs.Basics.{above}
 use Rattle.task_laws.proofs.CallsCame.{op_came}
 use Rattle.task_laws.proofs.CameLemmas.{Came, Comes, MayStand, Moved, Shifts, Turned, Turns, came_word}
-use Rattle.task_laws.specs.Order.{IsOf, JoinsNamed, SetsNamed, WaitsAtHome, set_of_op, set_of_place, set_of_why}
+use Rattle.task_laws.specs.Order.{IsOf, JoinsNamed, SetsNamed, WaitsAtHome, WaitsPlaced, set_of_op, set_of_place, set_of_why}
 
 abbrev pub set_at_place : Option Place → Option ℕ
 set_at_place o = option_and_then (λ p. set_of_place p) o
@@ -20,8 +20,9 @@ unkept x n s none t at = let found = any_found (λ (t : Thread). keeps_set x t t
 place_keeps : (x : ℕ) (t : Thread) (p : Place) → set_of_place p ≡ Some x → keeps_set x t p ≡ true
 place_keeps x t p e = grind (arith, nat_tests)
 
-pause_keeps : (x : ℕ) (t : Thread) (p : Place) → t.how_far ≡ HowFar.Waits x → is_paused x p ≡ true → keeps_set x t p ≡ true
-pause_keeps x t p far e = grind (arith, nat_tests)
+unkept_runs : (x : ℕ) (t : Thread) (p : Place) → t.how_far ≡ HowFar.Waits x → is_at_wait x p ≡ true → keeps_set x t p ≡ false →
+    p ≡ Place.Running
+unkept_runs x t p far at free = grind (arith, nat_tests)
 
 unwaited : (x n : ℕ) (s : Core) → has_waiters x s ≡ false → set_at_place (place_of n s) ≡ Some x → ⊥
 unwaited x n s none at = go (get s.threads n) refl at
@@ -30,14 +31,14 @@ unwaited x n s none at = go (get s.threads n) refl at
     go None is at = absurd (cc)
     go (Some t) is at = let free = unkept x n s none t is in let kept = place_keeps x t t.place at in absurd (grind arith)
 
-unpaused : (x n : ℕ) (s : Core) → has_waiters x s ≡ false → how_far_of n s ≡ HowFar.Waits x →
-    option_map_or (is_paused x) (place_of n s) false ≡ true → ⊥
-unpaused x n s none far at = go (get s.threads n) refl far at
+unwaited_runs : (x n : ℕ) (s : Core) → has_waiters x s ≡ false → how_far_of n s ≡ HowFar.Waits x →
+    option_map_or (is_at_wait x) (place_of n s) false ≡ true → place_of n s ≡ Some Place.Running
+unwaited_runs x n s none far at = go (get s.threads n) refl far at
   where
     go : (o : Option Thread) → get s.threads n ≡ o → option_map_or (λ (t : Thread). t.how_far) o HowFar.Fresh ≡ HowFar.Waits x →
-        option_map_or (is_paused x) (option_map (λ (t : Thread). t.place) o) false ≡ true → ⊥
+        option_map_or (is_at_wait x) (option_map (λ (t : Thread). t.place) o) false ≡ true → option_map (λ (t : Thread). t.place) o ≡ Some Place.Running
     go None is far at = absurd (cc)
-    go (Some t) is far at = let free = unkept x n s none t is in let kept = pause_keeps x t t.place far at in absurd (grind arith)
+    go (Some t) is far at = ap (λ (p : Place). Some p) (unkept_runs x t t.place far at (unkept x n s none t is))
 
 of_word : (i x : ℕ) (w : Word) (s : Core) → ((j h : ℕ) → w ≡ CloseSet j h x → ⊥) → (is_some (get s.sets x) ≡ true → x ≤ s.made.sets) →
     IsOf i x s → IsOf i x (after_word w s)
@@ -120,9 +121,10 @@ pub record KnownHome (a : Scene) : Type 0 where
   pub there : (n : ℕ) → IsRunner a n → is_there n a.base ≡ true
   pub sets : SetsNamed a.base
   pub waits : WaitsAtHome a.base
-  -- who is inside a wait is paused in it, or runs, and is at a wait
-  pub paused : (n x : ℕ) → how_far_of n a.base ≡ HowFar.Waits x → (option_map_or (is_paused x) (place_of n a.base) false ≡ true) ⊎
-      ((m : ℕ) → a.turn ≡ Turn.Run m → is_wait (op_in a m) ≡ true)
+  pub placed : WaitsPlaced a.base
+  -- a thread that runs inside a wait is the one whose turn it is
+  pub runs : (n x m : ℕ) → how_far_of n a.base ≡ HowFar.Waits x → place_of n a.base ≡ Some Place.Running → a.turn ≡ Turn.Run m →
+      is_wait (op_in a m) ≡ true
 
 module _ (a : Scene) (known : KnownHome a) where
   set_home : (n x : ℕ) → HasSet a n x → IsOf (instance_of n a.base) x a.base
@@ -145,8 +147,8 @@ module _ (a : Scene) (known : KnownHome a) where
 
     op_open : (n x : ℕ) → set_of_op (how_far_of n s) ≡ Some x → (j h : ℕ) → w ≡ CloseSet j h x → ⊥
     op_open n x far j h is = ⊎_elim (λ to. laid_open to x j h is) (λ was. let c = (closes j h x is).1.1.1.1.1.1 in
-        ⊎_elim (unpaused x n a.base c.0 was) (λ runs. let wait = runs _ c.1.0 in let not = c.1.1.1 in absurd (grind arith))
-        (known.paused n x was)) (q.far n x far)
+        let runs = unwaited_runs x n a.base c.0 was (known.placed n x was) in
+        let wait = known.runs n x _ was runs c.1.0 in let not = c.1.1.1 in absurd (grind arith)) (q.far n x far)
 
     home : (i x : ℕ) → ((j h : ℕ) → w ≡ CloseSet j h x → ⊥) → IsOf i x s → IsOf i x (after_word w s)
     home i x other h = of_word i x w s other (joins.sets x) h

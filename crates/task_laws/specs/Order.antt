@@ -37,7 +37,7 @@ use Rattle.task_machine.specs.declared.records.Turn.{Turn}
 use Rattle.task_machine.specs.declared.records.Turn.TheVariants as turn
 use Rattle.task_machine.specs.declared.records.Why.{Why}
 use Rattle.task_machine.specs.declared.records.Why.TheVariants as why
-use Rattle.task_rules.specs.Places.{Placed, is_fresh, is_paused, times, one_if, is_inside}
+use Rattle.task_rules.specs.Places.{Placed, is_fresh, is_at_wait, times, one_if, is_inside}
 use Rattle.task_rules.specs.Run.{opening}
 use Rattle.task_rules.specs.Scripts.{export_kind, is_script, op_of_thread, script_of_thread, slot_at}
 use Rattle.task_rules.specs.OpParts.{can_come, is_sync_call}
@@ -209,10 +209,9 @@ pub record WaitsAtHome (s : Core) : Type 0 where
   pub by_place : (n x : ℕ) → option_and_then set_of_place (place_of n s) ≡ Some x → IsOf (instance_of n s) x s
   pub by_op : (n x : ℕ) → set_of_op (how_far_of n s) ≡ Some x → IsOf (instance_of n s) x s
 
--- a thread that is inside a wait on a set stands where that puts it, or runs
-abbrev pub WaitsPaused : Core → Type 0
-WaitsPaused s = (n x : ℕ) → how_far_of n s ≡ how_far.Waits x →
-    (place_of n s ≡ Some place.Running) ⊎ (option_map_or (is_paused x) (place_of n s) false ≡ true)
+-- a thread that is inside a wait on a set waits on it, is to resume, or runs
+abbrev pub WaitsPlaced : Core → Type 0
+WaitsPlaced s = (n x : ℕ) → how_far_of n s ≡ how_far.Waits x → option_map_or (is_at_wait x) (place_of n s) false ≡ true
 
 -- a thread that waits, but not by callback, or is blocked is inside the op that says so
 abbrev pub InsideOps : Core → Type 0
@@ -380,7 +379,7 @@ pub record InOrderIf (goes_on : Bool) (c : Component) (s : State) : Type 0 where
   pub sets_named : SetsNamed s.core
   pub joins_named : JoinsNamed s.core
   pub waits : WaitsAtHome s.core
-  pub paused : WaitsPaused s.core
+  pub waits_placed : WaitsPlaced s.core
   pub kinds : CallKinds c s.core
   pub deliveries : DeliveredByCallback s.core
   pub fits : Fits c s.core

@@ -7,6 +7,7 @@ pub mod WorksQueued
 pub mod HostsAwaited
 pub mod InsideLemmas
 pub mod AloneLemmas
+pub mod WaitsKept
 pub mod OrderLemmas
 pub mod OnceSteps
 pub mod WakeLines

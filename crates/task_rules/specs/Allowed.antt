@@ -31,7 +31,7 @@ use Rattle.task_rules.specs.Ends.{is_told, own_or_none}
 use Rattle.task_rules.specs.MainOps.{op_at, takes_words, spawned_at, is_spawn}
 use Rattle.task_rules.specs.Once.{returned_holder}
 use Rattle.task_rules.specs.OpParts.{callee_of_main_op, callee_of_op, calls_host, can_come, ends_activation, is_sync_call, is_wait, makes_set}
-use Rattle.task_rules.specs.Places.{is_paused}
+use Rattle.task_rules.specs.Places.{is_at_wait}
 use Rattle.task_rules.specs.Scenes.{Scene, component_of, op_in}
 use Rattle.task_rules.specs.Scripts.{export_kind, is_script, registers_for, script_of, slot_at}
 use Rattle.task_rules.specs.Threads.{resume_why}
@@ -257,7 +257,8 @@ HasCalled n k s = IsCalled n k s × IsUntouched k s
 
 -- how far an op comes: it waits on a set of its instance, stays inside its call or makes one, or is about a subtask of its own or a new one
 abbrev pub MayCome : Scene → ℕ → HowFar → Core → Type 0
-MayCome a n (how_far.Waits x) s = Leaves a n × (HasSet a n x × (option_map_or (is_paused x) (place_of n s) true ≡ true))
+MayCome a n (how_far.Waits x) s = Leaves a n × (HasSet a n x × ((is_wait (op_in a n) ≡ true) ×
+    (option_map_or (is_at_wait x) (place_of n s) true ≡ true)))
 MayCome a n (how_far.Calls (subtask.Guest k)) s = IsRunner a n × (((how_far_of n a.base ≡ how_far.Calls (subtask.Guest k)) ×
     (how_far_of n s ≡ how_far.Calls (subtask.Guest k))) ⊎ (IsNew a (subtask.Guest k) s × HasCalled n k s))
 MayCome a n (how_far.Calls (subtask.Host i)) s = IsRunner a n × (IsNew a (subtask.Host i) s × ((work_caller_of i s ≡ work_caller.Sync n) ×

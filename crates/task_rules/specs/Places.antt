@@ -64,11 +64,12 @@ is_fresh (Some (place.Ready m w)) = is_for_start w
 is_fresh (Some (place.Held w)) = is_for_start w
 is_fresh _ = false
 
--- the thread stands where a wait on the set puts it: it waits, or is to resume
-abbrev pub is_paused : ℕ → Place → Bool
-is_paused x (place.Waiting y false) = x == y
-is_paused x (place.Ready m w) = is_resumption w
-is_paused x _ = false
+-- where a thread is that is inside a wait on the set: it waits, is to resume, or runs
+abbrev pub is_at_wait : ℕ → Place → Bool
+is_at_wait x (place.Waiting y false) = x == y
+is_at_wait x (place.Ready m w) = is_resumption w
+is_at_wait x place.Running = true
+is_at_wait x _ = false
 
 -- A thread that waits, but not by callback, is inside a wait on that set. One that is blocked is inside a sync call of that subtask, or
 -- awaits its end.

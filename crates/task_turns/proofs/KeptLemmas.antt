@@ -20,7 +20,7 @@ use Rattle.task_machine.specs.declared.records.Place.TheVariants as place
 use Rattle.task_machine.specs.declared.records.Turn.{Turn}
 use Rattle.task_machine.specs.declared.records.Turn.TheVariants as turn
 use Rattle.task_machine.specs.declared.scenario.IdleLine.TheVariants as idle_line
-use Rattle.task_places.proofs.OrderLemmas.{lacks_kept, step_in_order, step_kept, steps_lack_sets}
+use Rattle.task_places.proofs.OrderLemmas.{lacks_kept, step_in_order, step_kept, steps_lack_works}
 use Rattle.task_rules.proofs.WalkSteps.{step_walks}
 use Rattle.task_rules.specs.Calls.{call_made}
 use Rattle.task_rules.specs.MainOps.{Does, Finish, MainAct, MainProgress, Start, finish_result, main_row, main_started, may_act, start_act}
@@ -46,7 +46,9 @@ at_turn_of c s m k p q runs b awake o = record {
   works_named = o.works_named;
   sets_named = o.sets_named;
   joins_named = o.joins_named;
+  works_known = o.works_known;
   waits = o.waits;
+  waits_placed = o.waits_placed;
   kinds = o.kinds;
   deliveries = o.deliveries;
   starts = o.starts;
@@ -71,7 +73,7 @@ sits_after x s t m k p q l sits step =
       order = λ j. at_turn_of x.component t k j q q after.in_place.runs (is_open q) after.awake after;
       there = λ i below. instances_stay x (state_at s m p) l (state_at t k q) step i ∙ sits.there i below;
       ops = sits.ops;
-      lacks = steps_lack_sets x sits.ops (state_at s m p) l (state_at t k q) (sits.order m) sits.lacks step;
+      lacks = steps_lack_works x sits.ops (state_at s m p) l (state_at t k q) (sits.order m) sits.lacks step;
     }
 
 pub made_in_order : MadeInOrder
@@ -88,7 +90,7 @@ acted c p act l s t may row kept stays sits =
     let shown : OpenProgresses u (main_row c 1 s act) (label.Main l) v =
     subst (λ (q : MainProgress). OpenProgresses u q (label.Main l) v) (sym row) (refl, refl) in
     let step : Step (setting c) u (label.Main l) v = (1, (act, (may, shown))) in
-    let after = step_kept (setting c) u (label.Main l) v before step false (λ e. absurd (cc)) in
+    let after = step_kept (setting c) u (label.Main l) v before step (λ n e. absurd (cc)) false (λ e. absurd (cc)) in
     record {
       order = λ m. at_turn_of c t Unscripted m turn.Main p (λ n e. kept n ((sits.order m).in_place.runs n e)) (is_open p) (λ e. stays ((sits.order m).awake e)) after;
       there = λ i below. instances_stay (setting c) u (label.Main l) v step i ∙ sits.there i below;

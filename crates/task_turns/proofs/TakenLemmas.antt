@@ -124,30 +124,28 @@ module _ (c : Component) (ended : Bool) (s : Core) (sits : Sits c (turn.Take end
         join = popped_join m n s joined;
       }
 
--- ---- Nothing is delivered for a set, and no async call of a host ends
+-- ---- The set of a delivery is there, and no async call of a host ends
+
+delivered_place : (o : Option Place) (x : ℕ) → delivered_set (option_map_or ready_why o why.Resumption) ≡ Some x → option_and_then set_of_place o ≡ Some x
+delivered_place o x e = grind arith
 
 module _ (c : Component) (ended : Bool) (s : Core) (sits : Sits c (turn.Take ended) s) where
-  no_delivery : (o : Option Place) (x : ℕ) → delivered_set (option_map_or ready_why o why.Resumption) ≡ Some x → option_and_then set_of_place o ≡ Some x
-  no_delivery None x e = absurd (cc)
-  no_delivery (Some (place.Ready m w)) x e = delivered w e
-    where
-      delivered : (w : Why) → delivered_set w ≡ Some x → set_of_why w ≡ Some x
-      delivered (why.Delivery (delivery.Set y)) h = h
-      delivered _ h = absurd (cc)
-  no_delivery (Some p) x e = absurd (cc)
-
   pub finds : (m : Mark) (n : ℕ) → FindsSet n (popped m s)
-  finds m n = record { there = λ x e. absurd (no_set x e); members = λ x e. absurd (no_set x e) }
+  unfolding popped set_switch set_high set_low
+  finds m n = record { there = λ x e. some_from _ (get s.sets x) _ (home x e); members = λ x e. members x (home x e) }
     where
-      no_set : (x : ℕ) → delivered_set (why_of n (popped m s)) ≡ Some x → ⊥
-      no_set x e = sits.lacks.places n x (ap (option_and_then set_of_place) (sym (popped_place m n s)) ∙ no_delivery (place_of n (popped m s)) x e)
+      o : InOrder c (state_at s Unscripted (turn.Take ended))
+      o = sits.order Unscripted
+
+      home : (x : ℕ) → delivered_set (why_of n (popped m s)) ≡ Some x → IsOf (instance_of n s) x s
+      home x e = o.waits.by_place n x (ap (option_and_then set_of_place) (sym (popped_place m n s)) ∙ delivered_place (place_of n (popped m s)) x e)
 
   no_host : (i : ℕ) → stands (is_host_of i) s.queues.high ≡ 0
   no_host i = go (get s.works i) refl
     where
       go : (o : Option Work) → get s.works i ≡ o → stands (is_host_of i) s.queues.high ≡ 0
       go None e = ((sits.order Unscripted).works.gone i e).1
-      go (Some w) e = let h : WorkEntries s i w = (sits.order Unscripted).works.each i w e in h.host ∙ ap one_if (sits.lacks.works i w e).1
+      go (Some w) e = let h : WorkEntries s i w = (sits.order Unscripted).works.each i w e in h.host ∙ ap one_if (sits.lacks i w e).1
 
   first_host : (m : Mark) (i : ℕ) → First m (entry.Host i) s → ⊥
   first_host mark.Switch i f = absurd (let e = f.1.1 in cc)
