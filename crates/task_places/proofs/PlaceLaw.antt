@@ -181,7 +181,7 @@ module _ {a : Scene} {b : Core} {n : ℕ} {q : Option Place} (f : Follows a b n 
       by_done true done = inr done
       by_done false undone =
           let still = watched_word (Stuck sub) m w s ok st (λ x u may. no_way (sym undone ∙ put_blocked m sub u s may at)) refl
-              (grind (arith, nat_tests)) in
+          (grind (arith, nat_tests)) in
           inl (blocked_place sub (place_of m (after_word w s)) still)
 
   pub stay_stand : {t : Core} → Stay a b t → Stand (watch a) n q [] t

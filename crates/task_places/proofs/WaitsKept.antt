@@ -126,11 +126,14 @@ module _ {a : Scene} {b : Core} {n : ℕ} {q : Option Place} (f : Frame a b n q)
   stays : {t : Core} → Pausing a b → Stay a b t → Pausing a t
   stays first c =
       (along (λ (t : Core). Stand (watch a) n q [] t × Pausing a t)
-      (λ w s ok h. (stay_word f.follows w s ok h.0, pausing_word a w s (stays_allowed a w s ok) h.1 (λ k x far.
-      let at = ⊎_elim (h.1.at k x)
-      (λ come. let r = f.there k come.0.0 in let one = f.one k come.0.0 in let here = h.0.here in let at = come.1.1.1 in grind arith)
-      (op_far a w s (stays_allowed a w s ok) k x far) in
-      watched_word f.follows (Pauses x) k w s ok h.0 (λ z u may. put_waits k x u s may at) refl at)))
+      (λ w s ok h. (
+        stay_word f.follows w s ok h.0,
+        pausing_word a w s (stays_allowed a w s ok) h.1 (λ k x far.
+            let at = ⊎_elim (h.1.at k x)
+            (λ come. let r = f.there k come.0.0 in let one = f.one k come.0.0 in let here = h.0.here in let at = come.1.1.1 in grind arith)
+            (op_far a w s (stays_allowed a w s ok) k x far) in
+            watched_word f.follows (Pauses x) k w s ok h.0 (λ z u may. put_waits k x u s may at) refl at),
+      ))
       (f.follows.start, first) c).1
 
   -- where the thread that comes to a place is inside a wait
@@ -202,7 +205,7 @@ pub step_waits : (x : Setting) (s : State) (l : Label) (t : State) (w : Walked x
     AtWaits (scene_of x s l w.next) → WaitsPlaced s.core → WaitsPlaced t.core
 step_waits x s l t w h may ops first = step_by x s l t w h may (λ a u. AtWaits a → WaitsPlaced u)
     (λ a b n q u base reads same f c ends ops. trip_waits f (same_waits s.core a.base base.0 first) (record {
-    at = same_waits s.core b reads.0 first;
-    wait = λ k y far. ops k y (ap (λ m. option_map_or (λ (r : Thread). r.how_far) (get m k) HowFar.Fresh) (base.0 ∙ sym reads.0) ∙ far);
-    was = λ k y far. inl (ap (λ m. option_map_or (λ (r : Thread). r.how_far) (get m k) HowFar.Fresh) (base.0 ∙ sym reads.0) ∙ far);
+      at = same_waits s.core b reads.0 first;
+      wait = λ k y far. ops k y (ap (λ m. option_map_or (λ (r : Thread). r.how_far) (get m k) HowFar.Fresh) (base.0 ∙ sym reads.0) ∙ far);
+      was = λ k y far. inl (ap (λ m. option_map_or (λ (r : Thread). r.how_far) (get m k) HowFar.Fresh) (base.0 ∙ sym reads.0) ∙ far);
     }) c) ops
