@@ -1,12 +1,11 @@
 -- Which host works handles name, and that none names the work of a sync call, along the words of a step.
-use Rattle.task_rules.proofs.Machine.{add_call, add_group, add_set, add_thread, add_work, after_word, Allowed, ap, arith, as_subtask, call_made, change, Core, count_work, false, free_handle, free_thread_handle, fresh, get, get-change, get-empty, get-insert, get-remove, give_handle, give_result, give_thread_handle, giving, handle_of_table, how_far_of, HowFar, inl, inr, is_async_work, is_some, le_trans, MayCome, MayRemoveWork, Named, NameWork, nat_tests, None, on_call, on_instance, on_thread, on_work, poll_pends, push_high, QueueWork, refl, remove_call, remove_group, remove_set, remove_thread, remove_work, RemoveWork, Scene, set_backpressure, set_cancel_delivered, set_cancelled, set_course, set_do_not_enter, set_do_not_suspend, set_end, set_event, set_exited, set_how_far, set_join, set_own_event, set_phase, set_position, set_register, set_result, set_saved_callee, set_saved_own, set_script, set_stage, set_started, set_starting_published, set_subtask_handle, set_thread_handle, set_trapped, set_uninteresting, set_word, Some, Subtask, subtask_at, subtask_handle, take_result, taking, Thread, true, UnnameWork, with_handle, with_thread_handle, Word, work_caller_of, work_queued, ℕ, ⊎_elim, ◌∙◌, ◌≡◌, ◌≤◌, ◌⊎◌}
+use Rattle.task_laws.proofs.Rules.{add_call, add_group, add_set, add_thread, add_work, after_word, Allowed, ap, arith, as_subtask, call_made, change, Core, count_work, false, free_handle, free_thread_handle, fresh, get, get-change, get-empty, get-insert, get-remove, give_handle, give_result, give_thread_handle, giving, handle_of_table, how_far_of, HowFar, inl, inr, is_async_work, is_some, le_trans, MayCome, MayRemoveWork, Named, NameWork, nat_tests, None, on_call, on_instance, on_thread, on_work, poll_pends, push_high, QueueWork, refl, remove_call, remove_group, remove_set, remove_thread, remove_work, RemoveWork, Scene, set_backpressure, set_cancel_delivered, set_cancelled, set_course, set_do_not_enter, set_do_not_suspend, set_end, set_event, set_exited, set_how_far, set_join, set_own_event, set_phase, set_position, set_register, set_result, set_saved_callee, set_saved_own, set_script, set_stage, set_started, set_starting_published, set_subtask_handle, set_thread_handle, set_trapped, set_uninteresting, set_word, Some, Subtask, subtask_at, subtask_handle, take_result, taking, Thread, true, UnnameWork, with_handle, with_thread_handle, Word, work_caller_of, work_queued, WorksKnown, ℕ, ⊎_elim, ◌∙◌, ◌≡◌, ◌≤◌, ◌⊎◌}
 use Rattle.task_laws.proofs.CallsCame.{op_came}
 use Rattle.task_laws.proofs.CountLemmas.{made_works_word}
 use Rattle.task_laws.proofs.NamedCalls.{next_given}
 use Rattle.task_laws.proofs.NamedWorks.{caller_stays}
 use Rattle.task_laws.proofs.SetHandles.{given_names, none_named, subtask_in}
 use Rattle.task_laws.proofs.SyncWorks.{called_work, calls_work}
-use Rattle.task_laws.specs.Order.{WorksKnown}
 
 -- On the way of a step: what is known of works, whose numbers were given.
 pub record WorksSaid (s : Core) : Type 0 where

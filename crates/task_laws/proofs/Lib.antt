@@ -1,3 +1,4 @@
+pub mod Rules
 pub mod Basics
 pub mod EachLemmas
 pub mod ReachLemmas

@@ -1,11 +1,10 @@
 -- Sync calls of hosts: along the words of a step the work of a thread inside one is the thread's.
-use Rattle.task_rules.proofs.Machine.{after_word, Allowed, ap, arith, Core, fresh, get-empty, how_far_of, HowFar, inl, inr, instance_of, MayCome, MayRemoveWork, None, Option, refl, Scene, Some, Subtask, Word, work_caller_of, WorkCaller, ℕ, ⊎_elim, ◌∙◌, ◌≡◌, ◌≤◌, ◌⊎◌}
+use Rattle.task_laws.proofs.Rules.{after_word, Allowed, ap, arith, Core, fresh, get-empty, how_far_of, HowFar, inl, inr, instance_of, MayBeAborted, MayCome, MayRemoveWork, None, Option, refl, Scene, Some, Subtask, Word, work_caller_of, WorkCaller, ℕ, ⊎_elim, ◌∙◌, ◌≡◌, ◌≤◌, ◌⊎◌}
 use Rattle.task_laws.proofs.Basics.{too_high}
 use Rattle.task_laws.proofs.CallsCame.{op_came}
-use Rattle.task_laws.proofs.NamedWorks.{NamesNoSync, caller_stays}
+use Rattle.task_laws.proofs.NamedWorks.{caller_stays, NamesNoSync}
+use Rattle.task_laws.proofs.Works.{doing_there, number_of, WorksGo}
 use Rattle.task_laws.proofs.WorksCame.{Doing, doing_of}
-use Rattle.task_laws.proofs.Works.{doing_there, WorksGo, number_of}
-use Rattle.task_laws.specs.Ends.{MayBeAborted}
 
 -- the work of a thread inside a sync call of a host is the thread's
 abbrev pub CallersKnown : Core → Type 0

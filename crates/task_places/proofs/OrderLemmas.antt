@@ -1,39 +1,14 @@
 -- A state in order: each opening state is, and each step leads from one to one.
-use Rattle.task_rules.proofs.Machine.{[], ap, arith, base_at, Bool, ByHandle, ByOp, Call, callee_of, can_come, Component, Core, false, fresh, get, get-empty, HasSubtask, how_far_of, HowFar, inl, inr, instance_of, is_fresh, is_some, is_sync_call, is_there, IsRunner, Label, le_refl, le_trans, length, List, None, Op, op_at_place, op_of_thread, opening, option_map, option_map_or, Place, place_of, Placed, refl, Run, Scene, scene_of, Script, script_in, Setting, Some, State, Steady, Step, subst, Subtask, subtask_under_way, sym, task_of, Thread, true, Turn, Walk, Walked, was_started, Work, ℕ, ⊎_elim, ◌∙◌, ◌∷◌, ◌≡◌, ◌≤◌, ◌⊎◌}
-use Rattle.task_laws.specs.Wakes.{NoneAdmitted}
-use Rattle.task_laws.proofs.HeldLemmas.{held_word}
-use Rattle.task_places.proofs.InsideLemmas.{step_inside}
+use Rattle.task_places.proofs.Laws.{[], AllFit, along, ap, apart_after, arith, at_place, Awake, base_at, Bool, ByHandle, ByOp, Call, callee_of, calls_begin, CallsAwaited, CallsGo, CallsHold, CallsInside, CallsNamed, CallsThere, can_come, cancelled_call, CancelsWatched, Component, Core, directs_word, DirectsOnTop, DirectsRun, false, few_word, first_waits, Fits, fits_word, fresh, get, get-empty, HasNotRun, HasSubtask, held_word, Homed, homed_word, HostsAwaited, housed_word, how_far_of, HowFar, inl, InOrder, InOrderIf, InPlace, inr, Inside, inside_word, InsideThere, instance_of, is_awaited, is_fresh, is_open, is_some, is_sync_call, is_there, IsRunner, joins_word, JoinsNamed, KnownHome, KnownLacks, Label, lacks_word, LacksOps, LacksWorks, Layered, layered_word, le_refl, le_trans, length, List, made_works_word, MakesFew, names_go_word, NamesGo, NamesHold, None, NoneAdmitted, Numbered, of_base, OfBase, Op, op_at_place, op_lacks, op_of_thread, opening, opening_holds, opening_joins, opening_named, opening_names_known, opening_sets, opening_works_known, opening_works_named, OpeningInOrder, option_map, option_map_or, Place, place_of, Placed, plain, plain_scene, queued_watched, refl, Run, runner_there, RunnerHoused, Scene, scene_of, Script, script_in, sets_named_word, SetsNamed, Setting, Some, StartsAwaited, StartsFirst, State, Steady, steady, Step, step_goes, step_over, step_walks, StepInOrder, StepsLackWorks, StepsMakeFew, Strands, subst, Subtask, subtask_under_way, sym, task_of, Thread, Traced, traced_word, true, Turn, Unbegun, unbegun_word, Waited, WaitsAtHome, WaitsPlaced, Walk, Walked, was_started, WasCall, watched_word, word_goes, Work, works_named_word, works_said_word, WorksKnown, WorksNamed, WorksQueued, WorksSaid, ℕ, ⊎_elim, ◌∙◌, ◌∷◌, ◌≡◌, ◌≤◌, ◌⊎◌}
 use Rattle.task_places.proofs.AloneLemmas.{step_alone}
-use Rattle.task_rules.proofs.LawLemmas.{step_over, steady}
-use Rattle.task_places.proofs.HostsAwaited.{Asked, step_asked, step_works}
-use Rattle.task_places.proofs.Directs.{directs_on_top}
-use Rattle.task_laws.proofs.Joins.{joins_word, opening_joins}
-use Rattle.task_laws.proofs.Subtasks.{Traced, opening_named, opening_works_named, traced_word, works_named_word}
-use Rattle.task_laws.proofs.WatchLemmas.{queued_watched, watched_word}
-use Rattle.task_laws.proofs.CountLemmas.{made_works_word, few_word}
-use Rattle.task_laws.specs.Order.{WaitsPlaced, WorksKnown, Awake, InOrderIf, is_open, CancelsWatched, WorksNamed, InPlace, StartsFirst, CallsAwaited, cancelled_call, is_awaited, HasNotRun, CallsNamed, InOrder, Numbered, OpeningInOrder, SetsNamed, StartsAwaited, StepInOrder, WasCall, CallsThere, MakesFew, Strands, WaitsAtHome, StepsMakeFew, JoinsNamed, DirectsOnTop, Fits, WorksQueued, HostsAwaited}
-use Rattle.task_rules.proofs.WalkSteps.{step_walks}
-use Rattle.task_rules.proofs.ChainLemmas.{along}
-use Rattle.task_laws.proofs.WaitLemmas.{Homed, KnownHome, homed_word}
-use Rattle.task_laws.proofs.StrandLemmas.{Layered, layered_word}
-use Rattle.task_laws.proofs.SceneLemmas.{runner_there}
-use Rattle.task_laws.proofs.HousedLemmas.{RunnerHoused, housed_word}
-use Rattle.task_laws.proofs.FitLemmas.{AllFit, fits_word, OfBase}
-use Rattle.task_laws.proofs.SetHandles.{opening_sets, sets_named_word}
-use Rattle.task_laws.proofs.CallsLaw.{CallsGo, CallsHold}
-use Rattle.task_laws.proofs.CallsSteps.{calls_begin, of_base, word_goes, opening_holds, plain, plain_scene, step_goes}
-use Rattle.task_laws.proofs.AwaitedCalls.{DirectsRun, Inside, directs_word, CallsInside, inside_word, apart_after}
-use Rattle.task_laws.proofs.NamedCalls.{NamesHold, NamesGo, InsideThere, names_go_word, opening_names_known}
-use Rattle.task_laws.proofs.UnbegunCalls.{first_waits, Unbegun, unbegun_word, Waited}
 use Rattle.task_places.proofs.CallsBack.{back_apart}
-use Rattle.task_laws.proofs.LackLemmas.{KnownLacks, lacks_word, op_lacks}
-use Rattle.task_laws.specs.Lacks.{LacksOps, LacksWorks, StepsLackWorks}
-use Rattle.task_laws.proofs.KnownWorks.{WorksSaid, opening_works_known, works_said_word}
-use Rattle.task_places.proofs.WaitsKept.{AtWaits, far_waits, step_waits, wait_op}
+use Rattle.task_places.proofs.Directs.{directs_on_top}
+use Rattle.task_places.proofs.HostsAwaited.{Asked, step_asked, step_works}
+use Rattle.task_places.proofs.InsideLemmas.{step_inside}
 use Rattle.task_places.proofs.PlaceLaw.{Arrives}
-use Rattle.task_places.proofs.PlaceSteps.{step_by, Withdrawable, settled_run, step_arrives}
+use Rattle.task_places.proofs.PlaceSteps.{settled_run, step_arrives, step_by, Withdrawable}
+use Rattle.task_places.proofs.WaitsKept.{AtWaits, far_waits, step_waits, wait_op}
 use Rattle.task_places.specs.Kept.{ReachedInOrder, ReachedInPlace, StepsKeepPlaces}
-use Rattle.task_rules.proofs.MoveLemmas.{at_place}
 
 -- ---- Starts
 

@@ -1,10 +1,9 @@
 -- The end of a task as a chain of words.
 use Rattle.task_rules.proofs.Machine.{after_word, ap, arith, Call, CallEnd, Caller, caller_of, cancelled, Core, EndCall, false, get, get-change, give_result, GiveResult, Goal, goal_of, is_over, is_some, is_told, nat_tests, on_call, on_thread, Option, option_map_or, published, Records, refl, result_given, returned, same_map, SaysEnd, Scene, set_end, set_event, set_register, set_result, SetRegister, SetResult, Some, Status, status_of_end, subst, Subtask, sym, task_of, told, true, ℕ, ◌∙◌, ◌≡◌}
-use Rattle.task_rules.proofs.WalkMoves.{shifted, told_at, told_shifts, published_shifts}
 use Rattle.task_rules.proofs.CallThreads.{LastEnds}
+use Rattle.task_rules.proofs.ChainLemmas.{chain_if, Keep}
 use Rattle.task_rules.proofs.PlacingLemmas.{shifted_calls, shifted_task, shifts_shifted}
-use Rattle.task_rules.proofs.ChainLemmas.{Keep, chain_if}
-use Rattle.task_rules.proofs.WalkMoves.{ToldTo, word}
+use Rattle.task_rules.proofs.WalkMoves.{published_shifts, shifted, told_at, told_shifts, ToldTo, word}
 
 -- ---- What an end and a result leave of a call
 
