@@ -31,8 +31,6 @@ pub mod StepEnds
 pub mod WrittenLaws
 pub mod NamedCalls
 pub mod AwaitedCalls
-pub mod NamedWorks
-pub mod SyncWorks
 pub mod LackLemmas
 pub mod KnownWorks
 pub mod MemberLemmas

@@ -1,5 +1,5 @@
 -- What the laws cite of the rules, of their lemmas and of what the laws say, in one place.
-pub use Rattle.task_laws.specs.Ends.{is_sync_work, MayBeAborted, SyncUnnamed}
+pub use Rattle.task_laws.specs.Ends.{is_sync_work, MayBeAborted}
 pub use Rattle.task_laws.specs.Exports.{CallsExported, ExportsExist, InstancesStay, IsExported, StepsKeepExports}
 unfoldable pub use Rattle.task_laws.specs.Handles.{SetsNamedAtHome, SetsNamedOnce}
 pub use Rattle.task_laws.specs.Holders.{CalleesExist, RunsHoldOne}

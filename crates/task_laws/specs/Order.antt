@@ -2,6 +2,7 @@
 use Rattle.task_machine.specs.declared.records.Stage.TheVariants as stage
 use Rattle.task_machine.specs.declared.records.Entry.TheVariants as entry
 use Rattle.task_machine.specs.declared.records.Work.{Work}
+use Rattle.task_machine.specs.declared.records.WorkCaller.TheVariants as work_caller
 use Rattle.task_machine.specs.declared.records.Stage.{Stage}
 use Rattle.task_machine.specs.declared.records.Entry.{Entry}
 use Rattle.task_machine.specs.declared.records.Subtask.{Subtask}
@@ -130,14 +131,14 @@ pub record CallsAwaited (s : Core) : Type 0 where
       (place_of n s ≡ Some (place.Under k)) ⊎ (option_map_or is_awaited (get s.calls k) false ≡ true)
   pub apart : (n m k : ℕ) → how_far_of n s ≡ how_far.Calls (subtask.Guest k) → cancelled_call (how_far_of m s) ≡ Some k → ⊥
 
--- The record of a host's work says which handle names it, in one instance. None names the work of a sync call, and a thread inside a sync
--- call of a host is inside the work of one, which was made.
+-- The record of a host's work says which handle names it, in one instance, and that is the work of an async call. A thread inside a sync
+-- call of a host is inside the work of that call, which was made.
 pub record WorksKnown (s : Core) : Type 0 where
   pub there : (i h j : ℕ) → subtask_at i h s ≡ Some (subtask.Host j) → subtask_handle (subtask.Host j) s ≡ Some h
   pub once : (i l h g j : ℕ) → subtask_at i h s ≡ Some (subtask.Host j) → subtask_at l g s ≡ Some (subtask.Host j) → i ≡ l
   pub async : (h j : ℕ) → subtask_handle (subtask.Host j) s ≡ Some h → is_async_work (work_caller_of j s) ≡ true
   pub called : (n j : ℕ) → how_far_of n s ≡ how_far.Calls (subtask.Host j) →
-      (j ≤ s.made.works) × (is_async_work (work_caller_of j s) ≡ false)
+      (j ≤ s.made.works) × (work_caller_of j s ≡ work_caller.Sync n)
 
 -- Each work that a handle names, or that an op under way is about, was made.
 pub record WorksNamed (s : Core) : Type 0 where

@@ -52,7 +52,7 @@ Asked a = (m i : ℕ) → IsRunner a m → how_far_of m a.base ≡ HowFar.Calls 
 
 goes_ended : (a : Scene) (i : ℕ) (s : Core) → Asked a → Working a s → MayRemoveWork a i s → is_stage_ended (stage_of i s) ≡ true
 goes_ended a i s asked h ok =
-    ⊎_elim (λ far. let e = asked ok.0 i ok.1.0 far.0 in h.ended i e.0 e.1) (λ e. e.1.1.0) ok.1.1
+    ⊎_elim (λ far. let e = asked ok.0 i ok.1.0 far.0 in h.ended i e.0 e.1) (λ e. e.1.1.0) ok.1.1.1
 
 working_word : (a : Scene) → Asked a → (w : Word) (s : Core) → Allowed a w s → Stuck w s → Working a s → Working a (after_word w s)
 working_word a asked w s ok stuck h = record {

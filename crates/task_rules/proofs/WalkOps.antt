@@ -271,7 +271,7 @@ module _ (x : Setting) (main : Main) (s : Core) (n : ℕ) (l : Label) (next : Tu
   call_sync_host_row_leads r h (HowFar.Calls (Subtask.Host i)) can far =
       told (Label.Call (CallLabel.CallSync n (work_value i s))) (work_answered n r i s) refl
       (λ is. hands_by a _ is refl (λ sub f out. said_is (HandsOut a (work_answered n r i s)) (sym (ap (λ (y : HowFar). option_map (end_for Status.Returned) (call_of_op y)) far) ∙ out) (Answers n i refl far (work_gone n r i s))))
-      (λ is to. subst (λ (t : Core). Stay a s t) (answered_first n r (work_value i s) i s) (join (assigned_walks n refl on r (work_value i s) NoWord to) (keep_stay (work_deleted_walks n refl i (n, (refl, inl (far, (assigned_fresh n r (work_value i s) s, assigned_caller n r (work_value i s) i s)))) NoWord))))
+      (λ is to. subst (λ (t : Core). Stay a s t) (answered_first n r (work_value i s) i s) (join (assigned_walks n refl on r (work_value i s) NoWord to) (keep_stay (work_deleted_walks n refl i (n, (refl, (assigned_caller n r (work_value i s) i s, inl (far, assigned_fresh n r (work_value i s) s)))) NoWord))))
   call_sync_host_row_leads r h _ can far = call_sync_host_polled_leads r (first_poll (host_at x.component h)) can
 
   -- ---- Cancels
@@ -422,7 +422,7 @@ module _ (x : Setting) (main : Main) (s : Core) (n : ℕ) (l : Label) (next : Tu
   dropped_walks h (Subtask.Host i) named ended apart =
       let sub = Subtask.Host i in
       let t = set_join sub Join.Nowhere s in
-      advanced_walks n refl on (work_deleted_walks n refl i (n, (refl, inr (ended, (grind (arith, nat_tests, get-change), (grind (arith, nat_tests, get-change, ended), (h, named))))))
+      advanced_walks n refl on (work_deleted_walks n refl i (n, (refl, (grind (arith, nat_tests, get-change), inr (ended, (grind (arith, nat_tests, get-change), (grind (arith, nat_tests, get-change, ended), (h, named)))))))
       (word (UnnameWork (instance_of n s) h i) (n, (refl, (refl, (named, grind (arith, nat_tests, get-change))))) (join_walks n refl sub Join.Nowhere (n, (refl, (ByHandle h named, inl apart))) NoWord)))
 
   pub subtask_row_leads : (o : CallOp) → op_in a n ≡ Op.Call o → Leads a s (subtask_row x.component n s o)

@@ -447,12 +447,11 @@ IsPolled a i s = (n : ℕ) × ((a.turn ≡ turn.Futures n) × (next_polled n s �
 
 -- the sync call of the running thread is answered, and done, or its ended subtask is dropped; whose the work is is as before the step
 abbrev pub MayRemoveWork : Scene → ℕ → Core → Type 0
-MayRemoveWork a i s = (n : ℕ) × (IsRunner a n ×
-    (((how_far_of n a.base ≡ how_far.Calls (subtask.Host i)) × ((how_far_of n s ≡ how_far.Fresh) ×
-    (work_caller_of i s ≡ work_caller_of i a.base))) ⊎
+MayRemoveWork a i s = (n : ℕ) × (IsRunner a n × ((work_caller_of i s ≡ work_caller_of i a.base) ×
+    (((how_far_of n a.base ≡ how_far.Calls (subtask.Host i)) × (how_far_of n s ≡ how_far.Fresh)) ⊎
     ((subtask_ended (subtask.Host i) a.base ≡ true) × ((subtask_handle (subtask.Host i) s ≡ None) ×
     ((is_stage_ended (stage_of i s) ≡ true) ×
-    ((h : ℕ) × (subtask_at (instance_of n a.base) h a.base ≡ Some (subtask.Host i))))))))
+    ((h : ℕ) × (subtask_at (instance_of n a.base) h a.base ≡ Some (subtask.Host i)))))))))
 
 -- the loop polls the work to its end, and without a value where an abort was asked for
 abbrev pub MayFinish : Scene → ℕ → Course → Core → Type 0
