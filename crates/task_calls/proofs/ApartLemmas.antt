@@ -61,7 +61,7 @@ module _ (trapped : Bool) (groups : List ℕ) (handle_limit capacity : ℕ) wher
     watched = watched;
     inside = o.inside;
     held = o.held;
-    awake = λ e. let h = o.awake e in record { alone = h.alone };
+    awake = λ e. let h = o.awake e in record { alone = h.alone; starts_there = h.starts_there };
   }
     where
       there : (i h k : ℕ) → subtask_at i h (beside s) ≡ Some (subtask.Guest k) → subtask_handle (subtask.Guest k) (beside s) ≡ Some h

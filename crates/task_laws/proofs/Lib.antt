@@ -28,6 +28,7 @@ pub mod SaidEnds
 pub mod CallEnds
 pub mod OnceLemmas
 pub mod StepEnds
+pub mod StartLemmas
 pub mod WrittenLaws
 pub mod NamedCalls
 pub mod AwaitedCalls

@@ -25,7 +25,7 @@ work_code : (i : ℕ) (s : Core) → is_over_code (end_code (Subtask.Host i) s) 
 work_code i s = grind (arith, nat_tests)
 
 -- on the way too, of a call that was made before the step
-over_word : (a : Scene) (k : ℕ) → k ≤ a.base.made.threads → (w : Word) (s : Core) → Allowed a w s → is_over k s ≡ true →
+pub over_word : (a : Scene) (k : ℕ) → k ≤ a.base.made.threads → (w : Word) (s : Core) → Allowed a w s → is_over k s ≡ true →
     is_over k (after_word w s) ≡ true
 over_word a k below w s ok over = let i : CallAfter a w s k = call_came w s ok k in grind arith
 

@@ -13,7 +13,7 @@ use Rattle.task_laws.specs.Settings.{CodesInCallbacks}
 use Rattle.task_laws.specs.Wakes.{NoneAdmitted}
 use Rattle.task_machine.specs.Core.{Core, Main, State, Table}
 use Rattle.task_machine.specs.Maps.{get, size}
-use Rattle.task_machine.specs.Read.{call_instance, how_far_of, instance_of, is_async_lifted, is_callback, is_direct, is_explicit, goal_of, kind_of, place_of, task_of, set_at, subtask_at, end_of, is_guest_call, subtask_handle, join_of, is_stage_ended, stage_of, work_caller_of}
+use Rattle.task_machine.specs.Read.{call_instance, how_far_of, instance_of, is_async_lifted, is_callback, is_direct, is_explicit, goal_of, kind_of, place_of, task_of, set_at, subtask_at, end_of, is_guest_call, subtask_handle, join_of, is_stage_ended, stage_of, work_caller_of, event_of, has_ended, undelivered_end}
 use Rattle.task_machine.specs.declared.component.Component.{Component}
 use Rattle.task_machine.specs.declared.label.Label.{Label}
 use Rattle.task_machine.specs.declared.records.Call.{Call}
@@ -155,6 +155,10 @@ cancelled_by _ = None
 abbrev pub CancelsWatched : Core → Type 0
 CancelsWatched s = (n : ℕ) (sub : Subtask) → cancelled_by (how_far_of n s) ≡ Some sub → watches n sub s ≡ true
 
+-- a call whose event is an end has ended
+abbrev pub CallsTold : Core → Type 0
+CallsTold s = (k : ℕ) (e : Status) → undelivered_end (event_of (subtask.Guest k) s) ≡ Some e → has_ended k s ≡ true
+
 -- A handle of a set names a set of its own instance, which was made, and no other handle names it.
 pub record SetsNamed (s : Core) : Type 0 where
   pub number : (i h x : ℕ) → set_at i h s ≡ Some x → x ≤ s.made.sets
@@ -279,6 +283,14 @@ Fits c s = (n : ℕ) (t : Thread) → get s.threads n ≡ Some t → ThreadFits 
 abbrev pub StartsAwaited : Core → Type 0
 StartsAwaited s = (k : ℕ) (c : Call) → get s.calls k ≡ Some c → c.started ≡ false → is_fresh (place_of k s) ≡ true
 
+-- the call's start hasn't run, and it hasn't ended
+abbrev pub is_unbegun : ℕ → Core → Bool
+is_unbegun k s = option_map_or (λ (c : Call). not c.started && is_none c.«end») (get s.calls k) false
+
+-- the first thread of a call whose start hasn't run, and that hasn't ended, is there
+abbrev pub StartsThere : Core → Type 0
+StartsThere s = (k : ℕ) → is_unbegun k s ≡ true → is_some (place_of k s) ≡ true
+
 -- the call hasn't ended, and has no other thread than the first one
 pub record HasNotRun (s : Core) (k : ℕ) : Type 0 where
   pub unended : end_of k s ≡ None
@@ -359,6 +371,7 @@ RunsAlone p s = (n : ℕ) → place_of n s ≡ Some place.Running → p ≡ turn
 -- What is so of a core while the turns aren't over.
 pub record Awake (p : Turn) (s : Core) : Type 0 where
   pub alone : RunsAlone p s
+  pub starts_there : StartsThere s
 
 -- ---- All of it
 

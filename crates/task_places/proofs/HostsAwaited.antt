@@ -120,7 +120,7 @@ module _ {a : Scene} {b : Core} {n : ℕ} {q : Option Place} (f : Frame a b n q)
       settles (working_word a asked (RemoveThread k) s (Departs leave) (λ j i at x e. absurd (cc)) (stays first c)) d
   trip_works first (GoesBack s t k m v c is runs to under d ok) =
       let g =
-      settles (working_word a asked (RemoveThread k) s (EndsOver m is to under) (λ j i at x e. absurd (cc)) (stays first c)) d in
+      settles (working_word a asked (RemoveThread k) s (EndsOver m is runs to under) (λ j i at x e. absurd (cc)) (stays first c)) d in
       let low : place_of m t ≡ Some (Place.Under k) = (exits f k s t is c d).1.1 m k under in
       let back = after_word (Places (Move m Place.Running)) t in
       let other =

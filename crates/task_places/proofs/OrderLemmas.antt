@@ -1,4 +1,9 @@
 -- A state in order: each opening state is, and each step leads from one to one.
+use Rattle.task_laws.specs.Order.{StartsThere}
+use Rattle.task_laws.proofs.StartLemmas.{StartsGo, starts_word, writes_over}
+use Rattle.task_laws.proofs.SaidEnds.{said_plain, written_at}
+use Rattle.task_rules.specs.Chains.{EndWords}
+use Rattle.task_machine.specs.declared.words.Status.{Status}
 use Rattle.task_places.proofs.Laws.{[], AllFit, along, ap, apart_after, arith, at_place, Awake, base_at, Bool, ByHandle, ByOp, Call, callee_of, calls_begin, CallsAwaited, CallsGo, CallsHold, CallsInside, CallsNamed, CallsThere, can_come, cancelled_call, CancelsWatched, Component, Core, directs_word, DirectsOnTop, DirectsRun, false, few_word, first_waits, Fits, fits_word, fresh, get, get-empty, HasNotRun, HasSubtask, held_word, Homed, homed_word, HostsAwaited, housed_word, how_far_of, HowFar, inl, InOrder, InOrderIf, InPlace, inr, Inside, inside_word, InsideThere, instance_of, is_awaited, is_fresh, is_open, is_some, is_sync_call, is_there, IsRunner, joins_word, JoinsNamed, KnownHome, KnownLacks, Label, lacks_word, LacksOps, LacksWorks, Layered, layered_word, le_refl, le_trans, length, List, made_works_word, MakesFew, names_go_word, NamesGo, NamesHold, None, NoneAdmitted, Numbered, of_base, OfBase, Op, op_at_place, op_lacks, op_of_thread, opening, opening_holds, opening_joins, opening_named, opening_names_known, opening_sets, opening_works_known, opening_works_named, OpeningInOrder, option_map, option_map_or, Place, place_of, Placed, plain, plain_scene, queued_watched, refl, Run, runner_there, RunnerHoused, Scene, scene_of, Script, script_in, sets_named_word, SetsNamed, Setting, Some, StartsAwaited, StartsFirst, State, Steady, steady, Step, step_goes, step_over, step_walks, StepInOrder, StepsLackWorks, StepsMakeFew, Strands, subst, Subtask, subtask_under_way, sym, task_of, Thread, Traced, traced_word, true, Turn, Unbegun, unbegun_word, Waited, WaitsAtHome, WaitsPlaced, Walk, Walked, was_started, WasCall, watched_word, word_goes, Work, works_named_word, works_said_word, WorksKnown, WorksNamed, WorksQueued, WorksSaid, ℕ, ⊎_elim, ◌∙◌, ◌∷◌, ◌≡◌, ◌≤◌, ◌⊎◌}
 use Rattle.task_places.proofs.AloneLemmas.{step_alone}
 use Rattle.task_places.proofs.CallsBack.{back_apart}
@@ -255,8 +260,27 @@ module _ (x : Setting) (s : State) (l : Label) (t : State) {g : Bool} (h : InOrd
       (λ v m ok q. (word_goes a h.codes b.0 v m ok q.0, (housed_word a runner_housed v m ok q.1.0, held_word a v m ok q.1.0 q.0.numbered q.1.1)))
       (b.1, (h.calls_there, h.held)) walk).1.1
 
+  -- starts, while the turns aren't over
+  starts_last : StartsThere s.core → StartsGo a t.core
+  starts_last first =
+      let b = plain x s l w.next (λ c. CallsHold x.component c.base × CallsGo c s.core) (calls_begin x s l w.next (held_of h)) in
+      (along (λ u. CallsGo a u × StartsGo a u) (λ v m ok q. (
+        word_goes a h.codes b.0 v m ok q.0,
+        starts_word a h.in_place.runs (λ n there. (h.in_place.placed n).number there) h.starts
+            (λ k named. (known.by_handle _ named.1.0 k named.1.1.1).number) v m ok (λ k there. let number = q.0.numbered.calls k in grind arith) q.1,
+      )) (b.1, record { was = λ k now. inl now; there = λ k now. inl (first k now) }) walk).1
+
+  starts_after : StartsThere s.core → is_open t.turn ≡ true → StartsThere t.core
+  starts_after first live k now = let q = starts_last first in ⊎_elim (λ there. there)
+      (⊎_elim (λ over. absurd (let to = w.turn in grind arith)) (λ drawn. absurd (writes_over a t.core h.calls_told k drawn.0 (q.was k now)
+      (Subtask.Guest k) refl ((plain x s l w.next (λ c. EndWords c t.core) w.ends.says).writes (Subtask.Guest k) Status.StartCancelled
+      (written_at x.component s.core _ t.core l _ (said_plain x s l w.next t.core k Status.StartCancelled drawn.1))) now))) (q.there k now)
+
   pub awake_kept : Awake s.turn s.core → is_open t.turn ≡ true → Awake t.turn t.core
-  awake_kept first live = record { alone = step_alone x s l t w h.in_place withdrawable (grind arith) first.alone }
+  awake_kept first live = record {
+    alone = step_alone x s l t w h.in_place withdrawable (grind arith) first.alone;
+    starts_there = starts_after first.starts_there live;
+  }
 
   pub fits_kept : Steady s.core t.core → Fits x.component t.core
   fits_kept steady n r at =
@@ -431,7 +455,10 @@ opening_in_order c codes instances handle_limit capacity main =
       watched = λ n sub far. let o = get-empty {X = Thread} n in absurd (cc);
       inside = λ n p at. let o = get-empty {X = Thread} n in absurd (cc);
       held = λ n v at. let o = get-empty {X = Thread} n in absurd (cc);
-      awake = λ live. record { alone = λ n is. let o = get-empty {X = Thread} n in absurd (cc) };
+      awake = λ live. record {
+        alone = λ n is. let o = get-empty {X = Thread} n in absurd (cc);
+        starts_there = λ k now. let o = get-empty {X = Call} k in absurd (grind arith);
+      };
     }
 
 -- ---- Runs

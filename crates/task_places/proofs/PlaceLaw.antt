@@ -118,7 +118,7 @@ module _ {a : Scene} {b : Core} {n : ℕ} {q : Option Place} (f : Follows a b n 
   keeps_word {P = P} (Withdraw k) s ok puts fresh st =
       let gone = fresh k refl in
       subst (λ (t : Core). Stand P n q [] t) (sym (withdraws k s))
-      (withdrawn_stand n q k s (not_here k s st (λ e. let runs = f.runs ok.0 ok.1.1.1.1.1.0 in absurd (grind arith))) gone st)
+      (withdrawn_stand n q k s (not_here k s st (λ e. let runs = f.runs ok.0.0 ok.0.1.1.1.1.1.0 in absurd (grind arith))) gone st)
   keeps_word (RemoveThread m) s ok puts fresh st = absurd ok
   keeps_word (TakePush x i) s ok puts fresh st =
       let u = popped_quiet x (Entry.Push i) s (next_first s x (Entry.Push i) ok) (λ k. refl) in quiet_stand n q [] s _ (grind arith) st
@@ -142,7 +142,7 @@ module _ {a : Scene} {b : Core} {n : ℕ} {q : Option Place} (f : Follows a b n 
       puts x m v (inr may) so = absurd may
 
       waiting : (k : ℕ) → Stays a (Withdraw k) s → is_fresh (place_of k s) ≡ true
-      waiting k may = fresh_still a st k (withdraws_waits k s may)
+      waiting k may = fresh_still a st k (withdraws_waits k s may.0)
 
   -- what is so of a thread's place stays so by a word that, where it puts the thread, puts it so
   pub watched_word : (v : Watch) (m : ℕ) (w : Word) (s : Core) → Stays a w s → Stand (watch a) n q [] s →
@@ -150,7 +150,7 @@ module _ {a : Scene} {b : Core} {n : ℕ} {q : Option Place} (f : Follows a b n 
       is_so v (place_of m s) ≡ true → is_so v (place_of m (after_word w s)) ≡ true
   watched_word v m w s ok st puts is at =
       let kept = (keeps_word w s ok (λ x k u e g so. put x k u (subst (λ (y : Word). Stays a y s) e ok) g)
-      (λ k e. fresh_still a st k (withdraws_waits k s (subst (λ (y : Word). Stays a y s) e ok))) before).kept m in
+      (λ k e. fresh_still a st k (withdraws_waits k s (subst (λ (y : Word). Stays a y s) e ok).0)) before).kept m in
       grind (arith, nat_tests)
     where
       only : ℕ → Watch
@@ -389,7 +389,7 @@ module _ {a : Scene} {b : Core} {n : ℕ} {q : Option Place} (f : Frame a b n q)
       -- who goes is the runner, or was under one that is gone
       above : (m : ℕ) → place_of j a.base ≡ Some (Place.Under m) → MayGo a j s → place_of m (remove_thread j s) ≡ None
       above m at (Departs l) = no_cover j m l.0 at
-      above m at (EndsOver i is to under) = no_cover j m is at
+      above m at (EndsOver i is runs to under) = no_cover j m is at
       above m at (Falls over (inl i)) = no_cover j m i at
       above m at (Falls over (inr u)) = grind (arith, nat_tests, removed_is m j s)
 
@@ -398,7 +398,7 @@ module _ {a : Scene} {b : Core} {n : ℕ} {q : Option Place} (f : Frame a b n q)
 
       loose : MayGo a j s → Loose j s
       loose (Departs l) = loose_runner l.0
-      loose (EndsOver m is to under) = loose_runner is
+      loose (EndsOver m is runs to under) = loose_runner is
       loose (Falls over (inl is)) = loose_runner is
       loose (Falls over (inr u)) = by_number j n _ (λ e. subst (λ (m : ℕ). Loose m s) (sym e) h.own)
           (λ e. idle_loose j (place_of j s) s refl (h.idle j (ap is_idle u.1.0)) (h.others j e))

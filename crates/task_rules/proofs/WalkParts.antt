@@ -187,7 +187,7 @@ module _ {a : Scene} {b : Core} (n : ℕ) (is : IsRunner a n) where
   unfolding withdrawn remove_thread set_end
   withdrawn_walks k {t = t} ok says c =
       subst (λ (v : Core). Keep a b (set_uninteresting k (set_exited k (call_ends k CallEnd.StartCancelled v)))) (withdraws k t)
-      (word (SetUninteresting k) tt (word (SetExited k) tt (word (EndCall k CallEnd.StartCancelled) (IsWithdrawn ok (ap (λ (o : Option Thread). is_none o) (get-remove_same t.threads k)) refl, says) (word (Withdraw k) ok c))))
+      (word (SetUninteresting k) tt (word (SetExited k) tt (word (EndCall k CallEnd.StartCancelled) (IsWithdrawn ok (ap (λ (o : Option Thread). is_none o) (get-remove_same t.threads k)) refl, says) (word (Withdraw k) (ok, says) c))))
 
 -- ---- A new call
 
