@@ -33,3 +33,4 @@ pub mod AwaitedCalls
 pub mod NamedWorks
 pub mod SyncWorks
 pub mod LackLemmas
+pub mod EventLemmas

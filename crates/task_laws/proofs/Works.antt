@@ -7,7 +7,8 @@ use Rattle.task_laws.specs.Ends.{is_sync_work}
 use Rattle.task_laws.proofs.CountLemmas.{made_works_word}
 use Rattle.task_rules.proofs.ChainLemmas.{along}
 use Rattle.task_laws.specs.Order.{is_finishing}
-use Rattle.task_laws.proofs.WorksCame.{Doing, doing_of, is_late, WorksStand, WorkCame, WorkAfter, work_came, stand_word}
+use Rattle.task_laws.specs.Order.{is_late}
+use Rattle.task_laws.proofs.WorksCame.{Doing, doing_of, WorksStand, WorkCame, WorkAfter, work_came, stand_word}
 
 -- ---- What holds
 

@@ -6,7 +6,7 @@ use Rattle.task_laws.proofs.Basics.{no_way}
 use Rattle.task_rules.proofs.PlacingLemmas.{placing_works, unqueued_works, work_entries}
 use Rattle.task_laws.proofs.EachLemmas.{after_remove, at_change, at_insert}
 use Rattle.task_laws.proofs.PolledWorks.{polled_is_live}
-use Rattle.task_laws.specs.Order.{is_queued, is_finishing}
+use Rattle.task_laws.specs.Order.{is_late, is_queued, is_finishing}
 
 -- ---- What a work does
 
@@ -23,11 +23,6 @@ doing w = record { caller = w.caller; course = w.course; stage = w.stage; phase 
 
 abbrev pub doing_of : ℕ → Core → Option Doing
 doing_of i s = option_map doing (get s.works i)
-
-abbrev pub is_late : Stage → Bool
-is_late Stage.Finishing = true
-is_late Stage.Ended = true
-is_late _ = false
 
 -- ---- Entries
 
@@ -157,7 +152,7 @@ module _ {S : Type 0} (a : Scene) (s : Core) (q : WorksStand S s)
       (λ none why. let z = q.high j (inr why) in grind (arith, nat_tests))
       (λ w at. let z = q.high j (inl (grind arith)) in Lives (doing w) refl (grind (arith, nat_tests)) refl (grind (arith, nat_tests))) i
   work_came (TakeHost m j) ok i =
-      let t = taken m (Entry.Host j) s ok refl q.low in let h = ap (Standing j) t.0 in
+      let t = taken m (Entry.Host j) s ok.0 refl q.low in let h = ap (Standing j) t.0 in
       rw (change-change_same s.works j (λ w. record w { event = Some (host_status (course_value (course_of j s))) })
       (λ w. record w { stage = Stage.Ended }))
       (changed j _ (High (popped m s)) (λ i e. let h = ap (Standing i) t.0 in grind (arith, nat_tests))
@@ -182,7 +177,7 @@ module _ {S : Type 0} (a : Scene) (s : Core) (q : WorksStand S s)
   low_after (Places p) ok i = same_standing i _ _ (placing_works a p s ok).low ∙ q.low i
   low_after (Withdraw j) ok i = same_standing i _ _ (unqueued_works j s).low ∙ q.low i
   low_after (TakePush m j) ok i = ap (Standing i) (taken m (Entry.Push j) s ok refl q.low).1 ∙ q.low i
-  low_after (TakeHost m j) ok i = ap (Standing i) (taken m (Entry.Host j) s ok refl q.low).1 ∙ q.low i
+  low_after (TakeHost m j) ok i = ap (Standing i) (taken m (Entry.Host j) s ok.0 refl q.low).1 ∙ q.low i
   low_after w ok i = q.low i
 
   pub stand_word : (w : Word) → Allowed a w s → WorksStand S (after_word w s)

@@ -1,5 +1,5 @@
 -- A state in order: each opening state is, and each step leads from one to one.
-use Rattle.task_rules.proofs.Machine.{[], ap, arith, base_at, Bool, ByHandle, ByOp, Call, callee_of, can_come, Component, Core, false, fresh, get, get-empty, HasSubtask, how_far_of, HowFar, inl, inr, instance_of, is_fresh, is_some, is_sync_call, is_there, IsRunner, Label, le_refl, le_trans, length, List, None, Op, op_at_place, op_of_thread, opening, option_map, option_map_or, Place, place_of, Placed, refl, Run, Scene, scene_of, Script, script_in, Setting, Some, State, Steady, Step, subst, Subtask, subtask_under_way, sym, task_of, Thread, true, Turn, Walk, Walked, was_started, Work, ℕ, ⊎_elim, ◌∙◌, ◌∷◌, ◌≡◌, ◌≤◌, ◌⊎◌}
+use Rattle.task_rules.proofs.Machine.{[], ap, arith, base_at, Bool, ByHandle, ByOp, Call, callee_of, can_come, Component, Core, event_of, false, fresh, get, get-empty, HasSubtask, host_taken, how_far_of, HowFar, inl, inr, instance_of, is_fresh, is_some, is_sync_call, is_there, IsRunner, Label, le_refl, le_trans, length, List, None, Op, op_at_place, op_of_thread, opening, option_map, option_map_or, Place, place_of, Placed, refl, Run, Scene, scene_of, Script, script_in, Setting, Some, State, Status, Steady, Step, subst, Subtask, subtask_under_way, sym, task_of, Thread, true, Turn, undelivered_end, Walk, Walked, was_started, Work, ℕ, ⊎_elim, ◌∙◌, ◌∷◌, ◌≡◌, ◌≤◌, ◌⊎◌}
 use Rattle.task_laws.specs.Wakes.{NoneAdmitted}
 use Rattle.task_laws.proofs.HeldLemmas.{held_word}
 use Rattle.task_places.proofs.InsideLemmas.{step_inside}
@@ -11,7 +11,11 @@ use Rattle.task_laws.proofs.Joins.{joins_word, opening_joins}
 use Rattle.task_laws.proofs.Subtasks.{Traced, opening_named, opening_works_named, traced_word, works_named_word}
 use Rattle.task_laws.proofs.WatchLemmas.{queued_watched, watched_word}
 use Rattle.task_laws.proofs.CountLemmas.{made_works_word, few_word}
-use Rattle.task_laws.specs.Order.{Awake, InOrderIf, is_open, CancelsWatched, WorksNamed, InPlace, StartsFirst, CallsAwaited, cancelled_call, is_awaited, HasNotRun, CallsNamed, InOrder, Numbered, OpeningInOrder, SetsNamed, StartsAwaited, StepInOrder, WasCall, CallsThere, MakesFew, Strands, WaitsAtHome, StepsMakeFew, JoinsNamed, DirectsOnTop, Fits, WorksQueued, HostsAwaited}
+use Rattle.task_laws.proofs.EventLemmas.{TellingGoes, calls_told_word, host_event_word, sync_works_word, telling_word, works_hold, works_told}
+use Rattle.task_laws.proofs.Works.{works_go}
+use Rattle.task_places.proofs.BlockedLemmas.{step_blocked}
+use Rattle.task_places.proofs.WorksQueued.{stands_of}
+use Rattle.task_laws.specs.Order.{WorksTold, CallsTold, SyncWorks, Awake, InOrderIf, is_open, CancelsWatched, WorksNamed, InPlace, StartsFirst, CallsAwaited, cancelled_call, is_awaited, HasNotRun, CallsNamed, InOrder, Numbered, OpeningInOrder, SetsNamed, StartsAwaited, StepInOrder, WasCall, CallsThere, MakesFew, Strands, WaitsAtHome, StepsMakeFew, JoinsNamed, DirectsOnTop, Fits, WorksQueued, HostsAwaited}
 use Rattle.task_rules.proofs.WalkSteps.{step_walks}
 use Rattle.task_rules.proofs.ChainLemmas.{along}
 use Rattle.task_laws.proofs.WaitLemmas.{Homed, KnownHome, homed_word}
@@ -278,8 +282,36 @@ module _ (x : Setting) (s : State) (l : Label) (t : State) {g : Bool} (h : InOrd
       (λ v m ok q. (word_goes a h.codes b.0 v m ok q.0, (housed_word a runner_housed v m ok q.1.0, held_word a v m ok q.1.0 q.0.numbered q.1.1)))
       (b.1, (h.calls_there, h.held)) walk).1.1
 
-  pub awake_kept : Awake s.turn s.core → is_open t.turn ≡ true → Awake t.turn t.core
-  awake_kept first live = record { alone = step_alone x s l t w h.in_place withdrawable (grind arith) first.alone }
+  -- ---- Events
+
+  works_told_kept : WorksTold t.core
+  works_told_kept = works_told t.core (works_go {S = ⊥} x s l t w (λ no. absurd no) (works_hold s.core (stands_of h.works) h.works_told)).holds
+
+  calls_told_kept : CallsTold t.core
+  calls_told_kept = along CallsTold (calls_told_word a) h.calls_told walk
+
+  sync_works_kept : SyncWorks t.core
+  sync_works_kept =
+      let works : WorksNamed a.base = record { by_handle = h.works_named.by_handle; by_op = h.works_named.by_op } in
+      (along (λ u. (a.base.made.works ≤ u.made.works) × (WorksNamed u × SyncWorks u)) (λ v m ok q. (
+        le_trans q.0 (made_works_word a v m),
+        (works_named_word a works v m ok q.0 q.1.0, sync_works_word a v m ok q.1.0 q.1.1),
+      )) (le_refl _, (h.works_named, h.sync_works)) walk).1.1
+
+  telling : TellingGoes a t.core
+  telling = along (TellingGoes a) (telling_word a) (record { made = le_refl _; told = λ k below told. told; ends = λ k e below is. inl is }) walk
+
+  hosts_told : (i : ℕ) (e : Status) → undelivered_end (event_of (Subtask.Host i) t.core) ≡ Some e →
+      (undelivered_end (event_of (Subtask.Host i) s.core) ≡ Some e) ⊎ (host_taken l ≡ Some i)
+  hosts_told i e is = along (λ (u : Core). undelivered_end (event_of (Subtask.Host i) u) ≡ Some e →
+      (undelivered_end (event_of (Subtask.Host i) s.core) ≡ Some e) ⊎ (host_taken l ≡ Some i))
+      (λ v u ok q now. ⊎_elim q inr (host_event_word a v u ok i e now)) inl walk is
+
+  pub awake_kept : Steady s.core t.core → Awake s.turn s.core → is_open t.turn ≡ true → Awake t.turn t.core
+  awake_kept steady first live = record {
+    alone = step_alone x s l t w h.in_place withdrawable (grind arith) first.alone;
+    blocked = step_blocked x s l t w h withdrawable steady (λ over. let e = w.turn in absurd (grind arith)) telling hosts_told calls_told_kept works_told_kept first.blocked;
+  }
 
   pub fits_kept : Steady s.core t.core → Fits x.component t.core
   fits_kept steady n r at =
@@ -389,12 +421,15 @@ step_kept x s l t h step b awake =
       watched = (watches_kept x s l t h w).1;
       inside = step_inside x s l t w h.in_place (withdrawable x s l t h w) h.inside;
       held = held_kept x s l t h w;
+      works_told = works_told_kept x s l t h w;
+      calls_told = calls_told_kept x s l t h w;
+      sync_works = sync_works_kept x s l t h w;
       awake = awake;
     }
 
 pub step_in_order : StepInOrder
 step_in_order x s l t h step =
-    let w = step_walks x s l t step in step_kept x s l t h step (is_open t.turn) (λ live. awake_kept x s l t h w (h.awake (step_open x s l t step)) live)
+    let w = step_walks x s l t step in step_kept x s l t h step (is_open t.turn) (λ live. awake_kept x s l t h w (steady x s l t step) (h.awake (step_open x s l t step)) live)
 
 -- ---- The first state
 
@@ -430,7 +465,13 @@ opening_in_order c codes instances handle_limit capacity main =
       watched = λ n sub far. let o = get-empty {X = Thread} n in absurd (cc);
       inside = λ n p at. let o = get-empty {X = Thread} n in absurd (cc);
       held = λ n v at. let o = get-empty {X = Thread} n in absurd (cc);
-      awake = λ live. record { alone = λ n is. let o = get-empty {X = Thread} n in absurd (cc) };
+      works_told = λ i w is. let o = get-empty {X = Work} i in absurd (cc);
+      calls_told = λ k e is. let o = get-empty {X = Call} k in absurd (grind arith);
+      sync_works = λ n i far. let o = get-empty {X = Thread} n in absurd (cc);
+      awake = λ live. record {
+        alone = λ n is. let o = get-empty {X = Thread} n in absurd (cc);
+        blocked = λ n sub is. let o = get-empty {X = Thread} n in absurd (cc);
+      };
     }
 
 -- ---- Runs

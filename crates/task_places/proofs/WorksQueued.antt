@@ -4,7 +4,7 @@ use Rattle.task_laws.specs.Order.{WorksQueued}
 use Rattle.task_rules.proofs.PlacingLemmas.{SameWorks}
 use Rattle.task_laws.proofs.WorksCame.{WorksStand, Doing, WorkCame, High, entries_for, doing_of, same_standing, stand_word, work_came}
 
-stands_of : {s : Core} → WorksQueued s → WorksStand (Unit {0}) s
+pub stands_of : {s : Core} → WorksQueued s → WorksStand (Unit {0}) s
 stands_of {s = s} q = record {
   low = λ i. let l = q.low i in grind arith;
   number = λ i there. q.made i (grind arith);
