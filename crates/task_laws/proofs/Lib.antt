@@ -1,3 +1,4 @@
+pub mod Rules
 pub mod Basics
 pub mod EachLemmas
 pub mod ReachLemmas
@@ -33,4 +34,6 @@ pub mod AwaitedCalls
 pub mod NamedWorks
 pub mod SyncWorks
 pub mod LackLemmas
+pub mod KnownWorks
+pub mod MemberLemmas
 pub mod EventLemmas

@@ -1,12 +1,10 @@
 -- Which works handles name: along the words of a step none of them is a sync call's.
+use Rattle.task_laws.proofs.Rules.{add_call, add_group, add_set, add_thread, add_work, after_word, Allowed, arith, by_number, call_made, Core, count_work, free_handle, free_thread_handle, fresh, get, get-change, get-insert, get-remove, give_handle, give_result, give_thread_handle, inl, inr, is_async_work, le_trans, MayBeAborted, MayRemoveWork, nat_tests, None, on_call, on_instance, on_thread, on_work, poll_pends, push_high, remove_call, remove_group, remove_set, remove_thread, remove_work, RemoveWork, Scene, set_backpressure, set_cancel_delivered, set_cancelled, set_course, set_do_not_enter, set_do_not_suspend, set_end, set_event, set_exited, set_how_far, set_join, set_own_event, set_phase, set_position, set_register, set_result, set_saved_callee, set_saved_own, set_script, set_stage, set_started, set_starting_published, set_subtask_handle, set_thread_handle, set_trapped, set_uninteresting, set_word, Some, Subtask, subtask_at, take_result, true, with_handle, with_thread_handle, Word, work_caller_of, work_queued, ℕ, ⊎_elim, ◌≡◌, ◌≤◌, ◌⊎◌}
+use Rattle.task_laws.proofs.CountLemmas.{made_works_word}
 use Rattle.task_laws.proofs.SetHandles.{none_named}
 use Rattle.task_laws.proofs.Subtasks.{handle_named}
+use Rattle.task_laws.proofs.Works.{doing_there, number_of, WorksHold}
 use Rattle.task_laws.proofs.WorksCame.{Doing, doing_of}
-use Rattle.task_laws.proofs.Works.{doing_there, WorksHold, number_of}
-use Rattle.task_laws.specs.Ends.{MayBeAborted}
-use Rattle.task_rules.proofs.StandLemmas.{by_number}
-use Rattle.task_rules.proofs.Machine.{add_call, add_group, add_set, add_thread, add_work, after_word, Allowed, arith, call_made, Core, count_work, free_handle, free_thread_handle, fresh, get, get-change, get-insert, get-remove, give_handle, give_result, give_thread_handle, inl, inr, is_async_work, le_trans, MayRemoveWork, nat_tests, None, on_call, on_instance, on_thread, on_work, poll_pends, push_high, remove_call, remove_group, remove_set, remove_thread, remove_work, RemoveWork, Scene, set_backpressure, set_cancel_delivered, set_cancelled, set_course, set_do_not_enter, set_do_not_suspend, set_end, set_event, set_exited, set_how_far, set_join, set_own_event, set_phase, set_position, set_register, set_result, set_saved_callee, set_saved_own, set_script, set_stage, set_started, set_starting_published, set_subtask_handle, set_thread_handle, set_trapped, set_uninteresting, set_word, Some, Subtask, subtask_at, take_result, true, with_handle, with_thread_handle, Word, work_caller_of, work_queued, ℕ, ⊎_elim, ◌≡◌, ◌≤◌, ◌⊎◌}
-use Rattle.task_laws.proofs.CountLemmas.{made_works_word}
 
 -- ---- Works that aren't sync calls'
 
@@ -37,7 +35,7 @@ async_other j s h async = let v = doing_there j s (grind arith) in record { made
 pub names_word : {S : Type 0} (a : Scene) (w : Word) (s : Core) → Allowed a w s → WorksHold S s → NamesNoSync s → NamesNoSync
     (after_word w s)
 names_word a w s ok h q i g j e = abort_kept a w s ok j
-    (⊎_elim (λ f. q i g j f) (λ now. async_other j s h now.1.1) (handle_named a s w ok i g (Subtask.Host j) e))
+    (⊎_elim (λ f. q i g j f) (λ now. async_other j s h now.1.1.0) (handle_named a s w ok i g (Subtask.Host j) e))
 
 pub opening_names : (instances handle_limit capacity : ℕ) → NamesNoSync (fresh instances handle_limit capacity)
 unfolding fresh

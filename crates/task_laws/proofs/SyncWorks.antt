@@ -1,21 +1,20 @@
 -- Sync calls of hosts: along the words of a step the work of a thread inside one is the thread's.
-use Rattle.task_rules.proofs.Machine.{after_word, Allowed, ap, arith, Core, fresh, get-empty, how_far_of, HowFar, inl, inr, instance_of, MayCome, MayRemoveWork, None, Option, refl, Scene, Some, Subtask, Word, work_caller_of, WorkCaller, ℕ, ⊎_elim, ◌∙◌, ◌≡◌, ◌≤◌, ◌⊎◌}
+use Rattle.task_laws.proofs.Rules.{after_word, Allowed, ap, arith, Core, fresh, get-empty, how_far_of, HowFar, inl, inr, instance_of, MayBeAborted, MayCome, MayRemoveWork, None, Option, refl, Scene, Some, Subtask, Word, work_caller_of, WorkCaller, ℕ, ⊎_elim, ◌∙◌, ◌≡◌, ◌≤◌, ◌⊎◌}
 use Rattle.task_laws.proofs.Basics.{too_high}
 use Rattle.task_laws.proofs.CallsCame.{op_came}
-use Rattle.task_laws.proofs.NamedWorks.{NamesNoSync, caller_stays}
+use Rattle.task_laws.proofs.NamedWorks.{caller_stays, NamesNoSync}
+use Rattle.task_laws.proofs.Works.{doing_there, number_of, WorksGo}
 use Rattle.task_laws.proofs.WorksCame.{Doing, doing_of}
-use Rattle.task_laws.proofs.Works.{doing_there, WorksGo, number_of}
-use Rattle.task_laws.specs.Ends.{MayBeAborted}
 
 -- the work of a thread inside a sync call of a host is the thread's
 abbrev pub CallersKnown : Core → Type 0
 CallersKnown s = (n i : ℕ) → how_far_of n s ≡ HowFar.Calls (Subtask.Host i) → work_caller_of i s ≡ WorkCaller.Sync n
 
-abbrev called_work : HowFar → Option ℕ
+abbrev pub called_work : HowFar → Option ℕ
 called_work (HowFar.Calls (Subtask.Host i)) = Some i
 called_work f = None
 
-calls_work : (f : HowFar) (i : ℕ) → called_work f ≡ Some i → f ≡ HowFar.Calls (Subtask.Host i)
+pub calls_work : (f : HowFar) (i : ℕ) → called_work f ≡ Some i → f ≡ HowFar.Calls (Subtask.Host i)
 calls_work f i h = grind arith
 
 -- a sync call's work is there
@@ -27,13 +26,13 @@ module _ {S : Type 0} (a : Scene) (low : (i : ℕ) (v : Doing) → doing_of i a.
     (base : CallersKnown a.base) (names : NamesNoSync a.base) (w : Word) (s : Core) (ok : Allowed a w s) (q : WorksGo S a s)
     (kept : (i : ℕ) → MayBeAborted a.base i → MayBeAborted s i) where
   old : (i : ℕ) → MayRemoveWork a i s → i ≤ a.base.made.works
-  old i (m, (runner, inl (far, fresh))) = let r = sync_there i m a.base (base m i far) in low i r.0 r.1.0
+  old i (m, (runner, inl (far, (fresh, same)))) = let r = sync_there i m a.base (base m i far) in low i r.0 r.1.0
   old i (m, (runner, inr (ended, (free, (over, (h, named)))))) = (names (instance_of m a.base) h i named).made
 
   -- that of a thread inside the call isn't removed
   removed : (n i : ℕ) → work_caller_of i s ≡ WorkCaller.Sync n → (how_far_of n s ≡ HowFar.Fresh → ⊥) → MayRemoveWork a i s → ⊥
-  removed n i caller inside (m, (runner, inl (far, fresh))) =
-      let was = q.was i (old i (m, (runner, inl (far, fresh)))) in let first = base m i far in
+  removed n i caller inside (m, (runner, inl (far, (fresh, same)))) =
+      let was = q.was i (old i (m, (runner, inl (far, (fresh, same))))) in let first = base m i far in
       let same : m ≡ n = grind arith in inside (rw same at fresh)
   removed n i caller inside (m, (runner, inr (ended, (free, (over, (h, named)))))) =
       let other = (kept i (names (instance_of m a.base) h i named)).other in absurd (grind arith)

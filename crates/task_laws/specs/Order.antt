@@ -40,7 +40,7 @@ use Rattle.task_machine.specs.declared.records.Turn.{Turn}
 use Rattle.task_machine.specs.declared.records.Turn.TheVariants as turn
 use Rattle.task_machine.specs.declared.records.Why.{Why}
 use Rattle.task_machine.specs.declared.records.Why.TheVariants as why
-use Rattle.task_rules.specs.Places.{Placed, is_fresh, is_inside, times, one_if}
+use Rattle.task_rules.specs.Places.{Placed, is_fresh, is_at_wait, times, one_if, is_inside}
 use Rattle.task_rules.specs.Run.{opening}
 use Rattle.task_rules.specs.Scripts.{export_kind, is_script, op_of_thread, script_of_thread, slot_at}
 use Rattle.task_rules.specs.OpParts.{can_come, is_sync_call}
@@ -133,6 +133,15 @@ pub record CallsAwaited (s : Core) : Type 0 where
       (place_of n s ≡ Some (place.Under k)) ⊎ (option_map_or is_awaited (get s.calls k) false ≡ true)
   pub apart : (n m k : ℕ) → how_far_of n s ≡ how_far.Calls (subtask.Guest k) → cancelled_call (how_far_of m s) ≡ Some k → ⊥
 
+-- The record of a host's work says which handle names it, in one instance. None names the work of a sync call, and a thread inside a sync
+-- call of a host is inside the work of one, which was made.
+pub record WorksKnown (s : Core) : Type 0 where
+  pub there : (i h j : ℕ) → subtask_at i h s ≡ Some (subtask.Host j) → subtask_handle (subtask.Host j) s ≡ Some h
+  pub once : (i l h g j : ℕ) → subtask_at i h s ≡ Some (subtask.Host j) → subtask_at l g s ≡ Some (subtask.Host j) → i ≡ l
+  pub async : (h j : ℕ) → subtask_handle (subtask.Host j) s ≡ Some h → is_async_work (work_caller_of j s) ≡ true
+  pub called : (n j : ℕ) → how_far_of n s ≡ how_far.Calls (subtask.Host j) →
+      (j ≤ s.made.works) × (is_async_work (work_caller_of j s) ≡ false)
+
 -- Each work that a handle names, or that an op under way is about, was made.
 pub record WorksNamed (s : Core) : Type 0 where
   pub by_handle : (i h j : ℕ) → subtask_at i h s ≡ Some (subtask.Host j) → j ≤ s.made.works
@@ -194,15 +203,18 @@ abbrev pub set_of_op : HowFar → Option ℕ
 set_of_op (how_far.Waits x) = Some x
 set_of_op _ = None
 
--- the set was made, and if it is there, it is of the instance
-pub record IsOf (i x : ℕ) (s : Core) : Type 0 where
-  pub made : x ≤ s.made.sets
-  pub home : (r : Set) → get s.sets x ≡ Some r → r.instance ≡ i
+-- the set is there, and of the instance
+abbrev pub IsOf : ℕ → ℕ → Core → Type 0
+IsOf i x s = option_map (λ (r : Set). r.instance) (get s.sets x) ≡ Some i
 
--- A thread that waits on a set, has a delivery for it or is inside a wait on it is of the set's instance.
+-- A set on which a thread waits, for which it has a delivery, or inside a wait on which it is, is there and of the thread's instance.
 pub record WaitsAtHome (s : Core) : Type 0 where
   pub by_place : (n x : ℕ) → option_and_then set_of_place (place_of n s) ≡ Some x → IsOf (instance_of n s) x s
   pub by_op : (n x : ℕ) → set_of_op (how_far_of n s) ≡ Some x → IsOf (instance_of n s) x s
+
+-- a thread that is inside a wait on a set waits on it, is to resume, or runs
+abbrev pub WaitsPlaced : Core → Type 0
+WaitsPlaced s = (n x : ℕ) → how_far_of n s ≡ how_far.Waits x → option_map_or (is_at_wait x) (place_of n s) false ≡ true
 
 -- a thread that waits, but not by callback, or is blocked is inside the op that says so
 abbrev pub InsideOps : Core → Type 0
@@ -393,9 +405,11 @@ pub record InOrderIf (goes_on : Bool) (c : Component) (s : State) : Type 0 where
   pub works_named : WorksNamed s.core
   pub names : NamesKnown s.core
   pub calls : CallsAwaited s.core
+  pub works_known : WorksKnown s.core
   pub sets_named : SetsNamed s.core
   pub joins_named : JoinsNamed s.core
   pub waits : WaitsAtHome s.core
+  pub waits_placed : WaitsPlaced s.core
   pub kinds : CallKinds c s.core
   pub deliveries : DeliveredByCallback s.core
   pub fits : Fits c s.core

@@ -1,18 +1,7 @@
 -- No thread is blocked on a subtask that has an end as its event: along the words of a step.
-use Rattle.task_laws.proofs.CallsSteps.{plain, plain_scene}
-use Rattle.task_laws.proofs.SaidEnds.{said_plain, written_at}
-use Rattle.task_rules.proofs.Machine.{after_placing, after_word, Allowed, ap, arith, base_at, Bool, Call, Collapses, Component, Core, EndWords, event_of, false, Frees, get, get-change, get-remove, GoesBack, host_taken, how_far_of, HowFar, inl, inr, is_async_work, is_inside, is_told, IsRunner, Label, Lands, LandsAt, MayMove, Move, nat_tests, None, on_thread, Option, option_map, Place, place_of, Places, Placing, Promote, Put, Quits, refl, Remains, remove_thread, RemoveThread, Scene, scene_of, set_how_far, set_place, SetHowFar, Setting, Settles, Some, State, Status, status_of_end, Stay, Stays, Steady, Stop, subst, Subtask, subtask_ended, subtask_under_way, sym, Tells, TellsLater, TellsNever, TellsNone, TellsNow, Thread, Trip, true, Turn, undelivered_end, Walk, Walked, Why, Word, Work, ℕ, ⊎_elim, ◌∙◌, ◌≡◌, ◌≤◌, ◌⊎◌}
-use Rattle.task_laws.proofs.CallsCame.{IsBeside, IsFirst, IsGone, IsSame, ThreadAfter, thread_came}
-use Rattle.task_laws.proofs.CameLemmas.{Came, came_word, Comes, Moved, promoted_shifted, put_shifted, Shifts, stopped_shifted, Turned, Turns, MayStand}
-use Rattle.task_laws.proofs.EventLemmas.{TellingGoes, TellsEnd}
-use Rattle.task_laws.specs.Order.{Awake, CallsTold, InOrderIf, WorksTold, cancelled_by, cancelled_call}
-use Rattle.task_laws.specs.Wakes.{NoneBlockedOnEnd}
-use Rattle.task_places.proofs.PlaceLaw.{Frame, beside, stands}
-use Rattle.task_places.proofs.PlaceSteps.{Withdrawable, step_by}
-use Rattle.task_rules.proofs.ChainLemmas.{along, land_allowed, stay_walk, stays_allowed}
-use Rattle.task_rules.proofs.PlacingLemmas.{placing_shifted}
-use Rattle.task_rules.proofs.StandLemmas.{by_number}
-use Rattle.task_rules.proofs.WalkMoves.{settle_threads}
+use Rattle.task_places.proofs.Laws.{after_placing, after_word, Allowed, along, ap, arith, base_at, Bool, by_number, Call, CallsTold, Came, came_word, cancelled_by, cancelled_call, Collapses, Comes, Component, Core, EndTells, EndWords, event_of, false, Frees, get, get-change, get-remove, GoesBack, host_taken, how_far_of, HowFar, inl, InOrderIf, inr, is_async_work, is_inside, is_told, IsBeside, IsFirst, IsGone, IsRunner, IsSame, Label, land_allowed, Lands, LandsAt, MayMove, MayStand, Move, Moved, nat_tests, None, NoneBlockedOnEnd, on_thread, Option, option_map, Place, place_of, Places, Placing, placing_shifted, plain, plain_scene, Promote, promoted_shifted, Put, put_shifted, Quits, refl, Remains, remove_thread, RemoveThread, said_plain, Scene, scene_of, set_how_far, set_place, SetHowFar, Setting, settle_threads, Settles, Shifts, Some, State, Status, status_of_end, Stay, Stays, stays_allowed, Steady, Stop, stopped_shifted, subst, Subtask, subtask_ended, subtask_under_way, sym, TellingGoes, TellsEnd, TellsLater, TellsNever, TellsNone, TellsNow, Thread, thread_came, ThreadAfter, Trip, true, Turn, Turned, Turns, undelivered_end, Walk, Walked, Why, Word, Work, WorksTold, written_at, ℕ, ⊎_elim, ◌∙◌, ◌≡◌, ◌≤◌, ◌⊎◌}
+use Rattle.task_places.proofs.PlaceLaw.{beside, Frame}
+use Rattle.task_places.proofs.PlaceSteps.{step_by, Withdrawable}
 
 -- the thread is blocked on the subtask
 abbrev pub IsStuck : Subtask → ℕ → Core → Type 0
@@ -204,10 +193,10 @@ module _ (x : Setting) (s : State) (l : Label) (t : State) (w : Walked x s l t) 
   guest_stuck n k e at still (y, (says, (known, ran))) = by (words.tells (Subtask.Guest k) (status_of_end y)
       (written_at x.component s.core (base_at s.turn s.core).queues t.core l _ (said_plain x s l w.next t.core k (status_of_end y) says)))
     where
-      by : Tells a t.core (Subtask.Guest k) (status_of_end y) → ⊥
+      by : EndTells a t.core (Subtask.Guest k) (status_of_end y) → ⊥
       by tells = by_told (Subtask.Guest k) (status_of_end y) refl refl tells
         where
-          by_told : (sub : Subtask) (z : Status) → sub ≡ Subtask.Guest k → z ≡ status_of_end y → Tells a t.core sub z → ⊥
+          by_told : (sub : Subtask) (z : Status) → sub ≡ Subtask.Guest k → z ≡ status_of_end y → EndTells a t.core sub z → ⊥
           by_told sub z e is (TellsNow _ _ f) = freed n (Subtask.Guest k) known at still (subst (λ (d : Subtask). Frees a t.core d) e f)
           by_told sub z e is (TellsNever j _ untold) = absurd (grind arith)
           by_told sub z e is (TellsNone _) = absurd (grind arith)

@@ -1,15 +1,7 @@
 -- Who waits or is blocked is inside the op that says so, along the words of a step.
-use Rattle.task_rules.proofs.Machine.{[], after_placing, after_word, Allowed, ap, arith, Bool, Collapses, Core, Enter, false, get, get-change, get-remove, GoBehind, GoesBack, how_far_of, HowFar, inl, inr, is_inside, IsFall, IsRunner, Label, Lands, lands_inside, LandsAt, Mark, MayCome, MayLand, MayMove, Move, nat_tests, on_thread, Option, Place, place_of, Places, Placing, Pop, popped, Promote, Put, Quits, refl, Remains, remove_thread, RemoveThread, Scene, scene_of, set_high, set_how_far, set_low, set_place, set_switch, set_trapped, SetHowFar, Setting, Settles, SetTrapped, Some, State, Stay, Stays, Stop, sym, Thread, Trip, true, Walked, Word, ℕ, ⊎_elim, ◌==◌, ◌∙◌, ◌≡◌, ◌⊎◌}
-use Rattle.task_rules.proofs.MoveLemmas.{is_busy}
-use Rattle.task_places.proofs.PlaceSteps.{Reads, Withdrawable, step_by}
-use Rattle.task_places.proofs.PlaceLaw.{Frame, covered_still, stay_stand, stay_word, watch}
-use Rattle.task_rules.proofs.PlacingLemmas.{placing_shifted, shifted_far}
-use Rattle.task_rules.proofs.ChainLemmas.{along, land_allowed, stays_allowed}
-use Rattle.task_rules.proofs.StandLemmas.{Stand, by_number, place_kept}
-use Rattle.task_rules.proofs.WalkMoves.{settle_threads}
-use Rattle.task_laws.proofs.CallsCame.{IsBeside, IsFirst, IsGone, IsSame, ThreadAfter, thread_came}
-use Rattle.task_laws.proofs.CameLemmas.{Moved, behind_shifted, promoted_shifted, put_shifted, stopped_shifted}
-use Rattle.task_laws.specs.Order.{InPlace, InsideOps}
+use Rattle.task_places.proofs.Laws.{[], after_placing, after_word, Allowed, along, ap, arith, behind_shifted, Bool, by_number, Collapses, Core, Enter, false, get, get-change, get-remove, GoBehind, GoesBack, how_far_of, HowFar, inl, InPlace, inr, InsideOps, is_inside, IsBeside, IsFall, IsFirst, IsGone, IsRunner, IsSame, Label, land_allowed, Lands, lands_alone, lands_inside, LandsAt, Mark, MayCome, MayLand, MayMove, Move, Moved, nat_tests, on_thread, Option, Place, place_of, Places, Placing, placing_shifted, Pop, popped, Promote, promoted_shifted, Put, put_shifted, Quits, refl, Remains, remove_thread, RemoveThread, Scene, scene_of, set_high, set_how_far, set_low, set_place, set_switch, set_trapped, SetHowFar, Setting, settle_threads, Settles, SetTrapped, shifted_far, Some, Stand, State, Stay, Stays, stays_allowed, Stop, stopped_shifted, sym, Thread, thread_came, ThreadAfter, Trip, true, Walked, Word, ℕ, ⊎_elim, ◌==◌, ◌∙◌, ◌≡◌, ◌⊎◌}
+use Rattle.task_places.proofs.PlaceLaw.{covered_still, Frame, stay_stand, stay_word, watch}
+use Rattle.task_places.proofs.PlaceSteps.{step_by, Withdrawable}
 
 -- a place that says nothing of the op there
 abbrev is_loose : Place → Bool
@@ -17,6 +9,9 @@ is_loose p = is_inside p HowFar.Fresh
 
 loose_inside : (p : Place) (h : HowFar) → is_loose p ≡ true → is_inside p h ≡ true
 loose_inside p h loose = grind arith
+
+alone_loose : (k : ℕ) (p : Place) → lands_alone (Move k p) ≡ true → is_loose p ≡ true
+alone_loose k p alone = grind arith
 
 moved_loose : (o : Option Place) (p : Place) → Moved (λ w. Unit {0}) o (Some p) → (is_loose p ≡ true) ⊎ (o ≡ Some p)
 moved_loose o p came = grind arith
@@ -151,7 +146,7 @@ module _ {a : Scene} {b : Core} {n : ℕ} {q : Option Place} (f : Frame a b n q)
   trip_inside first (Remains t c still on) = stays first c
   trip_inside first (Lands s x c ok fit) = λ k.
       inside_word a (Places x) s (land_allowed a x s ok) k (loose s (stay_stand f.follows c) k)
-      (λ y is p at. ⊎_elim inl (⊎_elim inr (λ moves. inl (rw moves at fit))) (landed s x c k p at)) (stays first c k)
+      (λ y is p at. ⊎_elim inl (⊎_elim inr (λ moves. inl (alone_loose k p (rw moves at fit)))) (landed s x c k p at)) (stays first c k)
   trip_inside first (LandsAt s x m h c ok fit comes) = landed_at s x m h c (stays first c) ok fit comes.0
   trip_inside first (Quits s t k c leave d) = settled (removed_inside k s (stays first c)) d
   trip_inside first (GoesBack s t k m v c is runs to under d ok) = goes_back m v t (settled (removed_inside k s (stays first c)) d)

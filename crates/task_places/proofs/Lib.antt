@@ -1,3 +1,4 @@
+pub mod Laws
 pub mod Entries
 pub mod PlaceLaw
 pub mod PlaceSteps
@@ -7,6 +8,7 @@ pub mod WorksQueued
 pub mod HostsAwaited
 pub mod InsideLemmas
 pub mod AloneLemmas
+pub mod WaitsKept
 pub mod OrderLemmas
 pub mod OnceSteps
 pub mod WakeLines

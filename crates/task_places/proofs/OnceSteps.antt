@@ -1,21 +1,7 @@
 -- Each step owes of the ends what it should, and so each run has each end once.
-use Rattle.task_rules.proofs.Machine.{[], AbortsOwn, ap, arith, base_at, Core, fresh, get, get-empty, instance_of, is_some, is_spawn, Label, le_refl, Main, main_opening, MainPlace, MayAbort, opening, ProgramAborts, refl, SameMain, Scene, scene_of, ScriptAborts, Scripted, Setting, slice_get, Some, spawned_at, State, Status, Step, subst, Subtask, subtask_at, suc, sym, task_of, true, Unscripted, unwrap_or, Walked, zero, ℕ, ⊎_elim, ◌-◌, ◌≡◌, ◌≤◌, ◌⊎◌}
-use Rattle.task_laws.proofs.NamedWorks.{NamesNoSync, abort_kept, names_word, opening_names}
-use Rattle.task_laws.proofs.CallsLaw.{CallsHold}
-use Rattle.task_laws.proofs.CallsSteps.{of_base}
-use Rattle.task_rules.proofs.ChainLemmas.{along}
-use Rattle.task_laws.proofs.CallEnds.{EndsTold, ends_go, opening_ends_told}
-use Rattle.task_laws.proofs.OnceLemmas.{Due, Over, EndStep, due_over, ends_once}
-use Rattle.task_laws.proofs.SceneLemmas.{base_is, runner_there}
-use Rattle.task_laws.specs.Ends.{is_sync_work, MayBeAborted, SyncUnnamed}
-use Rattle.task_laws.proofs.SyncWorks.{CallersKnown, callers_word, opening_callers}
-use Rattle.task_laws.proofs.WorksCame.{Doing, doing_of}
-use Rattle.task_laws.proofs.Works.{WorksGo, WorksHold, number_of, opening_works, first_works, works_word}
-use Rattle.task_rules.proofs.WalkSteps.{step_walks}
-use Rattle.task_laws.specs.Order.{InOrder, OpeningInOrder}
-use Rattle.task_laws.proofs.StepEnds.{Answered, CallsFound, step_ends}
-use Rattle.task_places.specs.Once.{RunsAreOnce, IsUnbegun}
+use Rattle.task_places.proofs.Laws.{[], abort_kept, AbortsOwn, along, Answered, ap, arith, base_at, base_is, callers_word, CallersKnown, CallsFound, Core, Doing, doing_of, Due, due_over, ends_go, ends_once, EndStep, EndsTold, first_works, fresh, get, get-empty, InOrder, instance_of, is_some, is_spawn, is_sync_work, Label, le_refl, Main, main_opening, MainPlace, MayAbort, MayBeAborted, names_word, NamesNoSync, number_of, of_base, opening, opening_callers, opening_ends_told, opening_names, opening_works, OpeningInOrder, Over, ProgramAborts, refl, runner_there, SameMain, Scene, scene_of, ScriptAborts, Scripted, Setting, slice_get, Some, spawned_at, State, Status, Step, step_ends, step_walks, subst, Subtask, subtask_at, suc, sym, SyncUnnamed, task_of, true, Unscripted, unwrap_or, Walked, works_word, WorksGo, WorksHold, zero, ℕ, ⊎_elim, ◌-◌, ◌≡◌, ◌≤◌, ◌⊎◌}
 use Rattle.task_places.proofs.OrderLemmas.{asked, held_of, opening_in_order, step_in_order}
+use Rattle.task_places.specs.Once.{IsUnbegun, RunsAreOnce}
 
 -- ---- What is known before a step
 

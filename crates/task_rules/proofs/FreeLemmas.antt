@@ -3,7 +3,7 @@ use Rattle.task_rules.proofs.Machine.{arith, blocked_on, Bool, Core, false, Free
 use Rattle.task_rules.proofs.ChainLemmas.{Keep, keep_stay}
 use Rattle.task_rules.proofs.SayLemmas.{found_none}
 use Rattle.task_rules.proofs.StandLemmas.{set_place_is}
-use Rattle.task_rules.proofs.WalkMoves.{ChosenIn, blocked_at, evented, published_shifts}
+use Rattle.task_rules.proofs.WalkMoves.{blocked_at, ChosenIn, evented, published_shifts}
 
 abbrev IsStuck : Subtask → ℕ → Core → Type 0
 IsStuck sub n s = place_of n s ≡ Some (Place.Blocked sub)

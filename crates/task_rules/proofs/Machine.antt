@@ -22,17 +22,17 @@ pub use Rattle.task_machine.specs.Maps.{get-empty, get-insert, get-remove, Recor
 unfoldable pub use Rattle.task_machine.specs.Maps.{change, get, insert, numbers, remove, size}
 pub use Rattle.task_machine.specs.Moves.{behind, departed, displaced, exited_if, freed_thread_handle, Gift, gift_after_own, hands_on, has_entry, held_why_of, is_callback_waiter, is_deletable_call, is_finished, less, less_switch, may_wake_joined, MemberGift, newest, NoGift, older, own_gift_of, own_or_nothing, OwnGift, passed_on, promoted_first, released_one, resumed_all, stand, unblocked, wake_joined, waken_by, why_of}
 unfoldable pub use Rattle.task_machine.specs.Moves.{behind_one, call_settled, checked, ended, first_entry, gift, given_for, group_settled, handed_on, interest_settled, is_deletable, is_group_done, may_hand_on, may_publish, may_wake, own_gift_only, passes_check, promoted, promoted_unless, published, put_high, put_low, put_switch, released, stopped, taken, unqueued, wake, withdrawn}
-pub use Rattle.task_machine.specs.Read.{admits, any_thread, as_set, as_subtask, backpressure_of, call_group, call_instance, callee_of, caller_of, callers_of, cancel_was_delivered, course_of, course_value, end_of, event_of, first_at, first_in, foot_from, goal_of, handle_of_table, has_ended, held_why, how_far_of, instance_of, is_aborted, is_async_lifted, is_at, is_behind, is_blocked_on, is_callback, is_callback_yield, is_direct, is_entry_in, is_entry_of, is_explicit, is_guest_call, is_held_admitted, is_holding, is_joined, is_live, is_member, is_nil, is_ready_member, is_ready_to_resume, is_stage_ended, is_stage_live, is_under, is_waiter, is_waiting_on, is_watched, is_woken_for, is_yielded, join_of, kind_of, may_not_enter, may_not_suspend, named_by, next_handle, or_high, own_event_of, phase_of, place_of, position_of, register_of, registers_of, result_of, same_subtask, saved_callee_of, saved_own_of, set_at, stage_of, strand_from, subtask_at, subtask_ended, subtask_handle, subtasks, task_of, thread_at, thread_group, thread_handle_of, undelivered_end, was_cancelled, was_started, work_caller_of}
+pub use Rattle.task_machine.specs.Read.{admits, any_thread, as_set, as_subtask, backpressure_of, call_group, call_instance, callee_of, caller_of, callers_of, cancel_was_delivered, course_of, course_value, end_of, event_of, first_at, first_in, foot_from, goal_of, handle_of_table, has_ended, held_why, how_far_of, instance_of, is_aborted, is_async_lifted, is_at, is_behind, is_blocked_on, is_callback, is_callback_yield, is_direct, is_entry_in, is_entry_of, is_explicit, is_guest_call, is_held_admitted, is_holding, is_joined, is_live, is_member, is_nil, is_ready_member, is_ready_to_resume, is_resumption, is_stage_ended, is_stage_live, is_under, is_waiter, is_waiting_on, is_watched, is_woken_for, is_yielded, join_of, keeps_set, kind_of, may_not_enter, may_not_suspend, named_by, next_handle, or_high, own_event_of, phase_of, place_of, position_of, register_of, registers_of, result_of, same_subtask, saved_callee_of, saved_own_of, set_at, stage_of, strand_from, subtask_at, subtask_ended, subtask_handle, subtasks, task_of, thread_at, thread_group, thread_handle_of, undelivered_end, was_cancelled, was_started, work_caller_of}
 unfoldable pub use Rattle.task_machine.specs.Read.{admitted_held, at_handle_limit, blocked_on, fits, foot_of, has_member, has_ready_member, has_thread, has_waiter, has_waiters, is_last_thread, new_handle, new_thread_handle, next_entry, strand_of, under_of, woken}
 pub use Rattle.task_machine.specs.Statuses.{packed, status_code}
 pub use Rattle.task_machine.specs.Write.{giving, less_one, remove_threads, taking}
 unfoldable pub use Rattle.task_machine.specs.Write.{add_call, add_group, add_set, add_thread, add_work, count_work, free_handle, free_thread_handle, give_handle, give_result, give_thread_handle, on_call, on_instance, on_thread, on_work, push_high, push_high_first, push_low, remove_call, remove_group, remove_set, remove_thread, remove_work, set_backpressure, set_callers, set_cancel_delivered, set_cancelled, set_course, set_do_not_enter, set_do_not_suspend, set_end, set_event, set_exited, set_high, set_how_far, set_join, set_low, set_own_event, set_phase, set_place, set_position, set_register, set_result, set_saved_callee, set_saved_own, set_script, set_stage, set_started, set_starting_published, set_subtask_handle, set_switch, set_thread_handle, set_trapped, set_uninteresting, set_word, take_result}
-pub use Rattle.task_rules.specs.Allowed.{AbortsOwn, Allowed, AtOp, AwaitsEvent, Blocks, ByDelivery, ByHandle, ByOp, ByProgram, ByScript, BySetHandle, ByThread, ByWait, Cancelling, Cancels, CanCome, ComesAgain, Departs, EndsActivation, EndsOver, Exits, Falls, FindsEvent, GivesUp, HasCalled, HasSet, HasSubtask, Holds, InOp, is_async_work, is_begun, is_done_host, is_exit, is_for_main, IsCalled, IsFall, IsFoot, IsLaid, IsNamed, IsNew, IsPolled, IsRunner, IsSettling, IsStarting, IsWithdrawn, Leaves, MayAbort, MayAdvance, MayBar, MayCall, MayCancel, MayCome, MayDeliver, MayEnd, MayFinish, MayGo, MayJoin, MayLand, MayLeave, MayMake, MayMakeCall, MayMove, MayNameCall, MayOwe, MayPut, MayRemoveCall, MayRemoveWork, MayRestart, MayShift, MayStart, MayTakeEvent, MayTell, MayWithdraw, MayYield, NoneHeldIn, ProgramAborts, Releases, Resumes, ReturnsNow, Runs, SaysEnd, ScriptAborts, Starts, Stays, subtask_under_way, Suspends, TakesCalled, TakesCancelled, TakesNamed, Unblocks, Uncovers, Waits, WaitsAgain, wake_why, Wakes, WasReady, WasUnder, watches, Yields}
+pub use Rattle.task_rules.specs.Allowed.{AbortsOwn, Allowed, AtOp, AwaitsEvent, Blocks, ByDelivery, ByHandle, ByOp, ByProgram, ByScript, BySetHandle, ByThread, ByWait, Cancelling, Cancels, CanCome, ComesAgain, Departs, EndsActivation, EndsOver, Exits, Falls, FindsEvent, GivesUp, HasCalled, HasSet, HasSubtask, Holds, InOp, is_async_work, is_begun, is_done_host, is_exit, is_for_main, IsCalled, IsFall, IsFoot, IsLaid, IsNamed, IsNew, IsPolled, IsRunner, IsSettling, IsStarting, IsWithdrawn, Leaves, MayAbort, MayAdvance, MayBar, MayCall, MayCancel, MayClose, MayCome, MayDeliver, MayEnd, MayFinish, MayGo, MayJoin, MayLand, MayLeave, MayMake, MayMakeCall, MayMove, MayNameCall, MayOwe, MayPut, MayRemoveCall, MayRemoveWork, MayRestart, MayShift, MayStart, MayTakeEvent, MayTell, MayWithdraw, MayYield, NoneHeldIn, ProgramAborts, Releases, Resumes, ReturnsNow, Runs, SaysEnd, ScriptAborts, Starts, Stays, subtask_under_way, Suspends, TakesCalled, TakesCancelled, TakesNamed, Tells, Unblocks, Uncovers, Waits, WaitsAgain, wake_why, Wakes, WasReady, WasUnder, watches, Yields}
 pub use Rattle.task_rules.specs.Calls.{AtOnce, call_begins, call_clears_flag, call_host_polled, call_row, call_status, call_sync_begins, call_sync_host_polled, call_sync_host_row, call_sync_row, call_sync_status, Failing, first_poll, FirstPoll, Later, new_call, new_thread, new_work, next_thread, next_work, put_back, settle_group_of, status_found, sync_sets_flag, work_group, work_value}
 unfoldable pub use Rattle.task_rules.specs.Calls.{answered, call_answered, call_made, call_pending, call_queues, call_resumes, call_returned, call_stops, call_sync_host_stops, call_sync_stops, enter_runs, host_answered, host_pending, host_ready, with_handle, with_thread_handle, work_answered, work_deleted, work_queued}
 pub use Rattle.task_rules.specs.Cancels.{aborted_phase, AlreadyEnded, Async, behind_switch, blocked_code, CallbackWaits, CallbackYields, cancel_by_end, cancel_case, cancel_ended_row, cancel_guest, cancel_label, cancel_row, cancel_subtask, CancelCase, Mode, OtherwiseRuns, pauses, StartNotRun, subtask_instance, subtask_row, Sync}
 unfoldable pub use Rattle.task_rules.specs.Cancels.{cancel_aborts_host, cancel_asks, cancel_goes_behind, cancel_promotes_yield, cancel_resumed, cancel_stops, cancel_takes_end, cancel_wakes_callback, cancel_withdraws, dropped}
-pub use Rattle.task_rules.specs.Chains.{Answers, Chain, Collapses, EndsByExit, EndsCall, EndsOwn, EndsSubtask, EndWords, Frees, GoesBack, HandsAtOnce, HandsOut, host_taken, is_over, is_running, is_take, IsReadyAtOnce, IsShift, Lands, lands_inside, LandsAt, LastWords, NoWord, Quits, Remains, SameMain, Settles, Shifts, SpawnsNamed, start_of, Stay, StepsAreWalks, TakesEvent, TakesResult, Tells, TellsLater, TellsNever, TellsNone, TellsNow, Then, Trip, Walk, Walked, Writes, WritesAtOnce, WritesCall, WritesNever, WritesPolled, WritesToo}
+pub use Rattle.task_rules.specs.Chains.{Answers, Chain, Collapses, EndsByExit, EndsCall, EndsOwn, EndsSubtask, EndTells, EndWords, Frees, GoesBack, HandsAtOnce, HandsOut, host_taken, is_over, is_running, is_take, IsReadyAtOnce, IsShift, Lands, lands_alone, lands_inside, LandsAt, LastWords, NoWord, Quits, Remains, SameMain, Settles, Shifts, SpawnsNamed, start_of, Stay, StepsAreWalks, TakesEvent, TakesResult, TellsLater, TellsNever, TellsNone, TellsNow, Then, Trip, Walk, Walked, Writes, WritesAtOnce, WritesCall, WritesNever, WritesPolled, WritesToo}
 pub use Rattle.task_rules.specs.Data.{data_row, skip_row}
 unfoldable pub use Rattle.task_rules.specs.Data.{advanced, assigned, moved_to, skipped, stored}
 pub use Rattle.task_rules.specs.Ends.{blocking_exit_row, blocking_returned, code_kind_row, code_row, code_wait_row, direct_exit_to, exit_row_for, first_waiter, implicit_exit_row, is_told, kind_exit_row, own_or_none, result_given, sync_exit_row, thread_exit_row, waiter_told}
@@ -45,7 +45,7 @@ unfoldable pub use Rattle.task_rules.specs.MainOps.{has_interesting, is_ready_fo
 pub use Rattle.task_rules.specs.Once.{begun_holder, changes_end, covers_end, end_code, EndsOnce, handed, hands_out, hands_out_written, holder_at_exit, holder_at_start, holds_one, is_among, is_end_of, is_known, is_other, is_start, is_written, less_holder, returned_holder, with_end, with_holder, writes_end, written}
 pub use Rattle.task_rules.specs.OpParts.{callee_of_op, calls_host, can_come, ends_activation, is_cancel, is_code_op, is_sync_call, is_sync_cancel, is_sync_host_call, is_thread_op, is_wait, makes_set, suspends, yields}
 pub use Rattle.task_rules.specs.Outcome.{main_outcome, outcome_of_label}
-pub use Rattle.task_rules.specs.Places.{entries, HasPlace, is_at_high, is_at_low, is_at_switch, is_behind_of, is_for_start, is_fresh, is_inside, is_there, one_if, Placed, says, switch_entries, times}
+pub use Rattle.task_rules.specs.Places.{entries, HasPlace, is_at_high, is_at_low, is_at_switch, is_at_wait, is_behind_of, is_for_start, is_fresh, is_inside, is_there, one_if, Placed, says, switch_entries, times}
 pub use Rattle.task_rules.specs.Progress.{Fails, Goes, may, Never, or_never, or_trap, Ordered, Progress, Stops, trap_if, Traps}
 pub use Rattle.task_rules.specs.Run.{main_opening, opening, Run}
 pub use Rattle.task_rules.specs.Scenes.{base_at, base_without, component_of, op_in, runner_at, Scene, scene_of, thread_of_entry}

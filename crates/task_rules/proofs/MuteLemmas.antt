@@ -1,5 +1,5 @@
 -- What a label says of the ends of subtasks.
-use Rattle.task_rules.proofs.Machine.{ap, arith, Bool, component_of, Core, end_for, EndWords, Frees, handed_by, HandsOut, host_taken, is_none, Label, None, Option, Scene, Some, Status, Subtask, sym, Tells, true, Writes, written_by, ℕ, ◌&&◌, ◌∙◌, ◌≡◌}
+use Rattle.task_rules.proofs.Machine.{ap, arith, Bool, component_of, Core, end_for, EndTells, EndWords, Frees, handed_by, HandsOut, host_taken, is_none, Label, None, Option, Scene, Some, Status, Subtask, sym, true, Writes, written_by, ℕ, ◌&&◌, ◌∙◌, ◌≡◌}
 
 pub none_said : {X : Type 0} {A : Type 0} {o : Option X} {x : X} → o ≡ None → o ≡ Some x → A
 none_said none is = absurd (grind (arith, none, is))
@@ -13,7 +13,7 @@ is_mute a t k = is_none (written_by (component_of a) a.base k t) && (is_none (ha
 
 -- What the label k of the step says of ends: those that it writes, and those that it hands out.
 module _ (a : Scene) (t : Core) {k : Label} (is : a.label ≡ k) where
-  pub says_by : host_taken k ≡ None → ((sub : Subtask) (e : Status) → written_by (component_of a) a.base k t ≡ Some (end_for e sub) → Writes a t sub × Tells a t sub e) → ((sub : Subtask) (e : Status) → handed_by (component_of a) a.main a.base k t ≡ Some (end_for e sub) → HandsOut a t sub e) → EndWords a t
+  pub says_by : host_taken k ≡ None → ((sub : Subtask) (e : Status) → written_by (component_of a) a.base k t ≡ Some (end_for e sub) → Writes a t sub × EndTells a t sub e) → ((sub : Subtask) (e : Status) → handed_by (component_of a) a.main a.base k t ≡ Some (end_for e sub) → HandsOut a t sub e) → EndWords a t
   says_by other writes hands = record {
     writes = λ sub e says. (writes sub e (ap (λ (y : Label). written_by (component_of a) a.base y t) (sym is) ∙ says)).0;
     hands = λ sub e out. hands sub e (ap (λ (y : Label). handed_by (component_of a) a.main a.base y t) (sym is) ∙ out);
@@ -24,7 +24,7 @@ module _ (a : Scene) (t : Core) {k : Label} (is : a.label ≡ k) where
   pub hands_by : host_taken k ≡ None → written_by (component_of a) a.base k t ≡ None → ((sub : Subtask) (e : Status) → handed_by (component_of a) a.main a.base k t ≡ Some (end_for e sub) → HandsOut a t sub e) → EndWords a t
   hands_by other none hands = says_by other (λ sub e says. none_said none says) hands
 
-  pub writes_by : host_taken k ≡ None → handed_by (component_of a) a.main a.base k t ≡ None → ((sub : Subtask) (e : Status) → written_by (component_of a) a.base k t ≡ Some (end_for e sub) → Writes a t sub × Tells a t sub e) → EndWords a t
+  pub writes_by : host_taken k ≡ None → handed_by (component_of a) a.main a.base k t ≡ None → ((sub : Subtask) (e : Status) → written_by (component_of a) a.base k t ≡ Some (end_for e sub) → Writes a t sub × EndTells a t sub e) → EndWords a t
   writes_by other none writes = says_by other writes (λ sub e out. none_said none out)
 
   pub mute_words : is_mute a t k ≡ true → EndWords a t

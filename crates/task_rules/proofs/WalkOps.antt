@@ -1,22 +1,29 @@
 -- The rows of the ops on sets, subtasks and threads as chains of words.
-use Rattle.task_rules.proofs.Machine.{[], aborted_phase, AbortsOwn, add_work, advanced, after_word, AlreadyEnded, and_parts, answered, Answers, ap, arith, assigned, Async, at_handle_limit, AtOnce, blocked_code, Bool, ByHandle, ByOp, BySetHandle, ByThread, ByWait, Call, call_answered, call_begins, call_host_polled, call_instance, call_of_op, call_pending, call_queues, call_resumes, call_returned, call_row, call_settled, call_status, call_sync_begins, call_sync_host_polled, call_sync_host_row, call_sync_host_stops, call_sync_row, call_sync_status, call_sync_stops, CallbackWaits, CallbackYields, Callee, callee_of_op, CallEnd, Caller, caller_of, CallLabel, CallOp, calls_host, cancel_aborts_host, cancel_asks, cancel_by_end, cancel_case, cancel_ended_row, cancel_guest, cancel_label, cancel_promotes_yield, cancel_resumed, cancel_row, cancel_stops, cancel_subtask, cancel_takes_end, cancel_target, cancel_wakes_callback, cancel_withdraws, CancelCase, cancelled_of_op, Cancelling, Cancels, checked, Choice, chosen, CloseSet, Core, count_work, CountWork, Delivery, dropped, end_for, ended, EndsSubtask, EndWords, enter_runs, event_of, export_kind, Failing, false, finds_nothing, first_poll, FirstPoll, fits, free_handle, get, get-change, get-insert_same, get-remove, Gift, gift, give_handle, Goal, Goes, group_settled, handed_by, handed_by_cancel, handed_by_event, handed_on, handed_out, HandsAtOnce, HandsOut, has_ended, has_member, has_waiters, HasSubtask, host_answered, host_at, host_end, host_pending, host_ready, host_taken, HostDef, how_far_of, HowFar, if◌then◌else◌, inl, inr, instance_of, is_async_lifted, is_async_work, is_callback_yield, is_cancel, is_direct, is_for_main, is_joined, is_ready_to_resume, is_script, is_some, is_sync_call, is_sync_cancel, is_sync_host_call, is_thread_op, is_wait, is_waiting_on, is_watched, is_yielded, IsNamed, IsNew, IsReadyAtOnce, Join, join_done, join_label, join_of, join_to, joined, joins, Label, Later, Leaves, List, Made, Main, makes_set, MakeThread, Mark, may, may_hand_on, may_wake_new, MayCancel, MayJoin, MayMakeCall, MemberGift, Mode, Move, moved_to, NameCall, NameThread, NameWork, nat_tests, new_handle, new_thread, new_thread_handle, new_work, next_thread, next_work, NoGift, None, not, NoWord, on_call, on_instance, on_thread, on_work, Op, op_in, op_of, OpenSet, Option, option_and_then, option_map, option_map_or, OtherwiseRuns, OwnEvent, OwnGift, packed, passes_check, pauses, phase_of, Place, place_of, Progress, Promote, promoted, promoted_unless, push_high, Put, put_back, put_switch, QueueWork, received, received_woken, Records, refl, registers_for, registers_of, remove_group, remove_thread, remove_work, result_of, Resumes, returned_of_op, saved_callee_of, says, Scene, Script, set_at, set_cancelled, set_do_not_suspend, set_dropped, set_end, set_event, set_given, set_how_far, set_join, set_made, set_own_event, set_phase, set_position, set_register, set_result, set_row, set_saved_callee, set_subtask_handle, set_switch, SetCancelled, SetExited, SetLabel, SetOp, SetOwnEvent, SetPhase, SetRegister, SetResult, SetSavedCallee, Setting, SetUninteresting, Shifts, Slot, slot_at, Some, StartNotRun, Status, status_code, status_found, Stay, Stops, subst, Subtask, subtask_at, subtask_ended, subtask_handle, subtask_instance, subtask_row, subtask_under_way, suc, Suspends, suspends, sym, Sync, T, TakesEvent, task_of, Tells, TellsLater, TellsNone, Then, Thread, thread_at, thread_group, thread_handle_of, ThreadLabel, ThreadOp, Trap, trap_if, Trip, true, Turn, undelivered_end, UnnameCall, UnnameWork, unwrap_or, value_of, values_in, wait_begins, wait_goes_on, wait_label, wait_row, wait_stops, wait_stops_checked, wakes_joined, Walk, was_cancelled, was_started, Why, with_handle, Withdraw, withdrawn, Work, work_answered, work_caller_of, work_deleted, work_queued, work_value, WorkCaller, Writes, WritesAtOnce, WritesCall, WritesNever, WritesToo, written_by, written_by_cancel, Yields, yields, zero, ℕ, ◌+◌, ◌==◌, ◌∙◌, ◌∷◌, ◌≡◌, ◌⊎◌}
-use Rattle.task_rules.specs.Threads.{by_how_far, Halt, halt_row, halted, halted_checked, halted_promoting, halted_resuming, halting, halts, has_yielded, resume_why, resumed_later, Suspension, then_promote, then_promote_row, then_resume_row, thread_made, thread_new_row, thread_row, Yielding}
-use Rattle.task_rules.proofs.FreeLemmas.{published_frees}
-use Rattle.task_rules.proofs.ChainLemmas.{Going, join, stay_walk, Keep, keep_stay}
-use Rattle.task_rules.proofs.WalkMoves.{keep_still, MayTake, checked_shifts, chosen_of, handed_on_shifts, shifted, wake_shifts, word, lands_at, promoted_walks, call_done_walks, settled, call_settles}
-use Rattle.task_rules.proofs.PlacingLemmas.{Shifted, placed, placing_shifted, shifted_calls, shifted_far, shifted_made, shifted_task, shifts_shifted, shifted_after}
-use Rattle.task_rules.proofs.WalkParts.{parted_answers_walks, parted_takes_walks, rejoined, AtOps, call_queues_walks, call_resumes_walks, call_stops_walks, cancel_goes_behind_walks, cancel_stops_walks, checked_walks, enter_gives, enter_runs_walks, gift_is, join_walks, put_back_walks, received_walks, stopped_walks, wait_stops_walks, withdrawn_walks, work_deleted_walks, withdraws, answered_first, answered_settled, call_answers_walks, answered_fresh, assigned_fresh, event_taken_walks, joined_ended}
-use Rattle.task_rules.proofs.MuteLemmas.{mute_words, none_said, says_by, hands_by}
-use Rattle.task_rules.proofs.SayLemmas.{cancel_hands_of, cancel_writes_of, HasNoEnd, said_is, given_out, settled_gone, event_gone, result_gone}
+use Rattle.task_rules.proofs.Machine.{[], aborted_phase, AbortsOwn, add_work, advanced, after_word, AlreadyEnded, and_parts, answered, Answers, ap, arith, assigned, Async, at_handle_limit, AtOnce, blocked_code, Bool, ByHandle, ByOp, BySetHandle, ByThread, ByWait, Call, call_answered, call_begins, call_host_polled, call_instance, call_of_op, call_pending, call_queues, call_resumes, call_returned, call_row, call_settled, call_status, call_sync_begins, call_sync_host_polled, call_sync_host_row, call_sync_host_stops, call_sync_row, call_sync_status, call_sync_stops, CallbackWaits, CallbackYields, Callee, callee_of_op, CallEnd, Caller, caller_of, CallLabel, CallOp, calls_host, cancel_aborts_host, cancel_asks, cancel_by_end, cancel_case, cancel_ended_row, cancel_guest, cancel_label, cancel_promotes_yield, cancel_resumed, cancel_row, cancel_stops, cancel_subtask, cancel_takes_end, cancel_target, cancel_wakes_callback, cancel_withdraws, CancelCase, cancelled_of_op, Cancelling, Cancels, checked, Choice, chosen, CloseSet, Core, count_work, CountWork, Delivery, dropped, end_for, ended, EndsSubtask, EndTells, EndWords, enter_runs, event_of, export_kind, Failing, false, finds_nothing, first_poll, FirstPoll, fits, free_handle, get, get-change, get-insert_same, get-remove, Gift, gift, give_handle, Goal, Goes, group_settled, handed_by, handed_by_cancel, handed_by_event, handed_on, handed_out, HandsAtOnce, HandsOut, has_ended, has_member, has_waiters, HasSubtask, host_answered, host_at, host_end, host_pending, host_ready, host_taken, HostDef, how_far_of, HowFar, if◌then◌else◌, inl, inr, instance_of, is_async_lifted, is_async_work, is_callback_yield, is_cancel, is_direct, is_for_main, is_joined, is_ready_to_resume, is_script, is_some, is_sync_call, is_sync_cancel, is_sync_host_call, is_thread_op, is_wait, is_waiting_on, is_watched, is_yielded, IsNamed, IsNew, IsReadyAtOnce, Join, join_done, join_label, join_of, join_to, joined, joins, Label, Later, Leaves, List, Made, Main, makes_set, MakeThread, Mark, may, may_hand_on, may_wake_new, MayCancel, MayJoin, MayMakeCall, MemberGift, Mode, Move, moved_to, NameCall, NameThread, NameWork, nat_tests, new_handle, new_thread, new_thread_handle, new_work, next_thread, next_work, NoGift, None, not, NoWord, on_call, on_instance, on_thread, on_work, Op, op_in, op_of, OpenSet, Option, option_and_then, option_map, option_map_or, OtherwiseRuns, OwnEvent, OwnGift, packed, passes_check, pauses, phase_of, Place, place_of, Progress, Promote, promoted, promoted_unless, push_high, Put, put_back, put_switch, QueueWork, received, received_woken, Records, refl, registers_for, registers_of, remove_group, remove_thread, remove_work, result_of, Resumes, returned_of_op, saved_callee_of, says, Scene, Script, set_at, set_cancelled, set_do_not_suspend, set_dropped, set_end, set_event, set_given, set_how_far, set_join, set_made, set_own_event, set_phase, set_position, set_register, set_result, set_row, set_saved_callee, set_subtask_handle, set_switch, SetCancelled, SetExited, SetLabel, SetOp, SetOwnEvent, SetPhase, SetRegister, SetResult, SetSavedCallee, Setting, SetUninteresting, Shifts, Slot, slot_at, Some, StartNotRun, Status, status_code, status_found, Stay, Stops, subst, Subtask, subtask_at, subtask_ended, subtask_handle, subtask_instance, subtask_row, subtask_under_way, suc, Suspends, suspends, sym, Sync, T, TakesEvent, task_of, TellsLater, TellsNone, Then, Thread, thread_at, thread_group, thread_handle_of, ThreadLabel, ThreadOp, Trap, trap_if, Trip, true, Turn, undelivered_end, UnnameCall, UnnameWork, unwrap_or, value_of, values_in, wait_begins, wait_goes_on, wait_label, wait_row, wait_stops, wait_stops_checked, wakes_joined, Walk, was_cancelled, was_started, Why, with_handle, Withdraw, withdrawn, Work, work_answered, work_caller_of, work_deleted, work_queued, work_value, WorkCaller, Writes, WritesAtOnce, WritesCall, WritesNever, WritesToo, written_by, written_by_cancel, Yields, yields, zero, ℕ, ◌+◌, ◌==◌, ◌∙◌, ◌∷◌, ◌≡◌, ◌⊎◌}
+use Rattle.task_rules.proofs.ChainLemmas.{Going, join, Keep, keep_stay, stay_walk}
+use Rattle.task_rules.proofs.MuteLemmas.{hands_by, mute_words, none_said, says_by}
+use Rattle.task_rules.proofs.PlacingLemmas.{placed, placing_shifted, Shifted, shifted_after, shifted_calls, shifted_far, shifted_made, shifted_task, shifts_shifted}
+use Rattle.task_rules.proofs.SayLemmas.{cancel_hands_of, cancel_writes_of, event_gone, given_out, HasNoEnd, result_gone, said_is, settled_gone}
 use Rattle.task_rules.proofs.StandLemmas.{by_number}
-use Rattle.task_rules.proofs.WalkTask.{Stands, Leads, advanced_walks, answered_walks, assigned_walks, goes_on, goes_on_told, goes_over, may_leads, or_never_leads, or_trap_leads, running_scene, stops_here, trap_if_leads, unnot, is_still, over_now, is_plain}
 use Rattle.task_rules.proofs.WalkEnds.{call_ends}
+use Rattle.task_rules.proofs.WalkMoves.{call_done_walks, call_settles, checked_shifts, chosen_of, handed_on_shifts, keep_still, lands_at, MayTake, promoted_walks, settled, shifted, wake_shifts, word}
+use Rattle.task_rules.proofs.WalkParts.{answered_first, answered_fresh, answered_settled, assigned_fresh, AtOps, call_answers_walks, call_queues_walks, call_resumes_walks, call_stops_walks, cancel_goes_behind_walks, cancel_stops_walks, checked_walks, enter_gives, enter_runs_walks, event_taken_walks, gift_is, join_walks, joined_ended, parted_answers_walks, parted_takes_walks, put_back_walks, received_walks, rejoined, stopped_walks, wait_stops_walks, withdrawn_walks, withdraws, work_deleted_walks}
+use Rattle.task_rules.proofs.WalkTask.{advanced_walks, answered_walks, assigned_walks, goes_on, goes_on_told, goes_over, is_plain, is_still, Leads, may_leads, or_never_leads, or_trap_leads, over_now, running_scene, Stands, stops_here, trap_if_leads, unnot}
+use Rattle.task_rules.specs.Threads.{by_how_far, Halt, halt_row, halted, halted_checked, halted_promoting, halted_resuming, halting, halts, has_yielded, resume_why, resumed_later, Suspension, then_promote, then_promote_row, then_resume_row, thread_made, thread_new_row, thread_row, Yielding}
 
 -- ---- What the rows read
 
 pub queued_caller : (f : WorkCaller) (host : HostDef) (group : Option ℕ) (t : Core) → work_caller_of (next_work t) (work_queued f host group t) ≡ f
 unfolding work_queued push_high add_work count_work
 queued_caller f host group t = ap (λ (o : Option Work). option_map_or (λ w. w.caller) o WorkCaller.Spawn) (get-insert_same t.works (t.made.works + 1) (new_work f host group))
+
+queued_nameless : (f : WorkCaller) (host : HostDef) (group : Option ℕ) (t : Core) → subtask_handle (Subtask.Host (next_work t)) (work_queued f host group t) ≡ None
+unfolding work_queued push_high add_work count_work
+queued_nameless f host group t = ap (λ (o : Option Work). option_and_then (λ w. w.handle) o) (get-insert_same t.works (t.made.works + 1) (new_work f host group))
+
+assigned_caller : (n r v i : ℕ) (s : Core) → work_caller_of i (assigned n r v s) ≡ work_caller_of i s
+unfolding assigned advanced moved_to set_how_far set_position on_thread set_register
+assigned_caller n r v i s = refl
 
 -- whose a call is, and which handle names it, is as before once the op that was inside of it goes on
 resumed_card : (n r v k : ℕ) (s : Core) → (caller_of k (answered n r v (call_resumes n k s)) ≡ caller_of k s) × (subtask_handle (Subtask.Guest k) (answered n r v (call_resumes n k s)) ≡ subtask_handle (Subtask.Guest k) s)
@@ -72,7 +79,7 @@ module _ (x : Setting) (main : Main) (s : Core) (n : ℕ) (l : Label) (next : Tu
   -- a host that is ready at once is handed out, too
   at_once_says : (k : Label) (t : Core) → written_by x.component s k t ≡ host_end (next_work s) Status.Returned → handed_by x.component main s k t ≡ host_end (next_work s) Status.Returned → host_taken k ≡ None → IsReadyAtOnce a t (next_work s) → l ≡ k → EndWords a t
   at_once_says k t w h other ready is =
-      says_by a t is other (λ sub e says. said_is (λ d g. Writes a t d × Tells a t d g) (sym w ∙ says) (WritesAtOnce (next_work s) ready, TellsLater (next_work s) Status.Returned))
+      says_by a t is other (λ sub e says. said_is (λ d g. Writes a t d × EndTells a t d g) (sym w ∙ says) (WritesAtOnce (next_work s) ready, TellsLater (next_work s) Status.Returned))
       (λ sub e out. said_is (HandsOut a t) (sym h ∙ out) (HandsAtOnce (next_work s) ready (ap (λ (y : Label). written_by x.component s y t) is ∙ w)))
 
   -- what an op on a set hands out is the member's event
@@ -144,7 +151,7 @@ module _ (x : Setting) (main : Main) (s : Core) (n : ℕ) (l : Label) (next : Tu
       or_trap_leads a s (set_at (instance_of n s) (value_of n s v) s) Trap.BadHandle _ (λ y named.
       trap_if_leads a s (has_waiters y s) Trap.WaitableSetDropHasWaiters _ (λ unwaited.
       trap_if_leads a s (has_member y s) Trap.TableHasChildren _ (λ empty_set.
-      go _ (set_dropped n (value_of n s v) y s) refl (advanced_walks n refl on (word (CloseSet (instance_of n s) (value_of n s v) y) (named, (unwaited, (empty_set, (n, (refl, refl))))) NoWord)))))
+      go _ (set_dropped n (value_of n s v) y s) refl (λ to. advanced_walks n refl on (word (CloseSet (instance_of n s) (value_of n s v) y) (named, (unwaited, (empty_set, (n, (refl, (refl, (unwaited, (refl, (to, ap is_wait is))))))))) NoWord) to))))
   set_row_leads ch (SetOp.Wait r v) is = wait_row_leads r (value_of n s v) ch (how_far_of n s) (ap is_wait is) refl
   set_row_leads ch (SetOp.Poll r v) is =
       or_trap_leads a s (set_at (instance_of n s) (value_of n s v) s) Trap.BadHandle _ (λ y named.
@@ -243,7 +250,7 @@ module _ (x : Setting) (main : Main) (s : Core) (n : ℕ) (l : Label) (next : Tu
       let v = packed (new_handle (instance_of n s) s) Status.Started in
       trap_if_leads a s (not (fits 1 s)) Trap.TableFull _ (λ e.
       trap_if_leads a s (at_handle_limit s) Trap.HandleLimit _ (λ f.
-      go _ (host_pending n r q v host s) ((call_still (new_handle (instance_of n s) s) Status.Started (host_pending n r q v host s) (λ h. absurd (cc))).1 (next_work s)) (assigned_walks n refl on r v (word (NameWork (instance_of n s) (next_work s)) ((n, (refl, (refl, inr (refl, refl)))), ap (λ f. is_async_work f) (queued_caller (WorkCaller.Async n q) host (Some (thread_group n s)) s))
+      go _ (host_pending n r q v host s) ((call_still (new_handle (instance_of n s) s) Status.Started (host_pending n r q v host s) (λ h. absurd (cc))).1 (next_work s)) (assigned_walks n refl on r v (word (NameWork (instance_of n s) (next_work s)) ((n, (refl, (refl, inr (refl, refl)))), (ap (λ f. is_async_work f) (queued_caller (WorkCaller.Async n q) host (Some (thread_group n s)) s), queued_nameless (WorkCaller.Async n q) host (Some (thread_group n s)) s))
       (word (QueueWork (WorkCaller.Async n q) host (Some (thread_group n s))) (refl, (refl, (refl, (refl, calls)))) NoWord)))))
 
   host_stops_walks : (host : HostDef) → is_sync_host_call (op_in a n) ≡ true → Leaves a n → Trip a s (call_sync_host_stops n host s)
@@ -276,7 +283,7 @@ module _ (x : Setting) (main : Main) (s : Core) (n : ℕ) (l : Label) (next : Tu
   call_sync_host_row_leads r h (HowFar.Calls (Subtask.Host i)) can far =
       told (Label.Call (CallLabel.CallSync n (work_value i s))) (work_answered n r i s) refl
       (λ is. hands_by a _ is refl refl (λ sub f out. said_is (HandsOut a (work_answered n r i s)) (sym (ap (λ (y : HowFar). option_map (end_for Status.Returned) (call_of_op y)) far) ∙ out) (Answers n i refl far (work_gone n r i s))))
-      (λ is to. subst (λ (t : Core). Stay a s t) (answered_first n r (work_value i s) i s) (join (assigned_walks n refl on r (work_value i s) NoWord to) (keep_stay (work_deleted_walks n refl i (n, (refl, inl (far, assigned_fresh n r (work_value i s) s))) NoWord))))
+      (λ is to. subst (λ (t : Core). Stay a s t) (answered_first n r (work_value i s) i s) (join (assigned_walks n refl on r (work_value i s) NoWord to) (keep_stay (work_deleted_walks n refl i (n, (refl, inl (far, (assigned_fresh n r (work_value i s) s, assigned_caller n r (work_value i s) i s)))) NoWord))))
   call_sync_host_row_leads r h _ can far = call_sync_host_polled_leads r (first_poll (host_at x.component h)) can
 
   -- ---- Cancels
@@ -298,7 +305,7 @@ module _ (x : Setting) (main : Main) (s : Core) (n : ℕ) (l : Label) (next : Tu
   cancel_is mode v t = (grind arith, grind arith)
 
   -- the end that a cancel says is written is that of a withdrawn start
-  cancel_tells : (t : Core) (v : ℕ) (to : Subtask) (f : Status) → written_by_cancel x.component n s v ≡ Some (end_for f to) → Tells a t to f
+  cancel_tells : (t : Core) (v : ℕ) (to : Subtask) (f : Status) → written_by_cancel x.component n s v ≡ Some (end_for f to) → EndTells a t to f
   cancel_tells t v to f says = rw (withdrawn_status (v == 3) (cancelled_of_op x.component n s (how_far_of n s)) says) (TellsNone to)
     where
       withdrawn_status : (b : Bool) (o : Option Subtask) → (if b then option_map (end_for Status.StartCancelled) o else None) ≡ Some (end_for f to) → f ≡ Status.StartCancelled
@@ -364,7 +371,7 @@ module _ (x : Setting) (main : Main) (s : Core) (n : ℕ) (l : Label) (next : Tu
       let u : Core = call_ends k CallEnd.StartCancelled v in
       let rest : Walk a u (cancel_withdraws n r k s) = subst (λ (w : Core). Walk a (call_ends k CallEnd.StartCancelled w) (cancel_withdraws n r k s)) (sym (withdraws k s)) (stay_walk (answered_walks n refl (subst (λ (w : Core). Stands a (call_ends k CallEnd.StartCancelled w) n) (withdraws k s) (withdrawn_low k CallEnd.StartCancelled)) r 3 (word (SetUninteresting k) tt (word (SetExited k) tt NoWord)) to)) in
       says_by a t at (grind arith)
-      (λ to f says. said_is (λ d g. Writes a t d × Tells a t d g) (sym ((cancel_is mode 3 t).0 ∙ ap (option_map (end_for Status.StartCancelled)) target) ∙ says) (WritesCall k u (EndsSubtask named unended) (over_now k CallEnd.StartCancelled v) rest, TellsNone (Subtask.Guest k)))
+      (λ to f says. said_is (λ d g. Writes a t d × EndTells a t d g) (sym ((cancel_is mode 3 t).0 ∙ ap (option_map (end_for Status.StartCancelled)) target) ∙ says) (WritesCall k u (EndsSubtask named unended) (over_now k CallEnd.StartCancelled v) rest, TellsNone (Subtask.Guest k)))
       (λ to f out. said_is (HandsOut a t) (sym ((cancel_is mode 3 t).1 ∙ ap (option_map (end_for Status.StartCancelled)) target) ∙ out) (WritesToo k Status.StartCancelled (ap (λ (y : Label). written_by x.component s y s) at ∙ ((cancel_is mode 3 s).0 ∙ ap (option_map (end_for Status.StartCancelled)) target)) (inr refl)))
 
   put_stands : (m : ℕ) (w : Why) (t : Core) → is_some (put_switch m w t).queues.switch ≡ true

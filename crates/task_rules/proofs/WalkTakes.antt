@@ -1,13 +1,13 @@
 -- The takings of entries as chains of words.
-use Rattle.task_rules.proofs.Machine.{activated, activated_woken, admits, and_parts, ap, arith, at_handle_limit, begun_holder, Bool, Choice, chosen, cond, Core, delivered, Delivery, delivery_row, end_for, end_of, EndWords, event_label, ExportKind, false, foot_of, get, get-change, Gift, gift, give_thread_handle, Given, given_for, Goes, handed_by_event, handed_on, handed_out, HandsOut, held_label, holder_at_start, Holds, HowFar, if◌then◌else◌, inl, inr, instance_of, is_begun, is_exit, is_explicit, is_free, is_holding, is_inside, is_none, is_running, is_some, is_start, is_told, IsLaid, kind_of, Label, LastWords, Main, Mark, may, may_hand_on, may_not_enter, may_tell, may_tell_starting, MayDeliver, MayMove, MemberGift, Move, moved_to, NameThread, nat_tests, NoGift, None, not, NoWord, on_call, on_instance, on_thread, Option, option_map_or, outcome_of_label, own_delivered, own_event_of, own_gift_of, own_gift_only, own_or_nothing, OwnEvent, OwnGift, Place, place_of, refl, Restart, running, Runs, Scene, Script, set_delivered, set_do_not_enter, set_do_not_suspend, set_event, set_given, set_how_far, set_place, set_position, set_register, set_saved_own, set_script, set_started, set_starting_published, set_thread_handle, SetDoNotEnter, SetStarted, SetStartingPublished, Setting, Some, start_admitted, start_begins, start_holds, start_row, start_sets_flags, starting_is_published, starting_told, Status, stopped, Stops, subst, Subtask, sym, T, take_holds, take_label, TakeLabel, taken, taking, task_of, thread_taken, told, Trap, true, Turn, unwrap_or, wait_again, WaitsAgain, was_started, WasReady, Why, with_thread_handle, ℕ, ◌&&◌, ◌∙◌, ◌≡◌}
-use Rattle.task_rules.proofs.MuteLemmas.{is_mute, mute_words, hands_by, none_said}
-use Rattle.task_rules.proofs.SayLemmas.{given_out}
-use Rattle.task_rules.proofs.PlacingLemmas.{shifted_instance, shifted_task, shifts_shifted, shifted_calls}
-use Rattle.task_rules.proofs.ChainLemmas.{Keep, chain_if}
+use Rattle.task_rules.proofs.Machine.{activated, activated_woken, admits, and_parts, ap, arith, at_handle_limit, begun_holder, Bool, Choice, chosen, cond, Core, delivered, Delivery, delivery_row, end_for, end_of, EndWords, event_label, ExportKind, false, foot_of, get, get-change, Gift, gift, give_thread_handle, Given, given_for, Goes, handed_by_event, handed_on, handed_out, HandsOut, held_label, holder_at_start, Holds, if◌then◌else◌, inl, inr, instance_of, is_begun, is_exit, is_explicit, is_free, is_holding, is_none, is_running, is_some, is_start, is_told, IsLaid, kind_of, Label, lands_alone, LastWords, Main, Mark, may, may_hand_on, may_not_enter, may_tell, may_tell_starting, MayDeliver, MayMove, MemberGift, Move, moved_to, NameThread, nat_tests, NoGift, None, not, NoWord, on_call, on_instance, on_thread, Option, option_map_or, outcome_of_label, own_delivered, own_event_of, own_gift_of, own_gift_only, own_or_nothing, OwnEvent, OwnGift, Place, place_of, refl, Restart, running, Runs, Scene, Script, set_delivered, set_do_not_enter, set_do_not_suspend, set_event, set_given, set_how_far, set_place, set_position, set_register, set_saved_own, set_script, set_started, set_starting_published, set_thread_handle, SetDoNotEnter, SetStarted, SetStartingPublished, Setting, Some, start_admitted, start_begins, start_holds, start_row, start_sets_flags, starting_is_published, starting_told, Status, stopped, Stops, subst, Subtask, sym, T, take_holds, take_label, TakeLabel, taken, taking, task_of, thread_taken, told, Trap, true, Turn, unwrap_or, wait_again, WaitsAgain, was_started, WasReady, Why, with_thread_handle, ℕ, ◌&&◌, ◌∙◌, ◌≡◌}
+use Rattle.task_rules.proofs.ChainLemmas.{chain_if, Keep}
+use Rattle.task_rules.proofs.MuteLemmas.{hands_by, is_mute, mute_words, none_said}
+use Rattle.task_rules.proofs.PlacingLemmas.{shifted_calls, shifted_instance, shifted_task, shifts_shifted}
 use Rattle.task_rules.proofs.ReleaseLemmas.{shifted_admits}
-use Rattle.task_rules.proofs.WalkMoves.{MayTake, ToldTo, handed_on_shifts, lands, shifted, stopped_shifts, taken_walks, told_to, told_walks, word, told_shifts}
+use Rattle.task_rules.proofs.SayLemmas.{given_out}
+use Rattle.task_rules.proofs.WalkMoves.{handed_on_shifts, lands, MayTake, shifted, stopped_shifts, taken_walks, told_shifts, told_to, told_walks, ToldTo, word}
 use Rattle.task_rules.proofs.WalkParts.{gift_is, set_given_walks, sync_sets_flag_walks}
-use Rattle.task_rules.proofs.WalkTask.{Leads, may_leads, not_main, one_runner, or_never_leads, seen, trap_if_leads, moved_passes}
+use Rattle.task_rules.proofs.WalkTask.{Leads, may_leads, moved_passes, not_main, one_runner, or_never_leads, seen, trap_if_leads}
 
 -- ---- What is read
 
@@ -85,7 +85,7 @@ module _ (x : Setting) (main : Main) (ended : Bool) (s : Core) (n : ℕ) (l : La
   runs_taken : (k : Label) (t : Core) → (is_explicit n s ≡ false → WasReady taking_scene n Why.Start → is_begun (task_of n s) t ≡ true) → is_taking k ≡ true → (l ≡ k → EndWords taking_scene (set_place n Place.Running t)) → Shuts k (set_place n Place.Running t) → (next ≡ Turn.Run n → Keep taking_scene s t) → Leads taking_scene s (Goes k (set_place n Place.Running t) n)
   runs_taken k t begun taking says shuts c is to = (lands (Move n Place.Running) refl (Runs refl to begun refl) (c to), taken_ends k Place.Running t is taking refl (λ m at. (one_runner m n (sym at ∙ to), refl)) says shuts)
 
-  lays_taken : (k : Label) (p : Place) (t : Core) → is_taking k ≡ true → is_mute taking_scene (set_place n p t) k ≡ true → is_free p ≡ true → is_inside p HowFar.Fresh ≡ true → ((i : ℕ) → begun_holder s k ≡ Some i → ⊥) → (IsLaid taking_scene n → MayMove taking_scene n p t) → Keep taking_scene s t → Leads taking_scene s (Stops k (set_place n p t))
+  lays_taken : (k : Label) (p : Place) (t : Core) → is_taking k ≡ true → is_mute taking_scene (set_place n p t) k ≡ true → is_free p ≡ true → lands_alone (Move n p) ≡ true → ((i : ℕ) → begun_holder s k ≡ Some i → ⊥) → (IsLaid taking_scene n → MayMove taking_scene n p t) → Keep taking_scene s t → Leads taking_scene s (Stops k (set_place n p t))
   lays_taken k p t taking mute free fit none may c is to = (lands (Move n p) fit (may (refl, to)) c, taken_ends k p t is taking free (λ m at. not_main m (sym to ∙ at)) (λ at. mute_words taking_scene _ at mute) (λ i begun. absurd (none i begun)))
 
   holds_leads : (k : Label) (w : Why) (t : Core) → is_taking k ≡ true → is_mute taking_scene (take_holds n w t) k ≡ true → begun_holder s k ≡ None → WasReady taking_scene n w → admits n t w ≡ false → Keep taking_scene s t → Leads taking_scene s (Stops k (take_holds n w t))

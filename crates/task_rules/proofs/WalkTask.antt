@@ -1,16 +1,15 @@
 -- The rows of ops as chains of words: what a row owes, the ops on registers and words, and the ops that end a task or an activation.
-use Rattle.task_rules.proofs.ChainLemmas.{Going, Keep, keep_stay, trip_walk, stay_walk}
-use Rattle.task_rules.proofs.SayLemmas.{said_is}
+use Rattle.task_rules.proofs.Machine.{[], Advance, advanced, and_parts, answered, ap, ap₂, arith, assigned, AwaitsEvent, backpressure_of, begun_holder, blocking_exit_row, blocking_exits, blocking_returned, Bool, BySetHandle, Call, CallEnd, Caller, cancel_was_delivered, change, checked, Choice, code_exits, code_finds, code_kind_row, code_row, code_stops, code_wait_row, code_waits, code_yields, ComesAgain, Component, component_of, Core, data_row, DataLabel, DataOp, Delivery, direct_exit_to, direct_exits, end_for, end_reopens, EndCall, ended, ends_activation, EndsActivation, EndsByExit, EndsCall, EndsOwn, EndTells, EndWords, exit_label, exit_restores, exit_row_for, exit_stops, Exits, ExportKind, Fails, false, FindsEvent, foot_of, get, get-change, GivesUp, Goal, goal_of, Goes, GoesBack, handed_by, HandsOut, has_ended, has_event_for, HasSet, held_by_flag, holder_at_exit, host_taken, HowFar, if◌then◌else◌, implicit_exit_row, inl, inr, instance_of, is_async_lifted, is_at, is_code_op, is_direct, is_ending_exit, is_exit, is_explicit, is_guest_call, is_holding, is_none, is_over, is_running, is_under, IsPermutation, IsRunner, kind_exit_row, kind_of, Label, LastWords, Leaves, leaves_no_result, length, List, Main, Mark, may, may_tell, MayBar, MayEnd, MayOwe, min, Move, moved_to, nat_le, nat_lt, nat_tests, Never, None, NoneHeldIn, not, NoWord, numbers, on_call, on_instance, on_thread, Op, op_at_place, op_in, op_of, Option, option_map, option_map_or, or_never, or_trap, Ordered, outcome_of_label, own_event_of, own_or_none, OwnEvent, passes_after_return, passes_after_stop, passes_check, Place, place_of, position_of, Progress, Put, Records, refl, register_of, Remains, ret_label, returned, returned_holder, ReturnsNow, saved_own_of, SaysEnd, Scene, script_of, set_at, set_backpressure, set_do_not_enter, set_do_not_suspend, set_end, set_how_far, set_place, SetBackpressure, SetDoNotEnter, SetDoNotSuspend, SetOwnEvent, SetRegister, SetSavedCallee, Setting, SetWord, skip_row, skipped, Some, Status, stopped, Stops, stored, subst, Subtask, SubtaskEnd, suc, sym, sync_exit_row, sync_exits, T, task_cancel_label, task_end, task_of, TaskLabel, TaskOp, TellsNever, Then, Thread, thread_exit_row, Trap, trap_if, Traps, Trip, true, Turn, Uncovers, under_of, unwrap_or, value_of, Walk, Why, Writes, WritesCall, WritesToo, written_by, zero, ℕ, ◌%◌, ◌&&◌, ◌*◌, ◌+◌, ◌-◌, ◌/◌, ◌==◌, ◌||◌, ◌∙◌, ◌∷◌, ◌≡◌, ◌≤◌, ◌⊎◌}
+use Rattle.task_rules.proofs.CallThreads.{last_of, last_shifted, LastEnds}
+use Rattle.task_rules.proofs.ChainLemmas.{Going, Keep, keep_stay, stay_walk, trip_walk}
 use Rattle.task_rules.proofs.MuteLemmas.{both_none, is_mute, mute_words, none_said, says_by, writes_by}
-use Rattle.task_rules.proofs.WalkEnds.{cancelled_rest, returned_rest, call_ends, ends_untold, ended_last, returned_last, cancelled_tells, returned_tells}
-use Rattle.task_rules.proofs.Machine.{[], Advance, advanced, and_parts, answered, ap, ap₂, arith, assigned, AwaitsEvent, backpressure_of, begun_holder, blocking_exit_row, blocking_exits, blocking_returned, Bool, BySetHandle, Call, CallEnd, Caller, cancel_was_delivered, change, checked, Choice, code_exits, code_finds, code_kind_row, code_row, code_stops, code_wait_row, code_waits, code_yields, ComesAgain, Component, component_of, Core, data_row, DataLabel, DataOp, Delivery, direct_exit_to, direct_exits, end_for, end_reopens, EndCall, ended, ends_activation, EndsActivation, EndsByExit, EndsCall, EndsOwn, EndWords, exit_label, exit_restores, exit_row_for, exit_stops, Exits, ExportKind, Fails, false, FindsEvent, foot_of, get, get-change, GivesUp, Goal, goal_of, Goes, GoesBack, handed_by, HandsOut, has_ended, has_event_for, HasSet, held_by_flag, holder_at_exit, host_taken, HowFar, if◌then◌else◌, implicit_exit_row, inl, inr, instance_of, is_async_lifted, is_at, is_code_op, is_direct, is_ending_exit, is_exit, is_explicit, is_guest_call, is_holding, is_none, is_over, is_running, is_under, IsPermutation, IsRunner, kind_exit_row, kind_of, Label, LastWords, Leaves, leaves_no_result, length, List, Main, Mark, may, may_tell, MayBar, MayEnd, MayOwe, min, Move, moved_to, nat_le, nat_lt, nat_tests, Never, None, NoneHeldIn, not, NoWord, numbers, on_call, on_instance, on_thread, Op, op_at_place, op_in, op_of, Option, option_map, option_map_or, or_never, or_trap, Ordered, outcome_of_label, own_event_of, own_or_none, OwnEvent, passes_after_return, passes_after_stop, passes_check, Place, place_of, position_of, Progress, Put, Records, refl, register_of, Remains, ret_label, returned, returned_holder, ReturnsNow, saved_own_of, SaysEnd, Scene, script_of, set_at, set_backpressure, set_do_not_enter, set_do_not_suspend, set_end, set_how_far, set_place, SetBackpressure, SetDoNotEnter, SetDoNotSuspend, SetOwnEvent, SetRegister, SetSavedCallee, Setting, SetWord, skip_row, skipped, Some, Status, stopped, Stops, stored, subst, Subtask, SubtaskEnd, suc, sym, sync_exit_row, sync_exits, T, task_cancel_label, task_end, task_of, TaskLabel, TaskOp, Tells, TellsNever, Then, Thread, thread_exit_row, Trap, trap_if, Traps, Trip, true, Turn, Uncovers, under_of, unwrap_or, value_of, Walk, Why, Writes, WritesCall, WritesToo, written_by, zero, ℕ, ◌%◌, ◌&&◌, ◌*◌, ◌+◌, ◌-◌, ◌/◌, ◌==◌, ◌||◌, ◌∙◌, ◌∷◌, ◌≡◌, ◌≤◌, ◌⊎◌}
-use Rattle.task_rules.specs.Task.{dec_from, dec_lowers, dec_opens, held_by_counter, inc_raises, ret_done, ret_row, task_cancel_done, task_cancel_row, task_row}
-use Rattle.task_rules.proofs.FreeLemmas.{published_frees}
-use Rattle.task_rules.proofs.StopLemmas.{find_passes}
-use Rattle.task_rules.proofs.PlacingLemmas.{Shifted, shifted_calls, shifted_task, shifts_shifted, placing_shifted, shifted_after}
+use Rattle.task_rules.proofs.PlacingLemmas.{placing_shifted, Shifted, shifted_after, shifted_calls, shifted_task, shifts_shifted}
 use Rattle.task_rules.proofs.ReleaseLemmas.{release_leaves, released_on}
-use Rattle.task_rules.proofs.WalkMoves.{keep_position, ToldTo, checked_shifts, chosen_released, ended_walks, exits_trip, lands, released_shifts, shifted, stopped_shifts, told_to, word, Left, left_gone}
-use Rattle.task_rules.proofs.CallThreads.{LastEnds, last_of, last_shifted}
+use Rattle.task_rules.proofs.SayLemmas.{said_is}
+use Rattle.task_rules.proofs.StopLemmas.{find_passes}
+use Rattle.task_rules.proofs.WalkEnds.{call_ends, cancelled_rest, cancelled_tells, ended_last, ends_untold, returned_last, returned_rest, returned_tells}
+use Rattle.task_rules.proofs.WalkMoves.{checked_shifts, chosen_released, ended_walks, exits_trip, keep_position, lands, Left, left_gone, released_shifts, shifted, stopped_shifts, told_to, ToldTo, word}
+use Rattle.task_rules.specs.Task.{dec_from, dec_lowers, dec_opens, held_by_counter, inc_raises, ret_done, ret_row, task_cancel_done, task_cancel_row, task_row}
 
 -- ---- The op in its script
 
@@ -253,15 +252,15 @@ module _ (x : Setting) (main : Main) (s : Core) (n : ℕ) (l : Label) (next : Tu
   exit_says t w is implicit kind = ap (λ (k : Label). written_by x.component s k t) is ∙ exit_ends w t implicit kind
 
   -- the label says an end of the task
-  writes_task : (f : Status) (t u : Core) {o : Option SubtaskEnd} → o ≡ task_end n f s → EndsCall a (task_of n s) → is_over (task_of n s) u ≡ true → Walk a u t → Tells a t (Subtask.Guest (task_of n s)) f → (sub : Subtask) (e : Status) → o ≡ Some (end_for e sub) → Writes a t sub × Tells a t sub e
-  writes_task f t u is ends over c tells sub e says = said_is (λ d g. Writes a t d × Tells a t d g) (sym is ∙ says) (WritesCall (task_of n s) u ends over c, tells)
+  writes_task : (f : Status) (t u : Core) {o : Option SubtaskEnd} → o ≡ task_end n f s → EndsCall a (task_of n s) → is_over (task_of n s) u ≡ true → Walk a u t → EndTells a t (Subtask.Guest (task_of n s)) f → (sub : Subtask) (e : Status) → o ≡ Some (end_for e sub) → Writes a t sub × EndTells a t sub e
+  writes_task f t u is ends over c tells sub e says = said_is (λ d g. Writes a t d × EndTells a t d g) (sym is ∙ says) (WritesCall (task_of n s) u ends over c, tells)
 
   -- an exit that ends no task
   exit_is_none : (t : Core) → is_ending_exit n s ≡ false → l ≡ exit_label n None → EndWords a t
   exit_is_none t none is = mute_words a t is (grind (arith, none))
 
   -- an exit that ends the task
-  exit_says_end : (w : Option ℕ) (t : Core) → l ≡ exit_label n w → is_explicit n s ≡ false → is_async_lifted (kind_of (task_of n s) s) ≡ false → is_direct (goal_of (task_of n s) s) ≡ false → (u : Core) → is_over (task_of n s) u ≡ true → Walk a u t → Tells a t (Subtask.Guest (task_of n s)) Status.Returned → EndWords a t
+  exit_says_end : (w : Option ℕ) (t : Core) → l ≡ exit_label n w → is_explicit n s ≡ false → is_async_lifted (kind_of (task_of n s) s) ≡ false → is_direct (goal_of (task_of n s) s) ≡ false → (u : Core) → is_over (task_of n s) u ≡ true → Walk a u t → EndTells a t (Subtask.Guest (task_of n s)) Status.Returned → EndWords a t
   exit_says_end w t is implicit kind direct u over c tells = writes_by a t is (grind arith) (grind (arith, direct)) (writes_task Status.Returned t u (exit_ends w t implicit (inr kind)) (EndsByExit (n, (refl, (refl, (implicit, inr kind))))) over c tells)
 
   thread_exit_row_leads : is_ending_exit n s ≡ false → Leads a s (thread_exit_row n s)
@@ -385,7 +384,7 @@ module _ (x : Setting) (main : Main) (s : Core) (n : ℕ) (l : Label) (next : Tu
   -- ---- The task and backpressure
 
   -- the task comes to an end that it hadn't
-  task_says : (f : Status) (t : Core) {k : Label} → l ≡ k → written_by x.component s k t ≡ task_end n f s → handed_by x.component main s k t ≡ None → host_taken k ≡ None → has_ended (task_of n s) s ≡ false → (u : Core) → is_over (task_of n s) u ≡ true → Walk a u t → Tells a t (Subtask.Guest (task_of n s)) f → EndWords a t
+  task_says : (f : Status) (t : Core) {k : Label} → l ≡ k → written_by x.component s k t ≡ task_end n f s → handed_by x.component main s k t ≡ None → host_taken k ≡ None → has_ended (task_of n s) s ≡ false → (u : Core) → is_over (task_of n s) u ≡ true → Walk a u t → EndTells a t (Subtask.Guest (task_of n s)) f → EndWords a t
   task_says f t at is none other unended u over c tells = writes_by a t at other none (writes_task f t u is (EndsOwn n refl refl unended) over c tells)
 
   -- the op is done

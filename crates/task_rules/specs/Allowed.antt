@@ -31,7 +31,8 @@ use Rattle.task_rules.specs.Cancels.{aborted_phase, is_callback_wait}
 use Rattle.task_rules.specs.Ends.{is_told, own_or_none}
 use Rattle.task_rules.specs.MainOps.{op_at, takes_words, spawned_at, is_spawn}
 use Rattle.task_rules.specs.Once.{returned_holder}
-use Rattle.task_rules.specs.OpParts.{callee_of_main_op, callee_of_op, calls_host, can_come, ends_activation, is_sync_call, makes_set}
+use Rattle.task_rules.specs.OpParts.{callee_of_main_op, callee_of_op, calls_host, can_come, ends_activation, is_sync_call, is_wait, makes_set}
+use Rattle.task_rules.specs.Places.{is_at_wait}
 use Rattle.task_rules.specs.Scenes.{Scene, component_of, op_in}
 use Rattle.task_rules.specs.Scripts.{export_kind, is_script, registers_for, script_of, slot_at}
 use Rattle.task_rules.specs.Threads.{resume_why}
@@ -258,7 +259,8 @@ HasCalled n k s = IsCalled n k s × IsUntouched k s
 
 -- how far an op comes: it waits on a set of its instance, stays inside its call or makes one, or is about a subtask of its own or a new one
 abbrev pub MayCome : Scene → ℕ → HowFar → Core → Type 0
-MayCome a n (how_far.Waits x) s = IsRunner a n × HasSet a n x
+MayCome a n (how_far.Waits x) s = Leaves a n × (HasSet a n x × ((is_wait (op_in a n) ≡ true) ×
+    (option_map_or (is_at_wait x) (place_of n s) true ≡ true)))
 MayCome a n (how_far.Calls (subtask.Guest k)) s = IsRunner a n × (((how_far_of n a.base ≡ how_far.Calls (subtask.Guest k)) ×
     (how_far_of n s ≡ how_far.Calls (subtask.Guest k))) ⊎ (IsNew a (subtask.Guest k) s × HasCalled n k s))
 MayCome a n (how_far.Calls (subtask.Host i)) s = IsRunner a n × (IsNew a (subtask.Host i) s × ((work_caller_of i s ≡ work_caller.Sync n) ×
@@ -445,10 +447,11 @@ is_async_work _ = false
 abbrev pub IsPolled : Scene → ℕ → Core → Type 0
 IsPolled a i s = (n : ℕ) × ((a.turn ≡ turn.Futures n) × (next_polled n s ≡ Some i))
 
--- the sync call of the running thread is answered, and done, or its ended subtask is dropped
+-- the sync call of the running thread is answered, and done, or its ended subtask is dropped; whose the work is is as before the step
 abbrev pub MayRemoveWork : Scene → ℕ → Core → Type 0
 MayRemoveWork a i s = (n : ℕ) × (IsRunner a n ×
-    (((how_far_of n a.base ≡ how_far.Calls (subtask.Host i)) × (how_far_of n s ≡ how_far.Fresh)) ⊎
+    (((how_far_of n a.base ≡ how_far.Calls (subtask.Host i)) × ((how_far_of n s ≡ how_far.Fresh) ×
+    (work_caller_of i s ≡ work_caller_of i a.base))) ⊎
     ((subtask_ended (subtask.Host i) a.base ≡ true) × ((subtask_handle (subtask.Host i) s ≡ None) ×
     ((is_stage_ended (stage_of i s) ≡ true) ×
     ((h : ℕ) × (subtask_at (instance_of n a.base) h a.base ≡ Some (subtask.Host i))))))))
@@ -471,10 +474,11 @@ pub data MayAbort (a : Scene) (i : ℕ) : Type 0 where
 abbrev pub MayOpen : Scene → ℕ → Core → Type 0
 MayOpen a i s = (s.made ≡ a.base.made) × ((n : ℕ) × (IsRunner a n × ((i ≡ instance_of n a.base) × ((a.turn ≡ turn.Run n) × (makes_set (op_in a n) ≡ true)))))
 
--- the handle names it, and nobody waits on it or is in it
+-- The handle names it, and nobody waits on it or is in it, nor did as the step began. The thread that runs isn't at a wait, and runs on.
 abbrev pub MayClose : Scene → ℕ → ℕ → ℕ → Core → Type 0
 MayClose a i h x s = (set_at i h s ≡ Some x) ×
-    ((has_waiters x s ≡ false) × ((has_member x s ≡ false) × ((n : ℕ) × (IsRunner a n × (i ≡ instance_of n a.base)))))
+    ((has_waiters x s ≡ false) × ((has_member x s ≡ false) × ((n : ℕ) × (IsRunner a n × ((i ≡ instance_of n a.base) ×
+    ((has_waiters x a.base ≡ false) × ((a.turn ≡ turn.Run n) × ((a.next ≡ turn.Run n) × (is_wait (op_in a n) ≡ false)))))))))
 
 -- a holding entry begins in an instance that is open, and one that returns opens its instance
 abbrev pub MayBar : Scene → ℕ → Bool → Type 0
@@ -526,7 +530,8 @@ Allowed a (SetPhase i p) s = MayAbort a i × (p ≡ aborted_phase (phase_of i s)
 Allowed a (SetCancelled i) s = IsOwn a (subtask.Host i)
 Allowed a (TakeWorkEvent i) s = IsOwn a (subtask.Host i)
 Allowed a (SetWorkJoin i j) s = MayJoin a (subtask.Host i) j s
-Allowed a (NameWork i w) s = MayName a i (subtask.Host w) s × (is_async_work (work_caller_of w s) ≡ true)
+Allowed a (NameWork i w) s = MayName a i (subtask.Host w) s × ((is_async_work (work_caller_of w s) ≡ true) ×
+    (subtask_handle (subtask.Host w) s ≡ None))
 Allowed a (UnnameWork i h w) s = MayUnname a i h (subtask.Host w) s
 Allowed a (RemoveWork i) s = MayRemoveWork a i s
 Allowed a (OpenSet i) s = MayOpen a i s

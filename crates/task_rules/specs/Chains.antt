@@ -26,7 +26,7 @@ use Rattle.task_rules.specs.Scenes.{Scene, component_of, scene_of}
 use Rattle.task_rules.specs.Stalled.{Setting}
 use Rattle.task_rules.specs.Step.{Step}
 use Rattle.task_rules.specs.Turns.{settled_turn}
-use Rattle.task_rules.specs.Words.{Move, Places, Placing, RemoveThread, SetHowFar, Word, after_word}
+use Rattle.task_rules.specs.Words.{GoBehind, Move, Places, Placing, RemoveThread, SetHowFar, Word, after_word}
 use Rattle.task_machine.specs.declared.words.Status.TheVariants as status
 use Rattle.task_machine.specs.declared.records.Subtask.TheVariants as subtask
 use Rattle.task_machine.specs.declared.records.HowFar.TheVariants as how_far
@@ -57,11 +57,18 @@ abbrev pub lands_inside : Placing → HowFar → Bool
 lands_inside (Move n p) h = is_inside p h
 lands_inside _ h = true
 
+-- it comes there with its op as far as before
+abbrev pub lands_alone : Placing → Bool
+lands_alone (Move n place.Suspended) = false
+lands_alone (Move n p) = is_inside p how_far.Fresh
+lands_alone (GoBehind f n) = false
+lands_alone _ = true
+
 -- The running thread, or the one that was taken, stays and then comes to one place, or is gone.
 pub data Trip (a : Scene) (b : Core) : Core → Type 0 where
   Remains : (t : Core) → Stay a b t → ((m : ℕ) → a.next ≡ turn.Run m → a.turn ≡ turn.Run m) →
       ((m : ℕ) → IsRunner a m → a.next ≡ turn.Run m) → Trip a b t
-  Lands : (s : Core) → (p : Placing) → Stay a b s → MayLand a p s → lands_inside p how_far.Fresh ≡ true →
+  Lands : (s : Core) → (p : Placing) → Stay a b s → MayLand a p s → lands_alone p ≡ true →
       Trip a b (after_word (Places p) s)
   -- and its op has come that far
   LandsAt : (s : Core) → (p : Placing) → (n : ℕ) → (h : HowFar) → Stay a b s → MayLand a p s → lands_inside p h ≡ true →
@@ -159,14 +166,14 @@ pub record Frees (a : Scene) (t : Core) (sub : Subtask) : Type 0 where
       (m : ℕ) × ((place_of m before ≡ Some (place.Blocked sub)) × ((n == m) ≡ false))
 
 -- Whether an end that the label says is set as the event of its subtask.
-pub data Tells (a : Scene) (t : Core) : Subtask → Status → Type 0 where
-  TellsNow : (sub : Subtask) (e : Status) → Frees a t sub → Tells a t sub e
+pub data EndTells (a : Scene) (t : Core) : Subtask → Status → Type 0 where
+  TellsNow : (sub : Subtask) (e : Status) → Frees a t sub → EndTells a t sub e
   -- that of a direct call, or of one that main made, isn't
-  TellsNever : (k : ℕ) (e : Status) → is_told k a.base ≡ false → Tells a t (subtask.Guest k) e
+  TellsNever : (k : ℕ) (e : Status) → is_told k a.base ≡ false → EndTells a t (subtask.Guest k) e
   -- that of a withdrawn start isn't
-  TellsNone : (sub : Subtask) → Tells a t sub status.StartCancelled
+  TellsNone : (sub : Subtask) → EndTells a t sub status.StartCancelled
   -- that of a host's work is, as its entry is taken
-  TellsLater : (i : ℕ) (e : Status) → Tells a t (subtask.Host i) e
+  TellsLater : (i : ℕ) (e : Status) → EndTells a t (subtask.Host i) e
 
 -- the work whose entry is taken
 abbrev pub host_taken : Label → Option ℕ
@@ -178,7 +185,7 @@ host_taken _ = None
 pub record EndWords (a : Scene) (t : Core) : Type 0 where
   pub writes : (sub : Subtask) (e : Status) → written_by (component_of a) a.base a.label t ≡ Some (end_for e sub) → Writes a t sub
   pub hands : (sub : Subtask) (e : Status) → handed_by (component_of a) a.main a.base a.label t ≡ Some (end_for e sub) → HandsOut a t sub e
-  pub tells : (sub : Subtask) (e : Status) → written_by (component_of a) a.base a.label t ≡ Some (end_for e sub) → Tells a t sub e
+  pub tells : (sub : Subtask) (e : Status) → written_by (component_of a) a.base a.label t ≡ Some (end_for e sub) → EndTells a t sub e
   pub takes : (i : ℕ) → host_taken a.label ≡ Some i → Frees a t (subtask.Host i)
 
 -- What the last words of a step leave.
