@@ -82,9 +82,10 @@ def passed_on():
                 for path in names_of(match[3]):
                     *below, name = path.split('.')
                     home = '.'.join([match[2], *below])
-                    modules[place][name] = modules[home][name] if home in PLACES else home
-                    if match[1]:
-                        unfoldable.add((modules[place][name], name))
+                    if home := modules[home].get(name) if home in PLACES else home:
+                        modules[place][name] = home
+                        if match[1]:
+                            unfoldable.add((home, name))
     return modules, unfoldable
 
 
@@ -110,7 +111,8 @@ def read(file, modules):
         names = names_of(match[2])
         plain = [name for name in names if ' as ' not in name and '.' not in name]
         home = modules.get(match[1])
-        brought |= {(home[name] if home is not None else match[1], name) for name in plain if is_cited(name, body)}
+        cited = [name for name in plain if is_cited(name, body) and (home is None or name in home)]
+        brought |= {(match[1] if home is None else home[name], name) for name in cited}
         if kept := [name for name in names if name not in plain]:
             lines.append(f'use {match[1]}.{{{", ".join(kept)}}}')
     return lines, where, brought

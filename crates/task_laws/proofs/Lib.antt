@@ -35,3 +35,4 @@ pub mod AwaitedCalls
 pub mod LackLemmas
 pub mod KnownWorks
 pub mod MemberLemmas
+pub mod EventLemmas

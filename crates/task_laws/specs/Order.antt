@@ -8,12 +8,15 @@ use Rattle.task_machine.specs.declared.records.Entry.{Entry}
 use Rattle.task_machine.specs.declared.records.Subtask.{Subtask}
 use Rattle.task_machine.specs.declared.records.Named.{Named}
 use Rattle.task_rules.specs.Allowed.{is_async_work, subtask_under_way, watches}
+use Rattle.task_rules.specs.Takes.{host_status}
+use Rattle.task_rules.specs.Works.{has_end}
+use Rattle.task_machine.specs.declared.records.WorkCaller.TheVariants as work_caller
 use Rattle.std.specs.Prelude.{Bool, None, Option, Some, false, is_none, is_some, option_and_then, option_map, true, ℕ, ◌+◌, ◌≡◌, ◌≤◌, length, List, [], ◌∷◌, ◌==◌, ◌⊎◌, ◌&&◌, ◌||◌, not}
 use Rattle.task_laws.specs.Settings.{CodesInCallbacks}
-use Rattle.task_laws.specs.Wakes.{NoneAdmitted}
+use Rattle.task_laws.specs.Wakes.{NoneAdmitted, NoneBlockedOnEnd}
 use Rattle.task_machine.specs.Core.{Core, Main, State, Table}
 use Rattle.task_machine.specs.Maps.{get, size}
-use Rattle.task_machine.specs.Read.{call_instance, how_far_of, instance_of, is_async_lifted, is_callback, is_direct, is_explicit, goal_of, kind_of, place_of, task_of, set_at, subtask_at, end_of, is_guest_call, subtask_handle, join_of, is_stage_ended, stage_of, work_caller_of, event_of, has_ended, undelivered_end}
+use Rattle.task_machine.specs.Read.{call_instance, how_far_of, instance_of, is_async_lifted, is_callback, is_direct, is_explicit, goal_of, kind_of, place_of, task_of, set_at, subtask_at, end_of, is_guest_call, subtask_handle, join_of, is_stage_ended, stage_of, work_caller_of, event_of, has_ended, undelivered_end, course_value}
 use Rattle.task_machine.specs.declared.component.Component.{Component}
 use Rattle.task_machine.specs.declared.label.Label.{Label}
 use Rattle.task_machine.specs.declared.records.Call.{Call}
@@ -154,10 +157,6 @@ cancelled_by _ = None
 -- a subtask that an op cancels is in the thread's own set, or gone
 abbrev pub CancelsWatched : Core → Type 0
 CancelsWatched s = (n : ℕ) (sub : Subtask) → cancelled_by (how_far_of n s) ≡ Some sub → watches n sub s ≡ true
-
--- a call whose event is an end has ended
-abbrev pub CallsTold : Core → Type 0
-CallsTold s = (k : ℕ) (e : Status) → undelivered_end (event_of (subtask.Guest k) s) ≡ Some e → has_ended k s ≡ true
 
 -- A handle of a set names a set of its own instance, which was made, and no other handle names it.
 pub record SetsNamed (s : Core) : Type 0 where
@@ -345,6 +344,27 @@ abbrev pub HostsAwaited : Core → Type 0
 HostsAwaited s = (n i : ℕ) → how_far_of n s ≡ how_far.Calls (subtask.Host i) →
     (i ≤ s.made.works) × ((place_of n s ≡ Some (place.Blocked (subtask.Host i))) ⊎ (is_stage_ended (stage_of i s) ≡ true))
 
+-- a work that is finishing or has ended
+abbrev pub is_late : Stage → Bool
+is_late stage.Finishing = true
+is_late stage.Ended = true
+is_late _ = false
+
+-- A work has come to its end just where its stage says so. Its event is an end only where it is of an async call and has ended, and it is
+-- finishing only where it is of an async call.
+pub record WorkTold (w : Work) : Type 0 where
+  pub late : has_end w.course ≡ is_late w.stage
+  pub told : (e : Status) → undelivered_end w.event ≡ Some e → (is_stage_ended w.stage ≡ true) ×
+      ((is_async_work w.caller ≡ true) × (e ≡ host_status (course_value w.course)))
+  pub finishing : is_finishing w.stage ≡ true → is_async_work w.caller ≡ true
+
+abbrev pub WorksTold : Core → Type 0
+WorksTold s = (i : ℕ) (w : Work) → get s.works i ≡ Some w → WorkTold w
+
+-- a call whose event is an end has ended
+abbrev pub CallsTold : Core → Type 0
+CallsTold s = (k : ℕ) (e : Status) → undelivered_end (event_of (subtask.Guest k) s) ≡ Some e → has_ended k s ≡ true
+
 -- ---- Counts
 
 -- From s to t at most one thread is made, one work, one set and one group, and at most two of them in all.
@@ -372,6 +392,7 @@ RunsAlone p s = (n : ℕ) → place_of n s ≡ Some place.Running → p ≡ turn
 pub record Awake (p : Turn) (s : Core) : Type 0 where
   pub alone : RunsAlone p s
   pub starts_there : StartsThere s
+  pub blocked : NoneBlockedOnEnd s
 
 -- ---- All of it
 
@@ -402,6 +423,8 @@ pub record InOrderIf (goes_on : Bool) (c : Component) (s : State) : Type 0 where
   pub watched : CancelsWatched s.core
   pub inside : InsideOps s.core
   pub held : NoneAdmitted s.core
+  pub works_told : WorksTold s.core
+  pub calls_told : CallsTold s.core
   pub awake : goes_on ≡ true → Awake s.turn s.core
 
 abbrev pub InOrder : Component → State → Type 0

@@ -13,3 +13,4 @@ pub mod OrderLemmas
 pub mod OnceSteps
 pub mod WakeLines
 pub mod IdleLemmas
+pub mod BlockedLemmas

@@ -123,7 +123,7 @@ module _ {a : Scene} {b : Core} {n : ℕ} {q : Option Place} (f : Follows a b n 
   keeps_word (TakePush x i) s ok puts fresh st =
       let u = popped_quiet x (Entry.Push i) s (next_first s x (Entry.Push i) ok) (λ k. refl) in quiet_stand n q [] s _ (grind arith) st
   keeps_word (TakeHost x i) s ok puts fresh st =
-      let u = popped_quiet x (Entry.Host i) s (next_first s x (Entry.Host i) ok) (λ k. refl) in quiet_stand n q [] s _ (grind arith) st
+      let u = popped_quiet x (Entry.Host i) s (next_first s x (Entry.Host i) ok.0) (λ k. refl) in quiet_stand n q [] s _ (grind arith) st
   keeps_word w s ok puts fresh st = quiet_stand n q [] s _ (grind (arith, nat_tests, get-change, entries-append)) st
 
   withdraws_waits : (k : ℕ) (s : Core) → MayWithdraw a k s → waits a k ≡ true
@@ -360,7 +360,7 @@ module _ {a : Scene} {b : Core} {n : ℕ} {q : Option Place} (f : Frame a b n q)
   moves k r s (Uncovers m is to under none at) c = no_way (sym (runner_there m s is c) ∙ none)
   moves k r s (AwaitsEvent x l d g at) c = let h = beside k l.0 in left h.1 c r _ l (set_place_adds k r h.0 s (ap is_free at))
   moves k r s (Waits x l g at) c = let h = beside k l.0 in left h.1 c r _ l (set_place_adds k r h.0 s (ap is_free at))
-  moves k r s (Blocks sub l g at) c = let h = beside k l.0 in left h.1 c r _ l (set_place_adds k r h.0 s (ap is_free at))
+  moves k r s (Blocks sub l g o at) c = let h = beside k l.0 in left h.1 c r _ l (set_place_adds k r h.0 s (ap is_free at))
   moves k r s (Suspends l at) c = let h = beside k l.0 in left h.1 c r _ l (set_place_adds k r h.0 s (ap is_free at))
 
   lands : (x : Placing) (s : Core) → MayLand a x s → Stay a b s → Arrives a (after_placing x s)

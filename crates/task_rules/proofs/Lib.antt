@@ -18,3 +18,4 @@ pub mod ReleaseLemmas
 pub mod StandLemmas
 pub mod StopLemmas
 pub mod MoveLemmas
+pub mod FreeLemmas

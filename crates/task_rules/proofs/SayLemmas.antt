@@ -59,7 +59,7 @@ pub result_taken : (n : ℕ) (s : Core) → get (take_result n s).results n ≡ 
 unfolding take_result
 result_taken n s = get-remove_same s.results n
 
-found_none : (test : ℕ → Bool) (q v : ℕ) (es : List (ℕ × ℕ)) → seek nat_cmp q es ≡ Some v → test q ≡ true → find test (map (λ e. e.0) es) ≡ None → ⊥
+pub found_none : {X : Type 0} (test : ℕ → Bool) (q : ℕ) (v : X) (es : List (ℕ × X)) → seek nat_cmp q es ≡ Some v → test q ≡ true → find test (map (λ e. e.0) es) ≡ None → ⊥
 found_none test q v [] h on none = grind arith
 found_none test q v (e ∷ es) h on none = grind (arith, nat_tests, unsigned_tied q e.0, found_none test q v es)
 

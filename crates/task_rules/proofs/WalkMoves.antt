@@ -171,7 +171,7 @@ promoted_walks m n {s = s} runs ready c = chain_if (is_some s.queues.switch) s (
 
 -- ---- Published
 
-evented : (sub : Subtask) (e : Option Status) (s : Core) → ((m : ℕ) → place_of m (set_event sub e s) ≡ place_of m s) × (is_done_host sub (set_event sub e s) ≡ is_done_host sub s)
+pub evented : (sub : Subtask) (e : Option Status) (s : Core) → ((m : ℕ) → place_of m (set_event sub e s) ≡ place_of m s) × (is_done_host sub (set_event sub e s) ≡ is_done_host sub s)
 unfolding set_event on_call on_work
 evented sub e s = (λ m. grind arith, grind (arith, nat_tests, get-change))
 

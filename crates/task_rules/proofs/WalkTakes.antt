@@ -184,7 +184,7 @@ module _ (x : Setting) (main : Main) (ended : Bool) (s : Core) (n : ℕ) (l : La
   -- what a delivery hands out shows only where no wake is handed on
   event_says : (m : Mark) (v : Given) (w : Option ℕ) (t : Core) → (w ≡ None → (sub : Subtask) (e : Status) → handed_by_event n s v ≡ Some (end_for e sub) → HandsOut taking_scene t sub e) → l ≡ event_label m n v w → EndWords taking_scene t
   event_says m v (Some z) t out is = mute_words taking_scene t is refl
-  event_says m v None t out is = hands_by taking_scene t is refl (λ sub e h. out refl sub e h)
+  event_says m v None t out is = hands_by taking_scene t is refl refl (λ sub e h. out refl sub e h)
 
   delivered_out : (y : ℕ) (ch : Choice) (g : Gift) (w : Option ℕ) → gift true (task_of n s) y (chosen n ch s) s ≡ Some g → w ≡ None → (sub : Subtask) (e : Status) → handed_by_event n s (handed_out ch s g) ≡ Some (end_for e sub) → HandsOut taking_scene (activated n g (handed_out ch s g) (handed_on y g w s)) sub e
   unfolding activated moved_to set_how_far set_position on_thread set_given set_register set_place set_script set_do_not_enter on_instance
