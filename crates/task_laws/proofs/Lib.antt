@@ -1,3 +1,4 @@
+pub mod Rules
 pub mod Basics
 pub mod EachLemmas
 pub mod ReachLemmas
@@ -7,7 +8,9 @@ pub mod StrandLemmas
 pub mod WaitLemmas
 pub mod SceneLemmas
 pub mod HousedLemmas
+pub mod HeldLemmas
 pub mod Subtasks
+pub mod WatchLemmas
 pub mod HandleTables
 pub mod Joins
 pub mod CountLemmas
@@ -25,9 +28,11 @@ pub mod SaidEnds
 pub mod CallEnds
 pub mod OnceLemmas
 pub mod StepEnds
+pub mod StartLemmas
 pub mod WrittenLaws
 pub mod NamedCalls
 pub mod AwaitedCalls
-pub mod NamedWorks
-pub mod SyncWorks
 pub mod LackLemmas
+pub mod KnownWorks
+pub mod MemberLemmas
+pub mod EventLemmas

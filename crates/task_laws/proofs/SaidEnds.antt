@@ -1,5 +1,5 @@
 -- What a label says of ends is read beside the marks.
-use Rattle.task_rules.proofs.Machine.{arith, Component, Core, end_for, handed_by, Label, LoopLabel, Main, op_of, Option, Queues, SaysEnd, script_of, Scripted, Setting, Some, State, Status, Subtask, SubtaskEnd, Turn, Unscripted, written_by, ℕ, ◌≡◌}
+use Rattle.task_laws.proofs.Rules.{arith, Component, Core, end_for, handed_by, Label, LoopLabel, Main, op_of, Option, Queues, SaysEnd, script_of, Scripted, Setting, Some, State, Status, Subtask, SubtaskEnd, Turn, Unscripted, written_by, ℕ, ◌≡◌}
 use Rattle.task_laws.proofs.CallsSteps.{plain_scene}
 
 pub said_at : (c : Component) (s : Core) (q : Queues) (t : Core) (l : Label) (o : Option SubtaskEnd) →

@@ -1,6 +1,6 @@
 -- Who is under whom, along the words of a step.
-use Rattle.task_rules.proofs.Machine.{after_word, Allowed, arith, Core, inl, inr, is_some, is_there, IsRunner, MayMove, next_thread, Option, Place, place_of, Scene, Some, true, Why, Word, ℕ, ◌+◌, ◌≡◌, ◌≤◌, ◌⊎◌}
-use Rattle.task_laws.proofs.CameLemmas.{Came, Comes, Moved, Shifts, Turned, Turns, came_word}
+use Rattle.task_laws.proofs.Rules.{after_word, Allowed, arith, Core, inl, inr, is_some, is_there, IsRunner, MayMove, next_thread, Option, Place, place_of, Scene, Some, true, Why, Word, ℕ, ◌+◌, ◌≡◌, ◌≤◌, ◌⊎◌}
+use Rattle.task_laws.proofs.CameLemmas.{Came, came_word, Comes, Moved, Shifts, Turned, Turns}
 use Rattle.task_laws.proofs.CountLemmas.{made_threads_word}
 
 -- On the way of a step: who is under a thread that was made now is the running one.

@@ -1,9 +1,8 @@
 -- Where the first thread of a call waits for its start: along the words of a step.
-use Rattle.task_rules.proofs.Machine.{after_word, Allowed, arith, Bool, CallEnd, component_of, Core, end_of, Exits, false, get, GivesUp, inl, inr, is_explicit, is_fresh, is_some, IsWithdrawn, MayEnd, MayMove, next_thread, None, not, Option, option_map_or, Place, place_of, refl, ReturnsNow, Scene, Some, task_of, Thread, true, Turn, WasReady, Why, Word, ℕ, ⊎_elim, ◌&&◌, ◌≡◌, ◌⊎◌}
-use Rattle.task_laws.proofs.CallsCame.{call_came, CallAfter, IsBeside, IsFirst, IsGone, IsSame, thread_came, ThreadAfter, Grown, NoCall, NewCall}
+use Rattle.task_laws.proofs.Rules.{after_word, Allowed, arith, Bool, CallEnd, component_of, Core, end_of, Exits, false, get, GivesUp, HasNotRun, inl, inr, is_explicit, is_fresh, is_some, IsWithdrawn, MayEnd, MayMove, next_thread, None, not, Option, option_map_or, Place, place_of, refl, ReturnsNow, Scene, Some, StartsFirst, task_of, Thread, true, Turn, WasReady, Why, Word, ℕ, ⊎_elim, ◌&&◌, ◌≡◌, ◌⊎◌}
+use Rattle.task_laws.proofs.CallsCame.{call_came, CallAfter, Grown, IsBeside, IsFirst, IsGone, IsSame, NewCall, NoCall, thread_came, ThreadAfter}
 use Rattle.task_laws.proofs.CallsLaw.{CallsGo, CallsHold}
-use Rattle.task_laws.proofs.CameLemmas.{came_word, Comes, Moved, MayStand, PlaceAfter, Shifts, Turns}
-use Rattle.task_laws.specs.Order.{HasNotRun, StartsFirst}
+use Rattle.task_laws.proofs.CameLemmas.{came_word, Comes, MayStand, Moved, PlaceAfter, Shifts, Turns}
 
 abbrev is_new_start : Option Place → Bool
 is_new_start o = is_some o && is_fresh o
