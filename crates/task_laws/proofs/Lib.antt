@@ -36,4 +36,5 @@ pub mod AwaitedCalls
 pub mod LackLemmas
 pub mod KnownWorks
 pub mod MemberLemmas
+pub mod CancelLemmas
 pub mod EventLemmas
