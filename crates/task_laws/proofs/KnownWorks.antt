@@ -1,10 +1,6 @@
 -- Which host works handles name, and that none names the work of a sync call, along the words of a step.
-use Rattle.task_laws.proofs.Rules.{add_call, add_group, add_set, add_thread, add_work, after_word, Allowed, ap, arith, as_subtask, by_number, call_made, change, Core, count_work, free_handle, free_thread_handle, fresh, get, get-change, get-empty, get-insert, get-remove, give_handle, give_result, give_thread_handle, giving, handle_of_table, how_far_of, HowFar, inl, inr, is_async_work, is_some, le_trans, MayBeAborted, MayCome, MayRemoveWork, Named, NameWork, nat_tests, next_work, None, on_call, on_instance, on_thread, on_work, Option, poll_pends, push_high, QueueWork, refl, remove_call, remove_group, remove_set, remove_thread, remove_work, RemoveWork, Scene, set_backpressure, set_cancel_delivered, set_cancelled, set_course, set_do_not_enter, set_do_not_suspend, set_end, set_event, set_exited, set_how_far, set_join, set_own_event, set_phase, set_position, set_register, set_result, set_saved_callee, set_saved_own, set_script, set_stage, set_started, set_starting_published, set_subtask_handle, set_thread_handle, set_trapped, set_uninteresting, set_word, Some, Subtask, subtask_at, subtask_handle, take_result, taking, Thread, true, UnnameWork, with_handle, with_thread_handle, Word, work_caller_of, work_queued, WorkCaller, WorksKnown, ℕ, ⊎_elim, ◌∙◌, ◌≡◌, ◌≤◌, ◌⊎◌}
-use Rattle.task_laws.proofs.Basics.{too_high}
-use Rattle.task_laws.proofs.CallsCame.{op_came}
-use Rattle.task_laws.proofs.CountLemmas.{made_works_word}
+use Rattle.task_laws.proofs.Words.{add_call, add_group, add_set, add_thread, add_work, after_word, Allowed, ap, arith, as_subtask, by_number, call_made, change, Core, count_work, free_handle, free_thread_handle, fresh, get, get-change, get-empty, get-insert, get-remove, give_handle, give_result, give_thread_handle, given_names, giving, handle_of_table, how_far_of, HowFar, inl, inr, is_async_work, is_some, le_trans, made_works_word, MayBeAborted, MayCome, MayRemoveWork, Named, NameWork, nat_tests, next_work, None, none_named, on_call, on_instance, on_thread, on_work, op_came, Option, poll_pends, push_high, QueueWork, refl, remove_call, remove_group, remove_set, remove_thread, remove_work, RemoveWork, Scene, set_backpressure, set_cancel_delivered, set_cancelled, set_course, set_do_not_enter, set_do_not_suspend, set_end, set_event, set_exited, set_how_far, set_join, set_own_event, set_phase, set_position, set_register, set_result, set_saved_callee, set_saved_own, set_script, set_stage, set_started, set_starting_published, set_subtask_handle, set_thread_handle, set_trapped, set_uninteresting, set_word, Some, Subtask, subtask_at, subtask_handle, subtask_in, take_result, taking, Thread, too_high, true, UnnameWork, with_handle, with_thread_handle, Word, work_caller_of, work_queued, WorkCaller, WorksKnown, ℕ, ⊎_elim, ◌∙◌, ◌≡◌, ◌≤◌, ◌⊎◌}
 use Rattle.task_laws.proofs.NamedCalls.{next_given}
-use Rattle.task_laws.proofs.SetHandles.{given_names, none_named, subtask_in}
 
 -- ---- Who calls a work
 
@@ -64,7 +60,7 @@ module _ (a : Scene) (base : WorksKnown a.base) (w : Word) (s : Core) (ok : Allo
           let m = rw (calls_work g i is) at come in on (grind arith, m.1.1.0) (removed n i m.1.1.0 (inr m.1.0.0))
 
 -- a work that is removed has no handle
-unnamed_removed : (a : Scene) → WorksKnown a.base → (j : ℕ) (s : Core) → WorksKnown s → MayRemoveWork a j s →
+pub unnamed_removed : (a : Scene) → WorksKnown a.base → (j : ℕ) (s : Core) → WorksKnown s → MayRemoveWork a j s →
     subtask_handle (Subtask.Host j) s ≡ None
 unnamed_removed a base j s q (m, (is, (same, inl (far, done)))) =
     let sync = (base.called m j far).1 in let async = λ (h : ℕ). q.async h j in grind (arith, async)

@@ -4,6 +4,7 @@ pub mod EachLemmas
 pub mod ReachLemmas
 pub mod SetHandles
 pub mod CameLemmas
+pub mod Words
 pub mod StrandLemmas
 pub mod WaitLemmas
 pub mod SceneLemmas
@@ -35,4 +36,5 @@ pub mod AwaitedCalls
 pub mod LackLemmas
 pub mod KnownWorks
 pub mod MemberLemmas
+pub mod CancelLemmas
 pub mod EventLemmas

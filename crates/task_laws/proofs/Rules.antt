@@ -4,7 +4,7 @@ pub use Rattle.task_laws.specs.Exports.{CallsExported, ExportsExist, InstancesSt
 unfoldable pub use Rattle.task_laws.specs.Handles.{SetsNamedAtHome, SetsNamedOnce}
 pub use Rattle.task_laws.specs.Holders.{CalleesExist, RunsHoldOne}
 pub use Rattle.task_laws.specs.Lacks.{LacksOps, LacksWorks, StepsLackWorks}
-pub use Rattle.task_laws.specs.Order.{at_most_returned, Awake, CallKinds, CallsAwaited, CallsNamed, CallsThere, CallsTold, cancelled_by, cancelled_call, CancelsWatched, DeliveredByCallback, DirectsOnTop, Fits, has_one_on_top, HasNotRun, HostsAwaited, InOrder, InOrderIf, InPlace, InsideOps, is_awaited, is_cancelled, is_delivered, is_delivery, is_finishing, is_host_of, is_late, is_open, is_push_of, is_queued, is_returned, is_unbegun, is_uncancelled, IsOf, JoinNamed, JoinsNamed, MakesFew, names_script, NamesKnown, Numbered, OnlyCalled, RunsAlone, set_of_op, set_of_place, set_of_why, SetsNamed, stands, StartsAwaited, StartsFirst, StartsThere, StepInOrder, StepsMakeFew, Strands, TableKept, ThreadNumbered, WaitsAtHome, WaitsPlaced, WasCall, WorksKnown, WorksNamed, WorksQueued, WorksTold}
+pub use Rattle.task_laws.specs.Order.{at_most_returned, Awake, CallKinds, CallsAwaited, CallsNamed, CallsThere, CallsTold, cancelled_by, cancelled_call, CancelsNamed, CancelsWatched, DeliveredByCallback, DirectsOnTop, Fits, has_one_on_top, HasNotRun, HostsAwaited, InOrder, InOrderIf, InPlace, InsideOps, is_awaited, is_cancelled, is_delivered, is_delivery, is_finishing, is_host_of, is_late, is_open, is_push_of, is_queued, is_returned, is_unbegun, is_uncancelled, IsOf, JoinNamed, JoinsNamed, MakesFew, names_script, NamesKnown, Numbered, OnlyCalled, RunsAlone, set_of_op, set_of_place, set_of_why, SetsNamed, stands, StartsAwaited, StartsFirst, StartsThere, StepInOrder, StepsMakeFew, Strands, TableKept, ThreadNumbered, WaitsAtHome, WaitsPlaced, WasCall, WorksKnown, WorksNamed, WorksQueued, WorksTold}
 unfoldable pub use Rattle.task_laws.specs.Order.{OpeningInOrder}
 pub use Rattle.task_laws.specs.Rises.{CallsRise, Rises}
 unfoldable pub use Rattle.task_laws.specs.Rises.{ExplicitNamesNoCall, RunsRise, StepsRise, SyncEndsLast, SyncNeverCancelled}

@@ -5,6 +5,7 @@ pub use Rattle.task_laws.proofs.CallsCame.{IsBeside, IsFirst, IsGone, IsSame, op
 pub use Rattle.task_laws.proofs.CallsLaw.{CallsGo, CallsHold}
 pub use Rattle.task_laws.proofs.CallsSteps.{calls_begin, of_base, opening_holds, plain, plain_scene, step_goes, word_goes}
 pub use Rattle.task_laws.proofs.CameLemmas.{behind_shifted, Came, came_word, Comes, MayStand, Moved, promoted_shifted, put_shifted, read_same, Shifts, stopped_shifted, Turned, Turns}
+pub use Rattle.task_laws.proofs.CancelLemmas.{cancels_word, CancelsGo, KnownCancels, queued_handle}
 pub use Rattle.task_laws.proofs.CountLemmas.{few_word, made_works_word}
 pub use Rattle.task_laws.proofs.EventLemmas.{calls_told_word, host_event_word, telling_word, TellingGoes, TellsEnd, works_hold, works_told}
 pub use Rattle.task_laws.proofs.FitLemmas.{AllFit, fits_word, OfBase, op_there}
