@@ -10,6 +10,6 @@ mod takes;
 
 pub use calls::begin_call;
 pub use directs::{answer_call, begin_call_sync, enter};
-pub use hosts::{call_sync_host, go_on_calling_host};
-pub use returns::go_on_calling_sync;
+pub use hosts::{call_host, call_sync_host, go_on_calling_host};
+pub use returns::{go_on_calling, go_on_calling_sync};
 pub use takes::take_host;
