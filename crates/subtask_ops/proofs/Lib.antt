@@ -1,3 +1,8 @@
+pub mod CallLemmas
+pub mod DirectLemmas
+pub mod ReturnLemmas
+pub mod TakeLemmas
+pub mod HostLemmas
 pub mod SubtaskLemmas
 pub mod SteadyLemmas
 pub mod JoinLemmas
