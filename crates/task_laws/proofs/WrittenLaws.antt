@@ -6,8 +6,6 @@ use Rattle.task_laws.proofs.SaidEnds.{hands_at, said_plain}
 use Rattle.task_laws.proofs.StepEnds.{events_come, guest_covers, host_keeps, keeps_call, results_come, written_new}
 use Rattle.task_laws.proofs.Works.{opening_works, works_go, WorksHold}
 
--- ---- What a label says of calls
-
 pub new_ends_are_said : NewEndsAreSaid
 unfolding NewEndsAreSaid
 new_ends_are_said x s l t r step = events_come x s l t r.scripts (reached_holds r) (reached_ends_told r) step (step_walks x s l t step)
@@ -42,8 +40,6 @@ ends_handed_as_told x s l t step k e out =
     by next _ _ same (WritesToo j f says why) = inr (inr (let is : j ≡ k = cc in rw (← is) (said_plain x s l next t.core j f says)))
     by next _ _ same (HandsAtOnce i ready is) = absurd (cc)
     by next _ _ same (Answers n i runner far gone) = absurd (cc)
-
--- ---- The end of each record
 
 reached_works : {x : Setting} {s : State} → Reached x s → WorksHold ⊥ s.core
 reached_works {x = x} r = reached_keeps r (λ s. WorksHold ⊥ s.core)

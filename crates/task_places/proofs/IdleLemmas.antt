@@ -6,8 +6,6 @@ use Rattle.task_places.specs.Kept.{ReachedInOrder}
 use Rattle.task_places.specs.Wakes.{IdleIsStalled, ReachedUnblocked}
 use Rattle.task_rules.specs.Stalled.{is_idle}
 
--- ---- Counts
-
 any_counts : {X : Type 0} (test : X → Bool) (xs : List X) → list_any test xs ≡ true → 1 ≤ count_by test xs
 any_counts test [] h = absurd (grind arith)
 any_counts test (x ∷ xs) h = let rest = any_counts test xs in let more = sum_by-cons (λ y. cond (test y) 1 0) x xs in grind arith
@@ -24,8 +22,6 @@ any_place test s h = found_any (λ n t. test t) s.threads.list s.threads.sorted 
 found_place : (test : Thread → Bool) (n : ℕ) (s : Core) (t : Thread) → get s.threads n ≡ Some t → test t ≡ true → any_thread test s ≡ true
 unfolding get
 found_place test n s t at is = any_found test n s.threads.list (grind arith)
-
--- ---- No thread is ready or runs
 
 abbrev is_active : Place → Bool
 is_active (Place.Ready m w) = true
@@ -55,8 +51,6 @@ goes_by s k n still rest o at on = absurd (grind arith)
 none_goes : (s : Core) (k n : ℕ) → Still s → goes_on_within k s n ≡ true → ⊥
 none_goes s zero n still h = absurd (grind arith)
 none_goes s (suc k) n still h = goes_by s k n still (λ m. none_goes s k m still) (place_of n s) refl h
-
--- ---- The lines
 
 false_of : (b : Bool) → (b ≡ true → ⊥) → b ≡ false
 false_of true h = absurd (h refl)

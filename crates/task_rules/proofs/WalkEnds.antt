@@ -6,8 +6,6 @@ use Rattle.task_rules.proofs.FreeLemmas.{published_frees}
 use Rattle.task_rules.proofs.PlacingLemmas.{shifted_calls, shifted_task, shifts_shifted}
 use Rattle.task_rules.proofs.WalkMoves.{published_shifts, shifted, told_at, told_shifts, ToldTo, word}
 
--- ---- What an end and a result leave of a call
-
 given_told : (g : Goal) (f : Caller) (k v : ℕ) (e : CallEnd) (s : Core) → is_told k (result_given g f k v (set_end k e s)) ≡ is_told k s
 unfolding set_end on_call give_result set_register on_thread set_result
 given_told g f k v e s = grind (arith, nat_tests, get-change)
@@ -17,8 +15,6 @@ given_to : (g : Goal) (f : Caller) (k v : ℕ) (e : CallEnd) (w : Option ℕ) (s
 unfolding set_end on_call give_result set_register on_thread set_result
 given_to g f k v e w s to told y is n at =
     let chosen = to (sym (given_told g f k v e s) ∙ told) y (grind (arith, nat_tests, get-change, is)) n at in grind (arith, nat_tests, get-change, chosen)
-
--- ---- The word that ends a call
 
 abbrev pub call_ends : ℕ → CallEnd → Core → Core
 call_ends k e s = after_word (EndCall k e) s
@@ -41,8 +37,6 @@ told_given Goal.Main f k v e s = refl
 told_given (Goal.Register r) (Caller.Thread n) k v e s = refl
 told_given Goal.Answer f k v e s = ap (λ (m : Records Call). record s { calls = m }) (same_map _ _ (λ q. grind (arith, nat_tests, get-change)))
 told_given _ f k v e s = refl
-
--- ---- A call whose end is written
 
 given_over : (g : Goal) (f : Caller) (k v : ℕ) (e : CallEnd) (n : ℕ) (y : Status) (s : Core) →
     (task_of n (told_at k y (result_given g f k v (set_end k e s))) ≡ task_of n s) × (is_over k (told_at k y (result_given g f k v (set_end k e s))) ≡ true)
