@@ -1,7 +1,6 @@
 -- Nobody runs but the thread whose turn it is, along the words of a step.
 use Rattle.task_places.proofs.Laws.{after_placing, after_word, along, ap, arith, behind_one, by_number, Collapses, Core, Enter, false, get, get-change, get-remove, GoBehind, GoesBack, inl, InPlace, inr, is_none, IsBeside, IsFirst, IsGone, IsRunner, IsSame, Label, Lands, LandsAt, Mark, MayLand, MayMove, Move, Moved, nat_tests, on_thread, Option, option_map, Place, place_of, Places, Placing, placing_shifted, Promote, promoted_shifted, push_high, push_low, Put, put_high, put_low, put_shifted, Quits, Remains, remove_thread, RemoveThread, runner_at, RunsAlone, Scene, scene_of, set_callers, set_how_far, set_place, Setting, settle_threads, settled_turn, Settles, Some, State, Stay, Stays, stays_allowed, Stop, stopped_shifted, sym, Thread, thread_came, ThreadAfter, Trip, true, Turn, Walked, Word, ℕ, ⊎_elim, ◌==◌, ◌∙◌, ◌≡◌, ◌⊎◌}
-use Rattle.task_places.proofs.PlaceLaw.{Frame, yield_leaves}
-use Rattle.task_places.proofs.PlaceSteps.{step_by, Withdrawable}
+use Rattle.task_places.proofs.{PlaceLaw.Frame, PlaceLaw.yield_leaves, PlaceSteps.Withdrawable, PlaceSteps.step_by}
 
 abbrev Runs : ℕ → Core → Type 0
 Runs k s = place_of k s ≡ Some Place.Running

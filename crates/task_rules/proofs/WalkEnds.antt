@@ -1,10 +1,6 @@
 -- The end of a task as a chain of words.
 use Rattle.task_rules.proofs.Machine.{after_word, ap, arith, Bool, Call, CallEnd, Caller, caller_of, cancelled, Core, EndCall, EndTells, false, get, get-change, give_result, GiveResult, Goal, goal_of, if◌then◌else◌, is_over, is_some, is_told, nat_tests, on_call, on_thread, Option, option_map_or, published, Records, refl, result_given, returned, same_map, SaysEnd, Scene, set_end, set_event, set_register, set_result, SetRegister, SetResult, Some, Status, status_of_end, subst, Subtask, sym, task_of, TellsNever, TellsNow, told, true, Walk, ℕ, ◌∙◌, ◌≡◌}
-use Rattle.task_rules.proofs.CallThreads.{LastEnds}
-use Rattle.task_rules.proofs.ChainLemmas.{chain_if, Keep}
-use Rattle.task_rules.proofs.FreeLemmas.{published_frees}
-use Rattle.task_rules.proofs.PlacingLemmas.{shifted_calls, shifted_task, shifts_shifted}
-use Rattle.task_rules.proofs.WalkMoves.{published_shifts, shifted, told_at, told_shifts, ToldTo, word}
+use Rattle.task_rules.proofs.{CallThreads.LastEnds, ChainLemmas.Keep, ChainLemmas.chain_if, FreeLemmas.published_frees, PlacingLemmas.shifted_calls, PlacingLemmas.shifted_task, PlacingLemmas.shifts_shifted, WalkMoves.ToldTo, WalkMoves.published_shifts, WalkMoves.shifted, WalkMoves.told_at, WalkMoves.told_shifts, WalkMoves.word}
 
 given_told : (g : Goal) (f : Caller) (k v : ℕ) (e : CallEnd) (s : Core) → is_told k (result_given g f k v (set_end k e s)) ≡ is_told k s
 unfolding set_end on_call give_result set_register on_thread set_result
