@@ -74,6 +74,7 @@ unfolding set_trapped
 trap_in_order c p s sits = record {
   order = λ m. beside_in_order _ _ s.handle_limit s.capacity c p s m (sits.order m);
   there = sits.there;
+  handles = sits.handles;
   ops = sits.ops;
   lacks = record { sets = sits.lacks.sets; places = sits.lacks.places; ops = sits.lacks.ops; works = sits.lacks.works };
 }

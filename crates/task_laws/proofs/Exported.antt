@@ -2,8 +2,8 @@
 use Rattle.task_rules.proofs.Machine.{after_word, Allowed, arith, Callee, Caller, component_of, Core, get, is_some, MayCall, refl, Scene, scene_of, sym, Word, ℕ, ◌∙◌, ◌≡◌}
 use Rattle.task_laws.proofs.CallsCame.{CallAfter, Grown, NewCall, NoCall, call_came}
 use Rattle.task_laws.proofs.Basics.{some_none}
-use Rattle.task_laws.proofs.OneHolder.{instance_stays, op_callee}
-use Rattle.task_laws.specs.Exports.{CallsExported, ExportsExist, InstancesStay, IsExported, StepsKeepExports}
+use Rattle.task_laws.proofs.OneHolder.{instance_stays, op_callee, table_stays}
+use Rattle.task_laws.specs.Exports.{CallsExported, ExportsExist, HandleTablesStay, InstancesStay, IsExported, StepsKeepExports}
 use Rattle.task_rules.proofs.ChainLemmas.{along}
 use Rattle.task_rules.proofs.WalkSteps.{step_walks}
 use Rattle.task_rules.specs.Allowed as may
@@ -32,3 +32,7 @@ steps_keep_exports x s l t exist q step =
 pub instances_stay : InstancesStay
 instances_stay x s l t step i =
     along (λ u. is_some (get u.instances i) ≡ is_some (get s.core.instances i)) (λ w u ok same. instance_stays w u i ∙ same) refl (step_walks x s l t step).walk
+
+pub handle_tables_stay : HandleTablesStay
+handle_tables_stay x s l t step i =
+    along (λ u. is_some (get u.handles i) ≡ is_some (get s.core.handles i)) (λ w u ok same. table_stays w u i ∙ same) refl (step_walks x s l t step).walk

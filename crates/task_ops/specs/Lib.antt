@@ -7,3 +7,4 @@ pub mod Acted
 pub mod Stays
 pub mod Gifts
 pub mod Polled
+pub mod Wakes

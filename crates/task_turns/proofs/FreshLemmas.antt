@@ -5,11 +5,12 @@ use Rattle.std.specs.Prelude.{None, Some, false, is_some, length, true, ℕ, ◌
 use Rattle.task_laws.specs.Lacks.{LacksOps, LacksSets}
 use Rattle.task_laws.specs.Order.{OpeningInOrder}
 use Rattle.task_laws.specs.Settings.{CodesInCallbacks}
-use Rattle.task_machine.specs.Core.{fresh}
+use Rattle.task_machine.specs.Core.{fresh, no_handles}
 use Rattle.task_machine.specs.Maps.{empty, get, get-empty}
 use Rattle.task_machine.specs.declared.component.Component.{Component}
 use Rattle.task_machine.specs.declared.op.Op.{Op}
 use Rattle.task_machine.specs.declared.op.Op.TheVariants as op
+use Rattle.task_machine.specs.declared.op.SetOp.TheVariants as set_op
 use Rattle.task_machine.specs.declared.records.Set.{Set}
 use Rattle.task_machine.specs.declared.records.Thread.{Thread}
 use Rattle.task_machine.specs.declared.records.Turn.TheVariants as turn
@@ -17,19 +18,21 @@ use Rattle.task_machine.specs.declared.records.Work.{Work}
 use Rattle.task_places.proofs.OrderLemmas.{opening_in_order}
 use Rattle.task_rules.proofs.Machine.{filled, get-insert, untouched}
 use Rattle.task_rules.specs.OpParts.{calls_host, makes_set}
-use Rattle.task_rules.specs.Scripts.{script_in}
-use Rattle.task_turns.proofs.RunLemmas.{covered_at}
-use Rattle.task_turns.specs.Covered.{IsCovered, is_covered_op}
+use Rattle.task_turns.specs.Covered.{IsCovered, op_fits}
 use Rattle.task_turns.specs.Turn.{Sits, given}
 
 -- the ops that are built make no set and call no host
-op_lacks : (o : Op) → is_covered_op o ≡ true → (makes_set o || calls_host o) ≡ false
-op_lacks (op.Data x) covered = refl
-op_lacks (op.Task x) covered = refl
-op_lacks o covered = absurd (cc)
+op_lacks : (o : Op) → op_fits o ≡ true → (makes_set o || calls_host o) ≡ false
+op_lacks (op.Data x) fits = refl
+op_lacks (op.Task x) fits = refl
+op_lacks (op.Thread x) fits = refl
+op_lacks (op.Set (set_op.Drop x)) fits = refl
+op_lacks (op.Set (set_op.Wait r x)) fits = refl
+op_lacks (op.Set (set_op.Poll r x)) fits = refl
+op_lacks o fits = absurd (cc)
 
 pub covered_lacks : (c : Component) → IsCovered c → LacksOps c
-covered_lacks c covered f x p o at = op_lacks o (covered_at (script_in c f x) p o (covered.ops f x) at)
+covered_lacks c covered f x p o at = op_lacks o (covered.ops f x p o at)
 
 pub lacks_fresh : (n handles capacity : ℕ) → LacksSets (fresh n handles capacity)
 unfolding fresh
@@ -49,6 +52,7 @@ unfolding OpeningInOrder fresh
 sits_fresh c covered codes n handles capacity enough = record {
   order = λ m. opening_in_order c codes n handles capacity m;
   there = λ i below. filled_at untouched n i (omega arith);
+  handles = λ i below. filled_at no_handles n i (omega arith);
   ops = covered_lacks c covered;
   lacks = lacks_fresh n handles capacity;
 }

@@ -1,91 +1,66 @@
--- Which thread goes on after an op, and what it shows.
-use Rattle.std.proofs.Common.{refl, subst, sym}
-use Rattle.std.specs.Prelude.{Bool, List, None, Option, Some, false, nat_lt, not, suc, true, zero, ◌%◌, ◌/◌, ◌==◌, ℕ, ◌≡◌}
+-- Which thread goes on after an op.
+use Rattle.std.proofs.Common.{ap, refl, subst, sym, ◌∙◌}
+use Rattle.std.specs.Prelude.{Bool, None, Option, Some, false, not, option_map, true, ℕ, ◌≡◌}
 use Rattle.task_machine.specs.Core.{Core}
-use Rattle.task_machine.specs.Read.{foot_of, instance_of, set_at, task_of}
-use Rattle.task_machine.specs.declared.component.Component.{Component}
+use Rattle.task_machine.specs.Labels.{exit_label}
+use Rattle.task_machine.specs.Moves.{passes_check}
+use Rattle.task_machine.specs.Read.{instance_of, kind_of, task_of, under_of}
+use Rattle.task_machine.specs.declared.component.ExportKind.{ExportKind}
+use Rattle.task_machine.specs.declared.component.ExportKind.TheVariants as kind
 use Rattle.task_machine.specs.declared.label.Label.{Label}
-use Rattle.task_machine.specs.declared.op.DataOp.{DataOp}
-use Rattle.task_machine.specs.declared.op.DataOp.TheVariants as data_op
 use Rattle.task_machine.specs.declared.trap.Trap.{Trap}
 use Rattle.task_machine.specs.declared.trap.Trap.TheVariants as trap
-use Rattle.task_ops.specs.Came.{Meets}
-use Rattle.task_ops.specs.Stays.{StaysAfter}
+use Rattle.task_ops.specs.Came.{IsCurrent, Meets}
 use Rattle.task_ops.specs.declared.came.Came.{Came}
 use Rattle.task_ops.specs.declared.came.Came.TheVariants as came
-use Rattle.task_rules.specs.Data.{data_row, skip_row}
-use Rattle.task_rules.specs.Ends.{code_exits, code_kind_row, code_row, code_wait_row, has_event_for, held_by_flag, leaves_no_result, passes_after_stop}
+use Rattle.task_rules.specs.Ends.{direct_exit_row, direct_exit_to}
 use Rattle.task_rules.specs.Outcome.{outcome_of_label}
-use Rattle.task_rules.specs.Progress.{Fails, Goes, Never, Ordered, Progress, Stops, Traps, or_trap, trap_if}
-use Rattle.task_rules.specs.Scripts.{value_of}
-use Rattle.task_turns.specs.Turn.{GoesOn, running_of}
-use Rattle.task_words.specs.StateView.{StateView}
+use Rattle.task_rules.specs.Progress.{Goes, Progress, trap_if}
+use Rattle.task_table.specs.declared.id.TableId.{TableId}
+use Rattle.task_turns.proofs.RowLemmas.{ShowsAs, shows_of}
+use Rattle.task_turns.specs.Turn.{GoesOn, Shows, running_of}
+use Rattle.task_wait.specs.declared.keys.ThreadKey.{ThreadKey}
+use Rattle.task_words.specs.StateView.{StateView, thread_of}
 
--- ---- The end of an activation
+shown_goes : (n : ℕ) (r : Came) (v : StateView) → Shows n r → running_of v ≡ Some n → GoesOn r v
+shown_goes n (came.Goes l m) v h runs = (runs ∙ ap (λ (k : ℕ). Some k) (sym h.0), h.1)
+shown_goes n (came.Stops l) v h runs = h
+shown_goes n (came.Traps why) v h runs = tt
+shown_goes n (came.Fails i) v h runs = tt
 
--- no thread goes on, and what is shown gives no outcome
-abbrev Ends : Progress → Type 0
-Ends (Goes l new m) = ⊥
-Ends (Stops l new) = outcome_of_label l ≡ None
-Ends (Ordered ns next) = (order : List ℕ) → Ends (next order)
-Ends _ = Unit {0}
+-- a thread whose name is kept runs still
+pub still_runs : (id : TableId ThreadKey) (s t : StateView) → s.current ≡ Some id → t.current ≡ s.current → thread_of t id ≡ thread_of s id → running_of t ≡ Some (thread_of s id)
+still_runs id s t runs current name = ap (option_map (λ i. thread_of t i)) (current ∙ runs) ∙ ap (λ (k : ℕ). Some k) name
 
-ends_goes : (v : StateView) (p : Progress) (s : Core) (r : Came) (t : Core) → Ends p → Meets p s r t → GoesOn r v
-ends_goes v (Goes l new m) s r t g h = absurd g
-ends_goes v (Stops l new) s r t g h = subst (λ (q : Came). GoesOn q v) (sym h.0) g
-ends_goes v (Traps why) s r t g h = subst (λ (q : Came). GoesOn q v) (sym h.0) tt
-ends_goes v (Fails i) s r t g h = subst (λ (q : Came). GoesOn q v) (sym h.0) tt
-ends_goes v Never s r t g h = absurd h
-ends_goes v (Ordered ns next) s r t g h = ends_goes v (next h.0) s r t (g h.0) h.1.1
+pub same_name : (id : TableId ThreadKey) (s t : StateView) → t.tags ≡ s.tags → thread_of t id ≡ thread_of s id
+same_name id s t tags = cc
 
-if_traps : (b : Bool) (why : Trap) (p : Progress) → Ends p → Ends (trap_if b why p)
-if_traps true why p g = tt
-if_traps false why p g = g
+-- an op whose row shows so lets this thread go on, or none
+pub row_goes : (id : TableId ThreadKey) (p : Progress) (s t : StateView) (r : Came) → ShowsAs (thread_of s id) p → Meets p s.core r t.core → s.current ≡ Some id → t.current ≡ s.current → thread_of t id ≡ thread_of s id → GoesOn r t
+row_goes id p s t r g h runs current name = shown_goes (thread_of s id) r t (shows_of (thread_of s id) p s.core r t.core g h) (still_runs id s t runs current name)
 
-module _ (l : Label) (quiet : outcome_of_label l ≡ None) where
-  wait_ends : (n x : ℕ) (held : List ℕ) (s : Core) (b : Bool) → Ends (code_wait_row l n x held s b)
-  wait_ends n x held s true = λ order. quiet
-  wait_ends n x held s false = λ order. quiet
+pub same_goes : (id : TableId ThreadKey) (p : Progress) (s t : StateView) (r : Came) → ShowsAs (thread_of s id) p → Meets p s.core r t.core → s.current ≡ Some id → t.tags ≡ s.tags → t.current ≡ s.current → GoesOn r t
+same_goes id p s t r g h runs tags current = row_goes id p s t r g h runs current (same_name id s t tags)
 
-  found_ends : (n : ℕ) (held : List ℕ) (s : Core) (why : Trap) (test : ℕ → Bool) (o : Option ℕ) → Ends (or_trap o why (λ x. code_wait_row l n x held s (test x)))
-  found_ends n held s why test None = tt
-  found_ends n held s why test (Some x) = wait_ends n x held s (test x)
+-- ---- The thread under a direct call goes on
 
-  kind_ends : (n : ℕ) (held : List ℕ) (s : Core) (k rest : ℕ) → Ends (code_kind_row l n held s k rest)
-  kind_ends n held s zero rest =
-      if_traps (not (passes_after_stop (instance_of n s) (foot_of n s) held s)) trap.CannotBlockSyncTask (trap_if (leaves_no_result n s) trap.NoAsyncResult exits)
-      (if_traps (leaves_no_result n s) trap.NoAsyncResult exits (λ order. quiet))
-    where
-      exits : Progress
-      exits = Ordered held (λ order. Stops l (code_exits n order s))
-  kind_ends n held s (suc zero) rest = λ order. quiet
-  kind_ends n held s (suc (suc zero)) rest = found_ends n held s trap.BadHandle (λ x. has_event_for (task_of n s) x s) (set_at (instance_of n s) rest s)
-  kind_ends n held s (suc (suc (suc k))) rest = tt
+module _ (v : StateView) where
+  current_goes : (l : Label) (m : ℕ) → outcome_of_label l ≡ None → IsCurrent (came.Goes l m) v → GoesOn (came.Goes l m) v
+  current_goes l m quiet c = (ap (option_map (λ id. thread_of v id)) c.1.0 ∙ ap (λ (k : ℕ). Some k) c.1.1, quiet)
 
-  pub code_goes : (n : ℕ) (s : Core) (code : ℕ) (r : Came) (t : Core) (v : StateView) → Meets (code_row l n s code) s r t → GoesOn r v
-  code_goes n s code r t v h = ends_goes v (code_row l n s code) s r t (if_traps (nat_lt 4294967295 code) trap.UnsupportedCallbackCode (code_kind_row l n (held_by_flag (instance_of n s) s) s (code % 16) (code / 16)) (kind_ends n (held_by_flag (instance_of n s) s) s (code % 16) (code / 16))) h
+  goes_met : (l : Label) (new : Core) (m : ℕ) (s : Core) (r : Came) (t : Core) → outcome_of_label l ≡ None → Meets (Goes l new m) s r t → IsCurrent r v → GoesOn r v
+  goes_met l new m s r t quiet h c = subst (λ (q : Came). GoesOn q v) (sym h.0) (current_goes l m quiet (subst (λ (q : Came). IsCurrent q v) h.0 c))
 
--- ---- Ops on registers and words
+  trap_met : (b : Bool) (why : Trap) (l : Label) (new : Core) (m : ℕ) (s : Core) (r : Came) (t : Core) → outcome_of_label l ≡ None → Meets (trap_if b why (Goes l new m)) s r t → IsCurrent r v → GoesOn r v
+  trap_met true why l new m s r t quiet h c = subst (λ (q : Came). GoesOn q v) (sym h.0) tt
+  trap_met false why l new m s r t quiet h c = goes_met l new m s r t quiet h c
 
--- the thread goes on
-abbrev GoesHere : ℕ → Came → Type 0
-GoesHere n r = (l : Label) × ((r ≡ came.Goes l n) × (outcome_of_label l ≡ None))
+  direct_met : (n : ℕ) (x : ExportKind) (s : Core) (o : Option ℕ) (r : Came) (t : Core) → Meets (direct_exit_to n x s o) s r t → IsCurrent r v → GoesOn r v
+  direct_met n x s None r t h c = absurd h
+  direct_met n kind.Sync s (Some m) r t h c = goes_met (exit_label n None) _ m s r t refl h c
+  direct_met n kind.Blocking s (Some m) r t h c = trap_met (not (passes_check (instance_of n s) s)) trap.CannotBlockSyncTask (exit_label n None) _ m s r t refl h c
+  direct_met n kind.Stackful s (Some m) r t h c = trap_met (not (passes_check (instance_of n s) s)) trap.CannotBlockSyncTask (exit_label n None) _ m s r t refl h c
+  direct_met n kind.Callback s (Some m) r t h c = trap_met (not (passes_check (instance_of n s) s)) trap.CannotBlockSyncTask (exit_label n None) _ m s r t refl h c
 
-skip_here : (c : Component) (n ops : ℕ) (s : Core) (b : Bool) (r : Came) (t : Core) → Meets (skip_row c n ops s b) s r t → GoesHere n r
-skip_here c n ops s true r t h = (_, (h.0, refl))
-skip_here c n ops s false r t h = (_, (h.0, refl))
-
-data_here : (c : Component) (n : ℕ) (s : Core) (o : DataOp) (r : Came) (t : Core) → Meets (data_row c n s o) s r t → GoesHere n r
-data_here c n s (data_op.Set q x) r t h = (_, (h.0, refl))
-data_here c n s (data_op.Add q x) r t h = (_, (h.0, refl))
-data_here c n s (data_op.Handle q x) r t h = (_, (h.0, refl))
-data_here c n s (data_op.Load q w) r t h = (_, (h.0, refl))
-data_here c n s (data_op.Store w x) r t h = (_, (h.0, refl))
-data_here c n s (data_op.SkipEq x y ops) r t h = skip_here c n ops s (value_of n s x == value_of n s y) r t h
-
-module _ (c : Component) (n : ℕ) (s : Core) (o : DataOp) (r : Came) (t : Core) (h : Meets (data_row c n s o) s r t) where
-  pub data_goes : (v : StateView) → running_of v ≡ Some n → GoesOn r v
-  data_goes v runs = let g = data_here c n s o r t h in subst (λ (q : Came). GoesOn q v) (sym g.1.0) (runs, g.1.1)
-
-  pub data_stays : (u v : StateView) → StaysAfter r u v
-  data_stays u v = let g = data_here c n s o r t h in subst (λ (q : Came). StaysAfter q u v) (sym g.1.0) tt
+  pub direct_goes : (n : ℕ) (s : Core) (r : Came) (t : Core) → Meets (direct_exit_row n s) s r t → IsCurrent r v → GoesOn r v
+  direct_goes n s r t h c = direct_met n (kind_of (task_of n s) s) s (under_of n s) r t h c

@@ -2,7 +2,7 @@
 use Rattle.std.proofs.Common.{ap, arith, refl, subst, sym, ◌∙◌}
 use Rattle.std.proofs.lemmas.Bool.Decides.{nat_tests}
 use Rattle.std.specs.Prelude.{List, Some, [], false, is_some, true, ℕ, ◌+◌, ◌==◌, ◌≡◌, ◌≤◌}
-use Rattle.task_laws.proofs.Exported.{instances_stay}
+use Rattle.task_laws.proofs.Exported.{handle_tables_stay, instances_stay}
 use Rattle.task_laws.specs.Order.{InOrder}
 use Rattle.task_machine.proofs.CommuteLemmas.{get-change}
 use Rattle.task_machine.specs.Core.{Began, Core, Main, Unscripted}
@@ -64,6 +64,7 @@ sits_after x s t m k p q l sits step =
     record {
       order = λ j. at_turn_of x.component t k j q q after.in_place.runs after;
       there = λ i below. instances_stay x (state_at s m p) l (state_at t k q) step i ∙ sits.there i below;
+      handles = λ i below. handle_tables_stay x (state_at s m p) l (state_at t k q) step i ∙ sits.handles i below;
       ops = sits.ops;
       lacks = steps_lack_sets x sits.ops (state_at s m p) l (state_at t k q) (sits.order m) sits.lacks step;
     }
@@ -78,6 +79,7 @@ acted c p act l s t may row kept sits =
     let before : Sits c turn.Main s = record {
       order = λ m. at_turn_of c s m m p turn.Main (λ n e. absurd (cc)) (sits.order m);
       there = sits.there;
+      handles = sits.handles;
       ops = sits.ops;
       lacks = sits.lacks;
     } in
@@ -87,6 +89,7 @@ acted c p act l s t may row kept sits =
     record {
       order = λ m. at_turn_of c t m m turn.Main p (λ n e. kept n ((sits.order m).in_place.runs n e)) (after.order m);
       there = after.there;
+      handles = after.handles;
       ops = after.ops;
       lacks = after.lacks;
     }

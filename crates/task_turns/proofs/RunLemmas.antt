@@ -1,6 +1,5 @@
 -- A step of the running thread.
 use Rattle.std.proofs.Common.{arith, ap, refl, subst, sym, ◌∙◌}
-use Rattle.std.specs.List.{list_all}
 use Rattle.std.specs.Option.{option_map_or}
 use Rattle.std.specs.Prelude.{Bool, List, Option, Some, [], slice_get, suc, true, unwrap_or, zero, ℕ, ◌∷◌, ◌≡◌}
 use Rattle.task_machine.specs.Core.{Core, Main}
@@ -33,7 +32,6 @@ use Rattle.task_rules.specs.Step.{Step, did, op_row}
 use Rattle.task_rules.specs.Takes.{popped, pushed, thread_taken}
 use Rattle.task_rules.specs.Turns.{at_turn, goes_to}
 use Rattle.task_table.specs.declared.id.TableId.{TableId}
-use Rattle.task_turns.specs.Covered.{is_covered_op}
 use Rattle.task_turns.specs.Turn.{state_at}
 use Rattle.task_wait.specs.declared.keys.ThreadKey.{ThreadKey}
 use Rattle.task_words.specs.StateView.{StateView, thread_of}
@@ -53,11 +51,6 @@ module _ (c : Component) (n : ℕ) (s : Core) (t : Thread) (here : get s.threads
   pub row_at : (o : Option Op) → o ≡ slice_get ops p → (r : Came) (u : Core) → Meets (op_row c n s (choice_of (label_of n r)) (unwrap_or o (op.Task task.Exit))) s r u → Meets (did c n s (choice_of (label_of n r))) s r u
   unfolding did op_of
   row_at o e r u h = subst (λ (q : Option Op). Meets (op_row c n s (choice_of (label_of n r)) (unwrap_or q (op.Task task.Exit))) s r u) (e ∙ (ap (slice_get ops) place ∙ ap (λ (os : List Op). slice_get os (position_of n s)) (sym script_is))) h
-
-pub covered_at : (ops : List Op) (p : ℕ) (o : Op) → list_all is_covered_op ops ≡ true → slice_get ops p ≡ Some o → is_covered_op o ≡ true
-covered_at [] p o all e = absurd (cc)
-covered_at (x ∷ ops) zero o all e = grind arith
-covered_at (x ∷ ops) (suc p) o all e = covered_at ops p o (grind arith) e
 
 -- ---- The step
 

@@ -23,32 +23,11 @@ use Rattle.task_rules.specs.Progress.{Fails, Goes, Never, Ordered, Progress, Sto
 use Rattle.task_rules.specs.Sets.{chosen, handed_out}
 use Rattle.task_rules.specs.Takes.{activated_woken, delivered, may_tell_starting, set_delivered, start_admitted, start_begins, start_holds, start_row}
 use Rattle.task_table.specs.declared.id.TableId.{TableId}
+use Rattle.task_turns.proofs.RowLemmas.{ShowsAs, here, if_lawful, if_traps, shows_of}
 use Rattle.task_turns.specs.Taken.{Taken}
 use Rattle.task_turns.specs.Turn.{CanStrike, Shows}
 use Rattle.task_wait.specs.declared.keys.ThreadKey.{ThreadKey}
 use Rattle.task_words.specs.StateView.{StateView, thread_of}
-
-abbrev ShowsAs : ℕ → Progress → Type 0
-ShowsAs n (Goes l new m) = (m ≡ n) × (outcome_of_label l ≡ None)
-ShowsAs n (Stops l new) = outcome_of_label l ≡ None
-ShowsAs n (Ordered ns next) = (order : List ℕ) → ShowsAs n (next order)
-ShowsAs n _ = Unit {0}
-
-shows_of : (n : ℕ) (p : Progress) (s : Core) (r : Came) (t : Core) → ShowsAs n p → Meets p s r t → Shows n r
-shows_of n (Goes l new m) s r t g h = subst (Shows n) (sym h.0) g
-shows_of n (Stops l new) s r t g h = subst (Shows n) (sym h.0) g
-shows_of n (Traps why) s r t g h = subst (Shows n) (sym h.0) tt
-shows_of n (Fails i) s r t g h = subst (Shows n) (sym h.0) tt
-shows_of n Never s r t g h = absurd h
-shows_of n (Ordered ns next) s r t g h = shows_of n (next h.0) s r t (g h.0) h.1.1
-
-if_traps : (n : ℕ) (b : Bool) (why : Trap) (p : Progress) → ShowsAs n p → ShowsAs n (trap_if b why p)
-if_traps n true why p g = tt
-if_traps n false why p g = g
-
-if_lawful : (n : ℕ) (b : Bool) (p : Progress) → ShowsAs n p → ShowsAs n (may b p)
-if_lawful n true p g = g
-if_lawful n false p g = tt
 
 take_quiet : (m : Mark) (n : ℕ) (w : Option ℕ) → outcome_of_label (take_label m n w) ≡ None
 take_quiet m n None = refl
@@ -67,12 +46,12 @@ event_quiet m n v (Some k) = refl
 admitted_shows : (m : Mark) (n : ℕ) (w : Option ℕ) (s : Core) (b : Bool) → ShowsAs n (start_admitted m n w s b)
 admitted_shows m n w s true = (refl, refl)
 admitted_shows m n w s false =
-    if_traps n (at_handle_limit s) trap.HandleLimit (may (may_tell (task_of n s) w s) (Goes (take_label m n w) (start_begins n w s) n))
-    (if_lawful n (may_tell (task_of n s) w s) (Goes (take_label m n w) (start_begins n w s) n) (refl, take_quiet m n w))
+    if_traps (here n) (at_handle_limit s) trap.HandleLimit (may (may_tell (task_of n s) w s) (Goes (take_label m n w) (start_begins n w s) n))
+    (if_lawful (here n) (may_tell (task_of n s) w s) (Goes (take_label m n w) (start_begins n w s) n) (refl, take_quiet m n w))
 
 start_as : (m : Mark) (n : ℕ) (w : Option ℕ) (s : Core) (b : Bool) → ShowsAs n (start_row m n w s b)
 start_as m n w s true = admitted_shows m n w s (is_explicit n s)
-start_as m n w s false = if_lawful n (may_tell_starting (task_of n s) w s) (Stops (held_label m n w) (start_holds n w s)) (held_quiet m n w)
+start_as m n w s false = if_lawful (here n) (may_tell_starting (task_of n s) w s) (Stops (held_label m n w) (start_holds n w s)) (held_quiet m n w)
 
 pub start_shows : (m : Mark) (n : ℕ) (w : Option ℕ) (s : Core) (b : Bool) (r : Came) (t : Core) → Meets (start_row m n w s b) s r t → Shows n r
 start_shows m n w s b r t h = shows_of n (start_row m n w s b) s r t (start_as m n w s b) h
@@ -82,9 +61,9 @@ start_shows m n w s b r t h = shows_of n (start_row m n w s b) s r t (start_as m
 given_as : (m : Mark) (n x : ℕ) (ch : Choice) (s : Core) (g : Gift) → ShowsAs n (set_delivered m n x ch s g)
 given_as m n x ch s NoGift = refl
 given_as m n x ch s (OwnGift e) = let v = handed_out ch s (OwnGift e) in
-    if_lawful n (may_hand_on x (OwnGift e) ch.woken s) (Goes (event_label m n v ch.woken) (activated_woken n x ch.woken (OwnGift e) v s) n) (refl, event_quiet m n v ch.woken)
+    if_lawful (here n) (may_hand_on x (OwnGift e) ch.woken s) (Goes (event_label m n v ch.woken) (activated_woken n x ch.woken (OwnGift e) v s) n) (refl, event_quiet m n v ch.woken)
 given_as m n x ch s (MemberGift h) = let v = handed_out ch s (MemberGift h) in
-    if_lawful n (may_hand_on x (MemberGift h) ch.woken s) (Goes (event_label m n v ch.woken) (activated_woken n x ch.woken (MemberGift h) v s) n) (refl, event_quiet m n v ch.woken)
+    if_lawful (here n) (may_hand_on x (MemberGift h) ch.woken s) (Goes (event_label m n v ch.woken) (activated_woken n x ch.woken (MemberGift h) v s) n) (refl, event_quiet m n v ch.woken)
 
 found_as : (m : Mark) (n x : ℕ) (ch : Choice) (s : Core) (o : Option Gift) → ShowsAs n (or_never o (set_delivered m n x ch s))
 found_as m n x ch s None = tt

@@ -1,23 +1,49 @@
 -- The thread that runs, as its ops need it.
-use Rattle.std.specs.Prelude.{◌≡◌, ◌<◌, ℕ, Some, false}
+use Rattle.std.specs.Prelude.{Bool, IsSome, Some, false, is_some, true, ℕ, ◌<◌, ◌≡◌, ◌||◌}
+use Rattle.task_machine.specs.Core.{Core}
 use Rattle.task_machine.specs.Maps.{get}
-use Rattle.task_machine.specs.declared.records.Thread.{Thread}
-use Rattle.task_machine.specs.Read.{goal_of, is_direct, kind_of, task_of}
-use Rattle.task_machine.specs.declared.component.ExportKind.TheVariants as kind
+use Rattle.task_machine.specs.Read.{goal_of, how_far_of, instance_of, is_direct, is_explicit, task_of, under_of}
+use Rattle.task_machine.specs.declared.records.HowFar.{HowFar}
+use Rattle.task_machine.specs.declared.records.HowFar.TheVariants as how_far
 use Rattle.task_machine.specs.declared.records.Subtask.TheVariants as subtask
+use Rattle.task_machine.specs.declared.records.Thread.{Thread}
+use Rattle.task_machine.specs.declared.op.ThreadOp.{ThreadOp}
 use Rattle.task_moves.specs.Idle.{IsJoinThere}
+use Rattle.task_ops.specs.Gifts.{AllMembersNamed, MembersNamed}
 use Rattle.task_ops.specs.Running.{IsRunning, SetsThere}
-use Rattle.task_turns.specs.Turn.{running_of}
-use Rattle.task_words.specs.StateView.{StateView}
+use Rattle.task_ops.specs.Wakes.{WaitersTogether}
+use Rattle.task_rules.specs.OpParts.{suspends, yields}
+use Rattle.task_table.specs.declared.id.TableId.{TableId}
+use Rattle.task_wait.specs.declared.keys.ThreadKey.{ThreadKey}
+use Rattle.task_words.specs.StateView.{StateView, thread_of}
 
--- The thread runs, for a call of a callback export. Sets that handles name are there, and so is the one that its call is joined to.
-pub record Runner (n : ℕ) (s : StateView) : Type 0 where
+-- the thread was resumed inside an op that suspends or yields
+abbrev pub is_resumed : HowFar → Bool
+is_resumed how_far.Suspends = true
+is_resumed how_far.Yields = true
+is_resumed _ = false
+
+-- an op inside which a thread may be resumed
+abbrev pub is_halting : ThreadOp → Bool
+is_halting o = suspends o || yields o
+
+-- The set inside a wait on which the thread is is there, and its ready members are named in the thread's instance.
+pub record WaitsThere (n : ℕ) (s : Core) : Type 0 where
+  pub there : (x : ℕ) → how_far_of n s ≡ how_far.Waits x → is_some (get s.sets x) ≡ true
+  pub members : (x : ℕ) → how_far_of n s ≡ how_far.Waits x → MembersNamed (instance_of n s) x s
+
+-- The thread runs. Sets that handles name are there, and so is the one that its call is joined to. Under the first thread of a direct call
+-- there is another one. Ready members of sets are named where they are waited for, and waiters of one set are of one instance.
+pub record Runner (id : TableId ThreadKey) (s : StateView) : Type 0 where
   pub thread : Thread
-  pub here : get s.core.threads n ≡ Some thread
-  pub live : 0 < n
-  pub runs : running_of s ≡ Some n
-  pub running : IsRunning n s.core
-  pub kind : kind_of (task_of n s.core) s.core ≡ kind.Callback
-  pub indirect : is_direct (goal_of (task_of n s.core) s.core) ≡ false
+  pub here : get s.core.threads (thread_of s id) ≡ Some thread
+  pub live : 0 < thread_of s id
+  pub current : s.current ≡ Some id
+  pub running : IsRunning (thread_of s id) s.core
   pub sets : SetsThere s.core
-  pub join : IsJoinThere (subtask.Guest (task_of n s.core)) s.core
+  pub join : IsJoinThere (subtask.Guest (task_of (thread_of s id) s.core)) s.core
+  pub under : is_explicit (thread_of s id) s.core ≡ false → is_direct (goal_of (task_of (thread_of s id) s.core) s.core) ≡ true →
+      IsSome (under_of (thread_of s id) s.core)
+  pub members : AllMembersNamed (instance_of (thread_of s id) s.core) s.core
+  pub waits : WaitsThere (thread_of s id) s.core
+  pub together : WaitersTogether s.core

@@ -27,11 +27,16 @@ use Rattle.task_words.specs.StateView.{StateView, thread_of}
 abbrev pub state_at : Core → Main → Turn → State
 state_at s m p = record { version = One; core = s; main = m; turn = p }
 
+-- Each instance of the component has its table of handles.
+abbrev pub HasHandles : Component → Core → Type 0
+HasHandles c s = (i : ℕ) → i < length c.instances → is_some (get s.handles i) ≡ true
+
 -- The core is in order at this turn, whatever main's part is. No op of the component makes a set or calls a host asynchronously, and the
 -- core has no set and no such call. Each instance of the component is there.
 pub record Sits (c : Component) (p : Turn) (s : Core) : Type 0 where
   pub order : (m : Main) → InOrder c (state_at s m p)
   pub there : (i : ℕ) → i < length c.instances → is_some (get s.instances i) ≡ true
+  pub handles : HasHandles c s
   pub ops : LacksOps c
   pub lacks : LacksSets s
 

@@ -3,6 +3,7 @@
 #![tactic(auto)]
 
 mod context;
+mod exits;
 mod futures;
 mod kept;
 mod made;
@@ -10,9 +11,12 @@ mod mains;
 mod rests;
 mod runs;
 mod scripts;
+mod sets;
 mod settles;
 mod stretches;
 mod takes;
+mod tasks;
+mod threads;
 mod trace;
 mod turns;
 

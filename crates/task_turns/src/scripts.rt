@@ -1,5 +1,5 @@
 //! The scripts of a component.
-ghost use Rattle.std.specs.Prelude.{◌≡◌, option_copied, slice_get};
+ghost use Rattle.std.specs.Prelude.{◌≡◌, option_and_then, option_copied, slice_get};
 ghost use Rattle.task_rules.specs.Scripts.{export_at, script_in, slot_at, slot_script};
 
 use task_machine::{Callee, Component, ExportDef, Op, Script, Slot};
@@ -15,14 +15,19 @@ pub fn export_def(component: &Component, callee: Callee) -> Option<&ExportDef>
     instance.exports.as_slice().get(callee.export as usize)
 }
 
+/// What stands in a slot of an instance, none where the component has no such slot.
+pub(crate) fn slot_line(component: &Component, instance: u32, slot: u8) -> Option<&Slot>
+    ensures { option_copied result ≡ option_and_then (λ d. slice_get d.slots slot) (slice_get component.now.instances instance) }
+{
+    let def = component.instances.as_slice().get(instance as usize)?;
+    def.slots.as_slice().get(slot as usize)
+}
+
 // The script of a slot; empty where there is none.
 fn slot_ops(component: &Component, instance: u32, slot: u8) -> &[Op]
     ensures { result.now ≡ slot_script (slot_at component.now instance slot) }
 {
-    let Some(def) = component.instances.as_slice().get(instance as usize) else {
-        return &[];
-    };
-    match def.slots.as_slice().get(slot as usize) {
+    match slot_line(component, instance, slot) {
         Some(Slot::Script(ops)) => ops.as_slice(),
         _ => &[],
     }
