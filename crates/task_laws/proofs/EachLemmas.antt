@@ -4,7 +4,7 @@ use Rattle.task_rules.proofs.StandLemmas.{is_eq_of, not_eq}
 
 -- ---- What is at a number before and after
 
-at_test : (n k : ℕ) (P : Bool → Type 0) → (n ≡ k → P true) → ((n ≡ k → ⊥) → P false) → P (n == k)
+pub at_test : (n k : ℕ) (P : Bool → Type 0) → (n ≡ k → P true) → ((n ≡ k → ⊥) → P false) → P (n == k)
 at_test n k P own rest = go (n == k) refl
   where
     go : (b : Bool) → (n == k) ≡ b → P b

@@ -56,7 +56,7 @@ SameOp t r = (t.call ≡ r.call) × ((t.script ≡ r.script) × (t.position ≡ 
 op_same : (c : Component) (b : Core) (t r : Thread) → SameOp t r → op_of_thread c b t ≡ op_of_thread c b r
 op_same c b t r is = grind (arith, is.0, is.1.0, is.1.1)
 
-op_there : (c : Component) (b : Core) (n : ℕ) (r : Thread) → get b.threads n ≡ Some r → op_of c n b ≡ op_of_thread c b r
+pub op_there : (c : Component) (b : Core) (n : ℕ) (r : Thread) → get b.threads n ≡ Some r → op_of c n b ≡ op_of_thread c b r
 unfolding op_of script_of
 op_there c b n r at = grind arith
 

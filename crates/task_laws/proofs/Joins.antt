@@ -122,7 +122,7 @@ module _ (a : Scene) (s : Core) (q : JoinsNamed s) where
     joined_now sub x (m, (handles, sets)) = record {
       instance = instance_of m.0 a.base;
       handle = m.1.0;
-      home = rw sets (tidy.home (instance_of m.0 a.base) m.1.1.0 x m.1.1.1.1.1);
+      home = rw sets (tidy.home (instance_of m.0 a.base) m.1.1.0 x m.1.1.1.1.1.0);
       named = rw handles m.1.1.1.1.0;
     }
 

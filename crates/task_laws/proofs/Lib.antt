@@ -7,7 +7,9 @@ pub mod StrandLemmas
 pub mod WaitLemmas
 pub mod SceneLemmas
 pub mod HousedLemmas
+pub mod HeldLemmas
 pub mod Subtasks
+pub mod WatchLemmas
 pub mod HandleTables
 pub mod Joins
 pub mod CountLemmas
@@ -31,3 +33,5 @@ pub mod AwaitedCalls
 pub mod NamedWorks
 pub mod SyncWorks
 pub mod LackLemmas
+pub mod KnownWorks
+pub mod MemberLemmas

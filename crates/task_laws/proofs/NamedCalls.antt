@@ -87,7 +87,7 @@ named_called a i k s base there (n, (runs, (at, (far, (done, (whose, handle)))))
     go None is h = absurd (grind arith)
     go (Some c) is h = let r = base.known.called n k far c is in (whose ∙ (ap (λ (o : Option Call). option_map_or (λ d. d.caller) o Caller.Main) is ∙ r.0), handle ∙ (ap (λ (o : Option Call). option_and_then (λ d. d.handle) o) is ∙ r.1.0))
 
-next_given : (i : ℕ) (s : Core) → new_handle i s ≡ handle_of_table s.handles i
+pub next_given : (i : ℕ) (s : Core) → new_handle i s ≡ handle_of_table s.handles i
 unfolding new_handle
 next_given i s = refl
 

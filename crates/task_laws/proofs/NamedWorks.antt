@@ -37,7 +37,7 @@ async_other j s h async = let v = doing_there j s (grind arith) in record { made
 pub names_word : {S : Type 0} (a : Scene) (w : Word) (s : Core) → Allowed a w s → WorksHold S s → NamesNoSync s → NamesNoSync
     (after_word w s)
 names_word a w s ok h q i g j e = abort_kept a w s ok j
-    (⊎_elim (λ f. q i g j f) (λ now. async_other j s h now.1.1) (handle_named a s w ok i g (Subtask.Host j) e))
+    (⊎_elim (λ f. q i g j f) (λ now. async_other j s h now.1.1.0) (handle_named a s w ok i g (Subtask.Host j) e))
 
 pub opening_names : (instances handle_limit capacity : ℕ) → NamesNoSync (fresh instances handle_limit capacity)
 unfolding fresh

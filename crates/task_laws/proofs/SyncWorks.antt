@@ -11,11 +11,11 @@ use Rattle.task_laws.specs.Ends.{MayBeAborted}
 abbrev pub CallersKnown : Core → Type 0
 CallersKnown s = (n i : ℕ) → how_far_of n s ≡ HowFar.Calls (Subtask.Host i) → work_caller_of i s ≡ WorkCaller.Sync n
 
-abbrev called_work : HowFar → Option ℕ
+abbrev pub called_work : HowFar → Option ℕ
 called_work (HowFar.Calls (Subtask.Host i)) = Some i
 called_work f = None
 
-calls_work : (f : HowFar) (i : ℕ) → called_work f ≡ Some i → f ≡ HowFar.Calls (Subtask.Host i)
+pub calls_work : (f : HowFar) (i : ℕ) → called_work f ≡ Some i → f ≡ HowFar.Calls (Subtask.Host i)
 calls_work f i h = grind arith
 
 -- a sync call's work is there
@@ -27,13 +27,13 @@ module _ {S : Type 0} (a : Scene) (low : (i : ℕ) (v : Doing) → doing_of i a.
     (base : CallersKnown a.base) (names : NamesNoSync a.base) (w : Word) (s : Core) (ok : Allowed a w s) (q : WorksGo S a s)
     (kept : (i : ℕ) → MayBeAborted a.base i → MayBeAborted s i) where
   old : (i : ℕ) → MayRemoveWork a i s → i ≤ a.base.made.works
-  old i (m, (runner, inl (far, fresh))) = let r = sync_there i m a.base (base m i far) in low i r.0 r.1.0
+  old i (m, (runner, inl (far, (fresh, same)))) = let r = sync_there i m a.base (base m i far) in low i r.0 r.1.0
   old i (m, (runner, inr (ended, (free, (over, (h, named)))))) = (names (instance_of m a.base) h i named).made
 
   -- that of a thread inside the call isn't removed
   removed : (n i : ℕ) → work_caller_of i s ≡ WorkCaller.Sync n → (how_far_of n s ≡ HowFar.Fresh → ⊥) → MayRemoveWork a i s → ⊥
-  removed n i caller inside (m, (runner, inl (far, fresh))) =
-      let was = q.was i (old i (m, (runner, inl (far, fresh)))) in let first = base m i far in
+  removed n i caller inside (m, (runner, inl (far, (fresh, same)))) =
+      let was = q.was i (old i (m, (runner, inl (far, (fresh, same))))) in let first = base m i far in
       let same : m ≡ n = grind arith in inside (rw same at fresh)
   removed n i caller inside (m, (runner, inr (ended, (free, (over, (h, named)))))) =
       let other = (kept i (names (instance_of m a.base) h i named)).other in absurd (grind arith)

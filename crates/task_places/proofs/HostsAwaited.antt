@@ -5,7 +5,7 @@ use Rattle.task_rules.proofs.PlacingLemmas.{placing_shifted, SameWorks}
 use Rattle.task_rules.proofs.WalkMoves.{blocked_place}
 use Rattle.task_laws.proofs.CallsCame.{IsBeside, IsFirst, IsGone, IsSame, ThreadAfter, thread_came}
 use Rattle.task_laws.specs.Order.{HostsAwaited, WorksQueued, InPlace}
-use Rattle.task_places.proofs.PlaceLaw.{Frame, beside, exits, move_runner, no_way, runner_there, stands, stay_word, stuck_word, watch, yield_leaves}
+use Rattle.task_places.proofs.PlaceLaw.{Frame, beside, exits, move_runner, runner_there, stands, stay_word, stuck_word, watch, yield_leaves}
 use Rattle.task_places.proofs.WorksQueued.{ended_word, works_word, others_move}
 use Rattle.task_laws.proofs.CountLemmas.{made_works_word}
 use Rattle.task_rules.proofs.ChainLemmas.{along, fall_allowed, land_allowed, stays_allowed, settle_stays}
@@ -71,6 +71,21 @@ working_word a asked w s ok stuck h = record {
 
 -- ---- Trips
 
+module _ {a : Scene} {b : Core} {n : ℕ} {q : Option Place} (f : Frame a b n q) where
+  -- who doesn't land and isn't new stays
+  pub land_kept : (p : Placing) (s : Core) → MayLand a p s → Stay a b s → (m : ℕ) → ((k : ℕ) → IsRunner a k → (m == k) ≡ false) →
+      (place_of m s ≡ Some Place.New → ⊥) → place_of m (after_placing p s) ≡ place_of m s
+  unfolding put_high push_high put_low push_low behind_one set_callers
+  land_kept (Put Mark.High k w) s ok c m other old = place_kept m k _ s (other k (yield_leaves k w ok).0)
+  land_kept (Put Mark.Low k w) s ok c m other old = place_kept m k _ s (other k (yield_leaves k w ok).0)
+  land_kept (GoBehind g k) s ok c m other old = place_kept m k _ s (other k ok.0.0)
+  land_kept (Move k r) s ok c m other old = place_kept m k r s (other k (move_runner k r s ok (λ j is. runner_there f j s is c)))
+  land_kept (Enter k j) s ok c m other old =
+      let new = ok.1.1.1.0 in
+      place_kept m k _ (set_place j Place.Running s) (other k ok.0) ∙
+      place_kept m j Place.Running s (by_number m j _ (λ e. absurd (old (rw e new))) (λ e. e))
+  land_kept x s ok c m other old = absurd ok
+
 module _ {a : Scene} {b : Core} {n : ℕ} {q : Option Place} (f : Frame a b n q) (asked : Asked a) where
   -- who is blocked is neither the one that lands nor a new one
   apart : (k m : ℕ) (s : Core) → IsRunner a k → Stay a b s → (sub : Subtask) → place_of m s ≡ Some (Place.Blocked sub) → (m == k) ≡ false
@@ -81,17 +96,7 @@ module _ {a : Scene} {b : Core} {n : ℕ} {q : Option Place} (f : Frame a b n q)
 
   land_blocked : (p : Placing) (s : Core) → MayLand a p s → Stay a b s → (m : ℕ) (sub : Subtask) → place_of m s ≡ Some (Place.Blocked sub) →
       place_of m (after_placing p s) ≡ Some (Place.Blocked sub)
-  unfolding put_high push_high put_low push_low behind_one set_callers
-  land_blocked (Put Mark.High k w) s ok c m sub at = place_kept m k _ s (apart k m s (yield_leaves k w ok).0 c sub at) ∙ at
-  land_blocked (Put Mark.Low k w) s ok c m sub at = place_kept m k _ s (apart k m s (yield_leaves k w ok).0 c sub at) ∙ at
-  land_blocked (GoBehind g k) s ok c m sub at = place_kept m k _ s (apart k m s ok.0.0 c sub at) ∙ at
-  land_blocked (Move k r) s ok c m sub at =
-      place_kept m k r s (apart k m s (move_runner k r s ok (λ j is. runner_there f j s is c)) c sub at) ∙ at
-  land_blocked (Enter k j) s ok c m sub at =
-      let new = ok.1.1.1.0 in
-      let other : (m == j) ≡ false = by_number m j _ (λ e. absurd (grind arith)) (λ e. e) in
-      place_kept m k _ (set_place j Place.Running s) (apart k m s ok.0 c sub at) ∙ (place_kept m j Place.Running s other ∙ at)
-  land_blocked x s ok c m sub at = absurd ok
+  land_blocked p s ok c m sub at = land_kept f p s ok c m (λ k is. apart k m s is c sub at) (λ new. absurd (cc)) ∙ at
 
   stays : {t : Core} → Working a b → Stay a b t → Working a t
   stays first c =
@@ -113,9 +118,9 @@ module _ {a : Scene} {b : Core} {n : ℕ} {q : Option Place} (f : Frame a b n q)
       (stays first c)
 
   pub trip_works : {t : Core} → Working a b → Trip a b t → Working a t
-  trip_works first (Remains t c still) = stays first c
-  trip_works first (Lands s p c ok) = landed s p first c ok
-  trip_works first (LandsAt s p m h c ok comes) =
+  trip_works first (Remains t c still on) = stays first c
+  trip_works first (Lands s p c ok fit) = landed s p first c ok
+  trip_works first (LandsAt s p m h c ok fit comes) =
       let t = after_word (Places p) s in
       working_word a asked (SetHowFar m h) t comes (λ j i at x e. absurd (cc)) (landed s p first c ok)
   trip_works first (Quits s t k c leave d) =

@@ -5,5 +5,10 @@ pub mod Directs
 pub mod CallsBack
 pub mod WorksQueued
 pub mod HostsAwaited
+pub mod InsideLemmas
+pub mod AloneLemmas
+pub mod WaitsKept
 pub mod OrderLemmas
 pub mod OnceSteps
+pub mod WakeLines
+pub mod IdleLemmas

@@ -152,27 +152,37 @@ module _ {a : Scene} {b : Core} {n : ℕ} {q : Option Place} (f : Follows a b n 
       waiting : (k : ℕ) → Stays a (Withdraw k) s → is_fresh (place_of k s) ≡ true
       waiting k may = fresh_still a st k (withdraws_waits k s may)
 
+  -- what is so of a thread's place stays so by a word that, where it puts the thread, puts it so
+  pub watched_word : (v : Watch) (m : ℕ) (w : Word) (s : Core) → Stays a w s → Stand (watch a) n q [] s →
+      ((x : Mark) (u : Why) → MayPut m u s → is_so v (Some (Place.Ready x u)) ≡ true) → is_watched v ≡ true →
+      is_so v (place_of m s) ≡ true → is_so v (place_of m (after_word w s)) ≡ true
+  watched_word v m w s ok st puts is at =
+      let kept = (keeps_word w s ok (λ x k u e g so. put x k u (subst (λ (y : Word). Stays a y s) e ok) g)
+      (λ k e. fresh_still a st k (withdraws_waits k s (subst (λ (y : Word). Stays a y s) e ok))) before).kept m in
+      grind (arith, nat_tests)
+    where
+      only : ℕ → Watch
+      only k = if k == m then v else Nothing
+
+      before : Stand only n q [] s
+      before = watching n q [] s (λ k h. (refl, grind (arith, nat_tests))) st
+
+      put : (x : Mark) (k : ℕ) (u : Why) → Stays a (Places (Put x k u)) s → is_watched (only k) ≡ true →
+          is_so (only k) (Some (Place.Ready x u)) ≡ true
+      put x k u (inl may) g = by_number k m _ (λ e. let so = puts x u (rw (← e) may) in grind (arith, nat_tests)) (λ e. absurd (grind arith))
+      put x k u (inr may) g = absurd may
+
   -- a thread that is blocked stays so, but where its host's work is done
   pub stuck_word : (m : ℕ) (sub : Subtask) (w : Word) (s : Core) → Stays a w s → Stand (watch a) n q [] s →
       place_of m s ≡ Some (Place.Blocked sub) → (place_of m (after_word w s) ≡ Some (Place.Blocked sub)) ⊎ (is_done_host sub s ≡ true)
   stuck_word m sub w s ok st at = by_done (is_done_host sub s) refl
     where
-      only : ℕ → Watch
-      only k = if k == m then Stuck sub else Nothing
-
-      before : Stand only n q [] s
-      before = watching n q [] s (λ k h. (refl, grind (arith, nat_tests))) st
-
-      not_put : (x : Mark) (k : ℕ) (v : Why) → Stays a (Places (Put x k v)) s → is_watched (only k) ≡ true → is_done_host sub s ≡ true
-      not_put x k v (inl may) g = put_blocked k sub v s may (grind (arith, nat_tests))
-      not_put x k v (inr may) g = absurd may
-
       by_done : (b : Bool) → is_done_host sub s ≡ b → (place_of m (after_word w s) ≡ Some (Place.Blocked sub)) ⊎ (is_done_host sub s ≡ true)
       by_done true done = inr done
       by_done false undone =
-          let kept = (keeps_word w s ok (λ x k v is g so. no_way (sym undone ∙ not_put x k v (subst (λ (y : Word). Stays a y s) is ok) g))
-          (λ k is. fresh_still a st k (withdraws_waits k s (subst (λ (y : Word). Stays a y s) is ok))) before).kept m in
-          inl (blocked_place sub (place_of m (after_word w s)) (grind (arith, nat_tests)))
+          let still = watched_word (Stuck sub) m w s ok st (λ x u may. no_way (sym undone ∙ put_blocked m sub u s may at)) refl
+          (grind (arith, nat_tests)) in
+          inl (blocked_place sub (place_of m (after_word w s)) still)
 
   pub stay_stand : {t : Core} → Stay a b t → Stand (watch a) n q [] t
   stay_stand c = along (λ (t : Core). Stand (watch a) n q [] t) stay_word f.start c
@@ -347,7 +357,7 @@ module _ {a : Scene} {b : Core} {n : ℕ} {q : Option Place} (f : Frame a b n q)
         λ implicit. let x = fresh_ready h.0 h.1.follows.busy (ap is_fresh (sym h.1.home) ∙ w) in
             starts implicit (x.0, h.1.home ∙ ap (λ (y : Place). Some y) x.1),
       )))
-  moves k r s (Holds w l was at) c =
+  moves k r s (Holds w l was out at) c =
       let h = beside k l.0 in
       comes h.1 c r _ (set_place_adds k r h.0 s (ap is_free at) (stands h.1 c).here) (λ m next. not_main m (sym l.1 ∙ next))
       (λ g. inl (let e = was.1 in grind arith))
@@ -450,7 +460,7 @@ module _ {a : Scene} {b : Core} {n : ℕ} {q : Option Place} (f : Frame a b n q)
       }
 
   pub trip_arrives : {t : Core} → Trip a b t → LastWords a t → Arrives a t
-  trip_arrives (Remains t c still) w =
+  trip_arrives (Remains t c still on) w =
       let st = stay_stand f.follows c in
       let here = st.here in
       let home = f.home n in
@@ -462,8 +472,8 @@ module _ {a : Scene} {b : Core} {n : ℕ} {q : Option Place} (f : Frame a b n q)
         covered = λ k m at. inl (covered_still a st k m at);
         entered = λ m none to. let r = f.running m (still m to) in absurd (cc);
       }
-  trip_arrives (Lands s p c ok) w = subst (λ (t : Core). Arrives a t) (sym (placing_shifted p s).only) (lands p s ok c)
-  trip_arrives (LandsAt s p m h c ok comes) w =
+  trip_arrives (Lands s p c ok fit) w = subst (λ (t : Core). Arrives a t) (sym (placing_shifted p s).only) (lands p s ok c)
+  trip_arrives (LandsAt s p m h c ok fit comes) w =
       far_arrives a m h _ (subst (λ (t : Core). Arrives a t) (sym (placing_shifted p s).only) (lands p s ok c))
   trip_arrives (Quits s t k c leave d) w =
       let e = exits k s t leave.0 c d in

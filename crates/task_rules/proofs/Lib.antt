@@ -14,6 +14,7 @@ pub mod WalkEnds
 pub mod WalkMoves
 pub mod PlacingLemmas
 pub mod CheckLemmas
+pub mod ReleaseLemmas
 pub mod StandLemmas
 pub mod StopLemmas
 pub mod MoveLemmas

@@ -165,7 +165,7 @@ module _ (x : Setting) (s : State) (l : Label) where
   idle u b next m k new {t = t} quiet same is at says c =
       let q = idle_parts (outcome_of_label k) (begun_holder b k) next quiet in
       arrives (idle_scene u b) s.core s new m next t NoWord same at (
-        Remains new (keep_stay c) (λ j to. absurd (q.0 j to)),
+        Remains new (keep_stay c) (λ j to. absurd (q.0 j to)) (λ j none. none_said refl none),
         record {
           laid = λ j none take. none_said refl none;
           runs = λ j to. absurd (q.0 j to);
@@ -328,7 +328,7 @@ module _ (x : Setting) (s : State) (l : Label) where
       by (Traps trap) row h = falls_so (trap_label n trap) refl refl h.0 h.1
       by (Fails i) row h = falls_so (Label.Call (CallLabel.Fails n i)) refl refl h.0 h.1
       by Never row h = absurd h
-      by (Ordered ns next) row h = by (next h.0) (λ v. row v h.0) h.1.1
+      by (Ordered ns next) row h = by (next h.0) (λ v. row v h.0 h.1.0) h.1.1
 
   empty_walks : (ended : Bool) (b : Bool) (t : State) → EmptyFor x s b l t → WalkedBy (scene_at (Turn.Take ended) None) s.core s.main t
   empty_walks ended true t is = rests (is_unended_take s.turn) is

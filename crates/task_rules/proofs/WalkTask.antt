@@ -3,10 +3,11 @@ use Rattle.task_rules.proofs.ChainLemmas.{Going, Keep, keep_stay, trip_walk, sta
 use Rattle.task_rules.proofs.SayLemmas.{said_is}
 use Rattle.task_rules.proofs.MuteLemmas.{both_none, is_mute, mute_words, none_said, says_by, writes_by}
 use Rattle.task_rules.proofs.WalkEnds.{cancelled_rest, returned_rest, call_ends, ends_untold, ended_last, returned_last}
-use Rattle.task_rules.proofs.Machine.{[], Advance, advanced, and_parts, answered, ap, ap₂, arith, assigned, AwaitsEvent, backpressure_of, begun_holder, blocking_exit_row, blocking_exits, Bool, BySetHandle, Call, CallEnd, cancel_was_delivered, change, checked, Choice, code_exits, code_finds, code_kind_row, code_row, code_stops, code_wait_row, code_waits, code_yields, ComesAgain, Component, component_of, Core, data_row, DataLabel, DataOp, Delivery, direct_exit_to, direct_exits, end_for, end_reopens, EndCall, ended, ends_activation, EndsActivation, EndsByExit, EndsCall, EndsOwn, EndWords, exit_label, exit_restores, exit_row_for, exit_stops, Exits, ExportKind, Fails, false, FindsEvent, foot_of, get, get-change, GivesUp, goal_of, Goes, GoesBack, handed_by, HandsOut, has_ended, has_event_for, HasSet, held_by_flag, holder_at_exit, HowFar, if◌then◌else◌, implicit_exit_row, inl, inr, instance_of, is_async_lifted, is_at, is_code_op, is_direct, is_ending_exit, is_exit, is_explicit, is_holding, is_none, is_over, is_running, is_under, IsRunner, kind_exit_row, kind_of, Label, LastWords, Leaves, leaves_no_result, length, List, Main, Mark, may, may_tell, MayBar, MayEnd, MayOwe, min, Move, moved_to, nat_le, nat_lt, nat_tests, Never, None, not, NoWord, numbers, on_call, on_instance, on_thread, Op, op_at_place, op_in, op_of, Option, option_map, option_map_or, or_never, or_trap, Ordered, outcome_of_label, own_event_of, own_or_none, OwnEvent, passes_after_return, passes_after_stop, passes_check, Place, place_of, position_of, Progress, Put, Records, refl, register_of, Remains, ret_label, returned, returned_holder, ReturnsNow, saved_own_of, SaysEnd, Scene, script_of, set_at, set_backpressure, set_do_not_enter, set_do_not_suspend, set_end, set_how_far, set_place, SetBackpressure, SetDoNotEnter, SetDoNotSuspend, SetOwnEvent, SetRegister, SetSavedCallee, Setting, SetWord, skip_row, skipped, Some, Status, stopped, Stops, stored, subst, Subtask, SubtaskEnd, suc, sym, sync_exit_row, sync_exits, T, task_cancel_label, task_end, task_of, TaskLabel, TaskOp, Then, Thread, thread_exit_row, Trap, trap_if, Traps, Trip, true, Turn, Uncovers, under_of, unwrap_or, value_of, Walk, Why, Writes, WritesCall, WritesToo, written_by, zero, ℕ, ◌%◌, ◌&&◌, ◌*◌, ◌+◌, ◌-◌, ◌/◌, ◌==◌, ◌||◌, ◌∙◌, ◌∷◌, ◌≡◌, ◌≤◌, ◌⊎◌}
-use Rattle.task_rules.specs.Task.{dec_from, dec_lowers, dec_opens, inc_raises, ret_done, ret_row, task_cancel_done, task_cancel_row, task_row}
+use Rattle.task_rules.proofs.Machine.{[], Advance, advanced, and_parts, answered, ap, ap₂, arith, assigned, AwaitsEvent, backpressure_of, begun_holder, blocking_exit_row, blocking_exits, Bool, BySetHandle, Call, CallEnd, cancel_was_delivered, change, checked, Choice, code_exits, code_finds, code_kind_row, code_row, code_stops, code_wait_row, code_waits, code_yields, ComesAgain, Component, component_of, Core, data_row, DataLabel, DataOp, Delivery, direct_exit_to, direct_exits, end_for, end_reopens, EndCall, ended, ends_activation, EndsActivation, EndsByExit, EndsCall, EndsOwn, EndWords, exit_label, exit_restores, exit_row_for, exit_stops, Exits, ExportKind, Fails, false, FindsEvent, foot_of, get, get-change, GivesUp, goal_of, Goes, GoesBack, handed_by, HandsOut, has_ended, has_event_for, HasSet, held_by_flag, holder_at_exit, HowFar, if◌then◌else◌, implicit_exit_row, inl, inr, instance_of, is_async_lifted, is_at, is_code_op, is_direct, is_ending_exit, is_exit, is_explicit, is_holding, is_none, is_over, is_running, is_under, IsPermutation, IsRunner, kind_exit_row, kind_of, Label, LastWords, Leaves, leaves_no_result, length, List, Main, Mark, may, may_tell, MayBar, MayEnd, MayOwe, min, Move, moved_to, nat_le, nat_lt, nat_tests, Never, None, NoneHeldIn, not, NoWord, numbers, on_call, on_instance, on_thread, Op, op_at_place, op_in, op_of, Option, option_map, option_map_or, or_never, or_trap, Ordered, outcome_of_label, own_event_of, own_or_none, OwnEvent, passes_after_return, passes_after_stop, passes_check, Place, place_of, position_of, Progress, Put, Records, refl, register_of, Remains, ret_label, returned, returned_holder, ReturnsNow, saved_own_of, SaysEnd, Scene, script_of, set_at, set_backpressure, set_do_not_enter, set_do_not_suspend, set_end, set_how_far, set_place, SetBackpressure, SetDoNotEnter, SetDoNotSuspend, SetOwnEvent, SetRegister, SetSavedCallee, Setting, SetWord, skip_row, skipped, Some, Status, stopped, Stops, stored, subst, Subtask, SubtaskEnd, suc, sym, sync_exit_row, sync_exits, T, task_cancel_label, task_end, task_of, TaskLabel, TaskOp, Then, Thread, thread_exit_row, Trap, trap_if, Traps, Trip, true, Turn, Uncovers, under_of, unwrap_or, value_of, Walk, Why, Writes, WritesCall, WritesToo, written_by, zero, ℕ, ◌%◌, ◌&&◌, ◌*◌, ◌+◌, ◌-◌, ◌/◌, ◌==◌, ◌||◌, ◌∙◌, ◌∷◌, ◌≡◌, ◌≤◌, ◌⊎◌}
+use Rattle.task_rules.specs.Task.{dec_from, dec_lowers, dec_opens, held_by_counter, inc_raises, ret_done, ret_row, task_cancel_done, task_cancel_row, task_row}
 use Rattle.task_rules.proofs.StopLemmas.{find_passes}
 use Rattle.task_rules.proofs.PlacingLemmas.{Shifted, shifted_calls, shifted_task, shifts_shifted, placing_shifted, shifted_after}
+use Rattle.task_rules.proofs.ReleaseLemmas.{release_leaves, released_on}
 use Rattle.task_rules.proofs.WalkMoves.{keep_position, ToldTo, checked_shifts, chosen_released, ended_walks, exits_trip, lands, released_shifts, shifted, stopped_shifts, told_to, word, Left, left_gone}
 use Rattle.task_rules.proofs.CallThreads.{LastEnds, last_of, last_shifted}
 
@@ -42,7 +43,7 @@ Leads a b (Stops l new) = a.label ≡ l → a.next ≡ Turn.Main → Trip a b ne
 Leads a b (Traps t) = Unit {0}
 Leads a b (Fails i) = Unit {0}
 Leads a b Never = Unit {0}
-Leads a b (Ordered ns next) = (order : List ℕ) → Leads a b (next order)
+Leads a b (Ordered ns next) = (order : List ℕ) → IsPermutation ns order → Leads a b (next order)
 
 module _ (a : Scene) (b : Core) where
   pub trap_if_leads : (c : Bool) (t : Trap) (p : Progress) → (c ≡ false → Leads a b p) → Leads a b (trap_if c t p)
@@ -131,9 +132,12 @@ module _ {a : Scene} {b : Core} (n : ℕ) (is : IsRunner a n) where
 
   -- ---- Ends
 
-  reopens_walks : (i : ℕ) (order : List ℕ) {t : Core} → MayBar a i false → Keep a b t → Keep a b (end_reopens i order t)
-  unfolding end_reopens
-  reopens_walks i order {t = t} ok c = shifted (released_shifts order (set_do_not_enter i false t)) (word (SetDoNotEnter i false) ok c)
+  -- the threads are released first, so that none is held that is admitted
+  reopens_walks : (i : ℕ) (order : List ℕ) {t : Core} → MayBar a i false → IsPermutation (held_by_flag i t) order → Keep a b t → Keep a b (end_reopens i order t)
+  unfolding end_reopens held_by_flag set_do_not_enter
+  reopens_walks i order {t = t} ok perm c =
+      let same = released_on i (λ r. record r { do_not_enter = false }) order t in
+      subst (λ (u : Core). Keep a b u) (sym same) (word (SetDoNotEnter i false) (ok, subst (λ (u : Core). NoneHeldIn i u) same (release_leaves i (set_do_not_enter i false t) order perm)) (shifted (released_shifts order t) c))
 
   exit_stops_walks : {t : Core} → LastEnds n t → Keep a b t → Left a b n (exit_stops n t)
   unfolding exit_stops
@@ -160,9 +164,9 @@ module _ {a : Scene} {b : Core} (n : ℕ) (is : IsRunner a n) where
       let gone = left_gone n e in
       (subst (λ (y : Core). Trip a b (set_how_far m (HowFar.Answered v) y)) (placing_shifted (Move m Place.Running) (ended n u)).only (GoesBack e.before (ended n u) n m v (keep_stay e.stays) is runs to under e.settles (Uncovers n is to under (ap (λ (o : Option Thread). is_none o) gone) refl)), grind (arith, nat_tests, get-change, gone))
 
-  code_stops_walks : (order : List ℕ) {t : Core} → MayBar a (instance_of n t) false → Keep a b t → Keep a b (code_stops n order t)
+  code_stops_walks : (order : List ℕ) {t : Core} → MayBar a (instance_of n t) false → IsPermutation (held_by_flag (instance_of n t) t) order → Keep a b t → Keep a b (code_stops n order t)
   unfolding code_stops
-  code_stops_walks order {t = t} bar c = shifted (stopped_shifts (foot_of n t) (end_reopens (instance_of n t) order t)) (reopens_walks (instance_of n t) order bar c)
+  code_stops_walks order {t = t} bar perm c = shifted (stopped_shifts (foot_of n t) (end_reopens (instance_of n t) order t)) (reopens_walks (instance_of n t) order bar perm c)
 
 -- the thread that is under n
 pub under_place : (n m : ℕ) (s : Core) → under_of n s ≡ Some m → place_of m s ≡ Some (Place.Under n)
@@ -198,7 +202,7 @@ module _ (x : Setting) (main : Main) (s : Core) (n : ℕ) (l : Label) (next : Tu
   pub goes_on_told : (k : Label) (t : Core) → is_plain s k ≡ true → (l ≡ k → next ≡ Turn.Run n → EndWords a t) → (l ≡ k → Going a s n t) → Leads a s (Goes k t n)
   goes_on_told k t plain says c is to =
       let p = and_parts (is_quiet s k) (not (is_exit k)) plain in
-      (Remains t (c is to) (λ m at. sym to ∙ at), quiet_ends is p.0 (λ m at. inl (sym to ∙ at)) (λ exit. absurd (subst T (sym p.1 ∙ ap not exit) tt)) (says is to))
+      (Remains t (c is to) (λ m at. sym to ∙ at) (λ m runs. to ∙ ap (λ (o : Option ℕ). Turn.Run (unwrap_or o 0)) runs), quiet_ends is p.0 (λ m at. inl (sym to ∙ at)) (λ exit. absurd (subst T (sym p.1 ∙ ap not exit) tt)) (says is to))
 
   -- n goes on
   pub goes_on : (k : Label) (t : Core) → is_still a t k ≡ true → Going a s n t → Leads a s (Goes k t n)
@@ -286,7 +290,7 @@ module _ (x : Setting) (main : Main) (s : Core) (n : ℕ) (l : Label) (next : Tu
   unfolding end_reopens set_do_not_enter on_instance
   blocking_exit_row_leads w implicit kind direct =
       trap_if_leads a s (not (passes_after_return n w s)) Trap.CannotBlockSyncTask _ (λ e.
-      may_leads a s (may_tell (task_of n s) w s) _ (λ may order.
+      may_leads a s (may_tell (task_of n s) w s) _ (λ may order perm.
       let i = instance_of n s in
       let k = task_of n s in
       let t = end_reopens i order s in
@@ -295,7 +299,7 @@ module _ (x : Setting) (main : Main) (s : Core) (n : ℕ) (l : Label) (next : Tu
       let told : ToldTo k w t = λ is y at. chosen_released order y w (set_do_not_enter i false s) (told_to k w s may (grind (arith, is, same)) y (grind (arith, at, same))) in
       gone_here (exit_label n w) (blocking_exits n w order s) (exit_is n w s).0
       (λ at leave. exit_says_end w (blocking_exits n w order s) at implicit lifted direct (call_ends k CallEnd.Returned t) (over_now k CallEnd.Returned t) (trip_walk (exits_trip n leave (blocking_exits_walks n refl w order s (exit_says s w at implicit (inr lifted)) told NoWord))))
-      (λ at. blocking_exits_walks n refl w order s (exit_says s w at implicit (inr lifted)) told (word (EndCall k CallEnd.Returned) (exits w t at implicit (inr lifted) same, exit_says s w at implicit (inr lifted)) (reopens_walks n refl i order (bars w at implicit (ap (λ y. is_holding y) kind) direct) NoWord)))))
+      (λ at. blocking_exits_walks n refl w order s (exit_says s w at implicit (inr lifted)) told (word (EndCall k CallEnd.Returned) (exits w t at implicit (inr lifted) same, exit_says s w at implicit (inr lifted)) (reopens_walks n refl i order (bars w at implicit (ap (λ y. is_holding y) kind) direct) perm NoWord)))))
 
   direct_leads : (m : ℕ) (t : Core) → under_of n s ≡ Some m → is_explicit n s ≡ false → is_direct (goal_of (task_of n s) s) ≡ true → task_of n t ≡ task_of n s → t.calls ≡ s.calls → Keep a s t → Leads a s (Goes (exit_label n None) (direct_exits n m (register_of n 0 s) t) m)
   direct_leads m t under implicit direct task calls c =
@@ -327,29 +331,29 @@ module _ (x : Setting) (main : Main) (s : Core) (n : ℕ) (l : Label) (next : Tu
   owes None has ends t = inr (n, (ends, (refl, ap own_or_none has)))
   owes (Some e) has ends t = inr (n, (ends, (refl, ap own_or_none has)))
 
-  code_wait_row_leads : (k : Label) (y : ℕ) (held : List ℕ) (b : Bool) → ((t : Core) → is_still a t k ≡ true) → (l ≡ k → MayBar a (instance_of n s) false) → EndsActivation a n → HasSet a n y → Leads a s (code_wait_row k n y held s b)
+  code_wait_row_leads : (k : Label) (y : ℕ) (b : Bool) → ((t : Core) → is_still a t k ≡ true) → (l ≡ k → MayBar a (instance_of n s) false) → EndsActivation a n → HasSet a n y → Leads a s (code_wait_row k n y (held_by_flag (instance_of n s) s) s b)
   unfolding code_finds code_waits
-  code_wait_row_leads k y held true plain bar ends has = λ order is to. stops_here k (code_finds n y order s) (plain _) (λ leave. lands (Put Mark.High n (Why.Delivery (Delivery.Set y))) (FindsEvent y leave ends has refl) (code_stops_walks n refl order (bar is) NoWord)) is to
-  code_wait_row_leads k y held false plain bar ends has = λ order is to. stops_here k (code_waits n y order s) (plain _) (λ leave. lands (Move n (Place.Waiting y true)) (AwaitsEvent y leave ends has refl) (code_stops_walks n refl order (bar is) NoWord)) is to
+  code_wait_row_leads k y true plain bar ends has = λ order perm is to. stops_here k (code_finds n y order s) (plain _) (λ leave. lands (Put Mark.High n (Why.Delivery (Delivery.Set y))) refl (FindsEvent y leave ends has refl) (code_stops_walks n refl order (bar is) perm NoWord)) is to
+  code_wait_row_leads k y false plain bar ends has = λ order perm is to. stops_here k (code_waits n y order s) (plain _) (λ leave. lands (Move n (Place.Waiting y true)) refl (AwaitsEvent y leave ends has refl) (code_stops_walks n refl order (bar is) perm NoWord)) is to
 
-  code_exits_leads : (k : Label) (held : List ℕ) → is_quiet s k ≡ true → ((t : Core) → l ≡ k → EndWords a t) → (l ≡ k → MayBar a (instance_of n s) false) → (rest : ℕ) → Leads a s (code_kind_row k n held s zero rest)
+  code_exits_leads : (k : Label) → is_quiet s k ≡ true → ((t : Core) → l ≡ k → EndWords a t) → (l ≡ k → MayBar a (instance_of n s) false) → (rest : ℕ) → Leads a s (code_kind_row k n (held_by_flag (instance_of n s) s) s zero rest)
   unfolding code_exits code_stops set_do_not_enter on_instance
-  code_exits_leads k held quiet says bar rest =
-      trap_if_leads a s (not (passes_after_stop (instance_of n s) (foot_of n s) held s)) Trap.CannotBlockSyncTask _ (λ e.
-      trap_if_leads a s (leaves_no_result n s) Trap.NoAsyncResult _ (λ f order.
+  code_exits_leads k quiet says bar rest =
+      trap_if_leads a s (not (passes_after_stop (instance_of n s) (foot_of n s) (held_by_flag (instance_of n s) s) s)) Trap.CannotBlockSyncTask _ (λ e.
+      trap_if_leads a s (leaves_no_result n s) Trap.NoAsyncResult _ (λ f order perm.
       let h = checked_shifts (instance_of n s) (code_stops n order s) in
-      gone_here k (code_exits n order s) quiet (λ is leave. says (code_exits n order s) is) (λ is. ended_walks n (last_shifted n (shifted_after (reopened_shifted (instance_of n s) order s) (shifted_after (shifts_shifted (stopped_shifts (foot_of n s) (end_reopens (instance_of n s) order s))) (shifts_shifted h))) (last_of n s f)) (shifted h (code_stops_walks n refl order (bar is) NoWord)))))
+      gone_here k (code_exits n order s) quiet (λ is leave. says (code_exits n order s) is) (λ is. ended_walks n (last_shifted n (shifted_after (reopened_shifted (instance_of n s) order s) (shifted_after (shifts_shifted (stopped_shifts (foot_of n s) (end_reopens (instance_of n s) order s))) (shifts_shifted h))) (last_of n s f)) (shifted h (code_stops_walks n refl order (bar is) perm NoWord)))))
 
-  code_kind_row_leads : (k : Label) (held : List ℕ) (low rest : ℕ) → ((t : Core) → is_still a t k ≡ true) → (l ≡ k → MayBar a (instance_of n s) false) → EndsActivation a n → Leads a s (code_kind_row k n held s low rest)
+  code_kind_row_leads : (k : Label) (low rest : ℕ) → ((t : Core) → is_still a t k ≡ true) → (l ≡ k → MayBar a (instance_of n s) false) → EndsActivation a n → Leads a s (code_kind_row k n (held_by_flag (instance_of n s) s) s low rest)
   unfolding code_yields
-  code_kind_row_leads k held zero rest plain bar ends =
-      code_exits_leads k held (and_parts (is_quiet s k) (not (is_exit k)) (and_parts (is_plain s k) (is_mute a s k) (plain s)).0).0 (λ t is. mute_words a t is (and_parts (is_plain s k) (is_mute a t k) (plain t)).1) bar rest
-  code_kind_row_leads k held (suc zero) rest plain bar ends = λ order is to. stops_here k (code_yields n order s) (plain _) (λ leave. lands (Put Mark.Low n (Why.Delivery Delivery.Yield)) (ComesAgain leave ends refl) (word (SetOwnEvent (task_of n s) (own_or_none (own_event_of (task_of n s) s))) (owes (own_event_of (task_of n s) s) refl ends (code_stops n order s)) (code_stops_walks n refl order (bar is) NoWord))) is to
-  code_kind_row_leads k held (suc (suc zero)) rest plain bar ends = or_trap_leads a s (set_at (instance_of n s) rest s) Trap.BadHandle _ (λ y named. code_wait_row_leads k y held (has_event_for (task_of n s) y s) plain bar ends (BySetHandle rest named))
-  code_kind_row_leads k held (suc (suc (suc low))) rest plain bar ends = tt
+  code_kind_row_leads k zero rest plain bar ends =
+      code_exits_leads k (and_parts (is_quiet s k) (not (is_exit k)) (and_parts (is_plain s k) (is_mute a s k) (plain s)).0).0 (λ t is. mute_words a t is (and_parts (is_plain s k) (is_mute a t k) (plain t)).1) bar rest
+  code_kind_row_leads k (suc zero) rest plain bar ends = λ order perm is to. stops_here k (code_yields n order s) (plain _) (λ leave. lands (Put Mark.Low n (Why.Delivery Delivery.Yield)) refl (ComesAgain leave ends refl) (word (SetOwnEvent (task_of n s) (own_or_none (own_event_of (task_of n s) s))) (owes (own_event_of (task_of n s) s) refl ends (code_stops n order s)) (code_stops_walks n refl order (bar is) perm NoWord))) is to
+  code_kind_row_leads k (suc (suc zero)) rest plain bar ends = or_trap_leads a s (set_at (instance_of n s) rest s) Trap.BadHandle _ (λ y named. code_wait_row_leads k y (has_event_for (task_of n s) y s) plain bar ends (BySetHandle rest named))
+  code_kind_row_leads k (suc (suc (suc low))) rest plain bar ends = tt
 
   code_row_leads : (k : Label) (code : ℕ) → ((t : Core) → is_still a t k ≡ true) → (l ≡ k → MayBar a (instance_of n s) false) → EndsActivation a n → Leads a s (code_row k n s code)
-  code_row_leads k code plain bar ends = trap_if_leads a s (nat_lt 4294967295 code) Trap.UnsupportedCallbackCode _ (λ e. code_kind_row_leads k (held_by_flag (instance_of n s) s) (code % 16) (code / 16) plain bar ends)
+  code_row_leads k code plain bar ends = trap_if_leads a s (nat_lt 4294967295 code) Trap.UnsupportedCallbackCode _ (λ e. code_kind_row_leads k (code % 16) (code / 16) plain bar ends)
 
   not_ending : is_explicit n s ≡ false → is_direct (goal_of (task_of n s) s) ≡ false → is_async_lifted (kind_of (task_of n s) s) ≡ true → is_ending_exit n s ≡ false
   not_ending implicit direct lifted = ap₂ (λ e d. not e && (d || not (is_async_lifted (kind_of (task_of n s) s)))) implicit direct ∙ ap (λ h. not h) lifted
@@ -358,7 +362,7 @@ module _ (x : Setting) (main : Main) (s : Core) (n : ℕ) (l : Label) (next : Tu
   kind_exit_row_leads w ExportKind.Sync kind implicit direct = sync_exit_row_leads w implicit (ap (λ y. is_async_lifted y) kind) direct
   kind_exit_row_leads w ExportKind.Blocking kind implicit direct = blocking_exit_row_leads w implicit kind direct
   kind_exit_row_leads w ExportKind.Stackful kind implicit direct = thread_exit_row_leads (not_ending implicit direct (ap (λ y. is_async_lifted y) kind))
-  kind_exit_row_leads w ExportKind.Callback kind implicit direct = code_exits_leads (exit_label n None) (held_by_flag (instance_of n s) s) refl (λ t is. exit_is_none t (not_ending implicit direct (ap (λ y. is_async_lifted y) kind)) is) (λ is. bars None is implicit (ap (λ y. is_holding y) kind) direct) 0
+  kind_exit_row_leads w ExportKind.Callback kind implicit direct = code_exits_leads (exit_label n None) refl (λ t is. exit_is_none t (not_ending implicit direct (ap (λ y. is_async_lifted y) kind)) is) (λ is. bars None is implicit (ap (λ y. is_holding y) kind) direct) 0
 
   implicit_exit_row_leads : (w : Option ℕ) (b : Bool) → is_direct (goal_of (task_of n s) s) ≡ b → is_explicit n s ≡ false → Leads a s (implicit_exit_row n w s b)
   implicit_exit_row_leads w true direct implicit = direct_exit_to_leads (kind_of (task_of n s) s) (under_of n s) refl implicit direct
@@ -408,11 +412,14 @@ module _ (x : Setting) (main : Main) (s : Core) (n : ℕ) (l : Label) (next : Tu
       (stay_walk (advanced_walks n refl (on_after_end on k CallEnd.ReturnCancelled) (cancelled_rest k w s told NoWord) to)))
       (λ is. advanced_walks n refl on (cancelled_rest k w s told (word (EndCall k CallEnd.ReturnCancelled) (GivesUp n refl refl refl unended (unnot (cancel_was_delivered k s) delivered) refl, ap (λ (k : Label). written_by x.component s k s) is ∙ (is_so s).1.0) NoWord))))))
 
-  dec_from_leads : Stands a s n → (b : ℕ) → Leads a s (dec_from n s b)
-  unfolding dec_lowers dec_opens
-  dec_from_leads on zero = tt
-  dec_from_leads on (suc zero) = λ order. goes_on (Label.Task (TaskLabel.BpDec n)) (dec_opens n order s) refl (advanced_walks n refl on (shifted (released_shifts order (set_backpressure (instance_of n s) 0 s)) (word (SetBackpressure (instance_of n s) 0) tt NoWord)))
-  dec_from_leads on (suc (suc b)) = goes_on (Label.Task (TaskLabel.BpDec n)) (dec_lowers n s) refl (advanced_walks n refl on (word (SetBackpressure (instance_of n s) (backpressure_of (instance_of n s) s - 1)) tt NoWord))
+  dec_from_leads : Stands a s n → (b : ℕ) → backpressure_of (instance_of n s) s ≡ b → Leads a s (dec_from n s b)
+  unfolding dec_lowers dec_opens held_by_counter set_backpressure
+  dec_from_leads on zero is = tt
+  dec_from_leads on (suc zero) is = λ order perm.
+      let i = instance_of n s in
+      let same = released_on i (λ r. record r { backpressure = 0 }) order s in
+      goes_on (Label.Task (TaskLabel.BpDec n)) (dec_opens n order s) refl (advanced_walks n refl on (subst (λ (u : Core). Keep a s u) (sym same) (word (SetBackpressure i 0) (λ none. subst (λ (u : Core). NoneHeldIn i u) same (release_leaves i (set_backpressure i 0 s) order perm)) (shifted (released_shifts order s) NoWord))))
+  dec_from_leads on (suc (suc b)) is = goes_on (Label.Task (TaskLabel.BpDec n)) (dec_lowers n s) refl (advanced_walks n refl on (word (SetBackpressure (instance_of n s) (backpressure_of (instance_of n s) s - 1)) (λ zero. absurd (omega (arith, zero, is))) NoWord))
 
   ends_by : (o : TaskOp) → op_in a n ≡ Op.Task o → is_code_op o ≡ true → EndsActivation a n
   ends_by o is code = (refl, ap (λ p. ends_activation p) is ∙ code)
@@ -430,5 +437,5 @@ module _ (x : Setting) (main : Main) (s : Core) (n : ℕ) (l : Label) (next : Tu
   task_row_leads ch (TaskOp.CbWait v) is = code_row_leads (Label.Task (TaskLabel.CbWait n)) (16 * value_of n s v + 2) (λ t. refl) (λ shows. ap (λ k. returned_holder s k) shows) (ends_by (TaskOp.CbWait v) is refl)
   task_row_leads ch (TaskOp.Code v) is = code_row_leads (Label.Task (TaskLabel.Code n)) (value_of n s v) (λ t. refl) (λ shows. ap (λ k. returned_holder s k) shows) (ends_by (TaskOp.Code v) is refl)
   task_row_leads ch TaskOp.BpInc is =
-      trap_if_leads a s (nat_le 65535 (backpressure_of (instance_of n s) s)) Trap.BackpressureOverflow _ (λ e. goes_on (Label.Task (TaskLabel.BpInc n)) (inc_raises n s) refl (advanced_walks n refl (stands is refl) (word (SetBackpressure (instance_of n s) (backpressure_of (instance_of n s) s + 1)) tt NoWord)))
-  task_row_leads ch TaskOp.BpDec is = dec_from_leads (stands is refl) (backpressure_of (instance_of n s) s)
+      trap_if_leads a s (nat_le 65535 (backpressure_of (instance_of n s) s)) Trap.BackpressureOverflow _ (λ e. goes_on (Label.Task (TaskLabel.BpInc n)) (inc_raises n s) refl (advanced_walks n refl (stands is refl) (word (SetBackpressure (instance_of n s) (backpressure_of (instance_of n s) s + 1)) (λ zero. absurd (omega (arith, zero))) NoWord)))
+  task_row_leads ch TaskOp.BpDec is = dec_from_leads (stands is refl) (backpressure_of (instance_of n s) s) refl

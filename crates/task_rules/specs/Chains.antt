@@ -19,12 +19,13 @@ use Rattle.task_rules.specs.Allowed.{Allowed, IsRunner, MayShift, SaysEnd, is_ex
 use Rattle.task_machine.specs.declared.records.HowFar.{HowFar}
 use Rattle.task_rules.specs.Laws.{is_free}
 use Rattle.task_rules.specs.Once.{begun_holder}
+use Rattle.task_rules.specs.Places.{is_inside}
 use Rattle.task_rules.specs.Outcome.{outcome_of_label}
 use Rattle.task_rules.specs.Scenes.{Scene, component_of, scene_of}
 use Rattle.task_rules.specs.Stalled.{Setting}
 use Rattle.task_rules.specs.Step.{Step}
 use Rattle.task_rules.specs.Turns.{settled_turn}
-use Rattle.task_rules.specs.Words.{Move, Places, Placing, RemoveThread, SetHowFar, Word, after_word}
+use Rattle.task_rules.specs.Words.{GoBehind, Move, Places, Placing, RemoveThread, SetHowFar, Word, after_word}
 use Rattle.task_machine.specs.declared.words.Status.TheVariants as status
 use Rattle.task_machine.specs.declared.records.Subtask.TheVariants as subtask
 use Rattle.task_machine.specs.declared.records.HowFar.TheVariants as how_far
@@ -49,12 +50,26 @@ Stay a b t = Chain (Stays a) b t
 abbrev pub Settles : Core → Core → Type 0
 Settles b t = Chain IsSettling b t
 
+-- where the thread comes to is right for an op that has come that far
+abbrev pub lands_inside : Placing → HowFar → Bool
+lands_inside (Move n p) h = is_inside p h
+lands_inside _ h = true
+
+-- it comes there with its op as far as before
+abbrev pub lands_alone : Placing → Bool
+lands_alone (Move n place.Suspended) = false
+lands_alone (Move n p) = is_inside p how_far.Fresh
+lands_alone (GoBehind f n) = false
+lands_alone _ = true
+
 -- The running thread, or the one that was taken, stays and then comes to one place, or is gone.
 pub data Trip (a : Scene) (b : Core) : Core → Type 0 where
-  Remains : (t : Core) → Stay a b t → ((m : ℕ) → a.next ≡ turn.Run m → a.turn ≡ turn.Run m) → Trip a b t
-  Lands : (s : Core) → (p : Placing) → Stay a b s → MayLand a p s → Trip a b (after_word (Places p) s)
+  Remains : (t : Core) → Stay a b t → ((m : ℕ) → a.next ≡ turn.Run m → a.turn ≡ turn.Run m) →
+      ((m : ℕ) → IsRunner a m → a.next ≡ turn.Run m) → Trip a b t
+  Lands : (s : Core) → (p : Placing) → Stay a b s → MayLand a p s → lands_alone p ≡ true →
+      Trip a b (after_word (Places p) s)
   -- and its op has come that far
-  LandsAt : (s : Core) → (p : Placing) → (n : ℕ) → (h : HowFar) → Stay a b s → MayLand a p s →
+  LandsAt : (s : Core) → (p : Placing) → (n : ℕ) → (h : HowFar) → Stay a b s → MayLand a p s → lands_inside p h ≡ true →
       Allowed a (SetHowFar n h) (after_word (Places p) s) → Trip a b (after_word (SetHowFar n h) (after_word (Places p) s))
   Quits : (s t : Core) → (n : ℕ) → Stay a b s → Leaves a n → Settles (after_word (RemoveThread n) s) t → Trip a b t
   -- a direct callee exits, and the thread under it goes on

@@ -1,8 +1,8 @@
 -- The core of a new store sits at main's turn.
 use Rattle.std.proofs.Common.{arith, refl}
 use Rattle.std.proofs.lemmas.Bool.Decides.{nat_tests}
-use Rattle.std.specs.Prelude.{None, Some, false, is_some, length, true, ℕ, ◌<◌, ◌||◌, ◌≡◌, ◌≤◌}
-use Rattle.task_laws.specs.Lacks.{LacksOps, LacksSets}
+use Rattle.std.specs.Prelude.{None, Some, false, is_some, length, true, ℕ, ◌<◌, ◌≡◌, ◌≤◌}
+use Rattle.task_laws.specs.Lacks.{LacksOps, LacksWorks}
 use Rattle.task_laws.specs.Order.{OpeningInOrder}
 use Rattle.task_laws.specs.Settings.{CodesInCallbacks}
 use Rattle.task_machine.specs.Core.{fresh, no_handles}
@@ -10,38 +10,28 @@ use Rattle.task_machine.specs.Maps.{empty, get, get-empty}
 use Rattle.task_machine.specs.declared.component.Component.{Component}
 use Rattle.task_machine.specs.declared.op.Op.{Op}
 use Rattle.task_machine.specs.declared.op.Op.TheVariants as op
-use Rattle.task_machine.specs.declared.op.SetOp.TheVariants as set_op
-use Rattle.task_machine.specs.declared.records.Set.{Set}
-use Rattle.task_machine.specs.declared.records.Thread.{Thread}
 use Rattle.task_machine.specs.declared.records.Turn.TheVariants as turn
 use Rattle.task_machine.specs.declared.records.Work.{Work}
 use Rattle.task_places.proofs.OrderLemmas.{opening_in_order}
 use Rattle.task_rules.proofs.Machine.{filled, get-insert, untouched}
-use Rattle.task_rules.specs.OpParts.{calls_host, makes_set}
+use Rattle.task_rules.specs.OpParts.{calls_host}
 use Rattle.task_turns.specs.Covered.{IsCovered, op_fits}
 use Rattle.task_turns.specs.Turn.{Sits, given}
 
--- the ops that are built make no set and call no host
-op_lacks : (o : Op) → op_fits o ≡ true → (makes_set o || calls_host o) ≡ false
+-- the ops that are built call no host
+op_lacks : (o : Op) → op_fits o ≡ true → calls_host o ≡ false
 op_lacks (op.Data x) fits = refl
 op_lacks (op.Task x) fits = refl
 op_lacks (op.Thread x) fits = refl
-op_lacks (op.Set (set_op.Drop x)) fits = refl
-op_lacks (op.Set (set_op.Wait r x)) fits = refl
-op_lacks (op.Set (set_op.Poll r x)) fits = refl
-op_lacks o fits = absurd (cc)
+op_lacks (op.Set x) fits = refl
+op_lacks (op.Call x) fits = absurd (cc)
 
 pub covered_lacks : (c : Component) → IsCovered c → LacksOps c
 covered_lacks c covered f x p o at = op_lacks o (covered.ops f x p o at)
 
-pub lacks_fresh : (n handles capacity : ℕ) → LacksSets (fresh n handles capacity)
+pub lacks_fresh : (n handles capacity : ℕ) → LacksWorks (fresh n handles capacity)
 unfolding fresh
-lacks_fresh n handles capacity = record {
-  sets = λ x. get-empty x;
-  places = λ k x e. let o = get-empty {X = Thread} k in absurd (cc);
-  ops = λ k x e. let o = get-empty {X = Thread} k in absurd (cc);
-  works = λ i w at. let o = get-empty {X = Work} i in absurd (cc);
-}
+lacks_fresh n handles capacity i w at = let o = get-empty {X = Work} i in absurd (cc)
 
 filled_at : {X : Type 0} (x : X) (n i : ℕ) → i < n → is_some (get (filled x n) i) ≡ true
 filled_at x ℕ.zero i below = absurd (omega arith)

@@ -3,7 +3,8 @@ use Rattle.std.proofs.Common.{arith, ap, refl, subst, sym, ◌∙◌}
 use Rattle.std.proofs.lemmas.Bool.Decides.{nat_tests}
 use Rattle.std.specs.Option.{option_map_or}
 use Rattle.std.specs.Prelude.{None, Option, Some, false, is_some, option_and_then, option_map, suc, true, zero, ℕ, ◌<◌, ◌≡◌}
-use Rattle.task_laws.specs.Order.{InOrder, set_of_op, set_of_place}
+use Rattle.task_laws.proofs.MemberLemmas.{members_named}
+use Rattle.task_laws.specs.Order.{InOrder, IsOf, set_of_op, set_of_place}
 use Rattle.task_machine.specs.Core.{Core, Unscripted}
 use Rattle.task_machine.specs.Maps.{get}
 use Rattle.task_machine.specs.Read.{goal_of, instance_of, is_direct, is_explicit, is_under, is_waiting_on, place_of, task_of, under_of}
@@ -14,7 +15,7 @@ use Rattle.task_machine.specs.declared.records.Thread.{Thread}
 use Rattle.task_machine.specs.declared.records.Subtask.TheVariants as subtask
 use Rattle.task_machine.specs.declared.records.Turn.{Turn}
 use Rattle.task_machine.specs.declared.records.Turn.TheVariants as turn
-use Rattle.task_ops.specs.Gifts.{AllMembersNamed}
+use Rattle.task_ops.specs.Gifts.{AllMembersNamed, MembersNamed}
 use Rattle.task_ops.specs.Running.{IsRunning, IsTopmost}
 use Rattle.task_ops.specs.Stays.{StaysAfter}
 use Rattle.task_ops.specs.declared.came.Came.{Came}
@@ -57,22 +58,22 @@ thread_at : (o : Option Thread) → option_map (λ (t : Thread). t.place) o ≡ 
 thread_at None e = none_some refl e
 thread_at (Some t) e = (t, refl)
 
--- no set is there
-module _ (c : Component) (p : Turn) (s : Core) (sits : Sits c p s) where
-  no_set : {A : Type 0} (x : ℕ) → is_some (get s.sets x) ≡ true → A
-  no_set x there = none_some (sits.lacks.sets x) (some_is (get s.sets x) there).1
-    where
-      some_is : {X : Type 0} (o : Option X) → is_some o ≡ true → (v : X) × (o ≡ Some v)
-      some_is None e = absurd (cc)
-      some_is (Some v) e = (v, refl)
+-- ---- Sets
 
-  pub members_named : (i : ℕ) → AllMembersNamed i s
-  members_named i h x e = no_set x (some_from _ (get s.sets x) i ((sits.order Unscripted).sets_named.home i h x e))
+module _ (c : Component) (p : Turn) (s : Core) (sits : Sits c p s) where
+  known : InOrder c (state_at s Unscripted p)
+  known = sits.order Unscripted
+
+  members_at : (i x : ℕ) → IsOf i x s → MembersNamed i x s
+  members_at i x home = members_named s known.joins_named known.names known.works_known i x home
+
+  pub all_members_named : (i : ℕ) → AllMembersNamed i s
+  all_members_named i h x e = members_at i x (known.sets_named.home i h x e)
 
   pub waits_there : (n : ℕ) → WaitsThere n s
   waits_there n = record {
-    there = λ x e. absurd (sits.lacks.ops n x (ap set_of_op e));
-    members = λ x e. absurd (sits.lacks.ops n x (ap set_of_op e));
+    there = λ x e. some_from _ (get s.sets x) (instance_of n s) (known.waits.by_op n x (ap set_of_op e));
+    members = λ x e. members_at (instance_of n s) x (known.waits.by_op n x (ap set_of_op e));
   }
 
   waiting_at : (x : ℕ) (o : Option Place) → option_map_or (is_waiting_on x) o false ≡ true → option_and_then set_of_place o ≡ Some x
@@ -81,7 +82,11 @@ module _ (c : Component) (p : Turn) (s : Core) (sits : Sits c p s) where
   waiting_at x (Some p) h = absurd (cc)
 
   pub waiters_together : WaitersTogether s
-  waiters_together x n m a b = absurd (sits.lacks.places n x (waiting_at x (place_of n s) a))
+  waiters_together x n m a b =
+      same_home (instance_of n s) (instance_of m s) _ (known.waits.by_place n x (waiting_at x (place_of n s) a)) (known.waits.by_place m x (waiting_at x (place_of m s) b))
+    where
+      same_home : (i j : ℕ) (o : Option ℕ) → o ≡ Some i → o ≡ Some j → i ≡ j
+      same_home i j o a b = cc
 
 module _ (c : Component) (n : ℕ) (s : StateView) (sits : Sits c (turn.Run n) s.core) where
   order : InOrder c (state_at s.core Unscripted (turn.Run n))
@@ -100,7 +105,7 @@ module _ (c : Component) (n : ℕ) (s : StateView) (sits : Sits c (turn.Run n) s
     sets = λ i h x e. some_from _ (get s.core.sets x) i (order.sets_named.home i h x e);
     join = λ x e. let j = order.joins_named.joins (subtask.Guest (task_of (thread_of s id) s.core)) x e in some_from _ (get s.core.sets x) j.instance j.home;
     under = λ implicit direct. let below = order.directs (thread_of s id) (ap is_some runs) implicit direct in under_found (thread_of s id) below.0 s.core below.1;
-    members = members_named c (turn.Run n) s.core sits (instance_of (thread_of s id) s.core);
+    members = all_members_named c (turn.Run n) s.core sits (instance_of (thread_of s id) s.core);
     waits = waits_there c (turn.Run n) s.core sits (thread_of s id);
     together = waiters_together c (turn.Run n) s.core sits;
   }

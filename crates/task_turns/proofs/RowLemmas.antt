@@ -4,7 +4,7 @@ use Rattle.std.specs.Prelude.{Bool, List, None, Option, Some, false, is_none, na
 use Rattle.task_machine.specs.Core.{Core}
 use Rattle.task_machine.specs.Labels.{Choice, exit_label, ret_label, task_cancel_label, wait_label}
 use Rattle.task_machine.specs.Moves.{Gift, MemberGift, NoGift, OwnGift, gift, may_hand_on, passes_check}
-use Rattle.task_machine.specs.Read.{at_handle_limit, backpressure_of, cancel_was_delivered, fits, foot_of, has_ended, has_member, has_waiters, how_far_of, instance_of, is_async_lifted, is_direct, goal_of, is_explicit, kind_of, set_at, task_of, thread_at}
+use Rattle.task_machine.specs.Read.{at_handle_limit, backpressure_of, cancel_was_delivered, fits, foot_of, has_ended, has_member, has_waiters, how_far_of, instance_of, is_async_lifted, is_direct, goal_of, is_explicit, kind_of, new_handle, set_at, task_of, thread_at}
 use Rattle.task_machine.specs.declared.component.Component.{Component}
 use Rattle.task_machine.specs.declared.component.ExportKind.{ExportKind}
 use Rattle.task_machine.specs.declared.component.ExportKind.TheVariants as kind
@@ -30,14 +30,15 @@ use Rattle.task_machine.specs.declared.trap.Trap.TheVariants as trap
 use Rattle.task_machine.specs.declared.words.Given.{Given}
 use Rattle.task_ops.specs.Came.{Meets}
 use Rattle.task_ops.specs.declared.came.Came.{Came}
-use Rattle.task_rules.specs.Data.{advanced, data_row, skip_row}
-use Rattle.task_rules.specs.Ends.{blocking_exit_row, blocking_exits, code_exits, code_kind_row, code_row, code_wait_row, has_event_for, held_by_flag, kind_exit_row, leaves_no_result, may_tell, passes_after_return, passes_after_stop, sync_exit_row, sync_exits, thread_exit_row}
+use Rattle.task_rules.specs.Cancels.{pauses}
+use Rattle.task_rules.specs.Data.{data_row, skip_row}
+use Rattle.task_rules.specs.Ends.{blocking_exit_row, blocking_exits, code_exits, code_kind_row, code_row, code_wait_row, exit_stops, has_event_for, held_by_flag, leaves_no_result, may_tell, passes_after_return, passes_after_stop, sync_exit_row, sync_exits, thread_exit_row}
 use Rattle.task_rules.specs.Outcome.{outcome_of_label}
 use Rattle.task_rules.specs.Progress.{Fails, Goes, Never, Ordered, Progress, Stops, Traps, may, or_never, or_trap, trap_if}
 use Rattle.task_rules.specs.Scripts.{slot_at, value_of}
-use Rattle.task_rules.specs.Sets.{chosen, finds_nothing, poll_row, poll_takes, set_drop_found, set_drop_row, set_new_row, set_row, wait_begins, wait_goes_on, wait_row, wait_takes}
-use Rattle.task_rules.specs.Task.{dec_from, dec_row, inc_row, ret_bad_row, ret_row, task_cancel_row}
-use Rattle.task_rules.specs.Threads.{Halt, Suspension, Yielding, by_how_far, halt_row, halting, halts, has_yielded, resume_later_found, resume_later_row, resume_why, then_promote, then_promote_found, then_promote_row, then_resume_found, then_resume_row, thread_new_row, thread_row}
+use Rattle.task_rules.specs.Sets.{chosen, finds_nothing, handed_out, poll_row, poll_takes, received_woken, set_drop_found, set_drop_row, set_dropped, set_made, set_new_row, wait_begins, wait_goes_on, wait_row, wait_stops_checked, wait_takes}
+use Rattle.task_rules.specs.Task.{dec_from, dec_row, inc_raises, inc_row, ret_bad_row, ret_done, ret_row, task_cancel_done, task_cancel_row}
+use Rattle.task_rules.specs.Threads.{Halt, Suspension, Yielding, by_how_far, halt_row, halted_resuming, halting, halts, has_yielded, resume_later_found, resume_later_row, resume_why, resumed_later, then_promote, then_promote_found, then_promote_row, then_resume_found, then_resume_row, thread_made, thread_new_label, thread_new_row, thread_row}
 use Rattle.task_turns.specs.Turn.{GoesOn, Shows}
 use Rattle.task_words.specs.StateView.{StateView}
 
@@ -108,6 +109,10 @@ data_shows c n s (data_op.Load q w) = (refl, refl)
 data_shows c n s (data_op.Store w x) = (refl, refl)
 data_shows c n s (data_op.SkipEq x y ops) = skip_shows c n ops s (value_of n s x == value_of n s y)
 
+-- after two tests
+pub two_traps : (P : ℕ → Type 0) (a b : Bool) (x y : Trap) (p : Progress) → ShowsFor P p → ShowsFor P (trap_if a x (trap_if b y p))
+two_traps P a b x y p g = if_traps P a x (trap_if b y p) (if_traps P b y p g)
+
 -- ---- The end of an activation
 
 module _ (l : Label) (quiet : outcome_of_label l ≡ None) (n : ℕ) (s : Core) where
@@ -116,13 +121,18 @@ module _ (l : Label) (quiet : outcome_of_label l ≡ None) (n : ℕ) (s : Core) 
   wait_ends x held false = λ order. quiet
 
   kind_ends : (held : List ℕ) (k rest : ℕ) → StopsAs (code_kind_row l n held s k rest)
-  kind_ends held zero rest = if_traps nobody _ trap.CannotBlockSyncTask _ (if_traps nobody _ trap.NoAsyncResult _ (λ order. quiet))
+  kind_ends held zero rest =
+      two_traps nobody (not (passes_after_stop (instance_of n s) (foot_of n s) held s)) (leaves_no_result n s) trap.CannotBlockSyncTask trap.NoAsyncResult
+      (Ordered held (λ order. Stops l (code_exits n order s))) (λ order. quiet)
   kind_ends held (suc zero) rest = λ order. quiet
-  kind_ends held (suc (suc zero)) rest = if_found nobody (set_at (instance_of n s) rest s) trap.BadHandle _ (λ x. wait_ends x held (has_event_for (task_of n s) x s))
+  kind_ends held (suc (suc zero)) rest =
+      if_found nobody (set_at (instance_of n s) rest s) trap.BadHandle (λ x. code_wait_row l n x held s (has_event_for (task_of n s) x s)) (λ x. wait_ends x held (has_event_for (task_of n s) x s))
   kind_ends held (suc (suc (suc k))) rest = tt
 
   pub code_stops : (code : ℕ) → StopsAs (code_row l n s code)
-  code_stops code = if_traps nobody (nat_lt 4294967295 code) trap.UnsupportedCallbackCode _ (kind_ends (held_by_flag (instance_of n s) s) (code % 16) (code / 16))
+  code_stops code =
+      let held = held_by_flag (instance_of n s) s in
+      if_traps nobody (nat_lt 4294967295 code) trap.UnsupportedCallbackCode (code_kind_row l n held s (code % 16) (code / 16)) (kind_ends held (code % 16) (code / 16))
 
 -- ---- Exits
 
@@ -132,19 +142,16 @@ exit_quiet n (Some k) = refl
 
 module _ (n : ℕ) (w : Option ℕ) (s : Core) where
   pub thread_exit_stops : StopsAs (thread_exit_row n s)
-  thread_exit_stops = if_traps nobody _ trap.CannotBlockSyncTask _ (if_traps nobody _ trap.NoAsyncResult _ refl)
+  thread_exit_stops =
+      two_traps nobody (not (passes_check (instance_of n s) s)) (leaves_no_result n s) trap.CannotBlockSyncTask trap.NoAsyncResult (Stops (exit_label n None) (exit_stops n s)) refl
 
   pub sync_exit_stops : StopsAs (sync_exit_row n w s)
   sync_exit_stops = if_lawful nobody (may_tell (task_of n s) w s) (Stops (exit_label n w) (sync_exits n w s)) (exit_quiet n w)
 
   pub blocking_exit_stops : StopsAs (blocking_exit_row n w s)
-  blocking_exit_stops = if_traps nobody (not (passes_after_return n w s)) trap.CannotBlockSyncTask _ (if_lawful nobody (may_tell (task_of n s) w s) _ (λ order. exit_quiet n w))
-
-  pub kind_exit_stops : (k : ExportKind) → StopsAs (kind_exit_row n w s k)
-  kind_exit_stops kind.Sync = sync_exit_stops
-  kind_exit_stops kind.Blocking = blocking_exit_stops
-  kind_exit_stops kind.Stackful = thread_exit_stops
-  kind_exit_stops kind.Callback = code_stops (exit_label n None) refl n s 0
+  blocking_exit_stops =
+      let leaves = Ordered (held_by_flag (instance_of n s) s) (λ order. Stops (exit_label n w) (blocking_exits n w order s)) in
+      if_traps nobody (not (passes_after_return n w s)) trap.CannotBlockSyncTask (may (may_tell (task_of n s) w s) leaves) (if_lawful nobody (may_tell (task_of n s) w s) leaves (λ order. exit_quiet n w))
 
 -- ---- Ops of the task
 
@@ -158,16 +165,24 @@ cancel_quiet n (Some k) = refl
 
 module _ (n : ℕ) (s : Core) where
   pub ret_shows : (v : ℕ) (w : Option ℕ) → ShowsAs n (ret_row n v w s)
-  ret_shows v w = if_traps (here n) _ trap.TaskCancelOrReturnTwice _ (if_traps (here n) _ trap.TaskReturnInvalid _ (if_lawful (here n) (may_tell (task_of n s) w s) _ (refl, ret_quiet n v w)))
+  ret_shows v w =
+      let b = may_tell (task_of n s) w s in
+      let done = Goes (ret_label n v w) (ret_done n v w s) n in
+      two_traps (here n) (has_ended (task_of n s) s) (not (is_async_lifted (kind_of (task_of n s) s))) trap.TaskCancelOrReturnTwice trap.TaskReturnInvalid (may b done)
+      (if_lawful (here n) b done (refl, ret_quiet n v w))
 
   pub ret_bad_shows : ShowsAs n (ret_bad_row n s)
-  ret_bad_shows = if_traps (here n) _ trap.TaskCancelOrReturnTwice (Traps trap.TaskReturnInvalid) tt
+  ret_bad_shows = if_traps (here n) (has_ended (task_of n s) s) trap.TaskCancelOrReturnTwice (Traps trap.TaskReturnInvalid) tt
 
   pub task_cancel_shows : (w : Option ℕ) → ShowsAs n (task_cancel_row n w s)
-  task_cancel_shows w = if_traps (here n) _ trap.TaskCancelNotCancelled _ (if_traps (here n) _ trap.TaskCancelOrReturnTwice _ (if_lawful (here n) (may_tell (task_of n s) w s) _ (refl, cancel_quiet n w)))
+  task_cancel_shows w =
+      let b = may_tell (task_of n s) w s in
+      let done = Goes (task_cancel_label n w) (task_cancel_done n w s) n in
+      two_traps (here n) (not (cancel_was_delivered (task_of n s) s)) (has_ended (task_of n s) s) trap.TaskCancelNotCancelled trap.TaskCancelOrReturnTwice (may b done)
+      (if_lawful (here n) b done (refl, cancel_quiet n w))
 
   pub inc_shows : ShowsAs n (inc_row n s)
-  inc_shows = if_traps (here n) _ trap.BackpressureOverflow _ (refl, refl)
+  inc_shows = if_traps (here n) (nat_le 65535 (backpressure_of (instance_of n s) s)) trap.BackpressureOverflow (Goes (label.Task (task_label.BpInc n)) (inc_raises n s) n) (refl, refl)
 
   dec_from_shows : (b : ℕ) → ShowsAs n (dec_from n s b)
   dec_from_shows zero = tt
@@ -184,17 +199,21 @@ wait_quiet n v None = refl
 wait_quiet n v (Some k) = refl
 
 module _ (n : ℕ) (ch : Choice) (s : Core) where
+  takes_shows : (x r : ℕ) (g : Gift) → ShowsAs n (may (may_hand_on x g ch.woken s) (Goes (wait_label n (handed_out ch s g) ch.woken) (received_woken n x r ch.woken g (handed_out ch s g) s) n))
+  takes_shows x r g =
+      if_lawful (here n) (may_hand_on x g ch.woken s) (Goes (wait_label n (handed_out ch s g) ch.woken) (received_woken n x r ch.woken g (handed_out ch s g) s) n) (refl, wait_quiet n (handed_out ch s g) ch.woken)
+
   goes_on_shows : (x r : ℕ) (g : Gift) → ShowsAs n (wait_goes_on n x r ch s g)
   goes_on_shows x r NoGift = refl
-  goes_on_shows x r (OwnGift e) = if_lawful (here n) (may_hand_on x (OwnGift e) ch.woken s) _ (refl, wait_quiet n _ ch.woken)
-  goes_on_shows x r (MemberGift h) = if_lawful (here n) (may_hand_on x (MemberGift h) ch.woken s) _ (refl, wait_quiet n _ ch.woken)
+  goes_on_shows x r (OwnGift e) = takes_shows x r (OwnGift e)
+  goes_on_shows x r (MemberGift h) = takes_shows x r (MemberGift h)
 
   begins_shows : (r x : ℕ) (b : Bool) → ShowsAs n (wait_begins n r ch s x b)
-  begins_shows r x true = if_traps (here n) _ trap.CannotBlockSyncTask _ refl
+  begins_shows r x true = if_traps (here n) (not (passes_check (instance_of n s) s)) trap.CannotBlockSyncTask (Stops (label.Thread (thread_label.Pauses n)) (wait_stops_checked n x s)) refl
   begins_shows r x false = if_given (here n) (gift false (task_of n s) x (chosen n ch s) s) (wait_takes n r ch s) (λ g. (refl, refl))
 
   fresh_shows : (r h : ℕ) → ShowsAs n (wait_row n r h ch s how_far.Fresh)
-  fresh_shows r h = if_found (here n) (set_at (instance_of n s) h s) trap.BadHandle _ (λ x. begins_shows r x (finds_nothing n x s))
+  fresh_shows r h = if_found (here n) (set_at (instance_of n s) h s) trap.BadHandle (λ x. wait_begins n r ch s x (finds_nothing n x s)) (λ x. begins_shows r x (finds_nothing n x s))
 
   wait_shows : (r h : ℕ) (f : HowFar) → ShowsAs n (wait_row n r h ch s f)
   wait_shows r h (how_far.Waits x) = if_given (here n) (gift false (task_of n s) x (chosen n ch s) s) (wait_goes_on n x r ch s) (goes_on_shows x r)
@@ -207,13 +226,18 @@ module _ (n : ℕ) (ch : Choice) (s : Core) where
   wait_shows r h how_far.Yields = fresh_shows r h
 
   pub poll_shows : (r h : ℕ) → ShowsAs n (poll_row n r h ch s)
-  poll_shows r h = if_found (here n) (set_at (instance_of n s) h s) trap.BadHandle _ (λ x. if_given (here n) (gift false (task_of n s) x (chosen n ch s) s) (poll_takes n r ch s) (λ g. (refl, refl)))
+  poll_shows r h =
+      if_found (here n) (set_at (instance_of n s) h s) trap.BadHandle (λ x. or_never (gift false (task_of n s) x (chosen n ch s) s) (poll_takes n r ch s))
+      (λ x. if_given (here n) (gift false (task_of n s) x (chosen n ch s) s) (poll_takes n r ch s) (λ g. (refl, refl)))
 
   pub set_new_shows : (r : ℕ) → ShowsAs n (set_new_row n r s)
-  set_new_shows r = if_traps (here n) _ trap.TableFull _ (if_traps (here n) _ trap.HandleLimit _ (refl, refl))
+  set_new_shows r =
+      two_traps (here n) (not (fits 1 s)) (at_handle_limit s) trap.TableFull trap.HandleLimit (Goes (label.Set (set_label.New (new_handle (instance_of n s) s) n)) (set_made n r s) n) (refl, refl)
 
   pub set_drop_shows : (h : ℕ) → ShowsAs n (set_drop_row n h s)
-  set_drop_shows h = if_found (here n) (set_at (instance_of n s) h s) trap.BadHandle (set_drop_found n h s) (λ x. if_traps (here n) _ trap.WaitableSetDropHasWaiters _ (if_traps (here n) _ trap.TableHasChildren _ (refl, refl)))
+  set_drop_shows h =
+      if_found (here n) (set_at (instance_of n s) h s) trap.BadHandle (set_drop_found n h s)
+      (λ x. two_traps (here n) (has_waiters x s) (has_member x s) trap.WaitableSetDropHasWaiters trap.TableHasChildren (Goes (label.Set (set_label.Drop n)) (set_dropped n h x s) n) (refl, refl))
 
   pub waiting_shows : (r h : ℕ) → ShowsAs n (wait_row n r h ch s (how_far_of n s))
   waiting_shows r h = wait_shows r h (how_far_of n s)
@@ -224,11 +248,16 @@ module _ (n : ℕ) (s : Core) where
   new_shows : (r x v : ℕ) (o : Slot) → ShowsAs n (thread_new_row n r x v s o)
   new_shows r x v slot.Empty = tt
   new_shows r x v slot.Bad = tt
-  new_shows r x v (slot.Script ops) = if_traps (here n) _ trap.TableFull _ (if_traps (here n) _ trap.HandleLimit _ (refl, refl))
+  new_shows r x v (slot.Script ops) = two_traps (here n) (not (fits 2 s)) (at_handle_limit s) trap.TableFull trap.HandleLimit (Goes (thread_new_label n s) (thread_made n r x v s) n) (refl, refl)
 
   later_shows : (h : ℕ) → ShowsAs n (resume_later_row n h s)
-  later_shows h = if_found (here n) (thread_at (instance_of n s) h s) trap.BadHandle (resume_later_found n s)
-      (λ m. if_traps (here n) _ trap.CannotResumeThread _ (if_found (here n) (resume_why m s) trap.CannotResumeThread _ (λ w. (refl, refl))))
+  later_shows h = if_found (here n) (thread_at (instance_of n s) h s) trap.BadHandle (resume_later_found n s) (λ m. found m)
+    where
+      found : (m : ℕ) → ShowsAs n (resume_later_found n s m)
+      found m =
+          let why = resume_why m s in
+          let next : Why → Progress = λ w. Goes (label.Thread (thread_label.ResumeLater n)) (resumed_later n m w s) n in
+          if_traps (here n) (m == n) trap.CannotResumeThread (or_trap why trap.CannotResumeThread next) (if_found (here n) why trap.CannotResumeThread next (λ w. (refl, refl)))
 
   halts_shows : (x : Halt) (l : ThreadLabel) (b : Bool) → ShowsAs n (halts x n (label.Thread l) s b)
   halts_shows x l true = refl
@@ -239,16 +268,22 @@ module _ (n : ℕ) (s : Core) where
   halt_shows x l = halts_shows x l (passes_check (instance_of n s) s)
 
   resume_shows : (x : Halt) (h : ℕ) → ShowsAs n (then_resume_row x n h s)
-  resume_shows x h = if_found (here n) (thread_at (instance_of n s) h s) trap.BadHandle (then_resume_found x n s)
-      (λ m. if_traps (here n) _ trap.CannotResumeThread _ (if_found (here n) (resume_why m s) trap.CannotResumeThread _ (λ w. refl)))
+  resume_shows x h = if_found (here n) (thread_at (instance_of n s) h s) trap.BadHandle (then_resume_found x n s) (λ m. found m)
+    where
+      found : (m : ℕ) → ShowsAs n (then_resume_found x n s m)
+      found m =
+          let why = resume_why m s in
+          let next : Why → Progress = λ w. Stops (pauses n) (halted_resuming x n m w s) in
+          if_traps (here n) (m == n) trap.CannotResumeThread (or_trap why trap.CannotResumeThread next) (if_found (here n) why trap.CannotResumeThread next (λ w. refl))
 
   promotes_shows : (x : Halt) (l : ThreadLabel) (m : ℕ) (b : Bool) → ShowsAs n (then_promote x n (label.Thread l) s m b)
   promotes_shows x l m true = refl
   promotes_shows x l m false = halt_shows x l
 
   promote_shows : (x : Halt) (h : ℕ) (l : ThreadLabel) → ShowsAs n (then_promote_row x n h (label.Thread l) s)
-  promote_shows x h l = if_found (here n) (thread_at (instance_of n s) h s) trap.BadHandle (then_promote_found x n (label.Thread l) s)
-      (λ m. if_traps (here n) _ trap.CannotResumeThread _ (promotes_shows x l m (has_yielded m s)))
+  promote_shows x h l =
+      if_found (here n) (thread_at (instance_of n s) h s) trap.BadHandle (then_promote_found x n (label.Thread l) s)
+      (λ m. if_traps (here n) (m == n) trap.CannotResumeThread (then_promote x n (label.Thread l) s m (has_yielded m s)) (promotes_shows x l m (has_yielded m s)))
 
   far_shows : (f : HowFar) (l : ThreadLabel) (p : Progress) → ShowsAs n p → ShowsAs n (by_how_far f n (label.Thread l) s p)
   far_shows how_far.Suspends l p g = (refl, refl)

@@ -12,9 +12,8 @@ use Rattle.task_machine.specs.declared.op.SetOp.TheVariants as set_op
 use Rattle.task_machine.specs.declared.records.Script.{Script}
 use Rattle.task_rules.specs.Scripts.{export_at, script_in, slot_at, slot_script}
 
--- an event is written to a register and the two after it; sets aren't made or joined
+-- an event is written to a register and the two after it; joins aren't built
 abbrev pub set_op_fits : SetOp → Bool
-set_op_fits (set_op.New r) = false
 set_op_fits (set_op.Wait r x) = nat_le r 13
 set_op_fits (set_op.Poll r x) = nat_le r 13
 set_op_fits (set_op.Join x y) = false

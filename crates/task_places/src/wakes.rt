@@ -1,0 +1,16 @@
+ghost use Rattle.task_places.specs.Wakes.{IdleIsStalled, ReachedHoldBack};
+
+/// In each state that a run comes to no held thread is admitted: a flag or a counter that kept it
+/// out falls only together with its release.
+#[tactic(auto, using(crate::proofs::WakeLines::reached_hold_back))]
+pub fn reached_hold_back()
+    ensures { ReachedHoldBack }
+{}
+
+/// A state in order in which nothing stands, no work moves and main pends is stalled, where each
+/// set that has a waiter has at least as many woken threads as ready members, no caller stands
+/// behind a stopped strand, and no thread is blocked on an end that is its subtask's event.
+#[tactic(auto, using(crate::proofs::IdleLemmas::idle_is_stalled))]
+pub fn idle_is_stalled()
+    ensures { IdleIsStalled }
+{}
