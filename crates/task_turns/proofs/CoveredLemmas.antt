@@ -17,7 +17,7 @@ use Rattle.task_machine.specs.declared.op.Op.{Op}
 use Rattle.task_machine.specs.declared.records.Script.{Script}
 use Rattle.task_machine.specs.declared.records.Turn.{Turn}
 use Rattle.task_machine.specs.declared.records.Script.TheVariants as script
-use Rattle.task_rules.specs.Scripts.{export_at, script_in, slot_at, slot_script}
+use Rattle.task_rules.specs.Scripts.{export_at, script_in, slot_script}
 use Rattle.task_turns.specs.Covered.{HasPlainExports, IsCovered, IsPlainExport, op_fits}
 use Rattle.task_turns.specs.Turn.{Sits}
 

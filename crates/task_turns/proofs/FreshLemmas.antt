@@ -1,12 +1,12 @@
 -- The core of a new store sits at main's turn.
 use Rattle.std.proofs.Common.{arith, refl}
 use Rattle.std.proofs.lemmas.Bool.Decides.{nat_tests}
-use Rattle.std.specs.Prelude.{None, Some, false, is_some, length, true, ℕ, ◌<◌, ◌≡◌, ◌≤◌}
+use Rattle.std.specs.Prelude.{false, is_some, length, true, ℕ, ◌<◌, ◌≡◌, ◌≤◌}
 use Rattle.task_laws.specs.Lacks.{LacksOps, LacksWorks}
 use Rattle.task_laws.specs.Order.{OpeningInOrder}
 use Rattle.task_laws.specs.Settings.{CodesInCallbacks}
 use Rattle.task_machine.specs.Core.{fresh, no_handles}
-use Rattle.task_machine.specs.Maps.{empty, get, get-empty}
+use Rattle.task_machine.specs.Maps.{get, get-empty}
 use Rattle.task_machine.specs.declared.component.Component.{Component}
 use Rattle.task_machine.specs.declared.op.Op.{Op}
 use Rattle.task_machine.specs.declared.op.Op.TheVariants as op

@@ -7,7 +7,7 @@ use Rattle.task_laws.proofs.MemberLemmas.{members_named}
 use Rattle.task_laws.specs.Order.{InOrder, IsOf, set_of_op, set_of_place}
 use Rattle.task_machine.specs.Core.{Core, Unscripted}
 use Rattle.task_machine.specs.Maps.{get}
-use Rattle.task_machine.specs.Read.{goal_of, instance_of, is_direct, is_explicit, is_under, is_waiting_on, place_of, task_of, under_of}
+use Rattle.task_machine.specs.Read.{instance_of, is_under, is_waiting_on, place_of, task_of, under_of}
 use Rattle.task_machine.specs.declared.component.Component.{Component}
 use Rattle.task_machine.specs.declared.records.Place.{Place}
 use Rattle.task_machine.specs.declared.records.Place.TheVariants as place
@@ -16,7 +16,7 @@ use Rattle.task_machine.specs.declared.records.Subtask.TheVariants as subtask
 use Rattle.task_machine.specs.declared.records.Turn.{Turn}
 use Rattle.task_machine.specs.declared.records.Turn.TheVariants as turn
 use Rattle.task_ops.specs.Gifts.{AllMembersNamed, MembersNamed}
-use Rattle.task_ops.specs.Running.{IsRunning, IsTopmost}
+use Rattle.task_ops.specs.Running.{IsTopmost}
 use Rattle.task_ops.specs.Stays.{StaysAfter}
 use Rattle.task_ops.specs.declared.came.Came.{Came}
 use Rattle.task_ops.specs.declared.came.Came.TheVariants as came

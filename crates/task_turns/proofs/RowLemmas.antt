@@ -1,13 +1,11 @@
 -- What the row of an op shows: the thread goes on or none does, and the label gives no outcome.
 use Rattle.std.proofs.Common.{refl, subst, sym}
-use Rattle.std.specs.Prelude.{Bool, List, None, Option, Some, false, is_none, nat_le, nat_lt, not, suc, true, zero, ℕ, ◌%◌, ◌*◌, ◌+◌, ◌/◌, ◌==◌, ◌≡◌}
+use Rattle.std.specs.Prelude.{Bool, List, None, Option, Some, false, nat_le, nat_lt, not, suc, true, zero, ℕ, ◌%◌, ◌/◌, ◌==◌, ◌≡◌}
 use Rattle.task_machine.specs.Core.{Core}
 use Rattle.task_machine.specs.Labels.{Choice, exit_label, ret_label, task_cancel_label, wait_label}
 use Rattle.task_machine.specs.Moves.{Gift, MemberGift, NoGift, OwnGift, gift, may_hand_on, passes_check}
-use Rattle.task_machine.specs.Read.{at_handle_limit, backpressure_of, cancel_was_delivered, fits, foot_of, has_ended, has_member, has_waiters, how_far_of, instance_of, is_async_lifted, is_direct, goal_of, is_explicit, kind_of, new_handle, set_at, task_of, thread_at}
+use Rattle.task_machine.specs.Read.{at_handle_limit, backpressure_of, cancel_was_delivered, fits, foot_of, has_ended, has_member, has_waiters, how_far_of, instance_of, is_async_lifted, kind_of, new_handle, set_at, task_of, thread_at}
 use Rattle.task_machine.specs.declared.component.Component.{Component}
-use Rattle.task_machine.specs.declared.component.ExportKind.{ExportKind}
-use Rattle.task_machine.specs.declared.component.ExportKind.TheVariants as kind
 use Rattle.task_machine.specs.declared.component.Slot.{Slot}
 use Rattle.task_machine.specs.declared.component.Slot.TheVariants as slot
 use Rattle.task_machine.specs.declared.label.Label.{Label}
@@ -18,8 +16,6 @@ use Rattle.task_machine.specs.declared.label.ThreadLabel.{ThreadLabel}
 use Rattle.task_machine.specs.declared.label.ThreadLabel.TheVariants as thread_label
 use Rattle.task_machine.specs.declared.op.DataOp.{DataOp}
 use Rattle.task_machine.specs.declared.op.DataOp.TheVariants as data_op
-use Rattle.task_machine.specs.declared.op.SetOp.{SetOp}
-use Rattle.task_machine.specs.declared.op.SetOp.TheVariants as set_op
 use Rattle.task_machine.specs.declared.op.ThreadOp.{ThreadOp}
 use Rattle.task_machine.specs.declared.op.ThreadOp.TheVariants as thread_op
 use Rattle.task_machine.specs.declared.records.HowFar.{HowFar}
@@ -250,7 +246,7 @@ module _ (n : ℕ) (s : Core) where
   new_shows r x v slot.Bad = tt
   new_shows r x v (slot.Script ops) = two_traps (here n) (not (fits 2 s)) (at_handle_limit s) trap.TableFull trap.HandleLimit (Goes (thread_new_label n s) (thread_made n r x v s) n) (refl, refl)
 
-  later_shows : (h : ℕ) → ShowsAs n (resume_later_row n h s)
+  pub later_shows : (h : ℕ) → ShowsAs n (resume_later_row n h s)
   later_shows h = if_found (here n) (thread_at (instance_of n s) h s) trap.BadHandle (resume_later_found n s) (λ m. found m)
     where
       found : (m : ℕ) → ShowsAs n (resume_later_found n s m)

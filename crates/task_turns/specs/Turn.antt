@@ -1,5 +1,5 @@
 -- What a turn of the loop makes.
-use Rattle.std.specs.Prelude.{◌≡◌, ◌<◌, ◌≤◌, ◌+◌, List, ℕ, Bool, true, false, Option, Some, None, is_none, is_some, length, option_map}
+use Rattle.std.specs.Prelude.{◌≡◌, ◌<◌, ◌+◌, List, ℕ, Bool, true, false, Option, Some, None, is_none, is_some, length, option_map}
 use Rattle.task_laws.specs.Lacks.{LacksOps, LacksWorks}
 use Rattle.task_laws.specs.Order.{InOrder}
 pub use Rattle.task_laws.specs.Order.{is_open}

@@ -33,11 +33,7 @@ fn wait<W: Words>(w: &mut W, thread: ThreadId, to: u8, handle: u64) -> Came
 }
 
 /// An op on waitable sets. Where memory is wanting, all is as before.
-pub(crate) fn do_set_op<W: Words>(
-    w: &mut W,
-    thread: ThreadId,
-    op: SetOp,
-) -> Result<Came, NoMemory>
+pub(crate) fn do_set_op<W: Words>(w: &mut W, thread: ThreadId, op: SetOp) -> Result<Came, NoMemory>
     requires runner { Runner thread (W.view w.old) }
     requires fits { set_op_fits op ≡ true }
     requires position { position_of (thread_of (W.view w.old) thread) (W.view w.old).core + 1 < 2 ^ 32 }
@@ -61,6 +57,9 @@ pub(crate) fn do_set_op<W: Words>(
             let handle = value_of(w, thread, set);
             Ok(poll(w, thread, to, handle))
         }
-        SetOp::Join { waitable: _, set: _ } => unreachable!(),
+        SetOp::Join {
+            waitable: _,
+            set: _,
+        } => unreachable!(),
     }
 }

@@ -38,12 +38,7 @@ fn finish<W: Words>(w: &mut W, thread: ThreadId, label: ThreadLabel) -> Came
 }
 
 // `suspend` and `yield`
-fn halts<W: Words>(
-    w: &mut W,
-    thread: ThreadId,
-    yielding: bool,
-    label: ThreadLabel,
-) -> Came
+fn halts<W: Words>(w: &mut W, thread: ThreadId, yielding: bool, label: ThreadLabel) -> Came
     requires runner { Runner thread (W.view w.old) }
     requires position { position_of (thread_of (W.view w.old) thread) (W.view w.old).core + 1 < 2 ^ 32 }
     ensures meets { Meets (halting (thread_of (W.view w.old) thread) (W.view w.old).core label (λ l. halt_row (halt_of yielding) (thread_of (W.view w.old) thread) l (W.view w.old).core)) (W.view w.old).core result (W.view w.new).core }
@@ -111,7 +106,13 @@ fn do_halting_op<W: Words>(w: &mut W, thread: ThreadId, op: ThreadOp) -> Came
         ThreadOp::Yield => halts(w, thread, true, ThreadLabel::Yield(number)),
         ThreadOp::SuspendThenResume { thread: other } => {
             let other = value_of(w, thread, other);
-            resumes(w, thread, other, false, ThreadLabel::SuspendThenResume(number))
+            resumes(
+                w,
+                thread,
+                other,
+                false,
+                ThreadLabel::SuspendThenResume(number),
+            )
         }
         ThreadOp::YieldThenResume { thread: other } => {
             let other = value_of(w, thread, other);
@@ -119,11 +120,23 @@ fn do_halting_op<W: Words>(w: &mut W, thread: ThreadId, op: ThreadOp) -> Came
         }
         ThreadOp::SuspendThenPromote { thread: other } => {
             let other = value_of(w, thread, other);
-            promotes(w, thread, other, false, ThreadLabel::SuspendThenPromote(number))
+            promotes(
+                w,
+                thread,
+                other,
+                false,
+                ThreadLabel::SuspendThenPromote(number),
+            )
         }
         ThreadOp::YieldThenPromote { thread: other } => {
             let other = value_of(w, thread, other);
-            promotes(w, thread, other, true, ThreadLabel::YieldThenPromote(number))
+            promotes(
+                w,
+                thread,
+                other,
+                true,
+                ThreadLabel::YieldThenPromote(number),
+            )
         }
         _ => unreachable!(),
     }
