@@ -1,0 +1,5 @@
+use Rattle.subtask_ops.proofs.HostLemmas.{below_after_delete}
+use Rattle.subtask_ops.proofs.hosts.go_on_calling_host.Goals as goal
+
+pub assign-requires : goal.assign-requires
+assign-requires g c = below_after_delete c.args.thread _ _ (g.W.View.view c.args.w.now) (g.W.View.view c.delete_work.new.self) c.requires.live c.delete_work.ensures.tags c.delete_work.ensures.core c.requires.position
