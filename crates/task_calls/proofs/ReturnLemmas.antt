@@ -18,7 +18,7 @@ use Rattle.task_rules.specs.Progress.{Goes, Traps, may, trap_if}
 use Rattle.task_rules.specs.Task.{ret_bad_row, ret_done, ret_row}
 use Rattle.task_table.specs.declared.id.TableId.{TableId}
 use Rattle.task_turns.specs.Covered.{IsCovered}
-use Rattle.task_turns.specs.Runner.{Runner}
+use Rattle.op_dispatch.specs.Runner.{Runner}
 use Rattle.task_turns.specs.Turn.{Sits}
 use Rattle.task_wait.specs.declared.keys.ThreadKey.{ThreadKey}
 use Rattle.task_words.specs.StateView.{StateView, Tags, thread_of, with_core}

@@ -24,7 +24,7 @@ use Rattle.task_ops.proofs.BesideLemmas.{stand_of}
 use Rattle.task_ops.proofs.BlockLemmas.{first_found}
 use Rattle.task_ops.specs.Wakes.{WaitersTogether}
 use Rattle.task_table.specs.declared.id.TableId.{TableId}
-use Rattle.task_turns.specs.Runner.{Runner, WaitsThere}
+use Rattle.op_dispatch.specs.Runner.{Runner, WaitsThere}
 use Rattle.task_turns.specs.Turn.{CanStrike, Sits, running_of, state_at}
 use Rattle.task_wait.specs.declared.keys.ThreadKey.{ThreadKey}
 use Rattle.task_words.specs.StateView.{StateView, thread_of}

@@ -1,7 +1,7 @@
 -- A step of the running thread.
 use Rattle.std.proofs.Common.{ap, refl, subst, sym, ◌∙◌}
 use Rattle.std.specs.Option.{option_map_or}
-use Rattle.std.specs.Prelude.{Bool, List, Option, Some, [], false, if◌then◌else◌, is_some, slice_get, true, unwrap_or, ℕ, ◌≡◌}
+use Rattle.std.specs.Prelude.{Bool, List, Option, Some, [], slice_get, unwrap_or, ℕ, ◌≡◌}
 use Rattle.task_machine.specs.Core.{Core, Main}
 use Rattle.task_machine.specs.Labels.{choice_of}
 use Rattle.task_machine.specs.Maps.{get}
@@ -16,8 +16,6 @@ use Rattle.task_machine.specs.declared.words.Mark.{Mark}
 use Rattle.task_machine.specs.declared.op.Op.{Op}
 use Rattle.task_machine.specs.declared.op.Op.TheVariants as op
 use Rattle.task_machine.specs.declared.op.TaskOp.TheVariants as task
-use Rattle.task_machine.specs.declared.records.HowFar.{HowFar}
-use Rattle.task_machine.specs.declared.records.HowFar.TheVariants as how_far
 use Rattle.task_machine.specs.declared.records.Script.{Script}
 use Rattle.task_machine.specs.declared.records.Thread.{Thread}
 use Rattle.task_machine.specs.declared.records.Turn.{Turn}
@@ -35,12 +33,8 @@ use Rattle.task_rules.specs.Takes.{popped, pushed, thread_taken}
 use Rattle.task_rules.specs.Turns.{at_turn, goes_to}
 use Rattle.task_table.specs.declared.id.TableId.{TableId}
 use Rattle.task_turns.specs.Turn.{state_at}
-use Rattle.task_wait.specs.declared.keys.SetKey.{SetKey}
 use Rattle.task_wait.specs.declared.keys.ThreadKey.{ThreadKey}
-use Rattle.task_words.specs.Live.{live_how_far}
-use Rattle.task_words.specs.Names.{how_far_in}
-use Rattle.task_words.specs.StateView.{StateView, set_of, thread_of}
-use Rattle.task_words.specs.declared.names.HowFarId.TheVariants as how_fars
+use Rattle.task_words.specs.StateView.{StateView, thread_of}
 
 -- ---- The op
 
@@ -113,14 +107,3 @@ pub took_push : (c : Component) (ended : Bool) (mark : Mark) (i : ℕ) (s t : St
 took_push c ended mark i s t next core x component m =
     subst (Step x (state_at s.core m (turn.Take ended)) (label.Take (take_label.Push mark i))) (settled (came.Stops (label.Take (take_label.Push mark i))) s.core m (turn.Take ended) t.core)
     (taking_is_step x (state_at s.core m (turn.Take ended)) ended (mark, entry.Push i) (came.Stops (label.Take (take_label.Push mark i))) t.core refl next (refl, core))
-
--- ---- Inside a wait
-
--- the set that the thread waits on, where it is there
-pub inside_wait : (id : TableId SetKey) (h : HowFar) (s : StateView) → how_far_in s.tags (how_fars.Waits id) ≡ live_how_far h s.core → ((x : ℕ) → h ≡ how_far.Waits x → is_some (get s.core.sets x) ≡ true) → h ≡ how_far.Waits (set_of s id)
-inside_wait id (how_far.Waits x) s is there = by (is_some (get s.core.sets x)) (there x refl) is
-  where
-    by : (b : Bool) → b ≡ true → how_far.Waits (set_of s id) ≡ how_far.Waits (if b then x else 0) → how_far.Waits x ≡ how_far.Waits (set_of s id)
-    by true e same = sym same
-    by false e same = absurd (cc)
-inside_wait id h s is there = absurd (cc)

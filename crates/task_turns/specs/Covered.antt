@@ -1,29 +1,14 @@
 -- The components that are run.
+pub use Rattle.op_dispatch.specs.Fits.{op_fits}
 use Rattle.std.specs.List.{list_all}
-use Rattle.std.specs.Prelude.{Bool, Some, [], false, length, nat_le, slice_get, true, ℕ, ◌≡◌, ◌≤◌}
+use Rattle.std.specs.Prelude.{Some, [], length, slice_get, true, ℕ, ◌≡◌, ◌≤◌}
 use Rattle.task_machine.specs.declared.component.Callee.{Callee}
 use Rattle.task_machine.specs.declared.component.Component.{Component}
 use Rattle.task_machine.specs.declared.component.ExportDef.{ExportDef}
 use Rattle.task_machine.specs.declared.component.ExportKind.TheVariants as kind
 use Rattle.task_machine.specs.declared.op.Op.{Op}
-use Rattle.task_machine.specs.declared.op.Op.TheVariants as op
-use Rattle.task_machine.specs.declared.op.SetOp.{SetOp}
-use Rattle.task_machine.specs.declared.op.SetOp.TheVariants as set_op
 use Rattle.task_machine.specs.declared.records.Script.{Script}
 use Rattle.task_rules.specs.Scripts.{export_at, script_in, slot_at, slot_script}
-
--- an event is written to a register and the two after it; joins aren't built
-abbrev pub set_op_fits : SetOp → Bool
-set_op_fits (set_op.Wait r x) = nat_le r 13
-set_op_fits (set_op.Poll r x) = nat_le r 13
-set_op_fits (set_op.Join x y) = false
-set_op_fits o = true
-
--- ops on subtasks aren't built
-abbrev pub op_fits : Op → Bool
-op_fits (op.Set o) = set_op_fits o
-op_fits (op.Call o) = false
-op_fits o = true
 
 -- An export takes at most 16 words, a script has at most 4096 ops, and each op fits.
 pub record IsCovered (c : Component) : Type 0 where

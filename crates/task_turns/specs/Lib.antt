@@ -1,6 +1,5 @@
 pub mod Covered
 pub mod Turn
-pub mod Runner
 pub mod Context
 pub mod Drive
 pub mod Taken

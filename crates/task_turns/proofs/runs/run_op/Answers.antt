@@ -9,7 +9,7 @@ use Rattle.task_ops.specs.Steps.{label_of}
 use Rattle.task_rules.specs.Step.{did, op_row}
 use Rattle.task_turns.proofs.CoveredLemmas.{home_below}
 use Rattle.task_turns.proofs.RunLemmas.{row_at, script_is}
-use Rattle.task_turns.proofs.ShowLemmas.{ok_then}
+use Rattle.op_dispatch.proofs.StayLemmas.{ok_then}
 use Rattle.task_turns.proofs.runs.run_op.Goals as goal
 use Rattle.task_words.specs.StateView.{call_of, thread_of}
 

@@ -8,8 +8,8 @@ ghost use Rattle.task_ops.specs.Halting.{halt_of};
 ghost use Rattle.task_ops.specs.Stays.{StaysAfter};
 ghost use Rattle.task_rules.specs.Data.{advanced};
 ghost use Rattle.task_rules.specs.Threads.{halt_row, halting, then_promote_row, then_resume_row, thread_row};
-ghost use Rattle.task_turns.specs.Runner.{Runner, is_halting, is_resumed};
-ghost use Rattle.task_turns.specs.Turn.{GoesOn, given};
+ghost use Rattle.op_dispatch.specs.Runner.{Runner, is_halting, is_resumed};
+ghost use Rattle.op_dispatch.specs.Goes.{GoesOn, given};
 ghost use Rattle.task_words.specs.StateView.{on_core, thread_of};
 
 use crate::scripts::slot_line;

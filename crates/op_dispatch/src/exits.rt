@@ -6,8 +6,8 @@ ghost use Rattle.task_ops.specs.Stays.{StaysAfter};
 ghost use Rattle.task_ops.specs.Steps.{label_of};
 ghost use Rattle.task_rules.specs.Ends.{exit_row, kind_exit_row};
 ghost use Rattle.task_machine.specs.Read.{kind_of, task_of};
-ghost use Rattle.task_turns.specs.Runner.{Runner};
-ghost use Rattle.task_turns.specs.Turn.{GoesOn};
+ghost use Rattle.op_dispatch.specs.Runner.{Runner};
+ghost use Rattle.op_dispatch.specs.Goes.{GoesOn};
 ghost use Rattle.task_words.specs.StateView.{thread_of};
 
 use task_machine::{ExportKind, Goal, Label, TaskLabel};
@@ -33,7 +33,7 @@ fn exit_by_kind<W: Words>(w: &mut W, thread: ThreadId) -> Came
 }
 
 /// The thread exits.
-pub(crate) fn exit<W: Words>(w: &mut W, thread: ThreadId) -> Came
+pub fn exit<W: Words>(w: &mut W, thread: ThreadId) -> Came
     requires { Runner thread (W.view w.old) }
     ensures meets { Meets (exit_row (thread_of (W.view w.old) thread) (choice_of (label_of (thread_of (W.view w.old) thread) result)).woken (W.view w.old).core) (W.view w.old).core result (W.view w.new).core }
     ensures goes { GoesOn result (W.view w.new) }

@@ -7,9 +7,9 @@ ghost use Rattle.task_ops.specs.Came.{Meets};
 ghost use Rattle.task_ops.specs.Stays.{StaysAfter};
 ghost use Rattle.task_ops.specs.Steps.{label_of};
 ghost use Rattle.task_rules.specs.Sets.{set_row, wait_row};
-ghost use Rattle.task_turns.specs.Covered.{set_op_fits};
-ghost use Rattle.task_turns.specs.Runner.{Runner};
-ghost use Rattle.task_turns.specs.Turn.{GoesOn, given};
+ghost use Rattle.op_dispatch.specs.Fits.{set_op_fits};
+ghost use Rattle.op_dispatch.specs.Runner.{Runner};
+ghost use Rattle.op_dispatch.specs.Goes.{GoesOn, given};
 ghost use Rattle.task_words.specs.StateView.{thread_of};
 
 use task_machine::{NoMemory, SetOp};

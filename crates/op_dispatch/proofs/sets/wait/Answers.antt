@@ -5,8 +5,8 @@ use Rattle.task_machine.specs.declared.records.HowFar.{HowFar}
 use Rattle.task_ops.specs.Came.{Meets}
 use Rattle.task_ops.specs.Steps.{label_of}
 use Rattle.task_rules.specs.Sets.{wait_row}
-use Rattle.task_turns.proofs.RunLemmas.{inside_wait}
-use Rattle.task_turns.proofs.sets.wait.Goals as goal
+use Rattle.op_dispatch.proofs.StayLemmas.{inside_wait}
+use Rattle.op_dispatch.proofs.sets.wait.Goals as goal
 use Rattle.task_words.specs.Names.{how_far_in}
 use Rattle.task_words.specs.StateView.{thread_of}
 

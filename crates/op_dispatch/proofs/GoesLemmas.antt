@@ -17,8 +17,8 @@ use Rattle.task_rules.specs.Ends.{direct_exit_row, direct_exit_to}
 use Rattle.task_rules.specs.Outcome.{outcome_of_label}
 use Rattle.task_rules.specs.Progress.{Goes, Progress, trap_if}
 use Rattle.task_table.specs.declared.id.TableId.{TableId}
-use Rattle.task_turns.proofs.RowLemmas.{ShowsAs, shows_of}
-use Rattle.task_turns.specs.Turn.{GoesOn, Shows, running_of}
+use Rattle.op_dispatch.proofs.RowLemmas.{ShowsAs, shows_of}
+use Rattle.op_dispatch.specs.Goes.{GoesOn, Shows, running_of}
 use Rattle.task_wait.specs.declared.keys.ThreadKey.{ThreadKey}
 use Rattle.task_words.specs.StateView.{StateView, thread_of}
 

@@ -1,7 +1,7 @@
-use Rattle.task_turns.proofs.GoesLemmas.{same_goes}
-use Rattle.task_turns.proofs.RowLemmas.{later_shows, thread_shows}
-use Rattle.task_turns.proofs.ShowLemmas.{same_stays}
-use Rattle.task_turns.proofs.threads.do_thread_op.Goals as goal
+use Rattle.op_dispatch.proofs.GoesLemmas.{same_goes}
+use Rattle.op_dispatch.proofs.RowLemmas.{later_shows, thread_shows}
+use Rattle.op_dispatch.proofs.StayLemmas.{same_stays}
+use Rattle.op_dispatch.proofs.threads.do_thread_op.Goals as goal
 
 pub returns-in-ResumeLater-clause-goes : goal.returns-in-ResumeLater-clause-goes
 returns-in-ResumeLater-clause-goes g c =

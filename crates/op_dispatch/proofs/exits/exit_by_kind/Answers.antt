@@ -1,5 +1,5 @@
-use Rattle.task_turns.proofs.RowLemmas.{blocking_exit_stops, code_stops, stops_goes, sync_exit_stops, thread_exit_stops}
-use Rattle.task_turns.proofs.exits.exit_by_kind.Goals as goal
+use Rattle.op_dispatch.proofs.RowLemmas.{blocking_exit_stops, code_stops, stops_goes, sync_exit_stops, thread_exit_stops}
+use Rattle.op_dispatch.proofs.exits.exit_by_kind.Goals as goal
 use Rattle.std.proofs.Common.{refl}
 use Rattle.std.specs.Prelude.{None}
 

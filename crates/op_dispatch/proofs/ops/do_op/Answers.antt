@@ -1,7 +1,7 @@
-use Rattle.task_turns.proofs.GoesLemmas.{same_goes}
-use Rattle.task_turns.proofs.RowLemmas.{data_shows}
-use Rattle.task_turns.proofs.ShowLemmas.{same_stays}
-use Rattle.task_turns.proofs.runs.do_op.Goals as goal
+use Rattle.op_dispatch.proofs.GoesLemmas.{same_goes}
+use Rattle.op_dispatch.proofs.RowLemmas.{data_shows}
+use Rattle.op_dispatch.proofs.StayLemmas.{same_stays}
+use Rattle.op_dispatch.proofs.ops.do_op.Goals as goal
 
 pub returns-in-Data-clause-goes : goal.returns-in-Data-clause-goes
 returns-in-Data-clause-goes g c =

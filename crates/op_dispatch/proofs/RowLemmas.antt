@@ -35,7 +35,7 @@ use Rattle.task_rules.specs.Scripts.{slot_at, value_of}
 use Rattle.task_rules.specs.Sets.{chosen, finds_nothing, handed_out, poll_row, poll_takes, received_woken, set_drop_found, set_drop_row, set_dropped, set_made, set_new_row, wait_begins, wait_goes_on, wait_row, wait_stops_checked, wait_takes}
 use Rattle.task_rules.specs.Task.{dec_from, dec_row, inc_raises, inc_row, ret_bad_row, ret_done, ret_row, task_cancel_done, task_cancel_row}
 use Rattle.task_rules.specs.Threads.{Halt, Suspension, Yielding, by_how_far, halt_row, halted_resuming, halting, halts, has_yielded, resume_later_found, resume_later_row, resume_why, resumed_later, then_promote, then_promote_found, then_promote_row, then_resume_found, then_resume_row, thread_made, thread_new_label, thread_new_row, thread_row}
-use Rattle.task_turns.specs.Turn.{GoesOn, Shows}
+use Rattle.op_dispatch.specs.Goes.{GoesOn, Shows}
 use Rattle.task_words.specs.StateView.{StateView}
 
 -- who goes on is so, and the label gives no outcome

@@ -1,7 +1,7 @@
-use Rattle.task_turns.proofs.GoesLemmas.{same_goes}
-use Rattle.task_turns.proofs.RowLemmas.{waiting_shows}
-use Rattle.task_turns.proofs.ShowLemmas.{same_stays}
-use Rattle.task_turns.proofs.sets.do_set_op.Goals as goal
+use Rattle.op_dispatch.proofs.GoesLemmas.{same_goes}
+use Rattle.op_dispatch.proofs.RowLemmas.{waiting_shows}
+use Rattle.op_dispatch.proofs.StayLemmas.{same_stays}
+use Rattle.op_dispatch.proofs.sets.do_set_op.Goals as goal
 
 pub returns-in-Wait-clause-goes : goal.returns-in-Wait-clause-goes
 returns-in-Wait-clause-goes g c =

@@ -8,8 +8,8 @@ ghost use Rattle.task_ops.specs.Steps.{label_of};
 ghost use Rattle.task_rules.specs.Ends.{code_row};
 ghost use Rattle.task_rules.specs.Outcome.{outcome_of_label};
 ghost use Rattle.task_rules.specs.Task.{task_row};
-ghost use Rattle.task_turns.specs.Runner.{Runner};
-ghost use Rattle.task_turns.specs.Turn.{GoesOn};
+ghost use Rattle.op_dispatch.specs.Runner.{Runner};
+ghost use Rattle.op_dispatch.specs.Goes.{GoesOn};
 ghost use Rattle.task_words.specs.StateView.{thread_of};
 
 use crate::exits::exit;
