@@ -1,5 +1,6 @@
 -- Order hangs neither on limits, nor on groups, nor on whether the store is trapped.
 use Rattle.std.specs.Prelude.{Bool, List, Some, true, ℕ, ◌≡◌}
+use Rattle.task_laws.specs.Wakes.{NoneBlockedOnEnd}
 use Rattle.task_laws.specs.Order.{CancelsWatched, InOrder, JoinNamed}
 use Rattle.task_machine.specs.Core.{Core, Main}
 use Rattle.task_machine.specs.Read.{join_of, subtask_at, subtask_handle, work_caller_of}
@@ -61,11 +62,17 @@ module _ (trapped : Bool) (groups : List ℕ) (handle_limit capacity : ℕ) wher
     watched = watched;
     inside = o.inside;
     held = o.held;
-    awake = λ e. let h = o.awake e in record { alone = h.alone };
+    works_told = λ i w e. let h = o.works_told i w e in record { late = h.late; told = h.told; finishing = h.finishing };
+    calls_told = o.calls_told;
+    awake = λ e. let h = o.awake e in record { alone = h.alone; starts_there = h.starts_there; blocked = blocked h.blocked };
   }
     where
       there : (i h k : ℕ) → subtask_at i h (beside s) ≡ Some (subtask.Guest k) → subtask_handle (subtask.Guest k) (beside s) ≡ Some h
       there i h k e = o.names.there i h k e
+
+      blocked : NoneBlockedOnEnd s → NoneBlockedOnEnd (beside s)
+      blocked q n (subtask.Guest k) at = q n (subtask.Guest k) at
+      blocked q n (subtask.Host i) at = q n (subtask.Host i) at
 
       watched : CancelsWatched (beside s)
       watched n (subtask.Guest k) e = o.watched n (subtask.Guest k) e

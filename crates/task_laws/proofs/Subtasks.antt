@@ -1,11 +1,5 @@
 -- Each call that a handle names, or that an op under way is about, was made as a call: along the words of a step.
-use Rattle.task_rules.proofs.Machine.{add_call, add_group, add_set, add_thread, add_work, after_word, Allowed, ap, arith, as_subtask, ByHandle, ByOp, call_made, change, CloseSet, Core, count_work, free_handle, free_thread_handle, fresh, get-change, get-empty, get-remove, give_handle, give_result, give_thread_handle, giving, HasSubtask, HowFar, IfSome, inl, inr, IsNew, le_trans, MayCome, NameCall, Named, named_by, NameWork, nat_tests, on_call, on_instance, on_thread, on_work, OpenSet, option_and_then, poll_pends, push_high, refl, remove_call, remove_group, remove_set, remove_thread, remove_work, Scene, set_backpressure, set_cancel_delivered, set_cancelled, set_course, set_do_not_enter, set_do_not_suspend, set_end, set_event, set_exited, set_how_far, set_join, set_own_event, set_phase, set_position, set_register, set_result, set_saved_callee, set_saved_own, set_script, set_stage, set_started, set_starting_published, set_subtask_handle, set_thread_handle, set_trapped, set_uninteresting, set_word, Some, Subtask, subtask_at, subtask_under_way, take_result, Thread, UnnameCall, UnnameWork, with_handle, with_thread_handle, Word, work_queued, ℕ, ⊎_elim, ◌+◌, ◌≡◌, ◌≤◌, ◌⊎◌}
-use Rattle.task_laws.proofs.CallsCame.{ThreadAfter, op_came, thread_came}
-use Rattle.task_laws.proofs.CountLemmas.{made_threads_word}
-use Rattle.task_laws.proofs.SetHandles.{given_names, none_named}
-use Rattle.task_laws.proofs.CountLemmas.{made_works_word}
-use Rattle.task_laws.specs.Order.{WorksNamed, CallsNamed, WasCall}
-use Rattle.task_rules.proofs.WalkParts.{cancels_own}
+use Rattle.task_laws.proofs.Words.{add_call, add_group, add_set, add_thread, add_work, after_word, Allowed, ap, arith, as_subtask, ByHandle, ByOp, call_made, CallsNamed, cancels_own, change, CloseSet, Core, count_work, free_handle, free_thread_handle, fresh, get-change, get-empty, get-remove, give_handle, give_result, give_thread_handle, given_names, giving, HasSubtask, HowFar, IfSome, inl, inr, IsNew, le_trans, made_threads_word, made_works_word, MayCome, NameCall, Named, named_by, NameWork, nat_tests, none_named, on_call, on_instance, on_thread, on_work, op_came, OpenSet, option_and_then, poll_pends, push_high, refl, remove_call, remove_group, remove_set, remove_thread, remove_work, Scene, set_backpressure, set_cancel_delivered, set_cancelled, set_course, set_do_not_enter, set_do_not_suspend, set_end, set_event, set_exited, set_how_far, set_join, set_own_event, set_phase, set_position, set_register, set_result, set_saved_callee, set_saved_own, set_script, set_stage, set_started, set_starting_published, set_subtask_handle, set_thread_handle, set_trapped, set_uninteresting, set_word, Some, Subtask, subtask_at, subtask_under_way, take_result, Thread, thread_came, ThreadAfter, UnnameCall, UnnameWork, WasCall, with_handle, with_thread_handle, Word, work_queued, WorksNamed, ℕ, ⊎_elim, ◌+◌, ◌≡◌, ◌≤◌, ◌⊎◌}
 
 -- a subtask of the thread, or a new one
 abbrev Known : Scene → Core → Subtask → Type 0

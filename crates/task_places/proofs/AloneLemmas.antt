@@ -1,14 +1,7 @@
 -- Nobody runs but the thread whose turn it is, along the words of a step.
-use Rattle.task_rules.proofs.Machine.{after_placing, after_word, ap, arith, behind_one, Collapses, Core, Enter, false, get, get-change, get-remove, GoBehind, GoesBack, inl, inr, is_none, IsRunner, Label, Lands, LandsAt, Mark, MayLand, MayMove, Move, nat_tests, on_thread, Option, option_map, Place, place_of, Places, Placing, Promote, push_high, push_low, Put, put_high, put_low, Quits, Remains, remove_thread, RemoveThread, runner_at, Scene, scene_of, set_callers, set_how_far, set_place, Setting, settled_turn, Settles, Some, State, Stay, Stays, Stop, sym, Thread, Trip, true, Turn, Walked, Word, ℕ, ⊎_elim, ◌==◌, ◌∙◌, ◌≡◌, ◌⊎◌}
-use Rattle.task_places.proofs.PlaceSteps.{Reads, Withdrawable, step_by}
+use Rattle.task_places.proofs.Laws.{after_placing, after_word, along, ap, arith, behind_one, by_number, Collapses, Core, Enter, false, get, get-change, get-remove, GoBehind, GoesBack, inl, InPlace, inr, is_none, IsBeside, IsFirst, IsGone, IsRunner, IsSame, Label, Lands, LandsAt, Mark, MayLand, MayMove, Move, Moved, nat_tests, on_thread, Option, option_map, Place, place_of, Places, Placing, placing_shifted, Promote, promoted_shifted, push_high, push_low, Put, put_high, put_low, put_shifted, Quits, Remains, remove_thread, RemoveThread, runner_at, RunsAlone, Scene, scene_of, set_callers, set_how_far, set_place, Setting, settle_threads, settled_turn, Settles, Some, State, Stay, Stays, stays_allowed, Stop, stopped_shifted, sym, Thread, thread_came, ThreadAfter, Trip, true, Turn, Walked, Word, ℕ, ⊎_elim, ◌==◌, ◌∙◌, ◌≡◌, ◌⊎◌}
 use Rattle.task_places.proofs.PlaceLaw.{Frame, yield_leaves}
-use Rattle.task_rules.proofs.PlacingLemmas.{placing_shifted}
-use Rattle.task_rules.proofs.ChainLemmas.{along, stays_allowed}
-use Rattle.task_rules.proofs.StandLemmas.{by_number}
-use Rattle.task_rules.proofs.WalkMoves.{settle_threads}
-use Rattle.task_laws.proofs.CallsCame.{IsBeside, IsFirst, IsGone, IsSame, ThreadAfter, thread_came}
-use Rattle.task_laws.proofs.CameLemmas.{Moved, behind_shifted, promoted_shifted, put_shifted, stopped_shifted}
-use Rattle.task_laws.specs.Order.{InPlace, RunsAlone}
+use Rattle.task_places.proofs.PlaceSteps.{step_by, Withdrawable}
 
 abbrev Runs : ℕ → Core → Type 0
 Runs k s = place_of k s ≡ Some Place.Running

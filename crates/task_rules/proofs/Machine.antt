@@ -32,7 +32,7 @@ pub use Rattle.task_rules.specs.Calls.{AtOnce, call_begins, call_clears_flag, ca
 unfoldable pub use Rattle.task_rules.specs.Calls.{answered, call_answered, call_made, call_pending, call_queues, call_resumes, call_returned, call_stops, call_sync_host_stops, call_sync_stops, enter_runs, host_answered, host_pending, host_ready, with_handle, with_thread_handle, work_answered, work_deleted, work_queued}
 pub use Rattle.task_rules.specs.Cancels.{aborted_phase, AlreadyEnded, Async, behind_switch, blocked_code, CallbackWaits, CallbackYields, cancel_by_end, cancel_case, cancel_ended_row, cancel_guest, cancel_label, cancel_row, cancel_subtask, CancelCase, Mode, OtherwiseRuns, pauses, StartNotRun, subtask_instance, subtask_row, Sync}
 unfoldable pub use Rattle.task_rules.specs.Cancels.{cancel_aborts_host, cancel_asks, cancel_goes_behind, cancel_promotes_yield, cancel_resumed, cancel_stops, cancel_takes_end, cancel_wakes_callback, cancel_withdraws, dropped}
-pub use Rattle.task_rules.specs.Chains.{Answers, Chain, Collapses, EndsByExit, EndsCall, EndsOwn, EndsSubtask, EndWords, GoesBack, HandsAtOnce, HandsOut, is_over, is_running, is_take, IsReadyAtOnce, IsShift, Lands, lands_alone, lands_inside, LandsAt, LastWords, NoWord, Quits, Remains, SameMain, Settles, Shifts, SpawnsNamed, start_of, Stay, StepsAreWalks, TakesEvent, TakesResult, Then, Trip, Walk, Walked, Writes, WritesAtOnce, WritesCall, WritesNever, WritesPolled, WritesToo}
+pub use Rattle.task_rules.specs.Chains.{Answers, Chain, Collapses, EndsByExit, EndsCall, EndsOwn, EndsSubtask, EndTells, EndWords, Frees, GoesBack, HandsAtOnce, HandsOut, host_taken, is_over, is_running, is_take, IsReadyAtOnce, IsShift, Lands, lands_alone, lands_inside, LandsAt, LastWords, NoWord, Quits, Remains, SameMain, Settles, Shifts, SpawnsNamed, start_of, Stay, StepsAreWalks, TakesEvent, TakesResult, TellsLater, TellsNever, TellsNone, TellsNow, Then, Trip, Walk, Walked, Writes, WritesAtOnce, WritesCall, WritesNever, WritesPolled, WritesToo}
 pub use Rattle.task_rules.specs.Data.{data_row, skip_row}
 unfoldable pub use Rattle.task_rules.specs.Data.{advanced, assigned, moved_to, skipped, stored}
 pub use Rattle.task_rules.specs.Ends.{blocking_exit_row, blocking_returned, code_kind_row, code_row, code_wait_row, direct_exit_to, exit_row_for, first_waiter, implicit_exit_row, is_told, kind_exit_row, own_or_none, result_given, sync_exit_row, thread_exit_row, waiter_told}
