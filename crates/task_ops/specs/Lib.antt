@@ -8,3 +8,4 @@ pub mod Stays
 pub mod Gifts
 pub mod Polled
 pub mod Wakes
+pub mod Works
