@@ -5,16 +5,26 @@ use Rattle.std.specs.Prelude.{Bool, List, None, Option, Some, [], false, find, i
 use Rattle.task_table.specs.declared.id.TableId.{TableId}
 use Rattle.task_wait.specs.declared.keys.HostTaskKey.{HostTaskKey}
 use Rattle.task_wait.specs.declared.keys.ThreadKey.{ThreadKey}
+use Rattle.task_machine.proofs.MapLemmas.{change-field, get-insert_same, get-remove_same}
 use Rattle.task_machine.specs.Core.{Core}
+use Rattle.task_machine.specs.Maps.{Records, get}
+use Rattle.std.specs.Option.{option_map_or}
+use Rattle.task_moves.proofs.TellLemmas.{map_or_is}
+use Rattle.task_rules.proofs.PlacingLemmas.{Shifted, placing_shifted, shifted_made, shifts_shifted}
+use Rattle.task_rules.proofs.WalkMoves.{checked_shifts}
+use Rattle.task_rules.specs.Words.{Stop}
 use Rattle.task_machine.specs.Moves.{checked, first_entry, first_low, group_settled, has_entry, is_group_done, less, promoted, promoted_first, unqueued, why_of}
-use Rattle.task_machine.specs.Read.{entry_thread, instance_of, is_entry_in, is_entry_of, may_not_suspend, position_of, thread_group}
-use Rattle.task_machine.specs.Write.{add_work, count_work, give_handle, on_call, on_thread, on_work, push_high, remove_group, remove_work, set_high, set_low, set_place, set_register, set_subtask_handle, set_switch}
+use Rattle.task_machine.specs.Read.{course_of, entry_thread, foot_of, first_in, instance_of, is_entry_in, is_entry_of, may_not_suspend, new_handle, position_of, thread_group}
+use Rattle.task_machine.specs.Write.{add_work, count_work, give_handle, on_call, on_thread, on_work, push_high, remove_group, remove_work, set_high, set_how_far, set_low, set_place, set_position, set_register, set_subtask_handle, set_switch}
 use Rattle.task_machine.specs.declared.component.HostDef.{HostDef}
 use Rattle.task_machine.specs.declared.records.Entry.{Entry}
 use Rattle.task_machine.specs.declared.records.Entry.TheVariants as entry
 use Rattle.task_machine.specs.declared.records.Place.TheVariants as place
 use Rattle.task_machine.specs.declared.records.Subtask.{Subtask}
 use Rattle.task_machine.specs.declared.records.Subtask.TheVariants as subtask
+use Rattle.task_machine.specs.declared.records.Course.TheVariants as course
+use Rattle.task_machine.specs.declared.records.Made.{Made}
+use Rattle.task_machine.specs.declared.records.Work.{Work}
 use Rattle.task_machine.specs.declared.records.WorkCaller.{WorkCaller}
 use Rattle.task_machine.specs.declared.records.WorkCaller.TheVariants as work_caller
 use Rattle.task_machine.specs.declared.words.Mark.TheVariants as mark
@@ -24,9 +34,10 @@ use Rattle.task_ops.proofs.RunLemmas.{stands_on}
 use Rattle.task_ops.specs.Running.{IsRunning}
 use Rattle.task_rules.proofs.StandLemmas.{entries-append}
 use Rattle.task_rules.proofs.StopLemmas.{Untouched}
-use Rattle.task_rules.specs.Calls.{call_stops, call_sync_host_stops, host_pending, next_work, settle_group_of, with_handle, work_deleted, work_group, work_queued}
-use Rattle.task_rules.specs.Data.{assigned}
-use Rattle.task_words.specs.StateView.{Keeps, KeepsBut, StateView, lost_work, on_core, thread_of, work_of}
+use Rattle.task_rules.specs.Calls.{call_stops, call_sync_host_stops, host_pending, next_work, settle_group_of, with_handle, work_deleted, work_group, work_queued, new_work}
+use Rattle.task_rules.specs.Data.{advanced, assigned, moved_to}
+use Rattle.task_rules.specs.Places.{entries}
+use Rattle.task_words.specs.StateView.{Keeps, KeepsBut, StateView, lost_work, on_core, thread_of, with_core, work_of}
 
 -- ---- An entry that is of no thread, behind the others
 
@@ -161,3 +172,54 @@ unfolding host_pending
 host_pending_is n to q w x host s t v live keeps same core e =
     ap (λ (y : StateView). y.core) e ∙ (ap₂ (λ (k : ℕ) (c : Core). assigned k to x c) (keeps.threads n live) core
     ∙ ap (λ (y : ℕ). assigned (thread_of s n) to y (with_handle (instance_of (thread_of s n) s.core) (subtask.Host (next_work s.core)) (work_queued (work_caller.Async (thread_of s n) q) host (Some (thread_group (thread_of s n) s.core)) s.core))) same)
+
+-- ---- What the work that was made goes on with
+
+queued_course : (f : WorkCaller) (host : HostDef) (g : Option ℕ) (t : Core) → course_of (next_work t) (work_queued f host g t) ≡ course.Goes host
+unfolding work_queued push_high add_work count_work
+queued_course f host g t = ap (λ (o : Option Work). option_map_or (λ w. w.course) o course.NoValue) (get-insert_same t.works (t.made.works + 1) (new_work f host g))
+
+pending_course : (n r q v : ℕ) (host : HostDef) (s : Core) → course_of (next_work s) (host_pending n r q v host s) ≡ course.Goes host
+unfolding host_pending with_handle set_subtask_handle give_handle on_work assigned advanced moved_to set_how_far set_position on_thread set_register
+pending_course n r q v host s =
+    let made = work_queued (work_caller.Async n q) host (Some (thread_group n s)) s in
+    map_or_is (λ (w : Work). w.course) course.NoValue _ _ (change-field (λ (w : Work). w.course) (next_work s) _ (λ w. refl) made.works (next_work s))
+    ∙ queued_course (work_caller.Async n q) host (Some (thread_group n s)) s
+
+shifted_works : {s t : Core} → Shifted s t → t.works ≡ s.works
+shifted_works h = sym (ap (λ (c : Core). c.works) h.only)
+
+stops_works : (n : ℕ) (sub : Subtask) (s : Core) → (call_stops n sub s).works ≡ s.works
+unfolding call_stops set_how_far set_place on_thread
+stops_works n sub s = shifted_works (placing_shifted (Stop (foot_of n s)) s)
+
+stops_course : (n : ℕ) (host : HostDef) (s : Core) → course_of (next_work s) (call_sync_host_stops n host s) ≡ course.Goes host
+unfolding call_sync_host_stops
+stops_course n host s =
+    let t = checked (instance_of n s) s in
+    let made = work_queued (work_caller.Sync n) host (Some (thread_group n s)) t in
+    ap (λ (m : Records Work). option_map_or (λ w. w.course) (get m (next_work s)) course.NoValue) (stops_works n (subtask.Host (next_work s)) made)
+    ∙ (ap (λ (r : Made). course_of (r.works + 1) made) (sym (shifted_made (shifts_shifted (checked_shifts (instance_of n s) s))))
+    ∙ queued_course (work_caller.Sync n) host (Some (thread_group n s)) t)
+
+pub goes_on_pending : (id : TableId HostTaskKey) (n r q v : ℕ) (host : HostDef) (s : Core) (t : StateView) → work_of t id ≡ next_work s → t.core ≡ host_pending n r q v host s → course_of (work_of t id) t.core ≡ course.Goes host
+goes_on_pending id n r q v host s t named core = ap₂ (λ (k : ℕ) (c : Core). course_of k c) named core ∙ pending_course n r q v host s
+
+pub goes_on_stopped : (id : TableId HostTaskKey) (n : ℕ) (host : HostDef) (s : Core) (t : StateView) → work_of t id ≡ next_work s → t.core ≡ call_sync_host_stops n host s → course_of (work_of t id) t.core ≡ course.Goes host
+goes_on_stopped id n host s t named core = ap₂ (λ (k : ℕ) (c : Core). course_of k c) named core ∙ stops_course n host s
+
+work_gone : (n to v i : ℕ) (s : Core) → get (assigned n to v (work_deleted i s)).works i ≡ None
+unfolding assigned advanced moved_to set_how_far set_position on_thread set_register work_deleted remove_work group_settled remove_group
+work_gone n to v i s = by_group (work_group i s)
+  where
+    settled : (b : Bool) (g : ℕ) (t : Core) → get t.works i ≡ None → get (if b then remove_group g t else t).works i ≡ None
+    settled true g t none = none
+    settled false g t none = none
+
+    by_group : (o : Option ℕ) → get (settle_group_of o (remove_work i s)).works i ≡ None
+    by_group None = get-remove_same s.works i
+    by_group (Some g) = settled (is_group_done g (remove_work i s)) g (remove_work i s) (get-remove_same s.works i)
+
+pub gone_after : (n : TableId ThreadKey) (i to w : ℕ) (s : Core) (t u : StateView) → t.core ≡ work_deleted i s → u ≡ on_core (assigned (thread_of t n) to w) t → get u.core.works i ≡ None
+gone_after n i to w s t u core e =
+    ap (λ (v : StateView). get v.core.works i) e ∙ (ap (λ (c : Core). get (assigned (thread_of t n) to w c).works i) core ∙ work_gone (thread_of t n) to w i s)

@@ -17,6 +17,20 @@ use task_moves::{check, foot_of, passes_check, settle_call, stop};
 use task_ops::Came;
 use task_words::{CallId, HowFarId, NoMemory, PlaceId, SubtaskId, ThreadId, Words};
 
+// The number under which a status is handed out.
+fn status_code(status: Status) -> u32
+    ensures code { result ≡ status_code status }
+    ensures small { result < 16 }
+{
+    match status {
+        Status::Starting => 0,
+        Status::Started => 1,
+        Status::Returned => 2,
+        Status::StartCancelled => 3,
+        Status::ReturnCancelled => 4,
+    }
+}
+
 // The status that the calling thread finds.
 fn status_found<W: Words>(w: &W, call: CallId) -> Status
     ensures { result ≡ status_found (call_of (W.view w.now) call) (W.view w.now).core }
@@ -57,6 +71,75 @@ pub(crate) fn stop_blocked<W: Words>(w: &mut W, thread: ThreadId, subtask: Subta
     stop(w, foot);
     w.set_place(thread, PlaceId::Blocked(subtask));
     w.set_how_far(thread, HowFarId::Calls(subtask));
+}
+
+// The callee has returned to a `call`.
+#[tactic(auto, unfolding(task_rules::specs::Calls::call_returned))]
+fn take_return<W: Words>(w: &mut W, thread: ThreadId, to: u8, call: CallId)
+    requires live { 0 < thread_of (W.view w.old) thread }
+    requires call { 0 < call_of (W.view w.old) call }
+    requires position { position_of (thread_of (W.view w.old) thread) (W.view w.old).core + 1 < 2 ^ 32 }
+    ensures core { (W.view w.new).core ≡ call_returned (thread_of (W.view w.old) thread) to (call_of (W.view w.old) call) (W.view w.old).core }
+    ensures current { (W.view w.new).current ≡ (W.view w.old).current }
+    ensures tags { KeepsBut (lost_call (call_of (W.view w.old) call)) (W.view w.old).tags (W.view w.new).tags }
+{
+    resume(w, thread, call);
+    settle_call(w, call);
+    answer(w, thread, to, 2);
+}
+
+// The subtask gets a handle, and the answer is packed of it and the status. Where memory is wanting, all is as before.
+fn pend<W: Words>(
+    w: &mut W,
+    thread: ThreadId,
+    to: u8,
+    call: CallId,
+    status: Status,
+) -> Result<u32, NoMemory>
+    requires position { position_of (thread_of (W.view w.old) thread) (W.view w.old).core + 1 < 2 ^ 32 }
+    requires there { is_some (get (W.view w.old).core.handles (instance_of (thread_of (W.view w.old) thread) (W.view w.old).core)) ≡ true }
+    requires limit { at_handle_limit (W.view w.old).core ≡ false }
+    ensures value { IfOk result (λ v. v ≡ packed (new_handle (instance_of (thread_of (W.view w.old) thread) (W.view w.old).core) (W.view w.old).core) status) }
+    ensures new { IfOk result (λ v. W.view w.new ≡ on_core (call_pending (thread_of (W.view w.old) thread) to (call_of (W.view w.old) call) v) (W.view w.old)) }
+    ensures err { OnErr result (W.view w.new ≡ W.view w.old) }
+{
+    let instance = w.instance_of(thread);
+    let handle = w.name_subtask(instance, SubtaskId::Guest(call))?;
+    let value = 16 * handle + status_code(status);
+    resume(w, thread, call);
+    answer(w, thread, to, u64::from(value));
+    Ok(value)
+}
+
+/// `call R Q F X*`, going on inside the call. Where memory is wanting, all is as before.
+pub fn go_on_calling<W: Words>(
+    w: &mut W,
+    thread: ThreadId,
+    to: u8,
+    call: CallId,
+) -> Result<Came, NoMemory>
+    requires live { 0 < thread_of (W.view w.old) thread }
+    requires call { 0 < call_of (W.view w.old) call }
+    requires position { position_of (thread_of (W.view w.old) thread) (W.view w.old).core + 1 < 2 ^ 32 }
+    requires there { is_some (get (W.view w.old).core.handles (instance_of (thread_of (W.view w.old) thread) (W.view w.old).core)) ≡ true }
+    ensures meets { IfOk result (λ came. Meets (call_status (thread_of (W.view w.old) thread) to (call_of (W.view w.old) call) (W.view w.old).core (status_found (call_of (W.view w.old) call) (W.view w.old).core)) (W.view w.old).core came (W.view w.new).core) }
+    ensures stays { IfOk result (λ came. StaysAfter came (W.view w.old) (W.view w.new)) }
+    ensures tags { KeepsBut (lost_call (call_of (W.view w.old) call)) (W.view w.old).tags (W.view w.new).tags }
+    ensures thread { thread_of (W.view w.new) thread ≡ thread_of (W.view w.old) thread }
+    ensures current { (W.view w.new).current ≡ (W.view w.old).current }
+    ensures err { OnErr result (W.view w.new ≡ W.view w.old) }
+{
+    let number = w.number(thread);
+    let status = status_found(w, call);
+    if matches!(status, Status::Returned) {
+        take_return(w, thread, to, call);
+        return Ok(Came::Goes(Label::Call(CallLabel::Call(2, number)), number));
+    }
+    if w.at_handle_limit() {
+        return Ok(Came::Traps(Trap::HandleLimit));
+    }
+    let value = pend(w, thread, to, call, status)?;
+    Ok(Came::Goes(Label::Call(CallLabel::Call(value, number)), number))
 }
 
 // The callee has returned to a `call_sync`, whose answer is the result.
@@ -114,6 +197,7 @@ pub fn go_on_calling_sync<W: Words>(w: &mut W, thread: ThreadId, to: u8, call: C
     requires position { position_of (thread_of (W.view w.old) thread) (W.view w.old).core + 1 < 2 ^ 32 }
     ensures meets { Meets (call_sync_status (thread_of (W.view w.old) thread) to (call_of (W.view w.old) call) (W.view w.old).core (status_found (call_of (W.view w.old) call) (W.view w.old).core)) (W.view w.old).core result (W.view w.new).core }
     ensures stays { StaysAfter result (W.view w.old) (W.view w.new) }
+    ensures tags { KeepsBut (lost_call (call_of (W.view w.old) call)) (W.view w.old).tags (W.view w.new).tags }
     ensures thread { thread_of (W.view w.new) thread ≡ thread_of (W.view w.old) thread }
     ensures current { (W.view w.new).current ≡ (W.view w.old).current }
 {
