@@ -1,6 +1,5 @@
 -- What is known of the thread that runs or is taken, as a step begins.
-use Rattle.task_rules.proofs.Machine.{ap, arith, base_at, base_without, Core, entries, Entry, HasPlace, is_there, IsRunner, Label, List, Mark, nat_tests, next_entry, Option, or_high, popped, refl, scene_of, set_high, set_low, set_switch, Setting, Some, State, switch_entries, thread_of_entry, true, Turn, ℕ, ◌≡◌, ◌≤◌, ◌⊎◌}
-use Rattle.task_laws.specs.Order.{InPlace}
+use Rattle.task_laws.proofs.Rules.{ap, arith, base_at, base_without, Core, entries, Entry, HasPlace, InPlace, is_there, IsRunner, Label, List, Mark, nat_tests, next_entry, Option, or_high, popped, refl, scene_of, set_high, set_low, set_switch, Setting, Some, State, switch_entries, thread_of_entry, true, Turn, ℕ, ◌≡◌, ◌≤◌, ◌⊎◌}
 
 -- ---- The core that a row reads
 

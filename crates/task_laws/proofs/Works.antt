@@ -1,13 +1,5 @@
 -- What host works come to along the words of a step: their ends, and what they have to hand out.
-use Rattle.task_laws.proofs.CallsLaw.{later_after, later_same}
-use Rattle.task_laws.specs.Ends.{MayBeAborted}
-use Rattle.task_rules.proofs.Machine.{after_word, Allowed, ap, arith, base_at, Bool, Core, course_value, false, fresh, get, get-empty, has_end, host_status, if◌then◌else◌, inl, inr, is_aborted, is_async_work, is_some, is_stage_ended, Label, LaterBy, le_refl, le_trans, LoopLabel, MayAbort, None, Option, option_and_then, refl, Scene, scene_of, Setting, Some, Stage, State, Status, true, Turn, undelivered_end, Walked, Word, Work, ℕ, ⊎_elim, ◌&&◌, ◌||◌, ◌≡◌, ◌≤◌, ◌⊎◌}
-use Rattle.task_laws.proofs.CallsSteps.{of_base}
-use Rattle.task_laws.specs.Ends.{is_sync_work}
-use Rattle.task_laws.proofs.CountLemmas.{made_works_word}
-use Rattle.task_rules.proofs.ChainLemmas.{along}
-use Rattle.task_laws.specs.Order.{is_finishing}
-use Rattle.task_laws.proofs.WorksCame.{Doing, doing_of, is_late, WorksStand, WorkCame, WorkAfter, work_came, stand_word}
+use Rattle.task_laws.proofs.Words.{after_word, Allowed, along, ap, arith, base_at, Bool, Core, course_value, Doing, doing_of, false, fresh, get, get-empty, has_end, host_status, if◌then◌else◌, inl, inr, is_aborted, is_async_work, is_finishing, is_late, is_some, is_stage_ended, is_sync_work, Label, later_after, later_same, LaterBy, le_refl, le_trans, LoopLabel, made_works_word, MayAbort, MayBeAborted, None, of_base, Option, option_and_then, refl, Scene, scene_of, Setting, Some, Stage, stand_word, State, Status, true, Turn, undelivered_end, Walked, Word, Work, work_came, WorkAfter, WorkCame, WorksStand, ℕ, ⊎_elim, ◌&&◌, ◌||◌, ◌≡◌, ◌≤◌, ◌⊎◌}
 
 -- ---- What holds
 

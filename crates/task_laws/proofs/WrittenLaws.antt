@@ -1,15 +1,10 @@
 -- The laws of the ends of calls and works that hold by each step alone.
-use Rattle.task_rules.proofs.Machine.{Answers, arith, base_at, Bool, changes_end, end_for, EndWords, event_of, false, get, HandsAtOnce, HandsOut, inl, inr, is_some, Label, None, refl, Setting, Some, State, Status, Step, Subtask, TakesEvent, TakesResult, true, Turn, undelivered_end, Walked, WritesToo, written_by, ◌≡◌, ◌⊎◌}
-use Rattle.task_laws.specs.Written.{EndsHandedAsTold, EndsWrittenOnce, NewEndsAreSaid, NewResultsAreSaid, NoEndIsCovered, WrittenEndsAreNew}
-use Rattle.task_laws.proofs.Works.{WorksHold, opening_works, works_go}
+use Rattle.task_laws.proofs.Words.{Answers, arith, base_at, Bool, changes_end, end_for, EndsHandedAsTold, EndsWrittenOnce, EndWords, event_of, false, get, HandsAtOnce, HandsOut, inl, inr, is_some, Label, NewEndsAreSaid, NewResultsAreSaid, NoEndIsCovered, None, plain, plain_scene, Reached, reached_holds, reached_keeps, reached_step, refl, Setting, Some, State, Status, Step, step_walks, Subtask, TakesEvent, TakesResult, true, Turn, undelivered_end, Walked, WritesToo, written_by, WrittenEndsAreNew, ◌≡◌, ◌⊎◌}
 use Rattle.task_laws.proofs.CallEnds.{reached_ends_told}
-use Rattle.task_laws.proofs.CallsSteps.{plain, plain_scene, reached_holds}
+use Rattle.task_laws.proofs.OnceLemmas.{counts_once, Keeps, Over, over_changes, over_stays}
 use Rattle.task_laws.proofs.SaidEnds.{hands_at, said_plain}
-use Rattle.task_laws.specs.Settings.{Reached}
-use Rattle.task_rules.proofs.WalkSteps.{step_walks}
-use Rattle.task_laws.proofs.OnceLemmas.{Keeps, Over, counts_once, over_changes, over_stays}
-use Rattle.task_laws.proofs.StepEnds.{events_come, guest_covers, keeps_call, host_keeps, results_come, written_new}
-use Rattle.task_laws.proofs.ReachLemmas.{reached_keeps, reached_step}
+use Rattle.task_laws.proofs.StepEnds.{events_come, guest_covers, host_keeps, keeps_call, results_come, written_new}
+use Rattle.task_laws.proofs.Works.{opening_works, works_go, WorksHold}
 
 -- ---- What a label says of calls
 

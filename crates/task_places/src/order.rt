@@ -1,4 +1,4 @@
-ghost use Rattle.task_laws.specs.Lacks.{StepsLackSets};
+ghost use Rattle.task_laws.specs.Lacks.{StepsLackWorks};
 ghost use Rattle.task_laws.specs.Order.{OpeningInOrder, StepInOrder, StepsMakeFew};
 ghost use Rattle.task_places.specs.Kept.{ReachedInOrder};
 
@@ -26,8 +26,7 @@ pub fn steps_make_few()
     ensures { StepsMakeFew }
 {}
 
-/// Where no op makes a set or calls a host asynchronously, a step from a core without sets and such
-/// calls leads to one.
-pub fn steps_lack_sets()
-    ensures { StepsLackSets }
+/// Where no op calls a host asynchronously, a step from a core without such calls leads to one.
+pub fn steps_lack_works()
+    ensures { StepsLackWorks }
 {}

@@ -1,15 +1,14 @@
 -- What a state in order gives to the thread whose entry is taken.
 use Rattle.std.proofs.Common.{ap, arith, refl, subst, sym, ◌∙◌}
 use Rattle.std.specs.Option.{option_map_or}
-use Rattle.std.specs.Prelude.{Bool, List, None, Option, Some, option_and_then, [], ℕ, ◌≡◌, ◌≤◌, ◌∷◌}
-use Rattle.task_laws.specs.Order.{InOrder, WorkEntries, is_host_of, set_of_place, set_of_why, stands}
-use Rattle.task_machine.specs.Core.{Core, Unscripted}
+use Rattle.std.specs.Prelude.{Bool, List, None, Option, Some, is_some, option_and_then, true, [], ℕ, ◌≡◌, ◌≤◌, ◌∷◌}
+use Rattle.task_laws.specs.Order.{InOrder, IsOf, WorkEntries, is_host_of, set_of_place, stands}
+use Rattle.task_machine.specs.Core.{Core, Queues, Unscripted}
 use Rattle.task_machine.specs.Maps.{get}
 use Rattle.task_machine.specs.Moves.{ready_why, why_of}
-use Rattle.task_machine.specs.Read.{next_entry, place_of, task_of}
+use Rattle.task_machine.specs.Read.{instance_of, next_entry, place_of, task_of}
 use Rattle.task_machine.specs.Write.{set_high, set_low, set_switch}
 use Rattle.task_machine.specs.declared.component.Component.{Component}
-use Rattle.task_machine.specs.declared.records.Delivery.TheVariants as delivery
 use Rattle.task_machine.specs.declared.records.Work.{Work}
 use Rattle.task_words.specs.Live.{delivered_set}
 use Rattle.task_machine.specs.declared.records.Entry.{Entry}
@@ -25,6 +24,8 @@ use Rattle.task_machine.specs.declared.records.Why.TheVariants as why
 use Rattle.task_machine.specs.declared.words.Mark.{Mark}
 use Rattle.task_machine.specs.declared.words.Mark.TheVariants as mark
 use Rattle.task_moves.specs.Idle.{IsJoinThere}
+use Rattle.task_laws.proofs.MemberLemmas.{members_named}
+use Rattle.task_ops.specs.Gifts.{MembersNamed}
 use Rattle.task_ops.specs.Running.{Stand}
 use Rattle.task_places.proofs.Entries.{Cleared, First, next_first, popped_cleared}
 use Rattle.task_rules.proofs.MoveLemmas.{no_time, one_time}
@@ -124,30 +125,38 @@ module _ (c : Component) (ended : Bool) (s : Core) (sits : Sits c (turn.Take end
         join = popped_join m n s joined;
       }
 
--- ---- Nothing is delivered for a set, and no async call of a host ends
+-- ---- The set of a delivery is there, and no async call of a host ends
+
+delivered_place : (o : Option Place) (x : ℕ) → delivered_set (option_map_or ready_why o why.Resumption) ≡ Some x → option_and_then set_of_place o ≡ Some x
+delivered_place o x e = grind arith
+
+-- entries say nothing of members
+queued_members : (q : Queues) (i x : ℕ) (s : Core) → MembersNamed i x s → MembersNamed i x (record s { queues = q })
+queued_members q i x s h (subtask.Guest k) ready = h (subtask.Guest k) ready
+queued_members q i x s h (subtask.Host j) ready = h (subtask.Host j) ready
 
 module _ (c : Component) (ended : Bool) (s : Core) (sits : Sits c (turn.Take ended) s) where
-  no_delivery : (o : Option Place) (x : ℕ) → delivered_set (option_map_or ready_why o why.Resumption) ≡ Some x → option_and_then set_of_place o ≡ Some x
-  no_delivery None x e = absurd (cc)
-  no_delivery (Some (place.Ready m w)) x e = delivered w e
-    where
-      delivered : (w : Why) → delivered_set w ≡ Some x → set_of_why w ≡ Some x
-      delivered (why.Delivery (delivery.Set y)) h = h
-      delivered _ h = absurd (cc)
-  no_delivery (Some p) x e = absurd (cc)
+  home : (n x : ℕ) → delivered_set (why_of n s) ≡ Some x → IsOf (instance_of n s) x s
+  home n x e = (sits.order Unscripted).waits.by_place n x (delivered_place (place_of n s) x e)
+
+  there : (n x : ℕ) → delivered_set (why_of n s) ≡ Some x → is_some (get s.sets x) ≡ true
+  there n x e = some_from _ (get s.sets x) (instance_of n s) (home n x e)
+
+  members : (n x : ℕ) → delivered_set (why_of n s) ≡ Some x → MembersNamed (instance_of n s) x s
+  members n x e = let o = sits.order Unscripted in members_named s o.joins_named o.names o.works_known (instance_of n s) x (home n x e)
 
   pub finds : (m : Mark) (n : ℕ) → FindsSet n (popped m s)
-  finds m n = record { there = λ x e. absurd (no_set x e); members = λ x e. absurd (no_set x e) }
-    where
-      no_set : (x : ℕ) → delivered_set (why_of n (popped m s)) ≡ Some x → ⊥
-      no_set x e = sits.lacks.places n x (ap (option_and_then set_of_place) (sym (popped_place m n s)) ∙ no_delivery (place_of n (popped m s)) x e)
+  unfolding popped set_switch set_high set_low
+  finds mark.Switch n = record { there = there n; members = λ x e. queued_members _ (instance_of n s) x s (members n x e) }
+  finds mark.High n = record { there = there n; members = λ x e. queued_members _ (instance_of n s) x s (members n x e) }
+  finds mark.Low n = record { there = there n; members = λ x e. queued_members _ (instance_of n s) x s (members n x e) }
 
   no_host : (i : ℕ) → stands (is_host_of i) s.queues.high ≡ 0
   no_host i = go (get s.works i) refl
     where
       go : (o : Option Work) → get s.works i ≡ o → stands (is_host_of i) s.queues.high ≡ 0
       go None e = ((sits.order Unscripted).works.gone i e).1
-      go (Some w) e = let h : WorkEntries s i w = (sits.order Unscripted).works.each i w e in h.host ∙ ap one_if (sits.lacks.works i w e).1
+      go (Some w) e = let h : WorkEntries s i w = (sits.order Unscripted).works.each i w e in h.host ∙ ap one_if (sits.lacks i w e).1
 
   first_host : (m : Mark) (i : ℕ) → First m (entry.Host i) s → ⊥
   first_host mark.Switch i f = absurd (let e = f.1.1 in cc)

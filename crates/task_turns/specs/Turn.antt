@@ -1,7 +1,8 @@
 -- What a turn of the loop makes.
 use Rattle.std.specs.Prelude.{◌≡◌, ◌<◌, ◌≤◌, ◌+◌, List, ℕ, Bool, true, false, Option, Some, None, is_none, is_some, length, option_map}
-use Rattle.task_laws.specs.Lacks.{LacksOps, LacksSets}
+use Rattle.task_laws.specs.Lacks.{LacksOps, LacksWorks}
 use Rattle.task_laws.specs.Order.{InOrder}
+pub use Rattle.task_laws.specs.Order.{is_open}
 use Rattle.task_machine.specs.Core.{Core, Main, One, State}
 use Rattle.task_machine.specs.Read.{next_entry}
 use Rattle.task_machine.specs.declared.component.Component.{Component}
@@ -27,13 +28,13 @@ use Rattle.task_words.specs.StateView.{StateView, thread_of}
 abbrev pub state_at : Core → Main → Turn → State
 state_at s m p = record { version = One; core = s; main = m; turn = p }
 
--- The core is in order at this turn, whatever main's part is. No op of the component makes a set or calls a host asynchronously, and the
--- core has no set and no such call. Each instance of the component is there.
+-- The core is in order at this turn, whatever main's part is. No op of the component calls a host asynchronously, and the core has no such
+-- call. Each instance of the component is there.
 pub record Sits (c : Component) (p : Turn) (s : Core) : Type 0 where
   pub order : (m : Main) → InOrder c (state_at s m p)
   pub there : (i : ℕ) → i < length c.instances → is_some (get s.instances i) ≡ true
   pub ops : LacksOps c
-  pub lacks : LacksSets s
+  pub lacks : LacksWorks s
 
 -- the number of the thread that runs
 abbrev pub running_of : StateView → Option ℕ
@@ -43,11 +44,6 @@ running_of s = option_map (λ id. thread_of s id) s.current
 abbrev pub runs_in : Turn → Option ℕ
 runs_in (turn.Run n) = Some n
 runs_in _ = None
-
--- the run goes on
-abbrev pub is_open : Turn → Bool
-is_open turn.Over = false
-is_open _ = true
 
 -- The step that was made is one of the machine, whatever main's part, its script and the idle line are. Its label gives an outcome exactly
 -- where the run is over.
