@@ -23,7 +23,7 @@ module _ (p : Parts) (finished : ℕ) (kept : Kept) (results : List (ℕ × Opti
   home_beside g home = record { call = home.call; there = home.there; instance = home.instance; within = home.within; place = home.place; how_far = home.how_far }
 
   call_beside : (g : GuestTask) → IsCallNamed p g → IsCallNamed beside g
-  call_beside g named = record { caller = named.caller; join = named.join; group = named.group; positive = named.positive }
+  call_beside g named = record { caller = named.caller; first = named.first; join = named.join; group = named.group; positive = named.positive }
 
   work_beside : (w : HostWork) → IsWorkNamed p w → IsWorkNamed beside w
   work_beside w named = record { caller = named.caller; join = named.join; group = named.group }
@@ -42,6 +42,7 @@ module _ (p : Parts) (finished : ℕ) (kept : Kept) (results : List (ℕ × Opti
       ready_calls = whole.chained.ready_calls;
       ready_works = whole.chained.ready_works;
       polled = whole.chained.polled;
+      rising = whole.chained.rising;
       marks = whole.chained.marks;
       shelves = whole.chained.shelves;
       low = whole.chained.low;

@@ -61,13 +61,13 @@ module _ (p : Parts) (whole : IsWhole p) (calls : Table (Single GuestTask)) (ali
   home_told g h = record { call = number_alike still_call calls p.calls alike (λ (g : GuestTask). g.number) (λ g. refl) (λ (g : GuestTask). g.call) quiet_call (λ g. refl) g.task ∙ h.call; there = h.there; instance = instance_told g.thread.call ∙ h.instance; within = h.within; place = at_told g.beside _ h.place; how_far = at_told g.awaited _ h.how_far }
 
   call_told : (g : GuestTask) → IsCallNamed p g → IsCallNamed told (still_call g)
-  call_told g h = record { caller = at_told g.maker _ h.caller; join = tt; group = h.group; positive = h.positive }
+  call_told g h = record { caller = at_told g.maker _ h.caller; first = at_told g.first (ThreadOf g.number) h.first; join = tt; group = h.group; positive = h.positive }
 
   calls_told : EachEntry (λ (g : GuestTask). AtPlace told g.joined (join_target g.call.join)) calls → EachEntry (IsCallNamed told) calls
   calls_told joins r q at =
       let one = place_alike still_call calls p.calls alike r q at in
       let h = subst (IsCallNamed told) one.1.1 (call_told one.0.entry.item (whole.named.calls r one.0 one.1.0)) in
-      record { caller = h.caller; join = joins r q at; group = h.group; positive = h.positive }
+      record { caller = h.caller; first = h.first; join = joins r q at; group = h.group; positive = h.positive }
 
   work_told : (w : HostWork) → IsWorkNamed p w → IsWorkNamed told w
   work_told w h = record { caller = at_told w.maker _ h.caller; join = at_told w.joined _ h.join; group = h.group }
@@ -91,6 +91,7 @@ module _ (p : Parts) (whole : IsWhole p) (calls : Table (Single GuestTask)) (ali
     ready_calls = IsIndex-same_chains (ready_call_chain p) ready (filings ready_call calls) index (ready_call_chain told) ready_calls_told;
     ready_works = IsIndex-same_chains (ready_work_chain p) p.ready_works _ whole.chained.ready_works (ready_work_chain told) ready_works_told;
     polled = whole.chained.polled;
+    rising = whole.chained.rising;
     marks = whole.chained.marks;
     shelves = whole.chained.shelves;
     low = whole.chained.low;

@@ -59,7 +59,7 @@ module _ (a : CoreParts) (request : Request) (group : ℕ) (words : List ℕ) (c
       AtPlace (parts_of a) request.maker (caller_target request.caller)
       → IsSome (get (seen a).core.instances request.callee.instance)
       → (request.goal ≡ goal.Main → IsSome (lookup (is_at (nat_cmp (a.made.threads + 1))) a.results.entries))
-      → IsStrand (bare (parts_of a)) (bare_call c) (bare_thread (record g { task = next_place a.calls }))
+      → IsStrand (bare (parts_of a)) (bare_call (record c { first = next_place a.threads })) (bare_thread (record g { task = next_place a.calls }))
   request_strand caller there room = record {
     call_next = call_number;
     thread_next = thread_number;
@@ -70,6 +70,7 @@ module _ (a : CoreParts) (request : Request) (group : ℕ) (words : List ℕ) (c
     unplaced = ap (λ (t : Thread). t.place) thread_is;
     fresh = ap (λ (t : Thread). t.how_far) thread_is;
     task = sym (next_place-mapped (on_item bare_call) a.calls);
+    first_at = sym (next_place-mapped (on_item bare_thread) a.threads);
     instance = instance ∙ sym (ap (λ (k : Call). k.callee.instance) call_is);
     within = subst (λ (i : ℕ). IsSome (slice_get (bare (parts_of a)).instances i)) (sym instance) (bare_within a request.callee.instance there);
     caller =

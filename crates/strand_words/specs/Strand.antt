@@ -25,6 +25,7 @@ pub record IsStrand (p : Parts) (c : GuestTask) (g : GuestThread) : Type 0 where
   pub unplaced : g.thread.place ≡ place.New
   pub fresh : g.thread.how_far ≡ how_far.Fresh
   pub task : g.task ≡ next_place p.calls
+  pub first_at : c.first ≡ next_place p.threads
   pub instance : g.instance ≡ c.call.callee.instance
   pub within : IsSome (slice_get p.instances g.instance)
   pub caller : AtPlace p c.maker (caller_target c.call.caller)

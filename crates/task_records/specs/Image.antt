@@ -18,6 +18,7 @@ use Rattle.task_records.specs.declared.threads.Follower.{Follower}
 use Rattle.task_records.specs.declared.threads.GuestThread.{GuestThread}
 use Rattle.task_records.specs.declared.threads.Queued.{Queued}
 use Rattle.task_records.specs.declared.works.HostWork.{HostWork}
+use Rattle.task_records.specs.declared.works.LiveWork.{LiveWork}
 use Rattle.task_table.specs.Records.{number_in, records}
 use Rattle.task_table.specs.Table.{Placed, Table}
 use Rattle.task_table.specs.declared.id.TableId.{TableId}
@@ -36,7 +37,7 @@ pub record Parts : Type 0 where
   pub places : List (Spot ℕ)
   pub ready_calls : List (Spot ℕ)
   pub ready_works : List (Spot ℕ)
-  pub polled : List (Spot ℕ)
+  pub polled : List (Spot LiveWork)
   pub marks : List (Spot Queued)
   pub shelves : List (Spot Queued)
   pub behind : List (Spot Follower)

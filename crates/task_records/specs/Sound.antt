@@ -26,7 +26,7 @@ use Rattle.task_records.specs.Kept.{AreKept, IsCallKept, IsGroupKept, IsSetKept}
 use Rattle.task_records.specs.Keys.{call_key, group_key, set_key, thread_key, work_key}
 use Rattle.task_records.specs.Kinds.{on_item}
 use Rattle.task_records.specs.Names.{AreHandlesNamed, HasHome, IsCallNamed, IsWorkNamed, OwnsHandle, kinds}
-use Rattle.task_records.specs.Places.{live_chain, live_work, place_chain, place_filing, ready_call, ready_call_chain, ready_work, ready_work_chain}
+use Rattle.task_records.specs.Places.{Rises, live_chain, live_work, place_chain, place_filing, ready_call, ready_call_chain, ready_work, ready_work_chain}
 use Rattle.task_records.specs.Rows.{HaveNodes, IsFollower, IsOfThread, IsSeated, Low, callers_chain, callers_row, is_of_instance, row, row_chain, shelf_chain}
 use Rattle.task_records.specs.declared.calls.GuestTask.{GuestTask}
 use Rattle.task_records.specs.declared.instances.InstanceRecord.{InstanceRecord}
@@ -112,6 +112,7 @@ pub record AreChained (p : Parts) : Type 0 where
   pub ready_calls : IsIndex (ready_call_chain p) p.ready_calls (filings ready_call p.calls)
   pub ready_works : IsIndex (ready_work_chain p) p.ready_works (filings ready_work p.works)
   pub polled : IsIndex (live_chain p) p.polled (filings live_work p.works)
+  pub rising : Rises p.polled p.live
   pub marks : IsRows (row_chain p) (λ q. q.mark.index) (IsSeated p) p.marks (row p)
   pub shelves : IsRows (shelf_chain p) (λ q. q.shelf.index) (IsSeated p) p.shelves (part is_of_instance (row p))
   pub low : Each IsOfThread (row p Low)

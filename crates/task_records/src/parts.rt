@@ -8,11 +8,11 @@ use crate::instances::InstanceRecord;
 use crate::sets::WaitSet;
 use crate::single::Single;
 use crate::threads::{Follower, GuestThread, Queued};
-use crate::works::HostWork;
+use crate::works::{HostWork, LiveWork};
 use std::alloc::Global;
 use std::collections::BTreeMap;
 use task_handles::HandleCounter;
-use task_links::Links;
+use task_links::{Links, Node};
 use task_machine::Made;
 use task_table::{ResourceTable, TableId};
 use task_wait::ThreadKey;
@@ -48,8 +48,10 @@ pub struct CoreParts {
     /// The ready members of sets: calls, and host works.
     pub ready_calls: Links<u32>,
     pub ready_works: Links<u32>,
-    /// The live works.
-    pub polled: Links<u32>,
+    /// The live works, in order of number.
+    pub polled: Links<LiveWork>,
+    /// The node of the work that was polled last: where the search for the next one begins.
+    pub polled_last: Option<Node>,
     /// The entries at high and low, and of each instance there.
     pub marks: Links<Queued>,
     pub shelves: Links<Queued>,
@@ -119,6 +121,7 @@ impl CoreParts {
             ready_calls: Links::new(alloc),
             ready_works: Links::new(alloc),
             polled: Links::new(alloc),
+            polled_last: None,
             marks: Links::new(alloc),
             shelves: Links::new(alloc),
             behind: Links::new(alloc),
