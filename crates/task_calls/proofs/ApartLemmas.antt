@@ -97,6 +97,4 @@ trap_in_order c p s sits = record {
   order = λ m. beside_in_order _ _ s.handle_limit s.capacity c p s m (sits.order m);
   there = sits.there;
   handles = sits.handles;
-  ops = sits.ops;
-  lacks = sits.lacks;
 }
