@@ -430,12 +430,12 @@ module _ (x : Setting) (main : Main) (s : Core) (n : ℕ) (l : Label) (next : Tu
   dropped_walks h (Subtask.Guest k) named ended apart =
       let sub = Subtask.Guest k in
       let t = set_join sub Join.Nowhere s in
-      advanced_walks n refl on (settled (call_settles k _ (λ gone. grind (arith, nat_tests, get-change, ended))) (word (UnnameCall (instance_of n s) h k) (n, (refl, (refl, (named, grind (arith, nat_tests, get-change))))) (join_walks n refl sub Join.Nowhere (n, (refl, (ByHandle h named, inl apart))) NoWord)))
+      λ to. advanced_walks n refl on (settled (call_settles k _ (λ gone. grind (arith, nat_tests, get-change, ended))) (word (UnnameCall (instance_of n s) h k) (n, (refl, (refl, (named, (grind (arith, nat_tests, get-change), to))))) (join_walks n refl sub Join.Nowhere (n, (refl, (ByHandle h named, inl apart))) NoWord))) to
   dropped_walks h (Subtask.Host i) named ended apart =
       let sub = Subtask.Host i in
       let t = set_join sub Join.Nowhere s in
-      advanced_walks n refl on (work_deleted_walks n refl i (n, (refl, (grind (arith, nat_tests, get-change), inr (ended, (grind (arith, nat_tests, get-change), (grind (arith, nat_tests, get-change, ended), (h, named)))))))
-      (word (UnnameWork (instance_of n s) h i) (n, (refl, (refl, (named, grind (arith, nat_tests, get-change))))) (join_walks n refl sub Join.Nowhere (n, (refl, (ByHandle h named, inl apart))) NoWord)))
+      λ to. advanced_walks n refl on (work_deleted_walks n refl i (n, (refl, (grind (arith, nat_tests, get-change), inr (ended, (grind (arith, nat_tests, get-change), (grind (arith, nat_tests, get-change, ended), (h, named)))))))
+      (word (UnnameWork (instance_of n s) h i) (n, (refl, (refl, (named, (grind (arith, nat_tests, get-change), to))))) (join_walks n refl sub Join.Nowhere (n, (refl, (ByHandle h named, inl apart))) NoWord))) to
 
   pub subtask_row_leads : (o : CallOp) → op_in a n ≡ Op.Call o → Leads a s (subtask_row x.component n s o)
   subtask_row_leads (CallOp.Call r q e xs) is = call_row_leads r q e (values_in (registers_of n s) xs) (how_far_of n s) (ap (λ p. callee_of_op p) is) refl

@@ -64,6 +64,7 @@ at_turn_of c s m k p q runs b awake o = record {
   calls = o.calls;
   unbegun = o.unbegun;
   watched = o.watched;
+  cancelled = o.cancelled;
   inside = o.inside;
   held = o.held;
   works_told = o.works_told;
