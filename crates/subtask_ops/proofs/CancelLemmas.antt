@@ -1,10 +1,10 @@
 -- The row of a cancel, where what the handle names may be gone.
 use Rattle.std.proofs.Common.{T, ap, arith, refl, subst, sym, ◌∙◌}
 use Rattle.std.specs.Option.{option_map_or}
-use Rattle.std.specs.Prelude.{Bool, None, Option, Some, false, if◌then◌else◌, is_some, option_and_then, option_map, true, ℕ, ◌<◌, ◌==◌, ◌≡◌}
+use Rattle.std.specs.Prelude.{Bool, None, Option, Some, false, if◌then◌else◌, is_some, option_and_then, option_map, true, ℕ, ◌<◌, ◌≡◌}
 use Rattle.task_machine.specs.Core.{Core}
 use Rattle.task_machine.specs.Maps.{get}
-use Rattle.task_machine.specs.Read.{event_of, instance_of, is_joined, is_stage_ended, join_of, phase_of, stage_of, subtask_at, undelivered_end, was_cancelled}
+use Rattle.task_machine.specs.Read.{is_joined, is_stage_ended, join_of, phase_of, subtask_at, undelivered_end, was_cancelled}
 use Rattle.task_machine.specs.Write.{on_work, set_cancelled, set_phase}
 use Rattle.task_machine.specs.declared.records.Call.{Call}
 use Rattle.task_machine.specs.declared.records.Join.TheVariants as join
@@ -17,7 +17,7 @@ use Rattle.task_ops.specs.Came.{Meets}
 use Rattle.task_ops.specs.declared.came.Came.{Came}
 use Rattle.task_rules.proofs.StandLemmas.{by_number}
 use Rattle.task_rules.specs.Cancels.{Mode, after_cancel, aborted_phase, cancel_aborts_host, cancel_by_end, cancel_ended_row, cancel_found, cancel_host, cancel_subtask}
-use Rattle.task_rules.specs.Progress.{Progress, Traps, trap_if}
+use Rattle.task_rules.specs.Progress.{Traps, trap_if}
 use Rattle.task_words.specs.Live.{kept_in, live_subtask}
 use Rattle.subtask_ops.proofs.SteadyLemmas.{Steady, cancelled_steady, phase_steady, steady_after}
 use Rattle.subtask_ops.proofs.SubtaskLemmas.{absent_work}
@@ -81,3 +81,7 @@ there_live k s none h = by_number k 0 (0 < k) (λ e. absurd (subst T (sym (ap (�
 pub host_meets : (mode : Mode) (n r i : ℕ) (s : Core) (c : Came) (u : Core) → was_cancelled i s ≡ false → Meets (after_cancel mode n r (subtask.Host i) (cancel_aborts_host i s)) s c u → Meets (cancel_host mode n r i s) s c u
 host_meets mode n r i s c u fresh meets =
     subst (λ (b : Bool). Meets (trap_if b trap.SubtaskCancelAfterTerminal (after_cancel mode n r (subtask.Host i) (cancel_aborts_host i s))) s c u) (sym fresh) meets
+
+pub found_meets : (mode : Mode) (n r : ℕ) (q : Subtask) (s : Core) (c : Came) (u : Core) → is_joined (join_of q s) ≡ false → Meets (cancel_subtask mode n r s q) s c u → Meets (cancel_found mode n r s q) s c u
+found_meets mode n r q s c u apart meets =
+    subst (λ (b : Bool). Meets (trap_if b trap.WaitableSyncAndAsync (cancel_subtask mode n r s q)) s c u) (sym apart) meets

@@ -2,7 +2,7 @@
 use Rattle.std.proofs.Common.{T, ap, ap₂, arith, refl, subst, sym, ◌∙◌}
 use Rattle.std.proofs.lemmas.Bool.Decides.{nat_tests}
 use Rattle.std.specs.Option.{option_map_or}
-use Rattle.std.specs.Prelude.{Bool, IsSome, List, None, Option, Some, [], false, if◌then◌else◌, is_some, not, option_and_then, suc, true, zero, ℕ, ◌&&◌, ◌+◌, ◌<◌, ◌==◌, ◌∷◌, ◌≡◌, ◌≢◌}
+use Rattle.std.specs.Prelude.{Bool, IsSome, List, None, Option, Some, [], false, if◌then◌else◌, is_some, not, option_and_then, suc, true, zero, ℕ, ◌&&◌, ◌+◌, ◌<◌, ◌∷◌, ◌≡◌}
 use Rattle.task_table.specs.declared.id.TableId.{TableId}
 use Rattle.task_wait.specs.declared.keys.ThreadKey.{ThreadKey}
 use Rattle.task_laws.specs.Order.{WorksQueued, is_host_of, is_push_of, stands}
@@ -24,7 +24,6 @@ use Rattle.task_machine.specs.declared.records.Subtask.TheVariants as subtask
 use Rattle.task_machine.specs.declared.records.Work.{Work}
 use Rattle.task_machine.specs.declared.trap.Trap.TheVariants as trap
 use Rattle.task_machine.specs.declared.words.Status.{Status}
-use Rattle.task_ops.proofs.PositionLemmas.{still_below}
 use Rattle.task_ops.specs.Came.{Meets}
 use Rattle.task_ops.specs.declared.came.Came.TheVariants as came
 use Rattle.task_rules.specs.Calls.{settle_group_of, work_deleted, work_group}
@@ -32,11 +31,10 @@ use Rattle.task_rules.specs.Cancels.{drop_found, dropped, subtask_settled}
 use Rattle.task_rules.specs.Data.{advanced}
 use Rattle.task_rules.specs.Progress.{Goes, Progress, trap_if}
 use Rattle.task_words.specs.Apart.{work_entries}
-use Rattle.task_words.specs.Live.{kept_in, live_subtask}
+use Rattle.task_words.specs.Live.{live_subtask}
 use Rattle.task_words.specs.Names.{subtask_in}
 use Rattle.task_words.specs.StateView.{KeepsBut, StateView, Tags, on_core, thread_number, thread_of}
 use Rattle.task_words.specs.declared.names.SubtaskId.{SubtaskId}
-use Rattle.subtask_ops.proofs.SteadyLemmas.{Steady, handle_steady, join_steady, still_within}
 use Rattle.subtask_ops.proofs.SubtaskLemmas.{Alike, absent_call, absent_work, gone_calls, gone_works}
 use Rattle.subtask_ops.specs.Named.{lost_subtask}
 

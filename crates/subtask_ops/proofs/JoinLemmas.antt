@@ -1,19 +1,18 @@
 -- Joins.
-use Rattle.std.proofs.Common.{T, ap, ap₂, arith, refl, subst, sym, ◌∙◌}
+use Rattle.std.proofs.Common.{ap, arith, refl, subst, sym, ◌∙◌}
 use Rattle.std.specs.Option.{option_map_or}
-use Rattle.std.specs.Prelude.{Bool, None, Option, Some, [], false, option_map, suc, true, zero, ℕ, ◌+◌, ◌<◌, ◌==◌, ◌≡◌}
+use Rattle.std.specs.Prelude.{Bool, None, Option, Some, false, option_map, suc, true, zero, ℕ, ◌+◌, ◌<◌, ◌≡◌}
 use Rattle.task_table.specs.declared.id.TableId.{TableId}
 use Rattle.task_wait.specs.declared.keys.SetKey.{SetKey}
 use Rattle.task_wait.specs.declared.keys.ThreadKey.{ThreadKey}
 use Rattle.task_machine.specs.Core.{Core}
 use Rattle.task_machine.specs.Labels.{choice_of, join_label}
 use Rattle.task_machine.specs.Maps.{get}
-use Rattle.task_machine.specs.Moves.{may_wake, wake}
-use Rattle.task_machine.specs.Read.{event_of, has_waiter, instance_of, is_at, is_blocked_on, is_waiter, is_waiting_on, is_watched, join_of, place_of, position_of, set_at, subtask_at}
+use Rattle.task_machine.specs.Moves.{may_wake}
+use Rattle.task_machine.specs.Read.{event_of, has_waiter, instance_of, is_blocked_on, is_waiting_on, is_watched, join_of, place_of, position_of, set_at}
 use Rattle.task_machine.specs.Write.{on_call, on_work, set_join}
 use Rattle.task_machine.specs.declared.label.Label.{Label}
 use Rattle.task_machine.specs.declared.records.Join.{Join}
-use Rattle.task_machine.specs.declared.records.Join.TheVariants as join
 use Rattle.task_machine.specs.declared.records.Place.{Place}
 use Rattle.task_machine.specs.declared.records.Place.TheVariants as place
 use Rattle.task_machine.specs.declared.records.Subtask.{Subtask}
@@ -24,14 +23,13 @@ use Rattle.task_moves.specs.Idle.{AreIdleUnqueued}
 use Rattle.task_ops.proofs.PositionLemmas.{position_wake, still_below}
 use Rattle.task_ops.specs.Came.{Meets}
 use Rattle.task_ops.specs.Running.{IsRunning}
-use Rattle.task_ops.specs.declared.came.Came.{Came}
 use Rattle.task_ops.specs.declared.came.Came.TheVariants as came
 use Rattle.task_rules.proofs.MoveLemmas.{no_time}
 use Rattle.task_rules.proofs.StandLemmas.{by_number}
 use Rattle.task_rules.specs.Data.{advanced}
 use Rattle.task_rules.specs.Places.{HasPlace, is_at_high, is_at_low, says}
 use Rattle.task_rules.specs.Progress.{Goes, Progress, Traps, may, or_trap, trap_if}
-use Rattle.task_rules.specs.Sets.{join_done, join_row, join_to, joined, joins, may_wake_new, wakes_joined}
+use Rattle.task_rules.specs.Sets.{join_done, join_to, joined, joins, may_wake_new, wakes_joined}
 use Rattle.task_words.specs.Apart.{IsUnqueued}
 use Rattle.task_words.specs.Live.{live_subtask}
 use Rattle.task_words.specs.Names.{join_in, subtask_in}

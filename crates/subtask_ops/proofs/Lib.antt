@@ -10,3 +10,4 @@ pub mod DropLemmas
 pub mod EndLemmas
 pub mod CancelLemmas
 pub mod ResumeLemmas
+pub mod GuestLemmas

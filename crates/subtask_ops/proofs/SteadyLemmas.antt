@@ -1,14 +1,14 @@
 -- Writes that leave places, entries, flags and ends of subtasks as they are, and who is in which instance.
-use Rattle.std.proofs.Common.{ap, ap₂, cond, le_refl, le_trans, refl, subst, sym, ◌∙◌}
+use Rattle.std.proofs.Common.{ap, ap₂, cond, le_refl, le_trans, refl, sym, ◌∙◌}
 use Rattle.std.specs.Option.{option_map_or}
-use Rattle.std.specs.Prelude.{Bool, List, None, Option, Some, [], false, find, is_some, not, option_and_then, option_map, slice_set, true, ℕ, ◌+◌, ◌<◌, ◌==◌, ◌||◌, ◌∷◌, ◌≡◌}
+use Rattle.std.specs.Prelude.{Bool, List, None, Option, Some, [], false, find, is_some, not, option_and_then, option_map, true, ℕ, ◌+◌, ◌<◌, ◌==◌, ◌||◌, ◌∷◌, ◌≡◌}
 use Rattle.task_table.specs.declared.id.TableId.{TableId}
 use Rattle.task_wait.specs.declared.keys.ThreadKey.{ThreadKey}
 use Rattle.task_machine.proofs.MapLemmas.{change-field}
 use Rattle.task_machine.specs.Core.{Core, Queues}
 use Rattle.task_machine.specs.Maps.{Records, get}
 use Rattle.task_machine.specs.Moves.{first_entry, first_low, passes_check}
-use Rattle.task_machine.specs.Read.{call_instance, callee_of, entry_thread, event_of, first_in, has_ended, instance_of, is_entry_in, is_stage_ended, may_not_suspend, no_callee, place_of, position_of, stage_of, subtask_ended, task_of}
+use Rattle.task_machine.specs.Read.{call_instance, entry_thread, event_of, first_in, instance_of, is_entry_in, is_stage_ended, no_callee, position_of, subtask_ended, task_of}
 use Rattle.task_machine.specs.Write.{on_call, on_thread, on_work, set_cancelled, set_join, set_own_event, set_phase, set_saved_callee, set_subtask_handle}
 use Rattle.task_machine.specs.declared.component.Callee.{Callee}
 use Rattle.task_machine.specs.declared.records.Call.{Call}

@@ -6,7 +6,7 @@ use Rattle.task_machine.proofs.MapLemmas.{change-absent}
 use Rattle.task_machine.specs.Core.{Core}
 use Rattle.task_machine.specs.Maps.{get}
 use Rattle.task_machine.specs.Read.{event_of, instance_of, is_stage_ended, join_of, subtask_at, subtask_ended}
-use Rattle.task_machine.specs.Write.{on_call, on_work, set_join, set_subtask_handle}
+use Rattle.task_machine.specs.Write.{on_call, on_work, set_join}
 use Rattle.task_machine.specs.declared.records.Call.{Call}
 use Rattle.task_machine.specs.declared.records.Join.{Join}
 use Rattle.task_machine.specs.declared.records.Join.TheVariants as join

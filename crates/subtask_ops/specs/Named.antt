@@ -2,11 +2,11 @@
 use Rattle.std.specs.Prelude.{false, is_some, true, None, Some, ℕ, ◌≡◌}
 use Rattle.task_machine.specs.Core.{Core}
 use Rattle.task_machine.specs.Maps.{get}
-use Rattle.task_machine.specs.Read.{place_of, subtask_at}
+use Rattle.task_machine.specs.Read.{subtask_at}
 use Rattle.task_machine.specs.declared.records.Call.{Call}
 use Rattle.task_machine.specs.declared.records.Subtask.{Subtask}
 use Rattle.task_machine.specs.declared.records.Subtask.TheVariants as subtask
-use Rattle.task_rules.specs.Places.{is_fresh, is_there}
+use Rattle.task_rules.specs.Places.{is_there}
 use Rattle.task_words.specs.StateView.{Lost, lost_call, lost_work}
 
 -- A handle of a call names one that is there.

@@ -4,17 +4,21 @@
 
 mod aborts;
 mod calls;
+mod cancels;
 mod directs;
 mod drops;
 mod ends;
+mod guests;
 mod hosts;
 mod joins;
 mod operands;
 mod resumes;
 mod returns;
 mod takes;
+mod withdrawals;
 
 pub use calls::begin_call;
+pub use cancels::cancel;
 pub use directs::{answer_call, begin_call_sync, enter};
 pub use drops::drop_subtask;
 pub use hosts::{call_host, call_sync_host, go_on_calling_host};

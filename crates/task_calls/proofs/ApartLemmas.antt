@@ -101,6 +101,5 @@ unfolding set_trapped
 trap_in_order c p s sits = record {
   order = λ m. beside_in_order _ _ s.handle_limit s.capacity c p s m (sits.order m);
   there = sits.there;
-  ops = sits.ops;
-  lacks = sits.lacks;
+  handles = sits.handles;
 }

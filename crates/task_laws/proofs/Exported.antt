@@ -1,6 +1,7 @@
 -- Calls name exports, and instances stay, along the words of a step.
 use Rattle.task_laws.proofs.Words.{after_word, Allowed, along, arith, call_came, CallAfter, Callee, Caller, CallsExported, component_of, Core, ExportsExist, get, Grown, InstancesStay, is_some, IsExported, MayCall, NewCall, NoCall, refl, Scene, scene_of, some_none, step_walks, StepsKeepExports, sym, Word, ℕ, ◌∙◌, ◌≡◌}
-use Rattle.task_laws.proofs.OneHolder.{instance_stays, op_callee}
+use Rattle.task_laws.proofs.OneHolder.{instance_stays, op_callee, table_stays}
+use Rattle.task_laws.specs.Exports.{HandleTablesStay}
 use Rattle.task_rules.specs.Allowed as may
 
 module _ (a : Scene) (exist : ExportsExist a.setting) where
@@ -25,3 +26,7 @@ steps_keep_exports x s l t exist q step =
 pub instances_stay : InstancesStay
 instances_stay x s l t step i =
     along (λ u. is_some (get u.instances i) ≡ is_some (get s.core.instances i)) (λ w u ok same. instance_stays w u i ∙ same) refl (step_walks x s l t step).walk
+
+pub handle_tables_stay : HandleTablesStay
+handle_tables_stay x s l t step i =
+    along (λ u. is_some (get u.handles i) ≡ is_some (get s.core.handles i)) (λ w u ok same. table_stays w u i ∙ same) refl (step_walks x s l t step).walk

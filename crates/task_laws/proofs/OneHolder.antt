@@ -9,6 +9,11 @@ unfolding add_call add_group add_set add_thread add_work count_work free_handle 
 instance_stays AddGroup s i = refl
 instance_stays w s i = first_of (search, grind (arith, nat_tests, get-change))
 
+pub table_stays : (w : Word) (s : Core) (i : ℕ) → is_some (get (after_word w s).handles i) ≡ is_some (get s.handles i)
+unfolding add_call add_group add_set add_thread add_work count_work free_handle free_thread_handle give_handle give_result give_thread_handle on_call on_instance on_thread on_work push_high remove_call remove_group remove_set remove_thread remove_work set_backpressure set_cancel_delivered set_cancelled set_course set_do_not_enter set_do_not_suspend set_end set_event set_exited set_how_far set_join set_own_event set_phase set_position set_register set_result set_saved_callee set_saved_own set_script set_stage set_started set_starting_published set_subtask_handle set_thread_handle set_trapped set_uninteresting set_word take_result call_made with_handle with_thread_handle work_queued poll_pends
+table_stays AddGroup s i = refl
+table_stays w s i = first_of (search, grind (arith, nat_tests, get-change))
+
 -- it stays shut unless a holding entry of it returns
 shut_stays : (a : Scene) (w : Word) (s : Core) → Allowed a w s → (i : ℕ) → (returned_holder a.base a.label ≡ Some i → ⊥) →
     may_not_enter i s ≡ true → may_not_enter i (after_word w s) ≡ true

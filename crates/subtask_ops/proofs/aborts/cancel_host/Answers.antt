@@ -1,4 +1,4 @@
-use Rattle.std.proofs.Common.{None, Some, sym, ◌∙◌}
+use Rattle.std.proofs.Common.{None, sym, ◌∙◌}
 use Rattle.subtask_ops.proofs.CancelLemmas.{aborts_steady, host_meets}
 use Rattle.subtask_ops.proofs.EndLemmas.{finished, refused_on, refused_same, trapped_meets}
 use Rattle.subtask_ops.proofs.SteadyLemmas.{still_runs, still_within}

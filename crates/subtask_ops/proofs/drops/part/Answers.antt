@@ -1,4 +1,4 @@
-use Rattle.subtask_ops.proofs.DropLemmas.{freed_entries, freed_live, parted_below, parted_core, parted_named, parted_thread}
+use Rattle.subtask_ops.proofs.DropLemmas.{freed_entries, freed_live, parted_below, parted_named}
 use Rattle.subtask_ops.proofs.drops.part.Goals as goal
 
 pub free_handle-requires : goal.free_handle-requires

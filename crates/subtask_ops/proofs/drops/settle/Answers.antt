@@ -1,4 +1,4 @@
-use Rattle.std.proofs.Common.{ap, refl}
+use Rattle.std.proofs.Common.{ap}
 use Rattle.subtask_ops.proofs.drops.settle.Goals as goal
 use Rattle.task_words.specs.Names.{subtask_in}
 

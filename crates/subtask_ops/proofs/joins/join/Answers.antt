@@ -1,4 +1,4 @@
-use Rattle.std.proofs.Common.{Option, Some, ap, subst, sym, ◌∙◌, ℕ}
+use Rattle.std.proofs.Common.{ap, subst, sym, ◌∙◌, ℕ}
 use Rattle.subtask_ops.proofs.JoinLemmas.{to_kept, to_set, to_zero}
 use Rattle.subtask_ops.proofs.SubtaskLemmas.{named_meets}
 use Rattle.subtask_ops.proofs.joins.join.Goals as goal

@@ -1,4 +1,4 @@
-use Rattle.std.proofs.Common.{None, ap, subst, sym, ◌∙◌}
+use Rattle.std.proofs.Common.{None, subst, sym, ◌∙◌}
 use Rattle.subtask_ops.proofs.EndLemmas.{finished, refused_on, trapped_meets}
 use Rattle.subtask_ops.proofs.ResumeLemmas.{resumed_as, resumed_below, resumed_refused, resumed_runs}
 use Rattle.subtask_ops.proofs.resumes.go_on_cancelling.Goals as goal

@@ -1,8 +1,8 @@
 //! The scripts of a component.
-ghost use Rattle.std.specs.Prelude.{◌≡◌, option_copied, slice_get};
-ghost use Rattle.task_rules.specs.Scripts.{export_at, script_in, slot_at, slot_script};
+ghost use Rattle.std.specs.Prelude.{◌≡◌, option_and_then, option_copied, slice_get};
+ghost use Rattle.task_rules.specs.Scripts.{export_at, export_kind, host_at, script_in, slot_at, slot_script};
 
-use task_machine::{Callee, Component, ExportDef, Op, Script, Slot};
+use task_machine::{Callee, Component, ExportDef, ExportKind, HostDef, Op, Script, Slot};
 
 /// What runs under an export, none where the component has no such export.
 pub fn export_def(component: &Component, callee: Callee) -> Option<&ExportDef>
@@ -15,14 +15,42 @@ pub fn export_def(component: &Component, callee: Callee) -> Option<&ExportDef>
     instance.exports.as_slice().get(callee.export as usize)
 }
 
+/// An export's kind.
+pub(crate) fn export_kind(component: &Component, callee: Callee) -> ExportKind
+    ensures { result ≡ export_kind component.now callee }
+{
+    match export_def(component, callee) {
+        Some(def) => def.kind,
+        None => ExportKind::Callback,
+    }
+}
+
+/// A host; one that never ends, where the component has no such host.
+pub(crate) fn host_def(component: &Component, host: u32) -> HostDef
+    ensures { result ≡ host_at component.now host }
+{
+    match component.hosts.as_slice().get(host as usize) {
+        Some(def) => *def,
+        None => HostDef {
+            polls: None,
+            value: None,
+        },
+    }
+}
+
+/// What stands in a slot of an instance, none where the component has no such slot.
+pub(crate) fn slot_line(component: &Component, instance: u32, slot: u8) -> Option<&Slot>
+    ensures { option_copied result ≡ option_and_then (λ d. slice_get d.slots slot) (slice_get component.now.instances instance) }
+{
+    let def = component.instances.as_slice().get(instance as usize)?;
+    def.slots.as_slice().get(slot as usize)
+}
+
 // The script of a slot; empty where there is none.
 fn slot_ops(component: &Component, instance: u32, slot: u8) -> &[Op]
     ensures { result.now ≡ slot_script (slot_at component.now instance slot) }
 {
-    let Some(def) = component.instances.as_slice().get(instance as usize) else {
-        return &[];
-    };
-    match def.slots.as_slice().get(slot as usize) {
+    match slot_line(component, instance, slot) {
         Some(Slot::Script(ops)) => ops.as_slice(),
         _ => &[],
     }
