@@ -1,0 +1,3 @@
+pub mod WakeLemmas
+pub mod GiveLemmas
+pub mod TakeLemmas
