@@ -1,6 +1,5 @@
 -- The end of a thread.
-use Rattle.std.specs.Prelude.{Bool, Err, None, Ok, Result, false, is_some, true, ℕ, ◌≡◌, [], ◌||◌}
-use Rattle.state_calls.specs.Items.{is_kept_back}
+use Rattle.std.specs.Prelude.{Bool, Err, None, Ok, Result, [], false, true, ℕ, ◌≡◌}
 use Rattle.state_calls.specs.declared.error.TaskError.{TaskError}
 use Rattle.state_calls.specs.declared.error.TaskError.TheVariants as task_error
 use Rattle.task_machine.specs.Core.{Core}

@@ -40,7 +40,8 @@ is_ready_in None sub s = false
 is_ready_in (Some x) sub s = is_ready_member x sub s
 
 -- The gift was taken, and what it hands out is the answer.
-pub record Gives (cancellable : Bool) (k : ℕ) (set : Option ℕ) (s : StateView) (r : Option (Event × ℕ)) (t : StateView) : Type 0 where
+pub record Gives (cancellable : Bool) (k : ℕ) (set : Option ℕ) (s : StateView) (r : Option (Event × ℕ)) (t : StateView) :
+    Type 0 where
   pub chosen : Option Subtask
   pub given : Gift
   pub lawful : gift_of cancellable k set chosen s.core ≡ Some given

@@ -3,6 +3,7 @@ use Rattle.std.specs.Prelude.{Bool, None, Option, Some, false, true, ℕ, ◌<�
 use Rattle.state_calls.specs.Named.{IsLive}
 use Rattle.state_calls.specs.declared.entries.Item.{Item}
 use Rattle.state_calls.specs.declared.entries.Item.TheVariants as item
+use Rattle.state_calls.specs.declared.names.QualifiedThreadId.{QualifiedThreadId}
 use Rattle.task_machine.specs.Core.{Core}
 use Rattle.task_machine.specs.Moves.{put_high, put_low, put_switch, why_of}
 use Rattle.task_machine.specs.Read.{is_at, is_explicit, is_new, next_entry, stage_of}
@@ -110,13 +111,22 @@ abbrev pub live_why : Why → Core → Why
 live_why (why.Delivery (delivery.Set x)) s = why.Delivery (delivery.Set (live_set x s))
 live_why w s = w
 
--- The item is that of the thread: it names the thread and its call, and says why it is queued, and for a start whether the thread is the
--- first of its call.
+-- The id names the thread and its call.
+pub record Names (s : StateView) (n : ℕ) (id : QualifiedThreadId) : Type 0 where
+  pub live : IsLive s id
+  pub number : thread_of s id.thread ≡ n
+
+-- the thread is queued for its start
+pub record IsStarting (made : Bool) (n : ℕ) (s : Core) : Type 0 where
+  pub why : why_of n s ≡ why.Start
+  pub explicit : is_explicit n s ≡ made
+
+-- The item names the thread, and says why it is queued, and for a start whether the thread isn't the first of its call.
 abbrev pub IsItemOf : StateView → ℕ → Item → Type 0
-IsItemOf s n (item.StartImplicit id) = IsLive s id × ((thread_of s id.thread ≡ n) × ((why_of n s.core ≡ why.Start) × (is_explicit n s.core ≡ false)))
-IsItemOf s n (item.StartExplicit id) = IsLive s id × ((thread_of s id.thread ≡ n) × ((why_of n s.core ≡ why.Start) × (is_explicit n s.core ≡ true)))
-IsItemOf s n (item.Deliver id d) = IsLive s id × ((thread_of s id.thread ≡ n) × (why.Delivery (delivery_in s.tags d) ≡ live_why (why_of n s.core) s.core))
-IsItemOf s n (item.Resume id) = IsLive s id × ((thread_of s id.thread ≡ n) × (why_of n s.core ≡ why.Resumption))
+IsItemOf s n (item.StartImplicit id) = Names s n id × IsStarting false n s.core
+IsItemOf s n (item.StartExplicit id) = Names s n id × IsStarting true n s.core
+IsItemOf s n (item.Deliver id d) = Names s n id × (why.Delivery (delivery_in s.tags d) ≡ live_why (why_of n s.core) s.core)
+IsItemOf s n (item.Resume id) = Names s n id × (why_of n s.core ≡ why.Resumption)
 IsItemOf s n _ = ⊥
 
 abbrev pub IsItem : StateView → Entry → Item → Type 0

@@ -1,5 +1,5 @@
 -- Calls that may wake a waiter of a set.
-use Rattle.std.specs.Prelude.{Bool, IfSome, Ok, Option, Result, Some, is_none, true, ℕ, ◌≡◌}
+use Rattle.std.specs.Prelude.{Bool, IfSome, None, Ok, Option, Result, Some, true, ℕ, ◌≡◌}
 use Rattle.state_calls.specs.Named.{IsLive, number_of}
 use Rattle.state_calls.specs.declared.error.TaskError.{TaskError}
 use Rattle.state_calls.specs.declared.names.QualifiedThreadId.{QualifiedThreadId}
@@ -13,10 +13,10 @@ use Rattle.task_rules.specs.Sets.{joins, wakes_joined}
 use Rattle.task_wait.specs.declared.codes.Event.{Event}
 use Rattle.task_wait.specs.declared.codes.Event.TheVariants as event
 use Rattle.task_words.specs.StateView.{StateView, on_core}
-use Rattle.std.specs.Prelude.{None}
 
 -- The move was made with this waiter, whom it may wake, or with none, where there is none; it is the answer.
-pub record Wakes (may : Option ℕ → Core → Bool) (move : Option ℕ → Core → Core) (s : StateView) (r : Result (Option QualifiedThreadId) TaskError) (t : StateView) : Type 0 where
+pub record Wakes (may : Option ℕ → Core → Bool) (move : Option ℕ → Core → Core) (s : StateView)
+    (r : Result (Option QualifiedThreadId) TaskError) (t : StateView) : Type 0 where
   pub woken : Option QualifiedThreadId
   pub answer : r ≡ Ok woken
   pub live : IfSome woken (λ id. IsLive s id)

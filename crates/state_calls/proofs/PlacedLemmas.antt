@@ -1,0 +1,30 @@
+-- What these calls ask, where each thread has its place.
+use Rattle.std.proofs.Common.{ap, arith, refl, ◌∙◌}
+use Rattle.std.specs.Option.{option_map_or}
+use Rattle.std.specs.Prelude.{Bool, Option, Some, false, true, ℕ, ◌≡◌}
+use Rattle.task_machine.specs.Core.{Core}
+use Rattle.task_machine.specs.Read.{is_blocked_on, is_waiting_on, place_of}
+use Rattle.task_machine.specs.declared.records.Place.{Place}
+use Rattle.task_machine.specs.declared.records.Place.TheVariants as place
+use Rattle.task_machine.specs.declared.records.Subtask.{Subtask}
+use Rattle.task_moves.specs.Idle.{AreIdleUnqueued}
+use Rattle.task_rules.specs.Places.{HasPlace, Placed, is_at_high, is_at_low, says}
+use Rattle.task_words.specs.Apart.{IsUnqueued}
+
+idle_unqueued : (n : ℕ) (p : Place) (s : Core) → place_of n s ≡ Some p → is_at_high p ≡ false → is_at_low p ≡ false → HasPlace n s → IsUnqueued n s
+idle_unqueued n p s at high low h = record {
+  high = h.high ∙ (ap (says is_at_high) at ∙ grind (arith, high));
+  low = h.low ∙ (ap (says is_at_low) at ∙ grind (arith, low));
+}
+
+waiting_place : (x : ℕ) (o : Option Place) → option_map_or (is_waiting_on x) o false ≡ true → (b : Bool) × (o ≡ Some (place.Waiting x b))
+waiting_place x o h = grind arith
+
+blocked_place : (sub : Subtask) (o : Option Place) → option_map_or (is_blocked_on sub) o false ≡ true → (on : Subtask) × (o ≡ Some (place.Blocked on))
+blocked_place sub o h = grind arith
+
+pub placed_idle : (s : Core) → Placed s → AreIdleUnqueued s
+placed_idle s placed = record {
+  waiters = λ x k h. let p = waiting_place x (place_of k s) h in idle_unqueued k (place.Waiting x p.0) s p.1 refl refl (placed k);
+  blocked = λ sub k h. let p = blocked_place sub (place_of k s) h in idle_unqueued k (place.Blocked p.0) s p.1 refl refl (placed k);
+}
