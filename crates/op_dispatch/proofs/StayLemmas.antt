@@ -1,20 +1,22 @@
 -- What an op leaves, and what it is inside of.
 use Rattle.std.proofs.Common.{ap, refl, subst, sym, ◌∙◌}
-use Rattle.std.specs.Prelude.{Bool, Err, IfOk, Ok, Result, false, if◌then◌else◌, is_some, true, ℕ, ◌≡◌}
+use Rattle.op_dispatch.specs.Fits.{HasInstances}
+use Rattle.std.proofs.lemmas.Option.{slice_get_within}
+use Rattle.std.specs.Option.{option_and_then, option_map_or}
+use Rattle.std.specs.Prelude.{Err, IfOk, None, Ok, Option, Result, Some, false, is_some, slice_get, true, ℕ, ◌==◌, ◌≡◌}
+use Rattle.task_machine.specs.Core.{Core}
 use Rattle.task_machine.specs.Maps.{get}
-use Rattle.task_machine.specs.declared.records.HowFar.{HowFar}
-use Rattle.task_machine.specs.declared.records.HowFar.TheVariants as how_far
+use Rattle.task_machine.specs.declared.component.Callee.{Callee}
+use Rattle.task_machine.specs.declared.component.Component.{Component}
+use Rattle.task_machine.specs.declared.component.ExportDef.{ExportDef}
+use Rattle.task_machine.specs.declared.component.InstanceDef.{InstanceDef}
 use Rattle.task_ops.specs.Came.{Meets}
 use Rattle.task_ops.specs.Stays.{StaysAfter}
 use Rattle.task_ops.specs.declared.came.Came.{Came}
 use Rattle.task_ops.specs.declared.came.Came.TheVariants as came
+use Rattle.task_rules.specs.MainOps.{takes_words}
 use Rattle.task_rules.specs.Progress.{Fails, Goes, Never, Ordered, Progress, Stops, Traps}
-use Rattle.task_table.specs.declared.id.TableId.{TableId}
-use Rattle.task_wait.specs.declared.keys.SetKey.{SetKey}
-use Rattle.task_words.specs.Live.{live_how_far}
-use Rattle.task_words.specs.Names.{how_far_in}
-use Rattle.task_words.specs.StateView.{StateView, set_of}
-use Rattle.task_words.specs.declared.names.HowFarId.TheVariants as how_fars
+use Rattle.task_words.specs.StateView.{StateView}
 
 same_view : (s t : StateView) → t.core ≡ s.core → t.tags ≡ s.tags → t.current ≡ s.current → t ≡ s
 same_view s t core tags current =
@@ -35,13 +37,12 @@ pub ok_then : {X E : Type 0} (P Q : X → Type 0) (r : Result X E) → ((x : X) 
 ok_then P Q (Ok x) f h = f x h
 ok_then P Q (Err e) f h = tt
 
--- ---- Inside a wait
+-- ---- Callees
 
--- the set that the thread waits on, where it is there
-pub inside_wait : (id : TableId SetKey) (h : HowFar) (s : StateView) → how_far_in s.tags (how_fars.Waits id) ≡ live_how_far h s.core → ((x : ℕ) → h ≡ how_far.Waits x → is_some (get s.core.sets x) ≡ true) → h ≡ how_far.Waits (set_of s id)
-inside_wait id (how_far.Waits x) s is there = by (is_some (get s.core.sets x)) (there x refl) is
+-- the instance of an export that takes these words is there
+pub callee_there : (c : Component) (f : Callee) (n : ℕ) (s : Core) → HasInstances c s → takes_words c f n ≡ true → is_some (get s.instances f.instance) ≡ true
+callee_there c f n s has takes = by (slice_get c.instances f.instance) refl takes
   where
-    by : (b : Bool) → b ≡ true → how_far.Waits (set_of s id) ≡ how_far.Waits (if b then x else 0) → how_far.Waits x ≡ how_far.Waits (set_of s id)
-    by true e same = sym same
-    by false e same = absurd (cc)
-inside_wait id h s is there = absurd (cc)
+    by : (o : Option InstanceDef) → slice_get c.instances f.instance ≡ o → option_map_or (λ (d : ExportDef). d.params == n) (option_and_then (λ (d : InstanceDef). slice_get d.exports f.export) o) false ≡ true → is_some (get s.instances f.instance) ≡ true
+    by None e h = absurd (cc)
+    by (Some d) e h = has f.instance (slice_get_within c.instances f.instance d e)

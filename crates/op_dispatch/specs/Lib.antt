@@ -1,3 +1,4 @@
 pub mod Runner
 pub mod Goes
 pub mod Fits
+pub mod Polls

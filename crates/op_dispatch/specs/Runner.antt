@@ -1,5 +1,7 @@
 -- The thread that runs, as its ops need it.
 use Rattle.std.specs.Prelude.{Bool, IsSome, Some, false, is_some, true, ℕ, ◌<◌, ◌≡◌, ◌||◌}
+use Rattle.subtask_ops.specs.Named.{CallsThere, StartsThere}
+use Rattle.task_laws.specs.Order.{StartsAwaited, WorksQueued}
 use Rattle.task_machine.specs.Core.{Core}
 use Rattle.task_machine.specs.Maps.{get}
 use Rattle.task_machine.specs.Read.{goal_of, how_far_of, instance_of, is_direct, is_explicit, task_of, under_of}
@@ -15,6 +17,8 @@ use Rattle.task_ops.specs.Wakes.{WaitersTogether}
 use Rattle.task_rules.specs.OpParts.{suspends, yields}
 use Rattle.task_table.specs.declared.id.TableId.{TableId}
 use Rattle.task_wait.specs.declared.keys.ThreadKey.{ThreadKey}
+use Rattle.task_words.specs.Apart.{work_entries}
+use Rattle.task_words.specs.Live.{live_how_far}
 use Rattle.task_words.specs.StateView.{StateView, thread_of}
 
 -- the thread was resumed inside an op that suspends or yields
@@ -27,13 +31,19 @@ is_resumed _ = false
 abbrev pub is_halting : ThreadOp → Bool
 is_halting o = suspends o || yields o
 
--- The set inside a wait on which the thread is is there, and its ready members are named in the thread's instance.
-pub record WaitsThere (n : ℕ) (s : Core) : Type 0 where
-  pub there : (x : ℕ) → how_far_of n s ≡ how_far.Waits x → is_some (get s.sets x) ≡ true
+-- What the op under way is about is there, and the ready members of a set are named in the thread's instance. The work of a host call has
+-- no entry any more.
+pub record UnderWay (n : ℕ) (s : Core) : Type 0 where
+  pub names : live_how_far (how_far_of n s) s ≡ how_far_of n s
+  pub sets : (x : ℕ) → how_far_of n s ≡ how_far.Waits x → is_some (get s.sets x) ≡ true
   pub members : (x : ℕ) → how_far_of n s ≡ how_far.Waits x → MembersNamed (instance_of n s) x s
+  pub calls : (k : ℕ) → how_far_of n s ≡ how_far.Calls (subtask.Guest k) → is_some (get s.calls k) ≡ true
+  pub works : (i : ℕ) → how_far_of n s ≡ how_far.Calls (subtask.Host i) → is_some (get s.works i) ≡ true
+  pub unqueued : (i : ℕ) → how_far_of n s ≡ how_far.Calls (subtask.Host i) → work_entries i s.queues.high ≡ 0
 
--- The thread runs. Sets that handles name are there, and so is the one that its call is joined to. Under the first thread of a direct call
--- there is another one. Ready members of sets are named where they are waited for, and waiters of one set are of one instance.
+-- The thread runs, and what its ops name is there: sets and calls by their handles, the set that its call is joined to, the thread under the
+-- first one of a direct call, and the first thread of a call whose start hasn't run. Ready members are named in the instances of their
+-- sets, and waiters of one set are of one instance.
 pub record Runner (id : TableId ThreadKey) (s : StateView) : Type 0 where
   pub thread : Thread
   pub here : get s.core.threads (thread_of s id) ≡ Some thread
@@ -45,5 +55,9 @@ pub record Runner (id : TableId ThreadKey) (s : StateView) : Type 0 where
   pub under : is_explicit (thread_of s id) s.core ≡ false → is_direct (goal_of (task_of (thread_of s id) s.core) s.core) ≡ true →
       IsSome (under_of (thread_of s id) s.core)
   pub members : AllMembersNamed (instance_of (thread_of s id) s.core) s.core
-  pub waits : WaitsThere (thread_of s id) s.core
+  pub under_way : UnderWay (thread_of s id) s.core
   pub together : WaitersTogether s.core
+  pub calls : CallsThere s.core
+  pub starts : StartsAwaited s.core
+  pub waiting : StartsThere s.core
+  pub works : WorksQueued s.core

@@ -1,6 +1,8 @@
 //! The op of the running thread over the words of a core: its row is done, whatever op it is.
 #![tactic(auto)]
 
+mod calls;
+mod done;
 mod exits;
 mod ops;
 mod scripts;
@@ -8,6 +10,7 @@ mod sets;
 mod tasks;
 mod threads;
 
+pub use done::Done;
 pub use exits::exit;
 pub use ops::do_op;
 pub use scripts::{export_def, op_at, script_ops};

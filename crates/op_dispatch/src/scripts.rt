@@ -1,8 +1,8 @@
 //! The scripts of a component.
 ghost use Rattle.std.specs.Prelude.{◌≡◌, option_and_then, option_copied, slice_get};
-ghost use Rattle.task_rules.specs.Scripts.{export_at, script_in, slot_at, slot_script};
+ghost use Rattle.task_rules.specs.Scripts.{export_at, export_kind, host_at, script_in, slot_at, slot_script};
 
-use task_machine::{Callee, Component, ExportDef, Op, Script, Slot};
+use task_machine::{Callee, Component, ExportDef, ExportKind, HostDef, Op, Script, Slot};
 
 /// What runs under an export, none where the component has no such export.
 pub fn export_def(component: &Component, callee: Callee) -> Option<&ExportDef>
@@ -13,6 +13,29 @@ pub fn export_def(component: &Component, callee: Callee) -> Option<&ExportDef>
         .as_slice()
         .get(callee.instance as usize)?;
     instance.exports.as_slice().get(callee.export as usize)
+}
+
+/// An export's kind.
+pub(crate) fn export_kind(component: &Component, callee: Callee) -> ExportKind
+    ensures { result ≡ export_kind component.now callee }
+{
+    match export_def(component, callee) {
+        Some(def) => def.kind,
+        None => ExportKind::Callback,
+    }
+}
+
+/// A host; one that never ends, where the component has no such host.
+pub(crate) fn host_def(component: &Component, host: u32) -> HostDef
+    ensures { result ≡ host_at component.now host }
+{
+    match component.hosts.as_slice().get(host as usize) {
+        Some(def) => *def,
+        None => HostDef {
+            polls: None,
+            value: None,
+        },
+    }
 }
 
 /// What stands in a slot of an instance, none where the component has no such slot.

@@ -12,6 +12,7 @@ ghost use Rattle.op_dispatch.specs.Runner.{Runner};
 ghost use Rattle.op_dispatch.specs.Goes.{GoesOn, given};
 ghost use Rattle.task_words.specs.StateView.{thread_of};
 
+use subtask_ops::join;
 use task_machine::{NoMemory, SetOp};
 use task_ops::{Came, begin_wait, go_on_waiting, poll, set_drop, set_new, value_of};
 use task_words::{HowFarId, ThreadId, Words};

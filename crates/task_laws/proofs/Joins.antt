@@ -85,8 +85,8 @@ module _ (a : Scene) (s : Core) (q : JoinsNamed s) where
   handles_word (NameCall j k) ok = given_kept j _
   handles_word (NameWork j k) ok = given_kept j _
   handles_word (OpenSet j) ok = given_kept j _
-  handles_word (UnnameCall j g k) ok = unnamed_kept j g _ ok.1.1.1.0 ok.1.1.1.1
-  handles_word (UnnameWork j g k) ok = unnamed_kept j g _ ok.1.1.1.0 ok.1.1.1.1
+  handles_word (UnnameCall j g k) ok = unnamed_kept j g _ ok.1.1.1.0 ok.1.1.1.1.0
+  handles_word (UnnameWork j g k) ok = unnamed_kept j g _ ok.1.1.1.0 ok.1.1.1.1.0
   handles_word (CloseSet j g y) ok = freed_kept j g (Named.Set y) (grind arith) (λ sub x to is. absurd (cc))
   handles_word w ok = record { tables = q.tables; names = λ sub x i h at e. e }
 

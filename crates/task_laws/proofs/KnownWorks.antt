@@ -60,7 +60,7 @@ module _ (a : Scene) (base : WorksKnown a.base) (w : Word) (s : Core) (ok : Allo
           let m = rw (calls_work g i is) at come in on (grind arith, m.1.1.0) (removed n i m.1.1.0 (inr m.1.0.0))
 
 -- a work that is removed has no handle
-unnamed_removed : (a : Scene) → WorksKnown a.base → (j : ℕ) (s : Core) → WorksKnown s → MayRemoveWork a j s →
+pub unnamed_removed : (a : Scene) → WorksKnown a.base → (j : ℕ) (s : Core) → WorksKnown s → MayRemoveWork a j s →
     subtask_handle (Subtask.Host j) s ≡ None
 unnamed_removed a base j s q (m, (is, (same, inl (far, done)))) =
     let sync = (base.called m j far).1 in let async = λ (h : ℕ). q.async h j in grind (arith, async)

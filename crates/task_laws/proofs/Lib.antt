@@ -33,7 +33,7 @@ pub mod StartLemmas
 pub mod WrittenLaws
 pub mod NamedCalls
 pub mod AwaitedCalls
-pub mod LackLemmas
 pub mod KnownWorks
 pub mod MemberLemmas
+pub mod CancelLemmas
 pub mod EventLemmas

@@ -86,7 +86,7 @@ pub next_given : (i : ℕ) (s : Core) → new_handle i s ≡ handle_of_table s.h
 unfolding new_handle
 next_given i s = refl
 
-deletable_unnamed : (k : ℕ) (s : Core) → is_deletable k s ≡ true → subtask_handle (Subtask.Guest k) s ≡ None
+pub deletable_unnamed : (k : ℕ) (s : Core) → is_deletable k s ≡ true → subtask_handle (Subtask.Guest k) s ≡ None
 unfolding is_deletable
 deletable_unnamed k s h = grind arith
 

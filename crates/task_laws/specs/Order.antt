@@ -154,6 +154,10 @@ cancelled_by (how_far.Cancels sub) = Some sub
 cancelled_by (how_far.AwaitsEnd sub) = Some sub
 cancelled_by _ = None
 
+-- a subtask that an op cancels is there, and a handle names it
+abbrev pub CancelsNamed : Core → Type 0
+CancelsNamed s = (n : ℕ) (sub : Subtask) → cancelled_by (how_far_of n s) ≡ Some sub → is_some (subtask_handle sub s) ≡ true
+
 -- a subtask that an op cancels is in the thread's own set, or gone
 abbrev pub CancelsWatched : Core → Type 0
 CancelsWatched s = (n : ℕ) (sub : Subtask) → cancelled_by (how_far_of n s) ≡ Some sub → watches n sub s ≡ true
@@ -421,6 +425,7 @@ pub record InOrderIf (goes_on : Bool) (c : Component) (s : State) : Type 0 where
   pub starts : StartsAwaited s.core
   pub unbegun : StartsFirst s.core
   pub watched : CancelsWatched s.core
+  pub cancelled : CancelsNamed s.core
   pub inside : InsideOps s.core
   pub held : NoneAdmitted s.core
   pub works_told : WorksTold s.core

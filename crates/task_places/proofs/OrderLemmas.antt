@@ -1,15 +1,6 @@
 -- A state in order: each opening state is, and each step leads from one to one.
-use Rattle.task_places.proofs.Laws.{[], AllFit, along, ap, apart_after, arith, at_place, Awake, base_at, Bool, ByHandle, ByOp, Call, callee_of, calls_begin, calls_told_word, CallsAwaited, CallsGo, CallsHold, CallsInside, CallsNamed, CallsThere, CallsTold, can_come, cancelled_call, CancelsWatched, Component, Core, directs_word, DirectsOnTop, DirectsRun, EndWords, event_of, false, few_word, first_waits, Fits, fits_word, fresh, get, get-empty, HasNotRun, HasSubtask, held_word, Homed, homed_word, host_event_word, host_taken, HostsAwaited, housed_word, how_far_of, HowFar, inl, InOrder, InOrderIf, InPlace, inr, Inside, inside_word, InsideThere, instance_of, is_awaited, is_fresh, is_open, is_some, is_sync_call, is_there, IsRunner, joins_word, JoinsNamed, KnownHome, KnownLacks, Label, lacks_word, LacksOps, LacksWorks, Layered, layered_word, le_refl, le_trans, length, List, made_works_word, MakesFew, names_go_word, NamesGo, NamesHold, None, NoneAdmitted, Numbered, of_base, OfBase, Op, op_at_place, op_lacks, op_of_thread, opening, opening_holds, opening_joins, opening_named, opening_names_known, opening_sets, opening_works_known, opening_works_named, OpeningInOrder, option_map, option_map_or, Place, place_of, Placed, plain, plain_scene, queued_watched, refl, Run, runner_there, RunnerHoused, said_plain, Scene, scene_of, Script, script_in, sets_named_word, SetsNamed, Setting, Some, starts_word, StartsAwaited, StartsFirst, StartsGo, StartsThere, State, Status, Steady, steady, Step, step_goes, step_over, step_walks, StepInOrder, StepsLackWorks, StepsMakeFew, Strands, subst, Subtask, subtask_under_way, sym, task_of, telling_word, TellingGoes, Thread, Traced, traced_word, true, Turn, Unbegun, unbegun_word, undelivered_end, Waited, WaitsAtHome, WaitsPlaced, Walk, Walked, was_started, WasCall, watched_word, word_goes, Work, works_go, works_hold, works_named_word, works_said_word, works_told, WorksKnown, WorksNamed, WorksQueued, WorksSaid, WorksTold, writes_over, written_at, ℕ, ⊎_elim, ◌∙◌, ◌∷◌, ◌≡◌, ◌≤◌, ◌⊎◌}
-use Rattle.task_places.proofs.AloneLemmas.{step_alone}
-use Rattle.task_places.proofs.BlockedLemmas.{step_blocked}
-use Rattle.task_places.proofs.CallsBack.{back_apart}
-use Rattle.task_places.proofs.Directs.{directs_on_top}
-use Rattle.task_places.proofs.HostsAwaited.{Asked, step_asked, step_works}
-use Rattle.task_places.proofs.InsideLemmas.{step_inside}
-use Rattle.task_places.proofs.PlaceLaw.{Arrives}
-use Rattle.task_places.proofs.PlaceSteps.{settled_run, step_arrives, step_by, Withdrawable}
-use Rattle.task_places.proofs.WaitsKept.{AtWaits, far_waits, step_waits, wait_op}
-use Rattle.task_places.proofs.WorksQueued.{stands_of}
+use Rattle.task_places.proofs.Laws.{[], after_word, AllFit, Allowed, along, ap, apart_after, arith, at_place, Awake, base_at, Bool, ByHandle, ByOp, Call, callee_of, calls_begin, calls_told_word, CallsAwaited, CallsGo, CallsHold, CallsInside, CallsNamed, CallsThere, CallsTold, can_come, cancelled_call, cancels_word, CancelsGo, CancelsWatched, Component, Core, directs_word, DirectsOnTop, DirectsRun, EndWords, event_of, false, few_word, first_waits, Fits, fits_word, fresh, get, get-empty, HasNotRun, HasSubtask, held_word, Homed, homed_word, host_event_word, host_taken, HostsAwaited, housed_word, how_far_of, HowFar, inl, InOrder, InOrderIf, InPlace, inr, Inside, inside_word, InsideThere, instance_of, is_awaited, is_fresh, is_open, is_some, is_sync_call, is_there, IsRunner, joins_word, JoinsNamed, KnownCancels, KnownHome, Label, Layered, layered_word, le_refl, le_trans, length, List, made_works_word, MakesFew, names_go_word, NamesGo, NamesHold, None, NoneAdmitted, Numbered, of_base, OfBase, Op, op_at_place, op_of_thread, opening, opening_holds, opening_joins, opening_named, opening_names_known, opening_sets, opening_works_known, opening_works_named, OpeningInOrder, option_map, option_map_or, Place, place_of, Placed, plain, plain_scene, queued_handle, queued_watched, refl, Run, runner_there, RunnerHoused, said_plain, Scene, scene_of, Script, script_in, sets_named_word, SetsNamed, Setting, Some, starts_word, StartsAwaited, StartsFirst, StartsGo, StartsThere, State, Status, Steady, steady, Step, step_goes, step_over, step_walks, StepInOrder, StepsMakeFew, Strands, subst, Subtask, subtask_under_way, sym, task_of, telling_word, TellingGoes, Thread, Traced, traced_word, true, Turn, Unbegun, unbegun_word, undelivered_end, Waited, WaitsAtHome, WaitsPlaced, Walk, Walked, was_started, WasCall, watched_word, Word, word_goes, Work, works_go, works_hold, works_named_word, works_said_word, works_told, WorksKnown, WorksNamed, WorksQueued, WorksSaid, WorksTold, writes_over, written_at, ℕ, ⊎_elim, ◌∙◌, ◌∷◌, ◌≡◌, ◌≤◌, ◌⊎◌}
+use Rattle.task_places.proofs.{AloneLemmas.step_alone, BlockedLemmas.step_blocked, CallsBack.back_apart, Directs.directs_on_top, HostsAwaited.Asked, HostsAwaited.step_asked, HostsAwaited.step_works, InsideLemmas.step_inside, PlaceLaw.Arrives, PlaceSteps.Withdrawable, PlaceSteps.settled_run, PlaceSteps.step_arrives, PlaceSteps.step_by, WaitsKept.AtWaits, WaitsKept.far_waits, WaitsKept.step_waits, WaitsKept.wait_op, WorksQueued.stands_of}
 use Rattle.task_places.specs.Kept.{ReachedInOrder, ReachedInPlace, StepsKeepPlaces}
 
 -- ---- Starts
@@ -96,18 +87,23 @@ module _ (x : Setting) (s : State) (l : Label) (t : State) {g : Bool} (h : InOrd
       (along (Traced a) (λ v m ok q. traced_word a known m q v ok) first walk).named
 
   -- the works that are named, and the subtasks that ops cancel
-  watches_kept : WorksNamed t.core × CancelsWatched t.core
-  watches_kept =
-      let works : WorksNamed a.base = record { by_handle = h.works_named.by_handle; by_op = h.works_named.by_op } in
-      let first : Traced a s.core = record { was = λ k q. assumption; named = h.calls_named } in
-      (along (λ u. Traced a u × ((a.base.made.works ≤ u.made.works) × (WorksNamed u × CancelsWatched u)))
-      (λ v m ok q. (
-        traced_word a known m q.0 v ok,
-        (
-          le_trans q.1.0 (made_works_word a v m),
-          (works_named_word a works v m ok q.1.0 q.1.1.0, watched_word a (queued_watched (base_at s.turn s.core).queues s.core h.watched) v m ok q.0.named q.1.1.0 q.1.1.1),
-        ),
-      )) (first, (le_refl _, (h.works_named, h.watched))) walk).1.1
+  abbrev Watching : Core → Type 0
+  Watching u = Traced a u × ((a.base.made.works ≤ u.made.works) × (WorksNamed u × CancelsWatched u))
+
+  watching_first : Watching s.core
+  watching_first = (record { was = λ k q. assumption; named = h.calls_named }, (le_refl _, (h.works_named, h.watched)))
+
+  watching_word : (v : Word) (m : Core) → Allowed a v m → Watching m → Watching (after_word v m)
+  watching_word v m ok q = (
+    traced_word a known m q.0 v ok,
+    (
+      le_trans q.1.0 (made_works_word a v m),
+      (
+        works_named_word a (record { by_handle = h.works_named.by_handle; by_op = h.works_named.by_op }) v m ok q.1.0 q.1.1.0,
+        watched_word a (queued_watched (base_at s.turn s.core).queues s.core h.watched) v m ok q.0.named q.1.1.0 q.1.1.1,
+      ),
+    ),
+  )
 
   -- a call's start that the running thread may withdraw
   withdrawable : Withdrawable (scene_of x s l w.next)
@@ -336,8 +332,25 @@ module _ (x : Setting) (s : State) (l : Label) (t : State) {g : Bool} (h : InOrd
     called = h.works_known.called;
   }
 
-  pub works_known_kept : WorksKnown t.core
-  works_known_kept = (along WorksSaid (works_said_word a works_known_base) (record { known = h.works_known; number = h.works.made }) walk).known
+  known_cancels : KnownCancels a
+  known_cancels = record {
+    calls = names_base.known;
+    works = works_known_base;
+    cancels = λ n sub far. ap (λ o. is_some o) (queued_handle (base_at s.turn s.core).queues s.core sub) ∙ h.cancelled n sub far;
+  }
+
+  -- handles of works and of what ops cancel
+  handles_last : (Watching t.core × NamesGo a t.core) × (WorksSaid t.core × CancelsGo a t.core)
+  handles_last = along (λ u. (Watching u × NamesGo a u) × (WorksSaid u × CancelsGo a u)) (λ v m ok q. (
+    (watching_word v m ok q.0.0, names_go_word a names_base inside_there v m ok q.0.1),
+    (
+      works_said_word a works_known_base v m ok q.1.0,
+      cancels_word a known_cancels v m ok q.0.1.hold q.1.0 q.0.0.1.1.1 q.1.1,
+    ),
+  )) (
+    (watching_first, record { hold = names_first; were = λ n k far. inl far }),
+    (record { known = h.works_known; number = h.works.made }, record { kept = λ to sub is. ap (λ o. is_some o) (sym (queued_handle (base_at s.turn s.core).queues s.core sub)) ∙ is; named = h.cancelled }),
+  ) walk
 
   module _ (turn : (m : ℕ) → s.turn ≡ Turn.Run m → g ≡ true) where
     known_home : KnownHome a
@@ -375,13 +388,6 @@ module _ (x : Setting) (s : State) (l : Label) (t : State) {g : Bool} (h : InOrd
         same : (n : ℕ) → is_there n t.core ≡ true → is_there n s.core ≡ true → instance_of n t.core ≡ instance_of n s.core
         same n now before = same_instance s.core t.core steady h.numbered h.calls_there calls_kept n before now
 
-  -- async calls of hosts, where no op makes them
-  known_lacks : LacksOps x.component → LacksWorks s.core → KnownLacks a
-  known_lacks lacks none = record { base = none; runs = λ n e. op_lacks x.component lacks n a.base }
-
-  pub lacks_kept : LacksOps x.component → LacksWorks s.core → LacksWorks t.core
-  lacks_kept lacks none = along LacksWorks (lacks_word a (known_lacks lacks none)) none walk
-
 -- the turns of a state that has a step aren't over
 step_open : (x : Setting) (s : State) (l : Label) (t : State) → Step x s l t → is_open s.turn ≡ true
 step_open x s l t step = by s.turn refl
@@ -389,9 +395,6 @@ step_open x s l t step = by s.turn refl
     by : (p : Turn) → s.turn ≡ p → is_open p ≡ true
     by Turn.Over is = absurd (step_over x s l t is step)
     by p is = refl
-
-pub steps_lack_works : StepsLackWorks
-steps_lack_works x lacks s l t h none step = lacks_kept x s l t h (step_walks x s l t step) lacks none
 
 -- ---- A step in order
 
@@ -411,10 +414,10 @@ step_kept x s l t h step turn b awake =
       numbered = q.numbered;
       calls_there = calls_kept x s l t h w;
       calls_named = named_kept x s l t h w;
-      works_named = (watches_kept x s l t h w).0;
+      works_named = (handles_last x s l t h w).0.0.1.1.0;
       names = (called x s l t h w).1.0.hold.known;
       calls = awaited_kept x s l t h w;
-      works_known = works_known_kept x s l t h w;
+      works_known = (handles_last x s l t h w).1.0.known;
       waits = waits_kept x s l t h w turn (steady x s l t step);
       waits_placed = placed_kept x s l t h w;
       sets_named = (joined_kept x s l t h w turn).0;
@@ -424,7 +427,8 @@ step_kept x s l t h step turn b awake =
       fits = fits_kept x s l t h w (steady x s l t step);
       starts = starts_kept x s l t h w (steady x s l t step);
       unbegun = unbegun_kept x s l t h w;
-      watched = (watches_kept x s l t h w).1;
+      watched = (handles_last x s l t h w).0.0.1.1.1;
+      cancelled = (handles_last x s l t h w).1.1.named;
       inside = step_inside x s l t w h.in_place (withdrawable x s l t h w) h.inside;
       held = held_kept x s l t h w;
       works_told = works_told_kept x s l t h w;
@@ -470,6 +474,7 @@ opening_in_order c codes instances handle_limit capacity main =
       starts = λ k c at e. let o = get-empty {X = Call} k in absurd (cc);
       unbegun = λ k t at first waits. let o = get-empty {X = Thread} k in absurd (cc);
       watched = λ n sub far. let o = get-empty {X = Thread} n in absurd (cc);
+      cancelled = λ n sub far. let o = get-empty {X = Thread} n in absurd (cc);
       inside = λ n p at. let o = get-empty {X = Thread} n in absurd (cc);
       held = λ n v at. let o = get-empty {X = Thread} n in absurd (cc);
       works_told = λ i w is. let o = get-empty {X = Work} i in absurd (cc);

@@ -164,7 +164,7 @@ module _ {a : Scene} {b : Core} (n : ℕ) (is : IsRunner a n) where
       let i = instance_of n t in
       let v = stopped (foot_of n (checked i u)) (checked i u) in
       let moved = shifted_after (shifts_shifted (checked_shifts i u)) (shifted_after (placing_shifted (Stop (foot_of n (checked i u))) (checked i u)) (placing_shifted (Move n (Place.Blocked sub)) v)) in
-      lands_at (Move n (Place.Blocked sub)) n (HowFar.AwaitsEnd sub) (grind (arith, nat_tests)) (Blocks sub leave (inl (cancels_own a n sub has)) (inr (shifted_ended sub (shifted_after (shifts_shifted (checked_shifts i u)) (placing_shifted (Stop (foot_of n (checked i u))) (checked i u))) ∙ (joined_ended sub (Join.Watched n) (set_saved_callee n None t) ∙ (saved_ended sub n None t ∙ unended)))) refl) (is, (has, shifted_watches n sub moved ∙ joined_watches n sub (set_saved_callee n None t))) (at _ d) can d
+      lands_at (Move n (Place.Blocked sub)) n (HowFar.AwaitsEnd sub) (grind (arith, nat_tests)) (Blocks sub leave (inl (cancels_own a n sub has)) (inr (shifted_ended sub (shifted_after (shifts_shifted (checked_shifts i u)) (placing_shifted (Stop (foot_of n (checked i u))) (checked i u))) ∙ (joined_ended sub (Join.Watched n) (set_saved_callee n None t) ∙ (saved_ended sub n None t ∙ unended)))) refl) (leave, (has, shifted_watches n sub moved ∙ joined_watches n sub (set_saved_callee n None t))) (at _ d) can d
 
   -- the op that cancels is done before the subtask leaves the thread's own set
   pub parted_answers_walks : Stands a b n → (r v : ℕ) (sub : Subtask) {t : Core} → Cancelling a n sub → join_of sub t ≡ join_of sub a.base → Keep a b t → Going a b n (answered n r v (set_join sub Join.Nowhere t))
@@ -191,7 +191,7 @@ module _ {a : Scene} {b : Core} (n : ℕ) (is : IsRunner a n) where
       let j = call_instance k t in
       let v = set_do_not_suspend j false (set_saved_callee n (Some (may_not_suspend j t)) t) in
       let d = join_walks (Subtask.Guest k) (Join.Watched n) (is, (cancels_own a n (Subtask.Guest k) has, (inl free, grind (arith, same)))) (word (SetDoNotSuspend j false) tt (word (SetSavedCallee n (Some (may_not_suspend j t))) tt c)) in
-      behind_switch_walks t.queues.switch (HowFar.Cancels (Subtask.Guest k)) stands refl leave (λ u moved. (is, (has, shifted_watches n (Subtask.Guest k) moved ∙ joined_watches n (Subtask.Guest k) v))) (at _ d) can d
+      behind_switch_walks t.queues.switch (HowFar.Cancels (Subtask.Guest k)) stands refl leave (λ u moved. (leave, (has, shifted_watches n (Subtask.Guest k) moved ∙ joined_watches n (Subtask.Guest k) v))) (at _ d) can d
 
   pub withdrawn_walks : (k : ℕ) {t : Core} → MayWithdraw a k t → SaysEnd a k Status.StartCancelled → Keep a b t → Keep a b (withdrawn k t)
   unfolding withdrawn remove_thread set_end

@@ -265,8 +265,8 @@ MayCome a n (how_far.Calls (subtask.Guest k)) s = IsRunner a n × (((how_far_of 
     (how_far_of n s ≡ how_far.Calls (subtask.Guest k))) ⊎ (IsNew a (subtask.Guest k) s × HasCalled n k s))
 MayCome a n (how_far.Calls (subtask.Host i)) s = IsRunner a n × (IsNew a (subtask.Host i) s × ((work_caller_of i s ≡ work_caller.Sync n) ×
     (option_map_or (is_blocked_on (subtask.Host i)) (place_of n s) true ≡ true)))
-MayCome a n (how_far.Cancels sub) s = IsRunner a n × (MayCancel a n sub × (watches n sub s ≡ true))
-MayCome a n (how_far.AwaitsEnd sub) s = IsRunner a n × (MayCancel a n sub × (watches n sub s ≡ true))
+MayCome a n (how_far.Cancels sub) s = Leaves a n × (MayCancel a n sub × (watches n sub s ≡ true))
+MayCome a n (how_far.AwaitsEnd sub) s = Leaves a n × (MayCancel a n sub × (watches n sub s ≡ true))
 -- its direct callee, which ran, has come to a value
 MayCome a n (how_far.Answered v) s = (m : ℕ) × (IsRunner a m × ((a.next ≡ turn.Run n) × (place_of n a.base ≡ Some (place.Under m))))
 MayCome a n h s = IsRunner a n
@@ -429,7 +429,8 @@ MayNameCall a i k s = (n : ℕ) × ((a.turn ≡ turn.Run n) × ((i ≡ instance_
 -- the handle names the subtask, which is in no set any more
 abbrev pub MayUnname : Scene → ℕ → ℕ → Subtask → Core → Type 0
 MayUnname a i h sub s = (n : ℕ) ×
-    (IsRunner a n × ((i ≡ instance_of n a.base) × ((subtask_at i h s ≡ Some sub) × (is_joined (join_of sub s) ≡ false))))
+    (IsRunner a n × ((i ≡ instance_of n a.base) × ((subtask_at i h s ≡ Some sub) × ((is_joined (join_of sub s) ≡ false) ×
+    (a.next ≡ turn.Run n)))))
 
 -- ---- Works
 

@@ -24,7 +24,7 @@ use Rattle.task_machine.specs.declared.records.Place.TheVariants as place
 use Rattle.task_machine.specs.declared.records.Turn.{Turn}
 use Rattle.task_machine.specs.declared.records.Turn.TheVariants as turn
 use Rattle.task_machine.specs.declared.scenario.IdleLine.TheVariants as idle_line
-use Rattle.task_places.proofs.OrderLemmas.{lacks_kept, step_in_order, step_kept, steps_lack_works}
+use Rattle.task_places.proofs.OrderLemmas.{step_in_order, step_kept}
 use Rattle.task_rules.proofs.WalkSteps.{step_walks}
 use Rattle.task_rules.specs.Calls.{call_made}
 use Rattle.task_rules.specs.MainOps.{Does, Finish, MainAct, MainProgress, Start, finish_result, main_row, main_started, may_act, start_act}
@@ -64,6 +64,7 @@ at_turn_of c s m k p q runs b awake o = record {
   calls = o.calls;
   unbegun = o.unbegun;
   watched = o.watched;
+  cancelled = o.cancelled;
   inside = o.inside;
   held = o.held;
   works_told = o.works_told;
@@ -79,8 +80,6 @@ sits_after x s t m k p q l sits step =
       order = λ j. at_turn_of x.component t k j q q after.in_place.runs (is_open q) after.awake after;
       there = λ i below. instances_stay x (state_at s m p) l (state_at t k q) step i ∙ sits.there i below;
       handles = λ i below. handle_tables_stay x (state_at s m p) l (state_at t k q) step i ∙ sits.handles i below;
-      ops = sits.ops;
-      lacks = steps_lack_works x sits.ops (state_at s m p) l (state_at t k q) (sits.order m) sits.lacks step;
     }
 
 pub made_in_order : MadeInOrder
@@ -102,8 +101,6 @@ acted c p act l s t may row kept stays sits =
       order = λ m. at_turn_of c t Unscripted m turn.Main p (λ n e. kept n ((sits.order m).in_place.runs n e)) (is_open p) (λ e. stays ((sits.order m).awake e)) after;
       there = λ i below. instances_stay (setting c) u (label.Main l) v step i ∙ sits.there i below;
       handles = λ i below. handle_tables_stay (setting c) u (label.Main l) v step i ∙ sits.handles i below;
-      ops = sits.ops;
-      lacks = lacks_kept (setting c) u (label.Main l) v before (step_walks (setting c) u (label.Main l) v step) sits.ops sits.lacks;
     }
 
 -- a thread that is there stays where it is

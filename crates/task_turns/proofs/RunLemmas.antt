@@ -29,7 +29,7 @@ use Rattle.task_ops.specs.declared.came.Came.TheVariants as came
 use Rattle.task_rules.specs.Scripts.{op_of, script_in, script_of}
 use Rattle.task_rules.specs.Stalled.{Setting}
 use Rattle.task_rules.specs.Step.{Step, did, op_row}
-use Rattle.task_rules.specs.Takes.{popped, pushed, thread_taken}
+use Rattle.task_rules.specs.Takes.{host_row, popped, pushed, thread_taken}
 use Rattle.task_rules.specs.Turns.{at_turn, goes_to}
 use Rattle.task_table.specs.declared.id.TableId.{TableId}
 use Rattle.task_turns.specs.Turn.{state_at}
@@ -107,3 +107,11 @@ pub took_push : (c : Component) (ended : Bool) (mark : Mark) (i : ℕ) (s t : St
 took_push c ended mark i s t next core x component m =
     subst (Step x (state_at s.core m (turn.Take ended)) (label.Take (take_label.Push mark i))) (settled (came.Stops (label.Take (take_label.Push mark i))) s.core m (turn.Take ended) t.core)
     (taking_is_step x (state_at s.core m (turn.Take ended)) ended (mark, entry.Push i) (came.Stops (label.Take (take_label.Push mark i))) t.core refl next (refl, core))
+
+pub took_host : (c : Component) (ended : Bool) (mark : Mark) (i : ℕ) (s u t : StateView) (r : Came) (l : Label) → u.core ≡ popped mark s.core → next_entry s.core ≡ Some (mark, entry.Host i) → Meets (host_row mark i (choice_of (label_of i r)).woken u.core) u.core r t.core → r ≡ came.Stops l
+    → (x : Setting) → x.component ≡ c → (m : Main) → Step x (state_at s.core m (turn.Take ended)) l (state_at t.core m turn.Main)
+took_host c ended mark i s u t r l base next meets is x component m =
+    let based = subst (λ (b : Core). Meets (host_row mark i (choice_of (label_of i r)).woken b) b r t.core) base meets in
+    let shown = subst (λ (q : Came). Meets (host_row mark i (choice_of (label_of i q)).woken (popped mark s.core)) (popped mark s.core) q t.core) is based in
+    subst (Step x (state_at s.core m (turn.Take ended)) l) (settled (came.Stops l) s.core m (turn.Take ended) t.core)
+    (taking_is_step x (state_at s.core m (turn.Take ended)) ended (mark, entry.Host i) (came.Stops l) t.core refl next shown)

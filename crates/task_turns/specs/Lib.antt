@@ -5,3 +5,5 @@ pub mod Drive
 pub mod Taken
 pub mod Kept
 pub mod Main
+pub mod WellFormed
+pub mod Ran

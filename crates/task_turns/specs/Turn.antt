@@ -1,6 +1,6 @@
 -- What a turn of the loop makes.
 use Rattle.std.specs.Prelude.{◌≡◌, ◌<◌, List, ℕ, Bool, true, false, Option, Some, None, is_none, is_some, length}
-use Rattle.task_laws.specs.Lacks.{LacksOps, LacksWorks}
+use Rattle.op_dispatch.specs.Fits.{HasHandles, HasInstances}
 use Rattle.task_laws.specs.Order.{InOrder}
 pub use Rattle.task_laws.specs.Order.{is_open}
 use Rattle.task_machine.specs.Core.{Core, Main, One, State}
@@ -29,18 +29,11 @@ use Rattle.task_words.specs.StateView.{StateView}
 abbrev pub state_at : Core → Main → Turn → State
 state_at s m p = record { version = One; core = s; main = m; turn = p }
 
--- Each instance of the component has its table of handles.
-abbrev pub HasHandles : Component → Core → Type 0
-HasHandles c s = (i : ℕ) → i < length c.instances → is_some (get s.handles i) ≡ true
-
--- The core is in order at this turn, whatever main's part is. No op of the component calls a host asynchronously, and the core has no such
--- call. Each instance of the component is there.
+-- The core is in order at this turn, whatever main's part is, and each instance of the component is there, with its table of handles.
 pub record Sits (c : Component) (p : Turn) (s : Core) : Type 0 where
   pub order : (m : Main) → InOrder c (state_at s m p)
-  pub there : (i : ℕ) → i < length c.instances → is_some (get s.instances i) ≡ true
+  pub there : HasInstances c s
   pub handles : HasHandles c s
-  pub ops : LacksOps c
-  pub lacks : LacksWorks s
 
 -- the thread that runs in this turn
 abbrev pub runs_in : Turn → Option ℕ
