@@ -9,12 +9,20 @@ use task_words::Words;
 /// What a host may know of an instance.
 #[derive(Clone, Copy)]
 pub struct ConcurrentInstanceState {
+    pending_is_empty: bool,
     backpressure: u16,
     do_not_enter: bool,
     do_not_suspend: bool,
 }
 
 impl ConcurrentInstanceState {
+    /// Whether no thread of the instance is held.
+    pub fn pending_is_empty(&self) -> bool
+        ensures { result ≡ self.now.pending_is_empty }
+    {
+        self.pending_is_empty
+    }
+
     /// How often entries of the instance are asked to wait; 0 where they needn't.
     pub fn backpressure(&self) -> u16
         ensures { result ≡ self.now.backpressure }
@@ -45,6 +53,7 @@ pub fn instance<W: Words + StateWords>(w: &W, index: u32) -> Option<ConcurrentIn
         return None;
     }
     Some(ConcurrentInstanceState {
+        pending_is_empty: !w.has_held(index),
         backpressure: w.backpressure(index),
         do_not_enter: w.may_not_enter(index),
         do_not_suspend: w.may_not_suspend(index),

@@ -1,5 +1,6 @@
 //! What these calls ask of a core beside the words of the machine's steps.
 ghost use Rattle.std.specs.Prelude.{◌≡◌, ◌<◌, is_some};
+ghost use Rattle.state_calls.specs.Instances.{has_held};
 ghost use Rattle.task_machine.specs.Maps.{get};
 ghost use Rattle.task_machine.specs.Write.{push_high};
 ghost use Rattle.task_machine.specs.declared.records.Entry.TheVariants as entries;
@@ -13,6 +14,10 @@ pub trait StateWords: View {
     /// Whether there is such an instance.
     fn has_instance(&self, instance: u32) -> bool
         ensures { result ≡ is_some (get (Self.view self.now).core.instances instance) };
+
+    /// Whether some thread of the instance is held.
+    fn has_held(&self, instance: u32) -> bool
+        ensures { result ≡ has_held instance (Self.view self.now).core };
 
     /// Queues the push of a work that was made before.
     fn push_work(&mut self, work: WorkId)
