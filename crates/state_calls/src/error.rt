@@ -12,7 +12,7 @@ pub enum TaskError {
 
 impl From<AllocError> for TaskError {
     ghost use Rattle.std.specs.Prelude.{◌≡◌};
-    ghost use Rattle.task_calls.specs.declared.error.TaskError.TheVariants.{NoMemory};
+    ghost use Rattle.state_calls.specs.declared.error.TaskError.TheVariants.{NoMemory};
 
     ghost from_gives = { λ _ e. e ≡ NoMemory };
 
