@@ -1,8 +1,10 @@
 -- Order hangs neither on limits, nor on groups, nor on whether the store is trapped.
-use Rattle.std.specs.Prelude.{Bool, List, Some, ℕ, ◌≡◌}
-use Rattle.task_laws.specs.Order.{InOrder, JoinNamed}
+use Rattle.std.specs.Prelude.{Bool, List, Some, true, ℕ, ◌≡◌}
+use Rattle.task_laws.specs.Wakes.{NoneBlockedOnEnd}
+use Rattle.task_laws.specs.Order.{CancelsNamed, CancelsWatched, InOrder, JoinNamed}
 use Rattle.task_machine.specs.Core.{Core, Main}
-use Rattle.task_machine.specs.Read.{join_of, subtask_at, subtask_handle}
+use Rattle.task_machine.specs.Read.{join_of, subtask_at, subtask_handle, work_caller_of}
+use Rattle.task_rules.specs.Allowed.{is_async_work}
 use Rattle.task_machine.specs.Write.{set_trapped}
 use Rattle.task_machine.specs.declared.component.Component.{Component}
 use Rattle.task_machine.specs.declared.records.Join.TheVariants as join
@@ -46,10 +48,9 @@ module _ (trapped : Bool) (groups : List ℕ) (handle_limit capacity : ℕ) wher
       sets = o.joins_named.sets;
       joins = joins;
     };
-    waits = record {
-      by_place = λ n x e. let h = o.waits.by_place n x e in record { made = h.made; home = h.home };
-      by_op = λ n x e. let h = o.waits.by_op n x e in record { made = h.made; home = h.home };
-    };
+    works_known = record { there = hosts; once = o.works_known.once; async = named_async; called = o.works_known.called };
+    waits = record { by_place = o.waits.by_place; by_op = o.waits.by_op };
+    waits_placed = o.waits_placed;
     kinds = λ k x e. let h = o.kinds k x e in record { kind = h.kind; direct = h.direct; uncancelled = h.uncancelled; gone = h.gone };
     deliveries = o.deliveries;
     fits = λ n t e. let h = o.fits n t e in record { script = h.script; position = h.position; op = h.op; under = h.under; first = h.first };
@@ -57,10 +58,36 @@ module _ (trapped : Bool) (groups : List ℕ) (handle_limit capacity : ℕ) wher
     names = record { there = there; once = o.names.once; called = o.names.called };
     calls = record { inside = o.calls.inside; apart = o.calls.apart };
     unbegun = λ k t e first waits. let h = o.unbegun k t e first waits in record { unended = h.unended; alone = h.alone };
+    works_named = record { by_handle = o.works_named.by_handle; by_op = o.works_named.by_op };
+    watched = watched;
+    cancelled = cancelled;
+    inside = o.inside;
+    held = o.held;
+    works_told = λ i w e. let h = o.works_told i w e in record { late = h.late; told = h.told; finishing = h.finishing };
+    calls_told = o.calls_told;
+    awake = λ e. let h = o.awake e in record { alone = h.alone; starts_there = h.starts_there; blocked = blocked h.blocked };
   }
     where
       there : (i h k : ℕ) → subtask_at i h (beside s) ≡ Some (subtask.Guest k) → subtask_handle (subtask.Guest k) (beside s) ≡ Some h
       there i h k e = o.names.there i h k e
+
+      blocked : NoneBlockedOnEnd s → NoneBlockedOnEnd (beside s)
+      blocked q n (subtask.Guest k) at = q n (subtask.Guest k) at
+      blocked q n (subtask.Host i) at = q n (subtask.Host i) at
+
+      cancelled : CancelsNamed (beside s)
+      cancelled n (subtask.Guest k) e = o.cancelled n (subtask.Guest k) e
+      cancelled n (subtask.Host i) e = o.cancelled n (subtask.Host i) e
+
+      watched : CancelsWatched (beside s)
+      watched n (subtask.Guest k) e = o.watched n (subtask.Guest k) e
+      watched n (subtask.Host i) e = o.watched n (subtask.Host i) e
+
+      hosts : (i h j : ℕ) → subtask_at i h (beside s) ≡ Some (subtask.Host j) → subtask_handle (subtask.Host j) (beside s) ≡ Some h
+      hosts i h j e = o.works_known.there i h j e
+
+      named_async : (h j : ℕ) → subtask_handle (subtask.Host j) (beside s) ≡ Some h → is_async_work (work_caller_of j (beside s)) ≡ true
+      named_async h j e = o.works_known.async h j e
 
       named : (sub : Subtask) (x : ℕ) → JoinNamed sub x s → JoinNamed sub x (beside s)
       named sub x j = record { instance = j.instance; handle = j.handle; home = j.home; named = j.named }
@@ -74,6 +101,5 @@ unfolding set_trapped
 trap_in_order c p s sits = record {
   order = λ m. beside_in_order _ _ s.handle_limit s.capacity c p s m (sits.order m);
   there = sits.there;
-  ops = sits.ops;
-  lacks = record { sets = sits.lacks.sets; places = sits.lacks.places; ops = sits.lacks.ops; works = sits.lacks.works };
+  handles = sits.handles;
 }

@@ -26,3 +26,4 @@ pub mod Generated11Shown
 pub mod Generated12Shown
 pub mod Generated13Shown
 pub mod WrongShown
+pub mod LostShown

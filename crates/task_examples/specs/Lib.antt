@@ -27,3 +27,4 @@ pub mod Generated11
 pub mod Generated12
 pub mod Generated13
 pub mod Wrong
+pub mod Lost

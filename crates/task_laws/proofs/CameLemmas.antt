@@ -1,9 +1,6 @@
 -- What one word does to the place of a thread.
-use Rattle.task_rules.proofs.Machine.{[], after_word, Allowed, ap, arith, AtOp, behind, behind_one, callers_of, change-field, Core, displaced, Enter, foot_of, GoBehind, inl, inr, insert, is_some, is_sync_call, IsRunner, List, Mark, MayMove, MayPut, MayYield, Move, nat_tests, newest, next_thread, None, older, on_thread, op_in, Option, option_map, passed_on, Place, place_of, Places, Placing, Pop, Promote, promoted, push_high, push_high_first, push_low, Put, put_at, put_high, put_low, put_switch, refl, resumed_all, Scene, set_callers, set_high, set_low, set_place, set_switch, Some, stand, Stop, stopped, sym, Thread, true, Turn, unqueued, Why, why_of, Word, ℕ, ◌∙◌, ◌∷◌, ◌≡◌, ◌≤◌, ◌⊎◌}
-use Rattle.task_laws.proofs.CallsCame.{IsBeside, IsFirst, IsGone, IsSame, ThreadAfter, thread_came}
-use Rattle.task_laws.proofs.EachLemmas.{after_change}
-use Rattle.task_laws.proofs.SceneLemmas.{popped_threads}
-use Rattle.task_rules.proofs.StandLemmas.{set_place_is, set_place_there}
+use Rattle.task_laws.proofs.Rules.{[], after_word, Allowed, ap, arith, AtOp, behind, behind_one, callers_of, change-field, Core, displaced, Enter, foot_of, GoBehind, inl, inr, insert, is_some, is_sync_call, IsRunner, List, Mark, MayMove, MayPut, MayYield, Move, nat_tests, newest, next_thread, None, older, on_thread, op_in, Option, option_map, passed_on, Place, place_of, Places, Placing, Pop, Promote, promoted, push_high, push_high_first, push_low, Put, put_at, put_high, put_low, put_switch, refl, resumed_all, Scene, set_callers, set_high, set_low, set_place, set_place_is, set_place_there, set_switch, Some, stand, Stop, stopped, sym, Thread, true, Turn, unqueued, Why, why_of, Word, ℕ, ◌∙◌, ◌∷◌, ◌≡◌, ◌≤◌, ◌⊎◌}
+use Rattle.task_laws.proofs.{CallsCame.IsBeside, CallsCame.IsFirst, CallsCame.IsGone, CallsCame.IsSame, CallsCame.ThreadAfter, CallsCame.thread_came, EachLemmas.after_change, SceneLemmas.popped_threads}
 
 -- ---- Moves of other threads
 
@@ -50,7 +47,7 @@ module _ (may : ℕ → Why → Type 0) where
   stand_shifted : (n : ℕ) (m : Mark) (w : Why) (s : Core) → may n w → Shifted s (stand n m w s)
   stand_shifted n m w s ok = moved_by n (Place.Ready m w) s (λ o is. grind arith)
 
-  behind_shifted : (f n : ℕ) (s : Core) → Shifted s (behind_one f n s)
+  pub behind_shifted : (f n : ℕ) (s : Core) → Shifted s (behind_one f n s)
   unfolding behind_one set_callers
   behind_shifted f n s = moved_by n (Place.Behind f) s (λ o is. grind arith)
 
@@ -69,14 +66,14 @@ module _ (may : ℕ → Why → Type 0) where
     displaced_shifted None s k = moved_same k _
     displaced_shifted (Some n) s k = again_shifted n Mark.High s k
 
-    put_shifted : (m : Mark) (n : ℕ) (w : Why) (s : Core) → may n w → Shifted s (put_at m n w s)
+    pub put_shifted : (m : Mark) (n : ℕ) (w : Why) (s : Core) → may n w → Shifted s (put_at m n w s)
     unfolding put_switch set_switch put_high push_high put_low push_low
     put_shifted Mark.Switch n w s ok = let m = displaced s.queues.switch s in
         shifted_after s m (stand n Mark.Switch w m) (displaced_shifted s.queues.switch s) (stand_shifted n Mark.Switch w m ok)
     put_shifted Mark.High n w s ok = stand_shifted n Mark.High w s ok
     put_shifted Mark.Low n w s ok = stand_shifted n Mark.Low w s ok
 
-    promoted_shifted : (n : ℕ) (s : Core) → Shifted s (promoted n s)
+    pub promoted_shifted : (n : ℕ) (s : Core) → Shifted s (promoted n s)
     unfolding promoted set_switch
     promoted_shifted n s k = let moves = again_shifted n Mark.Switch (unqueued n s) k in
         rw (← (unqueued_same k n s)) (rw (unqueued_same n n s) at moves)
@@ -92,7 +89,7 @@ module _ (may : ℕ → Why → Type 0) where
     passed_shifted None (n ∷ ns) s = let i = newest n ns in let m = put_switch i Why.Resumption s in let ms = older n ns in
         shifted_after s m (resumed_all ms m) (put_shifted Mark.Switch i Why.Resumption s (resumes i)) (resumed_shifted ms m)
 
-    stopped_shifted : (f : ℕ) (s : Core) → Shifted s (stopped f s)
+    pub stopped_shifted : (f : ℕ) (s : Core) → Shifted s (stopped f s)
     unfolding stopped set_callers
     stopped_shifted f s = passed_shifted s.queues.switch (callers_of f s) (record s { callers = insert s.callers f [] })
 

@@ -31,3 +31,8 @@ StepsKeepExports = (x : Setting) (s : State) (l : Label) (t : State) → Exports
 abbrev pub InstancesStay : Type 0
 InstancesStay = (x : Setting) (s : State) (l : Label) (t : State) → Step x s l t → (i : ℕ) →
     is_some (get t.core.instances i) ≡ is_some (get s.core.instances i)
+
+-- nor an instance's table of handles
+abbrev pub HandleTablesStay : Type 0
+HandleTablesStay = (x : Setting) (s : State) (l : Label) (t : State) → Step x s l t → (i : ℕ) →
+    is_some (get t.core.handles i) ≡ is_some (get s.core.handles i)

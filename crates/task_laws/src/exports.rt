@@ -1,4 +1,4 @@
-ghost use Rattle.task_laws.specs.Exports.{InstancesStay, StepsKeepExports};
+ghost use Rattle.task_laws.specs.Exports.{HandleTablesStay, InstancesStay, StepsKeepExports};
 
 /// Each call is of an export that the component has: each step keeps that, where the component
 /// has each export that main's script starts or that a script calls.
@@ -11,4 +11,10 @@ pub fn calls_name_exports()
 #[tactic(auto, using(crate::proofs::Exported::instances_stay))]
 pub fn instances_stay()
     ensures { InstancesStay }
+{}
+
+/// Nor an instance's table of handles.
+#[tactic(auto, using(crate::proofs::Exported::handle_tables_stay))]
+pub fn handle_tables_stay()
+    ensures { HandleTablesStay }
 {}

@@ -10,7 +10,7 @@ mod holders;
 mod rises;
 mod written;
 
-pub use exports::{calls_name_exports, instances_stay};
+pub use exports::{calls_name_exports, handle_tables_stay, instances_stay};
 pub use handles::{sets_are_named_at_home, sets_are_named_once};
 pub use holders::one_entry_holds;
 pub use rises::{

@@ -17,5 +17,5 @@ pub use moves::{check, passes_check, promote, promote_unless, put_high, put_low,
 pub use publishes::{publish, publish_waiter};
 pub use settle::{settle_call, settle_interest};
 pub use stops::stop;
-pub use tells::{cancel_task, return_value, tell, tell_waiter};
+pub use tells::{cancel_task, is_told, return_value, tell, tell_waiter};
 pub use wakes::{put_behind, unblock, wake, wake_chosen};

@@ -12,8 +12,8 @@ use crate::publishes::{publish, publish_waiter};
 use task_machine::{CallEnd, Goal, Status};
 use task_words::{CallId, CallerId, SubtaskId, ThreadId, Words};
 
-// Whether the call's statuses are told to its caller.
-fn is_told<W: Words>(w: &W, call: CallId) -> bool
+/// Whether the call's statuses are told to its caller.
+pub fn is_told<W: Words>(w: &W, call: CallId) -> bool
     ensures { result ≡ is_told (call_of (W.view w.now) call) (W.view w.now).core }
 {
     match w.caller(call) {

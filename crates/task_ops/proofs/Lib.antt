@@ -17,3 +17,5 @@ pub mod PollLemmas
 pub mod WaitLemmas
 pub mod DeliveryLemmas
 pub mod WorkLemmas
+pub mod BlockLemmas
+pub mod OpenLemmas

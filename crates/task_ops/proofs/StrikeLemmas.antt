@@ -6,6 +6,7 @@ use Rattle.std.specs.Option.{option_map_or}
 use Rattle.std.specs.Ordering.{eq_by_cmp, nat_cmp}
 use Rattle.std.specs.Prelude.{Bool, List, None, Option, Some, [], false, find, is_some, map, not, option_map, suc, true, zero, ℕ, ◌+◌, ◌<◌, ◌==◌, ◌∷◌, ◌≡◌, ◌≤◌}
 use Rattle.task_table.specs.declared.id.TableId.{TableId}
+use Rattle.task_wait.specs.declared.keys.HostTaskKey.{HostTaskKey}
 use Rattle.task_wait.specs.declared.keys.ThreadKey.{ThreadKey}
 use Rattle.task_machine.proofs.SizeLemmas.{size-remove_present}
 use Rattle.task_machine.specs.Core.{Core}
@@ -16,11 +17,12 @@ use Rattle.task_machine.specs.declared.records.Place.{Place}
 use Rattle.task_machine.specs.declared.records.Place.TheVariants as place
 use Rattle.task_machine.specs.declared.records.Thread.{Thread}
 use Rattle.task_ops.specs.Running.{IsTopmost}
+use Rattle.task_ops.specs.Works.{KeepsWorks}
 use Rattle.task_ops.proofs.BesideLemmas.{stand_of, under_place}
 use Rattle.task_rules.proofs.MoveLemmas.{gone_place, other_place, removed_gone, removed_placed}
 use Rattle.task_rules.proofs.StandLemmas.{by_number, eq_refl, is_eq_of}
 use Rattle.task_rules.specs.Places.{HasPlace, is_there, one_if}
-use Rattle.task_words.specs.StateView.{KeepsBut, StateView, lost_thread, thread_of}
+use Rattle.task_words.specs.StateView.{KeepsBut, StateView, lost_thread, thread_of, work_of}
 
 -- ---- Who is under a thread, where another one is gone
 
@@ -168,3 +170,9 @@ removed_one a b s t top at live keeps e =
       where
         both : false ≡ true → ⊥
         both e = cc
+
+-- ids of works name the same ones
+pub named_after : (r s t : StateView) (n : ℕ) → KeepsWorks r s → KeepsBut (lost_thread n) s.tags t.tags → KeepsWorks r t
+named_after r s t n before keeps id live =
+    let there : 0 < work_of s id = subst (λ (i : ℕ). 0 < i) (sym (before id live)) live in
+    keeps.works id (λ none. let zero : 0 < 0 = subst (λ (i : ℕ). 0 < i) none there in omega (arith, zero)) ∙ before id live

@@ -7,3 +7,5 @@ pub mod Acted
 pub mod Stays
 pub mod Gifts
 pub mod Polled
+pub mod Wakes
+pub mod Works

@@ -1,10 +1,8 @@
 -- What ops ask of the thread that runs, or whose entry was taken.
-use Rattle.std.specs.Prelude.{Bool, List, Some, [], false, is_some, true, ℕ, ◌≡◌}
+use Rattle.std.specs.Prelude.{List, Some, [], false, is_some, true, ℕ, ◌≡◌}
 use Rattle.task_machine.specs.Core.{Core}
 use Rattle.task_machine.specs.Maps.{get}
-use Rattle.task_machine.specs.Read.{goal_of, is_direct, is_explicit, kind_of, set_at, task_of}
-use Rattle.task_machine.specs.declared.component.ExportKind.{ExportKind}
-use Rattle.task_machine.specs.declared.component.ExportKind.TheVariants as kind
+use Rattle.task_machine.specs.Read.{set_at}
 use Rattle.task_machine.specs.declared.records.Place.{Place}
 use Rattle.task_machine.specs.declared.records.Place.TheVariants as places
 use Rattle.task_machine.specs.declared.records.Why.{Why}
@@ -39,11 +37,3 @@ IsStartTaken n s = (m : Mark) × Stand n (places.Ready m why.Start) [] s
 -- The thread's entry was taken, which stood for this, and each other thread has its place.
 abbrev pub IsTaken : ℕ → Why → Core → Type 0
 IsTaken n w s = (m : Mark) × Stand n (places.Ready m w) [] s
-
-abbrev pub is_blocking : ExportKind → Bool
-is_blocking kind.Blocking = true
-is_blocking _ = false
-
--- The thread is no first one of a call of a blocking export that is not direct.
-abbrev pub IsExitCovered : ℕ → Core → Type 0
-IsExitCovered n s = is_explicit n s ≡ false → is_direct (goal_of (task_of n s) s) ≡ false → is_blocking (kind_of (task_of n s) s) ≡ false

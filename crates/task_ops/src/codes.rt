@@ -5,6 +5,7 @@ ghost use Rattle.task_machine.specs.Read.{instance_of, set_at};
 ghost use Rattle.task_ops.specs.Came.{Meets};
 ghost use Rattle.task_ops.specs.Stays.{StaysAfter};
 ghost use Rattle.task_ops.specs.Running.{IsRunning, SetsThere};
+ghost use Rattle.task_ops.specs.Works.{KeepsWorks};
 ghost use Rattle.task_rules.specs.Ends.{code_kind_row, code_row, has_event_for, held_by_flag, own_or_none};
 ghost use Rattle.task_words.specs.StateView.{call_of, set_of, thread_of};
 
@@ -22,6 +23,7 @@ fn code_exits<W: Words>(w: &mut W, thread: ThreadId, label: Label) -> Came
     ensures meets { (rest : ℕ) → Meets (code_kind_row label (thread_of (W.view w.old) thread) (held_by_flag (instance_of (thread_of (W.view w.old) thread) (W.view w.old).core) (W.view w.old).core) (W.view w.old).core zero rest) (W.view w.old).core result (W.view w.new).core }
     ensures stays { StaysAfter result (W.view w.old) (W.view w.new) }
     ensures current { (W.view w.new).current ≡ (W.view w.old).current }
+    ensures works { KeepsWorks (W.view w.old) (W.view w.new) }
 {
     let instance = w.instance_of(thread);
     let foot = foot_of(w, thread);
@@ -54,6 +56,7 @@ fn code_yields<W: Words>(w: &mut W, thread: ThreadId, label: Label) -> Came
     ensures meets { (rest : ℕ) → Meets (code_kind_row label (thread_of (W.view w.old) thread) (held_by_flag (instance_of (thread_of (W.view w.old) thread) (W.view w.old).core) (W.view w.old).core) (W.view w.old).core (suc zero) rest) (W.view w.old).core result (W.view w.new).core }
     ensures stays { StaysAfter result (W.view w.old) (W.view w.new) }
     ensures current { (W.view w.new).current ≡ (W.view w.old).current }
+    ensures works { KeepsWorks (W.view w.old) (W.view w.new) }
 {
     let call = w.task_of(thread);
     let event = own_or_none(w.own_event(call));
@@ -80,6 +83,7 @@ fn code_waits<W: Words>(w: &mut W, thread: ThreadId, label: Label, handle: u64) 
     ensures meets { Meets (code_kind_row label (thread_of (W.view w.old) thread) (held_by_flag (instance_of (thread_of (W.view w.old) thread) (W.view w.old).core) (W.view w.old).core) (W.view w.old).core (suc (suc zero)) handle) (W.view w.old).core result (W.view w.new).core }
     ensures stays { StaysAfter result (W.view w.old) (W.view w.new) }
     ensures current { (W.view w.new).current ≡ (W.view w.old).current }
+    ensures works { KeepsWorks (W.view w.old) (W.view w.new) }
 {
     let instance = w.instance_of(thread);
     let Some(set) = set_named(w, instance, handle) else {
@@ -104,6 +108,7 @@ pub fn end_activation<W: Words>(w: &mut W, thread: ThreadId, label: Label, code:
     ensures meets { Meets (code_row label (thread_of (W.view w.old) thread) (W.view w.old).core code) (W.view w.old).core result (W.view w.new).core }
     ensures stays { StaysAfter result (W.view w.old) (W.view w.new) }
     ensures current { (W.view w.new).current ≡ (W.view w.old).current }
+    ensures works { KeepsWorks (W.view w.old) (W.view w.new) }
 {
     if code > 4294967295 {
         return Came::Traps(Trap::UnsupportedCallbackCode);

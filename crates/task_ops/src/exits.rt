@@ -5,6 +5,7 @@ ghost use Rattle.task_ops.specs.Came.{Meets};
 ghost use Rattle.task_ops.specs.Reopens.{InSomeOrder};
 ghost use Rattle.task_ops.specs.Stays.{StaysAfter};
 ghost use Rattle.task_ops.specs.Running.{IsRunning};
+ghost use Rattle.task_ops.specs.Works.{KeepsWorks};
 ghost use Rattle.task_rules.specs.Ends.{code_stops, end_reopens, exit_stops, held_by_flag, leaves_no_result, passes_after_stop, thread_exit_row};
 ghost use Rattle.task_words.specs.StateView.{on_core, thread_of};
 
@@ -23,11 +24,12 @@ pub(crate) fn leaves_no_result<W: Words>(w: &W, thread: ThreadId) -> bool
 
 // After a check the strand stops, and the thread ends.
 #[tactic(auto, unfolding(task_rules::specs::Ends::exit_stops))]
-fn stop_and_end<W: Words>(w: &mut W, thread: ThreadId)
+pub(crate) fn stop_and_end<W: Words>(w: &mut W, thread: ThreadId)
     requires live { 0 < thread_of (W.view w.old) thread }
     requires running { IsRunning (thread_of (W.view w.old) thread) (W.view w.old).core }
     ensures core { (W.view w.new).core ≡ exit_stops (thread_of (W.view w.old) thread) (W.view w.old).core }
     ensures current { (W.view w.new).current ≡ (W.view w.old).current }
+    ensures works { KeepsWorks (W.view w.old) (W.view w.new) }
 {
     let foot = foot_of(w, thread);
     let instance = w.instance_of(thread);
@@ -43,6 +45,7 @@ pub fn exit_thread<W: Words>(w: &mut W, thread: ThreadId) -> Came
     ensures meets { Meets (thread_exit_row (thread_of (W.view w.old) thread) (W.view w.old).core) (W.view w.old).core result (W.view w.new).core }
     ensures stays { StaysAfter result (W.view w.old) (W.view w.new) }
     ensures current { (W.view w.new).current ≡ (W.view w.old).current }
+    ensures works { KeepsWorks (W.view w.old) (W.view w.new) }
 {
     let number = w.number(thread);
     if !passes_check(w, w.instance_of(thread)) {
@@ -57,7 +60,7 @@ pub fn exit_thread<W: Words>(w: &mut W, thread: ThreadId) -> Came
 
 // Whether threads are held that are admitted once the instance lets entries in.
 #[tactic(auto, unfolding(task_rules::specs::Ends::held_by_flag))]
-fn has_held<W: Words>(w: &mut W, instance: u32) -> bool
+pub(crate) fn has_held<W: Words>(w: &mut W, instance: u32) -> bool
     ensures held { result ≡ not (is_nil (held_by_flag instance (W.view w.old).core)) }
     ensures same { W.view w.new ≡ W.view w.old }
 {
@@ -78,7 +81,7 @@ pub(crate) fn passes_after_stop<W: Words>(w: &mut W, instance: u32, foot: Thread
 }
 
 // The instance lets entries in again.
-fn reopen<W: Words>(w: &mut W, instance: u32, thread: ThreadId)
+pub(crate) fn reopen<W: Words>(w: &mut W, instance: u32, thread: ThreadId)
     requires { IsRunning (thread_of (W.view w.old) thread) (W.view w.old).core }
     ensures { InSomeOrder instance (end_reopens instance) (W.view w.old) (W.view w.new) }
 {

@@ -1,20 +1,26 @@
 //! The exits that end a task with what its first register has.
-ghost use Rattle.std.specs.Prelude.{◌≡◌, ◌<◌, IsSome, Some, option_map};
+ghost use Rattle.std.specs.Prelude.{◌≡◌, ◌<◌, IsPermutation, IsSome, List, Some, option_map, true, ℕ};
 ghost use Rattle.task_machine.specs.Labels.{choice_of};
-ghost use Rattle.task_machine.specs.Read.{place_of, task_of, under_of};
+ghost use Rattle.task_machine.specs.Read.{instance_of, place_of, task_of, under_of};
 ghost use Rattle.task_machine.specs.declared.records.Place.TheVariants as places;
 ghost use Rattle.task_machine.specs.declared.records.Subtask.TheVariants as subtasks;
 ghost use Rattle.task_moves.specs.Idle.{CanPublish, IsJoinThere};
 ghost use Rattle.task_ops.specs.Came.{IsCurrent, Meets};
 ghost use Rattle.task_ops.specs.Running.{IsRunning};
+ghost use Rattle.task_ops.specs.Stays.{StaysAfter};
 ghost use Rattle.task_ops.specs.Steps.{label_of};
-ghost use Rattle.task_rules.specs.Ends.{direct_exit_row, direct_exits, exit_restores, sync_exit_row, sync_exits};
-ghost use Rattle.task_words.specs.StateView.{on_core, thread_of};
+ghost use Rattle.task_ops.specs.Wakes.{WaitersTogether, is_of, wakes_in};
+ghost use Rattle.task_ops.specs.Works.{KeepsWorks};
+ghost use Rattle.task_rules.specs.Ends.{blocking_exit_row, blocking_exits, direct_exit_row, direct_exits, exit_restores, held_by_flag, may_tell, passes_after_return, sync_exit_row, sync_exits};
+ghost use Rattle.task_words.specs.StateView.{call_of, on_core, thread_of};
 
 use crate::came::Came;
+use crate::exits::{has_held, reopen, stop_and_end};
 use task_machine::{CallEnd, ExportKind, Label, TaskLabel, Trap};
-use task_moves::{check, end_thread, foot_of, passes_check, return_value, stop, tell_waiter};
-use task_words::{HowFarId, PlaceId, ThreadId, Words};
+use task_moves::{
+    check, end_thread, foot_of, is_told, passes_check, return_value, stop, tell_waiter,
+};
+use task_words::{CallId, HowFarId, PlaceId, SubtaskId, ThreadId, Words};
 
 // The flag of the instance that the thread's start saved is written back.
 #[tactic(auto, unfolding(task_rules::specs::Ends::exit_restores))]
@@ -33,6 +39,7 @@ fn leave<W: Words>(w: &mut W, thread: ThreadId, waiter: Option<ThreadId>)
     requires can { CanPublish (subtasks.Guest (task_of (thread_of (W.view w.old) thread) (W.view w.old).core)) waiter (W.view w.old) }
     ensures core { (W.view w.new).core ≡ sync_exits (thread_of (W.view w.old) thread) (option_map (λ id. thread_of (W.view w.old) id) waiter) (W.view w.old).core }
     ensures current { (W.view w.new).current ≡ (W.view w.old).current }
+    ensures works { KeepsWorks (W.view w.old) (W.view w.new) }
 {
     let call = w.task_of(thread);
     let value = w.register(thread, 0);
@@ -49,7 +56,9 @@ pub fn exit_sync<W: Words>(w: &mut W, thread: ThreadId) -> Came
     requires running { IsRunning (thread_of (W.view w.old) thread) (W.view w.old).core }
     requires there { IsJoinThere (subtasks.Guest (task_of (thread_of (W.view w.old) thread) (W.view w.old).core)) (W.view w.old).core }
     ensures meets { Meets (sync_exit_row (thread_of (W.view w.old) thread) (choice_of (label_of (thread_of (W.view w.old) thread) result)).woken (W.view w.old).core) (W.view w.old).core result (W.view w.new).core }
+    ensures stays { StaysAfter result (W.view w.old) (W.view w.new) }
     ensures current { (W.view w.new).current ≡ (W.view w.old).current }
+    ensures works { KeepsWorks (W.view w.old) (W.view w.new) }
 {
     let number = w.number(thread);
     let call = w.task_of(thread);
@@ -76,6 +85,7 @@ fn leave_to<W: Words>(w: &mut W, thread: ThreadId, below: ThreadId, value: u64)
     ensures core { (W.view w.new).core ≡ direct_exits (thread_of (W.view w.old) thread) (thread_of (W.view w.old) below) value (W.view w.old).core }
     ensures current { (W.view w.new).current ≡ Some below }
     ensures named { thread_of (W.view w.new) below ≡ thread_of (W.view w.old) below }
+    ensures works { KeepsWorks (W.view w.old) (W.view w.new) }
 {
     let call = w.task_of(thread);
     w.set_end(call, CallEnd::Returned);
@@ -91,7 +101,9 @@ pub fn exit_direct<W: Words>(w: &mut W, thread: ThreadId) -> Came
     requires running { IsRunning (thread_of (W.view w.old) thread) (W.view w.old).core }
     requires under { IsSome (under_of (thread_of (W.view w.old) thread) (W.view w.old).core) }
     ensures meets { Meets (direct_exit_row (thread_of (W.view w.old) thread) (W.view w.old).core) (W.view w.old).core result (W.view w.new).core }
+    ensures stays { StaysAfter result (W.view w.old) (W.view w.new) }
     ensures current { IsCurrent result (W.view w.new) }
+    ensures works { KeepsWorks (W.view w.old) (W.view w.new) }
 {
     let number = w.number(thread);
     let value = w.register(thread, 0);
@@ -113,4 +125,85 @@ pub fn exit_direct<W: Words>(w: &mut W, thread: ThreadId) -> Came
     check(w, instance);
     leave_to(w, thread, below, value);
     Came::Goes(label, to)
+}
+
+// The thread, if there is one, is of the instance.
+fn is_of<W: Words>(w: &W, thread: Option<ThreadId>, instance: u32) -> bool
+    ensures { result ≡ is_of instance (option_map (λ id. thread_of (W.view w.now) id) thread) (W.view w.now).core }
+{
+    match thread {
+        None => false,
+        Some(thread) => w.instance_of(thread) == instance,
+    }
+}
+
+// A thread of the instance is given an entry where an end of the call is told, and this waiter is woken.
+fn wakes_in<W: Words>(w: &W, call: CallId, waiter: Option<ThreadId>, instance: u32) -> bool
+    requires { 0 < call_of (W.view w.now) call }
+    ensures { result ≡ wakes_in instance (call_of (W.view w.now) call) (option_map (λ id. thread_of (W.view w.now) id) waiter) (W.view w.now).core }
+{
+    is_told(w, call)
+        && (is_of(w, w.blocked_on(SubtaskId::Guest(call)), instance) || is_of(w, waiter, instance))
+}
+
+// A check of the instance passes once its held threads are released and the task has returned.
+#[tactic(auto, using(crate::proofs::BlockLemmas::passes_before))]
+fn passes_after_return<W: Words>(w: &mut W, thread: ThreadId, waiter: Option<ThreadId>) -> bool
+    requires live { 0 < thread_of (W.view w.old) thread }
+    requires choice { may_tell (task_of (thread_of (W.view w.old) thread) (W.view w.old).core) (option_map (λ id. thread_of (W.view w.old) id) waiter) (W.view w.old).core ≡ true }
+    ensures passes { result ≡ passes_after_return (thread_of (W.view w.old) thread) (option_map (λ id. thread_of (W.view w.old) id) waiter) (W.view w.old).core }
+    ensures same { W.view w.new ≡ W.view w.old }
+{
+    let instance = w.instance_of(thread);
+    if passes_check(w, instance) || has_held(w, instance) {
+        return true;
+    }
+    wakes_in(w, w.task_of(thread), waiter, instance)
+}
+
+// The instance lets entries in, the task returns r0, and after a check the thread leaves.
+fn leave_open<W: Words>(w: &mut W, thread: ThreadId, waiter: Option<ThreadId>)
+    requires live { 0 < thread_of (W.view w.old) thread }
+    requires running { IsRunning (thread_of (W.view w.old) thread) (W.view w.old).core }
+    requires can { CanPublish (subtasks.Guest (task_of (thread_of (W.view w.old) thread) (W.view w.old).core)) waiter (W.view w.old) }
+    ensures core { (order : List ℕ) × (IsPermutation (held_by_flag (instance_of (thread_of (W.view w.old) thread) (W.view w.old).core) (W.view w.old).core) order × ((W.view w.new).core ≡ blocking_exits (thread_of (W.view w.old) thread) (option_map (λ id. thread_of (W.view w.old) id) waiter) order (W.view w.old).core)) }
+    ensures current { (W.view w.new).current ≡ (W.view w.old).current }
+    ensures works { KeepsWorks (W.view w.old) (W.view w.new) }
+{
+    let call = w.task_of(thread);
+    let value = w.register(thread, 0);
+    let instance = w.instance_of(thread);
+    reopen(w, instance, thread);
+    return_value(w, call, value, waiter);
+    stop_and_end(w, thread);
+}
+
+/// The exit of a blocking export that was not called directly.
+pub fn exit_blocking<W: Words>(w: &mut W, thread: ThreadId) -> Came
+    requires live { 0 < thread_of (W.view w.old) thread }
+    requires running { IsRunning (thread_of (W.view w.old) thread) (W.view w.old).core }
+    requires there { IsJoinThere (subtasks.Guest (task_of (thread_of (W.view w.old) thread) (W.view w.old).core)) (W.view w.old).core }
+    requires together { WaitersTogether (W.view w.old).core }
+    ensures meets { Meets (blocking_exit_row (thread_of (W.view w.old) thread) (choice_of (label_of (thread_of (W.view w.old) thread) result)).woken (W.view w.old).core) (W.view w.old).core result (W.view w.new).core }
+    ensures stays { StaysAfter result (W.view w.old) (W.view w.new) }
+    ensures current { (W.view w.new).current ≡ (W.view w.old).current }
+    ensures works { KeepsWorks (W.view w.old) (W.view w.new) }
+{
+    let number = w.number(thread);
+    let call = w.task_of(thread);
+    let waiter = tell_waiter(w, call);
+    if !passes_after_return(w, thread, waiter) {
+        return Came::Traps(Trap::CannotBlockSyncTask);
+    }
+    match waiter {
+        None => {
+            leave_open(w, thread, None);
+            Came::Stops(Label::Task(TaskLabel::Exit(number)))
+        }
+        Some(waiter) => {
+            let woken = w.number(waiter);
+            leave_open(w, thread, Some(waiter));
+            Came::Stops(Label::Task(TaskLabel::ExitWakes(number, woken)))
+        }
+    }
 }

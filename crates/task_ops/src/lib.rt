@@ -20,7 +20,6 @@ mod switches;
 mod tasks;
 mod threads;
 mod waits;
-mod ways;
 mod works;
 
 ghost use Rattle.task_ops.specs.Steps.{ActingIsStep, MeetingIsStep, TakingIsStep};
@@ -30,7 +29,7 @@ pub use codes::end_activation;
 pub use data::{compute, value_of};
 pub use deliveries::{deliver_own, deliver_set, hold_delivery, resume};
 pub use exits::exit_thread;
-pub use leaves::{exit_direct, exit_sync};
+pub use leaves::{exit_blocking, exit_direct, exit_sync};
 pub use mains::{Acted, abort, answer, await_spawn, deadlock, finish, quiet, ready, spawn, start};
 pub use names::set_named;
 pub use polls::poll;
@@ -42,7 +41,6 @@ pub use switches::{halt_then_promote, halt_then_resume, thread_index, thread_new
 pub use tasks::{ret, ret_bad, task_cancel};
 pub use threads::{halt, resume_later};
 pub use waits::{begin_wait, go_on_waiting};
-pub use ways::exit;
 pub use works::{Polled, poll_work, take_push};
 
 /// An op that meets its row is a step of the machine.

@@ -4,6 +4,7 @@ ghost use Rattle.task_machine.specs.Maps.{get};
 ghost use Rattle.task_machine.specs.Read.{instance_of, position_of};
 ghost use Rattle.task_ops.specs.Came.{Meets};
 ghost use Rattle.task_ops.specs.Running.{SetsThere};
+ghost use Rattle.task_ops.specs.Stays.{StaysAfter};
 ghost use Rattle.task_rules.specs.Sets.{set_drop_row, set_new_row};
 ghost use Rattle.task_words.specs.StateView.{Keeps, thread_of};
 
@@ -20,6 +21,7 @@ pub fn set_new<W: Words>(w: &mut W, thread: ThreadId, register: u8) -> Result<Ca
     requires few { (W.view w.old).core.made.sets + 1 < 2 ^ 64 }
     ensures meets { IfOk result (λ came. Meets (set_new_row (thread_of (W.view w.old) thread) register (W.view w.old).core) (W.view w.old).core came (W.view w.new).core) }
     ensures tags { Keeps (W.view w.old).tags (W.view w.new).tags }
+    ensures stays { IfOk result (λ came. StaysAfter came (W.view w.old) (W.view w.new)) }
     ensures current { (W.view w.new).current ≡ (W.view w.old).current }
     ensures err { OnErr result (W.view w.new ≡ W.view w.old) }
 {
@@ -44,6 +46,7 @@ pub fn set_drop<W: Words>(w: &mut W, thread: ThreadId, handle: u64) -> Came
     requires sets { SetsThere (W.view w.old).core }
     ensures meets { Meets (set_drop_row (thread_of (W.view w.old) thread) handle (W.view w.old).core) (W.view w.old).core result (W.view w.new).core }
     ensures thread { thread_of (W.view w.new) thread ≡ thread_of (W.view w.old) thread }
+    ensures stays { StaysAfter result (W.view w.old) (W.view w.new) }
     ensures current { (W.view w.new).current ≡ (W.view w.old).current }
 {
     let number = w.number(thread);

@@ -6,6 +6,7 @@ ghost use Rattle.task_machine.specs.declared.component.Slot.TheVariants as slots
 ghost use Rattle.task_ops.specs.Came.{Meets};
 ghost use Rattle.task_ops.specs.Halting.{halt_of};
 ghost use Rattle.task_ops.specs.Running.{IsRunning};
+ghost use Rattle.task_ops.specs.Stays.{StaysAfter};
 ghost use Rattle.task_rules.specs.Threads.{has_yielded, then_promote_row, then_resume_row, thread_index_row, thread_new_row};
 ghost use Rattle.task_words.specs.StateView.{Keeps, thread_of};
 
@@ -119,6 +120,7 @@ pub fn thread_new<W: Words>(
     requires few { (W.view w.old).core.made.threads + 1 < 2 ^ 64 }
     ensures meets { IfOk result (λ came. Meets (thread_new_row (thread_of (W.view w.old) thread) register slot value (W.view w.old).core line.now) (W.view w.old).core came (W.view w.new).core) }
     ensures tags { Keeps (W.view w.old).tags (W.view w.new).tags }
+    ensures stays { IfOk result (λ came. StaysAfter came (W.view w.old) (W.view w.new)) }
     ensures current { (W.view w.new).current ≡ (W.view w.old).current }
     ensures err { OnErr result (W.view w.new ≡ W.view w.old) }
 {

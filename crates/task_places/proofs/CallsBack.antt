@@ -1,7 +1,6 @@
 -- A thread whose turn comes as the one on top of it is gone is inside of no call.
-use Rattle.task_rules.proofs.Machine.{after_word, arith, Collapses, Core, Enter, false, get, get-change, GoesBack, how_far_of, HowFar, is_none, IsRunner, Lands, LandsAt, MayLand, MayMove, Move, nat_tests, None, on_thread, Option, Place, place_of, Places, Placing, Quits, Remains, Scene, set_how_far, Some, Stay, subtask_under_way, sym, Trip, Turn, ℕ, ◌∙◌, ◌≡◌}
+use Rattle.task_places.proofs.Laws.{after_word, arith, Collapses, Core, Enter, false, get, get-change, GoesBack, how_far_of, HowFar, is_none, IsRunner, Lands, LandsAt, MayLand, MayMove, Move, nat_tests, None, not_main, on_thread, one_runner, Option, Place, place_of, Places, Placing, Quits, Remains, Scene, set_how_far, Some, Stay, subtask_under_way, sym, Trip, Turn, ℕ, ◌∙◌, ◌≡◌}
 use Rattle.task_places.proofs.PlaceLaw.{covered_still, Frame, no_cover, runner_there, stay_stand}
-use Rattle.task_rules.proofs.WalkTask.{not_main, one_runner}
 
 -- who comes to a place and runs on is the runner, where that is there
 move_next : {a : Scene} (j : ℕ) (r : Place) (s : Core) (k : ℕ) → a.next ≡ Turn.Run k → MayMove a j r s →
@@ -27,10 +26,10 @@ module _ {a : Scene} {b : Core} {n : ℕ} {q : Option Place} (f : Frame a b n q)
   lands_apart p s ok c = absurd (grind arith)
 
   pub back_apart : {t : Core} → Trip a b t → subtask_under_way (how_far_of k t) ≡ None
-  back_apart (Remains t c still) =
+  back_apart (Remains t c still on) =
       let r = f.running k (still k to) in let home = f.home k in let here = f.follows.start.here in absurd (grind arith)
-  back_apart (Lands s p c ok) = absurd (lands_apart p s ok c)
-  back_apart (LandsAt s p j h c ok comes) = absurd (lands_apart p s ok c)
+  back_apart (Lands s p c ok fit) = absurd (lands_apart p s ok c)
+  back_apart (LandsAt s p j h c ok fit comes) = absurd (lands_apart p s ok c)
   back_apart (Quits s t j c leave d) = not_main k (sym leave.1.0 ∙ to)
   back_apart (GoesBack s t j i v c is runs next under d ok) =
       answered_apart i k v (after_word (Places (Move i Place.Running)) t) (one_runner i k (sym next ∙ to))

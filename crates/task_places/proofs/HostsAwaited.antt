@@ -1,15 +1,6 @@
 -- A thread inside a sync call of a host waits for its work, or that is done; and host works have their entries: along the words of a step.
-use Rattle.task_rules.proofs.Machine.{[], after_placing, after_word, Allowed, ap, arith, behind_one, Collapses, Core, Departs, EndsOver, Enter, false, get, GoBehind, GoesBack, how_far_of, HowFar, inl, inr, is_stage_ended, IsRunner, Label, Lands, LandsAt, Made, Mark, MayCome, MayLand, MayRemoveWork, Move, Option, option_map_or, Place, place_of, Places, Placing, push_high, push_low, Put, put_high, put_low, Quits, refl, Remains, RemoveThread, Scene, scene_of, set_callers, set_place, SetHowFar, Setting, Settles, Some, Stage, stage_of, State, Stay, subst, Subtask, sym, Thread, Trip, true, Walked, WasUnder, Word, Work, ℕ, ⊎_elim, ◌==◌, ◌∙◌, ◌≡◌, ◌≤◌, ◌⊎◌}
-use Rattle.task_places.proofs.PlaceSteps.{Reads, Withdrawable, step_by}
-use Rattle.task_rules.proofs.PlacingLemmas.{placing_shifted, SameWorks}
-use Rattle.task_rules.proofs.WalkMoves.{blocked_place}
-use Rattle.task_laws.proofs.CallsCame.{IsBeside, IsFirst, IsGone, IsSame, ThreadAfter, thread_came}
-use Rattle.task_laws.specs.Order.{HostsAwaited, WorksQueued, InPlace}
-use Rattle.task_places.proofs.PlaceLaw.{Frame, beside, exits, move_runner, no_way, runner_there, stands, stay_word, stuck_word, watch, yield_leaves}
-use Rattle.task_places.proofs.WorksQueued.{ended_word, works_word, others_move}
-use Rattle.task_laws.proofs.CountLemmas.{made_works_word}
-use Rattle.task_rules.proofs.ChainLemmas.{along, fall_allowed, land_allowed, stays_allowed, settle_stays}
-use Rattle.task_rules.proofs.StandLemmas.{Stand, by_number, place_kept}
+use Rattle.task_places.proofs.Laws.{[], after_placing, after_word, Allowed, along, ap, arith, behind_one, blocked_place, by_number, Collapses, Core, Departs, EndsOver, Enter, fall_allowed, false, get, GoBehind, GoesBack, HostsAwaited, how_far_of, HowFar, inl, InPlace, inr, is_stage_ended, IsBeside, IsFirst, IsGone, IsRunner, IsSame, Label, land_allowed, Lands, LandsAt, Made, made_works_word, Mark, MayCome, MayLand, MayRemoveWork, Move, Option, option_map_or, Place, place_kept, place_of, Places, Placing, placing_shifted, push_high, push_low, Put, put_high, put_low, Quits, refl, Remains, RemoveThread, SameWorks, Scene, scene_of, set_callers, set_place, SetHowFar, Setting, settle_stays, Settles, Some, Stage, stage_of, Stand, State, Stay, stays_allowed, subst, Subtask, sym, Thread, thread_came, ThreadAfter, Trip, true, Walked, WasUnder, Word, Work, WorksQueued, ℕ, ⊎_elim, ◌==◌, ◌∙◌, ◌≡◌, ◌≤◌, ◌⊎◌}
+use Rattle.task_places.proofs.{PlaceLaw.Frame, PlaceLaw.beside, PlaceLaw.exits, PlaceLaw.move_runner, PlaceLaw.runner_there, PlaceLaw.stands, PlaceLaw.stay_word, PlaceLaw.stuck_word, PlaceLaw.watch, PlaceLaw.yield_leaves, PlaceSteps.Reads, PlaceSteps.Withdrawable, PlaceSteps.step_by, WorksQueued.ended_word, WorksQueued.others_move, WorksQueued.works_word}
 
 -- a blocked thread stays, or the work is done, where the word is a change of places
 abbrev Stuck : Word → Core → Type 0
@@ -59,7 +50,7 @@ Asked a = (m i : ℕ) → IsRunner a m → how_far_of m a.base ≡ HowFar.Calls 
 
 goes_ended : (a : Scene) (i : ℕ) (s : Core) → Asked a → Working a s → MayRemoveWork a i s → is_stage_ended (stage_of i s) ≡ true
 goes_ended a i s asked h ok =
-    ⊎_elim (λ far. let e = asked ok.0 i ok.1.0 far.0 in h.ended i e.0 e.1) (λ e. e.1.1.0) ok.1.1
+    ⊎_elim (λ far. let e = asked ok.0 i ok.1.0 far.0 in h.ended i e.0 e.1) (λ e. e.1.1.0) ok.1.1.1
 
 working_word : (a : Scene) → Asked a → (w : Word) (s : Core) → Allowed a w s → Stuck w s → Working a s → Working a (after_word w s)
 working_word a asked w s ok stuck h = record {
@@ -71,6 +62,21 @@ working_word a asked w s ok stuck h = record {
 
 -- ---- Trips
 
+module _ {a : Scene} {b : Core} {n : ℕ} {q : Option Place} (f : Frame a b n q) where
+  -- who doesn't land and isn't new stays
+  pub land_kept : (p : Placing) (s : Core) → MayLand a p s → Stay a b s → (m : ℕ) → ((k : ℕ) → IsRunner a k → (m == k) ≡ false) →
+      (place_of m s ≡ Some Place.New → ⊥) → place_of m (after_placing p s) ≡ place_of m s
+  unfolding put_high push_high put_low push_low behind_one set_callers
+  land_kept (Put Mark.High k w) s ok c m other old = place_kept m k _ s (other k (yield_leaves k w ok).0)
+  land_kept (Put Mark.Low k w) s ok c m other old = place_kept m k _ s (other k (yield_leaves k w ok).0)
+  land_kept (GoBehind g k) s ok c m other old = place_kept m k _ s (other k ok.0.0)
+  land_kept (Move k r) s ok c m other old = place_kept m k r s (other k (move_runner k r s ok (λ j is. runner_there f j s is c)))
+  land_kept (Enter k j) s ok c m other old =
+      let new = ok.1.1.1.0 in
+      place_kept m k _ (set_place j Place.Running s) (other k ok.0) ∙
+      place_kept m j Place.Running s (by_number m j _ (λ e. absurd (old (rw e new))) (λ e. e))
+  land_kept x s ok c m other old = absurd ok
+
 module _ {a : Scene} {b : Core} {n : ℕ} {q : Option Place} (f : Frame a b n q) (asked : Asked a) where
   -- who is blocked is neither the one that lands nor a new one
   apart : (k m : ℕ) (s : Core) → IsRunner a k → Stay a b s → (sub : Subtask) → place_of m s ≡ Some (Place.Blocked sub) → (m == k) ≡ false
@@ -81,17 +87,7 @@ module _ {a : Scene} {b : Core} {n : ℕ} {q : Option Place} (f : Frame a b n q)
 
   land_blocked : (p : Placing) (s : Core) → MayLand a p s → Stay a b s → (m : ℕ) (sub : Subtask) → place_of m s ≡ Some (Place.Blocked sub) →
       place_of m (after_placing p s) ≡ Some (Place.Blocked sub)
-  unfolding put_high push_high put_low push_low behind_one set_callers
-  land_blocked (Put Mark.High k w) s ok c m sub at = place_kept m k _ s (apart k m s (yield_leaves k w ok).0 c sub at) ∙ at
-  land_blocked (Put Mark.Low k w) s ok c m sub at = place_kept m k _ s (apart k m s (yield_leaves k w ok).0 c sub at) ∙ at
-  land_blocked (GoBehind g k) s ok c m sub at = place_kept m k _ s (apart k m s ok.0.0 c sub at) ∙ at
-  land_blocked (Move k r) s ok c m sub at =
-      place_kept m k r s (apart k m s (move_runner k r s ok (λ j is. runner_there f j s is c)) c sub at) ∙ at
-  land_blocked (Enter k j) s ok c m sub at =
-      let new = ok.1.1.1.0 in
-      let other : (m == j) ≡ false = by_number m j _ (λ e. absurd (grind arith)) (λ e. e) in
-      place_kept m k _ (set_place j Place.Running s) (apart k m s ok.0 c sub at) ∙ (place_kept m j Place.Running s other ∙ at)
-  land_blocked x s ok c m sub at = absurd ok
+  land_blocked p s ok c m sub at = land_kept f p s ok c m (λ k is. apart k m s is c sub at) (λ new. absurd (cc)) ∙ at
 
   stays : {t : Core} → Working a b → Stay a b t → Working a t
   stays first c =
@@ -113,16 +109,16 @@ module _ {a : Scene} {b : Core} {n : ℕ} {q : Option Place} (f : Frame a b n q)
       (stays first c)
 
   pub trip_works : {t : Core} → Working a b → Trip a b t → Working a t
-  trip_works first (Remains t c still) = stays first c
-  trip_works first (Lands s p c ok) = landed s p first c ok
-  trip_works first (LandsAt s p m h c ok comes) =
+  trip_works first (Remains t c still on) = stays first c
+  trip_works first (Lands s p c ok fit) = landed s p first c ok
+  trip_works first (LandsAt s p m h c ok fit comes) =
       let t = after_word (Places p) s in
       working_word a asked (SetHowFar m h) t comes (λ j i at x e. absurd (cc)) (landed s p first c ok)
   trip_works first (Quits s t k c leave d) =
       settles (working_word a asked (RemoveThread k) s (Departs leave) (λ j i at x e. absurd (cc)) (stays first c)) d
   trip_works first (GoesBack s t k m v c is runs to under d ok) =
       let g =
-      settles (working_word a asked (RemoveThread k) s (EndsOver m is to under) (λ j i at x e. absurd (cc)) (stays first c)) d in
+      settles (working_word a asked (RemoveThread k) s (EndsOver m is runs to under) (λ j i at x e. absurd (cc)) (stays first c)) d in
       let low : place_of m t ≡ Some (Place.Under k) = (exits f k s t is c d).1.1 m k under in
       let back = after_word (Places (Move m Place.Running)) t in
       let other =

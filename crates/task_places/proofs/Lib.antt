@@ -1,3 +1,4 @@
+pub mod Laws
 pub mod Entries
 pub mod PlaceLaw
 pub mod PlaceSteps
@@ -5,5 +6,11 @@ pub mod Directs
 pub mod CallsBack
 pub mod WorksQueued
 pub mod HostsAwaited
+pub mod InsideLemmas
+pub mod AloneLemmas
+pub mod WaitsKept
 pub mod OrderLemmas
 pub mod OnceSteps
+pub mod WakeLines
+pub mod IdleLemmas
+pub mod BlockedLemmas

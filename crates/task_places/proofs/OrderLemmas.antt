@@ -1,32 +1,7 @@
 -- A state in order: each opening state is, and each step leads from one to one.
-use Rattle.task_rules.proofs.Machine.{[], ap, arith, Bool, ByHandle, ByOp, Call, callee_of, can_come, Component, Core, false, fresh, get, get-empty, HasSubtask, how_far_of, HowFar, inl, inr, instance_of, is_fresh, is_some, is_sync_call, is_there, IsRunner, Label, length, List, None, Op, op_at_place, op_of_thread, opening, option_map, option_map_or, Place, place_of, Placed, refl, Run, Scene, scene_of, Script, script_in, Setting, Some, State, Steady, subst, Subtask, subtask_under_way, sym, task_of, Thread, true, Turn, Walk, Walked, was_started, ℕ, ⊎_elim, ◌∙◌, ◌∷◌, ◌≡◌, ◌≤◌, ◌⊎◌}
-use Rattle.task_places.proofs.HostsAwaited.{Asked, step_asked, step_works}
-use Rattle.task_places.proofs.Directs.{directs_on_top}
-use Rattle.task_laws.proofs.Joins.{joins_word, opening_joins}
-use Rattle.task_laws.proofs.Subtasks.{Traced, opening_named, traced_word}
-use Rattle.task_rules.proofs.WalkSteps.{step_walks}
-use Rattle.task_rules.proofs.ChainLemmas.{along}
-use Rattle.task_laws.proofs.WaitLemmas.{Homed, KnownHome, homed_word}
-use Rattle.task_laws.proofs.StrandLemmas.{Layered, layered_word}
-use Rattle.task_laws.proofs.SceneLemmas.{runner_there}
-use Rattle.task_laws.proofs.HousedLemmas.{RunnerHoused, housed_word}
-use Rattle.task_laws.proofs.FitLemmas.{AllFit, fits_word, OfBase}
-use Rattle.task_laws.proofs.CountLemmas.{few_word}
-use Rattle.task_laws.proofs.SetHandles.{opening_sets, sets_named_word}
-use Rattle.task_laws.proofs.CallsLaw.{CallsGo, CallsHold}
-use Rattle.task_laws.proofs.CallsSteps.{calls_begin, of_base, word_goes, opening_holds, plain, plain_scene, step_goes}
-use Rattle.task_laws.proofs.AwaitedCalls.{DirectsRun, Inside, directs_word, CallsInside, inside_word, apart_after}
-use Rattle.task_laws.proofs.NamedCalls.{NamesHold, NamesGo, InsideThere, names_go_word, opening_names_known}
-use Rattle.task_laws.proofs.UnbegunCalls.{first_waits, Unbegun, unbegun_word, Waited}
-use Rattle.task_places.proofs.CallsBack.{back_apart}
-use Rattle.task_laws.proofs.LackLemmas.{KnownLacks, lacks_word, op_lacks}
-use Rattle.task_laws.specs.Lacks.{LacksOps, LacksSets, StepsLackSets}
-use Rattle.task_laws.specs.Order.{InPlace, StartsFirst, CallsAwaited, cancelled_call, is_awaited, HasNotRun, CallsNamed, InOrder, Numbered, OpeningInOrder, SetsNamed, StartsAwaited, StepInOrder, WasCall, CallsThere, MakesFew, Strands, WaitsAtHome, set_of_op, set_of_place, StepsMakeFew, JoinsNamed, DirectsOnTop, Fits, WorksQueued, HostsAwaited, names_script}
-use Rattle.task_places.proofs.PlaceLaw.{Arrives}
-use Rattle.task_places.proofs.PlaceSteps.{step_by, Withdrawable, settled_run, step_arrives}
+use Rattle.task_places.proofs.Laws.{[], after_word, AllFit, Allowed, along, ap, apart_after, arith, at_place, Awake, base_at, Bool, ByHandle, ByOp, Call, callee_of, calls_begin, calls_told_word, CallsAwaited, CallsGo, CallsHold, CallsInside, CallsNamed, CallsThere, CallsTold, can_come, cancelled_call, cancels_word, CancelsGo, CancelsWatched, Component, Core, directs_word, DirectsOnTop, DirectsRun, EndWords, event_of, false, few_word, first_waits, Fits, fits_word, fresh, get, get-empty, HasNotRun, HasSubtask, held_word, Homed, homed_word, host_event_word, host_taken, HostsAwaited, housed_word, how_far_of, HowFar, inl, InOrder, InOrderIf, InPlace, inr, Inside, inside_word, InsideThere, instance_of, is_awaited, is_fresh, is_open, is_some, is_sync_call, is_there, IsRunner, joins_word, JoinsNamed, KnownCancels, KnownHome, Label, Layered, layered_word, le_refl, le_trans, length, List, made_works_word, MakesFew, names_go_word, NamesGo, NamesHold, None, NoneAdmitted, Numbered, of_base, OfBase, Op, op_at_place, op_of_thread, opening, opening_holds, opening_joins, opening_named, opening_names_known, opening_sets, opening_works_known, opening_works_named, OpeningInOrder, option_map, option_map_or, Place, place_of, Placed, plain, plain_scene, queued_handle, queued_watched, refl, Run, runner_there, RunnerHoused, said_plain, Scene, scene_of, Script, script_in, sets_named_word, SetsNamed, Setting, Some, starts_word, StartsAwaited, StartsFirst, StartsGo, StartsThere, State, Status, Steady, steady, Step, step_goes, step_over, step_walks, StepInOrder, StepsMakeFew, Strands, subst, Subtask, subtask_under_way, sym, task_of, telling_word, TellingGoes, Thread, Traced, traced_word, true, Turn, Unbegun, unbegun_word, undelivered_end, Waited, WaitsAtHome, WaitsPlaced, Walk, Walked, was_started, WasCall, watched_word, Word, word_goes, Work, works_go, works_hold, works_named_word, works_said_word, works_told, WorksKnown, WorksNamed, WorksQueued, WorksSaid, WorksTold, writes_over, written_at, ℕ, ⊎_elim, ◌∙◌, ◌∷◌, ◌≡◌, ◌≤◌, ◌⊎◌}
+use Rattle.task_places.proofs.{AloneLemmas.step_alone, BlockedLemmas.step_blocked, CallsBack.back_apart, Directs.directs_on_top, HostsAwaited.Asked, HostsAwaited.step_asked, HostsAwaited.step_works, InsideLemmas.step_inside, PlaceLaw.Arrives, PlaceSteps.Withdrawable, PlaceSteps.settled_run, PlaceSteps.step_arrives, PlaceSteps.step_by, WaitsKept.AtWaits, WaitsKept.far_waits, WaitsKept.step_waits, WaitsKept.wait_op, WorksQueued.stands_of}
 use Rattle.task_places.specs.Kept.{ReachedInOrder, ReachedInPlace, StepsKeepPlaces}
-use Rattle.task_rules.proofs.LawLemmas.{steady}
-use Rattle.task_rules.proofs.MoveLemmas.{at_place}
 
 -- ---- Starts
 
@@ -68,10 +43,10 @@ steps_make_few x s l t step =
 
 -- ---- What the words of a step keep
 
-pub held_of : {c : Component} {s : State} → InOrder c s → CallsHold c s.core
+pub held_of : {g : Bool} {c : Component} {s : State} → InOrderIf g c s → CallsHold c s.core
 held_of h = record { numbered = h.numbered; kinds = h.kinds; deliveries = h.deliveries }
 
-module _ (x : Setting) (s : State) (l : Label) (t : State) (h : InOrder x.component s) (w : Walked x s l t) where
+module _ (x : Setting) (s : State) (l : Label) (t : State) {g : Bool} (h : InOrderIf g x.component s) (w : Walked x s l t) where
   -- the step's scene, in which the row reads what is beside the marks as it was before the step
   abbrev a : Scene
   a = plain_scene x s l w.next
@@ -110,6 +85,25 @@ module _ (x : Setting) (s : State) (l : Label) (t : State) (h : InOrder x.compon
   named_kept =
       let first : Traced a s.core = record { was = λ k q. assumption; named = h.calls_named } in
       (along (Traced a) (λ v m ok q. traced_word a known m q v ok) first walk).named
+
+  -- the works that are named, and the subtasks that ops cancel
+  abbrev Watching : Core → Type 0
+  Watching u = Traced a u × ((a.base.made.works ≤ u.made.works) × (WorksNamed u × CancelsWatched u))
+
+  watching_first : Watching s.core
+  watching_first = (record { was = λ k q. assumption; named = h.calls_named }, (le_refl _, (h.works_named, h.watched)))
+
+  watching_word : (v : Word) (m : Core) → Allowed a v m → Watching m → Watching (after_word v m)
+  watching_word v m ok q = (
+    traced_word a known m q.0 v ok,
+    (
+      le_trans q.1.0 (made_works_word a v m),
+      (
+        works_named_word a (record { by_handle = h.works_named.by_handle; by_op = h.works_named.by_op }) v m ok q.1.0 q.1.1.0,
+        watched_word a (queued_watched (base_at s.turn s.core).queues s.core h.watched) v m ok q.0.named q.1.1.0 q.1.1.1,
+      ),
+    ),
+  )
 
   -- a call's start that the running thread may withdraw
   withdrawable : Withdrawable (scene_of x s l w.next)
@@ -250,6 +244,55 @@ module _ (x : Setting) (s : State) (l : Label) (t : State) (h : InOrder x.compon
   pub unbegun_kept : StartsFirst t.core
   unbegun_kept k r at first waits = let q = last.1 in let f = first_waits k t.core in q.rest k (q.came k (grind arith)) (grind arith)
 
+  -- ---- Wakes
+
+  pub held_kept : NoneAdmitted t.core
+  held_kept =
+      let b = plain x s l w.next (λ c. CallsHold x.component c.base × CallsGo c s.core) (calls_begin x s l w.next (held_of h)) in
+      (along (λ u. CallsGo a u × (CallsThere u × NoneAdmitted u))
+      (λ v m ok q. (word_goes a h.codes b.0 v m ok q.0, (housed_word a runner_housed v m ok q.1.0, held_word a v m ok q.1.0 q.0.numbered q.1.1)))
+      (b.1, (h.calls_there, h.held)) walk).1.1
+
+  -- starts, while the turns aren't over
+  starts_last : StartsThere s.core → StartsGo a t.core
+  starts_last first =
+      let b = plain x s l w.next (λ c. CallsHold x.component c.base × CallsGo c s.core) (calls_begin x s l w.next (held_of h)) in
+      (along (λ u. CallsGo a u × StartsGo a u) (λ v m ok q. (
+        word_goes a h.codes b.0 v m ok q.0,
+        starts_word a h.in_place.runs (λ n there. (h.in_place.placed n).number there) h.starts
+            (λ k named. (known.by_handle _ named.1.0 k named.1.1.1).number) v m ok (λ k there. let number = q.0.numbered.calls k in grind arith) q.1,
+      )) (b.1, record { was = λ k now. inl now; there = λ k now. inl (first k now) }) walk).1
+
+  starts_after : StartsThere s.core → is_open t.turn ≡ true → StartsThere t.core
+  starts_after first live k now = let q = starts_last first in ⊎_elim (λ there. there)
+      (⊎_elim (λ over. absurd (let to = w.turn in grind arith)) (λ drawn. absurd (writes_over a t.core h.calls_told k drawn.0 (q.was k now)
+      (Subtask.Guest k) refl ((plain x s l w.next (λ c. EndWords c t.core) w.ends.says).writes (Subtask.Guest k) Status.StartCancelled
+      (written_at x.component s.core _ t.core l _ (said_plain x s l w.next t.core k Status.StartCancelled drawn.1))) now))) (q.there k now)
+
+  -- ---- Events
+
+  works_told_kept : WorksTold t.core
+  works_told_kept = works_told t.core (works_go {S = ⊥} x s l t w (λ no. absurd no) (works_hold s.core (stands_of h.works) h.works_told)).holds
+
+  calls_told_kept : CallsTold t.core
+  calls_told_kept = along CallsTold (calls_told_word a) h.calls_told walk
+
+  telling : TellingGoes a t.core
+  telling = along (TellingGoes a) (telling_word a) (record { made = le_refl _; told = λ k below told. told; ends = λ k e below is. inl is }) walk
+
+  hosts_told : (i : ℕ) (e : Status) → undelivered_end (event_of (Subtask.Host i) t.core) ≡ Some e →
+      (undelivered_end (event_of (Subtask.Host i) s.core) ≡ Some e) ⊎ (host_taken l ≡ Some i)
+  hosts_told i e is = along (λ (u : Core). undelivered_end (event_of (Subtask.Host i) u) ≡ Some e →
+      (undelivered_end (event_of (Subtask.Host i) s.core) ≡ Some e) ⊎ (host_taken l ≡ Some i))
+      (λ v u ok q now. ⊎_elim q inr (host_event_word a v u ok i e now)) inl walk is
+
+  pub awake_kept : Steady s.core t.core → Awake s.turn s.core → is_open t.turn ≡ true → Awake t.turn t.core
+  awake_kept steady first live = record {
+    alone = step_alone x s l t w h.in_place withdrawable (grind arith) first.alone;
+    starts_there = starts_after first.starts_there live;
+    blocked = step_blocked x s l t w h withdrawable steady (λ over. let e = w.turn in absurd (grind arith)) telling hosts_told calls_told_kept works_told_kept first.blocked;
+  }
+
   pub fits_kept : Steady s.core t.core → Fits x.component t.core
   fits_kept steady n r at =
       let f = last.0 n r at in
@@ -273,55 +316,92 @@ module _ (x : Setting) (s : State) (l : Label) (t : State) (h : InOrder x.compon
       at_op test e =
           subst (λ f. test (op_at_place (script_in x.component f r.script) r.position) ≡ true) (sym (same e.0)) e.1
 
-  -- handles of sets, and the joins to them
-  pub joined_kept : SetsNamed t.core × JoinsNamed t.core
-  joined_kept = along (λ (c : Core). SetsNamed c × JoinsNamed c)
-      (λ v m ok q. (sets_named_word a v m ok q.0, joins_word a m q.1 q.0 v ok)) (h.sets_named, h.joins_named) walk
+  -- ---- Sets, their members, and who waits on them
 
-  known_home : KnownHome a
-  known_home = record {
-    there = runner;
-    sets = record { number = h.sets_named.number; home = h.sets_named.home; once = h.sets_named.once };
-    waits = record { by_place = λ n y e. assumption (h.waits.by_place n y e); by_op = λ n y e. assumption (h.waits.by_op n y e) };
+  waits_first : AtWaits (scene_of x s l w.next)
+  waits_first = of_base (λ b. AtWaits (record a { base = b })) s.turn s.core (wait_op x.component a.base fits_base)
+
+  pub placed_kept : WaitsPlaced t.core
+  placed_kept = step_waits x s l t w h.in_place withdrawable waits_first h.waits_placed
+
+  works_known_base : WorksKnown a.base
+  works_known_base = record {
+    there = λ i g j e. assumption (h.works_known.there i g j e);
+    once = h.works_known.once;
+    async = λ g j e. assumption (h.works_known.async g j e);
+    called = h.works_known.called;
   }
 
-  homed_first : Homed a s.core
-  homed_first = record {
-    homes = λ i y q. assumption;
-    by_place = λ n y e. (h.waits.by_place n y e, grind arith);
-    by_op = λ n y e. (h.waits.by_op n y e, grind arith);
+  known_cancels : KnownCancels a
+  known_cancels = record {
+    calls = names_base.known;
+    works = works_known_base;
+    cancels = λ n sub far. ap (λ o. is_some o) (queued_handle (base_at s.turn s.core).queues s.core sub) ∙ h.cancelled n sub far;
   }
 
-  homed_last : Homed a t.core
-  homed_last = along (Homed a) (λ v m ok q. homed_word a known_home m q v ok) homed_first walk
+  -- handles of works and of what ops cancel
+  handles_last : (Watching t.core × NamesGo a t.core) × (WorksSaid t.core × CancelsGo a t.core)
+  handles_last = along (λ u. (Watching u × NamesGo a u) × (WorksSaid u × CancelsGo a u)) (λ v m ok q. (
+    (watching_word v m ok q.0.0, names_go_word a names_base inside_there v m ok q.0.1),
+    (
+      works_said_word a works_known_base v m ok q.1.0,
+      cancels_word a known_cancels v m ok q.0.1.hold q.1.0 q.0.0.1.1.1 q.1.1,
+    ),
+  )) (
+    (watching_first, record { hold = names_first; were = λ n k far. inl far }),
+    (record { known = h.works_known; number = h.works.made }, record { kept = λ to sub is. ap (λ o. is_some o) (sym (queued_handle (base_at s.turn s.core).queues s.core sub)) ∙ is; named = h.cancelled }),
+  ) walk
 
-  pub waits_kept : Steady s.core t.core → WaitsAtHome t.core
-  waits_kept steady = record {
-    by_place = λ n y e. let q = homed_last.by_place n y e in rw (same n (grind arith) q.1) q.0;
-    by_op = λ n y e. let q = homed_last.by_op n y e in rw (same n (grind arith) q.1) q.0;
-  }
-    where
-      same : (n : ℕ) → is_there n t.core ≡ true → is_there n s.core ≡ true → instance_of n t.core ≡ instance_of n s.core
-      same n now before = same_instance s.core t.core steady h.numbered h.calls_there calls_kept n before now
+  module _ (turn : (m : ℕ) → s.turn ≡ Turn.Run m → g ≡ true) where
+    known_home : KnownHome a
+    known_home = record {
+      there = runner;
+      sets = record { number = h.sets_named.number; home = h.sets_named.home; once = h.sets_named.once };
+      waits = record { by_place = λ n y e. assumption (h.waits.by_place n y e); by_op = λ n y e. assumption (h.waits.by_op n y e) };
+      placed = λ n y far. h.waits_placed n y far;
+      runs = λ n y m far runs to. let own = (h.awake (turn m to)).alone n runs in let op = wait_op x.component a.base fits_base n y far in
+          let one : n ≡ m = grind arith in rw one at op;
+    }
 
-  -- sets and async calls of hosts, where no op makes them
-  known_lacks : LacksOps x.component → LacksSets s.core → KnownLacks a
-  known_lacks lacks none = record {
-    base = record { sets = none.sets; places = none.places; ops = none.ops; works = none.works };
-    handles = λ i g y e. let home = h.sets_named.home i g y e in let gone = none.sets y in absurd (cc);
-    runs = λ n e. op_lacks x.component lacks n a.base;
-  }
+    homed_first : Homed a s.core
+    homed_first = record {
+      homes = λ to i y q. assumption;
+      by_place = λ n y e. (h.waits.by_place n y e, grind arith);
+      by_op = λ n y e. (h.waits.by_op n y e, grind arith);
+      far = λ n y e. inr (far_waits (how_far_of n s.core) y e);
+    }
 
-  pub lacks_kept : LacksOps x.component → LacksSets s.core → LacksSets t.core
-  lacks_kept lacks none = along LacksSets (lacks_word a (known_lacks lacks none)) none walk
+    sets_last : (SetsNamed t.core × JoinsNamed t.core) × Homed a t.core
+    sets_last = along (λ (c : Core). (SetsNamed c × JoinsNamed c) × Homed a c)
+        (λ v m ok q. ((sets_named_word a v m ok q.0.0, joins_word a m q.0.1 q.0.0 v ok), homed_word a known_home m q.0.1 q.1 v ok))
+        ((h.sets_named, h.joins_named), homed_first) walk
 
-pub steps_lack_sets : StepsLackSets
-steps_lack_sets x lacks s l t h none step = lacks_kept x s l t h (step_walks x s l t step) lacks none
+    pub joined_kept : SetsNamed t.core × JoinsNamed t.core
+    joined_kept = sets_last.0
+
+    pub waits_kept : Steady s.core t.core → WaitsAtHome t.core
+    waits_kept steady = record {
+      by_place = λ n y e. let q = sets_last.1.by_place n y e in rw (same n (grind arith) q.1) q.0;
+      by_op = λ n y e. let q = sets_last.1.by_op n y e in rw (same n (grind arith) q.1) q.0;
+    }
+      where
+        same : (n : ℕ) → is_there n t.core ≡ true → is_there n s.core ≡ true → instance_of n t.core ≡ instance_of n s.core
+        same n now before = same_instance s.core t.core steady h.numbered h.calls_there calls_kept n before now
+
+-- the turns of a state that has a step aren't over
+step_open : (x : Setting) (s : State) (l : Label) (t : State) → Step x s l t → is_open s.turn ≡ true
+step_open x s l t step = by s.turn refl
+  where
+    by : (p : Turn) → s.turn ≡ p → is_open p ≡ true
+    by Turn.Over is = absurd (step_over x s l t is step)
+    by p is = refl
 
 -- ---- A step in order
 
-pub step_in_order : StepInOrder
-step_in_order x s l t h step =
+-- what is so of the state while the turns aren't over is given
+pub step_kept : (x : Setting) (s : State) (l : Label) (t : State) {g : Bool} → InOrderIf g x.component s → Step x s l t →
+    ((m : ℕ) → s.turn ≡ Turn.Run m → g ≡ true) → (b : Bool) → (b ≡ true → Awake t.turn t.core) → InOrderIf b x.component t
+step_kept x s l t h step turn b awake =
     let w = step_walks x s l t step in
     let q : CallsHold x.component t.core = (step_goes x s l t h.codes (held_of h) step).0 in
     record {
@@ -334,17 +414,31 @@ step_in_order x s l t h step =
       numbered = q.numbered;
       calls_there = calls_kept x s l t h w;
       calls_named = named_kept x s l t h w;
+      works_named = (handles_last x s l t h w).0.0.1.1.0;
       names = (called x s l t h w).1.0.hold.known;
       calls = awaited_kept x s l t h w;
-      waits = waits_kept x s l t h w (steady x s l t step);
-      sets_named = (joined_kept x s l t h w).0;
-      joins_named = (joined_kept x s l t h w).1;
+      works_known = (handles_last x s l t h w).1.0.known;
+      waits = waits_kept x s l t h w turn (steady x s l t step);
+      waits_placed = placed_kept x s l t h w;
+      sets_named = (joined_kept x s l t h w turn).0;
+      joins_named = (joined_kept x s l t h w turn).1;
       kinds = q.kinds;
       deliveries = q.deliveries;
       fits = fits_kept x s l t h w (steady x s l t step);
       starts = starts_kept x s l t h w (steady x s l t step);
       unbegun = unbegun_kept x s l t h w;
+      watched = (handles_last x s l t h w).0.0.1.1.1;
+      cancelled = (handles_last x s l t h w).1.1.named;
+      inside = step_inside x s l t w h.in_place (withdrawable x s l t h w) h.inside;
+      held = held_kept x s l t h w;
+      works_told = works_told_kept x s l t h w;
+      calls_told = calls_told_kept x s l t h w;
+      awake = awake;
     }
+
+pub step_in_order : StepInOrder
+step_in_order x s l t h step =
+    let w = step_walks x s l t step in step_kept x s l t h step (λ m e. step_open x s l t step) (is_open t.turn) (λ live. awake_kept x s l t h w (steady x s l t step) (h.awake (step_open x s l t step)) live)
 
 -- ---- The first state
 
@@ -367,8 +461,11 @@ opening_in_order c codes instances handle_limit capacity main =
       calls_there = λ n k e. let o = get-empty {X = Thread} n in absurd (cc);
       waits = grind (arith, get-empty);
       calls_named = opening_named instances handle_limit capacity;
+      works_named = opening_works_named instances handle_limit capacity;
       names = opening_names_known instances handle_limit capacity;
       calls = grind (arith, get-empty);
+      works_known = opening_works_known instances handle_limit capacity;
+      waits_placed = λ n y far. let o = get-empty {X = Thread} n in absurd (cc);
       sets_named = opening_sets instances handle_limit capacity;
       joins_named = opening_joins instances handle_limit capacity;
       kinds = q.kinds;
@@ -376,6 +473,17 @@ opening_in_order c codes instances handle_limit capacity main =
       fits = λ n t at. let o = get-empty {X = Thread} n in absurd (cc);
       starts = λ k c at e. let o = get-empty {X = Call} k in absurd (cc);
       unbegun = λ k t at first waits. let o = get-empty {X = Thread} k in absurd (cc);
+      watched = λ n sub far. let o = get-empty {X = Thread} n in absurd (cc);
+      cancelled = λ n sub far. let o = get-empty {X = Thread} n in absurd (cc);
+      inside = λ n p at. let o = get-empty {X = Thread} n in absurd (cc);
+      held = λ n v at. let o = get-empty {X = Thread} n in absurd (cc);
+      works_told = λ i w is. let o = get-empty {X = Work} i in absurd (cc);
+      calls_told = λ k e is. let o = get-empty {X = Call} k in absurd (grind arith);
+      awake = λ live. record {
+        alone = λ n is. let o = get-empty {X = Thread} n in absurd (cc);
+        starts_there = λ k now. let o = get-empty {X = Call} k in absurd (grind arith);
+        blocked = λ n sub is. let o = get-empty {X = Thread} n in absurd (cc);
+      };
     }
 
 -- ---- Runs

@@ -5,9 +5,11 @@
 mod once;
 mod order;
 mod places;
+mod wakes;
 
 pub use once::runs_are_once;
 pub use order::{
-    opening_in_order, reached_in_order, step_in_order, steps_lack_sets, steps_make_few,
+    opening_in_order, reached_in_order, step_in_order, steps_make_few,
 };
 pub use places::{reached_are_placed, steps_keep_places};
+pub use wakes::{idle_is_stalled, reached_hold_back, reached_unblocked};

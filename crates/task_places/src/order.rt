@@ -1,4 +1,3 @@
-ghost use Rattle.task_laws.specs.Lacks.{StepsLackSets};
 ghost use Rattle.task_laws.specs.Order.{OpeningInOrder, StepInOrder, StepsMakeFew};
 ghost use Rattle.task_places.specs.Kept.{ReachedInOrder};
 
@@ -24,10 +23,4 @@ pub fn reached_in_order()
 #[tactic(auto, using(crate::proofs::OrderLemmas::steps_make_few))]
 pub fn steps_make_few()
     ensures { StepsMakeFew }
-{}
-
-/// Where no op makes a set or calls a host asynchronously, a step from a core without sets and such
-/// calls leads to one.
-pub fn steps_lack_sets()
-    ensures { StepsLackSets }
 {}

@@ -80,10 +80,10 @@ module _ {a : Scene} {b : Core} where
   gone_walk {s = s} n c go d = join (Then s (RemoveThread n) (stay_walk c) go) (weaken (λ w u ok. stays_allowed a w u (settle_stays a w u ok)) d)
 
   pub trip_walk : {t : Core} → Trip a b t → Walk a b t
-  trip_walk (Remains t c still) = stay_walk c
-  trip_walk (Lands s p c ok) = Then s (Places p) (stay_walk c) (land_allowed a p s ok)
-  trip_walk (LandsAt s p n h c ok comes) = Then (after_word (Places p) s) (SetHowFar n h) (Then s (Places p) (stay_walk c) (land_allowed a p s ok)) comes
+  trip_walk (Remains t c still on) = stay_walk c
+  trip_walk (Lands s p c ok fit) = Then s (Places p) (stay_walk c) (land_allowed a p s ok)
+  trip_walk (LandsAt s p n h c ok fit comes) = Then (after_word (Places p) s) (SetHowFar n h) (Then s (Places p) (stay_walk c) (land_allowed a p s ok)) comes
   trip_walk (Quits s t n c leave d) = gone_walk n c (Departs leave) d
   trip_walk (GoesBack s t n m v c is runs to under d ok) =
-      Then (after_word (Places (Move m Place.Running)) t) (SetHowFar m (HowFar.Answered v)) (Then t (Places (Move m Place.Running)) (gone_walk n c (EndsOver m is to under) d) (inr ok)) ((n, (is, (to, under))), WasUnder n v under refl)
+      Then (after_word (Places (Move m Place.Running)) t) (SetHowFar m (HowFar.Answered v)) (Then t (Places (Move m Place.Running)) (gone_walk n c (EndsOver m is runs to under) d) (inr ok)) ((n, (is, (to, under))), WasUnder n v under refl)
   trip_walk (Collapses t over c) = weaken (fall_allowed a) c

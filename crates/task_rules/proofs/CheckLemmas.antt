@@ -1,11 +1,9 @@
 -- Checks after other moves: after a release and a stop, told on the state before, and after a return.
-use Rattle.task_rules.proofs.Machine.{[], admitted_held, All, ap, arith, behind, behind_one, blocking_returned, BlockingCheckIsAfter, Bool, CallbackCheckIsAfter, CallEnd, Caller, caller_of, callers_of, code_stops, Core, end_reopens, Entry, false, find, first_at, first_entry, first_in, first_waiter, foot_of, get, get-change, give_result, Goal, goal_of, has_waiter, held_by_flag, held_why_of, if◌then◌else◌, instance_of, is_at, is_entry_in, is_held_admitted, is_nil, is_some, is_told, is_waiting_on, IsPermutation, Join, join_of, length, List, list_any, list_any-append, Mark, may_not_suspend, may_publish, may_tell, may_wake, may_wake_joined, Move, nat_cmp, nat_tests, newest, None, not, not-true, numbers, older, on_call, on_instance, on_thread, Option, option_map, option_map_or, passed_on, passes_after_return, passes_after_stop, passes_check, Place, published, push_high, put_high, put_switch, refl, register_of, released, released_one, result_given, resumed_all, returned, set_callers, set_do_not_enter, set_end, set_event, set_place, set_register, set_result, set_switch, Some, Status, stopped, Subtask, sym, task_of, Thread, told, true, waiter_told, wake, Why, ℕ, ◌==◌, ◌||◌, ◌∙◌, ◌∷◌, ◌≡◌}
+use Rattle.task_rules.proofs.Machine.{[], admitted_held, All-permutation, ap, arith, behind, behind_one, blocking_returned, BlockingCheckIsAfter, Bool, CallbackCheckIsAfter, CallEnd, Caller, caller_of, callers_of, code_stops, Core, end_reopens, Entry, false, filter_passes, find, first_at, first_entry, first_in, first_waiter, foot_of, get, get-change, give_result, Goal, goal_of, has_waiter, held_by_flag, held_why_of, if◌then◌else◌, instance_of, is_at, is_entry_in, is_held_admitted, is_nil, is_some, is_told, is_waiting_on, IsPermutation, IsPermutation-refl, Join, join_of, length, length_permutation, List, list_any, list_any-append, Mark, may_not_suspend, may_publish, may_tell, may_wake, may_wake_joined, Move, nat_cmp, nat_tests, newest, None, not, not-true, numbers, older, on_call, on_instance, on_thread, Option, option_map, option_map_or, passed_on, passes_after_return, passes_after_stop, passes_check, Place, published, push_high, put_high, put_switch, refl, register_of, released, released_one, result_given, resumed_all, returned, set_callers, set_do_not_enter, set_end, set_event, set_place, set_register, set_result, set_switch, Some, Status, stopped, Subtask, sym, task_of, Thread, told, true, waiter_told, wake, Why, ℕ, ◌==◌, ◌||◌, ◌∙◌, ◌∷◌, ◌≡◌}
 use Rattle.std.proofs.Math.Bool.{or-false}
 use Rattle.std.proofs.lemmas.List.{nil_from_length}
-use Rattle.std.proofs.lemmas.List.Elements.{filter_passes}
-use Rattle.std.proofs.lemmas.List.Sorted.{All-permutation, IsPermutation-refl, length_permutation}
-use Rattle.task_rules.proofs.StopLemmas.{find_passes}
-use Rattle.task_rules.proofs.PlacingLemmas.{placing_shifted, shifted_instance}
+use Rattle.std.specs.Prelude.{All}
+use Rattle.task_rules.proofs.{PlacingLemmas.placing_shifted, PlacingLemmas.shifted_instance, StopLemmas.find_passes}
 use Rattle.std.specs.FinMap.Entries.{find as seek}
 
 -- ---- What passes a check
@@ -25,7 +23,7 @@ unfolding passes_check first_entry
 passes_is i s = grind (arith, first_in_is i s s.queues.high, first_in_is i s s.queues.low)
 
 -- only the queues, the flags and the threads' instances matter
-same_passes : (i : ℕ) (s t : Core) → t.queues ≡ s.queues → may_not_suspend i t ≡ may_not_suspend i s →
+pub same_passes : (i : ℕ) (s t : Core) → t.queues ≡ s.queues → may_not_suspend i t ≡ may_not_suspend i s →
     ((n : ℕ) → instance_of n t ≡ instance_of n s) → passes_check i t ≡ passes_check i s
 same_passes i s t queues flag same =
     let in_it : is_entry_in i t ≡ is_entry_in i s = λ j e. at e j in grind (arith, passes_is i s, passes_is i t, in_it)
@@ -35,7 +33,7 @@ same_passes i s t queues flag same =
     at _ = refl
 
 -- a thread's entry comes to high
-put_passes : (i n : ℕ) (w : Why) (s : Core) → passes_check i (put_high n w s) ≡ (passes_check i s || (instance_of n s == i))
+pub put_passes : (i n : ℕ) (w : Why) (s : Core) → passes_check i (put_high n w s) ≡ (passes_check i s || (instance_of n s == i))
 unfolding put_high push_high set_place on_thread
 put_passes i n w s =
     let t = set_place n (Place.Ready Mark.High w) s in
@@ -91,12 +89,12 @@ released_callers (n ∷ ns) s = grind (arith, released_callers ns)
 
 -- ---- The end of a callback's or a blocking export's run
 
-enter_passes : (i : ℕ) (b : Bool) (s : Core) → passes_check i (set_do_not_enter i b s) ≡ passes_check i s
+pub enter_passes : (i : ℕ) (b : Bool) (s : Core) → passes_check i (set_do_not_enter i b s) ≡ passes_check i s
 unfolding passes_check first_entry set_do_not_enter on_instance
 enter_passes i b s = grind (arith, nat_tests, get-change)
 
 -- an instance lets entries in again: told on the state before
-reopens_passes : (i : ℕ) (s : Core) (order : List ℕ) → IsPermutation (held_by_flag i s) order →
+pub reopens_passes : (i : ℕ) (s : Core) (order : List ℕ) → IsPermutation (held_by_flag i s) order →
     passes_check i (end_reopens i order s) ≡ (passes_check i s || not (is_nil (held_by_flag i s)))
 unfolding end_reopens held_by_flag admitted_held
 reopens_passes i s order perm =
@@ -122,20 +120,20 @@ told_keeps i k e w s h =
     let same = same_passes i s t refl refl (λ n. grind (arith, nat_tests, get-change)) in
     grind (arith, put_passes i)
 
-given_keeps : (i : ℕ) (g : Goal) (f : Caller) (k v : ℕ) (s : Core) →
+pub given_keeps : (i : ℕ) (g : Goal) (f : Caller) (k v : ℕ) (s : Core) →
     passes_check i (result_given g f k v (set_end k CallEnd.Returned s)) ≡ passes_check i s
 unfolding give_result set_register on_thread set_result on_call set_end
 given_keeps i (Goal.Register r) (Caller.Thread n) k v s = same_passes i s _ refl refl (λ m. grind (arith, nat_tests, get-change))
 given_keeps i (Goal.Register r) Caller.Main k v s = same_passes i s _ refl refl (λ m. grind (arith, nat_tests, get-change))
 given_keeps i _ f k v s = same_passes i s _ refl refl (λ m. grind (arith, nat_tests, get-change))
 
-returned_keeps : (i k v : ℕ) (w : Option ℕ) (s : Core) → passes_check i s ≡ true → passes_check i (returned k v w s) ≡ true
+pub returned_keeps : (i k v : ℕ) (w : Option ℕ) (s : Core) → passes_check i s ≡ true → passes_check i (returned k v w s) ≡ true
 unfolding returned
 returned_keeps i k v w s h = told_keeps i k Status.Returned w _ (given_keeps i (goal_of k s) (caller_of k s) k v s ∙ h)
 
 -- ---- The first waiter
 
-returned_told : (g : Goal) (f : Caller) (k v : ℕ) (s : Core) →
+pub returned_told : (g : Goal) (f : Caller) (k v : ℕ) (s : Core) →
     is_told k (result_given g f k v (set_end k CallEnd.Returned s)) ≡ is_told k s
 unfolding give_result set_register on_thread set_result on_call set_end
 returned_told g f k v s = grind (arith, nat_tests, get-change)

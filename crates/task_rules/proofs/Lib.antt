@@ -5,6 +5,7 @@ pub mod PromotionLemmas
 pub mod ChainLemmas
 pub mod MuteLemmas
 pub mod SayLemmas
+pub mod Walks
 pub mod WalkSteps
 pub mod WalkTakes
 pub mod WalkOps
@@ -14,6 +15,8 @@ pub mod WalkEnds
 pub mod WalkMoves
 pub mod PlacingLemmas
 pub mod CheckLemmas
+pub mod ReleaseLemmas
 pub mod StandLemmas
 pub mod StopLemmas
 pub mod MoveLemmas
+pub mod FreeLemmas

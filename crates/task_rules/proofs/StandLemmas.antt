@@ -1,5 +1,5 @@
 -- Threads and their entries, counted; what the words that put a thread do to them.
-use Rattle.task_rules.proofs.Machine.{[], ap, arith, Bool, callers_of, cond, Core, entries, Entry, eq-eqb, eqb-false, eqb-true, false, get-change, has_entry, HasPlace, if◌then◌else◌, is_at_high, is_at_low, is_at_switch, is_behind_of, is_blocked_on, is_entry_of, is_free, is_fresh, is_there, is_under, le_trans, less, List, Mark, nat_tests, newest, older, on_thread, one_if, Option, option_map, option_map_or, Place, place_of, push_high, push_low, put_high, put_low, refl, says, set_place, Some, subst, Subtask, switch_entries, sym, times, true, Why, ℕ, ◌++◌, ◌+◌, ◌==◌, ◌∙◌, ◌∷◌, ◌≡◌, ◌≢◌, ◌≤◌, ◌⊎◌}
+use Rattle.task_rules.proofs.Machine.{[], ap, arith, Bool, callers_of, cond, Core, entries, Entry, eq-eqb, eqb-false, eqb-true, false, get-change, has_entry, HasPlace, if◌then◌else◌, is_at_high, is_at_low, is_at_switch, is_at_wait, is_behind_of, is_blocked_on, is_entry_of, is_free, is_fresh, is_there, is_under, le_trans, less, List, Mark, nat_tests, newest, older, on_thread, one_if, Option, option_map, option_map_or, Place, place_of, push_high, push_low, put_high, put_low, refl, says, set_place, Some, subst, Subtask, switch_entries, sym, times, true, Why, ℕ, ◌++◌, ◌+◌, ◌==◌, ◌∙◌, ◌∷◌, ◌≡◌, ◌≢◌, ◌≤◌, ◌⊎◌}
 
 -- ---- Numbers and lists
 
@@ -103,12 +103,14 @@ left_loose k s t q l = grind arith
 
 -- ---- A state in which n and some others are loose, and all the rest have their places
 
--- what is watched of a thread: nothing, that it waits for its start or is gone, that it is under that one, or blocked on that subtask
+-- what is watched of a thread: nothing, that it waits for its start or is gone, that it is under that one, or blocked on that subtask, or
+-- where a thread inside a wait on that set is
 pub data Watch : Type 0 where
   Nothing : Watch
   Awaits : Watch
   Covered : (over : ℕ) → Watch
   Stuck : (on : Subtask) → Watch
+  Pauses : (on : ℕ) → Watch
 
 abbrev pub is_watched : Watch → Bool
 is_watched Nothing = false
@@ -119,6 +121,7 @@ is_so Nothing o = true
 is_so Awaits o = is_fresh o
 is_so (Covered m) o = option_map_or (is_under m) o false
 is_so (Stuck sub) o = option_map_or (is_blocked_on sub) o false
+is_so (Pauses x) o = option_map_or (is_at_wait x) o false
 
 -- n is at q, or there is no such thread; what is watched is so
 pub record Stand (P : ℕ → Watch) (n : ℕ) (q : Option Place) (xs : List ℕ) (s : Core) : Type 0 where

@@ -1,12 +1,6 @@
 -- The takings of entries as chains of words.
-use Rattle.task_rules.proofs.Machine.{activated, activated_woken, admits, and_parts, ap, arith, at_handle_limit, begun_holder, Bool, Choice, chosen, cond, Core, delivered, Delivery, delivery_row, end_for, end_of, EndWords, event_label, ExportKind, false, foot_of, get, get-change, Gift, gift, give_thread_handle, Given, given_for, Goes, handed_by_event, handed_on, handed_out, HandsOut, held_label, holder_at_start, Holds, inl, inr, instance_of, is_begun, is_exit, is_explicit, is_free, is_holding, is_none, is_running, is_some, is_start, is_told, IsLaid, kind_of, Label, LastWords, Main, Mark, may, may_hand_on, may_not_enter, may_tell, may_tell_starting, MayDeliver, MayMove, MemberGift, Move, moved_to, NameThread, nat_tests, NoGift, None, not, NoWord, on_call, on_instance, on_thread, Option, option_map_or, outcome_of_label, own_delivered, own_event_of, own_gift_of, own_gift_only, own_or_nothing, OwnEvent, OwnGift, Place, place_of, refl, Restart, running, Runs, Scene, Script, set_delivered, set_do_not_enter, set_do_not_suspend, set_event, set_given, set_how_far, set_place, set_position, set_register, set_saved_own, set_script, set_started, set_starting_published, set_thread_handle, SetDoNotEnter, SetStarted, SetStartingPublished, Setting, Some, start_admitted, start_begins, start_holds, start_row, start_sets_flags, starting_is_published, starting_told, Status, stopped, Stops, subst, Subtask, sym, T, take_holds, take_label, TakeLabel, taken, taking, task_of, thread_taken, told, Trap, true, Turn, unwrap_or, wait_again, WaitsAgain, was_started, WasReady, Why, with_thread_handle, ℕ, ◌&&◌, ◌∙◌, ◌≡◌}
-use Rattle.task_rules.proofs.MuteLemmas.{is_mute, mute_words, hands_by, none_said}
-use Rattle.task_rules.proofs.SayLemmas.{given_out}
-use Rattle.task_rules.proofs.PlacingLemmas.{shifted_instance, shifted_task, shifts_shifted, shifted_calls}
-use Rattle.task_rules.proofs.ChainLemmas.{Keep, chain_if}
-use Rattle.task_rules.proofs.WalkMoves.{MayTake, ToldTo, handed_on_shifts, lands, shifted, stopped_shifts, taken_walks, told_to, told_walks, word, told_shifts}
-use Rattle.task_rules.proofs.WalkParts.{gift_is, set_given_walks, sync_sets_flag_walks}
-use Rattle.task_rules.proofs.WalkTask.{Leads, may_leads, not_main, one_runner, or_never_leads, seen, trap_if_leads, moved_passes}
+use Rattle.task_rules.proofs.Walks.{activated, activated_woken, admits, and_parts, ap, arith, at_handle_limit, begun_holder, Bool, chain_if, Choice, chosen, cond, Core, delivered, Delivery, delivery_row, end_for, end_of, EndWords, event_label, ExportKind, false, foot_of, get, get-change, Gift, gift, give_thread_handle, Given, given_for, given_out, Goes, handed_by_event, handed_on, handed_on_shifts, handed_out, hands_by, HandsOut, held_label, holder_at_start, Holds, if◌then◌else◌, inl, inr, instance_of, is_begun, is_exit, is_explicit, is_free, is_holding, is_mute, is_none, is_running, is_some, is_start, is_told, IsLaid, Keep, kind_of, Label, lands, lands_alone, LastWords, Main, Mark, may, may_hand_on, may_not_enter, may_tell, may_tell_starting, MayDeliver, MayMove, MayTake, MemberGift, Move, moved_to, mute_words, NameThread, nat_tests, NoGift, None, none_said, not, NoWord, on_call, on_instance, on_thread, Option, option_map_or, outcome_of_label, own_delivered, own_event_of, own_gift_of, own_gift_only, own_or_nothing, OwnEvent, OwnGift, Place, place_of, refl, Restart, running, Runs, Scene, Script, set_delivered, set_do_not_enter, set_do_not_suspend, set_event, set_given, set_how_far, set_place, set_position, set_register, set_saved_own, set_script, set_started, set_starting_published, set_thread_handle, SetDoNotEnter, SetStarted, SetStartingPublished, Setting, shifted, shifted_admits, shifted_calls, shifted_instance, shifted_task, shifts_shifted, Some, start_admitted, start_begins, start_holds, start_row, start_sets_flags, starting_is_published, starting_told, Status, stopped, stopped_shifts, Stops, subst, Subtask, sym, T, take_holds, take_label, TakeLabel, taken, taken_walks, taking, task_of, thread_taken, told, told_shifts, told_to, told_walks, ToldTo, Trap, true, Turn, unwrap_or, wait_again, WaitsAgain, was_started, WasReady, Why, with_thread_handle, word, ℕ, ◌&&◌, ◌∙◌, ◌≡◌}
+use Rattle.task_rules.proofs.{WalkParts.gift_is, WalkParts.set_given_walks, WalkParts.sync_sets_flag_walks, WalkTask.Leads, WalkTask.may_leads, WalkTask.moved_passes, WalkTask.not_main, WalkTask.one_runner, WalkTask.or_never_leads, WalkTask.seen, WalkTask.trap_if_leads}
 
 -- ---- What is read
 
@@ -82,14 +76,14 @@ module _ (x : Setting) (main : Main) (ended : Bool) (s : Core) (n : ℕ) (l : La
       quiet = and_parts (is_none (outcome_of_label k)) (not (is_exit k)) taking
 
   runs_taken : (k : Label) (t : Core) → (is_explicit n s ≡ false → WasReady taking_scene n Why.Start → is_begun (task_of n s) t ≡ true) → is_taking k ≡ true → (l ≡ k → EndWords taking_scene (set_place n Place.Running t)) → Shuts k (set_place n Place.Running t) → (next ≡ Turn.Run n → Keep taking_scene s t) → Leads taking_scene s (Goes k (set_place n Place.Running t) n)
-  runs_taken k t begun taking says shuts c is to = (lands (Move n Place.Running) (Runs refl to begun refl) (c to), taken_ends k Place.Running t is taking refl (λ m at. (one_runner m n (sym at ∙ to), refl)) says shuts)
+  runs_taken k t begun taking says shuts c is to = (lands (Move n Place.Running) refl (Runs refl to begun refl) (c to), taken_ends k Place.Running t is taking refl (λ m at. (one_runner m n (sym at ∙ to), refl)) says shuts)
 
-  lays_taken : (k : Label) (p : Place) (t : Core) → is_taking k ≡ true → is_mute taking_scene (set_place n p t) k ≡ true → is_free p ≡ true → ((i : ℕ) → begun_holder s k ≡ Some i → ⊥) → (IsLaid taking_scene n → MayMove taking_scene n p t) → Keep taking_scene s t → Leads taking_scene s (Stops k (set_place n p t))
-  lays_taken k p t taking mute free none may c is to = (lands (Move n p) (may (refl, to)) c, taken_ends k p t is taking free (λ m at. not_main m (sym to ∙ at)) (λ at. mute_words taking_scene _ at mute) (λ i begun. absurd (none i begun)))
+  lays_taken : (k : Label) (p : Place) (t : Core) → is_taking k ≡ true → is_mute taking_scene (set_place n p t) k ≡ true → is_free p ≡ true → lands_alone (Move n p) ≡ true → ((i : ℕ) → begun_holder s k ≡ Some i → ⊥) → (IsLaid taking_scene n → MayMove taking_scene n p t) → Keep taking_scene s t → Leads taking_scene s (Stops k (set_place n p t))
+  lays_taken k p t taking mute free fit none may c is to = (lands (Move n p) fit (may (refl, to)) c, taken_ends k p t is taking free (λ m at. not_main m (sym to ∙ at)) (λ at. mute_words taking_scene _ at mute) (λ i begun. absurd (none i begun)))
 
-  holds_leads : (k : Label) (w : Why) (t : Core) → is_taking k ≡ true → is_mute taking_scene (take_holds n w t) k ≡ true → begun_holder s k ≡ None → WasReady taking_scene n w → Keep taking_scene s t → Leads taking_scene s (Stops k (take_holds n w t))
+  holds_leads : (k : Label) (w : Why) (t : Core) → is_taking k ≡ true → is_mute taking_scene (take_holds n w t) k ≡ true → begun_holder s k ≡ None → WasReady taking_scene n w → admits n t w ≡ false → Keep taking_scene s t → Leads taking_scene s (Stops k (take_holds n w t))
   unfolding take_holds
-  holds_leads k w t taking mute none ready c = lays_taken k (Place.Held w) (stopped (foot_of n t) t) taking mute refl (λ i begun. none_said none begun) (λ leave. Holds w leave ready refl) (shifted (stopped_shifts (foot_of n t) t) c)
+  holds_leads k w t taking mute none ready out c = lays_taken k (Place.Held w) (stopped (foot_of n t) t) taking mute refl refl (λ i begun. none_said none begun) (λ leave. Holds w leave ready (shifted_admits (shifts_shifted (stopped_shifts (foot_of n t) t)) n w ∙ out) refl) (shifted (stopped_shifts (foot_of n t) t) c)
 
   -- ---- Starts
 
@@ -127,7 +121,7 @@ module _ (x : Setting) (main : Main) (ended : Bool) (s : Core) (n : ℕ) (l : La
         subst (λ (j : ℕ). may_not_enter j s ≡ false) same open_at,
         subst (λ (j : ℕ). is_some (get (set_place n Place.Running (set_do_not_enter (instance_of n (told_start w)) true (told_start w))).instances j) ≡ true → may_not_enter j (set_place n Place.Running (set_do_not_enter (instance_of n (told_start w)) true (told_start w))) ≡ true) (home ∙ same) (shut_here (instance_of n (told_start w)) (told_start w)),
       ))
-      (λ to. word (SetDoNotEnter (instance_of n (told_start w)) true) (ap (λ (j : ℕ). may_not_enter j s) home ∙ open_at) (starts_walks w ready implicit may))
+      (λ to. word (SetDoNotEnter (instance_of n (told_start w)) true) (ap (λ (j : ℕ). may_not_enter j s) home ∙ open_at, tt) (starts_walks w ready implicit may))
 
   begins_leads : (m : Mark) (w : Option ℕ) → WasReady taking_scene n Why.Start → is_explicit n s ≡ false → admits n s Why.Start ≡ true → may_tell (task_of n s) w s ≡ true → (q : ExportKind) → kind_of (task_of n s) s ≡ q → Leads taking_scene s (Goes (take_label m n w) (set_place n Place.Running (start_sets_flags n q (told_start w))) n)
   unfolding set_do_not_suspend on_instance set_saved_own on_thread
@@ -157,19 +151,33 @@ module _ (x : Setting) (main : Main) (ended : Bool) (s : Core) (n : ℕ) (l : La
       told_walks k Status.Starting w (λ told. tt) (n, (refl, (ready, (implicit, (refl, grind (arith, nat_tests, get-change)))))) (published_to k w s (told_to k w s (sym (ap (λ c. cond c (is_none w) (may_tell k w s)) e) ∙ may)))
       (word (SetStartingPublished k) tt NoWord))
 
+  -- whether Starting was told or not, who is admitted
+  starting_admits : (w : Option ℕ) → may_tell_starting (task_of n s) w s ≡ true → admits n (starting_told (task_of n s) w s) Why.Start ≡ admits n s Why.Start
+  unfolding starting_told may_tell_starting set_starting_published on_call set_event
+  starting_admits w may = by (starting_is_published (task_of n s) s) refl
+    where
+      k : ℕ
+      k = task_of n s
+
+      by : (b : Bool) → starting_is_published k s ≡ b → admits n (if b then s else told k Status.Starting w (set_starting_published k s)) Why.Start ≡ admits n s Why.Start
+      by true is = refl
+      by false is =
+          let to = published_to k w s (told_to k w s (sym (ap (λ c. cond c (is_none w) (may_tell k w s)) is) ∙ may)) in
+          shifted_admits (shifts_shifted (told_shifts k Status.Starting w (set_starting_published k s) to)) n Why.Start ∙ grind (arith, nat_tests, get-change)
+
   start_row_leads : (m : Mark) (w : Option ℕ) (c : Bool) → admits n s Why.Start ≡ c → WasReady taking_scene n Why.Start → Leads taking_scene s (start_row m n w s c)
   unfolding start_holds
   start_row_leads m w true admitted ready = start_admitted_leads m w (is_explicit n s) refl ready admitted
   start_row_leads m w false admitted ready =
       may_leads taking_scene s (may_tell_starting (task_of n s) w s) _ (λ may.
-      holds_leads (held_label m n w) Why.Start (starting_told (task_of n s) w s) (held_is taking_scene s m n w).0 (held_is taking_scene _ m n w).1.1 (held_is taking_scene s m n w).1.0 ready (starting_walks w ready (grind arith) may))
+      holds_leads (held_label m n w) Why.Start (starting_told (task_of n s) w s) (held_is taking_scene s m n w).0 (held_is taking_scene _ m n w).1.1 (held_is taking_scene s m n w).1.0 ready (starting_admits w may ∙ admitted) (starting_walks w ready (grind arith) may))
 
   -- ---- Deliveries
 
   -- what a delivery hands out shows only where no wake is handed on
   event_says : (m : Mark) (v : Given) (w : Option ℕ) (t : Core) → (w ≡ None → (sub : Subtask) (e : Status) → handed_by_event n s v ≡ Some (end_for e sub) → HandsOut taking_scene t sub e) → l ≡ event_label m n v w → EndWords taking_scene t
   event_says m v (Some z) t out is = mute_words taking_scene t is refl
-  event_says m v None t out is = hands_by taking_scene t is refl (λ sub e h. out refl sub e h)
+  event_says m v None t out is = hands_by taking_scene t is refl refl (λ sub e h. out refl sub e h)
 
   delivered_out : (y : ℕ) (ch : Choice) (g : Gift) (w : Option ℕ) → gift true (task_of n s) y (chosen n ch s) s ≡ Some g → w ≡ None → (sub : Subtask) (e : Status) → handed_by_event n s (handed_out ch s g) ≡ Some (end_for e sub) → HandsOut taking_scene (activated n g (handed_out ch s g) (handed_on y g w s)) sub e
   unfolding activated moved_to set_how_far set_position on_thread set_given set_register set_place set_script set_do_not_enter on_instance
@@ -183,7 +191,7 @@ module _ (x : Setting) (main : Main) (ended : Bool) (s : Core) (n : ℕ) (l : La
         subst (λ (j : ℕ). may_not_enter j s ≡ false) same open_at,
         subst (λ (j : ℕ). is_some (get (activated n g v t).instances j) ≡ true → may_not_enter j (activated n g v t) ≡ true) (home ∙ same) (shut_here (instance_of n t) (set_given n 0 v (taken g (task_of n t) t))),
       ))
-      (λ to. word (Restart n) (refl, (d, ready)) (word (SetDoNotEnter (instance_of n t) true) (ap (λ (j : ℕ). may_not_enter j s) home ∙ open_at) (set_given_walks n refl 0 v (taken_walks g (task_of n t) may c))))
+      (λ to. word (Restart n) (refl, (d, ready)) (word (SetDoNotEnter (instance_of n t) true) (ap (λ (j : ℕ). may_not_enter j s) home ∙ open_at, tt) (set_given_walks n refl 0 v (taken_walks g (task_of n t) may c))))
 
   woken_goes : (m : Mark) (y : ℕ) (ch : Choice) (g : Gift) → WasReady taking_scene n (Why.Delivery (Delivery.Set y)) → gift true (task_of n s) y (chosen n ch s) s ≡ Some g → MayTake taking_scene (task_of n s) g → may_not_enter (instance_of n s) s ≡ false → Leads taking_scene s (may (may_hand_on y g ch.woken s) (Goes (event_label m n (handed_out ch s g) ch.woken) (activated_woken n y ch.woken g (handed_out ch s g) s) n))
   unfolding activated_woken
@@ -195,7 +203,7 @@ module _ (x : Setting) (main : Main) (ended : Bool) (s : Core) (n : ℕ) (l : La
 
   set_delivered_leads : (m : Mark) (y : ℕ) (ch : Choice) (g : Gift) → gift true (task_of n s) y (chosen n ch s) s ≡ Some g → WasReady taking_scene n (Why.Delivery (Delivery.Set y)) → MayTake taking_scene (task_of n s) g → may_not_enter (instance_of n s) s ≡ false → Leads taking_scene s (set_delivered m n y ch s g)
   unfolding wait_again
-  set_delivered_leads m y ch NoGift h0 ready ok open_at = lays_taken (Label.Take (TakeLabel.Again m n)) (Place.Waiting y true) (stopped (foot_of n s) s) refl refl refl (λ i begun. none_said refl begun) (λ leave. WaitsAgain y leave ready refl) (shifted (stopped_shifts (foot_of n s) s) NoWord)
+  set_delivered_leads m y ch NoGift h0 ready ok open_at = lays_taken (Label.Take (TakeLabel.Again m n)) (Place.Waiting y true) (stopped (foot_of n s) s) refl refl refl refl (λ i begun. none_said refl begun) (λ leave. WaitsAgain y leave ready refl) (shifted (stopped_shifts (foot_of n s) s) NoWord)
   set_delivered_leads m y ch (OwnGift v) h0 ready ok open_at = woken_goes m y ch (OwnGift v) ready h0 ok open_at
   set_delivered_leads m y ch (MemberGift sub) h0 ready ok open_at = woken_goes m y ch (MemberGift sub) ready h0 ok open_at
 
@@ -221,7 +229,7 @@ module _ (x : Setting) (main : Main) (ended : Bool) (s : Core) (n : ℕ) (l : La
 
   delivery_row_leads : (m : Mark) (ch : Choice) (d : Delivery) (c : Bool) → admits n s (Why.Delivery d) ≡ c → WasReady taking_scene n (Why.Delivery d) → Leads taking_scene s (delivery_row m n ch s d c)
   delivery_row_leads m ch d true admitted ready = delivered_leads m ch d ready (grind (arith, admitted))
-  delivery_row_leads m ch d false admitted ready = holds_leads (held_label m n None) (Why.Delivery d) s refl refl refl ready NoWord
+  delivery_row_leads m ch d false admitted ready = holds_leads (held_label m n None) (Why.Delivery d) s refl refl refl ready admitted NoWord
 
   pub thread_taken_leads : (m : Mark) (ch : Choice) (o : Option Place) → place_of n s ≡ o → Leads taking_scene s (thread_taken m n ch s o)
   thread_taken_leads m ch (Some (Place.Ready y Why.Start)) at = start_row_leads m ch.woken (admits n s Why.Start) refl (y, at)

@@ -1,14 +1,6 @@
 -- The rows of ops as chains of words: what a row owes, the ops on registers and words, and the ops that end a task or an activation.
-use Rattle.task_rules.proofs.ChainLemmas.{Going, Keep, keep_stay, trip_walk, stay_walk}
-use Rattle.task_rules.proofs.SayLemmas.{said_is}
-use Rattle.task_rules.proofs.MuteLemmas.{both_none, is_mute, mute_words, none_said, says_by, writes_by}
-use Rattle.task_rules.proofs.WalkEnds.{cancelled_rest, returned_rest, call_ends, ends_untold, ended_last, returned_last}
-use Rattle.task_rules.proofs.Machine.{[], Advance, advanced, and_parts, answered, ap, ap₂, arith, assigned, AwaitsEvent, backpressure_of, begun_holder, blocking_exit_row, blocking_exits, Bool, BySetHandle, Call, CallEnd, cancel_was_delivered, change, checked, Choice, code_exits, code_finds, code_kind_row, code_row, code_stops, code_wait_row, code_waits, code_yields, ComesAgain, Component, component_of, Core, data_row, DataLabel, DataOp, Delivery, direct_exit_to, direct_exits, end_for, end_reopens, EndCall, ended, ends_activation, EndsActivation, EndsByExit, EndsCall, EndsOwn, EndWords, exit_label, exit_restores, exit_row_for, exit_stops, Exits, ExportKind, Fails, false, FindsEvent, foot_of, get, get-change, GivesUp, goal_of, Goes, GoesBack, handed_by, HandsOut, has_ended, has_event_for, HasSet, held_by_flag, holder_at_exit, HowFar, if◌then◌else◌, implicit_exit_row, inl, inr, instance_of, is_async_lifted, is_at, is_code_op, is_direct, is_ending_exit, is_exit, is_explicit, is_holding, is_none, is_over, is_running, is_under, IsRunner, kind_exit_row, kind_of, Label, LastWords, Leaves, leaves_no_result, length, List, Main, Mark, may, may_tell, MayBar, MayEnd, MayOwe, min, Move, moved_to, nat_le, nat_lt, nat_tests, Never, None, not, NoWord, numbers, on_call, on_instance, on_thread, Op, op_at_place, op_in, op_of, Option, option_map, option_map_or, or_never, or_trap, Ordered, outcome_of_label, own_event_of, own_or_none, OwnEvent, passes_after_return, passes_after_stop, passes_check, Place, place_of, position_of, Progress, Put, Records, refl, register_of, Remains, ret_label, returned, returned_holder, ReturnsNow, saved_own_of, SaysEnd, Scene, script_of, set_at, set_backpressure, set_do_not_enter, set_do_not_suspend, set_end, set_how_far, set_place, SetBackpressure, SetDoNotEnter, SetDoNotSuspend, SetOwnEvent, SetRegister, SetSavedCallee, Setting, SetWord, skip_row, skipped, Some, Status, stopped, Stops, stored, subst, Subtask, SubtaskEnd, suc, sym, sync_exit_row, sync_exits, T, task_cancel_label, task_end, task_of, TaskLabel, TaskOp, Then, Thread, thread_exit_row, Trap, trap_if, Traps, Trip, true, Turn, Uncovers, under_of, unwrap_or, value_of, Walk, Why, Writes, WritesCall, WritesToo, written_by, zero, ℕ, ◌%◌, ◌&&◌, ◌*◌, ◌+◌, ◌-◌, ◌/◌, ◌==◌, ◌||◌, ◌∙◌, ◌∷◌, ◌≡◌, ◌≤◌, ◌⊎◌}
-use Rattle.task_rules.specs.Task.{dec_from, dec_lowers, dec_opens, inc_raises, ret_done, ret_row, task_cancel_done, task_cancel_row, task_row}
-use Rattle.task_rules.proofs.StopLemmas.{find_passes}
-use Rattle.task_rules.proofs.PlacingLemmas.{Shifted, shifted_calls, shifted_task, shifts_shifted, placing_shifted, shifted_after}
-use Rattle.task_rules.proofs.WalkMoves.{keep_position, ToldTo, checked_shifts, chosen_released, ended_walks, exits_trip, lands, released_shifts, shifted, stopped_shifts, told_to, word, Left, left_gone}
-use Rattle.task_rules.proofs.CallThreads.{LastEnds, last_of, last_shifted}
+use Rattle.task_rules.proofs.Walks.{[], Advance, advanced, and_parts, answered, ap, ap₂, arith, assigned, AwaitsEvent, backpressure_of, begun_holder, blocking_exit_row, blocking_exits, blocking_returned, Bool, both_none, BySetHandle, Call, call_ends, CallEnd, Caller, cancel_was_delivered, cancelled_rest, cancelled_tells, change, checked, checked_shifts, Choice, chosen_released, code_exits, code_finds, code_kind_row, code_row, code_stops, code_wait_row, code_waits, code_yields, ComesAgain, Component, component_of, Core, data_row, DataLabel, DataOp, Delivery, direct_exit_to, direct_exits, end_for, end_reopens, EndCall, ended, ended_last, ended_walks, ends_activation, ends_untold, EndsActivation, EndsByExit, EndsCall, EndsOwn, EndTells, EndWords, exit_label, exit_restores, exit_row_for, exit_stops, Exits, exits_trip, ExportKind, Fails, false, find_passes, FindsEvent, foot_of, get, get-change, GivesUp, Goal, goal_of, Goes, GoesBack, Going, handed_by, HandsOut, has_ended, has_event_for, HasSet, held_by_flag, holder_at_exit, host_taken, HowFar, if◌then◌else◌, implicit_exit_row, inl, inr, instance_of, is_async_lifted, is_at, is_code_op, is_direct, is_ending_exit, is_exit, is_explicit, is_guest_call, is_holding, is_mute, is_none, is_over, is_running, is_under, IsPermutation, IsRunner, Keep, keep_position, keep_stay, kind_exit_row, kind_of, Label, lands, last_of, last_shifted, LastEnds, LastWords, Leaves, leaves_no_result, Left, left_gone, length, List, Main, Mark, may, may_tell, MayBar, MayEnd, MayOwe, min, Move, moved_to, mute_words, nat_le, nat_lt, nat_tests, Never, None, none_said, NoneHeldIn, not, NoWord, numbers, on_call, on_instance, on_thread, Op, op_at_place, op_in, op_of, Option, option_map, option_map_or, or_never, or_trap, Ordered, outcome_of_label, own_event_of, own_or_none, OwnEvent, passes_after_return, passes_after_stop, passes_check, Place, place_of, placing_shifted, position_of, Progress, Put, Records, refl, register_of, release_leaves, released_on, released_shifts, Remains, ret_label, returned, returned_holder, returned_last, returned_rest, returned_tells, ReturnsNow, said_is, saved_own_of, says_by, SaysEnd, Scene, script_of, set_at, set_backpressure, set_do_not_enter, set_do_not_suspend, set_end, set_how_far, set_place, SetBackpressure, SetDoNotEnter, SetDoNotSuspend, SetOwnEvent, SetRegister, SetSavedCallee, Setting, SetWord, Shifted, shifted, shifted_after, shifted_calls, shifted_task, shifts_shifted, skip_row, skipped, Some, Status, stay_walk, stopped, stopped_shifts, Stops, stored, subst, Subtask, SubtaskEnd, suc, sym, sync_exit_row, sync_exits, T, task_cancel_label, task_end, task_of, TaskLabel, TaskOp, TellsNever, Then, Thread, thread_exit_row, told_to, ToldTo, Trap, trap_if, Traps, Trip, trip_walk, true, Turn, Uncovers, under_of, unwrap_or, value_of, Walk, Why, word, Writes, writes_by, WritesCall, WritesToo, written_by, zero, ℕ, ◌%◌, ◌&&◌, ◌*◌, ◌+◌, ◌-◌, ◌/◌, ◌==◌, ◌||◌, ◌∙◌, ◌∷◌, ◌≡◌, ◌≤◌, ◌⊎◌}
+use Rattle.task_rules.specs.Task.{dec_from, dec_lowers, dec_opens, held_by_counter, inc_raises, ret_done, ret_row, task_cancel_done, task_cancel_row, task_row}
 
 -- ---- The op in its script
 
@@ -42,7 +34,7 @@ Leads a b (Stops l new) = a.label ≡ l → a.next ≡ Turn.Main → Trip a b ne
 Leads a b (Traps t) = Unit {0}
 Leads a b (Fails i) = Unit {0}
 Leads a b Never = Unit {0}
-Leads a b (Ordered ns next) = (order : List ℕ) → Leads a b (next order)
+Leads a b (Ordered ns next) = (order : List ℕ) → IsPermutation ns order → Leads a b (next order)
 
 module _ (a : Scene) (b : Core) where
   pub trap_if_leads : (c : Bool) (t : Trap) (p : Progress) → (c ≡ false → Leads a b p) → Leads a b (trap_if c t p)
@@ -131,25 +123,29 @@ module _ {a : Scene} {b : Core} (n : ℕ) (is : IsRunner a n) where
 
   -- ---- Ends
 
-  reopens_walks : (i : ℕ) (order : List ℕ) {t : Core} → MayBar a i false → Keep a b t → Keep a b (end_reopens i order t)
-  unfolding end_reopens
-  reopens_walks i order {t = t} ok c = shifted (released_shifts order (set_do_not_enter i false t)) (word (SetDoNotEnter i false) ok c)
+  -- the threads are released first, so that none is held that is admitted
+  reopens_walks : (i : ℕ) (order : List ℕ) {t : Core} → MayBar a i false → IsPermutation (held_by_flag i t) order → Keep a b t → Keep a b (end_reopens i order t)
+  unfolding end_reopens held_by_flag set_do_not_enter
+  reopens_walks i order {t = t} ok perm c =
+      let same = released_on i (λ r. record r { do_not_enter = false }) order t in
+      subst (λ (u : Core). Keep a b u) (sym same) (word (SetDoNotEnter i false) (ok, subst (λ (u : Core). NoneHeldIn i u) same (release_leaves i (set_do_not_enter i false t) order perm)) (shifted (released_shifts order t) c))
 
   exit_stops_walks : {t : Core} → LastEnds n t → Keep a b t → Left a b n (exit_stops n t)
   unfolding exit_stops
   exit_stops_walks {t = t} last c = ended_walks n (last_shifted n (shifted_after (shifts_shifted (checked_shifts (instance_of n t) t)) (shifts_shifted (stopped_shifts (foot_of n t) (checked (instance_of n t) t)))) last) (shifted (stopped_shifts (foot_of n t) (checked (instance_of n t) t)) (shifted (checked_shifts (instance_of n t) t) c))
 
-  sync_exits_walks : (w : Option ℕ) (t : Core) → SaysEnd a (task_of n t) Status.Returned → ToldTo (task_of n t) w (exit_restores n t) → Keep a b (call_ends (task_of n t) CallEnd.Returned (exit_restores n t)) → Left a b n (sync_exits n w t)
+  -- once the task has returned
+  sync_exits_walks : (w : Option ℕ) (t : Core) → ToldTo (task_of n t) w (exit_restores n t) → Keep a b (returned (task_of n t) (register_of n 0 t) w (exit_restores n t)) → Left a b n (sync_exits n w t)
   unfolding sync_exits exit_restores set_do_not_suspend on_instance
-  sync_exits_walks w t says to c =
+  sync_exits_walks w t to c =
       let r = returned (task_of n t) (register_of n 0 t) w (exit_restores n t) in
-      ended_walks n (last_shifted n (shifts_shifted (stopped_shifts (foot_of n t) r)) (returned_last n (task_of n t) (register_of n 0 t) w (exit_restores n t) to refl)) (shifted (stopped_shifts (foot_of n t) r) (returned_rest (task_of n t) (register_of n 0 t) w (exit_restores n t) says to c))
+      ended_walks n (last_shifted n (shifts_shifted (stopped_shifts (foot_of n t) r)) (returned_last n (task_of n t) (register_of n 0 t) w (exit_restores n t) to refl)) (shifted (stopped_shifts (foot_of n t) r) c)
 
-  blocking_exits_walks : (w : Option ℕ) (order : List ℕ) (t : Core) → SaysEnd a (task_of n t) Status.Returned → ToldTo (task_of n t) w (end_reopens (instance_of n t) order t) → Keep a b (call_ends (task_of n t) CallEnd.Returned (end_reopens (instance_of n t) order t)) → Left a b n (blocking_exits n w order t)
+  blocking_exits_walks : (w : Option ℕ) (order : List ℕ) (t : Core) → ToldTo (task_of n t) w (end_reopens (instance_of n t) order t) → Keep a b (blocking_returned n w order t) → Left a b n (blocking_exits n w order t)
   unfolding blocking_exits set_do_not_enter on_instance
-  blocking_exits_walks w order t says to c =
+  blocking_exits_walks w order t to c =
       let r = end_reopens (instance_of n t) order t in
-      exit_stops_walks (returned_last n (task_of n t) (register_of n 0 t) w r to (shifted_task (reopened_shifted (instance_of n t) order t) n)) (returned_rest (task_of n t) (register_of n 0 t) w r says to c)
+      exit_stops_walks (returned_last n (task_of n t) (register_of n 0 t) w r to (shifted_task (reopened_shifted (instance_of n t) order t) n)) c
 
   -- the thread m goes on, under which n ran
   direct_exits_walks : (m v : ℕ) (t : Core) → is_direct (goal_of (task_of n t) t) ≡ true → a.turn ≡ Turn.Run n → a.next ≡ Turn.Run m → place_of m a.base ≡ Some (Place.Under n) → Keep a b (call_ends (task_of n t) CallEnd.Returned t) → Trip a b (direct_exits n m v t) × (get (direct_exits n m v t).threads n ≡ None)
@@ -160,9 +156,9 @@ module _ {a : Scene} {b : Core} (n : ℕ) (is : IsRunner a n) where
       let gone = left_gone n e in
       (subst (λ (y : Core). Trip a b (set_how_far m (HowFar.Answered v) y)) (placing_shifted (Move m Place.Running) (ended n u)).only (GoesBack e.before (ended n u) n m v (keep_stay e.stays) is runs to under e.settles (Uncovers n is to under (ap (λ (o : Option Thread). is_none o) gone) refl)), grind (arith, nat_tests, get-change, gone))
 
-  code_stops_walks : (order : List ℕ) {t : Core} → MayBar a (instance_of n t) false → Keep a b t → Keep a b (code_stops n order t)
+  code_stops_walks : (order : List ℕ) {t : Core} → MayBar a (instance_of n t) false → IsPermutation (held_by_flag (instance_of n t) t) order → Keep a b t → Keep a b (code_stops n order t)
   unfolding code_stops
-  code_stops_walks order {t = t} bar c = shifted (stopped_shifts (foot_of n t) (end_reopens (instance_of n t) order t)) (reopens_walks (instance_of n t) order bar c)
+  code_stops_walks order {t = t} bar perm c = shifted (stopped_shifts (foot_of n t) (end_reopens (instance_of n t) order t)) (reopens_walks (instance_of n t) order bar perm c)
 
 -- the thread that is under n
 pub under_place : (n m : ℕ) (s : Core) → under_of n s ≡ Some m → place_of m s ≡ Some (Place.Under n)
@@ -198,7 +194,7 @@ module _ (x : Setting) (main : Main) (s : Core) (n : ℕ) (l : Label) (next : Tu
   pub goes_on_told : (k : Label) (t : Core) → is_plain s k ≡ true → (l ≡ k → next ≡ Turn.Run n → EndWords a t) → (l ≡ k → Going a s n t) → Leads a s (Goes k t n)
   goes_on_told k t plain says c is to =
       let p = and_parts (is_quiet s k) (not (is_exit k)) plain in
-      (Remains t (c is to) (λ m at. sym to ∙ at), quiet_ends is p.0 (λ m at. inl (sym to ∙ at)) (λ exit. absurd (subst T (sym p.1 ∙ ap not exit) tt)) (says is to))
+      (Remains t (c is to) (λ m at. sym to ∙ at) (λ m runs. to ∙ ap (λ (o : Option ℕ). Turn.Run (unwrap_or o 0)) runs), quiet_ends is p.0 (λ m at. inl (sym to ∙ at)) (λ exit. absurd (subst T (sym p.1 ∙ ap not exit) tt)) (says is to))
 
   -- n goes on
   pub goes_on : (k : Label) (t : Core) → is_still a t k ≡ true → Going a s n t → Leads a s (Goes k t n)
@@ -247,16 +243,16 @@ module _ (x : Setting) (main : Main) (s : Core) (n : ℕ) (l : Label) (next : Tu
   exit_says t w is implicit kind = ap (λ (k : Label). written_by x.component s k t) is ∙ exit_ends w t implicit kind
 
   -- the label says an end of the task
-  writes_task : (f : Status) (t u : Core) {o : Option SubtaskEnd} → o ≡ task_end n f s → EndsCall a (task_of n s) → is_over (task_of n s) u ≡ true → Walk a u t → (sub : Subtask) (e : Status) → o ≡ Some (end_for e sub) → Writes a t sub
-  writes_task f t u is ends over c sub e says = said_is (λ d g. Writes a t d) (sym is ∙ says) (WritesCall (task_of n s) u ends over c)
+  writes_task : (f : Status) (t u : Core) {o : Option SubtaskEnd} → o ≡ task_end n f s → EndsCall a (task_of n s) → is_over (task_of n s) u ≡ true → Walk a u t → EndTells a t (Subtask.Guest (task_of n s)) f → (sub : Subtask) (e : Status) → o ≡ Some (end_for e sub) → Writes a t sub × EndTells a t sub e
+  writes_task f t u is ends over c tells sub e says = said_is (λ d g. Writes a t d × EndTells a t d g) (sym is ∙ says) (WritesCall (task_of n s) u ends over c, tells)
 
   -- an exit that ends no task
   exit_is_none : (t : Core) → is_ending_exit n s ≡ false → l ≡ exit_label n None → EndWords a t
   exit_is_none t none is = mute_words a t is (grind (arith, none))
 
   -- an exit that ends the task
-  exit_says_end : (w : Option ℕ) (t : Core) → l ≡ exit_label n w → is_explicit n s ≡ false → is_async_lifted (kind_of (task_of n s) s) ≡ false → is_direct (goal_of (task_of n s) s) ≡ false → (u : Core) → is_over (task_of n s) u ≡ true → Walk a u t → EndWords a t
-  exit_says_end w t is implicit kind direct u over c = writes_by a t is (grind (arith, direct)) (writes_task Status.Returned t u (exit_ends w t implicit (inr kind)) (EndsByExit (n, (refl, (refl, (implicit, inr kind))))) over c)
+  exit_says_end : (w : Option ℕ) (t : Core) → l ≡ exit_label n w → is_explicit n s ≡ false → is_async_lifted (kind_of (task_of n s) s) ≡ false → is_direct (goal_of (task_of n s) s) ≡ false → (u : Core) → is_over (task_of n s) u ≡ true → Walk a u t → EndTells a t (Subtask.Guest (task_of n s)) Status.Returned → EndWords a t
+  exit_says_end w t is implicit kind direct u over c tells = writes_by a t is (grind arith) (grind (arith, direct)) (writes_task Status.Returned t u (exit_ends w t implicit (inr kind)) (EndsByExit (n, (refl, (refl, (implicit, inr kind))))) over c tells)
 
   thread_exit_row_leads : is_ending_exit n s ≡ false → Leads a s (thread_exit_row n s)
   thread_exit_row_leads none =
@@ -274,9 +270,13 @@ module _ (x : Setting) (main : Main) (s : Core) (n : ℕ) (l : Label) (next : Tu
       let k = task_of n s in
       let t = exit_restores n s in
       let told = told_to k w s may in
+      let over : l ≡ exit_label n w → Keep a s (call_ends k CallEnd.Returned t) = λ at. word (EndCall k CallEnd.Returned) (exits w t at implicit (inr kind) refl, exit_says s w at implicit (inr kind)) (word (SetDoNotSuspend (instance_of n s) (unwrap_or (saved_own_of n s) false)) tt NoWord) in
       gone_here (exit_label n w) (sync_exits n w s) (exit_is n w s).0
-      (λ at leave. exit_says_end w (sync_exits n w s) at implicit kind direct (call_ends k CallEnd.Returned t) (over_now k CallEnd.Returned t) (trip_walk (exits_trip n leave (sync_exits_walks n refl w s (exit_says s w at implicit (inr kind)) told NoWord))))
-      (λ at. sync_exits_walks n refl w s (exit_says s w at implicit (inr kind)) told (word (EndCall k CallEnd.Returned) (exits w t at implicit (inr kind) refl, exit_says s w at implicit (inr kind)) (word (SetDoNotSuspend (instance_of n s) (unwrap_or (saved_own_of n s) false)) tt NoWord))))
+      (λ at leave.
+      let says = exit_says s w at implicit (inr kind) in
+      exit_says_end w (sync_exits n w s) at implicit kind direct (call_ends k CallEnd.Returned t) (over_now k CallEnd.Returned t) (trip_walk (exits_trip n leave (sync_exits_walks n refl w s told (returned_rest k (register_of n 0 s) w t says told NoWord))))
+      (returned_tells k (register_of n 0 s) w t says told refl refl (over at) (trip_walk (exits_trip n leave (sync_exits_walks n refl w s told NoWord)))))
+      (λ at. sync_exits_walks n refl w s told (returned_rest k (register_of n 0 s) w t (exit_says s w at implicit (inr kind)) told (over at))))
 
   -- where a holding entry returns
   bars : (w : Option ℕ) → l ≡ exit_label n w → is_explicit n s ≡ false → is_holding (kind_of (task_of n s) s) ≡ true → is_direct (goal_of (task_of n s) s) ≡ false → MayBar a (instance_of n s) false
@@ -286,16 +286,20 @@ module _ (x : Setting) (main : Main) (s : Core) (n : ℕ) (l : Label) (next : Tu
   unfolding end_reopens set_do_not_enter on_instance
   blocking_exit_row_leads w implicit kind direct =
       trap_if_leads a s (not (passes_after_return n w s)) Trap.CannotBlockSyncTask _ (λ e.
-      may_leads a s (may_tell (task_of n s) w s) _ (λ may order.
+      may_leads a s (may_tell (task_of n s) w s) _ (λ may order perm.
       let i = instance_of n s in
       let k = task_of n s in
       let t = end_reopens i order s in
       let same = shifted_calls (reopened_shifted i order s) in
       let lifted : is_async_lifted (kind_of (task_of n s) s) ≡ false = ap (λ y. is_async_lifted y) kind in
       let told : ToldTo k w t = λ is y at. chosen_released order y w (set_do_not_enter i false s) (told_to k w s may (grind (arith, is, same)) y (grind (arith, at, same))) in
+      let over : l ≡ exit_label n w → Keep a s (call_ends k CallEnd.Returned t) = λ at. word (EndCall k CallEnd.Returned) (exits w t at implicit (inr lifted) same, exit_says s w at implicit (inr lifted)) (reopens_walks n refl i order (bars w at implicit (ap (λ y. is_holding y) kind) direct) perm NoWord) in
       gone_here (exit_label n w) (blocking_exits n w order s) (exit_is n w s).0
-      (λ at leave. exit_says_end w (blocking_exits n w order s) at implicit lifted direct (call_ends k CallEnd.Returned t) (over_now k CallEnd.Returned t) (trip_walk (exits_trip n leave (blocking_exits_walks n refl w order s (exit_says s w at implicit (inr lifted)) told NoWord))))
-      (λ at. blocking_exits_walks n refl w order s (exit_says s w at implicit (inr lifted)) told (word (EndCall k CallEnd.Returned) (exits w t at implicit (inr lifted) same, exit_says s w at implicit (inr lifted)) (reopens_walks n refl i order (bars w at implicit (ap (λ y. is_holding y) kind) direct) NoWord)))))
+      (λ at leave.
+      let says = exit_says s w at implicit (inr lifted) in
+      exit_says_end w (blocking_exits n w order s) at implicit lifted direct (call_ends k CallEnd.Returned t) (over_now k CallEnd.Returned t) (trip_walk (exits_trip n leave (blocking_exits_walks n refl w order s told (returned_rest k (register_of n 0 s) w t says told NoWord))))
+      (returned_tells k (register_of n 0 s) w t says told refl (ap (λ (m : Records Call). is_guest_call (option_map_or (λ (c : Call). c.caller) (get m k) Caller.Main) && not (is_direct (option_map_or (λ (c : Call). c.goal) (get m k) Goal.Nowhere))) same) (over at) (trip_walk (exits_trip n leave (blocking_exits_walks n refl w order s told NoWord)))))
+      (λ at. blocking_exits_walks n refl w order s told (returned_rest k (register_of n 0 s) w t (exit_says s w at implicit (inr lifted)) told (over at)))))
 
   direct_leads : (m : ℕ) (t : Core) → under_of n s ≡ Some m → is_explicit n s ≡ false → is_direct (goal_of (task_of n s) s) ≡ true → task_of n t ≡ task_of n s → t.calls ≡ s.calls → Keep a s t → Leads a s (Goes (exit_label n None) (direct_exits n m (register_of n 0 s) t) m)
   direct_leads m t under implicit direct task calls c =
@@ -305,8 +309,8 @@ module _ (x : Setting) (main : Main) (s : Core) (n : ℕ) (l : Label) (next : Tu
       let says : l ≡ exit_label n None → SaysEnd a (task_of n t) Status.Returned = λ is. subst (λ (k : ℕ). SaysEnd a k Status.Returned) (sym task) (exit_says s None is implicit (inl direct)) in
       λ here over.
       goes_over (exit_label n None) m (direct_exits n m v t) refl (inr (direct_exits_runs n m v t))
-      (λ at. says_by a _ at
-      (writes_task Status.Returned _ (call_ends (task_of n t) CallEnd.Returned t) (exit_ends None (direct_exits n m v t) implicit (inl direct)) (EndsByExit (n, (refl, (refl, (implicit, inl direct))))) (subst (λ (i : ℕ). is_over k (call_ends i CallEnd.Returned t) ≡ true) (sym task) (over_now k CallEnd.Returned t)) (trip_walk (direct_exits_walks n refl m v t is_so refl over (under_place n m s under) NoWord).0))
+      (λ at. says_by a _ at refl
+      (writes_task Status.Returned _ (call_ends (task_of n t) CallEnd.Returned t) (exit_ends None (direct_exits n m v t) implicit (inl direct)) (EndsByExit (n, (refl, (refl, (implicit, inl direct))))) (subst (λ (i : ℕ). is_over k (call_ends i CallEnd.Returned t) ≡ true) (sym task) (over_now k CallEnd.Returned t)) (trip_walk (direct_exits_walks n refl m v t is_so refl over (under_place n m s under) NoWord).0) (TellsNever k Status.Returned (grind (arith, direct))))
       (λ sub e out. said_is (HandsOut a (direct_exits n m v t)) (sym (ap₂ (λ (f g : Bool). if not f && g then task_end n Status.Returned s else None) implicit direct) ∙ out) (WritesToo k Status.Returned (exit_says s None at implicit (inl direct)) (inl direct))))
       (λ is to.
       let r = direct_exits_walks n refl m v t is_so refl to (under_place n m s under) (word (EndCall (task_of n t) CallEnd.Returned) (subst (λ (k : ℕ). MayEnd a k CallEnd.Returned t) (sym task) (exits None t is implicit (inl direct) calls), says is) c) in
@@ -327,29 +331,29 @@ module _ (x : Setting) (main : Main) (s : Core) (n : ℕ) (l : Label) (next : Tu
   owes None has ends t = inr (n, (ends, (refl, ap own_or_none has)))
   owes (Some e) has ends t = inr (n, (ends, (refl, ap own_or_none has)))
 
-  code_wait_row_leads : (k : Label) (y : ℕ) (held : List ℕ) (b : Bool) → ((t : Core) → is_still a t k ≡ true) → (l ≡ k → MayBar a (instance_of n s) false) → EndsActivation a n → HasSet a n y → Leads a s (code_wait_row k n y held s b)
+  code_wait_row_leads : (k : Label) (y : ℕ) (b : Bool) → ((t : Core) → is_still a t k ≡ true) → (l ≡ k → MayBar a (instance_of n s) false) → EndsActivation a n → HasSet a n y → Leads a s (code_wait_row k n y (held_by_flag (instance_of n s) s) s b)
   unfolding code_finds code_waits
-  code_wait_row_leads k y held true plain bar ends has = λ order is to. stops_here k (code_finds n y order s) (plain _) (λ leave. lands (Put Mark.High n (Why.Delivery (Delivery.Set y))) (FindsEvent y leave ends has refl) (code_stops_walks n refl order (bar is) NoWord)) is to
-  code_wait_row_leads k y held false plain bar ends has = λ order is to. stops_here k (code_waits n y order s) (plain _) (λ leave. lands (Move n (Place.Waiting y true)) (AwaitsEvent y leave ends has refl) (code_stops_walks n refl order (bar is) NoWord)) is to
+  code_wait_row_leads k y true plain bar ends has = λ order perm is to. stops_here k (code_finds n y order s) (plain _) (λ leave. lands (Put Mark.High n (Why.Delivery (Delivery.Set y))) refl (FindsEvent y leave ends has refl) (code_stops_walks n refl order (bar is) perm NoWord)) is to
+  code_wait_row_leads k y false plain bar ends has = λ order perm is to. stops_here k (code_waits n y order s) (plain _) (λ leave. lands (Move n (Place.Waiting y true)) refl (AwaitsEvent y leave ends has refl) (code_stops_walks n refl order (bar is) perm NoWord)) is to
 
-  code_exits_leads : (k : Label) (held : List ℕ) → is_quiet s k ≡ true → ((t : Core) → l ≡ k → EndWords a t) → (l ≡ k → MayBar a (instance_of n s) false) → (rest : ℕ) → Leads a s (code_kind_row k n held s zero rest)
+  code_exits_leads : (k : Label) → is_quiet s k ≡ true → ((t : Core) → l ≡ k → EndWords a t) → (l ≡ k → MayBar a (instance_of n s) false) → (rest : ℕ) → Leads a s (code_kind_row k n (held_by_flag (instance_of n s) s) s zero rest)
   unfolding code_exits code_stops set_do_not_enter on_instance
-  code_exits_leads k held quiet says bar rest =
-      trap_if_leads a s (not (passes_after_stop (instance_of n s) (foot_of n s) held s)) Trap.CannotBlockSyncTask _ (λ e.
-      trap_if_leads a s (leaves_no_result n s) Trap.NoAsyncResult _ (λ f order.
+  code_exits_leads k quiet says bar rest =
+      trap_if_leads a s (not (passes_after_stop (instance_of n s) (foot_of n s) (held_by_flag (instance_of n s) s) s)) Trap.CannotBlockSyncTask _ (λ e.
+      trap_if_leads a s (leaves_no_result n s) Trap.NoAsyncResult _ (λ f order perm.
       let h = checked_shifts (instance_of n s) (code_stops n order s) in
-      gone_here k (code_exits n order s) quiet (λ is leave. says (code_exits n order s) is) (λ is. ended_walks n (last_shifted n (shifted_after (reopened_shifted (instance_of n s) order s) (shifted_after (shifts_shifted (stopped_shifts (foot_of n s) (end_reopens (instance_of n s) order s))) (shifts_shifted h))) (last_of n s f)) (shifted h (code_stops_walks n refl order (bar is) NoWord)))))
+      gone_here k (code_exits n order s) quiet (λ is leave. says (code_exits n order s) is) (λ is. ended_walks n (last_shifted n (shifted_after (reopened_shifted (instance_of n s) order s) (shifted_after (shifts_shifted (stopped_shifts (foot_of n s) (end_reopens (instance_of n s) order s))) (shifts_shifted h))) (last_of n s f)) (shifted h (code_stops_walks n refl order (bar is) perm NoWord)))))
 
-  code_kind_row_leads : (k : Label) (held : List ℕ) (low rest : ℕ) → ((t : Core) → is_still a t k ≡ true) → (l ≡ k → MayBar a (instance_of n s) false) → EndsActivation a n → Leads a s (code_kind_row k n held s low rest)
+  code_kind_row_leads : (k : Label) (low rest : ℕ) → ((t : Core) → is_still a t k ≡ true) → (l ≡ k → MayBar a (instance_of n s) false) → EndsActivation a n → Leads a s (code_kind_row k n (held_by_flag (instance_of n s) s) s low rest)
   unfolding code_yields
-  code_kind_row_leads k held zero rest plain bar ends =
-      code_exits_leads k held (and_parts (is_quiet s k) (not (is_exit k)) (and_parts (is_plain s k) (is_mute a s k) (plain s)).0).0 (λ t is. mute_words a t is (and_parts (is_plain s k) (is_mute a t k) (plain t)).1) bar rest
-  code_kind_row_leads k held (suc zero) rest plain bar ends = λ order is to. stops_here k (code_yields n order s) (plain _) (λ leave. lands (Put Mark.Low n (Why.Delivery Delivery.Yield)) (ComesAgain leave ends refl) (word (SetOwnEvent (task_of n s) (own_or_none (own_event_of (task_of n s) s))) (owes (own_event_of (task_of n s) s) refl ends (code_stops n order s)) (code_stops_walks n refl order (bar is) NoWord))) is to
-  code_kind_row_leads k held (suc (suc zero)) rest plain bar ends = or_trap_leads a s (set_at (instance_of n s) rest s) Trap.BadHandle _ (λ y named. code_wait_row_leads k y held (has_event_for (task_of n s) y s) plain bar ends (BySetHandle rest named))
-  code_kind_row_leads k held (suc (suc (suc low))) rest plain bar ends = tt
+  code_kind_row_leads k zero rest plain bar ends =
+      code_exits_leads k (and_parts (is_quiet s k) (not (is_exit k)) (and_parts (is_plain s k) (is_mute a s k) (plain s)).0).0 (λ t is. mute_words a t is (and_parts (is_plain s k) (is_mute a t k) (plain t)).1) bar rest
+  code_kind_row_leads k (suc zero) rest plain bar ends = λ order perm is to. stops_here k (code_yields n order s) (plain _) (λ leave. lands (Put Mark.Low n (Why.Delivery Delivery.Yield)) refl (ComesAgain leave ends refl) (word (SetOwnEvent (task_of n s) (own_or_none (own_event_of (task_of n s) s))) (owes (own_event_of (task_of n s) s) refl ends (code_stops n order s)) (code_stops_walks n refl order (bar is) perm NoWord))) is to
+  code_kind_row_leads k (suc (suc zero)) rest plain bar ends = or_trap_leads a s (set_at (instance_of n s) rest s) Trap.BadHandle _ (λ y named. code_wait_row_leads k y (has_event_for (task_of n s) y s) plain bar ends (BySetHandle rest named))
+  code_kind_row_leads k (suc (suc (suc low))) rest plain bar ends = tt
 
   code_row_leads : (k : Label) (code : ℕ) → ((t : Core) → is_still a t k ≡ true) → (l ≡ k → MayBar a (instance_of n s) false) → EndsActivation a n → Leads a s (code_row k n s code)
-  code_row_leads k code plain bar ends = trap_if_leads a s (nat_lt 4294967295 code) Trap.UnsupportedCallbackCode _ (λ e. code_kind_row_leads k (held_by_flag (instance_of n s) s) (code % 16) (code / 16) plain bar ends)
+  code_row_leads k code plain bar ends = trap_if_leads a s (nat_lt 4294967295 code) Trap.UnsupportedCallbackCode _ (λ e. code_kind_row_leads k (code % 16) (code / 16) plain bar ends)
 
   not_ending : is_explicit n s ≡ false → is_direct (goal_of (task_of n s) s) ≡ false → is_async_lifted (kind_of (task_of n s) s) ≡ true → is_ending_exit n s ≡ false
   not_ending implicit direct lifted = ap₂ (λ e d. not e && (d || not (is_async_lifted (kind_of (task_of n s) s)))) implicit direct ∙ ap (λ h. not h) lifted
@@ -358,7 +362,7 @@ module _ (x : Setting) (main : Main) (s : Core) (n : ℕ) (l : Label) (next : Tu
   kind_exit_row_leads w ExportKind.Sync kind implicit direct = sync_exit_row_leads w implicit (ap (λ y. is_async_lifted y) kind) direct
   kind_exit_row_leads w ExportKind.Blocking kind implicit direct = blocking_exit_row_leads w implicit kind direct
   kind_exit_row_leads w ExportKind.Stackful kind implicit direct = thread_exit_row_leads (not_ending implicit direct (ap (λ y. is_async_lifted y) kind))
-  kind_exit_row_leads w ExportKind.Callback kind implicit direct = code_exits_leads (exit_label n None) (held_by_flag (instance_of n s) s) refl (λ t is. exit_is_none t (not_ending implicit direct (ap (λ y. is_async_lifted y) kind)) is) (λ is. bars None is implicit (ap (λ y. is_holding y) kind) direct) 0
+  kind_exit_row_leads w ExportKind.Callback kind implicit direct = code_exits_leads (exit_label n None) refl (λ t is. exit_is_none t (not_ending implicit direct (ap (λ y. is_async_lifted y) kind)) is) (λ is. bars None is implicit (ap (λ y. is_holding y) kind) direct) 0
 
   implicit_exit_row_leads : (w : Option ℕ) (b : Bool) → is_direct (goal_of (task_of n s) s) ≡ b → is_explicit n s ≡ false → Leads a s (implicit_exit_row n w s b)
   implicit_exit_row_leads w true direct implicit = direct_exit_to_leads (kind_of (task_of n s) s) (under_of n s) refl implicit direct
@@ -371,8 +375,13 @@ module _ (x : Setting) (main : Main) (s : Core) (n : ℕ) (l : Label) (next : Tu
   -- ---- The task and backpressure
 
   -- the task comes to an end that it hadn't
-  task_says : (f : Status) (t : Core) {k : Label} → l ≡ k → written_by x.component s k t ≡ task_end n f s → handed_by x.component main s k t ≡ None → has_ended (task_of n s) s ≡ false → (u : Core) → is_over (task_of n s) u ≡ true → Walk a u t → EndWords a t
-  task_says f t at is none unended u over c = writes_by a t at none (writes_task f t u is (EndsOwn n refl refl unended) over c)
+  task_says : (f : Status) (t : Core) {k : Label} → l ≡ k → written_by x.component s k t ≡ task_end n f s → handed_by x.component main s k t ≡ None → host_taken k ≡ None → has_ended (task_of n s) s ≡ false → (u : Core) → is_over (task_of n s) u ≡ true → Walk a u t → EndTells a t (Subtask.Guest (task_of n s)) f → EndWords a t
+  task_says f t at is none other unended u over c tells = writes_by a t at other none (writes_task f t u is (EndsOwn n refl refl unended) over c tells)
+
+  -- the op is done
+  advances_last : Stands a s n → {r : Core} → Keep a s r → next ≡ Turn.Run n → Walk a r (advanced n r)
+  unfolding advanced
+  advances_last on {r = r} c to = stay_walk (moved_to_walks n refl (position_of n r + 1) refl (let low = keep_position n c in let high = on.1 in omega (arith, low, high)) NoWord to)
 
   on_after_end : Stands a s n → (k : ℕ) (e : CallEnd) → Stands a (call_ends k e s) n
   unfolding on_call
@@ -387,12 +396,14 @@ module _ (x : Setting) (main : Main) (s : Core) (n : ℕ) (l : Label) (next : Tu
       let k = task_of n s in
       let told = told_to k w s may in
       let is_so = ret_is x.component main n v w s in
+      let over : l ≡ ret_label n v w → Keep a s (call_ends k CallEnd.Returned s) = λ is. word (EndCall k CallEnd.Returned) (ReturnsNow n refl refl refl unended (unnot (is_async_lifted (kind_of k s)) lifted) refl, ap (λ (k : Label). written_by x.component s k s) is ∙ (is_so s).1.0) NoWord in
       goes_on_told (ret_label n v w) (ret_done n v w s) (is_so s).0
-      (λ is to. task_says Status.Returned (ret_done n v w s) is (is_so (ret_done n v w s)).1.0 (is_so (ret_done n v w s)).1.1 unended (call_ends k CallEnd.Returned s) (over_now k CallEnd.Returned s)
-      (stay_walk (advanced_walks n refl (on_after_end on k CallEnd.Returned) (returned_rest k v w s (ap (λ (k : Label). written_by x.component s k s) is ∙ (is_so s).1.0) told NoWord) to)))
-      (λ is.
+      (λ is to.
       let says : SaysEnd a k Status.Returned = ap (λ (k : Label). written_by x.component s k s) is ∙ (is_so s).1.0 in
-      advanced_walks n refl on (returned_rest k v w s says told (word (EndCall k CallEnd.Returned) (ReturnsNow n refl refl refl unended (unnot (is_async_lifted (kind_of k s)) lifted) refl, says) NoWord))))))
+      task_says Status.Returned (ret_done n v w s) is (is_so (ret_done n v w s)).1.0 (is_so (ret_done n v w s)).1.1 (grind arith) unended (call_ends k CallEnd.Returned s) (over_now k CallEnd.Returned s)
+      (stay_walk (advanced_walks n refl (on_after_end on k CallEnd.Returned) (returned_rest k v w s says told NoWord) to))
+      (returned_tells k v w s says told refl refl (over is) (advances_last on (returned_rest k v w s says told (over is)) to)))
+      (λ is. advanced_walks n refl on (returned_rest k v w s (ap (λ (k : Label). written_by x.component s k s) is ∙ (is_so s).1.0) told (over is))))))
 
   task_cancel_row_leads : Stands a s n → (w : Option ℕ) → Leads a s (task_cancel_row n w s)
   unfolding task_cancel_done
@@ -403,16 +414,21 @@ module _ (x : Setting) (main : Main) (s : Core) (n : ℕ) (l : Label) (next : Tu
       let k = task_of n s in
       let told = told_to k w s may in
       let is_so = task_cancel_is x.component main n w s in
+      let over : l ≡ task_cancel_label n w → Keep a s (call_ends k CallEnd.ReturnCancelled s) = λ is. word (EndCall k CallEnd.ReturnCancelled) (GivesUp n refl refl refl unended (unnot (cancel_was_delivered k s) delivered) refl, ap (λ (k : Label). written_by x.component s k s) is ∙ (is_so s).1.0) NoWord in
       goes_on_told (task_cancel_label n w) (task_cancel_done n w s) (is_so s).0
-      (λ is to. task_says Status.ReturnCancelled (task_cancel_done n w s) is (is_so (task_cancel_done n w s)).1.0 (is_so (task_cancel_done n w s)).1.1 unended (call_ends k CallEnd.ReturnCancelled s) (over_now k CallEnd.ReturnCancelled s)
-      (stay_walk (advanced_walks n refl (on_after_end on k CallEnd.ReturnCancelled) (cancelled_rest k w s told NoWord) to)))
-      (λ is. advanced_walks n refl on (cancelled_rest k w s told (word (EndCall k CallEnd.ReturnCancelled) (GivesUp n refl refl refl unended (unnot (cancel_was_delivered k s) delivered) refl, ap (λ (k : Label). written_by x.component s k s) is ∙ (is_so s).1.0) NoWord))))))
+      (λ is to. task_says Status.ReturnCancelled (task_cancel_done n w s) is (is_so (task_cancel_done n w s)).1.0 (is_so (task_cancel_done n w s)).1.1 (grind arith) unended (call_ends k CallEnd.ReturnCancelled s) (over_now k CallEnd.ReturnCancelled s)
+      (stay_walk (advanced_walks n refl (on_after_end on k CallEnd.ReturnCancelled) (cancelled_rest k w s told NoWord) to))
+      (cancelled_tells k w s told refl refl (over is) (advances_last on (cancelled_rest k w s told (over is)) to)))
+      (λ is. advanced_walks n refl on (cancelled_rest k w s told (over is))))))
 
-  dec_from_leads : Stands a s n → (b : ℕ) → Leads a s (dec_from n s b)
-  unfolding dec_lowers dec_opens
-  dec_from_leads on zero = tt
-  dec_from_leads on (suc zero) = λ order. goes_on (Label.Task (TaskLabel.BpDec n)) (dec_opens n order s) refl (advanced_walks n refl on (shifted (released_shifts order (set_backpressure (instance_of n s) 0 s)) (word (SetBackpressure (instance_of n s) 0) tt NoWord)))
-  dec_from_leads on (suc (suc b)) = goes_on (Label.Task (TaskLabel.BpDec n)) (dec_lowers n s) refl (advanced_walks n refl on (word (SetBackpressure (instance_of n s) (backpressure_of (instance_of n s) s - 1)) tt NoWord))
+  dec_from_leads : Stands a s n → (b : ℕ) → backpressure_of (instance_of n s) s ≡ b → Leads a s (dec_from n s b)
+  unfolding dec_lowers dec_opens held_by_counter set_backpressure
+  dec_from_leads on zero is = tt
+  dec_from_leads on (suc zero) is = λ order perm.
+      let i = instance_of n s in
+      let same = released_on i (λ r. record r { backpressure = 0 }) order s in
+      goes_on (Label.Task (TaskLabel.BpDec n)) (dec_opens n order s) refl (advanced_walks n refl on (subst (λ (u : Core). Keep a s u) (sym same) (word (SetBackpressure i 0) (λ none. subst (λ (u : Core). NoneHeldIn i u) same (release_leaves i (set_backpressure i 0 s) order perm)) (shifted (released_shifts order s) NoWord))))
+  dec_from_leads on (suc (suc b)) is = goes_on (Label.Task (TaskLabel.BpDec n)) (dec_lowers n s) refl (advanced_walks n refl on (word (SetBackpressure (instance_of n s) (backpressure_of (instance_of n s) s - 1)) (λ zero. absurd (omega (arith, zero, is))) NoWord))
 
   ends_by : (o : TaskOp) → op_in a n ≡ Op.Task o → is_code_op o ≡ true → EndsActivation a n
   ends_by o is code = (refl, ap (λ p. ends_activation p) is ∙ code)
@@ -430,5 +446,5 @@ module _ (x : Setting) (main : Main) (s : Core) (n : ℕ) (l : Label) (next : Tu
   task_row_leads ch (TaskOp.CbWait v) is = code_row_leads (Label.Task (TaskLabel.CbWait n)) (16 * value_of n s v + 2) (λ t. refl) (λ shows. ap (λ k. returned_holder s k) shows) (ends_by (TaskOp.CbWait v) is refl)
   task_row_leads ch (TaskOp.Code v) is = code_row_leads (Label.Task (TaskLabel.Code n)) (value_of n s v) (λ t. refl) (λ shows. ap (λ k. returned_holder s k) shows) (ends_by (TaskOp.Code v) is refl)
   task_row_leads ch TaskOp.BpInc is =
-      trap_if_leads a s (nat_le 65535 (backpressure_of (instance_of n s) s)) Trap.BackpressureOverflow _ (λ e. goes_on (Label.Task (TaskLabel.BpInc n)) (inc_raises n s) refl (advanced_walks n refl (stands is refl) (word (SetBackpressure (instance_of n s) (backpressure_of (instance_of n s) s + 1)) tt NoWord)))
-  task_row_leads ch TaskOp.BpDec is = dec_from_leads (stands is refl) (backpressure_of (instance_of n s) s)
+      trap_if_leads a s (nat_le 65535 (backpressure_of (instance_of n s) s)) Trap.BackpressureOverflow _ (λ e. goes_on (Label.Task (TaskLabel.BpInc n)) (inc_raises n s) refl (advanced_walks n refl (stands is refl) (word (SetBackpressure (instance_of n s) (backpressure_of (instance_of n s) s + 1)) (λ zero. absurd (omega (arith, zero))) NoWord)))
+  task_row_leads ch TaskOp.BpDec is = dec_from_leads (stands is refl) (backpressure_of (instance_of n s) s) refl

@@ -1,11 +1,13 @@
 -- Where a step does a word: what its row has tested or done before, and what is known of the thread that runs or was taken.
 use Rattle.task_machine.specs.declared.records.Course.{Course}
 use Rattle.std.specs.Option.{option_map_or}
-use Rattle.std.specs.Prelude.{◌≤◌, length, Bool, None, Option, Some, [], false, is_none, true, ℕ, ◌||◌, ◌∷◌, ◌≡◌, ◌⊎◌, not, is_some}
+use Rattle.std.specs.Prelude.{◌≤◌, length, Bool, None, Option, Some, [], false, is_none, true, ℕ, ◌||◌, ◌∷◌, ◌≡◌, ◌⊎◌, not, is_some, ◌==◌}
 use Rattle.task_machine.specs.Core.{Core, MainPlace, Scripted, Unscripted}
+use Rattle.task_machine.specs.Labels.{host_label}
 use Rattle.task_machine.specs.Maps.{get}
 use Rattle.task_machine.specs.Moves.{has_entry, is_callback_waiter, is_deletable, is_group_done}
-use Rattle.task_machine.specs.Read.{caller_of, cancel_was_delivered, course_of, course_value, end_of, event_of, goal_of, has_ended, has_member, has_waiters, how_far_of, position_of, instance_of, is_async_lifted, is_at, is_direct, is_explicit, is_joined, is_stage_ended, is_waiter, join_of, kind_of, may_not_enter, next_entry, own_event_of, phase_of, place_of, set_at, stage_of, subtask_at, subtask_ended, subtask_handle, task_of, thread_group, was_started, work_caller_of, is_guest_call, is_aborted, is_blocked_on, foot_of}
+use Rattle.task_machine.specs.Read.{admits, caller_of, cancel_was_delivered, course_of, course_value, end_of, event_of, goal_of, has_ended, has_member, has_waiters, how_far_of, position_of, instance_of, is_async_lifted, is_at, is_direct, is_explicit, is_joined, is_stage_ended, is_waiter, is_watched, join_of, kind_of, may_not_enter, next_entry, own_event_of, phase_of, place_of, set_at, stage_of, subtask_at, subtask_ended, subtask_handle, undelivered_end, task_of, thread_group, was_started, work_caller_of, is_guest_call, is_aborted, is_blocked_on, foot_of}
+use Rattle.task_machine.specs.Write.{set_backpressure, set_do_not_enter}
 use Rattle.task_machine.specs.declared.component.Callee.{Callee}
 use Rattle.task_machine.specs.declared.component.ExportKind.{ExportKind}
 use Rattle.task_machine.specs.declared.label.Label.{Label}
@@ -29,11 +31,12 @@ use Rattle.task_rules.specs.Cancels.{aborted_phase, is_callback_wait}
 use Rattle.task_rules.specs.Ends.{is_told, own_or_none}
 use Rattle.task_rules.specs.MainOps.{op_at, takes_words, spawned_at, is_spawn}
 use Rattle.task_rules.specs.Once.{returned_holder}
-use Rattle.task_rules.specs.OpParts.{callee_of_main_op, callee_of_op, calls_host, can_come, ends_activation, is_sync_call, makes_set}
+use Rattle.task_rules.specs.OpParts.{callee_of_main_op, callee_of_op, calls_host, can_come, ends_activation, is_sync_call, is_wait, makes_set}
+use Rattle.task_rules.specs.Places.{is_at_wait}
 use Rattle.task_rules.specs.Scenes.{Scene, component_of, op_in}
 use Rattle.task_rules.specs.Scripts.{export_kind, is_script, registers_for, script_of, slot_at}
 use Rattle.task_rules.specs.Threads.{resume_why}
-use Rattle.task_rules.specs.Words.{AddGroup, Advance, Restart, CloseSet, CountWork, EndWork, Enter, FinishWork, GoBehind, MakeCall, MakeThread, Move, NameCall, NameWork, OpenSet, Pend, Places, Placing, Pop, Promote, Put, QueueWork, RemoveCall, RemoveGroup, RemoveThread, RemoveWork, SetCallEvent, SetCallJoin, SetCancelDelivered, SetCancelled, SetDoNotEnter, EndCall, SetHowFar, SetOwnEvent, SetPhase, SetStarted, TakeWorkEvent, SetWorkJoin, Stop, TakeHost, TakePush, UnnameCall, UnnameWork, Withdraw, Word, status_of_end, GiveResult, SetUninteresting, SetTrapped}
+use Rattle.task_rules.specs.Words.{AddGroup, Advance, Restart, CloseSet, CountWork, EndWork, Enter, FinishWork, GoBehind, MakeCall, MakeThread, Move, NameCall, NameWork, OpenSet, Pend, Places, Placing, Pop, Promote, Put, QueueWork, RemoveCall, RemoveGroup, RemoveThread, RemoveWork, SetCallEvent, SetCallJoin, SetCancelDelivered, SetCancelled, SetBackpressure, SetDoNotEnter, EndCall, SetHowFar, SetOwnEvent, SetPhase, SetStarted, TakeWorkEvent, SetWorkJoin, Stop, TakeHost, TakePush, UnnameCall, UnnameWork, Withdraw, Word, status_of_end, GiveResult, SetUninteresting, SetTrapped}
 use Rattle.task_rules.specs.Works.{next_polled, has_end}
 use Rattle.task_rules.specs.SubtaskEnds.{end_for, written_by}
 use Rattle.task_machine.specs.declared.words.Mark.TheVariants as mark
@@ -106,10 +109,27 @@ pub data HasSubtask (a : Scene) (n : ℕ) (sub : Subtask) : Type 0 where
   ByHandle : (h : ℕ) → subtask_at (instance_of n a.base) h a.base ≡ Some sub → HasSubtask a n sub
   ByOp : subtask_under_way (how_far_of n a.base) ≡ Some sub → HasSubtask a n sub
 
+-- the op cancels the subtask already
+abbrev pub Cancelling : Scene → ℕ → Subtask → Type 0
+Cancelling a n sub = (how_far_of n a.base ≡ how_far.Cancels sub) ⊎ (how_far_of n a.base ≡ how_far.AwaitsEnd sub)
+
 -- the op cancels a subtask that a handle names, or cancels it already
 abbrev pub MayCancel : Scene → ℕ → Subtask → Type 0
-MayCancel a n sub = ((h : ℕ) × (subtask_at (instance_of n a.base) h a.base ≡ Some sub)) ⊎
-    ((how_far_of n a.base ≡ how_far.Cancels sub) ⊎ (how_far_of n a.base ≡ how_far.AwaitsEnd sub))
+MayCancel a n sub = ((h : ℕ) × (subtask_at (instance_of n a.base) h a.base ≡ Some sub)) ⊎ Cancelling a n sub
+
+abbrev pub is_watched_by : ℕ → Join → Bool
+is_watched_by n (join.Watched m) = n == m
+is_watched_by n _ = false
+
+-- the subtask is in the thread's own set, or gone
+abbrev pub watches : ℕ → Subtask → Core → Bool
+watches n (subtask.Guest k) s = option_map_or (λ c. is_watched_by n c.join) (get s.calls k) true
+watches n (subtask.Host i) s = option_map_or (λ w. is_watched_by n w.join) (get s.works i) true
+
+-- the subtask is in no thread's own set, or in that of the running thread, whose op is done
+abbrev pub MayPart : Scene → ℕ → Subtask → Core → Type 0
+MayPart a n sub s = (is_watched (join_of sub s) ≡ false) ⊎
+    (Cancelling a n sub × ((how_far_of n s ≡ how_far.Fresh) × (join_of sub s ≡ join_of sub a.base)))
 
 -- a handle of the running thread's instance names it
 abbrev pub IsNamed : Scene → Subtask → Type 0
@@ -180,15 +200,16 @@ pub data MayMove (a : Scene) (n : ℕ) (p : Place) (s : Core) : Type 0 where
   Runs : IsRunner a n → a.next ≡ turn.Run n →
       (is_explicit n a.base ≡ false → WasReady a n why.Start → is_begun (task_of n a.base) s ≡ true) →
       p ≡ place.Running → MayMove a n p s
-  -- it was taken, and is held
-  Holds : (w : Why) → IsLaid a n → WasReady a n w → p ≡ place.Held w → MayMove a n p s
+  -- it was taken, isn't admitted, and is held
+  Holds : (w : Why) → IsLaid a n → WasReady a n w → admits n s w ≡ false → p ≡ place.Held w → MayMove a n p s
   -- it was taken, found nothing, and waits again
   WaitsAgain : (x : ℕ) → IsLaid a n → WasReady a n (why.Delivery (delivery.Set x)) → p ≡ place.Waiting x true → MayMove a n p s
   -- its activation ends, and it waits for an event
   AwaitsEvent : (x : ℕ) → Leaves a n → EndsActivation a n → HasSet a n x → p ≡ place.Waiting x true → MayMove a n p s
   Waits : (x : ℕ) → Leaves a n → HasSet a n x → p ≡ place.Waiting x false → MayMove a n p s
-  -- its op waits for a subtask of its own, or for a new one
-  Blocks : (sub : Subtask) → Leaves a n → HasSubtask a n sub ⊎ IsNew a sub s → p ≡ place.Blocked sub → MayMove a n p s
+  -- its op waits for a subtask of its own, or for a new one, that has no end to tell
+  Blocks : (sub : Subtask) → Leaves a n → HasSubtask a n sub ⊎ IsNew a sub s →
+      (undelivered_end (event_of sub s) ≡ None) ⊎ (subtask_ended sub s ≡ false) → p ≡ place.Blocked sub → MayMove a n p s
   Suspends : Leaves a n → p ≡ place.Suspended → MayMove a n p s
   -- its direct callee m ran, and is gone
   Uncovers : (m : ℕ) → IsRunner a m → a.next ≡ turn.Run n → place_of n a.base ≡ Some (place.Under m) → is_none (get s.threads m) ≡ true →
@@ -238,13 +259,14 @@ HasCalled n k s = IsCalled n k s × IsUntouched k s
 
 -- how far an op comes: it waits on a set of its instance, stays inside its call or makes one, or is about a subtask of its own or a new one
 abbrev pub MayCome : Scene → ℕ → HowFar → Core → Type 0
-MayCome a n (how_far.Waits x) s = IsRunner a n × HasSet a n x
+MayCome a n (how_far.Waits x) s = Leaves a n × (HasSet a n x × ((is_wait (op_in a n) ≡ true) ×
+    (option_map_or (is_at_wait x) (place_of n s) true ≡ true)))
 MayCome a n (how_far.Calls (subtask.Guest k)) s = IsRunner a n × (((how_far_of n a.base ≡ how_far.Calls (subtask.Guest k)) ×
     (how_far_of n s ≡ how_far.Calls (subtask.Guest k))) ⊎ (IsNew a (subtask.Guest k) s × HasCalled n k s))
 MayCome a n (how_far.Calls (subtask.Host i)) s = IsRunner a n × (IsNew a (subtask.Host i) s × ((work_caller_of i s ≡ work_caller.Sync n) ×
     (option_map_or (is_blocked_on (subtask.Host i)) (place_of n s) true ≡ true)))
-MayCome a n (how_far.Cancels sub) s = IsRunner a n × MayCancel a n sub
-MayCome a n (how_far.AwaitsEnd sub) s = IsRunner a n × MayCancel a n sub
+MayCome a n (how_far.Cancels sub) s = Leaves a n × (MayCancel a n sub × (watches n sub s ≡ true))
+MayCome a n (how_far.AwaitsEnd sub) s = Leaves a n × (MayCancel a n sub × (watches n sub s ≡ true))
 -- its direct callee, which ran, has come to a value
 MayCome a n (how_far.Answered v) s = (m : ℕ) × (IsRunner a m × ((a.next ≡ turn.Run n) × (place_of n a.base ≡ Some (place.Under m))))
 MayCome a n h s = IsRunner a n
@@ -278,7 +300,7 @@ pub data MayGo (a : Scene) (n : ℕ) (s : Core) : Type 0 where
   -- the running thread
   Departs : Leaves a n → MayGo a n s
   -- the running thread, and the one under it goes on
-  EndsOver : (m : ℕ) → IsRunner a n → a.next ≡ turn.Run m → place_of m a.base ≡ Some (place.Under n) → MayGo a n s
+  EndsOver : (m : ℕ) → IsRunner a n → a.turn ≡ turn.Run n → a.next ≡ turn.Run m → place_of m a.base ≡ Some (place.Under n) → MayGo a n s
   -- the strand that trapped: the thread that ran or was taken, and those that were under ones that are gone
   Falls : a.next ≡ turn.Over →
       IsRunner a n ⊎ ((m : ℕ) × ((place_of n a.base ≡ Some (place.Under m)) × (is_none (get s.threads m) ≡ true))) → MayGo a n s
@@ -385,11 +407,13 @@ MayRemoveCall a k s = (is_deletable k s ≡ true) × ((has_ended k s ≡ true) �
 -- a join finds the subtask and the set by handles of the running thread's instance; a cancel joins a subtask that is in no set to the
 -- thread's own
 abbrev pub MayJoin : Scene → Subtask → Join → Core → Type 0
-MayJoin a sub join.Nowhere s = IsOwn a sub
+MayJoin a sub join.Nowhere s = (n : ℕ) × (IsRunner a n × (HasSubtask a n sub × MayPart a n sub s))
 MayJoin a sub (join.Set x) s = (n : ℕ) × ((h : ℕ) × ((g : ℕ) ×
-    (IsRunner a n × ((subtask_at (instance_of n a.base) h s ≡ Some sub) × (set_at (instance_of n a.base) g s ≡ Some x)))))
+    (IsRunner a n × ((subtask_at (instance_of n a.base) h s ≡ Some sub) × ((set_at (instance_of n a.base) g s ≡ Some x) ×
+    (is_watched (join_of sub s) ≡ false))))))
 MayJoin a sub (join.Watched n) s = IsRunner a n ×
-    (HasSubtask a n sub × ((is_joined (join_of sub a.base) ≡ false) ⊎ (how_far_of n a.base ≡ how_far.Cancels sub)))
+    (HasSubtask a n sub × (((is_joined (join_of sub a.base) ≡ false) ⊎ (how_far_of n a.base ≡ how_far.Cancels sub)) ×
+    (join_of sub s ≡ join_of sub a.base)))
 
 -- the running thread's instance gets a handle of its subtask, or of a new one
 abbrev pub MayName : Scene → ℕ → Subtask → Core → Type 0
@@ -405,7 +429,8 @@ MayNameCall a i k s = (n : ℕ) × ((a.turn ≡ turn.Run n) × ((i ≡ instance_
 -- the handle names the subtask, which is in no set any more
 abbrev pub MayUnname : Scene → ℕ → ℕ → Subtask → Core → Type 0
 MayUnname a i h sub s = (n : ℕ) ×
-    (IsRunner a n × ((i ≡ instance_of n a.base) × ((subtask_at i h s ≡ Some sub) × (is_joined (join_of sub s) ≡ false))))
+    (IsRunner a n × ((i ≡ instance_of n a.base) × ((subtask_at i h s ≡ Some sub) × ((is_joined (join_of sub s) ≡ false) ×
+    (a.next ≡ turn.Run n)))))
 
 -- ---- Works
 
@@ -423,13 +448,13 @@ is_async_work _ = false
 abbrev pub IsPolled : Scene → ℕ → Core → Type 0
 IsPolled a i s = (n : ℕ) × ((a.turn ≡ turn.Futures n) × (next_polled n s ≡ Some i))
 
--- the sync call of the running thread is answered, and done, or its ended subtask is dropped
+-- the sync call of the running thread is answered, and done, or its ended subtask is dropped; whose the work is is as before the step
 abbrev pub MayRemoveWork : Scene → ℕ → Core → Type 0
-MayRemoveWork a i s = (n : ℕ) × (IsRunner a n ×
+MayRemoveWork a i s = (n : ℕ) × (IsRunner a n × ((work_caller_of i s ≡ work_caller_of i a.base) ×
     (((how_far_of n a.base ≡ how_far.Calls (subtask.Host i)) × (how_far_of n s ≡ how_far.Fresh)) ⊎
     ((subtask_ended (subtask.Host i) a.base ≡ true) × ((subtask_handle (subtask.Host i) s ≡ None) ×
     ((is_stage_ended (stage_of i s) ≡ true) ×
-    ((h : ℕ) × (subtask_at (instance_of n a.base) h a.base ≡ Some (subtask.Host i))))))))
+    ((h : ℕ) × (subtask_at (instance_of n a.base) h a.base ≡ Some (subtask.Host i)))))))))
 
 -- the loop polls the work to its end, and without a value where an abort was asked for
 abbrev pub MayFinish : Scene → ℕ → Course → Core → Type 0
@@ -449,15 +474,28 @@ pub data MayAbort (a : Scene) (i : ℕ) : Type 0 where
 abbrev pub MayOpen : Scene → ℕ → Core → Type 0
 MayOpen a i s = (s.made ≡ a.base.made) × ((n : ℕ) × (IsRunner a n × ((i ≡ instance_of n a.base) × ((a.turn ≡ turn.Run n) × (makes_set (op_in a n) ≡ true)))))
 
--- the handle names it, and nobody waits on it or is in it
+-- The handle names it, and nobody waits on it or is in it, nor did as the step began. The thread that runs isn't at a wait, and runs on.
 abbrev pub MayClose : Scene → ℕ → ℕ → ℕ → Core → Type 0
 MayClose a i h x s = (set_at i h s ≡ Some x) ×
-    ((has_waiters x s ≡ false) × ((has_member x s ≡ false) × ((n : ℕ) × (IsRunner a n × (i ≡ instance_of n a.base)))))
+    ((has_waiters x s ≡ false) × ((has_member x s ≡ false) × ((n : ℕ) × (IsRunner a n × ((i ≡ instance_of n a.base) ×
+    ((has_waiters x a.base ≡ false) × ((a.turn ≡ turn.Run n) × ((a.next ≡ turn.Run n) × (is_wait (op_in a n) ≡ false)))))))))
 
 -- a holding entry begins in an instance that is open, and one that returns opens its instance
 abbrev pub MayBar : Scene → ℕ → Bool → Type 0
 MayBar a i true = may_not_enter i a.base ≡ false
 MayBar a i false = returned_holder a.base a.label ≡ Some i
+
+-- no held thread of the instance is admitted
+abbrev pub NoneHeldIn : ℕ → Core → Type 0
+NoneHeldIn i s = (n : ℕ) (w : Why) → place_of n s ≡ Some (place.Held w) → instance_of n s ≡ i → admits n s w ≡ false
+
+-- where a flag that kept entries out falls, those that it alone kept out were released
+abbrev pub Releasing : ℕ → Bool → Core → Type 0
+Releasing i true s = Unit {0}
+Releasing i false s = NoneHeldIn i (set_do_not_enter i false s)
+
+abbrev pub MayCount : ℕ → ℕ → Core → Type 0
+MayCount i c s = c ≡ 0 → NoneHeldIn i (set_backpressure i c s)
 
 -- ---- All words
 
@@ -469,7 +507,7 @@ Allowed a (Restart n) s = MayRestart a n
 Allowed a (SetHowFar n h) s = MayCome a n h s × CanCome a n h s
 Allowed a (MakeThread t) s = MayMake a t s
 Allowed a (RemoveThread n) s = MayGo a n s
-Allowed a (Withdraw k) s = MayWithdraw a k s
+Allowed a (Withdraw k) s = MayWithdraw a k s × SaysEnd a k status.StartCancelled
 Allowed a (MakeCall f e x g group words) s = MayMakeCall a f e x g group s
 Allowed a (SetStarted k) s = MayStart a k s
 Allowed a (EndCall k e) s = MayEnd a k e s × SaysEnd a k (status_of_end e)
@@ -486,18 +524,20 @@ Allowed a (TakePush m i) s = next_entry s ≡ Some (m, entry.Push i)
 Allowed a (Pend i host) s = IsPolled a i s
 Allowed a (EndWork i c) s = MayFinish a i c s × (is_async_work (work_caller_of i s) ≡ false)
 Allowed a (FinishWork i c) s = MayFinish a i c s × (is_async_work (work_caller_of i s) ≡ true)
-Allowed a (TakeHost m i) s = next_entry s ≡ Some (m, entry.Host i)
+Allowed a (TakeHost m i) s = (next_entry s ≡ Some (m, entry.Host i)) × ((w : Option ℕ) × (a.label ≡ host_label m i w))
 -- an abort is asked for
 Allowed a (SetPhase i p) s = MayAbort a i × (p ≡ aborted_phase (phase_of i s))
 Allowed a (SetCancelled i) s = IsOwn a (subtask.Host i)
 Allowed a (TakeWorkEvent i) s = IsOwn a (subtask.Host i)
 Allowed a (SetWorkJoin i j) s = MayJoin a (subtask.Host i) j s
-Allowed a (NameWork i w) s = MayName a i (subtask.Host w) s × (is_async_work (work_caller_of w s) ≡ true)
+Allowed a (NameWork i w) s = MayName a i (subtask.Host w) s × ((is_async_work (work_caller_of w s) ≡ true) ×
+    (subtask_handle (subtask.Host w) s ≡ None))
 Allowed a (UnnameWork i h w) s = MayUnname a i h (subtask.Host w) s
 Allowed a (RemoveWork i) s = MayRemoveWork a i s
 Allowed a (OpenSet i) s = MayOpen a i s
 Allowed a (CloseSet i h x) s = MayClose a i h x s
-Allowed a (SetDoNotEnter i b) s = MayBar a i b
+Allowed a (SetDoNotEnter i b) s = MayBar a i b × Releasing i b s
+Allowed a (SetBackpressure i c) s = MayCount i c s
 Allowed a (GiveResult k v) s = SaysEnd a k status.Returned × (goal_of k s ≡ goal.Main)
 Allowed a AddGroup s = s.made ≡ a.base.made
 Allowed a (RemoveGroup g) s = is_group_done g s ≡ true

@@ -7,7 +7,9 @@ use Rattle.task_machine.specs.declared.records.Why.TheVariants as why
 use Rattle.task_machine.specs.declared.words.Mark.TheVariants as mark
 use Rattle.task_machine.specs.declared.records.Place.TheVariants as place
 use Rattle.task_machine.specs.Core.{Core}
-use Rattle.task_machine.specs.Read.{callers_of, is_entry_of, place_of}
+use Rattle.task_machine.specs.Read.{callers_of, is_entry_of, is_resumption, place_of, is_inside_wait, same_subtask}
+use Rattle.task_machine.specs.declared.records.HowFar.{HowFar}
+use Rattle.task_machine.specs.declared.records.HowFar.TheVariants as how_far
 
 abbrev pub one_if : Bool → ℕ
 one_if true = 1
@@ -61,6 +63,22 @@ is_fresh (Some place.New) = true
 is_fresh (Some (place.Ready m w)) = is_for_start w
 is_fresh (Some (place.Held w)) = is_for_start w
 is_fresh _ = false
+
+-- where a thread is that is inside a wait on the set: it waits, is to resume, or runs
+abbrev pub is_at_wait : ℕ → Place → Bool
+is_at_wait x (place.Waiting y false) = x == y
+is_at_wait x (place.Ready m w) = is_resumption w
+is_at_wait x place.Running = true
+is_at_wait x _ = false
+
+-- A thread that waits, but not by callback, is inside a wait on that set. One that is blocked is inside a sync call of that subtask, or
+-- awaits its end.
+abbrev pub is_inside : Place → HowFar → Bool
+is_inside (place.Waiting x false) h = is_inside_wait x h
+is_inside (place.Blocked sub) (how_far.Calls on) = same_subtask sub on
+is_inside (place.Blocked sub) (how_far.AwaitsEnd on) = same_subtask sub on
+is_inside (place.Blocked sub) h = false
+is_inside p h = true
 
 -- some thread has the number
 abbrev pub is_there : ℕ → Core → Bool

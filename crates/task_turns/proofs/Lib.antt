@@ -1,4 +1,3 @@
-pub mod GoesLemmas
 pub mod OrderLemmas
 pub mod RunLemmas
 pub mod ContextLemmas

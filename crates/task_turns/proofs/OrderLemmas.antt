@@ -1,32 +1,43 @@
 -- What a state in order gives to the thread that runs.
-use Rattle.std.proofs.Common.{arith, ap, refl, subst, sym, ◌∙◌}
-use Rattle.std.specs.Option.{option_map_or}
-use Rattle.std.specs.Prelude.{Bool, None, Option, Some, false, is_some, option_map, suc, true, zero, ℕ, ◌<◌, ◌≡◌}
-use Rattle.task_laws.specs.Order.{CallKinds, InOrder}
+use Rattle.std.proofs.Common.{ap, ap₂, arith, inl, inr, refl, subst, sym, ◌∙◌}
+use Rattle.std.proofs.lemmas.Bool.Decides.{nat_tests}
+use Rattle.std.specs.Option.{option_and_then, option_map_or}
+use Rattle.std.specs.Prelude.{Bool, None, Option, Some, false, if◌then◌else◌, is_some, option_map, suc, true, zero, ℕ, ◌<◌, ◌≡◌}
+use Rattle.op_dispatch.specs.Runner.{Runner, UnderWay}
+use Rattle.subtask_ops.specs.Named.{CallsThere, StartsThere}
+use Rattle.task_laws.proofs.MemberLemmas.{members_named}
+use Rattle.task_laws.specs.Order as laws
+use Rattle.task_laws.specs.Order.{InOrder, IsOf, cancelled_by, is_awaited, set_of_op, set_of_place}
 use Rattle.task_machine.specs.Core.{Core, Unscripted}
 use Rattle.task_machine.specs.Maps.{get}
-use Rattle.task_machine.specs.Read.{goal_of, is_async_lifted, is_direct, kind_of, place_of, task_of}
-use Rattle.task_machine.specs.declared.component.Callee.{Callee}
+use Rattle.task_machine.specs.Read.{goal_of, how_far_of, instance_of, is_direct, is_explicit, is_stage_ended, is_under, is_waiting_on, place_of, stage_of, task_of, under_of, work_caller_of}
 use Rattle.task_machine.specs.declared.component.Component.{Component}
-use Rattle.task_machine.specs.declared.component.ExportDef.{ExportDef}
-use Rattle.task_machine.specs.declared.component.ExportKind.TheVariants as kind
 use Rattle.task_machine.specs.declared.records.Call.{Call}
-use Rattle.task_machine.specs.declared.records.Goal.TheVariants as goal
+use Rattle.task_machine.specs.declared.records.HowFar.{HowFar}
+use Rattle.task_machine.specs.declared.records.HowFar.TheVariants as how_far
+use Rattle.task_machine.specs.declared.records.Place.{Place}
 use Rattle.task_machine.specs.declared.records.Place.TheVariants as place
-use Rattle.task_machine.specs.declared.records.Thread.{Thread}
+use Rattle.task_machine.specs.declared.records.Subtask.{Subtask}
 use Rattle.task_machine.specs.declared.records.Subtask.TheVariants as subtask
+use Rattle.task_machine.specs.declared.records.Thread.{Thread}
+use Rattle.task_machine.specs.declared.records.Turn.{Turn}
 use Rattle.task_machine.specs.declared.records.Turn.TheVariants as turn
+use Rattle.task_machine.specs.declared.records.Work.{Work}
+use Rattle.task_machine.specs.declared.records.WorkCaller.{WorkCaller}
+use Rattle.task_machine.specs.declared.records.WorkCaller.TheVariants as work_caller
+use Rattle.task_ops.proofs.BesideLemmas.{stand_of}
+use Rattle.task_ops.proofs.BlockLemmas.{first_found}
+use Rattle.task_ops.specs.Gifts.{AllMembersNamed, MembersNamed}
 use Rattle.task_ops.specs.Running.{IsTopmost}
 use Rattle.task_ops.specs.Stays.{StaysAfter}
+use Rattle.task_ops.specs.Wakes.{WaitersTogether}
 use Rattle.task_ops.specs.declared.came.Came.{Came}
 use Rattle.task_ops.specs.declared.came.Came.TheVariants as came
-use Rattle.task_ops.proofs.BesideLemmas.{stand_of}
-use Rattle.task_rules.specs.Scripts.{export_at, export_kind}
 use Rattle.task_table.specs.declared.id.TableId.{TableId}
-use Rattle.task_turns.specs.Covered.{IsCovered}
-use Rattle.task_turns.specs.Runner.{Runner}
+use Rattle.task_turns.proofs.IdleLemmas.{ended_unqueued}
 use Rattle.task_turns.specs.Turn.{CanStrike, Sits, running_of, state_at}
 use Rattle.task_wait.specs.declared.keys.ThreadKey.{ThreadKey}
+use Rattle.task_words.specs.Live.{live_how_far, live_subtask}
 use Rattle.task_words.specs.StateView.{StateView, thread_of}
 
 pub none_some : {X : Type 0} {A : Type 0} {x : X} {o : Option X} → o ≡ None → o ≡ Some x → A
@@ -40,37 +51,11 @@ pub positive : (n : ℕ) (s : Core) → get s.threads 0 ≡ None → is_some (ge
 positive zero s none there = absurd (cc)
 positive (suc n) s none there = omega arith
 
--- ---- Calls are of callbacks
+-- ---- Who is under another one is found
 
-module _ (c : Component) (covered : IsCovered c) where
-  callback : (f : Callee) → export_kind c f ≡ kind.Callback
-  callback f = go (export_at c f) refl
-    where
-      go : (o : Option ExportDef) → export_at c f ≡ o → option_map_or (λ d. d.kind) o kind.Callback ≡ kind.Callback
-      go None e = refl
-      go (Some d) e = covered.called_back f d e
-
-  module _ (s : Core) (kinds : CallKinds c s) (k : ℕ) where
-    kind_is : kind_of k s ≡ kind.Callback
-    kind_is = go (get s.calls k) refl
-      where
-        go : (o : Option Call) → get s.calls k ≡ o → option_map_or (λ x. x.kind) o kind.Callback ≡ kind.Callback
-        go None e = refl
-        go (Some x) e = (kinds k x e).kind ∙ callback x.callee
-
-    indirect_is : is_direct (goal_of k s) ≡ false
-    indirect_is = go (get s.calls k) refl
-      where
-        go : (o : Option Call) → get s.calls k ≡ o → is_direct (option_map_or (λ x. x.goal) o goal.Nowhere) ≡ false
-        go None e = refl
-        go (Some x) e = by (is_direct x.goal) refl
-          where
-            no : {A : Type 0} → true ≡ false → A
-            no h = absurd (cc)
-
-            by : (b : Bool) → is_direct x.goal ≡ b → b ≡ false
-            by false d = refl
-            by true d = no (sym (ap is_async_lifted ((kinds k x e).kind ∙ callback x.callee)) ∙ (kinds k x e).direct d)
+under_found : (n m : ℕ) (s : Core) → place_of m s ≡ Some (place.Under n) → is_some (under_of n s) ≡ true
+unfolding under_of
+under_found n m s at = first_found (is_under n) m s (grind (arith, nat_tests, at))
 
 -- ---- The running thread
 
@@ -80,43 +65,142 @@ number_at n s runs id e = same (thread_of s id) n (sym (ap (option_map (λ i. th
     same : (a b : ℕ) → Some a ≡ Some b → a ≡ b
     same a b h = cc
 
-module _ (c : Component) (covered : IsCovered c) (n : ℕ) (s : StateView) (sits : Sits c (turn.Run n) s.core) where
+thread_at : (o : Option Thread) → option_map (λ (t : Thread). t.place) o ≡ Some place.Running → (t : Thread) × (o ≡ Some t)
+thread_at None e = none_some refl e
+thread_at (Some t) e = (t, refl)
+
+-- ---- Sets
+
+module _ (c : Component) (p : Turn) (s : Core) (sits : Sits c p s) where
+  known : InOrder c (state_at s Unscripted p)
+  known = sits.order Unscripted
+
+  members_at : (i x : ℕ) → IsOf i x s → MembersNamed i x s
+  members_at i x home = members_named s known.joins_named known.names known.works_known i x home
+
+  pub all_members_named : (i : ℕ) → AllMembersNamed i s
+  all_members_named i h x e = members_at i x (known.sets_named.home i h x e)
+
+  -- the subtask that an op under way cancels
+  cancelled_there : (n : ℕ) (sub : Subtask) → cancelled_by (how_far_of n s) ≡ Some sub → live_subtask sub s ≡ sub
+  cancelled_there n sub e = ?
+
+  call_there : (k : ℕ) (o : Option Call) → get s.calls k ≡ o → option_map_or is_awaited o false ≡ true → is_some (get s.calls k) ≡ true
+  call_there k None e h = absurd (cc)
+  call_there k (Some x) e h = ap is_some e
+
+  work_there : (i n : ℕ) → work_caller_of i s ≡ work_caller.Sync n → is_some (get s.works i) ≡ true
+  work_there i n e = by (get s.works i) e
+    where
+      by : (o : Option Work) → option_map_or (λ (w : Work). w.caller) o work_caller.Spawn ≡ work_caller.Sync n → is_some o ≡ true
+      by None h = absurd (cc)
+      by (Some w) h = refl
+
+  module _ (n : ℕ) (runs : place_of n s ≡ Some place.Running) where
+    calls_there : (k : ℕ) → how_far_of n s ≡ how_far.Calls (subtask.Guest k) → is_some (get s.calls k) ≡ true
+    calls_there k e = elim (known.calls.inside n k e) [
+      | inl under ↦ absurd (let x = sym under ∙ runs in cc)
+      | inr awaited ↦ call_there k (get s.calls k) refl awaited
+    ]
+
+    works_there : (i : ℕ) → how_far_of n s ≡ how_far.Calls (subtask.Host i) → is_some (get s.works i) ≡ true
+    works_there i e = work_there i n (known.works_known.called n i e).1
+
+    ended_work : (i : ℕ) → how_far_of n s ≡ how_far.Calls (subtask.Host i) → is_stage_ended (stage_of i s) ≡ true
+    ended_work i e = elim (known.awaited n i e).1 [
+      | inl blocked ↦ absurd (let x = sym blocked ∙ runs in cc)
+      | inr over ↦ over
+    ]
+
+    pub under_way : UnderWay n s
+    under_way = record {
+      names = op_names (how_far_of n s) refl;
+      sets = λ x e. some_from _ (get s.sets x) (instance_of n s) (known.waits.by_op n x (ap set_of_op e));
+      members = λ x e. members_at (instance_of n s) x (known.waits.by_op n x (ap set_of_op e));
+      calls = calls_there;
+      works = works_there;
+      unqueued = λ i e. ended_unqueued i s known.works (ended_work i e);
+    }
+      where
+        kept : (b : Bool) (k : ℕ) → b ≡ true → (if b then k else 0) ≡ k
+        kept true k e = refl
+        kept false k e = absurd (cc)
+
+        op_names : (h : HowFar) → how_far_of n s ≡ h → live_how_far (how_far_of n s) s ≡ how_far_of n s
+        op_names (how_far.Waits x) e = rw e (ap how_far.Waits (kept _ x (some_from _ (get s.sets x) (instance_of n s) (known.waits.by_op n x (ap set_of_op e)))))
+        op_names (how_far.Calls (subtask.Guest k)) e = rw e (ap (λ j. how_far.Calls (subtask.Guest j)) (kept _ k (calls_there k e)))
+        op_names (how_far.Calls (subtask.Host i)) e = rw e (ap (λ j. how_far.Calls (subtask.Host j)) (kept _ i (works_there i e)))
+        op_names (how_far.Cancels sub) e = rw e (ap how_far.Cancels (cancelled_there n sub (ap cancelled_by e)))
+        op_names (how_far.AwaitsEnd sub) e = rw e (ap how_far.AwaitsEnd (cancelled_there n sub (ap cancelled_by e)))
+        op_names how_far.Fresh e = rw e refl
+        op_names (how_far.Answered v) e = rw e refl
+        op_names how_far.Suspends e = rw e refl
+        op_names how_far.Yields e = rw e refl
+
+  pub named_calls_there : CallsThere s
+  named_calls_there i h k e = by (get s.calls k) refl (known.names.there i h k e)
+    where
+      by : (o : Option Call) → get s.calls k ≡ o → option_and_then (λ (x : Call). x.handle) o ≡ Some h → is_some (get s.calls k) ≡ true
+      by None at handle = absurd (cc)
+      by (Some x) at handle = ap is_some at
+
+  waiting_at : (x : ℕ) (o : Option Place) → option_map_or (is_waiting_on x) o false ≡ true → option_and_then set_of_place o ≡ Some x
+  waiting_at x None h = absurd (cc)
+  waiting_at x (Some (place.Waiting y b)) h = grind (arith, nat_tests)
+  waiting_at x (Some p) h = absurd (cc)
+
+  pub waiters_together : WaitersTogether s
+  waiters_together x n m a b =
+      same_home (instance_of n s) (instance_of m s) _ (known.waits.by_place n x (waiting_at x (place_of n s) a)) (known.waits.by_place m x (waiting_at x (place_of m s) b))
+    where
+      same_home : (i j : ℕ) (o : Option ℕ) → o ≡ Some i → o ≡ Some j → i ≡ j
+      same_home i j o a b = cc
+
+-- the first thread of a call whose start hasn't run
+starts_there : (s : Core) → laws.StartsThere s → StartsThere s
+starts_there s there k x at unstarted unended = there k (grind (arith, at, unstarted, unended))
+
+module _ (c : Component) (n : ℕ) (s : StateView) (sits : Sits c (turn.Run n) s.core) where
   order : InOrder c (state_at s.core Unscripted (turn.Run n))
   order = sits.order Unscripted
 
   at : place_of n s.core ≡ Some place.Running
   at = order.in_place.runs n refl
 
-  thread_at : (o : Option Thread) → option_map (λ (t : Thread). t.place) o ≡ Some place.Running → (t : Thread) × (o ≡ Some t)
-  thread_at None e = none_some refl e
-  thread_at (Some t) e = (t, refl)
-
-  pub runner : get s.core.threads 0 ≡ None → running_of s ≡ Some n → Runner n s
-  runner none runs = let t = thread_at (get s.core.threads n) at in record {
+  runner_of : get s.core.threads 0 ≡ None → (id : TableId ThreadKey) → s.current ≡ Some id → n ≡ thread_of s id → place_of (thread_of s id) s.core ≡ Some place.Running → Runner id s
+  runner_of none id current named runs = let t = thread_at (get s.core.threads (thread_of s id)) runs in record {
     thread = t.0;
     here = t.1;
-    live = positive n s.core none (ap is_some t.1);
-    runs = runs;
-    running = stand_of n place.Running s.core at refl order.in_place.placed;
-    kind = kind_is c covered s.core order.kinds (task_of n s.core);
-    indirect = indirect_is c covered s.core order.kinds (task_of n s.core);
+    live = positive (thread_of s id) s.core none (ap is_some t.1);
+    current = current;
+    running = stand_of (thread_of s id) place.Running s.core runs refl order.in_place.placed;
     sets = λ i h x e. some_from _ (get s.core.sets x) i (order.sets_named.home i h x e);
-    join = λ x e. let j = order.joins_named.joins (subtask.Guest (task_of n s.core)) x e in some_from _ (get s.core.sets x) j.instance j.home;
+    join = λ x e. let j = order.joins_named.joins (subtask.Guest (task_of (thread_of s id) s.core)) x e in some_from _ (get s.core.sets x) j.instance j.home;
+    under = λ implicit direct. let below = order.directs (thread_of s id) (ap is_some runs) implicit direct in under_found (thread_of s id) below.0 s.core below.1;
+    members = all_members_named c (turn.Run n) s.core sits (instance_of (thread_of s id) s.core);
+    under_way = under_way c (turn.Run n) s.core sits (thread_of s id) runs;
+    together = waiters_together c (turn.Run n) s.core sits;
+    calls = named_calls_there c (turn.Run n) s.core sits;
+    starts = order.starts;
+    waiting = starts_there s.core (order.awake refl).starts_there;
+    works = order.works;
   }
 
-  -- the same of the id by which it runs
-  pub runner_at : get s.core.threads 0 ≡ None → running_of s ≡ Some n → (id : TableId ThreadKey) → s.current ≡ Some id → Runner (thread_of s id) s
-  runner_at none runs id e = subst (λ k. Runner k s) (sym (number_at n s runs id e)) (runner none runs)
+  -- the thread that runs, by its id
+  pub runner : get s.core.threads 0 ≡ None → running_of s ≡ Some n → (id : TableId ThreadKey) → s.current ≡ Some id → Runner id s
+  runner none runs id current =
+      let named = sym (number_at n s runs id current) in
+      runner_of none id current named (subst (λ k. place_of k s.core ≡ Some place.Running) named at)
 
-topmost : (n : ℕ) (s : StateView) → Runner n s → IsTopmost n s.core
-topmost n s q = record { place = place.Running; stand = q.running; apart = λ p e. absurd (cc) }
+topmost : (id : TableId ThreadKey) (s : StateView) → Runner id s → IsTopmost (thread_of s id) s.core
+topmost id s q = record { place = place.Running; stand = q.running; apart = λ p e. absurd (cc) }
 
 -- the strand of a thread that trapped is there
-pub strikes : (r : Came) (id : TableId ThreadKey) (s t : StateView) → Runner (thread_of s id) s → StaysAfter r s t → CanStrike r (thread_of t id) t.core
+pub strikes : (r : Came) (id : TableId ThreadKey) (s t : StateView) → Runner id s → StaysAfter r s t → CanStrike r (thread_of t id) t.core
 strikes (came.Goes l m) id s t q e = tt
 strikes (came.Stops l) id s t q e = tt
-strikes (came.Traps why) id s t q e = subst (λ (v : StateView). (0 < thread_of v id) × IsTopmost (thread_of v id) v.core) (sym e) (q.live, topmost (thread_of s id) s q)
-strikes (came.Fails i) id s t q e = subst (λ (v : StateView). (0 < thread_of v id) × IsTopmost (thread_of v id) v.core) (sym e) (q.live, topmost (thread_of s id) s q)
+strikes (came.Traps why) id s t q e = subst (λ (v : StateView). (0 < thread_of v id) × IsTopmost (thread_of v id) v.core) (sym e) (q.live, topmost id s q)
+strikes (came.Fails i) id s t q e = subst (λ (v : StateView). (0 < thread_of v id) × IsTopmost (thread_of v id) v.core) (sym e) (q.live, topmost id s q)
 
 -- the same thread runs where no name and not the current one is changed
 pub runs_still : (s t : StateView) → t.tags ≡ s.tags → t.current ≡ s.current → running_of t ≡ running_of s

@@ -1,8 +1,7 @@
 -- A step of the running thread.
-use Rattle.std.proofs.Common.{arith, ap, refl, subst, sym, ◌∙◌}
-use Rattle.std.specs.List.{list_all}
+use Rattle.std.proofs.Common.{ap, refl, subst, sym, ◌∙◌}
 use Rattle.std.specs.Option.{option_map_or}
-use Rattle.std.specs.Prelude.{Bool, List, Option, Some, [], slice_get, suc, true, unwrap_or, zero, ℕ, ◌∷◌, ◌≡◌}
+use Rattle.std.specs.Prelude.{Bool, List, Option, Some, [], slice_get, unwrap_or, ℕ, ◌≡◌}
 use Rattle.task_machine.specs.Core.{Core, Main}
 use Rattle.task_machine.specs.Labels.{choice_of}
 use Rattle.task_machine.specs.Maps.{get}
@@ -30,10 +29,9 @@ use Rattle.task_ops.specs.declared.came.Came.TheVariants as came
 use Rattle.task_rules.specs.Scripts.{op_of, script_in, script_of}
 use Rattle.task_rules.specs.Stalled.{Setting}
 use Rattle.task_rules.specs.Step.{Step, did, op_row}
-use Rattle.task_rules.specs.Takes.{popped, pushed, thread_taken}
+use Rattle.task_rules.specs.Takes.{host_row, popped, pushed, thread_taken}
 use Rattle.task_rules.specs.Turns.{at_turn, goes_to}
 use Rattle.task_table.specs.declared.id.TableId.{TableId}
-use Rattle.task_turns.specs.Covered.{is_covered_op}
 use Rattle.task_turns.specs.Turn.{state_at}
 use Rattle.task_wait.specs.declared.keys.ThreadKey.{ThreadKey}
 use Rattle.task_words.specs.StateView.{StateView, thread_of}
@@ -53,11 +51,6 @@ module _ (c : Component) (n : ℕ) (s : Core) (t : Thread) (here : get s.threads
   pub row_at : (o : Option Op) → o ≡ slice_get ops p → (r : Came) (u : Core) → Meets (op_row c n s (choice_of (label_of n r)) (unwrap_or o (op.Task task.Exit))) s r u → Meets (did c n s (choice_of (label_of n r))) s r u
   unfolding did op_of
   row_at o e r u h = subst (λ (q : Option Op). Meets (op_row c n s (choice_of (label_of n r)) (unwrap_or q (op.Task task.Exit))) s r u) (e ∙ (ap (slice_get ops) place ∙ ap (λ (os : List Op). slice_get os (position_of n s)) (sym script_is))) h
-
-pub covered_at : (ops : List Op) (p : ℕ) (o : Op) → list_all is_covered_op ops ≡ true → slice_get ops p ≡ Some o → is_covered_op o ≡ true
-covered_at [] p o all e = absurd (cc)
-covered_at (x ∷ ops) zero o all e = grind arith
-covered_at (x ∷ ops) (suc p) o all e = covered_at ops p o (grind arith) e
 
 -- ---- The step
 
@@ -114,3 +107,11 @@ pub took_push : (c : Component) (ended : Bool) (mark : Mark) (i : ℕ) (s t : St
 took_push c ended mark i s t next core x component m =
     subst (Step x (state_at s.core m (turn.Take ended)) (label.Take (take_label.Push mark i))) (settled (came.Stops (label.Take (take_label.Push mark i))) s.core m (turn.Take ended) t.core)
     (taking_is_step x (state_at s.core m (turn.Take ended)) ended (mark, entry.Push i) (came.Stops (label.Take (take_label.Push mark i))) t.core refl next (refl, core))
+
+pub took_host : (c : Component) (ended : Bool) (mark : Mark) (i : ℕ) (s u t : StateView) (r : Came) (l : Label) → u.core ≡ popped mark s.core → next_entry s.core ≡ Some (mark, entry.Host i) → Meets (host_row mark i (choice_of (label_of i r)).woken u.core) u.core r t.core → r ≡ came.Stops l
+    → (x : Setting) → x.component ≡ c → (m : Main) → Step x (state_at s.core m (turn.Take ended)) l (state_at t.core m turn.Main)
+took_host c ended mark i s u t r l base next meets is x component m =
+    let based = subst (λ (b : Core). Meets (host_row mark i (choice_of (label_of i r)).woken b) b r t.core) base meets in
+    let shown = subst (λ (q : Came). Meets (host_row mark i (choice_of (label_of i q)).woken (popped mark s.core)) (popped mark s.core) q t.core) is based in
+    subst (Step x (state_at s.core m (turn.Take ended)) l) (settled (came.Stops l) s.core m (turn.Take ended) t.core)
+    (taking_is_step x (state_at s.core m (turn.Take ended)) ended (mark, entry.Host i) (came.Stops l) t.core refl next shown)

@@ -1,13 +1,12 @@
 -- What the taking of an entry shows, and what a trap leaves.
-use Rattle.std.proofs.Common.{ap, refl, subst, sym, ◌∙◌}
-use Rattle.std.specs.Prelude.{Bool, Err, IfOk, List, None, Ok, Option, Result, Some, false, true, ℕ, ◌<◌, ◌≡◌}
+use Rattle.std.proofs.Common.{refl, subst, sym}
+use Rattle.std.specs.Prelude.{Bool, None, Option, Some, false, true, ℕ, ◌<◌, ◌≡◌}
 use Rattle.task_machine.specs.Core.{Core}
 use Rattle.task_machine.specs.Labels.{Choice, event_label, held_label, take_label}
 use Rattle.task_machine.specs.Moves.{Gift, MemberGift, NoGift, OwnGift, gift, may_hand_on}
 use Rattle.task_machine.specs.Read.{at_handle_limit, is_explicit, task_of}
 use Rattle.task_machine.specs.declared.records.Delivery.TheVariants as delivery
 use Rattle.task_machine.specs.declared.records.Place.TheVariants as place
-use Rattle.task_machine.specs.declared.trap.Trap.{Trap}
 use Rattle.task_machine.specs.declared.trap.Trap.TheVariants as trap
 use Rattle.task_machine.specs.declared.words.Given.{Given}
 use Rattle.task_machine.specs.declared.words.Mark.{Mark}
@@ -19,36 +18,15 @@ use Rattle.task_ops.specs.declared.came.Came.{Came}
 use Rattle.task_ops.specs.declared.came.Came.TheVariants as came
 use Rattle.task_rules.specs.Ends.{may_tell}
 use Rattle.task_rules.specs.Outcome.{outcome_of_label}
-use Rattle.task_rules.specs.Progress.{Fails, Goes, Never, Ordered, Progress, Stops, Traps, may, or_never, trap_if}
+use Rattle.task_rules.specs.Progress.{Goes, Stops, may, or_never}
 use Rattle.task_rules.specs.Sets.{chosen, handed_out}
 use Rattle.task_rules.specs.Takes.{activated_woken, delivered, may_tell_starting, set_delivered, start_admitted, start_begins, start_holds, start_row}
 use Rattle.task_table.specs.declared.id.TableId.{TableId}
+use Rattle.op_dispatch.proofs.RowLemmas.{ShowsAs, here, if_lawful, if_traps, shows_of}
 use Rattle.task_turns.specs.Taken.{Taken}
 use Rattle.task_turns.specs.Turn.{CanStrike, Shows}
 use Rattle.task_wait.specs.declared.keys.ThreadKey.{ThreadKey}
 use Rattle.task_words.specs.StateView.{StateView, thread_of}
-
-abbrev ShowsAs : ℕ → Progress → Type 0
-ShowsAs n (Goes l new m) = (m ≡ n) × (outcome_of_label l ≡ None)
-ShowsAs n (Stops l new) = outcome_of_label l ≡ None
-ShowsAs n (Ordered ns next) = (order : List ℕ) → ShowsAs n (next order)
-ShowsAs n _ = Unit {0}
-
-shows_of : (n : ℕ) (p : Progress) (s : Core) (r : Came) (t : Core) → ShowsAs n p → Meets p s r t → Shows n r
-shows_of n (Goes l new m) s r t g h = subst (Shows n) (sym h.0) g
-shows_of n (Stops l new) s r t g h = subst (Shows n) (sym h.0) g
-shows_of n (Traps why) s r t g h = subst (Shows n) (sym h.0) tt
-shows_of n (Fails i) s r t g h = subst (Shows n) (sym h.0) tt
-shows_of n Never s r t g h = absurd h
-shows_of n (Ordered ns next) s r t g h = shows_of n (next h.0) s r t (g h.0) h.1.1
-
-if_traps : (n : ℕ) (b : Bool) (why : Trap) (p : Progress) → ShowsAs n p → ShowsAs n (trap_if b why p)
-if_traps n true why p g = tt
-if_traps n false why p g = g
-
-if_lawful : (n : ℕ) (b : Bool) (p : Progress) → ShowsAs n p → ShowsAs n (may b p)
-if_lawful n true p g = g
-if_lawful n false p g = tt
 
 take_quiet : (m : Mark) (n : ℕ) (w : Option ℕ) → outcome_of_label (take_label m n w) ≡ None
 take_quiet m n None = refl
@@ -67,12 +45,12 @@ event_quiet m n v (Some k) = refl
 admitted_shows : (m : Mark) (n : ℕ) (w : Option ℕ) (s : Core) (b : Bool) → ShowsAs n (start_admitted m n w s b)
 admitted_shows m n w s true = (refl, refl)
 admitted_shows m n w s false =
-    if_traps n (at_handle_limit s) trap.HandleLimit (may (may_tell (task_of n s) w s) (Goes (take_label m n w) (start_begins n w s) n))
-    (if_lawful n (may_tell (task_of n s) w s) (Goes (take_label m n w) (start_begins n w s) n) (refl, take_quiet m n w))
+    if_traps (here n) (at_handle_limit s) trap.HandleLimit (may (may_tell (task_of n s) w s) (Goes (take_label m n w) (start_begins n w s) n))
+    (if_lawful (here n) (may_tell (task_of n s) w s) (Goes (take_label m n w) (start_begins n w s) n) (refl, take_quiet m n w))
 
 start_as : (m : Mark) (n : ℕ) (w : Option ℕ) (s : Core) (b : Bool) → ShowsAs n (start_row m n w s b)
 start_as m n w s true = admitted_shows m n w s (is_explicit n s)
-start_as m n w s false = if_lawful n (may_tell_starting (task_of n s) w s) (Stops (held_label m n w) (start_holds n w s)) (held_quiet m n w)
+start_as m n w s false = if_lawful (here n) (may_tell_starting (task_of n s) w s) (Stops (held_label m n w) (start_holds n w s)) (held_quiet m n w)
 
 pub start_shows : (m : Mark) (n : ℕ) (w : Option ℕ) (s : Core) (b : Bool) (r : Came) (t : Core) → Meets (start_row m n w s b) s r t → Shows n r
 start_shows m n w s b r t h = shows_of n (start_row m n w s b) s r t (start_as m n w s b) h
@@ -82,9 +60,9 @@ start_shows m n w s b r t h = shows_of n (start_row m n w s b) s r t (start_as m
 given_as : (m : Mark) (n x : ℕ) (ch : Choice) (s : Core) (g : Gift) → ShowsAs n (set_delivered m n x ch s g)
 given_as m n x ch s NoGift = refl
 given_as m n x ch s (OwnGift e) = let v = handed_out ch s (OwnGift e) in
-    if_lawful n (may_hand_on x (OwnGift e) ch.woken s) (Goes (event_label m n v ch.woken) (activated_woken n x ch.woken (OwnGift e) v s) n) (refl, event_quiet m n v ch.woken)
+    if_lawful (here n) (may_hand_on x (OwnGift e) ch.woken s) (Goes (event_label m n v ch.woken) (activated_woken n x ch.woken (OwnGift e) v s) n) (refl, event_quiet m n v ch.woken)
 given_as m n x ch s (MemberGift h) = let v = handed_out ch s (MemberGift h) in
-    if_lawful n (may_hand_on x (MemberGift h) ch.woken s) (Goes (event_label m n v ch.woken) (activated_woken n x ch.woken (MemberGift h) v s) n) (refl, event_quiet m n v ch.woken)
+    if_lawful (here n) (may_hand_on x (MemberGift h) ch.woken s) (Goes (event_label m n v ch.woken) (activated_woken n x ch.woken (MemberGift h) v s) n) (refl, event_quiet m n v ch.woken)
 
 found_as : (m : Mark) (n x : ℕ) (ch : Choice) (s : Core) (o : Option Gift) → ShowsAs n (or_never o (set_delivered m n x ch s))
 found_as m n x ch s None = tt
@@ -95,21 +73,6 @@ delivered_shows m n x ch s r t h = shows_of n (delivered m n ch s (delivery.Set 
 
 -- ---- A trap
 
-same_view : (s t : StateView) → t.core ≡ s.core → t.tags ≡ s.tags → t.current ≡ s.current → t ≡ s
-same_view s t core tags current =
-    ap (λ d. let v : StateView = record { core = d; tags = t.tags; current = t.current } in v) core
-    ∙ (ap (λ d. let v : StateView = record { core = s.core; tags = d; current = t.current } in v) tags
-    ∙ ap (λ d. let v : StateView = record { core = s.core; tags = s.tags; current = d } in v) current)
-
--- an op that changes no name, and not who is current
-pub same_stays : (p : Progress) (s t : StateView) (r : Came) → Meets p s.core r t.core → t.tags ≡ s.tags → t.current ≡ s.current → StaysAfter r s t
-same_stays (Goes l new m) s t r h tags current = subst (λ (q : Came). StaysAfter q s t) (sym h.0) tt
-same_stays (Stops l new) s t r h tags current = subst (λ (q : Came). StaysAfter q s t) (sym h.0) tt
-same_stays (Traps why) s t r h tags current = subst (λ (q : Came). StaysAfter q s t) (sym h.0) (same_view s t h.1 tags current)
-same_stays (Fails i) s t r h tags current = subst (λ (q : Came). StaysAfter q s t) (sym h.0) (same_view s t h.1 tags current)
-same_stays Never s t r h tags current = absurd h
-same_stays (Ordered ns next) s t r h tags current = same_stays (next h.0) s t r h.1.1 tags current
-
 -- the strand of a taken thread that trapped is there
 topmost : (m : Mark) (n : ℕ) (s : Core) → Taken m n s → IsTopmost n s
 topmost m n s q = record { place = place.Ready m (why_of n s); stand = q.stands; apart = λ p e. absurd (cc) }
@@ -119,7 +82,3 @@ taken_strikes m (came.Goes l k) id s t q e = tt
 taken_strikes m (came.Stops l) id s t q e = tt
 taken_strikes m (came.Traps why) id s t q e = subst (λ (v : StateView). (0 < thread_of v id) × IsTopmost (thread_of v id) v.core) (sym e) (q.live, topmost m (thread_of s id) s.core q)
 taken_strikes m (came.Fails i) id s t q e = subst (λ (v : StateView). (0 < thread_of v id) × IsTopmost (thread_of v id) v.core) (sym e) (q.live, topmost m (thread_of s id) s.core q)
-
-pub ok_then : {X E : Type 0} (P Q : X → Type 0) (r : Result X E) → ((x : X) → P x → Q x) → IfOk r P → IfOk r Q
-ok_then P Q (Ok x) f h = f x h
-ok_then P Q (Err e) f h = tt

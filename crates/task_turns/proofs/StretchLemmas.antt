@@ -1,12 +1,11 @@
 -- A run goes on by the ops of a stretch.
-use Rattle.std.proofs.Common.{ap, ap₂, arith, refl, subst, sym, ◌∙◌, ◌++◌, ◌∷◌, []}
+use Rattle.std.proofs.Common.{ap, ap₂, refl, subst, sym, ◌∙◌, ◌++◌, ◌∷◌, []}
 use Rattle.std.specs.Option.{option_map_or}
 use Rattle.std.specs.Prelude.{List, None, Option, Some, slice_get, unwrap_or, ℕ, ◌+◌, ◌≡◌}
 use Rattle.task_machine.specs.Core.{Core, Main}
 use Rattle.task_machine.specs.Labels.{choice_of}
 use Rattle.task_machine.specs.Maps.{Records, get}
 use Rattle.task_machine.specs.Read.{callee_of, how_far_of, instance_of, no_callee, position_of, registers_of, task_of}
-use Rattle.task_machine.specs.Write.{on_thread}
 use Rattle.task_machine.specs.declared.component.Callee.{Callee}
 use Rattle.task_machine.specs.declared.component.Component.{Component}
 use Rattle.task_machine.specs.declared.label.DataLabel.{DataLabel}
@@ -31,14 +30,12 @@ use Rattle.task_rules.specs.Stalled.{Setting}
 use Rattle.task_rules.specs.Step.{Step, did, op_row}
 use Rattle.task_turns.proofs.ContextLemmas.{context_same, position-context, script-context}
 use Rattle.task_turns.proofs.DriveLemmas.{on_more}
-use Rattle.task_turns.proofs.OrderLemmas.{number_at, runner, runner_at, runs_still}
+use Rattle.task_turns.proofs.OrderLemmas.{number_at, runner, runs_still}
 use Rattle.task_turns.proofs.RunLemmas.{script_is, settled}
 use Rattle.task_turns.specs.Context.{KeepsBeside, in_context, state_in}
 use Rattle.task_table.specs.declared.id.TableId.{TableId}
-use Rattle.task_turns.specs.Covered.{IsCovered}
 use Rattle.task_turns.specs.Drive.{KeepsOn}
-use Rattle.task_turns.specs.Runner.{Runner}
-use Rattle.task_turns.specs.Turn.{Sits, Turns, given, running_of, state_at}
+use Rattle.task_turns.specs.Turn.{Sits, Turns, running_of, state_at}
 use Rattle.task_turns.specs.declared.context.ThreadContext.{ThreadContext}
 use Rattle.task_turns.specs.declared.made.Made.{Made}
 use Rattle.task_words.specs.Context.{with_context}
@@ -111,13 +108,14 @@ module _ (c : Component) (n : ℕ) (t : StateView) (th : Thread) (found : get t.
         on_more z first trace numbers (turn.Run n) m (state_in n x t) mid k (kept z component first trace numbers m going) made m (state_in n y u) (turns z component m) (mid ++ label.Data l ∷ []) refl refl
 
 -- what the thread that runs is, and which script it has
-pub begun : (c : Component) → IsCovered c → (n : ℕ) (s : StateView) → Sits c (turn.Run n) s.core → get s.core.threads 0 ≡ None → running_of s ≡ Some n → (id : TableId ThreadKey) → s.current ≡ Some id
+pub begun : (c : Component) → (n : ℕ) (s : StateView) → Sits c (turn.Run n) s.core → get s.core.threads 0 ≡ None → running_of s ≡ Some n → (id : TableId ThreadKey) → s.current ≡ Some id
     → (f : Callee) (k : ℕ) (x : Script) (ops : List Op) → f ≡ callee_of k s.core → k ≡ task_of (thread_of s id) s.core → ((t : Thread) → get s.core.threads (thread_of s id) ≡ Some t → x ≡ t.script) → ops ≡ script_in c f x
-    → Runner n s × (script_of c n s.core ≡ ops)
-begun c covered n s order none runs id current f k x ops callee call script read =
-    let q = runner_at c covered n s order none runs id current in
+    → (t : Thread) × ((get s.core.threads n ≡ Some t) × (script_of c n s.core ≡ ops))
+begun c n s order none runs id current f k x ops callee call script read =
+    let q = runner c n s order none runs id current in
+    let number = number_at n s runs id current in
     let own = script_is c (thread_of s id) s.core q.thread q.here ops f k (position_of (thread_of s id) s.core) x callee call (script q.thread q.here) read refl in
-    (runner c covered n s order none runs, subst (λ j. script_of c j s.core ≡ ops) (number_at n s runs id current) own)
+    (q.thread, (subst (λ j. get s.core.threads j ≡ Some q.thread) number q.here, subst (λ j. script_of c j s.core ≡ ops) number own))
 
 -- the context is written back
 pub written : (n : ℕ) (s t u : StateView) (id : TableId ThreadKey) (x : ThreadContext) → thread_of s id ≡ n → KeepsBeside s t → u ≡ on_core (with_context (thread_of t id) x.position x.registers) t → u ≡ state_in n x t

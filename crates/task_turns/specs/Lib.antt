@@ -1,8 +1,9 @@
 pub mod Covered
 pub mod Turn
-pub mod Runner
 pub mod Context
 pub mod Drive
 pub mod Taken
 pub mod Kept
 pub mod Main
+pub mod WellFormed
+pub mod Ran

@@ -7,15 +7,23 @@ ghost use Rattle.task_rules.specs.Step.{struck};
 ghost use Rattle.task_turns.specs.Turn.{CanStrike, GoesOn, is_open, running_of, runs_in};
 ghost use Rattle.task_words.specs.StateView.{thread_of};
 
-use task_machine::{CallLabel, Label, LoopLabel, Turn};
+use task_machine::{CallLabel, HostDef, Label, LoopLabel, Turn};
 use task_ops::{Came, strike};
-use task_words::{ThreadId, Words};
+use task_words::{ThreadId, WorkId, Words};
 
 /// A step that was made: its label, and whose turn it is then.
 #[derive(Clone, Copy)]
 pub struct Made {
     pub label: Label,
     pub turn: Turn,
+}
+
+/// A step of the running thread that was made: the host that was polled first in it, and the work that was made.
+#[derive(Clone, Copy)]
+pub struct Ran {
+    pub made: Made,
+    pub polled: Option<HostDef>,
+    pub work: Option<WorkId>,
 }
 
 // The strand of the thread is gone, and none runs.

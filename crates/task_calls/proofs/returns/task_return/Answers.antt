@@ -7,15 +7,16 @@ use Rattle.task_machine.specs.Labels.{choice_of}
 use Rattle.task_ops.specs.Came.{Meets}
 use Rattle.task_ops.specs.Steps.{label_of}
 use Rattle.task_rules.specs.Task.{ret_row}
-use Rattle.task_turns.proofs.OrderLemmas.{number_at, runner_at}
-use Rattle.task_turns.specs.Runner.{Runner}
+use Rattle.task_turns.proofs.OrderLemmas as order
+use Rattle.task_turns.proofs.OrderLemmas.{number_at}
+use Rattle.op_dispatch.specs.Runner.{Runner}
 use Rattle.task_words.specs.StateView.{thread_of}
 use Rattle.task_calls.proofs.returns.task_return.Given.{Over}
 use Rattle.task_calls.proofs.returns.task_return.Goals as goal
 
 module _ (g : Over) (c : goal.After-ret-arg-1 g) where
-  runner : Runner (thread_of (g.W.View.view c.args.w.now) c.in-Some.thread) (g.W.View.view c.args.w.now)
-  runner = runner_at c.args.component.now c.requires.covered c.args.number (g.W.View.view c.args.w.now) c.requires.order
+  runner : Runner c.in-Some.thread (g.W.View.view c.args.w.now)
+  runner = order.runner c.args.component.now c.args.number (g.W.View.view c.args.w.now) c.requires.order
       c.none_is_zero.ensures.threads c.requires.runs c.in-Some.thread (sym c.current.ensures ∙ c.in-Some.is)
 
 pub ret-requires-clause-live : goal.ret-requires-clause-live

@@ -1,15 +1,30 @@
-use Rattle.std.proofs.Common.{ap, length, subst, sym, true, ◌<◌, ◌≡◌, ◌∙◌}
+use Rattle.std.proofs.Common.{ap, length, subst, sym, ◌<◌, ◌≡◌, ◌∙◌}
 use Rattle.std.proofs.lemmas.Option.{slice_get_within}
-use Rattle.std.specs.List.{list_all}
-use Rattle.std.specs.Prelude.{None, Some, option_copied}
-use Rattle.task_turns.proofs.RunLemmas.{covered_at, row_at, script_is}
+use Rattle.std.specs.Prelude.{None, Some, option_copied, slice_get}
+use Rattle.task_machine.specs.Labels.{choice_of}
+use Rattle.task_machine.specs.Read.{callee_of, instance_of, task_of}
+use Rattle.task_machine.specs.declared.component.Callee.{Callee}
+use Rattle.task_ops.specs.Came.{Meets}
+use Rattle.task_ops.specs.Steps.{label_of}
+use Rattle.task_rules.specs.Step.{did, op_row}
+use Rattle.task_turns.proofs.CoveredLemmas.{home_below}
+use Rattle.task_turns.proofs.RunLemmas.{row_at, script_is}
+use Rattle.op_dispatch.proofs.StayLemmas.{ok_then}
 use Rattle.task_turns.proofs.runs.run_op.Goals as goal
-use Rattle.task_turns.specs.Covered.{is_covered_op}
 use Rattle.task_words.specs.StateView.{call_of, thread_of}
 
-pub do_op-requires-clause-covered : goal.do_op-requires-clause-covered
-do_op-requires-clause-covered g c =
-    covered_at c.script_ops-script.result.now c.position.result c.in-Some.op.now (subst (λ os. list_all is_covered_op os ≡ true) (sym c.script_ops-script.ensures) (c.requires.covered.ops c.callee.result c.script.result)) (sym c.op_at.ensures ∙ ap option_copied c.in-Some.is)
+pub do_op-requires-clause-fits : goal.do_op-requires-clause-fits
+do_op-requires-clause-fits g c =
+    c.requires.covered.ops c.callee.result c.script.result c.position.result c.in-Some.op.now
+    (subst (λ os. slice_get os c.position.result ≡ Some c.in-Some.op.now) c.script_ops-script.ensures (sym c.op_at.ensures ∙ ap option_copied c.in-Some.is))
+
+pub do_op-requires-clause-handles : goal.do_op-requires-clause-handles
+do_op-requires-clause-handles g c =
+    let s = g.W.View.view c.args.w.now in
+    let n = thread_of s c.args.thread in
+    let own : c.callee.result ≡ callee_of (task_of n s.core) s.core = c.callee.ensures ∙ ap (λ k. callee_of k s.core) c.task_of-call.ensures.is in
+    c.requires.handles (instance_of n s.core) (subst (λ (f : Callee). f.instance < length c.args.component.now.instances) own
+    (home_below c.args.component.now c.callee.result c.script.result c.position.result c.in-Some.op.now (subst (λ os. slice_get os c.position.result ≡ Some c.in-Some.op.now) c.script_ops-script.ensures (sym c.op_at.ensures ∙ ap option_copied c.in-Some.is))))
 
 pub do_op-requires-clause-within : goal.do_op-requires-clause-within
 do_op-requires-clause-within g c =
@@ -25,10 +40,12 @@ do_op-requires-clause-ends g c =
 pub returns-in-Some-clause-meets : goal.returns-in-Some-clause-meets
 returns-in-Some-clause-meets g c =
     let s = g.W.View.view c.args.w.now in
+    let t = g.W.View.view c.do_op.new.w in
     let n = thread_of s c.args.thread in
     let q = c.requires.runner in
-    row_at c.args.component.now n s.core q.thread q.here c.script_ops-script.result.now c.callee.result (call_of s c.task_of-call.result) c.position.result c.script.result c.callee.ensures c.task_of-call.ensures.is (c.script.ensures q.thread q.here) c.script_ops-script.ensures c.position.ensures
-    (Some c.in-Some.op.now) (sym (ap option_copied c.in-Some.is) ∙ c.op_at.ensures) c.do_op.result (g.W.View.view c.do_op.new.w).core c.do_op.ensures.meets
+    ok_then (λ r. Meets (op_row c.args.component.now n s.core (choice_of (label_of n r)) c.in-Some.op.now) s.core r t.core) (λ r. Meets (did c.args.component.now n s.core (choice_of (label_of n r))) s.core r t.core) c.do_op.result
+    (λ r h. row_at c.args.component.now n s.core q.thread q.here c.script_ops-script.result.now c.callee.result (call_of s c.task_of-call.result) c.position.result c.script.result c.callee.ensures c.task_of-call.ensures.is (c.script.ensures q.thread q.here) c.script_ops-script.ensures c.position.ensures
+    (Some c.in-Some.op.now) (sym (ap option_copied c.in-Some.is) ∙ c.op_at.ensures) r t.core h) c.do_op.ensures.meets
 
 pub returns-in-None-clause-meets : goal.returns-in-None-clause-meets
 returns-in-None-clause-meets g c =

@@ -9,7 +9,7 @@ use Rattle.task_machine.specs.declared.op.Op.{Op}
 use Rattle.task_machine.specs.declared.op.Op.TheVariants as op
 use Rattle.task_machine.specs.declared.records.HowFar.TheVariants as how_far
 use Rattle.task_machine.specs.declared.records.Turn.TheVariants as turn
-use Rattle.task_turns.proofs.OrderLemmas.{number_at, runner_at, runs_still}
+use Rattle.task_turns.proofs.OrderLemmas.{number_at, runner, runs_still}
 use Rattle.task_turns.proofs.StretchLemmas.{begins, begun, beside_both, beside_same, beside_script, beside_there, keeps_on, script_there, written}
 use Rattle.task_turns.proofs.stretches.stretch.Goals as goal
 use Rattle.task_turns.specs.Context.{state_in}
@@ -18,23 +18,23 @@ use Rattle.task_words.specs.StateView.{StateView, call_of, with_core}
 
 pub script-requires : goal.script-requires
 script-requires g c =
-    (runner_at c.args.component.now c.requires.covered c.args.number (g.W.View.view c.args.w.now) c.requires.order c.none_is_zero.ensures.threads c.requires.runs c.in-Some.thread (sym c.current.ensures ∙ c.in-Some.is)).live
+    (runner c.args.component.now c.args.number (g.W.View.view c.args.w.now) c.requires.order c.none_is_zero.ensures.threads c.requires.runs c.in-Some.thread (sym c.current.ensures ∙ c.in-Some.is)).live
 
 pub context_of-context-requires : goal.context_of-context-requires
 context_of-context-requires g c =
-    (runner_at c.args.component.now c.requires.covered c.args.number (g.W.View.view c.args.w.now) c.requires.order c.none_is_zero.ensures.threads c.requires.runs c.in-Some.thread (sym c.current.ensures ∙ c.in-Some.is)).live
+    (runner c.args.component.now c.args.number (g.W.View.view c.args.w.now) c.requires.order c.none_is_zero.ensures.threads c.requires.runs c.in-Some.thread (sym c.current.ensures ∙ c.in-Some.is)).live
 
 pub ops-init : goal.ops-init
 ops-init g c =
     let s = g.W.View.view c.args.w.now in
     let current = sym c.current.ensures ∙ c.in-Some.is in
-    let q = begun c.args.component.now c.requires.covered c.args.number s c.requires.order c.none_is_zero.ensures.threads c.requires.runs c.in-Some.thread current c.callee.result (call_of s c.task_of-call.result) c.script.result c.script_ops-script.result.now c.callee.ensures c.task_of-call.ensures.is c.script.ensures c.script_ops-script.ensures in
+    let q = begun c.args.component.now c.args.number s c.requires.order c.none_is_zero.ensures.threads c.requires.runs c.in-Some.thread current c.callee.result (call_of s c.task_of-call.result) c.script.result c.script_ops-script.result.now c.callee.ensures c.task_of-call.ensures.is c.script.ensures c.script_ops-script.ensures in
     let number = number_at c.args.number s c.requires.runs c.in-Some.thread current in
     let x = c.context_of-context.result in
     let fresh = subst (λ k. how_far_of k s.core ≡ how_far.Fresh) number (c.if-not-is_plain.ensures.fresh refl) in
     let position = subst (λ k. x.position ≡ position_of k s.core) number c.context_of-context.ensures.position in
     let registers = subst (λ k. x.registers ≡ registers_of k s.core) number c.context_of-context.ensures.registers in
-    let same = begins c.args.number s.core q.0.thread q.0.here fresh x position registers in
+    let same = begins c.args.number s.core q.0 q.1.0 fresh x position registers in
     record {
       beside = beside_same s;
       on = subst (λ (d : Core). KeepsOn c.args.component.now (turn.Run c.args.number) s c.args.trace.now c.args.added (with_core d s) c.args.trace.now c.args.added) (sym same) (λ z component first trace numbers m going. going);
@@ -50,8 +50,8 @@ returns-in_default-op_at-clause-on g c =
 pub computes_in-label-requires-clause-there : goal.computes_in-label-requires-clause-there
 computes_in-label-requires-clause-there g c =
     let s = g.W.View.view c.args.w.now in
-    let q = begun c.args.component.now c.requires.covered c.args.number s c.requires.order c.none_is_zero.ensures.threads c.requires.runs c.in-Some.thread (sym c.current.ensures ∙ c.in-Some.is) c.callee.result (call_of s c.task_of-call.result) c.script.result c.script_ops-script.result.now c.callee.ensures c.task_of-call.ensures.is c.script.ensures c.script_ops-script.ensures in
-    (q.0.thread, beside_there c.args.number s (g.W.View.view c.ops.w) c.ops.invariant.beside q.0.thread q.0.here)
+    let q = begun c.args.component.now c.args.number s c.requires.order c.none_is_zero.ensures.threads c.requires.runs c.in-Some.thread (sym c.current.ensures ∙ c.in-Some.is) c.callee.result (call_of s c.task_of-call.result) c.script.result c.script_ops-script.result.now c.callee.ensures c.task_of-call.ensures.is c.script.ensures c.script_ops-script.ensures in
+    (q.0, beside_there c.args.number s (g.W.View.view c.ops.w) c.ops.invariant.beside q.0 q.1.0)
 
 pub computes_in-label-requires-clause-before : goal.computes_in-label-requires-clause-before
 computes_in-label-requires-clause-before g c =
@@ -66,16 +66,16 @@ ops-preserved g c =
     let n = c.args.number in
     let ops = c.script_ops-script.result.now in
     let beside = c.ops.invariant.beside in
-    let q = begun d c.requires.covered n s c.requires.order c.none_is_zero.ensures.threads c.requires.runs c.in-Some.thread (sym c.current.ensures ∙ c.in-Some.is) c.callee.result (call_of s c.task_of-call.result) c.script.result ops c.callee.ensures c.task_of-call.ensures.is c.script.ensures c.script_ops-script.ensures in
-    let found = beside_there n s t beside q.0.thread q.0.here in
+    let q = begun d n s c.requires.order c.none_is_zero.ensures.threads c.requires.runs c.in-Some.thread (sym c.current.ensures ∙ c.in-Some.is) c.callee.result (call_of s c.task_of-call.result) c.script.result ops c.callee.ensures c.task_of-call.ensures.is c.script.ensures c.script_ops-script.ensures in
+    let found = beside_there n s t beside q.0 q.1.0 in
     let runs = runs_still s t beside.tags beside.current ∙ c.requires.runs in
-    let script = beside_script d n s t beside ∙ q.1 in
+    let script = beside_script d n s t beside ∙ q.1.1 in
     let x = c.ops.context in
     let y = c.computes_in-label.new.context in
     let l = c.computes_in-label.result in
-    let row = c.computes_in-label.ensures.row d (ap length (script_there d n t q.0.thread found runs ops script x)) in
+    let row = c.computes_in-label.ensures.row d (ap length (script_there d n t q.0 found runs ops script x)) in
     let here : slice_get ops x.position ≡ Some (op.Data c.in-Some-Data.op) = sym c.op_at.ensures ∙ (ap option_copied c.in-Some-Data.is ∙ ap (λ (o : Op). Some o) c.in-Some-Data.field-0-is) in
-    let on = keeps_on d n t q.0.thread found runs ops script x c.in-Some-Data.op l y u c.computes_in-label.ensures.beside row here s c.args.trace.now c.ops.trace c.args.added c.ops.count c.ops.invariant.on in
+    let on = keeps_on d n t q.0 found runs ops script x c.in-Some-Data.op l y u c.computes_in-label.ensures.beside row here s c.args.trace.now c.ops.trace c.args.added c.ops.count c.ops.invariant.on in
     record {
       beside = beside_both s t u beside c.computes_in-label.ensures.beside;
       on = subst (λ (ls : List Label). KeepsOn d (turn.Run n) s c.args.trace.now c.args.added (state_in n y u) ls (c.ops.count + 1)) (sym c.in-Ok.ensures.ok) on;

@@ -1,0 +1,41 @@
+-- No wake is lost: what is so of each state in which the turns aren't over.
+use Rattle.std.specs.List.{count_by}
+use Rattle.std.specs.Prelude.{Bool, None, Option, Some, false, suc, true, zero, ℕ, ◌≡◌, ◌≤◌}
+use Rattle.task_machine.specs.Core.{Core}
+use Rattle.task_machine.specs.Read.{admits, event_of, has_waiter, is_ready_member, place_of, subtasks, undelivered_end, woken}
+use Rattle.task_machine.specs.declared.records.Place.{Place}
+use Rattle.task_machine.specs.declared.records.Place.TheVariants as place
+use Rattle.task_machine.specs.declared.records.Subtask.{Subtask}
+use Rattle.task_machine.specs.declared.records.Why.{Why}
+
+-- how many members of the set have an event
+unfoldable pub ready_members : ℕ → Core → ℕ
+ready_members x s = count_by (λ sub. is_ready_member x sub s) (subtasks s)
+
+-- for a set that has a waiter at least as many threads are woken as it has ready members
+abbrev pub WakesCounted : Core → Type 0
+WakesCounted s = (x : ℕ) → has_waiter x s ≡ true → ready_members x s ≤ woken x s
+
+abbrev pub goes_on_at : (ℕ → Bool) → Option Place → Bool
+goes_on_at goes_on (Some (place.Ready m w)) = true
+goes_on_at goes_on (Some place.Running) = true
+goes_on_at goes_on (Some (place.Under m)) = goes_on m
+goes_on_at goes_on (Some (place.Behind f)) = goes_on f
+goes_on_at goes_on _ = false
+
+-- of at most this many threads from n on, each behind or under the next, one is Ready or Running
+abbrev pub goes_on_within : ℕ → Core → ℕ → Bool
+goes_on_within zero s n = false
+goes_on_within (suc k) s n = goes_on_at (goes_on_within k s) (place_of n s)
+
+-- no caller stands behind a stopped strand
+abbrev pub CallersGoOn : Core → Type 0
+CallersGoOn s = (n f : ℕ) → place_of n s ≡ Some (place.Behind f) → (k : ℕ) × (goes_on_within k s n ≡ true)
+
+-- no held thread is admitted
+abbrev pub NoneAdmitted : Core → Type 0
+NoneAdmitted s = (n : ℕ) (w : Why) → place_of n s ≡ Some (place.Held w) → admits n s w ≡ false
+
+-- no thread is blocked on a subtask that has an end as its event
+abbrev pub NoneBlockedOnEnd : Core → Type 0
+NoneBlockedOnEnd s = (n : ℕ) (sub : Subtask) → place_of n s ≡ Some (place.Blocked sub) → undelivered_end (event_of sub s) ≡ None

@@ -1,0 +1,15 @@
+-- What ids of host works name.
+use Rattle.std.specs.Prelude.{◌≡◌, ◌<◌, ◌⊎◌, None}
+use Rattle.task_machine.specs.Maps.{get}
+use Rattle.task_table.specs.declared.id.TableId.{TableId}
+use Rattle.task_wait.specs.declared.keys.HostTaskKey.{HostTaskKey}
+use Rattle.task_words.specs.StateView.{StateView, work_of}
+
+-- each id of a work names it still
+abbrev pub KeepsWorks : StateView → StateView → Type 0
+KeepsWorks s t = (id : TableId HostTaskKey) → 0 < work_of s id → work_of t id ≡ work_of s id
+
+-- the same, unless the work is gone
+abbrev pub NamesWorks : StateView → StateView → Type 0
+NamesWorks s t =
+    (id : TableId HostTaskKey) → 0 < work_of s id → (work_of t id ≡ work_of s id) ⊎ (get t.core.works (work_of s id) ≡ None)

@@ -1,0 +1,118 @@
+-- An idle state in order that has the facts on wakes is stalled.
+use Rattle.task_places.proofs.Laws.{[], any_found, any_thread, ap, arith, Bool, CallersGoOn, cond, Core, count_by, event_of, false, found_any, get, goes_on_at, goes_on_within, has_ready_member, has_waiter, HasPlace, Idle, is_behind, is_blocked_on_end, is_held_for, is_passed_over, is_ready_member, is_stalled, is_unended_take, is_woken_for, List, list_any, Mark, next_entry, None, NoneBlockedOnEnd, numbers, Option, option_map, Place, place_of, Placed, ready_members, refl, RunsAlone, Some, Stalled, State, Subtask, subtasks, suc, sum_by-cons, Thread, true, Turn, undelivered_end, WakesCounted, Why, woken, zero, ℕ, ◌∙◌, ◌∷◌, ◌≡◌, ◌≤◌}
+use Rattle.task_places.proofs.{OrderLemmas.reached_in_order, WakeLines.none_of}
+use Rattle.task_places.specs.{Kept.ReachedInOrder, Wakes.IdleIsStalled, Wakes.ReachedUnblocked}
+use Rattle.task_rules.specs.Stalled.{is_idle}
+
+any_counts : {X : Type 0} (test : X → Bool) (xs : List X) → list_any test xs ≡ true → 1 ≤ count_by test xs
+any_counts test [] h = absurd (grind arith)
+any_counts test (x ∷ xs) h = let rest = any_counts test xs in let more = sum_by-cons (λ y. cond (test y) 1 0) x xs in grind arith
+
+counts_any : {X : Type 0} (test : X → Bool) (xs : List X) → 1 ≤ count_by test xs → list_any test xs ≡ true
+counts_any test [] h = absurd (grind arith)
+counts_any test (x ∷ xs) h = let rest = counts_any test xs in let more = sum_by-cons (λ y. cond (test y) 1 0) x xs in grind arith
+
+-- a thread that passes, by its number
+any_place : (test : Thread → Bool) (s : Core) → any_thread test s ≡ true → (n : ℕ) × ((t : Thread) × ((get s.threads n ≡ Some t) × (test t ≡ true)))
+unfolding get
+any_place test s h = found_any (λ n t. test t) s.threads.list s.threads.sorted h
+
+found_place : (test : Thread → Bool) (n : ℕ) (s : Core) (t : Thread) → get s.threads n ≡ Some t → test t ≡ true → any_thread test s ≡ true
+unfolding get
+found_place test n s t at is = any_found test n s.threads.list (grind arith)
+
+abbrev is_active : Place → Bool
+is_active (Place.Ready m w) = true
+is_active Place.Running = true
+is_active _ = false
+
+abbrev Still : Core → Type 0
+Still s = (n : ℕ) (p : Place) → place_of n s ≡ Some p → is_active p ≡ false
+
+none_ready : (n : ℕ) (s : Core) (m : Mark) (w : Why) → HasPlace n s → next_entry s ≡ None → place_of n s ≡ Some (Place.Ready m w) → ⊥
+unfolding next_entry
+none_ready n s m w h none at = let a = h.switch in let b = h.high in let c = h.low in absurd (grind arith)
+
+idle_still : (s : State) → Placed s.core → RunsAlone s.turn s.core → (e : Bool) → s.turn ≡ Turn.Take e → next_entry s.core ≡ None → Still s.core
+idle_still s placed alone e turn none n (Place.Ready m w) at = absurd (none_ready n s.core m w (placed n) none at)
+idle_still s placed alone e turn none n Place.Running at = let to = alone n at in absurd (grind arith)
+idle_still s placed alone e turn none n _ at = refl
+
+goes_by : (s : Core) (k n : ℕ) → Still s → ((m : ℕ) → goes_on_within k s m ≡ true → ⊥) → (o : Option Place) → place_of n s ≡ o →
+    goes_on_at (goes_on_within k s) o ≡ true → ⊥
+goes_by s k n still rest (Some (Place.Ready m w)) at on = let no = still n (Place.Ready m w) at in absurd (grind arith)
+goes_by s k n still rest (Some Place.Running) at on = let no = still n Place.Running at in absurd (grind arith)
+goes_by s k n still rest (Some (Place.Under m)) at on = rest m on
+goes_by s k n still rest (Some (Place.Behind f)) at on = rest f on
+goes_by s k n still rest o at on = absurd (grind arith)
+
+none_goes : (s : Core) (k n : ℕ) → Still s → goes_on_within k s n ≡ true → ⊥
+none_goes s zero n still h = absurd (grind arith)
+none_goes s (suc k) n still h = goes_by s k n still (λ m. none_goes s k m still) (place_of n s) refl h
+
+false_of : (b : Bool) → (b ≡ true → ⊥) → b ≡ false
+false_of true h = absurd (h refl)
+false_of false h = refl
+
+behind_line : (s : Core) → Still s → CallersGoOn s → any_thread (λ t. is_behind t.place) s ≡ true → ⊥
+behind_line s still goes h =
+    let r = any_place (λ t. is_behind t.place) s h in
+    let f = behind_of r.1.0.place r.1.1.1 in
+    let on = goes r.0 f.0 (ap (option_map (λ (t : Thread). t.place)) r.1.1.0 ∙ ap (λ p. Some p) f.1) in none_goes s on.0 r.0 still on.1
+  where
+    behind_of : (p : Place) → is_behind p ≡ true → (f : ℕ) × (p ≡ Place.Behind f)
+    behind_of p h = grind arith
+
+woken_held : (x : ℕ) (t : Thread) → is_active t.place ≡ false → is_woken_for x t t.place ≡ true → is_held_for x t.place ≡ true
+woken_held x t still h = grind arith
+
+passed_line : (s : Core) → Still s → WakesCounted s → (x : ℕ) → is_passed_over x s ≡ true → ⊥
+unfolding woken ready_members has_ready_member
+passed_line s still counted x h =
+    let waits : has_waiter x s ≡ true = grind arith in
+    let ready : list_any (λ sub. is_ready_member x sub s) (subtasks s) ≡ true = grind arith in
+    let none : any_thread (λ t. is_held_for x t.place) s ≡ false = grind arith in
+    let one = any_counts (λ sub. is_ready_member x sub s) (subtasks s) ready in
+    let more = counted x waits in
+    let some = counts_any (λ (e : ℕ × Thread). is_woken_for x e.1 e.1.place) s.threads.list (omega (arith, one, more)) in
+    let r = any_place (λ t. is_woken_for x t t.place) s some in
+    let held = woken_held x r.1.0 (still r.0 r.1.0.place (ap (option_map (λ (t : Thread). t.place)) r.1.1.0)) r.1.1.1 in
+    absurd (held_any (λ t. is_held_for x t.place) r.0 s r.1.0 r.1.1.0 held none)
+  where
+    held_any : (test : Thread → Bool) (n : ℕ) (u : Core) (t : Thread) → get u.threads n ≡ Some t → test t ≡ true → any_thread test u ≡ false → ⊥
+    held_any test n u t at is none = let found = found_place test n u t at is in absurd (grind arith)
+
+none_passed : (s : Core) → Still s → WakesCounted s → (xs : List ℕ) → list_any (λ x. is_passed_over x s) xs ≡ false
+none_passed s still counted [] = refl
+none_passed s still counted (x ∷ xs) = let no = false_of (is_passed_over x s) (passed_line s still counted x) in let rest = none_passed s still counted xs in grind arith
+
+blocked_line : (s : Core) → NoneBlockedOnEnd s → any_thread (λ t. is_blocked_on_end s t.place) s ≡ true → ⊥
+blocked_line s none h =
+    let r = any_place (λ t. is_blocked_on_end s t.place) s h in
+    blocked_of r.0 r.1.0.place (ap (option_map (λ (t : Thread). t.place)) r.1.1.0) r.1.1.1 (none r.0)
+  where
+    blocked_of : (n : ℕ) (p : Place) → place_of n s ≡ Some p → is_blocked_on_end s p ≡ true → ((sub : Subtask) → place_of n s ≡ Some (Place.Blocked sub) → undelivered_end (event_of sub s) ≡ None) → ⊥
+    blocked_of n (Place.Blocked sub) at h free = let e = free sub at in absurd (grind arith)
+    blocked_of n p at h free = absurd (grind arith)
+
+take_of : (u : Turn) → is_unended_take u ≡ true → u ≡ Turn.Take false
+take_of u h = grind arith
+
+pub reached_unblocked : ReachedUnblocked
+unfolding ReachedUnblocked ReachedInOrder
+reached_unblocked x s r live =
+    let q = ((reached_in_order x s r).awake live).blocked in
+    (q, let none = false_of (any_thread (λ t. is_blocked_on_end s.core t.place) s.core) (blocked_line s.core q) in grind arith)
+
+pub idle_is_stalled : IdleIsStalled
+unfolding IdleIsStalled is_idle is_stalled
+idle_is_stalled x s h counted goes idle =
+    let parts : is_idle x s ≡ true = idle in
+    let turn = take_of s.turn (grind arith) in
+    let none : next_entry s.core ≡ None = grind arith in
+    let still = idle_still s h.in_place.placed (h.awake (grind arith)).alone false turn none in
+    let behind = false_of (any_thread (λ t. is_behind t.place) s.core) (behind_line s.core still goes) in
+    let held = none_of s.core h.held s.core.instances.list in
+    let passed = none_passed s.core still counted (numbers s.core.sets) in
+    let ends = false_of (any_thread (λ t. is_blocked_on_end s.core t.place) s.core) (blocked_line s.core (h.awake (grind arith)).blocked) in
+    grind arith
