@@ -118,7 +118,11 @@ pub(crate) fn store(rt: &impl Abort, alloc: Global, component: &Component) -> St
 }
 
 // A call of that export with 7, in a store in which nothing was made but the instance.
-pub(crate) fn called(rt: &impl Abort, component: &Component, store: &mut Store<(), ()>) -> FuncCallConcurrent
+pub(crate) fn called(
+    rt: &impl Abort,
+    component: &Component,
+    store: &mut Store<(), ()>,
+) -> FuncCallConcurrent
     requires covered { IsCovered component.now }
     requires there { IsSome (export_at component.now (callee_of CALLEE)) }
     requires params { IfSome (export_at component.now (callee_of CALLEE)) (λ e. 1 ≡ e.params) }
