@@ -30,7 +30,8 @@ use Rattle.scenario_text.specs.declared.tree.MainOpText.{MainOpText}
 use Rattle.scenario_text.specs.declared.tree.MainOpText.TheVariants as main
 use Rattle.scenario_text.specs.declared.tree.ScenarioText.{ScenarioText}
 use Rattle.scenario_text.specs.Spelling.{Lines, head_lines, host_line, exports_of, instance_name, export_name, host_name, script_lines, react_lines, export_lines, part_lines, instance_lines, lines_after, body_lines, main_op_words, main_lines, lines_of}
-use Rattle.scenario_text.specs.Placement.{EachStands, HostStands, is_callback, ReactStands, ExportStands, PartStands, InstanceStands, main_has_room, is_start, is_spawn, finishes, start_count, spawn_count, start_opens, finish_opens, spawn_opens, is_spawned, MainOpStands, aborter_opens, AborterStands, IsWellFormed}
+use Rattle.task_machine.specs.Read.{is_callback}
+use Rattle.scenario_text.specs.Placement.{EachStands, HostStands, ReactStands, ExportStands, PartStands, InstanceStands, main_has_room, is_start, is_spawn, finishes, start_count, spawn_count, start_opens, finish_opens, spawn_opens, is_spawned, MainOpStands, aborter_opens, AborterStands, IsWellFormed}
 use Rattle.scenario_text.specs.State.{with_host, with_instance, with_part, with_export, script_closed, instance_closed, main_open, after_title, after_handles, after_table, after_idle, after_head, after_host, after_instance, after_export, after_react, after_thread, after_bad, after_part, after_main, start_of, finish_of, spawn_of, ready_of, main_op_of, after_main_op, after_answer, after_aborter, after_end, after, read_from, scenario_of}
 use Rattle.scenario_text.proofs.StandingLaws.{few_after}
 use Rattle.scenario_text.proofs.SoFar.{BodyFits, with_host_fits, with_instance_fits}

@@ -36,7 +36,8 @@ use Rattle.scenario_text.specs.declared.tree.PartText.TheVariants as part
 use Rattle.scenario_text.specs.declared.tree.MainOpText.{MainOpText}
 use Rattle.scenario_text.specs.declared.tree.MainOpText.TheVariants as main
 use Rattle.scenario_text.specs.Spelling.{Lines, host_line, op_words, script_lines, part_lines, instance_lines, name_of, host_name, main_op_words, main_lines}
-use Rattle.scenario_text.specs.Placement.{EachStands, host_opens, OpFits, CallStands, is_callback, export_opens, slot_opens, instance_opens, main_has_room, start_opens, finish_opens, spawn_opens, params_of, MainOpStands, aborter_opens, AborterStands, IsWellFormed}
+use Rattle.task_machine.specs.Read.{is_callback}
+use Rattle.scenario_text.specs.Placement.{EachStands, host_opens, OpFits, CallStands, export_opens, slot_opens, instance_opens, main_has_room, start_opens, finish_opens, spawn_opens, params_of, MainOpStands, aborter_opens, AborterStands, IsWellFormed}
 use Rattle.scenario_text.specs.State.{with_host, with_part, script_closed, instance_closed, main_open, script_body, after_title, after_handles, after_table, after_idle, after_head, after_host, after_instance, after_export, after_react, after_thread, after_bad, after_part, with_op, after_op, after_call, after_main, host_place, callee_of, fitting_export, start_of, finish_of, spawn_of, ready_of, main_op_of, call_of, after_main_op, after_answer, after_aborter, whole, after_end, after}
 use Rattle.scenario_text.proofs.StandingLaws.{each_more}
 use Rattle.scenario_text.proofs.CalleeLaws.{host_named, callee_named, export_fits, IsCall, named_call_is}

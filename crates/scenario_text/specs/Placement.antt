@@ -5,13 +5,13 @@ use Rattle.std.specs.Option.{option_map}
 use Rattle.std.specs.Str.{bytes_eq}
 use Rattle.task_machine.specs.declared.component.Callee.{Callee}
 use Rattle.task_machine.specs.declared.component.ExportKind.{ExportKind}
-use Rattle.task_machine.specs.declared.component.ExportKind.TheVariants as kind
 use Rattle.task_machine.specs.declared.op.Op.{Op}
 use Rattle.task_machine.specs.declared.op.Op.TheVariants as op
 use Rattle.task_machine.specs.declared.op.CallOp.{CallOp}
 use Rattle.task_machine.specs.declared.op.CallOp.TheVariants as call_op
 use Rattle.task_machine.specs.declared.op.TaskOp.{TaskOp}
 use Rattle.task_machine.specs.declared.op.TaskOp.TheVariants as task_op
+use Rattle.task_machine.specs.Read.{is_callback}
 use Rattle.text_lines.specs.Words.{is_name}
 use Rattle.text_lines.specs.Fits.{register_fits, operand_fits, handles_fit, table_fits, slot_fits, work_fits, subtask_op_fits, plain_op_fits}
 use Rattle.scenario_text.specs.declared.tree.HostText.{HostText}
@@ -85,10 +85,6 @@ abbrev pub ScriptStands : List HostText → List InstanceText → Bool → List 
 ScriptStands hosts earlier callback ops = EachStands (OpStands hosts earlier callback) [] ops
 
 -- ---- Instances and their parts
-
-abbrev pub is_callback : ExportKind → Bool
-is_callback kind.Callback = true
-is_callback _ = false
 
 abbrev pub ReactStands : List HostText → List InstanceText → ExportKind → Option (List Op) → Type 0
 ReactStands hosts earlier k None = Unit {0}

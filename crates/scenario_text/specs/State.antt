@@ -37,7 +37,8 @@ use Rattle.scenario_text.specs.declared.tree.ScenarioText.{ScenarioText}
 use Rattle.text_lines.specs.Words.{◌>>=◌}
 use Rattle.text_lines.specs.Line.{line_at}
 use Rattle.scenario_text.specs.Spelling.{Lines, exports_of}
-use Rattle.scenario_text.specs.Placement.{host_opens, has_room_for_op, op_suits, is_callback, params_of, export_opens, slot_opens, instance_opens, main_has_room, start_opens, finish_opens, spawn_opens, aborter_opens}
+use Rattle.task_machine.specs.Read.{is_callback}
+use Rattle.scenario_text.specs.Placement.{host_opens, has_room_for_op, op_suits, params_of, export_opens, slot_opens, instance_opens, main_has_room, start_opens, finish_opens, spawn_opens, aborter_opens}
 
 abbrev pub with_host : Body → HostText → Body
 with_host b h = record b { hosts = b.hosts ++ h ∷ [] }
