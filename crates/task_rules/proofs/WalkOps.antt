@@ -6,7 +6,7 @@ use Rattle.task_rules.proofs.PlacingLemmas.{placed, placing_shifted, Shifted, sh
 use Rattle.task_rules.proofs.SayLemmas.{cancel_hands_of, cancel_writes_of, event_gone, given_out, HasNoEnd, result_gone, said_is, settled_gone}
 use Rattle.task_rules.proofs.StandLemmas.{by_number}
 use Rattle.task_rules.proofs.WalkEnds.{call_ends}
-use Rattle.task_rules.proofs.WalkMoves.{call_done_walks, call_settles, checked_shifts, chosen_of, handed_on_shifts, keep_still, lands_at, MayTake, promoted_walks, settled, shifted, wake_shifts, word}
+use Rattle.task_rules.proofs.WalkMoves.{call_done_walks, call_settles, checked_shifts, chosen_of, handed_on_shifts, keep_still, lands_at, MayTake, promoted_walks, settled, shifted, wake_shifts, word, halted_at}
 use Rattle.task_rules.proofs.WalkParts.{answered_first, answered_fresh, answered_settled, assigned_fresh, AtOps, call_answers_walks, call_queues_walks, call_resumes_walks, call_stops_walks, cancel_goes_behind_walks, cancel_stops_walks, checked_walks, enter_gives, enter_runs_walks, event_taken_walks, gift_is, join_walks, joined_ended, parted_answers_walks, parted_takes_walks, put_back_walks, received_walks, rejoined, stopped_walks, wait_stops_walks, withdrawn_walks, withdraws, work_deleted_walks}
 use Rattle.task_rules.proofs.WalkTask.{advanced_walks, answered_walks, assigned_walks, goes_on, goes_on_told, goes_over, is_plain, is_still, Leads, may_leads, or_never_leads, or_trap_leads, over_now, running_scene, Stands, stops_here, trap_if_leads, unnot}
 use Rattle.task_rules.specs.Threads.{by_how_far, Halt, halt_row, halted, halted_checked, halted_promoting, halted_resuming, halting, halts, has_yielded, resume_why, resumed_later, Suspension, then_promote, then_promote_row, then_resume_row, thread_made, thread_new_row, thread_row, Yielding}
@@ -354,6 +354,10 @@ module _ (x : Setting) (main : Main) (s : Core) (n : ℕ) (l : Label) (next : Tu
       trap_if_leads a s (not (passes_check (instance_of n u) u)) Trap.CannotBlockSyncTask _ (λ e.
       stop (pauses n) (cancel_stops n sub u) refl (λ leave. subst (λ (v : Core). Trip a s v) (sym (rejoined n sub t)) (cancel_stops_walks n refl at_ops sub joined by leave (inr far) free (sym (joined_ended sub Join.Nowhere t) ∙ over) c)))
 
+  asked_behind : (k : ℕ) (t : Core) (j f : ℕ) → place_of j (cancel_asks k t) ≡ Some (Place.Behind f) → place_of j t ≡ Some (Place.Behind f)
+  unfolding cancel_asks set_own_event on_call
+  asked_behind k t j f at = at
+
   asks_walks : (k h : ℕ) → subtask_at (instance_of n s) h s ≡ Some (Subtask.Guest k) → (has_ended k s ≡ false) × (was_started k s ≡ true) → Keep a s (cancel_asks k s)
   unfolding cancel_asks
   asks_walks k h named says = word (SetOwnEvent k (Some OwnEvent.Cancelled)) (inl (refl, ((n, (h, (refl, named))), (says.1, says.0)))) NoWord
@@ -397,11 +401,11 @@ module _ (x : Setting) (main : Main) (s : Core) (n : ℕ) (l : Label) (next : Tu
       let says : (has_ended k s ≡ false) × (was_started k s ≡ false) = (grind (arith, is), grind (arith, is)) in
       goes_on_told x main s n l next (cancel_label mode n 3) (cancel_withdraws n r k s) (grind arith)
       (λ at to. withdraw_says mode r k to at target (n, (h, (refl, named))) says.0)
-      (λ at. answered_walks n refl on r 3 (withdrawn_walks n refl k (n, (refl, ((n, (h, (refl, named))), (says.1, (says.0, (refl, says.1)))))) (ap (λ (y : Label). written_by x.component s y s) at ∙ ((cancel_is mode 3 s).0 ∙ ap (option_map (end_for Status.StartCancelled)) target)) NoWord))
+      (λ at. answered_walks n refl on r 3 (withdrawn_walks n refl k (n, (refl, ((n, (h, (refl, named))), (says.1, (says.0, (refl, says.1)))))) (λ j f behind. behind) (ap (λ (y : Label). written_by x.component s y s) at ∙ ((cancel_is mode 3 s).0 ∙ ap (option_map (end_for Status.StartCancelled)) target)) NoWord))
   cancel_guest_leads mode r h k CallbackWaits by target is named free =
       let asks = asks_walks k h named (grind (arith, is), grind (arith, is)) in
       stop (pauses n) (cancel_wakes_callback n k s) refl (λ leave. cancel_goes_behind_walks n refl at_ops k (put_stands k (Why.Delivery Delivery.Cancel) (cancel_asks k s)) (ap (λ m. option_map_or (λ c. c.join) (get m k) Join.Nowhere) (shifted_calls (placing_shifted (Put Mark.Switch k (Why.Delivery Delivery.Cancel)) (cancel_asks k s))) ∙ grind (arith, nat_tests, get-change)) (cancels mode by) leave (inl (h, named)) free
-      (placed (Put Mark.Switch k (Why.Delivery Delivery.Cancel)) (inl (Cancels (grind (arith, is)) refl)) asks))
+      (placed (Put Mark.Switch k (Why.Delivery Delivery.Cancel)) (inr (Cancels (grind (arith, is)) refl, ((n, refl), asked_behind k s))) asks))
   cancel_guest_leads mode r h k CallbackYields by target is named free =
       let asks = asks_walks k h named (grind (arith, is), grind (arith, is)) in
       stop (pauses n) (cancel_promotes_yield n k s) refl (λ leave. cancel_goes_behind_walks n refl at_ops k (promoted_stands k (cancel_asks k s)) (promoted_join k k (cancel_asks k s) ∙ grind (arith, nat_tests, get-change)) (cancels mode by) leave (inl (h, named)) free
@@ -477,8 +481,8 @@ module _ (x : Setting) (main : Main) (s : Core) (n : ℕ) (l : Label) (next : Tu
 
   halted_walks : (h : Halt) (t : Core) → HaltOp h → Leaves a n → Keep a s t → Trip a s (halted h n t)
   unfolding halted
-  halted_walks Suspension t by leave c = lands_at (Move n Place.Suspended) n HowFar.Suspends refl (Suspends leave refl) refl (at_ops _ (stopped_walks n refl t c)) by (stopped_walks n refl t c)
-  halted_walks Yielding t by leave c = lands_at (Put Mark.Low n Why.Resumption) n HowFar.Yields refl (Yields leave refl) refl (at_ops _ (stopped_walks n refl t c)) by (stopped_walks n refl t c)
+  halted_walks Suspension t by leave c = lands_at (Move n Place.Suspended) n HowFar.Suspends refl (Suspends leave refl) refl (at_ops _ (stopped_walks n refl t leave c)) by (halted_at n c) (stopped_walks n refl t leave c)
+  halted_walks Yielding t by leave c = lands_at (Put Mark.Low n Why.Resumption) n HowFar.Yields refl (Yields leave refl) refl (at_ops _ (stopped_walks n refl t leave c)) by tt (stopped_walks n refl t leave c)
 
   halts_leads : (h : Halt) (k : ThreadLabel) (b : Bool) → HaltOp h → Leads a s (halts h n (Label.Thread k) s b)
   unfolding halted_checked
@@ -492,7 +496,7 @@ module _ (x : Setting) (main : Main) (s : Core) (n : ℕ) (l : Label) (next : Tu
       or_trap_leads a s (thread_at (instance_of n s) h s) Trap.BadHandle _ (λ m named.
       trap_if_leads a s (m == n) Trap.CannotResumeThread _ (λ other.
       or_trap_leads a s (resume_why m s) Trap.CannotResumeThread _ (λ w by.
-      stop (pauses n) (halted_resuming y n m w s) refl (λ leave. halted_walks y (put_switch m w s) halts leave (placed (Put Mark.Switch m w) (inl (Resumes by)) NoWord)))))
+      stop (pauses n) (halted_resuming y n m w s) refl (λ leave. halted_walks y (put_switch m w s) halts leave (placed (Put Mark.Switch m w) (inr (Resumes by, ((n, refl), λ j f at. at))) NoWord)))))
 
   then_promote_leads : (y : Halt) (k : ThreadLabel) (m : ℕ) (b : Bool) → HaltOp y → has_yielded m s ≡ b → Leads a s (then_promote y n (Label.Thread k) s m b)
   unfolding halted_promoting has_yielded
