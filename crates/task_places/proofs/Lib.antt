@@ -14,3 +14,6 @@ pub mod OnceSteps
 pub mod WakeLines
 pub mod IdleLemmas
 pub mod BlockedLemmas
+pub mod StrandFeet
+pub mod StayMoves
+pub mod CallersLemmas

@@ -9,7 +9,7 @@ no_way h = absurd (subst T (sym h) tt)
 -- ---- Who is put, and who has an entry
 
 -- who is put was parked; one that waited for its start still does
-parked_at : (m : ℕ) (w : Why) (s : Core) → MayPut m w s →
+pub parked_at : (m : ℕ) (w : Why) (s : Core) → MayPut m w s →
     (option_map_or is_parked (place_of m s) false ≡ true) × (is_fresh (place_of m s) ≡ true → is_for_start w ≡ true)
 parked_at m w s ok = (grind arith, λ h. grind arith)
 
@@ -25,7 +25,7 @@ pub entry_ready : (m : ℕ) (s : Core) → HasPlace m s →
     1 ≤ switch_entries m s.queues.switch + entries m s.queues.high + entries m s.queues.low → ReadyAt (place_of m s)
 entry_ready m s h one = ready_of (place_of m s) (let a = h.switch in let b = h.high in let c = h.low in omega (arith, a, b, c, one))
 
-listed : (m : ℕ) (s : Core) → (has_entry m s.queues.high || has_entry m s.queues.low) ≡ true →
+pub listed : (m : ℕ) (s : Core) → (has_entry m s.queues.high || has_entry m s.queues.low) ≡ true →
     1 ≤ switch_entries m s.queues.switch + entries m s.queues.high + entries m s.queues.low
 listed m s h = grind (arith, has_stands m s.queues.high, has_stands m s.queues.low)
 
@@ -54,7 +54,7 @@ under_is : (m : ℕ) (o : Option Place) → option_map_or (is_under m) o false �
 under_is m o h = grind (arith, nat_tests)
 
 module _ (a : Scene) {n : ℕ} {q : Option Place} {s : Core} (st : Stand (watch a) n q [] s) where
-  fresh_still : (k : ℕ) → waits a k ≡ true → is_fresh (place_of k s) ≡ true
+  pub fresh_still : (k : ℕ) → waits a k ≡ true → is_fresh (place_of k s) ≡ true
   fresh_still k h = let e = fresh_watch (place_of k a.base) h in ap (λ v. is_so v (place_of k s)) (sym e) ∙ (st.kept k (ap is_watched e)).1
 
   pub covered_still : (k m : ℕ) → place_of k a.base ≡ Some (Place.Under m) → place_of k s ≡ Some (Place.Under m)
@@ -127,7 +127,7 @@ module _ {a : Scene} {b : Core} {n : ℕ} {q : Option Place} (f : Follows a b n 
       let u = popped_quiet x (Entry.Host i) s (next_first s x (Entry.Host i) ok.0) (λ k. refl) in quiet_stand n q [] s _ (grind arith) st
   keeps_word w s ok puts fresh st = quiet_stand n q [] s _ (grind (arith, nat_tests, get-change, entries-append)) st
 
-  withdraws_waits : (k : ℕ) (s : Core) → MayWithdraw a k s → waits a k ≡ true
+  pub withdraws_waits : (k : ℕ) (s : Core) → MayWithdraw a k s → waits a k ≡ true
   withdraws_waits k s may = let g = may.1.1.0 in f.withdraws g.0 k g.1.1.0 (ByHandle g.1.0 g.1.1.1) may.1.1.1.1.1.1
 
   pub stay_word : (w : Word) (s : Core) → Stays a w s → Stand (watch a) n q [] s → Stand (watch a) n q [] (after_word w s)
@@ -288,8 +288,8 @@ module _ {a : Scene} {b : Core} {n : ℕ} {p : Place} (h : Beside a b n p) {s : 
       apart : (m == n) ≡ false
       apart = let new = ok.1.1.1.0 in let here = stands.here in let busy = h.follows.busy in grind (arith, nat_tests)
 
-  foot_given : (g : ℕ) → IsFoot g s → Given g s
-  foot_given g (inl switch) = given_there n (Some p) [] s stands g (switch_there n (Some p) [] s stands g switch)
+  foot_given : (g : ℕ) → IsFoot a g s → Given g s
+  foot_given g (inl switch) = given_there n (Some p) [] s stands g (switch_there n (Some p) [] s stands g switch.0)
   foot_given g (inr m) =
       let there = switch_there n (Some p) [] s stands m.0 m.1.0 in
       given_there n (Some p) [] s stands g (ap (λ (j : ℕ). is_there j s) m.1.1 ∙ foot_there m.0 s there)

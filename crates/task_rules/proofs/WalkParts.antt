@@ -294,7 +294,7 @@ module _ {a : Scene} (n : ℕ) (is : IsRunner a n) where
       let w = behind_one m n v in
       let c : Keep a s v = call_clears_flag_walks n is e.instance k (placed p (inr (Starts h.place h.explicit (ap (λ (y : Goal). is_direct y) h.goal ∙ plain) refl, ((n, runs), made_behind (Caller.Thread n) e k g (thread_group n s) words s))) (word (MakeCall (Caller.Thread n) e k g (thread_group n s) words) ok NoWord)) in
       let called : HasCalled n m w = called_as n m t w (shifted_calls (placing_shifted (GoBehind m n) v) ∙ (same.1.1.1 ∙ shifted_calls d)) (made_called n e k g (thread_group n s) words s) in
-      lands_at (GoBehind m n) n (HowFar.Calls (Subtask.Guest m)) refl (leave, inl (cleared_switch n e.instance k u ∙ put_stands m Why.Start t)) (is, inr (shifted_new a m v w refl (placing_shifted (GoBehind m n) v) new, called)) (keep_still n runs c) can tt c
+      lands_at (GoBehind m n) n (HowFar.Calls (Subtask.Guest m)) refl (leave, inl (cleared_switch n e.instance k u ∙ put_stands m Why.Start t, refl)) (is, inr (shifted_new a m v w refl (placing_shifted (GoBehind m n) v) new, called)) (keep_still n runs c) can tt c
 
   pub enter_runs_walks : is_sync_call (op_in a n) ≡ true → is_some (callee_of_op (op_in a n)) ≡ true → (e : Callee) (k : ExportKind) (words : List ℕ) → a.turn ≡ Turn.Run n → a.next ≡ Turn.Run (next_thread a.base) → MayMakeCall a (Caller.Thread n) e k Goal.Direct (thread_group n a.base) a.base → Trip a a.base (enter_runs n e k words a.base)
   unfolding enter_runs

@@ -222,9 +222,9 @@ pub data MayMove (a : Scene) (n : ℕ) (p : Place) (s : Core) : Type 0 where
   Uncovers : (m : ℕ) → IsRunner a m → a.next ≡ turn.Run n → place_of n a.base ≡ Some (place.Under m) → is_none (get s.threads m) ≡ true →
       p ≡ place.Running → MayMove a n p s
 
--- whom a thread goes behind: the thread at switch, or the foot of its strand
-abbrev pub IsFoot : ℕ → Core → Type 0
-IsFoot f s = (s.queues.switch ≡ Some f) ⊎ ((m : ℕ) × ((s.queues.switch ≡ Some m) × (f ≡ foot_of m s)))
+-- whom a thread goes behind: a new thread at switch, or the foot of the strand there
+abbrev pub IsFoot : Scene → ℕ → Core → Type 0
+IsFoot a f s = ((s.queues.switch ≡ Some f) × (f ≡ next_thread a.base)) ⊎ ((m : ℕ) × ((s.queues.switch ≡ Some m) × (f ≡ foot_of m s)))
 
 -- the thread runs, and where it is still there it is at its op
 abbrev pub AtOp : Scene → ℕ → Core → Type 0
@@ -236,7 +236,7 @@ abbrev pub MayLand : Scene → Placing → Core → Type 0
 MayLand a (Put mark.Switch n w) s = ⊥
 MayLand a (Put mark.High n w) s = MayYield a n w
 MayLand a (Put mark.Low n w) s = MayYield a n w
-MayLand a (GoBehind f n) s = Leaves a n × IsFoot f s
+MayLand a (GoBehind f n) s = Leaves a n × IsFoot a f s
 MayLand a (Move n p) s = MayMove a n p s
 -- by a direct call that was just made, and has begun; the thread is at the sync call that makes it
 MayLand a (Enter n m) s = IsRunner a n ×
