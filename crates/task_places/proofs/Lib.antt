@@ -17,3 +17,4 @@ pub mod BlockedLemmas
 pub mod StrandFeet
 pub mod StayMoves
 pub mod CallersLemmas
+pub mod CallersTrips

@@ -1,5 +1,5 @@
 -- The foot of a strand: nobody is under it, and it is where the threads that are under others end.
-use Rattle.task_places.proofs.Laws.{arith, Bool, Core, false, get, is_some, is_under, List, nat_tests, None, numbers, Option, Place, place_of, Some, Thread, true, zero, suc, ℕ, ◌+◌, ◌==◌, ◌∷◌, [], ◌≡◌, ◌≤◌, if◌then◌else◌, length, option_map_or, subst, ap, ◌∙◌}
+use Rattle.task_places.proofs.Laws.{◌⊎◌, inl, inr, ⊎_elim, arith, Bool, Core, false, get, is_some, is_under, List, nat_tests, None, numbers, Option, Place, place_of, Some, Thread, true, zero, suc, ℕ, ◌+◌, ◌==◌, ◌∷◌, [], ◌≡◌, ◌≤◌, if◌then◌else◌, length, option_map_or, subst, ap, ◌∙◌}
 use Rattle.task_machine.specs.Read.{first_at, foot_from, foot_of, is_at, under_of}
 use Rattle.std.specs.Prelude.{nat_lt}
 use Rattle.task_machine.specs.Maps.{size}
@@ -69,6 +69,11 @@ module _ (s : Core) (rising : Rising s) where
 pub data Down (s : Core) : ℕ → ℕ → Type 0 where
   Here : (n : ℕ) → Down s n n
   Below : (n u f : ℕ) → place_of u s ≡ Some (Place.Under n) → Down s u f → Down s n f
+
+-- the last one is the first one, or under another
+pub last_under : {s : Core} (n j : ℕ) → Down s n j → (n ≡ j) ⊎ ((m : ℕ) × (place_of j s ≡ Some (Place.Under m)))
+last_under n j (Here _) = inl (λ i. n)
+last_under n j (Below _ u _ up d) = ⊎_elim (λ e. inr (n, grind (arith, up, e))) inr (last_under u j d)
 
 pub down_further : (s : Core) (n m j : ℕ) → Down s n m → place_of j s ≡ Some (Place.Under m) → Down s n j
 down_further s n m j (Here _) at = Below n j j at (Here j)
