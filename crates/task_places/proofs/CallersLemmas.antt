@@ -46,6 +46,7 @@ pub record Begins (a : Scene) (b : Core) : Type 0 where
   pub home : (k : ℕ) → place_of k b ≡ place_of k a.base
   pub covers : (j m : ℕ) → place_of j b ≡ Some (Place.Under m) → (place_of m b ≡ None) ⊎ (is_fresh (place_of m b) ≡ false)
   pub early : (m : ℕ) → a.turn ≡ Turn.Run m → (j k : ℕ) → place_of j a.base ≡ Some (Place.Behind k) → is_fresh (place_of k a.base) ≡ false
+  pub made : b.made.threads ≡ a.base.made.threads
   pub rising : Rising b
   pub given : (j m : ℕ) → place_of j b ≡ Some (Place.Under m) → m ≤ b.made.threads
   pub alone : (j k m : ℕ) → place_of j b ≡ Some (Place.Under m) → place_of k b ≡ Some (Place.Under m) → j ≡ k

@@ -1,9 +1,19 @@
 -- Callers go on where a step has brought its thread.
+use Rattle.task_places.proofs.PlaceLaw.{covered_still, move_runner, runner_there}
+use Rattle.task_rules.proofs.WalkMoves.{settle_threads}
+use Rattle.task_rules.proofs.ChainLemmas.{along}
+use Rattle.task_rules.specs.Chains.{Settles}
+use Rattle.task_places.proofs.StayMoves.{switch_ready}
+use Rattle.task_machine.specs.Moves.{behind_one, why_of, put_high, put_low}
+use Rattle.task_machine.specs.Read.{foot_from, foot_of, under_of}
+use Rattle.task_rules.specs.Allowed.{IsFoot}
+use Rattle.task_rules.proofs.WalkTask.{under_place}
+use Rattle.task_places.proofs.StrandFeet.{foot_place}
 use Rattle.task_rules.specs.Chains.{Halted, Halts, leaving}
 use Rattle.task_places.proofs.CallersLemmas.{Both}
 use Rattle.task_rules.proofs.StandLemmas.{eq_refl}
 use Rattle.task_rules.specs.Allowed.{MayYield}
-use Rattle.task_places.proofs.Laws.{after_placing, after_word, ap, arith, Bool, Core, false, get, GoBehind, Enter, inl, inr, is_fresh, is_there, IsRunner, Mark, MayLand, MayMove, Move, nat_tests, None, Option, option_map, Place, place_of, Places, Placing, Put, refl, RemoveThread, Scene, SetHowFar, Some, Stay, subst, sym, Thread, Trip, true, Turn, Why, ℕ, ⊎_elim, ◌+◌, ◌==◌, ◌∙◌, ◌≡◌, ◌≤◌, ◌⊎◌, is_some, is_for_start, is_none, set_place, Runs, Uncovers, Holds, WaitsAgain, AwaitsEvent, Waits, Blocks, Suspends}
+use Rattle.task_places.proofs.Laws.{zero, suc, after_placing, after_word, ap, arith, Bool, Core, false, get, GoBehind, Enter, inl, inr, is_fresh, is_there, IsRunner, Mark, MayLand, MayMove, Move, nat_tests, None, Option, option_map, Place, place_of, Places, Placing, Put, refl, RemoveThread, Scene, SetHowFar, Some, Stay, subst, sym, Thread, Trip, true, Turn, Why, ℕ, ⊎_elim, ◌+◌, ◌==◌, ◌∙◌, ◌≡◌, ◌≤◌, ◌⊎◌, is_some, is_for_start, is_none, set_place, Runs, Uncovers, Holds, WaitsAgain, AwaitsEvent, Waits, Blocks, Suspends, set_callers, suc, Leaves, option_map_or, [], Remains, remove_thread, set_how_far, Lands, if◌then◌else◌, on_thread, push_high, HowFar, LandsAt, get-remove, Quits, get-change, push_low, GoesBack, Collapses}
 use Rattle.task_places.proofs.CallersLemmas.{AtMark, AtWork, Back, Begins, Calling, Goes, Up, goes_there, halted_both, walk_calling}
 use Rattle.task_places.proofs.PlaceLaw.{Follows, Frame, beside, stands, watch, yield_leaves}
 use Rattle.task_places.proofs.StrandFeet.{foot_bottom}
@@ -40,7 +50,7 @@ goes_by n s t others free own j (Back _ f at g) = by_number j n _
     (λ other. ⊎_elim (λ new. absurd (cc)) (λ k. Back j f (k ∙ at) (goes_by n s t others free own f g)) (others j other))
 
 -- the same places
-goes_as : (s t : Core) → ((k : ℕ) → place_of k t ≡ place_of k s) → (j : ℕ) → Goes (λ i. false) s j → Goes (λ i. false) t j
+pub goes_as : (s t : Core) → ((k : ℕ) → place_of k t ≡ place_of k s) → (j : ℕ) → Goes (λ i. false) s j → Goes (λ i. false) t j
 goes_as s t same j (AtMark _ m w at o) = AtMark j m w (same j ∙ at) o
 goes_as s t same j (AtWork _ at o) = AtWork j (same j ∙ at) o
 goes_as s t same j (Up _ m at g) = Up j m (same j ∙ at) (goes_as s t same m g)
@@ -153,7 +163,7 @@ calling_called {b = b} {s = s} base q = record {
 
 -- ---- Trips
 
-abbrev all_in : ℕ → Bool
+abbrev pub all_in : ℕ → Bool
 all_in j = false
 
 module _ {a : Scene} {b : Core} {n : ℕ} {o : Option Place} (f : Frame a b n o) (base : Begins a b) (first : Both f.follows base all_in b) where
@@ -215,3 +225,228 @@ module _ {a : Scene} {b : Core} {n : ℕ} {o : Option Place} (f : Frame a b n o)
   moves_to k p s (Waits x l g e) c halts there at = leaves_at k s _ l.0 c (rw e at halts) l.1.0 (λ j other. place_kept j k p s other) (λ r here. grind (arith, here, at, e)) (inr (inl (grind (arith, at, e))))
   moves_to k p s (Blocks sub l g opens e) c halts there at = leaves_at k s _ l.0 c (rw e at halts) l.1.0 (λ j other. place_kept j k p s other) (λ r here. grind (arith, here, at, e)) (inr (inl (grind (arith, at, e))))
   moves_to k p s (Suspends l e) c halts there at = leaves_at k s _ l.0 c (rw e at halts) l.1.0 (λ j other. place_kept j k p s other) (λ r here. grind (arith, here, at, e)) (inr (inl (grind (arith, at, e))))
+
+  -- up from a thread that is ready in t
+  climbs : (s t : Core) → ((v i : ℕ) → place_of v s ≡ Some (Place.Under i) → place_of v t ≡ Some (Place.Under i)) → (k i : ℕ) → Goes all_in t i → Goes all_in t (foot_from k s i)
+  climbs s t up zero i g = g
+  climbs s t up (suc k) i g = by (λ v. climbs s t up k v) (under_of i s) refl
+    where
+      by : ((v : ℕ) → Goes all_in t v → Goes all_in t (foot_from k s v)) → (x : Option ℕ) → under_of i s ≡ x → Goes all_in t (option_map_or (foot_from k s) (under_of i s) i)
+      by rec None is = subst (λ (x : Option ℕ). Goes all_in t (option_map_or (foot_from k s) x i)) (sym is) g
+      by rec (Some v) is = subst (λ (x : Option ℕ). Goes all_in t (option_map_or (foot_from k s) x i)) (sym is) (rec v (Up v i (up v i (under_place i v s is)) g))
+
+  goes_behind : (g k : ℕ) (s : Core) → Leaves a k → IsFoot a g s → Stay a b s → Called a b (behind_one g k s)
+  unfolding behind_one set_callers foot_of
+  goes_behind g k s leave foot c =
+      called_behind_now base k s t q others (own_there k leave.0) (own_place k s leave.0 c) g at (Back k g at (on foot)) (bottom foot) (start foot) leave.1.0
+    where
+      t : Core
+      t = behind_one g k s
+
+      st : Stand (watch a) n o [] s
+      st = (stay_both c).0
+
+      q : Calling a b all_in s
+      q = (stay_both c).1
+
+      others : (j : ℕ) → (j == k) ≡ false → place_of j t ≡ place_of j s
+      others j other = place_kept j k (Place.Behind g) s other
+
+      at : place_of k t ≡ Some (Place.Behind g)
+      at = let h = beside f k leave.0 in place_written k (Place.Behind g) h.0 s (stands h.1 c).here
+
+      ready : (m : ℕ) → s.queues.switch ≡ Some m → place_of m t ≡ Some (Place.Ready Mark.Switch (why_of m s))
+      ready m is = let r = switch_ready a st m is in others m (ap (λ (j : ℕ). m == j) (f.one k leave.0) ∙ r.1) ∙ r.0
+
+      up : (v i : ℕ) → place_of v s ≡ Some (Place.Under i) → place_of v t ≡ Some (Place.Under i)
+      up v i e = by_number v k _ (λ same. absurd (let no = own_place k s leave.0 c (Place.Under i) (ap (λ (j : ℕ). place_of j s) (sym same) ∙ e) in grind arith)) (λ other. others v other ∙ e)
+
+      on : IsFoot a g s → Goes all_in t g
+      on (inl e) = AtMark g Mark.Switch (why_of g s) (ready g e.0) refl
+      on (inr m) = subst (λ (x : ℕ). Goes all_in t x) (sym m.1.1) (climbs s t up _ m.0 (AtMark m.0 Mark.Switch (why_of m.0 s) (ready m.0 m.1.0) refl))
+
+      bottom : IsFoot a g s → (j : ℕ) → place_of j s ≡ Some (Place.Under g) → ⊥
+      bottom (inl e) j under = let low = base.given j g (q.unders j g under) in let new = e.1 in let made = base.made in omega (arith, low, new, made)
+      bottom (inr m) j under = foot_bottom s (λ i x e. base.rising i x (q.unders i x e)) m.0 j (under ∙ ap (λ (x : ℕ). Some (Place.Under x)) m.1.1)
+
+      starts : (m : ℕ) → s.queues.switch ≡ Some m → is_fresh (place_of m t) ≡ true → place_of m t ≡ Some (Place.Ready Mark.Switch Why.Start)
+      starts m is fresh = let r = ready m is in grind arith
+
+      start : IsFoot a g s → is_fresh (place_of g t) ≡ true → place_of g t ≡ Some (Place.Ready Mark.Switch Why.Start)
+      start (inl e) fresh = starts g e.0 fresh
+      start (inr m) fresh = ⊎_elim (λ same. let is : m.0 ≡ g = sym (m.1.1 ∙ same) in
+          subst (λ (x : ℕ). place_of x t ≡ Some (Place.Ready Mark.Switch Why.Start)) is (starts m.0 m.1.0 (subst (λ (x : ℕ). is_fresh (place_of x t) ≡ true) (sym is) fresh)))
+          (λ v. absurd (let now = up g v.0 (ap (λ (x : ℕ). place_of x s) m.1.1 ∙ v.1) in grind arith)) (foot_place m.0 s)
+
+  enters_new : (k m : ℕ) (s : Core) → MayLand a (Enter k m) s → Stay a b s → Called a b (set_place k (Place.Under m) (set_place m Place.Running s))
+  enters_new k m s ok c = record {
+    goes = λ j g at. goes_by k s t others (own_place k s is c) (λ e. Up k m own (AtWork m new refl)) j (q.goes j g (was_behind j g at));
+    feet = λ j i g at under. by_number i k _ (λ e. absurd (let same : g ≡ m = grind (arith, e, under, own) in none_at j (was_behind j g at ∙ ap (λ (x : ℕ). Some (Place.Behind x)) same)))
+        (λ other. q.feet j i g (was_behind j g at) (was_under i g other under));
+    under = λ j x at. by_number j k _ (λ e. let same : x ≡ m = grind (arith, e, at, own) in inr (rw same (ap is_fresh new)))
+        (λ other. late x (base_called.under j x (was_under j x other at)));
+    fresh = λ j x at fresh. by_number x k _ (λ e. absurd (grind (arith, e, own)))
+        (λ other. by_number x m _ (λ e. absurd (none_at j (was_behind j x at ∙ ap (λ (y : ℕ). Some (Place.Behind y)) e)))
+        (λ apart. kept x other apart ∙ q.fresh j x (was_behind j x at) (ap is_fresh (sym (kept x other apart)) ∙ fresh)));
+    came = λ on j g at. q.came on j g (was_behind j g at);
+    live = λ x live. late x (inr (q.lively x live));
+  }
+    where
+      is : IsRunner a k
+      is = ok.0
+
+      fresh_m : place_of m s ≡ Some Place.New
+      fresh_m = ok.1.1.1.0
+
+      t : Core
+      t = set_place k (Place.Under m) (set_place m Place.Running s)
+
+      q : Calling a b all_in s
+      q = (stay_both c).1
+
+      base_called : Called a b s
+      base_called = calling_called base q
+
+      here : place_of k s ≡ Some (beside f k is).0
+      here = (stands (beside f k is).1 c).here
+
+      apart_km : (k == m) ≡ false
+      apart_km = by_number k m _ (λ e. absurd (let busy = (beside f k is).1.follows.busy in let new = fresh_m in grind (arith, e, here))) (λ other. other)
+
+      own : place_of k t ≡ Some (Place.Under m)
+      own = place_written k (Place.Under m) (beside f k is).0 (set_place m Place.Running s) (place_kept k m Place.Running s apart_km ∙ here)
+
+      new : place_of m t ≡ Some Place.Running
+      new = let other = apart_km in place_kept m k (Place.Under m) (set_place m Place.Running s) (grind (arith, nat_tests)) ∙ place_written m Place.Running Place.New s fresh_m
+
+      kept : (j : ℕ) → (j == k) ≡ false → (j == m) ≡ false → place_of j t ≡ place_of j s
+      kept j other apart = place_kept j k (Place.Under m) (set_place m Place.Running s) other ∙ place_kept j m Place.Running s apart
+
+      others : (j : ℕ) → (j == k) ≡ false → (place_of j s ≡ Some Place.New) ⊎ (place_of j t ≡ place_of j s)
+      others j other = by_number j m _ (λ e. inl (ap (λ (i : ℕ). place_of i s) e ∙ fresh_m)) (λ apart. inr (kept j other apart))
+
+      was_behind : (j g : ℕ) → place_of j t ≡ Some (Place.Behind g) → place_of j s ≡ Some (Place.Behind g)
+      was_behind j g at = by_number j k _ (λ e. absurd (grind (arith, e, own)))
+          (λ other. by_number j m _ (λ e. absurd (grind (arith, e, new))) (λ apart. sym (kept j other apart) ∙ at))
+
+      was_under : (j x : ℕ) → (j == k) ≡ false → place_of j t ≡ Some (Place.Under x) → place_of j s ≡ Some (Place.Under x)
+      was_under j x other at = by_number j m _ (λ e. absurd (grind (arith, e, new))) (λ apart. sym (kept j other apart) ∙ at)
+
+      none_at : (j : ℕ) → place_of j s ≡ Some (Place.Behind m) → ⊥
+      none_at j at = let r = q.fresh j m at (ap is_fresh fresh_m) in let e = fresh_m in absurd (cc)
+
+      late : (x : ℕ) → (place_of x s ≡ None) ⊎ (is_fresh (place_of x s) ≡ false) → (place_of x t ≡ None) ⊎ (is_fresh (place_of x t) ≡ false)
+      late x h = by_number x k _ (λ e. inr (grind (arith, e, own)))
+          (λ other. by_number x m _ (λ e. inr (grind (arith, e, new)))
+          (λ apart. ⊎_elim (λ none. inl (kept x other apart ∙ none)) (λ live. inr (ap is_fresh (kept x other apart) ∙ live)) h))
+
+  lands_called : (x : Placing) (s : Core) → MayLand a x s → Stay a b s → Halts a b (leaving x) s → Called a b (after_placing x s)
+  unfolding put_high push_high put_low push_low
+  lands_called (Put Mark.High k w) s ok c halts =
+      let y = put_kind k w ok in
+      goes_on_at k s _ (Place.Ready Mark.High w) y.0 c (λ j other. place_kept j k _ s other)
+      (let h = beside f k y.0 in place_written k (Place.Ready Mark.High w) h.0 s (stands h.1 c).here) (inr (Mark.High, (w, (refl, y.1))))
+  lands_called (Put Mark.Low k w) s ok c halts =
+      let y = put_kind k w ok in
+      goes_on_at k s _ (Place.Ready Mark.Low w) y.0 c (λ j other. place_kept j k _ s other)
+      (let h = beside f k y.0 in place_written k (Place.Ready Mark.Low w) h.0 s (stands h.1 c).here) (inr (Mark.Low, (w, (refl, y.1))))
+  lands_called (GoBehind g k) s ok c halts = goes_behind g k s ok.0 ok.1 c
+  lands_called (Move k p) s ok c halts =
+      moves_to k p s ok c halts (λ m is. runner_there f m s is c)
+      (let is = move_runner k p s ok (λ j is. runner_there f j s is c) in let h = beside f k is in place_written k p h.0 s (stands h.1 c).here)
+  lands_called (Enter k m) s ok c halts = enters_new k m s ok c
+  lands_called x s ok c halts = absurd (grind arith)
+
+  -- the thread is gone, and others stay
+  left_places : (k : ℕ) (s t : Core) → Settles (after_word (RemoveThread k) s) t → (j : ℕ) → place_of j t ≡ (if j == k then None else place_of j s)
+  unfolding remove_thread
+  left_places k s t d j =
+      along (λ (u : Core). place_of j u ≡ (if j == k then None else place_of j s))
+      (λ w u ok e. ap (λ m. option_map (λ (r : Thread). r.place) (get m j)) (settle_threads w u ok) ∙ e) (grind (arith, nat_tests, get-remove)) d
+
+  quits_called : (k : ℕ) (s t : Core) → Stay a b s → Leaves a k → Settles (after_word (RemoveThread k) s) t → Halted a b k s → Called a b t
+  quits_called k s t c leave d h =
+      leaves_at k s t leave.0 c h leave.1.0 (λ j other. let e = left_places k s t d j in grind (arith, other))
+      (λ p at. absurd (let e = left_places k s t d k in grind (arith, nat_tests))) (inl (let e = left_places k s t d k in grind (arith, nat_tests)))
+
+  -- a direct callee is gone, and the thread under it goes on
+  goes_back_called : (k m : ℕ) (s t : Core) → Stay a b s → IsRunner a k → place_of m a.base ≡ Some (Place.Under k) → Settles (after_word (RemoveThread k) s) t →
+      Called a b (set_place m Place.Running t)
+  goes_back_called k m s t c is under d = record {
+    goes = λ j g at. on j (q.goes j g (was_behind j g at)) (by_number j k _ (λ e. absurd (grind (arith, e, gone))) (λ other. other));
+    feet = λ j i g at low. q.feet j i g (was_behind j g at) (was_under i g low);
+    under = λ j x at. late x (base_called.under j x (was_under j x at));
+    fresh = λ j x at fresh. by_number x m _ (λ e. absurd (grind (arith, e, new)))
+        (λ other. by_number x k _ (λ e. absurd (q.feet j m k (was_behind j x at ∙ ap (λ (y : ℕ). Some (Place.Behind y)) e) low))
+        (λ apart. kept x apart other ∙ q.fresh j x (was_behind j x at) (ap is_fresh (sym (kept x apart other)) ∙ fresh)));
+    came = λ on j g at. q.came on j g (was_behind j g at);
+    live = λ x live. late x (inr (q.lively x live));
+  }
+    where
+      u : Core
+      u = set_place m Place.Running t
+
+      q : Calling a b all_in s
+      q = (stay_both c).1
+
+      base_called : Called a b s
+      base_called = calling_called base q
+
+      low : place_of m s ≡ Some (Place.Under k)
+      low = covered_still a (stay_both c).0 m k under
+
+      apart_mk : (m == k) ≡ false
+      apart_mk = by_number m k _ (λ e. absurd (let no = own_place k s is c (Place.Under k) (ap (λ (i : ℕ). place_of i s) (sym e) ∙ low) in grind arith)) (λ other. other)
+
+      there : place_of m t ≡ Some (Place.Under k)
+      there = let e = left_places k s t d m in let other = apart_mk in let at = low in grind (arith, nat_tests)
+
+      new : place_of m u ≡ Some Place.Running
+      new = place_written m Place.Running (Place.Under k) t there
+
+      gone : place_of k u ≡ None
+      gone = let e = left_places k s t d k in let other = apart_mk in grind (arith, nat_tests, set_place_is k m Place.Running t)
+
+      kept : (j : ℕ) → (j == k) ≡ false → (j == m) ≡ false → place_of j u ≡ place_of j s
+      kept j apart other = place_kept j m Place.Running t other ∙ (let e = left_places k s t d j in grind (arith, nat_tests))
+
+      was_behind : (j g : ℕ) → place_of j u ≡ Some (Place.Behind g) → place_of j s ≡ Some (Place.Behind g)
+      was_behind j g at = by_number j m _ (λ e. absurd (grind (arith, e, new)))
+          (λ other. by_number j k _ (λ e. absurd (grind (arith, e, gone))) (λ apart. sym (kept j apart other) ∙ at))
+
+      was_under : (j x : ℕ) → place_of j u ≡ Some (Place.Under x) → place_of j s ≡ Some (Place.Under x)
+      was_under j x at = by_number j m _ (λ e. absurd (grind (arith, e, new)))
+          (λ other. by_number j k _ (λ e. absurd (grind (arith, e, gone))) (λ apart. sym (kept j apart other) ∙ at))
+
+      late : (x : ℕ) → (place_of x s ≡ None) ⊎ (is_fresh (place_of x s) ≡ false) → (place_of x u ≡ None) ⊎ (is_fresh (place_of x u) ≡ false)
+      late x h = by_number x m _ (λ e. inr (grind (arith, e, new)))
+          (λ other. by_number x k _ (λ e. inl (ap (λ (i : ℕ). place_of i u) e ∙ gone))
+          (λ apart. ⊎_elim (λ none. inl (kept x apart other ∙ none)) (λ live. inr (ap is_fresh (kept x apart other) ∙ live)) h))
+
+      on : (j : ℕ) → Goes all_in s j → (j == k) ≡ false → Goes all_in u j
+      on j (AtMark _ x w at o) apart = by_number j m _ (λ e. absurd (grind (arith, e, low))) (λ other. AtMark j x w (kept j apart other ∙ at) refl)
+      on j (AtWork _ at o) apart = by_number j m _ (λ e. absurd (grind (arith, e, low))) (λ other. AtWork j (kept j apart other ∙ at) refl)
+      on j (Up _ x at g) apart = by_number j m _ (λ e. subst (λ (i : ℕ). Goes all_in u i) (sym e) (AtWork m new refl))
+          (λ other. Up j x (kept j apart other ∙ at) (on x g (by_number x k _
+          (λ e. absurd (let one = base.alone j m k (q.unders j k (at ∙ ap (λ (y : ℕ). Some (Place.Under y)) e)) (q.unders m k low) in grind (arith, nat_tests))) (λ no. no))))
+      on j (Back _ g at y) apart = by_number j m _ (λ e. absurd (grind (arith, e, low)))
+          (λ other. Back j g (kept j apart other ∙ at) (on g y (by_number g k _
+          (λ e. absurd (q.feet j m k (at ∙ ap (λ (y : ℕ). Some (Place.Behind y)) e) low)) (λ no. no))))
+
+  far_same : (m : ℕ) (h : HowFar) (s : Core) (j : ℕ) → place_of j (after_word (SetHowFar m h) s) ≡ place_of j s
+  unfolding set_how_far on_thread
+  far_same m h s j = grind (arith, nat_tests, get-change)
+
+  word_same : (x : Placing) (s : Core) (j : ℕ) → place_of j (after_word (Places x) s) ≡ place_of j (after_placing x s)
+  word_same x s j = ap (λ (t : Core). place_of j t) (placing_shifted x s).only
+
+  pub trip_called : {t : Core} → Trip a b t → (a.next ≡ Turn.Over → ⊥) → Called a b t
+  trip_called (Remains t c still on) live = calling_called base (stay_both c).1
+  trip_called (Lands s x c ok fit halts) live = called_as (after_placing x s) _ (word_same x s) (lands_called x s ok c halts)
+  trip_called (LandsAt s x m h c ok fit comes halts) live =
+      called_as (after_placing x s) _ (λ j. far_same m h (after_word (Places x) s) j ∙ word_same x s j) (lands_called x s ok c halts)
+  trip_called (Quits s t k c leave d h) live = quits_called k s t c leave d h
+  trip_called (GoesBack s t k m v c is runs to under d ok) live =
+      called_as (set_place m Place.Running t) _ (λ j. far_same m (HowFar.Answered v) (after_word (Places (Move m Place.Running)) t) j ∙ word_same (Move m Place.Running) t j)
+      (goes_back_called k m s t c is under d)
+  trip_called (Collapses t over c) live = absurd (live over)

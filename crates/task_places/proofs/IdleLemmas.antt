@@ -3,7 +3,7 @@ use Rattle.task_places.proofs.Laws.{[], any_found, any_thread, ap, arith, Bool, 
 use Rattle.task_places.proofs.OrderLemmas.{reached_in_order}
 use Rattle.task_places.proofs.WakeLines.{none_of}
 use Rattle.task_places.specs.Kept.{ReachedInOrder}
-use Rattle.task_places.specs.Wakes.{IdleIsStalled, ReachedUnblocked}
+use Rattle.task_places.specs.Wakes.{IdleIsStalled, ReachedGoOn, ReachedUnblocked}
 use Rattle.task_rules.specs.Stalled.{is_idle}
 
 -- ---- Counts
@@ -106,6 +106,10 @@ blocked_line s none h =
 take_of : (u : Turn) → is_unended_take u ≡ true → u ≡ Turn.Take false
 take_of u h = grind arith
 
+pub reached_go_on : ReachedGoOn
+unfolding ReachedGoOn ReachedInOrder
+reached_go_on x s r live = ((reached_in_order x s r).awake live).callers
+
 pub reached_unblocked : ReachedUnblocked
 unfolding ReachedUnblocked ReachedInOrder
 reached_unblocked x s r live =
@@ -114,12 +118,12 @@ reached_unblocked x s r live =
 
 pub idle_is_stalled : IdleIsStalled
 unfolding IdleIsStalled is_idle is_stalled
-idle_is_stalled x s h counted goes idle =
+idle_is_stalled x s h counted idle =
     let parts : is_idle x s ≡ true = idle in
     let turn = take_of s.turn (grind arith) in
     let none : next_entry s.core ≡ None = grind arith in
     let still = idle_still s h.in_place.placed (h.awake (grind arith)).alone false turn none in
-    let behind = false_of (any_thread (λ t. is_behind t.place) s.core) (behind_line s.core still goes) in
+    let behind = false_of (any_thread (λ t. is_behind t.place) s.core) (behind_line s.core still (h.awake (grind arith)).callers) in
     let held = none_of s.core h.held s.core.instances.list in
     let passed = none_passed s.core still counted (numbers s.core.sets) in
     let ends = false_of (any_thread (λ t. is_blocked_on_end s.core t.place) s.core) (blocked_line s.core (h.awake (grind arith)).blocked) in

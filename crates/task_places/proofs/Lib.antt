@@ -18,3 +18,4 @@ pub mod StrandFeet
 pub mod StayMoves
 pub mod CallersLemmas
 pub mod CallersTrips
+pub mod CallersSteps

@@ -2,6 +2,7 @@
 use Rattle.task_places.proofs.Laws.{[], AllFit, along, ap, apart_after, arith, at_place, Awake, base_at, Bool, ByHandle, ByOp, Call, callee_of, calls_begin, calls_told_word, CallsAwaited, CallsGo, CallsHold, CallsInside, CallsNamed, CallsThere, CallsTold, can_come, cancelled_call, CancelsWatched, Component, Core, directs_word, DirectsOnTop, DirectsRun, event_of, false, few_word, first_waits, Fits, fits_word, fresh, get, get-empty, HasNotRun, HasSubtask, held_word, Homed, homed_word, host_event_word, host_taken, HostsAwaited, housed_word, how_far_of, HowFar, inl, InOrder, InOrderIf, InPlace, inr, Inside, inside_word, InsideThere, instance_of, is_awaited, is_fresh, is_open, is_some, is_sync_call, is_there, IsRunner, joins_word, JoinsNamed, KnownHome, KnownLacks, Label, lacks_word, LacksOps, LacksWorks, Layered, layered_word, le_refl, le_trans, length, List, made_works_word, MakesFew, names_go_word, NamesGo, NamesHold, None, NoneAdmitted, Numbered, of_base, OfBase, Op, op_at_place, op_lacks, op_of_thread, opening, opening_holds, opening_joins, opening_named, opening_names_known, opening_sets, opening_works_known, opening_works_named, OpeningInOrder, option_map, option_map_or, Place, place_of, Placed, plain, plain_scene, queued_watched, refl, Run, runner_there, RunnerHoused, Scene, scene_of, Script, script_in, sets_named_word, SetsNamed, Setting, Some, StartsAwaited, StartsFirst, State, Status, Steady, steady, Step, step_goes, step_over, step_walks, StepInOrder, StepsLackWorks, StepsMakeFew, Strands, subst, Subtask, subtask_under_way, sym, sync_works_word, SyncWorks, task_of, telling_word, TellingGoes, Thread, Traced, traced_word, true, Turn, Unbegun, unbegun_word, undelivered_end, Waited, WaitsAtHome, WaitsPlaced, Walk, Walked, was_started, WasCall, watched_word, word_goes, Work, works_go, works_hold, works_named_word, works_said_word, works_told, WorksKnown, WorksNamed, WorksQueued, WorksSaid, WorksTold, ℕ, ⊎_elim, ◌∙◌, ◌∷◌, ◌≡◌, ◌≤◌, ◌⊎◌}
 use Rattle.task_places.proofs.AloneLemmas.{step_alone}
 use Rattle.task_places.proofs.BlockedLemmas.{step_blocked}
+use Rattle.task_places.proofs.CallersSteps.{callers_kept, feet_kept, free_kept}
 use Rattle.task_places.proofs.CallsBack.{back_apart}
 use Rattle.task_places.proofs.Directs.{directs_on_top}
 use Rattle.task_places.proofs.HostsAwaited.{Asked, step_asked, step_works}
@@ -286,6 +287,9 @@ module _ (x : Setting) (s : State) (l : Label) (t : State) {g : Bool} (h : InOrd
   awake_kept steady first live = record {
     alone = step_alone x s l t w h.in_place withdrawable (grind arith) first.alone;
     blocked = step_blocked x s l t w h withdrawable steady (λ over. let e = w.turn in absurd (grind arith)) telling hosts_told calls_told_kept works_told_kept first.blocked;
+    callers = callers_kept x s l t w h withdrawable (λ over. let e = w.turn in absurd (grind arith)) first.callers first.feet first.free;
+    feet = feet_kept x s l t w h withdrawable (λ over. let e = w.turn in absurd (grind arith)) first.callers first.feet first.free;
+    free = free_kept x s l t w h withdrawable (λ over. let e = w.turn in absurd (grind arith)) first.callers first.feet first.free;
   }
 
   pub fits_kept : Steady s.core t.core → Fits x.component t.core
@@ -470,6 +474,12 @@ opening_in_order c codes instances handle_limit capacity main =
       awake = λ live. record {
         alone = λ n is. let o = get-empty {X = Thread} n in absurd (cc);
         blocked = λ n sub is. let o = get-empty {X = Thread} n in absurd (cc);
+        callers = λ n f is. let o = get-empty {X = Thread} n in absurd (cc);
+        feet = λ n k f is under. let o = get-empty {X = Thread} n in absurd (cc);
+        free = record {
+          under = λ n m is. let o = get-empty {X = Thread} n in absurd (cc);
+          behind = λ n f is fresh. let o = get-empty {X = Thread} n in absurd (cc);
+        };
       };
     }
 

@@ -65,6 +65,23 @@ module _ (s : Core) (rising : Rising s) where
   unfolding foot_of size
   foot_bottom n j at = bottom_from (size s.threads) n j (below_most n s.threads.list) at
 
+-- the foot is the thread itself, or under another one
+foot_from_place : (s : Core) (k i : ℕ) → (foot_from k s i ≡ i) ⊎ ((v : ℕ) × (place_of (foot_from k s i) s ≡ Some (Place.Under v)))
+foot_from_place s zero i = inl (λ j. i)
+foot_from_place s (suc k) i = by (λ v. foot_from_place s k v) (under_of i s) (λ j. under_of i s)
+  where
+    by : ((v : ℕ) → (foot_from k s v ≡ v) ⊎ ((y : ℕ) × (place_of (foot_from k s v) s ≡ Some (Place.Under y)))) → (o : Option ℕ) → under_of i s ≡ o →
+        (option_map_or (foot_from k s) (under_of i s) i ≡ i) ⊎ ((y : ℕ) × (place_of (option_map_or (foot_from k s) (under_of i s) i) s ≡ Some (Place.Under y)))
+    by rec None is = inl (ap (λ (o : Option ℕ). option_map_or (foot_from k s) o i) is)
+    by rec (Some v) is =
+        let same : option_map_or (foot_from k s) (under_of i s) i ≡ foot_from k s v = ap (λ (o : Option ℕ). option_map_or (foot_from k s) o i) is in
+        let up = under_place i v s is in
+        inr (⊎_elim (λ e. (i, ap (λ (x : ℕ). place_of x s) (same ∙ e) ∙ up)) (λ y. (y.0, ap (λ (x : ℕ). place_of x s) same ∙ y.1)) (rec v))
+
+pub foot_place : (m : ℕ) (s : Core) → (foot_of m s ≡ m) ⊎ ((v : ℕ) × (place_of (foot_of m s) s ≡ Some (Place.Under v)))
+unfolding foot_of
+foot_place m s = foot_from_place s (size s.threads) m
+
 -- From a thread down through those that are under it.
 pub data Down (s : Core) : ℕ → ℕ → Type 0 where
   Here : (n : ℕ) → Down s n n
