@@ -3,11 +3,11 @@
 
     tools/imports.py
 
-Three files pass names on. crates/task_rules/proofs/Machine.antt passes on each name of std, of task_machine's specs and of
-task_rules' specs that a proof file of these crates brings in, and each lemma of task_machine's proofs.
-crates/task_laws/proofs/Rules.antt passes those on to the proofs of task_laws, with the lemmas of task_rules and the definitions of
-task_laws; crates/task_places/proofs/Laws.antt passes all that on to the proofs of task_places, with the lemmas of task_laws. Every
-proof file gets one `use` line for what such a file passes on to it. In a proof file new names are written as `use` lines of the
+Some files of proofs pass names on. task_rules' Machine passes on each name of std, of task_machine's specs and of task_rules' specs
+that a proof file of these crates brings in, and each lemma of task_machine's proofs; its Walks those and the lemmas of moves to the
+walks over the rows. task_laws' Rules passes all of the rules on to the laws, with the definitions of task_laws, and its Words what
+is known of each word; task_places' Laws passes that and the laws on to the laws of places. Every proof file gets one `use` line
+for what such a file passes on to it, and one for the modules of a folder beside. In a proof file new names are written as `use` lines of the
 modules that declare them; then this is run, and `rt fmt`. Names that a file no longer cites go. A variant is written behind its
 type: where a file has `use ..Place.TheVariants as place`, each `place.Running` becomes `Place.Running`, and the line goes. What a
 file else renames by `as`, a module of task_machine or of task_rules' specs that one file alone cites, and a name that two modules
@@ -18,30 +18,53 @@ import re
 
 CRATES = pathlib.Path(__file__).resolve().parent.parent / 'crates'
 USE = re.compile(r'^use (Rattle\.[\w.]+)\.\{(.*)\}$')
+WORD = re.compile(r"^[\w'-]+$")
 ANY_USE = re.compile(r'^(unfoldable )?(pub )?use ')
 PASSED_ON = re.compile(r'^(unfoldable )?pub use (Rattle\.[\w.]+)\.\{(.*)\}$')
 UNFOLDABLE = re.compile(r'(?m)^\s*unfoldable pub (?:\{[^}]*\} )?(?!use )([^\s:]+)')
 SHARED = re.compile(r'Rattle\.(task_machine\.specs|task_machine\.proofs|task_rules\.specs|std\.specs|std\.proofs)\.')
 VARIANTS = re.compile(r'(?m)^use (Rattle\.[\w.]+\.(\w+))\.TheVariants as (\w+)$')
 MACHINE = 'Rattle.task_rules.proofs.Machine'
+WALKS = 'Rattle.task_rules.proofs.Walks'
 RULES = 'Rattle.task_laws.proofs.Rules'
+WORDS = 'Rattle.task_laws.proofs.Words'
 LAWS = 'Rattle.task_places.proofs.Laws'
 DECLARED = 'Rattle.task_machine.specs.declared'  # its types, each in a module of its own, are passed on by one line
 PRELUDE, COMMON = 'Rattle.std.specs.Prelude', 'Rattle.std.proofs.Common'  # the second passes on names of the first
 PLACES = {
     MACHINE: '-- The words of std, of the machine and of its rules that the proofs cite, in one place.',
+    WALKS: '-- What the walks over the rows cite, in one place.',
     RULES: '-- What the laws cite of the rules, of their lemmas and of what the laws say, in one place.',
+    WORDS: '-- What is known of each word, and what else the laws cite, in one place.',
     LAWS: '-- What the laws of places cite, in one place.',
 }
-# what a place passes on beside what the one below does, and for whom
+MOVES = 'CallThreads ChainLemmas FreeLemmas MoveLemmas MuteLemmas PlacingLemmas PromotionLemmas ReleaseLemmas SayLemmas StandLemmas StopLemmas WalkEnds WalkMoves'
+KNOWN = 'Basics CallsCame CallsLaw CallsSteps CameLemmas CountLemmas EachLemmas HandleTables HousedLemmas PolledWorks ReachLemmas SceneLemmas SetHandles WorksCame'
+ROWS = 'WalkTask WalkParts WalkTakes WalkOps WalkSteps'
+
+
+def modules_of(crate, stems):
+    return {f'Rattle.{crate}.proofs.{stem}' for stem in stems.split()}
+
+
+# of each of the other places: the one below it, which modules it passes on beside, and for which modules of proofs
 ABOVE = {
-    RULES: (MACHINE, re.compile(r'Rattle\.(task_rules\.proofs|task_laws\.specs)\.'), 'task_laws'),
-    LAWS: (RULES, re.compile(r'Rattle\.task_laws\.proofs\.'), 'task_places'),
+    WALKS: (MACHINE, lambda module: module in modules_of('task_rules', MOVES), lambda module: module in modules_of('task_rules', ROWS)),
+    RULES: (MACHINE, re.compile(r'Rattle\.(task_rules\.proofs|task_laws\.specs)\.').match, re.compile(r'Rattle\.(task_laws|task_places)\.').match),
+    WORDS: (
+        RULES, lambda module: module in modules_of('task_laws', KNOWN),
+        lambda module: module.startswith('Rattle.task_laws.') and module not in modules_of('task_laws', KNOWN),
+    ),
+    LAWS: (RULES, re.compile(r'Rattle\.task_laws\.proofs\.').match, re.compile(r'Rattle\.task_places\.').match),
 }
 
 
 def file_of(module):
     return CRATES / (module.removeprefix('Rattle.').replace('.', '/') + '.antt')
+
+
+def module_of(file):
+    return 'Rattle.' + '.'.join(file.relative_to(CRATES).with_suffix('').parts)
 
 
 def names_of(group):
@@ -65,8 +88,7 @@ def unfoldable_names():
     found = set()
     for crate in ('task_machine', 'task_rules', 'task_laws'):
         for file in (CRATES / crate / 'specs').rglob('*.antt'):
-            module = 'Rattle.' + '.'.join(file.relative_to(CRATES).with_suffix('').parts)
-            found |= {(module, name) for name in UNFOLDABLE.findall(file.read_text())}
+            found |= {(module_of(file), name) for name in UNFOLDABLE.findall(file.read_text())}
     return found
 
 
@@ -82,9 +104,10 @@ def passed_on():
                 for path in names_of(match[3]):
                     *below, name = path.split('.')
                     home = '.'.join([match[2], *below])
-                    modules[place][name] = modules[home][name] if home in PLACES else home
-                    if match[1]:
-                        unfoldable.add((modules[place][name], name))
+                    if home := modules[home].get(name) if home in PLACES else home:
+                        modules[place][name] = home
+                        if match[1]:
+                            unfoldable.add((home, name))
     return modules, unfoldable
 
 
@@ -108,9 +131,13 @@ def read(file, modules):
             continue
         where = len(lines) if where is None else where
         names = names_of(match[2])
-        plain = [name for name in names if ' as ' not in name and '.' not in name]
-        home = modules.get(match[1])
-        brought |= {(home[name] if home is not None else match[1], name) for name in plain if is_cited(name, body)}
+        plain = [name for name in names if ' as ' not in name]
+        for path in plain:
+            *below, name = path.split('.')
+            module = '.'.join([match[1], *below])
+            home = modules.get(module)
+            if is_cited(name, body) and (home is None or name in home):
+                brought.add((module if home is None else home[name], name))
         if kept := [name for name in names if name not in plain]:
             lines.append(f'use {match[1]}.{{{", ".join(kept)}}}')
     return lines, where, brought
@@ -134,13 +161,29 @@ def owned(cites):
     return {(module, name) for module, name in cites if owners[name] == module}
 
 
+def written(word, pairs):
+    """The lines that bring these pairs in, one for the modules of a folder; operators are brought in by their module alone."""
+    folders, lines = {}, []
+    for module, name in pairs:
+        folders.setdefault(module.rpartition('.')[0], {}).setdefault(module, []).append(name)
+    for folder, modules in folders.items():
+        words = [] if len(modules) == 1 else sorted(
+            f'{module.rpartition(".")[2]}.{name}' for module, names in modules.items() for name in names if WORD.match(name)
+        )
+        if words:
+            lines.append((folder, words))
+        for module, names in modules.items():
+            if others := sorted((name for name in names if not (words and WORD.match(name))), key=by_name):
+                lines.append((module, others))
+    return [f'{word}use {module}.{{{", ".join(names)}}}' for module, names in sorted(lines)]
+
+
 def grouped(pairs, unfoldable):
     """The lines that pass these pairs on, without those of task_machine's types."""
-    for module in sorted({module for module, _ in pairs}):
-        names = sorted((name for other, name in pairs if other == module), key=by_name)
-        for word, unfolds in (('', False), ('unfoldable ', True)):
-            if group := [name for name in names if ((module, name) in unfoldable) == unfolds]:
-                yield f'{word}pub use {module}.{{{", ".join(group)}}}'
+    below = {pair for pair in pairs if pair[0] in PLACES}
+    for group in (below, pairs - below):
+        for word, unfolds in (('pub ', False), ('unfoldable pub ', True)):
+            yield from written(word, {pair for pair in group if (pair in unfoldable) == unfolds})
 
 
 def write(place, lines):
@@ -168,25 +211,21 @@ def main():
     write(MACHINE, [f'pub use {DECLARED}.{{{", ".join(types)}}}', *grouped(others, unfoldable)])
     passed = {MACHINE: by_machine}
     homes = {file: {pair: MACHINE for pair in brought & by_machine} for file, (_, _, brought) in files.items()}
-    for place, (below, passes, crate) in ABOVE.items():
-        above = {file: files[file] for file in files if any(file.is_relative_to(CRATES / other) for other in ('task_places', crate))}
-        cites, _ = cited(above)
-        pairs = owned({pair: count for pair, count in cites.items() if pair in passed[below] or passes.match(pair[0])})
+    for place, (below, passes, is_for) in ABOVE.items():
+        users = {file for file in files if is_for(module_of(file))}
+        cites, _ = cited({file: files[file] for file in users})
+        pairs = owned({pair: count for pair, count in cites.items() if pair in passed[below] or passes(pair[0])})
         passed[place] = pairs
-        from_below = {(below, name): pair for pair in pairs & passed[below] for name in [pair[1]]}
+        from_below = {(below, name): (module, name) for module, name in pairs & passed[below]}
         marked = unfoldable | {key for key, pair in from_below.items() if pair in unfoldable}
         write(place, grouped(set(from_below) | (pairs - passed[below]), marked))
-        for file in above:
-            if file.is_relative_to(CRATES / crate):
-                homes[file] = {pair: place for pair in files[file][2] & pairs}
+        homes |= {file: {pair: place for pair in files[file][2] & pairs} for file in users}
     for file, (lines, where, brought) in files.items():
         if where is None:
             continue
-        groups = {}
-        for pair in brought:
-            groups.setdefault(homes[file].get(pair, pair[0]), []).append(pair[1])
-        first = sorted(groups, key=lambda module: (module not in PLACES, module))
-        lines[where:where] = [f'use {module}.{{{", ".join(sorted(groups[module], key=by_name))}}}' for module in first]
+        pairs = {(homes[file].get(pair, pair[0]), pair[1]) for pair in brought}
+        passed_pairs = {pair for pair in pairs if pair[0] in PLACES}
+        lines[where:where] = [*written('', passed_pairs), *written('', pairs - passed_pairs)]
         text = '\n'.join(lines)
         if text != file.read_text():
             file.write_text(text)

@@ -1,12 +1,6 @@
 -- Where the end of a subtask is its event: along the words of a step.
-use Rattle.task_laws.proofs.Rules.{add_call, add_group, add_set, add_thread, add_work, after_word, Allowed, ap, arith, by_number, Call, call_made, CallEnd, CallsTold, Core, count_work, EndCall, event_of, free_handle, free_thread_handle, get, get-change, get-insert, get-remove, give_handle, give_result, give_thread_handle, host_label, host_taken, how_far_of, HowFar, inl, inr, is_told, le_trans, Mark, MayCome, nat_tests, None, on_call, on_instance, on_thread, on_work, Option, option_map, poll_pends, push_high, refl, remove_call, remove_group, remove_set, remove_thread, remove_work, SaysEnd, Scene, set_backpressure, set_cancel_delivered, set_cancelled, set_course, set_do_not_enter, set_do_not_suspend, set_end, set_event, set_exited, set_how_far, set_join, set_own_event, set_phase, set_position, set_register, set_result, set_saved_callee, set_saved_own, set_script, set_stage, set_started, set_starting_published, set_subtask_handle, set_thread_handle, set_trapped, set_uninteresting, set_word, SetCallEvent, Some, Status, status_of_end, subst, Subtask, subtask_under_way, SyncWorks, take_result, TakeHost, true, undelivered_end, with_handle, with_thread_handle, Word, Work, work_caller_of, work_queued, WorkCaller, WorksNamed, WorksTold, ℕ, ⊎_elim, ◌∙◌, ◌≡◌, ◌≤◌, ◌⊎◌}
-use Rattle.task_laws.proofs.CallsCame.{call_came, CallAfter, op_came}
-use Rattle.task_laws.proofs.CountLemmas.{made_threads_word}
-use Rattle.task_laws.proofs.NamedWorks.{caller_stays}
+use Rattle.task_laws.proofs.Words.{add_call, add_group, add_set, add_thread, add_work, after_word, Allowed, ap, arith, by_number, Call, call_came, call_made, CallAfter, CallEnd, CallsTold, Core, count_work, Doing, doing, EndCall, event_of, free_handle, free_thread_handle, get, get-change, get-insert, get-remove, give_handle, give_result, give_thread_handle, host_label, host_taken, inl, inr, is_told, le_trans, made_threads_word, Mark, nat_tests, None, on_call, on_instance, on_thread, on_work, Option, option_map, poll_pends, push_high, refl, remove_call, remove_group, remove_set, remove_thread, remove_work, SaysEnd, Scene, set_backpressure, set_cancel_delivered, set_cancelled, set_course, set_do_not_enter, set_do_not_suspend, set_end, set_event, set_exited, set_how_far, set_join, set_own_event, set_phase, set_position, set_register, set_result, set_saved_callee, set_saved_own, set_script, set_stage, set_started, set_starting_published, set_subtask_handle, set_thread_handle, set_trapped, set_uninteresting, set_word, SetCallEvent, Some, Status, status_of_end, subst, Subtask, take_result, TakeHost, true, undelivered_end, with_handle, with_thread_handle, Word, Work, work_queued, WorksStand, WorksTold, ℕ, ⊎_elim, ◌≡◌, ◌≤◌, ◌⊎◌}
 use Rattle.task_laws.proofs.Works.{WorkHolds, WorksHold}
-use Rattle.task_laws.proofs.WorksCame.{Doing, doing, WorksStand}
-
--- ---- Calls
 
 told_event : (e : Status) → undelivered_end (Some e) ≡ None → (c : Option Status) → c ≡ Some e → undelivered_end c ≡ None
 told_event e none c is = grind arith
@@ -50,8 +44,6 @@ telling_word a w s ok q = record {
   ends = λ k e below h. ⊎_elim (q.ends k e below) (λ now. inr (now.0, (now.1.0, (q.told k below now.1.1.0, now.1.1.1)))) (ends_told_word a w s ok k e h);
 }
 
--- ---- Works
-
 pub host_event_word : (a : Scene) (w : Word) (s : Core) → Allowed a w s → (i : ℕ) (e : Status) →
     undelivered_end (event_of (Subtask.Host i) (after_word w s)) ≡ Some e →
     (undelivered_end (event_of (Subtask.Host i) s) ≡ Some e) ⊎ (host_taken a.label ≡ Some i)
@@ -62,31 +54,6 @@ host_event_word a (TakeHost m j) s ok i e h = by_number i j _ (λ is. inr (rw is
     taken_label m j None is = ap host_taken is
     taken_label m j (Some n) is = ap host_taken is
 host_event_word a w s ok i e h = inl (grind (arith, nat_tests, get-change, get-insert, get-remove))
-
-none_stays : (a : Scene) (w : Word) (s : Core) → Allowed a w s → (i : ℕ) → i ≤ s.made.works → get s.works i ≡ None → get (after_word w s).works i ≡ None
-unfolding add_call add_group add_set add_thread add_work count_work free_handle free_thread_handle give_handle give_result give_thread_handle on_call on_instance on_thread on_work push_high remove_call remove_group remove_set remove_thread remove_work set_backpressure set_cancel_delivered set_cancelled set_course set_do_not_enter set_do_not_suspend set_end set_event set_exited set_how_far set_join set_own_event set_phase set_position set_register set_result set_saved_callee set_saved_own set_script set_stage set_started set_starting_published set_subtask_handle set_thread_handle set_trapped set_uninteresting set_word take_result call_made with_handle with_thread_handle work_queued poll_pends
-none_stays a w s ok i below none = grind (arith, nat_tests, get-change, get-insert, get-remove)
-
-abbrev sync_of : HowFar → Option ℕ
-sync_of (HowFar.Calls (Subtask.Host i)) = Some i
-sync_of f = None
-
-of_sync : (f : HowFar) (i : ℕ) → sync_of f ≡ Some i → f ≡ HowFar.Calls (Subtask.Host i)
-of_sync f i h = grind arith
-
-pub sync_works_word : (a : Scene) (w : Word) (s : Core) → Allowed a w s → WorksNamed s → SyncWorks s → SyncWorks (after_word w s)
-sync_works_word a w s ok named q n i far = go (op_came sync_of i w s ok n refl (ap sync_of far))
-  where
-    Own : Core → Type 0
-    Own t = (work_caller_of i t ≡ WorkCaller.Sync n) ⊎ (get t.works i ≡ None)
-
-    keeps : i ≤ s.made.works → Own s → Own (after_word w s)
-    keeps below (inl is) = ⊎_elim (λ same. inl (same ∙ is)) (λ gone. inr gone.1) (caller_stays a w s ok i below)
-    keeps below (inr none) = inr (none_stays a w s ok i below none)
-
-    go : (sync_of (how_far_of n s) ≡ Some i) ⊎ ((g : HowFar) × (MayCome a n g s × (sync_of g ≡ Some i))) → Own (after_word w s)
-    go (inl was) = let f = of_sync (how_far_of n s) i was in keeps (named.by_op n i (ap subtask_under_way f)) (q n i f)
-    go (inr (g, (come, is))) = let m = rw (of_sync g i is) at come in keeps (grind arith) (inl m.1.1.0)
 
 -- what is so of works, in the words of the laws on them
 pub works_hold : (s : Core) → WorksStand (Unit {0}) s → WorksTold s → WorksHold ⊥ s

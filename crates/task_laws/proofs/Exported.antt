@@ -1,7 +1,5 @@
 -- Calls name exports, and instances stay, along the words of a step.
-use Rattle.task_laws.proofs.Rules.{after_word, Allowed, along, arith, Callee, Caller, CallsExported, component_of, Core, ExportsExist, get, InstancesStay, is_some, IsExported, MayCall, refl, Scene, scene_of, step_walks, StepsKeepExports, sym, Word, ℕ, ◌∙◌, ◌≡◌}
-use Rattle.task_laws.proofs.Basics.{some_none}
-use Rattle.task_laws.proofs.CallsCame.{call_came, CallAfter, Grown, NewCall, NoCall}
+use Rattle.task_laws.proofs.Words.{after_word, Allowed, along, arith, call_came, CallAfter, Callee, Caller, CallsExported, component_of, Core, ExportsExist, get, Grown, InstancesStay, is_some, IsExported, MayCall, NewCall, NoCall, refl, Scene, scene_of, some_none, step_walks, StepsKeepExports, sym, Word, ℕ, ◌∙◌, ◌≡◌}
 use Rattle.task_laws.proofs.OneHolder.{instance_stays, op_callee}
 use Rattle.task_rules.specs.Allowed as may
 
@@ -23,8 +21,6 @@ pub steps_keep_exports : StepsKeepExports
 steps_keep_exports x s l t exist q step =
     let w = step_walks x s l t step in
     along (CallsExported x.component) (exported_word (scene_of x s l w.next) exist) q w.walk
-
--- ---- Instances
 
 pub instances_stay : InstancesStay
 instances_stay x s l t step i =

@@ -1,7 +1,5 @@
 -- No async calls of hosts, along the words of a step.
-use Rattle.task_laws.proofs.Rules.{[], add_call, add_group, add_set, add_thread, add_work, after_word, Allowed, ap, arith, call_made, callee_of, calls_host, Component, Core, count_work, false, FinishWork, free_handle, free_thread_handle, get, get-change, get-insert, get-remove, give_handle, give_result, give_thread_handle, is_async_work, LacksOps, LacksWorks, List, nat_tests, None, on_call, on_instance, on_thread, on_work, Op, op_in, op_of, Option, option_map, option_map_or, poll_pends, position_of, push_high, QueueWork, refl, remove_call, remove_group, remove_set, remove_thread, remove_work, Scene, script_in, script_of, set_backpressure, set_cancel_delivered, set_cancelled, set_course, set_do_not_enter, set_do_not_suspend, set_end, set_event, set_exited, set_how_far, set_join, set_own_event, set_phase, set_position, set_register, set_result, set_saved_callee, set_saved_own, set_script, set_stage, set_started, set_starting_published, set_subtask_handle, set_thread_handle, set_trapped, set_uninteresting, set_word, slice_get, Some, take_result, TaskOp, Thread, true, Turn, unwrap_or, with_handle, with_thread_handle, Word, Work, work_queued, WorkCaller, ℕ, ◌≡◌}
-
--- ---- The op
+use Rattle.task_laws.proofs.Words.{[], add_call, add_group, add_set, add_thread, add_work, after_word, Allowed, ap, arith, call_made, callee_of, calls_host, Component, Core, count_work, false, FinishWork, free_handle, free_thread_handle, get, get-change, get-insert, get-remove, give_handle, give_result, give_thread_handle, is_async_work, LacksOps, LacksWorks, List, nat_tests, None, on_call, on_instance, on_thread, on_work, Op, op_in, op_of, Option, option_map, option_map_or, poll_pends, position_of, push_high, QueueWork, refl, remove_call, remove_group, remove_set, remove_thread, remove_work, Scene, script_in, script_of, set_backpressure, set_cancel_delivered, set_cancelled, set_course, set_do_not_enter, set_do_not_suspend, set_end, set_event, set_exited, set_how_far, set_join, set_own_event, set_phase, set_position, set_register, set_result, set_saved_callee, set_saved_own, set_script, set_stage, set_started, set_starting_published, set_subtask_handle, set_thread_handle, set_trapped, set_uninteresting, set_word, slice_get, Some, take_result, TaskOp, Thread, true, Turn, unwrap_or, with_handle, with_thread_handle, Word, Work, work_queued, WorkCaller, ℕ, ◌≡◌}
 
 off_at : (ops : List Op) (p : ℕ) → ((o : Op) → slice_get ops p ≡ Some o → calls_host o ≡ false) → (o : Option Op) → slice_get ops p ≡ o →
     calls_host (unwrap_or o (Op.Task TaskOp.Exit)) ≡ false
@@ -16,8 +14,6 @@ op_lacks c lacks n s = go (get s.threads n)
         calls_host (unwrap_or (slice_get ops (position_of n s)) (Op.Task TaskOp.Exit)) ≡ false
     go None = off_at [] (position_of n s) (λ o e. absurd (cc)) _ refl
     go (Some u) = off_at (script_in c (callee_of u.call s) u.script) (position_of n s) (λ o e. lacks (callee_of u.call s) u.script (position_of n s) o e) _ refl
-
--- ---- The words
 
 -- What is known before the step.
 pub record KnownLacks (a : Scene) : Type 0 where

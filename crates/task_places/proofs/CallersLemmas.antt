@@ -1,20 +1,6 @@
 -- Callers go on: along the words of a step.
-use Rattle.task_places.proofs.StrandFeet.{Below, last_under}
-use Rattle.task_places.proofs.PlaceLaw.{Follows, covered_still, stay_word, watch}
-use Rattle.task_laws.proofs.CountLemmas.{made_threads_word}
-use Rattle.task_rules.specs.Chains.{Halted}
-use Rattle.task_rules.proofs.PlacingLemmas.{placing_shifted}
-use Rattle.task_rules.proofs.StandLemmas.{Stand, by_number}
-use Rattle.task_rules.proofs.ChainLemmas.{along}
-use Rattle.task_places.proofs.StayMoves.{behind_called, called_behind, stops}
-use Rattle.task_places.proofs.StrandFeet.{Here}
-use Rattle.task_machine.specs.Moves.{stopped}
-use Rattle.task_places.proofs.Laws.{after_word, ap, arith, Bool, Core, false, get, inl, inr, is_for_start, is_fresh, is_parked, is_there, Mark, nat_tests, None, Option, option_map_or, Place, place_of, refl, Scene, Some, Stay, Stays, subst, sym, true, Turn, Why, Word, zero, suc, ℕ, ⊎_elim, ◌+◌, ◌==◌, ◌∙◌, ◌≡◌, ◌≤◌, ◌⊎◌, is_some, option_map, Thread, Places, Stop, []}
-use Rattle.task_machine.specs.Moves.{why_of}
-use Rattle.task_machine.specs.Read.{foot_from, foot_of, under_of}
-use Rattle.task_places.proofs.StayMoves.{Born, Early, Gone, Kept, Marked, Moves, Passed, Resumed, Woken, stay_moves, switch_ready}
-use Rattle.task_places.proofs.StrandFeet.{Down, Rising, down_further, foot_bottom, lowest}
-use Rattle.task_rules.proofs.WalkTask.{under_place}
+use Rattle.task_places.proofs.Laws.{[], after_word, along, ap, arith, Bool, by_number, Core, false, foot_from, foot_of, get, Halted, inl, inr, is_fresh, is_some, is_there, made_threads_word, Mark, nat_tests, None, Option, option_map, option_map_or, Place, place_of, Places, placing_shifted, refl, Scene, Some, Stand, Stay, Stop, stopped, subst, suc, sym, Thread, true, Turn, under_of, under_place, Why, why_of, zero, ℕ, ⊎_elim, ◌+◌, ◌==◌, ◌∙◌, ◌≡◌, ◌≤◌, ◌⊎◌}
+use Rattle.task_places.proofs.{PlaceLaw.Follows, PlaceLaw.covered_still, PlaceLaw.stay_word, PlaceLaw.watch, StayMoves.Born, StayMoves.Early, StayMoves.Gone, StayMoves.Kept, StayMoves.Marked, StayMoves.Moves, StayMoves.Passed, StayMoves.Resumed, StayMoves.Woken, StayMoves.behind_called, StayMoves.called_behind, StayMoves.stay_moves, StayMoves.stops, StayMoves.switch_ready, StrandFeet.Below, StrandFeet.Down, StrandFeet.Here, StrandFeet.Rising, StrandFeet.down_further, StrandFeet.foot_bottom, StrandFeet.last_under, StrandFeet.lowest}
 
 -- The thread comes, through those that it is behind or under, to one that is ready or runs and isn't left out.
 pub data Goes (out : ℕ → Bool) (s : Core) : ℕ → Type 0 where

@@ -1,13 +1,6 @@
 -- Callers go on: each step keeps it.
-use Rattle.task_places.proofs.Laws.{AwaitsEvent, Blocks, Enter, GoBehind, Holds, MayLand, MayMove, Move, Placing, Put, Runs, Suspends, Uncovers, Waits, WaitsAgain, LandsAt, Quits, GoesBack, Collapses}
-use Rattle.task_places.proofs.PlaceLaw.{yield_leaves}
-use Rattle.task_places.proofs.Laws.{ap, arith, Bool, Core, false, get, inl, inr, is_fresh, is_there, IsRunner, Label, Mark, nat_tests, next_entry, None, Option, option_map, Place, place_of, refl, runner_at, Scene, scene_of, Setting, settled_turn, Some, State, subst, sym, Thread, Trip, true, Turn, Walked, Why, zero, suc, ℕ, ⊎_elim, ◌==◌, ◌∙◌, ◌≡◌, ◌⊎◌, HasPlace, Made, Remains, is_take, Lands, ◌≤◌, le_refl}
-use Rattle.task_laws.specs.Order.{InOrderIf, StartsFree}
-use Rattle.task_laws.specs.Wakes.{BehindFeet, CallersGoOn, goes_on_at, goes_on_within}
-use Rattle.task_places.proofs.CallersLemmas.{AtMark, AtWork, Back, Begins, Calling, Goes, Up}
-use Rattle.task_places.proofs.CallersTrips.{Called, all_in, goes_as, trip_called}
-use Rattle.task_places.proofs.PlaceLaw.{Frame}
-use Rattle.task_places.proofs.PlaceSteps.{Reads, Withdrawable, settled_run, step_by}
+use Rattle.task_places.proofs.Laws.{ap, arith, AwaitsEvent, BehindFeet, Blocks, Bool, CallersGoOn, Collapses, Core, Enter, false, get, GoBehind, goes_on_at, goes_on_within, GoesBack, HasPlace, Holds, inl, InOrderIf, inr, is_fresh, is_take, IsRunner, Label, Lands, LandsAt, le_refl, Made, Mark, MayLand, MayMove, Move, nat_tests, next_entry, Option, option_map, Place, place_of, Placing, Put, Quits, refl, Remains, runner_at, Runs, Scene, scene_of, Setting, Some, StartsFree, State, subst, suc, Suspends, sym, Thread, Trip, true, Turn, Uncovers, Waits, WaitsAgain, Walked, Why, zero, ℕ, ⊎_elim, ◌∙◌, ◌≡◌, ◌≤◌, ◌⊎◌}
+use Rattle.task_places.proofs.{CallersLemmas.AtMark, CallersLemmas.AtWork, CallersLemmas.Back, CallersLemmas.Begins, CallersLemmas.Calling, CallersLemmas.Goes, CallersLemmas.Up, CallersTrips.Called, CallersTrips.all_in, CallersTrips.goes_as, CallersTrips.trip_called, PlaceLaw.yield_leaves, PlaceSteps.Reads, PlaceSteps.Withdrawable, PlaceSteps.settled_run, PlaceSteps.step_by}
 
 -- ---- By the number of threads on the way
 

@@ -1,24 +1,6 @@
 -- Callers go on where a step has brought its thread.
-use Rattle.task_places.proofs.PlaceLaw.{covered_still, move_runner, runner_there}
-use Rattle.task_rules.proofs.WalkMoves.{settle_threads}
-use Rattle.task_rules.proofs.ChainLemmas.{along}
-use Rattle.task_rules.specs.Chains.{Settles}
-use Rattle.task_places.proofs.StayMoves.{switch_ready}
-use Rattle.task_machine.specs.Moves.{behind_one, why_of, put_high, put_low}
-use Rattle.task_machine.specs.Read.{foot_from, foot_of, under_of}
-use Rattle.task_rules.specs.Allowed.{IsFoot}
-use Rattle.task_rules.proofs.WalkTask.{under_place}
-use Rattle.task_places.proofs.StrandFeet.{foot_place}
-use Rattle.task_rules.specs.Chains.{Halted, Halts, leaving}
-use Rattle.task_places.proofs.CallersLemmas.{Both}
-use Rattle.task_rules.proofs.StandLemmas.{eq_refl}
-use Rattle.task_rules.specs.Allowed.{MayYield}
-use Rattle.task_places.proofs.Laws.{zero, suc, after_placing, after_word, ap, arith, Bool, Core, false, get, GoBehind, Enter, inl, inr, is_fresh, is_there, IsRunner, Mark, MayLand, MayMove, Move, nat_tests, None, Option, option_map, Place, place_of, Places, Placing, Put, refl, RemoveThread, Scene, SetHowFar, Some, Stay, subst, sym, Thread, Trip, true, Turn, Why, ℕ, ⊎_elim, ◌+◌, ◌==◌, ◌∙◌, ◌≡◌, ◌≤◌, ◌⊎◌, is_some, is_for_start, is_none, set_place, Runs, Uncovers, Holds, WaitsAgain, AwaitsEvent, Waits, Blocks, Suspends, set_callers, suc, Leaves, option_map_or, [], Remains, remove_thread, set_how_far, Lands, if◌then◌else◌, on_thread, push_high, HowFar, LandsAt, get-remove, Quits, get-change, push_low, GoesBack, Collapses}
-use Rattle.task_places.proofs.CallersLemmas.{AtMark, AtWork, Back, Begins, Calling, Goes, Up, goes_there, halted_both, walk_calling}
-use Rattle.task_places.proofs.PlaceLaw.{Follows, Frame, beside, stands, watch, yield_leaves}
-use Rattle.task_places.proofs.StrandFeet.{foot_bottom}
-use Rattle.task_rules.proofs.StandLemmas.{Stand, by_number, place_kept, place_written, set_place_is}
-use Rattle.task_rules.proofs.PlacingLemmas.{placing_shifted}
+use Rattle.task_places.proofs.Laws.{[], after_placing, after_word, along, ap, arith, AwaitsEvent, behind_one, Blocks, Bool, by_number, Collapses, Core, Enter, eq_refl, false, foot_from, foot_of, get, get-change, get-remove, GoBehind, GoesBack, Halted, Halts, Holds, HowFar, if◌then◌else◌, inl, inr, is_for_start, is_fresh, is_none, is_some, IsFoot, IsRunner, Lands, LandsAt, Leaves, leaving, Mark, MayLand, MayMove, MayYield, Move, nat_tests, None, on_thread, Option, option_map, option_map_or, Place, place_kept, place_of, place_written, Places, Placing, placing_shifted, push_high, push_low, Put, put_high, put_low, Quits, refl, Remains, remove_thread, RemoveThread, Runs, Scene, set_callers, set_how_far, set_place, set_place_is, SetHowFar, settle_threads, Settles, Some, Stand, Stay, subst, suc, Suspends, sym, Thread, Trip, true, Turn, Uncovers, under_of, under_place, Waits, WaitsAgain, Why, why_of, zero, ℕ, ⊎_elim, ◌==◌, ◌∙◌, ◌≡◌, ◌≤◌, ◌⊎◌}
+use Rattle.task_places.proofs.{CallersLemmas.AtMark, CallersLemmas.AtWork, CallersLemmas.Back, CallersLemmas.Begins, CallersLemmas.Both, CallersLemmas.Calling, CallersLemmas.Goes, CallersLemmas.Up, CallersLemmas.halted_both, CallersLemmas.walk_calling, PlaceLaw.Frame, PlaceLaw.beside, PlaceLaw.covered_still, PlaceLaw.move_runner, PlaceLaw.runner_there, PlaceLaw.stands, PlaceLaw.watch, StayMoves.switch_ready, StrandFeet.foot_bottom, StrandFeet.foot_place}
 
 -- What is so of callers after the words from b on.
 pub record Called (a : Scene) (b t : Core) : Type 0 where

@@ -1,14 +1,6 @@
 -- The foot of a strand: nobody is under it, and it is where the threads that are under others end.
-use Rattle.task_places.proofs.Laws.{◌⊎◌, inl, inr, ⊎_elim, arith, Bool, Core, false, get, is_some, is_under, List, nat_tests, None, numbers, Option, Place, place_of, Some, Thread, true, zero, suc, ℕ, ◌+◌, ◌==◌, ◌∷◌, [], ◌≡◌, ◌≤◌, if◌then◌else◌, length, option_map_or, subst, ap, ◌∙◌}
-use Rattle.task_machine.specs.Read.{first_at, foot_from, foot_of, is_at, under_of}
-use Rattle.std.specs.Prelude.{nat_lt}
-use Rattle.task_machine.specs.Maps.{size}
-use Rattle.std.specs.Cmp.{unsigned_tied}
-use Rattle.std.specs.Ordering.{nat_cmp}
+use Rattle.task_places.proofs.Laws.{[], ap, arith, Core, foot_from, foot_of, found_none, get, if◌then◌else◌, inl, inr, is_at, is_under, length, List, nat_cmp, nat_lt, nat_tests, None, numbers, Option, option_map_or, Place, place_of, size, Some, subst, suc, Thread, under_of, under_place, unsigned_tied, zero, ℕ, ⊎_elim, ◌+◌, ◌∙◌, ◌∷◌, ◌≡◌, ◌≤◌, ◌⊎◌}
 use Rattle.std.specs.FinMap.Entries.{find as seek}
-use Rattle.task_rules.proofs.SayLemmas.{found_none}
-use Rattle.task_rules.proofs.StopLemmas.{find_passes}
-use Rattle.task_rules.proofs.WalkTask.{under_place}
 
 -- who is under another is below it
 abbrev pub Rising : Core → Type 0

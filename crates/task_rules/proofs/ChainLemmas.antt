@@ -1,5 +1,5 @@
 -- What holds along a chain of words.
-use Rattle.task_rules.proofs.Machine.{Advance, after_word, Allowed, Bool, Chain, Collapses, Core, Departs, EndsOver, false, GoesBack, HowFar, if◌then◌else◌, inl, inr, IsFall, IsSettling, IsShift, Lands, LandsAt, Mark, MayGo, MayLand, Move, NoWord, Place, Places, Placing, Pop, Promote, Put, Quits, refl, Remains, RemoveCall, RemoveGroup, RemoveThread, Scene, SetHowFar, Settles, SetTrapped, SetUninteresting, Stay, Stays, Then, Trip, true, Turn, Walk, WasUnder, Word, ℕ, ◌≡◌, Stop, Why, MayPut, arith, ◌⊎◌, MayYield}
+use Rattle.task_rules.proofs.Machine.{Advance, after_word, Allowed, Bool, Chain, Collapses, Core, Departs, EndsOver, false, GoesBack, HowFar, if◌then◌else◌, inl, inr, IsFall, IsSettling, IsShift, Lands, LandsAt, Mark, MayGo, MayLand, MayPut, MayYield, Move, NoWord, Place, Places, Placing, Pop, Promote, Put, Quits, refl, Remains, RemoveCall, RemoveGroup, RemoveThread, Scene, SetHowFar, Settles, SetTrapped, SetUninteresting, Stay, Stays, Stop, Then, Trip, true, Turn, Walk, WasUnder, Why, Word, ℕ, ◌≡◌, ◌⊎◌}
 
 module _ {may : Word → Core → Type 0} where
   -- what holds at first and is kept by each word holds at last
@@ -106,5 +106,5 @@ module _ {a : Scene} {b : Core} where
   trip_walk (LandsAt s p n h c ok fit comes halts) = Then (after_word (Places p) s) (SetHowFar n h) (Then s (Places p) (stay_walk c) (land_allowed a p s ok)) comes
   trip_walk (Quits s t n c leave d halts) = gone_walk n c (Departs leave) d
   trip_walk (GoesBack s t n m v c is runs to under d ok) =
-      Then (after_word (Places (Move m Place.Running)) t) (SetHowFar m (HowFar.Answered v)) (Then t (Places (Move m Place.Running)) (gone_walk n c (EndsOver m is to under) d) (inr ok)) ((n, (is, (to, under))), WasUnder n v under refl)
+      Then (after_word (Places (Move m Place.Running)) t) (SetHowFar m (HowFar.Answered v)) (Then t (Places (Move m Place.Running)) (gone_walk n c (EndsOver m is runs to under) d) (inr ok)) ((n, (is, (to, under))), WasUnder n v under refl)
   trip_walk (Collapses t over c) = weaken (fall_allowed a) c

@@ -5,6 +5,7 @@ pub mod PromotionLemmas
 pub mod ChainLemmas
 pub mod MuteLemmas
 pub mod SayLemmas
+pub mod Walks
 pub mod WalkSteps
 pub mod WalkTakes
 pub mod WalkOps

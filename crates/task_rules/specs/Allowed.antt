@@ -274,8 +274,8 @@ MayCome a n (how_far.Calls (subtask.Guest k)) s = IsRunner a n × (((how_far_of 
     (how_far_of n s ≡ how_far.Calls (subtask.Guest k))) ⊎ (IsNew a (subtask.Guest k) s × HasCalled n k s))
 MayCome a n (how_far.Calls (subtask.Host i)) s = IsRunner a n × (IsNew a (subtask.Host i) s × ((work_caller_of i s ≡ work_caller.Sync n) ×
     (option_map_or (is_blocked_on (subtask.Host i)) (place_of n s) true ≡ true)))
-MayCome a n (how_far.Cancels sub) s = IsRunner a n × (MayCancel a n sub × (watches n sub s ≡ true))
-MayCome a n (how_far.AwaitsEnd sub) s = IsRunner a n × (MayCancel a n sub × (watches n sub s ≡ true))
+MayCome a n (how_far.Cancels sub) s = Leaves a n × (MayCancel a n sub × (watches n sub s ≡ true))
+MayCome a n (how_far.AwaitsEnd sub) s = Leaves a n × (MayCancel a n sub × (watches n sub s ≡ true))
 -- its direct callee, which ran, has come to a value
 MayCome a n (how_far.Answered v) s = (m : ℕ) × (IsRunner a m × ((a.next ≡ turn.Run n) × (place_of n a.base ≡ Some (place.Under m))))
 MayCome a n h s = IsRunner a n
@@ -309,7 +309,7 @@ pub data MayGo (a : Scene) (n : ℕ) (s : Core) : Type 0 where
   -- the running thread
   Departs : Leaves a n → MayGo a n s
   -- the running thread, and the one under it goes on
-  EndsOver : (m : ℕ) → IsRunner a n → a.next ≡ turn.Run m → place_of m a.base ≡ Some (place.Under n) → MayGo a n s
+  EndsOver : (m : ℕ) → IsRunner a n → a.turn ≡ turn.Run n → a.next ≡ turn.Run m → place_of m a.base ≡ Some (place.Under n) → MayGo a n s
   -- the strand that trapped: the thread that ran or was taken, and those that were under ones that are gone
   Falls : a.next ≡ turn.Over →
       IsRunner a n ⊎ ((m : ℕ) × ((place_of n a.base ≡ Some (place.Under m)) × (is_none (get s.threads m) ≡ true))) → MayGo a n s
@@ -438,7 +438,8 @@ MayNameCall a i k s = (n : ℕ) × ((a.turn ≡ turn.Run n) × ((i ≡ instance_
 -- the handle names the subtask, which is in no set any more
 abbrev pub MayUnname : Scene → ℕ → ℕ → Subtask → Core → Type 0
 MayUnname a i h sub s = (n : ℕ) ×
-    (IsRunner a n × ((i ≡ instance_of n a.base) × ((subtask_at i h s ≡ Some sub) × (is_joined (join_of sub s) ≡ false))))
+    (IsRunner a n × ((i ≡ instance_of n a.base) × ((subtask_at i h s ≡ Some sub) × ((is_joined (join_of sub s) ≡ false) ×
+    (a.next ≡ turn.Run n)))))
 
 -- ---- Works
 
@@ -458,12 +459,11 @@ IsPolled a i s = (n : ℕ) × ((a.turn ≡ turn.Futures n) × (next_polled n s �
 
 -- the sync call of the running thread is answered, and done, or its ended subtask is dropped; whose the work is is as before the step
 abbrev pub MayRemoveWork : Scene → ℕ → Core → Type 0
-MayRemoveWork a i s = (n : ℕ) × (IsRunner a n ×
-    (((how_far_of n a.base ≡ how_far.Calls (subtask.Host i)) × ((how_far_of n s ≡ how_far.Fresh) ×
-    (work_caller_of i s ≡ work_caller_of i a.base))) ⊎
+MayRemoveWork a i s = (n : ℕ) × (IsRunner a n × ((work_caller_of i s ≡ work_caller_of i a.base) ×
+    (((how_far_of n a.base ≡ how_far.Calls (subtask.Host i)) × (how_far_of n s ≡ how_far.Fresh)) ⊎
     ((subtask_ended (subtask.Host i) a.base ≡ true) × ((subtask_handle (subtask.Host i) s ≡ None) ×
     ((is_stage_ended (stage_of i s) ≡ true) ×
-    ((h : ℕ) × (subtask_at (instance_of n a.base) h a.base ≡ Some (subtask.Host i))))))))
+    ((h : ℕ) × (subtask_at (instance_of n a.base) h a.base ≡ Some (subtask.Host i)))))))))
 
 -- the loop polls the work to its end, and without a value where an abort was asked for
 abbrev pub MayFinish : Scene → ℕ → Course → Core → Type 0
@@ -516,7 +516,7 @@ Allowed a (Restart n) s = MayRestart a n
 Allowed a (SetHowFar n h) s = MayCome a n h s × CanCome a n h s
 Allowed a (MakeThread t) s = MayMake a t s
 Allowed a (RemoveThread n) s = MayGo a n s
-Allowed a (Withdraw k) s = MayWithdraw a k s × NoneCame a s
+Allowed a (Withdraw k) s = MayWithdraw a k s × (SaysEnd a k status.StartCancelled × NoneCame a s)
 Allowed a (MakeCall f e x g group words) s = MayMakeCall a f e x g group s
 Allowed a (SetStarted k) s = MayStart a k s
 Allowed a (EndCall k e) s = MayEnd a k e s × SaysEnd a k (status_of_end e)

@@ -3,7 +3,7 @@ use Rattle.std.proofs.Common.{ap, arith, refl, subst, sym, ◌∙◌}
 use Rattle.std.proofs.lemmas.Bool.Decides.{nat_tests}
 use Rattle.std.specs.Prelude.{Bool, List, None, Some, [], false, is_some, true, ℕ, ◌+◌, ◌==◌, ◌≡◌, ◌≤◌}
 use Rattle.task_laws.proofs.Exported.{instances_stay}
-use Rattle.task_laws.specs.Order.{Awake, InOrderIf, is_open}
+use Rattle.task_laws.specs.Order.{Awake, InOrderIf, StartsThere, is_open}
 use Rattle.task_machine.proofs.CommuteLemmas.{get-change}
 use Rattle.task_machine.specs.Core.{Began, Core, Main, Unscripted}
 use Rattle.task_machine.specs.Maps.{get-insert}
@@ -64,11 +64,11 @@ at_turn_of c s m k p q runs b awake o = record {
   calls = o.calls;
   unbegun = o.unbegun;
   watched = o.watched;
+  cancelled = o.cancelled;
   inside = o.inside;
   held = o.held;
   works_told = o.works_told;
   calls_told = o.calls_told;
-  sync_works = o.sync_works;
   awake = awake;
 }
 
@@ -128,6 +128,11 @@ started_event c e words s (subtask.Host i) none = none
 started_blocked : (c : Component) (e : Callee) (words : List ℕ) (s : Core) → NoneBlockedOnEnd s → NoneBlockedOnEnd (main_started c e words s)
 started_blocked c e words s none n sub at = started_event c e words s sub (none n sub (started_at c e words s n (place.Blocked sub) refl at))
 
+-- the new call's first thread is there, and so are the others
+started_there : (c : Component) (e : Callee) (words : List ℕ) (s : Core) → StartsThere s → StartsThere (main_started c e words s)
+unfolding main_started put_high push_high set_place on_thread call_made add_thread add_call add_group
+started_there c e words s h k now = grind (arith, nat_tests, get-insert, get-change, h k)
+
 given_apart : (n k : ℕ) → n ≤ k → (n == k + 1) ≡ false
 given_apart n k h = grind (arith, nat_tests)
 
@@ -135,7 +140,7 @@ pub start_in_order : StartInOrder
 start_in_order c p e words s takes free sits =
     acted c p (Start e words) (main_label.Start 1 (s.made.threads + 1)) s (main_started c e words s) takes (ap (start_act c 1 e words s) free)
     (λ n at. started_place c e words s n (given_apart n s.made.threads (((sits.order Unscripted).in_place.placed n).number (there n at))) ∙ at)
-    (λ o. record { alone = λ n is. o.alone n (started_at c e words s n place.Running refl is); blocked = started_blocked c e words s o.blocked }) sits
+    (λ o. record { alone = λ n is. o.alone n (started_at c e words s n place.Running refl is); starts_there = started_there c e words s o.starts_there; blocked = started_blocked c e words s o.blocked }) sits
   where
     there : (n : ℕ) → place_of n s ≡ Some place.Running → is_there n s ≡ true
     there n at = ap is_some at
@@ -149,13 +154,21 @@ unfolding set_trapped
 trapped_event s (subtask.Guest k) none = none
 trapped_event s (subtask.Host i) none = none
 
+trapped_there : (s : Core) → StartsThere s → StartsThere (set_trapped s)
+unfolding set_trapped
+trapped_there s h = h
+
 pub refusal_in_order : RefusalInOrder
 refusal_in_order c p e words why s takes refused sits =
-    acted c p (Start e words) (main_label.StartRefused why 1) s (set_trapped s) takes (ap (start_act c 1 e words s) refused) (λ n at. trapped_place s n ∙ at) (λ o. record { alone = λ n is. o.alone n (sym (trapped_place s n) ∙ is); blocked = λ n sub at. trapped_event s sub (o.blocked n sub (sym (trapped_place s n) ∙ at)) }) sits
+    acted c p (Start e words) (main_label.StartRefused why 1) s (set_trapped s) takes (ap (start_act c 1 e words s) refused) (λ n at. trapped_place s n ∙ at) (λ o. record { alone = λ n is. o.alone n (sym (trapped_place s n) ∙ is); starts_there = trapped_there s o.starts_there; blocked = λ n sub at. trapped_event s sub (o.blocked n sub (sym (trapped_place s n) ∙ at)) }) sits
 
 taken_place : (k : ℕ) (s : Core) (n : ℕ) → place_of n (take_result k s) ≡ place_of n s
 unfolding take_result
 taken_place k s n = refl
+
+taken_there : (k : ℕ) (s : Core) → StartsThere s → StartsThere (take_result k s)
+unfolding take_result
+taken_there k s h = h
 
 taken_event : (k : ℕ) (s : Core) (sub : Subtask) → undelivered_end (event_of sub s) ≡ None → undelivered_end (event_of sub (take_result k s)) ≡ None
 unfolding take_result
@@ -163,4 +176,4 @@ taken_event k s (subtask.Guest j) none = none
 taken_event k s (subtask.Host i) none = none
 
 pub finish_in_order : FinishInOrder
-finish_in_order c p k v s found sits = acted c p (Finish (Began k)) (main_label.Finish 1 v) s (take_result k s) refl (ap (finish_result 1 k s) found) (λ n at. taken_place k s n ∙ at) (λ o. record { alone = λ n is. o.alone n (sym (taken_place k s n) ∙ is); blocked = λ n sub at. taken_event k s sub (o.blocked n sub (sym (taken_place k s n) ∙ at)) }) sits
+finish_in_order c p k v s found sits = acted c p (Finish (Began k)) (main_label.Finish 1 v) s (take_result k s) refl (ap (finish_result 1 k s) found) (λ n at. taken_place k s n ∙ at) (λ o. record { alone = λ n is. o.alone n (sym (taken_place k s n) ∙ is); starts_there = taken_there k s o.starts_there; blocked = λ n sub at. taken_event k s sub (o.blocked n sub (sym (taken_place k s n) ∙ at)) }) sits
