@@ -139,3 +139,39 @@ module _ (x : Setting) (s : State) (l : Label) (t : State) (w : Walked x s l t) 
           by : (v : Bool) → is_fresh (place_of f s.core) ≡ v → place_of n s.core ≡ Some (Place.Behind f) → ⊥
           by true is was = let r = free.behind n f was is in not_left f m next r.1 r.0 now
           by false is was = ⊎_elim (λ none. absurd (cc)) (λ old. absurd (grind arith)) (called.0.live f is)
+
+-- ---- Where threads stay where they are
+
+-- From s to t threads stay where they are, and new ones are under and behind none.
+pub record SamePlaces (s t : Core) : Type 0 where
+  pub kept : (n : ℕ) → is_there n s ≡ true → place_of n t ≡ place_of n s
+  pub back : (n : ℕ) (p : Place) → is_held_on p ≡ true → place_of n t ≡ Some p → place_of n s ≡ Some p
+  pub none : (m : ℕ) → place_of m s ≡ None → m ≤ s.made.threads → place_of m t ≡ None
+
+module _ {s t : Core} (q : SamePlaces s t) where
+  goes_stay : (n : ℕ) → Goes all_in s n → Goes all_in t n
+  goes_stay n (AtMark _ m w at o) = AtMark n m w (q.kept n (ap (λ (o : Option Place). is_some o) at) ∙ at) o
+  goes_stay n (AtWork _ at o) = AtWork n (q.kept n (ap (λ (o : Option Place). is_some o) at) ∙ at) o
+  goes_stay n (Up _ m at g) = Up n m (q.kept n (ap (λ (o : Option Place). is_some o) at) ∙ at) (goes_stay m g)
+  goes_stay n (Back _ f at g) = Back n f (q.kept n (ap (λ (o : Option Place). is_some o) at) ∙ at) (goes_stay f g)
+
+  pub callers_stay : CallersGoOn s → CallersGoOn t
+  callers_stay h n f at = let r = h n f (q.back n (Place.Behind f) refl at) in within t n (goes_stay n (goes_of s r.0 n r.1))
+
+  pub feet_stay : BehindFeet s → BehindFeet t
+  feet_stay h n k f at under = h n k f (q.back n (Place.Behind f) refl at) (q.back k (Place.Under f) refl under)
+
+  pub free_stays : {p : Turn} → ((n m : ℕ) → place_of n s ≡ Some (Place.Under m) → m ≤ s.made.threads) → StartsFree p s → StartsFree p t
+  free_stays made h = record {
+    under = λ n m at.
+        let was = q.back n (Place.Under m) refl at in
+        ⊎_elim (λ none. inl (q.none m none (made n m was))) (λ live. inr (ap is_fresh (q.kept m (grind arith)) ∙ live)) (h.under n m was);
+    behind = λ n f at fresh. by n f (q.back n (Place.Behind f) refl at) fresh (place_of f s) refl;
+  }
+    where
+      by : (n f : ℕ) → place_of n s ≡ Some (Place.Behind f) → is_fresh (place_of f t) ≡ true → (o : Option Place) → place_of f s ≡ o →
+          (place_of f t ≡ Some (Place.Ready Mark.Switch Why.Start)) × ((m : ℕ) → p ≡ Turn.Run m → ⊥)
+      by n f was fresh None is = absurd (let r = (h.behind n f was (ap is_fresh is)).0 in cc)
+      by n f was fresh (Some x) is =
+          let same = q.kept f (ap (λ (o : Option Place). is_some o) is) in
+          let r = h.behind n f was (ap is_fresh (sym same) ∙ fresh) in (same ∙ r.0, r.1)
