@@ -1,5 +1,6 @@
 -- Callers go on: each step keeps it.
-use Rattle.task_places.proofs.Laws.{ap, arith, AwaitsEvent, BehindFeet, Blocks, Bool, CallersGoOn, Collapses, Core, Enter, false, get, GoBehind, goes_on_at, goes_on_within, GoesBack, HasPlace, Holds, inl, InOrderIf, inr, is_fresh, is_take, IsRunner, Label, Lands, LandsAt, le_refl, Made, Mark, MayLand, MayMove, Move, nat_tests, next_entry, Option, option_map, Place, place_of, Placing, Put, Quits, refl, Remains, runner_at, Runs, Scene, scene_of, Setting, Some, StartsFree, State, subst, suc, Suspends, sym, Thread, Trip, true, Turn, Uncovers, Waits, WaitsAgain, Walked, Why, zero, ℕ, ⊎_elim, ◌∙◌, ◌≡◌, ◌≤◌, ◌⊎◌}
+use Rattle.task_places.proofs.CallersTrips.{is_held_on}
+use Rattle.task_places.proofs.Laws.{ap, arith, AwaitsEvent, BehindFeet, Blocks, Bool, CallersGoOn, Collapses, Core, Enter, false, get, GoBehind, goes_on_at, goes_on_within, GoesBack, HasPlace, Holds, inl, InOrderIf, inr, is_fresh, is_take, IsRunner, Label, Lands, LandsAt, le_refl, Made, Mark, MayLand, MayMove, Move, nat_tests, next_entry, Option, option_map, Place, place_of, Placing, Put, Quits, refl, Remains, runner_at, Runs, Scene, scene_of, Setting, Some, StartsFree, State, subst, suc, Suspends, sym, Thread, Trip, true, Turn, Uncovers, Waits, WaitsAgain, Walked, Why, zero, ℕ, ⊎_elim, ◌∙◌, ◌≡◌, ◌≤◌, ◌⊎◌, is_some, is_there, None}
 use Rattle.task_places.proofs.{CallersLemmas.AtMark, CallersLemmas.AtWork, CallersLemmas.Back, CallersLemmas.Begins, CallersLemmas.Calling, CallersLemmas.Goes, CallersLemmas.Up, CallersTrips.Called, CallersTrips.all_in, CallersTrips.goes_as, CallersTrips.trip_called, PlaceLaw.yield_leaves, PlaceSteps.Reads, PlaceSteps.Withdrawable, PlaceSteps.settled_run, PlaceSteps.step_by}
 
 -- ---- By the number of threads on the way
@@ -162,7 +163,7 @@ module _ {s t : Core} (q : SamePlaces s t) where
   feet_stay h n k f at under = h n k f (q.back n (Place.Behind f) refl at) (q.back k (Place.Under f) refl under)
 
   pub free_stays : {p : Turn} → ((n m : ℕ) → place_of n s ≡ Some (Place.Under m) → m ≤ s.made.threads) → StartsFree p s → StartsFree p t
-  free_stays made h = record {
+  free_stays {p = p} made h = record {
     under = λ n m at.
         let was = q.back n (Place.Under m) refl at in
         ⊎_elim (λ none. inl (q.none m none (made n m was))) (λ live. inr (ap is_fresh (q.kept m (grind arith)) ∙ live)) (h.under n m was);
