@@ -1,5 +1,7 @@
 -- Order hangs neither on limits, nor on groups, nor on whether the store is trapped.
 use Rattle.std.specs.Prelude.{Bool, List, Some, true, ℕ, ◌≡◌}
+use Rattle.std.proofs.Common.{refl}
+use Rattle.task_places.proofs.CallersSteps.{SamePlaces, callers_stay}
 use Rattle.task_laws.specs.Wakes.{NoneBlockedOnEnd}
 use Rattle.task_laws.specs.Order.{CancelsNamed, CancelsWatched, InOrder, JoinNamed}
 use Rattle.task_machine.specs.Core.{Core, Main}
@@ -65,11 +67,14 @@ module _ (trapped : Bool) (groups : List ℕ) (handle_limit capacity : ℕ) wher
     held = o.held;
     works_told = λ i w e. let h = o.works_told i w e in record { late = h.late; told = h.told; finishing = h.finishing };
     calls_told = o.calls_told;
-    awake = λ e. let h = o.awake e in record { alone = h.alone; starts_there = h.starts_there; blocked = blocked h.blocked };
+    awake = λ e. let h = o.awake e in record { alone = h.alone; starts_there = h.starts_there; blocked = blocked h.blocked; callers = callers_stay same h.callers; feet = h.feet; free = record { under = h.free.under; behind = h.free.behind } };
   }
     where
       there : (i h k : ℕ) → subtask_at i h (beside s) ≡ Some (subtask.Guest k) → subtask_handle (subtask.Guest k) (beside s) ≡ Some h
       there i h k e = o.names.there i h k e
+
+      same : SamePlaces s (beside s)
+      same = record { kept = λ n there. refl; back = λ n p held at. at; none = λ m none low. none }
 
       blocked : NoneBlockedOnEnd s → NoneBlockedOnEnd (beside s)
       blocked q n (subtask.Guest k) at = q n (subtask.Guest k) at

@@ -1,5 +1,5 @@
 -- What one word does to the place of a thread.
-use Rattle.task_laws.proofs.Rules.{[], after_word, Allowed, ap, arith, AtOp, behind, behind_one, callers_of, change-field, Core, displaced, Enter, foot_of, GoBehind, inl, inr, insert, is_some, is_sync_call, IsRunner, List, Mark, MayMove, MayPut, MayYield, Move, nat_tests, newest, next_thread, None, older, on_thread, op_in, Option, option_map, passed_on, Place, place_of, Places, Placing, Pop, Promote, promoted, push_high, push_high_first, push_low, Put, put_at, put_high, put_low, put_switch, refl, resumed_all, Scene, set_callers, set_high, set_low, set_place, set_place_is, set_place_there, set_switch, Some, stand, Stop, stopped, sym, Thread, true, Turn, unqueued, Why, why_of, Word, ℕ, ◌∙◌, ◌∷◌, ◌≡◌, ◌≤◌, ◌⊎◌}
+use Rattle.task_laws.proofs.Rules.{[], after_word, Allowed, allowed_put, ap, arith, AtOp, behind, behind_one, callers_of, change-field, Core, displaced, Enter, foot_of, GoBehind, inl, inr, insert, is_some, is_sync_call, IsRunner, List, Mark, MayMove, MayPut, MayYield, Move, nat_tests, newest, next_thread, None, older, on_thread, op_in, Option, option_map, passed_on, Place, place_of, Places, Placing, Pop, Promote, promoted, push_high, push_high_first, push_low, Put, put_at, put_high, put_low, put_switch, refl, resumed_all, Scene, set_callers, set_high, set_low, set_place, set_place_is, set_place_there, set_switch, Some, stand, Stop, stopped, sym, Thread, true, Turn, unqueued, Why, why_of, Word, ℕ, ◌∙◌, ◌∷◌, ◌≡◌, ◌≤◌, ◌⊎◌}
 use Rattle.task_laws.proofs.{CallsCame.IsBeside, CallsCame.IsFirst, CallsCame.IsGone, CallsCame.IsSame, CallsCame.ThreadAfter, CallsCame.thread_came, EachLemmas.after_change, SceneLemmas.popped_threads}
 
 -- ---- Moves of other threads
@@ -131,10 +131,7 @@ module _ {a : Scene} where
 
   came_by : (x : Placing) (s : Core) → Allowed a (Places x) s → (k : ℕ) → PlaceAfter a (Places x) s k
   came_by (Pop m) s ok k = rw (popped_threads m s) (stays (place_of k s))
-  came_by (Put m n w) s (inl ok) k = Shifts (put_shifted (MayStand a s) (λ j. inl refl) m n w s (inr (inl ok)) k)
-  came_by (Put Mark.Switch n w) s (inr ok) k = absurd ok
-  came_by (Put Mark.High n w) s (inr ok) k = Shifts (put_shifted (MayStand a s) (λ j. inl refl) Mark.High n w s (inr (inr ok)) k)
-  came_by (Put Mark.Low n w) s (inr ok) k = Shifts (put_shifted (MayStand a s) (λ j. inl refl) Mark.Low n w s (inr (inr ok)) k)
+  came_by (Put m n w) s ok k = Shifts (put_shifted (MayStand a s) (λ j. inl refl) m n w s (inr (allowed_put a m n w s ok)) k)
   came_by (Promote n) s ok k = Shifts (promoted_shifted (MayStand a s) (λ j. inl refl) n s k)
   came_by (Stop f) s ok k = Shifts (stopped_shifted (MayStand a s) (λ j. inl refl) f s k)
   came_by (GoBehind f n) s ok k = Shifts (behind_shifted (MayStand a s) f n s k)

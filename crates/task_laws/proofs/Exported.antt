@@ -1,7 +1,6 @@
 -- Calls name exports, and instances stay, along the words of a step.
-use Rattle.task_laws.proofs.Words.{after_word, Allowed, along, arith, call_came, CallAfter, Callee, Caller, CallsExported, component_of, Core, ExportsExist, get, Grown, InstancesStay, is_some, IsExported, MayCall, NewCall, NoCall, refl, Scene, scene_of, some_none, step_walks, StepsKeepExports, sym, Word, ℕ, ◌∙◌, ◌≡◌}
+use Rattle.task_laws.proofs.Words.{after_word, Allowed, along, arith, call_came, CallAfter, Callee, Caller, CallsExported, component_of, Core, ExportsExist, get, Grown, HandleTablesStay, InstancesStay, is_some, IsExported, MayCall, NewCall, NoCall, refl, Scene, scene_of, some_none, step_walks, StepsKeepExports, sym, Word, ℕ, ◌∙◌, ◌≡◌}
 use Rattle.task_laws.proofs.OneHolder.{instance_stays, op_callee, table_stays}
-use Rattle.task_laws.specs.Exports.{HandleTablesStay}
 use Rattle.task_rules.specs.Allowed as may
 
 module _ (a : Scene) (exist : ExportsExist a.setting) where

@@ -68,7 +68,7 @@ module _ (a : Scene) (runs : (n : ℕ) → a.turn ≡ Turn.Run n → place_of n 
           (there_word a w s ok k there)
         where
           withdrawn : Allowed a (Withdraw k) s → IsWithdrawing a k
-          withdrawn (may, says) = (named k may.1.1.0, says)
+          withdrawn (may, says) = (named k may.1.1.0, says.0)
 
 -- whose end the step writes has begun, or ended
 module _ (a : Scene) (t : Core) (told : CallsTold a.base) where

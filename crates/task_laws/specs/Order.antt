@@ -13,7 +13,8 @@ use Rattle.task_rules.specs.Works.{has_end}
 use Rattle.task_machine.specs.declared.records.WorkCaller.TheVariants as work_caller
 use Rattle.std.specs.Prelude.{Bool, None, Option, Some, false, is_none, is_some, option_and_then, option_map, true, ℕ, ◌+◌, ◌≡◌, ◌≤◌, length, List, [], ◌∷◌, ◌==◌, ◌⊎◌, ◌&&◌, ◌||◌, not}
 use Rattle.task_laws.specs.Settings.{CodesInCallbacks}
-use Rattle.task_laws.specs.Wakes.{NoneAdmitted, NoneBlockedOnEnd}
+use Rattle.task_laws.specs.Wakes.{BehindFeet, CallersGoOn, NoneAdmitted, NoneBlockedOnEnd}
+use Rattle.task_machine.specs.declared.words.Mark.TheVariants as mark
 use Rattle.task_machine.specs.Core.{Core, Main, State, Table}
 use Rattle.task_machine.specs.Maps.{get, size}
 use Rattle.task_machine.specs.Read.{call_instance, how_far_of, instance_of, is_async_lifted, is_callback, is_direct, is_explicit, goal_of, kind_of, place_of, task_of, set_at, subtask_at, end_of, is_guest_call, subtask_handle, join_of, is_stage_ended, stage_of, work_caller_of, event_of, has_ended, undelivered_end, course_value}
@@ -392,11 +393,21 @@ is_open _ = true
 abbrev pub RunsAlone : Turn → Core → Type 0
 RunsAlone p s = (n : ℕ) → place_of n s ≡ Some place.Running → p ≡ turn.Run n
 
+-- A thread that waits for its start has no thread under it, and has one behind it only where its entry stands at switch and no thread
+-- runs.
+pub record StartsFree (p : Turn) (s : Core) : Type 0 where
+  pub under : (n m : ℕ) → place_of n s ≡ Some (place.Under m) → (place_of m s ≡ None) ⊎ (is_fresh (place_of m s) ≡ false)
+  pub behind : (n f : ℕ) → place_of n s ≡ Some (place.Behind f) → is_fresh (place_of f s) ≡ true →
+      (place_of f s ≡ Some (place.Ready mark.Switch why.Start)) × ((m : ℕ) → p ≡ turn.Run m → ⊥)
+
 -- What is so of a core while the turns aren't over.
 pub record Awake (p : Turn) (s : Core) : Type 0 where
   pub alone : RunsAlone p s
   pub starts_there : StartsThere s
   pub blocked : NoneBlockedOnEnd s
+  pub callers : CallersGoOn s
+  pub feet : BehindFeet s
+  pub free : StartsFree p s
 
 -- ---- All of it
 

@@ -32,6 +32,10 @@ goes_on_within (suc k) s n = goes_on_at (goes_on_within k s) (place_of n s)
 abbrev pub CallersGoOn : Core → Type 0
 CallersGoOn s = (n f : ℕ) → place_of n s ≡ Some (place.Behind f) → (k : ℕ) × (goes_on_within k s n ≡ true)
 
+-- nobody is under a thread that another one is behind
+abbrev pub BehindFeet : Core → Type 0
+BehindFeet s = (n k f : ℕ) → place_of n s ≡ Some (place.Behind f) → place_of k s ≡ Some (place.Under f) → ⊥
+
 -- no held thread is admitted
 abbrev pub NoneAdmitted : Core → Type 0
 NoneAdmitted s = (n : ℕ) (w : Why) → place_of n s ≡ Some (place.Held w) → admits n s w ≡ false

@@ -87,9 +87,9 @@ module _ {a : Scene} {b : Core} {n : ℕ} {q : Option Place} (f : Frame a b n q)
   trip_alone : {t : Core} → Trip a b t → (a.next ≡ Turn.Over → ⊥) → (k : ℕ) → Runs k t → a.next ≡ Turn.Run k
   unfolding set_how_far on_thread set_place
   trip_alone (Remains t c still on) open_at k is = on k (runner k (stay_runs c k is))
-  trip_alone (Lands s x c ok fit) open_at k is = landed s x c ok k is
-  trip_alone (LandsAt s x m h c ok fit comes) open_at k is = landed s x c ok k (grind (arith, nat_tests, get-change))
-  trip_alone (Quits s t j c leave d) open_at k is = none_left s t j k c leave.0 d is
+  trip_alone (Lands s x c ok fit halts) open_at k is = landed s x c ok k is
+  trip_alone (LandsAt s x m h c ok fit comes halts) open_at k is = landed s x c ok k (grind (arith, nat_tests, get-change))
+  trip_alone (Quits s t j c leave d halts) open_at k is = none_left s t j k c leave.0 d is
   trip_alone (GoesBack s t j m v c is runs to under d ok) open_at k at =
       by_number k m _ (λ e. rw e to) (λ other. none_left s t j k c is d (grind (arith, nat_tests, get-change)))
   trip_alone (Collapses t over c) open_at k is = absurd (open_at over)

@@ -92,11 +92,11 @@ module _ {a : Scene} {b : Core} {k : ℕ} {q : Option Place} (f : Frame a b k q)
   pub trip_stuck : {t : Core} → Trip a b t → (a.next ≡ Turn.Over → ⊥) → (n : ℕ) (sub : Subtask) → IsStuck sub n t → IsStuck sub n b ⊎ IsOpen sub t
   unfolding set_how_far set_place on_thread
   trip_stuck (Remains t c still on) live n sub at = inl (stuck_stay c n sub at)
-  trip_stuck (Lands s x c ok fit) live n sub at = ⊎_elim (λ e. inl (stuck_stay c n sub e)) inr (land_open a x s n sub (land_allowed a x s ok) at)
-  trip_stuck (LandsAt s x m h c ok fit comes) live n sub at =
+  trip_stuck (Lands s x c ok fit halts) live n sub at = ⊎_elim (λ e. inl (stuck_stay c n sub e)) inr (land_open a x s n sub (land_allowed a x s ok) at)
+  trip_stuck (LandsAt s x m h c ok fit comes halts) live n sub at =
       ⊎_elim (λ e. inl (stuck_stay c n sub e)) (λ o. inr (same_open sub (after_word (Places x) s) _ refl refl o))
       (land_open a x s n sub (land_allowed a x s ok) (far_place m n h sub (after_word (Places x) s) at))
-  trip_stuck (Quits s t j c leave d) live n sub at = inl (gone_stuck j n sub c leave.0 d at)
+  trip_stuck (Quits s t j c leave d halts) live n sub at = inl (gone_stuck j n sub c leave.0 d at)
   trip_stuck (GoesBack s t j m v c is runs to under d ok) live n sub at =
       let was : IsStuck sub n t = by_number n m _ (λ e. absurd (grind (arith, nat_tests, get-change))) (λ other. grind (arith, nat_tests, get-change)) in
       inl (gone_stuck j n sub c is d was)

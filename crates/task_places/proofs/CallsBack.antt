@@ -28,9 +28,9 @@ module _ {a : Scene} {b : Core} {n : ℕ} {q : Option Place} (f : Frame a b n q)
   pub back_apart : {t : Core} → Trip a b t → subtask_under_way (how_far_of k t) ≡ None
   back_apart (Remains t c still on) =
       let r = f.running k (still k to) in let home = f.home k in let here = f.follows.start.here in absurd (grind arith)
-  back_apart (Lands s p c ok fit) = absurd (lands_apart p s ok c)
-  back_apart (LandsAt s p j h c ok fit comes) = absurd (lands_apart p s ok c)
-  back_apart (Quits s t j c leave d) = not_main k (sym leave.1.0 ∙ to)
+  back_apart (Lands s p c ok fit halts) = absurd (lands_apart p s ok c)
+  back_apart (LandsAt s p j h c ok fit comes halts) = absurd (lands_apart p s ok c)
+  back_apart (Quits s t j c leave d halts) = not_main k (sym leave.1.0 ∙ to)
   back_apart (GoesBack s t j i v c is runs next under d ok) =
       answered_apart i k v (after_word (Places (Move i Place.Running)) t) (one_runner i k (sym next ∙ to))
   back_apart (Collapses t over c) = absurd (grind arith)

@@ -110,11 +110,11 @@ module _ {a : Scene} {b : Core} {n : ℕ} {q : Option Place} (f : Frame a b n q)
 
   pub trip_works : {t : Core} → Working a b → Trip a b t → Working a t
   trip_works first (Remains t c still on) = stays first c
-  trip_works first (Lands s p c ok fit) = landed s p first c ok
-  trip_works first (LandsAt s p m h c ok fit comes) =
+  trip_works first (Lands s p c ok fit halts) = landed s p first c ok
+  trip_works first (LandsAt s p m h c ok fit comes halts) =
       let t = after_word (Places p) s in
       working_word a asked (SetHowFar m h) t comes (λ j i at x e. absurd (cc)) (landed s p first c ok)
-  trip_works first (Quits s t k c leave d) =
+  trip_works first (Quits s t k c leave d halts) =
       settles (working_word a asked (RemoveThread k) s (Departs leave) (λ j i at x e. absurd (cc)) (stays first c)) d
   trip_works first (GoesBack s t k m v c is runs to under d ok) =
       let g =

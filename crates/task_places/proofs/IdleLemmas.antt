@@ -1,7 +1,7 @@
 -- An idle state in order that has the facts on wakes is stalled.
 use Rattle.task_places.proofs.Laws.{[], any_found, any_thread, ap, arith, Bool, CallersGoOn, cond, Core, count_by, event_of, false, found_any, get, goes_on_at, goes_on_within, has_ready_member, has_waiter, HasPlace, Idle, is_behind, is_blocked_on_end, is_held_for, is_passed_over, is_ready_member, is_stalled, is_unended_take, is_woken_for, List, list_any, Mark, next_entry, None, NoneBlockedOnEnd, numbers, Option, option_map, Place, place_of, Placed, ready_members, refl, RunsAlone, Some, Stalled, State, Subtask, subtasks, suc, sum_by-cons, Thread, true, Turn, undelivered_end, WakesCounted, Why, woken, zero, ℕ, ◌∙◌, ◌∷◌, ◌≡◌, ◌≤◌}
 use Rattle.task_places.proofs.{OrderLemmas.reached_in_order, WakeLines.none_of}
-use Rattle.task_places.specs.{Kept.ReachedInOrder, Wakes.IdleIsStalled, Wakes.ReachedUnblocked}
+use Rattle.task_places.specs.{Kept.ReachedInOrder, Wakes.IdleIsStalled, Wakes.ReachedGoOn, Wakes.ReachedUnblocked}
 use Rattle.task_rules.specs.Stalled.{is_idle}
 
 any_counts : {X : Type 0} (test : X → Bool) (xs : List X) → list_any test xs ≡ true → 1 ≤ count_by test xs
@@ -98,6 +98,10 @@ blocked_line s none h =
 take_of : (u : Turn) → is_unended_take u ≡ true → u ≡ Turn.Take false
 take_of u h = grind arith
 
+pub reached_go_on : ReachedGoOn
+unfolding ReachedGoOn ReachedInOrder
+reached_go_on x s r live = ((reached_in_order x s r).awake live).callers
+
 pub reached_unblocked : ReachedUnblocked
 unfolding ReachedUnblocked ReachedInOrder
 reached_unblocked x s r live =
@@ -106,12 +110,12 @@ reached_unblocked x s r live =
 
 pub idle_is_stalled : IdleIsStalled
 unfolding IdleIsStalled is_idle is_stalled
-idle_is_stalled x s h counted goes idle =
+idle_is_stalled x s h counted idle =
     let parts : is_idle x s ≡ true = idle in
     let turn = take_of s.turn (grind arith) in
     let none : next_entry s.core ≡ None = grind arith in
     let still = idle_still s h.in_place.placed (h.awake (grind arith)).alone false turn none in
-    let behind = false_of (any_thread (λ t. is_behind t.place) s.core) (behind_line s.core still goes) in
+    let behind = false_of (any_thread (λ t. is_behind t.place) s.core) (behind_line s.core still (h.awake (grind arith)).callers) in
     let held = none_of s.core h.held s.core.instances.list in
     let passed = none_passed s.core still counted (numbers s.core.sets) in
     let ends = false_of (any_thread (λ t. is_blocked_on_end s.core t.place) s.core) (blocked_line s.core (h.awake (grind arith)).blocked) in

@@ -143,11 +143,11 @@ module _ {a : Scene} {b : Core} {n : ℕ} {q : Option Place} (f : Frame a b n q)
 
   trip_inside : {t : Core} → InsideOps b → Trip a b t → InsideOps t
   trip_inside first (Remains t c still on) = stays first c
-  trip_inside first (Lands s x c ok fit) = λ k.
+  trip_inside first (Lands s x c ok fit halts) = λ k.
       inside_word a (Places x) s (land_allowed a x s ok) k (loose s (stay_stand f.follows c) k)
       (λ y is p at. ⊎_elim inl (⊎_elim inr (λ moves. inl (alone_loose k p (rw moves at fit)))) (landed s x c k p at)) (stays first c k)
-  trip_inside first (LandsAt s x m h c ok fit comes) = landed_at s x m h c (stays first c) ok fit comes.0
-  trip_inside first (Quits s t k c leave d) = settled (removed_inside k s (stays first c)) d
+  trip_inside first (LandsAt s x m h c ok fit comes halts) = landed_at s x m h c (stays first c) ok fit comes.0
+  trip_inside first (Quits s t k c leave d halts) = settled (removed_inside k s (stays first c)) d
   trip_inside first (GoesBack s t k m v c is runs to under d ok) = goes_back m v t (settled (removed_inside k s (stays first c)) d)
   trip_inside first (Collapses t over c) = along InsideOps (falls_inside a) first c
 

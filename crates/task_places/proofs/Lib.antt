@@ -14,3 +14,8 @@ pub mod OnceSteps
 pub mod WakeLines
 pub mod IdleLemmas
 pub mod BlockedLemmas
+pub mod StrandFeet
+pub mod StayMoves
+pub mod CallersLemmas
+pub mod CallersTrips
+pub mod CallersSteps

@@ -1,6 +1,6 @@
 -- A state in order: each opening state is, and each step leads from one to one.
 use Rattle.task_places.proofs.Laws.{[], after_word, AllFit, Allowed, along, ap, apart_after, arith, at_place, Awake, base_at, Bool, ByHandle, ByOp, Call, callee_of, calls_begin, calls_told_word, CallsAwaited, CallsGo, CallsHold, CallsInside, CallsNamed, CallsThere, CallsTold, can_come, cancelled_call, cancels_word, CancelsGo, CancelsWatched, Component, Core, directs_word, DirectsOnTop, DirectsRun, EndWords, event_of, false, few_word, first_waits, Fits, fits_word, fresh, get, get-empty, HasNotRun, HasSubtask, held_word, Homed, homed_word, host_event_word, host_taken, HostsAwaited, housed_word, how_far_of, HowFar, inl, InOrder, InOrderIf, InPlace, inr, Inside, inside_word, InsideThere, instance_of, is_awaited, is_fresh, is_open, is_some, is_sync_call, is_there, IsRunner, joins_word, JoinsNamed, KnownCancels, KnownHome, Label, Layered, layered_word, le_refl, le_trans, length, List, made_works_word, MakesFew, names_go_word, NamesGo, NamesHold, None, NoneAdmitted, Numbered, of_base, OfBase, Op, op_at_place, op_of_thread, opening, opening_holds, opening_joins, opening_named, opening_names_known, opening_sets, opening_works_known, opening_works_named, OpeningInOrder, option_map, option_map_or, Place, place_of, Placed, plain, plain_scene, queued_handle, queued_watched, refl, Run, runner_there, RunnerHoused, said_plain, Scene, scene_of, Script, script_in, sets_named_word, SetsNamed, Setting, Some, starts_word, StartsAwaited, StartsFirst, StartsGo, StartsThere, State, Status, Steady, steady, Step, step_goes, step_over, step_walks, StepInOrder, StepsMakeFew, Strands, subst, Subtask, subtask_under_way, sym, task_of, telling_word, TellingGoes, Thread, Traced, traced_word, true, Turn, Unbegun, unbegun_word, undelivered_end, Waited, WaitsAtHome, WaitsPlaced, Walk, Walked, was_started, WasCall, watched_word, Word, word_goes, Work, works_go, works_hold, works_named_word, works_said_word, works_told, WorksKnown, WorksNamed, WorksQueued, WorksSaid, WorksTold, writes_over, written_at, ℕ, ⊎_elim, ◌∙◌, ◌∷◌, ◌≡◌, ◌≤◌, ◌⊎◌}
-use Rattle.task_places.proofs.{AloneLemmas.step_alone, BlockedLemmas.step_blocked, CallsBack.back_apart, Directs.directs_on_top, HostsAwaited.Asked, HostsAwaited.step_asked, HostsAwaited.step_works, InsideLemmas.step_inside, PlaceLaw.Arrives, PlaceSteps.Withdrawable, PlaceSteps.settled_run, PlaceSteps.step_arrives, PlaceSteps.step_by, WaitsKept.AtWaits, WaitsKept.far_waits, WaitsKept.step_waits, WaitsKept.wait_op, WorksQueued.stands_of}
+use Rattle.task_places.proofs.{AloneLemmas.step_alone, BlockedLemmas.step_blocked, CallersSteps.callers_kept, CallersSteps.feet_kept, CallersSteps.free_kept, CallsBack.back_apart, Directs.directs_on_top, HostsAwaited.Asked, HostsAwaited.step_asked, HostsAwaited.step_works, InsideLemmas.step_inside, PlaceLaw.Arrives, PlaceSteps.Withdrawable, PlaceSteps.settled_run, PlaceSteps.step_arrives, PlaceSteps.step_by, WaitsKept.AtWaits, WaitsKept.far_waits, WaitsKept.step_waits, WaitsKept.wait_op, WorksQueued.stands_of}
 use Rattle.task_places.specs.Kept.{ReachedInOrder, ReachedInPlace, StepsKeepPlaces}
 
 -- ---- Starts
@@ -291,6 +291,9 @@ module _ (x : Setting) (s : State) (l : Label) (t : State) {g : Bool} (h : InOrd
     alone = step_alone x s l t w h.in_place withdrawable (grind arith) first.alone;
     starts_there = starts_after first.starts_there live;
     blocked = step_blocked x s l t w h withdrawable steady (λ over. let e = w.turn in absurd (grind arith)) telling hosts_told calls_told_kept works_told_kept first.blocked;
+    callers = callers_kept x s l t w h withdrawable (λ over. let e = w.turn in absurd (grind arith)) first.callers first.feet first.free;
+    feet = feet_kept x s l t w h withdrawable (λ over. let e = w.turn in absurd (grind arith)) first.callers first.feet first.free;
+    free = free_kept x s l t w h withdrawable (λ over. let e = w.turn in absurd (grind arith)) first.callers first.feet first.free;
   }
 
   pub fits_kept : Steady s.core t.core → Fits x.component t.core
@@ -483,6 +486,12 @@ opening_in_order c codes instances handle_limit capacity main =
         alone = λ n is. let o = get-empty {X = Thread} n in absurd (cc);
         starts_there = λ k now. let o = get-empty {X = Call} k in absurd (grind arith);
         blocked = λ n sub is. let o = get-empty {X = Thread} n in absurd (cc);
+        callers = λ n f is. let o = get-empty {X = Thread} n in absurd (cc);
+        feet = λ n k f is under. let o = get-empty {X = Thread} n in absurd (cc);
+        free = record {
+          under = λ n m is. let o = get-empty {X = Thread} n in absurd (cc);
+          behind = λ n f is fresh. let o = get-empty {X = Thread} n in absurd (cc);
+        };
       };
     }
 

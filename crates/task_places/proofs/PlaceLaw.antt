@@ -1,5 +1,5 @@
 -- Where each thread is along the words of a step: each has its place, and one that waits for its start still does, or its call has begun.
-use Rattle.task_places.proofs.Laws.{[], add_call, add_group, add_set, add_work, Adds, adds_all, after_placing, after_word, all_of, along, ap, arith, at_place, Awaits, AwaitsEvent, behind_adds, blocked_place, Blocks, Bool, by_number, ByHandle, Call, call_made, Collapses, Core, count_work, Covered, Departs, EndsOver, Enter, entries, entries-append, Entry, Falls, false, foot_there, free_handle, free_thread_handle, get, get-change, give_handle, give_result, give_thread_handle, Given, given_there, GoBehind, GoesBack, gone_place, has_entry, HasPlace, HasSubtask, Holds, HowFar, idle_loose, if◌then◌else◌, inl, inr, is_at_high, is_at_low, is_at_switch, is_begun, is_busy, is_done_host, is_explicit, is_for_start, is_free, is_fresh, is_idle, is_none, is_parked, is_so, is_some, is_there, is_under, is_watched, IsFall, IsFoot, IsRunner, IsSettling, Lands, LandsAt, LastWords, Leaves, Loose, loose_idle, MakeCall, MakeThread, Mark, MayGo, MayLand, MayMove, MayPut, MayWithdraw, MayYield, Move, nat_tests, new_thread, next_thread, no_time, nobody, None, not_main, Nothing, on_call, on_instance, on_thread, on_work, one_runner, one_time, Option, option_map, option_map_or, Place, place_kept, place_of, place_written, Placed, Places, Placing, placing_shifted, poll_pends, Promote, promoted, push_high, Put, put_high, put_high_adds, put_low, put_low_adds, put_stand, quiet_placed, quiet_stand, Quits, refl, registers_for, Remains, remove_call, remove_group, remove_set, remove_thread, remove_work, removed_all, removed_gone, removed_is, removed_loose, removed_placed, RemoveThread, Runs, says, Scene, Script, set_backpressure, set_cancel_delivered, set_cancelled, set_course, set_do_not_enter, set_do_not_suspend, set_end, set_event, set_exited, set_how_far, set_join, set_own_event, set_phase, set_place, set_place_adds, set_place_is, set_position, set_register, set_result, set_saved_callee, set_saved_own, set_script, set_stage, set_started, set_starting_published, set_subtask_handle, set_thread_handle, set_trapped, set_uninteresting, set_word, Settles, SetTrapped, SetUninteresting, Some, Stand, stand_of, Stay, Stays, Stop, stopped_stand, Stuck, subst, Subtask, Suspends, switch_entries, switch_there, sym, T, take_result, TakeHost, TakePush, task_of, Thread, Trip, true, Turn, Uncovers, Untouched, Waits, WaitsAgain, was_started, Watch, watching, Why, with_handle, with_thread_handle, Withdraw, withdraws, Word, work_queued, ℕ, ⊎_elim, ◌+◌, ◌==◌, ◌||◌, ◌∙◌, ◌≡◌, ◌≤◌, ◌⊎◌}
+use Rattle.task_places.proofs.Laws.{[], add_call, add_group, add_set, add_work, Adds, adds_all, after_placing, after_word, all_of, along, ap, arith, at_place, Awaits, AwaitsEvent, behind_adds, blocked_place, Blocks, Bool, by_number, ByHandle, Call, call_made, Collapses, Core, count_work, Covered, Departs, EndsOver, Enter, entries, entries-append, Entry, Falls, false, foot_there, free_handle, free_thread_handle, get, get-change, give_handle, give_result, give_thread_handle, Given, given_there, GoBehind, GoesBack, gone_place, has_entry, HasPlace, HasSubtask, Holds, HowFar, idle_loose, if◌then◌else◌, inl, inr, is_at_high, is_at_low, is_at_switch, is_begun, is_busy, is_done_host, is_explicit, is_for_start, is_free, is_fresh, is_idle, is_none, is_parked, is_so, is_some, is_there, is_under, is_watched, IsFall, IsFoot, IsRunner, IsSettling, Lands, LandsAt, LastWords, Leaves, Loose, loose_idle, MakeCall, MakeThread, Mark, MayGo, MayLand, MayMove, MayPut, MayWithdraw, MayYield, Move, nat_tests, new_thread, next_thread, no_time, nobody, None, not_main, Nothing, on_call, on_instance, on_thread, on_work, one_runner, one_time, Option, option_map, option_map_or, Place, place_kept, place_of, place_written, Placed, Places, Placing, placing_shifted, poll_pends, Promote, promoted, push_high, Put, put_high, put_high_adds, put_low, put_low_adds, put_stand, quiet_placed, quiet_stand, Quits, refl, registers_for, Remains, remove_call, remove_group, remove_set, remove_thread, remove_work, removed_all, removed_gone, removed_is, removed_loose, removed_placed, RemoveThread, Runs, says, Scene, Script, set_backpressure, set_cancel_delivered, set_cancelled, set_course, set_do_not_enter, set_do_not_suspend, set_end, set_event, set_exited, set_how_far, set_join, set_own_event, set_phase, set_place, set_place_adds, set_place_is, set_position, set_register, set_result, set_saved_callee, set_saved_own, set_script, set_stage, set_started, set_starting_published, set_subtask_handle, set_thread_handle, set_trapped, set_uninteresting, set_word, Settles, SetTrapped, SetUninteresting, Some, Stand, stand_of, Stay, Stays, stays_put, Stop, stopped_stand, Stuck, subst, Subtask, Suspends, switch_entries, switch_there, sym, T, take_result, TakeHost, TakePush, task_of, Thread, Trip, true, Turn, Uncovers, Untouched, Waits, WaitsAgain, was_started, Watch, watching, Why, with_handle, with_thread_handle, Withdraw, withdraws, Word, work_queued, ℕ, ⊎_elim, ◌+◌, ◌==◌, ◌||◌, ◌∙◌, ◌≡◌, ◌≤◌, ◌⊎◌}
 use Rattle.task_places.proofs.Entries.{added_stand, flipped, has_stands, next_first, popped_quiet, promoted_stand, removed_fresh, withdrawn_stand}
 
 pub no_way : {A : Type 0} → false ≡ true → A
@@ -8,7 +8,7 @@ no_way h = absurd (subst T (sym h) tt)
 -- ---- Who is put, and who has an entry
 
 -- who is put was parked; one that waited for its start still does
-parked_at : (m : ℕ) (w : Why) (s : Core) → MayPut m w s →
+pub parked_at : (m : ℕ) (w : Why) (s : Core) → MayPut m w s →
     (option_map_or is_parked (place_of m s) false ≡ true) × (is_fresh (place_of m s) ≡ true → is_for_start w ≡ true)
 parked_at m w s ok = (grind arith, λ h. grind arith)
 
@@ -24,7 +24,7 @@ pub entry_ready : (m : ℕ) (s : Core) → HasPlace m s →
     1 ≤ switch_entries m s.queues.switch + entries m s.queues.high + entries m s.queues.low → ReadyAt (place_of m s)
 entry_ready m s h one = ready_of (place_of m s) (let a = h.switch in let b = h.high in let c = h.low in omega (arith, a, b, c, one))
 
-listed : (m : ℕ) (s : Core) → (has_entry m s.queues.high || has_entry m s.queues.low) ≡ true →
+pub listed : (m : ℕ) (s : Core) → (has_entry m s.queues.high || has_entry m s.queues.low) ≡ true →
     1 ≤ switch_entries m s.queues.switch + entries m s.queues.high + entries m s.queues.low
 listed m s h = grind (arith, has_stands m s.queues.high, has_stands m s.queues.low)
 
@@ -53,7 +53,7 @@ under_is : (m : ℕ) (o : Option Place) → option_map_or (is_under m) o false �
 under_is m o h = grind (arith, nat_tests)
 
 module _ (a : Scene) {n : ℕ} {q : Option Place} {s : Core} (st : Stand (watch a) n q [] s) where
-  fresh_still : (k : ℕ) → waits a k ≡ true → is_fresh (place_of k s) ≡ true
+  pub fresh_still : (k : ℕ) → waits a k ≡ true → is_fresh (place_of k s) ≡ true
   fresh_still k h = let e = fresh_watch (place_of k a.base) h in ap (λ v. is_so v (place_of k s)) (sym e) ∙ (st.kept k (ap is_watched e)).1
 
   pub covered_still : (k m : ℕ) → place_of k a.base ≡ Some (Place.Under m) → place_of k s ≡ Some (Place.Under m)
@@ -89,8 +89,8 @@ module _ {a : Scene} {b : Core} {n : ℕ} {q : Option Place} (f : Follows a b n 
 
   keeps_placing : {P : ℕ → Watch} (p : Placing) (s : Core) → Stays a (Places p) s → Puts P (Places p) s → Stand P n q [] s →
       Stand P n q [] (after_placing p s)
-  keeps_placing (Put x m w) s (inl ok) puts st =
-      let p = at_place is_parked (place_of m s) (parked_at m w s ok).0 in
+  keeps_placing (Put x m w) s ok puts st =
+      let p = at_place is_parked (place_of m s) (parked_at m w s (stays_put a x m w s ok)).0 in
       put_stand n q f.busy x m w p.0 s p.1.0 p.1.1 (λ h. puts x m w refl h (st.kept m h).1) st
   keeps_placing (Promote m) s (inl ok) puts st =
       let one = listed m s ok.1 in
@@ -100,7 +100,7 @@ module _ {a : Scene} {b : Core} {n : ℕ} {q : Option Place} (f : Follows a b n 
   keeps_placing (Promote m) s (inr ok) puts st =
       let r = ok.1.1.1 in
       promoted_stand n q m r.0 r.1.0 s (not_here m s st (λ e. let idle = f.runs ok.1.0 ok.1.1.0 in absurd (grind arith))) r.1.1 ok.0 st
-  keeps_placing (Stop g) s (inl ok) puts st = stopped_stand n q g s st
+  keeps_placing (Stop g) s (inr ok) puts st = stopped_stand n q g s st
   keeps_placing p s (inl ok) puts st = absurd ok
   keeps_placing p s (inr ok) puts st = absurd ok
 
@@ -126,7 +126,7 @@ module _ {a : Scene} {b : Core} {n : ℕ} {q : Option Place} (f : Follows a b n 
       let u = popped_quiet x (Entry.Host i) s (next_first s x (Entry.Host i) ok.0) (λ k. refl) in quiet_stand n q [] s _ (grind arith) st
   keeps_word w s ok puts fresh st = quiet_stand n q [] s _ (grind (arith, nat_tests, get-change, entries-append)) st
 
-  withdraws_waits : (k : ℕ) (s : Core) → MayWithdraw a k s → waits a k ≡ true
+  pub withdraws_waits : (k : ℕ) (s : Core) → MayWithdraw a k s → waits a k ≡ true
   withdraws_waits k s may = let g = may.1.1.0 in f.withdraws g.0 k g.1.1.0 (ByHandle g.1.0 g.1.1.1) may.1.1.1.1.1.1
 
   pub stay_word : (w : Word) (s : Core) → Stays a w s → Stand (watch a) n q [] s → Stand (watch a) n q [] (after_word w s)
@@ -135,11 +135,10 @@ module _ {a : Scene} {b : Core} {n : ℕ} {q : Option Place} (f : Follows a b n 
     where
       puts : (x : Mark) (m : ℕ) (v : Why) → Stays a (Places (Put x m v)) s → is_so (watch a m) (place_of m s) ≡ true →
           is_so (watch a m) (Some (Place.Ready x v)) ≡ true
-      puts x m v (inl may) so =
-          let r = parked_at m v s may in
+      puts x m v may so =
+          let r = parked_at m v s (stays_put a x m v s may) in
           let p = at_place is_parked (place_of m s) r.0 in
           so_put (place_of m a.base) p.0 x v p.1.1 (λ g. r.1 (ap is_fresh p.1.0 ∙ g)) (ap (is_so (watch a m)) (sym p.1.0) ∙ so)
-      puts x m v (inr may) so = absurd may
 
       waiting : (k : ℕ) → Stays a (Withdraw k) s → is_fresh (place_of k s) ≡ true
       waiting k may = fresh_still a st k (withdraws_waits k s may.0)
@@ -161,8 +160,7 @@ module _ {a : Scene} {b : Core} {n : ℕ} {q : Option Place} (f : Follows a b n 
 
       put : (x : Mark) (k : ℕ) (u : Why) → Stays a (Places (Put x k u)) s → is_watched (only k) ≡ true →
           is_so (only k) (Some (Place.Ready x u)) ≡ true
-      put x k u (inl may) g = by_number k m _ (λ e. let so = puts x u (rw (← e) may) in grind (arith, nat_tests)) (λ e. absurd (grind arith))
-      put x k u (inr may) g = absurd may
+      put x k u may g = by_number k m _ (λ e. let so = puts x u (rw (← e) (stays_put a x k u s may)) in grind (arith, nat_tests)) (λ e. absurd (grind arith))
 
   -- a thread that is blocked stays so, but where its host's work is done
   pub stuck_word : (m : ℕ) (sub : Subtask) (w : Word) (s : Core) → Stays a w s → Stand (watch a) n q [] s →
@@ -289,8 +287,8 @@ module _ {a : Scene} {b : Core} {n : ℕ} {p : Place} (h : Beside a b n p) {s : 
       apart : (m == n) ≡ false
       apart = let new = ok.1.1.1.0 in let here = stands.here in let busy = h.follows.busy in grind (arith, nat_tests)
 
-  foot_given : (g : ℕ) → IsFoot g s → Given g s
-  foot_given g (inl there) = given_there n (Some p) [] s stands g there
+  foot_given : (g : ℕ) → IsFoot a g s → Given g s
+  foot_given g (inl switch) = given_there n (Some p) [] s stands g (switch_there n (Some p) [] s stands g switch.0)
   foot_given g (inr m) =
       let there = switch_there n (Some p) [] s stands m.0 m.1.0 in
       given_there n (Some p) [] s stands g (ap (λ (j : ℕ). is_there j s) m.1.1 ∙ foot_there m.0 s there)
@@ -464,10 +462,10 @@ module _ {a : Scene} {b : Core} {n : ℕ} {q : Option Place} (f : Frame a b n q)
         covered = λ k m at. inl (covered_still a st k m at);
         entered = λ m none to. let r = f.running m (still m to) in absurd (cc);
       }
-  trip_arrives (Lands s p c ok fit) w = subst (λ (t : Core). Arrives a t) (sym (placing_shifted p s).only) (lands p s ok c)
-  trip_arrives (LandsAt s p m h c ok fit comes) w =
+  trip_arrives (Lands s p c ok fit halts) w = subst (λ (t : Core). Arrives a t) (sym (placing_shifted p s).only) (lands p s ok c)
+  trip_arrives (LandsAt s p m h c ok fit comes halts) w =
       far_arrives a m h _ (subst (λ (t : Core). Arrives a t) (sym (placing_shifted p s).only) (lands p s ok c))
-  trip_arrives (Quits s t k c leave d) w =
+  trip_arrives (Quits s t k c leave d halts) w =
       let e = exits k s t leave.0 c d in
       record {
         placed = e.0;

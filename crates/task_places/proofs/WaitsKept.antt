@@ -173,10 +173,10 @@ module _ {a : Scene} {b : Core} {n : ℕ} {q : Option Place} (f : Frame a b n q)
 
   trip_waits : {t : Core} → Pausing a b → Trip a b t → WaitsPlaced t
   trip_waits first (Remains t c still on) = (stays first c).at
-  trip_waits first (Lands s p c ok fit) = λ k x far. let h = stays first c in
+  trip_waits first (Lands s p c ok fit halts) = λ k x far. let h = stays first c in
       there_at k x (after_word (Places p) s) far (landed p s ok c h k x (sym (shifted_far (placing_shifted p s) k) ∙ far) (λ e. inl fit))
-  trip_waits first (LandsAt s p m h c ok fit comes) = landed_at p s m h ok c (stays first c) comes.0
-  trip_waits first (Quits s t k c leave d) = settled (removed_waits k s (stays first c).at) d
+  trip_waits first (LandsAt s p m h c ok fit comes halts) = landed_at p s m h ok c (stays first c) comes.0
+  trip_waits first (Quits s t k c leave d halts) = settled (removed_waits k s (stays first c).at) d
   trip_waits first (GoesBack s t k m v c is runs to under d ok) = back_waits m v t (settled (removed_waits k s (stays first c).at) d)
   trip_waits first (Collapses t over c) = along WaitsPlaced (falls_waits a) first.at c
 

@@ -15,6 +15,10 @@ unfoldable pub ReachedUnblocked : Type 0
 ReachedUnblocked = (x : Setting) (s : State) → Reached x s → is_open s.turn ≡ true →
     NoneBlockedOnEnd s.core × (none_blocked_on_end s.core ≡ true)
 
--- an idle state in order with the other two facts is stalled
+-- in each reached state whose turns aren't over no caller stands behind a stopped strand
+unfoldable pub ReachedGoOn : Type 0
+ReachedGoOn = (x : Setting) (s : State) → Reached x s → is_open s.turn ≡ true → CallersGoOn s.core
+
+-- an idle state in order in which wakes are counted is stalled
 unfoldable pub IdleIsStalled : Type 0
-IdleIsStalled = (x : Setting) (s : State) → InOrder x.component s → WakesCounted s.core → CallersGoOn s.core → Idle x s → Stalled x s
+IdleIsStalled = (x : Setting) (s : State) → InOrder x.component s → WakesCounted s.core → Idle x s → Stalled x s

@@ -1,4 +1,4 @@
-ghost use Rattle.task_places.specs.Wakes.{IdleIsStalled, ReachedHoldBack, ReachedUnblocked};
+ghost use Rattle.task_places.specs.Wakes.{IdleIsStalled, ReachedGoOn, ReachedHoldBack, ReachedUnblocked};
 
 /// In each state that a run comes to no held thread is admitted: a flag or a counter that kept it
 /// out falls only together with its release.
@@ -14,9 +14,15 @@ pub fn reached_unblocked()
     ensures { ReachedUnblocked }
 {}
 
+/// In each state that a run comes to, while its turns aren't over, from each thread that is behind
+/// another one comes, through those that it is behind or under, to one that is ready or runs.
+#[tactic(auto, using(crate::proofs::IdleLemmas::reached_go_on))]
+pub fn reached_go_on()
+    ensures { ReachedGoOn }
+{}
+
 /// A state in order in which nothing stands, no work moves and main pends is stalled, where each
-/// set that has a waiter has at least as many woken threads as ready members, and no caller stands
-/// behind a stopped strand.
+/// set that has a waiter has at least as many woken threads as ready members.
 #[tactic(auto, using(crate::proofs::IdleLemmas::idle_is_stalled))]
 pub fn idle_is_stalled()
     ensures { IdleIsStalled }

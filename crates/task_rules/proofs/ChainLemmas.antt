@@ -1,5 +1,5 @@
 -- What holds along a chain of words.
-use Rattle.task_rules.proofs.Machine.{Advance, after_word, Allowed, Bool, Chain, Collapses, Core, Departs, EndsOver, false, GoesBack, HowFar, if◌then◌else◌, inl, inr, IsFall, IsSettling, IsShift, Lands, LandsAt, Mark, MayGo, MayLand, Move, NoWord, Place, Places, Placing, Pop, Promote, Put, Quits, refl, Remains, RemoveCall, RemoveGroup, RemoveThread, Scene, SetHowFar, Settles, SetTrapped, SetUninteresting, Stay, Stays, Then, Trip, true, Turn, Walk, WasUnder, Word, ℕ, ◌≡◌}
+use Rattle.task_rules.proofs.Machine.{Advance, after_word, Allowed, Bool, Chain, Collapses, Core, Departs, EndsOver, false, GoesBack, HowFar, if◌then◌else◌, inl, inr, IsFall, IsSettling, IsShift, Lands, LandsAt, Mark, MayGo, MayLand, MayPut, MayYield, Move, NoWord, Place, Places, Placing, Pop, Promote, Put, Quits, refl, Remains, RemoveCall, RemoveGroup, RemoveThread, Scene, SetHowFar, Settles, SetTrapped, SetUninteresting, Stay, Stays, Stop, Then, Trip, true, Turn, Walk, WasUnder, Why, Word, ℕ, ◌≡◌, ◌⊎◌}
 
 module _ {may : Word → Core → Type 0} where
   -- what holds at first and is kept by each word holds at last
@@ -53,6 +53,8 @@ Going a b n t = a.next ≡ Turn.Run n → Stay a b t
 pub stays_allowed : (a : Scene) (w : Word) (s : Core) → Stays a w s → Allowed a w s
 stays_allowed a (Places p) s (inl ok) = inl ok
 stays_allowed a (Places (Promote k)) s (inr ok) = inr ok
+stays_allowed a (Places (Stop f)) s (inr ok) = inr ok
+stays_allowed a (Places (Put Mark.Switch n w)) s (inr ok) = inr ok
 stays_allowed a (Places _) s (inr ok) = absurd ok
 stays_allowed a (RemoveThread n) s ok = absurd ok
 stays_allowed a _ s ok = ok
@@ -61,7 +63,26 @@ pub land_allowed : (a : Scene) (p : Placing) (s : Core) → MayLand a p s → Al
 land_allowed a (Pop m) s ok = absurd ok
 land_allowed a (Promote k) s ok = absurd ok
 land_allowed a (Put Mark.Switch n w) s ok = absurd ok
+land_allowed a (Stop f) s ok = absurd ok
 land_allowed a _ s ok = inr ok
+
+-- why another thread is put
+pub stays_put : (a : Scene) (m : Mark) (n : ℕ) (w : Why) (s : Core) → Stays a (Places (Put m n w)) s → MayPut n w s
+stays_put a Mark.High n w s (inl ok) = ok
+stays_put a Mark.Low n w s (inl ok) = ok
+stays_put a Mark.Switch n w s (inr ok) = ok.0
+stays_put a Mark.High n w s (inr ok) = absurd ok
+stays_put a Mark.Low n w s (inr ok) = absurd ok
+stays_put a Mark.Switch n w s (inl ok) = absurd ok
+
+-- why a thread is put
+pub allowed_put : (a : Scene) (m : Mark) (n : ℕ) (w : Why) (s : Core) → Allowed a (Places (Put m n w)) s → MayPut n w s ⊎ MayYield a n w
+allowed_put a Mark.High n w s (inl ok) = inl ok
+allowed_put a Mark.Low n w s (inl ok) = inl ok
+allowed_put a Mark.Switch n w s (inl ok) = absurd ok
+allowed_put a Mark.High n w s (inr ok) = inr ok
+allowed_put a Mark.Low n w s (inr ok) = inr ok
+allowed_put a Mark.Switch n w s (inr ok) = inl ok.0
 
 pub settle_stays : (a : Scene) (w : Word) (s : Core) → IsSettling w s → Stays a w s
 settle_stays a w s ok = keeps_stays a w s (settle_keeps a w s ok)
@@ -76,14 +97,14 @@ module _ {a : Scene} {b : Core} where
   pub stay_walk : {t : Core} → Stay a b t → Walk a b t
   stay_walk c = weaken (stays_allowed a) c
 
-  gone_walk : {s t : Core} (n : ℕ) → Stay a b s → MayGo a n s → Settles (after_word (RemoveThread n) s) t → Walk a b t
+  pub gone_walk : {s t : Core} (n : ℕ) → Stay a b s → MayGo a n s → Settles (after_word (RemoveThread n) s) t → Walk a b t
   gone_walk {s = s} n c go d = join (Then s (RemoveThread n) (stay_walk c) go) (weaken (λ w u ok. stays_allowed a w u (settle_stays a w u ok)) d)
 
   pub trip_walk : {t : Core} → Trip a b t → Walk a b t
   trip_walk (Remains t c still on) = stay_walk c
-  trip_walk (Lands s p c ok fit) = Then s (Places p) (stay_walk c) (land_allowed a p s ok)
-  trip_walk (LandsAt s p n h c ok fit comes) = Then (after_word (Places p) s) (SetHowFar n h) (Then s (Places p) (stay_walk c) (land_allowed a p s ok)) comes
-  trip_walk (Quits s t n c leave d) = gone_walk n c (Departs leave) d
+  trip_walk (Lands s p c ok fit halts) = Then s (Places p) (stay_walk c) (land_allowed a p s ok)
+  trip_walk (LandsAt s p n h c ok fit comes halts) = Then (after_word (Places p) s) (SetHowFar n h) (Then s (Places p) (stay_walk c) (land_allowed a p s ok)) comes
+  trip_walk (Quits s t n c leave d halts) = gone_walk n c (Departs leave) d
   trip_walk (GoesBack s t n m v c is runs to under d ok) =
       Then (after_word (Places (Move m Place.Running)) t) (SetHowFar m (HowFar.Answered v)) (Then t (Places (Move m Place.Running)) (gone_walk n c (EndsOver m is runs to under) d) (inr ok)) ((n, (is, (to, under))), WasUnder n v under refl)
   trip_walk (Collapses t over c) = weaken (fall_allowed a) c

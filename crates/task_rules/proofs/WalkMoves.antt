@@ -1,11 +1,11 @@
 -- The moves of the machine as chains of words.
-use Rattle.task_rules.proofs.Machine.{[], add_call, add_group, add_set, add_thread, add_work, Advance, after_placing, after_word, ap, arith, AtOp, blocked_on, Bool, ByHandle, call_group, call_made, call_settled, can_come, CanCome, checked, chosen, Core, count_work, Delivery, departed, end_of, ended, exited_if, false, first_entry, free_handle, free_thread_handle, freed_thread_handle, FreeThreadHandle, get, get-change, get-insert, get-remove, get-remove_same, Gift, give_handle, give_result, give_thread_handle, group_settled, handed_on, hands_on, has_ended, held_why_of, HowFar, if◌then◌else◌, InOp, inr, instance_of, interest_settled, is_at, is_blocked_on, is_callback_waiter, is_deletable, is_done_host, is_explicit, is_finished, is_group_done, is_some, is_told, is_waiter, is_waiting_on, IsNamed, IsRunner, IsSettling, IsStarting, Join, join_of, Lands, lands_alone, lands_inside, LandsAt, le_refl, le_trans, Leaves, List, MakeThread, Mark, may_hand_on, may_not_suspend, may_publish, may_tell, may_wake, may_wake_joined, MayCome, MayDeliver, MayLand, MayPut, MayRemoveCall, MemberGift, nat_tests, NoGift, None, not, NoWord, numbers, on_call, on_instance, on_thread, on_work, op_in, Option, option_map, option_map_or, OwnEvent, OwnGift, Place, place_of, Places, Placing, poll_pends, position_of, Promote, promoted, promoted_first, promoted_unless, published, push_high, Put, put_at, put_high, Quits, Records, refl, released, released_one, Releases, remove, remove_call, remove_group, remove_set, remove_thread, remove_work, RemoveCall, RemoveGroup, RemoveThread, Restart, Scene, set_backpressure, set_cancel_delivered, set_cancelled, set_course, set_do_not_enter, set_do_not_suspend, set_end, set_event, set_exited, set_how_far, set_join, set_own_event, set_phase, set_position, set_register, set_result, set_saved_callee, set_saved_own, set_script, set_stage, set_started, set_starting_published, set_subtask_handle, set_thread_handle, set_trapped, set_uninteresting, set_word, SetCallEvent, SetCancelDelivered, SetExited, SetOwnEvent, Settles, SetUninteresting, Shifts, Some, Status, Stay, Stop, stopped, subst, Subtask, sym, take_result, TakeHost, taken, TakePush, TakesNamed, TakeWorkEvent, task_of, Tells, Then, Thread, thread_handle_of, told, Trip, true, Turn, unblocked, Unblocks, wake, wake_joined, wake_why, waken_by, Wakes, Why, with_handle, with_thread_handle, Word, work_queued, ℕ, ◌||◌, ◌∙◌, ◌∷◌, ◌≡◌, ◌≤◌}
-use Rattle.task_rules.proofs.{CallThreads.LastEnds, CallThreads.SameTasks, ChainLemmas.Keep, ChainLemmas.Keeps, ChainLemmas.along, ChainLemmas.chain_if, ChainLemmas.join, ChainLemmas.keep_stay, ChainLemmas.settle_keeps, ChainLemmas.settle_stays, ChainLemmas.shift_keeps, ChainLemmas.weaken, PlacingLemmas.Shifted, PlacingLemmas.placed, PlacingLemmas.placing_shifted, PlacingLemmas.popped_shifted, PlacingLemmas.unplaced, PromotionLemmas.first_has_entry, StandLemmas.set_place_is, StopLemmas.find_passes}
+use Rattle.task_rules.proofs.Machine.{[], add_call, add_group, add_set, add_thread, add_work, Advance, after_placing, after_word, ap, arith, AtOp, blocked_on, Bool, ByHandle, call_group, call_made, call_settled, can_come, CanCome, checked, chosen, Core, count_work, Delivery, departed, Departs, end_of, ended, exited_if, false, first_entry, foot_of, free_handle, free_thread_handle, freed_thread_handle, FreeThreadHandle, get, get-change, get-insert, get-remove, get-remove_same, Gift, give_handle, give_result, give_thread_handle, group_settled, Halted, Halts, handed_on, hands_on, has_ended, held_why_of, HowFar, if◌then◌else◌, InOp, inr, instance_of, interest_settled, is_at, is_blocked_on, is_callback_waiter, is_deletable, is_done_host, is_explicit, is_finished, is_group_done, is_some, is_told, is_waiter, is_waiting_on, IsNamed, IsRunner, IsSettling, IsStarting, Join, join_of, Lands, lands_alone, lands_inside, LandsAt, le_refl, le_trans, Leaves, leaving, List, MakeThread, Mark, may_hand_on, may_not_suspend, may_publish, may_tell, may_wake, may_wake_joined, MayCome, MayDeliver, MayLand, MayPut, MayRemoveCall, MemberGift, nat_tests, NoGift, None, not, NoWord, numbers, on_call, on_instance, on_thread, on_work, op_in, Option, option_map, option_map_or, OwnEvent, OwnGift, Place, place_of, Places, Placing, poll_pends, position_of, Promote, promoted, promoted_first, promoted_unless, published, push_high, Put, put_high, Quits, Records, refl, released, released_one, Releases, remove, remove_call, remove_group, remove_set, remove_thread, remove_work, RemoveCall, RemoveGroup, RemoveThread, Restart, Scene, set_backpressure, set_cancel_delivered, set_cancelled, set_course, set_do_not_enter, set_do_not_suspend, set_end, set_event, set_exited, set_how_far, set_join, set_own_event, set_phase, set_position, set_register, set_result, set_saved_callee, set_saved_own, set_script, set_stage, set_started, set_starting_published, set_subtask_handle, set_thread_handle, set_trapped, set_uninteresting, set_word, SetCallEvent, SetCancelDelivered, SetExited, SetOwnEvent, Settles, SetUninteresting, Shifts, Some, Status, Stay, Stop, stopped, subst, Subtask, sym, take_result, TakeHost, taken, TakePush, TakesNamed, TakeWorkEvent, task_of, Tells, Then, Thread, thread_handle_of, told, Trip, true, Turn, unblocked, Unblocks, wake, wake_joined, wake_why, waken_by, Wakes, Walk, Why, with_handle, with_thread_handle, Word, work_queued, ℕ, ◌||◌, ◌∙◌, ◌∷◌, ◌≡◌, ◌≤◌}
+use Rattle.task_rules.proofs.{CallThreads.LastEnds, CallThreads.SameTasks, ChainLemmas.Keep, ChainLemmas.Keeps, ChainLemmas.along, ChainLemmas.chain_if, ChainLemmas.gone_walk, ChainLemmas.join, ChainLemmas.keep_stay, ChainLemmas.settle_keeps, ChainLemmas.settle_stays, ChainLemmas.shift_keeps, ChainLemmas.weaken, PlacingLemmas.Shifted, PlacingLemmas.placed, PlacingLemmas.placing_shifted, PlacingLemmas.popped_shifted, PlacingLemmas.unplaced, PromotionLemmas.first_has_entry, StandLemmas.set_place_is, StopLemmas.find_passes}
 
 -- ---- What other threads come to
 
-put_shifts : (m : Mark) (n : ℕ) (w : Why) (s : Core) → MayPut n w s → Shifts s (put_at m n w s)
-put_shifts m n w s ok = placed (Put m n w) ok NoWord
+put_shifts : (n : ℕ) (w : Why) (s : Core) → MayPut n w s → Shifts s (put_high n w s)
+put_shifts n w s ok = placed (Put Mark.High n w) ok NoWord
 
 first_shifts : (i : ℕ) (s : Core) (o : Option ℕ) → first_entry i s ≡ o → s.queues.switch ≡ None → Shifts s (promoted_first o s)
 first_shifts i s None e none = NoWord
@@ -17,12 +17,9 @@ checked_shifts i s =
     chain_if (not (may_not_suspend i s) || is_some s.queues.switch) s (promoted_first (first_entry i s) s) (λ e. NoWord)
     (λ e. first_shifts i s (first_entry i s) refl (grind (arith, e)))
 
-pub stopped_shifts : (f : ℕ) (s : Core) → Shifts s (stopped f s)
-stopped_shifts f s = placed (Stop f) tt NoWord
-
 released_one_shifts : (n : ℕ) (o : Option Why) (s : Core) → held_why_of n s ≡ o → Shifts s (released_one n o s)
 released_one_shifts n None s e = NoWord
-released_one_shifts n (Some w) s e = put_shifts Mark.High n w s (Releases (grind (arith, e)))
+released_one_shifts n (Some w) s e = put_shifts n w s (Releases (grind (arith, e)))
 
 pub released_shifts : (ns : List ℕ) (s : Core) → Shifts s (released ns s)
 unfolding released
@@ -30,8 +27,8 @@ released_shifts [] s = NoWord
 released_shifts (n ∷ ns) s = join (released_one_shifts n (held_why_of n s) s refl) (released_shifts ns (released_one n (held_why_of n s) s))
 
 waken_shifts : (x n : ℕ) (s : Core) (b : Bool) → is_callback_waiter n s ≡ b → is_waiter x n s ≡ true → Shifts s (waken_by b x n s)
-waken_shifts x n s true e h = put_shifts Mark.High n (Why.Delivery (Delivery.Set x)) s (Wakes x h (ap (λ b. wake_why x b) (sym e)))
-waken_shifts x n s false e h = put_shifts Mark.High n Why.Resumption s (Wakes x h (ap (λ b. wake_why x b) (sym e)))
+waken_shifts x n s true e h = put_shifts n (Why.Delivery (Delivery.Set x)) s (Wakes x h (ap (λ b. wake_why x b) (sym e)))
+waken_shifts x n s false e h = put_shifts n Why.Resumption s (Wakes x h (ap (λ b. wake_why x b) (sym e)))
 
 -- the chosen thread, if there is one, waits on the set
 abbrev pub Chosen : ℕ → Option ℕ → Core → Type 0
@@ -78,7 +75,7 @@ IsBlocked sub o s = (m : ℕ) → o ≡ Some m → place_of m s ≡ Some (Place.
 
 pub unblocked_shifts : (sub : Subtask) (o : Option ℕ) (s : Core) → is_done_host sub s ≡ true → IsBlocked sub o s → Shifts s (unblocked o s)
 unblocked_shifts sub None s done h = NoWord
-unblocked_shifts sub (Some m) s done h = put_shifts Mark.High m Why.Resumption s (Unblocks sub (h m refl) done refl)
+unblocked_shifts sub (Some m) s done h = put_shifts m Why.Resumption s (Unblocks sub (h m refl) done refl)
 
 chosen_unblocked : (sub : Subtask) (o : Option ℕ) (x : ℕ) (w : Option ℕ) (s : Core) → IsBlocked sub o s → Chosen x w s → Chosen x w (unblocked o s)
 chosen_unblocked sub None x w s h c = c
@@ -150,14 +147,33 @@ module _ {a : Scene} {b : Core} where
   pub settled : {s t : Core} → Settles s t → Keep a b s → Keep a b t
   settled d c = join c (weaken (settle_keeps a) d)
 
-  -- where the running thread comes to
-  pub lands : (p : Placing) {s : Core} → lands_alone p ≡ true → MayLand a p s → Keep a b s → Trip a b (after_placing p s)
-  lands p {s = s} fit ok c = subst (λ (t : Core). Trip a b t) (placing_shifted p s).only (Lands s p (keep_stay c) ok fit)
+  -- the strand stops
+  pub stopped_on : (f : ℕ) {s : Core} → a.next ≡ Turn.Main → Keep a b s → Keep a b (stopped f s)
+  stopped_on f to c = placed (Stop f) (inr to) c
 
-  pub lands_at : (p : Placing) (n : ℕ) (h : HowFar) {s : Core} → lands_inside p h ≡ true → MayLand a p s → MayCome a n h (after_placing p s) → AtOp a n s → can_come (op_in a n) h ≡ true → Keep a b s → Trip a b (set_how_far n h (after_placing p s))
-  lands_at p n h {s = s} fit ok comes at can c =
+  pub halted_from : (n : ℕ) {s t : Core} → Keep a b s → Keep a s t → Halted a b n (stopped (foot_of n s) t)
+  halted_from n {s = s} {t = t} c d = record {
+    at = s;
+    first = keep_stay c;
+    before = t;
+    stays = keep_stay d;
+    rest = subst (λ (u : Core). Stay a (after_word (Places (Stop (foot_of n s))) t) u) (placing_shifted (Stop (foot_of n s)) t).only NoWord;
+  }
+
+  pub halted_at : (n : ℕ) {s : Core} → Keep a b s → Halted a b n (stopped (foot_of n s) s)
+  halted_at n c = halted_from n c NoWord
+
+  pub halted_on : {n : ℕ} {s t : Core} → Halted a b n s → Keep a s t → Halted a b n t
+  halted_on h c = record { at = h.at; first = h.first; before = h.before; stays = h.stays; rest = join h.rest (keep_stay c) }
+
+  -- where the running thread comes to
+  pub lands : (p : Placing) {s : Core} → lands_alone p ≡ true → MayLand a p s → Halts a b (leaving p) s → Keep a b s → Trip a b (after_placing p s)
+  lands p {s = s} fit ok halts c = subst (λ (t : Core). Trip a b t) (placing_shifted p s).only (Lands s p (keep_stay c) ok fit halts)
+
+  pub lands_at : (p : Placing) (n : ℕ) (h : HowFar) {s : Core} → lands_inside p h ≡ true → MayLand a p s → MayCome a n h (after_placing p s) → AtOp a n s → can_come (op_in a n) h ≡ true → Halts a b (leaving p) s → Keep a b s → Trip a b (set_how_far n h (after_placing p s))
+  lands_at p n h {s = s} fit ok comes at can halts c =
       let is = (placing_shifted p s).only in
-      subst (λ (t : Core). Trip a b (set_how_far n h t)) is (LandsAt s p n h (keep_stay c) ok fit (subst (λ (t : Core). MayCome a n h t × CanCome a n h t) (sym is) (comes, InOp (placed_at_op a n s _ (placing_shifted p s) at) can)))
+      subst (λ (t : Core). Trip a b (set_how_far n h t)) is (LandsAt s p n h (keep_stay c) ok fit (subst (λ (t : Core). MayCome a n h t × CanCome a n h t) (sym is) (comes, InOp (placed_at_op a n s _ (placing_shifted p s) at) can)) halts)
 
 -- an entry whose place says that it is there is promoted beside a running thread
 pub promoted_walks : {a : Scene} {b : Core} (m n : ℕ) {s : Core} → a.turn ≡ Turn.Run m → (x : Mark) × ((w : Why) × (place_of n s ≡ Some (Place.Ready x w))) → Keep a b s → Keep a b (promoted_unless n s)
@@ -256,6 +272,10 @@ pub record Left (a : Scene) (b : Core) (n : ℕ) (t : Core) : Type 0 where
   pub stays : Keep a b before
   pub settles : Settles (after_word (RemoveThread n) before) t
 
+-- with its strand stopped before
+abbrev pub Gone : Scene → Core → ℕ → Core → Type 0
+Gone a b n t = (e : Left a b n t) × Halted a b n e.before
+
 module _ {a : Scene} {b : Core} where
   -- the op that was inside of the call is done
   pub call_done_walks : (k : ℕ) {s : Core} → (is_deletable k s ≡ true → MayRemoveCall a k s) → Stay a b s → Stay a b (call_settled k s)
@@ -272,6 +292,9 @@ module _ {a : Scene} {b : Core} where
   exited_if_walks true k c = c
   exited_if_walks false k c = word (SetExited k) tt c
 
+  departs_walks : (n : ℕ) {s : Core} → Keep a b s → Keep a b (freed_thread_handle (instance_of n s) (thread_handle_of n s) (exited_if (is_explicit n s) (task_of n s) s))
+  departs_walks n {s = s} c = freed_thread_handle_walks (instance_of n s) (thread_handle_of n s) (exited_if_walks (is_explicit n s) (task_of n s) c)
+
   pub ended_walks : (n : ℕ) {s : Core} → LastEnds n s → Keep a b s → Left a b n (ended n s)
   unfolding ended interest_settled
   ended_walks n {s = s} last c =
@@ -279,12 +302,20 @@ module _ {a : Scene} {b : Core} where
       let r = remove_thread n f in
       record {
         before = f;
-        stays = freed_thread_handle_walks (instance_of n s) (thread_handle_of n s) (exited_if_walks (is_explicit n s) (task_of n s) c);
+        stays = departs_walks n c;
         settles = join (chain_if (option_map_or is_finished (get r.calls (task_of n s)) false) (set_uninteresting (task_of n s) r) r (λ e. Then r (SetUninteresting (task_of n s)) NoWord tt) (λ e. NoWord)) (call_settles (task_of n s) (interest_settled (task_of n s) r) (λ gone. departed_over n s last gone));
       }
 
-  pub exits_trip : (n : ℕ) {t : Core} → Leaves a n → Left a b n t → Trip a b t
-  exits_trip n {t = t} leave e = Quits e.before t n (keep_stay e.stays) leave e.settles
+-- and its strand has stopped
+pub ended_halts : {a : Scene} {b : Core} (n : ℕ) {s : Core} (last : LastEnds n s) (c : Keep a b s) → Halted a b n s → Gone a b n (ended n s)
+unfolding ended_walks
+ended_halts n {s = s} last c h = (ended_walks n last c, halted_on h (departs_walks {b = s} n NoWord))
+
+pub exits_trip : {a : Scene} {b : Core} (n : ℕ) {t : Core} → Leaves a n → Gone a b n t → Trip a b t
+exits_trip n {t = t} leave e = Quits e.0.before t n (keep_stay e.0.stays) leave e.0.settles e.1
+
+pub left_walk : {a : Scene} {b : Core} (n : ℕ) {t : Core} → Leaves a n → Left a b n t → Walk a b t
+left_walk n leave e = gone_walk n (keep_stay e.stays) (Departs leave) e.settles
 
 pub settle_threads : (w : Word) (s : Core) → IsSettling w s → (after_word w s).threads ≡ s.threads
 unfolding set_uninteresting on_call remove_call remove_group

@@ -1,5 +1,5 @@
 -- What the rows of the ops are made of, as chains of words: what is read, gifts, moves, and a new call.
-use Rattle.task_rules.proofs.Walks.{add_call, add_thread, advanced, after_placing, after_word, answered, ap, ap₂, arith, assigned, AtOp, behind_one, behind_switch, Blocks, Bool, ByHandle, ByOp, call_clears_flag, call_ends, call_instance, call_made, call_queues, call_resumes, call_settled, call_stops, Callee, callee_of_op, CallEnd, Caller, can_come, cancel_goes_behind, cancel_stops, Cancelling, change-change_same, checked, checked_shifts, Choice, chosen, Core, EndCall, Enter, enter_runs, event_of, ExportKind, false, foot_of, get, get-change, get-insert, get-remove_same, Gift, gift, give_thread_handle, Given, given_code, given_handle, given_result, Goal, goal_of, GoBehind, Going, group_settled, group_settles, has_same, HasCalled, HasSet, HasSubtask, how_far_of, HowFar, inl, inr, instance_of, is_at_wait, is_begun, is_blocked_on, is_cancel, is_deletable, is_deletable_call, is_direct, is_explicit, is_group_done, is_joined, is_none, is_running, is_some, is_sync_call, is_sync_cancel, is_wait, IsNew, IsRunner, IsWithdrawn, Join, join_of, Keep, keep_still, lands_at, Leaves, less_switch, List, Made, MakeCall, Mark, may_not_suspend, MayCancel, MayCome, MayDeliver, MayJoin, MayMakeCall, MayRemoveWork, MayTake, MayWithdraw, MemberGift, Move, moved_to, NameThread, nat_tests, next_thread, NoGift, None, not, NoWord, on_call, on_instance, on_thread, on_work, op_in, Option, option_map, option_map_or, own_event_of, OwnEvent, OwnGift, Place, place_of, placed, placing_shifted, Put, put_back, put_place, put_switch, received, refl, remove_call, remove_group, remove_thread, remove_work, RemoveWork, saved_callee_of, says, SaysEnd, Scene, set_do_not_suspend, set_end, set_event, set_exited, set_given, set_high, set_how_far, set_join, set_low, set_place, set_position, set_register, set_saved_callee, set_saved_own, set_started, set_switch, set_thread_handle, set_uninteresting, SetCallEvent, SetCallJoin, SetDoNotSuspend, SetExited, SetRegister, SetSavedCallee, SetSavedOwn, SetStarted, settle_group_of, settled, SetUninteresting, SetWorkJoin, Shifted, shifted, shifted_after, shifted_calls, shifted_explicit, shifted_made, shifts_shifted, Some, Starts, Status, Stop, stopped, stopped_shifts, subst, Subtask, subtask_ended, subtask_under_way, sym, sync_sets_flag, taken_walks, TakesCalled, TakesCancelled, TakesNamed, TakeWorkEvent, task_of, Then, Thread, thread_group, Trip, true, Turn, undelivered_end, unqueued, unwrap_or, wait_stops, Waits, watches, Why, with_thread_handle, Withdraw, withdrawn, word, work_deleted, work_group, ℕ, ◌&&◌, ◌+◌, ◌==◌, ◌∙◌, ◌≡◌, ◌⊎◌}
+use Rattle.task_rules.proofs.Walks.{add_call, add_thread, advanced, after_placing, after_word, answered, ap, ap₂, arith, assigned, AtOp, behind_one, behind_switch, Blocks, Bool, ByHandle, ByOp, call_clears_flag, call_ends, call_instance, call_made, call_queues, call_resumes, call_settled, call_stops, Callee, callee_of_op, CallEnd, Caller, can_come, cancel_goes_behind, cancel_stops, Cancelling, change-change_same, checked, checked_shifts, Choice, chosen, Core, EndCall, Enter, enter_runs, event_of, ExportKind, false, foot_of, get, get-change, get-insert, get-remove_same, Gift, gift, give_thread_handle, Given, given_code, given_handle, given_result, Goal, goal_of, GoBehind, Going, group_settled, group_settles, halted_at, has_same, HasCalled, HasSet, HasSubtask, how_far_of, HowFar, inl, inr, instance_of, is_at_wait, is_begun, is_blocked_on, is_cancel, is_deletable, is_deletable_call, is_direct, is_explicit, is_group_done, is_joined, is_none, is_running, is_some, is_sync_call, is_sync_cancel, is_wait, IsNew, IsRunner, IsWithdrawn, Join, join_of, Keep, keep_still, lands_at, Leaves, less_switch, List, Made, MakeCall, Mark, may_not_suspend, MayCancel, MayCome, MayDeliver, MayJoin, MayMakeCall, MayRemoveWork, MayTake, MayWithdraw, MemberGift, Move, moved_to, NameThread, nat_tests, next_thread, NoGift, None, NoneCame, not, NoWord, on_call, on_instance, on_thread, on_work, op_in, Option, option_map, option_map_or, own_event_of, OwnEvent, OwnGift, Place, place_of, placed, placing_shifted, Put, put_back, put_switch, received, refl, remove_call, remove_group, remove_thread, remove_work, RemoveWork, saved_callee_of, says, SaysEnd, Scene, set_do_not_suspend, set_end, set_event, set_exited, set_given, set_high, set_how_far, set_join, set_low, set_place, set_position, set_register, set_saved_callee, set_saved_own, set_started, set_switch, set_thread_handle, set_uninteresting, SetCallEvent, SetCallJoin, SetDoNotSuspend, SetExited, SetRegister, SetSavedCallee, SetSavedOwn, SetStarted, settle_group_of, settled, SetUninteresting, SetWorkJoin, Shifted, shifted, shifted_after, shifted_calls, shifted_explicit, shifted_made, shifts_shifted, Some, Starts, Status, Stop, stopped, stopped_on, subst, Subtask, subtask_ended, subtask_under_way, sym, sync_sets_flag, taken_walks, TakesCalled, TakesCancelled, TakesNamed, TakeWorkEvent, task_of, Then, Thread, thread_group, Trip, true, Turn, undelivered_end, unqueued, unwrap_or, wait_stops, Waits, watches, Why, with_thread_handle, Withdraw, withdrawn, word, work_deleted, work_group, ℕ, ◌&&◌, ◌+◌, ◌==◌, ◌∙◌, ◌≡◌, ◌⊎◌}
 use Rattle.task_rules.proofs.WalkTask.{advanced_walks, answered_walks, moved_passes, Stands}
 
 -- ---- What is read
@@ -96,15 +96,15 @@ module _ {a : Scene} {b : Core} (n : ℕ) (is : IsRunner a n) where
   unfolding received
   received_walks on r g v {t = t} ok c = advanced_walks n is on (set_given_walks r v (taken_walks g (task_of n t) ok c))
 
-  pub stopped_walks : (t : Core) → Keep a b t → Keep a b (stopped (foot_of n t) t)
-  stopped_walks t c = shifted (stopped_shifts (foot_of n t) t) c
+  pub stopped_walks : (t : Core) → Leaves a n → Keep a b t → Keep a b (stopped (foot_of n t) t)
+  stopped_walks t leave c = stopped_on (foot_of n t) leave.1.0 c
 
   pub checked_walks : (i : ℕ) {t : Core} → Keep a b t → Keep a b (checked i t)
   checked_walks i {t = t} c = shifted (checked_shifts i t) c
 
   pub wait_stops_walks : AtOps a b n → (y : ℕ) {t : Core} → is_wait (op_in a n) ≡ true → Leaves a n → HasSet a n y → Keep a b t → Trip a b (wait_stops n y t)
   unfolding wait_stops
-  wait_stops_walks at y {t = t} can leave has c = lands_at (Move n (Place.Waiting y false)) n (HowFar.Waits y) (grind (arith, nat_tests)) (Waits y leave has refl) (leave, (has, (can, moved_passes (is_at_wait y) (Place.Waiting y false) (grind (arith, nat_tests)) n (stopped (foot_of n t) t)))) (at _ (stopped_walks t c)) can (stopped_walks t c)
+  wait_stops_walks at y {t = t} can leave has c = lands_at (Move n (Place.Waiting y false)) n (HowFar.Waits y) (grind (arith, nat_tests)) (Waits y leave has refl) (leave, (has, (can, moved_passes (is_at_wait y) (Place.Waiting y false) (grind (arith, nat_tests)) n (stopped (foot_of n t) t)))) (at _ (stopped_walks t leave c)) can (halted_at n c) (stopped_walks t leave c)
 
   pub join_walks : (sub : Subtask) (j : Join) {t : Core} → MayJoin a sub j t → Keep a b t → Keep a b (set_join sub j t)
   join_walks (Subtask.Guest k) j ok c = word (SetCallJoin k j) ok c
@@ -138,7 +138,7 @@ module _ {a : Scene} {b : Core} (n : ℕ) (is : IsRunner a n) where
   call_stops_walks at sub t can leave own come open_end c =
       let u = stopped (foot_of n t) t in
       let h : Shifted t u = placing_shifted (Stop (foot_of n t)) t in
-      lands_at (Move n (Place.Blocked sub)) n (HowFar.Calls sub) (grind (arith, nat_tests)) (Blocks sub leave (own u h) (inl (open_end u h)) refl) (come (set_place n (Place.Blocked sub) u) (shifted_after h (placing_shifted (Move n (Place.Blocked sub)) u)) (moved_passes (is_blocked_on sub) (Place.Blocked sub) (grind (arith, nat_tests)) n u)) (at u (stopped_walks t c)) can (stopped_walks t c)
+      lands_at (Move n (Place.Blocked sub)) n (HowFar.Calls sub) (grind (arith, nat_tests)) (Blocks sub leave (own u h) (inl (open_end u h)) refl) (come (set_place n (Place.Blocked sub) u) (shifted_after h (placing_shifted (Move n (Place.Blocked sub)) u)) (moved_passes (is_blocked_on sub) (Place.Blocked sub) (grind (arith, nat_tests)) n u)) (at u (stopped_walks t leave c)) can (halted_at n c) (stopped_walks t leave c)
 
   pub sync_sets_flag_walks : (m j : ℕ) (k : ExportKind) {t : Core} → Keep a b t → Keep a b (sync_sets_flag m j k t)
   sync_sets_flag_walks m j ExportKind.Sync {t = t} c = word (SetDoNotSuspend j true) tt (word (SetSavedOwn m (Some (may_not_suspend j t))) tt c)
@@ -160,11 +160,12 @@ module _ {a : Scene} {b : Core} (n : ℕ) (is : IsRunner a n) where
   unfolding cancel_stops set_saved_callee on_thread
   cancel_stops_walks at sub {t = t} same can leave has free unended c =
       let u = set_join sub (Join.Watched n) (set_saved_callee n None t) in
-      let d = stopped_walks (checked (instance_of n t) u) (checked_walks (instance_of n t) (join_walks sub (Join.Watched n) (is, (cancels_own a n sub has, (free, grind (arith, same)))) (word (SetSavedCallee n None) tt c))) in
+      let e = checked_walks (instance_of n t) (join_walks sub (Join.Watched n) (is, (cancels_own a n sub has, (free, grind (arith, same)))) (word (SetSavedCallee n None) tt c)) in
+      let d = stopped_walks (checked (instance_of n t) u) leave e in
       let i = instance_of n t in
       let v = stopped (foot_of n (checked i u)) (checked i u) in
       let moved = shifted_after (shifts_shifted (checked_shifts i u)) (shifted_after (placing_shifted (Stop (foot_of n (checked i u))) (checked i u)) (placing_shifted (Move n (Place.Blocked sub)) v)) in
-      lands_at (Move n (Place.Blocked sub)) n (HowFar.AwaitsEnd sub) (grind (arith, nat_tests)) (Blocks sub leave (inl (cancels_own a n sub has)) (inr (shifted_ended sub (shifted_after (shifts_shifted (checked_shifts i u)) (placing_shifted (Stop (foot_of n (checked i u))) (checked i u))) ∙ (joined_ended sub (Join.Watched n) (set_saved_callee n None t) ∙ (saved_ended sub n None t ∙ unended)))) refl) (leave, (has, shifted_watches n sub moved ∙ joined_watches n sub (set_saved_callee n None t))) (at _ d) can d
+      lands_at (Move n (Place.Blocked sub)) n (HowFar.AwaitsEnd sub) (grind (arith, nat_tests)) (Blocks sub leave (inl (cancels_own a n sub has)) (inr (shifted_ended sub (shifted_after (shifts_shifted (checked_shifts i u)) (placing_shifted (Stop (foot_of n (checked i u))) (checked i u))) ∙ (joined_ended sub (Join.Watched n) (set_saved_callee n None t) ∙ (saved_ended sub n None t ∙ unended)))) refl) (leave, (has, shifted_watches n sub moved ∙ joined_watches n sub (set_saved_callee n None t))) (at _ d) can (halted_at n e) d
 
   -- the op that cancels is done before the subtask leaves the thread's own set
   pub parted_answers_walks : Stands a b n → (r v : ℕ) (sub : Subtask) {t : Core} → Cancelling a n sub → join_of sub t ≡ join_of sub a.base → Keep a b t → Going a b n (answered n r v (set_join sub Join.Nowhere t))
@@ -183,7 +184,7 @@ module _ {a : Scene} {b : Core} (n : ℕ) (is : IsRunner a n) where
 
   behind_switch_walks : (o : Option ℕ) (h : HowFar) {t : Core} → is_some o ≡ true → t.queues.switch ≡ o → Leaves a n → ((u : Core) → Shifted t u → MayCome a n h u) → AtOp a n t → can_come (op_in a n) h ≡ true → Keep a b t → Trip a b (set_how_far n h (behind_switch n o t))
   behind_switch_walks None h stands is leave comes at can c = absurd (grind arith)
-  behind_switch_walks (Some m) h {t = t} stands is leave comes at can c = lands_at (GoBehind (foot_of m t) n) n h refl (leave, inr (m, (is, refl))) (comes (after_placing (GoBehind (foot_of m t) n) t) (placing_shifted (GoBehind (foot_of m t) n) t)) at can c
+  behind_switch_walks (Some m) h {t = t} stands is leave comes at can c = lands_at (GoBehind (foot_of m t) n) n h refl (leave, inr (m, (is, refl))) (comes (after_placing (GoBehind (foot_of m t) n) t) (placing_shifted (GoBehind (foot_of m t) n) t)) at can tt c
 
   pub cancel_goes_behind_walks : AtOps a b n → (k : ℕ) {t : Core} → is_some t.queues.switch ≡ true → join_of (Subtask.Guest k) t ≡ join_of (Subtask.Guest k) a.base → is_cancel (op_in a n) ≡ true → Leaves a n → MayCancel a n (Subtask.Guest k) → is_joined (join_of (Subtask.Guest k) a.base) ≡ false → Keep a b t → Trip a b (cancel_goes_behind n k t)
   unfolding cancel_goes_behind set_join on_call set_do_not_suspend on_instance set_saved_callee on_thread
@@ -193,11 +194,11 @@ module _ {a : Scene} {b : Core} (n : ℕ) (is : IsRunner a n) where
       let d = join_walks (Subtask.Guest k) (Join.Watched n) (is, (cancels_own a n (Subtask.Guest k) has, (inl free, grind (arith, same)))) (word (SetDoNotSuspend j false) tt (word (SetSavedCallee n (Some (may_not_suspend j t))) tt c)) in
       behind_switch_walks t.queues.switch (HowFar.Cancels (Subtask.Guest k)) stands refl leave (λ u moved. (leave, (has, shifted_watches n (Subtask.Guest k) moved ∙ joined_watches n (Subtask.Guest k) v))) (at _ d) can d
 
-  pub withdrawn_walks : (k : ℕ) {t : Core} → MayWithdraw a k t → SaysEnd a k Status.StartCancelled → Keep a b t → Keep a b (withdrawn k t)
+  pub withdrawn_walks : (k : ℕ) {t : Core} → MayWithdraw a k t → NoneCame a t → SaysEnd a k Status.StartCancelled → Keep a b t → Keep a b (withdrawn k t)
   unfolding withdrawn remove_thread set_end
-  withdrawn_walks k {t = t} ok says c =
+  withdrawn_walks k {t = t} ok none says c =
       subst (λ (v : Core). Keep a b (set_uninteresting k (set_exited k (call_ends k CallEnd.StartCancelled v)))) (withdraws k t)
-      (word (SetUninteresting k) tt (word (SetExited k) tt (word (EndCall k CallEnd.StartCancelled) (IsWithdrawn ok (ap (λ (o : Option Thread). is_none o) (get-remove_same t.threads k)) refl, says) (word (Withdraw k) (ok, says) c))))
+      (word (SetUninteresting k) tt (word (SetExited k) tt (word (EndCall k CallEnd.StartCancelled) (IsWithdrawn ok (ap (λ (o : Option Thread). is_none o) (get-remove_same t.threads k)) refl, says) (word (Withdraw k) (ok, (says, none)) c))))
 
 -- ---- A new call
 
@@ -220,6 +221,21 @@ cleared : (n j : ℕ) (k : ExportKind) (m : ℕ) (t : Core) → let v = call_cle
     (v.made.threads ≡ t.made.threads) × ((is_explicit m v ≡ is_explicit m t) × ((is_some (place_of m v) ≡ is_some (place_of m t)) × (v.calls ≡ t.calls)))
 unfolding set_do_not_suspend on_instance set_saved_callee on_thread
 cleared n j k m t = (grind arith, (grind (arith, nat_tests, get-change), (grind (arith, nat_tests, get-change), grind arith)))
+
+-- what stands at switch stays there
+cleared_switch : (n j : ℕ) (k : ExportKind) (t : Core) → (call_clears_flag n j k t).queues.switch ≡ t.queues.switch
+unfolding set_do_not_suspend on_instance set_saved_callee on_thread
+cleared_switch n j k t = grind arith
+
+put_stands : (m : ℕ) (w : Why) (t : Core) → (put_switch m w t).queues.switch ≡ Some m
+unfolding put_switch set_switch
+put_stands m w t = refl
+
+-- a call that is made brings no thread behind another one
+made_behind : (f : Caller) (e : Callee) (x : ExportKind) (g : Goal) (group : ℕ) (words : List ℕ) (s : Core) (n h : ℕ) →
+    place_of n (call_made f e x g group words s) ≡ Some (Place.Behind h) → place_of n s ≡ Some (Place.Behind h)
+unfolding call_made add_thread add_call
+made_behind f e x g group words s n h at = grind (arith, nat_tests, get-insert)
 
 -- ---- Whose the new call is
 
@@ -268,9 +284,9 @@ module _ {a : Scene} (n : ℕ) (is : IsRunner a n) where
       let same = cleared n e.instance k m u in
       let new : (v.made.threads ≡ m) × (is_explicit m v ≡ false) = (same.0 ∙ (ap (λ (r : Made). r.threads) (shifted_made d) ∙ h.made), same.1.0 ∙ (shifted_explicit d m ∙ h.explicit)) in
       let w = behind_one m n v in
-      let c : Keep a s v = call_clears_flag_walks n is e.instance k (placed p (inl (Starts h.place h.explicit (ap (λ (y : Goal). is_direct y) h.goal ∙ plain) refl)) (word (MakeCall (Caller.Thread n) e k g (thread_group n s) words) ok NoWord)) in
+      let c : Keep a s v = call_clears_flag_walks n is e.instance k (placed p (inr (Starts h.place h.explicit (ap (λ (y : Goal). is_direct y) h.goal ∙ plain) refl, ((n, runs), made_behind (Caller.Thread n) e k g (thread_group n s) words s))) (word (MakeCall (Caller.Thread n) e k g (thread_group n s) words) ok NoWord)) in
       let called : HasCalled n m w = called_as n m t w (shifted_calls (placing_shifted (GoBehind m n) v) ∙ (same.1.1.1 ∙ shifted_calls d)) (made_called n e k g (thread_group n s) words s) in
-      lands_at (GoBehind m n) n (HowFar.Calls (Subtask.Guest m)) refl (leave, inl (same.1.1.0 ∙ ap (λ (o : Option Place). is_some o) (put_place Mark.Switch m Why.Start t (ap (λ (o : Option Place). is_some o) h.place)))) (is, inr (shifted_new a m v w refl (placing_shifted (GoBehind m n) v) new, called)) (keep_still n runs c) can c
+      lands_at (GoBehind m n) n (HowFar.Calls (Subtask.Guest m)) refl (leave, inl (cleared_switch n e.instance k u ∙ put_stands m Why.Start t, refl)) (is, inr (shifted_new a m v w refl (placing_shifted (GoBehind m n) v) new, called)) (keep_still n runs c) can tt c
 
   pub enter_runs_walks : is_sync_call (op_in a n) ≡ true → is_some (callee_of_op (op_in a n)) ≡ true → (e : Callee) (k : ExportKind) (words : List ℕ) → a.turn ≡ Turn.Run n → a.next ≡ Turn.Run (next_thread a.base) → MayMakeCall a (Caller.Thread n) e k Goal.Direct (thread_group n a.base) a.base → Trip a a.base (enter_runs n e k words a.base)
   unfolding enter_runs
@@ -282,7 +298,7 @@ module _ {a : Scene} (n : ℕ) (is : IsRunner a n) where
       let new = entered n e k words (thread_group n s) s in
       let h : Born m Goal.Direct u = new.1.0 in
       let c : Keep a s u = sync_sets_flag_walks n is m e.instance k (word (SetStarted m) (inr (refl, new.0)) (word (NameThread e.instance m) tt (word (MakeCall (Caller.Thread n) e k Goal.Direct (thread_group n s) words) ok NoWord))) in
-      lands_at (Enter n m) n (HowFar.Calls (Subtask.Guest m)) refl (is, (to, (refl, (h.place, (ap (λ (y : Goal). is_direct y) h.goal, (runs, (new.1.1.0, (keep_still n runs c, sync)))))))) (is, inr (shifted_new a m u _ refl (placing_shifted (Enter n m) u) (h.made, h.explicit), called_as n m u (after_placing (Enter n m) u) (shifted_calls (placing_shifted (Enter n m) u)) new.1.1.1)) (keep_still n runs c) can c
+      lands_at (Enter n m) n (HowFar.Calls (Subtask.Guest m)) refl (is, (to, (refl, (h.place, (ap (λ (y : Goal). is_direct y) h.goal, (runs, (new.1.1.0, (keep_still n runs c, sync)))))))) (is, inr (shifted_new a m u _ refl (placing_shifted (Enter n m) u) (h.made, h.explicit), called_as n m u (after_placing (Enter n m) u) (shifted_calls (placing_shifted (Enter n m) u)) new.1.1.1)) (keep_still n runs c) can tt c
 
 pub enter_gives : (n : ℕ) (e : Callee) (k : ExportKind) (words : List ℕ) (s : Core) → (next_thread s == n) ≡ false → option_map_or is_running (place_of (next_thread s) (enter_runs n e k words s)) true ≡ true
 unfolding enter_runs set_how_far set_place on_thread

@@ -1,5 +1,5 @@
 -- The rows of ops as chains of words: what a row owes, the ops on registers and words, and the ops that end a task or an activation.
-use Rattle.task_rules.proofs.Walks.{[], Advance, advanced, and_parts, answered, ap, ap₂, arith, assigned, AwaitsEvent, backpressure_of, begun_holder, blocking_exit_row, blocking_exits, blocking_returned, Bool, both_none, BySetHandle, Call, call_ends, CallEnd, Caller, cancel_was_delivered, cancelled_rest, cancelled_tells, change, checked, checked_shifts, Choice, chosen_released, code_exits, code_finds, code_kind_row, code_row, code_stops, code_wait_row, code_waits, code_yields, ComesAgain, Component, component_of, Core, data_row, DataLabel, DataOp, Delivery, direct_exit_to, direct_exits, end_for, end_reopens, EndCall, ended, ended_last, ended_walks, ends_activation, ends_untold, EndsActivation, EndsByExit, EndsCall, EndsOwn, EndTells, EndWords, exit_label, exit_restores, exit_row_for, exit_stops, Exits, exits_trip, ExportKind, Fails, false, find_passes, FindsEvent, foot_of, get, get-change, GivesUp, Goal, goal_of, Goes, GoesBack, Going, handed_by, HandsOut, has_ended, has_event_for, HasSet, held_by_flag, holder_at_exit, host_taken, HowFar, if◌then◌else◌, implicit_exit_row, inl, inr, instance_of, is_async_lifted, is_at, is_code_op, is_direct, is_ending_exit, is_exit, is_explicit, is_guest_call, is_holding, is_mute, is_none, is_over, is_running, is_under, IsPermutation, IsRunner, Keep, keep_position, keep_stay, kind_exit_row, kind_of, Label, lands, last_of, last_shifted, LastEnds, LastWords, Leaves, leaves_no_result, Left, left_gone, length, List, Main, Mark, may, may_tell, MayBar, MayEnd, MayOwe, min, Move, moved_to, mute_words, nat_le, nat_lt, nat_tests, Never, None, none_said, NoneHeldIn, not, NoWord, numbers, on_call, on_instance, on_thread, Op, op_at_place, op_in, op_of, Option, option_map, option_map_or, or_never, or_trap, Ordered, outcome_of_label, own_event_of, own_or_none, OwnEvent, passes_after_return, passes_after_stop, passes_check, Place, place_of, placing_shifted, position_of, Progress, Put, Records, refl, register_of, release_leaves, released_on, released_shifts, Remains, ret_label, returned, returned_holder, returned_last, returned_rest, returned_tells, ReturnsNow, said_is, saved_own_of, says_by, SaysEnd, Scene, script_of, set_at, set_backpressure, set_do_not_enter, set_do_not_suspend, set_end, set_how_far, set_place, SetBackpressure, SetDoNotEnter, SetDoNotSuspend, SetOwnEvent, SetRegister, SetSavedCallee, Setting, SetWord, Shifted, shifted, shifted_after, shifted_calls, shifted_task, shifts_shifted, skip_row, skipped, Some, Status, stay_walk, stopped, stopped_shifts, Stops, stored, subst, Subtask, SubtaskEnd, suc, sym, sync_exit_row, sync_exits, T, task_cancel_label, task_end, task_of, TaskLabel, TaskOp, TellsNever, Then, Thread, thread_exit_row, told_to, ToldTo, Trap, trap_if, Traps, Trip, trip_walk, true, Turn, Uncovers, under_of, unwrap_or, value_of, Walk, Why, word, Writes, writes_by, WritesCall, WritesToo, written_by, zero, ℕ, ◌%◌, ◌&&◌, ◌*◌, ◌+◌, ◌-◌, ◌/◌, ◌==◌, ◌||◌, ◌∙◌, ◌∷◌, ◌≡◌, ◌≤◌, ◌⊎◌}
+use Rattle.task_rules.proofs.Walks.{[], Advance, advanced, and_parts, answered, ap, ap₂, arith, assigned, AwaitsEvent, backpressure_of, begun_holder, blocking_exit_row, blocking_exits, blocking_returned, Bool, both_none, BySetHandle, Call, call_ends, CallEnd, Caller, cancel_was_delivered, cancelled_rest, cancelled_tells, change, checked, checked_shifts, Choice, chosen_released, code_exits, code_finds, code_kind_row, code_row, code_stops, code_wait_row, code_waits, code_yields, ComesAgain, Component, component_of, Core, data_row, DataLabel, DataOp, Delivery, direct_exit_to, direct_exits, end_for, end_reopens, EndCall, ended, ended_halts, ended_last, ended_walks, ends_activation, ends_untold, EndsActivation, EndsByExit, EndsCall, EndsOwn, EndTells, EndWords, exit_label, exit_restores, exit_row_for, exit_stops, Exits, exits_trip, ExportKind, Fails, false, find_passes, FindsEvent, foot_of, get, get-change, GivesUp, Goal, goal_of, Goes, GoesBack, Going, Gone, Halted, halted_from, halted_on, handed_by, HandsOut, has_ended, has_event_for, HasSet, held_by_flag, holder_at_exit, host_taken, HowFar, if◌then◌else◌, implicit_exit_row, inl, inr, instance_of, is_async_lifted, is_at, is_code_op, is_direct, is_ending_exit, is_exit, is_explicit, is_guest_call, is_holding, is_mute, is_none, is_over, is_running, is_under, IsPermutation, IsRunner, join, Keep, keep_position, keep_stay, kind_exit_row, kind_of, Label, lands, last_of, last_shifted, LastEnds, LastWords, Leaves, leaves_no_result, Left, left_gone, left_walk, length, List, Main, Mark, may, may_tell, MayBar, MayEnd, MayOwe, min, Move, moved_to, mute_words, nat_le, nat_lt, nat_tests, Never, None, none_said, NoneHeldIn, not, NoWord, numbers, on_call, on_instance, on_thread, Op, op_at_place, op_in, op_of, Option, option_map, option_map_or, or_never, or_trap, Ordered, outcome_of_label, own_event_of, own_or_none, OwnEvent, passes_after_return, passes_after_stop, passes_check, Place, place_of, placing_shifted, position_of, Progress, Put, Records, refl, register_of, release_leaves, released_on, released_shifts, Remains, ret_label, returned, returned_holder, returned_last, returned_rest, returned_tells, ReturnsNow, said_is, saved_own_of, says_by, SaysEnd, Scene, script_of, set_at, set_backpressure, set_do_not_enter, set_do_not_suspend, set_end, set_how_far, set_place, SetBackpressure, SetDoNotEnter, SetDoNotSuspend, SetOwnEvent, SetRegister, SetSavedCallee, Setting, SetWord, Shifted, shifted, shifted_after, shifted_calls, shifted_task, shifts_shifted, skip_row, skipped, Some, Status, stay_walk, Stop, stopped, stopped_on, Stops, stored, subst, Subtask, SubtaskEnd, suc, sym, sync_exit_row, sync_exits, T, task_cancel_label, task_end, task_of, TaskLabel, TaskOp, TellsNever, Then, Thread, thread_exit_row, told_to, ToldTo, Trap, trap_if, Traps, Trip, trip_walk, true, Turn, Uncovers, under_of, unwrap_or, value_of, Walk, Why, word, Writes, writes_by, WritesCall, WritesToo, written_by, zero, ℕ, ◌%◌, ◌&&◌, ◌*◌, ◌+◌, ◌-◌, ◌/◌, ◌==◌, ◌||◌, ◌∙◌, ◌∷◌, ◌≡◌, ◌≤◌, ◌⊎◌}
 use Rattle.task_rules.specs.Task.{dec_from, dec_lowers, dec_opens, held_by_counter, inc_raises, ret_done, ret_row, task_cancel_done, task_cancel_row, task_row}
 
 -- ---- The op in its script
@@ -130,22 +130,23 @@ module _ {a : Scene} {b : Core} (n : ℕ) (is : IsRunner a n) where
       let same = released_on i (λ r. record r { do_not_enter = false }) order t in
       subst (λ (u : Core). Keep a b u) (sym same) (word (SetDoNotEnter i false) (ok, subst (λ (u : Core). NoneHeldIn i u) same (release_leaves i (set_do_not_enter i false t) order perm)) (shifted (released_shifts order t) c))
 
-  exit_stops_walks : {t : Core} → LastEnds n t → Keep a b t → Left a b n (exit_stops n t)
-  unfolding exit_stops
-  exit_stops_walks {t = t} last c = ended_walks n (last_shifted n (shifted_after (shifts_shifted (checked_shifts (instance_of n t) t)) (shifts_shifted (stopped_shifts (foot_of n t) (checked (instance_of n t) t)))) last) (shifted (stopped_shifts (foot_of n t) (checked (instance_of n t) t)) (shifted (checked_shifts (instance_of n t) t) c))
-
   -- once the task has returned
-  sync_exits_walks : (w : Option ℕ) (t : Core) → ToldTo (task_of n t) w (exit_restores n t) → Keep a b (returned (task_of n t) (register_of n 0 t) w (exit_restores n t)) → Left a b n (sync_exits n w t)
+  sync_exits_walks : (w : Option ℕ) (t : Core) → ToldTo (task_of n t) w (exit_restores n t) → Leaves a n → Keep a b (returned (task_of n t) (register_of n 0 t) w (exit_restores n t)) → Left a b n (sync_exits n w t)
   unfolding sync_exits exit_restores set_do_not_suspend on_instance
-  sync_exits_walks w t to c =
+  sync_exits_walks w t to leave c =
       let r = returned (task_of n t) (register_of n 0 t) w (exit_restores n t) in
-      ended_walks n (last_shifted n (shifts_shifted (stopped_shifts (foot_of n t) r)) (returned_last n (task_of n t) (register_of n 0 t) w (exit_restores n t) to refl)) (shifted (stopped_shifts (foot_of n t) r) c)
+      ended_walks n (last_shifted n (placing_shifted (Stop (foot_of n t)) r) (returned_last n (task_of n t) (register_of n 0 t) w (exit_restores n t) to refl)) (stopped_on (foot_of n t) leave.1.0 c)
 
-  blocking_exits_walks : (w : Option ℕ) (order : List ℕ) (t : Core) → ToldTo (task_of n t) w (end_reopens (instance_of n t) order t) → Keep a b (blocking_returned n w order t) → Left a b n (blocking_exits n w order t)
+  exit_stops_walks : {t : Core} → LastEnds n t → Leaves a n → Keep a b t → Left a b n (exit_stops n t)
+  unfolding exit_stops
+  exit_stops_walks {t = t} last leave c =
+      ended_walks n (last_shifted n (shifted_after (shifts_shifted (checked_shifts (instance_of n t) t)) (placing_shifted (Stop (foot_of n t)) (checked (instance_of n t) t))) last) (stopped_on (foot_of n t) leave.1.0 (shifted (checked_shifts (instance_of n t) t) c))
+
+  blocking_exits_walks : (w : Option ℕ) (order : List ℕ) (t : Core) → ToldTo (task_of n t) w (end_reopens (instance_of n t) order t) → Leaves a n → Keep a b (blocking_returned n w order t) → Left a b n (blocking_exits n w order t)
   unfolding blocking_exits set_do_not_enter on_instance
-  blocking_exits_walks w order t to c =
+  blocking_exits_walks w order t to leave c =
       let r = end_reopens (instance_of n t) order t in
-      exit_stops_walks (returned_last n (task_of n t) (register_of n 0 t) w r to (shifted_task (reopened_shifted (instance_of n t) order t) n)) c
+      exit_stops_walks (returned_last n (task_of n t) (register_of n 0 t) w r to (shifted_task (reopened_shifted (instance_of n t) order t) n)) leave c
 
   -- the thread m goes on, under which n ran
   direct_exits_walks : (m v : ℕ) (t : Core) → is_direct (goal_of (task_of n t) t) ≡ true → a.turn ≡ Turn.Run n → a.next ≡ Turn.Run m → place_of m a.base ≡ Some (Place.Under n) → Keep a b (call_ends (task_of n t) CallEnd.Returned t) → Trip a b (direct_exits n m v t) × (get (direct_exits n m v t).threads n ≡ None)
@@ -156,9 +157,30 @@ module _ {a : Scene} {b : Core} (n : ℕ) (is : IsRunner a n) where
       let gone = left_gone n e in
       (subst (λ (y : Core). Trip a b (set_how_far m (HowFar.Answered v) y)) (placing_shifted (Move m Place.Running) (ended n u)).only (GoesBack e.before (ended n u) n m v (keep_stay e.stays) is runs to under e.settles (Uncovers n is to under (ap (λ (o : Option Thread). is_none o) gone) refl)), grind (arith, nat_tests, get-change, gone))
 
-  code_stops_walks : (order : List ℕ) {t : Core} → MayBar a (instance_of n t) false → IsPermutation (held_by_flag (instance_of n t) t) order → Keep a b t → Keep a b (code_stops n order t)
+-- The same with the strand stopped.
+module _ {a : Scene} {b : Core} (n : ℕ) (is : IsRunner a n) where
+  exit_stops_gone : {t : Core} → LastEnds n t → Leaves a n → Keep a b t → Gone a b n (exit_stops n t)
+  unfolding exit_stops
+  exit_stops_gone {t = t} last leave c =
+      let i = instance_of n t in
+      ended_halts n (last_shifted n (shifted_after (shifts_shifted (checked_shifts i t)) (placing_shifted (Stop (foot_of n t)) (checked i t))) last) (stopped_on (foot_of n t) leave.1.0 (shifted (checked_shifts i t) c)) (halted_from n c (shifted (checked_shifts i t) NoWord))
+
+  sync_exits_gone : (w : Option ℕ) (t : Core) → ToldTo (task_of n t) w (exit_restores n t) → Leaves a n → Keep a b t → Keep a t (returned (task_of n t) (register_of n 0 t) w (exit_restores n t)) → Gone a b n (sync_exits n w t)
+  unfolding sync_exits exit_restores set_do_not_suspend on_instance
+  sync_exits_gone w t to leave c d =
+      let r = returned (task_of n t) (register_of n 0 t) w (exit_restores n t) in
+      ended_halts n (last_shifted n (placing_shifted (Stop (foot_of n t)) r) (returned_last n (task_of n t) (register_of n 0 t) w (exit_restores n t) to refl)) (stopped_on (foot_of n t) leave.1.0 (join c d)) (halted_from n c d)
+
+  blocking_exits_gone : (w : Option ℕ) (order : List ℕ) (t : Core) → ToldTo (task_of n t) w (end_reopens (instance_of n t) order t) → Leaves a n → Keep a b (blocking_returned n w order t) → Gone a b n (blocking_exits n w order t)
+  unfolding blocking_exits set_do_not_enter on_instance
+  blocking_exits_gone w order t to leave c =
+      let r = end_reopens (instance_of n t) order t in
+      exit_stops_gone (returned_last n (task_of n t) (register_of n 0 t) w r to (shifted_task (reopened_shifted (instance_of n t) order t) n)) leave c
+
+  code_stops_walks : (order : List ℕ) {t : Core} → MayBar a (instance_of n t) false → IsPermutation (held_by_flag (instance_of n t) t) order → Leaves a n → Keep a b t → Keep a b (code_stops n order t) × Halted a b n (code_stops n order t)
   unfolding code_stops
-  code_stops_walks order {t = t} bar perm c = shifted (stopped_shifts (foot_of n t) (end_reopens (instance_of n t) order t)) (reopens_walks (instance_of n t) order bar perm c)
+  code_stops_walks order {t = t} bar perm leave c =
+      let d = reopens_walks {b = t} n is (instance_of n t) order bar perm NoWord in (stopped_on (foot_of n t) leave.1.0 (join c d), halted_from n c d)
 
 -- the thread that is under n
 pub under_place : (n m : ℕ) (s : Core) → under_of n s ≡ Some m → place_of m s ≡ Some (Place.Under n)
@@ -205,8 +227,8 @@ module _ (x : Setting) (main : Main) (s : Core) (n : ℕ) (l : Label) (next : Tu
   stops_so k t quiet says c is to = let r = c is (refl, (to, refl)) in (r.0, quiet_ends is quiet (λ m at. not_main m (sym to ∙ at)) r.1 (says is (refl, (to, refl))))
 
   -- n is gone
-  gone_here : (k : Label) (t : Core) → is_quiet s k ≡ true → (l ≡ k → Leaves a n → EndWords a t) → (l ≡ k → Left a s n t) → Leads a s (Stops k t)
-  gone_here k t quiet says c = stops_so k t quiet says (λ is leave. let e = c is in (exits_trip n leave e, λ exit. left_gone n e))
+  gone_here : (k : Label) (t : Core) → is_quiet s k ≡ true → (l ≡ k → Leaves a n → EndWords a t) → (l ≡ k → Leaves a n → Gone a s n t) → Leads a s (Stops k t)
+  gone_here k t quiet says c = stops_so k t quiet says (λ is leave. let e = c is leave in (exits_trip n leave e, λ exit. left_gone n e.0))
 
   -- n stops
   pub stops_here : (k : Label) (t : Core) → is_still a t k ≡ true → (Leaves a n → Trip a s t) → Leads a s (Stops k t)
@@ -258,7 +280,7 @@ module _ (x : Setting) (main : Main) (s : Core) (n : ℕ) (l : Label) (next : Tu
   thread_exit_row_leads none =
       trap_if_leads a s (not (passes_check (instance_of n s) s)) Trap.CannotBlockSyncTask _ (λ e.
       trap_if_leads a s (leaves_no_result n s) Trap.NoAsyncResult _ (λ f.
-      gone_here (exit_label n None) (exit_stops n s) refl (λ is leave. exit_is_none (exit_stops n s) none is) (λ is. exit_stops_walks n refl (last_of n s f) NoWord)))
+      gone_here (exit_label n None) (exit_stops n s) refl (λ is leave. exit_is_none (exit_stops n s) none is) (λ is leave. exit_stops_gone n refl (last_of n s f) leave NoWord)))
 
   exits : (w : Option ℕ) (t : Core) → l ≡ exit_label n w → is_explicit n s ≡ false → (is_direct (goal_of (task_of n s) s) ≡ true) ⊎ (is_async_lifted (kind_of (task_of n s) s) ≡ false) → t.calls ≡ s.calls → MayEnd a (task_of n s) CallEnd.Returned t
   exits w t is implicit kind same = Exits n refl refl (ap is_exit is ∙ (exit_is n w s).1.0) refl implicit kind (ap (λ (m : Records Call). get m (task_of n s)) same) refl
@@ -274,9 +296,9 @@ module _ (x : Setting) (main : Main) (s : Core) (n : ℕ) (l : Label) (next : Tu
       gone_here (exit_label n w) (sync_exits n w s) (exit_is n w s).0
       (λ at leave.
       let says = exit_says s w at implicit (inr kind) in
-      exit_says_end w (sync_exits n w s) at implicit kind direct (call_ends k CallEnd.Returned t) (over_now k CallEnd.Returned t) (trip_walk (exits_trip n leave (sync_exits_walks n refl w s told (returned_rest k (register_of n 0 s) w t says told NoWord))))
-      (returned_tells k (register_of n 0 s) w t says told refl refl (over at) (trip_walk (exits_trip n leave (sync_exits_walks n refl w s told NoWord)))))
-      (λ at. sync_exits_walks n refl w s told (returned_rest k (register_of n 0 s) w t (exit_says s w at implicit (inr kind)) told (over at))))
+      exit_says_end w (sync_exits n w s) at implicit kind direct (call_ends k CallEnd.Returned t) (over_now k CallEnd.Returned t) (left_walk n leave (sync_exits_walks n refl w s told leave (returned_rest k (register_of n 0 s) w t says told NoWord)))
+      (returned_tells k (register_of n 0 s) w t says told refl refl (over at) (left_walk n leave (sync_exits_walks n refl w s told leave NoWord))))
+      (λ at leave. sync_exits_gone n refl w s told leave NoWord (returned_rest k (register_of n 0 s) w t (exit_says s w at implicit (inr kind)) told (over at))))
 
   -- where a holding entry returns
   bars : (w : Option ℕ) → l ≡ exit_label n w → is_explicit n s ≡ false → is_holding (kind_of (task_of n s) s) ≡ true → is_direct (goal_of (task_of n s) s) ≡ false → MayBar a (instance_of n s) false
@@ -297,9 +319,9 @@ module _ (x : Setting) (main : Main) (s : Core) (n : ℕ) (l : Label) (next : Tu
       gone_here (exit_label n w) (blocking_exits n w order s) (exit_is n w s).0
       (λ at leave.
       let says = exit_says s w at implicit (inr lifted) in
-      exit_says_end w (blocking_exits n w order s) at implicit lifted direct (call_ends k CallEnd.Returned t) (over_now k CallEnd.Returned t) (trip_walk (exits_trip n leave (blocking_exits_walks n refl w order s told (returned_rest k (register_of n 0 s) w t says told NoWord))))
-      (returned_tells k (register_of n 0 s) w t says told refl (ap (λ (m : Records Call). is_guest_call (option_map_or (λ (c : Call). c.caller) (get m k) Caller.Main) && not (is_direct (option_map_or (λ (c : Call). c.goal) (get m k) Goal.Nowhere))) same) (over at) (trip_walk (exits_trip n leave (blocking_exits_walks n refl w order s told NoWord)))))
-      (λ at. blocking_exits_walks n refl w order s told (returned_rest k (register_of n 0 s) w t (exit_says s w at implicit (inr lifted)) told (over at)))))
+      exit_says_end w (blocking_exits n w order s) at implicit lifted direct (call_ends k CallEnd.Returned t) (over_now k CallEnd.Returned t) (left_walk n leave (blocking_exits_walks n refl w order s told leave (returned_rest k (register_of n 0 s) w t says told NoWord)))
+      (returned_tells k (register_of n 0 s) w t says told refl (ap (λ (m : Records Call). is_guest_call (option_map_or (λ (c : Call). c.caller) (get m k) Caller.Main) && not (is_direct (option_map_or (λ (c : Call). c.goal) (get m k) Goal.Nowhere))) same) (over at) (left_walk n leave (blocking_exits_walks n refl w order s told leave NoWord))))
+      (λ at leave. blocking_exits_gone n refl w order s told leave (returned_rest k (register_of n 0 s) w t (exit_says s w at implicit (inr lifted)) told (over at)))))
 
   direct_leads : (m : ℕ) (t : Core) → under_of n s ≡ Some m → is_explicit n s ≡ false → is_direct (goal_of (task_of n s) s) ≡ true → task_of n t ≡ task_of n s → t.calls ≡ s.calls → Keep a s t → Leads a s (Goes (exit_label n None) (direct_exits n m (register_of n 0 s) t) m)
   direct_leads m t under implicit direct task calls c =
@@ -333,8 +355,8 @@ module _ (x : Setting) (main : Main) (s : Core) (n : ℕ) (l : Label) (next : Tu
 
   code_wait_row_leads : (k : Label) (y : ℕ) (b : Bool) → ((t : Core) → is_still a t k ≡ true) → (l ≡ k → MayBar a (instance_of n s) false) → EndsActivation a n → HasSet a n y → Leads a s (code_wait_row k n y (held_by_flag (instance_of n s) s) s b)
   unfolding code_finds code_waits
-  code_wait_row_leads k y true plain bar ends has = λ order perm is to. stops_here k (code_finds n y order s) (plain _) (λ leave. lands (Put Mark.High n (Why.Delivery (Delivery.Set y))) refl (FindsEvent y leave ends has refl) (code_stops_walks n refl order (bar is) perm NoWord)) is to
-  code_wait_row_leads k y false plain bar ends has = λ order perm is to. stops_here k (code_waits n y order s) (plain _) (λ leave. lands (Move n (Place.Waiting y true)) refl (AwaitsEvent y leave ends has refl) (code_stops_walks n refl order (bar is) perm NoWord)) is to
+  code_wait_row_leads k y true plain bar ends has = λ order perm is to. stops_here k (code_finds n y order s) (plain _) (λ leave. lands (Put Mark.High n (Why.Delivery (Delivery.Set y))) refl (FindsEvent y leave ends has refl) tt (code_stops_walks n refl order (bar is) perm leave NoWord).0) is to
+  code_wait_row_leads k y false plain bar ends has = λ order perm is to. stops_here k (code_waits n y order s) (plain _) (λ leave. let c = code_stops_walks n refl order (bar is) perm leave NoWord in lands (Move n (Place.Waiting y true)) refl (AwaitsEvent y leave ends has refl) c.1 c.0) is to
 
   code_exits_leads : (k : Label) → is_quiet s k ≡ true → ((t : Core) → l ≡ k → EndWords a t) → (l ≡ k → MayBar a (instance_of n s) false) → (rest : ℕ) → Leads a s (code_kind_row k n (held_by_flag (instance_of n s) s) s zero rest)
   unfolding code_exits code_stops set_do_not_enter on_instance
@@ -342,13 +364,15 @@ module _ (x : Setting) (main : Main) (s : Core) (n : ℕ) (l : Label) (next : Tu
       trap_if_leads a s (not (passes_after_stop (instance_of n s) (foot_of n s) (held_by_flag (instance_of n s) s) s)) Trap.CannotBlockSyncTask _ (λ e.
       trap_if_leads a s (leaves_no_result n s) Trap.NoAsyncResult _ (λ f order perm.
       let h = checked_shifts (instance_of n s) (code_stops n order s) in
-      gone_here k (code_exits n order s) quiet (λ is leave. says (code_exits n order s) is) (λ is. ended_walks n (last_shifted n (shifted_after (reopened_shifted (instance_of n s) order s) (shifted_after (shifts_shifted (stopped_shifts (foot_of n s) (end_reopens (instance_of n s) order s))) (shifts_shifted h))) (last_of n s f)) (shifted h (code_stops_walks n refl order (bar is) perm NoWord)))))
+      gone_here k (code_exits n order s) quiet (λ is leave. says (code_exits n order s) is) (λ is leave.
+      let c = code_stops_walks n refl order (bar is) perm leave NoWord in
+      ended_halts n (last_shifted n (shifted_after (reopened_shifted (instance_of n s) order s) (shifted_after (placing_shifted (Stop (foot_of n s)) (end_reopens (instance_of n s) order s)) (shifts_shifted h))) (last_of n s f)) (shifted h c.0) (halted_on c.1 (shifted h NoWord)))))
 
   code_kind_row_leads : (k : Label) (low rest : ℕ) → ((t : Core) → is_still a t k ≡ true) → (l ≡ k → MayBar a (instance_of n s) false) → EndsActivation a n → Leads a s (code_kind_row k n (held_by_flag (instance_of n s) s) s low rest)
   unfolding code_yields
   code_kind_row_leads k zero rest plain bar ends =
       code_exits_leads k (and_parts (is_quiet s k) (not (is_exit k)) (and_parts (is_plain s k) (is_mute a s k) (plain s)).0).0 (λ t is. mute_words a t is (and_parts (is_plain s k) (is_mute a t k) (plain t)).1) bar rest
-  code_kind_row_leads k (suc zero) rest plain bar ends = λ order perm is to. stops_here k (code_yields n order s) (plain _) (λ leave. lands (Put Mark.Low n (Why.Delivery Delivery.Yield)) refl (ComesAgain leave ends refl) (word (SetOwnEvent (task_of n s) (own_or_none (own_event_of (task_of n s) s))) (owes (own_event_of (task_of n s) s) refl ends (code_stops n order s)) (code_stops_walks n refl order (bar is) perm NoWord))) is to
+  code_kind_row_leads k (suc zero) rest plain bar ends = λ order perm is to. stops_here k (code_yields n order s) (plain _) (λ leave. lands (Put Mark.Low n (Why.Delivery Delivery.Yield)) refl (ComesAgain leave ends refl) tt (word (SetOwnEvent (task_of n s) (own_or_none (own_event_of (task_of n s) s))) (owes (own_event_of (task_of n s) s) refl ends (code_stops n order s)) (code_stops_walks n refl order (bar is) perm leave NoWord).0)) is to
   code_kind_row_leads k (suc (suc zero)) rest plain bar ends = or_trap_leads a s (set_at (instance_of n s) rest s) Trap.BadHandle _ (λ y named. code_wait_row_leads k y (has_event_for (task_of n s) y s) plain bar ends (BySetHandle rest named))
   code_kind_row_leads k (suc (suc (suc low))) rest plain bar ends = tt
 

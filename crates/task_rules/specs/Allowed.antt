@@ -173,13 +173,20 @@ HasEntry n s = (has_entry n s.queues.high || has_entry n s.queues.low) ≡ true
 
 -- What a step does to other threads than the one that runs.
 abbrev pub MayShift : Placing → Core → Type 0
-MayShift (Put m n w) s = MayPut n w s
+MayShift (Put mark.High n w) s = MayPut n w s
+MayShift (Put mark.Low n w) s = MayPut n w s
 MayShift (Promote n) s = (s.queues.switch ≡ None) × HasEntry n s
-MayShift (Stop f) s = Unit {0}
 MayShift _ s = ⊥
 
--- beside a running thread the entry of another one may be promoted where its place alone says that there is one
+-- no thread has come behind another one in this step
+abbrev pub NoneCame : Scene → Core → Type 0
+NoneCame a s = (n f : ℕ) → place_of n s ≡ Some (place.Behind f) → place_of n a.base ≡ Some (place.Behind f)
+
+-- A strand stops only where no thread runs next. Beside a running thread another one is put at switch, before that; and the entry of
+-- another one may be promoted where its place alone says that there is one.
 abbrev pub MayHasten : Scene → Placing → Core → Type 0
+MayHasten a (Stop f) s = a.next ≡ turn.Main
+MayHasten a (Put mark.Switch n w) s = MayPut n w s × (((m : ℕ) × (a.turn ≡ turn.Run m)) × NoneCame a s)
 MayHasten a (Promote k) s = (s.queues.switch ≡ None) ×
     ((n : ℕ) × ((a.turn ≡ turn.Run n) × ((m : Mark) × ((w : Why) × (place_of k s ≡ Some (place.Ready m w))))))
 MayHasten a _ s = ⊥
@@ -215,9 +222,9 @@ pub data MayMove (a : Scene) (n : ℕ) (p : Place) (s : Core) : Type 0 where
   Uncovers : (m : ℕ) → IsRunner a m → a.next ≡ turn.Run n → place_of n a.base ≡ Some (place.Under m) → is_none (get s.threads m) ≡ true →
       p ≡ place.Running → MayMove a n p s
 
--- whom a thread goes behind: one that is there, or the foot of the strand at switch
-abbrev pub IsFoot : ℕ → Core → Type 0
-IsFoot f s = (is_some (place_of f s) ≡ true) ⊎ ((m : ℕ) × ((s.queues.switch ≡ Some m) × (f ≡ foot_of m s)))
+-- whom a thread goes behind: a new thread at switch, or the foot of the strand there
+abbrev pub IsFoot : Scene → ℕ → Core → Type 0
+IsFoot a f s = ((s.queues.switch ≡ Some f) × (f ≡ next_thread a.base)) ⊎ ((m : ℕ) × ((s.queues.switch ≡ Some m) × (f ≡ foot_of m s)))
 
 -- the thread runs, and where it is still there it is at its op
 abbrev pub AtOp : Scene → ℕ → Core → Type 0
@@ -229,7 +236,7 @@ abbrev pub MayLand : Scene → Placing → Core → Type 0
 MayLand a (Put mark.Switch n w) s = ⊥
 MayLand a (Put mark.High n w) s = MayYield a n w
 MayLand a (Put mark.Low n w) s = MayYield a n w
-MayLand a (GoBehind f n) s = Leaves a n × IsFoot f s
+MayLand a (GoBehind f n) s = Leaves a n × IsFoot a f s
 MayLand a (Move n p) s = MayMove a n p s
 -- by a direct call that was just made, and has begun; the thread is at the sync call that makes it
 MayLand a (Enter n m) s = IsRunner a n ×
@@ -241,6 +248,8 @@ abbrev pub MayLeave : Scene → Placing → Core → Type 0
 -- the entry of the thread that is taken
 MayLeave a (Pop m) s = (n : ℕ) × (IsRunner a n × (next_entry s ≡ Some (m, entry.Thread n)))
 MayLeave a (Promote k) s = MayHasten a (Promote k) s
+MayLeave a (Stop f) s = MayHasten a (Stop f) s
+MayLeave a (Put mark.Switch n w) s = MayHasten a (Put mark.Switch n w) s
 MayLeave a p s = MayLand a p s
 
 -- ---- Threads
@@ -507,7 +516,7 @@ Allowed a (Restart n) s = MayRestart a n
 Allowed a (SetHowFar n h) s = MayCome a n h s × CanCome a n h s
 Allowed a (MakeThread t) s = MayMake a t s
 Allowed a (RemoveThread n) s = MayGo a n s
-Allowed a (Withdraw k) s = MayWithdraw a k s × SaysEnd a k status.StartCancelled
+Allowed a (Withdraw k) s = MayWithdraw a k s × (SaysEnd a k status.StartCancelled × NoneCame a s)
 Allowed a (MakeCall f e x g group words) s = MayMakeCall a f e x g group s
 Allowed a (SetStarted k) s = MayStart a k s
 Allowed a (EndCall k e) s = MayEnd a k e s × SaysEnd a k (status_of_end e)

@@ -10,7 +10,7 @@ use Rattle.std.specs.Prelude.{Bool, None, Option, Some, false, is_some, true, �
 use Rattle.task_machine.specs.Core.{Core, Main, Scripted, State, Unscripted, MainPlace}
 use Rattle.task_machine.specs.Maps.{get}
 use Rattle.task_machine.specs.Moves.{ended}
-use Rattle.task_machine.specs.Read.{event_of, goal_of, has_ended, is_async_lifted, is_direct, is_explicit, kind_of, may_not_enter, place_of, task_of, undelivered_end, course_of, how_far_of}
+use Rattle.task_machine.specs.Read.{event_of, foot_of, goal_of, has_ended, is_async_lifted, is_direct, is_explicit, kind_of, may_not_enter, place_of, task_of, undelivered_end, course_of, how_far_of}
 use Rattle.task_machine.specs.declared.label.Label.{Label}
 use Rattle.task_machine.specs.declared.outcome.Outcome.{Outcome}
 use Rattle.task_machine.specs.declared.records.Place.{Place}
@@ -26,7 +26,7 @@ use Rattle.task_rules.specs.Scenes.{Scene, component_of, scene_of}
 use Rattle.task_rules.specs.Stalled.{Setting}
 use Rattle.task_rules.specs.Step.{Step}
 use Rattle.task_rules.specs.Turns.{settled_turn}
-use Rattle.task_rules.specs.Words.{GoBehind, Move, Places, Placing, RemoveThread, SetHowFar, Word, after_word}
+use Rattle.task_rules.specs.Words.{GoBehind, Move, Places, Placing, RemoveThread, SetHowFar, Stop, Word, after_word}
 use Rattle.task_machine.specs.declared.words.Status.TheVariants as status
 use Rattle.task_machine.specs.declared.records.Subtask.TheVariants as subtask
 use Rattle.task_machine.specs.declared.records.HowFar.TheVariants as how_far
@@ -64,16 +64,35 @@ lands_alone (Move n p) = is_inside p how_far.Fresh
 lands_alone (GoBehind f n) = false
 lands_alone _ = true
 
+-- The strand of the thread has stopped.
+pub record Halted (a : Scene) (b : Core) (n : ℕ) (s : Core) : Type 0 where
+  -- where its foot is seen
+  pub at : Core
+  pub first : Stay a b at
+  pub before : Core
+  pub stays : Stay a at before
+  pub rest : Stay a (after_word (Places (Stop (foot_of n at))) before) s
+
+-- the thread that comes to a place at which it doesn't go on
+abbrev pub leaving : Placing → Option ℕ
+leaving (Move n place.Running) = None
+leaving (Move n p) = Some n
+leaving _ = None
+
+abbrev pub Halts : Scene → Core → Option ℕ → Core → Type 0
+Halts a b None s = Unit {0}
+Halts a b (Some n) s = Halted a b n s
+
 -- The running thread, or the one that was taken, stays and then comes to one place, or is gone.
 pub data Trip (a : Scene) (b : Core) : Core → Type 0 where
   Remains : (t : Core) → Stay a b t → ((m : ℕ) → a.next ≡ turn.Run m → a.turn ≡ turn.Run m) →
       ((m : ℕ) → IsRunner a m → a.next ≡ turn.Run m) → Trip a b t
-  Lands : (s : Core) → (p : Placing) → Stay a b s → MayLand a p s → lands_alone p ≡ true →
+  Lands : (s : Core) → (p : Placing) → Stay a b s → MayLand a p s → lands_alone p ≡ true → Halts a b (leaving p) s →
       Trip a b (after_word (Places p) s)
   -- and its op has come that far
   LandsAt : (s : Core) → (p : Placing) → (n : ℕ) → (h : HowFar) → Stay a b s → MayLand a p s → lands_inside p h ≡ true →
-      Allowed a (SetHowFar n h) (after_word (Places p) s) → Trip a b (after_word (SetHowFar n h) (after_word (Places p) s))
-  Quits : (s t : Core) → (n : ℕ) → Stay a b s → Leaves a n → Settles (after_word (RemoveThread n) s) t → Trip a b t
+      Allowed a (SetHowFar n h) (after_word (Places p) s) → Halts a b (leaving p) s → Trip a b (after_word (SetHowFar n h) (after_word (Places p) s))
+  Quits : (s t : Core) → (n : ℕ) → Stay a b s → Leaves a n → Settles (after_word (RemoveThread n) s) t → Halted a b n s → Trip a b t
   -- a direct callee exits, and the thread under it goes on
   GoesBack : (s t : Core) → (n m v : ℕ) → Stay a b s → IsRunner a n → a.turn ≡ turn.Run n → a.next ≡ turn.Run m →
       place_of m a.base ≡ Some (place.Under n) → Settles (after_word (RemoveThread n) s) t → MayMove a m place.Running t →

@@ -25,10 +25,11 @@ use Rattle.task_machine.specs.declared.records.Turn.{Turn}
 use Rattle.task_machine.specs.declared.records.Turn.TheVariants as turn
 use Rattle.task_machine.specs.declared.scenario.IdleLine.TheVariants as idle_line
 use Rattle.task_places.proofs.OrderLemmas.{step_in_order, step_kept}
-use Rattle.task_rules.proofs.WalkSteps.{step_walks}
+use Rattle.task_places.proofs.CallersSteps.{SamePlaces, callers_stay, feet_stay, free_stays}
+use Rattle.task_places.proofs.CallersTrips.{is_held_on}
+use Rattle.task_rules.specs.Places.{Placed, is_there}
 use Rattle.task_rules.specs.Calls.{call_made}
 use Rattle.task_rules.specs.MainOps.{Does, Finish, MainAct, MainProgress, Start, finish_result, main_row, main_started, may_act, start_act}
-use Rattle.task_rules.specs.Places.{is_there}
 use Rattle.task_rules.specs.Stalled.{Setting}
 use Rattle.task_rules.specs.Step.{OpenProgresses, Step}
 use Rattle.task_rules.specs.Turns.{at_turn}
@@ -134,18 +135,34 @@ started_there c e words s h k now = grind (arith, nat_tests, get-insert, get-cha
 given_apart : (n k : ℕ) → n ≤ k → (n == k + 1) ≡ false
 given_apart n k h = grind (arith, nat_tests)
 
+held_unmarked : (p : Place) → is_held_on p ≡ true → is_unmarked p ≡ true
+held_unmarked p h = grind arith
+
+started_same : (c : Component) (e : Callee) (words : List ℕ) (s : Core) → Placed s → SamePlaces s (main_started c e words s)
+started_same c e words s placed = record {
+  kept = λ n there. started_place c e words s n (given_apart n s.made.threads ((placed n).number there));
+  back = λ n p held at. started_at c e words s n p (held_unmarked p held) at;
+  none = λ m none low. started_place c e words s m (given_apart m s.made.threads low) ∙ none;
+}
+
 pub start_in_order : StartInOrder
 start_in_order c p e words s takes free sits =
     acted c p (Start e words) (main_label.Start 1 (s.made.threads + 1)) s (main_started c e words s) takes (ap (start_act c 1 e words s) free)
     (λ n at. started_place c e words s n (given_apart n s.made.threads (((sits.order Unscripted).in_place.placed n).number (there n at))) ∙ at)
-    (λ o. record { alone = λ n is. o.alone n (started_at c e words s n place.Running refl is); starts_there = started_there c e words s o.starts_there; blocked = started_blocked c e words s o.blocked }) sits
+    (λ o. record { alone = λ n is. o.alone n (started_at c e words s n place.Running refl is); starts_there = started_there c e words s o.starts_there; blocked = started_blocked c e words s o.blocked; callers = callers_stay same o.callers; feet = feet_stay same o.feet; free = free_stays same (sits.order Unscripted).strands.made o.free }) sits
   where
     there : (n : ℕ) → place_of n s ≡ Some place.Running → is_there n s ≡ true
     there n at = ap is_some at
 
+    same : SamePlaces s (main_started c e words s)
+    same = started_same c e words s (sits.order Unscripted).in_place.placed
+
 trapped_place : (s : Core) (n : ℕ) → place_of n (set_trapped s) ≡ place_of n s
 unfolding set_trapped
 trapped_place s n = refl
+
+trapped_same : (s : Core) → SamePlaces s (set_trapped s)
+trapped_same s = record { kept = λ n there. trapped_place s n; back = λ n p held at. sym (trapped_place s n) ∙ at; none = λ m none low. trapped_place s m ∙ none }
 
 trapped_event : (s : Core) (sub : Subtask) → undelivered_end (event_of sub s) ≡ None → undelivered_end (event_of sub (set_trapped s)) ≡ None
 unfolding set_trapped
@@ -158,7 +175,7 @@ trapped_there s h = h
 
 pub refusal_in_order : RefusalInOrder
 refusal_in_order c p e words why s takes refused sits =
-    acted c p (Start e words) (main_label.StartRefused why 1) s (set_trapped s) takes (ap (start_act c 1 e words s) refused) (λ n at. trapped_place s n ∙ at) (λ o. record { alone = λ n is. o.alone n (sym (trapped_place s n) ∙ is); starts_there = trapped_there s o.starts_there; blocked = λ n sub at. trapped_event s sub (o.blocked n sub (sym (trapped_place s n) ∙ at)) }) sits
+    acted c p (Start e words) (main_label.StartRefused why 1) s (set_trapped s) takes (ap (start_act c 1 e words s) refused) (λ n at. trapped_place s n ∙ at) (λ o. record { alone = λ n is. o.alone n (sym (trapped_place s n) ∙ is); starts_there = trapped_there s o.starts_there; blocked = λ n sub at. trapped_event s sub (o.blocked n sub (sym (trapped_place s n) ∙ at)); callers = callers_stay (trapped_same s) o.callers; feet = feet_stay (trapped_same s) o.feet; free = free_stays (trapped_same s) (sits.order Unscripted).strands.made o.free }) sits
 
 taken_place : (k : ℕ) (s : Core) (n : ℕ) → place_of n (take_result k s) ≡ place_of n s
 unfolding take_result
@@ -168,10 +185,13 @@ taken_there : (k : ℕ) (s : Core) → StartsThere s → StartsThere (take_resul
 unfolding take_result
 taken_there k s h = h
 
+taken_same : (k : ℕ) (s : Core) → SamePlaces s (take_result k s)
+taken_same k s = record { kept = λ n there. taken_place k s n; back = λ n p held at. sym (taken_place k s n) ∙ at; none = λ m none low. taken_place k s m ∙ none }
+
 taken_event : (k : ℕ) (s : Core) (sub : Subtask) → undelivered_end (event_of sub s) ≡ None → undelivered_end (event_of sub (take_result k s)) ≡ None
 unfolding take_result
 taken_event k s (subtask.Guest j) none = none
 taken_event k s (subtask.Host i) none = none
 
 pub finish_in_order : FinishInOrder
-finish_in_order c p k v s found sits = acted c p (Finish (Began k)) (main_label.Finish 1 v) s (take_result k s) refl (ap (finish_result 1 k s) found) (λ n at. taken_place k s n ∙ at) (λ o. record { alone = λ n is. o.alone n (sym (taken_place k s n) ∙ is); starts_there = taken_there k s o.starts_there; blocked = λ n sub at. taken_event k s sub (o.blocked n sub (sym (taken_place k s n) ∙ at)) }) sits
+finish_in_order c p k v s found sits = acted c p (Finish (Began k)) (main_label.Finish 1 v) s (take_result k s) refl (ap (finish_result 1 k s) found) (λ n at. taken_place k s n ∙ at) (λ o. record { alone = λ n is. o.alone n (sym (taken_place k s n) ∙ is); starts_there = taken_there k s o.starts_there; blocked = λ n sub at. taken_event k s sub (o.blocked n sub (sym (taken_place k s n) ∙ at)); callers = callers_stay (taken_same k s) o.callers; feet = feet_stay (taken_same k s) o.feet; free = free_stays (taken_same k s) (sits.order Unscripted).strands.made o.free }) sits
