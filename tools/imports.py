@@ -1,17 +1,16 @@
 #!/usr/bin/env python3
-"""Brings the names that the proofs of task_rules, task_laws and task_places cite into few places.
+"""Brings the names that proofs cite into one place for each group of crates.
 
     tools/imports.py
 
-Some files of proofs pass names on. task_rules' Machine passes on each name of std, of task_machine's specs and of task_rules' specs
-that a proof file of these crates brings in, and each lemma of task_machine's proofs; its Walks those and the lemmas of moves to the
-walks over the rows. task_laws' Rules passes all of the rules on to the laws, with the definitions of task_laws, and its Words what
-is known of each word; task_places' Laws passes that and the laws on to the laws of places. Every proof file gets one `use` line
-for what such a file passes on to it. In a proof file new names are written as `use` lines of the
-modules that declare them; then this is run, and `rt fmt`. Names that a file no longer cites go. A variant is written behind its
-type: where a file has `use ..Place.TheVariants as place`, each `place.Running` becomes `Place.Running`, and the line goes. What a
-file else renames by `as`, a module of task_machine or of task_rules' specs that one file alone cites, and a name that two modules
-have, stay as they are.
+For task_rules, task_laws and task_places that is crates/task_rules/proofs/Machine.antt, for the crates of the core
+crates/task_records/proofs/Core.antt. The place passes on each name of the crates below (of std, of task_machine, for the core also of
+the tables, links, indexes and handles) and of the specs of the first crate that a proof file of these crates brings in; every such file
+gets one `use` line for them.
+In a proof file new names are written as `use` lines of the modules that declare them; then this is run, and `rt fmt`. Names that
+a file no longer cites go. A variant is written behind its type: where a file has `use ..Place.TheVariants as place`, each
+`place.Running` becomes `Place.Running`, and the line goes. What a file else renames by `as`, and a module that one file alone
+cites, stay as they are.
 """
 import pathlib
 import re
@@ -21,49 +20,38 @@ USE = re.compile(r'^use (Rattle\.[\w.]+)\.\{(.*)\}$')
 ANY_USE = re.compile(r'^(unfoldable )?(pub )?use ')
 PASSED_ON = re.compile(r'^(unfoldable )?pub use (Rattle\.[\w.]+)\.\{(.*)\}$')
 UNFOLDABLE = re.compile(r'(?m)^\s*unfoldable pub (?:\{[^}]*\} )?(?!use )([^\s:]+)')
-SHARED = re.compile(r'Rattle\.(task_machine\.specs|task_machine\.proofs|task_rules\.specs|std\.specs|std\.proofs)\.')
 VARIANTS = re.compile(r'(?m)^use (Rattle\.[\w.]+\.(\w+))\.TheVariants as (\w+)$')
-MACHINE = 'Rattle.task_rules.proofs.Machine'
-WALKS = 'Rattle.task_rules.proofs.Walks'
-RULES = 'Rattle.task_laws.proofs.Rules'
-WORDS = 'Rattle.task_laws.proofs.Words'
-LAWS = 'Rattle.task_places.proofs.Laws'
-DECLARED = 'Rattle.task_machine.specs.declared'  # its types, each in a module of its own, are passed on by one line
+DECLARED = re.compile(r'^(Rattle\.\w+\.specs\.declared)\.')  # a crate's types, each in a module of its own, are passed on by one line
 PRELUDE, COMMON = 'Rattle.std.specs.Prelude', 'Rattle.std.proofs.Common'  # the second passes on names of the first
-PLACES = {
-    MACHINE: '-- The words of std, of the machine and of its rules that the proofs cite, in one place.',
-    WALKS: '-- What the walks over the rows cite, in one place.',
-    RULES: '-- What the laws cite of the rules, of their lemmas and of what the laws say, in one place.',
-    WORDS: '-- What is known of each word, and what else the laws cite, in one place.',
-    LAWS: '-- What the laws of places cite, in one place.',
-}
-MOVES = 'CallThreads ChainLemmas FreeLemmas MoveLemmas MuteLemmas PlacingLemmas PromotionLemmas ReleaseLemmas SayLemmas StandLemmas StopLemmas WalkEnds WalkMoves'
-KNOWN = 'Basics CallsCame CallsLaw CallsSteps CameLemmas CountLemmas EachLemmas HandleTables HousedLemmas PolledWorks ReachLemmas SceneLemmas SetHandles WorksCame'
-ROWS = 'WalkTask WalkParts WalkTakes WalkOps WalkSteps'
 
 
-def modules_of(crate, stems):
-    return {f'Rattle.{crate}.proofs.{stem}' for stem in stems.split()}
+class Place:
+    """Where the names stand, for which crates, and of which modules they are."""
+
+    def __init__(self, module, crates, below, title):
+        self.module = 'Rattle.' + module
+        self.file = CRATES / (module.replace('.', '/') + '.antt')
+        self.crates = crates
+        self.shared = re.compile(rf'Rattle\.({"|".join(map(re.escape, below))})\.')
+        self.title = title
 
 
-# of each of the other places: the one below it, which modules it passes on beside, and for which modules of proofs
-ABOVE = {
-    WALKS: (MACHINE, lambda module: module in modules_of('task_rules', MOVES), lambda module: module in modules_of('task_rules', ROWS)),
-    RULES: (MACHINE, re.compile(r'Rattle\.(task_rules\.proofs|task_laws\.specs)\.').match, re.compile(r'Rattle\.(task_laws|task_places)\.').match),
-    WORDS: (
-        RULES, lambda module: module in modules_of('task_laws', KNOWN),
-        lambda module: module.startswith('Rattle.task_laws.') and module not in modules_of('task_laws', KNOWN),
+PLACES = [
+    Place(
+        'task_rules.proofs.Machine',
+        ['task_rules', 'task_laws', 'task_places'],
+        ['task_machine.specs', 'task_machine.proofs', 'task_rules.specs', 'std.specs', 'std.proofs'],
+        '-- The words of std, of the machine and of its rules that the proofs cite, in one place.',
     ),
-    LAWS: (RULES, re.compile(r'Rattle\.task_laws\.proofs\.').match, re.compile(r'Rattle\.task_places\.').match),
-}
-
-
-def file_of(module):
-    return CRATES / (module.removeprefix('Rattle.').replace('.', '/') + '.antt')
-
-
-def module_of(file):
-    return 'Rattle.' + '.'.join(file.relative_to(CRATES).with_suffix('').parts)
+    Place(
+        'task_records.proofs.Core',
+        ['task_records', 'record_words', 'queue_words', 'count_words', 'place_words', 'handle_words', 'node_words', 'walk_words',
+         'removal_words', 'make_words', 'strand_words', 'work_makes', 'record_core'],
+        [f'{crate}.{kind}' for crate in ('std', 'task_machine', 'task_rules', 'task_table', 'task_links', 'task_wait', 'task_index',
+                                         'task_handles', 'task_words') for kind in ('specs', 'proofs')] + ['task_records.specs'],
+        '-- The words of std, of the machine, of the crates below and of the records that the proofs of the core cite, in one place.',
+    ),
+]
 
 
 def names_of(group):
@@ -75,7 +63,7 @@ def by_name(name):
 
 
 def is_declared(module):
-    return module.startswith(DECLARED + '.')
+    return DECLARED.match(module) is not None
 
 
 def is_cited(name, body):
@@ -85,28 +73,24 @@ def is_cited(name, body):
 def unfoldable_names():
     """Pairs of a module and a name whose definition may be unfolded."""
     found = set()
-    for crate in ('task_machine', 'task_rules', 'task_laws'):
-        for file in (CRATES / crate / 'specs').rglob('*.antt'):
-            found |= {(module_of(file), name) for name in UNFOLDABLE.findall(file.read_text())}
+    for file in CRATES.glob('*/specs/**/*.antt'):
+        if 'out' not in file.parts:
+            module = 'Rattle.' + '.'.join(file.relative_to(CRATES).with_suffix('').parts)
+            found |= {(module, name) for name in UNFOLDABLE.findall(file.read_text())}
     return found
 
 
-def passed_on():
-    """The module of each name that a place passes on now, and the pairs that it passes on unfoldable."""
+def passed_on(place):
+    """What the place passes on now: the module of each name, and the pairs that it passes on unfoldable."""
     modules, unfoldable = {}, set()
-    for place in PLACES:
-        modules[place] = {}
-        if not file_of(place).exists():
-            continue
-        for line in file_of(place).read_text().split('\n'):
-            if match := PASSED_ON.match(line):
-                for path in names_of(match[3]):
-                    *below, name = path.split('.')
-                    home = '.'.join([match[2], *below])
-                    if home := modules[home].get(name) if home in PLACES else home:
-                        modules[place][name] = home
-                        if match[1]:
-                            unfoldable.add((home, name))
+    lines = place.file.read_text().split('\n') if place.file.exists() else []
+    for line in lines:
+        if match := PASSED_ON.match(line):
+            for path in names_of(match[3]):
+                *below, name = path.split('.')
+                modules[name] = '.'.join([match[2], *below])
+                if match[1]:
+                    unfoldable.add((match[2], name))
     return modules, unfoldable
 
 
@@ -118,99 +102,71 @@ def behind_types(text):
     return text
 
 
-def read(file, modules):
-    """The file's lines without the imports that may move, where they stood, and what they bring in."""
+def read(place, file, modules):
+    """The file's lines without those imports, where they stood, and what they bring in."""
     lines, where, brought = [], None, set()
     text = behind_types(file.read_text()).split('\n')
     body = '\n'.join(line for line in text if not ANY_USE.match(line))
     for line in text:
         match = USE.match(line)
-        if not match or 'TheVariants' in match[1] or ' as ' in match[2] and not SHARED.match(match[1]):
+        if not match or 'TheVariants' in match[1] or not (match[1] == place.module or place.shared.match(match[1])):
             lines.append(line)
             continue
         where = len(lines) if where is None else where
         names = names_of(match[2])
         plain = [name for name in names if ' as ' not in name and '.' not in name]
-        home = modules.get(match[1])
-        cited = [name for name in plain if is_cited(name, body) and (home is None or name in home)]
-        brought |= {(match[1] if home is None else home[name], name) for name in cited}
+        brought |= {(modules[name] if match[1] == place.module else match[1], name) for name in plain if is_cited(name, body)}
         if kept := [name for name in names if name not in plain]:
             lines.append(f'use {match[1]}.{{{", ".join(kept)}}}')
     return lines, where, brought
 
 
-def cited(files):
-    """How many files cite each pair of a module and a name, and which files cite a module."""
+def gather(place):
+    modules, unfoldable = passed_on(place)
+    unfoldable |= unfoldable_names()
+    files = {}
+    for crate in place.crates:
+        for file in sorted((CRATES / crate / 'proofs').rglob('*.antt')):
+            if file != place.file:
+                files[file] = read(place, file, modules)
+    prelude = {name for _, _, brought in files.values() for module, name in brought if module == PRELUDE}
+    for file, (lines, where, brought) in files.items():
+        files[file] = lines, where, {(PRELUDE if module == COMMON and name in prelude else module, name) for module, name in brought}
     cites, users = {}, {}
     for file, (_, _, brought) in files.items():
         for pair in brought:
             cites[pair] = cites.get(pair, 0) + 1
             users.setdefault(pair[0], set()).add(file)
-    return cites, users
-
-
-def owned(cites):
-    """The module from which a name is passed on: the one of which it is cited most."""
     owners = {}
     for module, name in sorted(cites, key=lambda pair: (-cites[pair], pair)):
         owners.setdefault(name, module)
-    return {(module, name) for module, name in cites if owners[name] == module}
-
-
-def grouped(pairs, unfoldable):
-    """The lines that pass these pairs on, without those of task_machine's types."""
-    for module in sorted({module for module, _ in pairs}):
-        names = sorted((name for other, name in pairs if other == module), key=by_name)
+    shared = {(module, name) for module, name in cites if owners[name] == module and (len(users[module]) > 1 or is_declared(module))}
+    text = [place.title]
+    for root in sorted({DECLARED.match(module)[1] for module, _ in shared if is_declared(module)}):
+        types = sorted(f'{module[len(root) + 1:]}.{name}' for module, name in shared if module.startswith(root + '.'))
+        text.append(f'pub use {root}.{{{", ".join(types)}}}')
+    for module in sorted({module for module, _ in shared if not is_declared(module)}):
+        names = sorted((name for other, name in shared if other == module), key=by_name)
         for word, unfolds in (('', False), ('unfoldable ', True)):
             if group := [name for name in names if ((module, name) in unfoldable) == unfolds]:
-                yield f'{word}pub use {module}.{{{", ".join(group)}}}'
-
-
-def write(place, lines):
-    file_of(place).write_text('\n'.join([PLACES[place], *lines]) + '\n')
-
-
-def main():
-    modules, unfoldable = passed_on()
-    unfoldable |= unfoldable_names()
-    files = {}
-    for crate in ('task_rules', 'task_laws', 'task_places'):
-        for file in sorted((CRATES / crate / 'proofs').rglob('*.antt')):
-            if file not in map(file_of, PLACES):
-                files[file] = read(file, modules)
-    prelude = {name for _, _, brought in files.values() for module, name in brought if module == PRELUDE}
-    for file, (lines, where, brought) in files.items():
-        files[file] = lines, where, {(PRELUDE if module == COMMON and name in prelude else module, name) for module, name in brought}
-    cites, users = cited(files)
-    by_machine = {
-        (module, name) for module, name in owned({pair: count for pair, count in cites.items() if SHARED.match(pair[0])})
-        if len(users[module]) > 1 or is_declared(module)
-    }
-    types = sorted(f'{module[len(DECLARED) + 1:]}.{name}' for module, name in by_machine if is_declared(module))
-    others = {pair for pair in by_machine if not is_declared(pair[0])}
-    write(MACHINE, [f'pub use {DECLARED}.{{{", ".join(types)}}}', *grouped(others, unfoldable)])
-    passed = {MACHINE: by_machine}
-    homes = {file: {pair: MACHINE for pair in brought & by_machine} for file, (_, _, brought) in files.items()}
-    for place, (below, passes, is_for) in ABOVE.items():
-        users = {file for file in files if is_for(module_of(file))}
-        cites, _ = cited({file: files[file] for file in users})
-        pairs = owned({pair: count for pair, count in cites.items() if pair in passed[below] or passes(pair[0])})
-        passed[place] = pairs
-        from_below = {(below, name): (module, name) for module, name in pairs & passed[below]}
-        marked = unfoldable | {key for key, pair in from_below.items() if pair in unfoldable}
-        write(place, grouped(set(from_below) | (pairs - passed[below]), marked))
-        homes |= {file: {pair: place for pair in files[file][2] & pairs} for file in users}
+                text.append(f'{word}pub use {module}.{{{", ".join(group)}}}')
+    place.file.write_text('\n'.join(text) + '\n')
     for file, (lines, where, brought) in files.items():
         if where is None:
             continue
         groups = {}
         for pair in brought:
-            groups.setdefault(homes[file].get(pair, pair[0]), []).append(pair[1])
-        first = sorted(groups, key=lambda module: (module not in PLACES, module))
+            groups.setdefault(place.module if pair in shared else pair[0], []).append(pair[1])
+        first = sorted(groups, key=lambda module: (module != place.module, module))
         lines[where:where] = [f'use {module}.{{{", ".join(sorted(groups[module], key=by_name))}}}' for module in first]
-        text = '\n'.join(lines)
-        if text != file.read_text():
-            file.write_text(text)
+        new = '\n'.join(lines)
+        if new != file.read_text():
+            file.write_text(new)
+
+
+def main():
+    for place in PLACES:
+        gather(place)
 
 
 if __name__ == '__main__':

@@ -1,10 +1,6 @@
 -- A core with other limits.
-use Rattle.std.specs.Prelude.{ℕ, ◌≤◌}
+use Rattle.task_records.proofs.Core.{bare, CoreParts, IsSound, parts_of, table_use, ℕ, ◌≤◌}
 use Rattle.count_words.proofs.BesideLemmas.{beside_whole}
-use Rattle.task_machine.specs.Read.{table_use}
-use Rattle.task_records.specs.Seen.{IsSound, parts_of}
-use Rattle.task_records.specs.Sound.{bare}
-use Rattle.task_records.specs.declared.parts.CoreParts.{CoreParts}
 
 pub capacity_sound : (a : CoreParts) → IsSound a → (n : ℕ) → n ≤ 4294967295 → IsSound (record a { capacity = n })
 unfolding IsSound table_use

@@ -1,22 +1,7 @@
 -- The store is trapped: the groups up to the last that was made are finished, which are all.
 use Rattle.count_words.proofs.BesideLemmas.{beside, beside_whole}
-use Rattle.std.proofs.Common.{◌≡◌, ◌<◌, ◌≤◌, ◌+◌, ◌*◌, ◌-◌, ℕ, Bool, true, false, cond, List, [], ◌∷◌, Option, Some, None, filter, map, length, nat_lt, refl, sym, ap, ◌∙◌, arith, ltb-true}
-use Rattle.std.proofs.lemmas.Bool.{eq-eqb}
-use Rattle.std.specs.Cmp.{unsigned_tied}
-use Rattle.std.specs.Ordering.{eq_by_cmp, nat_cmp}
-use Rattle.std.specs.FinMap.Entries.{find}
-use Rattle.task_machine.specs.Maps.{get, numbers}
-use Rattle.task_machine.specs.Read.{table_use}
-use Rattle.task_machine.specs.Write.{set_trapped}
+use Rattle.task_records.proofs.Core.{[], ap, arith, bare, Bool, cond, CoreParts, eq-eqb, eq_by_cmp, false, filter, find, get, get-records, group_key, image, IsSound, IsWhole, length, List, ltb-true, map, nat_cmp, nat_lt, None, numbers, on_core, Option, Parts, parts_of, records, refl, seen, set_trapped, Some, sym, table_use, true, unsigned_tied, ℕ, ◌*◌, ◌+◌, ◌-◌, ◌<◌, ◌∙◌, ◌∷◌, ◌≡◌, ◌≤◌}
 use Rattle.task_records.proofs.KeptLemmas.{groups_are, used_is}
-use Rattle.task_records.specs.Image.{Parts, image}
-use Rattle.task_records.specs.Keys.{group_key}
-use Rattle.task_records.specs.Seen.{IsSound, parts_of, seen}
-use Rattle.task_records.specs.Sound.{IsWhole, bare}
-use Rattle.task_records.specs.declared.parts.CoreParts.{CoreParts}
-use Rattle.task_table.proofs.RecordLemmas.{get-records}
-use Rattle.task_table.specs.Records.{records}
-use Rattle.task_words.specs.StateView.{on_core}
 
 module _ {X : Type 0} (k : ℕ) where
   tail_none : (b : Bool) (x : X) (o : Option X) → cond b (Some x) o ≡ None → o ≡ None

@@ -1,19 +1,5 @@
 -- The chain of a mark is made: no entry is at it yet.
-use Rattle.std.proofs.Common.{inl, inr, ◌⊎◌, ◌≡◌, ℕ, List, [], Option, Some, None, IsSome, is_some, false, filter, map, refl, sym, ap, subst, ◌∙◌}
-use Rattle.task_index.proofs.Rows.{IsRows-opened, IsRows-same, no_chain}
-use Rattle.task_index.specs.Rows.{Each, IsRows, part}
-use Rattle.task_links.specs.Links.{ChainOf, Renames, Unmade, list_or_nil, spot_list}
-use Rattle.task_machine.specs.Read.{table_use}
-use Rattle.task_records.specs.Image.{Parts, chained, image}
-use Rattle.task_records.specs.Names.{HasHome, IsCallNamed, IsWorkNamed}
-use Rattle.task_records.specs.Rows.{High, IsOfThread, IsSeated, Low, Row, is_of_instance, row, row_chain, shelf_chain}
-use Rattle.task_records.specs.Seen.{IsSound, parts_of, seen}
-use Rattle.task_records.specs.Sound.{IsWhole, bare}
-use Rattle.task_records.specs.declared.calls.GuestTask.{GuestTask}
-use Rattle.task_records.specs.declared.parts.CoreParts.{CoreParts}
-use Rattle.task_records.specs.declared.threads.GuestThread.{GuestThread}
-use Rattle.task_records.specs.declared.threads.Queued.{Queued}
-use Rattle.task_records.specs.declared.works.HostWork.{HostWork}
+use Rattle.task_records.proofs.Core.{[], ap, bare, chained, ChainOf, CoreParts, Each, false, filter, GuestTask, GuestThread, HasHome, High, HostWork, image, inl, inr, is_of_instance, is_some, IsCallNamed, IsOfThread, IsRows, IsRows-opened, IsRows-same, IsSeated, IsSome, IsSound, IsWhole, IsWorkNamed, List, list_or_nil, Low, map, no_chain, None, Option, part, Parts, parts_of, Queued, refl, Renames, Row, row, row_chain, seen, shelf_chain, Some, spot_list, subst, sym, table_use, Unmade, ℕ, ◌∙◌, ◌≡◌, ◌⊎◌}
 
 pub row_is : (r s : Row) → (r ≡ s) ⊎ (r ≡ s → ⊥)
 row_is High High = inl refl

@@ -1,22 +1,5 @@
 -- What hangs on the chains of marks and of callers, and on switch, and what does not.
-use Rattle.std.proofs.Common.{◌≡◌, ℕ, true, List, [], Option, Some, None, IfSome, filter, refl, sym, ap, subst}
-use Rattle.task_index.specs.Rows.{Each, IsRows, part}
-use Rattle.task_index.proofs.Rows.{IsRows-same, values_are}
-use Rattle.task_links.specs.Links.{Spot, is_made}
-use Rattle.task_machine.specs.Read.{table_use}
-use Rattle.task_records.specs.Image.{Parts, chained, core_of}
-use Rattle.task_records.specs.Names.{HasHome, IsCallNamed, IsWorkNamed}
-use Rattle.task_records.specs.Kept.{IsSetKept}
-use Rattle.task_records.specs.Rows.{High, IsFollower, IsOfThread, IsSeated, Low, Row, callers_chain, callers_row, is_of_instance, row, row_chain, shelf_chain}
-use Rattle.task_records.specs.Seen.{IsSound, parts_of}
-use Rattle.task_records.specs.Sound.{AreCounted, AreNamed, HaveRowNodes, IsWhole, bare}
-use Rattle.task_records.specs.declared.parts.CoreParts.{CoreParts}
-use Rattle.task_records.specs.declared.calls.GuestTask.{GuestTask}
-use Rattle.task_records.specs.declared.sets.WaitSet.{WaitSet}
-use Rattle.task_records.specs.declared.threads.Follower.{Follower}
-use Rattle.task_records.specs.declared.threads.GuestThread.{GuestThread}
-use Rattle.task_records.specs.declared.threads.Queued.{Queued}
-use Rattle.task_records.specs.declared.works.HostWork.{HostWork}
+use Rattle.task_records.proofs.Core.{[], ap, AreCounted, AreNamed, bare, callers_chain, callers_row, chained, core_of, CoreParts, Each, filter, Follower, GuestTask, GuestThread, HasHome, HaveRowNodes, High, HostWork, IfSome, is_made, is_of_instance, IsCallNamed, IsFollower, IsOfThread, IsRows, IsRows-same, IsSeated, IsSetKept, IsSound, IsWhole, IsWorkNamed, List, Low, None, Option, part, Parts, parts_of, Queued, refl, Row, row, row_chain, shelf_chain, Some, Spot, subst, sym, table_use, true, values_are, WaitSet, ℕ, ◌≡◌}
 
 -- the parts with other chains of marks and callers
 abbrev pub with_chains : Parts → List (Spot Queued) → List (Spot Queued) → List (Spot Follower) → Option Follower → Parts

@@ -42,10 +42,6 @@ module _ {K P : Type 0} (chain : K → Option ℕ) where
       ];
     }
 
-  -- an entry is written that is to have the link that it has
-  pub IsIndex-written : (links : List (Spot P)) (filing filing' : ℕ → Option (Filing K P)) → IsIndex chain links filing → (place : ℕ) (was is : Filing K P) → filing place ≡ Some was → filing' place ≡ Some is → is.node ≡ was.node → link_for chain is ≡ link_for chain was → ((r : ℕ) → (r ≡ place → ⊥) → filing' r ≡ filing r) → IsIndex chain links filing'
-  IsIndex-written links filing filing' index place was is before after same_node same_link others = IsIndex-refiled links links filing filing' index place was is before after same_node others (Refiles-none links was.node (link_for chain is) (index.has_link place was before ∙ sym same_link))
-
   module _ (links : List (Spot P)) (filing : ℕ → Option (Filing K P)) (index : IsIndex chain links filing) where
     -- all say what they said
     pub IsIndex-same : (filing' : ℕ → Option (Filing K P)) → ((r : ℕ) → filing' r ≡ filing r) → IsIndex chain links filing'

@@ -22,10 +22,6 @@ pub less_is : (n : ℕ) (es : List Entry) → less n es ≡ less_by (is_entry_of
 less_is n [] = refl
 less_is n (e ∷ es) = ap (λ (l : List Entry). cond (is_entry_of n e) es (e ∷ l)) (less_is n es)
 
--- the thread's own entry at the front is what leaves
-pub less_first : (n : ℕ) (es : List Entry) → less_by (is_entry_of n) (entry.Thread n ∷ es) ≡ es
-less_first n es = ap (λ b. cond b es (entry.Thread n ∷ less_by (is_entry_of n) es)) (eq-eqb n n refl)
-
 -- where low has no entry of a thread that has one at high, both lists are without it
 pub unqueued_both : (n : ℕ) (s : Core) → (has_entry n s.queues.high ≡ true → less_by (is_entry_of n) s.queues.low ≡ s.queues.low) → unqueued n s ≡ set_low (less_by (is_entry_of n) s.queues.low) (set_high (less_by (is_entry_of n) s.queues.high) s)
 unfolding unqueued set_low set_high

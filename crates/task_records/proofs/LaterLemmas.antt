@@ -1,18 +1,5 @@
 -- Where more were made, what holds of the parts holds on.
-use Rattle.std.proofs.Common.{◌≤◌, ℕ, arith}
-use Rattle.task_handles.specs.declared.kinds.HandleKind.{HandleKind}
-use Rattle.task_handles.specs.declared.kinds.HandleKind.TheVariants as handle
-use Rattle.task_handles.specs.declared.kinds.Rep.{Rep}
-use Rattle.task_handles.specs.declared.kinds.WaitableKind.TheVariants as waitable
-use Rattle.task_machine.specs.Read.{table_use}
-use Rattle.task_machine.specs.declared.records.Made.{Made}
-use Rattle.task_records.specs.Image.{Parts}
-use Rattle.task_records.specs.Names.{AreHandlesNamed, CallOf, HasHome, IsCallNamed, IsHeldNamed, IsNamedAt, IsWorkNamed, Kinds, Nothing, SetOf, Target, ThreadOf, WorkOf, kinds}
-use Rattle.task_records.specs.Sound.{IsWhole}
-use Rattle.task_records.specs.declared.calls.GuestTask.{GuestTask}
-use Rattle.task_records.specs.declared.instances.InstanceRecord.{InstanceRecord}
-use Rattle.task_records.specs.declared.threads.GuestThread.{GuestThread}
-use Rattle.task_records.specs.declared.works.HostWork.{HostWork}
+use Rattle.task_records.proofs.Core.{AreHandlesNamed, arith, CallOf, GuestTask, GuestThread, HandleKind, HasHome, HostWork, InstanceRecord, IsCallNamed, IsHeldNamed, IsNamedAt, IsWhole, IsWorkNamed, Kinds, kinds, Made, Nothing, Parts, Rep, SetOf, table_use, Target, ThreadOf, WaitableKind, WorkOf, ℕ, ◌≤◌}
 
 -- At least as many were made.
 pub record IsLater (m n : Made) : Type 0 where
@@ -30,11 +17,11 @@ module _ (k : Kinds) (n : Made) (later : IsLater k.made n) where
   named_later rep (SetOf m) at = (let more = later.sets in let few = at.0 in omega arith, at.1)
 
   held_later : (h : HandleKind) (r : Rep) → IsHeldNamed k h r → IsHeldNamed (record k { made = n }) h r
-  held_later (handle.Waitable waitable.GuestSubtask) r is = named_later r.id (CallOf r.serial) is
-  held_later (handle.Waitable waitable.HostSubtask) r is = named_later r.id (WorkOf r.serial) is
-  held_later (handle.Waitable waitable.Stream) r is = is
-  held_later (handle.Waitable waitable.Future) r is = is
-  held_later handle.Set r is = named_later r.id (SetOf r.serial) is
+  held_later (HandleKind.Waitable WaitableKind.GuestSubtask) r is = named_later r.id (CallOf r.serial) is
+  held_later (HandleKind.Waitable WaitableKind.HostSubtask) r is = named_later r.id (WorkOf r.serial) is
+  held_later (HandleKind.Waitable WaitableKind.Stream) r is = is
+  held_later (HandleKind.Waitable WaitableKind.Future) r is = is
+  held_later HandleKind.Set r is = named_later r.id (SetOf r.serial) is
 
   pub handles_later : (i : InstanceRecord) → AreHandlesNamed k i → AreHandlesNamed (record k { made = n }) i
   handles_later i named = record {

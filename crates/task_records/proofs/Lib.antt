@@ -1,3 +1,4 @@
+pub mod Core
 pub mod KindLemmas
 pub mod ReadLemmas
 pub mod TableLemmas

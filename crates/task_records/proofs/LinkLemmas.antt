@@ -1,20 +1,5 @@
 -- A node or a chain is made in an index: nothing else hangs on it.
-use Rattle.std.proofs.Common.{◌≡◌, ℕ, List, None, Option, Some, IsSome, refl, sym, ap, subst, ◌∙◌}
-use Rattle.task_index.proofs.Indexes.{IsIndex-made}
-use Rattle.task_index.specs.Index.{IsIndex, filings}
-use Rattle.task_links.specs.Links.{Renames, Spot, Unmade, list_of, list_or_nil, spot_link, spot_list}
-use Rattle.task_machine.specs.Read.{table_use}
-use Rattle.task_records.specs.Image.{Parts}
-use Rattle.task_records.specs.Names.{HasHome, IsCallNamed, IsWorkNamed}
-use Rattle.task_records.specs.Places.{Rises, live_chain, live_order, live_work, place_chain, place_filing, ready_call, ready_call_chain, ready_work, ready_work_chain}
-use Rattle.task_records.specs.Seen.{IsSound, parts_of}
-use Rattle.task_records.specs.Sound.{IsWhole, bare}
-use Rattle.task_records.specs.declared.calls.GuestTask.{GuestTask}
-use Rattle.task_records.specs.declared.parts.CoreParts.{CoreParts}
-use Rattle.task_records.specs.declared.threads.GuestThread.{GuestThread}
-use Rattle.task_records.specs.declared.works.HostWork.{HostWork}
-use Rattle.task_records.specs.declared.works.LiveWork.{LiveWork}
-use Rattle.task_wait.specs.Sets.{IsAscending}
+use Rattle.task_records.proofs.Core.{ap, bare, CoreParts, filings, GuestTask, GuestThread, HasHome, HostWork, IsAscending, IsCallNamed, IsIndex, IsIndex-made, IsSome, IsSound, IsWhole, IsWorkNamed, List, list_of, list_or_nil, live_chain, live_order, live_work, LiveWork, None, Option, Parts, parts_of, place_chain, place_filing, ready_call, ready_call_chain, ready_work, ready_work_chain, refl, Renames, Rises, Some, Spot, spot_link, spot_list, subst, sym, table_use, Unmade, ℕ, ◌∙◌, ◌≡◌}
 
 Rises-made : (links new : List (Spot LiveWork)) (n : ℕ) (is : Spot LiveWork) → Renames links new n Unmade is → (o : Option ℕ) → ((c : ℕ) → o ≡ Some c → IsSome (list_of links c)) → Rises links o → Rises new o
 Rises-made links new n is names None live rises = tt

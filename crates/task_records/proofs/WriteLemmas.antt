@@ -1,44 +1,8 @@
 -- A write of fields on which nothing hangs is the machine's change of the record.
-use Rattle.std.proofs.Common.{◌≡◌, ◌+◌, ◌≤◌, ℕ, true, cond, List, Option, Some, false, ◌==◌, Bool, None, [], slice_get, inl, inr, ◌⊎◌, refl, sym, ap, ap₂, subst, ◌∙◌, arith}
-use Rattle.std.proofs.lemmas.Bool.{cases_eq, eq-eqb, ne_eqb}
-use Rattle.std.proofs.lemmas.Option.{same_Some}
-use Rattle.std.specs.Prelude.{Ok, Err}
-use Rattle.task_index.specs.Counts.{one_if_passes, passing}
-use Rattle.task_machine.specs.Maps.{Records, change}
-use Rattle.task_machine.specs.Write.{on_call, on_thread, on_work, set_uninteresting}
-use Rattle.task_machine.specs.declared.records.Call.{Call}
-use Rattle.task_machine.specs.declared.records.Script.TheVariants as script
-use Rattle.task_machine.specs.declared.records.Thread.{Thread}
-use Rattle.task_machine.specs.declared.records.Work.{Work}
+use Rattle.task_records.proofs.Core.{[], ap, ap₂, AreHandlesNamed, arith, bare, bare_call, bare_thread, bare_work, Bool, Call, call_key, call_of, callers_in, cases_eq, change, cond, CoreParts, EachEntry, entry_of, entry_put, eq-eqb, Err, false, GuestTask, GuestTaskKey, GuestThread, HostTaskKey, HostWork, inl, inr, InstanceRecord, is_moving, IsSound, IsWhole, item_at, item_of, Kinds, kinds, List, loose_call, loose_work, mapped, mapped-with_entry_same, ne_eqb, None, Ok, on_call, on_core, on_item, on_thread, on_work, one_if_passes, Option, OwnsHandle, parts_of, passing, place_at, place_at-with_entry, Placed, Records, records, refl, ResourceTableError, same_Some, Script, seen, set_uninteresting, Single, slice_get, Some, StateView, subst, sym, Table, TableId, Tag, tags_in, Thread, thread_key, thread_of, ThreadKey, true, uninterested, unmoved, with_entry, Work, work_key, work_of, ℕ, ◌+◌, ◌==◌, ◌∙◌, ◌≡◌, ◌≤◌, ◌⊎◌}
 use Rattle.task_records.proofs.KindLemmas.{item_stands, passing_same, passing_written, records_changed, refused_write, table_written, tags_written}
 use Rattle.task_records.proofs.ReadLemmas.{call_shown, thread_shown, work_shown}
 use Rattle.task_records.proofs.TableLemmas.{records_unseen}
-use Rattle.task_records.specs.Image.{callers_in, tags_in}
-use Rattle.task_records.specs.Keys.{call_key, thread_key, work_key}
-use Rattle.task_records.specs.Kinds.{entry_of, item_of, on_item}
-use Rattle.task_records.specs.Names.{AreHandlesNamed, Kinds, OwnsHandle, kinds}
-use Rattle.task_records.specs.Seen.{IsSound, parts_of, seen}
-use Rattle.task_records.specs.Sound.{EachEntry, IsWhole, bare, bare_call, bare_thread, bare_work, loose_call, loose_work, uninterested, unmoved}
-use Rattle.task_records.specs.declared.calls.GuestTask.{GuestTask}
-use Rattle.task_records.specs.declared.instances.InstanceRecord.{InstanceRecord}
-use Rattle.task_records.specs.declared.parts.CoreParts.{CoreParts}
-use Rattle.task_records.specs.declared.single.Single.{Single}
-use Rattle.task_records.specs.declared.threads.GuestThread.{GuestThread}
-use Rattle.task_records.specs.declared.works.HostWork.{HostWork}
-use Rattle.task_rules.specs.Works.{is_moving}
-use Rattle.task_table.proofs.Laws.{place_at-with_entry}
-use Rattle.task_table.proofs.MappedLemmas.{mapped-with_entry_same}
-use Rattle.task_table.specs.Answers.{item_at}
-use Rattle.task_table.specs.Changes.{entry_put, with_entry}
-use Rattle.task_table.specs.Mapped.{mapped}
-use Rattle.task_table.specs.Records.{records}
-use Rattle.task_table.specs.Table.{Placed, Table, place_at}
-use Rattle.task_table.specs.declared.error.ResourceTableError.{ResourceTableError}
-use Rattle.task_table.specs.declared.id.TableId.{TableId}
-use Rattle.task_wait.specs.declared.keys.GuestTaskKey.{GuestTaskKey}
-use Rattle.task_wait.specs.declared.keys.HostTaskKey.{HostTaskKey}
-use Rattle.task_wait.specs.declared.keys.ThreadKey.{ThreadKey}
-use Rattle.task_words.specs.StateView.{StateView, Tag, call_of, on_core, thread_of, work_of}
 
 -- what the handles of all instances name
 abbrev HandlesNamed : Kinds → CoreParts → Type 0
@@ -59,7 +23,7 @@ each_written {T} t rep p at P h new each r q there = by_place (cases_eq r rep)
 
 -- a thread, a call and a work as far as another write may see it
 abbrev pub close_thread : GuestThread → GuestThread
-close_thread g = record g { thread = record g.thread { position = 0; registers = []; script = script.Start; saved_own = None; saved_callee = None } }
+close_thread g = record g { thread = record g.thread { position = 0; registers = []; script = Script.Start; saved_own = None; saved_callee = None } }
 
 abbrev pub close_call : GuestTask → GuestTask
 close_call g = record g { call = loose_call g.call }

@@ -1,22 +1,6 @@
 -- The chain of the live works is made: no work is there yet.
-use Rattle.std.proofs.Common.{inl, ◌≡◌, ℕ, [], Option, Some, None, IsSome, is_some, false, refl, sym, ap, subst, ◌∙◌}
+use Rattle.task_records.proofs.Core.{[], ap, bare, ChainOf, CoreParts, false, Filing, filings, GuestTask, GuestThread, HasHome, HostWork, inl, is_some, IsAscending, IsCallNamed, IsSome, IsSound, IsWhole, IsWorkNamed, list_of, list_or_nil, live_chain, live_order, live_work, LiveWork, None, Option, Parts, parts_of, place_at, Placed, refl, Renames, said, Single, Some, spot_list, subst, sym, table_use, Unmade, ℕ, ◌∙◌, ◌≡◌}
 use Rattle.make_words.proofs.LooseLemmas.{IsIndex-opened}
-use Rattle.task_index.specs.Index.{Filing, filings, said}
-use Rattle.task_links.specs.Links.{ChainOf, Renames, Unmade, list_of, list_or_nil, spot_list}
-use Rattle.task_machine.specs.Read.{table_use}
-use Rattle.task_records.specs.Image.{Parts}
-use Rattle.task_records.specs.Names.{HasHome, IsCallNamed, IsWorkNamed}
-use Rattle.task_records.specs.Places.{live_chain, live_order, live_work}
-use Rattle.task_records.specs.Seen.{IsSound, parts_of}
-use Rattle.task_records.specs.Sound.{IsWhole, bare}
-use Rattle.task_records.specs.declared.calls.GuestTask.{GuestTask}
-use Rattle.task_records.specs.declared.parts.CoreParts.{CoreParts}
-use Rattle.task_records.specs.declared.single.Single.{Single}
-use Rattle.task_records.specs.declared.threads.GuestThread.{GuestThread}
-use Rattle.task_records.specs.declared.works.HostWork.{HostWork}
-use Rattle.task_records.specs.declared.works.LiveWork.{LiveWork}
-use Rattle.task_table.specs.Table.{Placed, place_at}
-use Rattle.task_wait.specs.Sets.{IsAscending}
 
 pub none_there : {X : Type 0} (o : Option X) → is_some o ≡ false → o ≡ None
 none_there None is = refl
