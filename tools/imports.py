@@ -6,7 +6,7 @@
 For task_rules, task_laws and task_places that is crates/task_rules/proofs/Machine.antt, for the crates of the core
 crates/task_records/proofs/Core.antt. The place passes on each name of the crates below (of std, of task_machine, for the core also of
 the tables, links, indexes and handles) and of the specs of the first crate that a proof file of these crates brings in; every such file
-gets one `use` line for them.
+gets one `use` line for them, and one for the types that the first crate declares.
 In a proof file new names are written as `use` lines of the modules that declare them; then this is run, and `rt fmt`. Names that
 a file no longer cites go. A variant is written behind its type: where a file has `use ..Place.TheVariants as place`, each
 `place.Running` becomes `Place.Running`, and the line goes. What a file else renames by `as`, and a module that one file alone
@@ -32,6 +32,8 @@ class Place:
         self.module = 'Rattle.' + module
         self.file = CRATES / (module.replace('.', '/') + '.antt')
         self.crates = crates
+        # other crates see no type that a crate passes on of its own, so that each file names these, by one line
+        self.own = 'Rattle.' + module.split('.')[0] + '.specs.declared'
         self.shared = re.compile(rf'Rattle\.({"|".join(map(re.escape, below))})\.')
         self.title = title
 
@@ -109,11 +111,14 @@ def read(place, file, modules):
     body = '\n'.join(line for line in text if not ANY_USE.match(line))
     for line in text:
         match = USE.match(line)
-        if not match or 'TheVariants' in match[1] or not (match[1] == place.module or place.shared.match(match[1])):
+        if not match or 'TheVariants' in match[1] or not (match[1] in (place.module, place.own) or place.shared.match(match[1])):
             lines.append(line)
             continue
         where = len(lines) if where is None else where
         names = names_of(match[2])
+        if match[1] == place.own:
+            brought |= {('.'.join([match[1], *name.split('.')[:-1]]), name.split('.')[-1]) for name in names if is_cited(name.split('.')[-1], body)}
+            continue
         plain = [name for name in names if ' as ' not in name and '.' not in name]
         brought |= {(modules[name] if match[1] == place.module else match[1], name) for name in plain if is_cited(name, body)}
         if kept := [name for name in names if name not in plain]:
@@ -140,7 +145,8 @@ def gather(place):
     owners = {}
     for module, name in sorted(cites, key=lambda pair: (-cites[pair], pair)):
         owners.setdefault(name, module)
-    shared = {(module, name) for module, name in cites if owners[name] == module and (len(users[module]) > 1 or is_declared(module))}
+    shared = {(module, name) for module, name in cites
+              if owners[name] == module and not module.startswith(place.own + '.') and (len(users[module]) > 1 or is_declared(module))}
     text = [place.title]
     for root in sorted({DECLARED.match(module)[1] for module, _ in shared if is_declared(module)}):
         types = sorted(f'{module[len(root) + 1:]}.{name}' for module, name in shared if module.startswith(root + '.'))
@@ -155,8 +161,11 @@ def gather(place):
         if where is None:
             continue
         groups = {}
-        for pair in brought:
-            groups.setdefault(place.module if pair in shared else pair[0], []).append(pair[1])
+        for module, name in brought:
+            if module.startswith(place.own + '.'):
+                groups.setdefault(place.own, []).append(f'{module[len(place.own) + 1:]}.{name}')
+            else:
+                groups.setdefault(place.module if (module, name) in shared else module, []).append(name)
         first = sorted(groups, key=lambda module: (module != place.module, module))
         lines[where:where] = [f'use {module}.{{{", ".join(sorted(groups[module], key=by_name))}}}' for module in first]
         new = '\n'.join(lines)

@@ -1,7 +1,9 @@
 -- The results that were given, by the numbers of their calls.
-use Rattle.count_words.proofs.BesideLemmas.{beside_whole}
+use Rattle.task_records.proofs.SoundLemmas.{sound_of_whole}
+use Rattle.task_records.proofs.LaterLemmas.{beside_whole, same_made}
 use Rattle.count_words.specs.Rooms.{wanted}
-use Rattle.task_records.proofs.Core.{[], ap, ap₂, bare, bare_call, Bool, BTreeMap, Call, call_key, call_of, cases_eq, cond, core_of, CoreParts, eq-eqb, eq_by_cmp_equiv, false, get, get-empty, get-insert, get-remove, give_result, given_results, Goal, goal_of, GuestTask, GuestTaskKey, HasRoom, inl, inr, insert, is_at, is_some, IsSome, IsSound, item_at, item_of, List, lookup, loose_call, nat_cmp, nat_cmp_total, ne_eqb, None, Ok, on_core, on_item, Option, option_map, option_map_or, parts_of, Records, records, refl, remove, ResultRoom, same_map, seen, Some, subst, sym, table_use, TableId, take_result, true, uninterested, unsigned_tied, with_given, ℕ, ◌==◌, ◌||◌, ◌∙◌, ◌∷◌, ◌≡◌, ◌⊎◌}
+use Rattle.task_records.proofs.Core.{[], ap, ap₂, bare, bare_call, Bool, BTreeMap, Call, call_key, call_of, cases_eq, cond, core_of, eq-eqb, eq_by_cmp_equiv, false, get, get-empty, get-insert, get-remove, give_result, given_results, Goal, goal_of, GuestTaskKey, HasRoom, inl, inr, insert, is_at, is_some, IsSome, IsSound, item_at, item_of, List, lookup, loose_call, nat_cmp, nat_cmp_total, ne_eqb, None, Ok, on_core, on_item, Option, option_map, option_map_or, parts_of, Records, records, refl, remove, same_map, seen, Some, subst, sym, table_use, TableId, take_result, true, uninterested, unsigned_tied, with_given, ℕ, ◌==◌, ◌||◌, ◌∙◌, ◌∷◌, ◌≡◌, ◌⊎◌}
+use Rattle.task_records.specs.declared.{calls.GuestTask.GuestTask, parts.CoreParts.CoreParts, parts.ResultRoom.ResultRoom}
 use Rattle.task_records.proofs.ReadLemmas.{call_named, call_read}
 use Rattle.task_records.proofs.TableLemmas.{get_mapped}
 
@@ -47,19 +49,13 @@ lives_wanted r lives = ap (λ b. lives_in (cond (b || is_some r.given) (Some r) 
 module _ (a : CoreParts) (sound : IsSound a) (m : BTreeMap ℕ ResultRoom) where
   pub results_sound : ((k : ℕ) (c : Call) → get (core_of (bare (parts_of a))).calls k ≡ Some c → c.goal ≡ Goal.Main → HasRoom k m.entries) → IsSound (record a { results = m })
   unfolding IsSound table_use
-  results_sound rooms = record {
-    tables = record { threads = sound.tables.threads; calls = sound.tables.calls; works = sound.tables.works; sets = sound.tables.sets; groups = sound.tables.groups };
-    whole = beside_whole (bare (parts_of a)) a.finished (bare (parts_of a)).kept m.entries a.capacity sound.whole
-        (record { used = sound.whole.counted.kept.used; groups = sound.whole.counted.kept.groups; live = sound.whole.counted.kept.live })
-        rooms
-        sound.whole.counted.finished
-        sound.whole.counted.few;
-    interesting = sound.interesting;
-    moving = sound.moving;
-    handles = sound.handles;
-    owned = sound.owned;
-    live = sound.live;
-  }
+  results_sound rooms =
+      sound_of_whole a (record a { results = m }) refl sound
+      (beside_whole (bare (parts_of a)) a.made (same_made a.made) a.finished (bare (parts_of a)).kept m.entries a.capacity sound.whole
+      (let k = sound.whole.counted.kept in record { used = k.used; groups = k.groups; live = k.live })
+      rooms
+      sound.whole.counted.finished
+      sound.whole.counted.few)
 
   pub results_seen : (rs : Records ℕ) → ((q : ℕ) → given (lookup (is_at (nat_cmp q)) m.entries) ≡ get rs q) → seen (record a { results = m }) ≡ on_core (λ s. record s { results = rs }) (seen a)
   unfolding seen

@@ -1,5 +1,6 @@
 -- A test of all records, as a scan of the table answers it.
-use Rattle.task_records.proofs.Core.{[], ap, AreApart, AreApart-rest, arith, Bool, cond, empty, false, fresh_first, get, get-records, insert, List, list_any, nat_lt, None, one_if_passes, Option, passing, passing-with_at, Placed, records, refl, Single, Some, sym, Table, true, ℕ, ◌+◌, ◌||◌, ◌∙◌, ◌∷◌, ◌≡◌}
+use Rattle.task_records.proofs.Core.{[], ap, AreApart, AreApart-rest, arith, Bool, cond, empty, false, fresh_first, get, get-records, insert, List, list_any, nat_lt, None, one_if_passes, Option, passing, passing-with_at, Placed, records, refl, Some, sym, Table, true, ℕ, ◌+◌, ◌||◌, ◌∙◌, ◌∷◌, ◌≡◌}
+use Rattle.task_records.specs.declared.{single.Single.Single}
 use Rattle.task_table.specs.Entries.{entries, entries_from}
 use Rattle.task_records.proofs.KeptLemmas.{any_passing}
 

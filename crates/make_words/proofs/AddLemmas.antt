@@ -1,6 +1,7 @@
 -- An instance more, as contracts see it.
-use Rattle.task_records.proofs.Core.{[], ap, ap₂, AreHandlesNamed, bare, bare_instance, bare_thread, by_place, cases_eq, CoreParts, EachEntry, Err, get, Global, GuestThread, handle_table, Handles, held_by, image, inl, inr, insert, InstanceRecord, IsSome, IsSound, IsWhole, kinds, length, length-map, List, live_in, map, map-append, Named, named_of, nat_cmp, no_handles, None, Ok, on_core, on_item, OnErr, Option, option_and_then, OwnsHandle, parts_of, place_at, place_at-mapped, Placed, placed_as, Records, refl, Result, same_Some, seen, Single, size, slice_get, Some, Sound, subst, sym, untouched, Vec, ℕ, ◌++◌, ◌+◌, ◌∙◌, ◌∷◌, ◌≡◌}
+use Rattle.task_records.proofs.Core.{[], ap, ap₂, AreHandlesNamed, bare, bare_instance, bare_thread, by_place, cases_eq, EachEntry, Err, get, Global, handle_table, Handles, held_by, image, inl, inr, insert, IsSome, IsSound, IsWhole, kinds, length, length-map, List, live_in, map, map-append, Named, named_of, nat_cmp, no_handles, None, Ok, on_core, on_item, OnErr, Option, option_and_then, OwnsHandle, parts_of, place_at, place_at-mapped, Placed, placed_as, Records, refl, Result, same_Some, seen, size, slice_get, Some, Sound, subst, sym, untouched, Vec, ℕ, ◌++◌, ◌+◌, ◌∙◌, ◌∷◌, ◌≡◌}
 use Rattle.task_machine.specs.Core.{Table}
+use Rattle.task_records.specs.declared.{instances.InstanceRecord.InstanceRecord, parts.CoreParts.CoreParts, single.Single.Single, threads.GuestThread.GuestThread}
 use Rattle.std.specs.FinMap as fin
 use Rattle.make_words.proofs.InstanceLemmas.{grown_whole, pushed_last, pushed_other, there_before}
 use Rattle.make_words.specs.Instances.{with_instance}

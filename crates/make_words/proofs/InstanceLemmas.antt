@@ -1,5 +1,6 @@
 -- An instance more, with chains that hung on nothing: the parts stay whole.
-use Rattle.task_records.proofs.Core.{[], ap, ap₂, BlockedOn, Bool, cases_eq, chained, cond, Each, Entry, entry_seated, false, Filing, filings, filter, GuestTask, GuestThread, HasHome, HeldIn, High, host_entry, HostWork, inl, inr, InstanceRecord, is_of_instance, IsCallNamed, IsIndex, IsRows, IsRows-opened, IsSeated, IsSome, IsWhole, IsWorkNamed, length, List, Low, ne_eqb, None, Option, option_map, part, Parts, Place, place_at, place_chain, place_filing, Placed, push_entry, Queued, refl, Row, row, row_chain, said, same_Some, shelf_chain, shelf_in, Single, slice_get, Some, subst, Subtask, suc, sym, table_use, thread_entry, UnderOf, WaitsOn, Where, where_at, zero, ℕ, ◌++◌, ◌∙◌, ◌∷◌, ◌≡◌, ◌⊎◌}
+use Rattle.task_records.proofs.Core.{[], ap, ap₂, BlockedOn, Bool, cases_eq, chained, cond, Each, Entry, entry_seated, false, Filing, filings, filter, HasHome, HeldIn, High, host_entry, inl, inr, is_of_instance, IsCallNamed, IsIndex, IsRows, IsRows-opened, IsSeated, IsSome, IsWhole, IsWorkNamed, length, List, Low, ne_eqb, None, Option, option_map, part, Parts, Place, place_at, place_chain, place_filing, Placed, push_entry, refl, Row, row, row_chain, said, same_Some, shelf_chain, shelf_in, slice_get, Some, subst, Subtask, suc, sym, table_use, thread_entry, UnderOf, WaitsOn, Where, where_at, zero, ℕ, ◌++◌, ◌∙◌, ◌∷◌, ◌≡◌, ◌⊎◌}
+use Rattle.task_records.specs.declared.{calls.GuestTask.GuestTask, instances.InstanceRecord.InstanceRecord, single.Single.Single, threads.GuestThread.GuestThread, threads.Queued.Queued, works.HostWork.HostWork}
 use Rattle.make_words.proofs.LooseLemmas.{IsIndex-opened}
 use Rattle.make_words.proofs.MarkLemmas.{row_is}
 use Rattle.make_words.specs.Loose.{AreLoose}

@@ -1,5 +1,6 @@
 -- Chains that hang on nothing: how they are made, what keeps them, and how a key gets one.
-use Rattle.task_records.proofs.Core.{[], ap, bare, ChainOf, CoreParts, Filing, filings, inl, inr, is_of_instance, IsIndex, IsIndex-rechained, IsRows, IsSeated, IsSome, IsSound, List, list_of, new_for_chains, no_chain, None, Option, part, parts_of, place_chain, place_filing, ready_call, ready_call_chain, ready_work, ready_work_chain, refl, Renames, row, same_Some, shelf_chain, Some, Spot, spot_list, subst, sym, Unmade, WaitSet, ℕ, ◌∙◌, ◌≡◌, ◌⊎◌}
+use Rattle.task_records.proofs.Core.{[], ap, bare, ChainOf, Filing, filings, inl, inr, is_of_instance, IsIndex, IsIndex-rechained, IsRows, IsSeated, IsSome, IsSound, List, list_of, new_for_chains, no_chain, None, Option, part, parts_of, place_chain, place_filing, ready_call, ready_call_chain, ready_work, ready_work_chain, refl, Renames, row, same_Some, shelf_chain, Some, Spot, spot_list, subst, sym, Unmade, ℕ, ◌∙◌, ◌≡◌, ◌⊎◌}
+use Rattle.task_records.specs.declared.{parts.CoreParts.CoreParts, sets.WaitSet.WaitSet}
 use Rattle.make_words.specs.Loose.{AreLoose, AreSetLoose, IsLoose}
 
 no_list : {P X : Type 0} (o : Option (List (ℕ × P))) → o ≡ None → o ≡ Some [] → X

@@ -1,5 +1,6 @@
 -- A set more, as contracts see it.
-use Rattle.task_records.proofs.Core.{add_set, ap, AreHandlesNamed, arith, bare, call_number, CoreParts, fits, HandleKind, insert, InstanceRecord, IsHeldNamed, IsSound, IsTable, Keeps, kinds, next_place, parts_of, pushed, Records, records, refl, Rep, seen, Set, set_key, set_of, SetKey, SetOf, Single, subst, sym, Table, table_use, TableId, thread_number, true, WaitableKind, WaitSet, work_number, ℕ, ◌+◌, ◌<◌, ◌^◌, ◌∙◌, ◌≡◌, ◌≤◌}
+use Rattle.task_records.proofs.Core.{add_set, ap, AreHandlesNamed, arith, bare, call_number, fits, HandleKind, insert, IsHeldNamed, IsSound, IsTable, Keeps, kinds, next_place, parts_of, pushed, Records, records, refl, Rep, seen, Set, set_key, set_of, SetKey, SetOf, subst, sym, Table, table_use, TableId, thread_number, true, WaitableKind, work_number, ℕ, ◌+◌, ◌<◌, ◌^◌, ◌∙◌, ◌≡◌, ◌≤◌}
+use Rattle.task_records.specs.declared.{instances.InstanceRecord.InstanceRecord, parts.CoreParts.CoreParts, sets.WaitSet.WaitSet, single.Single.Single}
 use Rattle.make_words.proofs.SetLemmas.{at_more, set_whole}
 use Rattle.make_words.specs.Loose.{AreSetLoose}
 use Rattle.task_records.proofs.KeptLemmas.{used_is}

@@ -1,5 +1,6 @@
 -- A set more, with chains that hung on nothing: the parts stay whole.
-use Rattle.task_records.proofs.Core.{ap, ap₂, arith, AtPlace, BlockedOn, Call, call_key, CallOf, cases_eq, core_of, EachEntry, entries_for, false, Filing, filings, found_record, get-records, GuestTask, GuestThread, HasHome, HeldIn, HostWork, inl, inr, is_in_set, IsCallNamed, IsSetKept, IsWhole, IsWorkNamed, keeps_set, key_in, kinds, members_of, None, Nothing, Option, Parts, place_at, place_chain, place_filing, Placed, pushed, ready_call, ready_call_chain, ready_in, ready_work, ready_work_chain, Records, records, refl, said, same_Some, Set, set_key, SetOf, Single, size, size-insert_new, Some, SoundTable, Subtask, sym, Table, table_use, Target, Thread, thread_key, ThreadOf, UnderOf, WaitSet, WaitsOn, Where, where_at, Work, work_key, WorkOf, ℕ, ◌+◌, ◌<◌, ◌∙◌, ◌≡◌, ◌⊎◌}
+use Rattle.task_records.proofs.Core.{ap, ap₂, arith, AtPlace, BlockedOn, Call, call_key, CallOf, cases_eq, core_of, EachEntry, entries_for, false, Filing, filings, found_record, get-records, HasHome, HeldIn, inl, inr, is_in_set, IsCallNamed, IsSetKept, IsWhole, IsWorkNamed, keeps_set, key_in, kinds, members_of, None, Nothing, Option, Parts, place_at, place_chain, place_filing, Placed, pushed, ready_call, ready_call_chain, ready_in, ready_work, ready_work_chain, Records, records, refl, said, same_Some, Set, set_key, SetOf, size, size-insert_new, Some, SoundTable, Subtask, sym, Table, table_use, Target, Thread, thread_key, ThreadOf, UnderOf, WaitsOn, Where, where_at, Work, work_key, WorkOf, ℕ, ◌+◌, ◌<◌, ◌∙◌, ◌≡◌, ◌⊎◌}
+use Rattle.task_records.specs.declared.{calls.GuestTask.GuestTask, sets.WaitSet.WaitSet, single.Single.Single, threads.GuestThread.GuestThread, works.HostWork.HostWork}
 use Rattle.make_words.proofs.FreshLemmas.{chain_new, chain_other, each_more, none_in, none_keeps, none_passing, none_ready, waits_on_none}
 use Rattle.make_words.proofs.LooseLemmas.{IsIndex-opened}
 use Rattle.make_words.specs.Loose.{AreSetLoose}

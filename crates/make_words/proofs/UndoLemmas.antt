@@ -1,5 +1,6 @@
 -- A set's record that was made and is taken back.
-use Rattle.task_records.proofs.Core.{ap, ap₂, arith, CoreParts, deleted, deletion, deletion_refused, Err, IsSound, IsTable, item_of, next_place, Parts, parts_of, pushed, ResourceTableError, seen, set_of, SetKey, TableId, WaitSet, ℕ, ◌+◌, ◌-◌, ◌<◌, ◌∙◌, ◌≡◌}
+use Rattle.task_records.proofs.Core.{ap, ap₂, arith, deleted, deletion, deletion_refused, Err, IsSound, IsTable, item_of, next_place, Parts, parts_of, pushed, ResourceTableError, seen, set_of, SetKey, TableId, ℕ, ◌+◌, ◌-◌, ◌<◌, ◌∙◌, ◌≡◌}
+use Rattle.task_records.specs.declared.{parts.CoreParts.CoreParts, sets.WaitSet.WaitSet}
 use Rattle.make_words.proofs.RestoreLemmas.{Restores-deleted, Restores-pushed, Restores-same, restored_from}
 use Rattle.make_words.specs.Restored.{IsRestored}
 use Rattle.task_records.proofs.KindLemmas.{refused_number}

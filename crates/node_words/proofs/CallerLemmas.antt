@@ -1,5 +1,6 @@
 -- A node or a chain is made among the callers of threads: every list stays as it is.
-use Rattle.task_records.proofs.Core.{ap, callers_chain, callers_in, callers_row, CoreParts, Follower, IsFollower, IsRows, IsRows-made, IsSound, List, None, Option, option_map, Records, records, refl, Renames, same_map, seen, Some, Spot, spot_link, sym, Unmade, values, values_are, ℕ, ◌∙◌, ◌≡◌}
+use Rattle.task_records.proofs.Core.{ap, callers_chain, callers_in, callers_row, IsFollower, IsRows, IsRows-made, IsSound, List, None, Option, option_map, Records, records, refl, Renames, same_map, seen, Some, Spot, spot_link, sym, Unmade, values, values_are, ℕ, ◌∙◌, ◌≡◌}
+use Rattle.task_records.specs.declared.{parts.CoreParts.CoreParts, threads.Follower.Follower}
 use Rattle.node_words.proofs.RowLemmas.{keeps_made}
 use Rattle.queue_words.proofs.CallerLemmas.{bared, callers_get, callers_sound, numbers_of}
 

@@ -1,5 +1,6 @@
 -- A node or a chain is made among the marks or the shelves: every list stays as it is.
-use Rattle.task_records.proofs.Core.{[], ap, ap₂, bare, cases_eq, chained, CoreParts, High, image, inl, inr, is_made, is_of_instance, IsRows, IsRows-made, IsSeated, IsSound, List, Low, map, None, part, Parts, parts_of, Queued, Renames, Row, row, row_chain, seen, shelf_chain, Spot, spot_is_made, spot_link, true, Unmade, ℕ, ◌∙◌, ◌≡◌, ◌⊎◌}
+use Rattle.task_records.proofs.Core.{[], ap, ap₂, bare, cases_eq, chained, High, image, inl, inr, is_made, is_of_instance, IsRows, IsRows-made, IsSeated, IsSound, List, Low, map, None, part, Parts, parts_of, Renames, Row, row, row_chain, seen, shelf_chain, Spot, spot_is_made, spot_link, true, Unmade, ℕ, ◌∙◌, ◌≡◌, ◌⊎◌}
+use Rattle.task_records.specs.declared.{parts.CoreParts.CoreParts, threads.Queued.Queued}
 use Rattle.queue_words.proofs.WholeLemmas.{KeepsNodes, chains_sound, row_is, rows_whole}
 
 -- what was made is made

@@ -1,5 +1,6 @@
 -- What two tables have in common that are alike as far as a function of their entries sees.
-use Rattle.task_records.proofs.Core.{[], ap, ap₂, Filing, filings, found_record, HaveNodes, is_made, IsSome, List, map, mapped, None, number_in, number_of, number_of-mapped, on_item, Option, option_map, place_at, place_at-mapped, Placed, placed_as, record_at, refl, said, seated, Single, Some, Spot, StandsAt, subst, sym, Table, tag_of, tags_in, trimmed, true, ℕ, ◌∙◌, ◌∷◌, ◌≡◌}
+use Rattle.task_records.proofs.Core.{[], ap, ap₂, Filing, filings, found_record, HaveNodes, is_made, IsSome, List, map, mapped, None, number_in, number_of, number_of-mapped, on_item, Option, option_map, place_at, place_at-mapped, Placed, placed_as, record_at, refl, said, seated, Some, Spot, StandsAt, subst, sym, Table, tag_of, tags_in, trimmed, true, ℕ, ◌∙◌, ◌∷◌, ◌≡◌}
+use Rattle.task_records.specs.declared.{single.Single.Single}
 use Rattle.task_records.proofs.TableLemmas.{found_mapped, number_at_mapped, with_second}
 use Rattle.place_words.specs.Moved.{Alike}
 use Rattle.queue_words.proofs.BareLemmas.{mapped_place, place_mapped}

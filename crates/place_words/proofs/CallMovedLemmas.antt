@@ -1,5 +1,6 @@
 -- A call is written that has another event or set, and the numbers of members of sets: what else holds of the parts stays.
-use Rattle.task_records.proofs.Core.{ap, ap₂, AreChained, AreCounted, AtPlace, BlockedOn, Bool, Call, call_instance, call_key, CallOf, core_of, count_by, EachEntry, filings, get, get-records, Goal, GuestTask, GuestThread, HasHome, HasRoom, HeldIn, HostWork, is_host_call, is_of_group, IsCallKept, IsCallNamed, IsGroupKept, IsIndex, IsIndex-same_chains, IsSetKept, IsWhole, IsWorkNamed, join_target, length, List, mapped, no_callee, None, Nothing, on_item, Option, option_map, option_map_or, Parts, passing, place_chain, ready_call, ready_call_chain, ready_work_chain, records, refl, same_Some, SetOf, Single, size, Some, Spot, subst, Subtask, sym, Table, table_use, Target, TaskGroup, ThreadOf, UnderOf, WaitSet, WaitsOn, Where, WorkOf, ℕ, ◌*◌, ◌+◌, ◌==◌, ◌∙◌, ◌≡◌}
+use Rattle.task_records.proofs.Core.{ap, ap₂, AreChained, AreCounted, AtPlace, BlockedOn, Bool, Call, call_instance, call_key, CallOf, core_of, count_by, EachEntry, filings, get, get-records, Goal, HasHome, HasRoom, HeldIn, is_host_call, is_of_group, IsCallKept, IsCallNamed, IsGroupKept, IsIndex, IsIndex-same_chains, IsSetKept, IsWhole, IsWorkNamed, join_target, length, List, mapped, no_callee, None, Nothing, on_item, Option, option_map, option_map_or, Parts, passing, place_chain, ready_call, ready_call_chain, ready_work_chain, records, refl, same_Some, SetOf, size, Some, Spot, subst, Subtask, sym, Table, table_use, Target, ThreadOf, UnderOf, WaitsOn, Where, WorkOf, ℕ, ◌*◌, ◌+◌, ◌==◌, ◌∙◌, ◌≡◌}
+use Rattle.task_records.specs.declared.{calls.GuestTask.GuestTask, calls.TaskGroup.TaskGroup, sets.WaitSet.WaitSet, single.Single.Single, threads.GuestThread.GuestThread, works.HostWork.HostWork}
 use Rattle.task_records.proofs.KeptLemmas.{passing_seconds, records_seconds, seconds, size_seconds}
 use Rattle.place_words.proofs.AlikeLemmas.{found_alike, found_loose, number_alike, place_alike, stands_alike}
 use Rattle.place_words.proofs.PutLemmas.{sets_same}

@@ -1,5 +1,6 @@
 -- The chains of the ready members of a set whose number was kept.
-use Rattle.task_records.proofs.Core.{ap, arith, bare, Bool, cond, CoreParts, false, found_record, get, get-records, is_some, IsSound, item_at, item_of, kept_in, None, Ok, Option, parts_of, ready_call_chain, ready_work_chain, Records, refl, seen, Set, set_key, Single, Some, subst, sym, true, WaitSet, ℕ, ◌<◌, ◌∙◌, ◌≡◌}
+use Rattle.task_records.proofs.Core.{ap, arith, bare, Bool, cond, false, found_record, get, get-records, is_some, IsSound, item_at, item_of, kept_in, None, Ok, Option, parts_of, ready_call_chain, ready_work_chain, Records, refl, seen, Set, set_key, Some, subst, sym, true, ℕ, ◌<◌, ◌∙◌, ◌≡◌}
+use Rattle.task_records.specs.declared.{parts.CoreParts.CoreParts, sets.WaitSet.WaitSet, single.Single.Single}
 use Rattle.task_records.proofs.KindLemmas.{absent, item_stands}
 use Rattle.place_words.proofs.FiledLemmas.{kept_under}
 use Rattle.queue_words.proofs.BareLemmas.{number_positive}

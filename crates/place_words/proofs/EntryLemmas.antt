@@ -1,5 +1,6 @@
 -- How many entries a set has, as the number that is kept.
-use Rattle.task_records.proofs.Core.{ap, arith, Bool, cases_eq, cond, CoreParts, Delivery, entry_of, entry_put, eq-eqb, Err, false, HowFar, inl, inr, is_inside_wait, IsSound, item_at, item_of, keeps_set, key_in, mapped-with_entry_same, ne_eqb, number_in, number_of, Ok, on_item, Option, option_map_or, Place, place_at, place_at-with_entry, Placed, record_at, refl, ResourceTableError, Result, same_Some, set_key, Single, slice_get_past, Some, SoundTable, standing, sym, Table, Thread, true, WaitSet, Why, with_entry, ℕ, ◌==◌, ◌||◌, ◌∙◌, ◌≡◌, ◌⊎◌}
+use Rattle.task_records.proofs.Core.{ap, arith, Bool, cases_eq, cond, Delivery, entry_of, entry_put, eq-eqb, Err, false, HowFar, inl, inr, is_inside_wait, IsSound, item_at, item_of, keeps_set, key_in, mapped-with_entry_same, ne_eqb, number_in, number_of, Ok, on_item, Option, option_map_or, Place, place_at, place_at-with_entry, Placed, record_at, refl, ResourceTableError, Result, same_Some, set_key, slice_get_past, Some, SoundTable, standing, sym, Table, Thread, true, Why, with_entry, ℕ, ◌==◌, ◌||◌, ◌∙◌, ◌≡◌, ◌⊎◌}
+use Rattle.task_records.specs.declared.{parts.CoreParts.CoreParts, sets.WaitSet.WaitSet, single.Single.Single}
 use Rattle.task_records.proofs.KindLemmas.{item_number, item_stands, refused_number, table_written}
 use Rattle.place_words.specs.Moved.{Alike, entry_set, recounted, rejoined, resumed_set, rewritten, rewritten_by, uncounted}
 use Rattle.queue_words.proofs.BareLemmas.{number_positive, one_place}

@@ -1,5 +1,6 @@
 -- What a record keeps under its number, and where threads are filed.
-use Rattle.task_records.proofs.Core.{ap, bare, bare_thread, Bool, CoreParts, Filing, filings, found_record, found_record_at, GuestThread, IsIndex, IsIndex-same, IsSound, item_at, item_of, key_in, None, number_in, Ok, on_item, Option, option_map, parts_of, PassesAt, Place, place_at, place_at-mapped, place_chain, place_filing, Placed, placed_as, record_at, refl, said, same_Some, Single, Some, SoundTable, sym, Table, Tests, Thread, thread_key, true, Where, where_at, ℕ, ◌∙◌, ◌≡◌}
+use Rattle.task_records.proofs.Core.{ap, bare, bare_thread, Bool, Filing, filings, found_record, found_record_at, IsIndex, IsIndex-same, IsSound, item_at, item_of, key_in, None, number_in, Ok, on_item, Option, option_map, parts_of, PassesAt, Place, place_at, place_at-mapped, place_chain, place_filing, Placed, placed_as, record_at, refl, said, same_Some, Some, SoundTable, sym, Table, Tests, Thread, thread_key, true, Where, where_at, ℕ, ◌∙◌, ◌≡◌}
+use Rattle.task_records.specs.declared.{parts.CoreParts.CoreParts, single.Single.Single, threads.GuestThread.GuestThread}
 use Rattle.task_records.proofs.KindLemmas.{item_stands}
 use Rattle.task_records.proofs.StandLemmas.{number_here}
 use Rattle.queue_words.proofs.CallerLemmas.{apart_as}

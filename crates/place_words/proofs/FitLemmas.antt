@@ -1,5 +1,6 @@
 -- The number of a set's entries is above 0 where one is taken away, and small.
-use Rattle.task_records.proofs.Core.{[], ap, arith, bare_thread, Bool, cond, CoreParts, count_by-le-length, eq-eqb, false, get, GuestThread, is_some, IsSound, item_at, item_of, key_in, length, List, loose_thread, None, number_of, Ok, Option, passing, Placed, Records, records, seen, set_key, set_of, SetKey, Single, size, size-empty, size-insert, Some, suc, sym, TableId, Thread, thread_key, ThreadKey, true, WaitSet, with_record, ℕ, ◌+◌, ◌-◌, ◌==◌, ◌∙◌, ◌∷◌, ◌≡◌, ◌≤◌}
+use Rattle.task_records.proofs.Core.{[], ap, arith, bare_thread, Bool, cond, count_by-le-length, eq-eqb, false, get, is_some, IsSound, item_at, item_of, key_in, length, List, loose_thread, None, number_of, Ok, Option, passing, Placed, Records, records, seen, set_key, set_of, SetKey, size, size-empty, size-insert, Some, suc, sym, TableId, Thread, thread_key, ThreadKey, true, with_record, ℕ, ◌+◌, ◌-◌, ◌==◌, ◌∙◌, ◌∷◌, ◌≡◌, ◌≤◌}
+use Rattle.task_records.specs.declared.{parts.CoreParts.CoreParts, sets.WaitSet.WaitSet, single.Single.Single, threads.GuestThread.GuestThread}
 use Rattle.task_records.proofs.KindLemmas.{item_number, item_stands}
 use Rattle.place_words.proofs.EntryLemmas.{keeps_is, recounted_each, recounted_sound}
 use Rattle.place_words.proofs.PlacedLemmas.{entries_then, from_number, set_positive, set_there, set_was, sets_less}

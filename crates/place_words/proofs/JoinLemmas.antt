@@ -1,5 +1,6 @@
 -- How many members a set has, as the number that is kept, where something leaves one set for another.
-use Rattle.task_records.proofs.Core.{ap, ap₂, arith, bare, bare_call, bare_work, Bool, Call, call_key, cond, core_of, CoreParts, count_by-le-length, entries_for, eq-eqb, false, found_record_at, get, get-records, is_in_set, IsSetKept, IsSome, IsSound, item_at, item_of, Join, key_in, length, length-map, mapped, members_of, number_of, Ok, on_item, Option, parts_of, place_at, Placed, placed_as, refl, seen, set_key, set_of, SetKey, Single, size, Some, SoundTable, subst, sym, Table, TableId, true, WaitSet, Work, work_key, ℕ, ◌+◌, ◌-◌, ◌<◌, ◌==◌, ◌^◌, ◌∙◌, ◌≡◌, ◌≤◌}
+use Rattle.task_records.proofs.Core.{ap, ap₂, arith, bare, bare_call, bare_work, Bool, Call, call_key, cond, core_of, count_by-le-length, entries_for, eq-eqb, false, found_record_at, get, get-records, is_in_set, IsSetKept, IsSome, IsSound, item_at, item_of, Join, key_in, length, length-map, mapped, members_of, number_of, Ok, on_item, Option, parts_of, place_at, Placed, placed_as, refl, seen, set_key, set_of, SetKey, size, Some, SoundTable, subst, sym, Table, TableId, true, Work, work_key, ℕ, ◌+◌, ◌-◌, ◌<◌, ◌==◌, ◌^◌, ◌∙◌, ◌≡◌, ◌≤◌}
+use Rattle.task_records.specs.declared.{parts.CoreParts.CoreParts, sets.WaitSet.WaitSet, single.Single.Single}
 use Rattle.task_records.proofs.KindLemmas.{item_number, item_stands}
 use Rattle.task_records.proofs.ReadLemmas.{set_shown}
 use Rattle.place_words.proofs.AlikeLemmas.{number_of_alike}

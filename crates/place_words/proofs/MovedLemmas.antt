@@ -1,5 +1,6 @@
 -- A thread is written that gets another place, and the numbers of entries of sets: what else holds of the parts stays.
-use Rattle.task_records.proofs.Core.{ap, ap₂, AreChained, AreCounted, AtPlace, BlockedOn, callers_chain, callers_row, CallOf, chained, core_of, count_by, Each, EachEntry, Entry, entry_seated, filings, Follower, follower, GuestTask, GuestThread, HasHome, HaveRowNodes, HeldIn, HostWork, IfSome, is_host_call, is_of_instance, IsCallNamed, IsFollower, IsIndex, IsIndex-same_chains, IsRows, IsSeated, IsSetKept, IsWhole, IsWorkNamed, length, List, None, Nothing, Option, part, Parts, place_chain, place_filing, Queued, ready_call_chain, ready_work_chain, refl, row, row_chain, SetOf, shelf_chain, Single, size, Some, Spot, subst, Subtask, sym, Table, table_use, Target, thread_entry, ThreadOf, threads_of, UnderOf, WaitSet, WaitsOn, Where, with_nodes, WorkOf, ℕ, ◌*◌, ◌+◌, ◌∙◌, ◌≡◌}
+use Rattle.task_records.proofs.Core.{ap, ap₂, AreChained, AreCounted, AtPlace, BlockedOn, callers_chain, callers_row, CallOf, chained, core_of, count_by, Each, EachEntry, Entry, entry_seated, filings, follower, HasHome, HaveRowNodes, HeldIn, IfSome, is_host_call, is_of_instance, IsCallNamed, IsFollower, IsIndex, IsIndex-same_chains, IsRows, IsSeated, IsSetKept, IsWhole, IsWorkNamed, length, List, None, Nothing, Option, part, Parts, place_chain, place_filing, ready_call_chain, ready_work_chain, refl, row, row_chain, SetOf, shelf_chain, size, Some, Spot, subst, Subtask, sym, Table, table_use, Target, thread_entry, ThreadOf, threads_of, UnderOf, WaitsOn, Where, with_nodes, WorkOf, ℕ, ◌*◌, ◌+◌, ◌∙◌, ◌≡◌}
+use Rattle.task_records.specs.declared.{calls.GuestTask.GuestTask, sets.WaitSet.WaitSet, single.Single.Single, threads.Follower.Follower, threads.GuestThread.GuestThread, threads.Queued.Queued, works.HostWork.HostWork}
 use Rattle.place_words.proofs.AlikeLemmas.{found_alike, nodes_alike, place_alike, seated_alike, stands_alike}
 use Rattle.place_words.specs.Moved.{Alike, still, still_thread, uncounted}
 use Rattle.queue_words.proofs.ListLemmas.{Each-weaker}

@@ -1,5 +1,6 @@
 -- A thread with another place: the core is sound, and contracts see just that.
-use Rattle.task_records.proofs.Core.{ap, ap₂, AreHandlesNamed, AtPlace, bare, bare_thread, Bool, call_instance, call_key, callers_in, CallOf, change, cond, core_of, CoreParts, EachEntry, entries_for, entry_of, filings, filings_at, found_record_at, get, get-records, GuestThread, HandleKind, HasHome, HasNumber, how_far_target, IfSome, InstanceRecord, is_made, IsHeldNamed, IsIndex, IsIndex-with_entry, IsSetKept, IsSome, IsSound, IsWhole, item_at, item_of, keeps_set, key_in, kinds, link_for, link_of, List, list_of, loose_thread, mapped, mapped-with_entry, mapped-with_entry_same, None, number_of, Ok, on_core, on_item, on_thread, Option, option_and_then, OwnsHandle, Parts, parts_of, passing, Place, place_at, place_chain, place_filing, place_target, Placed, Records, records, Refiles, refl, Rep, seen, Set, set_key, set_of, SetKey, SetOf, Single, size, slice_get, Some, Spot, StateView, subst, sym, Table, TableId, Tag, tags_in, Thread, thread_at, thread_key, thread_of, ThreadKey, ThreadOf, true, WaitableKind, WaitSet, Where, where_at, with_entry, WorkOf, ℕ, ◌+◌, ◌-◌, ◌<◌, ◌==◌, ◌∙◌, ◌≡◌}
+use Rattle.task_records.proofs.Core.{ap, ap₂, AreHandlesNamed, AtPlace, bare, bare_thread, Bool, call_instance, call_key, callers_in, CallOf, change, cond, core_of, EachEntry, entries_for, entry_of, filings, filings_at, found_record_at, get, get-records, HandleKind, HasHome, HasNumber, how_far_target, IfSome, is_made, IsHeldNamed, IsIndex, IsIndex-with_entry, IsSetKept, IsSome, IsSound, IsWhole, item_at, item_of, keeps_set, key_in, kinds, link_for, link_of, List, list_of, loose_thread, mapped, mapped-with_entry, mapped-with_entry_same, None, number_of, Ok, on_core, on_item, on_thread, Option, option_and_then, OwnsHandle, Parts, parts_of, passing, Place, place_at, place_chain, place_filing, place_target, Placed, Records, records, Refiles, refl, Rep, seen, Set, set_key, set_of, SetKey, SetOf, size, slice_get, Some, Spot, StateView, subst, sym, Table, TableId, Tag, tags_in, Thread, thread_at, thread_key, thread_of, ThreadKey, ThreadOf, true, WaitableKind, Where, where_at, with_entry, WorkOf, ℕ, ◌+◌, ◌-◌, ◌<◌, ◌==◌, ◌∙◌, ◌≡◌}
+use Rattle.task_records.specs.declared.{instances.InstanceRecord.InstanceRecord, parts.CoreParts.CoreParts, sets.WaitSet.WaitSet, single.Single.Single, threads.GuestThread.GuestThread}
 use Rattle.task_records.proofs.HomeLemmas.{place_in_bare, thread_home}
 use Rattle.task_records.proofs.KeptLemmas.{passing_seconds, size_seconds}
 use Rattle.task_records.proofs.KindLemmas.{item_stands, records_changed, table_written, tags_written}

@@ -1,5 +1,6 @@
 -- A thread with another place, as the word writes it: records, sets and chains together.
-use Rattle.task_records.proofs.Core.{ap, arith, bare_thread, Bool, cond, Core, CoreParts, entry_of, false, get, get-records, GuestThread, is_some, IsSome, IsSound, item_at, item_of, keeps_set, loose_thread, mapped, ne_eqb, None, Ok, on_item, one_if_passes, Option, passing, Place, records, refl, same_map, set_key, Single, size, size-change, Some, subst, sym, Table, Thread, thread_key, true, WaitSet, with_entry, ℕ, ◌+◌, ◌-◌, ◌<◌, ◌==◌, ◌∙◌, ◌≡◌, ◌≤◌}
+use Rattle.task_records.proofs.Core.{ap, arith, bare_thread, Bool, cond, Core, entry_of, false, get, get-records, is_some, IsSome, IsSound, item_at, item_of, keeps_set, loose_thread, mapped, ne_eqb, None, Ok, on_item, one_if_passes, Option, passing, Place, records, refl, same_map, set_key, size, size-change, Some, subst, sym, Table, Thread, thread_key, true, with_entry, ℕ, ◌+◌, ◌-◌, ◌<◌, ◌==◌, ◌∙◌, ◌≡◌, ◌≤◌}
+use Rattle.task_records.specs.declared.{parts.CoreParts.CoreParts, sets.WaitSet.WaitSet, single.Single.Single, threads.GuestThread.GuestThread}
 use Rattle.task_records.proofs.KeptLemmas.{records_seconds, seconds}
 use Rattle.task_records.proofs.KindLemmas.{passing_same, passing_written, records_changed}
 use Rattle.place_words.proofs.AlikeLemmas.{found_alike}

@@ -1,5 +1,6 @@
 -- The ready members of a set.
-use Rattle.task_records.proofs.Core.{[], ap, ap₂, bare, bare_call, bare_work, Bool, Call, call_key, Core, CoreParts, eq-eqb, eqb-true, false, filed_held, Filing, filings, filings_at, get, get-records, GuestTask, has, has_ready_member, held_passes, Holds, HostWork, is_in_set, is_ready_member, is_some, IsIndex, IsIndex-same, IsMembers-numbers, IsSome, IsSound, item_at, item_of, Join, key_in, List, list_any, list_of, map, None, number_in, numbers, Ok, on_item, Option, option_and_then, option_map_or, parts_of, place_at, place_at-mapped, Placed, placed_as, ready_call, ready_call_chain, ready_in, ready_work, ready_work_chain, record_at, record_found, records, refl, said, same_Some, seen, Single, Some, Spot, Status, Subtask, subtasks, sym, Table, Tests, true, WaitSet, Work, work_key, ℕ, ◌&&◌, ◌++◌, ◌==◌, ◌||◌, ◌∙◌, ◌∷◌, ◌≡◌}
+use Rattle.task_records.proofs.Core.{[], ap, ap₂, bare, bare_call, bare_work, Bool, Call, call_key, Core, eq-eqb, eqb-true, false, filed_held, Filing, filings, filings_at, get, get-records, has, has_ready_member, held_passes, Holds, is_in_set, is_ready_member, is_some, IsIndex, IsIndex-same, IsMembers-numbers, IsSome, IsSound, item_at, item_of, Join, key_in, List, list_any, list_of, map, None, number_in, numbers, Ok, on_item, Option, option_and_then, option_map_or, parts_of, place_at, place_at-mapped, Placed, placed_as, ready_call, ready_call_chain, ready_in, ready_work, ready_work_chain, record_at, record_found, records, refl, said, same_Some, seen, Some, Spot, Status, Subtask, subtasks, sym, Table, Tests, true, Work, work_key, ℕ, ◌&&◌, ◌++◌, ◌==◌, ◌||◌, ◌∙◌, ◌∷◌, ◌≡◌}
+use Rattle.task_records.specs.declared.{calls.GuestTask.GuestTask, parts.CoreParts.CoreParts, sets.WaitSet.WaitSet, single.Single.Single, works.HostWork.HostWork}
 use Rattle.place_words.proofs.FiledLemmas.{kept_under, passes_number}
 
 -- what has this event and is joined so is a ready member

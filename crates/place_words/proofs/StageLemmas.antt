@@ -1,5 +1,6 @@
 -- A host work of another stage: what is counted, and where it is filed.
-use Rattle.task_records.proofs.Core.{ap, arith, Bool, cond, CoreParts, count_by-le-length, filings_at, HostTaskKey, HostWork, IfSome, is_live, is_moving, IsSome, IsSound, item_at, item_of, length, link_for, link_of, list_of, live_chain, None, Ok, one_if_passes, Option, option_and_then, passing, ready_in, ready_work, ready_work_chain, records, Refiles, refl, seen, Single, size, Some, Stage, subst, TableId, true, Work, work_key, ℕ, ◌+◌, ◌<◌, ◌^◌, ◌≡◌, ◌≤◌}
+use Rattle.task_records.proofs.Core.{ap, arith, Bool, cond, count_by-le-length, filings_at, HostTaskKey, IfSome, is_live, is_moving, IsSome, IsSound, item_at, item_of, length, link_for, link_of, list_of, live_chain, None, Ok, one_if_passes, Option, option_and_then, passing, ready_in, ready_work, ready_work_chain, records, Refiles, refl, seen, size, Some, Stage, subst, TableId, true, Work, work_key, ℕ, ◌+◌, ◌<◌, ◌^◌, ◌≡◌, ◌≤◌}
+use Rattle.task_records.specs.declared.{parts.CoreParts.CoreParts, single.Single.Single, works.HostWork.HostWork}
 use Rattle.task_records.proofs.KeptLemmas.{live_is}
 use Rattle.task_records.proofs.KindLemmas.{passing_written}
 use Rattle.place_words.proofs.FitLemmas.{records_fit}

@@ -1,5 +1,6 @@
 -- What an id names stands at the place of the id, and its chains are those of its number.
-use Rattle.task_records.proofs.Core.{ap, AtPlace, bare, bare_call, bare_thread, bare_work, BlockedOn, call_of, CallOf, CoreParts, found_record, GuestTask, GuestTaskKey, GuestThread, HostTaskKey, HostWork, IsSound, item_at, item_of, mapped, None, Ok, on_item, parts_of, place_chain, refl, seen, set_of, SetKey, SetOf, Single, Some, SoundTable, subst, Subtask, sym, Table, TableId, thread_of, ThreadKey, ThreadOf, UnderOf, WaitSet, WaitsOn, work_of, WorkOf, ℕ, ◌∙◌, ◌≡◌}
+use Rattle.task_records.proofs.Core.{ap, AtPlace, bare, bare_call, bare_thread, bare_work, BlockedOn, call_of, CallOf, found_record, GuestTaskKey, HostTaskKey, IsSound, item_at, item_of, mapped, None, Ok, on_item, parts_of, place_chain, refl, seen, set_of, SetKey, SetOf, Some, SoundTable, subst, Subtask, sym, Table, TableId, thread_of, ThreadKey, ThreadOf, UnderOf, WaitsOn, work_of, WorkOf, ℕ, ◌∙◌, ◌≡◌}
+use Rattle.task_records.specs.declared.{calls.GuestTask.GuestTask, parts.CoreParts.CoreParts, sets.WaitSet.WaitSet, single.Single.Single, threads.GuestThread.GuestThread, works.HostWork.HostWork}
 use Rattle.task_records.proofs.HomeLemmas.{call_at_place, set_at_place, thread_at_place, work_at_place}
 use Rattle.task_records.proofs.TableLemmas.{found_mapped}
 use Rattle.place_words.proofs.AlikeLemmas.{id_same}

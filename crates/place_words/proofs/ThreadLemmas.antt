@@ -1,5 +1,6 @@
 -- Words on one thread: its record is read, or there is none.
-use Rattle.task_records.proofs.Core.{ap, AtPlace, change, changed, CoreParts, entry_of, get, GuestThread, how_far_target, IsSound, item_at, item_of, mapped-with_entry_same, None, number_in, Ok, on_core, on_item, on_thread, option_map, option_map_or, parts_of, ready_why, record_at, refl, Some, StateView, subst, sym, TableId, Thread, thread_key, ThreadKey, Why, why_of, why_target, with_entry, ℕ, ◌∙◌, ◌≡◌}
+use Rattle.task_records.proofs.Core.{ap, AtPlace, change, changed, entry_of, get, how_far_target, IsSound, item_at, item_of, mapped-with_entry_same, None, number_in, Ok, on_core, on_item, on_thread, option_map, option_map_or, parts_of, ready_why, record_at, refl, Some, StateView, subst, sym, TableId, Thread, thread_key, ThreadKey, Why, why_of, why_target, with_entry, ℕ, ◌∙◌, ◌≡◌}
+use Rattle.task_records.specs.declared.{parts.CoreParts.CoreParts, threads.GuestThread.GuestThread}
 use Rattle.task_records.proofs.HomeLemmas.{place_bare, thread_home}
 use Rattle.task_records.proofs.KindLemmas.{item_stands}
 use Rattle.place_words.proofs.AlikeLemmas.{number_alike}

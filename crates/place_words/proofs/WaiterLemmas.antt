@@ -1,5 +1,6 @@
 -- The waiters of a set.
-use Rattle.task_records.proofs.Core.{ap, AtPlace, bare, CoreParts, eq-eqb, eqb-true, false, Filing, get, GuestThread, has_waiter, held_passes, Holds, is_waiter, is_waiting_on, IsSome, IsSound, item_at, item_of, key_in, list_of, none_passes, number_in, Ok, option_map, option_map_or, Parts, parts_of, Place, place_chain, place_filing, place_target, ready_why, record_at, records, same_Some, seen, Some, subst, sym, Thread, thread_key, true, WaitSet, WaitsOn, Where, where_at, why_target, ℕ, ◌<◌, ◌∙◌, ◌≡◌}
+use Rattle.task_records.proofs.Core.{ap, AtPlace, bare, eq-eqb, eqb-true, false, Filing, get, has_waiter, held_passes, Holds, is_waiter, is_waiting_on, IsSome, IsSound, item_at, item_of, key_in, list_of, none_passes, number_in, Ok, option_map, option_map_or, Parts, parts_of, Place, place_chain, place_filing, place_target, ready_why, record_at, records, same_Some, seen, Some, subst, sym, Thread, thread_key, true, WaitsOn, Where, where_at, why_target, ℕ, ◌<◌, ◌∙◌, ◌≡◌}
+use Rattle.task_records.specs.declared.{parts.CoreParts.CoreParts, sets.WaitSet.WaitSet, threads.GuestThread.GuestThread}
 use Rattle.place_words.proofs.FiledLemmas.{kept_under, passes_number, place_tests, places_filed}
 use Rattle.queue_words.proofs.BareLemmas.{number_positive}
 

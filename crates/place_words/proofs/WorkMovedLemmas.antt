@@ -1,5 +1,6 @@
 -- A host work is written that has another event, set or stage, with the numbers that count these: what else holds of the parts stays.
-use Rattle.task_records.proofs.Core.{ap, ap₂, AreChained, AreCounted, AtPlace, BlockedOn, Bool, CallOf, core_of, EachEntry, Entry, entry_seated, filings, GuestTask, GuestThread, HasHome, HeldIn, host_entry, HostWork, is_host_call, is_live, is_of_group, is_of_instance, IsCallNamed, IsGroupKept, IsIndex, IsIndex-same_chains, IsSeated, IsSetKept, IsWhole, IsWorkNamed, join_target, length, List, live_chain, live_work, LiveWork, mapped, Nothing, on_item, part, Parts, passing, place_chain, push_entry, Queued, ready_call_chain, ready_work, ready_work_chain, records, refl, Rises, row, row_chain, SetOf, shelf_chain, Single, size, Spot, subst, Subtask, sym, Table, table_use, Target, TaskGroup, ThreadOf, UnderOf, WaitSet, WaitsOn, Where, Work, work_key, WorkOf, ℕ, ◌*◌, ◌+◌, ◌==◌, ◌∙◌, ◌≡◌}
+use Rattle.task_records.proofs.Core.{ap, ap₂, AreChained, AreCounted, AtPlace, BlockedOn, Bool, CallOf, core_of, EachEntry, Entry, entry_seated, filings, HasHome, HeldIn, host_entry, is_host_call, is_live, is_of_group, is_of_instance, IsCallNamed, IsGroupKept, IsIndex, IsIndex-same_chains, IsSeated, IsSetKept, IsWhole, IsWorkNamed, join_target, length, List, live_chain, live_work, mapped, Nothing, on_item, part, Parts, passing, place_chain, push_entry, ready_call_chain, ready_work, ready_work_chain, records, refl, Rises, row, row_chain, SetOf, shelf_chain, size, Spot, subst, Subtask, sym, Table, table_use, Target, ThreadOf, UnderOf, WaitsOn, Where, Work, work_key, WorkOf, ℕ, ◌*◌, ◌+◌, ◌==◌, ◌∙◌, ◌≡◌}
+use Rattle.task_records.specs.declared.{calls.GuestTask.GuestTask, calls.TaskGroup.TaskGroup, sets.WaitSet.WaitSet, single.Single.Single, threads.GuestThread.GuestThread, threads.Queued.Queued, works.HostWork.HostWork, works.LiveWork.LiveWork}
 use Rattle.task_records.proofs.KeptLemmas.{passing_seconds, records_seconds, seconds}
 use Rattle.place_words.proofs.AlikeLemmas.{found_alike, nodes_alike, place_alike, seated_alike, stands_alike}
 use Rattle.place_words.proofs.MovedLemmas.{IsRows-alike}

@@ -1,5 +1,6 @@
 -- Threads, works and instances as the invariant of a core knows them, where their loose fields are left out.
-use Rattle.task_records.proofs.Core.{[], ap, arith, bare, bare_instance, bare_thread, CoreParts, found_record, found_record_at, get_or, GuestThread, High, InstanceRecord, IsSome, IsSound, item_at, item_of, key_in, List, loose_thread, Low, map, mapped, None, number_in, Ok, on_item, Option, option_map, parts_of, place_at, place_at-mapped, Placed, placed_as, Queued, record_at, refl, Row, same_Some, shelf_chain, shelf_in, Single, slice_get, slice_get-map, Some, SoundTable, subst, suc, sym, Table, thread_entry, thread_key, zero, ℕ, ◌<◌, ◌∙◌, ◌∷◌, ◌≡◌}
+use Rattle.task_records.proofs.Core.{[], ap, arith, bare, bare_instance, bare_thread, found_record, found_record_at, get_or, High, IsSome, IsSound, item_at, item_of, key_in, List, loose_thread, Low, map, mapped, None, number_in, Ok, on_item, Option, option_map, parts_of, place_at, place_at-mapped, Placed, placed_as, record_at, refl, Row, same_Some, shelf_chain, shelf_in, slice_get, slice_get-map, Some, SoundTable, subst, suc, sym, Table, thread_entry, thread_key, zero, ℕ, ◌<◌, ◌∙◌, ◌∷◌, ◌≡◌}
+use Rattle.task_records.specs.declared.{instances.InstanceRecord.InstanceRecord, parts.CoreParts.CoreParts, single.Single.Single, threads.GuestThread.GuestThread, threads.Queued.Queued}
 use Rattle.task_records.proofs.KindLemmas.{absent, item_stands}
 use Rattle.task_records.proofs.TableLemmas.{number_at_mapped}
 use Rattle.queue_words.specs.Seats.{OfThread}

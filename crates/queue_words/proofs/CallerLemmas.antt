@@ -1,5 +1,6 @@
 -- The callers of threads: the chains of the core, and the machine's map.
-use Rattle.task_records.proofs.Core.{[], ap, Apart, AreApart, arith, bare, bare_thread, Bool, callers_chain, callers_in, callers_key, callers_of, callers_row, cases_eq, chained, cond, CoreParts, Each, entries, eq-eqb, eqb-true, false, first_number, Follower, follower, found_record, found_record_at, free_in_none, get, get-insert, get-records, GuestThread, head_of, In, inl, inr, insert, is_free, is_made, is_nil, is_some, IsBehindNobody, IsFollower, IsLinks, IsRows, IsRows-pushed, IsRows-removed, IsRows-same, IsSome, IsSound, IsWhole, item_at, item_of, key_in, last_of, last_or, later_of, less_by, less_elsewhere, linked, List, list_any, list_of, map, map-append, mapped, ne_eqb, newest, newest_of, None, not, Ok, older, older_of, on_core, on_item, one_if, Option, option_map, Parts, parts_of, place_at, Placed, Records, records, Refiles-linked, Refiles-removed, refl, removed, same_map, same_Some, seen, set_callers, Single, slice_get, Some, Spot, standing, subst, sym, TableId, thread_of, ThreadKey, times, true, unwrap_or, values, values_are, with_nodes, ℕ, ◌++◌, ◌+◌, ◌==◌, ◌||◌, ◌∙◌, ◌∷◌, ◌≡◌}
+use Rattle.task_records.proofs.Core.{[], ap, Apart, AreApart, arith, bare, bare_thread, Bool, callers_chain, callers_in, callers_key, callers_of, callers_row, cases_eq, chained, cond, Each, entries, eq-eqb, eqb-true, false, first_number, follower, found_record, found_record_at, free_in_none, get, get-insert, get-records, head_of, In, inl, inr, insert, is_free, is_made, is_nil, is_some, IsBehindNobody, IsFollower, IsLinks, IsRows, IsRows-pushed, IsRows-removed, IsRows-same, IsSome, IsSound, IsWhole, item_at, item_of, key_in, last_of, last_or, later_of, less_by, less_elsewhere, linked, List, list_any, list_of, map, map-append, mapped, ne_eqb, newest, newest_of, None, not, Ok, older, older_of, on_core, on_item, one_if, Option, option_map, Parts, parts_of, place_at, Placed, Records, records, Refiles-linked, Refiles-removed, refl, removed, same_map, same_Some, seen, set_callers, slice_get, Some, Spot, standing, subst, sym, TableId, thread_of, ThreadKey, times, true, unwrap_or, values, values_are, with_nodes, ℕ, ◌++◌, ◌+◌, ◌==◌, ◌||◌, ◌∙◌, ◌∷◌, ◌≡◌}
+use Rattle.task_records.specs.declared.{parts.CoreParts.CoreParts, single.Single.Single, threads.Follower.Follower, threads.GuestThread.GuestThread}
 use Rattle.task_records.proofs.KindLemmas.{item_stands}
 use Rattle.task_records.proofs.ReadLemmas.{thread_named}
 use Rattle.task_records.proofs.TableLemmas.{found_mapped}

@@ -1,6 +1,7 @@
 -- An entry leaves its mark, as words take it out.
-use Rattle.task_records.proofs.Core.{[], ap, ap₂, arith, bare, cond, CoreParts, Entry, eqb-true, false, has_entry, High, inl, inr, is_entry_of, is_made, is_some, IsLinks, IsSeated, IsSome, IsSound, IsWhole, less_by, List, list_any, Low, map, Mark, ne_eqb, None, on_core, Parts, parts_of, popped, Queued, refl, removed, rest_of, Row, row, same_Some, seen, set_high, set_low, Some, Spot, subst, sym, true, unqueued, ℕ, ◌<◌, ◌||◌, ◌∙◌, ◌∷◌, ◌≡◌}
+use Rattle.task_records.proofs.Core.{[], ap, ap₂, arith, bare, cond, Entry, eqb-true, false, has_entry, High, inl, inr, is_entry_of, is_made, is_some, IsLinks, IsSeated, IsSome, IsSound, IsWhole, less_by, List, list_any, Low, map, Mark, ne_eqb, None, on_core, Parts, parts_of, popped, refl, removed, rest_of, Row, row, same_Some, seen, set_high, set_low, Some, Spot, subst, sym, true, unqueued, ℕ, ◌<◌, ◌||◌, ◌∙◌, ◌∷◌, ◌≡◌}
 use Rattle.task_index.proofs.Queues.{unqueued_both}
+use Rattle.task_records.specs.declared.{parts.CoreParts.CoreParts, threads.Queued.Queued}
 use Rattle.queue_words.specs.Seats.{OfThread, OfWork, RowsAre, is_entry_of_work, leaves, left, rest, top}
 use Rattle.queue_words.proofs.RowLemmas.{left_elsewhere, mark_made, row_known, shelf_made, thread_left, work_left}
 use Rattle.queue_words.proofs.SeatLemmas.{leaves_itself, leaves_thread, same_thread, seat_of, threads_own}

@@ -1,5 +1,6 @@
 -- A push of a thread's entry, or of a work's host entry, as words make it.
-use Rattle.task_records.proofs.Core.{[], ap, bare, bare_instance, bare_work, CoreParts, entries, Entry, eqb-true, false, GuestThread, High, host_entry, HostTaskKey, HostWork, inl, inr, is_entry_of, is_free, IsLinks, IsOfThread, IsSeated, IsSome, IsSound, IsUnqueued, IsWhole, item_at, item_of, linked, List, list_any, list_of, Low, None, Ok, on_core, on_item, Option, option_map, Parts, parts_of, place_at, Placed, push_high, push_high_first, push_low, Queued, refl, Row, row, row_chain, same_Some, seen, shelf_chain, Single, slice_get, slice_get-map, Some, Spot, subst, sym, TableId, thread_entry, thread_of, ThreadKey, true, work_entries, work_of, ℕ, ◌++◌, ◌∙◌, ◌∷◌, ◌≡◌}
+use Rattle.task_records.proofs.Core.{[], ap, bare, bare_instance, bare_work, entries, Entry, eqb-true, false, High, host_entry, HostTaskKey, inl, inr, is_entry_of, is_free, IsLinks, IsOfThread, IsSeated, IsSome, IsSound, IsUnqueued, IsWhole, item_at, item_of, linked, List, list_any, list_of, Low, None, Ok, on_core, on_item, Option, option_map, Parts, parts_of, place_at, Placed, push_high, push_high_first, push_low, refl, Row, row, row_chain, same_Some, seen, shelf_chain, slice_get, slice_get-map, Some, Spot, subst, sym, TableId, thread_entry, thread_of, ThreadKey, true, work_entries, work_of, ℕ, ◌++◌, ◌∙◌, ◌∷◌, ◌≡◌}
+use Rattle.task_records.specs.declared.{parts.CoreParts.CoreParts, single.Single.Single, threads.GuestThread.GuestThread, threads.Queued.Queued, works.HostWork.HostWork}
 use Rattle.task_records.proofs.HomeLemmas.{thread_home}
 use Rattle.task_records.proofs.KindLemmas.{item_stands}
 use Rattle.task_records.proofs.ReadLemmas.{thread_named, work_named}

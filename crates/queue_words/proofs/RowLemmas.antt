@@ -1,6 +1,7 @@
 -- An entry is pushed at a mark, at the end or at the front, or leaves it.
-use Rattle.task_records.proofs.Core.{[], ap, append-nil, chained, Each, Each-less_by, Each-more, entries, eq-eqb, false, filter, filter-append, filter-none, free_in_none, High, inl, inr, is_free, is_made, is_number, is_of_instance, IsLinks, IsOfThread, IsRows, IsRows-pushed, IsRows-pushed_first, IsRows-removed, IsRows-same, IsSeated, IsSome, IsWhole, less_by, less_elsewhere, linked, List, list_any, Low, ne_eqb, None, Option, part, Parts, Queued, Refiles-linked, Refiles-removed, refl, removed, Row, row, row_chain, shelf_chain, Some, Spot, subst, sym, true, ℕ, ◌++◌, ◌∙◌, ◌∷◌, ◌≡◌, ◌⊎◌}
+use Rattle.task_records.proofs.Core.{[], ap, append-nil, chained, Each, Each-less_by, Each-more, entries, eq-eqb, false, filter, filter-append, filter-none, free_in_none, High, inl, inr, is_free, is_made, is_number, is_of_instance, IsLinks, IsOfThread, IsRows, IsRows-pushed, IsRows-pushed_first, IsRows-removed, IsRows-same, IsSeated, IsSome, IsWhole, less_by, less_elsewhere, linked, List, list_any, Low, ne_eqb, None, Option, part, Parts, Refiles-linked, Refiles-removed, refl, removed, Row, row, row_chain, shelf_chain, Some, Spot, subst, sym, true, ℕ, ◌++◌, ◌∙◌, ◌∷◌, ◌≡◌, ◌⊎◌}
 use Rattle.task_index.proofs.Parts.{IsRows-part_pushed, IsRows-part_pushed_first, IsRows-part_removed}
+use Rattle.task_records.specs.declared.{threads.Queued.Queued}
 use Rattle.task_records.proofs.KindLemmas.{absent}
 use Rattle.queue_words.specs.Seats.{OfThread, OfWork, RowsAre, leaves, left, row_with}
 use Rattle.queue_words.proofs.ListLemmas.{Each-part, Each-weaker, filter-less_out, none_in_part}

@@ -1,5 +1,6 @@
 -- Whose an entry is, and what its nodes say of it.
-use Rattle.task_records.proofs.Core.{ap, Bool, Entry, entry_seated, eq-eqb, eqb-true, false, GuestThread, host_entry, HostWork, inl, inr, is_entry_of, is_number, is_of_instance, IsOfThread, IsSeated, IsSome, IsWhole, None, Option, option_map, Parts, place_at, Placed, push_entry, Queued, refl, same_Some, Single, Some, subst, sym, thread_entry, true, ℕ, ◌&&◌, ◌==◌, ◌∙◌, ◌≡◌, ◌⊎◌}
+use Rattle.task_records.proofs.Core.{ap, Bool, Entry, entry_seated, eq-eqb, eqb-true, false, host_entry, inl, inr, is_entry_of, is_number, is_of_instance, IsOfThread, IsSeated, IsSome, IsWhole, None, Option, option_map, Parts, place_at, Placed, push_entry, refl, same_Some, Some, subst, sym, thread_entry, true, ℕ, ◌&&◌, ◌==◌, ◌∙◌, ◌≡◌, ◌⊎◌}
+use Rattle.task_records.specs.declared.{single.Single.Single, threads.GuestThread.GuestThread, threads.Queued.Queued, works.HostWork.HostWork}
 use Rattle.queue_words.specs.Seats.{OfThread, OfWork, is_entry_of_work, leaves, same_instance}
 use Rattle.queue_words.proofs.ListLemmas.{same_test}
 

@@ -1,5 +1,6 @@
 -- What is seen of a core whose marks are changed.
-use Rattle.task_records.proofs.Core.{[], ap, ap₂, bare, CoreParts, Entry, High, IsSound, List, Low, map, map-append, on_core, parts_of, push_high, push_high_first, push_low, Queued, refl, Row, row, seen, Spot, StateView, ◌++◌, ◌∙◌, ◌∷◌, ◌≡◌}
+use Rattle.task_records.proofs.Core.{[], ap, ap₂, bare, Entry, High, IsSound, List, Low, map, map-append, on_core, parts_of, push_high, push_high_first, push_low, refl, Row, row, seen, Spot, StateView, ◌++◌, ◌∙◌, ◌∷◌, ◌≡◌}
+use Rattle.task_records.specs.declared.{parts.CoreParts.CoreParts, threads.Queued.Queued}
 use Rattle.queue_words.specs.Seats.{RowsAre, row_with}
 use Rattle.queue_words.proofs.WholeLemmas.{chains_sound}
 

@@ -1,5 +1,6 @@
 -- The thread at switch.
-use Rattle.task_records.proofs.Core.{ap, bare, bare_thread, CoreParts, Follower, follower, GuestThread, IfSome, IsFollower, IsSound, item_at, item_of, key_in, None, number_in, Ok, on_core, on_item, Option, option_map, parts_of, place_at, Placed, record_at, refl, same_Some, seen, set_switch, Single, Some, subst, sym, TableId, thread_key, thread_of, ThreadKey, ℕ, ◌<◌, ◌∙◌, ◌≡◌}
+use Rattle.task_records.proofs.Core.{ap, bare, bare_thread, follower, IfSome, IsFollower, IsSound, item_at, item_of, key_in, None, number_in, Ok, on_core, on_item, Option, option_map, parts_of, place_at, Placed, record_at, refl, same_Some, seen, set_switch, Some, subst, sym, TableId, thread_key, thread_of, ThreadKey, ℕ, ◌<◌, ◌∙◌, ◌≡◌}
+use Rattle.task_records.specs.declared.{parts.CoreParts.CoreParts, single.Single.Single, threads.Follower.Follower, threads.GuestThread.GuestThread}
 use Rattle.task_records.proofs.KindLemmas.{item_stands}
 use Rattle.task_records.proofs.ReadLemmas.{thread_named}
 use Rattle.queue_words.proofs.BareLemmas.{mapped_place, number_positive, place_mapped}

@@ -1,6 +1,7 @@
 -- What stands first at a mark, and of an instance there.
-use Rattle.task_records.proofs.Core.{[], ap, bare, bare_thread, bare_work, Bool, chained, cond, CoreParts, Each, Entry, entry_thread, eq-eqb, eqb-true, false, filter, first_entry, first_in, first_low, first_of, Follower, found_here, GuestThread, High, IfSome, inl, inr, instance_of, InstanceRecord, is_entry_in, is_number, is_of_instance, IsSeated, IsSome, IsSound, IsWhole, item_at, item_in, item_of, key_in, List, list_of, loose_work, Low, map, Mark, next_entry, None, number_in, Ok, on_item, Option, option_and_then, option_map, or_first, or_high, part, Parts, parts_of, Queued, record_at, refl, Row, row, row_chain, same_Some, seen, shelf_chain, shelf_in, Single, slice_get, Some, subst, sym, TableId, thread_entry, thread_key, ThreadKey, true, unmoved, values_are, work_key, ℕ, ◌<◌, ◌∙◌, ◌∷◌, ◌≡◌}
+use Rattle.task_records.proofs.Core.{[], ap, bare, bare_thread, bare_work, Bool, chained, cond, Each, Entry, entry_thread, eq-eqb, eqb-true, false, filter, first_entry, first_in, first_low, first_of, found_here, High, IfSome, inl, inr, instance_of, is_entry_in, is_number, is_of_instance, IsSeated, IsSome, IsSound, IsWhole, item_at, item_in, item_of, key_in, List, list_of, loose_work, Low, map, Mark, next_entry, None, number_in, Ok, on_item, Option, option_and_then, option_map, or_first, or_high, part, Parts, parts_of, record_at, refl, Row, row, row_chain, same_Some, seen, shelf_chain, shelf_in, slice_get, Some, subst, sym, TableId, thread_entry, thread_key, ThreadKey, true, unmoved, values_are, work_key, ℕ, ◌<◌, ◌∙◌, ◌∷◌, ◌≡◌}
 use Rattle.std.specs.List.{find}
+use Rattle.task_records.specs.declared.{instances.InstanceRecord.InstanceRecord, parts.CoreParts.CoreParts, single.Single.Single, threads.Follower.Follower, threads.GuestThread.GuestThread, threads.Queued.Queued}
 use Rattle.task_records.proofs.HomeLemmas.{thread_instance}
 use Rattle.task_records.proofs.ReadLemmas.{thread_named}
 use Rattle.task_records.proofs.TableLemmas.{number_at_mapped}

@@ -1,5 +1,6 @@
 -- A table seen by a function of its items is a sound table of the same numbers.
-use Rattle.task_records.proofs.Core.{ap, ap₂, children_of-mapped, found-mapped, found_record, IsTable-mapped, item_at, item_found, item_in, item_of, key_in, mapped, None, Ok, on_item, Option, option_map, place_at, place_at-mapped, Placed, placed_as, record_at, refl, same_Some, Single, Some, SoundTable, sym, Table, ℕ, ◌∙◌, ◌≡◌}
+use Rattle.task_records.proofs.Core.{ap, ap₂, children_of-mapped, found-mapped, found_record, IsTable-mapped, item_at, item_found, item_in, item_of, key_in, mapped, None, Ok, on_item, Option, option_map, place_at, place_at-mapped, Placed, placed_as, record_at, refl, same_Some, Some, SoundTable, sym, Table, ℕ, ◌∙◌, ◌≡◌}
+use Rattle.task_records.specs.declared.{single.Single.Single}
 use Rattle.task_records.proofs.TableLemmas.{found_mapped, with_second}
 
 module _ {T X : Type 0} (number : T → ℕ) (rec : T → X) (f : T → T) (loose : X → X) (named : (x : T) → number (f x) ≡ number x) (follows : (x : T) → rec (f x) ≡ loose (rec x)) (t : Table (Single T)) where

@@ -1,5 +1,6 @@
 -- A call is gone, as the word takes it away.
-use Rattle.task_records.proofs.Core.{ap, ap₂, AreHandlesNamed, arith, bare, bare_call, bare_thread, BlockedOn, Call, call_group, call_key, call_of, calls_of, cond, Core, core_of, CoreParts, deleted, deletion, deletion_refused, EachEntry, entry_of, eq-eqb, Err, false, filings_at, filter, get, group_key, GroupKey, GuestTask, GuestTaskKey, GuestThread, has_thread, is_made, IsGroupKept, IsSome, IsSound, IsTable, IsWhole, item_at, item_of, Join, join_of, KeepsBut, Kept, kinds, List, list_of, loose_call, lost_call, mapped-deleted, nat_lt, ne_eqb, None, number_of, Ok, on_item, one_if_passes, option_map_or, Parts, parts_of, passing, passing-with_at, place_at, Placed, ready_call, Records, records, refl, remove, remove_call, ResourceTableError, Result, seen, set_number, Single, Some, SoundTable, Spot, subst, Subtask, sym, Table, table_use, TableId, TaskGroup, Thread, thread_number, true, uninterested, with_entry, work_number, ℕ, ◌+◌, ◌-◌, ◌<◌, ◌==◌, ◌∙◌, ◌≡◌, ◌≤◌}
+use Rattle.task_records.proofs.Core.{ap, ap₂, AreHandlesNamed, arith, bare, bare_call, bare_thread, BlockedOn, Call, call_group, call_key, call_of, calls_of, cond, Core, core_of, deleted, deletion, deletion_refused, EachEntry, entry_of, eq-eqb, Err, false, filings_at, filter, get, group_key, GroupKey, GuestTaskKey, has_thread, is_made, IsGroupKept, IsSome, IsSound, IsTable, IsWhole, item_at, item_of, Join, join_of, KeepsBut, kinds, List, list_of, loose_call, lost_call, mapped-deleted, nat_lt, ne_eqb, None, number_of, Ok, on_item, one_if_passes, option_map_or, Parts, parts_of, passing, passing-with_at, place_at, Placed, ready_call, Records, records, refl, remove, remove_call, ResourceTableError, Result, seen, set_number, Some, SoundTable, Spot, subst, Subtask, sym, Table, table_use, TableId, Thread, thread_number, true, uninterested, with_entry, work_number, ℕ, ◌+◌, ◌-◌, ◌<◌, ◌==◌, ◌∙◌, ◌≡◌, ◌≤◌}
+use Rattle.task_records.specs.declared.{calls.GuestTask.GuestTask, calls.TaskGroup.TaskGroup, parts.CoreParts.CoreParts, parts.Kept.Kept, single.Single.Single, threads.GuestThread.GuestThread}
 use Rattle.place_words.proofs.AlikeLemmas.{number_of_alike}
 use Rattle.place_words.proofs.FiledLemmas.{kept_under}
 use Rattle.place_words.specs.Moved.{Alike}

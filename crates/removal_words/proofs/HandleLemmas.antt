@@ -1,6 +1,7 @@
 -- A handle that names a set.
-use Rattle.task_records.proofs.Core.{ap, as_set, bare, CoreParts, get, HandleKind, Held, held_by, InstanceRecord, is_some, IsHeldNamed, IsSome, IsSound, Kinds, kinds, length, Named, named_as, named_of, None, Ok, Option, option_and_then, option_map, parts_of, refl, Rep, seen, set_at, set_in, slice_get, Some, subst, sym, true, WaitableKind, ℕ, ◌<◌, ◌∙◌, ◌≡◌}
+use Rattle.task_records.proofs.Core.{ap, as_set, bare, get, HandleKind, Held, held_by, is_some, IsHeldNamed, IsSome, IsSound, Kinds, kinds, length, Named, named_as, named_of, None, Ok, Option, option_and_then, option_map, parts_of, refl, Rep, seen, set_at, set_in, slice_get, Some, subst, sym, true, WaitableKind, ℕ, ◌<◌, ◌∙◌, ◌≡◌}
 use Rattle.task_machine.specs.Core.{Table}
+use Rattle.task_records.specs.declared.{instances.InstanceRecord.InstanceRecord, parts.CoreParts.CoreParts}
 use Rattle.task_handles.specs.Held.{set_of as held_set}
 use Rattle.task_records.proofs.HandleLemmas.{get-records_by}
 use Rattle.task_records.proofs.InstanceReads.{handles_read, instance_there}

@@ -1,5 +1,6 @@
 -- What is left of the named where a record is gone: each stands where it stood.
-use Rattle.task_records.proofs.Core.{AreHandlesNamed, call_key, CallOf, HandleKind, InstanceRecord, IsHeldNamed, IsNamedAt, Kinds, Made, Nothing, Rep, set_key, SetOf, StandsAt, subst, Target, thread_key, ThreadOf, WaitableKind, work_key, WorkOf, ℕ, ◌≡◌, ◌≤◌}
+use Rattle.task_records.proofs.Core.{AreHandlesNamed, call_key, CallOf, HandleKind, IsHeldNamed, IsNamedAt, Kinds, Made, Nothing, Rep, set_key, SetOf, StandsAt, subst, Target, thread_key, ThreadOf, WaitableKind, work_key, WorkOf, ℕ, ◌≡◌, ◌≤◌}
+use Rattle.task_records.specs.declared.{instances.InstanceRecord.InstanceRecord}
 
 -- What stands in the one stands so in the other, and as many were made.
 pub record Leaves (k l : Kinds) : Type 0 where

@@ -1,5 +1,6 @@
 -- A table with one record less: what is kept under the numbers, and what stands at the places.
-use Rattle.task_records.proofs.Core.{ap, arith, Bool, cond, deleted, EachEntry, entry_of, eq-eqb, false, found_record, found_record_at, get, get-records, item_at, item_of, key_in, list_any, nat_lt, ne_eqb, no_other, None, Ok, one_if_passes, Option, passing, passing-with_at, place_at, place_at-deleted, Placed, record_at-item, Records, records, refl, Single, size, size-remove_present, Some, SoundTable, sym, Table, TakesRecord, TakesRecord-deleted, true, ℕ, ◌+◌, ◌==◌, ◌∙◌, ◌≡◌}
+use Rattle.task_records.proofs.Core.{ap, arith, Bool, cond, deleted, EachEntry, entry_of, eq-eqb, false, found_record, found_record_at, get, get-records, item_at, item_of, key_in, list_any, nat_lt, ne_eqb, no_other, None, Ok, one_if_passes, Option, passing, passing-with_at, place_at, place_at-deleted, Placed, record_at-item, Records, records, refl, size, size-remove_present, Some, SoundTable, sym, Table, TakesRecord, TakesRecord-deleted, true, ℕ, ◌+◌, ◌==◌, ◌∙◌, ◌≡◌}
+use Rattle.task_records.specs.declared.{single.Single.Single}
 use Rattle.queue_words.proofs.CallerLemmas.{apart_as}
 use Rattle.task_records.proofs.KindLemmas.{item_number, item_read}
 use Rattle.task_records.proofs.KeptLemmas.{any_passing}

@@ -1,5 +1,6 @@
 -- One record of a table is written anew, with its number: what holds of each.
-use Rattle.task_records.proofs.Core.{ap, Bool, cases_eq, cond, EachEntry, entry_of, entry_put, eq-eqb, false, inl, inr, item_at, item_of, mapped, mapped-with_entry_same, ne_eqb, Ok, on_item, place_at, place_at-with_entry, Placed, same_Some, Single, Some, SoundTable, subst, sym, Table, true, with_entry, ℕ, ◌==◌, ◌∙◌, ◌≡◌, ◌⊎◌}
+use Rattle.task_records.proofs.Core.{ap, Bool, cases_eq, cond, EachEntry, entry_of, entry_put, eq-eqb, false, inl, inr, item_at, item_of, mapped, mapped-with_entry_same, ne_eqb, Ok, on_item, place_at, place_at-with_entry, Placed, same_Some, Some, SoundTable, subst, sym, Table, true, with_entry, ℕ, ◌==◌, ◌∙◌, ◌≡◌, ◌⊎◌}
+use Rattle.task_records.specs.declared.{single.Single.Single}
 use Rattle.queue_words.proofs.BareLemmas.{one_place}
 use Rattle.task_records.proofs.KindLemmas.{item_stands}
 

@@ -1,5 +1,6 @@
 -- A set is gone, as it stands.
-use Rattle.task_records.proofs.Core.{ap, arith, bare, BlockedOn, call_number, cases_eq, core_of, CoreParts, deleted, deletion, deletion_refused, Err, GuestTask, GuestThread, HasHome, HeldIn, HostWork, inl, inr, IsCallNamed, IsSetKept, IsSome, IsSound, IsTable, IsWhole, IsWorkNamed, item_at, item_of, KeepsBut, kinds, List, list_of, lost_set, None, number_of, Ok, Parts, parts_of, place_chain, ready_call_chain, ready_work_chain, records, refl, remove, remove_set, ResourceTableError, Result, seen, set_key, set_of, SetKey, Single, Some, Spot, subst, Subtask, sym, Table, table_use, TableId, thread_number, ThreadOf, UnderOf, WaitSet, WaitsOn, Where, work_number, ℕ, ◌-◌, ◌∙◌, ◌≡◌, ◌≤◌, ◌⊎◌}
+use Rattle.task_records.proofs.Core.{ap, arith, bare, BlockedOn, call_number, cases_eq, core_of, deleted, deletion, deletion_refused, Err, HasHome, HeldIn, inl, inr, IsCallNamed, IsSetKept, IsSome, IsSound, IsTable, IsWhole, IsWorkNamed, item_at, item_of, KeepsBut, kinds, List, list_of, lost_set, None, number_of, Ok, Parts, parts_of, place_chain, ready_call_chain, ready_work_chain, records, refl, remove, remove_set, ResourceTableError, Result, seen, set_key, set_of, SetKey, Some, Spot, subst, Subtask, sym, Table, table_use, TableId, thread_number, ThreadOf, UnderOf, WaitsOn, Where, work_number, ℕ, ◌-◌, ◌∙◌, ◌≡◌, ◌≤◌, ◌⊎◌}
+use Rattle.task_records.specs.declared.{calls.GuestTask.GuestTask, parts.CoreParts.CoreParts, sets.WaitSet.WaitSet, single.Single.Single, threads.GuestThread.GuestThread, works.HostWork.HostWork}
 use Rattle.removal_words.proofs.GoneLemmas.{IsIndex-shut}
 use Rattle.removal_words.proofs.LeftLemmas.{Leaves, handles_left, named_left}
 use Rattle.removal_words.proofs.LessLemmas.{each_left, found_gone, found_still, one_fewer}

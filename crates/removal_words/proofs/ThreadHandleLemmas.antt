@@ -1,6 +1,7 @@
 -- The handle of a thread that is gone is taken back.
-use Rattle.task_records.proofs.Core.{ap, ap₂, AreHandlesNamed, arith, bare, Bool, by_place, change, cond, Core, CoreParts, Counter, EachEntry, false, free_thread_handle, freed_thread_handle, get, get-remove_same, Global, GuestThread, handle_table, Handles, held_by, insert, instance_of, InstanceRecord, IsSome, IsSound, item_at, item_of, kinds, length, List, live_in, map, map-set, named_by, named_of, None, Ok, on_core, Option, option_and_then, option_map, OwnsHandle, parts_of, Records, refl, remove_thread, Removes, Rep, same_Some, seen, set, slice_get, slice_get-map, slice_get_within, Some, sym, TableId, taking, thread_at, thread_handle_of, ThreadKey, true, Vec, ℕ, ◌+◌, ◌-◌, ◌<◌, ◌==◌, ◌∙◌, ◌≡◌}
+use Rattle.task_records.proofs.Core.{ap, ap₂, AreHandlesNamed, arith, bare, Bool, by_place, change, cond, Core, Counter, EachEntry, false, free_thread_handle, freed_thread_handle, get, get-remove_same, Global, handle_table, Handles, held_by, insert, instance_of, IsSome, IsSound, item_at, item_of, kinds, length, List, live_in, map, map-set, named_by, named_of, None, Ok, on_core, Option, option_and_then, option_map, OwnsHandle, parts_of, Records, refl, remove_thread, Removes, Rep, same_Some, seen, set, slice_get, slice_get-map, slice_get_within, Some, sym, TableId, taking, thread_at, thread_handle_of, ThreadKey, true, Vec, ℕ, ◌+◌, ◌-◌, ◌<◌, ◌==◌, ◌∙◌, ◌≡◌}
 use Rattle.task_machine.specs.Core.{Table}
+use Rattle.task_records.specs.declared.{instances.InstanceRecord.InstanceRecord, parts.CoreParts.CoreParts, threads.GuestThread.GuestThread}
 use Rattle.removal_words.proofs.LessLemmas.{read_at}
 use Rattle.removal_words.proofs.RewriteLemmas.{each_there}
 use Rattle.task_records.proofs.GivenLemmas.{held_taken, live_taken, names_left, one_changed, table_taken}

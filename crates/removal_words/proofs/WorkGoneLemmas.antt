@@ -1,5 +1,6 @@
 -- Parts without one host work, which isn't live, has no entry and is in no set: they are whole.
-use Rattle.task_records.proofs.Core.{ap, AreChained, AreCounted, arith, BlockedOn, Bool, calls_of, cases_eq, chained, cond, core_of, deleted, Each, EachEntry, Entry, entry_of, entry_seated, eq-eqb, false, filings, filter, FreeNode, get, group_key, GuestTask, GuestThread, HasHome, HasNumber, HaveRowNodes, HeldIn, High, host_entry, HostWork, inl, inr, is_host_call, is_in_set, is_live, is_of_group, is_of_instance, is_stage_live, IsCallNamed, IsGroupKept, IsOfThread, IsRows, IsRows-same, IsSeated, IsWhole, IsWorkNamed, item_at, item_of, Join, Kept, kinds, length, List, list_any, live_chain, live_value, live_work, LiveWork, Low, nat_lt, None, Ok, one_if_passes, Option, part, Parts, passing, passing-with_at, place_at, place_chain, place_filing, Placed, push_entry, Queued, ready_in, ready_work, ready_work_chain, refl, remove, Renames, Row, row, row_chain, shelf_chain, Single, Some, SoundTable, Spot, subst, Subtask, sym, Table, table_use, TaskGroup, ThreadOf, UnderOf, Unmade, values_are, WaitsOn, Where, Work, work_key, ℕ, ◌+◌, ◌∙◌, ◌≡◌, ◌⊎◌}
+use Rattle.task_records.proofs.Core.{ap, AreChained, AreCounted, arith, BlockedOn, Bool, calls_of, cases_eq, chained, cond, core_of, deleted, Each, EachEntry, Entry, entry_of, entry_seated, eq-eqb, false, filings, filter, FreeNode, get, group_key, HasHome, HasNumber, HaveRowNodes, HeldIn, High, host_entry, inl, inr, is_host_call, is_in_set, is_live, is_of_group, is_of_instance, is_stage_live, IsCallNamed, IsGroupKept, IsOfThread, IsRows, IsRows-same, IsSeated, IsWhole, IsWorkNamed, item_at, item_of, Join, kinds, length, List, list_any, live_chain, live_value, live_work, Low, nat_lt, None, Ok, one_if_passes, Option, part, Parts, passing, passing-with_at, place_at, place_chain, place_filing, Placed, push_entry, ready_in, ready_work, ready_work_chain, refl, remove, Renames, Row, row, row_chain, shelf_chain, Some, SoundTable, Spot, subst, Subtask, sym, Table, table_use, ThreadOf, UnderOf, Unmade, values_are, WaitsOn, Where, Work, work_key, ℕ, ◌+◌, ◌∙◌, ◌≡◌, ◌⊎◌}
+use Rattle.task_records.specs.declared.{calls.GuestTask.GuestTask, calls.TaskGroup.TaskGroup, parts.Kept.Kept, single.Single.Single, threads.GuestThread.GuestThread, threads.Queued.Queued, works.HostWork.HostWork, works.LiveWork.LiveWork}
 use Rattle.place_words.proofs.AlikeLemmas.{number_alike}
 use Rattle.place_words.proofs.FiledLemmas.{kept_under}
 use Rattle.place_words.specs.Moved.{Alike}

@@ -1,5 +1,6 @@
 -- A host work is gone, as the word takes it away.
-use Rattle.task_records.proofs.Core.{[], ap, ap₂, AreHandlesNamed, arith, bare, bare_work, BlockedOn, Bool, call_number, calls_of, chained, cond, Core, core_of, CoreParts, deleted, deletion, deletion_refused, Each, EachEntry, Entry, entry_of, eq-eqb, Err, false, filings_at, filter, free_unlinked, FreeNode, get, group_key, GroupKey, High, host_entry, HostTaskKey, HostWork, is_aborted, is_free, is_host_call, is_live, is_made, is_moving, is_never, is_of_group, is_some, is_stage_live, IsGroupKept, IsLinks, IsOfThread, IsSeated, IsSome, IsSound, IsTable, IsWhole, item_at, item_of, Join, join_of, KeepsBut, Kept, kinds, link_for, link_of, List, list_any, list_of, live_chain, live_value, live_work, LiveWork, loose_work, lost_work, Low, map, mapped, mapped-deleted, nat_lt, ne_eqb, None, not, Ok, on_item, one_if_passes, Option, option_and_then, option_map_or, Parts, parts_of, passing, passing-with_at, place_at, Placed, Queued, ready_work, Records, records, refl, remove, remove_work, Renames, ResourceTableError, Result, Row, row, seen, set_number, Single, Some, SoundTable, Spot, Stage, stage_of, subst, Subtask, sym, Table, table_use, TableId, TaskGroup, thread_number, true, Unmade, unmoved, Work, work_entries, work_group, work_key, work_of, ℕ, ◌&&◌, ◌+◌, ◌-◌, ◌==◌, ◌||◌, ◌∙◌, ◌∷◌, ◌≡◌, ◌≤◌}
+use Rattle.task_records.proofs.Core.{[], ap, ap₂, AreHandlesNamed, arith, bare, bare_work, BlockedOn, Bool, call_number, calls_of, chained, cond, Core, core_of, deleted, deletion, deletion_refused, Each, EachEntry, Entry, entry_of, eq-eqb, Err, false, filings_at, filter, free_unlinked, FreeNode, get, group_key, GroupKey, High, host_entry, HostTaskKey, is_aborted, is_free, is_host_call, is_live, is_made, is_moving, is_never, is_of_group, is_some, is_stage_live, IsGroupKept, IsLinks, IsOfThread, IsSeated, IsSome, IsSound, IsTable, IsWhole, item_at, item_of, Join, join_of, KeepsBut, kinds, link_for, link_of, List, list_any, list_of, live_chain, live_value, live_work, loose_work, lost_work, Low, map, mapped, mapped-deleted, nat_lt, ne_eqb, None, not, Ok, on_item, one_if_passes, Option, option_and_then, option_map_or, Parts, parts_of, passing, passing-with_at, place_at, Placed, ready_work, Records, records, refl, remove, remove_work, Renames, ResourceTableError, Result, Row, row, seen, set_number, Some, SoundTable, Spot, Stage, stage_of, subst, Subtask, sym, Table, table_use, TableId, thread_number, true, Unmade, unmoved, Work, work_entries, work_group, work_key, work_of, ℕ, ◌&&◌, ◌+◌, ◌-◌, ◌==◌, ◌||◌, ◌∙◌, ◌∷◌, ◌≡◌, ◌≤◌}
+use Rattle.task_records.specs.declared.{calls.TaskGroup.TaskGroup, parts.CoreParts.CoreParts, parts.Kept.Kept, single.Single.Single, threads.Queued.Queued, works.HostWork.HostWork, works.LiveWork.LiveWork}
 use Rattle.place_words.proofs.AlikeLemmas.{number_of_alike}
 use Rattle.place_words.proofs.FiledLemmas.{kept_under}
 use Rattle.place_words.specs.Moved.{Alike}

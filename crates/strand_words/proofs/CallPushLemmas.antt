@@ -1,5 +1,6 @@
 -- A call more, whose node and chain hung on nothing: the chains and the nodes of the parts.
-use Rattle.task_records.proofs.Core.{ap, AreApart, AreChained, arith, BlockedOn, call_key, cases_eq, filings, found_record, GuestTask, HaveRowNodes, HeldIn, inl, inr, IsTable, Kinds, None, Parts, place_chain, place_filing, pushed, ready_call_chain, ready_in, refl, same_Some, Some, Subtask, sym, UnderOf, WaitsOn, Where, ℕ, ◌<◌, ◌∙◌, ◌≡◌, ◌⊎◌}
+use Rattle.task_records.proofs.Core.{ap, AreApart, AreChained, arith, BlockedOn, call_key, cases_eq, filings, found_record, HaveRowNodes, HeldIn, inl, inr, IsTable, Kinds, None, Parts, place_chain, place_filing, pushed, ready_call_chain, ready_in, refl, same_Some, Some, Subtask, sym, UnderOf, WaitsOn, Where, ℕ, ◌<◌, ◌∙◌, ◌≡◌, ◌⊎◌}
+use Rattle.task_records.specs.declared.{calls.GuestTask.GuestTask}
 use Rattle.make_words.proofs.FreshLemmas.{chain_new, chain_other}
 use Rattle.make_words.proofs.LooseLemmas.{IsIndex-opened}
 use Rattle.make_words.proofs.MoreLemmas.{index_more}

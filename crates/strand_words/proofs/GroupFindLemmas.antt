@@ -1,5 +1,6 @@
 -- A group whose number stands at a place is found there.
-use Rattle.task_records.proofs.Core.{ap, ap₂, arith, cond, eq-eqb, found, group_key, HasNumber, item_at, item_in, item_of, key_in, None, number_in, of_serial, Ok, Option, option_and_then, option_map, place_at, Placed, refl, same_Some, Single, Some, sym, Table, TaskGroup, ℕ, ◌<◌, ◌∙◌, ◌≡◌}
+use Rattle.task_records.proofs.Core.{ap, ap₂, arith, cond, eq-eqb, found, group_key, HasNumber, item_at, item_in, item_of, key_in, None, number_in, of_serial, Ok, Option, option_and_then, option_map, place_at, Placed, refl, same_Some, Some, sym, Table, ℕ, ◌<◌, ◌∙◌, ◌≡◌}
+use Rattle.task_records.specs.declared.{calls.TaskGroup.TaskGroup, single.Single.Single}
 
 module _ (t : Table (Single TaskGroup)) (place n : ℕ) (has : HasNumber group_key t place n) (some : 0 < n) where
   group_placed : (q : Placed (Single TaskGroup)) × ((place_at t place ≡ Some q) × (q.entry.item.number ≡ n))

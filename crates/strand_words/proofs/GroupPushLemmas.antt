@@ -1,5 +1,6 @@
 -- A group more: the parts stay whole, and contracts see just that.
-use Rattle.task_records.proofs.Core.{[], add_group, ap, ap₂, arith, bare, Call, call_key, calls_of, core_of, CoreParts, false, filter, filter-append, filter-one, fits, get, get-records, group_key, GuestTask, GuestThread, HasHome, HasNumber, HostWork, insert, is_of_group, IsCallNamed, IsGroupKept, IsSound, IsTable, IsWhole, IsWorkNamed, key_in, kinds, length, length-append, List, nat_lt, ne_eqb, None, numbers, on_core, Option, option_map_or, Parts, parts_of, place_at, Placed, pushed, Records, records, refl, same_Some, seen, Single, Some, SoundTable, subst, sym, Table, table_use, TaskGroup, true, Work, work_key, ℕ, ◌++◌, ◌+◌, ◌<◌, ◌==◌, ◌^◌, ◌∙◌, ◌∷◌, ◌≡◌, ◌≤◌}
+use Rattle.task_records.proofs.Core.{[], add_group, ap, ap₂, arith, bare, Call, call_key, calls_of, core_of, false, filter, filter-append, filter-one, fits, get, get-records, group_key, HasHome, HasNumber, insert, is_of_group, IsCallNamed, IsGroupKept, IsSound, IsTable, IsWhole, IsWorkNamed, key_in, kinds, length, length-append, List, nat_lt, ne_eqb, None, numbers, on_core, Option, option_map_or, Parts, parts_of, place_at, Placed, pushed, Records, records, refl, same_Some, seen, Some, SoundTable, subst, sym, Table, table_use, true, Work, work_key, ℕ, ◌++◌, ◌+◌, ◌<◌, ◌==◌, ◌^◌, ◌∙◌, ◌∷◌, ◌≡◌, ◌≤◌}
+use Rattle.task_records.specs.declared.{calls.GuestTask.GuestTask, calls.TaskGroup.TaskGroup, parts.CoreParts.CoreParts, single.Single.Single, threads.GuestThread.GuestThread, works.HostWork.HostWork}
 use Rattle.make_words.proofs.FreshLemmas.{each_more, none_passing}
 use Rattle.make_words.proofs.MoreLemmas.{early_at, number_stays}
 use Rattle.strand_words.proofs.GroupLemmas.{last_number}

@@ -1,5 +1,6 @@
 -- A thread more of a call that is there, as a core: it is sound, contracts see just that, and it can be taken back.
-use Rattle.task_records.proofs.Core.{add_thread, ap, ap₂, arith, AtPlace, bare, bare_call, bare_thread, Call, call_key, call_number, core_of, CoreParts, count_by-le-length, deleted, fits, GuestTask, GuestTaskKey, GuestThread, IsSound, IsTable, IsWhole, item_at, item_of, Keeps, kinds, length, List, mapped, mapped-pushed, mapped-with_entry, named, next_place, None, Ok, on_item, Option, OwnsHandle, Parts, parts_of, passing, place_at, place_at-mapped, Placed, placed_as, pushed, Records, records, refl, seen, set_number, Single, size, slice_get, Some, SoundTable, subst, sym, Table, table_use, TableId, Tag, tags_in, Target, Thread, thread_key, thread_of, ThreadKey, threads_of, true, with_entry, work_number, ℕ, ◌+◌, ◌-◌, ◌<◌, ◌==◌, ◌^◌, ◌∙◌, ◌≡◌, ◌≤◌}
+use Rattle.task_records.proofs.Core.{add_thread, ap, ap₂, arith, AtPlace, bare, bare_call, bare_thread, Call, call_key, call_number, core_of, count_by-le-length, deleted, fits, GuestTaskKey, IsSound, IsTable, IsWhole, item_at, item_of, Keeps, kinds, length, List, mapped, mapped-pushed, mapped-with_entry, named, next_place, None, Ok, on_item, Option, OwnsHandle, Parts, parts_of, passing, place_at, place_at-mapped, Placed, placed_as, pushed, Records, records, refl, seen, set_number, size, slice_get, Some, SoundTable, subst, sym, Table, table_use, TableId, Tag, tags_in, Target, Thread, thread_key, thread_of, ThreadKey, threads_of, true, with_entry, work_number, ℕ, ◌+◌, ◌-◌, ◌<◌, ◌==◌, ◌^◌, ◌∙◌, ◌≡◌, ◌≤◌}
+use Rattle.task_records.specs.declared.{calls.GuestTask.GuestTask, parts.CoreParts.CoreParts, single.Single.Single, threads.GuestThread.GuestThread}
 use Rattle.make_words.proofs.FreshLemmas.{each_more}
 use Rattle.make_words.proofs.RestoreLemmas.{Restores-deleted, Restores-pushed, Restores-same, Restores-written, handles_grown, restored_from}
 use Rattle.make_words.specs.Restored.{IsRestored}

@@ -1,5 +1,6 @@
 -- The nodes and chains of a thread and of a call are made, one after another: they hang on nothing.
-use Rattle.task_records.proofs.Core.{[], ap, bare, Bool, callers_chain, callers_row, ChainOf, CoreParts, false, filings, filings_at, FreeNode, GuestTask, GuestThread, HostWork, is_made, IsFollower, IsIndex, IsSound, List, list_of, None, Option, parts_of, place_at, place_chain, place_filing, Placed, ready_call_chain, ready_in, refl, Renames, Single, Some, Spot, spot_at, spot_is_made, spot_link, spot_list, subst, sym, Table, true, Unmade, where_at, ℕ, ◌∙◌, ◌≡◌}
+use Rattle.task_records.proofs.Core.{[], ap, bare, Bool, callers_chain, callers_row, ChainOf, false, filings, filings_at, FreeNode, is_made, IsFollower, IsIndex, IsSound, List, list_of, None, Option, parts_of, place_at, place_chain, place_filing, Placed, ready_call_chain, ready_in, refl, Renames, Some, Spot, spot_at, spot_is_made, spot_link, spot_list, subst, sym, Table, true, Unmade, where_at, ℕ, ◌∙◌, ◌≡◌}
+use Rattle.task_records.specs.declared.{calls.GuestTask.GuestTask, parts.CoreParts.CoreParts, single.Single.Single, threads.GuestThread.GuestThread, works.HostWork.HostWork}
 use Rattle.make_words.proofs.LooseLemmas.{loose_index, loose_row}
 use Rattle.make_words.specs.Loose.{IsLoose, IsSpare}
 use Rattle.strand_words.specs.Extends.{Extends, Grown}

@@ -1,5 +1,6 @@
 -- A call more and its thread, as a core: it is sound, and contracts see just that.
-use Rattle.task_records.proofs.Core.{add_call, add_thread, ap, AreApart, AreTables, arith, AtPlace, bare, bare_call, bare_thread, bare_work, Call, call_key, call_of, calls_of, core_of, CoreParts, count_by-le-length, fits, GroupKey, GuestTask, GuestTaskKey, GuestThread, HostWork, insert, is_of_group, is_some, IsSound, IsTable, IsWhole, item_at, item_of, Keeps, kinds, length, loose_call, loose_thread, loose_work, mapped, mapped-pushed, next_place, None, Ok, on_item, Option, OwnsHandle, Parts, parts_of, passing, place_at, Placed, pushed, records, refl, seen, set_number, Single, size, size-records-le, Some, subst, sym, Table, table_len, table_use, TableId, Target, TaskGroup, thread_of, ThreadKey, true, uninterested, unmoved, with_entry, Work, work_key, work_number, ℕ, ◌+◌, ◌<◌, ◌==◌, ◌^◌, ◌∙◌, ◌≡◌, ◌≤◌}
+use Rattle.task_records.proofs.Core.{add_call, add_thread, ap, AreApart, AreTables, arith, AtPlace, bare, bare_call, bare_thread, bare_work, Call, call_key, call_of, calls_of, core_of, count_by-le-length, fits, GroupKey, GuestTaskKey, insert, is_of_group, is_some, IsSound, IsTable, IsWhole, item_at, item_of, Keeps, kinds, length, loose_call, loose_thread, loose_work, mapped, mapped-pushed, next_place, None, Ok, on_item, Option, OwnsHandle, Parts, parts_of, passing, place_at, Placed, pushed, records, refl, seen, set_number, size, size-records-le, Some, subst, sym, Table, table_len, table_use, TableId, Target, thread_of, ThreadKey, true, uninterested, unmoved, with_entry, Work, work_key, work_number, ℕ, ◌+◌, ◌<◌, ◌==◌, ◌^◌, ◌∙◌, ◌≡◌, ◌≤◌}
+use Rattle.task_records.specs.declared.{calls.GuestTask.GuestTask, calls.TaskGroup.TaskGroup, parts.CoreParts.CoreParts, single.Single.Single, threads.GuestThread.GuestThread, works.HostWork.HostWork}
 use Rattle.make_words.proofs.FreshLemmas.{each_more}
 use Rattle.make_words.proofs.MoreLemmas.{passing_more, table_bare}
 use Rattle.make_words.proofs.RestoreLemmas.{handles_grown}

@@ -1,5 +1,6 @@
 -- A call more and its thread: what the parts count.
-use Rattle.task_records.proofs.Core.{ap, AreCounted, arith, Bool, Call, call_key, cases_eq, cond, core_of, EachEntry, eq-eqb, false, filter, get, Goal, group_key, GuestTask, GuestThread, HasRoom, inl, inr, is_in_set, IsCallKept, IsGroupKept, IsSetKept, IsWhole, Join, keeps_set, key_in, length, List, nat_lt, ne_eqb, None, one_if_passes, Option, Parts, passing, Place, place_at, Placed, pushed, refl, same_Some, Single, Some, SoundTable, subst, sym, table_use, TaskGroup, Thread, thread_key, threads_of, true, WaitSet, with_entry, ℕ, ◌+◌, ◌<◌, ◌==◌, ◌∙◌, ◌≡◌, ◌⊎◌}
+use Rattle.task_records.proofs.Core.{ap, AreCounted, arith, Bool, Call, call_key, cases_eq, cond, core_of, EachEntry, eq-eqb, false, filter, get, Goal, group_key, HasRoom, inl, inr, is_in_set, IsCallKept, IsGroupKept, IsSetKept, IsWhole, Join, keeps_set, key_in, length, List, nat_lt, ne_eqb, None, one_if_passes, Option, Parts, passing, Place, place_at, Placed, pushed, refl, same_Some, Some, SoundTable, subst, sym, table_use, Thread, thread_key, threads_of, true, with_entry, ℕ, ◌+◌, ◌<◌, ◌==◌, ◌∙◌, ◌≡◌, ◌⊎◌}
+use Rattle.task_records.specs.declared.{calls.GuestTask.GuestTask, calls.TaskGroup.TaskGroup, sets.WaitSet.WaitSet, single.Single.Single, threads.GuestThread.GuestThread}
 use Rattle.make_words.proofs.FreshLemmas.{each_more, none_passing}
 use Rattle.make_words.proofs.MoreLemmas.{each_but, early, early_at, get_more, passing_more, size_more}
 use Rattle.queue_words.proofs.BareLemmas.{one_place}

@@ -1,5 +1,6 @@
 -- A call and its thread that were made are taken back, and the thread that has a handle now is in its call's instance.
-use Rattle.task_records.proofs.Core.{add_call, add_thread, ap, ap₂, arith, Bool, Call, call_made, Callee, Caller, cond, Core, CoreParts, deleted, entry_put, eq-eqb, ExportKind, false, found, found-with_entry, get, get-insert, Goal, GroupKey, GuestTaskKey, instance_of, IsSound, IsTable, item_at, item_in, item_of, List, new_call, new_thread, no_callee, None, Ok, Option, option_map_or, Parts, parts_of, Placed, refl, registers_for, Script, Single, Some, sym, Table, TableId, TaskGroup, Thread, ThreadKey, with_entry, with_thread_handle, ℕ, ◌+◌, ◌-◌, ◌∙◌, ◌≡◌}
+use Rattle.task_records.proofs.Core.{add_call, add_thread, ap, ap₂, arith, Bool, Call, call_made, Callee, Caller, cond, Core, deleted, entry_put, eq-eqb, ExportKind, false, found, found-with_entry, get, get-insert, Goal, GroupKey, GuestTaskKey, instance_of, IsSound, IsTable, item_at, item_in, item_of, List, new_call, new_thread, no_callee, None, Ok, Option, option_map_or, Parts, parts_of, Placed, refl, registers_for, Script, Some, sym, Table, TableId, Thread, ThreadKey, with_entry, with_thread_handle, ℕ, ◌+◌, ◌-◌, ◌∙◌, ◌≡◌}
+use Rattle.task_records.specs.declared.{calls.TaskGroup.TaskGroup, parts.CoreParts.CoreParts, single.Single.Single}
 use Rattle.make_words.proofs.RestoreLemmas.{Restores-deleted, Restores-pushed, Restores-same, Restores-written, restored_from}
 use Rattle.make_words.specs.Restored.{IsRestored}
 use Rattle.strand_words.specs.Pushed.{PushesStrand}

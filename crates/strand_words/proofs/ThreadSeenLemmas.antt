@@ -1,5 +1,6 @@
 -- A thread more, as contracts see it: the records of threads and their callers, and what ids name.
-use Rattle.task_records.proofs.Core.{[], ap, ap₂, arith, bare, callers_chain, callers_in, CoreParts, Follower, GuestThread, insert, IsSound, List, list_or_nil, map, next_place, number_of, Option, parts_of, pushed, PutsRecord-pushed, records, refl, seen, Single, subst, sym, Table, TableId, thread_key, thread_of, ThreadKey, values, ℕ, ◌+◌, ◌<◌, ◌∙◌, ◌≡◌}
+use Rattle.task_records.proofs.Core.{[], ap, ap₂, arith, bare, callers_chain, callers_in, insert, IsSound, List, list_or_nil, map, next_place, number_of, Option, parts_of, pushed, PutsRecord-pushed, records, refl, seen, subst, sym, Table, TableId, thread_key, thread_of, ThreadKey, values, ℕ, ◌+◌, ◌<◌, ◌∙◌, ◌≡◌}
+use Rattle.task_records.specs.declared.{parts.CoreParts.CoreParts, single.Single.Single, threads.Follower.Follower, threads.GuestThread.GuestThread}
 use Rattle.make_words.specs.Loose.{IsLoose}
 use Rattle.queue_words.proofs.CallerLemmas.{apart_as, none_as}
 use Rattle.task_records.proofs.MakeLemmas.{number_kept, number_new, records_more}

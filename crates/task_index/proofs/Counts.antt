@@ -1,5 +1,5 @@
 -- The law of a kept number: a record is added, written or removed, and the number goes up by one if it passes now and down by one if it passed.
-use Rattle.std.proofs.Common.{◌≡◌, ◌+◌, ℕ, Bool, Option, Some, None, ap, arith, cond, refl}
+use Rattle.std.proofs.Common.{◌≡◌, ◌+◌, ℕ, Bool, Option, Some, None, arith, cond, refl}
 use Rattle.task_index.specs.Counts.{one_if_passes, passing, with_at}
 use Rattle.task_machine.proofs.SumLemmas.{sum_by-insert, sum_by-remove, value_in}
 use Rattle.task_machine.specs.Maps.{Records, get}

@@ -1,11 +1,11 @@
 -- An index over the entries of a table: an entry is written, pushed or deleted.
-use Rattle.std.proofs.Common.{inl, inr, ◌≡◌, ℕ, true, List, Option, Some, None, sym, ap, ◌∙◌}
+use Rattle.std.proofs.Common.{inl, inr, ◌≡◌, ℕ, true, List, Option, Some, sym, ap, ◌∙◌}
 use Rattle.std.proofs.lemmas.Bool.{cases_eq}
-use Rattle.task_index.proofs.Indexes.{IsIndex-added, IsIndex-refiled, IsIndex-removed, IsIndex-same}
-use Rattle.task_index.proofs.Tables.{filings-deleted_here, filings-deleted_other, filings-pushed_before, filings-pushed_here, filings-pushed_other, filings-with_entry_here, filings-with_entry_other, filings_at}
+use Rattle.task_index.proofs.Indexes.{IsIndex-added, IsIndex-refiled, IsIndex-same}
+use Rattle.task_index.proofs.Tables.{filings-pushed_before, filings-pushed_here, filings-pushed_other, filings-with_entry_here, filings-with_entry_other, filings_at}
 use Rattle.task_index.specs.Index.{Filing, IsIndex, Refiles, filings, link_for}
 use Rattle.task_links.specs.Links.{Spot, is_made, link_of}
-use Rattle.task_table.specs.Changes.{deleted, next_place, pushed, with_entry}
+use Rattle.task_table.specs.Changes.{next_place, pushed, with_entry}
 use Rattle.task_table.specs.Table.{IsTable, Placed, Table, place_at}
 
 module _ {E K P : Type 0} (says : ℕ → ℕ → E → Option (Filing K P)) (chain : K → Option ℕ) (t : Table E) (links : List (Spot P)) (index : IsIndex chain links (filings says t)) where

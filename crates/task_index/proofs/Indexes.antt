@@ -3,7 +3,7 @@ use Rattle.std.proofs.Common.{inl, inr, ◌≡◌, ℕ, true, List, [], Option, 
 use Rattle.std.proofs.lemmas.Bool.{cases_eq}
 use Rattle.std.proofs.lemmas.Option.{same_Some}
 use Rattle.std.specs.Prelude.{option_and_then}
-use Rattle.task_index.proofs.Refilings.{Refiles-none, no_such}
+use Rattle.task_index.proofs.Refilings.{no_such}
 use Rattle.task_index.specs.Index.{Filing, Holds, IsFiled, IsIndex, Refiles, link_for}
 use Rattle.task_links.specs.Links.{Renames, Spot, Unmade, is_made, link_of, list_of, spot_link, spot_list, spot_is_made}
 

@@ -1,10 +1,9 @@
 -- Laws of a second chain for each group's part of a list: it takes each push of a value of the group and each removal, and its first value is what a search for the group finds.
-use Rattle.std.proofs.Common.{inl, inr, ◌≡◌, ◌==◌, ◌++◌, ◌⊎◌, ℕ, Bool, true, false, List, [], ◌∷◌, Option, Some, option_map, refl, sym, ap, ap₂, ◌∙◌, append-nil, filter}
-use Rattle.std.specs.List.{find}
-use Rattle.task_index.proofs.Lists.{filter-append, filter-less_by, filter-none, filter-one, head-filter}
+use Rattle.std.proofs.Common.{inl, inr, ◌≡◌, ◌==◌, ◌++◌, ◌⊎◌, ℕ, Bool, true, false, List, [], ◌∷◌, Option, Some, refl, sym, ap, ap₂, ◌∙◌, append-nil, filter}
+use Rattle.task_index.proofs.Lists.{filter-append, filter-less_by, filter-none, filter-one}
 use Rattle.task_index.proofs.Rows.{IsRows-pushed, IsRows-pushed_first, IsRows-removed}
 use Rattle.task_index.specs.Rows.{IsRows, less_by, part}
-use Rattle.task_links.specs.Links.{IsLinks, Spot, entries, head_of, is_free, linked, removed}
+use Rattle.task_links.specs.Links.{IsLinks, Spot, entries, is_free, linked, removed}
 
 module _ {G K P : Type 0} (in_group : G → P → Bool) (chain : G × K → Option ℕ) (node : P → ℕ) (Known : P → Type 0) (links : List (Spot P)) (list : K → List P) (rows : IsRows chain node Known links (part in_group list)) where
   module _ (new : List (Spot P)) (list' : K → List P) where

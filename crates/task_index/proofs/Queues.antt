@@ -1,14 +1,12 @@
 -- The machine's words of its queues, in the words of rows.
 use Rattle.std.proofs.Common.{◌≡◌, ◌||◌, ℕ, Bool, true, false, cond, List, [], ◌∷◌, refl, sym, ap, ap₂}
 use Rattle.std.specs.List.{list_any}
-use Rattle.std.proofs.lemmas.Bool.{eq-eqb}
 use Rattle.task_index.specs.Rows.{less_by}
 use Rattle.task_machine.specs.Core.{Core}
 use Rattle.task_machine.specs.Moves.{has_entry, less, unqueued}
 use Rattle.task_machine.specs.Read.{is_entry_of}
 use Rattle.task_machine.specs.Write.{set_high, set_low}
 use Rattle.task_machine.specs.declared.records.Entry.{Entry}
-use Rattle.task_machine.specs.declared.records.Entry.TheVariants as entry
 
 less_none : (u : Entry → Bool) (es : List Entry) → list_any u es ≡ false → less_by u es ≡ es
 less_none u [] none = refl

@@ -3,7 +3,6 @@ pub use Rattle.std.specs.declared.{cmp.Ordering.Ordering}
 pub use Rattle.task_handles.specs.declared.{counter.HandleCounter.HandleCounter, kinds.HandleError.HandleError, kinds.HandleKind.HandleKind, kinds.Held.Held, kinds.Rep.Rep, kinds.WaitableKind.WaitableKind}
 pub use Rattle.task_links.specs.declared.{links.Node.Node}
 pub use Rattle.task_machine.specs.declared.{component.Callee.Callee, component.ExportKind.ExportKind, records.Call.Call, records.Caller.Caller, records.Delivery.Delivery, records.Entry.Entry, records.Goal.Goal, records.HowFar.HowFar, records.Instance.Instance, records.Join.Join, records.Made.Made, records.Named.Named, records.Place.Place, records.Script.Script, records.Set.Set, records.Stage.Stage, records.Subtask.Subtask, records.Thread.Thread, records.Why.Why, records.Work.Work, words.Mark.Mark, words.Status.Status}
-pub use Rattle.task_records.specs.declared.{calls.GuestTask.GuestTask, calls.TaskGroup.TaskGroup, instances.InstanceRecord.InstanceRecord, parts.CoreParts.CoreParts, parts.Kept.Kept, parts.ResultRoom.ResultRoom, sets.WaitSet.WaitSet, single.Single.Single, threads.Follower.Follower, threads.GuestThread.GuestThread, threads.Queued.Queued, works.HostWork.HostWork, works.LiveWork.LiveWork}
 pub use Rattle.task_table.specs.declared.{error.ResourceTableError.ResourceTableError, id.TableId.TableId}
 pub use Rattle.task_wait.specs.declared.{keys.GroupKey.GroupKey, keys.GuestTaskKey.GuestTaskKey, keys.HostTaskKey.HostTaskKey, keys.SetKey.SetKey, keys.ThreadKey.ThreadKey}
 pub use Rattle.task_words.specs.declared.{names.SubtaskId.SubtaskId}

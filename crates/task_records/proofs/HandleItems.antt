@@ -1,6 +1,7 @@
 -- A handle of a subtask or a set is given.
-use Rattle.task_records.proofs.Core.{ap, AreHandlesNamed, arith, bare, Bool, by_place, cases_eq, change, cond, CoreParts, Counter, eq-eqb, false, get, give_handle, giving, Global, handle_table, Handles, Held, held_by, inl, inr, insert, Inserts, InstanceRecord, IsHeldNamed, IsSound, kinds, List, live_in, map, map-set, Named, named_by, named_of, ne_eqb, new_handle, next_handle, None, on_core, Option, option_map, option_map_or, parts_of, Records, refl, same_Some, seen, set, slice_get, slice_get-map, Some, subst, sym, true, Vec, ℕ, ◌+◌, ◌==◌, ◌∙◌, ◌≡◌, ◌≤◌, ◌⊎◌}
+use Rattle.task_records.proofs.Core.{ap, AreHandlesNamed, arith, bare, Bool, by_place, cases_eq, change, cond, Counter, eq-eqb, false, get, give_handle, giving, Global, handle_table, Handles, Held, held_by, inl, inr, insert, Inserts, IsHeldNamed, IsSound, kinds, List, live_in, map, map-set, Named, named_by, named_of, ne_eqb, new_handle, next_handle, None, on_core, Option, option_map, option_map_or, parts_of, Records, refl, same_Some, seen, set, slice_get, slice_get-map, Some, subst, sym, true, Vec, ℕ, ◌+◌, ◌==◌, ◌∙◌, ◌≡◌, ◌≤◌, ◌⊎◌}
 use Rattle.task_machine.specs.Core.{Table}
+use Rattle.task_records.specs.declared.{instances.InstanceRecord.InstanceRecord, parts.CoreParts.CoreParts}
 use Rattle.task_handles.specs.Handles.{next_handle as given_next}
 use Rattle.task_records.proofs.GivenLemmas.{free_given, held_given, live_given, one_changed, table_given}
 use Rattle.task_records.proofs.HandleWrites.{handles_sound, unchanged}

@@ -1,7 +1,8 @@
 -- What the handles of an instance name.
-use Rattle.task_records.proofs.Core.{[], ap, AreHandlesNamed, arith, bare, CallOf, CoreParts, get, handle_table, HandleKind, Handles, Held, held_by, IfSome, InstanceRecord, IsHeldNamed, IsSound, kinds, length, List, named_by, named_of, next_handle, None, Option, option_and_then, option_map, parts_of, Records, refl, Rep, seen, SetOf, slice_get, Some, StandsAt, sym, thread_at, thread_key, ThreadOf, WaitableKind, WorkOf, ℕ, ◌+◌, ◌<◌, ◌∙◌, ◌∷◌, ◌≡◌}
+use Rattle.task_records.proofs.Core.{[], ap, AreHandlesNamed, arith, bare, CallOf, get, handle_table, HandleKind, Handles, Held, held_by, IfSome, IsHeldNamed, IsSound, kinds, length, List, named_by, named_of, next_handle, None, Option, option_and_then, option_map, parts_of, Records, refl, Rep, seen, SetOf, slice_get, Some, StandsAt, sym, thread_at, thread_key, ThreadOf, WaitableKind, WorkOf, ℕ, ◌+◌, ◌<◌, ◌∙◌, ◌∷◌, ◌≡◌}
 use Rattle.task_handles.specs.Handles.{IsWhole}
 use Rattle.task_machine.specs.Core.{Table}
+use Rattle.task_records.specs.declared.{instances.InstanceRecord.InstanceRecord, parts.CoreParts.CoreParts}
 use Rattle.task_handles.specs.Handles.{live_count as handles_live, next_handle as given_next}
 use Rattle.task_records.proofs.HandleLemmas.{get-records_by, size-records_by}
 use Rattle.task_records.proofs.HomeLemmas.{place_bare}

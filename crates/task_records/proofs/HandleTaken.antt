@@ -1,7 +1,8 @@
 -- A handle of a subtask or a set is taken back.
-use Rattle.task_records.proofs.Core.{ap, AreHandlesNamed, arith, as_subtask, bare, Bool, by_place, change, cond, CoreParts, Counter, false, free_handle, get, Global, handle_table, HandleKind, Handles, Held, held_by, insert, InstanceRecord, is_some, IsSome, IsSound, kinds, length, List, live_in, map, map-set, Named, named_as, named_by, named_of, None, Ok, on_core, Option, option_and_then, option_map, parts_of, Records, refl, Removes, Rep, seen, set, slice_get, slice_get-map, Some, subst, subtask_at, subtask_of, sym, taking, true, Vec, WaitableKind, ℕ, ◌+◌, ◌-◌, ◌<◌, ◌==◌, ◌∙◌, ◌≡◌}
+use Rattle.task_records.proofs.Core.{ap, AreHandlesNamed, arith, as_subtask, bare, Bool, by_place, change, cond, Counter, false, free_handle, get, Global, handle_table, HandleKind, Handles, Held, held_by, insert, is_some, IsSome, IsSound, kinds, length, List, live_in, map, map-set, Named, named_as, named_by, named_of, None, Ok, on_core, Option, option_and_then, option_map, parts_of, Records, refl, Removes, Rep, seen, set, slice_get, slice_get-map, Some, subst, subtask_at, subtask_of, sym, taking, true, Vec, WaitableKind, ℕ, ◌+◌, ◌-◌, ◌<◌, ◌==◌, ◌∙◌, ◌≡◌}
 use Rattle.task_handles.specs.Held.{subtask_in}
 use Rattle.task_machine.specs.Core.{Table}
+use Rattle.task_records.specs.declared.{instances.InstanceRecord.InstanceRecord, parts.CoreParts.CoreParts}
 use Rattle.task_records.proofs.GivenLemmas.{held_taken, live_taken, one_changed, table_taken}
 use Rattle.task_records.proofs.HandleWrites.{handles_sound, unchanged}
 use Rattle.task_records.proofs.HandleLemmas.{get-records_by}

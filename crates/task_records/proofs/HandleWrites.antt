@@ -1,7 +1,8 @@
 -- A handle of an instance is given or taken back: what hangs on it.
-use Rattle.task_records.proofs.Core.{ap, ap₂, AreHandlesNamed, arith, AtPlace, bare, bare_instance, Bool, by_place, cases_eq, change, cond, CoreParts, Counter, EachEntry, eq-eqb, false, get, give_thread_handle, giving, Global, handle_table, Handles, held_by, image, inl, inr, insert, Inserts, InstanceRecord, IsNamedAt, IsSound, IsWhole, kinds, List, live_in, map, map-set, named_by, named_of, ne_eqb, new_thread_handle, next_handle, None, on_core, Option, option_map, option_map_or, OwnsHandle, parts_of, Records, refl, Rep, same_Some, seen, set, set-slice_get, size, slice_get, slice_get-map, slice_get-set_other, slice_get-set_same, slice_get_within, Some, Sound, subst, sum_by-insert, sum_by-remove, sym, thread_at, ThreadOf, true, value_in, Vec, ℕ, ◌+◌, ◌==◌, ◌∙◌, ◌≡◌, ◌≤◌, ◌⊎◌}
+use Rattle.task_records.proofs.Core.{ap, ap₂, AreHandlesNamed, arith, AtPlace, bare, bare_instance, Bool, by_place, cases_eq, change, cond, Counter, EachEntry, eq-eqb, false, get, give_thread_handle, giving, Global, handle_table, Handles, held_by, image, inl, inr, insert, Inserts, IsNamedAt, IsSound, IsWhole, kinds, List, live_in, map, map-set, named_by, named_of, ne_eqb, new_thread_handle, next_handle, None, on_core, Option, option_map, option_map_or, OwnsHandle, parts_of, Records, refl, Rep, same_Some, seen, set, set-slice_get, size, slice_get, slice_get-map, slice_get-set_other, slice_get-set_same, slice_get_within, Some, Sound, subst, sum_by-insert, sum_by-remove, sym, thread_at, ThreadOf, true, value_in, Vec, ℕ, ◌+◌, ◌==◌, ◌∙◌, ◌≡◌, ◌≤◌, ◌⊎◌}
 use Rattle.task_handles.specs.Handles.{live_count}
 use Rattle.task_machine.specs.Core.{Table}
+use Rattle.task_records.specs.declared.{instances.InstanceRecord.InstanceRecord, parts.CoreParts.CoreParts}
 use Rattle.task_handles.specs.Handles.{next_handle as given_next}
 use Rattle.task_records.proofs.GivenLemmas.{free_given, held_given, live_given, names_new, names_on, one_changed, table_given}
 use Rattle.task_records.proofs.HandleReads.{next_given}

@@ -1,5 +1,6 @@
 -- Where the call of a thread stands, and its instance.
-use Rattle.task_records.proofs.Core.{[], ap, arith, AtPlace, bare, bare_call, bare_thread, bare_work, Call, call_instance, call_key, call_of, CallOf, core_of, CoreParts, get, get-records, GuestTask, GuestTaskKey, GuestThread, HasHome, HasNumber, HostTaskKey, HostWork, instance_of, IsCallNamed, IsSome, IsSound, IsWorkNamed, item_at, item_of, length, List, loose_call, loose_thread, loose_work, map, no_callee, None, Nothing, number_of-le, Ok, on_item, Option, option_map, option_map_or, parts_of, place_at-mapped, placed_as, refl, seen, set_key, set_of, SetKey, SetOf, slice_get, Some, StandsAt, subst, sym, TableId, Target, task_of, Thread, thread_key, thread_of, ThreadKey, ThreadOf, uninterested, unmoved, WaitSet, work_key, work_of, WorkOf, ℕ, ◌<◌, ◌∙◌, ◌∷◌, ◌≡◌, ◌≤◌}
+use Rattle.task_records.proofs.Core.{[], ap, arith, AtPlace, bare, bare_call, bare_thread, bare_work, Call, call_instance, call_key, call_of, CallOf, core_of, get, get-records, GuestTaskKey, HasHome, HasNumber, HostTaskKey, instance_of, IsCallNamed, IsSome, IsSound, IsWorkNamed, item_at, item_of, length, List, loose_call, loose_thread, loose_work, map, no_callee, None, Nothing, number_of-le, Ok, on_item, Option, option_map, option_map_or, parts_of, place_at-mapped, placed_as, refl, seen, set_key, set_of, SetKey, SetOf, slice_get, Some, StandsAt, subst, sym, TableId, Target, task_of, Thread, thread_key, thread_of, ThreadKey, ThreadOf, uninterested, unmoved, work_key, work_of, WorkOf, ℕ, ◌<◌, ◌∙◌, ◌∷◌, ◌≡◌, ◌≤◌}
+use Rattle.task_records.specs.declared.{calls.GuestTask.GuestTask, parts.CoreParts.CoreParts, sets.WaitSet.WaitSet, threads.GuestThread.GuestThread, works.HostWork.HostWork}
 use Rattle.task_records.proofs.KindLemmas.{item_stands}
 use Rattle.task_records.proofs.ReadLemmas.{call_shown, set_shown, thread_read, thread_shown, work_shown}
 use Rattle.task_records.proofs.StandLemmas.{stands_by_id}

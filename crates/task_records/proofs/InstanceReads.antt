@@ -1,6 +1,7 @@
 -- The records of instances: what is read at a number, and a write of what nothing hangs on.
-use Rattle.task_records.proofs.Core.{ap, ap₂, AreHandlesNamed, bare, bare_instance, by_place, cases_eq, change, changed, CoreParts, false, get, get_or, Global, handle_table, held_by, inl, inr, insert, Instance, InstanceRecord, is_some, IsSound, IsWhole, kinds, length, List, live_in, map, map-set, Named, named_by, named_of, None, on_core, on_instance, Option, option_map, parts_of, Records, refl, same_Some, seen, set, set-slice_get, slice_get, slice_get-get_or, slice_get-map, slice_get-set_other, slice_get-set_same, slice_get_past, slice_get_within, Some, StateView, subst, sym, true, untouched, Vec, ℕ, ◌+◌, ◌<◌, ◌∙◌, ◌≡◌, ◌≤◌, ◌⊎◌}
+use Rattle.task_records.proofs.Core.{ap, ap₂, AreHandlesNamed, bare, bare_instance, by_place, cases_eq, change, changed, false, get, get_or, Global, handle_table, held_by, inl, inr, insert, Instance, is_some, IsSound, IsWhole, kinds, length, List, live_in, map, map-set, Named, named_by, named_of, None, on_core, on_instance, Option, option_map, parts_of, Records, refl, same_Some, seen, set, set-slice_get, slice_get, slice_get-get_or, slice_get-map, slice_get-set_other, slice_get-set_same, slice_get_past, slice_get_within, Some, StateView, subst, sym, true, untouched, Vec, ℕ, ◌+◌, ◌<◌, ◌∙◌, ◌≡◌, ◌≤◌, ◌⊎◌}
 use Rattle.task_machine.specs.Core.{Table}
+use Rattle.task_records.specs.declared.{instances.InstanceRecord.InstanceRecord, parts.CoreParts.CoreParts}
 use Rattle.task_records.proofs.InstanceLemmas.{by_place-set, get-by_place}
 use Rattle.task_records.specs.Instances.{thread_of as thread_named}
 

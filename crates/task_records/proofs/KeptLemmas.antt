@@ -1,5 +1,6 @@
 -- Kept numbers are what the machine counts, as contracts see it.
-use Rattle.task_records.proofs.Core.{[], ap, ap₂, arith, bare, bare_call, bare_thread, bare_work, Bool, Call, call_key, call_of, cond, core_of, CoreParts, count_by, count_by-le-length, entries_for, false, get, GuestTask, GuestTaskKey, GuestThread, has_thread, has_waiters, is_host_call, is_in_set, is_live, is_moving, is_some, is_sorted-mapped, IsSetKept, IsSound, item_at, item_of, keeps_set, key_in, length, length-map, List, list_any, live_count, loose_call, loose_thread, loose_work, mapped, members_of, nat_lt, ne_eqb, None, none_in_records, Ok, on_item, Option, option_map, parts_of, passing, place_at, place_at-mapped, Placed, placed_as, Records, records, refl, same_map, same_Some, seen, set_of, SetKey, Single, size, size-records-le, Some, subst, sum_by-cons, sym, T, Table, table_len, table_use, TableId, Thread, thread_key, threads_of, true, uninterested, unmoved, WaitSet, Work, work_key, ℕ, ◌*◌, ◌+◌, ◌<◌, ◌==◌, ◌^◌, ◌||◌, ◌∙◌, ◌∷◌, ◌≡◌, ◌≤◌}
+use Rattle.task_records.proofs.Core.{[], ap, ap₂, arith, bare, bare_call, bare_thread, bare_work, Bool, Call, call_key, call_of, cond, core_of, count_by, count_by-le-length, entries_for, false, get, GuestTaskKey, has_thread, has_waiters, is_host_call, is_in_set, is_live, is_moving, is_some, is_sorted-mapped, IsSetKept, IsSound, item_at, item_of, keeps_set, key_in, length, length-map, List, list_any, live_count, loose_call, loose_thread, loose_work, mapped, members_of, nat_lt, ne_eqb, None, none_in_records, Ok, on_item, Option, option_map, parts_of, passing, place_at, place_at-mapped, Placed, placed_as, Records, records, refl, same_map, same_Some, seen, set_of, SetKey, size, size-records-le, Some, subst, sum_by-cons, sym, T, Table, table_len, table_use, TableId, Thread, thread_key, threads_of, true, uninterested, unmoved, Work, work_key, ℕ, ◌*◌, ◌+◌, ◌<◌, ◌==◌, ◌^◌, ◌||◌, ◌∙◌, ◌∷◌, ◌≡◌, ◌≤◌}
+use Rattle.task_records.specs.declared.{calls.GuestTask.GuestTask, parts.CoreParts.CoreParts, sets.WaitSet.WaitSet, single.Single.Single, threads.GuestThread.GuestThread}
 use Rattle.task_records.proofs.HandleLemmas.{find-mapped}
 use Rattle.task_records.proofs.KindLemmas.{item_stands}
 use Rattle.task_records.proofs.ReadLemmas.{call_named, set_named}

@@ -1,5 +1,6 @@
 -- The records of one kind, in a table of their own: what ids name, what is read under an id, and a write of one record.
-use Rattle.task_records.proofs.Core.{[], ap, arith, Bool, change, changed, children_of-with_entry, cond, entry_of, entry_put, Err, false, found, found_at, found_record, get, get-item_number, get-records, insert, IsTable-with_entry, item_at, item_found, item_of, key_in, List, map, map-set, named, ne_eqb, no_other, None, number_in, number_of, number_of-item, number_of-refused, of_serial, Ok, one_if_passes, Option, option_map, passing, passing-with_at, place_at, place_at_there, Placed, PutsRecord, PutsRecord-with_entry, record_at-item, records, refl, ResourceTableError, set, set-slice_get, Single, slice_get, slice_get-map, Some, SoundTable, standing, sym, Table, Tag, tag_of, tags_in, trimmed, true, with_entry, with_first, ℕ, ◌+◌, ◌<◌, ◌==◌, ◌∙◌, ◌∷◌, ◌≡◌}
+use Rattle.task_records.proofs.Core.{[], ap, arith, Bool, change, changed, children_of-with_entry, cond, entry_of, entry_put, Err, false, found, found_at, found_record, get, get-item_number, get-records, insert, IsTable-with_entry, item_at, item_found, item_of, key_in, List, map, map-set, named, ne_eqb, no_other, None, number_in, number_of, number_of-item, number_of-refused, of_serial, Ok, one_if_passes, Option, option_map, passing, passing-with_at, place_at, place_at_there, Placed, PutsRecord, PutsRecord-with_entry, record_at-item, records, refl, ResourceTableError, set, set-slice_get, slice_get, slice_get-map, Some, SoundTable, standing, sym, Table, Tag, tag_of, tags_in, trimmed, true, with_entry, with_first, ℕ, ◌+◌, ◌<◌, ◌==◌, ◌∙◌, ◌∷◌, ◌≡◌}
+use Rattle.task_records.specs.declared.{single.Single.Single}
 
 pub absent : {X Y : Type 0} (x : X) → ◌≡◌ {A = Option X} None (Some x) → Y
 absent x e = absurd (cc)

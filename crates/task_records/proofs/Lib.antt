@@ -18,4 +18,5 @@ pub mod HandleTaken
 pub mod AloneLemmas
 pub mod LaterLemmas
 pub mod MakeLemmas
+pub mod SoundLemmas
 pub mod LinkLemmas

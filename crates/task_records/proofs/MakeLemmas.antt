@@ -1,5 +1,6 @@
 -- The records of one kind where one more is made, or one is taken away.
-use Rattle.task_records.proofs.Core.{ap, arith, Bool, cases_eq, children_of-deleted, children_of-pushed, cond, deleted, entry_of, eq-eqb, false, found_record, HasNumber, inl, inr, insert, IsSome, IsTable, item_at, item_of, key_in, ne_eqb, next_place, next_place_free, no_other, None, number_in, number_of, number_of-deleted_apart, number_of-pushed_kept, number_of-pushed_new, Ok, Option, place_at, place_at-deleted, place_at-pushed, pushed, PutsRecord, PutsRecord-pushed, record_at, record_at-item, records, refl, remove, Single, Some, SoundTable, StandsAt, subst, sym, Table, TakesRecord, TakesRecord-deleted, true, ℕ, ◌+◌, ◌<◌, ◌==◌, ◌∙◌, ◌≡◌, ◌≤◌, ◌⊎◌}
+use Rattle.task_records.proofs.Core.{ap, arith, Bool, cases_eq, children_of-deleted, children_of-pushed, cond, deleted, entry_of, eq-eqb, false, found_record, HasNumber, inl, inr, insert, IsSome, IsTable, item_at, item_of, key_in, ne_eqb, next_place, next_place_free, no_other, None, number_in, number_of, number_of-deleted_apart, number_of-pushed_kept, number_of-pushed_new, Ok, Option, place_at, place_at-deleted, place_at-pushed, pushed, PutsRecord, PutsRecord-pushed, record_at, record_at-item, records, refl, remove, Some, SoundTable, StandsAt, subst, sym, Table, TakesRecord, TakesRecord-deleted, true, ℕ, ◌+◌, ◌<◌, ◌==◌, ◌∙◌, ◌≡◌, ◌≤◌, ◌⊎◌}
+use Rattle.task_records.specs.declared.{single.Single.Single}
 use Rattle.task_records.proofs.KindLemmas.{absent, item_stands}
 
 module _ {T X : Type 0} (number : T → ℕ) (rec : T → X) (t : Table (Single T)) (made : ℕ) (sound : SoundTable (λ (e : Single T). Some (number e.item, rec e.item)) t made) where

@@ -1,5 +1,6 @@
 -- What is read under an id is the machine's record of what the id names.
-use Rattle.task_records.proofs.Core.{ap, call_key, call_number, call_of, CoreParts, Err, get, GuestTask, GuestTaskKey, GuestThread, HostTaskKey, HostWork, IsSound, item_at, item_of, None, number_of, Ok, records, ResourceTableError, seen, set_key, set_number, set_of, SetKey, Some, sym, TableId, thread_key, thread_number, thread_of, ThreadKey, WaitSet, work_key, work_number, work_of, ◌∙◌, ◌≡◌}
+use Rattle.task_records.proofs.Core.{ap, call_key, call_number, call_of, Err, get, GuestTaskKey, HostTaskKey, IsSound, item_at, item_of, None, number_of, Ok, records, ResourceTableError, seen, set_key, set_number, set_of, SetKey, Some, sym, TableId, thread_key, thread_number, thread_of, ThreadKey, work_key, work_number, work_of, ◌∙◌, ◌≡◌}
+use Rattle.task_records.specs.declared.{calls.GuestTask.GuestTask, parts.CoreParts.CoreParts, sets.WaitSet.WaitSet, threads.GuestThread.GuestThread, works.HostWork.HostWork}
 use Rattle.task_records.proofs.KindLemmas.{item_number, item_read, number_shown, refused_number, refused_read}
 
 module _ (a : CoreParts) where

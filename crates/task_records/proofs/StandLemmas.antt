@@ -1,5 +1,6 @@
 -- Ids made of a place alone, and of a place where a number was kept.
-use Rattle.task_records.proofs.Core.{ap, ap₂, arith, cond, found, found_here, found_record, found_record_at, get-records, is_some, IsSome, item_of, kept_in, key_in, named, None, number_in, number_names, number_of, of_serial, Option, option_and_then, option_map, place_at, Placed, record_at, record_at-Names, records, refl, same_Some, Single, slice_get, slice_get_past, Some, SoundTable, standing, StandsAt, sym, Table, tags_in, ℕ, ◌∙◌, ◌≡◌, ◌≤◌}
+use Rattle.task_records.proofs.Core.{ap, ap₂, arith, cond, found, found_here, found_record, found_record_at, get-records, is_some, IsSome, item_of, kept_in, key_in, named, None, number_in, number_names, number_of, of_serial, Option, option_and_then, option_map, place_at, Placed, record_at, record_at-Names, records, refl, same_Some, slice_get, slice_get_past, Some, SoundTable, standing, StandsAt, sym, Table, tags_in, ℕ, ◌∙◌, ◌≡◌, ◌≤◌}
+use Rattle.task_records.specs.declared.{single.Single.Single}
 use Rattle.task_records.proofs.KindLemmas.{absent, number_shown}
 
 module _ {T X : Type 0} (number : T → ℕ) (rec : T → X) where

@@ -1,6 +1,7 @@
 -- The threads of a chain of places, by their numbers.
-use Rattle.task_records.proofs.Core.{ap, arith, bare, blocked_on, BlockedOn, Bool, CoreParts, eq-eqb, eqb-true, false, Filing, first_at, get, get-records, GuestThread, IfSome, is_blocked_on, is_under, IsLinks, IsMembers, IsMembers-walked, IsSome, IsSound, key_in, list_of, None, number_in, Option, option_map, option_map_or, parts_of, passes_at, Place, place_at, place_chain, place_filing, Placed, records, refl, same_Some, same_subtask, seen, Single, Some, Subtask, suc, sym, TableId, Thread, thread_key, thread_of, ThreadKey, true, under_of, UnderOf, Where, where_at, zero, ℕ, ◌<◌, ◌∙◌, ◌≡◌}
+use Rattle.task_records.proofs.Core.{ap, arith, bare, blocked_on, BlockedOn, Bool, eq-eqb, eqb-true, false, Filing, first_at, get, get-records, IfSome, is_blocked_on, is_under, IsLinks, IsMembers, IsMembers-walked, IsSome, IsSound, key_in, list_of, None, number_in, Option, option_map, option_map_or, parts_of, passes_at, Place, place_at, place_chain, place_filing, Placed, records, refl, same_Some, same_subtask, seen, Some, Subtask, suc, sym, TableId, Thread, thread_key, thread_of, ThreadKey, true, under_of, UnderOf, Where, where_at, zero, ℕ, ◌<◌, ◌∙◌, ◌≡◌}
 use Rattle.task_machine.specs.Read.{is_at}
+use Rattle.task_records.specs.declared.{parts.CoreParts.CoreParts, single.Single.Single, threads.GuestThread.GuestThread}
 use Rattle.task_rules.proofs.StopLemmas.{find_passes}
 use Rattle.place_words.proofs.FiledLemmas.{place_tests, places_filed}
 use Rattle.walk_words.proofs.LeastLemmas.{least_at}

@@ -1,6 +1,7 @@
 -- The first of the live works above a number is what the machine polls next.
-use Rattle.task_records.proofs.Core.{[], ap, ap₂, AreLinked, arith, bare, bare_work, Bool, cond, CoreParts, entries, eq-eqb, eqb-true, false, Filing, filings, filings_at, first_number, ge_from_not_lt, get, get-records, has, head_of, HostWork, inl, inr, is_live, is_lt, is_some, is_sorted, is_stage_live, IsAscending, IsIndex, IsIndex-same, IsLeast, IsLinks, IsMembers-numbers, IsMembers-walked, IsSome, IsSound, key_in, link_of, link_says, List, list_of, live_after, live_chain, live_order, live_value, live_work, LiveWork, map, nat_cmp, nat_lt, next_polled, None, number_at, number_in, number_in_link, numbers, on_item, Option, Ordering, ordering_then, parts_of, passes_at, passes_in, place_at, place_at-mapped, Placed, placed_as, record_at, record_found, records, refl, Rises, said, same_Some, seen, Single, Some, some_pair_parts, split, Spot, Stage, subst, sym, T, Tests, true, unsigned_tied, Work, work_key, ℕ, ◌&&◌, ◌++◌, ◌<◌, ◌==◌, ◌||◌, ◌∙◌, ◌∷◌, ◌≡◌, ◌≤◌}
+use Rattle.task_records.proofs.Core.{[], ap, ap₂, AreLinked, arith, bare, bare_work, Bool, cond, entries, eq-eqb, eqb-true, false, Filing, filings, filings_at, first_number, ge_from_not_lt, get, get-records, has, head_of, inl, inr, is_live, is_lt, is_some, is_sorted, is_stage_live, IsAscending, IsIndex, IsIndex-same, IsLeast, IsLinks, IsMembers-numbers, IsMembers-walked, IsSome, IsSound, key_in, link_of, link_says, List, list_of, live_after, live_chain, live_order, live_value, live_work, map, nat_cmp, nat_lt, next_polled, None, number_at, number_in, number_in_link, numbers, on_item, Option, Ordering, ordering_then, parts_of, passes_at, passes_in, place_at, place_at-mapped, Placed, placed_as, record_at, record_found, records, refl, Rises, said, same_Some, seen, Some, some_pair_parts, split, Spot, Stage, subst, sym, T, Tests, true, unsigned_tied, Work, work_key, ℕ, ◌&&◌, ◌++◌, ◌<◌, ◌==◌, ◌||◌, ◌∙◌, ◌∷◌, ◌≡◌, ◌≤◌}
 use Rattle.std.specs.List.{find}
+use Rattle.task_records.specs.declared.{parts.CoreParts.CoreParts, single.Single.Single, works.HostWork.HostWork, works.LiveWork.LiveWork}
 use Rattle.std.specs.FinMap.Entries as entry_list
 use Rattle.std.specs.declared.cmp.Ordering.TheVariants.{Less, Equal, Greater}
 use Rattle.place_words.specs.Moved.{live_key}

@@ -1,5 +1,6 @@
 -- The push of a host work is queued.
-use Rattle.task_records.proofs.Core.{[], ap, bare, bare_work, CoreParts, entries, Entry, High, host_entry, HostTaskKey, HostWork, inl, inr, is_free, IsLinks, IsSeated, IsSome, IsSound, IsWhole, item_at, item_of, linked, List, list_of, None, Ok, on_core, on_item, option_map, Parts, parts_of, Placed, push_entry, push_high, Queued, refl, row, seen, Single, Some, Spot, subst, sym, TableId, true, work_entries, work_of, ℕ, ◌++◌, ◌∙◌, ◌∷◌, ◌≡◌}
+use Rattle.task_records.proofs.Core.{[], ap, bare, bare_work, entries, Entry, High, host_entry, HostTaskKey, inl, inr, is_free, IsLinks, IsSeated, IsSome, IsSound, IsWhole, item_at, item_of, linked, List, list_of, None, Ok, on_core, on_item, option_map, Parts, parts_of, Placed, push_entry, push_high, refl, row, seen, Some, Spot, subst, sym, TableId, true, work_entries, work_of, ℕ, ◌++◌, ◌∙◌, ◌∷◌, ◌≡◌}
+use Rattle.task_records.specs.declared.{parts.CoreParts.CoreParts, single.Single.Single, threads.Queued.Queued, works.HostWork.HostWork}
 use Rattle.queue_words.proofs.BareLemmas.{place_mapped}
 use Rattle.queue_words.proofs.PushLemmas.{host_free}
 use Rattle.queue_words.proofs.RowLemmas.{pushed_work}

@@ -1,5 +1,7 @@
 -- The chain of the live works is made: no work is there yet.
-use Rattle.task_records.proofs.Core.{[], ap, bare, ChainOf, CoreParts, false, Filing, filings, GuestTask, GuestThread, HasHome, HostWork, inl, is_some, IsAscending, IsCallNamed, IsSome, IsSound, IsWhole, IsWorkNamed, list_of, list_or_nil, live_chain, live_order, live_work, LiveWork, None, Option, Parts, parts_of, place_at, Placed, refl, Renames, said, Single, Some, spot_list, subst, sym, table_use, Unmade, ℕ, ◌∙◌, ◌≡◌}
+use Rattle.task_records.proofs.SoundLemmas.{sound_of_whole}
+use Rattle.task_records.proofs.Core.{[], ap, bare, ChainOf, false, Filing, filings, HasHome, inl, is_some, IsAscending, IsCallNamed, IsSome, IsSound, IsWhole, IsWorkNamed, list_of, list_or_nil, live_chain, live_order, live_work, None, Option, Parts, parts_of, place_at, Placed, refl, Renames, said, Some, spot_list, subst, sym, table_use, Unmade, ℕ, ◌∙◌, ◌≡◌}
+use Rattle.task_records.specs.declared.{calls.GuestTask.GuestTask, parts.CoreParts.CoreParts, single.Single.Single, threads.GuestThread.GuestThread, works.HostWork.HostWork, works.LiveWork.LiveWork}
 use Rattle.make_words.proofs.LooseLemmas.{IsIndex-opened}
 
 pub none_there : {X : Type 0} (o : Option X) → is_some o ≡ false → o ≡ None
@@ -74,12 +76,4 @@ module _ (a b : CoreParts) (sound : IsSound b) (only : b ≡ record a { polled =
 
   pub live_opened_sound : IsSound (record b { live = Some c })
   unfolding IsSound
-  live_opened_sound = record {
-    tables = record { threads = sound.tables.threads; calls = sound.tables.calls; works = sound.tables.works; sets = sound.tables.sets; groups = sound.tables.groups };
-    whole = opened_whole (bare (parts_of b)) sound.whole none_live c (ap spot_list names.names);
-    interesting = sound.interesting;
-    moving = sound.moving;
-    handles = sound.handles;
-    owned = sound.owned;
-    live = sound.live;
-  }
+  live_opened_sound = sound_of_whole b (record b { live = Some c }) refl sound (opened_whole (bare (parts_of b)) sound.whole none_live c (ap spot_list names.names))

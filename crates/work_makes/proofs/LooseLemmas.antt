@@ -1,5 +1,6 @@
 -- The nodes and the chain of a host work are made, one after another: they hang on nothing.
-use Rattle.task_records.proofs.Core.{[], bare, ChainOf, CoreParts, filings, FreeNode, GuestThread, HostWork, if◌then◌else◌, is_stage_live, IsSome, IsSound, live_chain, live_value, None, parts_of, place_at, place_chain, place_filing, Placed, ready_in, ready_work_chain, Renames, Single, Some, subst, sym, Unmade, ℕ, ◌≡◌}
+use Rattle.task_records.proofs.Core.{[], bare, ChainOf, filings, FreeNode, if◌then◌else◌, is_stage_live, IsSound, live_chain, live_value, None, parts_of, place_at, place_chain, place_filing, Placed, ready_in, ready_work_chain, Renames, Some, subst, sym, Unmade, ℕ, ◌≡◌}
+use Rattle.task_records.specs.declared.{parts.CoreParts.CoreParts, single.Single.Single, threads.GuestThread.GuestThread, works.HostWork.HostWork}
 use Rattle.make_words.proofs.LooseLemmas.{loose_index}
 use Rattle.make_words.specs.Loose.{IsLoose, IsSpare}
 use Rattle.strand_words.proofs.NodeLemmas.{filed_made, spare_made}

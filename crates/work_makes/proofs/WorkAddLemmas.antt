@@ -1,5 +1,6 @@
 -- A host work more, as a core: it is sound, and contracts see just that.
-use Rattle.task_records.proofs.Core.{[], add_work, ap, ap₂, AreApart, arith, AtPlace, bare, bare_call, bare_work, Call, call_key, call_number, calls_of, cond, Core, core_of, CoreParts, count_by-le-length, count_work, Each, EachEntry, Entry, eq-eqb, eqb-true, false, filter, get, get-records, group_key, GroupKey, GuestTask, HasNumber, High, HostTaskKey, HostWork, inl, inr, is_aborted, is_host_call, is_moving, is_never, is_of_group, is_some, is_stage_live, IsGroupKept, IsSeated, IsSome, IsSound, IsTable, IsWhole, item_at, item_of, Keeps, Kept, key_in, kinds, length, List, loose_call, loose_work, map, mapped, mapped-pushed, nat_lt, ne_eqb, next_place, None, not, number_in, Ok, on_item, one_if_passes, Option, option_map, option_map_or, Parts, parts_of, passing, pushed, Queued, Records, records, refl, row, same_Some, seen, set_number, Single, size, size-records-le, Some, SoundTable, subst, suc, sym, Table, table_len, TableId, Target, TaskGroup, thread_number, true, uninterested, unmoved, Work, work_caller_target, work_entries, work_key, work_of, ℕ, ◌&&◌, ◌+◌, ◌<◌, ◌==◌, ◌^◌, ◌||◌, ◌∙◌, ◌∷◌, ◌≡◌, ◌≤◌}
+use Rattle.task_records.proofs.Core.{[], add_work, ap, ap₂, AreApart, arith, AtPlace, bare, bare_call, bare_work, Call, call_key, call_number, calls_of, cond, Core, core_of, count_by-le-length, count_work, Each, EachEntry, Entry, eq-eqb, eqb-true, false, filter, get, get-records, group_key, GroupKey, HasNumber, High, HostTaskKey, inl, inr, is_aborted, is_host_call, is_moving, is_never, is_of_group, is_some, is_stage_live, IsGroupKept, IsSeated, IsSome, IsSound, IsTable, IsWhole, item_at, item_of, Keeps, key_in, kinds, length, List, loose_call, loose_work, map, mapped, mapped-pushed, nat_lt, ne_eqb, next_place, None, not, number_in, Ok, on_item, one_if_passes, Option, option_map, option_map_or, Parts, parts_of, passing, pushed, Records, records, refl, row, same_Some, seen, set_number, size, size-records-le, Some, SoundTable, subst, suc, sym, Table, table_len, TableId, Target, thread_number, true, uninterested, unmoved, Work, work_caller_target, work_entries, work_key, work_of, ℕ, ◌&&◌, ◌+◌, ◌<◌, ◌==◌, ◌^◌, ◌||◌, ◌∙◌, ◌∷◌, ◌≡◌, ◌≤◌}
+use Rattle.task_records.specs.declared.{calls.GuestTask.GuestTask, calls.TaskGroup.TaskGroup, parts.CoreParts.CoreParts, parts.Kept.Kept, single.Single.Single, threads.Queued.Queued, works.HostWork.HostWork}
 use Rattle.make_words.proofs.MoreLemmas.{early, passing_more, table_bare}
 use Rattle.make_words.proofs.RestoreLemmas.{handles_grown}
 use Rattle.place_words.specs.Moved.{Alike}

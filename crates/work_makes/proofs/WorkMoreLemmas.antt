@@ -1,5 +1,6 @@
 -- Parts with one host work more, whose nodes and chain hung on nothing: they are whole.
-use Rattle.task_records.proofs.Core.{ap, AreChained, AreCounted, arith, AtPlace, BlockedOn, Bool, CallOf, calls_of, cases_eq, cond, core_of, EachEntry, Entry, entry_seated, false, filings, filter, group_key, GuestTask, GuestThread, HasHome, HasNumber, HaveRowNodes, HeldIn, host_entry, HostWork, inl, inr, is_host_call, is_in_set, is_live, is_of_group, is_of_instance, is_stage_live, IsCallNamed, IsGroupKept, IsSeated, IsSome, IsWhole, IsWorkNamed, join_target, Kept, kinds, length, live_chain, live_value, nat_lt, None, Nothing, one_if_passes, Option, part, Parts, passing, place_chain, place_filing, Placed, push_entry, pushed, Queued, ready_in, ready_work_chain, refl, row, row_chain, SetOf, shelf_chain, Single, Some, SoundTable, Status, subst, Subtask, sym, Table, table_use, Target, TaskGroup, ThreadOf, UnderOf, WaitsOn, Where, Work, work_key, WorkOf, ℕ, ◌+◌, ◌<◌, ◌∙◌, ◌≡◌, ◌⊎◌}
+use Rattle.task_records.proofs.Core.{ap, AreChained, AreCounted, arith, AtPlace, BlockedOn, Bool, CallOf, calls_of, cases_eq, cond, core_of, EachEntry, Entry, entry_seated, false, filings, filter, group_key, HasHome, HasNumber, HaveRowNodes, HeldIn, host_entry, inl, inr, is_host_call, is_in_set, is_live, is_of_group, is_of_instance, is_stage_live, IsCallNamed, IsGroupKept, IsSeated, IsSome, IsWhole, IsWorkNamed, join_target, kinds, length, live_chain, live_value, nat_lt, None, Nothing, one_if_passes, Option, part, Parts, passing, place_chain, place_filing, Placed, push_entry, pushed, ready_in, ready_work_chain, refl, row, row_chain, SetOf, shelf_chain, Some, SoundTable, Status, subst, Subtask, sym, Table, table_use, Target, ThreadOf, UnderOf, WaitsOn, Where, Work, work_key, WorkOf, ℕ, ◌+◌, ◌<◌, ◌∙◌, ◌≡◌, ◌⊎◌}
+use Rattle.task_records.specs.declared.{calls.GuestTask.GuestTask, calls.TaskGroup.TaskGroup, parts.Kept.Kept, single.Single.Single, threads.GuestThread.GuestThread, threads.Queued.Queued, works.HostWork.HostWork}
 use Rattle.make_words.proofs.FreshLemmas.{chain_new, chain_other, each_more}
 use Rattle.make_words.proofs.LooseLemmas.{IsIndex-opened}
 use Rattle.make_words.proofs.MoreLemmas.{IsRows-known, index_more, new_or_old, nodes_more, passing_more, seat_stays}

@@ -1,5 +1,6 @@
 -- A work that was made is taken back, and one that has its handle is pushed.
-use Rattle.task_records.proofs.Core.{ap, ap₂, arith, Core, CoreParts, deleted, Entry, give_handle, GroupKey, HostWork, IsSound, IsTable, item_at, item_of, new_handle, Ok, Parts, parts_of, push_high, refl, set_subtask_handle, Some, Subtask, TableId, TaskGroup, with_entry, with_handle, work_entries, ℕ, ◌+◌, ◌-◌, ◌∙◌, ◌≡◌}
+use Rattle.task_records.proofs.Core.{ap, ap₂, arith, Core, deleted, Entry, give_handle, GroupKey, IsSound, IsTable, item_at, item_of, new_handle, Ok, Parts, parts_of, push_high, refl, set_subtask_handle, Some, Subtask, TableId, with_entry, with_handle, work_entries, ℕ, ◌+◌, ◌-◌, ◌∙◌, ◌≡◌}
+use Rattle.task_records.specs.declared.{calls.TaskGroup.TaskGroup, parts.CoreParts.CoreParts, works.HostWork.HostWork}
 use Rattle.make_words.proofs.RestoreLemmas.{Restores-deleted, Restores-pushed, Restores-same, Restores-written, restored_from}
 use Rattle.make_words.specs.Restored.{IsRestored}
 use Rattle.task_machine.specs.Write as write

@@ -1,5 +1,6 @@
 use Rattle.count_words.proofs.members.threads.Goals as goal
-use Rattle.task_records.proofs.Core.{count_by, GuestThread, is_of, is_some, IsSound, None, Option, Placed, refl, seen, Single, size-records, Some, sym, thread_key, ◌∙◌, ◌≡◌}
+use Rattle.task_records.proofs.Core.{count_by, is_of, is_some, IsSound, None, Option, Placed, refl, seen, size-records, Some, sym, thread_key, ◌∙◌, ◌≡◌}
+use Rattle.task_records.specs.declared.{single.Single.Single, threads.GuestThread.GuestThread}
 
 -- each entry is a thread
 is_thread : (o : Option (Placed (Single GuestThread))) → is_of thread_key o ≡ is_some o

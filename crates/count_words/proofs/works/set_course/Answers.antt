@@ -1,6 +1,7 @@
 use Rattle.count_words.proofs.works.set_course.Goals as goal
 use Rattle.count_words.specs.Ones.{one_if}
-use Rattle.task_records.proofs.Core.{Bool, CoreParts, is_moving, IsSound, Node, Option, refl, seen, set_course, subst, sym, ◌+◌, ◌∙◌, ◌≡◌, ◌≤◌}
+use Rattle.task_records.proofs.Core.{Bool, is_moving, IsSound, Node, Option, refl, seen, set_course, subst, sym, ◌+◌, ◌∙◌, ◌≡◌, ◌≤◌}
+use Rattle.task_records.specs.declared.{parts.CoreParts.CoreParts}
 use Rattle.task_records.proofs.KeptLemmas.{moving_few}
 use Rattle.task_records.proofs.WriteLemmas.{moved_sound, moved_writes, moving_counted, work_nowhere}
 

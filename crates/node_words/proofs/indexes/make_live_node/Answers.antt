@@ -1,5 +1,6 @@
 use Rattle.node_words.proofs.indexes.make_live_node.Goals as goal
-use Rattle.task_records.proofs.Core.{IsSound, List, LiveWork, refl, seen, Spot, subst, sym}
+use Rattle.task_records.proofs.Core.{IsSound, List, refl, seen, Spot, subst, sym}
+use Rattle.task_records.specs.declared.{works.LiveWork.LiveWork}
 use Rattle.task_records.proofs.LinkLemmas.{live_made_sound}
 
 pub returns-in-Ok-clause-sound : goal.returns-in-Ok-clause-sound

@@ -1,4 +1,5 @@
-use Rattle.task_records.proofs.Core.{ap, Call, call_of, entry_of, IsSound, item_at, item_of, Join, on_call, on_core, Option, option_map, Refiles, refl, seen, set_join, Single, subst, sym, Table, WaitSet, with_entry, ℕ, ◌+◌, ◌∙◌, ◌≡◌}
+use Rattle.task_records.proofs.Core.{ap, Call, call_of, entry_of, IsSound, item_at, item_of, Join, on_call, on_core, Option, option_map, Refiles, refl, seen, set_join, subst, sym, Table, with_entry, ℕ, ◌+◌, ◌∙◌, ◌≡◌}
+use Rattle.task_records.specs.declared.{sets.WaitSet.WaitSet, single.Single.Single}
 use Rattle.place_words.proofs.GoneLemmas.{call_gone}
 use Rattle.place_words.proofs.JoinLemmas.{in_is, less_fits, more_fits, sets_sound}
 use Rattle.place_words.proofs.TellLemmas.{join_at, joined_alike, joined_now, kept_joined, ready_live, ready_made, some_member, told_seen, told_sound}

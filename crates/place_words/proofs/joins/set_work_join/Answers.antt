@@ -1,4 +1,5 @@
-use Rattle.task_records.proofs.Core.{ap, entry_of, IsSound, item_at, item_of, Join, on_core, on_work, Option, option_map, Refiles, refl, seen, set_join, Single, subst, sym, Table, WaitSet, with_entry, Work, work_of, ℕ, ◌+◌, ◌∙◌, ◌≡◌}
+use Rattle.task_records.proofs.Core.{ap, entry_of, IsSound, item_at, item_of, Join, on_core, on_work, Option, option_map, Refiles, refl, seen, set_join, subst, sym, Table, with_entry, Work, work_of, ℕ, ◌+◌, ◌∙◌, ◌≡◌}
+use Rattle.task_records.specs.declared.{sets.WaitSet.WaitSet, single.Single.Single}
 use Rattle.place_words.proofs.GoneLemmas.{work_gone}
 use Rattle.place_words.proofs.JoinLemmas.{in_is, less_fits, more_fits, sets_sound}
 use Rattle.place_words.proofs.HearLemmas.{is_whole, heard_seen, heard_sound, joined_alike, joined_now, kept_joined, ready_live, ready_made, some_member, stays_live, work_join_at}

@@ -1,4 +1,5 @@
-use Rattle.task_records.proofs.Core.{ap, arith, bare, entry_of, IsSound, item_at, item_of, on_core, on_thread, Option, option_and_then, option_map, parts_of, place_chain, Refiles, seen, Single, subst, sym, Table, thread_of, WaitSet, where_at, with_entry, ℕ, ◌+◌, ◌∙◌, ◌≡◌}
+use Rattle.task_records.proofs.Core.{ap, arith, bare, entry_of, IsSound, item_at, item_of, on_core, on_thread, Option, option_and_then, option_map, parts_of, place_chain, Refiles, seen, subst, sym, Table, thread_of, where_at, with_entry, ℕ, ◌+◌, ◌∙◌, ◌≡◌}
+use Rattle.task_records.specs.declared.{sets.WaitSet.WaitSet, single.Single.Single}
 use Rattle.place_words.proofs.FitLemmas.{less_fits, more_fits}
 use Rattle.place_words.proofs.PlacedLemmas.{chain_live, node_made, placed_seen, placed_sound}
 use Rattle.place_words.proofs.moves.put.Goals as goal

@@ -1,4 +1,5 @@
-use Rattle.task_records.proofs.Core.{ap, arith, AtPlace, CoreParts, entry_of, GuestThread, IsSound, item_at, item_of, on_core, on_thread, parts_of, place_target, seen, Single, subst, sym, Table, thread_of, WaitSet, with_entry, ◌+◌, ◌∙◌, ◌≡◌}
+use Rattle.task_records.proofs.Core.{ap, arith, AtPlace, entry_of, IsSound, item_at, item_of, on_core, on_thread, parts_of, place_target, seen, subst, sym, Table, thread_of, with_entry, ◌+◌, ◌∙◌, ◌≡◌}
+use Rattle.task_records.specs.declared.{parts.CoreParts.CoreParts, sets.WaitSet.WaitSet, single.Single.Single, threads.GuestThread.GuestThread}
 use Rattle.place_words.proofs.FitLemmas.{less_fits, more_fits}
 use Rattle.place_words.proofs.PlacedLemmas.{placed_seen, placed_sound, stays_filed}
 use Rattle.place_words.proofs.moves.put_there.Goals as goal

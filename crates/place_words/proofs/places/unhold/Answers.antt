@@ -1,4 +1,5 @@
-use Rattle.task_records.proofs.Core.{ap, AtPlace, GuestThread, held_why, Mark, number_in, option_and_then, option_map, parts_of, Place, place_target, record_at, refl, same_Some, set_place, Single, subst, sym, Table, Thread, thread_key, Why, ◌∙◌}
+use Rattle.task_records.proofs.Core.{ap, AtPlace, held_why, Mark, number_in, option_and_then, option_map, parts_of, Place, place_target, record_at, refl, same_Some, set_place, subst, sym, Table, Thread, thread_key, Why, ◌∙◌}
+use Rattle.task_records.specs.declared.{single.Single.Single, threads.GuestThread.GuestThread}
 use Rattle.place_words.proofs.ThreadLemmas.{how_far_at, numbers_put}
 use Rattle.place_words.proofs.places.unhold.Goals as goal
 use Rattle.task_records.proofs.HomeLemmas.{place_bare, thread_home}

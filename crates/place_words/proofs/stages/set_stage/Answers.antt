@@ -1,4 +1,5 @@
-use Rattle.task_records.proofs.Core.{ap, Bool, cond, live_value, LiveWork, Option, option_map, Refiles, refl, set_stage, subst, sym, ℕ, ◌+◌, ◌∙◌, ◌≤◌}
+use Rattle.task_records.proofs.Core.{ap, Bool, cond, live_value, Option, option_map, Refiles, refl, set_stage, subst, sym, ℕ, ◌+◌, ◌∙◌, ◌≤◌}
+use Rattle.task_records.specs.declared.{works.LiveWork.LiveWork}
 use Rattle.place_words.proofs.GoneLemmas.{work_gone}
 use Rattle.place_words.proofs.HearLemmas.{is_whole, heard_seen, heard_sound, kept_same, live_made, same_sets, work_join_at}
 use Rattle.place_words.proofs.StageLemmas.{live_few, live_some, moving_some, recounted_is, stage_live, stays_ready}

@@ -1,4 +1,5 @@
-use Rattle.task_records.proofs.Core.{ap, CoreParts, Mark, None, on_core, popped, refl, seen, sym, ◌∙◌, ◌≡◌}
+use Rattle.task_records.proofs.Core.{ap, Mark, None, on_core, popped, refl, seen, sym, ◌∙◌, ◌≡◌}
+use Rattle.task_records.specs.declared.{parts.CoreParts.CoreParts}
 use Rattle.queue_words.proofs.SwitchLemmas.{switch_after, switch_seen, switch_sound}
 use Rattle.queue_words.proofs.removals.pop.Goals as goal
 

@@ -1,6 +1,7 @@
 use Rattle.removal_words.proofs.JoinLemmas.{call_apart, call_group_left, call_joined, call_removed}
 use Rattle.removal_words.proofs.calls.delete_call.Goals as goal
-use Rattle.task_records.proofs.Core.{ap, ap₂, call_group, call_of, Core, CoreParts, false, get, get-remove_same, group_key, group_settled, GroupKey, has_thread, Join, join_of, KeepsBut, lost_call, None, number_of, refl, remove_call, seen, StateView, subst, Subtask, sym, TableId, Tags, ℕ, ◌<◌, ◌∙◌, ◌≡◌}
+use Rattle.task_records.proofs.Core.{ap, ap₂, call_group, call_of, Core, false, get, get-remove_same, group_key, group_settled, GroupKey, has_thread, Join, join_of, KeepsBut, lost_call, None, number_of, refl, remove_call, seen, StateView, subst, Subtask, sym, TableId, Tags, ℕ, ◌<◌, ◌∙◌, ◌≡◌}
+use Rattle.task_records.specs.declared.{parts.CoreParts.CoreParts}
 
 pub drop_call-group-requires-clause-live : goal.drop_call-group-requires-clause-live
 drop_call-group-requires-clause-live c = subst (λ (v : StateView). 0 < call_of v c.args.call) (sym c.set_join.ensures.new) c.requires.live

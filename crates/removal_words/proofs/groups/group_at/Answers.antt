@@ -1,5 +1,6 @@
 use Rattle.removal_words.proofs.groups.group_at.Goals as goal
-use Rattle.task_records.proofs.Core.{ap, ap₂, group_key, number_of, TaskGroup, ℕ, ◌∙◌}
+use Rattle.task_records.proofs.Core.{ap, ap₂, group_key, number_of, ℕ, ◌∙◌}
+use Rattle.task_records.specs.declared.{calls.TaskGroup.TaskGroup}
 use Rattle.task_records.proofs.StandLemmas.{number_here, number_nowhere}
 
 pub returns-in-Some : goal.returns-in-Some

@@ -1,5 +1,6 @@
 use Rattle.removal_words.proofs.groups.group_there.Goals as goal
-use Rattle.task_records.proofs.Core.{arith, sym, TaskGroup, ◌∙◌}
+use Rattle.task_records.proofs.Core.{arith, sym, ◌∙◌}
+use Rattle.task_records.specs.declared.{calls.TaskGroup.TaskGroup}
 use Rattle.task_records.proofs.KindLemmas.{item_number, refused_number}
 
 pub unreachable-requires : goal.unreachable-requires

@@ -1,5 +1,6 @@
 use Rattle.make_words.proofs.RestoreLemmas.{image_restored, item_restored, sound_restored}
-use Rattle.task_records.proofs.Core.{add_group, ap, arith, bare, call_made, CoreParts, fits, get, IsSome, IsSound, parts_of, seen, StateView, subst, sym, true, ◌+◌, ◌<◌, ◌^◌, ◌∙◌, ◌≡◌}
+use Rattle.task_records.proofs.Core.{add_group, ap, arith, bare, call_made, fits, get, IsSome, IsSound, parts_of, seen, StateView, subst, sym, true, ◌+◌, ◌<◌, ◌^◌, ◌∙◌, ◌≡◌}
+use Rattle.task_records.specs.declared.{parts.CoreParts.CoreParts}
 use Rattle.strand_words.proofs.MainLemmas.{fits_fewer, fits_grouped, group_restored, strand_loose_beside}
 use Rattle.strand_words.proofs.calls.add_main_strand.Goals as goal
 use Rattle.strand_words.specs.Loose.{AreStrandLoose}

@@ -1,5 +1,6 @@
 use Rattle.make_words.proofs.RestoreLemmas.{image_restored, sound_restored}
-use Rattle.task_records.proofs.Core.{ap, IsSound, item_at, item_of, Parts, parts_of, seen, Single, StateView, sym, Table, TaskGroup, ◌+◌, ◌∙◌}
+use Rattle.task_records.proofs.Core.{ap, IsSound, item_at, item_of, Parts, parts_of, seen, StateView, sym, Table, ◌+◌, ◌∙◌}
+use Rattle.task_records.specs.declared.{calls.TaskGroup.TaskGroup, single.Single.Single}
 use Rattle.strand_words.proofs.StrandUndoLemmas.{item_written, made_instance, named_core, strand_restored}
 use Rattle.strand_words.proofs.calls.add_named_strand.Goals as goal
 

@@ -1,4 +1,5 @@
-use Rattle.task_records.proofs.Core.{ap, arith, call_made, GuestTask, GuestThread, registers_for, seen, ◌+◌, ◌<◌, ◌^◌, ◌∙◌}
+use Rattle.task_records.proofs.Core.{ap, arith, call_made, registers_for, seen, ◌+◌, ◌<◌, ◌^◌, ◌∙◌}
+use Rattle.task_records.specs.declared.{calls.GuestTask.GuestTask, threads.GuestThread.GuestThread}
 use Rattle.strand_words.proofs.RequestLemmas.{request_core, request_strand}
 use Rattle.strand_words.proofs.calls.add_strand.Goals as goal
 

@@ -1,4 +1,5 @@
-use Rattle.task_records.proofs.Core.{deletion_refused, Err, IsSound, item_of, Ok, ResourceTableError, Result, sym, TaskGroup, ◌∙◌, ◌≡◌}
+use Rattle.task_records.proofs.Core.{deletion_refused, Err, IsSound, item_of, Ok, ResourceTableError, Result, sym, ◌∙◌, ◌≡◌}
+use Rattle.task_records.specs.declared.{calls.TaskGroup.TaskGroup}
 use Rattle.strand_words.proofs.groups.drop_group.Goals as goal
 
 pub unreachable-requires : goal.unreachable-requires

@@ -1,5 +1,6 @@
 use Rattle.make_words.proofs.RestoreLemmas.{image_restored, sound_restored}
-use Rattle.task_records.proofs.Core.{add_thread, ap, arith, call_of, GuestTask, GuestThread, IsSound, item_at, item_of, new_thread, None, Parts, parts_of, registers_for, Script, seen, Single, StateView, sym, Table, Thread, thread_of, true, ℕ, ◌+◌, ◌<◌, ◌^◌, ◌∙◌}
+use Rattle.task_records.proofs.Core.{add_thread, ap, arith, call_of, IsSound, item_at, item_of, new_thread, None, Parts, parts_of, registers_for, Script, seen, StateView, sym, Table, Thread, thread_of, true, ℕ, ◌+◌, ◌<◌, ◌^◌, ◌∙◌}
+use Rattle.task_records.specs.declared.{calls.GuestTask.GuestTask, single.Single.Single, threads.GuestThread.GuestThread}
 use Rattle.strand_words.proofs.MemberAddLemmas.{member_restored, threads_few}
 use Rattle.strand_words.proofs.RequestLemmas.{member_instance, request_member}
 use Rattle.strand_words.proofs.StrandUndoLemmas.{item_written, named_core}

@@ -1,4 +1,5 @@
-use Rattle.task_records.proofs.Core.{add_thread, ap, arith, GuestTask, GuestThread, IsSound, IsTable, Keeps, refl, seen, Single, subst, sym, Table, thread_of, with_entry, ◌+◌, ◌<◌, ◌^◌, ◌∙◌, ◌≡◌}
+use Rattle.task_records.proofs.Core.{add_thread, ap, arith, IsSound, IsTable, Keeps, refl, seen, subst, sym, Table, thread_of, with_entry, ◌+◌, ◌<◌, ◌^◌, ◌∙◌, ◌≡◌}
+use Rattle.task_records.specs.declared.{calls.GuestTask.GuestTask, single.Single.Single, threads.GuestThread.GuestThread}
 use Rattle.strand_words.proofs.MemberAddLemmas.{as_member, member_core, member_named, member_sound, member_tags, member_used, threads_few}
 use Rattle.strand_words.proofs.members.push_thread.Goals as goal
 

@@ -1,6 +1,7 @@
 use Rattle.make_words.proofs.RestoreLemmas.{Restores-deleted, Restores-same, sound_restored}
 use Rattle.make_words.specs.Restored.{Restores}
-use Rattle.task_records.proofs.Core.{add_call, add_thread, ap, arith, call_key, call_of, children_of, children_of-pushed, GuestTask, IsSound, IsTable, Keeps, next_place, number_of, parts_of, pushed, refl, seen, Single, subst, sym, Table, thread_of, ℕ, ◌+◌, ◌<◌, ◌^◌, ◌∙◌, ◌≡◌}
+use Rattle.task_records.proofs.Core.{add_call, add_thread, ap, arith, call_key, call_of, children_of, children_of-pushed, IsSound, IsTable, Keeps, next_place, number_of, parts_of, pushed, refl, seen, subst, sym, Table, thread_of, ℕ, ◌+◌, ◌<◌, ◌^◌, ◌∙◌, ◌≡◌}
+use Rattle.task_records.specs.declared.{calls.GuestTask.GuestTask, single.Single.Single}
 use Rattle.strand_words.proofs.StrandAddLemmas.{as_made, call_named, group_few, interesting_few, strand_core, strand_sound, strand_tags, thread_named, used_few}
 use Rattle.strand_words.proofs.strands.push_strand.Goals as goal
 use Rattle.task_records.proofs.MakeLemmas.{number_new}

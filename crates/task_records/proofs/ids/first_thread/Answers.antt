@@ -1,4 +1,5 @@
-use Rattle.task_records.proofs.Core.{ap, Bool, cond, false, get, GuestThread, is_some, IsSound, kept_in, refl, seen, sym, thread_number, ThreadOf, true, ℕ, ◌∙◌, ◌≡◌}
+use Rattle.task_records.proofs.Core.{ap, Bool, cond, false, get, is_some, IsSound, kept_in, refl, seen, sym, thread_number, ThreadOf, true, ℕ, ◌∙◌, ◌≡◌}
+use Rattle.task_records.specs.declared.{threads.GuestThread.GuestThread}
 use Rattle.task_records.proofs.HomeLemmas.{call_names, place_bare}
 use Rattle.task_records.proofs.StandLemmas.{shown_beyond}
 use Rattle.task_records.proofs.ids.first_thread.Goals as goal

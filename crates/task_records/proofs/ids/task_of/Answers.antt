@@ -1,4 +1,5 @@
-use Rattle.task_records.proofs.Core.{ap, arith, call_number, GuestTask, IsSound, option_map_or, seen, subst, sym, Thread, ℕ, ◌<◌, ◌∙◌}
+use Rattle.task_records.proofs.Core.{ap, arith, call_number, IsSound, option_map_or, seen, subst, sym, Thread, ℕ, ◌<◌, ◌∙◌}
+use Rattle.task_records.specs.declared.{calls.GuestTask.GuestTask}
 use Rattle.task_records.proofs.HomeLemmas.{task_live, task_place}
 use Rattle.task_records.proofs.StandLemmas.{shown_beyond}
 use Rattle.task_records.proofs.ids.task_of.Goals as goal

@@ -1,5 +1,6 @@
 use Rattle.make_words.proofs.RestoreLemmas.{image_restored, sound_restored}
-use Rattle.task_records.proofs.Core.{add_work, ap, ap₂, arith, cond, Core, CoreParts, count_work, Entry, HostWork, image, is_host_call, IsSound, item_at, item_of, Keeps, new_handle, Parts, parts_of, push_high, refl, seen, Single, Some, StateView, subst, Subtask, sym, Table, TaskGroup, with_handle, work_entries, work_of, work_queued, ℕ, ◌+◌, ◌<◌, ◌^◌, ◌∙◌, ◌≡◌}
+use Rattle.task_records.proofs.Core.{add_work, ap, ap₂, arith, cond, Core, count_work, Entry, image, is_host_call, IsSound, item_at, item_of, Keeps, new_handle, Parts, parts_of, push_high, refl, seen, Some, StateView, subst, Subtask, sym, Table, with_handle, work_entries, work_of, work_queued, ℕ, ◌+◌, ◌<◌, ◌^◌, ◌∙◌, ◌≡◌}
+use Rattle.task_records.specs.declared.{calls.TaskGroup.TaskGroup, parts.CoreParts.CoreParts, single.Single.Single, works.HostWork.HostWork}
 use Rattle.strand_words.proofs.StrandUndoLemmas.{item_written}
 use Rattle.work_makes.proofs.WorkAddLemmas.{record_next}
 use Rattle.work_makes.proofs.WorkUndoLemmas.{push_after_handle, unqueued_with_handle, work_restored}

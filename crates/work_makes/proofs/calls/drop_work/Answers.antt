@@ -1,4 +1,5 @@
-use Rattle.task_records.proofs.Core.{arith, deletion_refused, HostWork, IsSound, item_of, subst, ℕ, ◌<◌}
+use Rattle.task_records.proofs.Core.{arith, deletion_refused, IsSound, item_of, subst, ℕ, ◌<◌}
+use Rattle.task_records.specs.declared.{works.HostWork.HostWork}
 use Rattle.task_records.proofs.KindLemmas.{refused_number}
 use Rattle.task_records.proofs.ReadLemmas.{work_shown}
 use Rattle.work_makes.proofs.calls.drop_work.Goals as goal

@@ -1,4 +1,5 @@
-use Rattle.task_records.proofs.Core.{add_work, ap, ap₂, arith, Core, count_work, Entry, HostWork, push_high, seen, StateView, work_queued, ℕ, ◌+◌, ◌<◌, ◌^◌, ◌∙◌}
+use Rattle.task_records.proofs.Core.{add_work, ap, ap₂, arith, Core, count_work, Entry, push_high, seen, StateView, work_queued, ℕ, ◌+◌, ◌<◌, ◌^◌, ◌∙◌}
+use Rattle.task_records.specs.declared.{works.HostWork.HostWork}
 use Rattle.work_makes.proofs.WorkAddLemmas.{record_next}
 use Rattle.work_makes.proofs.queued.queue_work.Goals as goal
 

@@ -1,4 +1,5 @@
-use Rattle.task_records.proofs.Core.{ap, ap₂, cond, HostWork, option_map, refl, seen, Single, sym, Table, TaskGroup, ℕ, ◌+◌, ◌∙◌}
+use Rattle.task_records.proofs.Core.{ap, ap₂, cond, option_map, refl, seen, sym, Table, ℕ, ◌+◌, ◌∙◌}
+use Rattle.task_records.specs.declared.{calls.TaskGroup.TaskGroup, single.Single.Single, works.HostWork.HostWork}
 use Rattle.work_makes.proofs.WorkAddLemmas.{groups_few, made_core, made_named, made_sound, made_tags, no_entry_yet, raises_of, same_tags}
 use Rattle.make_words.proofs.SetAddLemmas.{used_few}
 use Rattle.work_makes.proofs.works.push_work.Goals as goal
