@@ -1,6 +1,5 @@
 pub mod RoomLemmas
 pub mod TrapLemmas
-pub mod BesideLemmas
 pub mod ResultLemmas
 pub mod ScanLemmas
 pub mod MemberLemmas

@@ -1,26 +1,18 @@
 -- A core with other limits.
-use Rattle.std.specs.Prelude.{ℕ, ◌≤◌}
-use Rattle.count_words.proofs.BesideLemmas.{beside_whole}
-use Rattle.task_machine.specs.Read.{table_use}
-use Rattle.task_records.specs.Seen.{IsSound, parts_of}
-use Rattle.task_records.specs.Sound.{bare}
-use Rattle.task_records.specs.declared.parts.CoreParts.{CoreParts}
+use Rattle.task_records.proofs.Core.{bare, IsSound, parts_of, refl, table_use, ℕ, ◌≤◌}
+use Rattle.task_records.specs.declared.{parts.CoreParts.CoreParts}
+use Rattle.task_records.proofs.SoundLemmas.{sound_of_whole}
+use Rattle.task_records.proofs.LaterLemmas.{beside_whole, same_made}
 
 pub capacity_sound : (a : CoreParts) → IsSound a → (n : ℕ) → n ≤ 4294967295 → IsSound (record a { capacity = n })
 unfolding IsSound table_use
-capacity_sound a sound n few = record {
-  tables = let t = sound.tables in record { threads = t.threads; calls = t.calls; works = t.works; sets = t.sets; groups = t.groups };
-  whole = beside_whole (bare (parts_of a)) a.finished (bare (parts_of a)).kept a.results.entries n sound.whole
+capacity_sound a sound n few =
+    sound_of_whole a (record a { capacity = n }) refl sound
+    (beside_whole (bare (parts_of a)) a.made (same_made a.made) a.finished (bare (parts_of a)).kept a.results.entries n sound.whole
       (let k = sound.whole.counted.kept in record { used = k.used; groups = k.groups; live = k.live })
       sound.whole.counted.results
       sound.whole.counted.finished
-      few;
-  interesting = sound.interesting;
-  moving = sound.moving;
-  handles = sound.handles;
-  owned = sound.owned;
-  live = sound.live;
-}
+      few)
 
 pub limit_sound : (a : CoreParts) → IsSound a → (n : ℕ) → IsSound (record a { counter = record a.counter { limit = n } })
 unfolding IsSound

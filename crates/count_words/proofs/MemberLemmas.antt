@@ -1,26 +1,7 @@
 -- How many members a set has, as the machine searches for one.
-use Rattle.std.proofs.Common.{inl, inr, ◌≡◌, ◌+◌, ◌==◌, ◌++◌, ◌||◌, ℕ, Bool, true, false, cond, List, [], ◌∷◌, map, nat_lt, Option, Some, None, T, refl, sym, ap, ap₂, ◌∙◌, arith}
-use Rattle.std.proofs.lemmas.Bool.{cases_eq, eq-eqb, ne_eqb}
+use Rattle.task_records.proofs.Core.{[], ap, ap₂, arith, Bool, Call, cases_eq, cond, Core, eq-eqb, false, find, get, has, has_member, inl, inr, is_in_set, is_member, is_sorted, IsMembers-numbers, Join, List, list_any, map, members_of, nat_cmp, nat_lt, ne_eqb, numbers, Option, option_map_or, passing, Records, refl, Some, Subtask, sym, T, true, unsigned_tied, Work, ℕ, ◌&&◌, ◌+◌, ◌==◌, ◌||◌, ◌∙◌, ◌∷◌, ◌≡◌}
 use Rattle.std.proofs.lemmas.List.Folds.{list_any-append}
-use Rattle.std.specs.Cmp.{unsigned_tied}
-use Rattle.std.specs.FinMap.Entries.{find, is_sorted}
-use Rattle.std.specs.List.{list_any}
-use Rattle.std.specs.Option.{option_map_or}
-use Rattle.std.specs.Ordering.{nat_cmp}
-use Rattle.std.specs.Prelude.{◌&&◌}
-use Rattle.task_index.proofs.Members.{IsMembers-numbers}
-use Rattle.task_index.specs.Counts.{passing}
-use Rattle.task_index.specs.Members.{has}
-use Rattle.task_machine.specs.Core.{Core}
-use Rattle.task_machine.specs.Maps.{Records, get, numbers}
-use Rattle.task_machine.specs.Read.{has_member, is_in_set, is_member}
-use Rattle.task_machine.specs.declared.records.Call.{Call}
-use Rattle.task_machine.specs.declared.records.Join.TheVariants as join
-use Rattle.task_machine.specs.declared.records.Subtask.{Subtask}
-use Rattle.task_machine.specs.declared.records.Subtask.TheVariants as subtask
-use Rattle.task_machine.specs.declared.records.Work.{Work}
 use Rattle.task_records.proofs.KeptLemmas.{any_passing}
-use Rattle.task_records.specs.Kept.{members_of}
 
 any_mapped : {X : Type 0} (u : X → Bool) (f : ℕ → X) (ns : List ℕ) → list_any u (map f ns) ≡ list_any (λ n. u (f n)) ns
 any_mapped u f [] = refl
@@ -61,8 +42,8 @@ some_of n m = grind arith
 pub some_member : (x : ℕ) (s : Core) → has_member x s ≡ nat_lt 0 (members_of x s)
 unfolding has_member
 some_member x s =
-    list_any-append (λ sub. is_member x sub s) (map (λ n. subtask.Guest n) (numbers s.calls)) (map (λ n. subtask.Host n) (numbers s.works))
+    list_any-append (λ sub. is_member x sub s) (map (λ n. Subtask.Guest n) (numbers s.calls)) (map (λ n. Subtask.Host n) (numbers s.works))
     ∙ (ap₂ (λ a b. a || b)
-    (any_mapped (λ sub. is_member x sub s) (λ n. subtask.Guest n) (numbers s.calls) ∙ (any_numbers (λ o. is_in_set x (option_map_or (λ (c : Call). c.join) o join.Nowhere)) s.calls ∙ sym (any_passing (λ (c : Call). is_in_set x c.join) s.calls)))
-    (any_mapped (λ sub. is_member x sub s) (λ n. subtask.Host n) (numbers s.works) ∙ (any_numbers (λ o. is_in_set x (option_map_or (λ (w : Work). w.join) o join.Nowhere)) s.works ∙ sym (any_passing (λ (w : Work). is_in_set x w.join) s.works)))
+    (any_mapped (λ sub. is_member x sub s) (λ n. Subtask.Guest n) (numbers s.calls) ∙ (any_numbers (λ o. is_in_set x (option_map_or (λ (c : Call). c.join) o Join.Nowhere)) s.calls ∙ sym (any_passing (λ (c : Call). is_in_set x c.join) s.calls)))
+    (any_mapped (λ sub. is_member x sub s) (λ n. Subtask.Host n) (numbers s.works) ∙ (any_numbers (λ o. is_in_set x (option_map_or (λ (w : Work). w.join) o Join.Nowhere)) s.works ∙ sym (any_passing (λ (w : Work). is_in_set x w.join) s.works)))
     ∙ some_of (passing (λ (c : Call). is_in_set x c.join) s.calls) (passing (λ (w : Work). is_in_set x w.join) s.works))

@@ -1,34 +1,11 @@
 -- The results that were given, by the numbers of their calls.
-use Rattle.count_words.proofs.BesideLemmas.{beside_whole}
+use Rattle.task_records.proofs.SoundLemmas.{sound_of_whole}
+use Rattle.task_records.proofs.LaterLemmas.{beside_whole, same_made}
 use Rattle.count_words.specs.Rooms.{wanted}
-use Rattle.std.proofs.Common.{inl, inr, ◌⊎◌, ◌≡◌, ◌==◌, ◌||◌, ℕ, Bool, true, false, cond, List, [], ◌∷◌, Option, Some, None, IsSome, is_some, refl, sym, ap, ap₂, subst, ◌∙◌}
-use Rattle.std.proofs.lemmas.Bool.{cases_eq, eq-eqb, ne_eqb}
-use Rattle.std.specs.BTreeMap.{BTreeMap, is_at}
-use Rattle.std.specs.Cmp.{eq_by_cmp_equiv, nat_cmp_total, unsigned_tied}
-use Rattle.std.specs.Map.{lookup}
-use Rattle.std.specs.Option.{option_map, option_map_or}
-use Rattle.std.specs.Ordering.{nat_cmp}
-use Rattle.std.specs.Prelude.{Ok}
-use Rattle.task_machine.specs.Maps.{Records, get, get-empty, get-insert, get-remove, insert, remove, same_map}
-use Rattle.task_machine.specs.Read.{goal_of, table_use}
-use Rattle.task_machine.specs.Write.{give_result, take_result}
-use Rattle.task_machine.specs.declared.records.Call.{Call}
-use Rattle.task_machine.specs.declared.records.Goal.TheVariants as goal
+use Rattle.task_records.proofs.Core.{[], ap, ap₂, bare, bare_call, Bool, BTreeMap, Call, call_key, call_of, cases_eq, cond, core_of, eq-eqb, eq_by_cmp_equiv, false, get, get-empty, get-insert, get-remove, give_result, given_results, Goal, goal_of, GuestTaskKey, HasRoom, inl, inr, insert, is_at, is_some, IsSome, IsSound, item_at, item_of, List, lookup, loose_call, nat_cmp, nat_cmp_total, ne_eqb, None, Ok, on_core, on_item, Option, option_map, option_map_or, parts_of, Records, records, refl, remove, same_map, seen, Some, subst, sym, table_use, TableId, take_result, true, uninterested, unsigned_tied, with_given, ℕ, ◌==◌, ◌||◌, ◌∙◌, ◌∷◌, ◌≡◌, ◌⊎◌}
+use Rattle.task_records.specs.declared.{calls.GuestTask.GuestTask, parts.CoreParts.CoreParts, parts.ResultRoom.ResultRoom}
 use Rattle.task_records.proofs.ReadLemmas.{call_named, call_read}
 use Rattle.task_records.proofs.TableLemmas.{get_mapped}
-use Rattle.task_records.specs.Image.{HasRoom, core_of, given_results, with_given}
-use Rattle.task_records.specs.Keys.{call_key}
-use Rattle.task_records.specs.Kinds.{item_of, on_item}
-use Rattle.task_records.specs.Seen.{IsSound, parts_of, seen}
-use Rattle.task_records.specs.Sound.{bare, bare_call, loose_call, uninterested}
-use Rattle.task_records.specs.declared.calls.GuestTask.{GuestTask}
-use Rattle.task_records.specs.declared.parts.CoreParts.{CoreParts}
-use Rattle.task_records.specs.declared.parts.ResultRoom.{ResultRoom}
-use Rattle.task_table.specs.Answers.{item_at}
-use Rattle.task_table.specs.Records.{records}
-use Rattle.task_table.specs.declared.id.TableId.{TableId}
-use Rattle.task_wait.specs.declared.keys.GuestTaskKey.{GuestTaskKey}
-use Rattle.task_words.specs.StateView.{call_of, on_core}
 
 -- what was given, where there is room, and whether the call is there
 abbrev pub given : Option ResultRoom → Option ℕ
@@ -70,21 +47,15 @@ pub lives_wanted : (r : ResultRoom) → r.lives ≡ true → lives_in (wanted r)
 lives_wanted r lives = ap (λ b. lives_in (cond (b || is_some r.given) (Some r) None)) lives ∙ lives
 
 module _ (a : CoreParts) (sound : IsSound a) (m : BTreeMap ℕ ResultRoom) where
-  pub results_sound : ((k : ℕ) (c : Call) → get (core_of (bare (parts_of a))).calls k ≡ Some c → c.goal ≡ goal.Main → HasRoom k m.entries) → IsSound (record a { results = m })
+  pub results_sound : ((k : ℕ) (c : Call) → get (core_of (bare (parts_of a))).calls k ≡ Some c → c.goal ≡ Goal.Main → HasRoom k m.entries) → IsSound (record a { results = m })
   unfolding IsSound table_use
-  results_sound rooms = record {
-    tables = record { threads = sound.tables.threads; calls = sound.tables.calls; works = sound.tables.works; sets = sound.tables.sets; groups = sound.tables.groups };
-    whole = beside_whole (bare (parts_of a)) a.finished (bare (parts_of a)).kept m.entries a.capacity sound.whole
-        (record { used = sound.whole.counted.kept.used; groups = sound.whole.counted.kept.groups; live = sound.whole.counted.kept.live })
-        rooms
-        sound.whole.counted.finished
-        sound.whole.counted.few;
-    interesting = sound.interesting;
-    moving = sound.moving;
-    handles = sound.handles;
-    owned = sound.owned;
-    live = sound.live;
-  }
+  results_sound rooms =
+      sound_of_whole a (record a { results = m }) refl sound
+      (beside_whole (bare (parts_of a)) a.made (same_made a.made) a.finished (bare (parts_of a)).kept m.entries a.capacity sound.whole
+      (let k = sound.whole.counted.kept in record { used = k.used; groups = k.groups; live = k.live })
+      rooms
+      sound.whole.counted.finished
+      sound.whole.counted.few)
 
   pub results_seen : (rs : Records ℕ) → ((q : ℕ) → given (lookup (is_at (nat_cmp q)) m.entries) ≡ get rs q) → seen (record a { results = m }) ≡ on_core (λ s. record s { results = rs }) (seen a)
   unfolding seen
@@ -103,11 +74,11 @@ module _ (a : CoreParts) (sound : IsSound a) (m : BTreeMap ℕ ResultRoom) where
     has_written lives = ap lives_in (written k ∙ ap (λ b. cond b w (lookup (is_at (nat_cmp k)) a.results.entries)) (eq-eqb k k refl)) ∙ lives
 
     -- a call that is there has room still
-    room_left : ((c : Call) → get (core_of (bare (parts_of a))).calls k ≡ Some c → c.goal ≡ goal.Main → lives_in w ≡ true) → IsSound (record a { results = m })
+    room_left : ((c : Call) → get (core_of (bare (parts_of a))).calls k ≡ Some c → c.goal ≡ Goal.Main → lives_in w ≡ true) → IsSound (record a { results = m })
     unfolding IsSound
     room_left lives = results_sound (λ q c at main. by q c at main (cases_eq q k))
       where
-        by : (q : ℕ) (c : Call) → get (core_of (bare (parts_of a))).calls q ≡ Some c → c.goal ≡ goal.Main → (q ≡ k) ⊎ (q ≡ k → ⊥) → HasRoom q m.entries
+        by : (q : ℕ) (c : Call) → get (core_of (bare (parts_of a))).calls q ≡ Some c → c.goal ≡ Goal.Main → (q ≡ k) ⊎ (q ≡ k → ⊥) → HasRoom q m.entries
         by q c at main (inl here) =
             ap lives_in (written q ∙ ap (λ b. cond b w (lookup (is_at (nat_cmp q)) a.results.entries)) (eq-eqb q k here))
             ∙ lives c (ap (get (core_of (bare (parts_of a))).calls) (sym here) ∙ at) main
@@ -157,14 +128,14 @@ module _ (a : CoreParts) (sound : IsSound a) (m : BTreeMap ℕ ResultRoom) where
       by q (inr other) = sym (get-given a.results.entries q) ∙ sym (ap (λ b. cond b None (get (given_results a.results.entries) q)) (ne_eqb q k other))
 
 -- a call by main has room for its result
-module _ (a : CoreParts) (sound : IsSound a) (id : TableId GuestTaskKey) (g : GuestTask) (is : Ok g ≡ item_at item_of a.calls id.rep id.serial) (main : goal_of (call_of (seen a) id) (seen a).core ≡ goal.Main) where
+module _ (a : CoreParts) (sound : IsSound a) (id : TableId GuestTaskKey) (g : GuestTask) (is : Ok g ≡ item_at item_of a.calls id.rep id.serial) (main : goal_of (call_of (seen a) id) (seen a).core ≡ Goal.Main) where
   room_there : HasRoom g.number a.results.entries
   unfolding IsSound seen
   room_there =
       sound.whole.counted.results g.number (uninterested (loose_call g.call))
       (get_mapped call_key call_key (on_item bare_call) (λ c. uninterested (loose_call c)) (λ e. refl) a.calls g.number
       ∙ ap (option_map (λ (c : Call). uninterested (loose_call c))) (ap (get (records call_key a.calls.places)) (call_named a id g is) ∙ sym (call_read a sound id g is)))
-      (ap (λ o. option_map_or (λ (c : Call). c.goal) o goal.Nowhere) (call_read a sound id g is) ∙ main)
+      (ap (λ o. option_map_or (λ (c : Call). c.goal) o Goal.Nowhere) (call_read a sound id g is) ∙ main)
 
   pub no_room : None ≡ lookup (is_at (nat_cmp g.number)) a.results.entries → ⊥
   no_room none = absurd (let no : ◌≡◌ {A = Bool} false true = ap lives_in none ∙ room_there in cc)

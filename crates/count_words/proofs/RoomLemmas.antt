@@ -1,5 +1,5 @@
 -- Whether so much more has room.
-use Rattle.std.proofs.Common.{◌≡◌, ◌+◌, ◌-◌, ◌<◌, ◌≤◌, ℕ, nat_le, arith}
+use Rattle.task_records.proofs.Core.{arith, nat_le, ℕ, ◌+◌, ◌-◌, ◌<◌, ◌≡◌, ◌≤◌}
 
 pub has_room : (used taken more capacity : ℕ) → used ≡ taken → more ≤ capacity → nat_le used (capacity - more) ≡ nat_le (taken + more) capacity
 has_room used taken more capacity same within = grind arith

@@ -1,15 +1,8 @@
 -- A test of all records, as a scan of the table answers it.
-use Rattle.std.proofs.Common.{◌≡◌, ◌+◌, ◌||◌, ℕ, Bool, true, false, cond, List, [], ◌∷◌, Option, Some, None, nat_lt, refl, sym, ap, ◌∙◌, arith}
-use Rattle.std.specs.List.{list_any}
-use Rattle.task_index.proofs.Counts.{passing-with_at}
-use Rattle.task_index.specs.Counts.{one_if_passes, passing}
-use Rattle.task_machine.specs.Maps.{empty, get, insert}
-use Rattle.task_records.proofs.KeptLemmas.{any_passing}
-use Rattle.task_records.specs.declared.single.Single.{Single}
-use Rattle.task_table.proofs.RecordLemmas.{AreApart-rest, fresh_first, get-records}
+use Rattle.task_records.proofs.Core.{[], ap, AreApart, AreApart-rest, arith, Bool, cond, empty, false, fresh_first, get, get-records, insert, List, list_any, nat_lt, None, one_if_passes, Option, passing, passing-with_at, Placed, records, refl, Some, sym, Table, true, ℕ, ◌+◌, ◌||◌, ◌∙◌, ◌∷◌, ◌≡◌}
+use Rattle.task_records.specs.declared.{single.Single.Single}
 use Rattle.task_table.specs.Entries.{entries, entries_from}
-use Rattle.task_table.specs.Records.{AreApart, records}
-use Rattle.task_table.specs.Table.{Placed, Table}
+use Rattle.task_records.proofs.KeptLemmas.{any_passing}
 
 one_more : (b : Bool) (k n : ℕ) → n ≡ k + cond b 1 0 → nat_lt 0 n ≡ (b || nat_lt 0 k)
 one_more true k n is = grind arith

@@ -1,22 +1,9 @@
 -- The store is trapped: the groups up to the last that was made are finished, which are all.
-use Rattle.count_words.proofs.BesideLemmas.{beside, beside_whole}
-use Rattle.std.proofs.Common.{◌≡◌, ◌<◌, ◌≤◌, ◌+◌, ◌*◌, ◌-◌, ℕ, Bool, true, false, cond, List, [], ◌∷◌, Option, Some, None, filter, map, length, nat_lt, refl, sym, ap, ◌∙◌, arith, ltb-true}
-use Rattle.std.proofs.lemmas.Bool.{eq-eqb}
-use Rattle.std.specs.Cmp.{unsigned_tied}
-use Rattle.std.specs.Ordering.{eq_by_cmp, nat_cmp}
-use Rattle.std.specs.FinMap.Entries.{find}
-use Rattle.task_machine.specs.Maps.{get, numbers}
-use Rattle.task_machine.specs.Read.{table_use}
-use Rattle.task_machine.specs.Write.{set_trapped}
+use Rattle.task_records.proofs.SoundLemmas.{sound_of_whole}
+use Rattle.task_records.proofs.LaterLemmas.{beside, beside_whole, same_made}
+use Rattle.task_records.proofs.Core.{[], ap, arith, bare, Bool, cond, eq-eqb, eq_by_cmp, false, filter, find, get, get-records, group_key, image, IsSound, IsWhole, length, List, ltb-true, map, nat_cmp, nat_lt, None, numbers, on_core, Option, Parts, parts_of, records, refl, seen, set_trapped, Some, sym, table_use, true, unsigned_tied, ℕ, ◌*◌, ◌+◌, ◌-◌, ◌<◌, ◌∙◌, ◌∷◌, ◌≡◌, ◌≤◌}
+use Rattle.task_records.specs.declared.{parts.CoreParts.CoreParts}
 use Rattle.task_records.proofs.KeptLemmas.{groups_are, used_is}
-use Rattle.task_records.specs.Image.{Parts, image}
-use Rattle.task_records.specs.Keys.{group_key}
-use Rattle.task_records.specs.Seen.{IsSound, parts_of, seen}
-use Rattle.task_records.specs.Sound.{IsWhole, bare}
-use Rattle.task_records.specs.declared.parts.CoreParts.{CoreParts}
-use Rattle.task_table.proofs.RecordLemmas.{get-records}
-use Rattle.task_table.specs.Records.{records}
-use Rattle.task_words.specs.StateView.{on_core}
 
 module _ {X : Type 0} (k : ℕ) where
   tail_none : (b : Bool) (x : X) (o : Option X) → cond b (Some x) o ≡ None → o ≡ None
@@ -41,13 +28,13 @@ all_made : (n : ℕ) → n ≤ n
 all_made n = omega arith
 
 abbrev pub after_trap : Parts → Parts
-after_trap p = beside p p.made.groups (record p.kept { used = p.kept.used - p.kept.groups; groups = 0 }) p.results p.capacity
+after_trap p = beside p p.made (same_made p.made) p.made.groups (record p.kept { used = p.kept.used - p.kept.groups; groups = 0 }) p.results p.capacity
 
 module _ (p : Parts) (none : filter (nat_lt p.made.groups) (numbers (records group_key p.groups.places)) ≡ []) where
   pub trapped_whole : IsWhole p → IsWhole (after_trap p)
   unfolding table_use
   trapped_whole whole =
-      beside_whole p p.made.groups (record p.kept { used = p.kept.used - p.kept.groups; groups = 0 }) p.results p.capacity whole
+      beside_whole p p.made (same_made p.made) p.made.groups (record p.kept { used = p.kept.used - p.kept.groups; groups = 0 }) p.results p.capacity whole
       (record {
         used = less_groups _ _ _ _ _ _ _ _ whole.counted.kept.used whole.counted.kept.groups (ap length none);
         groups = sym (ap length none);
@@ -71,15 +58,7 @@ module _ (a : CoreParts) (sound : IsSound a) where
 
   pub trapped_sound : IsSound trapped_parts
   unfolding IsSound
-  trapped_sound = record {
-    tables = record { threads = sound.tables.threads; calls = sound.tables.calls; works = sound.tables.works; sets = sound.tables.sets; groups = sound.tables.groups };
-    whole = trapped_whole (bare (parts_of a)) none_left sound.whole;
-    interesting = sound.interesting;
-    moving = sound.moving;
-    handles = sound.handles;
-    owned = sound.owned;
-    live = sound.live;
-  }
+  trapped_sound = sound_of_whole a trapped_parts refl sound (trapped_whole (bare (parts_of a)) none_left sound.whole)
 
   pub trapped_seen : seen trapped_parts ≡ on_core set_trapped (seen a)
   unfolding seen set_trapped

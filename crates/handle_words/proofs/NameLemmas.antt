@@ -1,15 +1,5 @@
 -- A thread's handle, given and then written.
-use Rattle.std.proofs.Common.{◌≡◌, ℕ, Some, sym, ap, ap₂, ◌∙◌}
-use Rattle.task_machine.specs.Read.{instance_of, new_handle, new_thread_handle, thread_at}
-use Rattle.task_machine.specs.Write.{give_handle, give_thread_handle, set_subtask_handle, set_thread_handle}
-use Rattle.task_machine.specs.declared.records.Named.TheVariants as named_as
-use Rattle.task_machine.specs.declared.records.Subtask.{Subtask}
-use Rattle.task_rules.specs.Calls.{with_handle, with_thread_handle}
-use Rattle.task_table.specs.declared.id.TableId.{TableId}
-use Rattle.task_wait.specs.declared.keys.ThreadKey.{ThreadKey}
-use Rattle.task_words.specs.Names.{subtask_in}
-use Rattle.task_words.specs.declared.names.SubtaskId.{SubtaskId}
-use Rattle.task_words.specs.StateView.{StateView, on_core, thread_of}
+use Rattle.task_records.proofs.Core.{ap, ap₂, give_handle, give_thread_handle, instance_of, Named, new_handle, new_thread_handle, on_core, set_subtask_handle, set_thread_handle, Some, StateView, Subtask, subtask_in, SubtaskId, sym, TableId, thread_at, thread_of, ThreadKey, with_handle, with_thread_handle, ℕ, ◌∙◌, ◌≡◌}
 
 module _ (s t : StateView) (thread : TableId ThreadKey) (i n h : ℕ) (given : t ≡ on_core (give_thread_handle i n) s) (number : n ≡ thread_of s thread) (instance : i ≡ instance_of (thread_of s thread) s.core) where
   same_number : thread_of t thread ≡ thread_of s thread
@@ -35,7 +25,7 @@ module _ (s t : StateView) (thread : TableId ThreadKey) (i n h : ℕ) (given : t
 
 -- ---- A subtask's handle
 
-module _ (s t : StateView) (subtask : SubtaskId) (i h : ℕ) (given : t ≡ on_core (give_handle i (named_as.Subtask (subtask_in s.tags subtask))) s) where
+module _ (s t : StateView) (subtask : SubtaskId) (i h : ℕ) (given : t ≡ on_core (give_handle i (Named.Subtask (subtask_in s.tags subtask))) s) where
   same_subtask : subtask_in t.tags subtask ≡ subtask_in s.tags subtask
   same_subtask = ap (λ (v : StateView). subtask_in v.tags subtask) given
 
@@ -45,4 +35,4 @@ module _ (s t : StateView) (subtask : SubtaskId) (i h : ℕ) (given : t ≡ on_c
       written
       ∙ (ap (λ (m : Subtask). on_core (set_subtask_handle m (Some h)) t) same_subtask
       ∙ (ap (λ (v : StateView). on_core (set_subtask_handle (subtask_in s.tags subtask) (Some h)) v) given
-      ∙ ap (λ (k : ℕ). on_core (λ c. set_subtask_handle (subtask_in s.tags subtask) (Some k) (give_handle i (named_as.Subtask (subtask_in s.tags subtask)) c)) s) is))
+      ∙ ap (λ (k : ℕ). on_core (λ c. set_subtask_handle (subtask_in s.tags subtask) (Some k) (give_handle i (Named.Subtask (subtask_in s.tags subtask)) c)) s) is))

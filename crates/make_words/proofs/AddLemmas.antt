@@ -1,37 +1,15 @@
 -- An instance more, as contracts see it.
-use Rattle.std.proofs.Common.{inl, inr, ◌≡◌, ◌+◌, ℕ, List, [], ◌∷◌, ◌++◌, Option, Some, None, IsSome, length, map, slice_get, refl, sym, ap, ap₂, subst, ◌∙◌}
-use Rattle.std.proofs.lemmas.Bool.{cases_eq}
-use Rattle.std.proofs.lemmas.List.{length-map, map-append}
-use Rattle.std.proofs.lemmas.Option.{same_Some}
+use Rattle.task_records.proofs.Core.{[], ap, ap₂, AreHandlesNamed, bare, bare_instance, bare_thread, by_place, cases_eq, EachEntry, Err, get, Global, handle_table, Handles, held_by, image, inl, inr, insert, IsSome, IsSound, IsWhole, kinds, length, length-map, List, live_in, map, map-append, Named, named_of, nat_cmp, no_handles, None, Ok, on_core, on_item, OnErr, Option, option_and_then, OwnsHandle, parts_of, place_at, place_at-mapped, Placed, placed_as, Records, refl, Result, same_Some, seen, size, slice_get, Some, Sound, subst, sym, untouched, Vec, ℕ, ◌++◌, ◌+◌, ◌∙◌, ◌∷◌, ◌≡◌}
+use Rattle.task_machine.specs.Core.{Table}
+use Rattle.task_records.specs.declared.{instances.InstanceRecord.InstanceRecord, parts.CoreParts.CoreParts, single.Single.Single, threads.GuestThread.GuestThread}
 use Rattle.std.specs.FinMap as fin
-use Rattle.std.specs.Global.{Global}
-use Rattle.std.specs.Ordering.{nat_cmp}
-use Rattle.std.specs.Option.{option_and_then}
-use Rattle.std.specs.Prelude.{Err, Ok, OnErr, Result, Vec}
 use Rattle.make_words.proofs.InstanceLemmas.{grown_whole, pushed_last, pushed_other, there_before}
 use Rattle.make_words.specs.Instances.{with_instance}
 use Rattle.make_words.specs.Loose.{AreLoose}
-use Rattle.task_handles.specs.Handles.{Handles, held_by, no_handles as none_given}
-use Rattle.task_machine.specs.Core.{Table, no_handles, untouched}
-use Rattle.task_machine.specs.Maps.{Records, get, insert, size}
-use Rattle.task_machine.specs.Read.{live_in}
-use Rattle.task_machine.specs.declared.records.Named.{Named}
+use Rattle.task_handles.specs.Handles.{no_handles as none_given}
 use Rattle.task_records.proofs.HandleLemmas.{handle_table-none, live_in-more}
 use Rattle.task_records.proofs.InstanceLemmas.{by_place-push, get-by_place, get-by_place_past, size-by_place}
-use Rattle.task_records.specs.Image.{image}
-use Rattle.task_records.specs.Instances.{by_place, handle_table, named_of, thread_of as thread_named}
-use Rattle.task_records.specs.Kinds.{on_item}
-use Rattle.task_records.specs.Names.{AreHandlesNamed, OwnsHandle, kinds}
-use Rattle.task_records.specs.Seen.{IsSound, parts_of, seen}
-use Rattle.task_records.specs.Sound.{EachEntry, IsWhole, Sound, bare, bare_instance, bare_thread}
-use Rattle.task_records.specs.declared.instances.InstanceRecord.{InstanceRecord}
-use Rattle.task_records.specs.declared.parts.CoreParts.{CoreParts}
-use Rattle.task_records.specs.declared.single.Single.{Single}
-use Rattle.task_records.specs.declared.threads.GuestThread.{GuestThread}
-use Rattle.task_table.proofs.MappedLemmas.{place_at-mapped}
-use Rattle.task_table.specs.Mapped.{placed_as}
-use Rattle.task_table.specs.Table.{Placed, place_at}
-use Rattle.task_words.specs.StateView.{on_core}
+use Rattle.task_records.specs.Instances.{thread_of as thread_named}
 
 nothing_held : {X Y : Type 0} (t : Handles X) → t ≡ none_given → (h : ℕ) (x : X) → held_by t h ≡ Some x → Y
 nothing_held t is h x live = absurd (let none = sym (ap (λ t. held_by t h) is ∙ fin.get-empty nat_cmp h) ∙ live in cc)

@@ -1,31 +1,7 @@
 -- A number that was not made yet: no record names it, so that nothing is filed or counted under it.
-use Rattle.std.proofs.Common.{◌≡◌, ◌==◌, ◌<◌, ◌≤◌, ◌||◌, ◌&&◌, ℕ, Bool, true, false, cond, List, [], ◌∷◌, nat_lt, Option, Some, None, refl, sym, ap, ap₂, subst, ◌∙◌, arith}
-use Rattle.std.proofs.lemmas.Bool.{eq-eqb, ne_eqb}
-use Rattle.std.proofs.lemmas.Option.{same_Some}
-use Rattle.task_index.proofs.Tables.{none_in_records}
-use Rattle.task_index.specs.Counts.{passing}
-use Rattle.task_machine.specs.Read.{is_delivery_for, is_in_set, is_inside_wait, is_resumption, keeps_set}
-use Rattle.task_machine.specs.declared.records.Delivery.TheVariants as delivery
-use Rattle.task_machine.specs.declared.records.HowFar.{HowFar}
-use Rattle.task_machine.specs.declared.records.HowFar.TheVariants as how_far
-use Rattle.task_machine.specs.declared.records.Join.{Join}
-use Rattle.task_machine.specs.declared.records.Join.TheVariants as join
-use Rattle.task_machine.specs.declared.records.Place.{Place}
-use Rattle.task_machine.specs.declared.records.Place.TheVariants as place
-use Rattle.task_machine.specs.declared.records.Thread.{Thread}
-use Rattle.task_machine.specs.declared.records.Why.{Why}
-use Rattle.task_machine.specs.declared.records.Why.TheVariants as why
-use Rattle.task_machine.specs.declared.words.Status.{Status}
+use Rattle.task_records.proofs.Core.{[], ap, ap₂, AreApart, arith, BlockedOn, Bool, cond, Delivery, EachEntry, eq-eqb, false, found_record, HeldIn, how_far_target, HowFar, is_delivery_for, is_in_set, is_inside_wait, is_resumption, IsNamedAt, IsTable, Join, join_target, keeps_set, key_in, Kinds, List, nat_lt, ne_eqb, next_place, None, none_in_records, Option, passing, Place, place_at, place_at-pushed, place_target, Placed, pushed, PutsRecord, PutsRecord-pushed, ready_in, record_at, records, refl, same_Some, Some, Status, subst, sym, Table, Thread, true, UnderOf, WaitsOn, Where, where_at, Why, why_target, ℕ, ◌&&◌, ◌<◌, ◌==◌, ◌||◌, ◌∙◌, ◌∷◌, ◌≡◌, ◌≤◌}
+use Rattle.task_records.specs.declared.{single.Single.Single}
 use Rattle.task_records.proofs.KeptLemmas.{any_passing}
-use Rattle.task_records.specs.Names.{IsNamedAt, Kinds, how_far_target, join_target, place_target, why_target}
-use Rattle.task_records.specs.Places.{BlockedOn, HeldIn, UnderOf, WaitsOn, Where, ready_in, where_at}
-use Rattle.task_records.specs.declared.single.Single.{Single}
-use Rattle.task_table.proofs.RecordChangeLemmas.{PutsRecord-pushed}
-use Rattle.task_records.specs.Sound.{EachEntry}
-use Rattle.task_table.proofs.Laws.{place_at-pushed}
-use Rattle.task_table.specs.Changes.{next_place, pushed}
-use Rattle.task_table.specs.Records.{AreApart, PutsRecord, found_record, key_in, record_at, records}
-use Rattle.task_table.specs.Table.{IsTable, Placed, Table, place_at}
 
 -- ---- What a new record is found by
 
@@ -96,43 +72,43 @@ module _ (k : Kinds) (n : ℕ) (new : k.made.sets < n) where
   not_new x early same = omega arith
 
   pub waits_on_none : (i : ℕ) (x : Place) (rep : ℕ) → IsNamedAt k rep (place_target x) → where_at i x ≡ Some (WaitsOn n) → ⊥
-  waits_on_none i place.New rep at is = absurd (cc)
-  waits_on_none i (place.Ready m w) rep at is = absurd (cc)
-  waits_on_none i place.Running rep at is = absurd (cc)
-  waits_on_none i (place.Under m) rep at is = absurd (let one = same_Some (UnderOf m) (WaitsOn n) is in cc)
-  waits_on_none i (place.Behind m) rep at is = absurd (cc)
-  waits_on_none i (place.Waiting y by_callback) rep at is = not_new y at.0 (sym (ap set_in (same_Some (WaitsOn y) (WaitsOn n) is)))
-  waits_on_none i (place.Blocked sub) rep at is = absurd (let one = same_Some (BlockedOn sub) (WaitsOn n) is in cc)
-  waits_on_none i (place.Held w) rep at is = absurd (let one = same_Some (HeldIn i) (WaitsOn n) is in cc)
-  waits_on_none i place.Suspended rep at is = absurd (cc)
+  waits_on_none i Place.New rep at is = absurd (cc)
+  waits_on_none i (Place.Ready m w) rep at is = absurd (cc)
+  waits_on_none i Place.Running rep at is = absurd (cc)
+  waits_on_none i (Place.Under m) rep at is = absurd (let one = same_Some (UnderOf m) (WaitsOn n) is in cc)
+  waits_on_none i (Place.Behind m) rep at is = absurd (cc)
+  waits_on_none i (Place.Waiting y by_callback) rep at is = not_new y at.0 (sym (ap set_in (same_Some (WaitsOn y) (WaitsOn n) is)))
+  waits_on_none i (Place.Blocked sub) rep at is = absurd (let one = same_Some (BlockedOn sub) (WaitsOn n) is in cc)
+  waits_on_none i (Place.Held w) rep at is = absurd (let one = same_Some (HeldIn i) (WaitsOn n) is in cc)
+  waits_on_none i Place.Suspended rep at is = absurd (cc)
 
   pub none_ready : (e : Option Status) (j : Join) (rep : ℕ) → IsNamedAt k rep (join_target j) → ready_in e j ≡ Some n → ⊥
   none_ready None j rep at is = absurd (cc)
-  none_ready (Some e) join.Nowhere rep at is = absurd (cc)
-  none_ready (Some e) (join.Set x) rep at is = not_new x at.0 (sym (same_Some x n is))
-  none_ready (Some e) (join.Watched m) rep at is = absurd (cc)
+  none_ready (Some e) Join.Nowhere rep at is = absurd (cc)
+  none_ready (Some e) (Join.Set x) rep at is = not_new x at.0 (sym (same_Some x n is))
+  none_ready (Some e) (Join.Watched m) rep at is = absurd (cc)
 
   pub none_in : (j : Join) (rep : ℕ) → IsNamedAt k rep (join_target j) → is_in_set n j ≡ false
-  none_in join.Nowhere rep at = refl
-  none_in (join.Set x) rep at = ne_eqb n x (not_new x at.0)
-  none_in (join.Watched m) rep at = refl
+  none_in Join.Nowhere rep at = refl
+  none_in (Join.Set x) rep at = ne_eqb n x (not_new x at.0)
+  none_in (Join.Watched m) rep at = refl
 
   none_delivered : (w : Why) (rep : ℕ) → IsNamedAt k rep (why_target w) → is_delivery_for n w ≡ false
-  none_delivered why.Start rep at = refl
-  none_delivered (why.Delivery (delivery.Set x)) rep at = ne_eqb n x (not_new x at.0)
-  none_delivered (why.Delivery delivery.Yield) rep at = refl
-  none_delivered (why.Delivery delivery.Cancel) rep at = refl
-  none_delivered why.Resumption rep at = refl
+  none_delivered Why.Start rep at = refl
+  none_delivered (Why.Delivery (Delivery.Set x)) rep at = ne_eqb n x (not_new x at.0)
+  none_delivered (Why.Delivery Delivery.Yield) rep at = refl
+  none_delivered (Why.Delivery Delivery.Cancel) rep at = refl
+  none_delivered Why.Resumption rep at = refl
 
   none_inside : (h : HowFar) (rep : ℕ) → IsNamedAt k rep (how_far_target h) → is_inside_wait n h ≡ false
-  none_inside how_far.Fresh rep at = refl
-  none_inside (how_far.Waits x) rep at = ne_eqb n x (not_new x at.0)
-  none_inside (how_far.Calls sub) rep at = refl
-  none_inside (how_far.Answered v) rep at = refl
-  none_inside (how_far.Cancels sub) rep at = refl
-  none_inside (how_far.AwaitsEnd sub) rep at = refl
-  none_inside how_far.Suspends rep at = refl
-  none_inside how_far.Yields rep at = refl
+  none_inside HowFar.Fresh rep at = refl
+  none_inside (HowFar.Waits x) rep at = ne_eqb n x (not_new x at.0)
+  none_inside (HowFar.Calls sub) rep at = refl
+  none_inside (HowFar.Answered v) rep at = refl
+  none_inside (HowFar.Cancels sub) rep at = refl
+  none_inside (HowFar.AwaitsEnd sub) rep at = refl
+  none_inside HowFar.Suspends rep at = refl
+  none_inside HowFar.Yields rep at = refl
 
   neither : (a b c : Bool) → a ≡ false → c ≡ false → (a || (b && c)) ≡ false
   neither a true c no_a no_c = ap₂ (λ (x y : Bool). x || (true && y)) no_a no_c
@@ -142,12 +118,12 @@ module _ (k : Kinds) (n : ℕ) (new : k.made.sets < n) where
   none_keeps t beside awaited at far = by_place t.place at
     where
       by_place : (x : Place) → IsNamedAt k beside (place_target x) → keeps_set n t x ≡ false
-      by_place place.New at = refl
-      by_place (place.Ready m w) at = neither (is_delivery_for n w) (is_resumption w) (is_inside_wait n t.how_far) (none_delivered w beside at) (none_inside t.how_far awaited far)
-      by_place place.Running at = refl
-      by_place (place.Under m) at = refl
-      by_place (place.Behind m) at = refl
-      by_place (place.Waiting y by_callback) at = ne_eqb n y (not_new y at.0)
-      by_place (place.Blocked sub) at = refl
-      by_place (place.Held w) at = none_delivered w beside at
-      by_place place.Suspended at = refl
+      by_place Place.New at = refl
+      by_place (Place.Ready m w) at = neither (is_delivery_for n w) (is_resumption w) (is_inside_wait n t.how_far) (none_delivered w beside at) (none_inside t.how_far awaited far)
+      by_place Place.Running at = refl
+      by_place (Place.Under m) at = refl
+      by_place (Place.Behind m) at = refl
+      by_place (Place.Waiting y by_callback) at = ne_eqb n y (not_new y at.0)
+      by_place (Place.Blocked sub) at = refl
+      by_place (Place.Held w) at = none_delivered w beside at
+      by_place Place.Suspended at = refl

@@ -1,32 +1,9 @@
 -- An instance more, with chains that hung on nothing: the parts stay whole.
-use Rattle.std.proofs.Common.{inl, inr, ◌⊎◌, ◌≡◌, ℕ, Bool, false, List, [], ◌∷◌, ◌++◌, Option, Some, None, IsSome, filter, length, slice_get, zero, suc, cond, refl, sym, ap, ap₂, subst, ◌∙◌}
-use Rattle.std.proofs.lemmas.Bool.{cases_eq, ne_eqb}
-use Rattle.std.proofs.lemmas.Option.{same_Some}
-use Rattle.std.specs.Option.{option_map}
+use Rattle.task_records.proofs.Core.{[], ap, ap₂, BlockedOn, Bool, cases_eq, chained, cond, Each, Entry, entry_seated, false, Filing, filings, filter, HasHome, HeldIn, High, host_entry, inl, inr, is_of_instance, IsCallNamed, IsIndex, IsRows, IsRows-opened, IsSeated, IsSome, IsWhole, IsWorkNamed, length, List, Low, ne_eqb, None, Option, option_map, part, Parts, Place, place_at, place_chain, place_filing, Placed, push_entry, refl, Row, row, row_chain, said, same_Some, shelf_chain, shelf_in, slice_get, Some, subst, Subtask, suc, sym, table_use, thread_entry, UnderOf, WaitsOn, Where, where_at, zero, ℕ, ◌++◌, ◌∙◌, ◌∷◌, ◌≡◌, ◌⊎◌}
+use Rattle.task_records.specs.declared.{calls.GuestTask.GuestTask, instances.InstanceRecord.InstanceRecord, single.Single.Single, threads.GuestThread.GuestThread, threads.Queued.Queued, works.HostWork.HostWork}
 use Rattle.make_words.proofs.LooseLemmas.{IsIndex-opened}
 use Rattle.make_words.proofs.MarkLemmas.{row_is}
 use Rattle.make_words.specs.Loose.{AreLoose}
-use Rattle.task_index.proofs.Rows.{IsRows-opened}
-use Rattle.task_index.specs.Index.{Filing, IsIndex, filings, said}
-use Rattle.task_index.specs.Rows.{Each, IsRows, part}
-use Rattle.task_machine.specs.Read.{table_use}
-use Rattle.task_machine.specs.declared.records.Entry.{Entry}
-use Rattle.task_machine.specs.declared.records.Entry.TheVariants as entry
-use Rattle.task_machine.specs.declared.records.Place.{Place}
-use Rattle.task_machine.specs.declared.records.Place.TheVariants as place
-use Rattle.task_machine.specs.declared.records.Subtask.TheVariants as subtask
-use Rattle.task_records.specs.Image.{Parts, chained}
-use Rattle.task_records.specs.Names.{HasHome, IsCallNamed, IsWorkNamed}
-use Rattle.task_records.specs.Places.{BlockedOn, HeldIn, UnderOf, WaitsOn, Where, place_chain, place_filing, where_at}
-use Rattle.task_records.specs.Rows.{High, IsSeated, Low, Row, entry_seated, host_entry, is_of_instance, push_entry, row, row_chain, shelf_chain, shelf_in, thread_entry}
-use Rattle.task_records.specs.Sound.{IsWhole}
-use Rattle.task_records.specs.declared.calls.GuestTask.{GuestTask}
-use Rattle.task_records.specs.declared.instances.InstanceRecord.{InstanceRecord}
-use Rattle.task_records.specs.declared.single.Single.{Single}
-use Rattle.task_records.specs.declared.threads.GuestThread.{GuestThread}
-use Rattle.task_records.specs.declared.threads.Queued.{Queued}
-use Rattle.task_records.specs.declared.works.HostWork.{HostWork}
-use Rattle.task_table.specs.Table.{Placed, place_at}
 
 module _ {X : Type 0} where
   pub pushed_last : (xs : List X) (x : X) → slice_get (xs ++ x ∷ []) (length xs) ≡ Some x
@@ -82,15 +59,15 @@ shelf_is n r k = elim (cases_eq k.0 n) [
 
 -- who is held is so in its own instance
 held_where : (i n : ℕ) (x : Place) → where_at i x ≡ Some (HeldIn n) → i ≡ n
-held_where i n place.New is = absurd (cc)
-held_where i n (place.Ready m w) is = absurd (cc)
-held_where i n place.Running is = absurd (cc)
-held_where i n (place.Under m) is = absurd (let one = same_Some (UnderOf m) (HeldIn n) is in cc)
-held_where i n (place.Behind m) is = absurd (cc)
-held_where i n (place.Waiting y by_callback) is = absurd (let one = same_Some (WaitsOn y) (HeldIn n) is in cc)
-held_where i n (place.Blocked sub) is = absurd (let one = same_Some (BlockedOn sub) (HeldIn n) is in cc)
-held_where i n (place.Held w) is = ap held_number (same_Some (HeldIn i) (HeldIn n) is)
-held_where i n place.Suspended is = absurd (cc)
+held_where i n Place.New is = absurd (cc)
+held_where i n (Place.Ready m w) is = absurd (cc)
+held_where i n Place.Running is = absurd (cc)
+held_where i n (Place.Under m) is = absurd (let one = same_Some (UnderOf m) (HeldIn n) is in cc)
+held_where i n (Place.Behind m) is = absurd (cc)
+held_where i n (Place.Waiting y by_callback) is = absurd (let one = same_Some (WaitsOn y) (HeldIn n) is in cc)
+held_where i n (Place.Blocked sub) is = absurd (let one = same_Some (BlockedOn sub) (HeldIn n) is in cc)
+held_where i n (Place.Held w) is = ap held_number (same_Some (HeldIn i) (HeldIn n) is)
+held_where i n Place.Suspended is = absurd (cc)
 
 module _ (p : Parts) (whole : IsWhole p) (r : InstanceRecord) (loose : AreLoose p r.held r.high r.low) (high : IsSome p.high) (low : IsSome p.low) where
   abbrev pub grown : Parts
@@ -118,8 +95,8 @@ module _ (p : Parts) (whole : IsWhole p) (r : InstanceRecord) (loose : AreLoose 
   place_others (WaitsOn x) other = refl
   place_others (HeldIn i) other = ap (option_map (λ (x : InstanceRecord). x.held)) (pushed_other p.instances i r (λ same. other (ap HeldIn same)))
   place_others (UnderOf n) other = refl
-  place_others (BlockedOn (subtask.Guest k)) other = refl
-  place_others (BlockedOn (subtask.Host i)) other = refl
+  place_others (BlockedOn (Subtask.Guest k)) other = refl
+  place_others (BlockedOn (Subtask.Host i)) other = refl
 
   none_held : (rep : ℕ) (f : Filing Where ℕ) → filings place_filing p.threads rep ≡ Some f → f.key ≡ Some (HeldIn next) → ⊥
   unfolding filings
@@ -146,9 +123,9 @@ module _ (p : Parts) (whole : IsWhole p) (r : InstanceRecord) (loose : AreLoose 
   by_work seat rep q out (Some x) is = ap (is_of_instance next) (sym (same_Some (seat rep x.entry.item) q is)) ∙ out x.entry.item
 
   seat_apart : (e : Entry) (rep : ℕ) (q : Queued) → entry_seated p e rep ≡ Some q → is_of_instance next q ≡ false
-  seat_apart (entry.Thread n) rep q is = by_seat rep q (place_at p.threads rep) refl is
-  seat_apart (entry.Push i) rep q is = by_work push_entry rep q (λ w. refl) (place_at p.works rep) is
-  seat_apart (entry.Host i) rep q is = by_work host_entry rep q (λ w. refl) (place_at p.works rep) is
+  seat_apart (Entry.Thread n) rep q is = by_seat rep q (place_at p.threads rep) refl is
+  seat_apart (Entry.Push i) rep q is = by_work push_entry rep q (λ w. refl) (place_at p.works rep) is
+  seat_apart (Entry.Host i) rep q is = by_work host_entry rep q (λ w. refl) (place_at p.works rep) is
 
   none_there : (s : Row) → filter (is_of_instance next) (row p s) ≡ []
   none_there s = by_chain (row_chain p s) refl

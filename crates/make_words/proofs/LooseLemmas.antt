@@ -1,18 +1,7 @@
 -- Chains that hang on nothing: how they are made, what keeps them, and how a key gets one.
-use Rattle.std.proofs.Common.{inl, inr, ◌⊎◌, ◌≡◌, ℕ, List, [], Option, Some, None, IsSome, refl, sym, ap, subst, ◌∙◌}
-use Rattle.std.proofs.lemmas.Option.{same_Some}
+use Rattle.task_records.proofs.Core.{[], ap, bare, ChainOf, Filing, filings, inl, inr, is_of_instance, IsIndex, IsIndex-rechained, IsRows, IsSeated, IsSome, IsSound, List, list_of, new_for_chains, no_chain, None, Option, part, parts_of, place_chain, place_filing, ready_call, ready_call_chain, ready_work, ready_work_chain, refl, Renames, row, same_Some, shelf_chain, Some, Spot, spot_list, subst, sym, Unmade, ℕ, ◌∙◌, ◌≡◌, ◌⊎◌}
+use Rattle.task_records.specs.declared.{parts.CoreParts.CoreParts, sets.WaitSet.WaitSet}
 use Rattle.make_words.specs.Loose.{AreLoose, AreSetLoose, IsLoose}
-use Rattle.task_index.proofs.Indexes.{IsIndex-rechained, new_for_chains}
-use Rattle.task_index.proofs.Rows.{no_chain}
-use Rattle.task_index.specs.Index.{Filing, IsIndex, filings}
-use Rattle.task_index.specs.Rows.{IsRows, part}
-use Rattle.task_records.specs.Places.{place_chain, place_filing, ready_call, ready_call_chain, ready_work, ready_work_chain}
-use Rattle.task_records.specs.Rows.{IsSeated, is_of_instance, row, shelf_chain}
-use Rattle.task_records.specs.Seen.{IsSound, parts_of}
-use Rattle.task_records.specs.Sound.{bare}
-use Rattle.task_records.specs.declared.parts.CoreParts.{CoreParts}
-use Rattle.task_records.specs.declared.sets.WaitSet.{WaitSet}
-use Rattle.task_links.specs.Links.{ChainOf, Renames, Spot, Unmade, list_of, spot_list}
 
 no_list : {P X : Type 0} (o : Option (List (ℕ × P))) → o ≡ None → o ≡ Some [] → X
 no_list None none empty = absurd (cc)

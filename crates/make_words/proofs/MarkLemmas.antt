@@ -1,19 +1,7 @@
 -- The chain of a mark is made: no entry is at it yet.
-use Rattle.std.proofs.Common.{inl, inr, ◌⊎◌, ◌≡◌, ℕ, List, [], Option, Some, None, IsSome, is_some, false, filter, map, refl, sym, ap, subst, ◌∙◌}
-use Rattle.task_index.proofs.Rows.{IsRows-opened, IsRows-same, no_chain}
-use Rattle.task_index.specs.Rows.{Each, IsRows, part}
-use Rattle.task_links.specs.Links.{ChainOf, Renames, Unmade, list_or_nil, spot_list}
-use Rattle.task_machine.specs.Read.{table_use}
-use Rattle.task_records.specs.Image.{Parts, chained, image}
-use Rattle.task_records.specs.Names.{HasHome, IsCallNamed, IsWorkNamed}
-use Rattle.task_records.specs.Rows.{High, IsOfThread, IsSeated, Low, Row, is_of_instance, row, row_chain, shelf_chain}
-use Rattle.task_records.specs.Seen.{IsSound, parts_of, seen}
-use Rattle.task_records.specs.Sound.{IsWhole, bare}
-use Rattle.task_records.specs.declared.calls.GuestTask.{GuestTask}
-use Rattle.task_records.specs.declared.parts.CoreParts.{CoreParts}
-use Rattle.task_records.specs.declared.threads.GuestThread.{GuestThread}
-use Rattle.task_records.specs.declared.threads.Queued.{Queued}
-use Rattle.task_records.specs.declared.works.HostWork.{HostWork}
+use Rattle.task_records.proofs.SoundLemmas.{sound_of_whole}
+use Rattle.task_records.proofs.Core.{[], ap, bare, chained, ChainOf, Each, false, filter, HasHome, High, image, inl, inr, is_of_instance, is_some, IsCallNamed, IsOfThread, IsRows, IsRows-opened, IsRows-same, IsSeated, IsSome, IsSound, IsWhole, IsWorkNamed, List, list_or_nil, Low, map, no_chain, None, Option, part, Parts, parts_of, refl, Renames, Row, row, row_chain, seen, shelf_chain, Some, spot_list, subst, sym, table_use, Unmade, ℕ, ◌∙◌, ◌≡◌, ◌⊎◌}
+use Rattle.task_records.specs.declared.{calls.GuestTask.GuestTask, parts.CoreParts.CoreParts, threads.GuestThread.GuestThread, threads.Queued.Queued, works.HostWork.HostWork}
 
 pub row_is : (r s : Row) → (r ≡ s) ⊎ (r ≡ s → ⊥)
 row_is High High = inl refl
@@ -98,16 +86,9 @@ module _ (a b : CoreParts) (sound_a : IsSound a) (sound_b : IsSound b) (only : b
     unfolding IsSound
     high_opened_sound =
         let p = bare (parts_of b) in
-        record {
-          tables = record { threads = sound_b.tables.threads; calls = sound_b.tables.calls; works = sound_b.tables.works; sets = sound_b.tables.sets; groups = sound_b.tables.groups };
-          whole = marked_whole p sound_b.whole (Some c) b.low (high_row p refl none_high) high_kept (λ some. some)
-              (IsRows-opened (row_chain p) (λ q. q.mark.index) (IsSeated p) b.marks (row p) sound_b.whole.chained.marks (row_chain (marked p sound_b.whole (Some c) b.low)) (row (marked p sound_b.whole (Some c) b.low)) High (λ r. row_is r High) chains (λ r other. high_row p refl none_high r) c none_high refl empty (ap spot_list names.names) unused);
-          interesting = sound_b.interesting;
-          moving = sound_b.moving;
-          handles = sound_b.handles;
-          owned = sound_b.owned;
-          live = sound_b.live;
-        }
+        sound_of_whole b (record b { high = Some c }) refl sound_b
+        (marked_whole p sound_b.whole (Some c) b.low (high_row p refl none_high) high_kept (λ some. some)
+            (IsRows-opened (row_chain p) (λ q. q.mark.index) (IsSeated p) b.marks (row p) sound_b.whole.chained.marks (row_chain (marked p sound_b.whole (Some c) b.low)) (row (marked p sound_b.whole (Some c) b.low)) High (λ r. row_is r High) chains (λ r other. high_row p refl none_high r) c none_high refl empty (ap spot_list names.names) unused))
       where
         chains : (r : Row) → (r ≡ High → ⊥) → row_chain (marked (bare (parts_of b)) sound_b.whole (Some c) b.low) r ≡ row_chain (bare (parts_of b)) r
         chains High other = absurd (other refl)
@@ -132,16 +113,9 @@ module _ (a b : CoreParts) (sound_a : IsSound a) (sound_b : IsSound b) (only : b
     unfolding IsSound
     low_opened_sound =
         let p = bare (parts_of b) in
-        record {
-          tables = record { threads = sound_b.tables.threads; calls = sound_b.tables.calls; works = sound_b.tables.works; sets = sound_b.tables.sets; groups = sound_b.tables.groups };
-          whole = marked_whole p sound_b.whole b.high (Some c) (low_row p refl none_low) (λ some. some) low_kept
-              (IsRows-opened (row_chain p) (λ q. q.mark.index) (IsSeated p) b.marks (row p) sound_b.whole.chained.marks (row_chain (marked p sound_b.whole b.high (Some c))) (row (marked p sound_b.whole b.high (Some c))) Low (λ r. row_is r Low) chains (λ r other. low_row p refl none_low r) c none_low refl empty (ap spot_list names.names) unused);
-          interesting = sound_b.interesting;
-          moving = sound_b.moving;
-          handles = sound_b.handles;
-          owned = sound_b.owned;
-          live = sound_b.live;
-        }
+        sound_of_whole b (record b { low = Some c }) refl sound_b
+        (marked_whole p sound_b.whole b.high (Some c) (low_row p refl none_low) (λ some. some) low_kept
+            (IsRows-opened (row_chain p) (λ q. q.mark.index) (IsSeated p) b.marks (row p) sound_b.whole.chained.marks (row_chain (marked p sound_b.whole b.high (Some c))) (row (marked p sound_b.whole b.high (Some c))) Low (λ r. row_is r Low) chains (λ r other. low_row p refl none_low r) c none_low refl empty (ap spot_list names.names) unused))
       where
         chains : (r : Row) → (r ≡ Low → ⊥) → row_chain (marked (bare (parts_of b)) sound_b.whole b.high (Some c)) r ≡ row_chain (bare (parts_of b)) r
         chains High other = refl

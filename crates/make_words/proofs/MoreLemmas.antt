@@ -1,31 +1,9 @@
 -- A table with an entry more: what stood there stands there still, and the new one has nodes of its own.
-use Rattle.std.proofs.Common.{inl, inr, ◌⊎◌, ◌≡◌, ◌+◌, ◌==◌, ◌<◌, ◌≤◌, ℕ, Bool, true, false, cond, List, [], ◌∷◌, Option, Some, None, nat_lt, refl, sym, ap, subst, ◌∙◌, arith}
-use Rattle.std.proofs.lemmas.Bool.{cases_eq, eq-eqb, ne_eqb}
-use Rattle.std.proofs.lemmas.Option.{same_Some}
-use Rattle.std.specs.Option.{option_map}
+use Rattle.task_records.proofs.Core.{[], ap, arith, Bool, cases_eq, children_of-mapped, cond, Each, EachEntry, entry_put, eq-eqb, false, Filing, filings, found_record, found_record_at, get, get-insert, get-records, HasNumber, HaveNodes, inl, inr, insert, is_made, IsIndex, IsIndex-pushed, IsRows, IsTable, IsTable-mapped, key_in, link_for, List, mapped, nat_lt, ne_eqb, next_place, next_place_free, None, number_in, on_item, one_if_passes, Option, option_map, passing, passing-with_at, place_at, place_at-mapped, place_at-pushed, place_at-with_entry, Placed, placed_as, pushed, record_at, Records, records, refl, said, same_Some, seated, size, size-insert_new, Some, SoundTable, Spot, subst, sym, Table, true, with_entry, ℕ, ◌+◌, ◌<◌, ◌==◌, ◌∙◌, ◌∷◌, ◌≡◌, ◌≤◌, ◌⊎◌}
+use Rattle.task_records.specs.declared.{single.Single.Single}
 use Rattle.make_words.specs.Loose.{IsSpare}
-use Rattle.task_index.proofs.Counts.{passing-with_at}
-use Rattle.task_index.proofs.Entries.{IsIndex-pushed}
-use Rattle.task_index.specs.Counts.{one_if_passes, passing}
-use Rattle.task_index.specs.Index.{Filing, IsIndex, filings, link_for, said}
-use Rattle.task_index.specs.Rows.{Each, IsRows}
-use Rattle.task_links.specs.Links.{Spot, is_made}
-use Rattle.task_machine.proofs.SizeLemmas.{size-insert_new}
-use Rattle.task_machine.specs.Maps.{Records, get, get-insert, insert, size}
 use Rattle.task_records.proofs.MakeLemmas.{records_more}
 use Rattle.task_records.proofs.TableLemmas.{found_mapped}
-use Rattle.task_records.specs.Kinds.{on_item}
-use Rattle.task_records.specs.Names.{HasNumber}
-use Rattle.task_records.specs.Rows.{HaveNodes, seated}
-use Rattle.task_records.specs.Sound.{EachEntry, SoundTable}
-use Rattle.task_records.specs.declared.single.Single.{Single}
-use Rattle.task_table.proofs.Laws.{next_place_free, place_at-pushed, place_at-with_entry}
-use Rattle.task_table.proofs.MappedLemmas.{IsTable-mapped, children_of-mapped, place_at-mapped}
-use Rattle.task_table.proofs.RecordLemmas.{found_record_at, get-records}
-use Rattle.task_table.specs.Changes.{entry_put, next_place, pushed, with_entry}
-use Rattle.task_table.specs.Mapped.{mapped, placed_as}
-use Rattle.task_table.specs.Records.{found_record, key_in, number_in, record_at, records}
-use Rattle.task_table.specs.Table.{IsTable, Placed, Table, place_at}
 
 -- ---- Rows whose entries are known otherwise
 

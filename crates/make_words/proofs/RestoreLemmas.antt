@@ -1,64 +1,18 @@
 -- Tables that hold at each place what they held: the core is sound, and nothing is seen of it.
-use Rattle.std.proofs.Common.{inl, inr, ◌≡◌, ℕ, List, [], ◌∷◌, Option, Some, None, IfSome, IsSome, cond, map, slice_get, suc, refl, sym, ap, ap₂, subst, ◌∙◌, arith}
-use Rattle.std.proofs.lemmas.Bool.{cases_eq, eq-eqb, ne_eqb}
-use Rattle.std.proofs.lemmas.Option.{slice_get-map}
-use Rattle.std.specs.Option.{option_map}
+use Rattle.task_records.proofs.Core.{[], ap, ap₂, AreHandlesNamed, AreKept, arith, AtPlace, bare, bare_call, bare_thread, bare_work, blocked_key, BlockedOn, Call, call_instance, call_key, callers_chain, callers_in, callers_key, callers_row, CallOf, cases_eq, chained, children_of, children_of-deleted, children_of-pushed, children_of-with_entry, cond, Core, core_of, deleted, Each, Entry, entry_seated, eq-eqb, Filing, filings, follower, found, found_record, get, get-records, group_key, HandleKind, HasHome, HaveNodes, HeldIn, host_entry, IfSome, image, inl, inr, is_moving, IsCallKept, IsCallNamed, IsFollower, IsGroupKept, IsHeldNamed, IsIndex-same, IsIndex-same_chains, IsNamedAt, IsRows, IsSeated, IsSetKept, IsSome, IsTable, IsTable-with_entry, IsWhole, IsWorkNamed, item_at, item_in, item_of, key_in, Kinds, kinds, List, live_chain, live_work, map, mapped, ne_eqb, next_place, next_place_free, None, Nothing, number_in, of_serial, on_item, Option, option_map, or_record, Parts, passing, place_at, place_at-deleted, place_at-mapped, place_at-pushed, place_chain, place_filing, Placed, placed_as, push_entry, pushed, ready_call, ready_call_chain, ready_calls_key, ready_work, ready_work_chain, ready_works_key, records, refl, Rep, said, same_map, set_key, SetOf, slice_get, slice_get-map, Some, Sound, SoundTable, Spot, standing, StandsAt, subst, Subtask, suc, sym, Table, Tag, tag_of, tags_in, Target, thread_entry, thread_key, ThreadOf, trimmed, under_key, UnderOf, WaitableKind, waiters_key, WaitsOn, Where, with_entry, with_first, with_nodes, work_blocked_key, work_key, WorkOf, ℕ, ◌∙◌, ◌∷◌, ◌≡◌}
+use Rattle.task_records.specs.declared.{calls.GuestTask.GuestTask, calls.TaskGroup.TaskGroup, instances.InstanceRecord.InstanceRecord, sets.WaitSet.WaitSet, single.Single.Single, threads.Follower.Follower, threads.GuestThread.GuestThread, threads.Queued.Queued, works.HostWork.HostWork}
 use Rattle.make_words.proofs.MoreLemmas.{IsRows-known, at_unwritten, at_written}
 use Rattle.make_words.specs.Restored.{IsRestored, Restores}
-use Rattle.task_handles.specs.declared.kinds.HandleKind.{HandleKind}
-use Rattle.task_handles.specs.declared.kinds.HandleKind.TheVariants as handle
-use Rattle.task_handles.specs.declared.kinds.Rep.{Rep}
-use Rattle.task_handles.specs.declared.kinds.WaitableKind.TheVariants as waitable
-use Rattle.task_index.proofs.Indexes.{IsIndex-same, IsIndex-same_chains}
-use Rattle.task_index.specs.Counts.{passing}
-use Rattle.task_index.specs.Index.{Filing, filings, said}
-use Rattle.task_index.specs.Rows.{Each, IsRows, with_nodes}
-use Rattle.task_links.specs.Links.{Spot}
-use Rattle.task_words.specs.StateView.{Tag}
-use Rattle.task_machine.specs.Core.{Core}
-use Rattle.task_machine.specs.Maps.{get, same_map}
-use Rattle.task_machine.specs.Read.{call_instance}
-use Rattle.task_machine.specs.declared.records.Entry.{Entry}
-use Rattle.task_machine.specs.declared.records.Entry.TheVariants as entry
-use Rattle.task_machine.specs.declared.records.Subtask.TheVariants as subtask
-use Rattle.task_records.specs.Image.{Parts, callers_in, chained, core_of, image, tag_of, tags_in, trimmed, with_first}
-use Rattle.task_records.specs.Kept.{AreKept, IsCallKept, IsGroupKept, IsSetKept}
-use Rattle.task_records.specs.Keys.{blocked_key, call_key, callers_key, group_key, ready_calls_key, ready_works_key, set_key, thread_key, under_key, waiters_key, work_blocked_key, work_key}
-use Rattle.task_records.specs.Kinds.{item_of, on_item}
-use Rattle.task_records.specs.Names.{AreHandlesNamed, AtPlace, CallOf, HasHome, IsCallNamed, IsHeldNamed, IsNamedAt, IsWorkNamed, Kinds, Nothing, SetOf, StandsAt, Target, ThreadOf, WorkOf, kinds}
-use Rattle.task_records.specs.Places.{BlockedOn, HeldIn, UnderOf, WaitsOn, Where, live_chain, live_work, place_chain, place_filing, ready_call, ready_call_chain, ready_work, ready_work_chain}
-use Rattle.task_records.specs.Rows.{HaveNodes, IsFollower, IsSeated, callers_chain, callers_row, entry_seated, follower, push_entry, host_entry, thread_entry}
-use Rattle.task_records.specs.Sound.{IsWhole, Sound, SoundTable, bare, bare_call, bare_thread, bare_work}
-use Rattle.task_records.specs.declared.calls.GuestTask.{GuestTask}
-use Rattle.task_records.specs.declared.calls.TaskGroup.{TaskGroup}
-use Rattle.task_records.specs.declared.instances.InstanceRecord.{InstanceRecord}
-use Rattle.task_records.specs.declared.sets.WaitSet.{WaitSet}
-use Rattle.task_records.specs.declared.single.Single.{Single}
-use Rattle.task_records.specs.declared.threads.Follower.{Follower}
-use Rattle.task_records.specs.declared.threads.GuestThread.{GuestThread}
-use Rattle.task_records.specs.declared.threads.Queued.{Queued}
-use Rattle.task_records.specs.declared.works.HostWork.{HostWork}
-use Rattle.task_rules.specs.Works.{is_moving}
-use Rattle.task_machine.specs.declared.records.Call.{Call}
-use Rattle.task_table.proofs.Laws.{children_of-deleted, children_of-pushed, children_of-with_entry, next_place_free, place_at-deleted, place_at-pushed}
-use Rattle.task_table.proofs.MappedLemmas.{place_at-mapped}
-use Rattle.task_table.proofs.RecordLemmas.{get-records}
-use Rattle.task_table.proofs.TableLemmas.{IsTable-with_entry}
-use Rattle.task_table.specs.Answers.{item_at, item_in}
-use Rattle.task_table.specs.Changes.{deleted, next_place, pushed, with_entry}
-use Rattle.task_table.specs.Mapped.{mapped, placed_as}
-use Rattle.task_table.specs.Records.{found_record, key_in, number_in, or_record, records}
-use Rattle.task_table.specs.Table.{IsTable, Placed, Table, children_of, found, of_serial, place_at, standing}
 
 -- ---- Names in more tables
 
 module _ (k l : Kinds) (more : (rep : ℕ) (t : Target) → IsNamedAt k rep t → IsNamedAt l rep t) where
   held_grown : (h : HandleKind) (r : Rep) → IsHeldNamed k h r → IsHeldNamed l h r
-  held_grown (handle.Waitable waitable.GuestSubtask) r is = more r.id (CallOf r.serial) is
-  held_grown (handle.Waitable waitable.HostSubtask) r is = more r.id (WorkOf r.serial) is
-  held_grown (handle.Waitable waitable.Stream) r is = is
-  held_grown (handle.Waitable waitable.Future) r is = is
-  held_grown handle.Set r is = more r.id (SetOf r.serial) is
+  held_grown (HandleKind.Waitable WaitableKind.GuestSubtask) r is = more r.id (CallOf r.serial) is
+  held_grown (HandleKind.Waitable WaitableKind.HostSubtask) r is = more r.id (WorkOf r.serial) is
+  held_grown (HandleKind.Waitable WaitableKind.Stream) r is = is
+  held_grown (HandleKind.Waitable WaitableKind.Future) r is = is
+  held_grown HandleKind.Set r is = more r.id (SetOf r.serial) is
 
   pub handles_grown : (i : InstanceRecord) → AreHandlesNamed k i → AreHandlesNamed l i
   handles_grown i named = record {
@@ -184,16 +138,16 @@ module _ (p : Parts) (threads : Table (Single GuestThread)) (calls : Table (Sing
   chains_kept (WaitsOn n) = found_same waiters_key p.sets sets same_sets n
   chains_kept (HeldIn i) = refl
   chains_kept (UnderOf n) = found_same under_key p.threads threads same_threads n
-  chains_kept (BlockedOn (subtask.Guest k)) = found_same blocked_key p.calls calls same_calls k
-  chains_kept (BlockedOn (subtask.Host i)) = found_same work_blocked_key p.works works same_works i
+  chains_kept (BlockedOn (Subtask.Guest k)) = found_same blocked_key p.calls calls same_calls k
+  chains_kept (BlockedOn (Subtask.Host i)) = found_same work_blocked_key p.works works same_works i
 
   seat_kept : (x : Queued) → IsSeated p x → IsSeated restored x
   seat_kept x is = by x.entry is
     where
       by : (e : Entry) → entry_seated p e x.place ≡ Some x → entry_seated restored e x.place ≡ Some x
-      by (entry.Thread n) is = ap (option_map (λ (q : Placed (Single GuestThread)). thread_entry x.place q.entry.item)) (same_threads x.place) ∙ is
-      by (entry.Push i) is = ap (option_map (λ (q : Placed (Single HostWork)). push_entry x.place q.entry.item)) (same_works x.place) ∙ is
-      by (entry.Host i) is = ap (option_map (λ (q : Placed (Single HostWork)). host_entry x.place q.entry.item)) (same_works x.place) ∙ is
+      by (Entry.Thread n) is = ap (option_map (λ (q : Placed (Single GuestThread)). thread_entry x.place q.entry.item)) (same_threads x.place) ∙ is
+      by (Entry.Push i) is = ap (option_map (λ (q : Placed (Single HostWork)). push_entry x.place q.entry.item)) (same_works x.place) ∙ is
+      by (Entry.Host i) is = ap (option_map (λ (q : Placed (Single HostWork)). host_entry x.place q.entry.item)) (same_works x.place) ∙ is
 
   pub whole_restored : IsWhole p → IsWhole restored
   whole_restored whole = record {

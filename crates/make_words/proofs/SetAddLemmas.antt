@@ -1,32 +1,11 @@
 -- A set more, as contracts see it.
-use Rattle.std.proofs.Common.{◌≡◌, ◌+◌, ◌<◌, ◌^◌, ◌≤◌, ℕ, true, refl, sym, ap, subst, ◌∙◌, arith}
+use Rattle.task_records.proofs.Core.{add_set, ap, AreHandlesNamed, arith, bare, call_number, fits, HandleKind, insert, IsHeldNamed, IsSound, IsTable, Keeps, kinds, next_place, parts_of, pushed, Records, records, refl, Rep, seen, Set, set_key, set_of, SetKey, SetOf, subst, sym, Table, table_use, TableId, thread_number, true, WaitableKind, work_number, ℕ, ◌+◌, ◌<◌, ◌^◌, ◌∙◌, ◌≡◌, ◌≤◌}
+use Rattle.task_records.specs.declared.{instances.InstanceRecord.InstanceRecord, parts.CoreParts.CoreParts, sets.WaitSet.WaitSet, single.Single.Single}
 use Rattle.make_words.proofs.SetLemmas.{at_more, set_whole}
 use Rattle.make_words.specs.Loose.{AreSetLoose}
-use Rattle.task_handles.specs.declared.kinds.HandleKind.{HandleKind}
-use Rattle.task_handles.specs.declared.kinds.HandleKind.TheVariants as handle
-use Rattle.task_handles.specs.declared.kinds.Rep.{Rep}
-use Rattle.task_handles.specs.declared.kinds.WaitableKind.TheVariants as waitable
-use Rattle.task_machine.specs.Maps.{Records, insert}
-use Rattle.task_machine.specs.Read.{fits, table_use}
-use Rattle.task_machine.specs.Write.{add_set}
-use Rattle.task_machine.specs.declared.records.Set.{Set}
 use Rattle.task_records.proofs.KeptLemmas.{used_is}
 use Rattle.task_records.proofs.MakeLemmas.{number_kept, number_new, records_more, table_more}
 use Rattle.task_records.proofs.ReadLemmas.{set_shown}
-use Rattle.task_records.specs.Keys.{set_key}
-use Rattle.task_records.specs.Names.{AreHandlesNamed, IsHeldNamed, SetOf, kinds}
-use Rattle.task_records.specs.Seen.{IsSound, parts_of, seen}
-use Rattle.task_records.specs.Sound.{bare}
-use Rattle.task_records.specs.declared.instances.InstanceRecord.{InstanceRecord}
-use Rattle.task_records.specs.declared.parts.CoreParts.{CoreParts}
-use Rattle.task_records.specs.declared.sets.WaitSet.{WaitSet}
-use Rattle.task_records.specs.declared.single.Single.{Single}
-use Rattle.task_table.specs.Changes.{next_place, pushed}
-use Rattle.task_table.specs.Records.{records}
-use Rattle.task_table.specs.Table.{IsTable, Table}
-use Rattle.task_table.specs.declared.id.TableId.{TableId}
-use Rattle.task_wait.specs.declared.keys.SetKey.{SetKey}
-use Rattle.task_words.specs.StateView.{Keeps, call_number, set_of, thread_number, work_number}
 
 module _ (a : CoreParts) (sound : IsSound a) where
   -- the numbers that are counted have room
@@ -71,11 +50,11 @@ module _ (a : CoreParts) (sound : IsSound a) where
     module _ (table : IsTable t) (loose : AreSetLoose (bare (parts_of a)) x) (no_members : x.members ≡ 0) (no_entries : x.entries ≡ 0) where
       held_more : (h : HandleKind) (r : Rep) → IsHeldNamed (kinds (bare (parts_of a))) h r → IsHeldNamed (kinds (bare (parts_of (with_set_made (pushed (record { item = x }) a.sets))))) h r
       unfolding IsSound
-      held_more (handle.Waitable waitable.GuestSubtask) r at = at
-      held_more (handle.Waitable waitable.HostSubtask) r at = at
-      held_more (handle.Waitable waitable.Stream) r at = at
-      held_more (handle.Waitable waitable.Future) r at = at
-      held_more handle.Set r at = at_more (bare (parts_of a)) sound.whole sound.tables.sets x next loose no_members no_entries r.id (SetOf r.serial) at
+      held_more (HandleKind.Waitable WaitableKind.GuestSubtask) r at = at
+      held_more (HandleKind.Waitable WaitableKind.HostSubtask) r at = at
+      held_more (HandleKind.Waitable WaitableKind.Stream) r at = at
+      held_more (HandleKind.Waitable WaitableKind.Future) r at = at
+      held_more HandleKind.Set r at = at_more (bare (parts_of a)) sound.whole sound.tables.sets x next loose no_members no_entries r.id (SetOf r.serial) at
 
       handles_more : (r : InstanceRecord) → AreHandlesNamed (kinds (bare (parts_of a))) r → AreHandlesNamed (kinds (bare (parts_of (with_set_made (pushed (record { item = x }) a.sets))))) r
       handles_more r named = record {

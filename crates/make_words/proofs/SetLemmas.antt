@@ -1,35 +1,10 @@
 -- A set more, with chains that hung on nothing: the parts stay whole.
-use Rattle.std.proofs.Common.{inl, inr, ◌⊎◌, ◌≡◌, ◌+◌, ◌<◌, ℕ, false, Option, Some, None, refl, sym, ap, ap₂, ◌∙◌, arith}
-use Rattle.std.proofs.lemmas.Bool.{cases_eq}
-use Rattle.std.proofs.lemmas.Option.{same_Some}
+use Rattle.task_records.proofs.Core.{ap, ap₂, arith, AtPlace, BlockedOn, Call, call_key, CallOf, cases_eq, core_of, EachEntry, entries_for, false, Filing, filings, found_record, get-records, HasHome, HeldIn, inl, inr, is_in_set, IsCallNamed, IsSetKept, IsWhole, IsWorkNamed, keeps_set, key_in, kinds, members_of, None, Nothing, Option, Parts, place_at, place_chain, place_filing, Placed, pushed, ready_call, ready_call_chain, ready_in, ready_work, ready_work_chain, Records, records, refl, said, same_Some, Set, set_key, SetOf, size, size-insert_new, Some, SoundTable, Subtask, sym, Table, table_use, Target, Thread, thread_key, ThreadOf, UnderOf, WaitsOn, Where, where_at, Work, work_key, WorkOf, ℕ, ◌+◌, ◌<◌, ◌∙◌, ◌≡◌, ◌⊎◌}
+use Rattle.task_records.specs.declared.{calls.GuestTask.GuestTask, sets.WaitSet.WaitSet, single.Single.Single, threads.GuestThread.GuestThread, works.HostWork.HostWork}
 use Rattle.make_words.proofs.FreshLemmas.{chain_new, chain_other, each_more, none_in, none_keeps, none_passing, none_ready, waits_on_none}
 use Rattle.make_words.proofs.LooseLemmas.{IsIndex-opened}
 use Rattle.make_words.specs.Loose.{AreSetLoose}
-use Rattle.task_index.specs.Index.{Filing, filings, said}
-use Rattle.task_machine.proofs.SizeLemmas.{size-insert_new}
-use Rattle.task_machine.specs.Maps.{Records, size}
-use Rattle.task_machine.specs.Read.{is_in_set, keeps_set, table_use}
-use Rattle.task_machine.specs.declared.records.Call.{Call}
-use Rattle.task_machine.specs.declared.records.Set.{Set}
-use Rattle.task_machine.specs.declared.records.Subtask.TheVariants as subtask
-use Rattle.task_machine.specs.declared.records.Thread.{Thread}
-use Rattle.task_machine.specs.declared.records.Work.{Work}
 use Rattle.task_records.proofs.MakeLemmas.{records_more, stands_more}
-use Rattle.task_records.specs.Image.{Parts, core_of}
-use Rattle.task_records.specs.Keys.{call_key, set_key, thread_key, work_key}
-use Rattle.task_records.specs.Kept.{IsSetKept, entries_for, members_of}
-use Rattle.task_records.specs.Names.{AtPlace, CallOf, HasHome, IsCallNamed, IsWorkNamed, Nothing, SetOf, Target, ThreadOf, WorkOf, kinds}
-use Rattle.task_records.specs.Places.{BlockedOn, HeldIn, UnderOf, WaitsOn, Where, place_chain, place_filing, ready_call, ready_call_chain, ready_in, ready_work, ready_work_chain, where_at}
-use Rattle.task_records.specs.Sound.{EachEntry, IsWhole, SoundTable}
-use Rattle.task_records.specs.declared.calls.GuestTask.{GuestTask}
-use Rattle.task_records.specs.declared.sets.WaitSet.{WaitSet}
-use Rattle.task_records.specs.declared.single.Single.{Single}
-use Rattle.task_records.specs.declared.threads.GuestThread.{GuestThread}
-use Rattle.task_records.specs.declared.works.HostWork.{HostWork}
-use Rattle.task_table.proofs.RecordLemmas.{get-records}
-use Rattle.task_table.specs.Changes.{pushed}
-use Rattle.task_table.specs.Records.{found_record, key_in, records}
-use Rattle.task_table.specs.Table.{Placed, Table, place_at}
 
 abbrev set_in : Where → ℕ
 set_in (WaitsOn x) = x
@@ -85,8 +60,8 @@ module _ (p : Parts) (whole : IsWhole p) (tables : SoundTable set_key p.sets p.m
   place_others (WaitsOn n) other = other_chain (λ y. y.waiters) n (λ same. other (ap WaitsOn same))
   place_others (HeldIn i) other = refl
   place_others (UnderOf n) other = refl
-  place_others (BlockedOn (subtask.Guest k)) other = refl
-  place_others (BlockedOn (subtask.Host i)) other = refl
+  place_others (BlockedOn (Subtask.Guest k)) other = refl
+  place_others (BlockedOn (Subtask.Host i)) other = refl
 
   none_waits : (rep : ℕ) (f : Filing Where ℕ) → filings place_filing p.threads rep ≡ Some f → f.key ≡ Some (WaitsOn x.number) → ⊥
   unfolding filings

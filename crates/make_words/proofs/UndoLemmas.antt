@@ -1,23 +1,10 @@
 -- A set's record that was made and is taken back.
-use Rattle.std.proofs.Common.{◌≡◌, ◌+◌, ◌-◌, ◌<◌, ℕ, ap, ap₂, ◌∙◌, arith}
-use Rattle.std.specs.Prelude.{Err}
+use Rattle.task_records.proofs.Core.{ap, ap₂, arith, deleted, deletion, deletion_refused, Err, IsSound, IsTable, item_of, next_place, Parts, parts_of, pushed, ResourceTableError, seen, set_of, SetKey, TableId, ℕ, ◌+◌, ◌-◌, ◌<◌, ◌∙◌, ◌≡◌}
+use Rattle.task_records.specs.declared.{parts.CoreParts.CoreParts, sets.WaitSet.WaitSet}
 use Rattle.make_words.proofs.RestoreLemmas.{Restores-deleted, Restores-pushed, Restores-same, restored_from}
 use Rattle.make_words.specs.Restored.{IsRestored}
 use Rattle.task_records.proofs.KindLemmas.{refused_number}
 use Rattle.task_records.proofs.ReadLemmas.{set_shown}
-use Rattle.task_records.specs.Image.{Parts}
-use Rattle.task_records.specs.Kinds.{item_of}
-use Rattle.task_records.specs.Seen.{IsSound, parts_of, seen}
-use Rattle.task_records.specs.declared.parts.CoreParts.{CoreParts}
-use Rattle.task_records.specs.declared.sets.WaitSet.{WaitSet}
-use Rattle.task_table.proofs.ItemLemmas.{deletion_refused}
-use Rattle.task_table.specs.Answers.{deletion}
-use Rattle.task_table.specs.Changes.{deleted, next_place, pushed}
-use Rattle.task_table.specs.Table.{IsTable}
-use Rattle.task_table.specs.declared.error.ResourceTableError.{ResourceTableError}
-use Rattle.task_table.specs.declared.id.TableId.{TableId}
-use Rattle.task_wait.specs.declared.keys.SetKey.{SetKey}
-use Rattle.task_words.specs.StateView.{set_of}
 
 module _ (a b c e : CoreParts) (sound_a : IsSound a) (sound_b : IsSound b) (x : WaitSet) (rep : ℕ)
     (only_b : b ≡ record a { sets = b.sets; made = record a.made { sets = a.made.sets + 1 }; kept = record a.kept { used = a.kept.used + 1 } })

@@ -1,18 +1,8 @@
 -- A node or a chain is made among the callers of threads: every list stays as it is.
-use Rattle.std.proofs.Common.{◌≡◌, ℕ, List, Option, Some, None, refl, sym, ap, ◌∙◌}
-use Rattle.std.specs.Option.{option_map}
+use Rattle.task_records.proofs.Core.{ap, callers_chain, callers_in, callers_row, IsFollower, IsRows, IsRows-made, IsSound, List, None, Option, option_map, Records, records, refl, Renames, same_map, seen, Some, Spot, spot_link, sym, Unmade, values, values_are, ℕ, ◌∙◌, ◌≡◌}
+use Rattle.task_records.specs.declared.{parts.CoreParts.CoreParts, threads.Follower.Follower}
 use Rattle.node_words.proofs.RowLemmas.{keeps_made}
 use Rattle.queue_words.proofs.CallerLemmas.{bared, callers_get, callers_sound, numbers_of}
-use Rattle.task_index.proofs.Rows.{IsRows-made, values_are}
-use Rattle.task_index.specs.Rows.{IsRows, values}
-use Rattle.task_links.specs.Links.{Renames, Spot, Unmade, spot_link}
-use Rattle.task_machine.specs.Maps.{Records, same_map}
-use Rattle.task_records.specs.Image.{callers_in}
-use Rattle.task_records.specs.Rows.{IsFollower, callers_chain, callers_row}
-use Rattle.task_records.specs.Seen.{IsSound, seen}
-use Rattle.task_records.specs.declared.parts.CoreParts.{CoreParts}
-use Rattle.task_records.specs.declared.threads.Follower.{Follower}
-use Rattle.task_table.specs.Records.{records}
 
 module _ (a : CoreParts) (sound : IsSound a) (new : List (Spot Follower)) (n : ℕ) (is : Spot Follower) (names : Renames a.behind new n Unmade is) (unlinked : spot_link is ≡ None) where
   rows_made : IsRows (callers_chain (bared a)) (λ f. f.node.index) (IsFollower (bared a)) new (callers_row (bared a))

@@ -1,16 +1,7 @@
 -- A node or a chain is made among the marks or the shelves: every list stays as it is.
-use Rattle.std.proofs.Common.{inl, inr, ◌⊎◌, ◌≡◌, ℕ, true, List, [], None, map, ap, ap₂, ◌∙◌}
-use Rattle.std.proofs.lemmas.Bool.{cases_eq}
+use Rattle.task_records.proofs.Core.{[], ap, ap₂, bare, cases_eq, chained, High, image, inl, inr, is_made, is_of_instance, IsRows, IsRows-made, IsSeated, IsSound, List, Low, map, None, part, Parts, parts_of, Renames, Row, row, row_chain, seen, shelf_chain, Spot, spot_is_made, spot_link, true, Unmade, ℕ, ◌∙◌, ◌≡◌, ◌⊎◌}
+use Rattle.task_records.specs.declared.{parts.CoreParts.CoreParts, threads.Queued.Queued}
 use Rattle.queue_words.proofs.WholeLemmas.{KeepsNodes, chains_sound, row_is, rows_whole}
-use Rattle.task_index.proofs.Rows.{IsRows-made}
-use Rattle.task_index.specs.Rows.{IsRows, part}
-use Rattle.task_links.specs.Links.{Renames, Spot, Unmade, is_made, spot_is_made, spot_link}
-use Rattle.task_records.specs.Image.{Parts, chained, image}
-use Rattle.task_records.specs.Rows.{High, IsSeated, Low, Row, is_of_instance, row, row_chain, shelf_chain}
-use Rattle.task_records.specs.Seen.{IsSound, parts_of, seen}
-use Rattle.task_records.specs.Sound.{bare}
-use Rattle.task_records.specs.declared.parts.CoreParts.{CoreParts}
-use Rattle.task_records.specs.declared.threads.Queued.{Queued}
 
 -- what was made is made
 pub keeps_made : {P : Type 0} (old new : List (Spot P)) (n : ℕ) (is : Spot P) → Renames old new n Unmade is → KeepsNodes old new

@@ -1,18 +1,7 @@
 -- What two tables have in common that are alike as far as a function of their entries sees.
-use Rattle.std.proofs.Common.{◌≡◌, ℕ, true, List, [], ◌∷◌, map, Option, Some, None, IsSome, refl, sym, ap, ap₂, subst, ◌∙◌}
-use Rattle.std.specs.Option.{option_map}
-use Rattle.task_index.specs.Index.{Filing, filings, said}
-use Rattle.task_links.specs.Links.{Spot, is_made}
+use Rattle.task_records.proofs.Core.{[], ap, ap₂, Filing, filings, found_record, HaveNodes, is_made, IsSome, List, map, mapped, None, number_in, number_of, number_of-mapped, on_item, Option, option_map, place_at, place_at-mapped, Placed, placed_as, record_at, refl, said, seated, Some, Spot, StandsAt, subst, sym, Table, tag_of, tags_in, trimmed, true, ℕ, ◌∙◌, ◌∷◌, ◌≡◌}
+use Rattle.task_records.specs.declared.{single.Single.Single}
 use Rattle.task_records.proofs.TableLemmas.{found_mapped, number_at_mapped, with_second}
-use Rattle.task_records.specs.Image.{tag_of, tags_in, trimmed}
-use Rattle.task_records.specs.Kinds.{on_item}
-use Rattle.task_records.specs.Names.{StandsAt}
-use Rattle.task_records.specs.Rows.{HaveNodes, seated}
-use Rattle.task_records.specs.declared.single.Single.{Single}
-use Rattle.task_table.proofs.MappedLemmas.{number_of-mapped, place_at-mapped}
-use Rattle.task_table.specs.Mapped.{mapped, placed_as}
-use Rattle.task_table.specs.Records.{found_record, number_in, number_of, record_at}
-use Rattle.task_table.specs.Table.{Placed, Table, place_at}
 use Rattle.place_words.specs.Moved.{Alike}
 use Rattle.queue_words.proofs.BareLemmas.{mapped_place, place_mapped}
 

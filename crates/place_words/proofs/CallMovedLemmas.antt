@@ -1,34 +1,7 @@
 -- A call is written that has another event or set, and the numbers of members of sets: what else holds of the parts stays.
-use Rattle.std.proofs.Common.{◌≡◌, ◌+◌, ◌*◌, ◌==◌, ℕ, Bool, List, Option, Some, None, IsSome, count_by, length, refl, sym, ap, ap₂, subst, ◌∙◌}
-use Rattle.std.proofs.lemmas.Option.{same_Some}
-use Rattle.std.specs.Option.{option_map, option_map_or}
-use Rattle.task_index.proofs.Indexes.{IsIndex-same_chains}
-use Rattle.task_index.specs.Counts.{passing}
-use Rattle.task_index.specs.Index.{IsIndex, filings}
-use Rattle.task_links.specs.Links.{Spot}
-use Rattle.task_machine.specs.Maps.{get, size}
-use Rattle.task_machine.specs.Read.{call_instance, is_host_call, no_callee, table_use}
-use Rattle.task_machine.specs.declared.records.Call.{Call}
-use Rattle.task_machine.specs.declared.records.Goal.TheVariants as goal
-use Rattle.task_machine.specs.declared.records.Subtask.TheVariants as subtask
+use Rattle.task_records.proofs.Core.{ap, ap₂, AreChained, AreCounted, AtPlace, BlockedOn, Bool, Call, call_instance, call_key, CallOf, core_of, count_by, EachEntry, filings, get, get-records, Goal, HasHome, HasRoom, HeldIn, is_host_call, is_of_group, IsCallKept, IsCallNamed, IsGroupKept, IsIndex, IsIndex-same_chains, IsSetKept, IsWhole, IsWorkNamed, join_target, length, List, mapped, no_callee, None, Nothing, on_item, Option, option_map, option_map_or, Parts, passing, place_chain, ready_call, ready_call_chain, ready_work_chain, records, refl, same_Some, SetOf, size, Some, Spot, subst, Subtask, sym, Table, table_use, Target, ThreadOf, UnderOf, WaitsOn, Where, WorkOf, ℕ, ◌*◌, ◌+◌, ◌==◌, ◌∙◌, ◌≡◌}
+use Rattle.task_records.specs.declared.{calls.GuestTask.GuestTask, calls.TaskGroup.TaskGroup, sets.WaitSet.WaitSet, single.Single.Single, threads.GuestThread.GuestThread, works.HostWork.HostWork}
 use Rattle.task_records.proofs.KeptLemmas.{passing_seconds, records_seconds, seconds, size_seconds}
-use Rattle.task_records.specs.Image.{HasRoom, Parts, core_of}
-use Rattle.task_records.specs.Kept.{IsCallKept, IsGroupKept, IsSetKept, is_of_group}
-use Rattle.task_records.specs.Keys.{call_key}
-use Rattle.task_records.specs.Kinds.{on_item}
-use Rattle.task_records.specs.Names.{AtPlace, CallOf, HasHome, IsCallNamed, IsWorkNamed, Nothing, SetOf, Target, ThreadOf, WorkOf, join_target}
-use Rattle.task_records.specs.Places.{BlockedOn, HeldIn, UnderOf, WaitsOn, Where, place_chain, ready_call, ready_call_chain, ready_work_chain}
-use Rattle.task_records.specs.Sound.{AreChained, AreCounted, EachEntry, IsWhole}
-use Rattle.task_records.specs.declared.calls.GuestTask.{GuestTask}
-use Rattle.task_records.specs.declared.calls.TaskGroup.{TaskGroup}
-use Rattle.task_records.specs.declared.sets.WaitSet.{WaitSet}
-use Rattle.task_records.specs.declared.single.Single.{Single}
-use Rattle.task_records.specs.declared.threads.GuestThread.{GuestThread}
-use Rattle.task_records.specs.declared.works.HostWork.{HostWork}
-use Rattle.task_table.proofs.RecordLemmas.{get-records}
-use Rattle.task_table.specs.Mapped.{mapped}
-use Rattle.task_table.specs.Records.{records}
-use Rattle.task_table.specs.Table.{Table}
 use Rattle.place_words.proofs.AlikeLemmas.{found_alike, found_loose, number_alike, place_alike, stands_alike}
 use Rattle.place_words.proofs.PutLemmas.{sets_same}
 use Rattle.place_words.specs.Moved.{Alike, quiet_call, still_call, uncounted}
@@ -73,8 +46,8 @@ module _ (p : Parts) (whole : IsWhole p) (calls : Table (Single GuestTask)) (ali
   place_chain_told (WaitsOn x) = found_alike uncounted sets p.sets sets_alike (λ (x : WaitSet). x.number) (λ x. refl) (λ (x : WaitSet). x.waiters) (λ x. refl) x
   place_chain_told (HeldIn i) = refl
   place_chain_told (UnderOf n) = refl
-  place_chain_told (BlockedOn (subtask.Guest k)) = found_alike still_call calls p.calls alike (λ (g : GuestTask). g.number) (λ g. refl) (λ (g : GuestTask). g.blocked) (λ g. refl) k
-  place_chain_told (BlockedOn (subtask.Host i)) = refl
+  place_chain_told (BlockedOn (Subtask.Guest k)) = found_alike still_call calls p.calls alike (λ (g : GuestTask). g.number) (λ g. refl) (λ (g : GuestTask). g.blocked) (λ g. refl) k
+  place_chain_told (BlockedOn (Subtask.Host i)) = refl
 
   ready_calls_told : (x : ℕ) → ready_call_chain told x ≡ ready_call_chain p x
   ready_calls_told x = found_alike uncounted sets p.sets sets_alike (λ (x : WaitSet). x.number) (λ x. refl) (λ (x : WaitSet). x.ready_calls) (λ x. refl) x
@@ -112,7 +85,7 @@ module _ (p : Parts) (whole : IsWhole p) (calls : Table (Single GuestTask)) (ali
   group_told : (g : TaskGroup) → IsGroupKept (core_of p) g → IsGroupKept (core_of told) g
   group_told g h = h ∙ ap (λ n. n + passing (is_of_group g.number) (core_of p).works) (sym (passing_told (λ c. c.group == g.number)))
 
-  results_told : (k : ℕ) (c : Call) → get (core_of told).calls k ≡ Some c → c.goal ≡ goal.Main → HasRoom k p.results
+  results_told : (k : ℕ) (c : Call) → get (core_of told).calls k ≡ Some c → c.goal ≡ Goal.Main → HasRoom k p.results
   results_told k c is main = by (get (core_of p).calls k) refl (sym (ap (option_map quiet_call) is) ∙ get_told k)
     where
       by : (o : Option Call) → get (core_of p).calls k ≡ o → Some (quiet_call c) ≡ option_map quiet_call o → HasRoom k p.results

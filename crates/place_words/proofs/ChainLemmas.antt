@@ -1,21 +1,7 @@
 -- The chains of the ready members of a set whose number was kept.
-use Rattle.std.proofs.Common.{◌≡◌, ◌<◌, ℕ, Bool, true, false, cond, Option, Some, None, is_some, refl, sym, ap, subst, ◌∙◌, arith}
-use Rattle.std.specs.Prelude.{Ok}
-use Rattle.task_machine.specs.Maps.{Records, get}
-use Rattle.task_machine.specs.declared.records.Set.{Set}
+use Rattle.task_records.proofs.Core.{ap, arith, bare, Bool, cond, false, found_record, get, get-records, is_some, IsSound, item_at, item_of, kept_in, None, Ok, Option, parts_of, ready_call_chain, ready_work_chain, Records, refl, seen, Set, set_key, Some, subst, sym, true, ℕ, ◌<◌, ◌∙◌, ◌≡◌}
+use Rattle.task_records.specs.declared.{parts.CoreParts.CoreParts, sets.WaitSet.WaitSet, single.Single.Single}
 use Rattle.task_records.proofs.KindLemmas.{absent, item_stands}
-use Rattle.task_records.specs.Keys.{set_key}
-use Rattle.task_records.specs.Kinds.{item_of}
-use Rattle.task_records.specs.Places.{ready_call_chain, ready_work_chain}
-use Rattle.task_records.specs.Seen.{IsSound, parts_of, seen}
-use Rattle.task_records.specs.Sound.{bare}
-use Rattle.task_records.specs.declared.parts.CoreParts.{CoreParts}
-use Rattle.task_records.specs.declared.sets.WaitSet.{WaitSet}
-use Rattle.task_records.specs.declared.single.Single.{Single}
-use Rattle.task_table.proofs.RecordLemmas.{get-records}
-use Rattle.task_table.specs.Answers.{item_at}
-use Rattle.task_table.specs.Records.{found_record}
-use Rattle.task_words.specs.Live.{kept_in}
 use Rattle.place_words.proofs.FiledLemmas.{kept_under}
 use Rattle.queue_words.proofs.BareLemmas.{number_positive}
 use Rattle.queue_words.proofs.CallerLemmas.{none_as}

@@ -1,32 +1,7 @@
 -- How many entries a set has, as the number that is kept.
-use Rattle.std.proofs.Common.{inl, inr, ◌≡◌, ◌==◌, ◌||◌, ◌⊎◌, ℕ, Bool, true, false, cond, Option, Some, refl, sym, ap, ◌∙◌, arith}
-use Rattle.std.proofs.lemmas.Bool.{cases_eq, eq-eqb, ne_eqb}
-use Rattle.std.proofs.lemmas.Option.{same_Some, slice_get_past}
-use Rattle.std.specs.Option.{option_map_or}
-use Rattle.std.specs.Prelude.{Err, Ok, Result}
-use Rattle.task_machine.specs.Read.{is_inside_wait, keeps_set}
-use Rattle.task_machine.specs.declared.records.Delivery.TheVariants as delivery
-use Rattle.task_machine.specs.declared.records.HowFar.{HowFar}
-use Rattle.task_machine.specs.declared.records.HowFar.TheVariants as how_far
-use Rattle.task_machine.specs.declared.records.Place.{Place}
-use Rattle.task_machine.specs.declared.records.Place.TheVariants as place
-use Rattle.task_machine.specs.declared.records.Thread.{Thread}
-use Rattle.task_machine.specs.declared.records.Why.TheVariants as why
+use Rattle.task_records.proofs.Core.{ap, arith, Bool, cases_eq, cond, Delivery, entry_of, entry_put, eq-eqb, Err, false, HowFar, inl, inr, is_inside_wait, IsSound, item_at, item_of, keeps_set, key_in, mapped-with_entry_same, ne_eqb, number_in, number_of, Ok, on_item, Option, option_map_or, Place, place_at, place_at-with_entry, Placed, record_at, refl, ResourceTableError, Result, same_Some, set_key, slice_get_past, Some, SoundTable, standing, sym, Table, Thread, true, Why, with_entry, ℕ, ◌==◌, ◌||◌, ◌∙◌, ◌≡◌, ◌⊎◌}
+use Rattle.task_records.specs.declared.{parts.CoreParts.CoreParts, sets.WaitSet.WaitSet, single.Single.Single}
 use Rattle.task_records.proofs.KindLemmas.{item_number, item_stands, refused_number, table_written}
-use Rattle.task_records.specs.Keys.{set_key}
-use Rattle.task_records.specs.Kinds.{entry_of, item_of, on_item}
-use Rattle.task_records.specs.Seen.{IsSound}
-use Rattle.task_records.specs.Sound.{SoundTable}
-use Rattle.task_records.specs.declared.parts.CoreParts.{CoreParts}
-use Rattle.task_records.specs.declared.sets.WaitSet.{WaitSet}
-use Rattle.task_records.specs.declared.single.Single.{Single}
-use Rattle.task_table.proofs.Laws.{place_at-with_entry}
-use Rattle.task_table.proofs.MappedLemmas.{mapped-with_entry_same}
-use Rattle.task_table.specs.Answers.{item_at}
-use Rattle.task_table.specs.Changes.{entry_put, with_entry}
-use Rattle.task_table.specs.Records.{key_in, number_in, number_of, record_at}
-use Rattle.task_table.specs.Table.{Placed, Table, place_at, standing}
-use Rattle.task_table.specs.declared.error.ResourceTableError.{ResourceTableError}
 use Rattle.place_words.specs.Moved.{Alike, entry_set, recounted, rejoined, resumed_set, rewritten, rewritten_by, uncounted}
 use Rattle.queue_words.proofs.BareLemmas.{number_positive, one_place}
 
@@ -41,37 +16,37 @@ is_the x o = option_map_or (λ y. x == y) o false
 
 -- a thread has an entry for a set just where the set is that of its place
 pub keeps_is : (x : ℕ) (t : Thread) (p : Place) → keeps_set x t p ≡ is_the x (entry_set p t.how_far)
-keeps_is x t (place.Waiting y b) = refl
-keeps_is x t place.Running = refl
-keeps_is x t place.New = refl
-keeps_is x t (place.Under n) = refl
-keeps_is x t (place.Behind n) = refl
-keeps_is x t (place.Blocked sub) = refl
-keeps_is x t place.Suspended = refl
-keeps_is x t (place.Held why.Start) = refl
-keeps_is x t (place.Held why.Resumption) = refl
-keeps_is x t (place.Held (why.Delivery (delivery.Set y))) = refl
-keeps_is x t (place.Held (why.Delivery delivery.Yield)) = refl
-keeps_is x t (place.Held (why.Delivery delivery.Cancel)) = refl
-keeps_is x t (place.Ready m why.Start) = refl
-keeps_is x t (place.Ready m (why.Delivery (delivery.Set y))) = by (x == y)
+keeps_is x t (Place.Waiting y b) = refl
+keeps_is x t Place.Running = refl
+keeps_is x t Place.New = refl
+keeps_is x t (Place.Under n) = refl
+keeps_is x t (Place.Behind n) = refl
+keeps_is x t (Place.Blocked sub) = refl
+keeps_is x t Place.Suspended = refl
+keeps_is x t (Place.Held Why.Start) = refl
+keeps_is x t (Place.Held Why.Resumption) = refl
+keeps_is x t (Place.Held (Why.Delivery (Delivery.Set y))) = refl
+keeps_is x t (Place.Held (Why.Delivery Delivery.Yield)) = refl
+keeps_is x t (Place.Held (Why.Delivery Delivery.Cancel)) = refl
+keeps_is x t (Place.Ready m Why.Start) = refl
+keeps_is x t (Place.Ready m (Why.Delivery (Delivery.Set y))) = by (x == y)
   where
     by : (b : Bool) → (b || false) ≡ b
     by true = refl
     by false = refl
-keeps_is x t (place.Ready m (why.Delivery delivery.Yield)) = refl
-keeps_is x t (place.Ready m (why.Delivery delivery.Cancel)) = refl
-keeps_is x t (place.Ready m why.Resumption) = by t.how_far
+keeps_is x t (Place.Ready m (Why.Delivery Delivery.Yield)) = refl
+keeps_is x t (Place.Ready m (Why.Delivery Delivery.Cancel)) = refl
+keeps_is x t (Place.Ready m Why.Resumption) = by t.how_far
   where
     by : (h : HowFar) → is_inside_wait x h ≡ is_the x (resumed_set h)
-    by (how_far.Waits y) = refl
-    by how_far.Fresh = refl
-    by (how_far.Calls sub) = refl
-    by (how_far.Answered v) = refl
-    by (how_far.Cancels sub) = refl
-    by (how_far.AwaitsEnd sub) = refl
-    by how_far.Suspends = refl
-    by how_far.Yields = refl
+    by (HowFar.Waits y) = refl
+    by HowFar.Fresh = refl
+    by (HowFar.Calls sub) = refl
+    by (HowFar.Answered v) = refl
+    by (HowFar.Cancels sub) = refl
+    by (HowFar.AwaitsEnd sub) = refl
+    by HowFar.Suspends = refl
+    by HowFar.Yields = refl
 
 -- ---- The table of sets with another number
 

@@ -1,28 +1,8 @@
 -- What a record keeps under its number, and where threads are filed.
-use Rattle.std.proofs.Common.{◌≡◌, ℕ, Bool, true, Option, Some, None, refl, sym, ap, ◌∙◌}
-use Rattle.std.proofs.lemmas.Option.{same_Some}
-use Rattle.std.specs.Option.{option_map}
-use Rattle.std.specs.Prelude.{Ok}
-use Rattle.task_index.proofs.Indexes.{IsIndex-same}
-use Rattle.task_index.specs.Index.{Filing, IsIndex, PassesAt, Tests, filings, said}
-use Rattle.task_machine.specs.declared.records.Place.{Place}
-use Rattle.task_machine.specs.declared.records.Thread.{Thread}
+use Rattle.task_records.proofs.Core.{ap, bare, bare_thread, Bool, Filing, filings, found_record, found_record_at, IsIndex, IsIndex-same, IsSound, item_at, item_of, key_in, None, number_in, Ok, on_item, Option, option_map, parts_of, PassesAt, Place, place_at, place_at-mapped, place_chain, place_filing, Placed, placed_as, record_at, refl, said, same_Some, Some, SoundTable, sym, Table, Tests, Thread, thread_key, true, Where, where_at, ℕ, ◌∙◌, ◌≡◌}
+use Rattle.task_records.specs.declared.{parts.CoreParts.CoreParts, single.Single.Single, threads.GuestThread.GuestThread}
 use Rattle.task_records.proofs.KindLemmas.{item_stands}
 use Rattle.task_records.proofs.StandLemmas.{number_here}
-use Rattle.task_records.specs.Keys.{thread_key}
-use Rattle.task_records.specs.Kinds.{item_of, on_item}
-use Rattle.task_records.specs.Places.{Where, place_chain, place_filing, where_at}
-use Rattle.task_records.specs.Seen.{IsSound, parts_of}
-use Rattle.task_records.specs.Sound.{SoundTable, bare, bare_thread}
-use Rattle.task_records.specs.declared.parts.CoreParts.{CoreParts}
-use Rattle.task_records.specs.declared.single.Single.{Single}
-use Rattle.task_records.specs.declared.threads.GuestThread.{GuestThread}
-use Rattle.task_table.proofs.MappedLemmas.{place_at-mapped}
-use Rattle.task_table.proofs.RecordLemmas.{found_record_at}
-use Rattle.task_table.specs.Answers.{item_at}
-use Rattle.task_table.specs.Mapped.{placed_as}
-use Rattle.task_table.specs.Records.{found_record, key_in, number_in, record_at}
-use Rattle.task_table.specs.Table.{Placed, Table, place_at}
 use Rattle.queue_words.proofs.CallerLemmas.{apart_as}
 
 module _ {T X Y : Type 0} (number : T → ℕ) (rec : T → X) (other : T → Y) (t : Table (Single T)) (made : ℕ) (sound : SoundTable (λ e. Some (number e.item, rec e.item)) t made) (rep serial : ℕ) (g : T) (is : Ok g ≡ item_at item_of t rep serial) where

@@ -1,28 +1,7 @@
 -- The number of a set's entries is above 0 where one is taken away, and small.
-use Rattle.std.proofs.Common.{◌≡◌, ◌+◌, ◌-◌, ◌==◌, ◌≤◌, ℕ, suc, Bool, true, false, cond, length, List, [], ◌∷◌, Option, Some, None, is_some, sym, ap, ◌∙◌, arith}
-use Rattle.std.proofs.lemmas.Bool.{eq-eqb}
-use Rattle.std.proofs.lemmas.List.Sums.{count_by-le-length}
-use Rattle.std.specs.Prelude.{Ok}
-use Rattle.task_index.specs.Counts.{passing}
-use Rattle.task_machine.proofs.SizeLemmas.{size-empty, size-insert}
-use Rattle.task_machine.specs.Maps.{Records, get, size}
-use Rattle.task_machine.specs.declared.records.Thread.{Thread}
+use Rattle.task_records.proofs.Core.{[], ap, arith, bare_thread, Bool, cond, count_by-le-length, eq-eqb, false, get, is_some, IsSound, item_at, item_of, key_in, length, List, loose_thread, None, number_of, Ok, Option, passing, Placed, Records, records, seen, set_key, set_of, SetKey, size, size-empty, size-insert, Some, suc, sym, TableId, Thread, thread_key, ThreadKey, true, with_record, ℕ, ◌+◌, ◌-◌, ◌==◌, ◌∙◌, ◌∷◌, ◌≡◌, ◌≤◌}
+use Rattle.task_records.specs.declared.{parts.CoreParts.CoreParts, sets.WaitSet.WaitSet, single.Single.Single, threads.GuestThread.GuestThread}
 use Rattle.task_records.proofs.KindLemmas.{item_number, item_stands}
-use Rattle.task_records.specs.Keys.{set_key, thread_key}
-use Rattle.task_records.specs.Kinds.{item_of}
-use Rattle.task_records.specs.Seen.{IsSound, seen}
-use Rattle.task_records.specs.Sound.{bare_thread, loose_thread}
-use Rattle.task_records.specs.declared.parts.CoreParts.{CoreParts}
-use Rattle.task_records.specs.declared.sets.WaitSet.{WaitSet}
-use Rattle.task_records.specs.declared.single.Single.{Single}
-use Rattle.task_records.specs.declared.threads.GuestThread.{GuestThread}
-use Rattle.task_table.specs.Answers.{item_at}
-use Rattle.task_table.specs.Records.{key_in, number_of, records, with_record}
-use Rattle.task_table.specs.Table.{Placed}
-use Rattle.task_table.specs.declared.id.TableId.{TableId}
-use Rattle.task_wait.specs.declared.keys.SetKey.{SetKey}
-use Rattle.task_wait.specs.declared.keys.ThreadKey.{ThreadKey}
-use Rattle.task_words.specs.StateView.{set_of}
 use Rattle.place_words.proofs.EntryLemmas.{keeps_is, recounted_each, recounted_sound}
 use Rattle.place_words.proofs.PlacedLemmas.{entries_then, from_number, set_positive, set_there, set_was, sets_less}
 use Rattle.place_words.proofs.PutLemmas.{counted_there, keeps}

@@ -1,10 +1,5 @@
 -- A write of a call or a host work that isn't there changes nothing.
-use Rattle.std.proofs.Common.{◌≡◌, ℕ, None, ap}
-use Rattle.task_machine.specs.Maps.{change, changed, get}
-use Rattle.task_machine.specs.Write.{on_call, on_work}
-use Rattle.task_machine.specs.declared.records.Call.{Call}
-use Rattle.task_machine.specs.declared.records.Work.{Work}
-use Rattle.task_words.specs.StateView.{StateView, on_core}
+use Rattle.task_records.proofs.Core.{ap, Call, change, changed, get, None, on_call, on_core, on_work, StateView, Work, ℕ, ◌≡◌}
 
 pub call_gone : (s : StateView) (k : ℕ) → None ≡ get s.core.calls k → (f : Call → Call) → s ≡ on_core (on_call k f) s
 unfolding on_call change

@@ -1,54 +1,11 @@
 -- A host work with another event, set or stage, as the words write it.
-use Rattle.std.proofs.Common.{◌≡◌, ◌+◌, ◌≤◌, ℕ, Bool, List, [], Option, Some, None, IsSome, IfSome, true, cond, refl, sym, ap, subst, ◌∙◌, arith}
-use Rattle.std.specs.Option.{option_and_then}
-use Rattle.std.specs.Prelude.{Ok}
-use Rattle.task_handles.specs.declared.kinds.HandleKind.{HandleKind}
-use Rattle.task_handles.specs.declared.kinds.HandleKind.TheVariants as handles
-use Rattle.task_handles.specs.declared.kinds.Rep.{Rep}
-use Rattle.task_handles.specs.declared.kinds.WaitableKind.TheVariants as waitable
-use Rattle.task_index.proofs.Entries.{IsIndex-with_entry}
-use Rattle.task_index.proofs.Tables.{filings_at}
-use Rattle.task_index.specs.Counts.{one_if_passes, passing}
-use Rattle.task_index.specs.Index.{IsIndex, Refiles, filings, link_for}
-use Rattle.task_links.specs.Links.{Spot, is_made, link_of, list_of}
-use Rattle.task_machine.specs.Maps.{Records, change}
-use Rattle.task_machine.specs.Read.{is_in_set, is_live}
-use Rattle.task_machine.specs.Write.{on_work}
-use Rattle.task_machine.specs.declared.records.Work.{Work}
-use Rattle.task_machine.specs.declared.records.Join.{Join}
-use Rattle.task_machine.specs.declared.records.Join.TheVariants as join
-use Rattle.task_machine.specs.declared.records.Set.{Set}
-use Rattle.task_machine.specs.declared.words.Status.{Status}
+use Rattle.task_records.proofs.Core.{[], ap, AreHandlesNamed, arith, AtPlace, bare, bare_work, Bool, CallOf, change, cond, core_of, EachEntry, entry_of, filings, filings_at, HandleKind, HostTaskKey, IfSome, is_in_set, is_live, is_made, is_moving, IsHeldNamed, IsIndex, IsIndex-with_entry, IsSetKept, IsSome, IsSound, IsWhole, item_at, item_of, Join, join_target, kinds, link_for, link_of, List, list_of, live_chain, live_value, live_work, loose_work, mapped, mapped-with_entry, mapped-with_entry_same, members_of, None, Ok, on_core, on_item, on_work, one_if_passes, Option, option_and_then, Parts, parts_of, passing, place_at, Placed, ready_in, ready_work, ready_work_chain, Records, records, Refiles, refl, Rep, Rises, seen, Set, set_key, set_of, SetKey, SetOf, Some, SoundTable, Spot, StateView, Status, subst, sym, Table, TableId, Tag, tags_in, ThreadOf, true, unmoved, WaitableKind, with_entry, Work, work_key, work_of, WorkOf, ℕ, ◌+◌, ◌∙◌, ◌≡◌, ◌≤◌}
+use Rattle.task_records.specs.declared.{instances.InstanceRecord.InstanceRecord, parts.CoreParts.CoreParts, sets.WaitSet.WaitSet, single.Single.Single, works.HostWork.HostWork, works.LiveWork.LiveWork}
 use Rattle.task_records.proofs.HomeLemmas.{place_bare, place_in_bare, work_names}
 use Rattle.task_records.proofs.KeptLemmas.{passing_seconds, records_seconds}
 use Rattle.task_records.proofs.KindLemmas.{item_stands, passing_written, records_changed, table_written, tags_written}
 use Rattle.task_records.proofs.ReadLemmas.{work_shown}
 use Rattle.task_records.proofs.WriteLemmas.{each_written}
-use Rattle.task_records.specs.Image.{Parts, core_of, tags_in}
-use Rattle.task_records.specs.Kept.{IsSetKept, members_of}
-use Rattle.task_records.specs.Keys.{set_key, work_key}
-use Rattle.task_records.specs.Kinds.{entry_of, item_of, on_item}
-use Rattle.task_records.specs.Names.{AreHandlesNamed, AtPlace, CallOf, IsHeldNamed, SetOf, ThreadOf, WorkOf, join_target, kinds}
-use Rattle.task_records.specs.Places.{Rises, live_chain, live_value, live_work, ready_in, ready_work, ready_work_chain}
-use Rattle.task_records.specs.Seen.{IsSound, parts_of, seen}
-use Rattle.task_records.specs.Sound.{EachEntry, IsWhole, SoundTable, bare, bare_work, loose_work, unmoved}
-use Rattle.task_records.specs.declared.works.HostWork.{HostWork}
-use Rattle.task_records.specs.declared.works.LiveWork.{LiveWork}
-use Rattle.task_records.specs.declared.instances.InstanceRecord.{InstanceRecord}
-use Rattle.task_records.specs.declared.parts.CoreParts.{CoreParts}
-use Rattle.task_records.specs.declared.sets.WaitSet.{WaitSet}
-use Rattle.task_records.specs.declared.single.Single.{Single}
-use Rattle.task_table.proofs.MappedLemmas.{mapped-with_entry, mapped-with_entry_same}
-use Rattle.task_table.specs.Answers.{item_at}
-use Rattle.task_table.specs.Changes.{with_entry}
-use Rattle.task_table.specs.Mapped.{mapped}
-use Rattle.task_table.specs.Records.{records}
-use Rattle.task_table.specs.Table.{Placed, Table, place_at}
-use Rattle.task_table.specs.declared.id.TableId.{TableId}
-use Rattle.task_wait.specs.declared.keys.HostTaskKey.{HostTaskKey}
-use Rattle.task_rules.specs.Works.{is_moving}
-use Rattle.task_wait.specs.declared.keys.SetKey.{SetKey}
-use Rattle.task_words.specs.StateView.{StateView, Tag, set_of, work_of, on_core}
 use Rattle.place_words.proofs.AlikeLemmas.{tags_alike}
 use Rattle.place_words.proofs.WorkMovedLemmas.{at_heard, heard, heard_whole}
 use Rattle.place_words.proofs.PutLemmas.{sets_same}
@@ -173,11 +130,11 @@ module _ (a : CoreParts) (sound : IsSound a) (id : TableId HostTaskKey) (g : Hos
             omega (arith, law, now, was, then, live_is)
 
         held_now : (kind : HandleKind) (r : Rep) → IsHeldNamed (kinds bared) kind r → IsHeldNamed (kinds after) kind r
-        held_now (handles.Waitable waitable.GuestSubtask) r at = at_heard bared is_whole bare_now works_alike sets as_sets links polled live r.id (CallOf r.serial) at
-        held_now (handles.Waitable waitable.HostSubtask) r at = at_heard bared is_whole bare_now works_alike sets as_sets links polled live r.id (WorkOf r.serial) at
-        held_now (handles.Waitable waitable.Stream) r at = at
-        held_now (handles.Waitable waitable.Future) r at = at
-        held_now handles.Set r at = at_heard bared is_whole bare_now works_alike sets as_sets links polled live r.id (SetOf r.serial) at
+        held_now (HandleKind.Waitable WaitableKind.GuestSubtask) r at = at_heard bared is_whole bare_now works_alike sets as_sets links polled live r.id (CallOf r.serial) at
+        held_now (HandleKind.Waitable WaitableKind.HostSubtask) r at = at_heard bared is_whole bare_now works_alike sets as_sets links polled live r.id (WorkOf r.serial) at
+        held_now (HandleKind.Waitable WaitableKind.Stream) r at = at
+        held_now (HandleKind.Waitable WaitableKind.Future) r at = at
+        held_now HandleKind.Set r at = at_heard bared is_whole bare_now works_alike sets as_sets links polled live r.id (SetOf r.serial) at
 
         handles_now : (r : InstanceRecord) → AreHandlesNamed (kinds bared) r → AreHandlesNamed (kinds after) r
         handles_now r named = record {
@@ -242,7 +199,7 @@ module _ (a : CoreParts) (sound : IsSound a) (id : TableId HostTaskKey) (g : Hos
   -- a set that the work is in has a member
   pub some_member : (n : ℕ) → is_in_set n g.work.join ≡ true → 1 ≤ members_of n (core_of bared)
   some_member n in_set =
-      let law = members_change (record g { work = record g.work { join = join.Nowhere } }) refl a.sets refl [] [] 0 0 n in
+      let law = members_change (record g { work = record g.work { join = Join.Nowhere } }) refl a.sets refl [] [] 0 0 n in
       let one : one_if_passes (λ (c : Work). is_in_set n c.join) (Some g.work) ≡ 1 = ap (λ b. cond b 1 0) in_set in
       omega (arith, law, one)
 

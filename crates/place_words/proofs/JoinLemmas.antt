@@ -1,34 +1,8 @@
 -- How many members a set has, as the number that is kept, where something leaves one set for another.
-use Rattle.std.proofs.Common.{◌≡◌, ◌+◌, ◌-◌, ◌==◌, ◌<◌, ◌≤◌, ◌^◌, ℕ, Bool, true, false, cond, length, Option, Some, IsSome, refl, sym, ap, ap₂, subst, ◌∙◌, arith}
-use Rattle.std.proofs.lemmas.Bool.{eq-eqb}
-use Rattle.std.proofs.lemmas.List.{length-map}
-use Rattle.std.proofs.lemmas.List.Sums.{count_by-le-length}
-use Rattle.std.specs.Prelude.{Ok}
-use Rattle.task_machine.specs.Maps.{get, size}
-use Rattle.task_machine.specs.Read.{is_in_set}
-use Rattle.task_machine.specs.declared.records.Call.{Call}
-use Rattle.task_machine.specs.declared.records.Join.{Join}
-use Rattle.task_machine.specs.declared.records.Join.TheVariants as join
-use Rattle.task_machine.specs.declared.records.Work.{Work}
+use Rattle.task_records.proofs.Core.{ap, ap₂, arith, bare, bare_call, bare_work, Bool, Call, call_key, cond, core_of, count_by-le-length, entries_for, eq-eqb, false, found_record_at, get, get-records, is_in_set, IsSetKept, IsSome, IsSound, item_at, item_of, Join, key_in, length, length-map, mapped, members_of, number_of, Ok, on_item, Option, parts_of, place_at, Placed, placed_as, refl, seen, set_key, set_of, SetKey, size, Some, SoundTable, subst, sym, Table, TableId, true, Work, work_key, ℕ, ◌+◌, ◌-◌, ◌<◌, ◌==◌, ◌^◌, ◌∙◌, ◌≡◌, ◌≤◌}
+use Rattle.task_records.specs.declared.{parts.CoreParts.CoreParts, sets.WaitSet.WaitSet, single.Single.Single}
 use Rattle.task_records.proofs.KindLemmas.{item_number, item_stands}
 use Rattle.task_records.proofs.ReadLemmas.{set_shown}
-use Rattle.task_records.specs.Image.{core_of}
-use Rattle.task_records.specs.Kept.{IsSetKept, entries_for, members_of}
-use Rattle.task_records.specs.Keys.{call_key, set_key, work_key}
-use Rattle.task_records.specs.Kinds.{item_of, on_item}
-use Rattle.task_records.specs.Seen.{IsSound, parts_of, seen}
-use Rattle.task_records.specs.Sound.{SoundTable, bare, bare_call, bare_work}
-use Rattle.task_records.specs.declared.parts.CoreParts.{CoreParts}
-use Rattle.task_records.specs.declared.sets.WaitSet.{WaitSet}
-use Rattle.task_records.specs.declared.single.Single.{Single}
-use Rattle.task_table.proofs.RecordLemmas.{found_record_at, get-records}
-use Rattle.task_table.specs.Answers.{item_at}
-use Rattle.task_table.specs.Mapped.{mapped, placed_as}
-use Rattle.task_table.specs.Records.{key_in, number_of}
-use Rattle.task_table.specs.Table.{Placed, Table, place_at}
-use Rattle.task_table.specs.declared.id.TableId.{TableId}
-use Rattle.task_wait.specs.declared.keys.SetKey.{SetKey}
-use Rattle.task_words.specs.StateView.{set_of}
 use Rattle.place_words.proofs.AlikeLemmas.{number_of_alike}
 use Rattle.place_words.proofs.EntryLemmas.{is_the, rejoined_alike, rejoined_each, rejoined_sound}
 use Rattle.place_words.proofs.FitLemmas.{records_fit}
@@ -38,9 +12,9 @@ use Rattle.queue_words.proofs.BareLemmas.{number_positive}
 
 -- something is in a set just where the set is that of its join
 pub in_is : (n : ℕ) (j : Join) → is_in_set n j ≡ is_the n (joined_set j)
-in_is n (join.Set x) = refl
-in_is n join.Nowhere = refl
-in_is n (join.Watched m) = refl
+in_is n (Join.Set x) = refl
+in_is n Join.Nowhere = refl
+in_is n (Join.Watched m) = refl
 
 module _ (a : CoreParts) (sound : IsSound a) (was is : Option ℕ) (from to : TableId SetKey) (from_is : set_of (seen a) from ≡ set_named was (seen a).core) (to_is : set_of (seen a) to ≡ set_named is (seen a).core) where
   abbrev pub sets_less : Table (Single WaitSet)

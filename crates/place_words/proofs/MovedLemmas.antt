@@ -1,28 +1,6 @@
 -- A thread is written that gets another place, and the numbers of entries of sets: what else holds of the parts stays.
-use Rattle.std.proofs.Common.{◌≡◌, ◌+◌, ◌*◌, ℕ, List, Option, Some, None, IfSome, count_by, length, refl, sym, ap, ap₂, subst, ◌∙◌}
-use Rattle.task_index.proofs.Indexes.{IsIndex-same_chains}
-use Rattle.task_index.specs.Index.{IsIndex, filings}
-use Rattle.task_index.specs.Rows.{Each, IsRows, part, with_nodes}
-use Rattle.task_links.specs.Links.{Spot}
-use Rattle.task_machine.specs.Maps.{size}
-use Rattle.task_machine.specs.Read.{is_host_call, table_use}
-use Rattle.task_machine.specs.declared.records.Entry.{Entry}
-use Rattle.task_machine.specs.declared.records.Entry.TheVariants as entry
-use Rattle.task_machine.specs.declared.records.Subtask.TheVariants as subtask
-use Rattle.task_records.specs.Image.{Parts, chained, core_of}
-use Rattle.task_records.specs.Kept.{IsSetKept, threads_of}
-use Rattle.task_records.specs.Names.{AtPlace, CallOf, HasHome, IsCallNamed, IsWorkNamed, Nothing, SetOf, Target, ThreadOf, WorkOf}
-use Rattle.task_records.specs.Places.{BlockedOn, HeldIn, UnderOf, WaitsOn, Where, place_chain, place_filing, ready_call_chain, ready_work_chain}
-use Rattle.task_records.specs.Rows.{IsFollower, IsSeated, callers_chain, callers_row, entry_seated, follower, is_of_instance, row, row_chain, shelf_chain, thread_entry}
-use Rattle.task_records.specs.Sound.{AreChained, AreCounted, EachEntry, HaveRowNodes, IsWhole}
-use Rattle.task_records.specs.declared.calls.GuestTask.{GuestTask}
-use Rattle.task_records.specs.declared.sets.WaitSet.{WaitSet}
-use Rattle.task_records.specs.declared.single.Single.{Single}
-use Rattle.task_records.specs.declared.threads.Follower.{Follower}
-use Rattle.task_records.specs.declared.threads.GuestThread.{GuestThread}
-use Rattle.task_records.specs.declared.threads.Queued.{Queued}
-use Rattle.task_records.specs.declared.works.HostWork.{HostWork}
-use Rattle.task_table.specs.Table.{Table}
+use Rattle.task_records.proofs.Core.{ap, ap₂, AreChained, AreCounted, AtPlace, BlockedOn, callers_chain, callers_row, CallOf, chained, core_of, count_by, Each, EachEntry, Entry, entry_seated, filings, follower, HasHome, HaveRowNodes, HeldIn, IfSome, is_host_call, is_of_instance, IsCallNamed, IsFollower, IsIndex, IsIndex-same_chains, IsRows, IsSeated, IsSetKept, IsWhole, IsWorkNamed, length, List, None, Nothing, Option, part, Parts, place_chain, place_filing, ready_call_chain, ready_work_chain, refl, row, row_chain, SetOf, shelf_chain, size, Some, Spot, subst, Subtask, sym, Table, table_use, Target, thread_entry, ThreadOf, threads_of, UnderOf, WaitsOn, Where, with_nodes, WorkOf, ℕ, ◌*◌, ◌+◌, ◌∙◌, ◌≡◌}
+use Rattle.task_records.specs.declared.{calls.GuestTask.GuestTask, sets.WaitSet.WaitSet, single.Single.Single, threads.Follower.Follower, threads.GuestThread.GuestThread, threads.Queued.Queued, works.HostWork.HostWork}
 use Rattle.place_words.proofs.AlikeLemmas.{found_alike, nodes_alike, place_alike, seated_alike, stands_alike}
 use Rattle.place_words.specs.Moved.{Alike, still, still_thread, uncounted}
 use Rattle.queue_words.proofs.ListLemmas.{Each-weaker}
@@ -64,9 +42,9 @@ module _ (p : Parts) (whole : IsWhole p) (threads : Table (Single GuestThread)) 
   seated_moved q is = by q.entry ∙ is
     where
       by : (e : Entry) → entry_seated moved e q.place ≡ entry_seated p e q.place
-      by (entry.Thread n) = seated_alike still_thread threads p.threads alike thread_entry (λ r g. refl) q.place
-      by (entry.Push i) = refl
-      by (entry.Host i) = refl
+      by (Entry.Thread n) = seated_alike still_thread threads p.threads alike thread_entry (λ r g. refl) q.place
+      by (Entry.Push i) = refl
+      by (Entry.Host i) = refl
 
   switch_moved : IfSome p.switch (IsFollower moved)
   switch_moved = by p.switch whole.named.switch
@@ -79,8 +57,8 @@ module _ (p : Parts) (whole : IsWhole p) (threads : Table (Single GuestThread)) 
   place_chain_moved (WaitsOn x) = found_alike uncounted sets p.sets sets_alike (λ (x : WaitSet). x.number) (λ x. refl) (λ (x : WaitSet). x.waiters) (λ x. refl) x
   place_chain_moved (HeldIn i) = refl
   place_chain_moved (UnderOf n) = found_alike still_thread threads p.threads alike (λ (g : GuestThread). g.number) (λ g. refl) (λ (g : GuestThread). g.under) (λ g. refl) n
-  place_chain_moved (BlockedOn (subtask.Guest k)) = refl
-  place_chain_moved (BlockedOn (subtask.Host i)) = refl
+  place_chain_moved (BlockedOn (Subtask.Guest k)) = refl
+  place_chain_moved (BlockedOn (Subtask.Host i)) = refl
 
   ready_calls_moved : (x : ℕ) → ready_call_chain moved x ≡ ready_call_chain p x
   ready_calls_moved x = found_alike uncounted sets p.sets sets_alike (λ (x : WaitSet). x.number) (λ x. refl) (λ (x : WaitSet). x.ready_calls) (λ x. refl) x

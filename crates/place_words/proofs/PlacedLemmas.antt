@@ -1,53 +1,12 @@
 -- A thread with another place: the core is sound, and contracts see just that.
-use Rattle.std.proofs.Common.{◌≡◌, ◌+◌, ◌-◌, ◌==◌, ◌<◌, ℕ, Bool, true, cond, List, Option, Some, None, IsSome, IfSome, slice_get, refl, sym, ap, ap₂, subst, ◌∙◌}
-use Rattle.std.specs.Option.{option_and_then}
-use Rattle.std.specs.Prelude.{Ok}
-use Rattle.task_handles.specs.declared.kinds.HandleKind.{HandleKind}
-use Rattle.task_handles.specs.declared.kinds.HandleKind.TheVariants as handles
-use Rattle.task_handles.specs.declared.kinds.Rep.{Rep}
-use Rattle.task_handles.specs.declared.kinds.WaitableKind.TheVariants as waitable
-use Rattle.task_index.proofs.Entries.{IsIndex-with_entry}
-use Rattle.task_index.specs.Counts.{passing}
-use Rattle.task_index.specs.Index.{IsIndex, Refiles, filings, link_for}
-use Rattle.task_index.proofs.Tables.{filings_at}
-use Rattle.task_links.specs.Links.{Spot, is_made, link_of, list_of}
-use Rattle.task_machine.specs.Maps.{Records, change, get, size}
-use Rattle.task_machine.specs.Read.{call_instance, keeps_set, thread_at}
-use Rattle.task_machine.specs.Write.{on_thread}
-use Rattle.task_machine.specs.declared.records.Place.{Place}
-use Rattle.task_machine.specs.declared.records.Set.{Set}
-use Rattle.task_machine.specs.declared.records.Thread.{Thread}
+use Rattle.task_records.proofs.Core.{ap, ap₂, AreHandlesNamed, AtPlace, bare, bare_thread, Bool, call_instance, call_key, callers_in, CallOf, change, cond, core_of, EachEntry, entries_for, entry_of, filings, filings_at, found_record_at, get, get-records, HandleKind, HasHome, HasNumber, how_far_target, IfSome, is_made, IsHeldNamed, IsIndex, IsIndex-with_entry, IsSetKept, IsSome, IsSound, IsWhole, item_at, item_of, keeps_set, key_in, kinds, link_for, link_of, List, list_of, loose_thread, mapped, mapped-with_entry, mapped-with_entry_same, None, number_of, Ok, on_core, on_item, on_thread, Option, option_and_then, OwnsHandle, Parts, parts_of, passing, Place, place_at, place_chain, place_filing, place_target, Placed, Records, records, Refiles, refl, Rep, seen, Set, set_key, set_of, SetKey, SetOf, size, slice_get, Some, Spot, StateView, subst, sym, Table, TableId, Tag, tags_in, Thread, thread_at, thread_key, thread_of, ThreadKey, ThreadOf, true, WaitableKind, Where, where_at, with_entry, WorkOf, ℕ, ◌+◌, ◌-◌, ◌<◌, ◌==◌, ◌∙◌, ◌≡◌}
+use Rattle.task_records.specs.declared.{instances.InstanceRecord.InstanceRecord, parts.CoreParts.CoreParts, sets.WaitSet.WaitSet, single.Single.Single, threads.GuestThread.GuestThread}
 use Rattle.task_records.proofs.HomeLemmas.{place_in_bare, thread_home}
 use Rattle.task_records.proofs.KeptLemmas.{passing_seconds, size_seconds}
 use Rattle.task_records.proofs.KindLemmas.{item_stands, records_changed, table_written, tags_written}
 use Rattle.task_records.proofs.ReadLemmas.{set_shown, thread_shown}
 use Rattle.task_records.proofs.TableLemmas.{records_unseen}
 use Rattle.task_records.proofs.WriteLemmas.{each_written}
-use Rattle.task_records.specs.Image.{Parts, callers_in, core_of, tags_in}
-use Rattle.task_records.specs.Kept.{IsSetKept, entries_for}
-use Rattle.task_records.specs.Keys.{set_key, thread_key}
-use Rattle.task_records.specs.Kinds.{entry_of, item_of, on_item}
-use Rattle.task_records.specs.Names.{AreHandlesNamed, AtPlace, CallOf, HasHome, HasNumber, IsHeldNamed, OwnsHandle, SetOf, ThreadOf, WorkOf, how_far_target, kinds, place_target}
-use Rattle.task_records.specs.Keys.{call_key}
-use Rattle.task_records.specs.Places.{Where, place_chain, place_filing, where_at}
-use Rattle.task_records.specs.Seen.{IsSound, parts_of, seen}
-use Rattle.task_records.specs.Sound.{EachEntry, IsWhole, bare, bare_thread, loose_thread}
-use Rattle.task_records.specs.declared.instances.InstanceRecord.{InstanceRecord}
-use Rattle.task_records.specs.declared.parts.CoreParts.{CoreParts}
-use Rattle.task_records.specs.declared.sets.WaitSet.{WaitSet}
-use Rattle.task_records.specs.declared.single.Single.{Single}
-use Rattle.task_records.specs.declared.threads.GuestThread.{GuestThread}
-use Rattle.task_table.proofs.MappedLemmas.{mapped-with_entry, mapped-with_entry_same}
-use Rattle.task_table.proofs.RecordLemmas.{found_record_at, get-records}
-use Rattle.task_table.specs.Answers.{item_at}
-use Rattle.task_table.specs.Changes.{with_entry}
-use Rattle.task_table.specs.Mapped.{mapped}
-use Rattle.task_table.specs.Records.{key_in, number_of, records}
-use Rattle.task_table.specs.Table.{Placed, Table, place_at}
-use Rattle.task_table.specs.declared.id.TableId.{TableId}
-use Rattle.task_wait.specs.declared.keys.SetKey.{SetKey}
-use Rattle.task_wait.specs.declared.keys.ThreadKey.{ThreadKey}
-use Rattle.task_words.specs.StateView.{StateView, Tag, on_core, set_of, thread_of}
 use Rattle.place_words.proofs.AlikeLemmas.{number_of_alike, tags_alike}
 use Rattle.place_words.proofs.EntryLemmas.{is_the, keeps_is, recounted_alike, recounted_each, recounted_sound}
 use Rattle.place_words.proofs.MovedLemmas.{at_moved, home_moved, moved, moved_whole}
@@ -224,11 +183,11 @@ module _ (a : CoreParts) (sound : IsSound a) (id : TableId ThreadKey) (g : Guest
               sets_kept
 
           held_now : (kind : HandleKind) (r : Rep) → IsHeldNamed (kinds bared) kind r → IsHeldNamed (kinds after) kind r
-          held_now (handles.Waitable waitable.GuestSubtask) r at = at_moved bared is_whole bare_now threads_alike sets_now sets_alike places r.id (CallOf r.serial) at
-          held_now (handles.Waitable waitable.HostSubtask) r at = at_moved bared is_whole bare_now threads_alike sets_now sets_alike places r.id (WorkOf r.serial) at
-          held_now (handles.Waitable waitable.Stream) r at = at
-          held_now (handles.Waitable waitable.Future) r at = at
-          held_now handles.Set r at = at_moved bared is_whole bare_now threads_alike sets_now sets_alike places r.id (SetOf r.serial) at
+          held_now (HandleKind.Waitable WaitableKind.GuestSubtask) r at = at_moved bared is_whole bare_now threads_alike sets_now sets_alike places r.id (CallOf r.serial) at
+          held_now (HandleKind.Waitable WaitableKind.HostSubtask) r at = at_moved bared is_whole bare_now threads_alike sets_now sets_alike places r.id (WorkOf r.serial) at
+          held_now (HandleKind.Waitable WaitableKind.Stream) r at = at
+          held_now (HandleKind.Waitable WaitableKind.Future) r at = at
+          held_now HandleKind.Set r at = at_moved bared is_whole bare_now threads_alike sets_now sets_alike places r.id (SetOf r.serial) at
 
           handles_now : (r : InstanceRecord) → AreHandlesNamed (kinds bared) r → AreHandlesNamed (kinds after) r
           handles_now r named = record {

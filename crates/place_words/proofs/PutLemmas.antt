@@ -1,30 +1,8 @@
 -- A thread with another place, as the word writes it: records, sets and chains together.
-use Rattle.std.proofs.Common.{◌≡◌, ◌+◌, ◌-◌, ◌==◌, ◌<◌, ◌≤◌, ℕ, Bool, true, false, cond, Option, Some, None, IsSome, is_some, refl, sym, ap, subst, ◌∙◌, arith}
-use Rattle.std.proofs.lemmas.Bool.{ne_eqb}
-use Rattle.std.specs.Prelude.{Ok}
-use Rattle.task_index.specs.Counts.{one_if_passes, passing}
-use Rattle.task_machine.specs.Core.{Core}
-use Rattle.task_machine.specs.Maps.{get, same_map, size}
-use Rattle.task_machine.specs.Read.{keeps_set}
-use Rattle.task_machine.proofs.SizeLemmas.{size-change}
-use Rattle.task_machine.specs.declared.records.Place.TheVariants as place
-use Rattle.task_machine.specs.declared.records.Thread.{Thread}
+use Rattle.task_records.proofs.Core.{ap, arith, bare_thread, Bool, cond, Core, entry_of, false, get, get-records, is_some, IsSome, IsSound, item_at, item_of, keeps_set, loose_thread, mapped, ne_eqb, None, Ok, on_item, one_if_passes, Option, passing, Place, records, refl, same_map, set_key, size, size-change, Some, subst, sym, Table, Thread, thread_key, true, with_entry, ℕ, ◌+◌, ◌-◌, ◌<◌, ◌==◌, ◌∙◌, ◌≡◌, ◌≤◌}
+use Rattle.task_records.specs.declared.{parts.CoreParts.CoreParts, sets.WaitSet.WaitSet, single.Single.Single, threads.GuestThread.GuestThread}
 use Rattle.task_records.proofs.KeptLemmas.{records_seconds, seconds}
 use Rattle.task_records.proofs.KindLemmas.{passing_same, passing_written, records_changed}
-use Rattle.task_records.specs.Keys.{set_key, thread_key}
-use Rattle.task_records.specs.Kinds.{entry_of, item_of, on_item}
-use Rattle.task_records.specs.Seen.{IsSound}
-use Rattle.task_records.specs.Sound.{bare_thread, loose_thread}
-use Rattle.task_records.specs.declared.parts.CoreParts.{CoreParts}
-use Rattle.task_records.specs.declared.sets.WaitSet.{WaitSet}
-use Rattle.task_records.specs.declared.single.Single.{Single}
-use Rattle.task_records.specs.declared.threads.GuestThread.{GuestThread}
-use Rattle.task_table.proofs.RecordLemmas.{get-records}
-use Rattle.task_table.specs.Answers.{item_at}
-use Rattle.task_table.specs.Changes.{with_entry}
-use Rattle.task_table.specs.Mapped.{mapped}
-use Rattle.task_table.specs.Records.{records}
-use Rattle.task_table.specs.Table.{Table}
 use Rattle.place_words.proofs.AlikeLemmas.{found_alike}
 use Rattle.place_words.proofs.EntryLemmas.{is_the}
 use Rattle.place_words.specs.Moved.{Alike, set_named, uncounted}
@@ -57,7 +35,7 @@ module _ (a : CoreParts) (sound : IsSound a) (rep serial : ℕ) (g : GuestThread
   pub counted_there : (n : ℕ) → keeps n g.thread ≡ true → 1 ≤ passing (keeps n) (records thread_key a.threads.places)
   unfolding IsSound
   counted_there n some =
-      let law = passing_written (λ (g : GuestThread). g.number) (λ (g : GuestThread). g.thread) a.threads a.made.threads sound.tables.threads rep serial g is (record g { thread = record g.thread { place = place.New } }) refl (keeps n) in
+      let law = passing_written (λ (g : GuestThread). g.number) (λ (g : GuestThread). g.thread) a.threads a.made.threads sound.tables.threads rep serial g is (record g { thread = record g.thread { place = Place.New } }) refl (keeps n) in
       let one : one_if_passes (keeps n) (Some g.thread) ≡ 1 = ap (λ b. cond b 1 0) some in
       omega arith
 

@@ -1,42 +1,6 @@
 -- The ready members of a set.
-use Rattle.std.proofs.Common.{◌≡◌, ◌==◌, ◌++◌, ◌&&◌, ◌||◌, ℕ, Bool, true, false, List, [], ◌∷◌, map, Option, Some, None, IsSome, is_some, refl, sym, ap, ap₂, ◌∙◌}
-use Rattle.std.proofs.lemmas.Bool.{eq-eqb, eqb-true}
-use Rattle.std.proofs.lemmas.Option.{same_Some}
-use Rattle.std.specs.List.{list_any}
-use Rattle.std.specs.Option.{option_and_then, option_map_or}
-use Rattle.std.specs.Prelude.{Ok}
-use Rattle.task_index.proofs.Indexes.{IsIndex-same, filed_held}
-use Rattle.task_index.proofs.Tables.{filings_at, held_passes}
-use Rattle.task_index.proofs.Members.{IsMembers-numbers}
-use Rattle.task_index.specs.Index.{Filing, Holds, IsIndex, Tests, filings, said}
-use Rattle.task_index.specs.Members.{has}
-use Rattle.task_machine.specs.Core.{Core}
-use Rattle.task_links.specs.Links.{Spot, list_of}
-use Rattle.task_machine.specs.Maps.{get, numbers}
-use Rattle.task_machine.specs.Read.{has_ready_member, is_in_set, is_ready_member, subtasks}
-use Rattle.task_machine.specs.declared.records.Call.{Call}
-use Rattle.task_machine.specs.declared.records.Join.{Join}
-use Rattle.task_machine.specs.declared.records.Join.TheVariants as join
-use Rattle.task_machine.specs.declared.records.Subtask.{Subtask}
-use Rattle.task_machine.specs.declared.records.Subtask.TheVariants as subtask
-use Rattle.task_machine.specs.declared.records.Work.{Work}
-use Rattle.task_machine.specs.declared.words.Status.{Status}
-use Rattle.task_records.specs.Keys.{call_key, work_key}
-use Rattle.task_records.specs.Kinds.{item_of, on_item}
-use Rattle.task_records.specs.Places.{ready_call, ready_call_chain, ready_in, ready_work, ready_work_chain}
-use Rattle.task_records.specs.Seen.{IsSound, parts_of, seen}
-use Rattle.task_records.specs.Sound.{bare, bare_call, bare_work}
-use Rattle.task_records.specs.declared.calls.GuestTask.{GuestTask}
-use Rattle.task_records.specs.declared.parts.CoreParts.{CoreParts}
-use Rattle.task_records.specs.declared.sets.WaitSet.{WaitSet}
-use Rattle.task_records.specs.declared.single.Single.{Single}
-use Rattle.task_records.specs.declared.works.HostWork.{HostWork}
-use Rattle.task_table.proofs.MappedLemmas.{place_at-mapped}
-use Rattle.task_table.proofs.RecordLemmas.{get-records, record_found}
-use Rattle.task_table.specs.Answers.{item_at}
-use Rattle.task_table.specs.Mapped.{placed_as}
-use Rattle.task_table.specs.Records.{key_in, number_in, record_at, records}
-use Rattle.task_table.specs.Table.{Placed, Table, place_at}
+use Rattle.task_records.proofs.Core.{[], ap, ap₂, bare, bare_call, bare_work, Bool, Call, call_key, Core, eq-eqb, eqb-true, false, filed_held, Filing, filings, filings_at, get, get-records, has, has_ready_member, held_passes, Holds, is_in_set, is_ready_member, is_some, IsIndex, IsIndex-same, IsMembers-numbers, IsSome, IsSound, item_at, item_of, Join, key_in, List, list_any, list_of, map, None, number_in, numbers, Ok, on_item, Option, option_and_then, option_map_or, parts_of, place_at, place_at-mapped, Placed, placed_as, ready_call, ready_call_chain, ready_in, ready_work, ready_work_chain, record_at, record_found, records, refl, said, same_Some, seen, Some, Spot, Status, Subtask, subtasks, sym, Table, Tests, true, Work, work_key, ℕ, ◌&&◌, ◌++◌, ◌==◌, ◌||◌, ◌∙◌, ◌∷◌, ◌≡◌}
+use Rattle.task_records.specs.declared.{calls.GuestTask.GuestTask, parts.CoreParts.CoreParts, sets.WaitSet.WaitSet, single.Single.Single, works.HostWork.HostWork}
 use Rattle.place_words.proofs.FiledLemmas.{kept_under, passes_number}
 
 -- what has this event and is joined so is a ready member
@@ -44,19 +8,19 @@ abbrev pub is_ready : ℕ → Join → Option Status → Bool
 is_ready x j e = is_in_set x j && is_some e
 
 ready_passes : (x : ℕ) (e : Option Status) (j : Join) → ready_in e j ≡ Some x → is_ready x j e ≡ true
-ready_passes x (Some e) (join.Set y) is = ap (λ b. b && true) (eq-eqb x y (sym (same_Some y x is)))
-ready_passes x (Some e) join.Nowhere is = absurd (cc)
-ready_passes x (Some e) (join.Watched n) is = absurd (cc)
+ready_passes x (Some e) (Join.Set y) is = ap (λ b. b && true) (eq-eqb x y (sym (same_Some y x is)))
+ready_passes x (Some e) Join.Nowhere is = absurd (cc)
+ready_passes x (Some e) (Join.Watched n) is = absurd (cc)
 ready_passes x None j is = absurd (cc)
 
 ready_filed : (x : ℕ) (e : Option Status) (j : Join) → is_ready x j e ≡ true → ready_in e j ≡ Some x
-ready_filed x (Some e) (join.Set y) is = ap (λ z. Some z) (sym (eqb-true x y (both (x == y) is)))
+ready_filed x (Some e) (Join.Set y) is = ap (λ z. Some z) (sym (eqb-true x y (both (x == y) is)))
   where
     both : (b : Bool) → (b && true) ≡ true → b ≡ true
     both true is = refl
     both false is = is
-ready_filed x (Some e) join.Nowhere is = absurd (cc)
-ready_filed x (Some e) (join.Watched n) is = absurd (cc)
+ready_filed x (Some e) Join.Nowhere is = absurd (cc)
+ready_filed x (Some e) (Join.Watched n) is = absurd (cc)
 ready_filed x None j is = absurd (never (is_in_set x j) is)
   where
     never : (b : Bool) → (b && false) ≡ true → ⊥
@@ -127,40 +91,40 @@ module _ (a : CoreParts) (sound : IsSound a) where
     ready_works_live = works_filed.live g.number g.ready_works works_chain
 
     -- what the chains hold is the place of a ready member
-    pub call_held : (v : ℕ) → Holds a.ready_calls g.ready_calls v → (x n : ℕ) → g.number ≡ x → n ≡ number_in (record_at call_key a.calls.places v) → is_ready_member x (subtask.Guest n) (seen a).core ≡ true
+    pub call_held : (v : ℕ) → Holds a.ready_calls g.ready_calls v → (x n : ℕ) → g.number ≡ x → n ≡ number_in (record_at call_key a.calls.places v) → is_ready_member x (Subtask.Guest n) (seen a).core ≡ true
     unfolding seen IsSound
     call_held v holds x n same at =
         let one = held_passes ready_call (ready_call_chain (bare (parts_of a))) a.calls a.ready_calls calls_filed g.number g.ready_calls calls_chain call_key (λ (e : ℕ × Call). is_ready g.number e.1.join e.1.event) (call_tests g.number) sound.tables.calls.apart v holds in
         let here : one.place ≡ v = ap (λ (f : Filing ℕ ℕ). f.value) (same_Some (record { node = one.placed.entry.item.ready.index; key = ready_in one.placed.entry.item.call.event one.placed.entry.item.call.join; value = one.place }) one.filed one.is_said) ∙ one.is_value in
         let number : one.entry.0 ≡ n = passes_number (λ (h : GuestTask). h.number) (λ (h : GuestTask). h.call) ready_call a.calls (λ (e : ℕ × Call). is_ready g.number e.1.join e.1.event) v n one here at in
         let found : get (records call_key a.calls.places) n ≡ Some one.entry.1 = ap (get (records call_key a.calls.places)) (sym number) ∙ one.is_found in
-        ap (λ o. is_in_set x (option_map_or (λ (c : Call). c.join) o join.Nowhere) && is_some (option_and_then (λ (c : Call). c.event) o)) found ∙ (ap (λ y. is_ready y one.entry.1.join one.entry.1.event) (sym same) ∙ one.passes)
+        ap (λ o. is_in_set x (option_map_or (λ (c : Call). c.join) o Join.Nowhere) && is_some (option_and_then (λ (c : Call). c.event) o)) found ∙ (ap (λ y. is_ready y one.entry.1.join one.entry.1.event) (sym same) ∙ one.passes)
 
-    pub work_held : (v : ℕ) → Holds a.ready_works g.ready_works v → (x n : ℕ) → g.number ≡ x → n ≡ number_in (record_at work_key a.works.places v) → is_ready_member x (subtask.Host n) (seen a).core ≡ true
+    pub work_held : (v : ℕ) → Holds a.ready_works g.ready_works v → (x n : ℕ) → g.number ≡ x → n ≡ number_in (record_at work_key a.works.places v) → is_ready_member x (Subtask.Host n) (seen a).core ≡ true
     unfolding seen IsSound
     work_held v holds x n same at =
         let one = held_passes ready_work (ready_work_chain (bare (parts_of a))) a.works a.ready_works works_filed g.number g.ready_works works_chain work_key (λ (e : ℕ × Work). is_ready g.number e.1.join e.1.event) (work_tests g.number) sound.tables.works.apart v holds in
         let here : one.place ≡ v = ap (λ (f : Filing ℕ ℕ). f.value) (same_Some (record { node = one.placed.entry.item.ready.index; key = ready_in one.placed.entry.item.work.event one.placed.entry.item.work.join; value = one.place }) one.filed one.is_said) ∙ one.is_value in
         let number : one.entry.0 ≡ n = passes_number (λ (h : HostWork). h.number) (λ (h : HostWork). h.work) ready_work a.works (λ (e : ℕ × Work). is_ready g.number e.1.join e.1.event) v n one here at in
         let found : get (records work_key a.works.places) n ≡ Some one.entry.1 = ap (get (records work_key a.works.places)) (sym number) ∙ one.is_found in
-        ap (λ o. is_in_set x (option_map_or (λ (c : Work). c.join) o join.Nowhere) && is_some (option_and_then (λ (c : Work). c.event) o)) found ∙ (ap (λ y. is_ready y one.entry.1.join one.entry.1.event) (sym same) ∙ one.passes)
+        ap (λ o. is_in_set x (option_map_or (λ (c : Work). c.join) o Join.Nowhere) && is_some (option_and_then (λ (c : Work). c.event) o)) found ∙ (ap (λ y. is_ready y one.entry.1.join one.entry.1.event) (sym same) ∙ one.passes)
 
     -- where both chains are empty no member is ready
     pub none_ready : ((v : ℕ) → Holds a.ready_calls g.ready_calls v → ⊥) → ((v : ℕ) → Holds a.ready_works g.ready_works v → ⊥) → (x : ℕ) → g.number ≡ x → has_ready_member x (seen a).core ≡ false
     unfolding seen has_ready_member
     none_ready no_calls no_works x same =
         ap (λ y. list_any (λ sub. is_ready_member y sub (seen a).core) (subtasks (seen a).core)) (sym same)
-        ∙ none_both (λ sub. is_ready_member g.number sub (seen a).core) (λ n. subtask.Guest n) (λ n. subtask.Host n) (numbers (seen a).core.calls) (numbers (seen a).core.works)
+        ∙ none_both (λ sub. is_ready_member g.number sub (seen a).core) (λ n. Subtask.Guest n) (λ n. Subtask.Host n) (numbers (seen a).core.calls) (numbers (seen a).core.works)
         (λ n. call_not n (get (records call_key a.calls.places) n) refl) (λ n. work_not n (get (records work_key a.works.places) n) refl)
       where
-        call_not : (n : ℕ) (o : Option Call) → get (records call_key a.calls.places) n ≡ o → is_ready_member g.number (subtask.Guest n) (seen a).core ≡ false
-        call_not n None is = ap (λ o. is_in_set g.number (option_map_or (λ (c : Call). c.join) o join.Nowhere) && is_some (option_and_then (λ (c : Call). c.event) o)) is
-        call_not n (Some c) is = ap (λ o. is_in_set g.number (option_map_or (λ (c : Call). c.join) o join.Nowhere) && is_some (option_and_then (λ (c : Call). c.event) o)) is
+        call_not : (n : ℕ) (o : Option Call) → get (records call_key a.calls.places) n ≡ o → is_ready_member g.number (Subtask.Guest n) (seen a).core ≡ false
+        call_not n None is = ap (λ o. is_in_set g.number (option_map_or (λ (c : Call). c.join) o Join.Nowhere) && is_some (option_and_then (λ (c : Call). c.event) o)) is
+        call_not n (Some c) is = ap (λ o. is_in_set g.number (option_map_or (λ (c : Call). c.join) o Join.Nowhere) && is_some (option_and_then (λ (c : Call). c.event) o)) is
             ∙ none_at ready_call (ready_call_chain (bare (parts_of a))) a.calls a.ready_calls calls_filed g.number g.ready_calls calls_chain call_key (λ (e : ℕ × Call). is_ready g.number e.1.join e.1.event) (call_tests g.number) no_calls n c is
 
-        work_not : (n : ℕ) (o : Option Work) → get (records work_key a.works.places) n ≡ o → is_ready_member g.number (subtask.Host n) (seen a).core ≡ false
-        work_not n None is = ap (λ o. is_in_set g.number (option_map_or (λ (c : Work). c.join) o join.Nowhere) && is_some (option_and_then (λ (c : Work). c.event) o)) is
-        work_not n (Some c) is = ap (λ o. is_in_set g.number (option_map_or (λ (c : Work). c.join) o join.Nowhere) && is_some (option_and_then (λ (c : Work). c.event) o)) is
+        work_not : (n : ℕ) (o : Option Work) → get (records work_key a.works.places) n ≡ o → is_ready_member g.number (Subtask.Host n) (seen a).core ≡ false
+        work_not n None is = ap (λ o. is_in_set g.number (option_map_or (λ (c : Work). c.join) o Join.Nowhere) && is_some (option_and_then (λ (c : Work). c.event) o)) is
+        work_not n (Some c) is = ap (λ o. is_in_set g.number (option_map_or (λ (c : Work). c.join) o Join.Nowhere) && is_some (option_and_then (λ (c : Work). c.event) o)) is
             ∙ none_at ready_work (ready_work_chain (bare (parts_of a))) a.works a.ready_works works_filed g.number g.ready_works works_chain work_key (λ (e : ℕ × Work). is_ready g.number e.1.join e.1.event) (work_tests g.number) no_works n c is
 
 -- ---- Some member is ready
@@ -196,13 +160,13 @@ any_right u (x ∷ xs) ys any = by (u x) (any_right u xs ys any)
 -- a ready member is there
 pub some_ready : (s : Core) (x : ℕ) (sub : Subtask) → is_ready_member x sub s ≡ true → has_ready_member x s ≡ true
 unfolding has_ready_member
-some_ready s x (subtask.Guest n) is = any_left (λ sub. is_ready_member x sub s) (map (λ n. subtask.Guest n) (numbers s.calls)) (map (λ n. subtask.Host n) (numbers s.works)) (any_mapped (λ sub. is_ready_member x sub s) (λ n. subtask.Guest n) n (numbers s.calls) ((IsMembers-numbers s.calls).are n ∙ by (get s.calls n) is) is)
+some_ready s x (Subtask.Guest n) is = any_left (λ sub. is_ready_member x sub s) (map (λ n. Subtask.Guest n) (numbers s.calls)) (map (λ n. Subtask.Host n) (numbers s.works)) (any_mapped (λ sub. is_ready_member x sub s) (λ n. Subtask.Guest n) n (numbers s.calls) ((IsMembers-numbers s.calls).are n ∙ by (get s.calls n) is) is)
   where
-    by : (o : Option Call) → (is_in_set x (option_map_or (λ (c : Call). c.join) o join.Nowhere) && is_some (option_and_then (λ (c : Call). c.event) o)) ≡ true → is_some o ≡ true
+    by : (o : Option Call) → (is_in_set x (option_map_or (λ (c : Call). c.join) o Join.Nowhere) && is_some (option_and_then (λ (c : Call). c.event) o)) ≡ true → is_some o ≡ true
     by None is = absurd (cc)
     by (Some c) is = refl
-some_ready s x (subtask.Host n) is = any_right (λ sub. is_ready_member x sub s) (map (λ n. subtask.Guest n) (numbers s.calls)) (map (λ n. subtask.Host n) (numbers s.works)) (any_mapped (λ sub. is_ready_member x sub s) (λ n. subtask.Host n) n (numbers s.works) ((IsMembers-numbers s.works).are n ∙ by (get s.works n) is) is)
+some_ready s x (Subtask.Host n) is = any_right (λ sub. is_ready_member x sub s) (map (λ n. Subtask.Guest n) (numbers s.calls)) (map (λ n. Subtask.Host n) (numbers s.works)) (any_mapped (λ sub. is_ready_member x sub s) (λ n. Subtask.Host n) n (numbers s.works) ((IsMembers-numbers s.works).are n ∙ by (get s.works n) is) is)
   where
-    by : (o : Option Work) → (is_in_set x (option_map_or (λ (c : Work). c.join) o join.Nowhere) && is_some (option_and_then (λ (c : Work). c.event) o)) ≡ true → is_some o ≡ true
+    by : (o : Option Work) → (is_in_set x (option_map_or (λ (c : Work). c.join) o Join.Nowhere) && is_some (option_and_then (λ (c : Work). c.event) o)) ≡ true → is_some o ≡ true
     by None is = absurd (cc)
     by (Some c) is = refl

@@ -1,12 +1,7 @@
 -- The live works stay in order where one goes, or where one comes to its place.
-use Rattle.std.proofs.Common.{inl, inr, ◌≡◌, ℕ, List, Option, Some, None, IsSome, true, refl, sym, ap, subst, ◌∙◌}
-use Rattle.std.proofs.lemmas.Bool.{cases_eq}
-use Rattle.task_links.proofs.ReadLemmas.{entries-linked_other, entries-unlinked_other, entries-unlinked_same}
-use Rattle.task_links.specs.Links.{IsLinks, Spot, entries, is_made, link_of, linked, list_of, removed, removed_by, unlinked, without}
-use Rattle.task_records.specs.Places.{Rises, live_order}
-use Rattle.task_records.specs.declared.works.LiveWork.{LiveWork}
+use Rattle.task_records.proofs.Core.{ap, cases_eq, entries, entries-linked_other, entries-unlinked_other, entries-unlinked_same, inl, inr, is_made, IsAscending, IsLinks, IsSome, link_of, linked, List, list_of, live_order, None, Option, refl, removed, removed_by, Rises, Some, Spot, subst, sym, true, unlinked, without, ℕ, ◌∙◌, ◌≡◌}
+use Rattle.task_records.specs.declared.{works.LiveWork.LiveWork}
 use Rattle.task_wait.proofs.OrderLemmas.{IsAscending-without}
-use Rattle.task_wait.specs.Sets.{IsAscending}
 
 module _ (links new : List (Spot LiveWork)) (n : ℕ) where
   pub Rises-removed : IsLinks links → is_made links n ≡ true → new ≡ removed n links → (o : Option ℕ) → Rises links o → Rises new o

@@ -1,30 +1,8 @@
 -- A host work of another stage: what is counted, and where it is filed.
-use Rattle.std.proofs.Common.{◌≡◌, ◌+◌, ◌<◌, ◌≤◌, ◌^◌, ℕ, Bool, true, false, cond, length, Option, Some, None, IsSome, IfSome, refl, sym, ap, subst, ◌∙◌, arith}
-use Rattle.std.proofs.lemmas.List.Sums.{count_by-le-length}
-use Rattle.std.specs.Option.{option_and_then}
-use Rattle.std.specs.Prelude.{Ok}
-use Rattle.task_index.proofs.Tables.{filings_at}
-use Rattle.task_index.specs.Counts.{one_if_passes, passing}
-use Rattle.task_index.specs.Index.{Refiles, link_for}
-use Rattle.task_links.specs.Links.{link_of, list_of}
-use Rattle.task_machine.specs.Maps.{size}
-use Rattle.task_machine.specs.Read.{is_live}
-use Rattle.task_machine.specs.declared.records.Stage.{Stage}
-use Rattle.task_machine.specs.declared.records.Work.{Work}
+use Rattle.task_records.proofs.Core.{ap, arith, Bool, cond, count_by-le-length, filings_at, HostTaskKey, IfSome, is_live, is_moving, IsSome, IsSound, item_at, item_of, length, link_for, link_of, list_of, live_chain, None, Ok, one_if_passes, Option, option_and_then, passing, ready_in, ready_work, ready_work_chain, records, Refiles, refl, seen, size, Some, Stage, subst, TableId, true, Work, work_key, ℕ, ◌+◌, ◌<◌, ◌^◌, ◌≡◌, ◌≤◌}
+use Rattle.task_records.specs.declared.{parts.CoreParts.CoreParts, single.Single.Single, works.HostWork.HostWork}
 use Rattle.task_records.proofs.KeptLemmas.{live_is}
 use Rattle.task_records.proofs.KindLemmas.{passing_written}
-use Rattle.task_records.specs.Keys.{work_key}
-use Rattle.task_records.specs.Kinds.{item_of}
-use Rattle.task_records.specs.Places.{live_chain, ready_in, ready_work, ready_work_chain}
-use Rattle.task_records.specs.Seen.{IsSound, seen}
-use Rattle.task_records.specs.declared.parts.CoreParts.{CoreParts}
-use Rattle.task_records.specs.declared.single.Single.{Single}
-use Rattle.task_records.specs.declared.works.HostWork.{HostWork}
-use Rattle.task_rules.specs.Works.{is_moving}
-use Rattle.task_table.specs.Answers.{item_at}
-use Rattle.task_table.specs.Records.{records}
-use Rattle.task_table.specs.declared.id.TableId.{TableId}
-use Rattle.task_wait.specs.declared.keys.HostTaskKey.{HostTaskKey}
 use Rattle.place_words.proofs.FitLemmas.{records_fit}
 use Rattle.place_words.proofs.HearLemmas.{bare_entry, bare_placed, bare_stands, bared, is_whole}
 use Rattle.place_words.specs.Moved.{live_key}

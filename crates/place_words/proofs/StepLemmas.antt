@@ -1,27 +1,17 @@
 -- A thread goes on: the definitions' writes as one.
-use Rattle.std.proofs.Common.{◌≡◌, ◌+◌, ℕ, Some, sym, ap, ◌∙◌}
-use Rattle.std.specs.Option.{option_map, option_map_or}
-use Rattle.std.specs.Prelude.{slice_set}
-use Rattle.task_machine.proofs.CommuteLemmas.{change-change_same}
-use Rattle.task_machine.proofs.MapLemmas.{get-change_same}
-use Rattle.task_machine.specs.Core.{Core}
-use Rattle.task_machine.specs.Maps.{get}
-use Rattle.task_machine.specs.Read.{position_of}
-use Rattle.task_machine.specs.Write.{on_thread, set_how_far, set_position, set_register}
-use Rattle.task_machine.specs.declared.records.HowFar.TheVariants as how_far
-use Rattle.task_machine.specs.declared.records.Thread.{Thread}
+use Rattle.task_records.proofs.Core.{ap, change-change_same, Core, get, get-change_same, HowFar, on_thread, option_map, option_map_or, position_of, set_how_far, set_position, set_register, slice_set, Some, sym, Thread, ℕ, ◌+◌, ◌∙◌, ◌≡◌}
 use Rattle.task_rules.specs.Data.{advanced, assigned, moved_to}
 
 -- the thread at a position where its op hasn't begun
 abbrev pub at_position : ℕ → Thread → Thread
-at_position p t = record t { position = p; how_far = how_far.Fresh }
+at_position p t = record t { position = p; how_far = HowFar.Fresh }
 
 abbrev pub with_register : ℕ → ℕ → Thread → Thread
 with_register r v t = record t { registers = slice_set t.registers r v }
 
 pub moved_one : (n p : ℕ) (s : Core) → moved_to n p s ≡ on_thread n (at_position p) s
 unfolding moved_to set_how_far set_position on_thread
-moved_one n p s = ap (λ m. record s { threads = m }) (change-change_same s.threads n (λ (t : Thread). record t { how_far = how_far.Fresh }) (λ (t : Thread). record t { position = p }))
+moved_one n p s = ap (λ m. record s { threads = m }) (change-change_same s.threads n (λ (t : Thread). record t { how_far = HowFar.Fresh }) (λ (t : Thread). record t { position = p }))
 
 -- the position that the record has
 pub position_is : (n : ℕ) (s : Core) (t : Thread) → Some t ≡ get s.threads n → position_of n s ≡ t.position

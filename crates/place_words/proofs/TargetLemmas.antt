@@ -1,30 +1,8 @@
 -- What an id names stands at the place of the id, and its chains are those of its number.
-use Rattle.std.proofs.Common.{◌≡◌, ℕ, Some, None, refl, sym, ap, subst, ◌∙◌}
-use Rattle.std.specs.Prelude.{Ok}
-use Rattle.task_machine.specs.declared.records.Subtask.TheVariants as subtask
+use Rattle.task_records.proofs.Core.{ap, AtPlace, bare, bare_call, bare_thread, bare_work, BlockedOn, call_of, CallOf, found_record, GuestTaskKey, HostTaskKey, IsSound, item_at, item_of, mapped, None, Ok, on_item, parts_of, place_chain, refl, seen, set_of, SetKey, SetOf, Some, SoundTable, subst, Subtask, sym, Table, TableId, thread_of, ThreadKey, ThreadOf, UnderOf, WaitsOn, work_of, WorkOf, ℕ, ◌∙◌, ◌≡◌}
+use Rattle.task_records.specs.declared.{calls.GuestTask.GuestTask, parts.CoreParts.CoreParts, sets.WaitSet.WaitSet, single.Single.Single, threads.GuestThread.GuestThread, works.HostWork.HostWork}
 use Rattle.task_records.proofs.HomeLemmas.{call_at_place, set_at_place, thread_at_place, work_at_place}
 use Rattle.task_records.proofs.TableLemmas.{found_mapped}
-use Rattle.task_records.specs.Kinds.{item_of, on_item}
-use Rattle.task_records.specs.Names.{AtPlace, CallOf, SetOf, ThreadOf, WorkOf}
-use Rattle.task_records.specs.Places.{BlockedOn, UnderOf, WaitsOn, place_chain}
-use Rattle.task_records.specs.Seen.{IsSound, parts_of, seen}
-use Rattle.task_records.specs.Sound.{SoundTable, bare, bare_call, bare_thread, bare_work}
-use Rattle.task_records.specs.declared.calls.GuestTask.{GuestTask}
-use Rattle.task_records.specs.declared.parts.CoreParts.{CoreParts}
-use Rattle.task_records.specs.declared.sets.WaitSet.{WaitSet}
-use Rattle.task_records.specs.declared.single.Single.{Single}
-use Rattle.task_records.specs.declared.threads.GuestThread.{GuestThread}
-use Rattle.task_records.specs.declared.works.HostWork.{HostWork}
-use Rattle.task_table.specs.Answers.{item_at}
-use Rattle.task_table.specs.Mapped.{mapped}
-use Rattle.task_table.specs.Records.{found_record}
-use Rattle.task_table.specs.Table.{Table}
-use Rattle.task_table.specs.declared.id.TableId.{TableId}
-use Rattle.task_wait.specs.declared.keys.GuestTaskKey.{GuestTaskKey}
-use Rattle.task_wait.specs.declared.keys.HostTaskKey.{HostTaskKey}
-use Rattle.task_wait.specs.declared.keys.SetKey.{SetKey}
-use Rattle.task_wait.specs.declared.keys.ThreadKey.{ThreadKey}
-use Rattle.task_words.specs.StateView.{call_of, set_of, thread_of, work_of}
 use Rattle.place_words.proofs.AlikeLemmas.{id_same}
 use Rattle.place_words.proofs.FiledLemmas.{kept_under}
 use Rattle.queue_words.proofs.CallerLemmas.{none_as}
@@ -55,11 +33,11 @@ module _ (a : CoreParts) where
   unfolding mapped
   under_bare n = found_mapped (λ (e : Single GuestThread). Some (e.item.number, e.item.under)) (λ (e : Single GuestThread). Some (e.item.number, e.item.under)) (on_item bare_thread) (λ c. c) (λ e. refl) n a.threads.places ∙ id_same _
 
-  blocked_bare : (n : ℕ) → place_chain (bare (parts_of a)) (BlockedOn (subtask.Guest n)) ≡ found_record (λ (e : Single GuestTask). Some (e.item.number, e.item.blocked)) n a.calls.places
+  blocked_bare : (n : ℕ) → place_chain (bare (parts_of a)) (BlockedOn (Subtask.Guest n)) ≡ found_record (λ (e : Single GuestTask). Some (e.item.number, e.item.blocked)) n a.calls.places
   unfolding mapped
   blocked_bare n = found_mapped (λ (e : Single GuestTask). Some (e.item.number, e.item.blocked)) (λ (e : Single GuestTask). Some (e.item.number, e.item.blocked)) (on_item bare_call) (λ c. c) (λ e. refl) n a.calls.places ∙ id_same _
 
-  work_blocked_bare : (n : ℕ) → place_chain (bare (parts_of a)) (BlockedOn (subtask.Host n)) ≡ found_record (λ (e : Single HostWork). Some (e.item.number, e.item.blocked)) n a.works.places
+  work_blocked_bare : (n : ℕ) → place_chain (bare (parts_of a)) (BlockedOn (Subtask.Host n)) ≡ found_record (λ (e : Single HostWork). Some (e.item.number, e.item.blocked)) n a.works.places
   unfolding mapped
   work_blocked_bare n = found_mapped (λ (e : Single HostWork). Some (e.item.number, e.item.blocked)) (λ (e : Single HostWork). Some (e.item.number, e.item.blocked)) (on_item bare_work) (λ c. c) (λ e. refl) n a.works.places ∙ id_same _
 
@@ -72,19 +50,19 @@ module _ (a : CoreParts) where
     unfolding IsSound
     under_none n zero = under_bare n ∙ nothing_under (λ (g : GuestThread). g.number) (λ (g : GuestThread). g.thread) a.threads a.made.threads sound.tables.threads 0 0 (λ (g : GuestThread). g.under) n zero
 
-    pub blocked_is : (n rep serial : ℕ) (g : GuestTask) → g.number ≡ n → Ok g ≡ item_at item_of a.calls rep serial → place_chain (bare (parts_of a)) (BlockedOn (subtask.Guest n)) ≡ Some g.blocked
+    pub blocked_is : (n rep serial : ℕ) (g : GuestTask) → g.number ≡ n → Ok g ≡ item_at item_of a.calls rep serial → place_chain (bare (parts_of a)) (BlockedOn (Subtask.Guest n)) ≡ Some g.blocked
     unfolding IsSound
-    blocked_is n rep serial g same is = ap (λ m. place_chain (bare (parts_of a)) (BlockedOn (subtask.Guest m))) (sym same) ∙ (blocked_bare g.number ∙ kept_under (λ (g : GuestTask). g.number) (λ (g : GuestTask). g.call) (λ (g : GuestTask). g.blocked) a.calls a.made.threads sound.tables.calls rep serial g is)
+    blocked_is n rep serial g same is = ap (λ m. place_chain (bare (parts_of a)) (BlockedOn (Subtask.Guest m))) (sym same) ∙ (blocked_bare g.number ∙ kept_under (λ (g : GuestTask). g.number) (λ (g : GuestTask). g.call) (λ (g : GuestTask). g.blocked) a.calls a.made.threads sound.tables.calls rep serial g is)
 
-    pub blocked_none : (n : ℕ) → n ≡ 0 → place_chain (bare (parts_of a)) (BlockedOn (subtask.Guest n)) ≡ None
+    pub blocked_none : (n : ℕ) → n ≡ 0 → place_chain (bare (parts_of a)) (BlockedOn (Subtask.Guest n)) ≡ None
     unfolding IsSound
     blocked_none n zero = blocked_bare n ∙ nothing_under (λ (g : GuestTask). g.number) (λ (g : GuestTask). g.call) a.calls a.made.threads sound.tables.calls 0 0 (λ (g : GuestTask). g.blocked) n zero
 
-    pub work_blocked_is : (n rep serial : ℕ) (w : HostWork) → w.number ≡ n → Ok w ≡ item_at item_of a.works rep serial → place_chain (bare (parts_of a)) (BlockedOn (subtask.Host n)) ≡ Some w.blocked
+    pub work_blocked_is : (n rep serial : ℕ) (w : HostWork) → w.number ≡ n → Ok w ≡ item_at item_of a.works rep serial → place_chain (bare (parts_of a)) (BlockedOn (Subtask.Host n)) ≡ Some w.blocked
     unfolding IsSound
-    work_blocked_is n rep serial w same is = ap (λ m. place_chain (bare (parts_of a)) (BlockedOn (subtask.Host m))) (sym same) ∙ (work_blocked_bare w.number ∙ kept_under (λ (w : HostWork). w.number) (λ (w : HostWork). w.work) (λ (w : HostWork). w.blocked) a.works a.made.works sound.tables.works rep serial w is)
+    work_blocked_is n rep serial w same is = ap (λ m. place_chain (bare (parts_of a)) (BlockedOn (Subtask.Host m))) (sym same) ∙ (work_blocked_bare w.number ∙ kept_under (λ (w : HostWork). w.number) (λ (w : HostWork). w.work) (λ (w : HostWork). w.blocked) a.works a.made.works sound.tables.works rep serial w is)
 
-    pub work_blocked_none : (n : ℕ) → n ≡ 0 → place_chain (bare (parts_of a)) (BlockedOn (subtask.Host n)) ≡ None
+    pub work_blocked_none : (n : ℕ) → n ≡ 0 → place_chain (bare (parts_of a)) (BlockedOn (Subtask.Host n)) ≡ None
     unfolding IsSound
     work_blocked_none n zero = work_blocked_bare n ∙ nothing_under (λ (w : HostWork). w.number) (λ (w : HostWork). w.work) a.works a.made.works sound.tables.works 0 0 (λ (w : HostWork). w.blocked) n zero
 

@@ -1,52 +1,11 @@
 -- A call with another event or set, as the words write it.
-use Rattle.std.proofs.Common.{◌≡◌, ◌+◌, ◌≤◌, ℕ, List, [], Option, Some, None, IsSome, IfSome, true, cond, refl, sym, ap, subst, ◌∙◌, arith}
-use Rattle.std.specs.Option.{option_and_then}
-use Rattle.std.specs.Prelude.{Ok}
-use Rattle.task_handles.specs.declared.kinds.HandleKind.{HandleKind}
-use Rattle.task_handles.specs.declared.kinds.HandleKind.TheVariants as handles
-use Rattle.task_handles.specs.declared.kinds.Rep.{Rep}
-use Rattle.task_handles.specs.declared.kinds.WaitableKind.TheVariants as waitable
-use Rattle.task_index.proofs.Entries.{IsIndex-with_entry}
-use Rattle.task_index.proofs.Tables.{filings_at}
-use Rattle.task_index.specs.Counts.{one_if_passes, passing}
-use Rattle.task_index.specs.Index.{IsIndex, Refiles, filings, link_for}
-use Rattle.task_links.specs.Links.{Spot, is_made, list_of}
-use Rattle.task_machine.specs.Maps.{Records, change}
-use Rattle.task_machine.specs.Read.{is_in_set}
-use Rattle.task_machine.specs.Write.{on_call}
-use Rattle.task_machine.specs.declared.records.Call.{Call}
-use Rattle.task_machine.specs.declared.records.Join.{Join}
-use Rattle.task_machine.specs.declared.records.Join.TheVariants as join
-use Rattle.task_machine.specs.declared.records.Set.{Set}
-use Rattle.task_machine.specs.declared.words.Status.{Status}
+use Rattle.task_records.proofs.Core.{[], ap, AreHandlesNamed, arith, AtPlace, bare, bare_call, Call, call_key, call_of, CallOf, change, cond, core_of, EachEntry, entry_of, filings, filings_at, GuestTaskKey, HandleKind, IfSome, is_in_set, is_made, IsHeldNamed, IsIndex, IsIndex-with_entry, IsSetKept, IsSome, IsSound, IsWhole, item_at, item_of, Join, join_target, kinds, link_for, List, list_of, loose_call, mapped, mapped-with_entry, mapped-with_entry_same, members_of, None, Ok, on_call, on_core, on_item, one_if_passes, Option, option_and_then, Parts, parts_of, passing, place_at, Placed, ready_call, ready_call_chain, ready_in, Records, records, Refiles, refl, Rep, seen, Set, set_key, set_of, SetKey, SetOf, Some, SoundTable, Spot, StateView, Status, subst, sym, Table, TableId, Tag, tags_in, ThreadOf, true, uninterested, WaitableKind, with_entry, WorkOf, ℕ, ◌+◌, ◌∙◌, ◌≡◌, ◌≤◌}
+use Rattle.task_records.specs.declared.{calls.GuestTask.GuestTask, instances.InstanceRecord.InstanceRecord, parts.CoreParts.CoreParts, sets.WaitSet.WaitSet, single.Single.Single}
 use Rattle.task_records.proofs.HomeLemmas.{call_names, place_bare, place_in_bare}
 use Rattle.task_records.proofs.KeptLemmas.{passing_seconds, records_seconds}
 use Rattle.task_records.proofs.KindLemmas.{item_stands, passing_same, passing_written, records_changed, table_written, tags_written}
 use Rattle.task_records.proofs.ReadLemmas.{call_shown}
 use Rattle.task_records.proofs.WriteLemmas.{each_written}
-use Rattle.task_records.specs.Image.{Parts, core_of, tags_in}
-use Rattle.task_records.specs.Kept.{IsSetKept, members_of}
-use Rattle.task_records.specs.Keys.{call_key, set_key}
-use Rattle.task_records.specs.Kinds.{entry_of, item_of, on_item}
-use Rattle.task_records.specs.Names.{AreHandlesNamed, AtPlace, CallOf, IsHeldNamed, SetOf, ThreadOf, WorkOf, join_target, kinds}
-use Rattle.task_records.specs.Places.{ready_call, ready_call_chain, ready_in}
-use Rattle.task_records.specs.Seen.{IsSound, parts_of, seen}
-use Rattle.task_records.specs.Sound.{EachEntry, IsWhole, SoundTable, bare, bare_call, loose_call, uninterested}
-use Rattle.task_records.specs.declared.calls.GuestTask.{GuestTask}
-use Rattle.task_records.specs.declared.instances.InstanceRecord.{InstanceRecord}
-use Rattle.task_records.specs.declared.parts.CoreParts.{CoreParts}
-use Rattle.task_records.specs.declared.sets.WaitSet.{WaitSet}
-use Rattle.task_records.specs.declared.single.Single.{Single}
-use Rattle.task_table.proofs.MappedLemmas.{mapped-with_entry, mapped-with_entry_same}
-use Rattle.task_table.specs.Answers.{item_at}
-use Rattle.task_table.specs.Changes.{with_entry}
-use Rattle.task_table.specs.Mapped.{mapped}
-use Rattle.task_table.specs.Records.{records}
-use Rattle.task_table.specs.Table.{Placed, Table, place_at}
-use Rattle.task_table.specs.declared.id.TableId.{TableId}
-use Rattle.task_wait.specs.declared.keys.GuestTaskKey.{GuestTaskKey}
-use Rattle.task_wait.specs.declared.keys.SetKey.{SetKey}
-use Rattle.task_words.specs.StateView.{StateView, Tag, set_of, call_of, on_core}
 use Rattle.place_words.proofs.AlikeLemmas.{tags_alike}
 use Rattle.place_words.proofs.CallMovedLemmas.{at_told, told, told_whole}
 use Rattle.place_words.proofs.PutLemmas.{sets_same}
@@ -148,11 +107,11 @@ module _ (a : CoreParts) (sound : IsSound a) (id : TableId GuestTaskKey) (g : Gu
             (subst (λ n. Refiles a.ready_calls links n (link_for (ready_call_chain bared) (record { node = h.ready.index; key = ready_in h.call.event h.call.join; value = id.rep }))) (sym (ap (λ (e : Single GuestTask). e.item.ready.index) bare_entry)) re))
 
         held_now : (kind : HandleKind) (r : Rep) → IsHeldNamed (kinds bared) kind r → IsHeldNamed (kinds after) kind r
-        held_now (handles.Waitable waitable.GuestSubtask) r at = at_told bared is_whole bare_now calls_alike sets as_sets links r.id (CallOf r.serial) at
-        held_now (handles.Waitable waitable.HostSubtask) r at = at_told bared is_whole bare_now calls_alike sets as_sets links r.id (WorkOf r.serial) at
-        held_now (handles.Waitable waitable.Stream) r at = at
-        held_now (handles.Waitable waitable.Future) r at = at
-        held_now handles.Set r at = at_told bared is_whole bare_now calls_alike sets as_sets links r.id (SetOf r.serial) at
+        held_now (HandleKind.Waitable WaitableKind.GuestSubtask) r at = at_told bared is_whole bare_now calls_alike sets as_sets links r.id (CallOf r.serial) at
+        held_now (HandleKind.Waitable WaitableKind.HostSubtask) r at = at_told bared is_whole bare_now calls_alike sets as_sets links r.id (WorkOf r.serial) at
+        held_now (HandleKind.Waitable WaitableKind.Stream) r at = at
+        held_now (HandleKind.Waitable WaitableKind.Future) r at = at
+        held_now HandleKind.Set r at = at_told bared is_whole bare_now calls_alike sets as_sets links r.id (SetOf r.serial) at
 
         handles_now : (r : InstanceRecord) → AreHandlesNamed (kinds bared) r → AreHandlesNamed (kinds after) r
         handles_now r named = record {
@@ -205,7 +164,7 @@ module _ (a : CoreParts) (sound : IsSound a) (id : TableId GuestTaskKey) (g : Gu
   -- a set that the call is in has a member
   pub some_member : (n : ℕ) → is_in_set n g.call.join ≡ true → 1 ≤ members_of n (core_of bared)
   some_member n in_set =
-      let law = members_change (record g { call = record g.call { join = join.Nowhere } }) refl a.sets refl [] n in
+      let law = members_change (record g { call = record g.call { join = Join.Nowhere } }) refl a.sets refl [] n in
       let one : one_if_passes (λ (c : Call). is_in_set n c.join) (Some g.call) ≡ 1 = ap (λ b. cond b 1 0) in_set in
       omega (arith, law, one)
 

@@ -1,28 +1,8 @@
 -- Words on one thread: its record is read, or there is none.
-use Rattle.std.proofs.Common.{◌≡◌, ℕ, Some, None, refl, sym, ap, subst, ◌∙◌}
-use Rattle.std.specs.Option.{option_map, option_map_or}
-use Rattle.std.specs.Prelude.{Ok}
-use Rattle.task_machine.specs.Maps.{change, changed, get}
-use Rattle.task_machine.specs.Moves.{ready_why, why_of}
-use Rattle.task_machine.specs.Write.{on_thread}
-use Rattle.task_machine.specs.declared.records.Thread.{Thread}
-use Rattle.task_machine.specs.declared.records.Why.{Why}
-use Rattle.task_machine.specs.declared.records.Why.TheVariants as why
+use Rattle.task_records.proofs.Core.{ap, AtPlace, change, changed, entry_of, get, how_far_target, IsSound, item_at, item_of, mapped-with_entry_same, None, number_in, Ok, on_core, on_item, on_thread, option_map, option_map_or, parts_of, ready_why, record_at, refl, Some, StateView, subst, sym, TableId, Thread, thread_key, ThreadKey, Why, why_of, why_target, with_entry, ℕ, ◌∙◌, ◌≡◌}
+use Rattle.task_records.specs.declared.{parts.CoreParts.CoreParts, threads.GuestThread.GuestThread}
 use Rattle.task_records.proofs.HomeLemmas.{place_bare, thread_home}
 use Rattle.task_records.proofs.KindLemmas.{item_stands}
-use Rattle.task_records.specs.Keys.{thread_key}
-use Rattle.task_records.specs.Kinds.{entry_of, item_of, on_item}
-use Rattle.task_records.specs.Names.{AtPlace, how_far_target, why_target}
-use Rattle.task_records.specs.Seen.{IsSound, parts_of}
-use Rattle.task_records.specs.declared.parts.CoreParts.{CoreParts}
-use Rattle.task_records.specs.declared.threads.GuestThread.{GuestThread}
-use Rattle.task_table.proofs.MappedLemmas.{mapped-with_entry_same}
-use Rattle.task_table.specs.Answers.{item_at}
-use Rattle.task_table.specs.Changes.{with_entry}
-use Rattle.task_table.specs.Records.{number_in, record_at}
-use Rattle.task_table.specs.declared.id.TableId.{TableId}
-use Rattle.task_wait.specs.declared.keys.ThreadKey.{ThreadKey}
-use Rattle.task_words.specs.StateView.{StateView, on_core}
 use Rattle.place_words.proofs.AlikeLemmas.{number_alike}
 use Rattle.place_words.specs.Moved.{still, still_thread}
 use Rattle.place_words.proofs.WaiterLemmas.{delivery_at}
@@ -34,7 +14,7 @@ thread_gone s n none f = ap (λ m. record s { core = record s.core { threads = m
 
 -- why the entry of a thread is queued, as its record says
 pub why_is : (s : StateView) (n : ℕ) (t : Thread) → Some t ≡ get s.core.threads n → (w : Why) → w ≡ ready_why t.place → why_of n s.core ≡ w
-why_is s n t is w reason = sym (ap (λ o. option_map_or ready_why (option_map (λ (t : Thread). t.place) o) why.Resumption) is) ∙ sym reason
+why_is s n t is w reason = sym (ap (λ o. option_map_or ready_why (option_map (λ (t : Thread). t.place) o) Why.Resumption) is) ∙ sym reason
 
 module _ (a : CoreParts) (sound : IsSound a) (id : TableId ThreadKey) (g : GuestThread) (is : Ok g ≡ item_at item_of a.threads id.rep id.serial) where
   pub how_far_at : AtPlace (parts_of a) g.awaited (how_far_target g.thread.how_far)

@@ -1,69 +1,45 @@
 -- The waiters of a set.
-use Rattle.std.proofs.Common.{◌≡◌, ◌<◌, ℕ, true, false, Some, IsSome, sym, ap, subst, ◌∙◌}
-use Rattle.std.proofs.lemmas.Bool.{eq-eqb, eqb-true}
-use Rattle.std.proofs.lemmas.Option.{same_Some}
-use Rattle.std.specs.Option.{option_map, option_map_or}
-use Rattle.std.specs.Prelude.{Ok}
-use Rattle.task_index.proofs.Tables.{held_passes, none_passes}
-use Rattle.task_index.specs.Index.{Filing, Holds}
-use Rattle.task_links.specs.Links.{list_of}
-use Rattle.task_machine.specs.Maps.{get}
-use Rattle.task_machine.specs.Read.{has_waiter, is_waiter, is_waiting_on}
-use Rattle.task_machine.specs.declared.records.Place.{Place}
-use Rattle.task_machine.specs.declared.records.Place.TheVariants as place
-use Rattle.task_machine.specs.declared.records.Thread.{Thread}
-use Rattle.task_records.specs.Keys.{thread_key}
-use Rattle.task_records.specs.Kinds.{item_of}
-use Rattle.task_records.specs.Names.{AtPlace, place_target, why_target}
-use Rattle.task_machine.specs.Moves.{ready_why}
-use Rattle.task_records.specs.Places.{WaitsOn, Where, place_chain, place_filing, where_at}
-use Rattle.task_records.specs.Image.{Parts}
-use Rattle.task_records.specs.Seen.{IsSound, parts_of, seen}
-use Rattle.task_records.specs.Sound.{bare}
-use Rattle.task_records.specs.declared.parts.CoreParts.{CoreParts}
-use Rattle.task_records.specs.declared.sets.WaitSet.{WaitSet}
-use Rattle.task_records.specs.declared.threads.GuestThread.{GuestThread}
-use Rattle.task_table.specs.Answers.{item_at}
-use Rattle.task_table.specs.Records.{key_in, number_in, record_at, records}
+use Rattle.task_records.proofs.Core.{ap, AtPlace, bare, eq-eqb, eqb-true, false, Filing, get, has_waiter, held_passes, Holds, is_waiter, is_waiting_on, IsSome, IsSound, item_at, item_of, key_in, list_of, none_passes, number_in, Ok, option_map, option_map_or, Parts, parts_of, Place, place_chain, place_filing, place_target, ready_why, record_at, records, same_Some, seen, Some, subst, sym, Thread, thread_key, true, WaitsOn, Where, where_at, why_target, ℕ, ◌<◌, ◌∙◌, ◌≡◌}
+use Rattle.task_records.specs.declared.{parts.CoreParts.CoreParts, sets.WaitSet.WaitSet, threads.GuestThread.GuestThread}
 use Rattle.place_words.proofs.FiledLemmas.{kept_under, passes_number, place_tests, places_filed}
 use Rattle.queue_words.proofs.BareLemmas.{number_positive}
 
 -- the set of a queued delivery is what the place names
 pub delivery_at : (p : Parts) (rep : ℕ) (o : Place) → AtPlace p rep (place_target o) → AtPlace p rep (why_target (ready_why o))
-delivery_at p rep (place.Ready m w) at = at
-delivery_at p rep place.New at = tt
-delivery_at p rep place.Running at = tt
-delivery_at p rep (place.Under n) at = tt
-delivery_at p rep (place.Behind n) at = tt
-delivery_at p rep (place.Waiting x b) at = tt
-delivery_at p rep (place.Blocked sub) at = tt
-delivery_at p rep (place.Held w) at = tt
-delivery_at p rep place.Suspended at = tt
+delivery_at p rep (Place.Ready m w) at = at
+delivery_at p rep Place.New at = tt
+delivery_at p rep Place.Running at = tt
+delivery_at p rep (Place.Under n) at = tt
+delivery_at p rep (Place.Behind n) at = tt
+delivery_at p rep (Place.Waiting x b) at = tt
+delivery_at p rep (Place.Blocked sub) at = tt
+delivery_at p rep (Place.Held w) at = tt
+delivery_at p rep Place.Suspended at = tt
 
 waits_passes : (x i : ℕ) (p : Place) → where_at i p ≡ Some (WaitsOn x) → is_waiting_on x p ≡ true
-waits_passes x i (place.Waiting y b) is = eq-eqb x y (same x y is)
+waits_passes x i (Place.Waiting y b) is = eq-eqb x y (same x y is)
   where
     same : (x y : ℕ) → Some (WaitsOn y) ≡ Some (WaitsOn x) → x ≡ y
     same x y is = cc
-waits_passes x i (place.Ready m w) is = absurd (cc)
-waits_passes x i place.New is = absurd (cc)
-waits_passes x i place.Running is = absurd (cc)
-waits_passes x i (place.Under n) is = absurd (cc)
-waits_passes x i (place.Behind n) is = absurd (cc)
-waits_passes x i (place.Blocked sub) is = absurd (cc)
-waits_passes x i (place.Held w) is = absurd (cc)
-waits_passes x i place.Suspended is = absurd (cc)
+waits_passes x i (Place.Ready m w) is = absurd (cc)
+waits_passes x i Place.New is = absurd (cc)
+waits_passes x i Place.Running is = absurd (cc)
+waits_passes x i (Place.Under n) is = absurd (cc)
+waits_passes x i (Place.Behind n) is = absurd (cc)
+waits_passes x i (Place.Blocked sub) is = absurd (cc)
+waits_passes x i (Place.Held w) is = absurd (cc)
+waits_passes x i Place.Suspended is = absurd (cc)
 
 waits_filed : (x i : ℕ) (p : Place) → is_waiting_on x p ≡ true → where_at i p ≡ Some (WaitsOn x)
-waits_filed x i (place.Waiting y b) is = ap (λ z. Some (WaitsOn z)) (sym (eqb-true x y is))
-waits_filed x i (place.Ready m w) is = absurd (cc)
-waits_filed x i place.New is = absurd (cc)
-waits_filed x i place.Running is = absurd (cc)
-waits_filed x i (place.Under n) is = absurd (cc)
-waits_filed x i (place.Behind n) is = absurd (cc)
-waits_filed x i (place.Blocked sub) is = absurd (cc)
-waits_filed x i (place.Held w) is = absurd (cc)
-waits_filed x i place.Suspended is = absurd (cc)
+waits_filed x i (Place.Waiting y b) is = ap (λ z. Some (WaitsOn z)) (sym (eqb-true x y is))
+waits_filed x i (Place.Ready m w) is = absurd (cc)
+waits_filed x i Place.New is = absurd (cc)
+waits_filed x i Place.Running is = absurd (cc)
+waits_filed x i (Place.Under n) is = absurd (cc)
+waits_filed x i (Place.Behind n) is = absurd (cc)
+waits_filed x i (Place.Blocked sub) is = absurd (cc)
+waits_filed x i (Place.Held w) is = absurd (cc)
+waits_filed x i Place.Suspended is = absurd (cc)
 
 module _ (a : CoreParts) (sound : IsSound a) (rep serial : ℕ) (g : WaitSet) (is : Ok g ≡ item_at item_of a.sets rep serial) where
   waiters_chain : place_chain (bare (parts_of a)) (WaitsOn g.number) ≡ Some g.waiters

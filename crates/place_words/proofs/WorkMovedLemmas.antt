@@ -1,36 +1,7 @@
 -- A host work is written that has another event, set or stage, with the numbers that count these: what else holds of the parts stays.
-use Rattle.std.proofs.Common.{◌≡◌, ◌+◌, ◌*◌, ◌==◌, ℕ, Bool, List, length, refl, sym, ap, ap₂, subst, ◌∙◌}
-use Rattle.task_index.proofs.Indexes.{IsIndex-same_chains}
-use Rattle.task_index.specs.Counts.{passing}
-use Rattle.task_index.specs.Index.{IsIndex, filings}
-use Rattle.task_links.specs.Links.{Spot}
-use Rattle.task_machine.specs.Maps.{size}
-use Rattle.task_machine.specs.Read.{is_host_call, is_live, table_use}
-use Rattle.task_machine.specs.declared.records.Entry.{Entry}
-use Rattle.task_machine.specs.declared.records.Entry.TheVariants as entry
-use Rattle.task_machine.specs.declared.records.Work.{Work}
-use Rattle.task_machine.specs.declared.records.Subtask.TheVariants as subtask
+use Rattle.task_records.proofs.Core.{ap, ap₂, AreChained, AreCounted, AtPlace, BlockedOn, Bool, CallOf, core_of, EachEntry, Entry, entry_seated, filings, HasHome, HeldIn, host_entry, is_host_call, is_live, is_of_group, is_of_instance, IsCallNamed, IsGroupKept, IsIndex, IsIndex-same_chains, IsSeated, IsSetKept, IsWhole, IsWorkNamed, join_target, length, List, live_chain, live_work, mapped, Nothing, on_item, part, Parts, passing, place_chain, push_entry, ready_call_chain, ready_work, ready_work_chain, records, refl, Rises, row, row_chain, SetOf, shelf_chain, size, Spot, subst, Subtask, sym, Table, table_use, Target, ThreadOf, UnderOf, WaitsOn, Where, Work, work_key, WorkOf, ℕ, ◌*◌, ◌+◌, ◌==◌, ◌∙◌, ◌≡◌}
+use Rattle.task_records.specs.declared.{calls.GuestTask.GuestTask, calls.TaskGroup.TaskGroup, sets.WaitSet.WaitSet, single.Single.Single, threads.GuestThread.GuestThread, threads.Queued.Queued, works.HostWork.HostWork, works.LiveWork.LiveWork}
 use Rattle.task_records.proofs.KeptLemmas.{passing_seconds, records_seconds, seconds}
-use Rattle.task_records.specs.Image.{Parts, core_of}
-use Rattle.task_records.specs.Kept.{IsGroupKept, IsSetKept, is_of_group}
-use Rattle.task_records.specs.Keys.{work_key}
-use Rattle.task_records.specs.Kinds.{on_item}
-use Rattle.task_records.specs.Names.{AtPlace, CallOf, HasHome, IsCallNamed, IsWorkNamed, Nothing, SetOf, Target, ThreadOf, WorkOf, join_target}
-use Rattle.task_records.specs.Places.{Rises, BlockedOn, HeldIn, UnderOf, WaitsOn, Where, live_chain, live_work, place_chain, ready_call_chain, ready_work, ready_work_chain}
-use Rattle.task_records.specs.Rows.{IsSeated, entry_seated, host_entry, is_of_instance, push_entry, row, row_chain, shelf_chain}
-use Rattle.task_index.specs.Rows.{part}
-use Rattle.task_records.specs.declared.threads.Queued.{Queued}
-use Rattle.task_records.specs.Sound.{AreChained, AreCounted, EachEntry, IsWhole}
-use Rattle.task_records.specs.declared.calls.GuestTask.{GuestTask}
-use Rattle.task_records.specs.declared.calls.TaskGroup.{TaskGroup}
-use Rattle.task_records.specs.declared.sets.WaitSet.{WaitSet}
-use Rattle.task_records.specs.declared.single.Single.{Single}
-use Rattle.task_records.specs.declared.threads.GuestThread.{GuestThread}
-use Rattle.task_records.specs.declared.works.HostWork.{HostWork}
-use Rattle.task_records.specs.declared.works.LiveWork.{LiveWork}
-use Rattle.task_table.specs.Mapped.{mapped}
-use Rattle.task_table.specs.Records.{records}
-use Rattle.task_table.specs.Table.{Table}
 use Rattle.place_words.proofs.AlikeLemmas.{found_alike, nodes_alike, place_alike, seated_alike, stands_alike}
 use Rattle.place_words.proofs.MovedLemmas.{IsRows-alike}
 use Rattle.place_words.proofs.PutLemmas.{sets_same}
@@ -66,16 +37,16 @@ module _ (p : Parts) (whole : IsWhole p) (works : Table (Single HostWork)) (alik
   seated_heard q is = by q.entry ∙ is
     where
       by : (e : Entry) → entry_seated heard e q.place ≡ entry_seated p e q.place
-      by (entry.Thread n) = refl
-      by (entry.Push i) = seated_alike still_work works p.works alike push_entry (λ r w. refl) q.place
-      by (entry.Host i) = seated_alike still_work works p.works alike host_entry (λ r w. refl) q.place
+      by (Entry.Thread n) = refl
+      by (Entry.Push i) = seated_alike still_work works p.works alike push_entry (λ r w. refl) q.place
+      by (Entry.Host i) = seated_alike still_work works p.works alike host_entry (λ r w. refl) q.place
 
   place_chain_heard : (k : Where) → place_chain heard k ≡ place_chain p k
   place_chain_heard (WaitsOn x) = found_alike uncounted sets p.sets sets_alike (λ (x : WaitSet). x.number) (λ x. refl) (λ (x : WaitSet). x.waiters) (λ x. refl) x
   place_chain_heard (HeldIn i) = refl
   place_chain_heard (UnderOf n) = refl
-  place_chain_heard (BlockedOn (subtask.Guest k)) = refl
-  place_chain_heard (BlockedOn (subtask.Host i)) = found_alike still_work works p.works alike (λ (w : HostWork). w.number) (λ w. refl) (λ (w : HostWork). w.blocked) (λ w. refl) i
+  place_chain_heard (BlockedOn (Subtask.Guest k)) = refl
+  place_chain_heard (BlockedOn (Subtask.Host i)) = found_alike still_work works p.works alike (λ (w : HostWork). w.number) (λ w. refl) (λ (w : HostWork). w.blocked) (λ w. refl) i
 
   ready_calls_heard : (x : ℕ) → ready_call_chain heard x ≡ ready_call_chain p x
   ready_calls_heard x = found_alike uncounted sets p.sets sets_alike (λ (x : WaitSet). x.number) (λ x. refl) (λ (x : WaitSet). x.ready_calls) (λ x. refl) x

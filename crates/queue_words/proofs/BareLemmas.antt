@@ -1,26 +1,8 @@
 -- Threads, works and instances as the invariant of a core knows them, where their loose fields are left out.
-use Rattle.std.proofs.Common.{◌≡◌, ◌<◌, ℕ, zero, suc, List, [], ◌∷◌, Option, Some, None, IsSome, map, slice_get, get_or, refl, sym, ap, subst, ◌∙◌, arith}
-use Rattle.std.proofs.lemmas.Option.{same_Some, slice_get-map}
-use Rattle.std.specs.Option.{option_map}
-use Rattle.std.specs.Prelude.{Ok}
+use Rattle.task_records.proofs.Core.{[], ap, arith, bare, bare_instance, bare_thread, found_record, found_record_at, get_or, High, IsSome, IsSound, item_at, item_of, key_in, List, loose_thread, Low, map, mapped, None, number_in, Ok, on_item, Option, option_map, parts_of, place_at, place_at-mapped, Placed, placed_as, record_at, refl, Row, same_Some, shelf_chain, shelf_in, slice_get, slice_get-map, Some, SoundTable, subst, suc, sym, Table, thread_entry, thread_key, zero, ℕ, ◌<◌, ◌∙◌, ◌∷◌, ◌≡◌}
+use Rattle.task_records.specs.declared.{instances.InstanceRecord.InstanceRecord, parts.CoreParts.CoreParts, single.Single.Single, threads.GuestThread.GuestThread, threads.Queued.Queued}
 use Rattle.task_records.proofs.KindLemmas.{absent, item_stands}
 use Rattle.task_records.proofs.TableLemmas.{number_at_mapped}
-use Rattle.task_records.specs.Keys.{thread_key}
-use Rattle.task_records.specs.Kinds.{item_of, on_item}
-use Rattle.task_records.specs.Rows.{High, Low, Row, shelf_chain, shelf_in, thread_entry}
-use Rattle.task_records.specs.Seen.{IsSound, parts_of}
-use Rattle.task_records.specs.Sound.{SoundTable, bare, bare_instance, bare_thread, loose_thread}
-use Rattle.task_records.specs.declared.instances.InstanceRecord.{InstanceRecord}
-use Rattle.task_records.specs.declared.parts.CoreParts.{CoreParts}
-use Rattle.task_records.specs.declared.single.Single.{Single}
-use Rattle.task_records.specs.declared.threads.GuestThread.{GuestThread}
-use Rattle.task_records.specs.declared.threads.Queued.{Queued}
-use Rattle.task_table.proofs.MappedLemmas.{place_at-mapped}
-use Rattle.task_table.proofs.RecordLemmas.{found_record_at}
-use Rattle.task_table.specs.Answers.{item_at}
-use Rattle.task_table.specs.Mapped.{mapped, placed_as}
-use Rattle.task_table.specs.Records.{found_record, key_in, number_in, record_at}
-use Rattle.task_table.specs.Table.{Placed, Table, place_at}
 use Rattle.queue_words.specs.Seats.{OfThread}
 
 -- what is read by an index that is within

@@ -1,43 +1,9 @@
 -- The callers of threads: the chains of the core, and the machine's map.
-use Rattle.std.proofs.Common.{inl, inr, ◌≡◌, ◌+◌, ◌==◌, ◌++◌, ◌||◌, ℕ, Bool, true, false, cond, not, List, [], ◌∷◌, map, Option, Some, None, IsSome, is_some, slice_get, refl, sym, ap, subst, ◌∙◌, arith}
-use Rattle.std.proofs.lemmas.Bool.{cases_eq, eq-eqb, eqb-true, ne_eqb}
-use Rattle.std.proofs.lemmas.List.{map-append}
-use Rattle.std.proofs.lemmas.Option.{same_Some}
-use Rattle.std.specs.List.{list_any}
-use Rattle.std.specs.Option.{option_map, unwrap_or}
-use Rattle.std.specs.Prelude.{Ok}
-use Rattle.task_index.proofs.Refilings.{Refiles-linked, Refiles-removed}
-use Rattle.task_index.proofs.Rows.{IsRows-pushed, IsRows-removed, IsRows-same, free_in_none, less_elsewhere, values_are}
-use Rattle.task_index.specs.Rows.{Each, IsRows, less_by, values, with_nodes}
-use Rattle.task_links.specs.Links.{Apart, In, IsLinks, Spot, entries, head_of, is_free, is_made, last_of, last_or, linked, list_of, removed}
-use Rattle.task_machine.specs.Maps.{Records, get, get-insert, insert, same_map}
-use Rattle.task_machine.specs.Moves.{newest, older}
-use Rattle.task_machine.specs.Read.{callers_of, is_nil}
-use Rattle.task_machine.specs.Write.{set_callers}
+use Rattle.task_records.proofs.Core.{[], ap, Apart, AreApart, arith, bare, bare_thread, Bool, callers_chain, callers_in, callers_key, callers_of, callers_row, cases_eq, chained, cond, Each, entries, eq-eqb, eqb-true, false, first_number, follower, found_record, found_record_at, free_in_none, get, get-insert, get-records, head_of, In, inl, inr, insert, is_free, is_made, is_nil, is_some, IsBehindNobody, IsFollower, IsLinks, IsRows, IsRows-pushed, IsRows-removed, IsRows-same, IsSome, IsSound, IsWhole, item_at, item_of, key_in, last_of, last_or, later_of, less_by, less_elsewhere, linked, List, list_any, list_of, map, map-append, mapped, ne_eqb, newest, newest_of, None, not, Ok, older, older_of, on_core, on_item, one_if, Option, option_map, Parts, parts_of, place_at, Placed, Records, records, Refiles-linked, Refiles-removed, refl, removed, same_map, same_Some, seen, set_callers, slice_get, Some, Spot, standing, subst, sym, TableId, thread_of, ThreadKey, times, true, unwrap_or, values, values_are, with_nodes, ℕ, ◌++◌, ◌+◌, ◌==◌, ◌||◌, ◌∙◌, ◌∷◌, ◌≡◌}
+use Rattle.task_records.specs.declared.{parts.CoreParts.CoreParts, single.Single.Single, threads.Follower.Follower, threads.GuestThread.GuestThread}
 use Rattle.task_records.proofs.KindLemmas.{item_stands}
 use Rattle.task_records.proofs.ReadLemmas.{thread_named}
 use Rattle.task_records.proofs.TableLemmas.{found_mapped}
-use Rattle.task_records.specs.Image.{Parts, callers_in, chained}
-use Rattle.task_records.specs.Keys.{callers_key}
-use Rattle.task_records.specs.Kinds.{item_of, on_item}
-use Rattle.task_records.specs.Rows.{IsFollower, callers_chain, callers_row, follower}
-use Rattle.task_records.specs.Seen.{IsSound, parts_of, seen}
-use Rattle.task_records.specs.Sound.{IsWhole, bare, bare_thread}
-use Rattle.task_records.specs.declared.parts.CoreParts.{CoreParts}
-use Rattle.task_records.specs.declared.single.Single.{Single}
-use Rattle.task_records.specs.declared.threads.Follower.{Follower}
-use Rattle.task_records.specs.declared.threads.GuestThread.{GuestThread}
-use Rattle.task_rules.specs.Places.{one_if, times}
-use Rattle.task_rules.specs.Works.{first_number}
-use Rattle.task_table.proofs.RecordLemmas.{found_record_at, get-records}
-use Rattle.task_table.specs.Answers.{item_at}
-use Rattle.task_table.specs.Mapped.{mapped}
-use Rattle.task_table.specs.Records.{AreApart, found_record, key_in, records}
-use Rattle.task_table.specs.Table.{Placed, place_at, standing}
-use Rattle.task_table.specs.declared.id.TableId.{TableId}
-use Rattle.task_wait.specs.declared.keys.ThreadKey.{ThreadKey}
-use Rattle.task_words.specs.Apart.{IsBehindNobody, later_of, newest_of, older_of}
-use Rattle.task_words.specs.StateView.{on_core, thread_of}
 use Rattle.queue_words.proofs.ListLemmas.{none_passes}
 use Rattle.queue_words.proofs.SwitchLemmas.{follower_kept}
 use Rattle.queue_words.proofs.WholeLemmas.{KeepsNodes, chains_sound, chains_whole}

@@ -1,25 +1,7 @@
 -- An entry leaves its mark, as words take it out.
-use Rattle.std.proofs.Common.{inl, inr, ◌≡◌, ◌<◌, ◌||◌, ℕ, true, false, cond, List, [], ◌∷◌, map, Some, None, IsSome, is_some, refl, sym, ap, ap₂, subst, ◌∙◌, arith}
-use Rattle.std.proofs.lemmas.Bool.{eqb-true, ne_eqb}
-use Rattle.std.proofs.lemmas.Option.{same_Some}
-use Rattle.std.specs.List.{list_any}
+use Rattle.task_records.proofs.Core.{[], ap, ap₂, arith, bare, cond, Entry, eqb-true, false, has_entry, High, inl, inr, is_entry_of, is_made, is_some, IsLinks, IsSeated, IsSome, IsSound, IsWhole, less_by, List, list_any, Low, map, Mark, ne_eqb, None, on_core, Parts, parts_of, popped, refl, removed, rest_of, Row, row, same_Some, seen, set_high, set_low, Some, Spot, subst, sym, true, unqueued, ℕ, ◌<◌, ◌||◌, ◌∙◌, ◌∷◌, ◌≡◌}
 use Rattle.task_index.proofs.Queues.{unqueued_both}
-use Rattle.task_index.specs.Rows.{less_by}
-use Rattle.task_machine.specs.Moves.{has_entry, unqueued}
-use Rattle.task_machine.specs.Read.{is_entry_of}
-use Rattle.task_machine.specs.Write.{set_high, set_low}
-use Rattle.task_machine.specs.declared.records.Entry.{Entry}
-use Rattle.task_machine.specs.declared.records.Entry.TheVariants as entry
-use Rattle.task_machine.specs.declared.words.Mark.TheVariants as mark
-use Rattle.task_rules.specs.Takes.{popped, rest_of}
-use Rattle.task_words.specs.StateView.{on_core}
-use Rattle.task_links.specs.Links.{IsLinks, Spot, is_made, removed}
-use Rattle.task_records.specs.Image.{Parts}
-use Rattle.task_records.specs.Rows.{High, IsSeated, Low, Row, row}
-use Rattle.task_records.specs.Seen.{IsSound, parts_of, seen}
-use Rattle.task_records.specs.Sound.{IsWhole, bare}
-use Rattle.task_records.specs.declared.parts.CoreParts.{CoreParts}
-use Rattle.task_records.specs.declared.threads.Queued.{Queued}
+use Rattle.task_records.specs.declared.{parts.CoreParts.CoreParts, threads.Queued.Queued}
 use Rattle.queue_words.specs.Seats.{OfThread, OfWork, RowsAre, is_entry_of_work, leaves, left, rest, top}
 use Rattle.queue_words.proofs.RowLemmas.{left_elsewhere, mark_made, row_known, shelf_made, thread_left, work_left}
 use Rattle.queue_words.proofs.SeatLemmas.{leaves_itself, leaves_thread, same_thread, seat_of, threads_own}
@@ -27,13 +9,13 @@ use Rattle.queue_words.proofs.SeenLemmas.{queues_seen, row_seen, rows_after, row
 use Rattle.queue_words.proofs.BareLemmas.{thread_number_positive, thread_one_place}
 use Rattle.queue_words.proofs.ListLemmas.{any-known, less_nothing, map-less_known, same_test}
 
-same_thread_number : (m n : ℕ) → entry.Thread m ≡ entry.Thread n → m ≡ n
+same_thread_number : (m n : ℕ) → Entry.Thread m ≡ Entry.Thread n → m ≡ n
 same_thread_number m n is = cc
 
 work_of_no_thread : (n i : ℕ) (e : Entry) → is_entry_of_work i e ≡ true → is_entry_of n e ≡ false
-work_of_no_thread n i (entry.Thread m) is = absurd (cc)
-work_of_no_thread n i (entry.Push j) is = refl
-work_of_no_thread n i (entry.Host j) is = refl
+work_of_no_thread n i (Entry.Thread m) is = absurd (cc)
+work_of_no_thread n i (Entry.Push j) is = refl
+work_of_no_thread n i (Entry.Host j) is = refl
 
 module _ (a : CoreParts) (sound : IsSound a) (q : Queued) (seated : IsSeated (bare (parts_of a)) q) where
   abbrev bared : Parts
@@ -98,17 +80,17 @@ module _ (a : CoreParts) (sound : IsSound a) where
       popped_there : map (λ (q : Queued). q.entry) (left (bare (parts_of a)) q k) ≡ row_seen a k
       popped_there = ap (map (λ (q : Queued). q.entry)) (left_elsewhere (bare (parts_of a)) (is_whole a sound q seated) q seated links j k differ (top_any q (row (bare (parts_of a)) j) first))
 
-    pub pop_high_seen : Some q ≡ top (row (bare (parts_of a)) High) → seen b ≡ on_core (popped mark.High) (seen a)
+    pub pop_high_seen : Some q ≡ top (row (bare (parts_of a)) High) → seen b ≡ on_core (popped Mark.High) (seen a)
     unfolding seen popped set_high
     pop_high_seen first = left_seen (rest_of (row_seen a High)) (row_seen a Low) (popped_here High Low (λ same. absurd (cc)) first) (popped_there High Low (λ same. absurd (cc)) first)
 
-    pub pop_low_seen : Some q ≡ top (row (bare (parts_of a)) Low) → seen b ≡ on_core (popped mark.Low) (seen a)
+    pub pop_low_seen : Some q ≡ top (row (bare (parts_of a)) Low) → seen b ≡ on_core (popped Mark.Low) (seen a)
     unfolding seen popped set_low
     pop_low_seen first = left_seen (row_seen a High) (rest_of (row_seen a Low)) (popped_there Low High (λ same. absurd (cc)) first) (popped_here Low High (λ same. absurd (cc)) first)
 
     -- ---- The entry of a thread
 
-    module _ (n : ℕ) (of_thread : OfThread (bare (parts_of a)) q) (is_n : q.entry ≡ entry.Thread n) where
+    module _ (n : ℕ) (of_thread : OfThread (bare (parts_of a)) q) (is_n : q.entry ≡ Entry.Thread n) where
       leaves_entry : (x : Queued) → IsSeated (bare (parts_of a)) x → leaves q x ≡ is_entry_of n x.entry
       leaves_entry x is_x = same_test (leaves q x) (is_entry_of n x.entry) (leaves_thread (bare (parts_of a)) (is_whole a sound q seated) q of_thread n is_n x is_x) (λ of_n. elim (seat_of (bare (parts_of a)) x is_x) [
         | inl at ↦
@@ -135,11 +117,11 @@ module _ (a : CoreParts) (sound : IsSound a) where
     nothing_first : row_seen a r ≡ rest_of (row_seen a r)
     nothing_first = empty_rest (row (bare (parts_of a)) r) none
 
-  pub pop_high_nothing : None ≡ top (row (bare (parts_of a)) High) → seen a ≡ on_core (popped mark.High) (seen a)
+  pub pop_high_nothing : None ≡ top (row (bare (parts_of a)) High) → seen a ≡ on_core (popped Mark.High) (seen a)
   unfolding seen popped set_high
   pop_high_nothing none = ap (λ (l : List Entry). queues_seen a l (row_seen a Low)) (nothing_first High none)
 
-  pub pop_low_nothing : None ≡ top (row (bare (parts_of a)) Low) → seen a ≡ on_core (popped mark.Low) (seen a)
+  pub pop_low_nothing : None ≡ top (row (bare (parts_of a)) Low) → seen a ≡ on_core (popped Mark.Low) (seen a)
   unfolding seen popped set_low
   pop_low_nothing none = ap (λ (l : List Entry). queues_seen a (row_seen a High) l) (nothing_first Low none)
 

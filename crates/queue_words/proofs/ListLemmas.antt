@@ -1,13 +1,8 @@
 -- Lists of entries: a test of what they hold, in the machine's list and in the core's.
-use Rattle.std.proofs.Common.{◌≡◌, ◌+◌, ◌==◌, ◌||◌, ℕ, suc, Bool, true, false, cond, List, [], ◌∷◌, map, Some, None, filter, option_map, refl, sym, ap, ap₂, subst, ◌∙◌, arith}
-use Rattle.std.proofs.lemmas.Option.{same_Some}
-use Rattle.std.specs.List.{find, list_any}
-use Rattle.task_index.specs.Rows.{Each, less_by}
-use Rattle.task_machine.specs.Read.{is_entry_of}
-use Rattle.task_machine.specs.declared.records.Entry.{Entry}
-use Rattle.task_machine.specs.declared.records.Entry.TheVariants as entry
-use Rattle.task_rules.specs.Places.{entries, one_if}
-use Rattle.task_words.specs.Apart.{work_entries}
+use Rattle.task_records.proofs.Core.{[], ap, ap₂, arith, Bool, cond, Each, Entry, false, filter, is_entry_of, less_by, List, list_any, map, None, one_if, refl, same_Some, Some, subst, suc, sym, true, work_entries, ℕ, ◌+◌, ◌==◌, ◌||◌, ◌∙◌, ◌∷◌, ◌≡◌}
+use Rattle.std.proofs.Common.{option_map}
+use Rattle.std.specs.List.{find}
+use Rattle.task_rules.specs.Places.{entries}
 use Rattle.queue_words.specs.Seats.{is_entry_of_work}
 
 -- two tests that follow from one another are one
@@ -119,9 +114,9 @@ none_counted i es false none rest = rest none
 
 pub no_work_entry : (i : ℕ) (es : List Entry) → work_entries i es ≡ 0 → list_any (is_entry_of_work i) es ≡ false
 no_work_entry i [] none = refl
-no_work_entry i (entry.Thread n ∷ es) none = no_work_entry i es none
-no_work_entry i (entry.Push j ∷ es) none = none_counted i es (i == j) none (no_work_entry i es)
-no_work_entry i (entry.Host j ∷ es) none = none_counted i es (i == j) none (no_work_entry i es)
+no_work_entry i (Entry.Thread n ∷ es) none = no_work_entry i es none
+no_work_entry i (Entry.Push j ∷ es) none = none_counted i es (i == j) none (no_work_entry i es)
+no_work_entry i (Entry.Host j ∷ es) none = none_counted i es (i == j) none (no_work_entry i es)
 
 -- a part that has none of what is taken away
 pub filter-less_out : {P : Type 0} (t u : P → Bool) → ((x : P) → u x ≡ true → t x ≡ false) → (xs : List P) → filter t (less_by u xs) ≡ filter t xs

@@ -1,34 +1,9 @@
 -- A push of a thread's entry, or of a work's host entry, as words make it.
-use Rattle.std.proofs.Common.{inl, inr, ◌≡◌, ◌++◌, ℕ, true, false, List, [], ◌∷◌, Option, Some, None, IsSome, slice_get, refl, sym, ap, subst, ◌∙◌}
-use Rattle.std.proofs.lemmas.Bool.{eqb-true}
-use Rattle.std.proofs.lemmas.Option.{same_Some, slice_get-map}
-use Rattle.std.specs.List.{list_any}
-use Rattle.std.specs.Option.{option_map}
-use Rattle.std.specs.Prelude.{Ok}
-use Rattle.task_links.specs.Links.{IsLinks, Spot, entries, is_free, linked, list_of}
-use Rattle.task_machine.specs.Read.{is_entry_of}
-use Rattle.task_machine.specs.Write.{push_high, push_high_first, push_low}
-use Rattle.task_machine.specs.declared.records.Entry.TheVariants as entry
+use Rattle.task_records.proofs.Core.{[], ap, bare, bare_instance, bare_work, entries, Entry, eqb-true, false, High, host_entry, HostTaskKey, inl, inr, is_entry_of, is_free, IsLinks, IsOfThread, IsSeated, IsSome, IsSound, IsUnqueued, IsWhole, item_at, item_of, linked, List, list_any, list_of, Low, None, Ok, on_core, on_item, Option, option_map, Parts, parts_of, place_at, Placed, push_high, push_high_first, push_low, refl, Row, row, row_chain, same_Some, seen, shelf_chain, slice_get, slice_get-map, Some, Spot, subst, sym, TableId, thread_entry, thread_of, ThreadKey, true, work_entries, work_of, ℕ, ◌++◌, ◌∙◌, ◌∷◌, ◌≡◌}
+use Rattle.task_records.specs.declared.{parts.CoreParts.CoreParts, single.Single.Single, threads.GuestThread.GuestThread, threads.Queued.Queued, works.HostWork.HostWork}
 use Rattle.task_records.proofs.HomeLemmas.{thread_home}
 use Rattle.task_records.proofs.KindLemmas.{item_stands}
 use Rattle.task_records.proofs.ReadLemmas.{thread_named, work_named}
-use Rattle.task_records.specs.Image.{Parts}
-use Rattle.task_records.specs.Kinds.{item_of, on_item}
-use Rattle.task_records.specs.Rows.{High, IsOfThread, IsSeated, Low, Row, host_entry, row, row_chain, shelf_chain, thread_entry}
-use Rattle.task_records.specs.Seen.{IsSound, parts_of, seen}
-use Rattle.task_records.specs.Sound.{IsWhole, bare, bare_instance, bare_work}
-use Rattle.task_records.specs.declared.parts.CoreParts.{CoreParts}
-use Rattle.task_records.specs.declared.threads.GuestThread.{GuestThread}
-use Rattle.task_records.specs.declared.threads.Queued.{Queued}
-use Rattle.task_records.specs.declared.works.HostWork.{HostWork}
-use Rattle.task_records.specs.declared.single.Single.{Single}
-use Rattle.task_table.specs.Answers.{item_at}
-use Rattle.task_table.specs.Table.{Placed, place_at}
-use Rattle.task_table.specs.declared.id.TableId.{TableId}
-use Rattle.task_wait.specs.declared.keys.HostTaskKey.{HostTaskKey}
-use Rattle.task_wait.specs.declared.keys.ThreadKey.{ThreadKey}
-use Rattle.task_words.specs.Apart.{IsUnqueued, work_entries}
-use Rattle.task_words.specs.StateView.{on_core, thread_of, work_of}
 use Rattle.queue_words.specs.Seats.{OfThread, OfWork, RowsAre, is_entry_of_work, leaves, row_with}
 use Rattle.queue_words.proofs.BareLemmas.{place_mapped, thread_entry_of}
 use Rattle.queue_words.proofs.ListLemmas.{no_entry, no_work_entry, none_of_these, none_passes}
@@ -58,8 +33,8 @@ module _ (a : CoreParts) (sound : IsSound a) (id : TableId ThreadKey) (g : Guest
     pub of_v : OfThread bared v
     of_v = subst (OfThread bared) (sym there) (thread_entry_of a sound id.rep id.serial g is)
 
-    pub entry_is : v.entry ≡ entry.Thread (thread_of (seen a) id)
-    entry_is = ap (λ (q : Queued). q.entry) there ∙ ap (λ n. entry.Thread n) (thread_named a id g is)
+    pub entry_is : v.entry ≡ Entry.Thread (thread_of (seen a) id)
+    entry_is = ap (λ (q : Queued). q.entry) there ∙ ap (λ n. Entry.Thread n) (thread_named a id g is)
 
     pub entry_seated : IsSeated bared v
     entry_seated = of_thread_seated bared is_whole v of_v
@@ -96,10 +71,10 @@ module _ (a : CoreParts) (sound : IsSound a) (id : TableId ThreadKey) (g : Guest
           pub push_sound : IsSound (rows_after a marks shelves)
           push_sound = rows_sound a marks shelves _ rows_pushed sound
 
-          pub push_high_seen : r ≡ High → seen (rows_after a marks shelves) ≡ on_core (push_high (entry.Thread (thread_of (seen a) id))) (seen a)
+          pub push_high_seen : r ≡ High → seen (rows_after a marks shelves) ≡ on_core (push_high (Entry.Thread (thread_of (seen a) id))) (seen a)
           push_high_seen high = high_pushed a marks shelves v (subst (λ j. RowsAre bared marks shelves (row_with j (row bared j ++ v ∷ []) (row bared))) high rows_pushed) ∙ ap (λ e. on_core (push_high e) (seen a)) entry_is
 
-          pub push_low_seen : r ≡ Low → seen (rows_after a marks shelves) ≡ on_core (push_low (entry.Thread (thread_of (seen a) id))) (seen a)
+          pub push_low_seen : r ≡ Low → seen (rows_after a marks shelves) ≡ on_core (push_low (Entry.Thread (thread_of (seen a) id))) (seen a)
           push_low_seen low = low_pushed a marks shelves v (subst (λ j. RowsAre bared marks shelves (row_with j (row bared j ++ v ∷ []) (row bared))) low rows_pushed) ∙ ap (λ e. on_core (push_low e) (seen a)) entry_is
 
         module _ (puts : marks ≡ linked c v.mark.index v ((v.mark.index, v) ∷ entries a.marks c) a.marks) (puts_shelf : shelves ≡ linked d v.shelf.index v ((v.shelf.index, v) ∷ entries a.shelves d) a.shelves) where
@@ -109,7 +84,7 @@ module _ (a : CoreParts) (sound : IsSound a) (id : TableId ThreadKey) (g : Guest
           pub push_first_sound : IsSound (rows_after a marks shelves)
           push_first_sound = rows_sound a marks shelves _ rows_pushed_first sound
 
-          pub push_high_first_seen : r ≡ High → seen (rows_after a marks shelves) ≡ on_core (push_high_first (entry.Thread (thread_of (seen a) id))) (seen a)
+          pub push_high_first_seen : r ≡ High → seen (rows_after a marks shelves) ≡ on_core (push_high_first (Entry.Thread (thread_of (seen a) id))) (seen a)
           push_high_first_seen high = high_pushed_first a marks shelves v (subst (λ j. RowsAre bared marks shelves (row_with j (v ∷ row bared j) (row bared))) high rows_pushed_first) ∙ ap (λ e. on_core (push_high_first e) (seen a)) entry_is
 
 -- ---- The host entry of a work
@@ -142,8 +117,8 @@ module _ (a : CoreParts) (sound : IsSound a) (id : TableId HostTaskKey) (w : Hos
     host_is_seated : IsSeated bared_works v
     host_is_seated = subst (IsSeated bared_works) host_placed.1.1 (host_seated bared_works id.rep host_placed.0 host_placed.1.0)
 
-    host_entry_is : v.entry ≡ entry.Host (work_of (seen a) id)
-    host_entry_is = ap (λ (q : Queued). q.entry) work_there ∙ ap (λ i. entry.Host i) (work_named a id w is)
+    host_entry_is : v.entry ≡ Entry.Host (work_of (seen a) id)
+    host_entry_is = ap (λ (q : Queued). q.entry) work_there ∙ ap (λ i. Entry.Host i) (work_named a id w is)
 
     host_of_work : OfWork bared_works v
     host_of_work = elim (seat_of bared_works v host_is_seated) [
@@ -185,5 +160,5 @@ module _ (a : CoreParts) (sound : IsSound a) (id : TableId HostTaskKey) (w : Hos
         pub host_sound : IsSound (rows_after a marks a.shelves)
         host_sound = rows_sound a marks a.shelves _ rows_host sound
 
-        pub host_seen : seen (rows_after a marks a.shelves) ≡ on_core (push_high (entry.Host (work_of (seen a) id))) (seen a)
+        pub host_seen : seen (rows_after a marks a.shelves) ≡ on_core (push_high (Entry.Host (work_of (seen a) id))) (seen a)
         host_seen = high_pushed a marks a.shelves v rows_host ∙ ap (λ e. on_core (push_high e) (seen a)) host_entry_is

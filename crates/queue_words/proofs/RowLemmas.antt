@@ -1,19 +1,8 @@
 -- An entry is pushed at a mark, at the end or at the front, or leaves it.
-use Rattle.std.proofs.Common.{inl, inr, ◌≡◌, ◌++◌, ◌⊎◌, ℕ, true, false, List, [], ◌∷◌, Option, Some, None, IsSome, append-nil, filter, refl, sym, ap, subst, ◌∙◌}
-use Rattle.std.proofs.lemmas.Bool.{eq-eqb, ne_eqb}
-use Rattle.std.specs.List.{list_any}
-use Rattle.task_index.proofs.Lists.{Each-less_by, Each-more, filter-append, filter-none}
+use Rattle.task_records.proofs.Core.{[], ap, append-nil, chained, Each, Each-less_by, Each-more, entries, eq-eqb, false, filter, filter-append, filter-none, free_in_none, High, inl, inr, is_free, is_made, is_number, is_of_instance, IsLinks, IsOfThread, IsRows, IsRows-pushed, IsRows-pushed_first, IsRows-removed, IsRows-same, IsSeated, IsSome, IsWhole, less_by, less_elsewhere, linked, List, list_any, Low, ne_eqb, None, Option, part, Parts, Refiles-linked, Refiles-removed, refl, removed, Row, row, row_chain, shelf_chain, Some, Spot, subst, sym, true, ℕ, ◌++◌, ◌∙◌, ◌∷◌, ◌≡◌, ◌⊎◌}
 use Rattle.task_index.proofs.Parts.{IsRows-part_pushed, IsRows-part_pushed_first, IsRows-part_removed}
-use Rattle.task_index.proofs.Refilings.{Refiles-linked, Refiles-removed}
-use Rattle.task_index.proofs.Rows.{IsRows-pushed, IsRows-pushed_first, IsRows-removed, IsRows-same, free_in_none, less_elsewhere}
-use Rattle.task_index.specs.Rows.{Each, IsRows, less_by, part}
-use Rattle.task_links.specs.Links.{IsLinks, Spot, entries, is_free, is_made, linked, removed}
+use Rattle.task_records.specs.declared.{threads.Queued.Queued}
 use Rattle.task_records.proofs.KindLemmas.{absent}
-use Rattle.task_records.specs.Image.{Parts, chained}
-use Rattle.task_records.specs.Rows.{High, IsOfThread, IsSeated, Low, Row, is_of_instance, row, row_chain, shelf_chain}
-use Rattle.task_records.specs.Sound.{IsWhole}
-use Rattle.task_records.specs.declared.threads.Queued.{Queued}
-use Rattle.task_table.specs.Table.{is_number}
 use Rattle.queue_words.specs.Seats.{OfThread, OfWork, RowsAre, leaves, left, row_with}
 use Rattle.queue_words.proofs.ListLemmas.{Each-part, Each-weaker, filter-less_out, none_in_part}
 use Rattle.queue_words.proofs.SeatLemmas.{knows_mark, knows_shelf, leaves_alike, seat_of, thread_seated, threads_own}

@@ -1,19 +1,6 @@
 -- Whose an entry is, and what its nodes say of it.
-use Rattle.std.proofs.Common.{inl, inr, ◌≡◌, ◌==◌, ◌&&◌, ◌⊎◌, ℕ, Bool, true, false, Option, Some, None, IsSome, refl, sym, ap, subst, ◌∙◌}
-use Rattle.std.proofs.lemmas.Bool.{eq-eqb, eqb-true}
-use Rattle.std.proofs.lemmas.Option.{same_Some}
-use Rattle.std.specs.Option.{option_map}
-use Rattle.task_machine.specs.Read.{is_entry_of}
-use Rattle.task_machine.specs.declared.records.Entry.{Entry}
-use Rattle.task_machine.specs.declared.records.Entry.TheVariants as entry
-use Rattle.task_records.specs.Image.{Parts}
-use Rattle.task_records.specs.Rows.{IsOfThread, IsSeated, entry_seated, host_entry, is_of_instance, push_entry, thread_entry}
-use Rattle.task_records.specs.Sound.{IsWhole}
-use Rattle.task_records.specs.declared.single.Single.{Single}
-use Rattle.task_records.specs.declared.threads.GuestThread.{GuestThread}
-use Rattle.task_records.specs.declared.threads.Queued.{Queued}
-use Rattle.task_records.specs.declared.works.HostWork.{HostWork}
-use Rattle.task_table.specs.Table.{Placed, is_number, place_at}
+use Rattle.task_records.proofs.Core.{ap, Bool, Entry, entry_seated, eq-eqb, eqb-true, false, host_entry, inl, inr, is_entry_of, is_number, is_of_instance, IsOfThread, IsSeated, IsSome, IsWhole, None, Option, option_map, Parts, place_at, Placed, push_entry, refl, same_Some, Some, subst, sym, thread_entry, true, ℕ, ◌&&◌, ◌==◌, ◌∙◌, ◌≡◌, ◌⊎◌}
+use Rattle.task_records.specs.declared.{single.Single.Single, threads.GuestThread.GuestThread, threads.Queued.Queued, works.HostWork.HostWork}
 use Rattle.queue_words.specs.Seats.{OfThread, OfWork, is_entry_of_work, leaves, same_instance}
 use Rattle.queue_words.proofs.ListLemmas.{same_test}
 
@@ -73,9 +60,9 @@ module _ (p : Parts) where
           record { placed = w; at = at; mark = ap (λ (y : Queued). y.mark) same; entry = subst (λ (y : Queued). is_entry_of_work w.entry.item.number y.entry ≡ true) same (eq-eqb w.entry.item.number w.entry.item.number refl); alone = sym (ap (λ (y : Queued). y.instance) same) }
 
       by : (e : Entry) → x.entry ≡ e → entry_seated p e x.place ≡ Some x → OfThread p x ⊎ OfWork p x
-      by (entry.Thread n) e is = inl (of_thread (place_at p.threads x.place) refl is)
-      by (entry.Push i) e is = inr (of_push (place_at p.works x.place) refl is)
-      by (entry.Host i) e is = inr (of_host (place_at p.works x.place) refl is)
+      by (Entry.Thread n) e is = inl (of_thread (place_at p.threads x.place) refl is)
+      by (Entry.Push i) e is = inr (of_push (place_at p.works x.place) refl is)
+      by (Entry.Host i) e is = inr (of_host (place_at p.works x.place) refl is)
 
   pub thread_seated : (rep : ℕ) (q : Placed (Single GuestThread)) → place_at p.threads rep ≡ Some q → IsSeated p (thread_entry rep q.entry.item)
   thread_seated rep q at = ap (option_map (λ (q : Placed (Single GuestThread)). thread_entry rep q.entry.item)) at
@@ -133,7 +120,7 @@ module _ (p : Parts) where
         (λ is. subst (λ (z : Queued). leaves q z ≡ true) (sym (one_shelf x q at_x at_q (eqb-true x.shelf.index q.shelf.index is))) (leaves_itself q))
 
     -- what leaves with a thread's entry is an entry of this thread
-    pub leaves_thread : (q : Queued) → OfThread p q → (n : ℕ) → q.entry ≡ entry.Thread n → (x : Queued) → IsSeated p x → leaves q x ≡ true → is_entry_of n x.entry ≡ true
+    pub leaves_thread : (q : Queued) → OfThread p q → (n : ℕ) → q.entry ≡ Entry.Thread n → (x : Queued) → IsSeated p x → leaves q x ≡ true → is_entry_of n x.entry ≡ true
     leaves_thread q at_q n is_n x is_x is = elim (seat_of x is_x) [
       | inl at_x ↦ ap (λ (z : Queued). is_entry_of n z.entry) (one_mark x q at_x at_q (leaves_mark q x is)) ∙ (ap (is_entry_of n) is_n ∙ eq-eqb n n refl)
       | inr at_x ↦ apart_marks q x at_q at_x (sym (leaves_mark q x is))

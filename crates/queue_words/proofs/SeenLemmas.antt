@@ -1,15 +1,6 @@
 -- What is seen of a core whose marks are changed.
-use Rattle.std.proofs.Common.{◌≡◌, ◌++◌, List, [], ◌∷◌, map, refl, ap, ap₂, ◌∙◌}
-use Rattle.std.proofs.lemmas.List.{map-append}
-use Rattle.task_links.specs.Links.{Spot}
-use Rattle.task_machine.specs.Write.{push_high, push_high_first, push_low}
-use Rattle.task_machine.specs.declared.records.Entry.{Entry}
-use Rattle.task_records.specs.Rows.{High, Low, Row, row}
-use Rattle.task_records.specs.Seen.{IsSound, parts_of, seen}
-use Rattle.task_records.specs.Sound.{bare}
-use Rattle.task_records.specs.declared.parts.CoreParts.{CoreParts}
-use Rattle.task_records.specs.declared.threads.Queued.{Queued}
-use Rattle.task_words.specs.StateView.{StateView, on_core}
+use Rattle.task_records.proofs.Core.{[], ap, ap₂, bare, Entry, High, IsSound, List, Low, map, map-append, on_core, parts_of, push_high, push_high_first, push_low, refl, Row, row, seen, Spot, StateView, ◌++◌, ◌∙◌, ◌∷◌, ◌≡◌}
+use Rattle.task_records.specs.declared.{parts.CoreParts.CoreParts, threads.Queued.Queued}
 use Rattle.queue_words.specs.Seats.{RowsAre, row_with}
 use Rattle.queue_words.proofs.WholeLemmas.{chains_sound}
 

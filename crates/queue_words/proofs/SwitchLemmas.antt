@@ -1,26 +1,8 @@
 -- The thread at switch.
-use Rattle.std.proofs.Common.{◌≡◌, ◌<◌, ℕ, Option, Some, None, IfSome, refl, sym, ap, subst, ◌∙◌}
-use Rattle.std.proofs.lemmas.Option.{same_Some}
-use Rattle.std.specs.Option.{option_map}
-use Rattle.std.specs.Prelude.{Ok}
-use Rattle.task_machine.specs.Write.{set_switch}
+use Rattle.task_records.proofs.Core.{ap, bare, bare_thread, follower, IfSome, IsFollower, IsSound, item_at, item_of, key_in, None, number_in, Ok, on_core, on_item, Option, option_map, parts_of, place_at, Placed, record_at, refl, same_Some, seen, set_switch, Some, subst, sym, TableId, thread_key, thread_of, ThreadKey, ℕ, ◌<◌, ◌∙◌, ◌≡◌}
+use Rattle.task_records.specs.declared.{parts.CoreParts.CoreParts, single.Single.Single, threads.Follower.Follower, threads.GuestThread.GuestThread}
 use Rattle.task_records.proofs.KindLemmas.{item_stands}
 use Rattle.task_records.proofs.ReadLemmas.{thread_named}
-use Rattle.task_records.specs.Keys.{thread_key}
-use Rattle.task_records.specs.Kinds.{item_of, on_item}
-use Rattle.task_records.specs.Rows.{IsFollower, follower}
-use Rattle.task_records.specs.Seen.{IsSound, parts_of, seen}
-use Rattle.task_records.specs.Sound.{bare, bare_thread}
-use Rattle.task_records.specs.declared.parts.CoreParts.{CoreParts}
-use Rattle.task_records.specs.declared.single.Single.{Single}
-use Rattle.task_records.specs.declared.threads.Follower.{Follower}
-use Rattle.task_records.specs.declared.threads.GuestThread.{GuestThread}
-use Rattle.task_table.specs.Answers.{item_at}
-use Rattle.task_table.specs.Records.{key_in, number_in, record_at}
-use Rattle.task_table.specs.Table.{Placed, place_at}
-use Rattle.task_table.specs.declared.id.TableId.{TableId}
-use Rattle.task_wait.specs.declared.keys.ThreadKey.{ThreadKey}
-use Rattle.task_words.specs.StateView.{on_core, thread_of}
 use Rattle.queue_words.proofs.BareLemmas.{mapped_place, number_positive, place_mapped}
 use Rattle.queue_words.proofs.WholeLemmas.{chains_sound, chains_whole}
 

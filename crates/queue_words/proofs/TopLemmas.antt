@@ -1,40 +1,10 @@
 -- What stands first at a mark, and of an instance there.
-use Rattle.std.proofs.Common.{inl, inr, ◌≡◌, ◌<◌, ℕ, Bool, true, false, cond, List, [], ◌∷◌, map, filter, Option, Some, None, IsSome, IfSome, slice_get, refl, sym, ap, subst, ◌∙◌}
-use Rattle.std.proofs.lemmas.Bool.{eq-eqb, eqb-true}
-use Rattle.std.proofs.lemmas.Option.{same_Some}
+use Rattle.task_records.proofs.Core.{[], ap, bare, bare_thread, bare_work, Bool, chained, cond, Each, Entry, entry_thread, eq-eqb, eqb-true, false, filter, first_entry, first_in, first_low, first_of, found_here, High, IfSome, inl, inr, instance_of, is_entry_in, is_number, is_of_instance, IsSeated, IsSome, IsSound, IsWhole, item_at, item_in, item_of, key_in, List, list_of, loose_work, Low, map, Mark, next_entry, None, number_in, Ok, on_item, Option, option_and_then, option_map, or_first, or_high, part, Parts, parts_of, record_at, refl, Row, row, row_chain, same_Some, seen, shelf_chain, shelf_in, slice_get, Some, subst, sym, TableId, thread_entry, thread_key, ThreadKey, true, unmoved, values_are, work_key, ℕ, ◌<◌, ◌∙◌, ◌∷◌, ◌≡◌}
 use Rattle.std.specs.List.{find}
-use Rattle.std.specs.Option.{option_and_then, option_map}
-use Rattle.std.specs.Prelude.{Ok}
-use Rattle.task_index.proofs.Rows.{values_are}
-use Rattle.task_index.specs.Rows.{Each, part}
-use Rattle.task_links.specs.Links.{list_of}
-use Rattle.task_machine.specs.Moves.{first_entry, first_low}
-use Rattle.task_machine.specs.Read.{entry_thread, first_in, first_of, instance_of, is_entry_in, next_entry, or_first, or_high}
-use Rattle.task_machine.specs.declared.records.Entry.{Entry}
-use Rattle.task_machine.specs.declared.records.Entry.TheVariants as entry
-use Rattle.task_machine.specs.declared.words.Mark.{Mark}
-use Rattle.task_machine.specs.declared.words.Mark.TheVariants as mark
+use Rattle.task_records.specs.declared.{instances.InstanceRecord.InstanceRecord, parts.CoreParts.CoreParts, single.Single.Single, threads.Follower.Follower, threads.GuestThread.GuestThread, threads.Queued.Queued}
 use Rattle.task_records.proofs.HomeLemmas.{thread_instance}
 use Rattle.task_records.proofs.ReadLemmas.{thread_named}
 use Rattle.task_records.proofs.TableLemmas.{number_at_mapped}
-use Rattle.task_records.specs.Image.{Parts, chained}
-use Rattle.task_records.specs.Keys.{thread_key, work_key}
-use Rattle.task_records.specs.Kinds.{item_of, on_item}
-use Rattle.task_records.specs.Rows.{High, IsSeated, Low, Row, is_of_instance, row, row_chain, shelf_chain, shelf_in, thread_entry}
-use Rattle.task_records.specs.Seen.{IsSound, parts_of, seen}
-use Rattle.task_records.specs.Sound.{IsWhole, bare, bare_thread, bare_work, loose_work, unmoved}
-use Rattle.task_records.specs.declared.instances.InstanceRecord.{InstanceRecord}
-use Rattle.task_records.specs.declared.parts.CoreParts.{CoreParts}
-use Rattle.task_records.specs.declared.single.Single.{Single}
-use Rattle.task_records.specs.declared.threads.Follower.{Follower}
-use Rattle.task_records.specs.declared.threads.GuestThread.{GuestThread}
-use Rattle.task_records.specs.declared.threads.Queued.{Queued}
-use Rattle.task_table.proofs.TableLemmas.{found_here}
-use Rattle.task_table.specs.Answers.{item_at, item_in}
-use Rattle.task_table.specs.Records.{key_in, number_in, record_at}
-use Rattle.task_table.specs.Table.{is_number}
-use Rattle.task_table.specs.declared.id.TableId.{TableId}
-use Rattle.task_wait.specs.declared.keys.ThreadKey.{ThreadKey}
 use Rattle.queue_words.specs.Seats.{OfThread, is_entry_of_work, top}
 use Rattle.queue_words.proofs.BareLemmas.{mapped_place, shelf_bare, thread_number_here, thread_number_positive}
 use Rattle.queue_words.proofs.ListLemmas.{find-known, find-none, find-some}
@@ -60,7 +30,7 @@ pub top-known : {P : Type 0} (Known : P → Type 0) (xs : List P) (x : P) → Ea
 top-known Known [] x all is = absurd (cc)
 top-known Known (y ∷ ys) x all is = subst Known (sym (same_Some x y is)) all.0
 
-no_work_of : (i : ℕ) (e : Entry) (n : ℕ) → e ≡ entry.Thread n → is_entry_of_work i e ≡ true → ⊥
+no_work_of : (i : ℕ) (e : Entry) (n : ℕ) → e ≡ Entry.Thread n → is_entry_of_work i e ≡ true → ⊥
 no_work_of i e n is work = absurd (let two = sym (ap (is_entry_of_work i) is) ∙ work in cc)
 
 first_is : (m : Mark) (es : List Entry) (o : Option Entry) → top es ≡ o → first_of m es ≡ option_map (λ e. (m, e)) o
@@ -91,7 +61,7 @@ module _ (a : CoreParts) where
     is_whole = sound.whole
 
     -- an entry is in the instance of its thread
-    entry_instance : (x : Queued) (of_thread : OfThread bared x) (n : ℕ) → x.entry ≡ entry.Thread n → x.instance ≡ Some (instance_of n (seen a).core)
+    entry_instance : (x : Queued) (of_thread : OfThread bared x) (n : ℕ) → x.entry ≡ Entry.Thread n → x.instance ≡ Some (instance_of n (seen a).core)
     entry_instance x of_thread n is =
         let one = placed_item x of_thread in
         let g = one.1.1.0 in
@@ -99,7 +69,7 @@ module _ (a : CoreParts) where
         ap (λ (q : Queued). q.instance) one.1.1.1.1
         ∙ ap (λ (i : ℕ). Some i) (thread_instance a sound one.0 g one.1.1.1.0 ∙ ap (λ m. instance_of m (seen a).core) (sym (thread_named a one.0 g one.1.1.1.0) ∙ number))
       where
-        thread_number_of : (m n : ℕ) → entry.Thread m ≡ entry.Thread n → m ≡ n
+        thread_number_of : (m n : ℕ) → Entry.Thread m ≡ Entry.Thread n → m ≡ n
         thread_number_of m n is = cc
 
     -- which is there
@@ -117,15 +87,15 @@ module _ (a : CoreParts) where
       | inr at ↦ ap (is_number i) at.alone ∙ sym (no_instance x.entry at.placed.entry.item.number at.entry)
     ]
       where
-        by_entry : (e : Entry) → x.entry ≡ e → ((n : ℕ) → x.entry ≡ entry.Thread n → x.instance ≡ Some (instance_of n (seen a).core)) → {m : ℕ} → x.entry ≡ entry.Thread m → is_of_instance i x ≡ is_entry_in i (seen a).core e
-        by_entry (entry.Thread n) is instance thread = ap (is_number i) (instance n is)
-        by_entry (entry.Push j) is instance thread = absurd (let two = sym is ∙ thread in cc)
-        by_entry (entry.Host j) is instance thread = absurd (let two = sym is ∙ thread in cc)
+        by_entry : (e : Entry) → x.entry ≡ e → ((n : ℕ) → x.entry ≡ Entry.Thread n → x.instance ≡ Some (instance_of n (seen a).core)) → {m : ℕ} → x.entry ≡ Entry.Thread m → is_of_instance i x ≡ is_entry_in i (seen a).core e
+        by_entry (Entry.Thread n) is instance thread = ap (is_number i) (instance n is)
+        by_entry (Entry.Push j) is instance thread = absurd (let two = sym is ∙ thread in cc)
+        by_entry (Entry.Host j) is instance thread = absurd (let two = sym is ∙ thread in cc)
 
         no_instance : (e : Entry) (j : ℕ) → is_entry_of_work j e ≡ true → is_entry_in i (seen a).core e ≡ false
-        no_instance (entry.Thread n) j is = absurd (cc)
-        no_instance (entry.Push k) j is = refl
-        no_instance (entry.Host k) j is = refl
+        no_instance (Entry.Thread n) j is = absurd (cc)
+        no_instance (Entry.Push k) j is = refl
+        no_instance (Entry.Host k) j is = refl
 
     -- ---- The first of an instance
 
@@ -192,44 +162,44 @@ module _ (a : CoreParts) where
     top_seen : (r : Row) (o : Option Queued) → o ≡ top (row bared r) → top (row_seen a r) ≡ option_map (λ (q : Queued). q.entry) o
     top_seen r o is = top-map (λ (q : Queued). q.entry) (row bared r) ∙ ap (option_map (λ (q : Queued). q.entry)) (sym is)
 
-    pub next_switch : (f : Follower) → a.switch ≡ Some f → next_entry (seen a).core ≡ Some (mark.Switch, entry.Thread f.number)
+    pub next_switch : (f : Follower) → a.switch ≡ Some f → next_entry (seen a).core ≡ Some (Mark.Switch, Entry.Thread f.number)
     unfolding next_entry seen
     next_switch f is = ap (λ o. or_high (option_map (λ (g : Follower). g.number) o) (row_seen a High) (row_seen a Low)) is
 
     module _ (no_switch : a.switch ≡ None) where
-      next_unless : next_entry (seen a).core ≡ or_first (first_of mark.High (row_seen a High)) (row_seen a Low)
+      next_unless : next_entry (seen a).core ≡ or_first (first_of Mark.High (row_seen a High)) (row_seen a Low)
       unfolding next_entry seen
       next_unless = ap (λ o. or_high (option_map (λ (g : Follower). g.number) o) (row_seen a High) (row_seen a Low)) no_switch
 
-      pub next_high : (q : Queued) → Some q ≡ top (row bared High) → next_entry (seen a).core ≡ Some (mark.High, q.entry)
-      next_high q is = next_unless ∙ ap (λ o. or_first o (row_seen a Low)) (first_is mark.High (row_seen a High) (Some q.entry) (top_seen High (Some q) is))
+      pub next_high : (q : Queued) → Some q ≡ top (row bared High) → next_entry (seen a).core ≡ Some (Mark.High, q.entry)
+      next_high q is = next_unless ∙ ap (λ o. or_first o (row_seen a Low)) (first_is Mark.High (row_seen a High) (Some q.entry) (top_seen High (Some q) is))
 
       module _ (no_high : None ≡ top (row bared High)) where
-        next_at_low : next_entry (seen a).core ≡ first_of mark.Low (row_seen a Low)
-        next_at_low = next_unless ∙ ap (λ o. or_first o (row_seen a Low)) (first_is mark.High (row_seen a High) None (top_seen High None no_high))
+        next_at_low : next_entry (seen a).core ≡ first_of Mark.Low (row_seen a Low)
+        next_at_low = next_unless ∙ ap (λ o. or_first o (row_seen a Low)) (first_is Mark.High (row_seen a High) None (top_seen High None no_high))
 
-        pub next_low : (q : Queued) → Some q ≡ top (row bared Low) → next_entry (seen a).core ≡ Some (mark.Low, q.entry)
-        next_low q is = next_at_low ∙ first_is mark.Low (row_seen a Low) (Some q.entry) (top_seen Low (Some q) is)
+        pub next_low : (q : Queued) → Some q ≡ top (row bared Low) → next_entry (seen a).core ≡ Some (Mark.Low, q.entry)
+        next_low q is = next_at_low ∙ first_is Mark.Low (row_seen a Low) (Some q.entry) (top_seen Low (Some q) is)
 
         pub next_none : None ≡ top (row bared Low) → next_entry (seen a).core ≡ None
-        next_none is = next_at_low ∙ first_is mark.Low (row_seen a Low) None (top_seen Low None is)
+        next_none is = next_at_low ∙ first_is Mark.Low (row_seen a Low) None (top_seen Low None is)
 
     -- ---- Ids of entries
 
-    pub thread_id : (x : Queued) → IsSeated bared x → (n : ℕ) → x.entry ≡ entry.Thread n → (m : ℕ) → m ≡ number_in (record_at thread_key a.threads.places x.place) → entry.Thread m ≡ x.entry
+    pub thread_id : (x : Queued) → IsSeated bared x → (n : ℕ) → x.entry ≡ Entry.Thread n → (m : ℕ) → m ≡ number_in (record_at thread_key a.threads.places x.place) → Entry.Thread m ≡ x.entry
     thread_id x is_x n is m at = elim (seat_of bared x is_x) [
-      | inl seat ↦ ap (λ k. entry.Thread k) (at ∙ thread_number_here a sound x seat) ∙ ap (λ (q : Queued). q.entry) seat.is
+      | inl seat ↦ ap (λ k. Entry.Thread k) (at ∙ thread_number_here a sound x seat) ∙ ap (λ (q : Queued). q.entry) seat.is
       | inr seat ↦ absurd (no_work_of seat.placed.entry.item.number x.entry n is seat.entry)
     ]
 
-    pub work_number : (x : Queued) → IsSeated bared x → (i : ℕ) → ((n : ℕ) → x.entry ≡ entry.Thread n → ⊥) → is_entry_of_work i x.entry ≡ true → ((j : ℕ) → is_entry_of_work j x.entry ≡ true → j ≡ i) → number_in (record_at work_key a.works.places x.place) ≡ i
+    pub work_number : (x : Queued) → IsSeated bared x → (i : ℕ) → ((n : ℕ) → x.entry ≡ Entry.Thread n → ⊥) → is_entry_of_work i x.entry ≡ true → ((j : ℕ) → is_entry_of_work j x.entry ≡ true → j ≡ i) → number_in (record_at work_key a.works.places x.place) ≡ i
     work_number x is_x i no_thread is one = elim (seat_of bared x is_x) [
       | inl seat ↦ absurd (no_thread seat.placed.entry.item.number (sym (ap (λ (q : Queued). q.entry) seat.is)))
       | inr seat ↦ sym (number_at_mapped work_key work_key (on_item bare_work) (λ w. unmoved (loose_work w)) (λ e. refl) a.works x.place) ∙ (ap (λ o. number_in (key_in work_key o)) seat.at ∙ one seat.placed.entry.item.number seat.entry)
     ]
 
-    pub push_id : (x : Queued) → IsSeated bared x → (i : ℕ) → x.entry ≡ entry.Push i → (m : ℕ) → m ≡ number_in (record_at work_key a.works.places x.place) → entry.Push m ≡ x.entry
-    push_id x is_x i is m at = ap (λ k. entry.Push k) (at ∙ work_number x is_x i (λ n thread. absurd (let two = sym is ∙ thread in cc)) (ap (is_entry_of_work i) is ∙ eq-eqb i i refl) (λ j of. eqb-true j i (sym (ap (is_entry_of_work j) is) ∙ of))) ∙ sym is
+    pub push_id : (x : Queued) → IsSeated bared x → (i : ℕ) → x.entry ≡ Entry.Push i → (m : ℕ) → m ≡ number_in (record_at work_key a.works.places x.place) → Entry.Push m ≡ x.entry
+    push_id x is_x i is m at = ap (λ k. Entry.Push k) (at ∙ work_number x is_x i (λ n thread. absurd (let two = sym is ∙ thread in cc)) (ap (is_entry_of_work i) is ∙ eq-eqb i i refl) (λ j of. eqb-true j i (sym (ap (is_entry_of_work j) is) ∙ of))) ∙ sym is
 
-    pub host_id : (x : Queued) → IsSeated bared x → (i : ℕ) → x.entry ≡ entry.Host i → (m : ℕ) → m ≡ number_in (record_at work_key a.works.places x.place) → entry.Host m ≡ x.entry
-    host_id x is_x i is m at = ap (λ k. entry.Host k) (at ∙ work_number x is_x i (λ n thread. absurd (let two = sym is ∙ thread in cc)) (ap (is_entry_of_work i) is ∙ eq-eqb i i refl) (λ j of. eqb-true j i (sym (ap (is_entry_of_work j) is) ∙ of))) ∙ sym is
+    pub host_id : (x : Queued) → IsSeated bared x → (i : ℕ) → x.entry ≡ Entry.Host i → (m : ℕ) → m ≡ number_in (record_at work_key a.works.places x.place) → Entry.Host m ≡ x.entry
+    host_id x is_x i is m at = ap (λ k. Entry.Host k) (at ∙ work_number x is_x i (λ n thread. absurd (let two = sym is ∙ thread in cc)) (ap (is_entry_of_work i) is ∙ eq-eqb i i refl) (λ j of. eqb-true j i (sym (ap (is_entry_of_work j) is) ∙ of))) ∙ sym is

@@ -1,22 +1,7 @@
 -- What hangs on the chains of marks and of callers, and on switch, and what does not.
-use Rattle.std.proofs.Common.{◌≡◌, ℕ, true, List, [], Option, Some, None, IfSome, filter, refl, sym, ap, subst}
-use Rattle.task_index.specs.Rows.{Each, IsRows, part}
-use Rattle.task_index.proofs.Rows.{IsRows-same, values_are}
-use Rattle.task_links.specs.Links.{Spot, is_made}
-use Rattle.task_machine.specs.Read.{table_use}
-use Rattle.task_records.specs.Image.{Parts, chained, core_of}
-use Rattle.task_records.specs.Names.{HasHome, IsCallNamed, IsWorkNamed}
-use Rattle.task_records.specs.Kept.{IsSetKept}
-use Rattle.task_records.specs.Rows.{High, IsFollower, IsOfThread, IsSeated, Low, Row, callers_chain, callers_row, is_of_instance, row, row_chain, shelf_chain}
-use Rattle.task_records.specs.Seen.{IsSound, parts_of}
-use Rattle.task_records.specs.Sound.{AreCounted, AreNamed, HaveRowNodes, IsWhole, bare}
-use Rattle.task_records.specs.declared.parts.CoreParts.{CoreParts}
-use Rattle.task_records.specs.declared.calls.GuestTask.{GuestTask}
-use Rattle.task_records.specs.declared.sets.WaitSet.{WaitSet}
-use Rattle.task_records.specs.declared.threads.Follower.{Follower}
-use Rattle.task_records.specs.declared.threads.GuestThread.{GuestThread}
-use Rattle.task_records.specs.declared.threads.Queued.{Queued}
-use Rattle.task_records.specs.declared.works.HostWork.{HostWork}
+use Rattle.task_records.proofs.SoundLemmas.{sound_of_whole}
+use Rattle.task_records.proofs.Core.{[], ap, AreCounted, AreNamed, bare, callers_chain, callers_row, chained, core_of, Each, filter, HasHome, HaveRowNodes, High, IfSome, is_made, is_of_instance, IsCallNamed, IsFollower, IsOfThread, IsRows, IsRows-same, IsSeated, IsSetKept, IsSound, IsWhole, IsWorkNamed, List, Low, None, Option, part, Parts, parts_of, refl, Row, row, row_chain, shelf_chain, Some, Spot, subst, sym, table_use, true, values_are, ℕ, ◌≡◌}
+use Rattle.task_records.specs.declared.{calls.GuestTask.GuestTask, parts.CoreParts.CoreParts, sets.WaitSet.WaitSet, threads.Follower.Follower, threads.GuestThread.GuestThread, threads.Queued.Queued, works.HostWork.HostWork}
 
 -- the parts with other chains of marks and callers
 abbrev pub with_chains : Parts → List (Spot Queued) → List (Spot Queued) → List (Spot Follower) → Option Follower → Parts
@@ -98,15 +83,7 @@ module _ (p : Parts) (whole : IsWhole p) (marks shelves : List (Spot Queued)) (b
 -- so that a core with other chains is sound where its parts are whole
 pub chains_sound : (a : CoreParts) (marks shelves : List (Spot Queued)) (behind : List (Spot Follower)) (switch : Option Follower) → IsSound a → IsWhole (with_chains (bare (parts_of a)) marks shelves behind switch) → IsSound (record a { marks = marks; shelves = shelves; behind = behind; switch = switch })
 unfolding IsSound
-chains_sound a marks shelves behind switch sound whole = record {
-  tables = record { threads = sound.tables.threads; calls = sound.tables.calls; works = sound.tables.works; sets = sound.tables.sets; groups = sound.tables.groups };
-  whole = whole;
-  interesting = sound.interesting;
-  moving = sound.moving;
-  handles = sound.handles;
-  owned = sound.owned;
-  live = sound.live;
-}
+chains_sound a marks shelves behind switch sound whole = sound_of_whole a (record a { marks = marks; shelves = shelves; behind = behind; switch = switch }) refl sound whole
 
 -- ---- The entries of the marks
 

@@ -1,18 +1,7 @@
 -- A table seen by a function of its items is a sound table of the same numbers.
-use Rattle.std.proofs.Common.{◌≡◌, ℕ, Option, Some, None, refl, sym, ap, ap₂, ◌∙◌}
-use Rattle.std.proofs.lemmas.Option.{same_Some}
-use Rattle.std.specs.Option.{option_map}
-use Rattle.std.specs.Prelude.{Ok}
+use Rattle.task_records.proofs.Core.{ap, ap₂, children_of-mapped, found-mapped, found_record, IsTable-mapped, item_at, item_found, item_in, item_of, key_in, mapped, None, Ok, on_item, Option, option_map, place_at, place_at-mapped, Placed, placed_as, record_at, refl, same_Some, Some, SoundTable, sym, Table, ℕ, ◌∙◌, ◌≡◌}
+use Rattle.task_records.specs.declared.{single.Single.Single}
 use Rattle.task_records.proofs.TableLemmas.{found_mapped, with_second}
-use Rattle.task_records.specs.Kinds.{item_of, on_item}
-use Rattle.task_records.specs.Sound.{SoundTable}
-use Rattle.task_records.specs.declared.single.Single.{Single}
-use Rattle.task_table.proofs.MappedLemmas.{IsTable-mapped, children_of-mapped, found-mapped, place_at-mapped}
-use Rattle.task_table.proofs.TableLemmas.{item_found}
-use Rattle.task_table.specs.Answers.{item_at, item_in}
-use Rattle.task_table.specs.Mapped.{mapped, placed_as}
-use Rattle.task_table.specs.Records.{found_record, key_in, record_at}
-use Rattle.task_table.specs.Table.{Placed, Table, place_at}
 
 module _ {T X : Type 0} (number : T → ℕ) (rec : T → X) (f : T → T) (loose : X → X) (named : (x : T) → number (f x) ≡ number x) (follows : (x : T) → rec (f x) ≡ loose (rec x)) (t : Table (Single T)) where
   abbrev key : Single T → Option (ℕ × X)

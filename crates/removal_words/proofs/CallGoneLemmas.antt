@@ -1,8 +1,6 @@
 -- Parts without one call, of which no thread is left and which is in no set: they are whole.
-use Rattle.std.proofs.Common.{inl, inr, ◌⊎◌, ◌≡◌, ◌+◌, ◌==◌, ℕ, Bool, true, false, cond, List, Some, None, length, filter, nat_lt, refl, sym, ap, subst, ◌∙◌, arith}
-use Rattle.std.proofs.lemmas.Bool.{cases_eq, ne_eqb}
-use Rattle.std.specs.Option.{option_map_or}
-use Rattle.std.specs.Prelude.{Ok}
+use Rattle.task_records.proofs.Core.{ap, AreChained, AreCounted, arith, BlockedOn, Bool, Call, call_key, calls_of, cases_eq, cond, core_of, deleted, EachEntry, entry_of, false, filings, filter, get, get-remove, group_key, HasHome, HasNumber, HeldIn, inl, inr, is_in_set, IsCallNamed, IsGroupKept, IsWhole, IsWorkNamed, item_at, item_of, Join, key_in, kinds, length, List, nat_lt, ne_eqb, no_callee, None, number_in, Ok, one_if_passes, option_map_or, Parts, passing, passing-with_at, place_at, place_at-deleted, place_chain, place_filing, Placed, ready_call, ready_call_chain, ready_in, record_at, Records, refl, remove, Some, SoundTable, Spot, subst, Subtask, sym, Table, table_use, ThreadOf, true, UnderOf, WaitsOn, Where, ℕ, ◌+◌, ◌==◌, ◌∙◌, ◌≡◌, ◌⊎◌}
+use Rattle.task_records.specs.declared.{calls.GuestTask.GuestTask, calls.TaskGroup.TaskGroup, parts.Kept.Kept, single.Single.Single, threads.GuestThread.GuestThread, works.HostWork.HostWork}
 use Rattle.place_words.proofs.AlikeLemmas.{number_alike}
 use Rattle.place_words.proofs.FiledLemmas.{kept_under}
 use Rattle.place_words.specs.Moved.{Alike}
@@ -12,35 +10,8 @@ use Rattle.removal_words.proofs.LeftLemmas.{Leaves, named_left}
 use Rattle.removal_words.proofs.LessLemmas.{found_gone, found_still, one_fewer, placed_before}
 use Rattle.removal_words.specs.Chains.{Closes, Drops}
 use Rattle.removal_words.specs.Counted.{uncalled}
-use Rattle.task_index.proofs.Counts.{passing-with_at}
-use Rattle.task_index.specs.Counts.{one_if_passes, passing}
-use Rattle.task_index.specs.Index.{filings}
-use Rattle.task_links.specs.Links.{Spot}
-use Rattle.task_machine.specs.Maps.{Records, get, get-remove, remove}
-use Rattle.task_machine.specs.Read.{is_in_set, no_callee, table_use}
-use Rattle.task_machine.specs.declared.records.Call.{Call}
-use Rattle.task_machine.specs.declared.records.Join.TheVariants as join
-use Rattle.task_machine.specs.declared.records.Subtask.TheVariants as subtask
 use Rattle.task_records.proofs.KindLemmas.{absent, item_number, item_read, item_stands}
 use Rattle.task_records.proofs.MakeLemmas.{records_less, stands_less}
-use Rattle.task_records.specs.Image.{Parts, core_of}
-use Rattle.task_records.specs.Kept.{IsGroupKept, calls_of}
-use Rattle.task_records.specs.Keys.{call_key, group_key}
-use Rattle.task_records.specs.Kinds.{entry_of, item_of}
-use Rattle.task_records.specs.Names.{HasHome, HasNumber, IsCallNamed, IsWorkNamed, kinds, ThreadOf}
-use Rattle.task_records.specs.Places.{BlockedOn, HeldIn, UnderOf, WaitsOn, Where, place_chain, place_filing, ready_call, ready_call_chain, ready_in}
-use Rattle.task_records.specs.Sound.{AreChained, AreCounted, EachEntry, IsWhole, SoundTable}
-use Rattle.task_records.specs.declared.calls.GuestTask.{GuestTask}
-use Rattle.task_records.specs.declared.calls.TaskGroup.{TaskGroup}
-use Rattle.task_records.specs.declared.parts.Kept.{Kept}
-use Rattle.task_records.specs.declared.single.Single.{Single}
-use Rattle.task_records.specs.declared.threads.GuestThread.{GuestThread}
-use Rattle.task_records.specs.declared.works.HostWork.{HostWork}
-use Rattle.task_table.proofs.Laws.{place_at-deleted}
-use Rattle.task_table.specs.Answers.{item_at}
-use Rattle.task_table.specs.Changes.{deleted}
-use Rattle.task_table.specs.Records.{key_in, number_in, record_at}
-use Rattle.task_table.specs.Table.{Placed, Table, place_at}
 
 abbrev number : GuestTask → ℕ
 number g = g.number
@@ -114,26 +85,26 @@ module _ (p : Parts) (whole : IsWhole p) (made : ℕ) (sound : SoundTable call_k
       how_far = named_left (kinds p) (kinds less) left h.awaited _ home.how_far;
     }
 
-    blocked_is : place_chain p (BlockedOn (subtask.Guest g.number)) ≡ Some g.blocked
+    blocked_is : place_chain p (BlockedOn (Subtask.Guest g.number)) ≡ Some g.blocked
     blocked_is = kept_under number machine (λ (x : GuestTask). x.blocked) p.calls made sound rep serial g is
 
-    place_else : (k : Where) → (k ≡ BlockedOn (subtask.Guest g.number)) ⊎ (place_chain less k ≡ place_chain p k)
+    place_else : (k : Where) → (k ≡ BlockedOn (Subtask.Guest g.number)) ⊎ (place_chain less k ≡ place_chain p k)
     place_else (WaitsOn x) = inr refl
     place_else (HeldIn i) = inr refl
     place_else (UnderOf n) = inr refl
-    place_else (BlockedOn (subtask.Guest k)) = elim (cases_eq k g.number) [
-      | inl same ↦ inl (ap (λ m. BlockedOn (subtask.Guest m)) same)
+    place_else (BlockedOn (Subtask.Guest k)) = elim (cases_eq k g.number) [
+      | inl same ↦ inl (ap (λ m. BlockedOn (Subtask.Guest m)) same)
       | inr other ↦ inr (found_still number machine p.calls made sound rep serial g is (λ (x : GuestTask). x.blocked) k other)
     ]
-    place_else (BlockedOn (subtask.Host i)) = inr refl
+    place_else (BlockedOn (Subtask.Host i)) = inr refl
 
     groups_same : (core_of less).groups ≡ (core_of p).groups
     groups_same = ap (filter (nat_lt p.finished)) (numbers_alike groups p.groups alike)
 
-    module _ (nowhere : g.call.join ≡ join.Nowhere) (each_apart : EachEntry (λ (h : GuestThread). h.thread.call ≡ g.number → ⊥) p.threads) (shut : Closes p.places places g.blocked) (ready_out : Drops p.ready_calls ready_calls g.ready.index) (used : kept.used + 1 ≡ p.kept.used) (same_groups : kept.groups ≡ p.kept.groups) (live : kept.live ≡ p.kept.live) (groups_kept : EachEntry (IsGroupKept (core_of less)) groups) where
+    module _ (nowhere : g.call.join ≡ Join.Nowhere) (each_apart : EachEntry (λ (h : GuestThread). h.thread.call ≡ g.number → ⊥) p.threads) (shut : Closes p.places places g.blocked) (ready_out : Drops p.ready_calls ready_calls g.ready.index) (used : kept.used + 1 ≡ p.kept.used) (same_groups : kept.groups ≡ p.kept.groups) (live : kept.live ≡ p.kept.live) (groups_kept : EachEntry (IsGroupKept (core_of less)) groups) where
       chained_left : AreChained less
       chained_left = record {
-        places = IsIndex-shut (place_chain p) (place_chain less) p.places places (BlockedOn (subtask.Guest g.number)) g.blocked blocked_is (found_gone number machine p.calls made sound rep serial g is (λ (x : GuestTask). x.blocked)) place_else shut (filings place_filing p.threads) whole.chained.places;
+        places = IsIndex-shut (place_chain p) (place_chain less) p.places places (BlockedOn (Subtask.Guest g.number)) g.blocked blocked_is (found_gone number machine p.calls made sound rep serial g is (λ (x : GuestTask). x.blocked)) place_else shut (filings place_filing p.threads) whole.chained.places;
         ready_calls = IsIndex-gone ready_call (ready_call_chain less) p.calls rep stands.0 stands.1.0 (record { node = stands.0.entry.item.ready.index; key = ready_in stands.0.entry.item.call.event stands.0.entry.item.call.join; value = rep }) refl p.ready_calls ready_calls
             (subst (λ (e : Single GuestTask). Drops p.ready_calls ready_calls e.item.ready.index) (sym stands.1.1.1) ready_out) whole.chained.ready_calls;
         ready_works = whole.chained.ready_works;

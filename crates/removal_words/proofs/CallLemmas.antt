@@ -1,8 +1,6 @@
 -- A call is gone, as the word takes it away.
-use Rattle.std.proofs.Common.{◌≡◌, ◌+◌, ◌-◌, ◌==◌, ◌<◌, ◌≤◌, ℕ, true, false, cond, List, Some, None, IsSome, filter, nat_lt, refl, sym, ap, ap₂, subst, ◌∙◌, arith}
-use Rattle.std.proofs.lemmas.Bool.{eq-eqb, ne_eqb}
-use Rattle.std.specs.Option.{option_map_or}
-use Rattle.std.specs.Prelude.{Err, Ok, Result}
+use Rattle.task_records.proofs.Core.{ap, ap₂, AreHandlesNamed, arith, bare, bare_call, bare_thread, BlockedOn, Call, call_group, call_key, call_of, calls_of, cond, Core, core_of, deleted, deletion, deletion_refused, EachEntry, entry_of, eq-eqb, Err, false, filings_at, filter, get, group_key, GroupKey, GuestTaskKey, has_thread, is_made, IsGroupKept, IsSome, IsSound, IsTable, IsWhole, item_at, item_of, Join, join_of, KeepsBut, kinds, List, list_of, loose_call, lost_call, mapped-deleted, nat_lt, ne_eqb, None, number_of, Ok, on_item, one_if_passes, option_map_or, Parts, parts_of, passing, passing-with_at, place_at, Placed, ready_call, Records, records, refl, remove, remove_call, ResourceTableError, Result, seen, set_number, Some, SoundTable, Spot, subst, Subtask, sym, Table, table_use, TableId, Thread, thread_number, true, uninterested, with_entry, work_number, ℕ, ◌+◌, ◌-◌, ◌<◌, ◌==◌, ◌∙◌, ◌≡◌, ◌≤◌}
+use Rattle.task_records.specs.declared.{calls.GuestTask.GuestTask, calls.TaskGroup.TaskGroup, parts.CoreParts.CoreParts, parts.Kept.Kept, single.Single.Single, threads.GuestThread.GuestThread}
 use Rattle.place_words.proofs.AlikeLemmas.{number_of_alike}
 use Rattle.place_words.proofs.FiledLemmas.{kept_under}
 use Rattle.place_words.specs.Moved.{Alike}
@@ -15,47 +13,10 @@ use Rattle.removal_words.proofs.LessLemmas.{one_fewer, passes_not, read_at}
 use Rattle.removal_words.proofs.RewriteLemmas.{each_rewritten, each_there, rewritten_alike}
 use Rattle.removal_words.specs.Chains.{Closes, Drops}
 use Rattle.removal_words.specs.Counted.{uncalled}
-use Rattle.task_index.proofs.Counts.{passing-with_at}
-use Rattle.task_index.proofs.Tables.{filings_at}
-use Rattle.task_index.specs.Counts.{one_if_passes, passing}
-use Rattle.task_links.specs.Links.{Spot, is_made, list_of}
-use Rattle.task_machine.specs.Core.{Core}
-use Rattle.task_machine.specs.Maps.{Records, get, remove}
-use Rattle.task_machine.specs.Read.{call_group, has_thread, join_of, table_use}
-use Rattle.task_machine.specs.Write.{remove_call}
-use Rattle.task_machine.specs.declared.records.Call.{Call}
-use Rattle.task_machine.specs.declared.records.Join.TheVariants as join
-use Rattle.task_machine.specs.declared.records.Subtask.TheVariants as subtask
-use Rattle.task_machine.specs.declared.records.Thread.{Thread}
 use Rattle.task_records.proofs.HomeLemmas.{call_names}
 use Rattle.task_records.proofs.KindLemmas.{item_number, item_read, item_stands, table_written}
 use Rattle.task_records.proofs.MakeLemmas.{number_left, records_less, table_less}
 use Rattle.task_records.proofs.ReadLemmas.{call_named, call_read, call_shown}
-use Rattle.task_records.specs.Image.{Parts, core_of}
-use Rattle.task_records.specs.Kept.{IsGroupKept, calls_of}
-use Rattle.task_records.specs.Keys.{call_key, group_key}
-use Rattle.task_records.specs.Kinds.{entry_of, item_of, on_item}
-use Rattle.task_records.specs.Names.{AreHandlesNamed, kinds}
-use Rattle.task_records.specs.Places.{BlockedOn, ready_call}
-use Rattle.task_records.specs.Seen.{IsSound, parts_of, seen}
-use Rattle.task_records.specs.Sound.{EachEntry, IsWhole, SoundTable, bare, bare_call, bare_thread, loose_call, uninterested}
-use Rattle.task_records.specs.declared.calls.GuestTask.{GuestTask}
-use Rattle.task_records.specs.declared.calls.TaskGroup.{TaskGroup}
-use Rattle.task_records.specs.declared.parts.CoreParts.{CoreParts}
-use Rattle.task_records.specs.declared.parts.Kept.{Kept}
-use Rattle.task_records.specs.declared.single.Single.{Single}
-use Rattle.task_records.specs.declared.threads.GuestThread.{GuestThread}
-use Rattle.task_table.proofs.ItemLemmas.{deletion_refused}
-use Rattle.task_table.proofs.MappedLemmas.{mapped-deleted}
-use Rattle.task_table.specs.Answers.{deletion, item_at}
-use Rattle.task_table.specs.Changes.{deleted, with_entry}
-use Rattle.task_table.specs.Records.{number_of, records}
-use Rattle.task_table.specs.Table.{IsTable, Placed, Table, place_at}
-use Rattle.task_table.specs.declared.error.ResourceTableError.{ResourceTableError}
-use Rattle.task_table.specs.declared.id.TableId.{TableId}
-use Rattle.task_wait.specs.declared.keys.GroupKey.{GroupKey}
-use Rattle.task_wait.specs.declared.keys.GuestTaskKey.{GuestTaskKey}
-use Rattle.task_words.specs.StateView.{KeepsBut, call_of, lost_call, set_number, thread_number, work_number}
 
 abbrev number : GuestTask → ℕ
 number g = g.number
@@ -93,7 +54,7 @@ module _ (a : CoreParts) (sound : IsSound a) (id : TableId GuestTaskKey) (g : Gu
   -- ---- What the word asks
 
   pub blocked_live : IsSome (list_of a.places g.blocked)
-  blocked_live = whole.chained.places.live (BlockedOn (subtask.Guest g.number)) g.blocked (kept_under number machine (λ (x : GuestTask). x.blocked) bared.calls a.made.threads calls_sound id.rep id.serial (bare_call g) bare_is)
+  blocked_live = whole.chained.places.live (BlockedOn (Subtask.Guest g.number)) g.blocked (kept_under number machine (λ (x : GuestTask). x.blocked) bared.calls a.made.threads calls_sound id.rep id.serial (bare_call g) bare_is)
 
   pub ready_made : is_made a.ready_calls g.ready.index ≡ true
   ready_made = subst (λ (e : Single GuestTask). is_made a.ready_calls e.item.ready.index ≡ true) bare_stands.1.1.1 (whole.chained.ready_calls.made id.rep _ (filings_at ready_call bared.calls id.rep (Some bare_stands.0) bare_stands.1.0))
@@ -158,9 +119,9 @@ module _ (a : CoreParts) (sound : IsSound a) (id : TableId GuestTaskKey) (g : Gu
     pub group_named : number_of group_key groups_less group.rep group.serial ≡ call_group (call_of (seen a) id) (seen a).core
     group_named = number_of_alike uncalled group_key (λ e. refl) groups_less a.groups alike group.rep group.serial ∙ (item_number group_number group_calls a.groups group.rep group.serial r is_r ∙ (of ∙ ap (λ o. option_map_or (λ (c : Call). c.group) o 0) (call_read a sound id g is)))
 
-    module _ (alone : has_thread (call_of (seen a) id) (seen a).core ≡ false) (apart : join_of (subtask.Guest (call_of (seen a) id)) (seen a).core ≡ join.Nowhere) where
-      nowhere : g.call.join ≡ join.Nowhere
-      nowhere = ap (λ o. option_map_or (λ (c : Call). c.join) o join.Nowhere) (call_read a sound id g is) ∙ apart
+    module _ (alone : has_thread (call_of (seen a) id) (seen a).core ≡ false) (apart : join_of (Subtask.Guest (call_of (seen a) id)) (seen a).core ≡ Join.Nowhere) where
+      nowhere : g.call.join ≡ Join.Nowhere
+      nowhere = ap (λ o. option_map_or (λ (c : Call). c.join) o Join.Nowhere) (call_read a sound id g is) ∙ apart
 
       each_apart : EachEntry (λ (h : GuestThread). h.thread.call ≡ g.number → ⊥) bared.threads
       unfolding IsSound seen has_thread

@@ -1,12 +1,6 @@
 -- A chain is emptied node by node and dropped, or a node is.
-use Rattle.std.proofs.Common.{inl, inr, ◌≡◌, ◌==◌, ◌<◌, ℕ, Bool, true, false, cond, List, [], ◌∷◌, length, Option, Some, None, IsSome, refl, sym, ap, subst, ◌∙◌, arith}
-use Rattle.std.proofs.lemmas.Bool.{cases_eq, eq-eqb, ne_eqb}
-use Rattle.std.proofs.lemmas.Option.{same_Some}
+use Rattle.task_records.proofs.Core.{[], ap, arith, Bool, cases_eq, ChainOf, ChangesOnly, ChangesOnly-unlinked, cond, entries, eq-eqb, false, first_link, first_made, free_unlinked, FreeNode, head_of, In, inl, inr, is_free, is_made, IsLinks, IsSome, length, link_of, LinkedNode, List, list_of, list_or_nil, made_free, ne_eqb, None, Option, Refiles, Refiles-changed, refl, removed, removed_by, Renames, same_Some, Some, Spot, spot_at, spot_is_free, spot_is_made, spot_link, spot_list, subst, sym, true, Unmade, without, ℕ, ◌<◌, ◌==◌, ◌∙◌, ◌∷◌, ◌≡◌}
 use Rattle.removal_words.specs.Chains.{Closes, Drops, Empties, link_but}
-use Rattle.task_index.proofs.Refilings.{Refiles-changed, first_link, first_made, free_unlinked}
-use Rattle.task_index.specs.Index.{Refiles}
-use Rattle.task_links.proofs.ReadLemmas.{ChangesOnly-unlinked, made_free}
-use Rattle.task_links.specs.Links.{ChainOf, ChangesOnly, FreeNode, In, IsLinks, LinkedNode, Renames, Spot, Unmade, entries, head_of, is_free, is_made, link_of, list_of, list_or_nil, removed, removed_by, spot_at, spot_is_free, spot_is_made, spot_link, spot_list, without}
 
 module _ {P : Type 0} where
   -- a link that is left was there, and is to another chain

@@ -1,21 +1,8 @@
 -- A record goes with its node, or a key with its chain: what is left of an index, and of rows.
-use Rattle.std.proofs.Common.{inl, inr, ◌⊎◌, ◌≡◌, ◌||◌, ℕ, Bool, true, false, List, [], ◌∷◌, Option, Some, None, IsSome, refl, sym, ap, subst, ◌∙◌}
-use Rattle.std.proofs.lemmas.Bool.{cases_eq}
-use Rattle.std.proofs.lemmas.Option.{same_Some}
-use Rattle.std.specs.List.{list_any}
-use Rattle.std.specs.Option.{option_and_then, option_map}
+use Rattle.task_records.proofs.Core.{[], ap, Bool, cases_eq, deleted, Each, false, Filing, filings, filings-deleted_here, filings-deleted_other, filings_at, FreeNode, inl, inr, IsAscending, IsIndex, IsRows, IsRows-renamed, IsSome, link_of, List, list_any, list_of, list_or_nil, live_order, None, Option, option_and_then, option_map, place_at, Placed, refl, Renames, Rises, same_Some, Some, Spot, spot_at, spot_is_made, spot_link, spot_list, subst, sym, Table, true, Unmade, ℕ, ◌||◌, ◌∙◌, ◌∷◌, ◌≡◌, ◌⊎◌}
+use Rattle.task_records.specs.declared.{works.LiveWork.LiveWork}
 use Rattle.removal_words.proofs.CloseLemmas.{link_gone, link_left, link_other}
 use Rattle.removal_words.specs.Chains.{Closes, Drops, link_but}
-use Rattle.task_index.proofs.Rows.{IsRows-renamed}
-use Rattle.task_index.proofs.Tables.{filings-deleted_here, filings-deleted_other, filings_at}
-use Rattle.task_index.specs.Index.{Filing, IsIndex, filings}
-use Rattle.task_index.specs.Rows.{Each, IsRows}
-use Rattle.task_links.specs.Links.{FreeNode, Renames, Spot, Unmade, link_of, list_of, list_or_nil, spot_at, spot_is_made, spot_link, spot_list}
-use Rattle.task_records.specs.Places.{Rises, live_order}
-use Rattle.task_records.specs.declared.works.LiveWork.{LiveWork}
-use Rattle.task_table.specs.Changes.{deleted}
-use Rattle.task_table.specs.Table.{Placed, Table, place_at}
-use Rattle.task_wait.specs.Sets.{IsAscending}
 
 none_is : {X Y : Type 0} (x : X) → ◌≡◌ {A = Option X} None (Some x) → Y
 none_is x is = absurd (cc)

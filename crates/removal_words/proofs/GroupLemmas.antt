@@ -1,20 +1,10 @@
 -- The numbers of groups, where one has another count or is gone.
-use Rattle.std.proofs.Common.{◌≡◌, ◌+◌, ◌==◌, ◌||◌, ◌&&◌, ℕ, Bool, true, false, cond, not, List, [], ◌∷◌, Some, filter, is_some, length, map, nat_lt, refl, sym, ap, ◌∙◌, arith}
-use Rattle.std.proofs.lemmas.Bool.{eqb-true}
-use Rattle.std.specs.Cmp.{unsigned_tied}
+use Rattle.task_records.proofs.Core.{[], ap, arith, Bool, cond, eqb-true, false, filter, get, group_key, has, is_some, IsMembers-filter, IsMembers-numbers, length, List, map, nat_lt, not, numbers, on_item, Once, other_than, Records, records, refl, remove, Some, sym, Table, true, unsigned_tied, ℕ, ◌&&◌, ◌+◌, ◌==◌, ◌||◌, ◌∙◌, ◌∷◌, ◌≡◌}
+use Rattle.task_records.specs.declared.{calls.TaskGroup.TaskGroup, single.Single.Single}
 use Rattle.place_words.specs.Moved.{Alike}
 use Rattle.removal_words.specs.Counted.{uncalled}
-use Rattle.task_index.proofs.Members.{IsMembers-filter, IsMembers-numbers}
-use Rattle.task_index.specs.Members.{Once, has}
-use Rattle.task_machine.specs.Maps.{Records, get, numbers, other_than, remove}
 use Rattle.task_records.proofs.KeptLemmas.{records_seconds, seconds}
 use Rattle.task_records.specs.Instances.{mapped as mapped_list}
-use Rattle.task_records.specs.Keys.{group_key}
-use Rattle.task_records.specs.Kinds.{on_item}
-use Rattle.task_records.specs.declared.calls.TaskGroup.{TaskGroup}
-use Rattle.task_records.specs.declared.single.Single.{Single}
-use Rattle.task_table.specs.Records.{records}
-use Rattle.task_table.specs.Table.{Table}
 
 numbers_seconds : {X Y : Type 0} (r : X → Y) (m : Records X) → numbers (seconds r m) ≡ numbers m
 unfolding numbers

@@ -1,33 +1,17 @@
 -- A handle that names a set.
-use Rattle.std.proofs.Common.{◌≡◌, ◌<◌, ℕ, true, length, Option, Some, None, IsSome, is_some, slice_get, refl, sym, ap, subst, ◌∙◌}
-use Rattle.std.specs.Option.{option_and_then, option_map}
-use Rattle.std.specs.Prelude.{Ok}
-use Rattle.task_handles.specs.Handles.{held_by}
-use Rattle.task_handles.specs.Held.{set_in, set_of as held_set}
-use Rattle.task_handles.specs.declared.kinds.HandleKind.{HandleKind}
-use Rattle.task_handles.specs.declared.kinds.HandleKind.TheVariants as handle
-use Rattle.task_handles.specs.declared.kinds.Held.{Held}
-use Rattle.task_handles.specs.declared.kinds.Rep.{Rep}
-use Rattle.task_handles.specs.declared.kinds.WaitableKind.TheVariants as waitable
+use Rattle.task_records.proofs.Core.{ap, as_set, bare, get, HandleKind, Held, held_by, is_some, IsHeldNamed, IsSome, IsSound, Kinds, kinds, length, Named, named_as, named_of, None, Ok, Option, option_and_then, option_map, parts_of, refl, Rep, seen, set_at, set_in, slice_get, Some, subst, sym, true, WaitableKind, ℕ, ◌<◌, ◌∙◌, ◌≡◌}
 use Rattle.task_machine.specs.Core.{Table}
-use Rattle.task_machine.specs.Maps.{get}
-use Rattle.task_machine.specs.Read.{as_set, set_at}
-use Rattle.task_machine.specs.declared.records.Named.{Named}
+use Rattle.task_records.specs.declared.{instances.InstanceRecord.InstanceRecord, parts.CoreParts.CoreParts}
+use Rattle.task_handles.specs.Held.{set_of as held_set}
 use Rattle.task_records.proofs.HandleLemmas.{get-records_by}
 use Rattle.task_records.proofs.InstanceReads.{handles_read, instance_there}
-use Rattle.task_records.specs.Instances.{named_as, named_of}
-use Rattle.task_records.specs.Names.{IsHeldNamed, Kinds, kinds}
-use Rattle.task_records.specs.Seen.{IsSound, parts_of, seen}
-use Rattle.task_records.specs.Sound.{bare}
-use Rattle.task_records.specs.declared.instances.InstanceRecord.{InstanceRecord}
-use Rattle.task_records.specs.declared.parts.CoreParts.{CoreParts}
 
 is_set : (p : Kinds) (k : HandleKind) (rep : Rep) → IsHeldNamed p k rep → IsSome (as_set (named_as k rep.serial)) → (r : Rep) × (set_in k rep ≡ Ok r)
-is_set p (handle.Waitable waitable.GuestSubtask) rep named some = absurd (cc)
-is_set p (handle.Waitable waitable.HostSubtask) rep named some = absurd (cc)
-is_set p (handle.Waitable waitable.Stream) rep named some = absurd named
-is_set p (handle.Waitable waitable.Future) rep named some = absurd named
-is_set p handle.Set rep named some = (rep, refl)
+is_set p (HandleKind.Waitable WaitableKind.GuestSubtask) rep named some = absurd (cc)
+is_set p (HandleKind.Waitable WaitableKind.HostSubtask) rep named some = absurd (cc)
+is_set p (HandleKind.Waitable WaitableKind.Stream) rep named some = absurd named
+is_set p (HandleKind.Waitable WaitableKind.Future) rep named some = absurd named
+is_set p HandleKind.Set rep named some = (rep, refl)
 
 module _ (a : CoreParts) (i h : ℕ) (some : IsSome (set_at i h (seen a).core)) where
   -- the instance is there

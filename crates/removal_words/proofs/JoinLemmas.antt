@@ -1,28 +1,7 @@
 -- A call or a host work that leaves its set, or has ended, as far as its removal sees.
-use Rattle.std.proofs.Common.{◌≡◌, ◌<◌, ℕ, Option, Some, None, refl, sym, ap, ◌∙◌}
-use Rattle.std.specs.Option.{option_and_then, option_map, option_map_or}
+use Rattle.task_records.proofs.Core.{ap, Call, call_group, change, Core, get, get-change_same, group_key, group_settled, GroupKey, has_thread, Join, join_of, None, number_of, on_call, on_work, Option, option_and_then, option_map, option_map_or, Records, refl, remove-change_same, remove_call, remove_work, set_join, set_stage, settle_group_of, Some, Stage, stage_of, Subtask, sym, Table, TableId, Work, work_deleted, work_group, ℕ, ◌<◌, ◌∙◌, ◌≡◌}
+use Rattle.task_records.specs.declared.{calls.TaskGroup.TaskGroup, single.Single.Single}
 use Rattle.removal_words.specs.Counted.{IsNamedBy}
-use Rattle.task_machine.proofs.CommuteLemmas.{remove-change_same}
-use Rattle.task_machine.proofs.MapLemmas.{get-change_same}
-use Rattle.task_machine.specs.Core.{Core}
-use Rattle.task_machine.specs.Maps.{Records, change, get}
-use Rattle.task_machine.specs.Moves.{group_settled}
-use Rattle.task_machine.specs.Read.{call_group, has_thread, join_of, stage_of}
-use Rattle.task_machine.specs.Write.{on_call, on_work, remove_call, remove_work, set_join, set_stage}
-use Rattle.task_machine.specs.declared.records.Call.{Call}
-use Rattle.task_machine.specs.declared.records.Join.{Join}
-use Rattle.task_machine.specs.declared.records.Join.TheVariants as join
-use Rattle.task_machine.specs.declared.records.Stage.TheVariants as stage
-use Rattle.task_machine.specs.declared.records.Subtask.TheVariants as subtask
-use Rattle.task_machine.specs.declared.records.Work.{Work}
-use Rattle.task_records.specs.Keys.{group_key}
-use Rattle.task_records.specs.declared.calls.TaskGroup.{TaskGroup}
-use Rattle.task_records.specs.declared.single.Single.{Single}
-use Rattle.task_rules.specs.Calls.{settle_group_of, work_deleted, work_group}
-use Rattle.task_table.specs.Records.{number_of}
-use Rattle.task_table.specs.Table.{Table}
-use Rattle.task_table.specs.declared.id.TableId.{TableId}
-use Rattle.task_wait.specs.declared.keys.GroupKey.{GroupKey}
 
 -- a field that a change leaves
 field_left : {X Y : Type 0} (f : X → X) (h : X → Y) (d : Y) → ((x : X) → h (f x) ≡ h x) → (o : Option X) → option_map_or h (option_map f o) d ≡ option_map_or h o d
@@ -35,19 +14,19 @@ field_put f h d put None = refl
 field_put f h d put (Some x) = put x
 
 module _ (k : ℕ) (j : Join) (s : Core) where
-  pub call_apart : has_thread k (set_join (subtask.Guest k) j s) ≡ has_thread k s
+  pub call_apart : has_thread k (set_join (Subtask.Guest k) j s) ≡ has_thread k s
   unfolding has_thread set_join on_call
   call_apart = refl
 
-  pub call_joined : (j ≡ join.Nowhere) → join_of (subtask.Guest k) (set_join (subtask.Guest k) j s) ≡ join.Nowhere
+  pub call_joined : (j ≡ Join.Nowhere) → join_of (Subtask.Guest k) (set_join (Subtask.Guest k) j s) ≡ Join.Nowhere
   unfolding set_join on_call
-  call_joined is = ap (λ o. option_map_or (λ (c : Call). c.join) o join.Nowhere) (get-change_same s.calls k (λ c. record c { join = j })) ∙ field_put (λ (c : Call). record c { join = j }) (λ (c : Call). c.join) join.Nowhere (λ c. is) (get s.calls k)
+  call_joined is = ap (λ o. option_map_or (λ (c : Call). c.join) o Join.Nowhere) (get-change_same s.calls k (λ c. record c { join = j })) ∙ field_put (λ (c : Call). record c { join = j }) (λ (c : Call). c.join) Join.Nowhere (λ c. is) (get s.calls k)
 
-  pub call_group_left : call_group k (set_join (subtask.Guest k) j s) ≡ call_group k s
+  pub call_group_left : call_group k (set_join (Subtask.Guest k) j s) ≡ call_group k s
   unfolding set_join on_call
   call_group_left = ap (λ o. option_map_or (λ (c : Call). c.group) o 0) (get-change_same s.calls k (λ c. record c { join = j })) ∙ field_left (λ (c : Call). record c { join = j }) (λ (c : Call). c.group) 0 (λ c. refl) (get s.calls k)
 
-  pub call_removed : remove_call k (set_join (subtask.Guest k) j s) ≡ remove_call k s
+  pub call_removed : remove_call k (set_join (Subtask.Guest k) j s) ≡ remove_call k s
   unfolding set_join on_call remove_call
   call_removed = ap (λ (m : Records Call). record s { calls = m }) (remove-change_same s.calls k (λ c. record c { join = j }))
 
@@ -55,36 +34,36 @@ module _ (k : ℕ) (j : Join) (s : Core) where
 
 module _ (i : ℕ) (s : Core) where
   abbrev pub at_rest : Core
-  at_rest = set_stage i stage.Ended (set_join (subtask.Host i) join.Nowhere s)
+  at_rest = set_stage i Stage.Ended (set_join (Subtask.Host i) Join.Nowhere s)
 
-  work_now : get at_rest.works i ≡ option_map (λ (w : Work). record w { stage = stage.Ended }) (option_map (λ (w : Work). record w { join = join.Nowhere }) (get s.works i))
+  work_now : get at_rest.works i ≡ option_map (λ (w : Work). record w { stage = Stage.Ended }) (option_map (λ (w : Work). record w { join = Join.Nowhere }) (get s.works i))
   unfolding set_join set_stage on_work
-  work_now = get-change_same (change i (λ (w : Work). record w { join = join.Nowhere }) s.works) i (λ w. record w { stage = stage.Ended }) ∙ ap (option_map (λ (w : Work). record w { stage = stage.Ended })) (get-change_same s.works i (λ w. record w { join = join.Nowhere }))
+  work_now = get-change_same (change i (λ (w : Work). record w { join = Join.Nowhere }) s.works) i (λ w. record w { stage = Stage.Ended }) ∙ ap (option_map (λ (w : Work). record w { stage = Stage.Ended })) (get-change_same s.works i (λ w. record w { join = Join.Nowhere }))
 
   pub work_high : at_rest.queues.high ≡ s.queues.high
   unfolding set_join set_stage on_work
   work_high = refl
 
-  pub work_joined : join_of (subtask.Host i) at_rest ≡ join.Nowhere
-  work_joined = ap (λ o. option_map_or (λ (w : Work). w.join) o join.Nowhere) work_now ∙ by (get s.works i)
+  pub work_joined : join_of (Subtask.Host i) at_rest ≡ Join.Nowhere
+  work_joined = ap (λ o. option_map_or (λ (w : Work). w.join) o Join.Nowhere) work_now ∙ by (get s.works i)
     where
-      by : (o : Option Work) → option_map_or (λ (w : Work). w.join) (option_map (λ (w : Work). record w { stage = stage.Ended }) (option_map (λ (w : Work). record w { join = join.Nowhere }) o)) join.Nowhere ≡ join.Nowhere
+      by : (o : Option Work) → option_map_or (λ (w : Work). w.join) (option_map (λ (w : Work). record w { stage = Stage.Ended }) (option_map (λ (w : Work). record w { join = Join.Nowhere }) o)) Join.Nowhere ≡ Join.Nowhere
       by None = refl
       by (Some w) = refl
 
-  pub work_ended : stage_of i at_rest ≡ stage.Ended
-  work_ended = ap (λ o. option_map_or (λ (w : Work). w.stage) o stage.Ended) work_now ∙ field_put (λ (w : Work). record w { stage = stage.Ended }) (λ (w : Work). w.stage) stage.Ended (λ w. refl) (option_map (λ (w : Work). record w { join = join.Nowhere }) (get s.works i))
+  pub work_ended : stage_of i at_rest ≡ Stage.Ended
+  work_ended = ap (λ o. option_map_or (λ (w : Work). w.stage) o Stage.Ended) work_now ∙ field_put (λ (w : Work). record w { stage = Stage.Ended }) (λ (w : Work). w.stage) Stage.Ended (λ w. refl) (option_map (λ (w : Work). record w { join = Join.Nowhere }) (get s.works i))
 
   pub work_group_left : work_group i at_rest ≡ work_group i s
   work_group_left = ap (option_and_then (λ (w : Work). w.group)) work_now ∙ by (get s.works i)
     where
-      by : (o : Option Work) → option_and_then (λ (w : Work). w.group) (option_map (λ (w : Work). record w { stage = stage.Ended }) (option_map (λ (w : Work). record w { join = join.Nowhere }) o)) ≡ option_and_then (λ (w : Work). w.group) o
+      by : (o : Option Work) → option_and_then (λ (w : Work). w.group) (option_map (λ (w : Work). record w { stage = Stage.Ended }) (option_map (λ (w : Work). record w { join = Join.Nowhere }) o)) ≡ option_and_then (λ (w : Work). w.group) o
       by None = refl
       by (Some w) = refl
 
   pub work_removed : remove_work i at_rest ≡ remove_work i s
   unfolding set_join set_stage on_work remove_work
-  work_removed = ap (λ (m : Records Work). record s { works = m }) (remove-change_same (change i (λ (w : Work). record w { join = join.Nowhere }) s.works) i (λ w. record w { stage = stage.Ended }) ∙ remove-change_same s.works i (λ w. record w { join = join.Nowhere }))
+  work_removed = ap (λ (m : Records Work). record s { works = m }) (remove-change_same (change i (λ (w : Work). record w { join = Join.Nowhere }) s.works) i (λ w. record w { stage = Stage.Ended }) ∙ remove-change_same s.works i (λ w. record w { join = Join.Nowhere }))
 
 -- ---- Its group
 

@@ -1,13 +1,6 @@
 -- What is left of the named where a record is gone: each stands where it stood.
-use Rattle.std.proofs.Common.{◌≡◌, ◌≤◌, ℕ, subst}
-use Rattle.task_handles.specs.declared.kinds.HandleKind.{HandleKind}
-use Rattle.task_handles.specs.declared.kinds.HandleKind.TheVariants as handle
-use Rattle.task_handles.specs.declared.kinds.Rep.{Rep}
-use Rattle.task_handles.specs.declared.kinds.WaitableKind.TheVariants as waitable
-use Rattle.task_machine.specs.declared.records.Made.{Made}
-use Rattle.task_records.specs.Keys.{call_key, set_key, thread_key, work_key}
-use Rattle.task_records.specs.Names.{AreHandlesNamed, CallOf, IsHeldNamed, IsNamedAt, Kinds, Nothing, SetOf, StandsAt, Target, ThreadOf, WorkOf}
-use Rattle.task_records.specs.declared.instances.InstanceRecord.{InstanceRecord}
+use Rattle.task_records.proofs.Core.{AreHandlesNamed, call_key, CallOf, HandleKind, IsHeldNamed, IsNamedAt, Kinds, Made, Nothing, Rep, set_key, SetOf, StandsAt, subst, Target, thread_key, ThreadOf, WaitableKind, work_key, WorkOf, ℕ, ◌≡◌, ◌≤◌}
+use Rattle.task_records.specs.declared.{instances.InstanceRecord.InstanceRecord}
 
 -- What stands in the one stands so in the other, and as many were made.
 pub record Leaves (k l : Kinds) : Type 0 where
@@ -26,11 +19,11 @@ module _ (k l : Kinds) (left : Leaves k l) where
   named_left rep (SetOf n) at = (subst (λ (m : Made). n ≤ m.sets) left.made at.0, left.sets rep n at.1)
 
   held_left : (h : HandleKind) (r : Rep) → IsHeldNamed k h r → IsHeldNamed l h r
-  held_left (handle.Waitable waitable.GuestSubtask) r is = named_left r.id (CallOf r.serial) is
-  held_left (handle.Waitable waitable.HostSubtask) r is = named_left r.id (WorkOf r.serial) is
-  held_left (handle.Waitable waitable.Stream) r is = is
-  held_left (handle.Waitable waitable.Future) r is = is
-  held_left handle.Set r is = named_left r.id (SetOf r.serial) is
+  held_left (HandleKind.Waitable WaitableKind.GuestSubtask) r is = named_left r.id (CallOf r.serial) is
+  held_left (HandleKind.Waitable WaitableKind.HostSubtask) r is = named_left r.id (WorkOf r.serial) is
+  held_left (HandleKind.Waitable WaitableKind.Stream) r is = is
+  held_left (HandleKind.Waitable WaitableKind.Future) r is = is
+  held_left HandleKind.Set r is = named_left r.id (SetOf r.serial) is
 
   pub handles_left : (i : InstanceRecord) → AreHandlesNamed k i → AreHandlesNamed l i
   handles_left i named = record {

@@ -1,27 +1,10 @@
 -- A table with one record less: what is kept under the numbers, and what stands at the places.
-use Rattle.std.proofs.Common.{◌≡◌, ◌+◌, ℕ, Bool, true, false, cond, Option, Some, None, nat_lt, refl, sym, ap, ◌∙◌, arith}
-use Rattle.std.proofs.lemmas.Bool.{eq-eqb, ne_eqb}
-use Rattle.std.specs.List.{list_any}
-use Rattle.std.specs.Prelude.{Ok, ◌==◌}
+use Rattle.task_records.proofs.Core.{ap, arith, Bool, cond, deleted, EachEntry, entry_of, eq-eqb, false, found_record, found_record_at, get, get-records, item_at, item_of, key_in, list_any, nat_lt, ne_eqb, no_other, None, Ok, one_if_passes, Option, passing, passing-with_at, place_at, place_at-deleted, Placed, record_at-item, Records, records, refl, size, size-remove_present, Some, SoundTable, sym, Table, TakesRecord, TakesRecord-deleted, true, ℕ, ◌+◌, ◌==◌, ◌∙◌, ◌≡◌}
+use Rattle.task_records.specs.declared.{single.Single.Single}
 use Rattle.queue_words.proofs.CallerLemmas.{apart_as}
-use Rattle.task_index.proofs.Counts.{passing-with_at}
-use Rattle.task_index.specs.Counts.{one_if_passes, passing}
-use Rattle.task_machine.proofs.SizeLemmas.{size-remove_present}
-use Rattle.task_machine.specs.Maps.{Records, get, size}
 use Rattle.task_records.proofs.KindLemmas.{item_number, item_read}
 use Rattle.task_records.proofs.KeptLemmas.{any_passing}
 use Rattle.task_records.proofs.MakeLemmas.{records_less}
-use Rattle.task_records.specs.Kinds.{entry_of, item_of, no_other}
-use Rattle.task_records.specs.Sound.{EachEntry, SoundTable}
-use Rattle.task_records.specs.declared.single.Single.{Single}
-use Rattle.task_table.proofs.ItemLemmas.{record_at-item}
-use Rattle.task_table.proofs.Laws.{place_at-deleted}
-use Rattle.task_table.proofs.RecordChangeLemmas.{TakesRecord-deleted}
-use Rattle.task_table.proofs.RecordLemmas.{found_record_at, get-records}
-use Rattle.task_table.specs.Answers.{item_at}
-use Rattle.task_table.specs.Changes.{deleted}
-use Rattle.task_table.specs.Records.{TakesRecord, found_record, key_in, records}
-use Rattle.task_table.specs.Table.{Placed, Table, place_at}
 
 module _ {T X : Type 0} (number : T → ℕ) (rec : T → X) (t : Table (Single T)) (made : ℕ) (sound : SoundTable (λ (e : Single T). Some (number e.item, rec e.item)) t made) (rep serial : ℕ) (g : T) (is : Ok g ≡ item_at item_of t rep serial) where
   abbrev key : Single T → Option (ℕ × X)

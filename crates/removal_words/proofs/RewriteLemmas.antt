@@ -1,19 +1,8 @@
 -- One record of a table is written anew, with its number: what holds of each.
-use Rattle.std.proofs.Common.{inl, inr, ◌⊎◌, ◌≡◌, ◌==◌, ℕ, Bool, true, false, cond, Some, sym, ap, subst, ◌∙◌}
-use Rattle.std.proofs.lemmas.Bool.{cases_eq, eq-eqb, ne_eqb}
-use Rattle.std.proofs.lemmas.Option.{same_Some}
-use Rattle.std.specs.Prelude.{Ok}
+use Rattle.task_records.proofs.Core.{ap, Bool, cases_eq, cond, EachEntry, entry_of, entry_put, eq-eqb, false, inl, inr, item_at, item_of, mapped, mapped-with_entry_same, ne_eqb, Ok, on_item, place_at, place_at-with_entry, Placed, same_Some, Some, SoundTable, subst, sym, Table, true, with_entry, ℕ, ◌==◌, ◌∙◌, ◌≡◌, ◌⊎◌}
+use Rattle.task_records.specs.declared.{single.Single.Single}
 use Rattle.queue_words.proofs.BareLemmas.{one_place}
 use Rattle.task_records.proofs.KindLemmas.{item_stands}
-use Rattle.task_records.specs.Kinds.{entry_of, item_of, on_item}
-use Rattle.task_records.specs.Sound.{EachEntry, SoundTable}
-use Rattle.task_records.specs.declared.single.Single.{Single}
-use Rattle.task_table.proofs.Laws.{place_at-with_entry}
-use Rattle.task_table.proofs.MappedLemmas.{mapped-with_entry_same}
-use Rattle.task_table.specs.Answers.{item_at}
-use Rattle.task_table.specs.Changes.{entry_put, with_entry}
-use Rattle.task_table.specs.Mapped.{mapped}
-use Rattle.task_table.specs.Table.{Placed, Table, place_at}
 
 module _ {T X : Type 0} (number : T → ℕ) (rec : T → X) (t : Table (Single T)) (made : ℕ) (sound : SoundTable (λ (e : Single T). Some (number e.item, rec e.item)) t made) (rep serial : ℕ) (g : T) (is : Ok g ≡ item_at item_of t rep serial) where
   stands : (p : Placed (Single T)) × ((place_at t rep ≡ Some p) × ((p.serial ≡ serial) × (p.entry ≡ entry_of g)))

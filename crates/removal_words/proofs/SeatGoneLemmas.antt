@@ -1,20 +1,8 @@
 -- One record of a table goes: the seats and the nodes of the others stay.
-use Rattle.std.proofs.Common.{inl, inr, ◌≡◌, ℕ, true, cond, List, Option, Some, None, sym, ap, ◌∙◌}
-use Rattle.std.proofs.lemmas.Bool.{cases_eq, eq-eqb, ne_eqb}
-use Rattle.std.proofs.lemmas.Option.{same_Some}
-use Rattle.std.specs.Option.{option_map}
-use Rattle.std.specs.Prelude.{Ok}
+use Rattle.task_records.proofs.Core.{ap, cases_eq, cond, deleted, entry_of, eq-eqb, FreeNode, HaveNodes, inl, inr, is_made, item_at, item_of, List, ne_eqb, None, Ok, Option, option_map, place_at, place_at-deleted, Placed, Renames, same_Some, seated, Some, SoundTable, Spot, spot_is_made, sym, Table, true, Unmade, ℕ, ◌∙◌, ◌≡◌}
+use Rattle.task_records.specs.declared.{single.Single.Single}
 use Rattle.removal_words.proofs.LessLemmas.{placed_before}
-use Rattle.task_links.specs.Links.{FreeNode, Renames, Spot, Unmade, is_made, spot_is_made}
 use Rattle.task_records.proofs.KindLemmas.{item_stands}
-use Rattle.task_records.specs.Kinds.{entry_of, item_of}
-use Rattle.task_records.specs.Rows.{HaveNodes, seated}
-use Rattle.task_records.specs.Sound.{SoundTable}
-use Rattle.task_records.specs.declared.single.Single.{Single}
-use Rattle.task_table.proofs.Laws.{place_at-deleted}
-use Rattle.task_table.specs.Answers.{item_at}
-use Rattle.task_table.specs.Changes.{deleted}
-use Rattle.task_table.specs.Table.{Placed, Table, place_at}
 
 -- a number that is renamed leaves the nodes of others
 pub renamed_made : {P : Type 0} (old new : List (Spot P)) (k : ℕ) → Renames old new k FreeNode Unmade → (n : ℕ) → (n ≡ k → ⊥) → is_made old n ≡ true → is_made new n ≡ true

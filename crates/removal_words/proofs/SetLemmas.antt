@@ -1,42 +1,13 @@
 -- A set is gone, as it stands.
-use Rattle.std.proofs.Common.{inl, inr, ◌⊎◌, ◌≡◌, ◌-◌, ◌≤◌, ℕ, List, Some, None, IsSome, refl, sym, ap, subst, ◌∙◌, arith}
-use Rattle.std.proofs.lemmas.Bool.{cases_eq}
-use Rattle.std.specs.Prelude.{Err, Ok, Result}
+use Rattle.task_records.proofs.Core.{ap, arith, bare, BlockedOn, call_number, cases_eq, core_of, deleted, deletion, deletion_refused, Err, HasHome, HeldIn, inl, inr, IsCallNamed, IsSetKept, IsSome, IsSound, IsTable, IsWhole, IsWorkNamed, item_at, item_of, KeepsBut, kinds, List, list_of, lost_set, None, number_of, Ok, Parts, parts_of, place_chain, ready_call_chain, ready_work_chain, records, refl, remove, remove_set, ResourceTableError, Result, seen, set_key, set_of, SetKey, Some, Spot, subst, Subtask, sym, Table, table_use, TableId, thread_number, ThreadOf, UnderOf, WaitsOn, Where, work_number, ℕ, ◌-◌, ◌∙◌, ◌≡◌, ◌≤◌, ◌⊎◌}
+use Rattle.task_records.specs.declared.{calls.GuestTask.GuestTask, parts.CoreParts.CoreParts, sets.WaitSet.WaitSet, single.Single.Single, threads.GuestThread.GuestThread, works.HostWork.HostWork}
 use Rattle.removal_words.proofs.GoneLemmas.{IsIndex-shut}
 use Rattle.removal_words.proofs.LeftLemmas.{Leaves, handles_left, named_left}
 use Rattle.removal_words.proofs.LessLemmas.{each_left, found_gone, found_still, one_fewer}
 use Rattle.removal_words.specs.Chains.{Closes}
 use Rattle.place_words.proofs.FiledLemmas.{kept_under}
-use Rattle.task_links.specs.Links.{Spot, list_of}
-use Rattle.task_machine.specs.Maps.{remove}
-use Rattle.task_machine.specs.Read.{table_use}
-use Rattle.task_machine.specs.Write.{remove_set}
-use Rattle.task_machine.specs.declared.records.Subtask.TheVariants as subtask
 use Rattle.task_records.proofs.MakeLemmas.{number_left, records_less, stands_less, table_less}
 use Rattle.task_records.proofs.ReadLemmas.{set_named, set_shown}
-use Rattle.task_records.specs.Image.{Parts, core_of}
-use Rattle.task_records.specs.Kept.{IsSetKept}
-use Rattle.task_records.specs.Keys.{set_key}
-use Rattle.task_records.specs.Kinds.{item_of}
-use Rattle.task_records.specs.Names.{HasHome, IsCallNamed, IsWorkNamed, kinds, ThreadOf}
-use Rattle.task_records.specs.Places.{BlockedOn, HeldIn, UnderOf, WaitsOn, Where, place_chain, ready_call_chain, ready_work_chain}
-use Rattle.task_records.specs.Seen.{IsSound, parts_of, seen}
-use Rattle.task_records.specs.Sound.{IsWhole, bare}
-use Rattle.task_records.specs.declared.calls.GuestTask.{GuestTask}
-use Rattle.task_records.specs.declared.parts.CoreParts.{CoreParts}
-use Rattle.task_records.specs.declared.sets.WaitSet.{WaitSet}
-use Rattle.task_records.specs.declared.single.Single.{Single}
-use Rattle.task_records.specs.declared.threads.GuestThread.{GuestThread}
-use Rattle.task_records.specs.declared.works.HostWork.{HostWork}
-use Rattle.task_table.proofs.ItemLemmas.{deletion_refused}
-use Rattle.task_table.specs.Answers.{deletion, item_at}
-use Rattle.task_table.specs.Changes.{deleted}
-use Rattle.task_table.specs.Records.{number_of, records}
-use Rattle.task_table.specs.Table.{IsTable, Table}
-use Rattle.task_table.specs.declared.error.ResourceTableError.{ResourceTableError}
-use Rattle.task_table.specs.declared.id.TableId.{TableId}
-use Rattle.task_wait.specs.declared.keys.SetKey.{SetKey}
-use Rattle.task_words.specs.StateView.{KeepsBut, call_number, lost_set, set_of, thread_number, work_number}
 
 module _ (a : CoreParts) (sound : IsSound a) (id : TableId SetKey) (g : WaitSet) (is : Ok g ≡ item_at item_of a.sets id.rep id.serial) where
   under_waiters : place_chain (bare (parts_of a)) (WaitsOn g.number) ≡ Some g.waiters
@@ -63,8 +34,8 @@ module _ (a : CoreParts) (sound : IsSound a) (id : TableId SetKey) (g : WaitSet)
   ]
   waits_else (HeldIn i) = inr refl
   waits_else (UnderOf n) = inr refl
-  waits_else (BlockedOn (subtask.Guest k)) = inr refl
-  waits_else (BlockedOn (subtask.Host i)) = inr refl
+  waits_else (BlockedOn (Subtask.Guest k)) = inr refl
+  waits_else (BlockedOn (Subtask.Host i)) = inr refl
 
   calls_else : (y : ℕ) → (y ≡ g.number) ⊎ (ready_call_chain gone y ≡ ready_call_chain (bare (parts_of a)) y)
   unfolding IsSound

@@ -1,47 +1,13 @@
 -- A group of which nothing is left is finished.
-use Rattle.std.proofs.Common.{inl, inr, ◌≡◌, ◌+◌, ◌==◌, ◌<◌, ◌≤◌, ◌||◌, ℕ, suc, zero, Bool, true, false, cond, not, List, Some, None, filter, length, nat_lt, refl, sym, ap, ap₂, subst, ◌∙◌, arith}
-use Rattle.std.proofs.lemmas.Bool.{cases_eq, eq-eqb, ne_eqb}
-use Rattle.std.specs.List.{list_any}
-use Rattle.std.specs.Option.{option_map_or}
-use Rattle.std.specs.Prelude.{Err, Ok, Result}
+use Rattle.task_records.proofs.Core.{ap, ap₂, AreCounted, arith, bare, bare_call, bare_work, Bool, Call, call_key, calls_of, cases_eq, cond, core_of, deleted, deletion, deletion_refused, entry_of, eq-eqb, Err, false, filter, get, group_key, group_settled, GroupKey, HasHome, HasNumber, inl, inr, is_group_done, is_of_group, IsGroupKept, IsSound, IsTable, IsWhole, item_at, item_of, key_in, length, List, list_any, loose_call, loose_work, nat_lt, ne_eqb, None, not, number_in, number_of, numbers, Ok, on_core, option_map_or, Parts, parts_of, passing, place_at, place_at-deleted, Placed, record_at, Records, records, refl, remove, remove_group, ResourceTableError, Result, seen, Some, SoundTable, subst, suc, sym, Table, table_use, TableId, true, uninterested, unmoved, with_core, Work, work_key, zero, ℕ, ◌+◌, ◌<◌, ◌==◌, ◌||◌, ◌∙◌, ◌≡◌, ◌≤◌}
+use Rattle.task_records.specs.declared.{calls.GuestTask.GuestTask, calls.TaskGroup.TaskGroup, parts.CoreParts.CoreParts, parts.Kept.Kept, single.Single.Single, threads.GuestThread.GuestThread, works.HostWork.HostWork}
 use Rattle.removal_words.proofs.BareTables.{sound_mapped}
 use Rattle.removal_words.proofs.GroupLemmas.{numbers_fewer, numbers_left}
 use Rattle.removal_words.proofs.LessLemmas.{each_left, passes_not, read_at}
 use Rattle.removal_words.proofs.RewriteLemmas.{each_there}
-use Rattle.task_index.specs.Counts.{passing}
-use Rattle.task_machine.specs.Maps.{Records, get, numbers, remove}
-use Rattle.task_machine.specs.Moves.{group_settled, is_group_done}
-use Rattle.task_machine.specs.Read.{table_use}
-use Rattle.task_machine.specs.Write.{remove_group}
-use Rattle.task_machine.specs.declared.records.Call.{Call}
-use Rattle.task_machine.specs.declared.records.Work.{Work}
 use Rattle.task_records.proofs.KeptLemmas.{any_passing, count_calls, count_works}
 use Rattle.task_records.proofs.KindLemmas.{item_number, item_read, item_stands}
 use Rattle.task_records.proofs.MakeLemmas.{records_less, table_less}
-use Rattle.task_records.specs.Image.{Parts, core_of}
-use Rattle.task_records.specs.Kept.{IsGroupKept, calls_of, is_of_group}
-use Rattle.task_records.specs.Keys.{call_key, group_key, work_key}
-use Rattle.task_records.specs.Kinds.{entry_of, item_of}
-use Rattle.task_records.specs.Names.{HasHome, HasNumber}
-use Rattle.task_records.specs.Seen.{IsSound, parts_of, seen}
-use Rattle.task_records.specs.Sound.{AreCounted, IsWhole, SoundTable, bare, bare_call, bare_work, loose_call, loose_work, uninterested, unmoved}
-use Rattle.task_records.specs.declared.calls.GuestTask.{GuestTask}
-use Rattle.task_records.specs.declared.calls.TaskGroup.{TaskGroup}
-use Rattle.task_records.specs.declared.parts.CoreParts.{CoreParts}
-use Rattle.task_records.specs.declared.parts.Kept.{Kept}
-use Rattle.task_records.specs.declared.single.Single.{Single}
-use Rattle.task_records.specs.declared.threads.GuestThread.{GuestThread}
-use Rattle.task_records.specs.declared.works.HostWork.{HostWork}
-use Rattle.task_table.proofs.ItemLemmas.{deletion_refused}
-use Rattle.task_table.proofs.Laws.{place_at-deleted}
-use Rattle.task_table.specs.Answers.{deletion, item_at}
-use Rattle.task_table.specs.Changes.{deleted}
-use Rattle.task_table.specs.Records.{key_in, number_in, number_of, record_at, records}
-use Rattle.task_table.specs.Table.{IsTable, Placed, Table, place_at}
-use Rattle.task_table.specs.declared.error.ResourceTableError.{ResourceTableError}
-use Rattle.task_table.specs.declared.id.TableId.{TableId}
-use Rattle.task_wait.specs.declared.keys.GroupKey.{GroupKey}
-use Rattle.task_words.specs.StateView.{on_core, with_core}
 
 abbrev number : TaskGroup → ℕ
 number r = r.number

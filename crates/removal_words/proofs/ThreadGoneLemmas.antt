@@ -1,9 +1,6 @@
 -- Parts without one thread, which is in no list: they are whole.
-use Rattle.std.proofs.Common.{inl, inr, ◌⊎◌, ◌≡◌, ◌+◌, ◌==◌, ℕ, Bool, false, cond, List, Option, Some, None, IfSome, filter, refl, sym, ap, subst, ◌∙◌, arith}
-use Rattle.std.proofs.lemmas.Bool.{cases_eq, eq-eqb}
-use Rattle.std.specs.List.{list_any}
-use Rattle.std.specs.Option.{option_map_or}
-use Rattle.std.specs.Prelude.{Ok}
+use Rattle.task_records.proofs.Core.{ap, AreChained, AreCounted, arith, BlockedOn, Bool, Call, call_instance, call_key, callers_chain, callers_row, cases_eq, chained, cond, core_of, deleted, Each, EachEntry, Entry, entry_of, entry_seated, eq-eqb, false, filings, filter, follower, FreeNode, get, get-records, HasHome, HaveRowNodes, HeldIn, High, IfSome, inl, inr, is_entry_of, is_in_set, is_of_group, is_of_instance, IsCallKept, IsCallNamed, IsFollower, IsIndex-same, IsOfThread, IsRows, IsRows-same, IsSeated, IsWhole, IsWorkNamed, item_at, item_of, keeps_set, kinds, List, list_any, Low, no_callee, None, Ok, one_if_passes, Option, option_map_or, part, Parts, passing, passing-with_at, place_at, place_chain, place_filing, Placed, ready_call, ready_call_chain, Records, refl, remove, Renames, Row, row, row_chain, same_map, shelf_chain, size, Some, SoundTable, Spot, subst, Subtask, sym, Table, table_use, Thread, thread_entry, thread_key, ThreadOf, threads_of, UnderOf, Unmade, values_are, WaitsOn, Where, where_at, Work, ℕ, ◌+◌, ◌==◌, ◌∙◌, ◌≡◌, ◌⊎◌}
+use Rattle.task_records.specs.declared.{calls.GuestTask.GuestTask, parts.Kept.Kept, single.Single.Single, threads.Follower.Follower, threads.GuestThread.GuestThread, threads.Queued.Queued, works.HostWork.HostWork}
 use Rattle.place_words.proofs.AlikeLemmas.{filings_alike, found_alike, number_alike, place_alike, stands_alike}
 use Rattle.place_words.proofs.FiledLemmas.{kept_under}
 use Rattle.place_words.specs.Moved.{Alike}
@@ -15,42 +12,8 @@ use Rattle.removal_words.proofs.LessLemmas.{found_gone, found_still, one_fewer, 
 use Rattle.removal_words.proofs.SeatGoneLemmas.{nodes_left, renamed_made, seated_left}
 use Rattle.removal_words.specs.Chains.{Closes, Drops}
 use Rattle.removal_words.specs.Counted.{unthreaded}
-use Rattle.task_index.proofs.Counts.{passing-with_at}
-use Rattle.task_index.proofs.Indexes.{IsIndex-same}
-use Rattle.task_index.proofs.Rows.{IsRows-same, values_are}
-use Rattle.task_index.specs.Counts.{one_if_passes, passing}
-use Rattle.task_index.specs.Index.{filings}
-use Rattle.task_index.specs.Rows.{Each, IsRows, part}
-use Rattle.task_links.specs.Links.{FreeNode, Renames, Spot, Unmade}
-use Rattle.task_machine.specs.Maps.{Records, get, remove, same_map, size}
-use Rattle.task_machine.specs.Read.{call_instance, is_entry_of, is_in_set, keeps_set, no_callee, table_use}
-use Rattle.task_machine.specs.declared.records.Call.{Call}
-use Rattle.task_machine.specs.declared.records.Entry.{Entry}
-use Rattle.task_machine.specs.declared.records.Entry.TheVariants as entry
-use Rattle.task_machine.specs.declared.records.Subtask.TheVariants as subtask
-use Rattle.task_machine.specs.declared.records.Thread.{Thread}
-use Rattle.task_machine.specs.declared.records.Work.{Work}
 use Rattle.task_records.proofs.KindLemmas.{item_number, item_read, item_stands}
 use Rattle.task_records.proofs.MakeLemmas.{records_less, stands_less}
-use Rattle.task_records.specs.Image.{Parts, chained, core_of}
-use Rattle.task_records.specs.Kept.{IsCallKept, is_of_group, threads_of}
-use Rattle.task_records.specs.Keys.{call_key, thread_key}
-use Rattle.task_records.specs.Kinds.{entry_of, item_of}
-use Rattle.task_records.specs.Names.{HasHome, IsCallNamed, IsWorkNamed, kinds, ThreadOf}
-use Rattle.task_records.specs.Places.{BlockedOn, HeldIn, UnderOf, WaitsOn, Where, place_chain, place_filing, ready_call, ready_call_chain, where_at}
-use Rattle.task_records.specs.Rows.{High, IsFollower, IsOfThread, IsSeated, Low, Row, callers_chain, callers_row, entry_seated, follower, is_of_instance, row, row_chain, shelf_chain, thread_entry}
-use Rattle.task_records.specs.Sound.{AreChained, AreCounted, EachEntry, HaveRowNodes, IsWhole, SoundTable}
-use Rattle.task_records.specs.declared.calls.GuestTask.{GuestTask}
-use Rattle.task_records.specs.declared.parts.Kept.{Kept}
-use Rattle.task_records.specs.declared.single.Single.{Single}
-use Rattle.task_records.specs.declared.threads.Follower.{Follower}
-use Rattle.task_records.specs.declared.threads.GuestThread.{GuestThread}
-use Rattle.task_records.specs.declared.threads.Queued.{Queued}
-use Rattle.task_records.specs.declared.works.HostWork.{HostWork}
-use Rattle.task_table.proofs.RecordLemmas.{get-records}
-use Rattle.task_table.specs.Answers.{item_at}
-use Rattle.task_table.specs.Changes.{deleted}
-use Rattle.task_table.specs.Table.{Placed, Table, place_at}
 
 abbrev number : GuestThread → ℕ
 number g = g.number
@@ -124,9 +87,9 @@ module _ (p : Parts) (whole : IsWhole p) (made : ℕ) (sound : SoundTable thread
     entry_left q is_q other = by q.entry refl is_q
       where
         by : (e : Entry) → q.entry ≡ e → entry_seated p e q.place ≡ Some q → entry_seated less e q.place ≡ Some q
-        by (entry.Thread n) e at = seated_left number machine p.threads made sound rep serial g is thread_entry q.place q (λ same. absurd (let two = sym other ∙ (ap (λ (x : Queued). is_entry_of g.number x.entry) (sym same) ∙ eq-eqb g.number g.number refl) in cc)) at
-        by (entry.Push i) e at = at
-        by (entry.Host i) e at = at
+        by (Entry.Thread n) e at = seated_left number machine p.threads made sound rep serial g is thread_entry q.place q (λ same. absurd (let two = sym other ∙ (ap (λ (x : Queued). is_entry_of g.number x.entry) (sym same) ∙ eq-eqb g.number g.number refl) in cc)) at
+        by (Entry.Push i) e at = at
+        by (Entry.Host i) e at = at
 
     -- ---- Keys
 
@@ -143,8 +106,8 @@ module _ (p : Parts) (whole : IsWhole p) (made : ℕ) (sound : SoundTable thread
       | inl same ↦ inl (ap (λ m. UnderOf m) same)
       | inr other ↦ inr (found_still number machine p.threads made sound rep serial g is (λ (x : GuestThread). x.under) n other)
     ]
-    place_else (BlockedOn (subtask.Guest k)) = inr (found_alike unthreaded calls p.calls alike (λ (c : GuestTask). c.number) (λ c. refl) (λ (c : GuestTask). c.blocked) (λ c. refl) k)
-    place_else (BlockedOn (subtask.Host i)) = inr refl
+    place_else (BlockedOn (Subtask.Guest k)) = inr (found_alike unthreaded calls p.calls alike (λ (c : GuestTask). c.number) (λ c. refl) (λ (c : GuestTask). c.blocked) (λ c. refl) k)
+    place_else (BlockedOn (Subtask.Host i)) = inr refl
 
     callers_else : (n : ℕ) → (n ≡ g.number) ⊎ (callers_chain less n ≡ callers_chain p n)
     callers_else n = elim (cases_eq n g.number) [

@@ -1,40 +1,16 @@
 -- The handle of a thread that is gone is taken back.
-use Rattle.std.proofs.Common.{IsSome, length, ◌≡◌, ◌+◌, ◌-◌, ◌==◌, ◌<◌, ℕ, Bool, true, false, cond, List, Option, Some, None, map, set, slice_get, refl, sym, ap, ap₂, ◌∙◌, arith}
-use Rattle.std.proofs.lemmas.List.{map-set}
-use Rattle.std.proofs.lemmas.Option.{same_Some, slice_get-map, slice_get_within}
-use Rattle.std.specs.Global.{Global}
-use Rattle.std.specs.Option.{option_and_then, option_map}
-use Rattle.std.specs.Prelude.{Ok, Vec}
+use Rattle.task_records.proofs.Core.{ap, ap₂, AreHandlesNamed, arith, bare, Bool, by_place, change, cond, Core, Counter, EachEntry, false, free_thread_handle, freed_thread_handle, get, get-remove_same, Global, handle_table, Handles, held_by, insert, instance_of, IsSome, IsSound, item_at, item_of, kinds, length, List, live_in, map, map-set, named_by, named_of, None, Ok, on_core, Option, option_and_then, option_map, OwnsHandle, parts_of, Records, refl, remove_thread, Removes, Rep, same_Some, seen, set, slice_get, slice_get-map, slice_get_within, Some, sym, TableId, taking, thread_at, thread_handle_of, ThreadKey, true, Vec, ℕ, ◌+◌, ◌-◌, ◌<◌, ◌==◌, ◌∙◌, ◌≡◌}
+use Rattle.task_machine.specs.Core.{Table}
+use Rattle.task_records.specs.declared.{instances.InstanceRecord.InstanceRecord, parts.CoreParts.CoreParts, threads.GuestThread.GuestThread}
 use Rattle.removal_words.proofs.LessLemmas.{read_at}
 use Rattle.removal_words.proofs.RewriteLemmas.{each_there}
-use Rattle.task_handles.specs.Counted.{Removes}
-use Rattle.task_handles.specs.Counter.{Counter}
-use Rattle.task_handles.specs.Handles.{Handles, held_by}
-use Rattle.task_handles.specs.declared.kinds.Rep.{Rep}
-use Rattle.task_machine.proofs.MapLemmas.{get-remove_same}
-use Rattle.task_machine.specs.Core.{Core, Table}
-use Rattle.task_machine.specs.Maps.{Records, change, get, insert}
-use Rattle.task_machine.specs.Moves.{freed_thread_handle}
-use Rattle.task_machine.specs.Read.{instance_of, live_in, named_by, thread_at, thread_handle_of}
-use Rattle.task_machine.specs.Write.{free_thread_handle, remove_thread, taking}
 use Rattle.task_records.proofs.GivenLemmas.{held_taken, live_taken, names_left, one_changed, table_taken}
 use Rattle.task_records.proofs.HandleLemmas.{get-records_by}
 use Rattle.task_records.proofs.HandleWrites.{handles_sound, unchanged}
 use Rattle.task_records.proofs.InstanceLemmas.{by_place-set}
 use Rattle.task_records.proofs.InstanceReads.{thread_handles_read}
 use Rattle.task_records.proofs.KindLemmas.{absent}
-use Rattle.task_records.specs.Instances.{by_place, handle_table, named_of, thread_of as thread_named}
-use Rattle.task_records.specs.Kinds.{item_of}
-use Rattle.task_records.specs.Names.{AreHandlesNamed, OwnsHandle, kinds}
-use Rattle.task_records.specs.Seen.{IsSound, parts_of, seen}
-use Rattle.task_records.specs.Sound.{EachEntry, bare}
-use Rattle.task_records.specs.declared.instances.InstanceRecord.{InstanceRecord}
-use Rattle.task_records.specs.declared.parts.CoreParts.{CoreParts}
-use Rattle.task_records.specs.declared.threads.GuestThread.{GuestThread}
-use Rattle.task_table.specs.Answers.{item_at}
-use Rattle.task_table.specs.declared.id.TableId.{TableId}
-use Rattle.task_wait.specs.declared.keys.ThreadKey.{ThreadKey}
-use Rattle.task_words.specs.StateView.{on_core}
+use Rattle.task_records.specs.Instances.{thread_of as thread_named}
 
 module _ (a : CoreParts) (i h n : ℕ) (names : thread_at i h (seen a).core ≡ Some n) where
   -- the instance is there

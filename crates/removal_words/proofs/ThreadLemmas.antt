@@ -1,10 +1,7 @@
 -- A suspended thread is gone, as the word takes it away.
-use Rattle.std.proofs.Common.{inl, inr, map, slice_get, ◌≡◌, ◌+◌, ◌-◌, ◌==◌, ◌<◌, ◌≤◌, ℕ, Bool, true, false, cond, List, [], ◌∷◌, Option, Some, None, IsSome, ◌||◌, refl, sym, ap, ap₂, subst, ◌∙◌, arith}
-use Rattle.std.proofs.lemmas.Bool.{cases_eq, eq-eqb, ne_eqb}
-use Rattle.std.proofs.lemmas.Option.{same_Some}
-use Rattle.std.specs.List.{list_any}
-use Rattle.std.specs.Option.{option_map}
-use Rattle.std.specs.Prelude.{Err, Ok, Result}
+use Rattle.task_records.proofs.Core.{[], ap, ap₂, AreHandlesNamed, arith, bare, bare_call, bare_thread, Bool, Call, call_key, call_number, callers_chain, callers_in, callers_of, callers_row, cases_eq, chained, cond, Core, core_of, deleted, deletion, deletion_refused, Each, EachEntry, Entry, entry_of, eq-eqb, Err, false, filings_at, follower, FreeNode, get, get-change_same, get-remove, GuestTaskKey, High, inl, inr, is_entry_of, is_free, is_made, IsApart, IsBehindNobody, IsCallKept, IsLinks, IsSome, IsSound, IsTable, IsWhole, item_at, item_of, keeps_set, KeepsBut, kinds, List, list_any, list_of, loose_call, loose_thread, lost_thread, Low, map, mapped, mapped-deleted, mapped-with_entry, ne_eqb, None, Ok, on_item, on_thread, one_if, Option, option_map, OwnsHandle, Parts, parts_of, passing, Place, place_at, place_filing, place_of, Placed, Records, records, refl, remove, remove-change_same, remove_thread, Renames, ResourceTableError, Result, Row, row, same_map, same_Some, seen, set_number, set_place, slice_get, Some, SoundTable, Spot, subst, switch_entries, sym, Table, table_use, TableId, Tag, Thread, thread_entry, thread_key, thread_of, ThreadKey, threads_of, times, true, UnderOf, uninterested, Unmade, values, with_entry, work_number, ℕ, ◌+◌, ◌-◌, ◌<◌, ◌==◌, ◌||◌, ◌∙◌, ◌∷◌, ◌≡◌, ◌≤◌}
+use Rattle.task_records.specs.declared.{calls.GuestTask.GuestTask, parts.CoreParts.CoreParts, parts.Kept.Kept, single.Single.Single, threads.Follower.Follower, threads.GuestThread.GuestThread, threads.Queued.Queued}
+use Rattle.task_rules.specs.Places.{entries}
 use Rattle.place_words.proofs.FiledLemmas.{kept_under}
 use Rattle.place_words.specs.Moved.{Alike}
 use Rattle.queue_words.proofs.CallerLemmas.{caller_free, callers_get, callers_row_of, numbers_of}
@@ -19,55 +16,11 @@ use Rattle.removal_words.proofs.RewriteLemmas.{each_rewritten, each_there, rewri
 use Rattle.removal_words.proofs.ThreadGoneLemmas.{callers_left, left, less, less_whole, row_left, threads_counted}
 use Rattle.removal_words.specs.Chains.{Closes, Drops}
 use Rattle.removal_words.specs.Counted.{unthreaded}
-use Rattle.task_index.proofs.Tables.{filings_at}
-use Rattle.task_index.specs.Counts.{passing}
-use Rattle.task_index.specs.Rows.{Each, values}
-use Rattle.task_links.specs.Links.{FreeNode, IsLinks, Renames, Spot, Unmade, is_free, is_made, list_of}
-use Rattle.task_machine.proofs.CommuteLemmas.{remove-change_same}
-use Rattle.task_machine.proofs.MapLemmas.{get-change_same}
-use Rattle.task_machine.specs.Core.{Core}
-use Rattle.task_machine.specs.Maps.{Records, get, get-remove, remove, same_map}
-use Rattle.task_machine.specs.Read.{callers_of, is_entry_of, keeps_set, place_of, table_use}
-use Rattle.task_machine.specs.Write.{on_thread, remove_thread, set_place}
-use Rattle.task_machine.specs.declared.records.Call.{Call}
-use Rattle.task_machine.specs.declared.records.Entry.{Entry}
-use Rattle.task_machine.specs.declared.records.Place.{Place}
-use Rattle.task_machine.specs.declared.records.Place.TheVariants as place
-use Rattle.task_machine.specs.declared.records.Thread.{Thread}
 use Rattle.task_records.proofs.KindLemmas.{item_stands, table_written, tags_written}
 use Rattle.task_records.proofs.MakeLemmas.{number_left, records_less, table_less}
 use Rattle.task_records.proofs.ReadLemmas.{thread_named, thread_read, thread_shown, thread_unnamed}
 use Rattle.task_records.proofs.TableLemmas.{records_unseen}
-use Rattle.task_records.specs.Image.{Parts, callers_in, chained, core_of}
-use Rattle.task_records.specs.Kept.{IsCallKept, threads_of}
-use Rattle.task_records.specs.Keys.{call_key, thread_key}
-use Rattle.task_records.specs.Kinds.{entry_of, item_of, on_item}
-use Rattle.task_records.specs.Names.{AreHandlesNamed, OwnsHandle, kinds}
-use Rattle.task_records.specs.Places.{UnderOf, place_filing}
-use Rattle.task_records.specs.Rows.{High, Low, Row, callers_chain, callers_row, follower, row, thread_entry}
-use Rattle.task_records.specs.Seen.{IsSound, parts_of, seen}
-use Rattle.task_records.specs.Sound.{EachEntry, IsWhole, SoundTable, bare, bare_call, bare_thread, loose_call, loose_thread, uninterested}
-use Rattle.task_records.specs.declared.calls.GuestTask.{GuestTask}
-use Rattle.task_records.specs.declared.parts.CoreParts.{CoreParts}
-use Rattle.task_records.specs.declared.parts.Kept.{Kept}
-use Rattle.task_records.specs.declared.single.Single.{Single}
-use Rattle.task_records.specs.declared.threads.Follower.{Follower}
-use Rattle.task_records.specs.declared.threads.GuestThread.{GuestThread}
-use Rattle.task_records.specs.declared.threads.Queued.{Queued}
-use Rattle.task_rules.specs.Places.{entries, one_if, switch_entries, times}
-use Rattle.task_table.proofs.ItemLemmas.{deletion_refused}
-use Rattle.task_table.proofs.MappedLemmas.{mapped-deleted, mapped-with_entry}
-use Rattle.task_table.specs.Answers.{deletion, item_at}
-use Rattle.task_table.specs.Changes.{deleted, with_entry}
-use Rattle.task_table.specs.Mapped.{mapped}
-use Rattle.task_table.specs.Records.{records}
-use Rattle.task_table.specs.Table.{IsTable, Placed, Table, place_at}
-use Rattle.task_table.specs.declared.error.ResourceTableError.{ResourceTableError}
-use Rattle.task_table.specs.declared.id.TableId.{TableId}
-use Rattle.task_wait.specs.declared.keys.GuestTaskKey.{GuestTaskKey}
-use Rattle.task_wait.specs.declared.keys.ThreadKey.{ThreadKey}
-use Rattle.task_words.specs.Apart.{IsApart, IsBehindNobody}
-use Rattle.task_words.specs.StateView.{KeepsBut, Tag, call_number, lost_thread, named as named_by_tag, set_number, thread_of, work_number}
+use Rattle.task_words.specs.StateView.{named as named_by_tag}
 
 abbrev number : GuestThread → ℕ
 number g = g.number
@@ -163,7 +116,7 @@ module _ (a : CoreParts) (sound : IsSound a) (id : TableId ThreadKey) (g : Guest
   bare_stands : (q : Placed (Single GuestThread)) × ((place_at bared.threads id.rep ≡ Some q) × ((q.serial ≡ id.serial) × (q.entry ≡ entry_of (bare_thread g))))
   bare_stands = item_stands number machine bared.threads a.made.threads threads_sound id.rep id.serial (bare_thread g) bare_is
 
-  module _ (apart : IsApart (thread_of (seen a) id) (seen a).core) (rests : place_of (thread_of (seen a) id) (seen a).core ≡ Some place.Suspended) where
+  module _ (apart : IsApart (thread_of (seen a) id) (seen a).core) (rests : place_of (thread_of (seen a) id) (seen a).core ≡ Some Place.Suspended) where
     named : g.number ≡ thread_of (seen a) id
     named = thread_named a id g is
 
@@ -186,8 +139,8 @@ module _ (a : CoreParts) (sound : IsSound a) (id : TableId ThreadKey) (g : Guest
     unfolding seen
     not_switch f at = unlike (g.number == f.number) (sym (ap (λ o. switch_entries g.number (option_map (λ (x : Follower). x.number) o)) at) ∙ (ap (λ n. switch_entries n (seen a).core.queues.switch) named ∙ apart.switch))
 
-    suspended : g.thread.place ≡ place.Suspended
-    suspended = same_Some g.thread.place place.Suspended (ap (option_map (λ (t : Thread). t.place)) (thread_read a sound id g is) ∙ rests)
+    suspended : g.thread.place ≡ Place.Suspended
+    suspended = same_Some g.thread.place Place.Suspended (ap (option_map (λ (t : Thread). t.place)) (thread_read a sound id g is) ∙ rests)
 
     unkept : (x : ℕ) → keeps_set x (loose_thread g.thread) g.thread.place ≡ false
     unkept x = ap (keeps_set x (loose_thread g.thread)) suspended

@@ -1,8 +1,6 @@
 -- Parts without one host work, which isn't live, has no entry and is in no set: they are whole.
-use Rattle.std.proofs.Common.{inl, inr, ◌⊎◌, ◌≡◌, ◌+◌, ℕ, Bool, false, cond, List, Option, Some, None, filter, length, nat_lt, refl, sym, ap, subst, ◌∙◌, arith}
-use Rattle.std.proofs.lemmas.Bool.{cases_eq, eq-eqb}
-use Rattle.std.specs.List.{list_any}
-use Rattle.std.specs.Prelude.{Ok}
+use Rattle.task_records.proofs.Core.{ap, AreChained, AreCounted, arith, BlockedOn, Bool, calls_of, cases_eq, chained, cond, core_of, deleted, Each, EachEntry, Entry, entry_of, entry_seated, eq-eqb, false, filings, filter, FreeNode, get, group_key, HasHome, HasNumber, HaveRowNodes, HeldIn, High, host_entry, inl, inr, is_host_call, is_in_set, is_live, is_of_group, is_of_instance, is_stage_live, IsCallNamed, IsGroupKept, IsOfThread, IsRows, IsRows-same, IsSeated, IsWhole, IsWorkNamed, item_at, item_of, Join, kinds, length, List, list_any, live_chain, live_value, live_work, Low, nat_lt, None, Ok, one_if_passes, Option, part, Parts, passing, passing-with_at, place_at, place_chain, place_filing, Placed, push_entry, ready_in, ready_work, ready_work_chain, refl, remove, Renames, Row, row, row_chain, shelf_chain, Some, SoundTable, Spot, subst, Subtask, sym, Table, table_use, ThreadOf, UnderOf, Unmade, values_are, WaitsOn, Where, Work, work_key, ℕ, ◌+◌, ◌∙◌, ◌≡◌, ◌⊎◌}
+use Rattle.task_records.specs.declared.{calls.GuestTask.GuestTask, calls.TaskGroup.TaskGroup, parts.Kept.Kept, single.Single.Single, threads.GuestThread.GuestThread, threads.Queued.Queued, works.HostWork.HostWork, works.LiveWork.LiveWork}
 use Rattle.place_words.proofs.AlikeLemmas.{number_alike}
 use Rattle.place_words.proofs.FiledLemmas.{kept_under}
 use Rattle.place_words.specs.Moved.{Alike}
@@ -16,40 +14,8 @@ use Rattle.removal_words.proofs.LessLemmas.{found_gone, found_still, placed_befo
 use Rattle.removal_words.proofs.SeatGoneLemmas.{nodes_left, renamed_made, seated_left}
 use Rattle.removal_words.specs.Chains.{Closes, Drops}
 use Rattle.removal_words.specs.Counted.{uncalled}
-use Rattle.task_index.proofs.Counts.{passing-with_at}
-use Rattle.task_index.proofs.Rows.{IsRows-same, values_are}
-use Rattle.task_index.specs.Counts.{one_if_passes, passing}
-use Rattle.task_index.specs.Index.{filings}
-use Rattle.task_index.specs.Rows.{Each, IsRows, part}
-use Rattle.task_links.specs.Links.{FreeNode, Renames, Spot, Unmade}
-use Rattle.task_machine.specs.Maps.{get, remove}
-use Rattle.task_machine.specs.Read.{is_host_call, is_in_set, is_live, is_stage_live, table_use}
-use Rattle.task_machine.specs.declared.records.Entry.{Entry}
-use Rattle.task_machine.specs.declared.records.Entry.TheVariants as entry
-use Rattle.task_machine.specs.declared.records.Join.TheVariants as join
-use Rattle.task_machine.specs.declared.records.Subtask.TheVariants as subtask
-use Rattle.task_machine.specs.declared.records.Work.{Work}
 use Rattle.task_records.proofs.KindLemmas.{item_number, item_read, item_stands}
 use Rattle.task_records.proofs.MakeLemmas.{records_less, stands_less}
-use Rattle.task_records.specs.Image.{Parts, chained, core_of}
-use Rattle.task_records.specs.Kept.{IsGroupKept, calls_of, is_of_group}
-use Rattle.task_records.specs.Keys.{group_key, work_key}
-use Rattle.task_records.specs.Kinds.{entry_of, item_of}
-use Rattle.task_records.specs.Names.{HasHome, HasNumber, IsCallNamed, IsWorkNamed, kinds, ThreadOf}
-use Rattle.task_records.specs.Places.{BlockedOn, HeldIn, UnderOf, WaitsOn, Where, live_chain, live_value, live_work, place_chain, place_filing, ready_in, ready_work, ready_work_chain}
-use Rattle.task_records.specs.Rows.{High, IsOfThread, IsSeated, Low, Row, entry_seated, host_entry, is_of_instance, push_entry, row, row_chain, shelf_chain}
-use Rattle.task_records.specs.Sound.{AreChained, AreCounted, EachEntry, HaveRowNodes, IsWhole, SoundTable}
-use Rattle.task_records.specs.declared.calls.GuestTask.{GuestTask}
-use Rattle.task_records.specs.declared.calls.TaskGroup.{TaskGroup}
-use Rattle.task_records.specs.declared.parts.Kept.{Kept}
-use Rattle.task_records.specs.declared.single.Single.{Single}
-use Rattle.task_records.specs.declared.threads.GuestThread.{GuestThread}
-use Rattle.task_records.specs.declared.threads.Queued.{Queued}
-use Rattle.task_records.specs.declared.works.HostWork.{HostWork}
-use Rattle.task_records.specs.declared.works.LiveWork.{LiveWork}
-use Rattle.task_table.specs.Answers.{item_at}
-use Rattle.task_table.specs.Changes.{deleted}
-use Rattle.task_table.specs.Table.{Placed, Table, place_at}
 
 abbrev number : HostWork → ℕ
 number w = w.number
@@ -107,22 +73,22 @@ module _ (p : Parts) (whole : IsWhole p) (made : ℕ) (sound : SoundTable work_k
     entry_left q is_q other = by q.entry refl is_q
       where
         by : (e : Entry) → q.entry ≡ e → entry_seated p e q.place ≡ Some q → entry_seated less e q.place ≡ Some q
-        by (entry.Thread n) e at = at
-        by (entry.Push i) e at = seated_left number machine p.works made sound rep serial g is push_entry q.place q (λ same. absurd (let two = sym other ∙ (ap (λ (x : Queued). is_entry_of_work g.number x.entry) (sym same) ∙ eq-eqb g.number g.number refl) in cc)) at
-        by (entry.Host i) e at = seated_left number machine p.works made sound rep serial g is host_entry q.place q (λ same. absurd (let two = sym other ∙ (ap (λ (x : Queued). is_entry_of_work g.number x.entry) (sym same) ∙ eq-eqb g.number g.number refl) in cc)) at
+        by (Entry.Thread n) e at = at
+        by (Entry.Push i) e at = seated_left number machine p.works made sound rep serial g is push_entry q.place q (λ same. absurd (let two = sym other ∙ (ap (λ (x : Queued). is_entry_of_work g.number x.entry) (sym same) ∙ eq-eqb g.number g.number refl) in cc)) at
+        by (Entry.Host i) e at = seated_left number machine p.works made sound rep serial g is host_entry q.place q (λ same. absurd (let two = sym other ∙ (ap (λ (x : Queued). is_entry_of_work g.number x.entry) (sym same) ∙ eq-eqb g.number g.number refl) in cc)) at
 
     -- ---- Keys
 
-    blocked_is : place_chain p (BlockedOn (subtask.Host g.number)) ≡ Some g.blocked
+    blocked_is : place_chain p (BlockedOn (Subtask.Host g.number)) ≡ Some g.blocked
     blocked_is = kept_under number machine (λ (x : HostWork). x.blocked) p.works made sound rep serial g is
 
-    place_else : (k : Where) → (k ≡ BlockedOn (subtask.Host g.number)) ⊎ (place_chain less k ≡ place_chain p k)
+    place_else : (k : Where) → (k ≡ BlockedOn (Subtask.Host g.number)) ⊎ (place_chain less k ≡ place_chain p k)
     place_else (WaitsOn x) = inr refl
     place_else (HeldIn i) = inr refl
     place_else (UnderOf n) = inr refl
-    place_else (BlockedOn (subtask.Guest k)) = inr refl
-    place_else (BlockedOn (subtask.Host i)) = elim (cases_eq i g.number) [
-      | inl same ↦ inl (ap (λ m. BlockedOn (subtask.Host m)) same)
+    place_else (BlockedOn (Subtask.Guest k)) = inr refl
+    place_else (BlockedOn (Subtask.Host i)) = elim (cases_eq i g.number) [
+      | inl same ↦ inl (ap (λ m. BlockedOn (Subtask.Host m)) same)
       | inr other ↦ inr (found_still number machine p.works made sound rep serial g is (λ (x : HostWork). x.blocked) i other)
     ]
 
@@ -149,7 +115,7 @@ module _ (p : Parts) (whole : IsWhole p) (made : ℕ) (sound : SoundTable work_k
 
       chained_left : AreChained less
       chained_left = record {
-        places = IsIndex-shut (place_chain p) (place_chain less) p.places places (BlockedOn (subtask.Host g.number)) g.blocked blocked_is (found_gone number machine p.works made sound rep serial g is (λ (x : HostWork). x.blocked)) place_else shut (filings place_filing p.threads) whole.chained.places;
+        places = IsIndex-shut (place_chain p) (place_chain less) p.places places (BlockedOn (Subtask.Host g.number)) g.blocked blocked_is (found_gone number machine p.works made sound rep serial g is (λ (x : HostWork). x.blocked)) place_else shut (filings place_filing p.threads) whole.chained.places;
         ready_calls = whole.chained.ready_calls;
         ready_works = IsIndex-gone ready_work (ready_work_chain less) p.works rep stands.0 stands.1.0 (record { node = stands.0.entry.item.ready.index; key = ready_in stands.0.entry.item.work.event stands.0.entry.item.work.join; value = rep }) refl p.ready_works ready_works
             (subst (λ (e : Single HostWork). Drops p.ready_works ready_works e.item.ready.index) (sym stands.1.1.1) ready_out) whole.chained.ready_works;
@@ -171,7 +137,7 @@ module _ (p : Parts) (whole : IsWhole p) (made : ℕ) (sound : SoundTable work_k
         apart = λ r s q w at_q at_w same. whole.nodes.apart r s q w at_q (before s w at_w) same;
       }
 
-      module _ (nowhere : g.work.join ≡ join.Nowhere) (resting : is_live g.work ≡ false) (used : kept.used + cond (is_host_call g.work) 1 0 ≡ p.kept.used) (same_groups : kept.groups ≡ p.kept.groups) (live : kept.live ≡ p.kept.live) (groups_kept : EachEntry (IsGroupKept (core_of less)) groups) where
+      module _ (nowhere : g.work.join ≡ Join.Nowhere) (resting : is_live g.work ≡ false) (used : kept.used + cond (is_host_call g.work) 1 0 ≡ p.kept.used) (same_groups : kept.groups ≡ p.kept.groups) (live : kept.live ≡ p.kept.live) (groups_kept : EachEntry (IsGroupKept (core_of less)) groups) where
         counted_left : AreCounted less
         unfolding table_use
         counted_left = record {

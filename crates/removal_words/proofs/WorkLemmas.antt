@@ -1,9 +1,6 @@
 -- A host work is gone, as the word takes it away.
-use Rattle.std.proofs.Common.{◌≡◌, ◌+◌, ◌-◌, ◌==◌, ◌||◌, ◌&&◌, not, ◌≤◌, ℕ, Bool, true, false, cond, List, [], ◌∷◌, map, Option, Some, None, IsSome, filter, is_some, nat_lt, refl, sym, ap, ap₂, subst, ◌∙◌, arith}
-use Rattle.std.proofs.lemmas.Bool.{eq-eqb, ne_eqb}
-use Rattle.std.specs.List.{list_any}
-use Rattle.std.specs.Option.{option_and_then, option_map_or}
-use Rattle.std.specs.Prelude.{Err, Ok, Result}
+use Rattle.task_records.proofs.Core.{[], ap, ap₂, AreHandlesNamed, arith, bare, bare_work, BlockedOn, Bool, call_number, calls_of, chained, cond, Core, core_of, deleted, deletion, deletion_refused, Each, EachEntry, Entry, entry_of, eq-eqb, Err, false, filings_at, filter, free_unlinked, FreeNode, get, group_key, GroupKey, High, host_entry, HostTaskKey, is_aborted, is_free, is_host_call, is_live, is_made, is_moving, is_never, is_of_group, is_some, is_stage_live, IsGroupKept, IsLinks, IsOfThread, IsSeated, IsSome, IsSound, IsTable, IsWhole, item_at, item_of, Join, join_of, KeepsBut, kinds, link_for, link_of, List, list_any, list_of, live_chain, live_value, live_work, loose_work, lost_work, Low, map, mapped, mapped-deleted, nat_lt, ne_eqb, None, not, Ok, on_item, one_if_passes, Option, option_and_then, option_map_or, Parts, parts_of, passing, passing-with_at, place_at, Placed, ready_work, Records, records, refl, remove, remove_work, Renames, ResourceTableError, Result, Row, row, seen, set_number, Some, SoundTable, Spot, Stage, stage_of, subst, Subtask, sym, Table, table_use, TableId, thread_number, true, Unmade, unmoved, Work, work_entries, work_group, work_key, work_of, ℕ, ◌&&◌, ◌+◌, ◌-◌, ◌==◌, ◌||◌, ◌∙◌, ◌∷◌, ◌≡◌, ◌≤◌}
+use Rattle.task_records.specs.declared.{calls.TaskGroup.TaskGroup, parts.CoreParts.CoreParts, parts.Kept.Kept, single.Single.Single, threads.Queued.Queued, works.HostWork.HostWork, works.LiveWork.LiveWork}
 use Rattle.place_words.proofs.AlikeLemmas.{number_of_alike}
 use Rattle.place_words.proofs.FiledLemmas.{kept_under}
 use Rattle.place_words.specs.Moved.{Alike}
@@ -20,57 +17,10 @@ use Rattle.removal_words.proofs.RewriteLemmas.{each_rewritten, each_there, rewri
 use Rattle.removal_words.proofs.WorkGoneLemmas.{left, less, less_whole, row_left, works_counted}
 use Rattle.removal_words.specs.Chains.{Closes, Drops}
 use Rattle.removal_words.specs.Counted.{IsIn, IsNamedBy, Lowers, uncalled}
-use Rattle.task_index.proofs.Counts.{passing-with_at}
-use Rattle.task_index.proofs.Refilings.{free_unlinked}
-use Rattle.task_index.proofs.Tables.{filings_at}
-use Rattle.task_index.specs.Counts.{one_if_passes, passing}
-use Rattle.task_index.specs.Index.{link_for}
-use Rattle.task_index.specs.Rows.{Each}
-use Rattle.task_links.specs.Links.{FreeNode, IsLinks, Renames, Spot, Unmade, is_free, is_made, link_of, list_of}
-use Rattle.task_machine.specs.Core.{Core}
-use Rattle.task_machine.specs.Maps.{Records, get, remove}
-use Rattle.task_machine.specs.Read.{is_aborted, is_host_call, is_live, is_never, is_stage_live, join_of, stage_of, table_use}
-use Rattle.task_machine.specs.Write.{remove_work}
-use Rattle.task_machine.specs.declared.records.Entry.{Entry}
-use Rattle.task_machine.specs.declared.records.Join.TheVariants as join
-use Rattle.task_machine.specs.declared.records.Stage.TheVariants as stage
-use Rattle.task_machine.specs.declared.records.Subtask.TheVariants as subtask
-use Rattle.task_machine.specs.declared.records.Work.{Work}
 use Rattle.task_records.proofs.HomeLemmas.{work_names}
 use Rattle.task_records.proofs.KindLemmas.{item_number, item_read, item_stands, table_written}
 use Rattle.task_records.proofs.MakeLemmas.{number_left, records_less, table_less}
 use Rattle.task_records.proofs.ReadLemmas.{work_named, work_read, work_shown}
-use Rattle.task_records.specs.Image.{Parts, chained, core_of}
-use Rattle.task_records.specs.Kept.{IsGroupKept, calls_of, is_of_group}
-use Rattle.task_records.specs.Keys.{group_key, work_key}
-use Rattle.task_records.specs.Kinds.{entry_of, item_of, on_item}
-use Rattle.task_records.specs.Names.{AreHandlesNamed, kinds}
-use Rattle.task_records.specs.Places.{BlockedOn, live_chain, live_value, live_work, ready_work}
-use Rattle.task_records.specs.Rows.{High, IsOfThread, IsSeated, Low, Row, host_entry, row}
-use Rattle.task_records.specs.Seen.{IsSound, parts_of, seen}
-use Rattle.task_records.specs.Sound.{EachEntry, IsWhole, SoundTable, bare, bare_work, loose_work, unmoved}
-use Rattle.task_records.specs.declared.calls.TaskGroup.{TaskGroup}
-use Rattle.task_records.specs.declared.parts.CoreParts.{CoreParts}
-use Rattle.task_records.specs.declared.parts.Kept.{Kept}
-use Rattle.task_records.specs.declared.single.Single.{Single}
-use Rattle.task_records.specs.declared.threads.Queued.{Queued}
-use Rattle.task_records.specs.declared.works.HostWork.{HostWork}
-use Rattle.task_records.specs.declared.works.LiveWork.{LiveWork}
-use Rattle.task_rules.specs.Calls.{work_group}
-use Rattle.task_rules.specs.Works.{is_moving}
-use Rattle.task_table.proofs.ItemLemmas.{deletion_refused}
-use Rattle.task_table.proofs.MappedLemmas.{mapped-deleted}
-use Rattle.task_table.specs.Answers.{deletion, item_at}
-use Rattle.task_table.specs.Changes.{deleted}
-use Rattle.task_table.specs.Mapped.{mapped}
-use Rattle.task_table.specs.Records.{records}
-use Rattle.task_table.specs.Table.{IsTable, Placed, Table, place_at}
-use Rattle.task_table.specs.declared.error.ResourceTableError.{ResourceTableError}
-use Rattle.task_table.specs.declared.id.TableId.{TableId}
-use Rattle.task_wait.specs.declared.keys.GroupKey.{GroupKey}
-use Rattle.task_wait.specs.declared.keys.HostTaskKey.{HostTaskKey}
-use Rattle.task_words.specs.Apart.{work_entries}
-use Rattle.task_words.specs.StateView.{KeepsBut, call_number, lost_work, set_number, thread_number, work_of}
 
 abbrev number : HostWork → ℕ
 number w = w.number
@@ -116,16 +66,16 @@ module _ (a : CoreParts) (sound : IsSound a) (id : TableId HostTaskKey) (g : Hos
   -- ---- What the word asks
 
   pub blocked_live : IsSome (list_of a.places g.blocked)
-  blocked_live = whole.chained.places.live (BlockedOn (subtask.Host g.number)) g.blocked (kept_under number machine (λ (x : HostWork). x.blocked) bared.works a.made.works works_sound id.rep id.serial (bare_work g) bare_is)
+  blocked_live = whole.chained.places.live (BlockedOn (Subtask.Host g.number)) g.blocked (kept_under number machine (λ (x : HostWork). x.blocked) bared.works a.made.works works_sound id.rep id.serial (bare_work g) bare_is)
 
   pub ready_made : is_made a.ready_works g.ready.index ≡ true
   ready_made = subst (λ (e : Single HostWork). is_made a.ready_works e.item.ready.index ≡ true) bare_stands.1.1.1 (whole.chained.ready_works.made id.rep _ (filings_at ready_work bared.works id.rep (Some bare_stands.0) bare_stands.1.0))
 
   -- one that has ended is in no chain of the live works
-  pub live_free : stage_of (work_of (seen a) id) (seen a).core ≡ stage.Ended → is_free a.polled g.live.index ≡ true
+  pub live_free : stage_of (work_of (seen a) id) (seen a).core ≡ Stage.Ended → is_free a.polled g.live.index ≡ true
   live_free ended = free_unlinked a.polled g.live.index
       (subst (λ (e : Single HostWork). link_of a.polled e.item.live.index ≡ link_for (live_chain bared) (record { node = e.item.live.index; key = cond (is_stage_live e.item.work.stage) (Some tt) None; value = live_value id.rep e.item })) bare_stands.1.1.1 (whole.chained.polled.has_link id.rep _ (filings_at live_work bared.works id.rep (Some bare_stands.0) bare_stands.1.0))
-      ∙ ap (λ x. link_for (live_chain bared) (record { node = g.live.index; key = cond (is_stage_live x) (Some tt) None; value = live_value id.rep g })) (ap (λ o. option_map_or (λ (w : Work). w.stage) o stage.Ended) (work_read a sound id g is) ∙ ended))
+      ∙ ap (λ x. link_for (live_chain bared) (record { node = g.live.index; key = cond (is_stage_live x) (Some tt) None; value = live_value id.rep g })) (ap (λ o. option_map_or (λ (w : Work). w.stage) o Stage.Ended) (work_read a sound id g is) ∙ ended))
       (subst (λ (e : Single HostWork). is_made a.polled e.item.live.index ≡ true) bare_stands.1.1.1 (whole.chained.polled.made id.rep _ (filings_at live_work bared.works id.rep (Some bare_stands.0) bare_stands.1.0)))
 
   pub mark_unlinked : work_entries (work_of (seen a) id) (seen a).core.queues.high ≡ 0 → IsLinks a.marks → is_free a.marks g.mark.index ≡ true
@@ -170,12 +120,12 @@ module _ (a : CoreParts) (sound : IsSound a) (id : TableId HostTaskKey) (g : Hos
       let all : r.calls ≡ calls_of r.number (core_of bared) = each_there group_number group_calls a.groups a.made.groups groups_sound there.0 there.1.0 r there.1.1 (IsGroupKept (core_of bared)) whole.counted.groups in
       omega arith
 
-  module _ (unqueued_high : work_entries (work_of (seen a) id) (seen a).core.queues.high ≡ 0) (apart : join_of (subtask.Host (work_of (seen a) id)) (seen a).core ≡ join.Nowhere) (ended : stage_of (work_of (seen a) id) (seen a).core ≡ stage.Ended) where
-    nowhere : g.work.join ≡ join.Nowhere
-    nowhere = ap (λ o. option_map_or (λ (w : Work). w.join) o join.Nowhere) (work_read a sound id g is) ∙ apart
+  module _ (unqueued_high : work_entries (work_of (seen a) id) (seen a).core.queues.high ≡ 0) (apart : join_of (Subtask.Host (work_of (seen a) id)) (seen a).core ≡ Join.Nowhere) (ended : stage_of (work_of (seen a) id) (seen a).core ≡ Stage.Ended) where
+    nowhere : g.work.join ≡ Join.Nowhere
+    nowhere = ap (λ o. option_map_or (λ (w : Work). w.join) o Join.Nowhere) (work_read a sound id g is) ∙ apart
 
     resting : is_live g.work ≡ false
-    resting = ap is_stage_live (ap (λ o. option_map_or (λ (w : Work). w.stage) o stage.Ended) (work_read a sound id g is) ∙ ended)
+    resting = ap is_stage_live (ap (λ o. option_map_or (λ (w : Work). w.stage) o Stage.Ended) (work_read a sound id g is) ∙ ended)
 
     -- low has entries of threads alone
     low_none : (qs : List Queued) → Each (IsSeated bared) qs → Each IsOfThread qs → list_any (λ (q : Queued). is_entry_of_work g.number q.entry) qs ≡ false

@@ -1,38 +1,26 @@
 -- A call more, whose node and chain hung on nothing: the chains and the nodes of the parts.
-use Rattle.std.proofs.Common.{inl, inr, ◌⊎◌, ◌≡◌, ◌<◌, ℕ, Some, None, refl, sym, ap, ◌∙◌, arith}
-use Rattle.std.proofs.lemmas.Option.{same_Some}
-use Rattle.std.proofs.lemmas.Bool.{cases_eq}
+use Rattle.task_records.proofs.Core.{ap, AreApart, AreChained, arith, BlockedOn, call_key, cases_eq, filings, found_record, HaveRowNodes, HeldIn, inl, inr, IsTable, Kinds, None, Parts, place_chain, place_filing, pushed, ready_call_chain, ready_in, refl, same_Some, Some, Subtask, sym, UnderOf, WaitsOn, Where, ℕ, ◌<◌, ◌∙◌, ◌≡◌, ◌⊎◌}
+use Rattle.task_records.specs.declared.{calls.GuestTask.GuestTask}
 use Rattle.make_words.proofs.FreshLemmas.{chain_new, chain_other}
 use Rattle.make_words.proofs.LooseLemmas.{IsIndex-opened}
 use Rattle.make_words.proofs.MoreLemmas.{index_more}
 use Rattle.strand_words.proofs.ThreadPushLemmas.{PlacesNamed, none_in_list}
 use Rattle.strand_words.specs.Loose.{AreCallLoose}
 use Rattle.strand_words.specs.declared.nodes.CallNodes.{CallNodes}
-use Rattle.task_index.specs.Index.{filings}
-use Rattle.task_machine.specs.declared.records.Subtask.TheVariants as subtask
-use Rattle.task_records.specs.Image.{Parts}
-use Rattle.task_records.specs.Keys.{call_key}
-use Rattle.task_records.specs.Names.{Kinds}
-use Rattle.task_records.specs.Places.{BlockedOn, HeldIn, UnderOf, WaitsOn, Where, place_chain, place_filing, ready_call_chain, ready_in}
-use Rattle.task_records.specs.Sound.{AreChained, HaveRowNodes}
-use Rattle.task_records.specs.declared.calls.GuestTask.{GuestTask}
-use Rattle.task_table.specs.Changes.{pushed}
-use Rattle.task_table.specs.Records.{AreApart, found_record}
-use Rattle.task_table.specs.Table.{IsTable}
 
 abbrev guest_in : Where → ℕ
-guest_in (BlockedOn (subtask.Guest k)) = k
+guest_in (BlockedOn (Subtask.Guest k)) = k
 guest_in _ = 0
 
-blocked_is : (n : ℕ) (k : Where) → (k ≡ BlockedOn (subtask.Guest n)) ⊎ (k ≡ BlockedOn (subtask.Guest n) → ⊥)
+blocked_is : (n : ℕ) (k : Where) → (k ≡ BlockedOn (Subtask.Guest n)) ⊎ (k ≡ BlockedOn (Subtask.Guest n) → ⊥)
 blocked_is n (WaitsOn x) = inr (λ same. absurd (cc))
 blocked_is n (HeldIn i) = inr (λ same. absurd (cc))
 blocked_is n (UnderOf m) = inr (λ same. absurd (cc))
-blocked_is n (BlockedOn (subtask.Guest k)) = elim (cases_eq k n) [
-  | inl same ↦ inl (ap (λ m. BlockedOn (subtask.Guest m)) same)
+blocked_is n (BlockedOn (Subtask.Guest k)) = elim (cases_eq k n) [
+  | inl same ↦ inl (ap (λ m. BlockedOn (Subtask.Guest m)) same)
   | inr other ↦ inr (λ same. other (ap guest_in same))
 ]
-blocked_is n (BlockedOn (subtask.Host i)) = inr (λ same. absurd (cc))
+blocked_is n (BlockedOn (Subtask.Host i)) = inr (λ same. absurd (cc))
 
 abbrev pub nodes_of : GuestTask → CallNodes
 nodes_of g = record { ready = g.ready; blocked = g.blocked }
@@ -41,14 +29,14 @@ module _ (p : Parts) (g : GuestTask) (table : IsTable p.calls) (apart : AreApart
   abbrev pub with_call : Parts
   with_call = record p { calls = pushed (record { item = g }) p.calls }
 
-  place_others : (k : Where) → (k ≡ BlockedOn (subtask.Guest g.number) → ⊥) → place_chain with_call k ≡ place_chain p k
+  place_others : (k : Where) → (k ≡ BlockedOn (Subtask.Guest g.number) → ⊥) → place_chain with_call k ≡ place_chain p k
   place_others (WaitsOn n) other = refl
   place_others (HeldIn i) other = refl
   place_others (UnderOf n) other = refl
-  place_others (BlockedOn (subtask.Guest k)) other = chain_other (λ (h : GuestTask). h.number) (λ (h : GuestTask). h.call) (λ (h : GuestTask). h.blocked) p.calls g table apart new k (λ same. other (ap (λ m. BlockedOn (subtask.Guest m)) same))
-  place_others (BlockedOn (subtask.Host i)) other = refl
+  place_others (BlockedOn (Subtask.Guest k)) other = chain_other (λ (h : GuestTask). h.number) (λ (h : GuestTask). h.call) (λ (h : GuestTask). h.blocked) p.calls g table apart new k (λ same. other (ap (λ m. BlockedOn (Subtask.Guest m)) same))
+  place_others (BlockedOn (Subtask.Host i)) other = refl
 
-  has_blocked : place_chain with_call (BlockedOn (subtask.Guest g.number)) ≡ Some g.blocked
+  has_blocked : place_chain with_call (BlockedOn (Subtask.Guest g.number)) ≡ Some g.blocked
   has_blocked = chain_new (λ (h : GuestTask). h.number) (λ (h : GuestTask). h.call) (λ (h : GuestTask). h.blocked) p.calls g table apart new
 
   -- a chain that was nobody's is nobody's still, if it isn't the call's
@@ -60,8 +48,8 @@ module _ (p : Parts) (g : GuestTask) (table : IsTable p.calls) (apart : AreApart
 
   pub call_chained : (k : Kinds) → k.made.threads < g.number → PlacesNamed k p.threads → ready_in g.call.event g.call.join ≡ None → AreChained p → AreChained with_call
   call_chained k later named unfiled was = record {
-    places = IsIndex-opened (place_chain p) (place_chain with_call) p.places (BlockedOn (subtask.Guest g.number)) (blocked_is g.number) place_others g.blocked has_blocked loose.blocked (filings place_filing p.threads) was.places
-        (none_in_list k p.threads (BlockedOn (subtask.Guest g.number)) named (λ rep at. let few = at.0 in omega arith));
+    places = IsIndex-opened (place_chain p) (place_chain with_call) p.places (BlockedOn (Subtask.Guest g.number)) (blocked_is g.number) place_others g.blocked has_blocked loose.blocked (filings place_filing p.threads) was.places
+        (none_in_list k p.threads (BlockedOn (Subtask.Guest g.number)) named (λ rep at. let few = at.0 in omega arith));
     ready_calls = index_more p.calls g table (λ h. h.ready.index) (λ h. ready_in h.call.event h.call.join) (λ r h. r) p.ready_calls loose.ready (ready_call_chain p) was.ready_calls unfiled;
     ready_works = was.ready_works;
     polled = was.polled;

@@ -1,17 +1,6 @@
 -- A group whose number stands at a place is found there.
-use Rattle.std.proofs.Common.{◌≡◌, ◌<◌, ℕ, Option, Some, None, arith, cond, refl, sym, ap, ap₂, ◌∙◌}
-use Rattle.std.proofs.lemmas.Bool.{eq-eqb}
-use Rattle.std.proofs.lemmas.Option.{same_Some}
-use Rattle.std.specs.Option.{option_and_then, option_map}
-use Rattle.std.specs.Prelude.{Ok}
-use Rattle.task_records.specs.Keys.{group_key}
-use Rattle.task_records.specs.Kinds.{item_of}
-use Rattle.task_records.specs.Names.{HasNumber}
-use Rattle.task_records.specs.declared.calls.TaskGroup.{TaskGroup}
-use Rattle.task_records.specs.declared.single.Single.{Single}
-use Rattle.task_table.specs.Answers.{item_at, item_in}
-use Rattle.task_table.specs.Records.{key_in, number_in}
-use Rattle.task_table.specs.Table.{Placed, Table, found, of_serial, place_at}
+use Rattle.task_records.proofs.Core.{ap, ap₂, arith, cond, eq-eqb, found, group_key, HasNumber, item_at, item_in, item_of, key_in, None, number_in, of_serial, Ok, Option, option_and_then, option_map, place_at, Placed, refl, same_Some, Some, sym, Table, ℕ, ◌<◌, ◌∙◌, ◌≡◌}
+use Rattle.task_records.specs.declared.{calls.TaskGroup.TaskGroup, single.Single.Single}
 
 module _ (t : Table (Single TaskGroup)) (place n : ℕ) (has : HasNumber group_key t place n) (some : 0 < n) where
   group_placed : (q : Placed (Single TaskGroup)) × ((place_at t place ≡ Some q) × (q.entry.item.number ≡ n))
@@ -23,9 +12,6 @@ module _ (t : Table (Single TaskGroup)) (place n : ℕ) (has : HasNumber group_k
 
   pub no_serial : None ≡ option_map (λ (p : Placed (Single TaskGroup)). p.serial) (place_at t place) → ⊥
   no_serial none = absurd (let one : ◌≡◌ {A = Option ℕ} None (Some group_placed.0.serial) = none ∙ ap (option_map (λ (p : Placed (Single TaskGroup)). p.serial)) group_placed.1.0 in cc)
-
-  pub no_group : None ≡ option_and_then (λ (p : Placed (Single TaskGroup)). item_of p.entry) (place_at t place) → ⊥
-  no_group none = absurd (let one : ◌≡◌ {A = Option TaskGroup} None (Some group_placed.0.entry.item) = none ∙ ap (option_and_then (λ (p : Placed (Single TaskGroup)). item_of p.entry)) group_placed.1.0 in cc)
 
   module _ (serial : ℕ) (serial_is : Some serial ≡ option_map (λ (p : Placed (Single TaskGroup)). p.serial) (place_at t place)) (r : TaskGroup) (is : Some r ≡ option_and_then (λ (p : Placed (Single TaskGroup)). item_of p.entry) (place_at t place)) where
     same_serial : group_placed.0.serial ≡ serial

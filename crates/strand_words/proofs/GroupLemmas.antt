@@ -1,21 +1,9 @@
 -- The numbers of groups: where a group is counted anew, and where one is made.
-use Rattle.std.proofs.Common.{Equal, Greater, Less, Ordering, ◌≡◌, ◌++◌, ◌<◌, ◌≤◌, ℕ, Bool, true, false, cond, List, [], ◌∷◌, Option, Some, None, map, nat_lt, refl, sym, ap, ◌∙◌, arith}
-use Rattle.std.proofs.lemmas.Bool.{eq-eqb}
-use Rattle.std.specs.Cmp.{ranked, unsigned_tied}
-use Rattle.std.specs.FinMap.Entries.{by_order, find, put}
-use Rattle.std.specs.Ordering.{eq_by_cmp, nat_cmp}
-use Rattle.task_machine.specs.Maps.{Records, numbers}
+use Rattle.task_records.proofs.Core.{[], ap, arith, Bool, by_order, cond, eq-eqb, eq_by_cmp, Equal, false, find, Greater, group_key, Less, List, map, mapped, mapped-with_entry_same, nat_cmp, nat_lt, None, numbers, on_item, Option, place_at, Placed, put, ranked, Records, records, refl, Some, sym, Table, true, unsigned_tied, with_entry, ℕ, ◌++◌, ◌<◌, ◌∙◌, ◌∷◌, ◌≡◌, ◌≤◌}
+use Rattle.std.proofs.Common.{Ordering}
+use Rattle.task_records.specs.declared.{calls.TaskGroup.TaskGroup, single.Single.Single}
 use Rattle.task_records.proofs.KeptLemmas.{records_seconds}
 use Rattle.task_records.specs.Instances.{mapped as mapped_list}
-use Rattle.task_records.specs.Keys.{group_key}
-use Rattle.task_records.specs.Kinds.{on_item}
-use Rattle.task_records.specs.declared.calls.TaskGroup.{TaskGroup}
-use Rattle.task_records.specs.declared.single.Single.{Single}
-use Rattle.task_table.proofs.MappedLemmas.{mapped-with_entry_same}
-use Rattle.task_table.specs.Changes.{with_entry}
-use Rattle.task_table.specs.Mapped.{mapped}
-use Rattle.task_table.specs.Records.{records}
-use Rattle.task_table.specs.Table.{Placed, Table, place_at}
 
 -- ---- Another count
 

@@ -1,38 +1,12 @@
 -- A group more: the parts stay whole, and contracts see just that.
-use Rattle.std.proofs.Common.{◌≡◌, ◌+◌, ◌++◌, ◌==◌, ◌<◌, ◌^◌, ◌≤◌, ℕ, true, false, List, [], ◌∷◌, Option, Some, None, filter, length, nat_lt, refl, sym, ap, ap₂, subst, ◌∙◌, arith}
-use Rattle.std.proofs.lemmas.Bool.{ne_eqb}
-use Rattle.std.proofs.lemmas.List.{length-append}
-use Rattle.std.proofs.lemmas.Option.{same_Some}
-use Rattle.std.specs.Option.{option_map_or}
+use Rattle.task_records.proofs.Core.{[], add_group, ap, ap₂, arith, bare, Call, call_key, calls_of, core_of, false, filter, filter-append, filter-one, fits, get, get-records, group_key, HasHome, HasNumber, insert, is_of_group, IsCallNamed, IsGroupKept, IsSound, IsTable, IsWhole, IsWorkNamed, key_in, kinds, length, length-append, List, nat_lt, ne_eqb, None, numbers, on_core, Option, option_map_or, Parts, parts_of, place_at, Placed, pushed, Records, records, refl, same_Some, seen, Some, SoundTable, subst, sym, Table, table_use, true, Work, work_key, ℕ, ◌++◌, ◌+◌, ◌<◌, ◌==◌, ◌^◌, ◌∙◌, ◌∷◌, ◌≡◌, ◌≤◌}
+use Rattle.task_records.specs.declared.{calls.GuestTask.GuestTask, calls.TaskGroup.TaskGroup, parts.CoreParts.CoreParts, single.Single.Single, threads.GuestThread.GuestThread, works.HostWork.HostWork}
 use Rattle.make_words.proofs.FreshLemmas.{each_more, none_passing}
 use Rattle.make_words.proofs.MoreLemmas.{early_at, number_stays}
 use Rattle.strand_words.proofs.GroupLemmas.{last_number}
-use Rattle.task_index.proofs.Lists.{filter-append, filter-one}
-use Rattle.task_machine.specs.Maps.{Records, get, insert, numbers}
-use Rattle.task_machine.specs.Read.{fits, table_use}
-use Rattle.task_machine.specs.Write.{add_group}
-use Rattle.task_machine.specs.declared.records.Call.{Call}
-use Rattle.task_machine.specs.declared.records.Work.{Work}
 use Rattle.task_records.proofs.KeptLemmas.{groups_are, used_is}
 use Rattle.task_records.proofs.LaterLemmas.{IsLater, handles_later}
 use Rattle.task_records.proofs.MakeLemmas.{records_more, table_more}
-use Rattle.task_records.specs.Image.{Parts, core_of}
-use Rattle.task_records.specs.Keys.{call_key, group_key, work_key}
-use Rattle.task_records.specs.Kept.{IsGroupKept, calls_of, is_of_group}
-use Rattle.task_records.specs.Names.{HasHome, HasNumber, IsCallNamed, IsWorkNamed, kinds}
-use Rattle.task_records.specs.Seen.{IsSound, parts_of, seen}
-use Rattle.task_records.specs.Sound.{IsWhole, SoundTable, bare}
-use Rattle.task_records.specs.declared.calls.GuestTask.{GuestTask}
-use Rattle.task_records.specs.declared.calls.TaskGroup.{TaskGroup}
-use Rattle.task_records.specs.declared.parts.CoreParts.{CoreParts}
-use Rattle.task_records.specs.declared.single.Single.{Single}
-use Rattle.task_records.specs.declared.threads.GuestThread.{GuestThread}
-use Rattle.task_records.specs.declared.works.HostWork.{HostWork}
-use Rattle.task_table.proofs.RecordLemmas.{get-records}
-use Rattle.task_table.specs.Changes.{pushed}
-use Rattle.task_table.specs.Records.{key_in, records}
-use Rattle.task_table.specs.Table.{IsTable, Placed, Table, place_at}
-use Rattle.task_words.specs.StateView.{on_core}
 
 abbrev pub new_group : ℕ → TaskGroup
 new_group n = record { number = n; calls = 0 }

@@ -1,23 +1,9 @@
 -- A thread more, with other tables of calls and of groups: what is named stands where it stood.
-use Rattle.std.proofs.Common.{◌≡◌, ◌+◌, ◌<◌, ◌≤◌, ℕ, Option, Some, None, IfSome, ◌∙◌, arith}
+use Rattle.task_records.proofs.Core.{AreNamed, arith, AtPlace, call_instance, call_key, CallOf, core_of, EachEntry, follower, group_key, HasHome, HasNumber, IfSome, IsCallNamed, IsFollower, IsWorkNamed, None, Nothing, Option, Parts, pushed, SetOf, Some, SoundTable, StandsAt, Table, Target, thread_key, ThreadOf, WorkOf, ℕ, ◌+◌, ◌<◌, ◌∙◌, ◌≡◌, ◌≤◌}
+use Rattle.task_records.specs.declared.{calls.GuestTask.GuestTask, calls.TaskGroup.TaskGroup, parts.Kept.Kept, single.Single.Single, threads.Follower.Follower, threads.GuestThread.GuestThread, works.HostWork.HostWork}
 use Rattle.make_words.proofs.FreshLemmas.{each_more}
 use Rattle.make_words.proofs.MoreLemmas.{seat_stays}
-use Rattle.task_machine.specs.Read.{call_instance}
 use Rattle.task_records.proofs.MakeLemmas.{stands_more}
-use Rattle.task_records.specs.Image.{Parts, core_of}
-use Rattle.task_records.specs.Keys.{call_key, group_key, thread_key}
-use Rattle.task_records.specs.Names.{AtPlace, CallOf, HasHome, HasNumber, IsCallNamed, IsWorkNamed, Nothing, SetOf, StandsAt, Target, ThreadOf, WorkOf}
-use Rattle.task_records.specs.Rows.{IsFollower, follower}
-use Rattle.task_records.specs.Sound.{AreNamed, EachEntry, SoundTable}
-use Rattle.task_records.specs.declared.calls.GuestTask.{GuestTask}
-use Rattle.task_records.specs.declared.calls.TaskGroup.{TaskGroup}
-use Rattle.task_records.specs.declared.parts.Kept.{Kept}
-use Rattle.task_records.specs.declared.single.Single.{Single}
-use Rattle.task_records.specs.declared.threads.Follower.{Follower}
-use Rattle.task_records.specs.declared.threads.GuestThread.{GuestThread}
-use Rattle.task_records.specs.declared.works.HostWork.{HostWork}
-use Rattle.task_table.specs.Changes.{pushed}
-use Rattle.task_table.specs.Table.{Table}
 
 -- What stands in the tables of calls and groups of the parts stands in these.
 pub record Grows (p : Parts) (calls : Table (Single GuestTask)) (groups : Table (Single TaskGroup)) : Type 0 where

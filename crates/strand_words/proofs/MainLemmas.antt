@@ -1,24 +1,11 @@
 -- A call by main: what the makes of its group and of its records come to, and what is left where one fails.
-use Rattle.std.proofs.Common.{◌≡◌, ◌+◌, ◌-◌, ◌≤◌, ℕ, true, [], ◌∷◌, ap, ap₂, subst, ◌∙◌, arith}
-use Rattle.std.proofs.lemmas.List.{length-append}
+use Rattle.task_records.proofs.Core.{[], add_group, ap, ap₂, arith, bare, Core, deleted, fits, IsSound, IsTable, length-append, Made, next_place, Parts, parts_of, pushed, subst, Table, table_use, true, ℕ, ◌+◌, ◌-◌, ◌∙◌, ◌∷◌, ◌≡◌, ◌≤◌}
+use Rattle.task_records.specs.declared.{calls.TaskGroup.TaskGroup, parts.CoreParts.CoreParts, parts.Kept.Kept, single.Single.Single}
 use Rattle.make_words.proofs.RestoreLemmas.{Restores-deleted, restored_from}
 use Rattle.make_words.specs.Restored.{IsRestored, Restores}
 use Rattle.strand_words.specs.Loose.{AreStrandLoose}
 use Rattle.strand_words.specs.declared.nodes.CallNodes.{CallNodes}
 use Rattle.strand_words.specs.declared.nodes.ThreadNodes.{ThreadNodes}
-use Rattle.task_machine.specs.Core.{Core}
-use Rattle.task_machine.specs.Read.{fits, table_use}
-use Rattle.task_machine.specs.Write.{add_group}
-use Rattle.task_machine.specs.declared.records.Made.{Made}
-use Rattle.task_records.specs.Image.{Parts}
-use Rattle.task_records.specs.Seen.{IsSound, parts_of}
-use Rattle.task_records.specs.Sound.{bare}
-use Rattle.task_records.specs.declared.calls.TaskGroup.{TaskGroup}
-use Rattle.task_records.specs.declared.parts.CoreParts.{CoreParts}
-use Rattle.task_records.specs.declared.parts.Kept.{Kept}
-use Rattle.task_records.specs.declared.single.Single.{Single}
-use Rattle.task_table.specs.Changes.{deleted, next_place, pushed}
-use Rattle.task_table.specs.Table.{IsTable, Table}
 
 -- ---- Room
 

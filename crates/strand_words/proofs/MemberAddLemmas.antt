@@ -1,7 +1,6 @@
 -- A thread more of a call that is there, as a core: it is sound, contracts see just that, and it can be taken back.
-use Rattle.std.proofs.Common.{◌≡◌, ◌+◌, ◌-◌, ◌==◌, ◌<◌, ◌^◌, ◌≤◌, ℕ, true, List, Option, None, Some, length, slice_get, refl, sym, ap, ap₂, subst, ◌∙◌, arith}
-use Rattle.std.proofs.lemmas.List.Sums.{count_by-le-length}
-use Rattle.std.specs.Prelude.{Ok}
+use Rattle.task_records.proofs.Core.{add_thread, ap, ap₂, arith, AtPlace, bare, bare_call, bare_thread, Call, call_key, call_number, core_of, count_by-le-length, deleted, fits, GuestTaskKey, IsSound, IsTable, IsWhole, item_at, item_of, Keeps, kinds, length, List, mapped, mapped-pushed, mapped-with_entry, named, next_place, None, Ok, on_item, Option, OwnsHandle, Parts, parts_of, passing, place_at, place_at-mapped, Placed, placed_as, pushed, Records, records, refl, seen, set_number, size, slice_get, Some, SoundTable, subst, sym, Table, table_use, TableId, Tag, tags_in, Target, Thread, thread_key, thread_of, ThreadKey, threads_of, true, with_entry, work_number, ℕ, ◌+◌, ◌-◌, ◌<◌, ◌==◌, ◌^◌, ◌∙◌, ◌≡◌, ◌≤◌}
+use Rattle.task_records.specs.declared.{calls.GuestTask.GuestTask, parts.CoreParts.CoreParts, single.Single.Single, threads.GuestThread.GuestThread}
 use Rattle.make_words.proofs.FreshLemmas.{each_more}
 use Rattle.make_words.proofs.RestoreLemmas.{Restores-deleted, Restores-pushed, Restores-same, Restores-written, handles_grown, restored_from}
 use Rattle.make_words.specs.Restored.{IsRestored}
@@ -13,37 +12,10 @@ use Rattle.strand_words.proofs.ThreadSeenLemmas.{callers_are, thread_new, thread
 use Rattle.strand_words.specs.Loose.{AreThreadLoose}
 use Rattle.strand_words.specs.Member.{IsMember}
 use Rattle.strand_words.specs.Pushed.{PushesThread}
-use Rattle.task_index.specs.Counts.{passing}
-use Rattle.task_machine.specs.Maps.{Records, size}
-use Rattle.task_machine.specs.Read.{fits, table_use}
-use Rattle.task_machine.specs.Write.{add_thread}
-use Rattle.task_machine.specs.declared.records.Call.{Call}
-use Rattle.task_machine.specs.declared.records.Thread.{Thread}
 use Rattle.task_records.proofs.KeptLemmas.{call_threads, used_is}
 use Rattle.task_records.proofs.KindLemmas.{item_stands, table_written, tags_written}
 use Rattle.task_records.proofs.MakeLemmas.{table_more}
 use Rattle.task_records.proofs.TableLemmas.{records_unseen}
-use Rattle.task_records.specs.Image.{Parts, core_of, tags_in}
-use Rattle.task_records.specs.Kept.{threads_of}
-use Rattle.task_records.specs.Keys.{call_key, thread_key}
-use Rattle.task_records.specs.Kinds.{item_of, on_item}
-use Rattle.task_records.specs.Names.{AtPlace, OwnsHandle, Target, kinds}
-use Rattle.task_records.specs.Seen.{IsSound, parts_of, seen}
-use Rattle.task_records.specs.Sound.{IsWhole, SoundTable, bare, bare_call, bare_thread}
-use Rattle.task_records.specs.declared.calls.GuestTask.{GuestTask}
-use Rattle.task_records.specs.declared.parts.CoreParts.{CoreParts}
-use Rattle.task_records.specs.declared.single.Single.{Single}
-use Rattle.task_records.specs.declared.threads.GuestThread.{GuestThread}
-use Rattle.task_table.proofs.MappedLemmas.{mapped-pushed, mapped-with_entry, place_at-mapped}
-use Rattle.task_table.specs.Answers.{item_at}
-use Rattle.task_table.specs.Changes.{deleted, next_place, pushed, with_entry}
-use Rattle.task_table.specs.Mapped.{mapped, placed_as}
-use Rattle.task_table.specs.Records.{records}
-use Rattle.task_table.specs.Table.{IsTable, Placed, Table, place_at}
-use Rattle.task_table.specs.declared.id.TableId.{TableId}
-use Rattle.task_wait.specs.declared.keys.GuestTaskKey.{GuestTaskKey}
-use Rattle.task_wait.specs.declared.keys.ThreadKey.{ThreadKey}
-use Rattle.task_words.specs.StateView.{Keeps, Tag, call_number, named, set_number, thread_of, work_number}
 
 -- more were made
 later_table : {E X : Type 0} {key : E → Option (ℕ × X)} {t : Table E} {made : ℕ} → SoundTable key t made → SoundTable key t (made + 1)

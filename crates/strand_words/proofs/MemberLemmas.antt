@@ -1,7 +1,6 @@
 -- A thread more of a call that is there: the parts stay whole.
-use Rattle.std.proofs.Common.{◌≡◌, ◌+◌, ◌==◌, ◌<◌, ℕ, Bool, Option, Some, IsSome, refl, sym, ap, subst, ◌∙◌, arith}
-use Rattle.std.proofs.lemmas.Bool.{eq-eqb, ne_eqb}
-use Rattle.std.specs.Option.{option_map_or}
+use Rattle.task_records.proofs.Core.{ap, AreChained, AreCounted, AreTables, arith, AtPlace, blocked_key, BlockedOn, Bool, Call, call_key, core_of, EachEntry, eq-eqb, filings, found_record, found_record_at, get, get-records, HasHome, HaveRowNodes, HeldIn, how_far_target, HowFar, is_in_set, IsCallKept, IsCallNamed, IsIndex-same_chains, IsIndex-with_entry_same, IsSetKept, IsSome, IsWhole, keeps_set, key_in, kinds, ne_eqb, no_callee, number_in, one_if_passes, Option, option_map_or, Parts, passing, Place, place_at, place_chain, place_filing, place_target, Placed, pushed, ready_call, ready_call_chain, Records, records, refl, size, Some, subst, Subtask, sym, Table, table_use, Thread, UnderOf, WaitsOn, Where, where_at, with_entry, ℕ, ◌+◌, ◌<◌, ◌==◌, ◌∙◌, ◌≡◌}
+use Rattle.task_records.specs.declared.{calls.GuestTask.GuestTask, sets.WaitSet.WaitSet, single.Single.Single, threads.GuestThread.GuestThread}
 use Rattle.make_words.proofs.MoreLemmas.{at_written, each_but, number_written, passing_more, size_more}
 use Rattle.queue_words.proofs.BareLemmas.{number_positive, one_place}
 use Rattle.strand_words.proofs.GrowLemmas.{Grows, call_grown, named_grown}
@@ -9,32 +8,7 @@ use Rattle.strand_words.proofs.StrandCountLemmas.{fails_none, passes_one}
 use Rattle.strand_words.proofs.ThreadPushLemmas.{PlacesNamed, nodes_of, thread_chained, thread_nodes}
 use Rattle.strand_words.specs.Loose.{AreThreadLoose}
 use Rattle.strand_words.specs.Member.{IsMember}
-use Rattle.task_index.proofs.Entries.{IsIndex-with_entry_same}
-use Rattle.task_index.proofs.Indexes.{IsIndex-same_chains}
-use Rattle.task_index.specs.Counts.{one_if_passes, passing}
-use Rattle.task_index.specs.Index.{filings}
-use Rattle.task_machine.specs.Maps.{Records, get, size}
-use Rattle.task_machine.specs.Read.{is_in_set, keeps_set, no_callee, table_use}
-use Rattle.task_machine.specs.declared.records.Call.{Call}
-use Rattle.task_machine.specs.declared.records.HowFar.{HowFar}
-use Rattle.task_machine.specs.declared.records.Place.{Place}
-use Rattle.task_machine.specs.declared.records.Subtask.TheVariants as subtask
-use Rattle.task_machine.specs.declared.records.Thread.{Thread}
 use Rattle.task_records.proofs.TableLemmas.{found_unseen, records_unseen}
-use Rattle.task_records.specs.Image.{Parts, core_of}
-use Rattle.task_records.specs.Keys.{blocked_key, call_key}
-use Rattle.task_records.specs.Kept.{IsCallKept, IsSetKept}
-use Rattle.task_records.specs.Names.{AtPlace, HasHome, IsCallNamed, how_far_target, kinds, place_target}
-use Rattle.task_records.specs.Places.{BlockedOn, HeldIn, UnderOf, WaitsOn, Where, place_chain, place_filing, ready_call, ready_call_chain, where_at}
-use Rattle.task_records.specs.Sound.{AreChained, AreCounted, AreTables, EachEntry, HaveRowNodes, IsWhole}
-use Rattle.task_records.specs.declared.calls.GuestTask.{GuestTask}
-use Rattle.task_records.specs.declared.sets.WaitSet.{WaitSet}
-use Rattle.task_records.specs.declared.single.Single.{Single}
-use Rattle.task_records.specs.declared.threads.GuestThread.{GuestThread}
-use Rattle.task_table.proofs.RecordLemmas.{found_record_at, get-records}
-use Rattle.task_table.specs.Changes.{pushed, with_entry}
-use Rattle.task_table.specs.Records.{found_record, key_in, number_in, records}
-use Rattle.task_table.specs.Table.{Placed, Table, place_at}
 
 module _ (p : Parts) (whole : IsWhole p) (tables : AreTables p) (rep : ℕ) (q : Placed (Single GuestTask)) (at : place_at p.calls rep ≡ Some q) (g : GuestThread) (is : IsMember p q.entry.item rep g) (loose : AreThreadLoose p (nodes_of g)) where
   abbrev one_more : GuestTask
@@ -71,8 +45,8 @@ module _ (p : Parts) (whole : IsWhole p) (tables : AreTables p) (rep : ℕ) (q :
   chains_same (WaitsOn n) = refl
   chains_same (HeldIn i) = refl
   chains_same (UnderOf n) = refl
-  chains_same (BlockedOn (subtask.Guest k)) = found_unseen blocked_key p.calls rep q at (record { item = one_more }) refl k
-  chains_same (BlockedOn (subtask.Host i)) = refl
+  chains_same (BlockedOn (Subtask.Guest k)) = found_unseen blocked_key p.calls rep q at (record { item = one_more }) refl k
+  chains_same (BlockedOn (Subtask.Host i)) = refl
 
   recounted_chained : AreChained recounted
   recounted_chained = record {

@@ -1,24 +1,12 @@
 -- The nodes and chains of a thread and of a call are made, one after another: they hang on nothing.
-use Rattle.std.proofs.Common.{◌≡◌, ℕ, Bool, true, false, List, [], None, Option, Some, refl, sym, ap, subst, ◌∙◌}
+use Rattle.task_records.proofs.Core.{[], ap, bare, Bool, callers_chain, callers_row, ChainOf, false, filings, filings_at, FreeNode, is_made, IsFollower, IsIndex, IsSound, List, list_of, None, Option, parts_of, place_at, place_chain, place_filing, Placed, ready_call_chain, ready_in, refl, Renames, Some, Spot, spot_at, spot_is_made, spot_link, spot_list, subst, sym, Table, true, Unmade, where_at, ℕ, ◌∙◌, ◌≡◌}
+use Rattle.task_records.specs.declared.{calls.GuestTask.GuestTask, parts.CoreParts.CoreParts, single.Single.Single, threads.GuestThread.GuestThread, works.HostWork.HostWork}
 use Rattle.make_words.proofs.LooseLemmas.{loose_index, loose_row}
 use Rattle.make_words.specs.Loose.{IsLoose, IsSpare}
 use Rattle.strand_words.specs.Extends.{Extends, Grown}
 use Rattle.strand_words.specs.Loose.{AreCallLoose, AreThreadLoose}
 use Rattle.strand_words.specs.declared.nodes.CallNodes.{CallNodes}
 use Rattle.strand_words.specs.declared.nodes.ThreadNodes.{ThreadNodes}
-use Rattle.task_index.proofs.Tables.{filings_at}
-use Rattle.task_index.specs.Index.{IsIndex, filings}
-use Rattle.task_links.specs.Links.{ChainOf, FreeNode, Renames, Spot, Unmade, is_made, list_of, spot_at, spot_is_made, spot_link, spot_list}
-use Rattle.task_records.specs.Places.{place_chain, place_filing, ready_call_chain, where_at, ready_in}
-use Rattle.task_records.specs.Rows.{IsFollower, callers_chain, callers_row}
-use Rattle.task_records.specs.Seen.{IsSound, parts_of}
-use Rattle.task_records.specs.Sound.{bare}
-use Rattle.task_records.specs.declared.calls.GuestTask.{GuestTask}
-use Rattle.task_records.specs.declared.parts.CoreParts.{CoreParts}
-use Rattle.task_records.specs.declared.single.Single.{Single}
-use Rattle.task_records.specs.declared.threads.GuestThread.{GuestThread}
-use Rattle.task_records.specs.declared.works.HostWork.{HostWork}
-use Rattle.task_table.specs.Table.{Placed, Table, place_at}
 
 -- ---- What is made leaves the rest
 
@@ -43,9 +31,6 @@ module _ (a b : CoreParts) where
 
   pub extends_behind : Grown a.behind b.behind → b ≡ record a { behind = b.behind } → Extends a b
   extends_behind grown only = subst (Extends a) (sym only) (record { places = grown_same a.places; ready_calls = grown_same a.ready_calls; marks = grown_same a.marks; shelves = grown_same a.shelves; behind = grown; only = refl })
-
-not_unmade : {P : Type 0} (s t : Spot P) → s ≡ t → (t ≡ Unmade → ⊥) → s ≡ Unmade → ⊥
-not_unmade s t same made is = made (sym same ∙ is)
 
 grown_on : {P : Type 0} (k l m : List (Spot P)) → Grown k l → Grown l m → Grown k m
 grown_on k l m first second n made = second n (λ none. made (sym (first n made) ∙ none)) ∙ first n made
@@ -107,9 +92,6 @@ module _ (a b : CoreParts) (ext : Extends a b) where
 
     pub place_loose_kept : IsLoose (place_chain (bare (parts_of a))) a.places n → IsLoose (place_chain (bare (parts_of b))) b.places n
     place_loose_kept loose = subst (λ (y : CoreParts). IsLoose (place_chain (bare (parts_of y))) b.places n) (sym ext.only) (loose_grown _ a.places b.places n ext.places loose)
-
-    pub callers_loose_kept : IsLoose (callers_chain (bare (parts_of a))) a.behind n → IsLoose (callers_chain (bare (parts_of b))) b.behind n
-    callers_loose_kept loose = subst (λ (y : CoreParts). IsLoose (callers_chain (bare (parts_of y))) b.behind n) (sym ext.only) (loose_grown _ a.behind b.behind n ext.behind loose)
 
     abbrev NoWork : CoreParts → Type 0
     NoWork y = (rep : ℕ) (w : Placed (Single HostWork)) → place_at (bare (parts_of y)).works rep ≡ Some w → w.entry.item.mark.index ≡ n → ⊥

@@ -1,35 +1,11 @@
 -- The records that a request makes are a call and its first thread.
-use Rattle.std.proofs.Common.{◌≡◌, ◌+◌, ℕ, Bool, true, false, cond, is_some, List, None, Option, Some, IsSome, slice_get, refl, sym, ap, ap₂, subst, ◌∙◌}
-use Rattle.std.proofs.lemmas.Bool.{eq-eqb}
-use Rattle.std.proofs.lemmas.Option.{slice_get-map}
-use Rattle.std.specs.Option.{option_map, option_map_or}
+use Rattle.task_records.proofs.Core.{add_call, add_thread, ap, ap₂, AtPlace, bare, bare_call, bare_instance, bare_thread, Bool, Call, call_instance, caller_target, cond, Core, eq-eqb, false, get, get-insert, Goal, handle_table, HasRoom, instance_of, is_some, IsSome, List, named_of, new_call, new_thread, next_place, next_place-mapped, no_callee, None, on_item, Option, option_map, option_map_or, parts_of, refl, Script, seen, slice_get, slice_get-map, Some, subst, sym, Thread, true, ℕ, ◌+◌, ◌∙◌, ◌≡◌}
+use Rattle.task_records.specs.declared.{calls.GuestTask.GuestTask, instances.InstanceRecord.InstanceRecord, parts.CoreParts.CoreParts, threads.GuestThread.GuestThread}
 use Rattle.strand_words.specs.Member.{IsMember}
 use Rattle.strand_words.specs.Strand.{IsStrand}
 use Rattle.strand_words.specs.declared.records.Request.{Request}
-use Rattle.task_machine.specs.Core.{Core}
-use Rattle.task_machine.specs.Maps.{get, get-insert}
-use Rattle.task_machine.specs.Read.{call_instance, instance_of, no_callee}
-use Rattle.task_machine.specs.Write.{add_call, add_thread}
-use Rattle.task_machine.specs.declared.records.Call.{Call}
-use Rattle.task_machine.specs.declared.records.Goal.TheVariants as goal
-use Rattle.task_machine.specs.declared.records.Script.{Script}
-use Rattle.task_machine.specs.declared.records.Script.TheVariants as script
-use Rattle.task_machine.specs.declared.records.Thread.{Thread}
 use Rattle.task_records.proofs.HomeLemmas.{place_in_bare}
 use Rattle.task_records.proofs.InstanceReads.{handles_read, instance_read}
-use Rattle.task_records.specs.Instances.{handle_table, named_of}
-use Rattle.task_records.specs.Kinds.{on_item}
-use Rattle.task_records.specs.Image.{HasRoom}
-use Rattle.task_records.specs.Names.{AtPlace, caller_target}
-use Rattle.task_records.specs.Seen.{parts_of, seen}
-use Rattle.task_records.specs.Sound.{bare, bare_call, bare_instance, bare_thread}
-use Rattle.task_records.specs.declared.calls.GuestTask.{GuestTask}
-use Rattle.task_records.specs.declared.instances.InstanceRecord.{InstanceRecord}
-use Rattle.task_records.specs.declared.parts.CoreParts.{CoreParts}
-use Rattle.task_records.specs.declared.threads.GuestThread.{GuestThread}
-use Rattle.task_rules.specs.Calls.{new_call, new_thread}
-use Rattle.task_table.proofs.MappedLemmas.{next_place-mapped}
-use Rattle.task_table.specs.Changes.{next_place}
 
 module _ (a : CoreParts) (i : ℕ) where
   mapped_some : {X Y : Type 0} (f : X → Y) (o : Option X) → IsSome (option_map f o) → IsSome o
@@ -52,11 +28,11 @@ module _ (a : CoreParts) (i : ℕ) where
 
 module _ (a : CoreParts) (request : Request) (group : ℕ) (words : List ℕ) (c : GuestTask) (g : GuestThread)
     (call_number : c.number ≡ a.made.threads + 1) (call_is : c.call ≡ new_call request.caller request.callee request.kind request.goal group) (maker : c.maker ≡ request.maker) (one : c.threads ≡ 1)
-    (thread_number : g.number ≡ a.made.threads + 1) (thread_is : g.thread ≡ new_thread (a.made.threads + 1) false script.Start words None) (instance : g.instance ≡ request.callee.instance) where
+    (thread_number : g.number ≡ a.made.threads + 1) (thread_is : g.thread ≡ new_thread (a.made.threads + 1) false Script.Start words None) (instance : g.instance ≡ request.callee.instance) where
   pub request_strand :
       AtPlace (parts_of a) request.maker (caller_target request.caller)
       → IsSome (get (seen a).core.instances request.callee.instance)
-      → (request.goal ≡ goal.Main → HasRoom (a.made.threads + 1) a.results.entries)
+      → (request.goal ≡ Goal.Main → HasRoom (a.made.threads + 1) a.results.entries)
       → IsStrand (bare (parts_of a)) (bare_call (record c { first = next_place a.threads })) (bare_thread (record g { task = next_place a.calls }))
   request_strand caller there room = record {
     call_next = call_number;
@@ -77,10 +53,10 @@ module _ (a : CoreParts) (request : Request) (group : ℕ) (words : List ℕ) (c
     room = λ main. subst (λ (m : ℕ). HasRoom m a.results.entries) (sym call_number) (room (sym (ap (λ (k : Call). k.goal) call_is) ∙ main));
   }
 
-  pub request_core : (s : Core) → add_thread g.thread (add_call c.number c.call s) ≡ add_thread (new_thread (a.made.threads + 1) false script.Start words None) (add_call (a.made.threads + 1) (new_call request.caller request.callee request.kind request.goal group) s)
+  pub request_core : (s : Core) → add_thread g.thread (add_call c.number c.call s) ≡ add_thread (new_thread (a.made.threads + 1) false Script.Start words None) (add_call (a.made.threads + 1) (new_call request.caller request.callee request.kind request.goal group) s)
   request_core s =
       ap (λ (t : Thread). add_thread t (add_call c.number c.call s)) thread_is
-      ∙ ap₂ (λ (n : ℕ) (k : Call). add_thread (new_thread (a.made.threads + 1) false script.Start words None) (add_call n k s)) call_number call_is
+      ∙ ap₂ (λ (n : ℕ) (k : Call). add_thread (new_thread (a.made.threads + 1) false Script.Start words None) (add_call n k s)) call_number call_is
 
 -- ---- A thread of a call that is there
 

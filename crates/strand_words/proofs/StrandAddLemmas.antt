@@ -1,7 +1,6 @@
 -- A call more and its thread, as a core: it is sound, and contracts see just that.
-use Rattle.std.proofs.Common.{◌≡◌, ◌+◌, ◌==◌, ◌<◌, ◌^◌, ◌≤◌, ℕ, true, Option, None, Some, length, is_some, refl, sym, ap, subst, ◌∙◌, arith}
-use Rattle.std.proofs.lemmas.List.Sums.{count_by-le-length}
-use Rattle.std.specs.Prelude.{Ok}
+use Rattle.task_records.proofs.Core.{add_call, add_thread, ap, AreApart, AreTables, arith, AtPlace, bare, bare_call, bare_thread, bare_work, Call, call_key, call_of, calls_of, core_of, count_by-le-length, fits, GroupKey, GuestTaskKey, insert, is_of_group, is_some, IsSound, IsTable, IsWhole, item_at, item_of, Keeps, kinds, length, loose_call, loose_thread, loose_work, mapped, mapped-pushed, next_place, None, Ok, on_item, Option, OwnsHandle, Parts, parts_of, passing, place_at, Placed, pushed, records, refl, seen, set_number, size, size-records-le, Some, subst, sym, Table, table_len, table_use, TableId, Target, thread_of, ThreadKey, true, uninterested, unmoved, with_entry, Work, work_key, work_number, ℕ, ◌+◌, ◌<◌, ◌==◌, ◌^◌, ◌∙◌, ◌≡◌, ◌≤◌}
+use Rattle.task_records.specs.declared.{calls.GuestTask.GuestTask, calls.TaskGroup.TaskGroup, parts.CoreParts.CoreParts, single.Single.Single, threads.GuestThread.GuestThread, works.HostWork.HostWork}
 use Rattle.make_words.proofs.FreshLemmas.{each_more}
 use Rattle.make_words.proofs.MoreLemmas.{passing_more, table_bare}
 use Rattle.make_words.proofs.RestoreLemmas.{handles_grown}
@@ -14,41 +13,10 @@ use Rattle.strand_words.proofs.ThreadPushLemmas.{nodes_of}
 use Rattle.strand_words.proofs.ThreadSeenLemmas.{callers_are, thread_new, thread_still, threads_are}
 use Rattle.strand_words.specs.Loose.{AreStrandLoose}
 use Rattle.strand_words.specs.Strand.{IsStrand}
-use Rattle.task_index.specs.Counts.{passing}
-use Rattle.task_machine.specs.Maps.{insert, size}
-use Rattle.task_machine.specs.Read.{fits, table_use}
-use Rattle.task_machine.specs.Write.{add_call, add_thread}
-use Rattle.task_machine.specs.declared.records.Call.{Call}
-use Rattle.task_machine.specs.declared.records.Work.{Work}
 use Rattle.task_records.proofs.KeptLemmas.{used_is}
 use Rattle.task_records.proofs.KindLemmas.{item_stands, table_written}
 use Rattle.task_records.proofs.MakeLemmas.{number_kept, number_new, records_more, table_more}
 use Rattle.task_records.proofs.ReadLemmas.{call_shown}
-use Rattle.task_records.specs.Image.{Parts, core_of}
-use Rattle.task_records.specs.Kept.{calls_of, is_of_group}
-use Rattle.task_records.specs.Keys.{call_key, work_key}
-use Rattle.task_records.specs.Kinds.{item_of, on_item}
-use Rattle.task_records.specs.Names.{AtPlace, OwnsHandle, Target, kinds}
-use Rattle.task_records.specs.Seen.{IsSound, parts_of, seen}
-use Rattle.task_records.specs.Sound.{AreTables, IsWhole, bare, bare_call, bare_thread, bare_work, loose_call, loose_thread, loose_work, uninterested, unmoved}
-use Rattle.task_records.specs.declared.calls.GuestTask.{GuestTask}
-use Rattle.task_records.specs.declared.calls.TaskGroup.{TaskGroup}
-use Rattle.task_records.specs.declared.parts.CoreParts.{CoreParts}
-use Rattle.task_records.specs.declared.single.Single.{Single}
-use Rattle.task_records.specs.declared.threads.GuestThread.{GuestThread}
-use Rattle.task_records.specs.declared.works.HostWork.{HostWork}
-use Rattle.task_table.proofs.MappedLemmas.{mapped-pushed}
-use Rattle.task_table.proofs.RecordCountLemmas.{size-records-le}
-use Rattle.task_table.specs.Answers.{item_at}
-use Rattle.task_table.specs.Changes.{next_place, pushed, with_entry}
-use Rattle.task_table.specs.Mapped.{mapped}
-use Rattle.task_table.specs.Records.{AreApart, records}
-use Rattle.task_table.specs.Table.{IsTable, Placed, Table, place_at, table_len}
-use Rattle.task_table.specs.declared.id.TableId.{TableId}
-use Rattle.task_wait.specs.declared.keys.GroupKey.{GroupKey}
-use Rattle.task_wait.specs.declared.keys.GuestTaskKey.{GuestTaskKey}
-use Rattle.task_wait.specs.declared.keys.ThreadKey.{ThreadKey}
-use Rattle.task_words.specs.StateView.{Keeps, call_of, set_number, thread_of, work_number}
 
 -- few stand in a table
 pub places_few : {E X : Type 0} (key : E → Option (ℕ × X)) (t : Table E) → IsTable t → AreApart key t.places → length (records key t.places).list ≤ 4294967295

@@ -1,33 +1,10 @@
 -- A call more and its thread: what the parts count.
-use Rattle.std.proofs.Common.{inl, inr, ◌⊎◌, ◌≡◌, ◌+◌, ◌==◌, ◌<◌, ℕ, Bool, true, false, cond, List, Option, Some, None, IsSome, filter, length, nat_lt, refl, sym, ap, subst, ◌∙◌, arith}
-use Rattle.std.proofs.lemmas.Bool.{cases_eq, eq-eqb, ne_eqb}
-use Rattle.std.proofs.lemmas.Option.{same_Some}
+use Rattle.task_records.proofs.Core.{ap, AreCounted, arith, Bool, Call, call_key, cases_eq, cond, core_of, EachEntry, eq-eqb, false, filter, get, Goal, group_key, HasRoom, inl, inr, is_in_set, IsCallKept, IsGroupKept, IsSetKept, IsWhole, Join, keeps_set, key_in, length, List, nat_lt, ne_eqb, None, one_if_passes, Option, Parts, passing, Place, place_at, Placed, pushed, refl, same_Some, Some, SoundTable, subst, sym, table_use, Thread, thread_key, threads_of, true, with_entry, ℕ, ◌+◌, ◌<◌, ◌==◌, ◌∙◌, ◌≡◌, ◌⊎◌}
+use Rattle.task_records.specs.declared.{calls.GuestTask.GuestTask, calls.TaskGroup.TaskGroup, sets.WaitSet.WaitSet, single.Single.Single, threads.GuestThread.GuestThread}
 use Rattle.make_words.proofs.FreshLemmas.{each_more, none_passing}
 use Rattle.make_words.proofs.MoreLemmas.{each_but, early, early_at, get_more, passing_more, size_more}
 use Rattle.queue_words.proofs.BareLemmas.{one_place}
 use Rattle.strand_words.proofs.GroupLemmas.{group_numbers}
-use Rattle.task_index.specs.Counts.{one_if_passes, passing}
-use Rattle.task_machine.specs.Maps.{get}
-use Rattle.task_machine.specs.Read.{is_in_set, keeps_set, table_use}
-use Rattle.task_machine.specs.declared.records.Call.{Call}
-use Rattle.task_machine.specs.declared.records.Goal.TheVariants as goal
-use Rattle.task_machine.specs.declared.records.Join.{Join}
-use Rattle.task_machine.specs.declared.records.Join.TheVariants as join
-use Rattle.task_machine.specs.declared.records.Place.{Place}
-use Rattle.task_machine.specs.declared.records.Place.TheVariants as place
-use Rattle.task_machine.specs.declared.records.Thread.{Thread}
-use Rattle.task_records.specs.Image.{HasRoom, Parts, core_of}
-use Rattle.task_records.specs.Keys.{call_key, group_key, thread_key}
-use Rattle.task_records.specs.Kept.{IsCallKept, IsGroupKept, IsSetKept, threads_of}
-use Rattle.task_records.specs.Sound.{AreCounted, EachEntry, IsWhole, SoundTable}
-use Rattle.task_records.specs.declared.calls.GuestTask.{GuestTask}
-use Rattle.task_records.specs.declared.calls.TaskGroup.{TaskGroup}
-use Rattle.task_records.specs.declared.sets.WaitSet.{WaitSet}
-use Rattle.task_records.specs.declared.single.Single.{Single}
-use Rattle.task_records.specs.declared.threads.GuestThread.{GuestThread}
-use Rattle.task_table.specs.Changes.{pushed, with_entry}
-use Rattle.task_table.specs.Records.{key_in}
-use Rattle.task_table.specs.Table.{Placed, place_at}
 
 pub fails_none : {X : Type 0} (test : X → Bool) (x : X) → test x ≡ false → one_if_passes test (Some x) ≡ 0
 fails_none test x fails = ap (λ b. cond b 1 0) fails
@@ -75,7 +52,7 @@ module _ (p : Parts) (whole : IsWhole p) (threads : SoundTable thread_key p.thre
           let none = no_threads c.number (omega arith) in
           omega arith)
 
-      module _ (nowhere : c.call.join ≡ join.Nowhere) (unplaced : g.thread.place ≡ place.New) where
+      module _ (nowhere : c.call.join ≡ Join.Nowhere) (unplaced : g.thread.place ≡ Place.New) where
         set_kept : (x : WaitSet) → IsSetKept (core_of p) x → IsSetKept (core_of with_strand) x
         set_kept x was = record {
           members =
@@ -90,7 +67,7 @@ module _ (p : Parts) (whole : IsWhole p) (threads : SoundTable thread_key p.thre
               omega arith;
         }
 
-        module _ (of_group : q.entry.item.number ≡ c.call.group) (room : c.call.goal ≡ goal.Main → HasRoom c.number p.results) where
+        module _ (of_group : q.entry.item.number ≡ c.call.group) (room : c.call.goal ≡ Goal.Main → HasRoom c.number p.results) where
           groups_kept : EachEntry (IsGroupKept (core_of with_strand)) with_strand.groups
           groups_kept = each_but p.groups rep q at one_more (IsGroupKept (core_of with_strand))
               (let was = whole.counted.groups rep q at in
@@ -103,7 +80,7 @@ module _ (p : Parts) (whole : IsWhole p) (threads : SoundTable thread_key p.thre
               let none = fails_none (λ (d : Call). d.group == w.entry.item.number) c.call (ne_eqb c.call.group w.entry.item.number (λ same. other (one_place (λ (h : TaskGroup). h.number) (λ (h : TaskGroup). h.calls) p.groups p.made.groups groups r rep w q w_at at (sym same ∙ sym of_group)))) in
               omega arith)
 
-          rooms : (k : ℕ) (d : Call) → get (core_of with_strand).calls k ≡ Some d → d.goal ≡ goal.Main → HasRoom k p.results
+          rooms : (k : ℕ) (d : Call) → get (core_of with_strand).calls k ≡ Some d → d.goal ≡ Goal.Main → HasRoom k p.results
           rooms k d is main = by (cases_eq k c.number)
             where
               more : cond (k == c.number) (Some c.call) (get (core_of p).calls k) ≡ Some d

@@ -1,7 +1,6 @@
 -- A call more and its thread, whose nodes and chains hung on nothing: the parts stay whole.
-use Rattle.std.proofs.Common.{◌≡◌, ◌+◌, ◌<◌, ◌==◌, ℕ, Option, Some, cond, refl, sym, ap, subst, ◌∙◌, arith}
-use Rattle.std.proofs.lemmas.Bool.{eq-eqb, ne_eqb}
-use Rattle.std.specs.Option.{option_map_or}
+use Rattle.task_records.proofs.Core.{ap, AreChained, AreTables, arith, AtPlace, Call, call_key, cond, core_of, eq-eqb, get, group_key, HasHome, HaveRowNodes, how_far_target, HowFar, IsCallNamed, IsWhole, Join, join_target, key_in, kinds, ne_eqb, no_callee, number_in, Option, option_map_or, Parts, Place, place_at, place_target, Placed, pushed, ready_in, refl, Some, Status, subst, sym, thread_key, where_at, ℕ, ◌+◌, ◌<◌, ◌==◌, ◌∙◌, ◌≡◌}
+use Rattle.task_records.specs.declared.{calls.GuestTask.GuestTask, calls.TaskGroup.TaskGroup, single.Single.Single, threads.GuestThread.GuestThread}
 use Rattle.make_words.proofs.FreshLemmas.{each_more}
 use Rattle.make_words.proofs.MoreLemmas.{at_new, early_at, get_more, number_stays, number_written}
 use Rattle.queue_words.proofs.BareLemmas.{number_positive}
@@ -11,26 +10,7 @@ use Rattle.strand_words.proofs.StrandCountLemmas.{strand_counted, with_strand}
 use Rattle.strand_words.proofs.ThreadPushLemmas.{PlacesNamed, nodes_of, thread_chained, thread_nodes}
 use Rattle.strand_words.specs.Loose.{AreCallLoose, AreThreadLoose}
 use Rattle.strand_words.specs.Strand.{IsStrand}
-use Rattle.task_machine.specs.Maps.{get}
-use Rattle.task_machine.specs.Read.{no_callee}
-use Rattle.task_machine.specs.declared.records.Call.{Call}
-use Rattle.task_machine.specs.declared.records.HowFar.{HowFar}
-use Rattle.task_machine.specs.declared.records.Join.{Join}
-use Rattle.task_machine.specs.declared.records.Place.{Place}
-use Rattle.task_machine.specs.declared.words.Status.{Status}
 use Rattle.task_records.proofs.MakeLemmas.{stands_more}
-use Rattle.task_records.specs.Image.{Parts, core_of}
-use Rattle.task_records.specs.Keys.{call_key, group_key, thread_key}
-use Rattle.task_records.specs.Names.{AtPlace, HasHome, IsCallNamed, how_far_target, join_target, kinds, place_target}
-use Rattle.task_records.specs.Places.{ready_in, where_at}
-use Rattle.task_records.specs.Sound.{AreChained, AreTables, HaveRowNodes, IsWhole}
-use Rattle.task_records.specs.declared.calls.GuestTask.{GuestTask}
-use Rattle.task_records.specs.declared.calls.TaskGroup.{TaskGroup}
-use Rattle.task_records.specs.declared.single.Single.{Single}
-use Rattle.task_records.specs.declared.threads.GuestThread.{GuestThread}
-use Rattle.task_table.specs.Changes.{pushed}
-use Rattle.task_table.specs.Records.{key_in, number_in}
-use Rattle.task_table.specs.Table.{Placed, place_at}
 
 module _ (p : Parts) (whole : IsWhole p) (tables : AreTables p) (c : GuestTask) (g : GuestThread) (is : IsStrand p c g) (call_loose : AreCallLoose p (call_nodes_of c)) (loose : AreThreadLoose p (nodes_of g)) (two : g.under ≡ c.blocked → ⊥)
     (rep : ℕ) (q : Placed (Single TaskGroup)) (at : place_at p.groups rep ≡ Some q) (place : c.group ≡ rep) (of_group : q.entry.item.number ≡ c.call.group) where

@@ -1,39 +1,10 @@
 -- A call and its thread that were made are taken back, and the thread that has a handle now is in its call's instance.
-use Rattle.std.proofs.Common.{◌≡◌, ◌+◌, ◌-◌, ℕ, Bool, false, cond, List, None, Option, Some, refl, sym, ap, ap₂, ◌∙◌, arith}
-use Rattle.std.proofs.lemmas.Bool.{eq-eqb}
-use Rattle.std.specs.Option.{option_map_or}
-use Rattle.std.specs.Prelude.{Ok}
+use Rattle.task_records.proofs.Core.{add_call, add_thread, ap, ap₂, arith, Bool, Call, call_made, Callee, Caller, cond, Core, deleted, entry_put, eq-eqb, ExportKind, false, found, found-with_entry, get, get-insert, Goal, GroupKey, GuestTaskKey, instance_of, IsSound, IsTable, item_at, item_in, item_of, List, new_call, new_thread, no_callee, None, Ok, Option, option_map_or, Parts, parts_of, Placed, refl, registers_for, Script, Some, sym, Table, TableId, Thread, ThreadKey, with_entry, with_thread_handle, ℕ, ◌+◌, ◌-◌, ◌∙◌, ◌≡◌}
+use Rattle.task_records.specs.declared.{calls.TaskGroup.TaskGroup, parts.CoreParts.CoreParts, single.Single.Single}
 use Rattle.make_words.proofs.RestoreLemmas.{Restores-deleted, Restores-pushed, Restores-same, Restores-written, restored_from}
 use Rattle.make_words.specs.Restored.{IsRestored}
 use Rattle.strand_words.specs.Pushed.{PushesStrand}
-use Rattle.task_machine.specs.Core.{Core}
-use Rattle.task_machine.specs.Maps.{get, get-insert}
-use Rattle.task_machine.specs.Read.{instance_of, no_callee}
-use Rattle.task_machine.specs.Write.{add_call, add_thread}
-use Rattle.task_machine.specs.declared.component.Callee.{Callee}
-use Rattle.task_machine.specs.declared.component.ExportKind.{ExportKind}
-use Rattle.task_machine.specs.declared.records.Call.{Call}
-use Rattle.task_machine.specs.declared.records.Caller.{Caller}
-use Rattle.task_machine.specs.declared.records.Goal.{Goal}
-use Rattle.task_machine.specs.declared.records.Script.TheVariants as script
-use Rattle.task_machine.specs.declared.records.Thread.{Thread}
 use Rattle.task_records.proofs.KindLemmas.{item_stands}
-use Rattle.task_records.specs.Image.{Parts}
-use Rattle.task_records.specs.Kinds.{item_of}
-use Rattle.task_records.specs.Seen.{IsSound, parts_of}
-use Rattle.task_records.specs.declared.calls.TaskGroup.{TaskGroup}
-use Rattle.task_records.specs.declared.parts.CoreParts.{CoreParts}
-use Rattle.task_records.specs.declared.single.Single.{Single}
-use Rattle.task_rules.specs.Calls.{call_made, new_call, new_thread, with_thread_handle}
-use Rattle.task_rules.specs.Scripts.{registers_for}
-use Rattle.task_table.proofs.Laws.{found-with_entry}
-use Rattle.task_table.specs.Answers.{item_at, item_in}
-use Rattle.task_table.specs.Changes.{deleted, entry_put, with_entry}
-use Rattle.task_table.specs.Table.{IsTable, Placed, Table, found}
-use Rattle.task_table.specs.declared.id.TableId.{TableId}
-use Rattle.task_wait.specs.declared.keys.GroupKey.{GroupKey}
-use Rattle.task_wait.specs.declared.keys.GuestTaskKey.{GuestTaskKey}
-use Rattle.task_wait.specs.declared.keys.ThreadKey.{ThreadKey}
 
 module _ (a b c e : CoreParts) (sound_a : IsSound a) (sound_b : IsSound b) (id : TableId GroupKey) (group : TaskGroup) (stands : Ok group ≡ item_at item_of a.groups id.rep id.serial) (first : TableId ThreadKey) (task : TableId GuestTaskKey)
     (made : PushesStrand a b id group first task) (same : parts_of c ≡ parts_of b)
@@ -74,7 +45,7 @@ unfolding call_made add_thread add_call
 made_instance f e x g group words s =
     let k = s.made.threads + 1 in
     let m = call_made f e x g group words s in
-    ap (λ (o : Option Thread). (option_map_or (λ (d : Call). d.callee) (get m.calls (option_map_or (λ (t : Thread). t.call) o 0)) no_callee).instance) (get-insert s.threads k (new_thread k false script.Start (registers_for words) None) k ∙ ap (λ (b : Bool). cond b (Some (new_thread k false script.Start (registers_for words) None)) (get s.threads k)) (eq-eqb k k refl))
+    ap (λ (o : Option Thread). (option_map_or (λ (d : Call). d.callee) (get m.calls (option_map_or (λ (t : Thread). t.call) o 0)) no_callee).instance) (get-insert s.threads k (new_thread k false Script.Start (registers_for words) None) k ∙ ap (λ (b : Bool). cond b (Some (new_thread k false Script.Start (registers_for words) None)) (get s.threads k)) (eq-eqb k k refl))
     ∙ ap (λ (o : Option Call). (option_map_or (λ (d : Call). d.callee) o no_callee).instance) (get-insert s.calls k (new_call f e x g group) k ∙ ap (λ (b : Bool). cond b (Some (new_call f e x g group)) (get s.calls k)) (eq-eqb k k refl))
 
 -- the handle is that of the thread in its call's instance

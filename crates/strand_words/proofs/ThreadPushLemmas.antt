@@ -1,34 +1,12 @@
 -- A thread more, whose nodes and chains hung on nothing: the chains and the nodes of the parts.
-use Rattle.std.proofs.Common.{inl, inr, ◌⊎◌, ◌≡◌, ◌<◌, ℕ, [], Option, Some, None, map, refl, sym, ap, subst, ◌∙◌, arith}
-use Rattle.std.proofs.lemmas.Bool.{cases_eq}
-use Rattle.std.proofs.lemmas.Option.{same_Some}
+use Rattle.task_records.proofs.Core.{[], ap, AreApart, AreChained, arith, BlockedOn, callers_chain, callers_row, cases_eq, chained, EachEntry, Entry, entry_seated, Filing, filings, follower, found_record, HaveRowNodes, HeldIn, inl, inr, IsFollower, IsNamedAt, IsRows-opened, IsSeated, IsTable, Kinds, list_or_nil, map, None, Nothing, Option, Parts, Place, place_at, place_chain, place_filing, place_target, Placed, pushed, refl, said, same_Some, SetOf, Some, subst, Subtask, subtask_target, sym, Table, Target, thread_entry, thread_key, ThreadOf, UnderOf, WaitsOn, Where, where_at, ℕ, ◌<◌, ◌∙◌, ◌≡◌, ◌⊎◌}
+use Rattle.task_records.specs.declared.{single.Single.Single, threads.Follower.Follower, threads.GuestThread.GuestThread, threads.Queued.Queued}
 use Rattle.make_words.proofs.FreshLemmas.{chain_new, chain_other}
 use Rattle.make_words.proofs.LooseLemmas.{IsIndex-opened}
 use Rattle.make_words.proofs.MoreLemmas.{IsRows-known, index_more, new_or_old, nodes_more, seat_stays}
 use Rattle.queue_words.proofs.CallerLemmas.{none_as}
 use Rattle.strand_words.specs.Loose.{AreThreadLoose}
 use Rattle.strand_words.specs.declared.nodes.ThreadNodes.{ThreadNodes}
-use Rattle.task_index.proofs.Rows.{IsRows-opened}
-use Rattle.task_index.specs.Index.{Filing, filings, said}
-use Rattle.task_links.specs.Links.{list_or_nil}
-use Rattle.task_machine.specs.declared.records.Entry.{Entry}
-use Rattle.task_machine.specs.declared.records.Entry.TheVariants as entry
-use Rattle.task_machine.specs.declared.records.Place.{Place}
-use Rattle.task_machine.specs.declared.records.Place.TheVariants as place
-use Rattle.task_machine.specs.declared.records.Subtask.TheVariants as subtask
-use Rattle.task_records.specs.Image.{Parts, chained}
-use Rattle.task_records.specs.Keys.{thread_key}
-use Rattle.task_records.specs.Names.{IsNamedAt, Kinds, Nothing, SetOf, Target, ThreadOf, place_target, subtask_target}
-use Rattle.task_records.specs.Places.{BlockedOn, HeldIn, UnderOf, WaitsOn, Where, place_chain, place_filing, where_at}
-use Rattle.task_records.specs.Rows.{IsFollower, IsSeated, callers_chain, callers_row, entry_seated, follower, thread_entry}
-use Rattle.task_records.specs.Sound.{AreChained, EachEntry, HaveRowNodes}
-use Rattle.task_records.specs.declared.single.Single.{Single}
-use Rattle.task_records.specs.declared.threads.Follower.{Follower}
-use Rattle.task_records.specs.declared.threads.GuestThread.{GuestThread}
-use Rattle.task_records.specs.declared.threads.Queued.{Queued}
-use Rattle.task_table.specs.Changes.{pushed}
-use Rattle.task_table.specs.Records.{AreApart, found_record}
-use Rattle.task_table.specs.Table.{IsTable, Placed, Table, place_at}
 
 -- ---- What a list is named by
 
@@ -40,15 +18,15 @@ target_of (BlockedOn sub) = subtask_target sub
 
 -- who is in a list names what the list hangs on
 pub names_list : (k : Kinds) (rep i : ℕ) (x : Place) (w : Where) → IsNamedAt k rep (place_target x) → where_at i x ≡ Some w → IsNamedAt k rep (target_of w)
-names_list k rep i place.New w at is = absurd (cc)
-names_list k rep i (place.Ready m y) w at is = absurd (cc)
-names_list k rep i place.Running w at is = absurd (cc)
-names_list k rep i (place.Under m) w at is = subst (λ v. IsNamedAt k rep (target_of v)) (same_Some (UnderOf m) w is) at
-names_list k rep i (place.Behind m) w at is = absurd (cc)
-names_list k rep i (place.Waiting y by_callback) w at is = subst (λ v. IsNamedAt k rep (target_of v)) (same_Some (WaitsOn y) w is) at
-names_list k rep i (place.Blocked sub) w at is = subst (λ v. IsNamedAt k rep (target_of v)) (same_Some (BlockedOn sub) w is) at
-names_list k rep i (place.Held y) w at is = subst (λ v. IsNamedAt k rep (target_of v)) (same_Some (HeldIn i) w is) tt
-names_list k rep i place.Suspended w at is = absurd (cc)
+names_list k rep i Place.New w at is = absurd (cc)
+names_list k rep i (Place.Ready m y) w at is = absurd (cc)
+names_list k rep i Place.Running w at is = absurd (cc)
+names_list k rep i (Place.Under m) w at is = subst (λ v. IsNamedAt k rep (target_of v)) (same_Some (UnderOf m) w is) at
+names_list k rep i (Place.Behind m) w at is = absurd (cc)
+names_list k rep i (Place.Waiting y by_callback) w at is = subst (λ v. IsNamedAt k rep (target_of v)) (same_Some (WaitsOn y) w is) at
+names_list k rep i (Place.Blocked sub) w at is = subst (λ v. IsNamedAt k rep (target_of v)) (same_Some (BlockedOn sub) w is) at
+names_list k rep i (Place.Held y) w at is = subst (λ v. IsNamedAt k rep (target_of v)) (same_Some (HeldIn i) w is) tt
+names_list k rep i Place.Suspended w at is = absurd (cc)
 
 abbrev pub PlacesNamed : Kinds → Table (Single GuestThread) → Type 0
 PlacesNamed k t = EachEntry (λ (g : GuestThread). IsNamedAt k g.beside (place_target g.thread.place)) t
@@ -97,16 +75,16 @@ module _ (p : Parts) (g : GuestThread) (table : IsTable p.threads) (apart : AreA
   place_others (WaitsOn n) other = refl
   place_others (HeldIn i) other = refl
   place_others (UnderOf n) other = other_chain (λ h. h.under) n (λ same. other (ap UnderOf same))
-  place_others (BlockedOn (subtask.Guest k)) other = refl
-  place_others (BlockedOn (subtask.Host i)) other = refl
+  place_others (BlockedOn (Subtask.Guest k)) other = refl
+  place_others (BlockedOn (Subtask.Host i)) other = refl
 
   seated_still : (x : Queued) → IsSeated p x → IsSeated with_thread x
   seated_still x is = by x.entry is
     where
       by : (e : Entry) → entry_seated p e x.place ≡ Some x → entry_seated with_thread e x.place ≡ Some x
-      by (entry.Thread n) is = seat_stays p.threads g table thread_entry x.place x is
-      by (entry.Push i) is = is
-      by (entry.Host i) is = is
+      by (Entry.Thread n) is = seat_stays p.threads g table thread_entry x.place x is
+      by (Entry.Push i) is = is
+      by (Entry.Host i) is = is
 
   pub follower_still : (f : Follower) → IsFollower p f → IsFollower with_thread f
   follower_still f is = seat_stays p.threads g table follower f.place f is

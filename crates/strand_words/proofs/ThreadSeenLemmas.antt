@@ -1,28 +1,10 @@
 -- A thread more, as contracts see it: the records of threads and their callers, and what ids name.
-use Rattle.std.proofs.Common.{◌≡◌, ◌+◌, ◌<◌, ℕ, List, [], Option, map, refl, sym, ap, ap₂, subst, ◌∙◌, arith}
+use Rattle.task_records.proofs.Core.{[], ap, ap₂, arith, bare, callers_chain, callers_in, insert, IsSound, List, list_or_nil, map, next_place, number_of, Option, parts_of, pushed, PutsRecord-pushed, records, refl, seen, subst, sym, Table, TableId, thread_key, thread_of, ThreadKey, values, ℕ, ◌+◌, ◌<◌, ◌∙◌, ◌≡◌}
+use Rattle.task_records.specs.declared.{parts.CoreParts.CoreParts, single.Single.Single, threads.Follower.Follower, threads.GuestThread.GuestThread}
 use Rattle.make_words.specs.Loose.{IsLoose}
 use Rattle.queue_words.proofs.CallerLemmas.{apart_as, none_as}
-use Rattle.task_index.specs.Rows.{values}
-use Rattle.task_links.specs.Links.{list_or_nil}
-use Rattle.task_machine.specs.Maps.{insert}
 use Rattle.task_records.proofs.MakeLemmas.{number_kept, number_new, records_more}
 use Rattle.task_records.proofs.ReadLemmas.{thread_shown}
-use Rattle.task_records.specs.Image.{callers_in}
-use Rattle.task_records.specs.Keys.{thread_key}
-use Rattle.task_records.specs.Rows.{callers_chain}
-use Rattle.task_records.specs.Seen.{IsSound, parts_of, seen}
-use Rattle.task_records.specs.Sound.{bare}
-use Rattle.task_records.specs.declared.parts.CoreParts.{CoreParts}
-use Rattle.task_records.specs.declared.single.Single.{Single}
-use Rattle.task_records.specs.declared.threads.Follower.{Follower}
-use Rattle.task_records.specs.declared.threads.GuestThread.{GuestThread}
-use Rattle.task_table.proofs.RecordChangeLemmas.{PutsRecord-pushed}
-use Rattle.task_table.specs.Changes.{next_place, pushed}
-use Rattle.task_table.specs.Records.{number_of, records}
-use Rattle.task_table.specs.Table.{Table}
-use Rattle.task_table.specs.declared.id.TableId.{TableId}
-use Rattle.task_wait.specs.declared.keys.ThreadKey.{ThreadKey}
-use Rattle.task_words.specs.StateView.{thread_of}
 
 module _ (a : CoreParts) (sound : IsSound a) (g : GuestThread) (next : g.number ≡ a.made.threads + 1) where
   abbrev more : Table (Single GuestThread)

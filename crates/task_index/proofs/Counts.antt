@@ -1,5 +1,5 @@
 -- The law of a kept number: a record is added, written or removed, and the number goes up by one if it passes now and down by one if it passed.
-use Rattle.std.proofs.Common.{◌≡◌, ◌+◌, ℕ, Bool, Option, Some, None, ap, arith, cond, refl}
+use Rattle.std.proofs.Common.{◌≡◌, ◌+◌, ℕ, Bool, Option, Some, None, arith, cond, refl}
 use Rattle.task_index.specs.Counts.{one_if_passes, passing, with_at}
 use Rattle.task_machine.proofs.SumLemmas.{sum_by-insert, sum_by-remove, value_in}
 use Rattle.task_machine.specs.Maps.{Records, get}
@@ -12,7 +12,3 @@ module _ {X : Type 0} (test : X → Bool) where
   pub passing-with_at : (m : Records X) (n : ℕ) (o : Option X) → passing test (with_at m n o) + one_if_passes test (get m n) ≡ passing test m + one_if_passes test o
   passing-with_at m n None = let sum = sum_by-remove (λ x. cond (test x) 1 0) m n in let one = one_of (get m n) in omega arith
   passing-with_at m n (Some x) = let sum = sum_by-insert (λ x. cond (test x) 1 0) m n x in let one = one_of (get m n) in omega arith
-
-  -- a number that was right is right after such a change
-  pub kept-with_at : (m : Records X) (n : ℕ) (was is : Option X) (old new : ℕ) → get m n ≡ was → old ≡ passing test m → new + one_if_passes test was ≡ old + one_if_passes test is → new ≡ passing test (with_at m n is)
-  kept-with_at m n was is old new at right change = let law = passing-with_at m n is in let same : one_if_passes test (get m n) ≡ one_if_passes test was = ap (one_if_passes test) at in omega arith

@@ -1,11 +1,11 @@
 -- An index over the entries of a table: an entry is written, pushed or deleted.
-use Rattle.std.proofs.Common.{inl, inr, ◌≡◌, ℕ, true, List, Option, Some, None, sym, ap, ◌∙◌}
+use Rattle.std.proofs.Common.{inl, inr, ◌≡◌, ℕ, true, List, Option, Some, sym, ap, ◌∙◌}
 use Rattle.std.proofs.lemmas.Bool.{cases_eq}
-use Rattle.task_index.proofs.Indexes.{IsIndex-added, IsIndex-refiled, IsIndex-removed, IsIndex-same}
-use Rattle.task_index.proofs.Tables.{filings-deleted_here, filings-deleted_other, filings-pushed_before, filings-pushed_here, filings-pushed_other, filings-with_entry_here, filings-with_entry_other, filings_at}
+use Rattle.task_index.proofs.Indexes.{IsIndex-added, IsIndex-refiled, IsIndex-same}
+use Rattle.task_index.proofs.Tables.{filings-pushed_before, filings-pushed_here, filings-pushed_other, filings-with_entry_here, filings-with_entry_other, filings_at}
 use Rattle.task_index.specs.Index.{Filing, IsIndex, Refiles, filings, link_for}
 use Rattle.task_links.specs.Links.{Spot, is_made, link_of}
-use Rattle.task_table.specs.Changes.{deleted, next_place, pushed, with_entry}
+use Rattle.task_table.specs.Changes.{next_place, pushed, with_entry}
 use Rattle.task_table.specs.Table.{IsTable, Placed, Table, place_at}
 
 module _ {E K P : Type 0} (says : ℕ → ℕ → E → Option (Filing K P)) (chain : K → Option ℕ) (t : Table E) (links : List (Spot P)) (index : IsIndex chain links (filings says t)) where
@@ -25,19 +25,7 @@ module _ {E K P : Type 0} (says : ℕ → ℕ → E → Option (Filing K P)) (ch
     pub IsIndex-with_entry_same : (e : E) → says rep p.serial e ≡ says rep p.serial p.entry → IsIndex chain links (filings says (with_entry rep e t))
     IsIndex-with_entry_same e same = same_at (with_entry rep e t) rep (filings-with_entry_here says t rep e p at ∙ (same ∙ sym (filings_at says t rep (Some p) at))) (filings-with_entry_other says t rep e)
 
-    -- an entry in no chain is deleted
-    pub IsIndex-deleted : (was : Filing K P) → says rep p.serial p.entry ≡ Some was → link_of links was.node ≡ None → IsIndex chain links (filings says (deleted rep t))
-    IsIndex-deleted was before unlinked = IsIndex-removed chain links (filings says t) index (filings says (deleted rep t)) rep was (filings_at says t rep (Some p) at ∙ before) (filings-deleted_here says t rep) (filings-deleted_other says t rep) unlinked
-
-    -- an entry without a node is deleted
-    pub IsIndex-deleted_other : says rep p.serial p.entry ≡ None → IsIndex chain links (filings says (deleted rep t))
-    IsIndex-deleted_other none = same_at (deleted rep t) rep (filings-deleted_here says t rep ∙ sym (filings_at says t rep (Some p) at ∙ none)) (filings-deleted_other says t rep)
-
   module _ (table : IsTable t) (e : E) where
     -- an entry is pushed with a node that no other has, and that has the link that it says
     pub IsIndex-pushed : (is : Filing K P) → says (next_place t) t.given e ≡ Some is → is_made links is.node ≡ true → link_of links is.node ≡ link_for chain is → ((r : ℕ) (f : Filing K P) → filings says t r ≡ Some f → f.node ≡ is.node → ⊥) → IsIndex chain links (filings says (pushed e t))
     IsIndex-pushed is after made link new = IsIndex-added chain links (filings says t) index (filings says (pushed e t)) (next_place t) is (filings-pushed_before says t table) (filings-pushed_here says t e table ∙ after) (λ r other. filings-pushed_other says t e r table other) made link new
-
-    -- an entry without a node is pushed
-    pub IsIndex-pushed_other : says (next_place t) t.given e ≡ None → IsIndex chain links (filings says (pushed e t))
-    IsIndex-pushed_other none = same_at (pushed e t) (next_place t) (filings-pushed_here says t e table ∙ (none ∙ sym (filings-pushed_before says t table))) (λ r other. filings-pushed_other says t e r table other)

@@ -3,7 +3,7 @@ use Rattle.std.proofs.Common.{inl, inr, ◌≡◌, ℕ, true, List, [], Option, 
 use Rattle.std.proofs.lemmas.Bool.{cases_eq}
 use Rattle.std.proofs.lemmas.Option.{same_Some}
 use Rattle.std.specs.Prelude.{option_and_then}
-use Rattle.task_index.proofs.Refilings.{Refiles-none, no_such}
+use Rattle.task_index.proofs.Refilings.{no_such}
 use Rattle.task_index.specs.Index.{Filing, Holds, IsFiled, IsIndex, Refiles, link_for}
 use Rattle.task_links.specs.Links.{Renames, Spot, Unmade, is_made, link_of, list_of, spot_link, spot_list, spot_is_made}
 
@@ -41,10 +41,6 @@ module _ {K P : Type 0} (chain : K → Option ℕ) where
             (o.0, (o.1.0, (others o.0 (λ same. other (sym o.1.1.1 ∙ ap (λ (g : Filing K P). g.node) (same_Some o.1.0 was (sym o.1.1.0 ∙ ap filing same ∙ before)))) ∙ o.1.1.0, o.1.1.1)))
       ];
     }
-
-  -- an entry is written that is to have the link that it has
-  pub IsIndex-written : (links : List (Spot P)) (filing filing' : ℕ → Option (Filing K P)) → IsIndex chain links filing → (place : ℕ) (was is : Filing K P) → filing place ≡ Some was → filing' place ≡ Some is → is.node ≡ was.node → link_for chain is ≡ link_for chain was → ((r : ℕ) → (r ≡ place → ⊥) → filing' r ≡ filing r) → IsIndex chain links filing'
-  IsIndex-written links filing filing' index place was is before after same_node same_link others = IsIndex-refiled links links filing filing' index place was is before after same_node others (Refiles-none links was.node (link_for chain is) (index.has_link place was before ∙ sym same_link))
 
   module _ (links : List (Spot P)) (filing : ℕ → Option (Filing K P)) (index : IsIndex chain links filing) where
     -- all say what they said

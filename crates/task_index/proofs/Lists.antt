@@ -63,17 +63,6 @@ module _ {P : Type 0} where
         by true rest = refl
         by false rest = rest
 
-  -- the numbers of the values, where the test knows the number
-  pub map-less_by : (number : P → ℕ) (u : P → Bool) (n : ℕ) → ((x : P) → u x ≡ (n == number x)) → (xs : List P) → map number (less_by u xs) ≡ less_by (λ m. n == m) (map number xs)
-  map-less_by number u n knows [] = refl
-  map-less_by number u n knows (x ∷ xs) = by (u x) (n == number x) (knows x) (map-less_by number u n knows xs)
-    where
-      by : (b d : Bool) → b ≡ d → map number (less_by u xs) ≡ less_by (λ m. n == m) (map number xs) → map number (cond b xs (x ∷ less_by u xs)) ≡ cond d (map number xs) (number x ∷ less_by (λ m. n == m) (map number xs))
-      by true true same rest = refl
-      by true false same rest = absurd (cc)
-      by false true same rest = absurd (cc)
-      by false false same rest = ap (λ (l : List ℕ). number x ∷ l) rest
-
   -- ---- What is known of each
 
   module _ (Known : P → Type 0) where
@@ -88,14 +77,6 @@ module _ {P : Type 0} where
         by : (b : Bool) → Each Known (less_by u xs) → Each Known (cond b xs (x ∷ less_by u xs))
         by true rest = all.1
         by false rest = (all.0, rest)
-
-    pub Each-filter : (t : P → Bool) (xs : List P) → Each Known xs → Each Known (filter t xs)
-    Each-filter t [] all = tt
-    Each-filter t (x ∷ xs) all = by (t x) (Each-filter t xs all.1)
-      where
-        by : (b : Bool) → Each Known (filter t xs) → Each Known (cond b (x ∷ filter t xs) (filter t xs))
-        by true rest = (all.0, rest)
-        by false rest = rest
 
   -- ---- A test that knows a node
 

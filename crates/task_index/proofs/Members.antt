@@ -1,5 +1,5 @@
 -- Lists that have the numbers that pass a test, each once: two of them are permutations of one another, so the walk of a chain may stand for the machine's search.
-use Rattle.std.proofs.Common.{inl, inr, ◌≡◌, ◌==◌, ◌&&◌, ◌||◌, ◌++◌, ℕ, Bool, true, false, cond, List, [], ◌∷◌, filter, map, option_map, refl, sym, ap, subst, ◌∙◌}
+use Rattle.std.proofs.Common.{inl, inr, ◌≡◌, ◌==◌, ◌&&◌, ◌||◌, ℕ, Bool, true, false, cond, List, [], ◌∷◌, filter, map, option_map, refl, sym, ap, subst, ◌∙◌}
 use Rattle.std.specs.Prelude.{IsPermutation, None, Option, Some, T, is_some, option_and_then}
 use Rattle.std.specs.Cmp.{unsigned_tied}
 use Rattle.std.specs.FinMap.Entries.{below_all, find, is_sorted}
@@ -54,26 +54,6 @@ Once-out n (x ∷ xs) once = by (n == x) refl (Once-out n xs once.1)
     by false is rest = (has-out_other n x xs (not_same n x is) ∙ once.0, rest)
 
 -- ---- A number more, at the end
-
-has-more : (n k : ℕ) (xs : List ℕ) → has k (xs ++ n ∷ []) ≡ (has k xs || (k == n))
-has-more n k [] = by (k == n)
-  where
-    by : (b : Bool) → (b || false) ≡ b
-    by true = refl
-    by false = refl
-has-more n k (x ∷ xs) = by (k == x) (has-more n k xs)
-  where
-    by : (b : Bool) → has k (xs ++ n ∷ []) ≡ (has k xs || (k == n)) → (b || has k (xs ++ n ∷ [])) ≡ ((b || has k xs) || (k == n))
-    by true rest = refl
-    by false rest = rest
-
-Once-more : (n : ℕ) (xs : List ℕ) → Once xs → has n xs ≡ false → Once (xs ++ n ∷ [])
-Once-more n [] once new = (refl, tt)
-Once-more n (x ∷ xs) once new = by (n == x) refl new (Once-more n xs once.1)
-  where
-    by : (b : Bool) → (n == x) ≡ b → (b || has n xs) ≡ false → (has n xs ≡ false → Once (xs ++ n ∷ [])) → Once (x ∷ (xs ++ n ∷ []))
-    by true is new rest = absurd (cc)
-    by false is new rest = (has-more n x xs ∙ ap (λ b. b || (x == n)) once.0 ∙ ne_eqb x n (not_same n x is), rest new)
 
 -- ---- Those that pass a further test
 
@@ -135,35 +115,6 @@ module _ (test : ℕ → Bool) (list : List ℕ) (members : IsMembers test list)
   -- those of them that pass a further test
   pub IsMembers-filter : (p : ℕ → Bool) → IsMembers (λ n. test n && p n) (filter p list)
   IsMembers-filter p = record { once = Once-filter p list members.once; are = λ n. has-filter p n list ∙ ap (λ b. b && p n) (members.are n) }
-
-  module _ (test' : ℕ → Bool) (n : ℕ) (others : (m : ℕ) → (m ≡ n → ⊥) → test' m ≡ test m) where
-    -- one passes now, and goes to the end
-    pub IsMembers-pushed : test n ≡ false → test' n ≡ true → IsMembers test' (list ++ n ∷ [])
-    IsMembers-pushed was is = record {
-      once = Once-more n list members.once (members.are n ∙ was);
-      are = λ m. has-more n m list ∙ elim (cases_eq m n) [
-        | inl same ↦ ap (λ b. has m list || b) (eq-eqb m n same) ∙ (always (has m list) ∙ sym (ap test' same ∙ is))
-        | inr other ↦ ap (λ b. has m list || b) (ne_eqb m n other) ∙ (unless (has m list) ∙ (members.are m ∙ sym (others m other)))
-      ];
-    }
-      where
-        always : (b : Bool) → (b || true) ≡ true
-        always true = refl
-        always false = refl
-
-        unless : (b : Bool) → (b || false) ≡ b
-        unless true = refl
-        unless false = refl
-
-    -- one doesn't pass any more, and leaves
-    pub IsMembers-removed : test' n ≡ false → IsMembers test' (less_by (λ m. n == m) list)
-    IsMembers-removed is = record {
-      once = Once-out n list members.once;
-      are = λ m. elim (cases_eq m n) [
-        | inl same ↦ ap (λ k. has k (out n list)) same ∙ (has-out_same n list members.once ∙ sym (ap test' same ∙ is))
-        | inr other ↦ has-out_other n m list other ∙ (members.are m ∙ sym (others m other))
-      ];
-    }
 
 pub IsMembers-nothing : (test : ℕ → Bool) → ((n : ℕ) → test n ≡ false) → IsMembers test []
 IsMembers-nothing test none = record { once = tt; are = λ n. sym (none n) }

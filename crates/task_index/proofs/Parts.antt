@@ -1,16 +1,11 @@
 -- Laws of a second chain for each group's part of a list: it takes each push of a value of the group and each removal, and its first value is what a search for the group finds.
-use Rattle.std.proofs.Common.{inl, inr, ◌≡◌, ◌==◌, ◌++◌, ◌⊎◌, ℕ, Bool, true, false, List, [], ◌∷◌, Option, Some, option_map, refl, sym, ap, ap₂, ◌∙◌, append-nil, filter}
-use Rattle.std.specs.List.{find}
-use Rattle.task_index.proofs.Lists.{filter-append, filter-less_by, filter-none, filter-one, head-filter}
+use Rattle.std.proofs.Common.{inl, inr, ◌≡◌, ◌==◌, ◌++◌, ◌⊎◌, ℕ, Bool, true, false, List, [], ◌∷◌, Option, Some, refl, sym, ap, ap₂, ◌∙◌, append-nil, filter}
+use Rattle.task_index.proofs.Lists.{filter-append, filter-less_by, filter-none, filter-one}
 use Rattle.task_index.proofs.Rows.{IsRows-pushed, IsRows-pushed_first, IsRows-removed}
 use Rattle.task_index.specs.Rows.{IsRows, less_by, part}
-use Rattle.task_links.specs.Links.{IsLinks, Spot, entries, head_of, is_free, linked, removed}
+use Rattle.task_links.specs.Links.{IsLinks, Spot, entries, is_free, linked, removed}
 
 module _ {G K P : Type 0} (in_group : G → P → Bool) (chain : G × K → Option ℕ) (node : P → ℕ) (Known : P → Type 0) (links : List (Spot P)) (list : K → List P) (rows : IsRows chain node Known links (part in_group list)) where
-  -- the first value of a group
-  pub first_of_part : (g : G) (k : K) (c : ℕ) → chain (g, k) ≡ Some c → option_map (λ e. e.1) (head_of (entries links c)) ≡ find (in_group g) (list k)
-  first_of_part g k c at = ap (λ (l : List (ℕ × P)). option_map (λ e. e.1) (head_of l)) (rows.has_list (g, k) c at) ∙ head-filter node (in_group g) (list k)
-
   module _ (new : List (Spot P)) (list' : K → List P) where
     module _ (g : G) (k : K) (c : ℕ) (at : chain (g, k) ≡ Some c) (decides : (j : K) → (j ≡ k) ⊎ (j ≡ k → ⊥)) (others : (j : K) → (j ≡ k → ⊥) → list' j ≡ list j) (v : P) (in_g : in_group g v ≡ true) (in_no_other : (h : G) → (h ≡ g → ⊥) → in_group h v ≡ false) (known : Known v) (free : is_free links (node v) ≡ true) where
       -- the parts of other groups and other lists stay

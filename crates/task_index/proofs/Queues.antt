@@ -1,14 +1,12 @@
 -- The machine's words of its queues, in the words of rows.
 use Rattle.std.proofs.Common.{◌≡◌, ◌||◌, ℕ, Bool, true, false, cond, List, [], ◌∷◌, refl, sym, ap, ap₂}
 use Rattle.std.specs.List.{list_any}
-use Rattle.std.proofs.lemmas.Bool.{eq-eqb}
 use Rattle.task_index.specs.Rows.{less_by}
 use Rattle.task_machine.specs.Core.{Core}
 use Rattle.task_machine.specs.Moves.{has_entry, less, unqueued}
 use Rattle.task_machine.specs.Read.{is_entry_of}
 use Rattle.task_machine.specs.Write.{set_high, set_low}
 use Rattle.task_machine.specs.declared.records.Entry.{Entry}
-use Rattle.task_machine.specs.declared.records.Entry.TheVariants as entry
 
 less_none : (u : Entry → Bool) (es : List Entry) → list_any u es ≡ false → less_by u es ≡ es
 less_none u [] none = refl
@@ -21,10 +19,6 @@ less_none u (e ∷ es) none = by (u e) none (less_none u es)
 pub less_is : (n : ℕ) (es : List Entry) → less n es ≡ less_by (is_entry_of n) es
 less_is n [] = refl
 less_is n (e ∷ es) = ap (λ (l : List Entry). cond (is_entry_of n e) es (e ∷ l)) (less_is n es)
-
--- the thread's own entry at the front is what leaves
-pub less_first : (n : ℕ) (es : List Entry) → less_by (is_entry_of n) (entry.Thread n ∷ es) ≡ es
-less_first n es = ap (λ b. cond b es (entry.Thread n ∷ less_by (is_entry_of n) es)) (eq-eqb n n refl)
 
 -- where low has no entry of a thread that has one at high, both lists are without it
 pub unqueued_both : (n : ℕ) (s : Core) → (has_entry n s.queues.high ≡ true → less_by (is_entry_of n) s.queues.low ≡ s.queues.low) → unqueued n s ≡ set_low (less_by (is_entry_of n) s.queues.low) (set_high (less_by (is_entry_of n) s.queues.high) s)

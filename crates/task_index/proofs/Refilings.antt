@@ -105,11 +105,3 @@ module _ {P : Type 0} where
     pub first_none : (o : Option (ℕ × P)) → o ≡ link_of links n → IfNone o ((w : P) → Holds links c w → ⊥)
     first_none None is = no_such (c, first_link.0) (is ∙ first_link.1)
     first_none (Some link) is = tt
-
-  -- a chain without a first entry holds nothing
-  pub none_held : (links : List (Spot P)) (c : ℕ) (v : P) → IsLinks links → head_of (entries links c) ≡ None → Holds links c v → ⊥
-  none_held links c v sound none h = by (entries links c) refl none
-    where
-      by : (l : List (ℕ × P)) → entries links c ≡ l → head_of l ≡ None → ⊥
-      by [] is head = subst (In h.0) is (sound.listed h.0 c v h.1).1
-      by (e ∷ es) is head = no_such e (sym head)

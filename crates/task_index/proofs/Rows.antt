@@ -183,32 +183,3 @@ module _ {K P : Type 0} (chain : K → Option ℕ) (node : P → ℕ) (Known : P
 
         is_c : (j : K) (d : ℕ) → j ≡ k → chain' j ≡ Some d → d ≡ c
         is_c j d same at = same_Some d c (sym at ∙ ap chain' same ∙ has)
-
-    -- one whose list is empty loses its own
-    pub IsRows-closed : IsLinks links → (c : ℕ) → chain k ≡ Some c → chain' k ≡ None → list k ≡ [] → IsRows chain' node Known links list'
-    IsRows-closed sound c had has empty = record {
-      live = λ j d at. rows.live j d (there j d at);
-      own_chain = λ i j d at_i at_j. rows.own_chain i j d (there i d at_i) (there j d at_j);
-      has_list = λ j d at. rows.has_list j d (there j d at) ∙ ap (with_nodes node) (sym (lists j (stays j d at)));
-      all_known = λ j d at. subst (Each Known) (sym (lists j (stays j d at))) (rows.all_known j d (there j d at));
-      owner = λ n d v link. let o = rows.owner n d v link in (o.0, chains o.0 (λ same. subst (In n) (rows.has_list k d (ap chain (sym same) ∙ o.1) ∙ ap (with_nodes node) empty) (sound.listed n d v link).1) ∙ o.1);
-    }
-      where
-        none : {X : Type 0} (d : ℕ) → ◌≡◌ {A = Option ℕ} None (Some d) → X
-        none d e = absurd (cc)
-
-        stays : (j : K) (d : ℕ) → chain' j ≡ Some d → j ≡ k → ⊥
-        stays j d at same = none d (sym has ∙ ap chain' (sym same) ∙ at)
-
-        there : (j : K) (d : ℕ) → chain' j ≡ Some d → chain j ≡ Some d
-        there j d at = sym (chains j (stays j d at)) ∙ at
-
--- where no key has a chain, nothing is asked of links without nodes
-pub IsRows-nothing : {K P : Type 0} (node : P → ℕ) (Known : P → Type 0) (list : K → List P) → IsRows (λ k. None) node Known [] list
-IsRows-nothing node Known list = record {
-  live = λ k c at. absurd (cc);
-  own_chain = λ j k c at_j at_k. absurd (cc);
-  has_list = λ k c at. absurd (cc);
-  all_known = λ k c at. absurd (cc);
-  owner = λ n c v at. absurd (cc);
-}

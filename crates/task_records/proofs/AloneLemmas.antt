@@ -1,27 +1,9 @@
 -- A record is the only one that passes a test where one passes in all.
-use Rattle.std.proofs.Common.{◌≡◌, ◌+◌, ◌&&◌, ◌||◌, ◌==◌, ℕ, Bool, true, false, cond, not, List, [], ◌∷◌, Some, None, filter, nat_le, nat_lt, refl, sym, ap, ◌∙◌, arith}
-use Rattle.std.specs.Cmp.{eq_by_cmp_equiv, nat_cmp_total, unsigned_tied}
-use Rattle.std.specs.List.{list_any}
-use Rattle.task_index.proofs.Counts.{passing-with_at}
-use Rattle.task_index.specs.Counts.{one_if_passes, passing}
-use Rattle.task_machine.specs.Maps.{Records, get, other_than, remove}
-use Rattle.std.proofs.lemmas.Bool.{eq-eqb}
-use Rattle.std.specs.Option.{option_map_or}
-use Rattle.std.specs.Prelude.{Ok}
-use Rattle.task_machine.specs.Read.{has_thread, is_last_thread, task_of}
-use Rattle.task_machine.specs.declared.records.Thread.{Thread}
+use Rattle.task_records.proofs.Core.{[], ap, arith, Bool, cond, eq-eqb, eq_by_cmp_equiv, false, filter, get, has_thread, is_last_thread, IsSound, item_at, item_of, List, list_any, nat_cmp_total, nat_le, nat_lt, None, not, Ok, one_if_passes, option_map_or, other_than, passing, passing-with_at, Records, refl, remove, seen, Some, sym, TableId, task_of, Thread, thread_of, ThreadKey, threads_of, true, unsigned_tied, ℕ, ◌&&◌, ◌+◌, ◌==◌, ◌||◌, ◌∙◌, ◌∷◌, ◌≡◌}
+use Rattle.task_records.specs.declared.{parts.CoreParts.CoreParts, threads.GuestThread.GuestThread}
 use Rattle.task_records.proofs.HomeLemmas.{thread_home, thread_task}
 use Rattle.task_records.proofs.KeptLemmas.{any_passing, no_thread}
 use Rattle.task_records.proofs.ReadLemmas.{thread_read}
-use Rattle.task_records.specs.Kept.{threads_of}
-use Rattle.task_records.specs.Kinds.{item_of}
-use Rattle.task_records.specs.Seen.{IsSound, seen}
-use Rattle.task_records.specs.declared.parts.CoreParts.{CoreParts}
-use Rattle.task_records.specs.declared.threads.GuestThread.{GuestThread}
-use Rattle.task_table.specs.Answers.{item_at}
-use Rattle.task_table.specs.declared.id.TableId.{TableId}
-use Rattle.task_wait.specs.declared.keys.ThreadKey.{ThreadKey}
-use Rattle.task_words.specs.StateView.{thread_of}
 
 module _ {X : Type 0} (test : X → Bool) (n : ℕ) where
   other_is : (q : ℕ) → other_than n q ≡ not (q == n)

@@ -1,19 +1,11 @@
 -- A handle that a table gives or takes back, as the machine's tables have it.
-use Rattle.std.proofs.Common.{inl, inr, ◌⊎◌, ◌≡◌, ◌+◌, ◌==◌, ℕ, Bool, true, false, cond, List, [], ◌∷◌, drop, Option, Some, None, refl, sym, ap, ap₂, ◌∙◌, arith}
-use Rattle.std.proofs.lemmas.Bool.{cases_eq, eq-eqb, ne_eqb}
-use Rattle.std.specs.Cmp.{nat_cmp_total, unsigned_tied}
-use Rattle.std.specs.FinMap as map
-use Rattle.std.specs.Option.{option_and_then, option_map}
-use Rattle.task_handles.specs.Handles.{Handles, IsWhole, held_by, next_handle as given_next, with_held, without}
-use Rattle.task_machine.proofs.SizeLemmas.{size-insert_new, size-remove_present}
-use Rattle.task_machine.proofs.SumLemmas.{sum_by-insert, value_in}
+use Rattle.task_records.proofs.Core.{[], ap, ap₂, arith, Bool, cases_eq, change, changed, cond, drop, eq-eqb, false, get, get-insert, get-remove, giving, handle_table, Handles, held_by, inl, inr, insert, less_one, List, live_in, named_by, nat_cmp_total, ne_eqb, next_handle, None, Option, option_and_then, option_map, Records, records_by, refl, size, size-insert_new, size-remove_present, Some, sum_by-insert, sym, taking, true, unsigned_tied, value_in, with_held, ℕ, ◌+◌, ◌==◌, ◌∙◌, ◌∷◌, ◌≡◌, ◌⊎◌}
+use Rattle.task_handles.specs.Handles.{IsWhole, without}
 use Rattle.task_machine.specs.Core.{Table}
-use Rattle.task_machine.specs.Maps.{Records, change, changed, get, get-insert, get-remove, insert, size}
-use Rattle.task_machine.specs.Read.{live_in, named_by, next_handle}
-use Rattle.task_machine.specs.Write.{giving, less_one, taking}
+use Rattle.std.specs.FinMap as map
+use Rattle.task_handles.specs.Handles.{next_handle as given_next}
 use Rattle.task_records.proofs.HandleLemmas.{get-records_by, records_by-insert, records_by-remove}
 use Rattle.task_records.proofs.HandleReads.{next_given}
-use Rattle.task_records.specs.Instances.{handle_table, records_by}
 
 less_same : (fs : List ℕ) → drop 1 fs ≡ less_one fs
 less_same [] = refl

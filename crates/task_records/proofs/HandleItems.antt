@@ -1,33 +1,14 @@
 -- A handle of a subtask or a set is given.
-use Rattle.std.proofs.Common.{inl, inr, ◌⊎◌, ◌≡◌, ◌+◌, ◌==◌, ◌≤◌, ℕ, Bool, true, false, cond, List, Option, Some, None, map, set, slice_get, refl, sym, ap, subst, ◌∙◌, arith}
-use Rattle.std.proofs.lemmas.Bool.{cases_eq, eq-eqb, ne_eqb}
-use Rattle.std.proofs.lemmas.List.{map-set}
-use Rattle.std.proofs.lemmas.Option.{same_Some, slice_get-map}
-use Rattle.std.specs.Global.{Global}
-use Rattle.std.specs.Option.{option_map}
-use Rattle.std.specs.Prelude.{Vec}
-use Rattle.std.specs.Option.{option_map_or}
-use Rattle.task_handles.specs.Counted.{Inserts}
-use Rattle.task_handles.specs.Counter.{Counter}
-use Rattle.task_handles.specs.Handles.{Handles, held_by, next_handle as given_next}
-use Rattle.task_handles.specs.declared.kinds.Held.{Held}
+use Rattle.task_records.proofs.Core.{ap, AreHandlesNamed, arith, bare, Bool, by_place, cases_eq, change, cond, Counter, eq-eqb, false, get, give_handle, giving, Global, handle_table, Handles, Held, held_by, inl, inr, insert, Inserts, IsHeldNamed, IsSound, kinds, List, live_in, map, map-set, Named, named_by, named_of, ne_eqb, new_handle, next_handle, None, on_core, Option, option_map, option_map_or, parts_of, Records, refl, same_Some, seen, set, slice_get, slice_get-map, Some, subst, sym, true, Vec, ℕ, ◌+◌, ◌==◌, ◌∙◌, ◌≡◌, ◌≤◌, ◌⊎◌}
 use Rattle.task_machine.specs.Core.{Table}
-use Rattle.task_machine.specs.Maps.{Records, change, get, insert}
-use Rattle.task_machine.specs.Read.{live_in, named_by, new_handle, next_handle}
-use Rattle.task_machine.specs.Write.{give_handle, giving}
-use Rattle.task_machine.specs.declared.records.Named.{Named}
+use Rattle.task_records.specs.declared.{instances.InstanceRecord.InstanceRecord, parts.CoreParts.CoreParts}
+use Rattle.task_handles.specs.Handles.{next_handle as given_next}
 use Rattle.task_records.proofs.GivenLemmas.{free_given, held_given, live_given, one_changed, table_given}
 use Rattle.task_records.proofs.HandleWrites.{handles_sound, unchanged}
 use Rattle.task_records.proofs.HandleReads.{next_given}
 use Rattle.task_records.proofs.InstanceLemmas.{by_place-set}
 use Rattle.task_records.proofs.InstanceReads.{handles_read}
-use Rattle.task_records.specs.Instances.{by_place, handle_table, named_of, thread_of as thread_named}
-use Rattle.task_records.specs.Names.{AreHandlesNamed, IsHeldNamed, kinds}
-use Rattle.task_records.specs.Seen.{IsSound, parts_of, seen}
-use Rattle.task_records.specs.Sound.{bare}
-use Rattle.task_records.specs.declared.instances.InstanceRecord.{InstanceRecord}
-use Rattle.task_records.specs.declared.parts.CoreParts.{CoreParts}
-use Rattle.task_words.specs.StateView.{on_core}
+use Rattle.task_records.specs.Instances.{thread_of as thread_named}
 
 -- ---- A handle is given
 

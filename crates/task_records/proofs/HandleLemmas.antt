@@ -1,16 +1,10 @@
 -- The machine's maps of a table's handles.
-use Rattle.std.proofs.Common.{Less, Equal, Greater, ◌≡◌, ◌+◌, ℕ, List, [], ◌∷◌, Bool, true, false, cond, ◌==◌, sum_by, option_map, Option, Some, None, refl, sym, ap, ◌∙◌, arith}
-use Rattle.std.proofs.lemmas.List.{length-map}
-use Rattle.std.proofs.lemmas.List.Sums.{sum_by-cons}
-use Rattle.std.specs.Ordering.{nat_cmp, eq_by_cmp, is_eq}
-use Rattle.std.specs.Cmp.{nat_cmp_total, unsigned_tied}
+use Rattle.task_records.proofs.Core.{[], ap, arith, Bool, by_order, cond, empty, eq_by_cmp, Equal, false, find, get, get-empty, get-insert, get-remove, Greater, handle_table, insert, is_eq, length-map, Less, List, live_in, nat_cmp, nat_cmp_total, no_handles, None, Option, put, Records, records_by, refl, remove, same_map, size, Some, sum_by, sum_by-cons, sym, true, unsigned_tied, ℕ, ◌+◌, ◌==◌, ◌∙◌, ◌∷◌, ◌≡◌}
+use Rattle.std.proofs.Common.{option_map}
+use Rattle.task_machine.specs.Core.{Table}
+use Rattle.task_records.specs.Instances.{mapped}
 use Rattle.std.specs.FinMap as fin
-use Rattle.std.specs.FinMap.Entries.{find, put, by_order}
-use Rattle.task_machine.specs.Maps.{Records, get, insert, remove, empty, size, same_map, get-insert, get-remove, get-empty}
-use Rattle.task_machine.specs.Core.{Table, no_handles}
-use Rattle.task_machine.specs.Read.{live_in}
 use Rattle.task_handles.specs.Handles.{no_handles as none_given}
-use Rattle.task_records.specs.Instances.{records_by, mapped, handle_table}
 
 module _ {X Y : Type 0} (f : X → Y) where
   pub find-mapped : (n : ℕ) (es : List (ℕ × X)) → find nat_cmp n (mapped f es) ≡ option_map f (find nat_cmp n es)

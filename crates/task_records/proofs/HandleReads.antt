@@ -1,26 +1,13 @@
 -- What the handles of an instance name.
-use Rattle.std.proofs.Common.{◌≡◌, ◌+◌, ◌<◌, ℕ, List, [], ◌∷◌, length, Option, Some, None, refl, sym, ap, ◌∙◌, arith}
-use Rattle.std.specs.Option.{option_and_then, option_map}
-use Rattle.std.specs.Prelude.{IfSome, slice_get}
-use Rattle.task_handles.specs.Handles.{Handles, IsWhole, held_by, live_count as handles_live, next_handle as given_next}
-use Rattle.task_handles.specs.declared.kinds.HandleKind.{HandleKind}
-use Rattle.task_handles.specs.declared.kinds.HandleKind.TheVariants as handle
-use Rattle.task_handles.specs.declared.kinds.Held.{Held}
-use Rattle.task_handles.specs.declared.kinds.Rep.{Rep}
-use Rattle.task_handles.specs.declared.kinds.WaitableKind.TheVariants as waitable
+use Rattle.task_records.proofs.Core.{[], ap, AreHandlesNamed, arith, bare, CallOf, get, handle_table, HandleKind, Handles, Held, held_by, IfSome, IsHeldNamed, IsSound, kinds, length, List, named_by, named_of, next_handle, None, Option, option_and_then, option_map, parts_of, Records, refl, Rep, seen, SetOf, slice_get, Some, StandsAt, sym, thread_at, thread_key, ThreadOf, WaitableKind, WorkOf, ℕ, ◌+◌, ◌<◌, ◌∙◌, ◌∷◌, ◌≡◌}
+use Rattle.task_handles.specs.Handles.{IsWhole}
 use Rattle.task_machine.specs.Core.{Table}
-use Rattle.task_machine.specs.Maps.{Records, get}
-use Rattle.task_machine.specs.Read.{named_by, next_handle, thread_at}
+use Rattle.task_records.specs.declared.{instances.InstanceRecord.InstanceRecord, parts.CoreParts.CoreParts}
+use Rattle.task_handles.specs.Handles.{live_count as handles_live, next_handle as given_next}
 use Rattle.task_records.proofs.HandleLemmas.{get-records_by, size-records_by}
 use Rattle.task_records.proofs.HomeLemmas.{place_bare}
 use Rattle.task_records.proofs.InstanceReads.{handles_read, thread_handles_read}
-use Rattle.task_records.specs.Instances.{handle_table, named_of, thread_of as thread_named}
-use Rattle.task_records.specs.Keys.{thread_key}
-use Rattle.task_records.specs.Names.{AreHandlesNamed, CallOf, IsHeldNamed, SetOf, StandsAt, ThreadOf, WorkOf, kinds}
-use Rattle.task_records.specs.Seen.{IsSound, parts_of, seen}
-use Rattle.task_records.specs.Sound.{bare}
-use Rattle.task_records.specs.declared.instances.InstanceRecord.{InstanceRecord}
-use Rattle.task_records.specs.declared.parts.CoreParts.{CoreParts}
+use Rattle.task_records.specs.Instances.{thread_of as thread_named}
 
 module _ {X Y : Type 0} (f : X → Y) (tables : Records (Table Y)) (i h : ℕ) where
   in_table : Option (Handles X) → Option Y
@@ -56,11 +43,11 @@ module _ (a : CoreParts) (sound : IsSound a) (i : ℕ) (o : Option InstanceRecor
   instance_names r is = sound.handles i r (sym at ∙ is)
 
   held_bare : (k : HandleKind) (r : Rep) → IsHeldNamed (kinds (bare (parts_of a))) k r → IsHeldNamed (kinds (parts_of a)) k r
-  held_bare (handle.Waitable waitable.GuestSubtask) r is = place_bare a r.id (CallOf r.serial) is
-  held_bare (handle.Waitable waitable.HostSubtask) r is = place_bare a r.id (WorkOf r.serial) is
-  held_bare (handle.Waitable waitable.Stream) r is = absurd is
-  held_bare (handle.Waitable waitable.Future) r is = absurd is
-  held_bare handle.Set r is = place_bare a r.id (SetOf r.serial) is
+  held_bare (HandleKind.Waitable WaitableKind.GuestSubtask) r is = place_bare a r.id (CallOf r.serial) is
+  held_bare (HandleKind.Waitable WaitableKind.HostSubtask) r is = place_bare a r.id (WorkOf r.serial) is
+  held_bare (HandleKind.Waitable WaitableKind.Stream) r is = absurd is
+  held_bare (HandleKind.Waitable WaitableKind.Future) r is = absurd is
+  held_bare HandleKind.Set r is = place_bare a r.id (SetOf r.serial) is
 
   module _ (h : ℕ) where
     pub held_past : 4294967295 < h → None ≡ named_by (seen a).core.handles i h

@@ -1,36 +1,14 @@
 -- A handle of a subtask or a set is taken back.
-use Rattle.std.proofs.Common.{is_some, length, ◌≡◌, ◌+◌, ◌-◌, ◌==◌, ◌<◌, ℕ, Bool, true, false, cond, List, Option, Some, None, map, set, slice_get, refl, sym, ap, subst, ◌∙◌, arith}
-use Rattle.std.proofs.lemmas.List.{map-set}
-use Rattle.std.proofs.lemmas.Option.{slice_get-map}
-use Rattle.std.specs.Global.{Global}
-use Rattle.std.specs.Option.{option_and_then, option_map}
-use Rattle.std.specs.Prelude.{IsSome, Ok, Vec}
-use Rattle.task_handles.specs.Counted.{Removes}
-use Rattle.task_handles.specs.Counter.{Counter}
-use Rattle.task_handles.specs.Handles.{Handles, held_by}
-use Rattle.task_handles.specs.Held.{subtask_in, subtask_of}
-use Rattle.task_handles.specs.declared.kinds.HandleKind.{HandleKind}
-use Rattle.task_handles.specs.declared.kinds.HandleKind.TheVariants as handle
-use Rattle.task_handles.specs.declared.kinds.Held.{Held}
-use Rattle.task_handles.specs.declared.kinds.Rep.{Rep}
-use Rattle.task_handles.specs.declared.kinds.WaitableKind.TheVariants as waitable
+use Rattle.task_records.proofs.Core.{ap, AreHandlesNamed, arith, as_subtask, bare, Bool, by_place, change, cond, Counter, false, free_handle, get, Global, handle_table, HandleKind, Handles, Held, held_by, insert, is_some, IsSome, IsSound, kinds, length, List, live_in, map, map-set, Named, named_as, named_by, named_of, None, Ok, on_core, Option, option_and_then, option_map, parts_of, Records, refl, Removes, Rep, seen, set, slice_get, slice_get-map, Some, subst, subtask_at, subtask_of, sym, taking, true, Vec, WaitableKind, ℕ, ◌+◌, ◌-◌, ◌<◌, ◌==◌, ◌∙◌, ◌≡◌}
+use Rattle.task_handles.specs.Held.{subtask_in}
 use Rattle.task_machine.specs.Core.{Table}
-use Rattle.task_machine.specs.Maps.{Records, change, get, insert}
-use Rattle.task_machine.specs.Read.{as_subtask, live_in, named_by, subtask_at}
-use Rattle.task_machine.specs.Write.{free_handle, taking}
-use Rattle.task_machine.specs.declared.records.Named.{Named}
+use Rattle.task_records.specs.declared.{instances.InstanceRecord.InstanceRecord, parts.CoreParts.CoreParts}
 use Rattle.task_records.proofs.GivenLemmas.{held_taken, live_taken, one_changed, table_taken}
 use Rattle.task_records.proofs.HandleWrites.{handles_sound, unchanged}
 use Rattle.task_records.proofs.HandleLemmas.{get-records_by}
 use Rattle.task_records.proofs.InstanceLemmas.{by_place-set}
 use Rattle.task_records.proofs.InstanceReads.{handles_read, instance_there}
-use Rattle.task_records.specs.Instances.{by_place, handle_table, named_as, named_of, thread_of as thread_named}
-use Rattle.task_records.specs.Names.{AreHandlesNamed, kinds}
-use Rattle.task_records.specs.Seen.{IsSound, parts_of, seen}
-use Rattle.task_records.specs.Sound.{bare}
-use Rattle.task_records.specs.declared.instances.InstanceRecord.{InstanceRecord}
-use Rattle.task_records.specs.declared.parts.CoreParts.{CoreParts}
-use Rattle.task_words.specs.StateView.{on_core}
+use Rattle.task_records.specs.Instances.{thread_of as thread_named}
 
 -- ---- A handle is taken back
 
@@ -104,11 +82,11 @@ module _ (a : CoreParts) (sound : IsSound a) (i : ℕ) (r : InstanceRecord) (at 
 -- ---- A handle that names a subtask
 
 is_subtask : (k : HandleKind) (rep : Rep) → IsSome (as_subtask (named_as k rep.serial)) → (p : Rep × Bool) × (subtask_in k rep ≡ Ok p)
-is_subtask (handle.Waitable waitable.GuestSubtask) rep some = ((rep, false), refl)
-is_subtask (handle.Waitable waitable.HostSubtask) rep some = ((rep, true), refl)
-is_subtask (handle.Waitable waitable.Stream) rep some = absurd (cc)
-is_subtask (handle.Waitable waitable.Future) rep some = absurd (cc)
-is_subtask handle.Set rep some = absurd (cc)
+is_subtask (HandleKind.Waitable WaitableKind.GuestSubtask) rep some = ((rep, false), refl)
+is_subtask (HandleKind.Waitable WaitableKind.HostSubtask) rep some = ((rep, true), refl)
+is_subtask (HandleKind.Waitable WaitableKind.Stream) rep some = absurd (cc)
+is_subtask (HandleKind.Waitable WaitableKind.Future) rep some = absurd (cc)
+is_subtask HandleKind.Set rep some = absurd (cc)
 
 module _ (a : CoreParts) (i h : ℕ) (some : IsSome (subtask_at i h (seen a).core)) where
   -- the instance is there

@@ -1,36 +1,16 @@
 -- A handle of an instance is given or taken back: what hangs on it.
-use Rattle.std.proofs.Common.{inl, inr, ◌⊎◌, ◌≡◌, ◌+◌, ◌==◌, ◌≤◌, ℕ, Bool, true, false, cond, List, Option, Some, None, map, set, slice_get, refl, sym, ap, ap₂, subst, ◌∙◌, arith}
-use Rattle.std.proofs.lemmas.Bool.{cases_eq, eq-eqb, ne_eqb}
-use Rattle.std.proofs.lemmas.List.{map-set}
-use Rattle.std.proofs.lemmas.Option.{same_Some, slice_get-map, slice_get_within}
-use Rattle.std.specs.Global.{Global}
-use Rattle.std.specs.Option.{option_map}
-use Rattle.std.specs.Prelude.{Vec}
-use Rattle.std.specs.Option.{option_map_or}
-use Rattle.task_handles.specs.Counted.{Inserts}
-use Rattle.task_handles.specs.Counter.{Counter}
-use Rattle.task_handles.specs.Handles.{Handles, held_by, live_count, next_handle as given_next}
-use Rattle.task_handles.specs.declared.kinds.Rep.{Rep}
-use Rattle.task_machine.proofs.SumLemmas.{sum_by-insert, sum_by-remove, value_in}
+use Rattle.task_records.proofs.Core.{ap, ap₂, AreHandlesNamed, arith, AtPlace, bare, bare_instance, Bool, by_place, cases_eq, change, cond, Counter, EachEntry, eq-eqb, false, get, give_thread_handle, giving, Global, handle_table, Handles, held_by, image, inl, inr, insert, Inserts, IsNamedAt, IsSound, IsWhole, kinds, List, live_in, map, map-set, named_by, named_of, ne_eqb, new_thread_handle, next_handle, None, on_core, Option, option_map, option_map_or, OwnsHandle, parts_of, Records, refl, Rep, same_Some, seen, set, set-slice_get, size, slice_get, slice_get-map, slice_get-set_other, slice_get-set_same, slice_get_within, Some, Sound, subst, sum_by-insert, sum_by-remove, sym, thread_at, ThreadOf, true, value_in, Vec, ℕ, ◌+◌, ◌==◌, ◌∙◌, ◌≡◌, ◌≤◌, ◌⊎◌}
+use Rattle.task_handles.specs.Handles.{live_count}
 use Rattle.task_machine.specs.Core.{Table}
-use Rattle.task_machine.specs.Maps.{Records, change, get, insert, size}
-use Rattle.task_machine.specs.Read.{live_in, named_by, new_thread_handle, next_handle, thread_at}
-use Rattle.task_machine.specs.Write.{give_thread_handle, giving}
+use Rattle.task_records.specs.declared.{instances.InstanceRecord.InstanceRecord, parts.CoreParts.CoreParts}
+use Rattle.task_handles.specs.Handles.{next_handle as given_next}
 use Rattle.task_records.proofs.GivenLemmas.{free_given, held_given, live_given, names_new, names_on, one_changed, table_given}
 use Rattle.task_records.proofs.HandleReads.{next_given}
 use Rattle.task_records.proofs.HomeLemmas.{place_in_bare}
 use Rattle.task_records.proofs.InstanceLemmas.{by_place-set}
 use Rattle.task_records.proofs.InstanceReads.{handles_read, thread_handles_read}
 use Rattle.task_records.proofs.HandleLemmas.{size-records_by}
-use Rattle.task_records.specs.Image.{image}
-use Rattle.task_records.specs.Instances.{by_place, handle_table, named_of, thread_of as thread_named}
-use Rattle.task_records.specs.Names.{AreHandlesNamed, AtPlace, IsNamedAt, OwnsHandle, ThreadOf, kinds}
-use Rattle.task_records.specs.Seen.{IsSound, parts_of, seen}
-use Rattle.task_records.specs.Sound.{EachEntry, IsWhole, Sound, bare, bare_instance}
-use Rattle.task_records.specs.declared.instances.InstanceRecord.{InstanceRecord}
-use Rattle.task_records.specs.declared.parts.CoreParts.{CoreParts}
-use Rattle.task_words.specs.StateView.{on_core}
-use Rattle.task_table.proofs.ReadLemmas.{set-slice_get, slice_get-set_other, slice_get-set_same}
+use Rattle.task_records.specs.Instances.{thread_of as thread_named}
 
 -- an instance with other handles, and another count of them
 module _ (a : CoreParts) (i : ℕ) (r s : InstanceRecord) (at : Some r ≡ slice_get a.instances.items i) (loose : bare_instance s ≡ bare_instance r) (v : Vec InstanceRecord Global) (is : v.items ≡ set a.instances.items i s) (c : Counter) where

@@ -1,37 +1,11 @@
 -- Where the call of a thread stands, and its instance.
-use Rattle.std.proofs.Common.{◌≡◌, ◌<◌, ◌≤◌, ℕ, List, [], ◌∷◌, length, map, slice_get, IsSome, arith, Option, Some, None, refl, sym, ap, subst, ◌∙◌}
-use Rattle.std.specs.Option.{option_map, option_map_or}
-use Rattle.std.specs.Prelude.{Ok}
-use Rattle.task_machine.specs.Maps.{get}
-use Rattle.task_machine.specs.Read.{call_instance, instance_of, no_callee, task_of}
-use Rattle.task_machine.specs.declared.records.Call.{Call}
-use Rattle.task_machine.specs.declared.records.Thread.{Thread}
+use Rattle.task_records.proofs.Core.{[], ap, arith, AtPlace, bare, bare_call, bare_thread, bare_work, Call, call_instance, call_key, call_of, CallOf, core_of, get, get-records, GuestTaskKey, HasHome, HasNumber, HostTaskKey, instance_of, IsCallNamed, IsSome, IsSound, IsWorkNamed, item_at, item_of, length, List, loose_call, loose_thread, loose_work, map, no_callee, None, Nothing, number_of-le, Ok, on_item, Option, option_map, option_map_or, parts_of, place_at-mapped, placed_as, refl, seen, set_key, set_of, SetKey, SetOf, slice_get, Some, StandsAt, subst, sym, TableId, Target, task_of, Thread, thread_key, thread_of, ThreadKey, ThreadOf, uninterested, unmoved, work_key, work_of, WorkOf, ℕ, ◌<◌, ◌∙◌, ◌∷◌, ◌≡◌, ◌≤◌}
+use Rattle.task_records.specs.declared.{calls.GuestTask.GuestTask, parts.CoreParts.CoreParts, sets.WaitSet.WaitSet, threads.GuestThread.GuestThread, works.HostWork.HostWork}
 use Rattle.task_records.proofs.KindLemmas.{item_stands}
 use Rattle.task_records.proofs.ReadLemmas.{call_shown, set_shown, thread_read, thread_shown, work_shown}
 use Rattle.task_records.proofs.StandLemmas.{stands_by_id}
 use Rattle.task_records.proofs.TableLemmas.{get_mapped, number_at_mapped, stands_in_mapped, stands_mapped}
-use Rattle.task_records.specs.Image.{core_of}
-use Rattle.task_records.specs.Keys.{call_key, set_key, thread_key, work_key}
-use Rattle.task_records.specs.Kinds.{item_of, on_item}
-use Rattle.task_records.specs.Names.{AtPlace, CallOf, HasHome, HasNumber, IsCallNamed, IsWorkNamed, Nothing, SetOf, StandsAt, Target, ThreadOf, WorkOf}
-use Rattle.task_records.specs.Seen.{IsSound, parts_of, seen}
-use Rattle.task_records.specs.Sound.{bare, bare_instance as bare_instance_record, bare_call, bare_thread, bare_work, loose_call, loose_thread, loose_work, uninterested, unmoved}
-use Rattle.task_records.specs.declared.calls.GuestTask.{GuestTask}
-use Rattle.task_records.specs.declared.parts.CoreParts.{CoreParts}
-use Rattle.task_records.specs.declared.threads.GuestThread.{GuestThread}
-use Rattle.task_records.specs.declared.sets.WaitSet.{WaitSet}
-use Rattle.task_table.proofs.NumberLemmas.{number_of-le}
-use Rattle.task_table.proofs.MappedLemmas.{place_at-mapped}
-use Rattle.task_table.proofs.RecordLemmas.{get-records}
-use Rattle.task_table.specs.Answers.{item_at}
-use Rattle.task_table.specs.Mapped.{placed_as}
-use Rattle.task_table.specs.declared.id.TableId.{TableId}
-use Rattle.task_records.specs.declared.works.HostWork.{HostWork}
-use Rattle.task_wait.specs.declared.keys.GuestTaskKey.{GuestTaskKey}
-use Rattle.task_wait.specs.declared.keys.HostTaskKey.{HostTaskKey}
-use Rattle.task_wait.specs.declared.keys.SetKey.{SetKey}
-use Rattle.task_wait.specs.declared.keys.ThreadKey.{ThreadKey}
-use Rattle.task_words.specs.StateView.{call_of, set_of, thread_of, work_of}
+use Rattle.task_records.specs.Sound.{bare_instance as bare_instance_record}
 
 module _ (a : CoreParts) where
   bare_call_read : (k : ℕ) → get (core_of (bare (parts_of a))).calls k ≡ option_map (λ c. uninterested (loose_call c)) (get (seen a).core.calls k)

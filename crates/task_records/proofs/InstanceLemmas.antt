@@ -1,11 +1,5 @@
 -- The maps of what is kept by places.
-use Rattle.std.proofs.Common.{◌≡◌, ◌<◌, ◌+◌, ℕ, suc, zero, List, [], ◌∷◌, ◌++◌, Some, None, set, length, map, slice_get, is_some, nat_lt, sym, ap, ◌∙◌, arith}
-use Rattle.std.proofs.lemmas.Option.{slice_get_past}
-use Rattle.task_machine.specs.Maps.{get, insert, empty, size, get-empty}
-use Rattle.task_machine.proofs.MapLemmas.{get-insert_same, get-insert_other}
-use Rattle.task_machine.proofs.SizeLemmas.{size-empty, size-insert_new}
-use Rattle.task_machine.proofs.CommuteLemmas.{insert-insert_same, insert-insert_other}
-use Rattle.task_records.specs.Instances.{by_place_from, by_place}
+use Rattle.task_records.proofs.Core.{[], ap, arith, by_place, by_place_from, empty, get, get-empty, get-insert_other, get-insert_same, insert, insert-insert_other, insert-insert_same, is_some, length, List, map, nat_lt, None, set, size, size-empty, size-insert_new, slice_get, slice_get_past, Some, suc, sym, zero, ℕ, ◌++◌, ◌+◌, ◌<◌, ◌∙◌, ◌∷◌, ◌≡◌}
 
 none_before : (k : ℕ) → 0 + k ≡ k
 none_before k = omega arith
@@ -81,6 +75,3 @@ module _ {X Y : Type 0} (f : X → Y) where
   some_within k [] = grind arith
   some_within zero (x ∷ xs) = grind arith
   some_within (suc k) (x ∷ xs) = grind (arith, some_within k xs)
-
-  pub is_some-by_place : (k : ℕ) (xs : List X) → nat_lt k (length xs) ≡ is_some (get (by_place (map f xs)) k)
-  is_some-by_place k xs = some_within k xs ∙ ap is_some (sym (get-by_place k (map f xs)))

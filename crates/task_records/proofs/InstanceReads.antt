@@ -1,27 +1,9 @@
 -- The records of instances: what is read at a number, and a write of what nothing hangs on.
-use Rattle.std.proofs.Common.{inl, inr, ◌⊎◌, ◌≡◌, ◌+◌, ◌<◌, ◌≤◌, true, false, is_some, ℕ, List, Option, Some, None, map, set, length, slice_get, get_or, refl, sym, ap, ap₂, subst, ◌∙◌}
-use Rattle.std.proofs.lemmas.Bool.{cases_eq}
-use Rattle.std.proofs.lemmas.List.{map-set}
-use Rattle.std.proofs.lemmas.Option.{slice_get-get_or, same_Some, slice_get-map, slice_get_past, slice_get_within}
-use Rattle.std.specs.Option.{option_map}
-use Rattle.std.specs.Global.{Global}
-use Rattle.std.specs.Prelude.{Vec}
-use Rattle.task_handles.specs.Handles.{held_by}
-use Rattle.task_machine.specs.Core.{Table, untouched}
-use Rattle.task_machine.specs.Maps.{Records, change, changed, get, insert}
-use Rattle.task_machine.specs.Read.{live_in, named_by}
-use Rattle.task_machine.specs.Write.{on_instance}
-use Rattle.task_machine.specs.declared.records.Instance.{Instance}
-use Rattle.task_machine.specs.declared.records.Named.{Named}
+use Rattle.task_records.proofs.Core.{ap, ap₂, AreHandlesNamed, bare, bare_instance, by_place, cases_eq, change, changed, false, get, get_or, Global, handle_table, held_by, inl, inr, insert, Instance, is_some, IsSound, IsWhole, kinds, length, List, live_in, map, map-set, Named, named_by, named_of, None, on_core, on_instance, Option, option_map, parts_of, Records, refl, same_Some, seen, set, set-slice_get, slice_get, slice_get-get_or, slice_get-map, slice_get-set_other, slice_get-set_same, slice_get_past, slice_get_within, Some, StateView, subst, sym, true, untouched, Vec, ℕ, ◌+◌, ◌<◌, ◌∙◌, ◌≡◌, ◌≤◌, ◌⊎◌}
+use Rattle.task_machine.specs.Core.{Table}
+use Rattle.task_records.specs.declared.{instances.InstanceRecord.InstanceRecord, parts.CoreParts.CoreParts}
 use Rattle.task_records.proofs.InstanceLemmas.{by_place-set, get-by_place}
-use Rattle.task_records.specs.Instances.{by_place, handle_table, named_of, thread_of as thread_named}
-use Rattle.task_records.specs.Names.{AreHandlesNamed, kinds}
-use Rattle.task_records.specs.Seen.{IsSound, parts_of, seen}
-use Rattle.task_records.specs.Sound.{IsWhole, bare, bare_instance}
-use Rattle.task_records.specs.declared.instances.InstanceRecord.{InstanceRecord}
-use Rattle.task_records.specs.declared.parts.CoreParts.{CoreParts}
-use Rattle.task_table.proofs.ReadLemmas.{set-slice_get, slice_get-set_other, slice_get-set_same}
-use Rattle.task_words.specs.StateView.{StateView, on_core}
+use Rattle.task_records.specs.Instances.{thread_of as thread_named}
 
 -- an instance as far as a write of its own record may not change it
 abbrev pub close_instance : InstanceRecord → InstanceRecord

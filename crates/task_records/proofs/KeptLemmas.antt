@@ -1,46 +1,11 @@
 -- Kept numbers are what the machine counts, as contracts see it.
-use Rattle.std.proofs.Common.{◌≡◌, ◌+◌, ◌<◌, ◌≤◌, ◌^◌, is_some, ◌*◌, ◌||◌, ℕ, Bool, true, false, cond, List, [], ◌∷◌, T, count_by, length, nat_lt, refl, sym, ap, ap₂, subst, ◌∙◌, arith}
-use Rattle.std.proofs.lemmas.Bool.{ne_eqb}
-use Rattle.std.proofs.lemmas.List.{length-map}
-use Rattle.std.proofs.lemmas.Option.{same_Some}
-use Rattle.std.proofs.lemmas.List.Sums.{count_by-le-length, sum_by-cons}
-use Rattle.std.specs.List.{list_any}
-use Rattle.std.specs.Option.{option_map}
-use Rattle.task_index.specs.Counts.{passing}
-use Rattle.task_machine.specs.Maps.{Records, get, same_map, size}
-use Rattle.task_machine.specs.Read.{has_thread, has_waiters, is_host_call, is_in_set, is_live, keeps_set, live_count, table_use}
-use Rattle.task_machine.specs.declared.records.Call.{Call}
-use Rattle.task_machine.specs.declared.records.Thread.{Thread}
-use Rattle.task_machine.specs.declared.records.Work.{Work}
+use Rattle.task_records.proofs.Core.{[], ap, ap₂, arith, bare, bare_call, bare_thread, bare_work, Bool, Call, call_key, call_of, cond, core_of, count_by, count_by-le-length, entries_for, false, get, GuestTaskKey, has_thread, has_waiters, is_host_call, is_in_set, is_live, is_moving, is_some, is_sorted-mapped, IsSetKept, IsSound, item_at, item_of, keeps_set, key_in, length, length-map, List, list_any, live_count, loose_call, loose_thread, loose_work, mapped, members_of, nat_lt, ne_eqb, None, none_in_records, Ok, on_item, Option, option_map, parts_of, passing, place_at, place_at-mapped, Placed, placed_as, Records, records, refl, same_map, same_Some, seen, set_of, SetKey, size, size-records-le, Some, subst, sum_by-cons, sym, T, Table, table_len, table_use, TableId, Thread, thread_key, threads_of, true, uninterested, unmoved, Work, work_key, ℕ, ◌*◌, ◌+◌, ◌<◌, ◌==◌, ◌^◌, ◌||◌, ◌∙◌, ◌∷◌, ◌≡◌, ◌≤◌}
+use Rattle.task_records.specs.declared.{calls.GuestTask.GuestTask, parts.CoreParts.CoreParts, sets.WaitSet.WaitSet, single.Single.Single, threads.GuestThread.GuestThread}
 use Rattle.task_records.proofs.HandleLemmas.{find-mapped}
 use Rattle.task_records.proofs.KindLemmas.{item_stands}
-use Rattle.task_index.proofs.Tables.{none_in_records}
 use Rattle.task_records.proofs.ReadLemmas.{call_named, set_named}
 use Rattle.task_records.proofs.TableLemmas.{get_mapped, with_second}
-use Rattle.task_records.specs.Image.{core_of}
-use Rattle.task_records.specs.Instances.{is_sorted-mapped, mapped as mapped_list}
-use Rattle.task_records.specs.Kept.{IsSetKept, entries_for, members_of, threads_of}
-use Rattle.task_records.specs.Keys.{call_key, thread_key, work_key}
-use Rattle.task_records.specs.Kinds.{item_of, on_item}
-use Rattle.task_records.specs.Seen.{IsSound, parts_of, seen}
-use Rattle.task_records.specs.Sound.{bare, bare_call, bare_thread, bare_work, loose_call, loose_thread, loose_work, uninterested, unmoved}
-use Rattle.task_records.specs.declared.calls.GuestTask.{GuestTask}
-use Rattle.task_records.specs.declared.parts.CoreParts.{CoreParts}
-use Rattle.task_records.specs.declared.sets.WaitSet.{WaitSet}
-use Rattle.task_records.specs.declared.single.Single.{Single}
-use Rattle.task_records.specs.declared.threads.GuestThread.{GuestThread}
-use Rattle.std.specs.Prelude.{None, Ok, Option, Some, ◌==◌}
-use Rattle.task_rules.specs.Works.{is_moving}
-use Rattle.task_table.proofs.MappedLemmas.{place_at-mapped}
-use Rattle.task_table.proofs.RecordCountLemmas.{size-records-le}
-use Rattle.task_table.specs.Answers.{item_at}
-use Rattle.task_table.specs.Mapped.{mapped, placed_as}
-use Rattle.task_table.specs.Records.{key_in, records}
-use Rattle.task_table.specs.Table.{Placed, Table, place_at, table_len}
-use Rattle.task_words.specs.StateView.{call_of, set_of}
-use Rattle.task_table.specs.declared.id.TableId.{TableId}
-use Rattle.task_wait.specs.declared.keys.GuestTaskKey.{GuestTaskKey}
-use Rattle.task_wait.specs.declared.keys.SetKey.{SetKey}
+use Rattle.task_records.specs.Instances.{mapped as mapped_list}
 
 module _ {X Y : Type 0} (r : X → Y) where
   -- the map with a function of each record

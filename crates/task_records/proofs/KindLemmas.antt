@@ -1,29 +1,6 @@
 -- The records of one kind, in a table of their own: what ids name, what is read under an id, and a write of one record.
-use Rattle.std.proofs.Common.{◌≡◌, ◌+◌, ◌<◌, ℕ, List, [], ◌∷◌, Bool, true, false, cond, ◌==◌, map, set, slice_get, Option, Some, None, refl, sym, ap, ◌∙◌, arith}
-use Rattle.std.proofs.lemmas.Bool.{ne_eqb}
-use Rattle.std.proofs.lemmas.List.{map-set}
-use Rattle.std.proofs.lemmas.Option.{slice_get-map}
-use Rattle.std.specs.Option.{option_map}
-use Rattle.std.specs.Prelude.{Ok, Err}
-use Rattle.task_index.proofs.Counts.{passing-with_at}
-use Rattle.task_index.specs.Counts.{one_if_passes, passing}
-use Rattle.task_machine.specs.Maps.{change, changed, get, insert}
-use Rattle.task_records.specs.Image.{tag_of, tags_in, trimmed, with_first}
-use Rattle.task_records.specs.Kinds.{entry_of, item_of, no_other}
-use Rattle.task_records.specs.Sound.{SoundTable}
-use Rattle.task_records.specs.declared.single.Single.{Single}
-use Rattle.task_table.proofs.ItemLemmas.{get-item_number, number_of-item, number_of-refused, record_at-item}
-use Rattle.task_table.proofs.Laws.{children_of-with_entry}
-use Rattle.task_table.proofs.ReadLemmas.{set-slice_get}
-use Rattle.task_table.proofs.RecordChangeLemmas.{PutsRecord-with_entry}
-use Rattle.task_table.proofs.RecordLemmas.{get-records}
-use Rattle.task_table.proofs.TableLemmas.{IsTable-with_entry, found_at, item_found, place_at_there}
-use Rattle.task_table.specs.Answers.{item_at}
-use Rattle.task_table.specs.Changes.{entry_put, with_entry}
-use Rattle.task_table.specs.Records.{PutsRecord, found_record, key_in, number_in, number_of, records}
-use Rattle.task_table.specs.Table.{Placed, Table, found, of_serial, place_at, standing}
-use Rattle.task_table.specs.declared.error.ResourceTableError.{ResourceTableError}
-use Rattle.task_words.specs.StateView.{Tag, named}
+use Rattle.task_records.proofs.Core.{[], ap, arith, Bool, change, changed, children_of-with_entry, cond, entry_of, entry_put, Err, false, found, found_at, found_record, get, get-item_number, get-records, insert, IsTable-with_entry, item_at, item_found, item_of, key_in, List, map, map-set, named, ne_eqb, no_other, None, number_in, number_of, number_of-item, number_of-refused, of_serial, Ok, one_if_passes, Option, option_map, passing, passing-with_at, place_at, place_at_there, Placed, PutsRecord, PutsRecord-with_entry, record_at-item, records, refl, ResourceTableError, set, set-slice_get, slice_get, slice_get-map, Some, SoundTable, standing, sym, Table, Tag, tag_of, tags_in, trimmed, true, with_entry, with_first, ℕ, ◌+◌, ◌<◌, ◌==◌, ◌∙◌, ◌∷◌, ◌≡◌}
+use Rattle.task_records.specs.declared.{single.Single.Single}
 
 pub absent : {X Y : Type 0} (x : X) → ◌≡◌ {A = Option X} None (Some x) → Y
 absent x e = absurd (cc)

@@ -1,18 +1,6 @@
 -- Where more were made, what holds of the parts holds on.
-use Rattle.std.proofs.Common.{◌≤◌, ℕ, arith}
-use Rattle.task_handles.specs.declared.kinds.HandleKind.{HandleKind}
-use Rattle.task_handles.specs.declared.kinds.HandleKind.TheVariants as handle
-use Rattle.task_handles.specs.declared.kinds.Rep.{Rep}
-use Rattle.task_handles.specs.declared.kinds.WaitableKind.TheVariants as waitable
-use Rattle.task_machine.specs.Read.{table_use}
-use Rattle.task_machine.specs.declared.records.Made.{Made}
-use Rattle.task_records.specs.Image.{Parts}
-use Rattle.task_records.specs.Names.{AreHandlesNamed, CallOf, HasHome, IsCallNamed, IsHeldNamed, IsNamedAt, IsWorkNamed, Kinds, Nothing, SetOf, Target, ThreadOf, WorkOf, kinds}
-use Rattle.task_records.specs.Sound.{IsWhole}
-use Rattle.task_records.specs.declared.calls.GuestTask.{GuestTask}
-use Rattle.task_records.specs.declared.instances.InstanceRecord.{InstanceRecord}
-use Rattle.task_records.specs.declared.threads.GuestThread.{GuestThread}
-use Rattle.task_records.specs.declared.works.HostWork.{HostWork}
+use Rattle.task_records.proofs.Core.{AreHandlesNamed, AreKept, arith, AtPlace, Call, CallOf, core_of, get, Goal, HandleKind, HasHome, HasRoom, IsCallNamed, IsHeldNamed, IsNamedAt, IsWhole, IsWorkNamed, Kinds, kinds, List, Made, Nothing, Parts, Rep, SetOf, Some, table_use, Target, ThreadOf, WaitableKind, WorkOf, ℕ, ◌≡◌, ◌≤◌}
+use Rattle.task_records.specs.declared.{calls.GuestTask.GuestTask, instances.InstanceRecord.InstanceRecord, parts.Kept.Kept, parts.ResultRoom.ResultRoom, threads.GuestThread.GuestThread, works.HostWork.HostWork}
 
 -- At least as many were made.
 pub record IsLater (m n : Made) : Type 0 where
@@ -30,11 +18,11 @@ module _ (k : Kinds) (n : Made) (later : IsLater k.made n) where
   named_later rep (SetOf m) at = (let more = later.sets in let few = at.0 in omega arith, at.1)
 
   held_later : (h : HandleKind) (r : Rep) → IsHeldNamed k h r → IsHeldNamed (record k { made = n }) h r
-  held_later (handle.Waitable waitable.GuestSubtask) r is = named_later r.id (CallOf r.serial) is
-  held_later (handle.Waitable waitable.HostSubtask) r is = named_later r.id (WorkOf r.serial) is
-  held_later (handle.Waitable waitable.Stream) r is = is
-  held_later (handle.Waitable waitable.Future) r is = is
-  held_later handle.Set r is = named_later r.id (SetOf r.serial) is
+  held_later (HandleKind.Waitable WaitableKind.GuestSubtask) r is = named_later r.id (CallOf r.serial) is
+  held_later (HandleKind.Waitable WaitableKind.HostSubtask) r is = named_later r.id (WorkOf r.serial) is
+  held_later (HandleKind.Waitable WaitableKind.Stream) r is = is
+  held_later (HandleKind.Waitable WaitableKind.Future) r is = is
+  held_later HandleKind.Set r is = named_later r.id (SetOf r.serial) is
 
   pub handles_later : (i : InstanceRecord) → AreHandlesNamed k i → AreHandlesNamed (record k { made = n }) i
   handles_later i named = record {
@@ -44,36 +32,28 @@ module _ (k : Kinds) (n : Made) (later : IsLater k.made n) where
     thread_handles = λ h r live. named_later r.id (ThreadOf r.serial) (named.thread_handles h r live);
   }
 
-module _ (p : Parts) (n : Made) (later : IsLater p.made n) where
-  home_later : (g : GuestThread) → HasHome p g → HasHome (record p { made = n }) g
-  home_later g home = record {
-    call = home.call;
-    there = home.there;
-    instance = home.instance;
-    within = home.within;
-    place = named_later (kinds p) n later _ _ home.place;
-    how_far = named_later (kinds p) n later _ _ home.how_far;
-  }
+pub same_made : (m : Made) → IsLater m m
+same_made m = record { threads = omega arith; works = omega arith; sets = omega arith; groups = omega arith }
 
-  call_later : (g : GuestTask) → IsCallNamed p g → IsCallNamed (record p { made = n }) g
-  call_later g named = record {
-    caller = named_later (kinds p) n later _ _ named.caller;
-    first = named_later (kinds p) n later g.first (ThreadOf g.number) named.first;
-    join = named_later (kinds p) n later _ _ named.join;
-    group = named.group;
-    positive = named.positive;
-  }
+-- With another number of finished groups, other kept numbers, other results and another capacity too: names, indexes and rows stay.
+module _ (p : Parts) (n : Made) (later : IsLater p.made n) (finished : ℕ) (kept : Kept) (results : List (ℕ × ResultRoom)) (capacity : ℕ) where
+  abbrev pub beside : Parts
+  beside = record p { made = n; finished = finished; kept = kept; results = results; capacity = capacity }
 
-  work_later : (w : HostWork) → IsWorkNamed p w → IsWorkNamed (record p { made = n }) w
-  work_later w named = record {
-    caller = named_later (kinds p) n later _ _ named.caller;
-    join = named_later (kinds p) n later _ _ named.join;
-    group = named.group;
-  }
+  at_later : (rep : ℕ) (t : Target) → AtPlace p rep t → AtPlace beside rep t
+  at_later = named_later (kinds p) n later
 
-  pub whole_later : IsWhole p → IsWhole (record p { made = n })
-  unfolding table_use
-  whole_later whole = record {
+  home_later : (g : GuestThread) → HasHome p g → HasHome beside g
+  home_later g home = record { call = home.call; there = home.there; instance = home.instance; within = home.within; place = at_later g.beside _ home.place; how_far = at_later g.awaited _ home.how_far }
+
+  call_later : (g : GuestTask) → IsCallNamed p g → IsCallNamed beside g
+  call_later g named = record { caller = at_later g.maker _ named.caller; first = at_later g.first (ThreadOf g.number) named.first; join = at_later g.joined _ named.join; group = named.group; positive = named.positive }
+
+  work_later : (w : HostWork) → IsWorkNamed p w → IsWorkNamed beside w
+  work_later w named = record { caller = at_later w.maker _ named.caller; join = at_later w.joined _ named.join; group = named.group }
+
+  pub beside_whole : IsWhole p → AreKept (core_of beside) kept → ((k : ℕ) (c : Call) → get (core_of p).calls k ≡ Some c → c.goal ≡ Goal.Main → HasRoom k results) → finished ≤ n.groups → capacity ≤ 4294967295 → IsWhole beside
+  beside_whole whole counts rooms within few = record {
     named = record {
       threads = λ rep q at. home_later q.entry.item (whole.named.threads rep q at);
       calls = λ rep q at. call_later q.entry.item (whole.named.calls rep q at);
@@ -91,23 +71,23 @@ module _ (p : Parts) (n : Made) (later : IsLater p.made n) where
       low = whole.chained.low;
       behind = whole.chained.behind;
     };
-    nodes = record {
-      marks = whole.nodes.marks;
-      shelves = whole.nodes.shelves;
-      callers = whole.nodes.callers;
-      works = whole.nodes.works;
-      apart = whole.nodes.apart;
-    };
+    nodes = record { marks = whole.nodes.marks; shelves = whole.nodes.shelves; callers = whole.nodes.callers; works = whole.nodes.works; apart = whole.nodes.apart };
     counted = record {
-      kept = record { used = whole.counted.kept.used; groups = whole.counted.kept.groups; live = whole.counted.kept.live };
+      kept = counts;
       calls = whole.counted.calls;
       sets = λ rep q at. let one = whole.counted.sets rep q at in record { members = one.members; entries = one.entries };
       groups = whole.counted.groups;
-      few = whole.counted.few;
-      finished = let within = whole.counted.finished in let more = later.groups in omega arith;
+      few = few;
+      finished = within;
       high = whole.counted.high;
       low = whole.counted.low;
       works = whole.counted.works;
-      results = whole.counted.results;
+      results = rooms;
     };
   }
+
+pub whole_later : (p : Parts) (n : Made) → IsLater p.made n → IsWhole p → IsWhole (record p { made = n })
+unfolding table_use
+whole_later p n later whole =
+    beside_whole p n later p.finished p.kept p.results p.capacity whole (let k = whole.counted.kept in record { used = k.used; groups = k.groups; live = k.live }) whole.counted.results
+    (let within = whole.counted.finished in let more = later.groups in omega arith) whole.counted.few

@@ -1,3 +1,4 @@
+pub mod Core
 pub mod KindLemmas
 pub mod ReadLemmas
 pub mod TableLemmas
@@ -17,4 +18,5 @@ pub mod HandleTaken
 pub mod AloneLemmas
 pub mod LaterLemmas
 pub mod MakeLemmas
+pub mod SoundLemmas
 pub mod LinkLemmas

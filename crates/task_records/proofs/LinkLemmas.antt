@@ -1,20 +1,7 @@
 -- A node or a chain is made in an index: nothing else hangs on it.
-use Rattle.std.proofs.Common.{◌≡◌, ℕ, List, None, Option, Some, IsSome, refl, sym, ap, subst, ◌∙◌}
-use Rattle.task_index.proofs.Indexes.{IsIndex-made}
-use Rattle.task_index.specs.Index.{IsIndex, filings}
-use Rattle.task_links.specs.Links.{Renames, Spot, Unmade, list_of, list_or_nil, spot_link, spot_list}
-use Rattle.task_machine.specs.Read.{table_use}
-use Rattle.task_records.specs.Image.{Parts}
-use Rattle.task_records.specs.Names.{HasHome, IsCallNamed, IsWorkNamed}
-use Rattle.task_records.specs.Places.{Rises, live_chain, live_order, live_work, place_chain, place_filing, ready_call, ready_call_chain, ready_work, ready_work_chain}
-use Rattle.task_records.specs.Seen.{IsSound, parts_of}
-use Rattle.task_records.specs.Sound.{IsWhole, bare}
-use Rattle.task_records.specs.declared.calls.GuestTask.{GuestTask}
-use Rattle.task_records.specs.declared.parts.CoreParts.{CoreParts}
-use Rattle.task_records.specs.declared.threads.GuestThread.{GuestThread}
-use Rattle.task_records.specs.declared.works.HostWork.{HostWork}
-use Rattle.task_records.specs.declared.works.LiveWork.{LiveWork}
-use Rattle.task_wait.specs.Sets.{IsAscending}
+use Rattle.task_records.proofs.SoundLemmas.{sound_of_whole}
+use Rattle.task_records.proofs.Core.{ap, AreChained, bare, filings, HasHome, IsAscending, IsCallNamed, IsIndex, IsIndex-made, IsSome, IsSound, IsWhole, IsWorkNamed, List, list_of, list_or_nil, live_chain, live_order, live_work, None, Option, Parts, parts_of, place_chain, place_filing, ready_call, ready_call_chain, ready_work, ready_work_chain, refl, Renames, Rises, Some, Spot, spot_link, spot_list, subst, sym, table_use, Unmade, ℕ, ◌∙◌, ◌≡◌}
+use Rattle.task_records.specs.declared.{calls.GuestTask.GuestTask, parts.CoreParts.CoreParts, threads.GuestThread.GuestThread, works.HostWork.HostWork, works.LiveWork.LiveWork}
 
 Rises-made : (links new : List (Spot LiveWork)) (n : ℕ) (is : Spot LiveWork) → Renames links new n Unmade is → (o : Option ℕ) → ((c : ℕ) → o ≡ Some c → IsSome (list_of links c)) → Rises links o → Rises new o
 Rises-made links new n is names None live rises = tt
@@ -73,55 +60,28 @@ module _ (p : Parts) (places ready_calls ready_works : List (Spot ℕ)) (polled 
   }
 
 module _ (a : CoreParts) (sound : IsSound a) where
-  -- a node or a chain more among the places
-  module _ (new : List (Spot ℕ)) (n : ℕ) (is : Spot ℕ) (names : Renames a.places new n Unmade is) (unlinked : spot_link is ≡ None) where
-    pub place_made_sound : IsSound (record a { places = new })
-    unfolding IsSound
-    place_made_sound = record {
-      tables = record { threads = sound.tables.threads; calls = sound.tables.calls; works = sound.tables.works; sets = sound.tables.sets; groups = sound.tables.groups };
-      whole = indexed_whole (bare (parts_of a)) new a.ready_calls a.ready_works a.polled (IsIndex-made (place_chain (bare (parts_of a))) a.places (filings place_filing (bare (parts_of a)).threads) sound.whole.chained.places new n is names unlinked) sound.whole.chained.ready_calls sound.whole.chained.ready_works sound.whole.chained.polled sound.whole.chained.rising sound.whole;
-      interesting = sound.interesting;
-      moving = sound.moving;
-      handles = sound.handles;
-      owned = sound.owned;
-      live = sound.live;
-    }
+  abbrev bared : Parts
+  bared = bare (parts_of a)
 
-  module _ (new : List (Spot ℕ)) (n : ℕ) (is : Spot ℕ) (names : Renames a.ready_calls new n Unmade is) (unlinked : spot_link is ≡ None) where
-    pub ready_call_made_sound : IsSound (record a { ready_calls = new })
+  module _ (places ready_calls ready_works : List (Spot ℕ)) (polled : List (Spot LiveWork)) where
+    indexed_sound : IsIndex (place_chain bared) places (filings place_filing bared.threads) → IsIndex (ready_call_chain bared) ready_calls (filings ready_call bared.calls) → IsIndex (ready_work_chain bared) ready_works (filings ready_work bared.works) → IsIndex (live_chain bared) polled (filings live_work bared.works) → Rises polled a.live → IsSound (record a { places = places; ready_calls = ready_calls; ready_works = ready_works; polled = polled })
     unfolding IsSound
-    ready_call_made_sound = record {
-      tables = record { threads = sound.tables.threads; calls = sound.tables.calls; works = sound.tables.works; sets = sound.tables.sets; groups = sound.tables.groups };
-      whole = indexed_whole (bare (parts_of a)) a.places new a.ready_works a.polled sound.whole.chained.places (IsIndex-made (ready_call_chain (bare (parts_of a))) a.ready_calls (filings ready_call (bare (parts_of a)).calls) sound.whole.chained.ready_calls new n is names unlinked) sound.whole.chained.ready_works sound.whole.chained.polled sound.whole.chained.rising sound.whole;
-      interesting = sound.interesting;
-      moving = sound.moving;
-      handles = sound.handles;
-      owned = sound.owned;
-      live = sound.live;
-    }
+    indexed_sound in_places in_calls in_works in_polled rises = sound_of_whole a (record a { places = places; ready_calls = ready_calls; ready_works = ready_works; polled = polled }) refl sound (indexed_whole bared places ready_calls ready_works polled in_places in_calls in_works in_polled rises sound.whole)
 
-  module _ (new : List (Spot ℕ)) (n : ℕ) (is : Spot ℕ) (names : Renames a.ready_works new n Unmade is) (unlinked : spot_link is ≡ None) where
-    pub ready_work_made_sound : IsSound (record a { ready_works = new })
-    unfolding IsSound
-    ready_work_made_sound = record {
-      tables = record { threads = sound.tables.threads; calls = sound.tables.calls; works = sound.tables.works; sets = sound.tables.sets; groups = sound.tables.groups };
-      whole = indexed_whole (bare (parts_of a)) a.places a.ready_calls new a.polled sound.whole.chained.places sound.whole.chained.ready_calls (IsIndex-made (ready_work_chain (bare (parts_of a))) a.ready_works (filings ready_work (bare (parts_of a)).works) sound.whole.chained.ready_works new n is names unlinked) sound.whole.chained.polled sound.whole.chained.rising sound.whole;
-      interesting = sound.interesting;
-      moving = sound.moving;
-      handles = sound.handles;
-      owned = sound.owned;
-      live = sound.live;
-    }
+  was : AreChained bared
+  unfolding IsSound
+  was = sound.whole.chained
 
-  module _ (new : List (Spot LiveWork)) (n : ℕ) (is : Spot LiveWork) (names : Renames a.polled new n Unmade is) (unlinked : spot_link is ≡ None) where
-    pub live_made_sound : IsSound (record a { polled = new })
-    unfolding IsSound
-    live_made_sound = record {
-      tables = record { threads = sound.tables.threads; calls = sound.tables.calls; works = sound.tables.works; sets = sound.tables.sets; groups = sound.tables.groups };
-      whole = indexed_whole (bare (parts_of a)) a.places a.ready_calls a.ready_works new sound.whole.chained.places sound.whole.chained.ready_calls sound.whole.chained.ready_works (IsIndex-made (live_chain (bare (parts_of a))) a.polled (filings live_work (bare (parts_of a)).works) sound.whole.chained.polled new n is names unlinked) (Rises-made a.polled new n is names a.live (sound.whole.chained.polled.live tt) sound.whole.chained.rising) sound.whole;
-      interesting = sound.interesting;
-      moving = sound.moving;
-      handles = sound.handles;
-      owned = sound.owned;
-      live = sound.live;
-    }
+  -- a node or a chain more: among the places, the ready members, and the live works
+  module _ (new : List (Spot ℕ)) (n : ℕ) (is : Spot ℕ) where
+    pub place_made_sound : Renames a.places new n Unmade is → spot_link is ≡ None → IsSound (record a { places = new })
+    place_made_sound names unlinked = indexed_sound new a.ready_calls a.ready_works a.polled (IsIndex-made (place_chain bared) a.places (filings place_filing bared.threads) was.places new n is names unlinked) was.ready_calls was.ready_works was.polled was.rising
+
+    pub ready_call_made_sound : Renames a.ready_calls new n Unmade is → spot_link is ≡ None → IsSound (record a { ready_calls = new })
+    ready_call_made_sound names unlinked = indexed_sound a.places new a.ready_works a.polled was.places (IsIndex-made (ready_call_chain bared) a.ready_calls (filings ready_call bared.calls) was.ready_calls new n is names unlinked) was.ready_works was.polled was.rising
+
+    pub ready_work_made_sound : Renames a.ready_works new n Unmade is → spot_link is ≡ None → IsSound (record a { ready_works = new })
+    ready_work_made_sound names unlinked = indexed_sound a.places a.ready_calls new a.polled was.places was.ready_calls (IsIndex-made (ready_work_chain bared) a.ready_works (filings ready_work bared.works) was.ready_works new n is names unlinked) was.polled was.rising
+
+  pub live_made_sound : (new : List (Spot LiveWork)) (n : ℕ) (is : Spot LiveWork) → Renames a.polled new n Unmade is → spot_link is ≡ None → IsSound (record a { polled = new })
+  live_made_sound new n is names unlinked = indexed_sound a.places a.ready_calls a.ready_works new was.places was.ready_calls was.ready_works (IsIndex-made (live_chain bared) a.polled (filings live_work bared.works) was.polled new n is names unlinked) (Rises-made a.polled new n is names a.live (was.polled.live tt) was.rising)

@@ -1,21 +1,7 @@
 -- The records of one kind where one more is made, or one is taken away.
-use Rattle.std.proofs.Common.{inl, inr, ◌⊎◌, ◌≡◌, ◌+◌, ◌==◌, ◌<◌, ◌≤◌, ℕ, Bool, true, false, cond, Option, Some, None, IsSome, refl, sym, ap, subst, ◌∙◌, arith}
-use Rattle.std.proofs.lemmas.Bool.{cases_eq, eq-eqb, ne_eqb}
-use Rattle.std.specs.Prelude.{Ok}
-use Rattle.task_machine.specs.Maps.{insert, remove}
+use Rattle.task_records.proofs.Core.{ap, arith, Bool, cases_eq, children_of-deleted, children_of-pushed, cond, deleted, entry_of, eq-eqb, false, found_record, HasNumber, inl, inr, insert, IsSome, IsTable, item_at, item_of, key_in, ne_eqb, next_place, next_place_free, no_other, None, number_in, number_of, number_of-deleted_apart, number_of-pushed_kept, number_of-pushed_new, Ok, Option, place_at, place_at-deleted, place_at-pushed, pushed, PutsRecord, PutsRecord-pushed, record_at, record_at-item, records, refl, remove, Some, SoundTable, StandsAt, subst, sym, Table, TakesRecord, TakesRecord-deleted, true, ℕ, ◌+◌, ◌<◌, ◌==◌, ◌∙◌, ◌≡◌, ◌≤◌, ◌⊎◌}
+use Rattle.task_records.specs.declared.{single.Single.Single}
 use Rattle.task_records.proofs.KindLemmas.{absent, item_stands}
-use Rattle.task_records.specs.Kinds.{entry_of, item_of, no_other}
-use Rattle.task_records.specs.Names.{HasNumber, StandsAt}
-use Rattle.task_records.specs.Sound.{SoundTable}
-use Rattle.task_records.specs.declared.single.Single.{Single}
-use Rattle.task_table.proofs.ItemLemmas.{record_at-item}
-use Rattle.task_table.proofs.Laws.{children_of-deleted, children_of-pushed, next_place_free, place_at-deleted, place_at-pushed}
-use Rattle.task_table.proofs.NumberLemmas.{number_of-deleted_apart, number_of-pushed_kept, number_of-pushed_new}
-use Rattle.task_table.proofs.RecordChangeLemmas.{PutsRecord-pushed, TakesRecord-deleted}
-use Rattle.task_table.specs.Answers.{item_at}
-use Rattle.task_table.specs.Changes.{deleted, next_place, pushed}
-use Rattle.task_table.specs.Records.{PutsRecord, TakesRecord, found_record, key_in, number_in, number_of, record_at, records}
-use Rattle.task_table.specs.Table.{IsTable, Table, place_at}
 
 module _ {T X : Type 0} (number : T → ℕ) (rec : T → X) (t : Table (Single T)) (made : ℕ) (sound : SoundTable (λ (e : Single T). Some (number e.item, rec e.item)) t made) where
   abbrev key : Single T → Option (ℕ × X)

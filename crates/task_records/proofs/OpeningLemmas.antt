@@ -1,27 +1,7 @@
 -- A core in which nothing was made.
-use Rattle.std.proofs.Common.{◌≡◌, ℕ, [], List, Option, None, false, ◌≤◌, refl, sym, ◌∙◌, arith}
-use Rattle.task_index.specs.Index.{Filing, IsIndex}
-use Rattle.task_index.specs.Rows.{IsRows}
-use Rattle.task_index.proofs.Indexes.{IsIndex-nothing, IsIndex-same_chains}
-use Rattle.task_machine.specs.Core.{fresh, nothing_made}
-use Rattle.task_machine.specs.Maps.{empty, get-empty, numbers, size}
-use Rattle.task_machine.specs.Read.{live_count, table_use}
-use Rattle.task_machine.specs.declared.records.Subtask.TheVariants as subtask
+use Rattle.task_records.proofs.Core.{[], AreApart-new_table, AreChained, AreCounted, AreNamed, arith, bare, BlockedOn, by_place_from, call_key, empty, false, Filing, filings, found_record, fresh, get-empty, group_key, HaveRowNodes, HeldIn, High, image, IsIndex, IsIndex-nothing, IsIndex-same_chains, IsRows, IsTable, List, live_count, Low, mapped, new_table, None, nothing, nothing_made, numbers, Option, Parts, place_chain, records, refl, Row, row_chain, set_key, size, Sound, SoundTable, Subtask, sym, Table, table_use, thread_key, UnderOf, WaitsOn, Where, with_capacity, work_key, ℕ, ◌∙◌, ◌≡◌, ◌≤◌}
+use Rattle.task_records.specs.declared.{single.Single.Single}
 use Rattle.task_records.proofs.KindLemmas.{absent}
-use Rattle.task_records.specs.Image.{Parts, image}
-use Rattle.task_records.specs.Instances.{by_place_from}
-use Rattle.task_records.specs.Keys.{call_key, group_key, set_key, thread_key, work_key}
-use Rattle.task_records.specs.Places.{BlockedOn, HeldIn, UnderOf, WaitsOn, Where, place_chain}
-use Rattle.task_records.specs.Rows.{High, Low, Row, row_chain}
-use Rattle.task_records.specs.Seen.{nothing}
-use Rattle.task_records.specs.Sound.{AreChained, AreCounted, AreNamed, HaveRowNodes, Sound, SoundTable, bare}
-use Rattle.task_records.specs.declared.single.Single.{Single}
-use Rattle.task_index.specs.Index.{filings}
-use Rattle.task_table.proofs.RecordChangeLemmas.{AreApart-new_table}
-use Rattle.task_table.specs.Changes.{with_capacity}
-use Rattle.task_table.specs.Mapped.{mapped}
-use Rattle.task_table.specs.Records.{found_record, records}
-use Rattle.task_table.specs.Table.{IsTable, Table, new_table}
 
 abbrev pub no_records : {T : Type 0} → Table (Single T)
 no_records = with_capacity 4294967295 new_table
@@ -87,8 +67,8 @@ unfolding found_record mapped with_capacity
 no_place (WaitsOn x) = refl
 no_place (HeldIn i) = refl
 no_place (UnderOf n) = refl
-no_place (BlockedOn (subtask.Guest k)) = refl
-no_place (BlockedOn (subtask.Host i)) = refl
+no_place (BlockedOn (Subtask.Guest k)) = refl
+no_place (BlockedOn (Subtask.Host i)) = refl
 
 no_row : (r : Row) → row_chain (bare opening) r ≡ None
 no_row High = refl

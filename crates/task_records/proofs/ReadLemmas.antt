@@ -1,25 +1,7 @@
 -- What is read under an id is the machine's record of what the id names.
-use Rattle.std.proofs.Common.{◌≡◌, ap, ◌∙◌, sym, Some, None}
-use Rattle.std.specs.Prelude.{Ok, Err}
-use Rattle.task_machine.specs.Maps.{get}
+use Rattle.task_records.proofs.Core.{ap, call_key, call_number, call_of, Err, get, GuestTaskKey, HostTaskKey, IsSound, item_at, item_of, None, number_of, Ok, records, ResourceTableError, seen, set_key, set_number, set_of, SetKey, Some, sym, TableId, thread_key, thread_number, thread_of, ThreadKey, work_key, work_number, work_of, ◌∙◌, ◌≡◌}
+use Rattle.task_records.specs.declared.{calls.GuestTask.GuestTask, parts.CoreParts.CoreParts, sets.WaitSet.WaitSet, threads.GuestThread.GuestThread, works.HostWork.HostWork}
 use Rattle.task_records.proofs.KindLemmas.{item_number, item_read, number_shown, refused_number, refused_read}
-use Rattle.task_records.specs.Keys.{call_key, set_key, thread_key, work_key}
-use Rattle.task_records.specs.Kinds.{item_of}
-use Rattle.task_records.specs.Seen.{IsSound, seen}
-use Rattle.task_records.specs.declared.calls.GuestTask.{GuestTask}
-use Rattle.task_records.specs.declared.parts.CoreParts.{CoreParts}
-use Rattle.task_records.specs.declared.sets.WaitSet.{WaitSet}
-use Rattle.task_records.specs.declared.threads.GuestThread.{GuestThread}
-use Rattle.task_records.specs.declared.works.HostWork.{HostWork}
-use Rattle.task_table.specs.Answers.{item_at}
-use Rattle.task_table.specs.Records.{number_of, records}
-use Rattle.task_table.specs.declared.error.ResourceTableError.{ResourceTableError}
-use Rattle.task_table.specs.declared.id.TableId.{TableId}
-use Rattle.task_wait.specs.declared.keys.GuestTaskKey.{GuestTaskKey}
-use Rattle.task_wait.specs.declared.keys.HostTaskKey.{HostTaskKey}
-use Rattle.task_wait.specs.declared.keys.SetKey.{SetKey}
-use Rattle.task_wait.specs.declared.keys.ThreadKey.{ThreadKey}
-use Rattle.task_words.specs.StateView.{call_number, call_of, set_number, set_of, thread_number, thread_of, work_number, work_of}
 
 module _ (a : CoreParts) where
   pub thread_shown : (id : TableId ThreadKey) → thread_of (seen a) id ≡ number_of thread_key a.threads id.rep id.serial

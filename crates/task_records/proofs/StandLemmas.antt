@@ -1,20 +1,7 @@
 -- Ids made of a place alone, and of a place where a number was kept.
-use Rattle.std.proofs.Common.{◌≡◌, ◌≤◌, ℕ, IsSome, cond, Option, Some, None, is_some, refl, sym, ap, ap₂, ◌∙◌, arith, slice_get}
-use Rattle.std.proofs.lemmas.Option.{same_Some, slice_get_past}
-use Rattle.std.specs.Option.{option_and_then, option_map}
+use Rattle.task_records.proofs.Core.{ap, ap₂, arith, cond, found, found_here, found_record, found_record_at, get-records, is_some, IsSome, item_of, kept_in, key_in, named, None, number_in, number_names, number_of, of_serial, Option, option_and_then, option_map, place_at, Placed, record_at, record_at-Names, records, refl, same_Some, slice_get, slice_get_past, Some, SoundTable, standing, StandsAt, sym, Table, tags_in, ℕ, ◌∙◌, ◌≡◌, ◌≤◌}
+use Rattle.task_records.specs.declared.{single.Single.Single}
 use Rattle.task_records.proofs.KindLemmas.{absent, number_shown}
-use Rattle.task_records.specs.Image.{tags_in}
-use Rattle.task_records.specs.Kinds.{item_of}
-use Rattle.task_records.specs.Names.{StandsAt}
-use Rattle.task_records.specs.Sound.{SoundTable}
-use Rattle.task_records.specs.declared.single.Single.{Single}
-use Rattle.task_table.proofs.NumberLemmas.{number_names, record_at-Names}
-use Rattle.task_table.proofs.RecordLemmas.{found_record_at, get-records}
-use Rattle.task_table.proofs.TableLemmas.{found_here}
-use Rattle.task_table.specs.Records.{found_record, key_in, number_in, number_of, record_at, records}
-use Rattle.task_table.specs.Table.{Placed, Table, found, of_serial, place_at, standing}
-use Rattle.task_words.specs.Live.{kept_in}
-use Rattle.task_words.specs.StateView.{named}
 
 module _ {T X : Type 0} (number : T → ℕ) (rec : T → X) where
   abbrev key : Single T → Option (ℕ × X)

@@ -1,14 +1,5 @@
 -- What a write that a key does not see leaves of the key's records, and the records of a table seen by a function of its entries.
-use Rattle.std.proofs.Common.{◌≡◌, ◌==◌, ℕ, Bool, true, false, cond, List, [], ◌∷◌, map, Option, Some, None, refl, sym, ap, ap₂, subst, IsSome, ◌∙◌}
-use Rattle.std.specs.Option.{option_map}
-use Rattle.task_machine.specs.Maps.{get}
-use Rattle.task_table.proofs.MappedLemmas.{mapped-with_entry_same, place_at-mapped}
-use Rattle.task_table.proofs.RecordLemmas.{get-records}
-use Rattle.task_records.specs.Names.{StandsAt}
-use Rattle.task_table.specs.Changes.{with_entry}
-use Rattle.task_table.specs.Mapped.{mapped, placed_as}
-use Rattle.task_table.specs.Records.{found_record, key_in, number_in, or_record, record_at, records, with_record}
-use Rattle.task_table.specs.Table.{Placed, Table, place_at}
+use Rattle.task_records.proofs.Core.{[], ap, ap₂, Bool, cond, false, found_record, get, get-records, IsSome, key_in, List, map, mapped, mapped-with_entry_same, None, number_in, Option, option_map, or_record, place_at, place_at-mapped, Placed, placed_as, record_at, records, refl, Some, StandsAt, subst, sym, Table, true, with_entry, with_record, ℕ, ◌==◌, ◌∙◌, ◌∷◌, ◌≡◌}
 
 -- a number with a function of its record
 abbrev pub with_second : {X Y : Type 0} → (X → Y) → Option (ℕ × X) → Option (ℕ × Y)

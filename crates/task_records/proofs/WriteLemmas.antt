@@ -1,44 +1,9 @@
 -- A write of fields on which nothing hangs is the machine's change of the record.
-use Rattle.std.proofs.Common.{◌≡◌, ◌+◌, ◌≤◌, ℕ, true, cond, List, Option, Some, false, ◌==◌, Bool, None, [], slice_get, inl, inr, ◌⊎◌, refl, sym, ap, ap₂, subst, ◌∙◌, arith}
-use Rattle.std.proofs.lemmas.Bool.{cases_eq, eq-eqb, ne_eqb}
-use Rattle.std.proofs.lemmas.Option.{same_Some}
-use Rattle.std.specs.Prelude.{Ok, Err}
-use Rattle.task_index.specs.Counts.{one_if_passes, passing}
-use Rattle.task_machine.specs.Maps.{Records, change}
-use Rattle.task_machine.specs.Write.{on_call, on_thread, on_work, set_uninteresting}
-use Rattle.task_machine.specs.declared.records.Call.{Call}
-use Rattle.task_machine.specs.declared.records.Script.TheVariants as script
-use Rattle.task_machine.specs.declared.records.Thread.{Thread}
-use Rattle.task_machine.specs.declared.records.Work.{Work}
-use Rattle.task_records.proofs.KindLemmas.{item_stands, passing_same, passing_written, records_changed, refused_write, table_written, tags_written}
+use Rattle.task_records.proofs.Core.{[], ap, ap₂, AreHandlesNamed, arith, bare, bare_call, bare_thread, bare_work, Bool, Call, call_key, call_of, callers_in, cases_eq, change, cond, EachEntry, entry_of, entry_put, eq-eqb, Err, false, GuestTaskKey, HostTaskKey, inl, inr, is_moving, IsSound, IsWhole, item_at, item_of, Kinds, kinds, List, loose_call, loose_work, mapped, mapped-with_entry_same, ne_eqb, None, Ok, on_call, on_core, on_item, on_thread, on_work, one_if_passes, Option, OwnsHandle, parts_of, passing, place_at, place_at-with_entry, Placed, Records, records, refl, ResourceTableError, same_Some, Script, seen, set_uninteresting, slice_get, Some, StateView, subst, sym, Table, TableId, Tag, tags_in, Thread, thread_key, thread_of, ThreadKey, true, uninterested, unmoved, with_entry, Work, work_key, work_of, ℕ, ◌+◌, ◌==◌, ◌∙◌, ◌≡◌, ◌≤◌, ◌⊎◌}
+use Rattle.task_records.specs.declared.{calls.GuestTask.GuestTask, instances.InstanceRecord.InstanceRecord, parts.CoreParts.CoreParts, single.Single.Single, threads.GuestThread.GuestThread, works.HostWork.HostWork}
+use Rattle.task_records.proofs.KindLemmas.{item_stands, passing_written, records_changed, refused_write, table_written, tags_written}
 use Rattle.task_records.proofs.ReadLemmas.{call_shown, thread_shown, work_shown}
 use Rattle.task_records.proofs.TableLemmas.{records_unseen}
-use Rattle.task_records.specs.Image.{callers_in, tags_in}
-use Rattle.task_records.specs.Keys.{call_key, thread_key, work_key}
-use Rattle.task_records.specs.Kinds.{entry_of, item_of, on_item}
-use Rattle.task_records.specs.Names.{AreHandlesNamed, Kinds, OwnsHandle, kinds}
-use Rattle.task_records.specs.Seen.{IsSound, parts_of, seen}
-use Rattle.task_records.specs.Sound.{EachEntry, IsWhole, bare, bare_call, bare_thread, bare_work, loose_call, loose_work, uninterested, unmoved}
-use Rattle.task_records.specs.declared.calls.GuestTask.{GuestTask}
-use Rattle.task_records.specs.declared.instances.InstanceRecord.{InstanceRecord}
-use Rattle.task_records.specs.declared.parts.CoreParts.{CoreParts}
-use Rattle.task_records.specs.declared.single.Single.{Single}
-use Rattle.task_records.specs.declared.threads.GuestThread.{GuestThread}
-use Rattle.task_records.specs.declared.works.HostWork.{HostWork}
-use Rattle.task_rules.specs.Works.{is_moving}
-use Rattle.task_table.proofs.Laws.{place_at-with_entry}
-use Rattle.task_table.proofs.MappedLemmas.{mapped-with_entry_same}
-use Rattle.task_table.specs.Answers.{item_at}
-use Rattle.task_table.specs.Changes.{entry_put, with_entry}
-use Rattle.task_table.specs.Mapped.{mapped}
-use Rattle.task_table.specs.Records.{records}
-use Rattle.task_table.specs.Table.{Placed, Table, place_at}
-use Rattle.task_table.specs.declared.error.ResourceTableError.{ResourceTableError}
-use Rattle.task_table.specs.declared.id.TableId.{TableId}
-use Rattle.task_wait.specs.declared.keys.GuestTaskKey.{GuestTaskKey}
-use Rattle.task_wait.specs.declared.keys.HostTaskKey.{HostTaskKey}
-use Rattle.task_wait.specs.declared.keys.ThreadKey.{ThreadKey}
-use Rattle.task_words.specs.StateView.{StateView, Tag, call_of, on_core, thread_of, work_of}
 
 -- what the handles of all instances name
 abbrev HandlesNamed : Kinds → CoreParts → Type 0
@@ -59,7 +24,7 @@ each_written {T} t rep p at P h new each r q there = by_place (cases_eq r rep)
 
 -- a thread, a call and a work as far as another write may see it
 abbrev pub close_thread : GuestThread → GuestThread
-close_thread g = record g { thread = record g.thread { position = 0; registers = []; script = script.Start; saved_own = None; saved_callee = None } }
+close_thread g = record g { thread = record g.thread { position = 0; registers = []; script = Script.Start; saved_own = None; saved_callee = None } }
 
 abbrev pub close_call : GuestTask → GuestTask
 close_call g = record g { call = loose_call g.call }
@@ -146,45 +111,60 @@ module _ (a : CoreParts) (sound : IsSound a) (id : TableId GuestTaskKey) where
       (sym (refused_write (λ (g : GuestTask). g.number) (λ (g : GuestTask). g.call) a.calls a.made.threads sound.tables.calls id.rep id.serial why is f)
       ∙ ap (λ n. change n f (records call_key a.calls.places)) (sym (call_shown a id)))
 
-  module _ (g : GuestTask) (is : Ok g ≡ item_at item_of a.calls id.rep id.serial) (h : GuestTask) (close : close_call h ≡ close_call g) where
-    loose : bare_call h ≡ bare_call g
-    loose = ap (λ (x : GuestTask). record x { call = uninterested x.call }) close
+-- where another number of calls is interesting
+module _ (a : CoreParts) (sound : IsSound a) (id : TableId GuestTaskKey) (g : GuestTask) (is : Ok g ≡ item_at item_of a.calls id.rep id.serial) (h : GuestTask) (alike : bare_call h ≡ bare_call g) where
+  call_same : h.number ≡ g.number
+  call_same = ap (λ (x : GuestTask). x.number) alike
 
+  call_bare : mapped (on_item bare_call) (with_entry id.rep (entry_of h) a.calls) ≡ mapped (on_item bare_call) a.calls
+  unfolding IsSound
+  call_bare =
+      let one = item_stands (λ (g : GuestTask). g.number) (λ (g : GuestTask). g.call) a.calls a.made.threads sound.tables.calls id.rep id.serial g is in
+      mapped-with_entry_same (on_item bare_call) a.calls id.rep (entry_of h) one.0 one.1.0 (ap entry_of alike ∙ ap (on_item bare_call) (sym one.1.1.1))
+
+  module _ (kept : ℕ) (now : kept + one_if_passes (λ (c : Call). c.interesting) (Some g.call) ≡ a.kept.interesting + one_if_passes (λ (c : Call). c.interesting) (Some h.call)) where
     abbrev pub call_after : CoreParts
-    call_after = record a { calls = with_entry id.rep (entry_of h) a.calls }
+    call_after = record a { calls = with_entry id.rep (entry_of h) a.calls; kept = record a.kept { interesting = kept } }
 
-    call_same : h.number ≡ g.number
-    call_same = ap (λ (x : GuestTask). x.number) loose
-
-    call_stands : (p : Placed (Single GuestTask)) × ((place_at a.calls id.rep ≡ Some p) × ((p.serial ≡ id.serial) × (p.entry ≡ entry_of g)))
+    call_put_sound : IsSound call_after
     unfolding IsSound
-    call_stands = item_stands (λ (g : GuestTask). g.number) (λ (g : GuestTask). g.call) a.calls a.made.threads sound.tables.calls id.rep id.serial g is
-
-    call_bare : mapped (on_item bare_call) (with_entry id.rep (entry_of h) a.calls) ≡ mapped (on_item bare_call) a.calls
-    call_bare = mapped-with_entry_same (on_item bare_call) a.calls id.rep (entry_of h) call_stands.0 call_stands.1.0 (ap entry_of loose ∙ ap (on_item bare_call) (sym call_stands.1.1.1))
-
-    pub call_sound : IsSound call_after
-    unfolding IsSound
-    call_sound = record {
-      tables = record { threads = sound.tables.threads; calls = table_written (λ (g : GuestTask). g.number) (λ (g : GuestTask). g.call) a.calls a.made.threads sound.tables.calls id.rep id.serial g is h call_same; works = sound.tables.works; sets = sound.tables.sets; groups = sound.tables.groups };
+    call_put_sound = record {
+      tables = record {
+        threads = sound.tables.threads;
+        calls = table_written (λ (g : GuestTask). g.number) (λ (g : GuestTask). g.call) a.calls a.made.threads sound.tables.calls id.rep id.serial g is h call_same;
+        works = sound.tables.works;
+        sets = sound.tables.sets;
+        groups = sound.tables.groups;
+      };
       whole = subst (λ (t : Table (Single GuestTask)). IsWhole (record (bare (parts_of a)) { calls = t })) (sym call_bare) sound.whole;
+      interesting =
+          let law = passing_written (λ (g : GuestTask). g.number) (λ (g : GuestTask). g.call) a.calls a.made.threads sound.tables.calls id.rep id.serial g is h call_same (λ c. c.interesting) in
+          let was = sound.interesting in
+          omega arith;
+      moving = sound.moving;
       handles = subst (λ (t : Table (Single GuestTask)). HandlesNamed (record (kinds (bare (parts_of a))) { calls = t }) a) (sym call_bare) sound.handles;
       owned = sound.owned;
       live = sound.live;
-      interesting = sound.interesting ∙ sym (passing_same (λ (g : GuestTask). g.number) (λ (g : GuestTask). g.call) a.calls a.made.threads sound.tables.calls id.rep id.serial g is h call_same (λ c. c.interesting) (ap (λ (x : GuestTask). x.call.interesting) close));
-      moving = sound.moving;
     }
 
-    calls_seen : Records Call → List (Option Tag) → StateView
-    calls_seen m l = record (seen a) { core = record (seen a).core { calls = m }; tags = record (seen a).tags { calls = l } }
-
-    pub call_writes : (f : Call → Call) → f g.call ≡ h.call → seen call_after ≡ on_core (on_call (call_of (seen a) id) f) (seen a)
-    unfolding seen IsSound on_call calls_seen
-    call_writes f is_f =
-        ap (λ (m : Records Call). calls_seen m (tags_in call_key (with_entry id.rep (entry_of h) a.calls)))
-        (records_changed (λ (g : GuestTask). g.number) (λ (g : GuestTask). g.call) a.calls a.made.threads sound.tables.calls id.rep id.serial g is h call_same f is_f ∙ ap (λ n. change n f (records call_key a.calls.places)) (sym (call_shown a id)))
-        ∙ ap (λ (l : List (Option Tag)). calls_seen (change (call_of (seen a) id) f (records call_key a.calls.places)) l)
+    call_put_writes : (f : Call → Call) → f g.call ≡ h.call → seen call_after ≡ on_core (on_call (call_of (seen a) id) f) (seen a)
+    unfolding seen IsSound on_call
+    call_put_writes f is_f =
+        ap₂ (λ (m : Records Call) (l : List (Option Tag)). record (seen a) { core = record (seen a).core { calls = m }; tags = record (seen a).tags { calls = l } })
+        (records_changed (λ (g : GuestTask). g.number) (λ (g : GuestTask). g.call) a.calls a.made.threads sound.tables.calls id.rep id.serial g is h call_same f is_f
+        ∙ ap (λ (n : ℕ). change n f (records call_key a.calls.places)) (sym (call_shown a id)))
         (tags_written (λ (g : GuestTask). g.number) (λ (g : GuestTask). g.call) a.calls a.made.threads sound.tables.calls id.rep id.serial g is h call_same)
+
+-- and where as many are
+module _ (a : CoreParts) (sound : IsSound a) (id : TableId GuestTaskKey) (g : GuestTask) (is : Ok g ≡ item_at item_of a.calls id.rep id.serial) (h : GuestTask) (close : close_call h ≡ close_call g) where
+  as_many : a.kept.interesting + one_if_passes (λ (c : Call). c.interesting) (Some g.call) ≡ a.kept.interesting + one_if_passes (λ (c : Call). c.interesting) (Some h.call)
+  as_many = ap (λ (x : GuestTask). a.kept.interesting + one_if_passes (λ (c : Call). c.interesting) (Some x.call)) (sym close)
+
+  pub call_sound : IsSound (record a { calls = with_entry id.rep (entry_of h) a.calls })
+  call_sound = call_put_sound a sound id g is h (ap (λ (x : GuestTask). record x { call = uninterested x.call }) close) a.kept.interesting as_many
+
+  pub call_writes : (f : Call → Call) → f g.call ≡ h.call → seen (record a { calls = with_entry id.rep (entry_of h) a.calls }) ≡ on_core (on_call (call_of (seen a) id) f) (seen a)
+  call_writes = call_put_writes a sound id g is h (ap (λ (x : GuestTask). record x { call = uninterested x.call }) close) a.kept.interesting as_many
 
 -- ---- Host works
 
@@ -197,99 +177,7 @@ module _ (a : CoreParts) (sound : IsSound a) (id : TableId HostTaskKey) where
       (sym (refused_write (λ (g : HostWork). g.number) (λ (g : HostWork). g.work) a.works a.made.works sound.tables.works id.rep id.serial why is f)
       ∙ ap (λ n. change n f (records work_key a.works.places)) (sym (work_shown a id)))
 
-  module _ (g : HostWork) (is : Ok g ≡ item_at item_of a.works id.rep id.serial) (h : HostWork) (close : close_work h ≡ close_work g) where
-    work_loose : bare_work h ≡ bare_work g
-    work_loose = ap (λ (x : HostWork). record x { work = unmoved x.work }) close
-
-    abbrev pub work_after : CoreParts
-    work_after = record a { works = with_entry id.rep (entry_of h) a.works }
-
-    work_same : h.number ≡ g.number
-    work_same = ap (λ (x : HostWork). x.number) work_loose
-
-    work_stands : (p : Placed (Single HostWork)) × ((place_at a.works id.rep ≡ Some p) × ((p.serial ≡ id.serial) × (p.entry ≡ entry_of g)))
-    unfolding IsSound
-    work_stands = item_stands (λ (g : HostWork). g.number) (λ (g : HostWork). g.work) a.works a.made.works sound.tables.works id.rep id.serial g is
-
-    work_bare : mapped (on_item bare_work) (with_entry id.rep (entry_of h) a.works) ≡ mapped (on_item bare_work) a.works
-    work_bare = mapped-with_entry_same (on_item bare_work) a.works id.rep (entry_of h) work_stands.0 work_stands.1.0 (ap entry_of work_loose ∙ ap (on_item bare_work) (sym work_stands.1.1.1))
-
-    pub work_sound : IsSound work_after
-    unfolding IsSound
-    work_sound = record {
-      tables = record { threads = sound.tables.threads; calls = sound.tables.calls; works = table_written (λ (g : HostWork). g.number) (λ (g : HostWork). g.work) a.works a.made.works sound.tables.works id.rep id.serial g is h work_same; sets = sound.tables.sets; groups = sound.tables.groups };
-      whole = subst (λ (t : Table (Single HostWork)). IsWhole (record (bare (parts_of a)) { works = t })) (sym work_bare) sound.whole;
-      interesting = sound.interesting;
-      handles = subst (λ (t : Table (Single HostWork)). HandlesNamed (record (kinds (bare (parts_of a))) { works = t }) a) (sym work_bare) sound.handles;
-      owned = sound.owned;
-      live = sound.live;
-      moving = sound.moving ∙ sym (passing_same (λ (g : HostWork). g.number) (λ (g : HostWork). g.work) a.works a.made.works sound.tables.works id.rep id.serial g is h work_same is_moving (ap (λ (x : HostWork). is_moving x.work) close));
-    }
-
-    works_seen : Records Work → List (Option Tag) → StateView
-    works_seen m l = record (seen a) { core = record (seen a).core { works = m }; tags = record (seen a).tags { works = l } }
-
-    pub work_writes : (f : Work → Work) → f g.work ≡ h.work → seen work_after ≡ on_core (on_work (work_of (seen a) id) f) (seen a)
-    unfolding seen IsSound on_work works_seen
-    work_writes f is_f =
-        ap (λ (m : Records Work). works_seen m (tags_in work_key (with_entry id.rep (entry_of h) a.works)))
-        (records_changed (λ (g : HostWork). g.number) (λ (g : HostWork). g.work) a.works a.made.works sound.tables.works id.rep id.serial g is h work_same f is_f ∙ ap (λ n. change n f (records work_key a.works.places)) (sym (work_shown a id)))
-        ∙ ap (λ (l : List (Option Tag)). works_seen (change (work_of (seen a) id) f (records work_key a.works.places)) l)
-        (tags_written (λ (g : HostWork). g.number) (λ (g : HostWork). g.work) a.works a.made.works sound.tables.works id.rep id.serial g is h work_same)
-
--- ---- Interest
-
-module _ (a : CoreParts) (sound : IsSound a) (id : TableId GuestTaskKey) (g : GuestTask) (is : Ok g ≡ item_at item_of a.calls id.rep id.serial) where
-  lost_bare : mapped (on_item bare_call) (with_entry id.rep (entry_of (record g { call = uninterested g.call })) a.calls) ≡ mapped (on_item bare_call) a.calls
-  unfolding IsSound
-  lost_bare =
-      let one = item_stands (λ (g : GuestTask). g.number) (λ (g : GuestTask). g.call) a.calls a.made.threads sound.tables.calls id.rep id.serial g is in
-      mapped-with_entry_same (on_item bare_call) a.calls id.rep (entry_of (record g { call = uninterested g.call })) one.0 one.1.0 (ap (on_item bare_call) (sym one.1.1.1))
-
-  module _ (kept : ℕ) (fewer : kept + one_if_passes (λ (c : Call). c.interesting) (Some g.call) ≡ a.kept.interesting) where
-    abbrev pub uninterested_after : CoreParts
-    uninterested_after = record a { calls = with_entry id.rep (entry_of (record g { call = uninterested g.call })) a.calls; kept = record a.kept { interesting = kept } }
-
-    pub uninterested_sound : IsSound uninterested_after
-    unfolding IsSound
-    uninterested_sound = record {
-      tables = record {
-        threads = sound.tables.threads;
-        calls = table_written (λ (g : GuestTask). g.number) (λ (g : GuestTask). g.call) a.calls a.made.threads sound.tables.calls id.rep id.serial g is (record g { call = uninterested g.call }) refl;
-        works = sound.tables.works;
-        sets = sound.tables.sets;
-        groups = sound.tables.groups;
-      };
-      whole = subst (λ (t : Table (Single GuestTask)). IsWhole (record (bare (parts_of a)) { calls = t })) (sym lost_bare) sound.whole;
-      interesting =
-          let law = passing_written (λ (g : GuestTask). g.number) (λ (g : GuestTask). g.call) a.calls a.made.threads sound.tables.calls id.rep id.serial g is (record g { call = uninterested g.call }) refl (λ c. c.interesting) in
-          let was = sound.interesting in
-          omega arith;
-      moving = sound.moving;
-      handles = subst (λ (t : Table (Single GuestTask)). HandlesNamed (record (kinds (bare (parts_of a))) { calls = t }) a) (sym lost_bare) sound.handles;
-      owned = sound.owned;
-      live = sound.live;
-    }
-
-    pub uninterested_writes : seen uninterested_after ≡ on_core (set_uninteresting (call_of (seen a) id)) (seen a)
-    unfolding seen IsSound set_uninteresting on_call
-    uninterested_writes =
-        ap₂ (λ (m : Records Call) (l : List (Option Tag)). record (seen a) { core = record (seen a).core { calls = m }; tags = record (seen a).tags { calls = l } })
-        (records_changed (λ (g : GuestTask). g.number) (λ (g : GuestTask). g.call) a.calls a.made.threads sound.tables.calls id.rep id.serial g is (record g { call = uninterested g.call }) refl (λ (c : Call). uninterested c) refl
-        ∙ ap (λ (n : ℕ). change n uninterested (records call_key a.calls.places)) (sym (call_shown a id)))
-        (tags_written (λ (g : GuestTask). g.number) (λ (g : GuestTask). g.call) a.calls a.made.threads sound.tables.calls id.rep id.serial g is (record g { call = uninterested g.call }) refl)
-
-  -- who is interesting is counted
-  pub interest_counted : g.call.interesting ≡ true → 1 ≤ a.kept.interesting
-  unfolding IsSound
-  interest_counted some =
-      let law = passing_written (λ (g : GuestTask). g.number) (λ (g : GuestTask). g.call) a.calls a.made.threads sound.tables.calls id.rep id.serial g is (record g { call = uninterested g.call }) refl (λ c. c.interesting) in
-      let one : one_if_passes (λ (c : Call). c.interesting) (Some g.call) ≡ 1 = ap (λ b. cond b 1 0) some in
-      let was = sound.interesting in
-      omega arith
-
--- ---- What moves
-
+-- where another number of works moves
 module _ (a : CoreParts) (sound : IsSound a) (id : TableId HostTaskKey) (g : HostWork) (is : Ok g ≡ item_at item_of a.works id.rep id.serial) (h : HostWork) (alike : bare_work h ≡ bare_work g) where
   moved_same : h.number ≡ g.number
   moved_same = ap (λ (x : HostWork). x.number) alike
@@ -343,3 +231,37 @@ module _ (a : CoreParts) (sound : IsSound a) (id : TableId HostTaskKey) (g : Hos
         (records_changed (λ (g : HostWork). g.number) (λ (g : HostWork). g.work) a.works a.made.works sound.tables.works id.rep id.serial g is h moved_same f is_f
         ∙ ap (λ (n : ℕ). change n f (records work_key a.works.places)) (sym (work_shown a id)))
         (tags_written (λ (g : HostWork). g.number) (λ (g : HostWork). g.work) a.works a.made.works sound.tables.works id.rep id.serial g is h moved_same)
+
+-- and where as many move
+module _ (a : CoreParts) (sound : IsSound a) (id : TableId HostTaskKey) (g : HostWork) (is : Ok g ≡ item_at item_of a.works id.rep id.serial) (h : HostWork) (close : close_work h ≡ close_work g) where
+  still : a.kept.moving + one_if_passes is_moving (Some g.work) ≡ a.kept.moving + one_if_passes is_moving (Some h.work)
+  still = ap (λ (x : HostWork). a.kept.moving + one_if_passes is_moving (Some x.work)) (sym close)
+
+  pub work_sound : IsSound (record a { works = with_entry id.rep (entry_of h) a.works })
+  work_sound = moved_sound a sound id g is h (ap (λ (x : HostWork). record x { work = unmoved x.work }) close) a.kept.moving still
+
+  pub work_writes : (f : Work → Work) → f g.work ≡ h.work → seen (record a { works = with_entry id.rep (entry_of h) a.works }) ≡ on_core (on_work (work_of (seen a) id) f) (seen a)
+  work_writes = moved_writes a sound id g is h (ap (λ (x : HostWork). record x { work = unmoved x.work }) close) a.kept.moving still
+
+-- ---- Interest
+
+module _ (a : CoreParts) (sound : IsSound a) (id : TableId GuestTaskKey) (g : GuestTask) (is : Ok g ≡ item_at item_of a.calls id.rep id.serial) where
+  module _ (kept : ℕ) (fewer : kept + one_if_passes (λ (c : Call). c.interesting) (Some g.call) ≡ a.kept.interesting) where
+    now_fewer : kept + one_if_passes (λ (c : Call). c.interesting) (Some g.call) ≡ a.kept.interesting + one_if_passes (λ (c : Call). c.interesting) (Some (uninterested g.call))
+    now_fewer = omega (arith, fewer)
+
+    pub uninterested_sound : IsSound (record a { calls = with_entry id.rep (entry_of (record g { call = uninterested g.call })) a.calls; kept = record a.kept { interesting = kept } })
+    uninterested_sound = call_put_sound a sound id g is (record g { call = uninterested g.call }) refl kept now_fewer
+
+    pub uninterested_writes : seen (record a { calls = with_entry id.rep (entry_of (record g { call = uninterested g.call })) a.calls; kept = record a.kept { interesting = kept } }) ≡ on_core (set_uninteresting (call_of (seen a) id)) (seen a)
+    unfolding set_uninteresting
+    uninterested_writes = call_put_writes a sound id g is (record g { call = uninterested g.call }) refl kept now_fewer uninterested refl
+
+  -- who is interesting is counted
+  pub interest_counted : g.call.interesting ≡ true → 1 ≤ a.kept.interesting
+  unfolding IsSound
+  interest_counted some =
+      let law = passing_written (λ (g : GuestTask). g.number) (λ (g : GuestTask). g.call) a.calls a.made.threads sound.tables.calls id.rep id.serial g is (record g { call = uninterested g.call }) refl (λ c. c.interesting) in
+      let one : one_if_passes (λ (c : Call). c.interesting) (Some g.call) ≡ 1 = ap (λ b. cond b 1 0) some in
+      let was = sound.interesting in
+      omega arith

@@ -1,34 +1,8 @@
 -- The threads of a chain of places, by their numbers.
-use Rattle.std.proofs.Common.{◌≡◌, ◌<◌, ℕ, Bool, true, false, Option, Some, None, IsSome, IfSome, zero, suc, refl, sym, ap, ◌∙◌, arith}
-use Rattle.std.proofs.lemmas.Bool.{eq-eqb, eqb-true}
-use Rattle.std.proofs.lemmas.Option.{same_Some}
-use Rattle.std.specs.Option.{option_map, option_map_or}
-use Rattle.task_index.proofs.Walks.{IsMembers-walked}
-use Rattle.task_index.specs.Index.{Filing}
-use Rattle.task_index.specs.Members.{IsMembers}
-use Rattle.task_index.specs.Walks.{passes_at}
-use Rattle.task_links.specs.Links.{IsLinks, list_of}
-use Rattle.task_machine.specs.Maps.{get}
-use Rattle.task_machine.specs.Read.{blocked_on, first_at, is_at, is_blocked_on, is_under, same_subtask, under_of}
-use Rattle.task_machine.specs.declared.records.Place.{Place}
-use Rattle.task_machine.specs.declared.records.Place.TheVariants as place
-use Rattle.task_machine.specs.declared.records.Subtask.{Subtask}
-use Rattle.task_machine.specs.declared.records.Subtask.TheVariants as subtask
-use Rattle.task_machine.specs.declared.records.Thread.{Thread}
-use Rattle.task_records.specs.Keys.{thread_key}
-use Rattle.task_records.specs.Places.{BlockedOn, UnderOf, Where, place_chain, place_filing, where_at}
-use Rattle.task_records.specs.Seen.{IsSound, parts_of, seen}
-use Rattle.task_records.specs.Sound.{bare}
-use Rattle.task_records.specs.declared.parts.CoreParts.{CoreParts}
-use Rattle.task_records.specs.declared.single.Single.{Single}
-use Rattle.task_records.specs.declared.threads.GuestThread.{GuestThread}
+use Rattle.task_records.proofs.Core.{ap, arith, bare, blocked_on, BlockedOn, Bool, eq-eqb, eqb-true, false, Filing, first_at, get, get-records, IfSome, is_blocked_on, is_under, IsLinks, IsMembers, IsMembers-walked, IsSome, IsSound, key_in, list_of, None, number_in, Option, option_map, option_map_or, parts_of, passes_at, Place, place_at, place_chain, place_filing, Placed, records, refl, same_Some, same_subtask, seen, Some, Subtask, suc, sym, TableId, Thread, thread_key, thread_of, ThreadKey, true, under_of, UnderOf, Where, where_at, zero, ℕ, ◌<◌, ◌∙◌, ◌≡◌}
+use Rattle.task_machine.specs.Read.{is_at}
+use Rattle.task_records.specs.declared.{parts.CoreParts.CoreParts, single.Single.Single, threads.GuestThread.GuestThread}
 use Rattle.task_rules.proofs.StopLemmas.{find_passes}
-use Rattle.task_table.specs.Records.{key_in, number_in, records}
-use Rattle.task_table.specs.Table.{Placed, place_at}
-use Rattle.task_table.specs.declared.id.TableId.{TableId}
-use Rattle.task_table.proofs.RecordLemmas.{get-records}
-use Rattle.task_wait.specs.declared.keys.ThreadKey.{ThreadKey}
-use Rattle.task_words.specs.StateView.{thread_of}
 use Rattle.place_words.proofs.FiledLemmas.{place_tests, places_filed}
 use Rattle.walk_words.proofs.LeastLemmas.{least_at}
 use Rattle.walk_words.specs.Least.{least_of}
@@ -68,64 +42,64 @@ module _ (a : CoreParts) (sound : IsSound a) (k : Where) (c : ℕ) (chain : plac
 -- ---- Who is under a thread, or blocked on a subtask
 
 under_passes : (n i : ℕ) (p : Place) → where_at i p ≡ Some (UnderOf n) → is_under n p ≡ true
-under_passes n i (place.Under m) is = eq-eqb m n (sym (same n m is))
+under_passes n i (Place.Under m) is = eq-eqb m n (sym (same n m is))
   where
     same : (n m : ℕ) → Some (UnderOf m) ≡ Some (UnderOf n) → n ≡ m
     same n m is = cc
-under_passes n i (place.Waiting x b) is = absurd (cc)
-under_passes n i (place.Ready m w) is = absurd (cc)
-under_passes n i place.New is = absurd (cc)
-under_passes n i place.Running is = absurd (cc)
-under_passes n i (place.Behind m) is = absurd (cc)
-under_passes n i (place.Blocked sub) is = absurd (cc)
-under_passes n i (place.Held w) is = absurd (cc)
-under_passes n i place.Suspended is = absurd (cc)
+under_passes n i (Place.Waiting x b) is = absurd (cc)
+under_passes n i (Place.Ready m w) is = absurd (cc)
+under_passes n i Place.New is = absurd (cc)
+under_passes n i Place.Running is = absurd (cc)
+under_passes n i (Place.Behind m) is = absurd (cc)
+under_passes n i (Place.Blocked sub) is = absurd (cc)
+under_passes n i (Place.Held w) is = absurd (cc)
+under_passes n i Place.Suspended is = absurd (cc)
 
 under_filed : (n i : ℕ) (p : Place) → is_under n p ≡ true → where_at i p ≡ Some (UnderOf n)
-under_filed n i (place.Under m) is = ap (λ k. Some (UnderOf k)) (eqb-true m n is)
-under_filed n i (place.Waiting x b) is = absurd (cc)
-under_filed n i (place.Ready m w) is = absurd (cc)
-under_filed n i place.New is = absurd (cc)
-under_filed n i place.Running is = absurd (cc)
-under_filed n i (place.Behind m) is = absurd (cc)
-under_filed n i (place.Blocked sub) is = absurd (cc)
-under_filed n i (place.Held w) is = absurd (cc)
-under_filed n i place.Suspended is = absurd (cc)
+under_filed n i (Place.Under m) is = ap (λ k. Some (UnderOf k)) (eqb-true m n is)
+under_filed n i (Place.Waiting x b) is = absurd (cc)
+under_filed n i (Place.Ready m w) is = absurd (cc)
+under_filed n i Place.New is = absurd (cc)
+under_filed n i Place.Running is = absurd (cc)
+under_filed n i (Place.Behind m) is = absurd (cc)
+under_filed n i (Place.Blocked sub) is = absurd (cc)
+under_filed n i (Place.Held w) is = absurd (cc)
+under_filed n i Place.Suspended is = absurd (cc)
 
 same_is : (s t : Subtask) → same_subtask s t ≡ true → t ≡ s
-same_is (subtask.Guest k) (subtask.Guest j) is = ap (λ n. subtask.Guest n) (sym (eqb-true k j is))
-same_is (subtask.Host i) (subtask.Host j) is = ap (λ n. subtask.Host n) (sym (eqb-true i j is))
-same_is (subtask.Guest k) (subtask.Host j) is = absurd (cc)
-same_is (subtask.Host i) (subtask.Guest j) is = absurd (cc)
+same_is (Subtask.Guest k) (Subtask.Guest j) is = ap (λ n. Subtask.Guest n) (sym (eqb-true k j is))
+same_is (Subtask.Host i) (Subtask.Host j) is = ap (λ n. Subtask.Host n) (sym (eqb-true i j is))
+same_is (Subtask.Guest k) (Subtask.Host j) is = absurd (cc)
+same_is (Subtask.Host i) (Subtask.Guest j) is = absurd (cc)
 
 same_self : (s : Subtask) → same_subtask s s ≡ true
-same_self (subtask.Guest k) = eq-eqb k k refl
-same_self (subtask.Host i) = eq-eqb i i refl
+same_self (Subtask.Guest k) = eq-eqb k k refl
+same_self (Subtask.Host i) = eq-eqb i i refl
 
 blocked_passes : (sub : Subtask) (i : ℕ) (p : Place) → where_at i p ≡ Some (BlockedOn sub) → is_blocked_on sub p ≡ true
-blocked_passes sub i (place.Blocked on) is = ap (same_subtask sub) (same on sub is) ∙ same_self sub
+blocked_passes sub i (Place.Blocked on) is = ap (same_subtask sub) (same on sub is) ∙ same_self sub
   where
     same : (s t : Subtask) → Some (BlockedOn s) ≡ Some (BlockedOn t) → s ≡ t
     same s t is = cc
-blocked_passes sub i (place.Waiting x b) is = absurd (cc)
-blocked_passes sub i (place.Ready m w) is = absurd (cc)
-blocked_passes sub i place.New is = absurd (cc)
-blocked_passes sub i place.Running is = absurd (cc)
-blocked_passes sub i (place.Behind m) is = absurd (cc)
-blocked_passes sub i (place.Under m) is = absurd (cc)
-blocked_passes sub i (place.Held w) is = absurd (cc)
-blocked_passes sub i place.Suspended is = absurd (cc)
+blocked_passes sub i (Place.Waiting x b) is = absurd (cc)
+blocked_passes sub i (Place.Ready m w) is = absurd (cc)
+blocked_passes sub i Place.New is = absurd (cc)
+blocked_passes sub i Place.Running is = absurd (cc)
+blocked_passes sub i (Place.Behind m) is = absurd (cc)
+blocked_passes sub i (Place.Under m) is = absurd (cc)
+blocked_passes sub i (Place.Held w) is = absurd (cc)
+blocked_passes sub i Place.Suspended is = absurd (cc)
 
 blocked_filed : (sub : Subtask) (i : ℕ) (p : Place) → is_blocked_on sub p ≡ true → where_at i p ≡ Some (BlockedOn sub)
-blocked_filed sub i (place.Blocked on) is = ap (λ s. Some (BlockedOn s)) (same_is sub on is)
-blocked_filed sub i (place.Waiting x b) is = absurd (cc)
-blocked_filed sub i (place.Ready m w) is = absurd (cc)
-blocked_filed sub i place.New is = absurd (cc)
-blocked_filed sub i place.Running is = absurd (cc)
-blocked_filed sub i (place.Behind m) is = absurd (cc)
-blocked_filed sub i (place.Under m) is = absurd (cc)
-blocked_filed sub i (place.Held w) is = absurd (cc)
-blocked_filed sub i place.Suspended is = absurd (cc)
+blocked_filed sub i (Place.Blocked on) is = ap (λ s. Some (BlockedOn s)) (same_is sub on is)
+blocked_filed sub i (Place.Waiting x b) is = absurd (cc)
+blocked_filed sub i (Place.Ready m w) is = absurd (cc)
+blocked_filed sub i Place.New is = absurd (cc)
+blocked_filed sub i Place.Running is = absurd (cc)
+blocked_filed sub i (Place.Behind m) is = absurd (cc)
+blocked_filed sub i (Place.Under m) is = absurd (cc)
+blocked_filed sub i (Place.Held w) is = absurd (cc)
+blocked_filed sub i Place.Suspended is = absurd (cc)
 
 -- ---- As the records of a thread and of a subtask have them
 

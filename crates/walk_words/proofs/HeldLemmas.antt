@@ -1,36 +1,9 @@
 -- The chain of an instance's held threads has just these.
-use Rattle.std.proofs.Common.{◌≡◌, ◌==◌, ◌&&◌, ◌||◌, ℕ, Bool, true, false, cond, not, filter, List, [], ◌∷◌, Option, Some, None, IsSome, is_some, slice_get, refl, sym, ap, subst, ◌∙◌}
-use Rattle.std.proofs.lemmas.Bool.{eq-eqb, eqb-true}
+use Rattle.task_records.proofs.Core.{[], admitted_held, admitted_permute, ap, bare, bare_thread, Bool, call_instance, cond, eq-eqb, eqb-true, false, Filing, filter, found_record_at, get, get-records, HasHome, held_why, HeldIn, is_held_in, is_nil, is_some, IsLinks, IsMembers, IsMembers-nothing, IsMembers-walked, IsSome, IsSound, key_in, List, list_any, map, None, not, number_in, on_item, Option, option_and_then, option_map, option_map_or, parts_of, passes_in, Place, place_at, place_chain, place_filing, Placed, record_found, records, refl, same_Some, seen, slice_get, slice_get-map, Some, subst, sym, Tests, Thread, thread_key, true, Where, where_at, ℕ, ◌&&◌, ◌==◌, ◌||◌, ◌∙◌, ◌∷◌, ◌≡◌}
 use Rattle.std.proofs.lemmas.List.Sorted.{list_any-IsPermutation}
-use Rattle.std.proofs.lemmas.Option.{same_Some, slice_get-map}
-use Rattle.std.specs.List.{list_any}
-use Rattle.std.specs.Option.{option_and_then, option_map, option_map_or}
-use Rattle.std.specs.Prelude.{map}
-use Rattle.task_index.proofs.Members.{IsMembers-nothing, admitted_permute}
-use Rattle.task_index.proofs.Walks.{IsMembers-walked}
-use Rattle.task_index.specs.Index.{Filing, Tests}
-use Rattle.task_index.specs.Members.{IsMembers, is_held_in}
-use Rattle.task_index.specs.Walks.{passes_in}
-use Rattle.task_links.specs.Links.{IsLinks}
-use Rattle.task_machine.specs.Maps.{get}
-use Rattle.task_machine.specs.Read.{admitted_held, call_instance, held_why, is_nil}
-use Rattle.task_machine.specs.declared.records.Place.{Place}
-use Rattle.task_machine.specs.declared.records.Place.TheVariants as place
-use Rattle.task_machine.specs.declared.records.Thread.{Thread}
+use Rattle.task_records.specs.declared.{instances.InstanceRecord.InstanceRecord, parts.CoreParts.CoreParts, single.Single.Single, threads.GuestThread.GuestThread}
 use Rattle.task_records.proofs.HomeLemmas.{bare_instance}
-use Rattle.task_records.specs.Keys.{thread_key}
-use Rattle.task_records.specs.Kinds.{on_item}
-use Rattle.task_records.specs.Names.{HasHome}
-use Rattle.task_records.specs.Places.{HeldIn, Where, place_chain, place_filing, where_at}
-use Rattle.task_records.specs.Seen.{IsSound, parts_of, seen}
-use Rattle.task_records.specs.Sound.{bare, bare_instance as bare_record, bare_thread}
-use Rattle.task_records.specs.declared.instances.InstanceRecord.{InstanceRecord}
-use Rattle.task_records.specs.declared.parts.CoreParts.{CoreParts}
-use Rattle.task_records.specs.declared.single.Single.{Single}
-use Rattle.task_records.specs.declared.threads.GuestThread.{GuestThread}
-use Rattle.task_table.proofs.RecordLemmas.{found_record_at, get-records, record_found}
-use Rattle.task_table.specs.Records.{key_in, number_in, records}
-use Rattle.task_table.specs.Table.{Placed, place_at}
+use Rattle.task_records.specs.Sound.{bare_instance as bare_record}
 use Rattle.place_words.proofs.FiledLemmas.{places_filed}
 use Rattle.queue_words.proofs.BareLemmas.{place_mapped}
 use Rattle.queue_words.proofs.CallerLemmas.{apart_as, none_as}
@@ -50,29 +23,29 @@ both true false is = absurd (cc)
 both false c is = absurd (cc)
 
 held_filed : (i j : ℕ) (p : Place) → (j == i) ≡ true → is_some (held_why p) ≡ true → where_at j p ≡ Some (HeldIn i)
-held_filed i j (place.Held w) same is = ap (λ k. Some (HeldIn k)) (eqb-true j i same)
-held_filed i j (place.Waiting x b) same is = absurd (cc)
-held_filed i j (place.Ready m w) same is = absurd (cc)
-held_filed i j place.New same is = absurd (cc)
-held_filed i j place.Running same is = absurd (cc)
-held_filed i j (place.Behind m) same is = absurd (cc)
-held_filed i j (place.Under m) same is = absurd (cc)
-held_filed i j (place.Blocked sub) same is = absurd (cc)
-held_filed i j place.Suspended same is = absurd (cc)
+held_filed i j (Place.Held w) same is = ap (λ k. Some (HeldIn k)) (eqb-true j i same)
+held_filed i j (Place.Waiting x b) same is = absurd (cc)
+held_filed i j (Place.Ready m w) same is = absurd (cc)
+held_filed i j Place.New same is = absurd (cc)
+held_filed i j Place.Running same is = absurd (cc)
+held_filed i j (Place.Behind m) same is = absurd (cc)
+held_filed i j (Place.Under m) same is = absurd (cc)
+held_filed i j (Place.Blocked sub) same is = absurd (cc)
+held_filed i j Place.Suspended same is = absurd (cc)
 
 held_passes : (i j : ℕ) (p : Place) → where_at j p ≡ Some (HeldIn i) → ((j == i) && is_some (held_why p)) ≡ true
-held_passes i j (place.Held w) is = ap (λ b. b && true) (eq-eqb j i (same j i is))
+held_passes i j (Place.Held w) is = ap (λ b. b && true) (eq-eqb j i (same j i is))
   where
     same : (j i : ℕ) → Some (HeldIn j) ≡ Some (HeldIn i) → j ≡ i
     same j i is = cc
-held_passes i j (place.Waiting x b) is = absurd (cc)
-held_passes i j (place.Ready m w) is = absurd (cc)
-held_passes i j place.New is = absurd (cc)
-held_passes i j place.Running is = absurd (cc)
-held_passes i j (place.Behind m) is = absurd (cc)
-held_passes i j (place.Under m) is = absurd (cc)
-held_passes i j (place.Blocked sub) is = absurd (cc)
-held_passes i j place.Suspended is = absurd (cc)
+held_passes i j (Place.Waiting x b) is = absurd (cc)
+held_passes i j (Place.Ready m w) is = absurd (cc)
+held_passes i j Place.New is = absurd (cc)
+held_passes i j Place.Running is = absurd (cc)
+held_passes i j (Place.Behind m) is = absurd (cc)
+held_passes i j (Place.Under m) is = absurd (cc)
+held_passes i j (Place.Blocked sub) is = absurd (cc)
+held_passes i j Place.Suspended is = absurd (cc)
 
 held_tests : (i : ℕ) → Tests place_filing held_key (HeldIn i) (holds_in i)
 held_tests i = record {

@@ -1,20 +1,8 @@
 -- The least of the numbers that pass is what the machine finds first.
-use Rattle.std.proofs.Common.{inl, inr, ◌≡◌, ◌≤◌, ◌==◌, ◌&&◌, ◌||◌, ◌⊎◌, ℕ, Bool, true, false, cond, List, [], ◌∷◌, map, nat_lt, Option, Some, None, is_some, T, refl, sym, ap, ap₂, subst, ◌∙◌, arith}
-use Rattle.std.proofs.lemmas.Bool.{eq-eqb, eqb-true}
-use Rattle.std.proofs.lemmas.Map.Keys.{le_from_is_le}
-use Rattle.std.specs.FinMap.Entries.{below_all, is_sorted}
+use Rattle.task_records.proofs.Core.{[], ap, ap₂, arith, below_all, Bool, cond, Core, eq-eqb, eqb-true, false, first_at, get, has, inl, inr, is_le, is_lt, is_some, is_sorted, IsMembers-numbers, le_from_is_le, List, map, nat_cmp, nat_lt, None, numbers, Option, option_map, option_map_or, Ordering, Place, refl, Some, subst, sym, T, Thread, true, ℕ, ◌&&◌, ◌==◌, ◌||◌, ◌∙◌, ◌∷◌, ◌≡◌, ◌≤◌, ◌⊎◌}
 use Rattle.std.specs.List.{find}
-use Rattle.std.specs.Option.{option_map, option_map_or}
-use Rattle.std.specs.Ordering.{is_le, is_lt, nat_cmp}
-use Rattle.std.specs.declared.cmp.Ordering.{Ordering}
+use Rattle.task_machine.specs.Read.{is_at}
 use Rattle.std.specs.declared.cmp.Ordering.TheVariants.{Less, Equal, Greater}
-use Rattle.task_index.proofs.Members.{IsMembers-numbers}
-use Rattle.task_index.specs.Members.{has}
-use Rattle.task_machine.specs.Core.{Core}
-use Rattle.task_machine.specs.Maps.{get, numbers}
-use Rattle.task_machine.specs.Read.{first_at, is_at}
-use Rattle.task_machine.specs.declared.records.Place.{Place}
-use Rattle.task_machine.specs.declared.records.Thread.{Thread}
 use Rattle.walk_words.specs.Least.{least_from, least_of, lesser}
 
 -- nothing passes, or this does and nothing less

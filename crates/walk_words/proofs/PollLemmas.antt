@@ -1,44 +1,9 @@
 -- The first of the live works above a number is what the machine polls next.
-use Rattle.std.proofs.Common.{inl, inr, ◌≡◌, ◌<◌, ◌≤◌, ◌==◌, ◌&&◌, ◌||◌, ◌++◌, ℕ, Bool, true, false, cond, map, nat_lt, List, [], ◌∷◌, Option, Some, None, IsSome, is_some, T, refl, sym, ap, ap₂, subst, ◌∙◌, arith}
-use Rattle.std.proofs.lemmas.Bool.{eq-eqb, eqb-true}
-use Rattle.std.proofs.lemmas.Map.Keys.{ge_from_not_lt}
-use Rattle.std.proofs.lemmas.Option.{same_Some, some_pair_parts}
-use Rattle.std.specs.Cmp.{unsigned_tied}
-use Rattle.std.specs.FinMap.Entries.{is_sorted}
-use Rattle.std.specs.FinMap.Entries as entry_list
+use Rattle.task_records.proofs.Core.{[], ap, ap₂, AreLinked, arith, bare, bare_work, Bool, cond, entries, eq-eqb, eqb-true, false, Filing, filings, filings_at, first_number, ge_from_not_lt, get, get-records, has, head_of, inl, inr, is_live, is_lt, is_some, is_sorted, is_stage_live, IsAscending, IsIndex, IsIndex-same, IsLeast, IsLinks, IsMembers-numbers, IsMembers-walked, IsSome, IsSound, key_in, link_of, link_says, List, list_of, live_after, live_chain, live_order, live_value, live_work, map, nat_cmp, nat_lt, next_polled, None, number_at, number_in, number_in_link, numbers, on_item, Option, Ordering, ordering_then, parts_of, passes_at, passes_in, place_at, place_at-mapped, Placed, placed_as, record_at, record_found, records, refl, Rises, said, same_Some, seen, Some, some_pair_parts, split, Spot, Stage, subst, sym, T, Tests, true, unsigned_tied, Work, work_key, ℕ, ◌&&◌, ◌++◌, ◌<◌, ◌==◌, ◌||◌, ◌∙◌, ◌∷◌, ◌≡◌, ◌≤◌}
 use Rattle.std.specs.List.{find}
-use Rattle.std.specs.Ordering.{is_lt, nat_cmp, ordering_then}
-use Rattle.std.specs.declared.cmp.Ordering.{Ordering}
+use Rattle.task_records.specs.declared.{parts.CoreParts.CoreParts, single.Single.Single, works.HostWork.HostWork, works.LiveWork.LiveWork}
+use Rattle.std.specs.FinMap.Entries as entry_list
 use Rattle.std.specs.declared.cmp.Ordering.TheVariants.{Less, Equal, Greater}
-use Rattle.task_index.proofs.Indexes.{IsIndex-same, link_says}
-use Rattle.task_index.proofs.Members.{IsMembers-numbers}
-use Rattle.task_index.proofs.Tables.{filings_at}
-use Rattle.task_index.proofs.Walks.{IsMembers-walked}
-use Rattle.task_index.specs.Index.{Filing, IsIndex, Tests, filings, said}
-use Rattle.task_index.specs.Members.{has}
-use Rattle.task_index.specs.Walks.{number_at, number_in_link, passes_at, passes_in}
-use Rattle.task_links.proofs.Paths.{split}
-use Rattle.task_links.specs.Links.{AreLinked, IsLinks, Spot, entries, head_of, link_of, list_of}
-use Rattle.task_machine.specs.Maps.{get, numbers}
-use Rattle.task_machine.specs.Read.{is_live, is_stage_live}
-use Rattle.task_machine.specs.declared.records.Stage.{Stage}
-use Rattle.task_machine.specs.declared.records.Work.{Work}
-use Rattle.task_records.specs.Keys.{work_key}
-use Rattle.task_records.specs.Kinds.{on_item}
-use Rattle.task_records.specs.Places.{Rises, live_chain, live_order, live_value, live_work}
-use Rattle.task_records.specs.Seen.{IsSound, parts_of, seen}
-use Rattle.task_records.specs.Sound.{bare, bare_work}
-use Rattle.task_records.specs.declared.parts.CoreParts.{CoreParts}
-use Rattle.task_records.specs.declared.single.Single.{Single}
-use Rattle.task_records.specs.declared.works.HostWork.{HostWork}
-use Rattle.task_records.specs.declared.works.LiveWork.{LiveWork}
-use Rattle.task_rules.specs.Works.{first_number, live_after, next_polled}
-use Rattle.task_table.proofs.MappedLemmas.{place_at-mapped}
-use Rattle.task_table.proofs.RecordLemmas.{get-records, record_found}
-use Rattle.task_table.specs.Mapped.{placed_as}
-use Rattle.task_table.specs.Records.{key_in, number_in, record_at, records}
-use Rattle.task_table.specs.Table.{Placed, place_at}
-use Rattle.task_wait.specs.Sets.{IsAscending, IsLeast}
 use Rattle.place_words.specs.Moved.{live_key}
 use Rattle.queue_words.proofs.BareLemmas.{place_mapped}
 use Rattle.walk_words.proofs.LeastLemmas.{IsFirst, and_parts, below_keys, cases_or, first_fails, has_first, keys, one_first, or_later, right, same_first, sorted_below}

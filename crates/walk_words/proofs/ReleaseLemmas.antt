@@ -1,52 +1,12 @@
 -- A release, thread by thread: who was put at high leaves the others as they were.
-use Rattle.std.proofs.Common.{inl, inr, ◌≡◌, ◌==◌, ◌&&◌, ◌||◌, ◌++◌, ◌+◌, ℕ, Bool, true, false, cond, not, filter, List, [], ◌∷◌, map, Option, Some, None, IsSome, is_some, zero, suc, ◌<◌, refl, sym, ap, ap₂, subst, ◌∙◌, arith}
-use Rattle.std.proofs.lemmas.Bool.{eq-eqb, ne_eqb}
-use Rattle.std.proofs.lemmas.Option.{same_Some}
-use Rattle.std.specs.Option.{option_and_then, option_map, option_map_or}
-use Rattle.std.specs.Prelude.{Err, Ok, Result}
-use Rattle.task_index.proofs.Tables.{filings_at}
-use Rattle.task_index.specs.Index.{Filing, filings}
-use Rattle.task_index.specs.Members.{IsMembers, Once, has, is_held_in}
-use Rattle.task_index.specs.Walks.{number_in_link}
-use Rattle.task_links.specs.Links.{In, IsLinks, Spot, entries, following, link_of, removed}
-use Rattle.task_machine.proofs.MapLemmas.{get-change_other}
-use Rattle.task_machine.specs.Core.{Core}
-use Rattle.task_machine.specs.Maps.{get}
-use Rattle.task_machine.specs.Moves.{held_why_of, put_high, released, released_one, stand}
-use Rattle.task_machine.specs.Read.{admits, held_why, instance_of, is_entry_of, is_held_admitted, is_sync, no_callee, place_of, task_of}
-use Rattle.task_machine.specs.Write.{on_thread, push_high, set_place}
-use Rattle.task_machine.specs.declared.component.ExportKind.TheVariants as kind
-use Rattle.task_machine.specs.declared.records.Call.{Call}
-use Rattle.task_machine.specs.declared.records.Entry.{Entry}
-use Rattle.task_machine.specs.declared.records.Entry.TheVariants as entry
-use Rattle.task_machine.specs.declared.records.Instance.{Instance}
-use Rattle.task_machine.specs.declared.records.Place.{Place}
-use Rattle.task_machine.specs.declared.records.Place.TheVariants as place
-use Rattle.task_machine.specs.declared.records.Thread.{Thread}
-use Rattle.task_machine.specs.declared.records.Why.{Why}
-use Rattle.task_machine.specs.declared.records.Why.TheVariants as why
-use Rattle.task_machine.specs.declared.words.Mark.TheVariants as mark
+use Rattle.task_records.proofs.Core.{[], admits, ap, ap₂, arith, bare, Bool, Call, cond, Core, entries, Entry, eq-eqb, Err, ExportKind, false, Filing, filings, filings_at, filter, following, get, get-change_other, has, held_why, held_why_of, In, inl, inr, Instance, instance_of, is_at_high, is_at_low, is_entry_of, is_held_admitted, is_held_in, is_some, is_sync, IsLinks, IsMembers, IsSome, IsSound, IsUnqueued, item_at, item_of, key_in, link_of, List, map, Mark, ne_eqb, no_callee, None, not, number_in, number_in_link, Ok, on_core, on_thread, Once, one_if, Option, option_and_then, option_map, option_map_or, parts_of, Place, place_at, place_chain, place_filing, place_of, push_high, put_high, refl, released, released_one, removed, ResourceTableError, Result, same_Some, says, seen, set_place, Some, Spot, stand, StateView, subst, suc, sym, TableId, task_of, Thread, thread_key, thread_of, ThreadKey, true, Where, where_at, Why, with_core, zero, ℕ, ◌&&◌, ◌++◌, ◌+◌, ◌<◌, ◌==◌, ◌||◌, ◌∙◌, ◌∷◌, ◌≡◌}
+use Rattle.task_records.specs.declared.{parts.CoreParts.CoreParts, single.Single.Single, threads.GuestThread.GuestThread}
+use Rattle.task_rules.specs.Places.{Placed}
 use Rattle.task_records.proofs.HomeLemmas.{no_thread}
 use Rattle.task_records.proofs.KindLemmas.{item_stands}
 use Rattle.task_records.proofs.ReadLemmas.{thread_named, thread_unnamed}
-use Rattle.task_records.specs.Keys.{thread_key}
-use Rattle.task_records.specs.Kinds.{item_of}
-use Rattle.task_records.specs.Places.{Where, place_chain, place_filing, where_at}
-use Rattle.task_records.specs.Seen.{IsSound, parts_of, seen}
-use Rattle.task_records.specs.Sound.{bare}
-use Rattle.task_records.specs.declared.parts.CoreParts.{CoreParts}
-use Rattle.task_records.specs.declared.single.Single.{Single}
-use Rattle.task_records.specs.declared.threads.GuestThread.{GuestThread}
-use Rattle.task_rules.specs.Places.{HasPlace, Placed, is_at_high, is_at_low, one_if, says}
 use Rattle.task_rules.specs.Places as placing
-use Rattle.task_table.specs.Answers.{item_at}
-use Rattle.task_table.specs.Records.{key_in, number_in}
-use Rattle.task_table.specs.Table.{Placed as Standing, place_at}
-use Rattle.task_table.specs.declared.error.ResourceTableError.{ResourceTableError}
-use Rattle.task_table.specs.declared.id.TableId.{TableId}
-use Rattle.task_wait.specs.declared.keys.ThreadKey.{ThreadKey}
-use Rattle.task_words.specs.Apart.{IsUnqueued}
-use Rattle.task_words.specs.StateView.{StateView, on_core, thread_of, with_core}
+use Rattle.task_table.specs.Table.{Placed as Standing}
 use Rattle.place_words.proofs.FiledLemmas.{places_filed}
 use Rattle.queue_words.proofs.BareLemmas.{one_place}
 use Rattle.walk_words.proofs.WalkLemmas.{out_others, out_smaller, walk_more, walk_out, walk_smaller}
@@ -66,12 +26,12 @@ module _ (i n : ℕ) (s t : Core) (thread : get t.threads n ≡ get s.threads n)
   may = ap₂ (λ k m. not (option_map_or (λ (r : Instance). r.do_not_enter) (get m k) false)) same_instance instances
 
   admits_same : (w : Why) → admits n t w ≡ admits n s w
-  admits_same why.Start =
+  admits_same Why.Start =
       ap₂ (λ a b. a || b) (ap (λ o. option_map_or (λ (x : Thread). x.explicit) o false) thread)
-      (ap₂ (λ a b. a || b) (ap₂ (λ k m. is_sync (option_map_or (λ (c : Call). c.kind) (get m k) kind.Callback)) same_task calls)
+      (ap₂ (λ a b. a || b) (ap₂ (λ k m. is_sync (option_map_or (λ (c : Call). c.kind) (get m k) ExportKind.Callback)) same_task calls)
       (ap₂ (λ a b. a && b) may (ap₂ (λ k m. option_map_or (λ (r : Instance). r.backpressure) (get m k) 0 == 0) same_instance instances)))
-  admits_same (why.Delivery d) = may
-  admits_same why.Resumption = refl
+  admits_same (Why.Delivery d) = may
+  admits_same Why.Resumption = refl
 
   pub same_held : held_why_of n t ≡ held_why_of n s
   same_held = ap (λ o. option_and_then held_why (option_map (λ (x : Thread). x.place) o)) thread
@@ -100,16 +60,16 @@ held_unqueued i n s placed is = by (place_of n s) refl (second _ _ is)
     second false c is = absurd (cc)
 
     by : (o : Option Place) → place_of n s ≡ o → is_some (option_and_then held_why o) ≡ true → IsUnqueued n s
-    by (Some (place.Held w)) at held = record { high = (placed n).high ∙ ap (says is_at_high) at; low = (placed n).low ∙ ap (says is_at_low) at }
+    by (Some (Place.Held w)) at held = record { high = (placed n).high ∙ ap (says is_at_high) at; low = (placed n).low ∙ ap (says is_at_low) at }
     by None at held = absurd (cc)
-    by (Some place.New) at held = absurd (cc)
-    by (Some (place.Ready m w)) at held = absurd (cc)
-    by (Some place.Running) at held = absurd (cc)
-    by (Some (place.Under m)) at held = absurd (cc)
-    by (Some (place.Behind m)) at held = absurd (cc)
-    by (Some (place.Waiting x b)) at held = absurd (cc)
-    by (Some (place.Blocked sub)) at held = absurd (cc)
-    by (Some place.Suspended) at held = absurd (cc)
+    by (Some Place.New) at held = absurd (cc)
+    by (Some (Place.Ready m w)) at held = absurd (cc)
+    by (Some Place.Running) at held = absurd (cc)
+    by (Some (Place.Under m)) at held = absurd (cc)
+    by (Some (Place.Behind m)) at held = absurd (cc)
+    by (Some (Place.Waiting x b)) at held = absurd (cc)
+    by (Some (Place.Blocked sub)) at held = absurd (cc)
+    by (Some Place.Suspended) at held = absurd (cc)
 
 pub some_why : (o : Option Why) → IsSome o → (w : Why) × (o ≡ Some w)
 some_why None some = absurd (cc)
@@ -117,7 +77,7 @@ some_why (Some w) some = (w, refl)
 
 -- ---- One is put at high
 
-module _ (s t : StateView) (id : TableId ThreadKey) (w : Why) (is : t ≡ on_core (stand (thread_of s id) mark.High w) s) where
+module _ (s t : StateView) (id : TableId ThreadKey) (w : Why) (is : t ≡ on_core (stand (thread_of s id) Mark.High w) s) where
   pub stood_same : thread_of t id ≡ thread_of s id
   stood_same = ap (λ v. thread_of v id) is
 
@@ -125,14 +85,14 @@ module _ (s t : StateView) (id : TableId ThreadKey) (w : Why) (is : t ≡ on_cor
   unfolding set_place on_thread
   stood_unqueued was = subst (λ (v : StateView). IsUnqueued (thread_of v id) v.core) (sym is) (record { high = was.high; low = was.low })
 
-pushed_other : (m n : ℕ) (es : List Entry) → (m ≡ n → ⊥) → placing.entries m (es ++ entry.Thread n ∷ []) ≡ placing.entries m es
+pushed_other : (m n : ℕ) (es : List Entry) → (m ≡ n → ⊥) → placing.entries m (es ++ Entry.Thread n ∷ []) ≡ placing.entries m es
 pushed_other m n [] other = ap (λ b. one_if b + 0) (ne_eqb m n other)
 pushed_other m n (e ∷ es) other = ap (λ k. one_if (is_entry_of m e) + k) (pushed_other m n es other)
 
 put_others : (m n : ℕ) (w : Why) (s t : Core) → (m ≡ n → ⊥) → IsUntouched m s t → IsUntouched m s (put_high n w t)
 unfolding put_high push_high set_place on_thread
 put_others m n w s t other was = record {
-  thread = get-change_other t.threads n (λ (x : Thread). record x { place = place.Ready mark.High w }) m other ∙ was.thread;
+  thread = get-change_other t.threads n (λ (x : Thread). record x { place = Place.Ready Mark.High w }) m other ∙ was.thread;
   unqueued = record { high = pushed_other m n t.queues.high other ∙ was.unqueued.high; low = was.unqueued.low };
 }
 

@@ -1,11 +1,5 @@
 -- A walk through a chain goes from node to node.
-use Rattle.std.proofs.Common.{◌≡◌, ◌<◌, ◌++◌, ℕ, cond, List, [], ◌∷◌, length, Option, Some, None, refl, sym, ap, subst, ◌∙◌, arith}
-use Rattle.std.proofs.lemmas.Bool.{eq-eqb, ne_eqb}
-use Rattle.std.proofs.lemmas.List.{append_assoc}
-use Rattle.std.proofs.lemmas.Option.{same_Some}
-use Rattle.task_links.proofs.Paths.{Apart-less, Apart-once, In-here, In-right, after-at, without-at}
-use Rattle.task_links.proofs.ReadLemmas.{ChangesOnly-unlinked, made_linked}
-use Rattle.task_links.specs.Links.{Apart, ChangesOnly, In, IsLinks, Spot, after, entries, following, head_of, in_list, link_of, list_or_nil, removed, removed_by, without}
+use Rattle.task_records.proofs.Core.{[], after, after-at, ap, Apart, Apart-less, Apart-once, append_assoc, arith, ChangesOnly, ChangesOnly-unlinked, cond, entries, eq-eqb, following, head_of, In, In-here, In-right, in_list, IsLinks, length, link_of, List, list_or_nil, made_linked, ne_eqb, None, Option, refl, removed, removed_by, same_Some, Some, Spot, subst, sym, without, without-at, ℕ, ◌++◌, ◌<◌, ◌∙◌, ◌∷◌, ◌≡◌}
 use Rattle.walk_words.specs.Walks.{Walk, from, left_from}
 
 module _ {P : Type 0} where

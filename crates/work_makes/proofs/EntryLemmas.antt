@@ -1,33 +1,14 @@
 -- The push of a host work is queued.
-use Rattle.std.proofs.Common.{inl, inr, ◌≡◌, ◌++◌, ℕ, true, List, [], ◌∷◌, Some, None, IsSome, refl, sym, ap, subst, ◌∙◌}
-use Rattle.std.specs.Option.{option_map}
-use Rattle.std.specs.Prelude.{Ok}
+use Rattle.task_records.proofs.Core.{[], ap, bare, bare_work, entries, Entry, High, host_entry, HostTaskKey, inl, inr, is_free, IsLinks, IsSeated, IsSome, IsSound, IsWhole, item_at, item_of, linked, List, list_of, None, Ok, on_core, on_item, option_map, Parts, parts_of, Placed, push_entry, push_high, refl, row, seen, Some, Spot, subst, sym, TableId, true, work_entries, work_of, ℕ, ◌++◌, ◌∙◌, ◌∷◌, ◌≡◌}
+use Rattle.task_records.specs.declared.{parts.CoreParts.CoreParts, single.Single.Single, threads.Queued.Queued, works.HostWork.HostWork}
 use Rattle.queue_words.proofs.BareLemmas.{place_mapped}
 use Rattle.queue_words.proofs.PushLemmas.{host_free}
 use Rattle.queue_words.proofs.RowLemmas.{pushed_work}
 use Rattle.queue_words.proofs.SeatLemmas.{seat_of}
 use Rattle.queue_words.proofs.SeenLemmas.{high_pushed, rows_after, rows_sound}
 use Rattle.queue_words.specs.Seats.{OfWork, RowsAre, row_with}
-use Rattle.task_links.specs.Links.{IsLinks, Spot, entries, is_free, linked, list_of}
-use Rattle.task_machine.specs.Write.{push_high}
-use Rattle.task_machine.specs.declared.records.Entry.TheVariants as entry
 use Rattle.task_records.proofs.KindLemmas.{item_stands}
 use Rattle.task_records.proofs.ReadLemmas.{work_named}
-use Rattle.task_records.specs.Image.{Parts}
-use Rattle.task_records.specs.Kinds.{item_of, on_item}
-use Rattle.task_records.specs.Rows.{High, IsSeated, host_entry, push_entry, row}
-use Rattle.task_records.specs.Seen.{IsSound, parts_of, seen}
-use Rattle.task_records.specs.Sound.{IsWhole, bare, bare_work}
-use Rattle.task_records.specs.declared.parts.CoreParts.{CoreParts}
-use Rattle.task_records.specs.declared.single.Single.{Single}
-use Rattle.task_records.specs.declared.threads.Queued.{Queued}
-use Rattle.task_records.specs.declared.works.HostWork.{HostWork}
-use Rattle.task_table.specs.Answers.{item_at}
-use Rattle.task_table.specs.Table.{Placed}
-use Rattle.task_table.specs.declared.id.TableId.{TableId}
-use Rattle.task_wait.specs.declared.keys.HostTaskKey.{HostTaskKey}
-use Rattle.task_words.specs.Apart.{work_entries}
-use Rattle.task_words.specs.StateView.{on_core, work_of}
 
 module _ (a : CoreParts) (sound : IsSound a) (id : TableId HostTaskKey) (w : HostWork) (is : Ok w ≡ item_at item_of a.works id.rep id.serial) (rep : ℕ) (rep_is : rep ≡ id.rep) (v : Queued) (v_is : v ≡ push_entry rep w) (c : ℕ) (at : a.high ≡ Some c) where
   abbrev bared : Parts
@@ -67,5 +48,5 @@ module _ (a : CoreParts) (sound : IsSound a) (id : TableId HostTaskKey) (w : Hos
       pub entry_sound : IsSound (rows_after a marks a.shelves)
       entry_sound = rows_sound a marks a.shelves _ rows sound
 
-      pub entry_seen : seen (rows_after a marks a.shelves) ≡ on_core (push_high (entry.Push (work_of (seen a) id))) (seen a)
-      entry_seen = high_pushed a marks a.shelves v rows ∙ ap (λ e. on_core (push_high e) (seen a)) (ap (λ (q : Queued). q.entry) there ∙ ap (λ i. entry.Push i) (work_named a id w is))
+      pub entry_seen : seen (rows_after a marks a.shelves) ≡ on_core (push_high (Entry.Push (work_of (seen a) id))) (seen a)
+      entry_seen = high_pushed a marks a.shelves v rows ∙ ap (λ e. on_core (push_high e) (seen a)) (ap (λ (q : Queued). q.entry) there ∙ ap (λ i. Entry.Push i) (work_named a id w is))

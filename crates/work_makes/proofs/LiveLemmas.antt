@@ -1,22 +1,8 @@
 -- The chain of the live works is made: no work is there yet.
-use Rattle.std.proofs.Common.{inl, ◌≡◌, ℕ, [], Option, Some, None, IsSome, is_some, false, refl, sym, ap, subst, ◌∙◌}
+use Rattle.task_records.proofs.SoundLemmas.{sound_of_whole}
+use Rattle.task_records.proofs.Core.{[], ap, bare, ChainOf, false, Filing, filings, HasHome, inl, is_some, IsAscending, IsCallNamed, IsSome, IsSound, IsWhole, IsWorkNamed, list_of, list_or_nil, live_chain, live_order, live_work, None, Option, Parts, parts_of, place_at, Placed, refl, Renames, said, Some, spot_list, subst, sym, table_use, Unmade, ℕ, ◌∙◌, ◌≡◌}
+use Rattle.task_records.specs.declared.{calls.GuestTask.GuestTask, parts.CoreParts.CoreParts, single.Single.Single, threads.GuestThread.GuestThread, works.HostWork.HostWork, works.LiveWork.LiveWork}
 use Rattle.make_words.proofs.LooseLemmas.{IsIndex-opened}
-use Rattle.task_index.specs.Index.{Filing, filings, said}
-use Rattle.task_links.specs.Links.{ChainOf, Renames, Unmade, list_of, list_or_nil, spot_list}
-use Rattle.task_machine.specs.Read.{table_use}
-use Rattle.task_records.specs.Image.{Parts}
-use Rattle.task_records.specs.Names.{HasHome, IsCallNamed, IsWorkNamed}
-use Rattle.task_records.specs.Places.{live_chain, live_order, live_work}
-use Rattle.task_records.specs.Seen.{IsSound, parts_of}
-use Rattle.task_records.specs.Sound.{IsWhole, bare}
-use Rattle.task_records.specs.declared.calls.GuestTask.{GuestTask}
-use Rattle.task_records.specs.declared.parts.CoreParts.{CoreParts}
-use Rattle.task_records.specs.declared.single.Single.{Single}
-use Rattle.task_records.specs.declared.threads.GuestThread.{GuestThread}
-use Rattle.task_records.specs.declared.works.HostWork.{HostWork}
-use Rattle.task_records.specs.declared.works.LiveWork.{LiveWork}
-use Rattle.task_table.specs.Table.{Placed, place_at}
-use Rattle.task_wait.specs.Sets.{IsAscending}
 
 pub none_there : {X : Type 0} (o : Option X) → is_some o ≡ false → o ≡ None
 none_there None is = refl
@@ -90,12 +76,4 @@ module _ (a b : CoreParts) (sound : IsSound b) (only : b ≡ record a { polled =
 
   pub live_opened_sound : IsSound (record b { live = Some c })
   unfolding IsSound
-  live_opened_sound = record {
-    tables = record { threads = sound.tables.threads; calls = sound.tables.calls; works = sound.tables.works; sets = sound.tables.sets; groups = sound.tables.groups };
-    whole = opened_whole (bare (parts_of b)) sound.whole none_live c (ap spot_list names.names);
-    interesting = sound.interesting;
-    moving = sound.moving;
-    handles = sound.handles;
-    owned = sound.owned;
-    live = sound.live;
-  }
+  live_opened_sound = sound_of_whole b (record b { live = Some c }) refl sound (opened_whole (bare (parts_of b)) sound.whole none_live c (ap spot_list names.names))

@@ -1,20 +1,9 @@
 -- The nodes and the chain of a host work are made, one after another: they hang on nothing.
-use Rattle.std.proofs.Common.{◌≡◌, ℕ, [], IsSome, Some, sym, subst}
+use Rattle.task_records.proofs.Core.{[], bare, ChainOf, filings, FreeNode, if◌then◌else◌, is_stage_live, IsSound, live_chain, live_value, None, parts_of, place_at, place_chain, place_filing, Placed, ready_in, ready_work_chain, Renames, Some, subst, sym, Unmade, ℕ, ◌≡◌}
+use Rattle.task_records.specs.declared.{parts.CoreParts.CoreParts, single.Single.Single, threads.GuestThread.GuestThread, works.HostWork.HostWork}
 use Rattle.make_words.proofs.LooseLemmas.{loose_index}
 use Rattle.make_words.specs.Loose.{IsLoose, IsSpare}
 use Rattle.strand_words.proofs.NodeLemmas.{filed_made, spare_made}
-use Rattle.task_index.specs.Index.{filings}
-use Rattle.task_links.specs.Links.{ChainOf, FreeNode, Renames, Unmade}
-use Rattle.task_machine.specs.Read.{is_stage_live}
-use Rattle.task_records.specs.Places.{live_chain, live_value, place_chain, place_filing, ready_in, ready_work_chain}
-use Rattle.task_records.specs.Seen.{IsSound, parts_of}
-use Rattle.task_records.specs.Sound.{bare}
-use Rattle.task_records.specs.declared.parts.CoreParts.{CoreParts}
-use Rattle.task_records.specs.declared.single.Single.{Single}
-use Rattle.task_records.specs.declared.threads.GuestThread.{GuestThread}
-use Rattle.task_records.specs.declared.works.HostWork.{HostWork}
-use Rattle.task_table.specs.Table.{Placed, place_at}
-use Rattle.std.specs.Prelude.{None, if◌then◌else◌}
 use Rattle.work_makes.specs.Loose.{AreWorkLoose}
 use Rattle.work_makes.specs.declared.nodes.WorkNodes.{WorkNodes}
 
@@ -58,10 +47,3 @@ module _ (a b c d e : CoreParts) (n : WorkNodes) (sound_a : IsSound a) (sound_b 
     no_thread = subst (λ (y : CoreParts). (r : ℕ) (g : Placed (Single GuestThread)) → place_at (bare (parts_of y)).threads r ≡ Some g → g.entry.item.mark.index ≡ n.mark.index → ⊥) (sym only_e) thread_new.apart;
     blocked = subst HasBlocked (sym only_e) (subst HasBlocked (sym only_d) (subst HasBlocked (sym only_c) (subst (λ (y : CoreParts). IsLoose (place_chain (bare (parts_of y))) b.places n.blocked) (sym only_b) blocked_new)));
   }
-
-  -- the chains that were there are there
-  pub high_kept : IsSome a.high → IsSome e.high
-  high_kept some = subst (λ (y : CoreParts). IsSome y.high) (sym only_e) (subst (λ (y : CoreParts). IsSome y.high) (sym only_d) (subst (λ (y : CoreParts). IsSome y.high) (sym only_c) (subst (λ (y : CoreParts). IsSome y.high) (sym only_b) some)))
-
-  pub live_kept : IsSome a.live → IsSome e.live
-  live_kept some = subst (λ (y : CoreParts). IsSome y.live) (sym only_e) (subst (λ (y : CoreParts). IsSome y.live) (sym only_d) (subst (λ (y : CoreParts). IsSome y.live) (sym only_c) (subst (λ (y : CoreParts). IsSome y.live) (sym only_b) some)))

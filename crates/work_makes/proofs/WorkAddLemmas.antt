@@ -1,11 +1,7 @@
 -- A host work more, as a core: it is sound, and contracts see just that.
-use Rattle.std.proofs.Common.{inl, inr, Ok, ◌≡◌, ◌+◌, ◌==◌, ◌&&◌, ◌||◌, ◌<◌, ◌≤◌, ◌^◌, ℕ, suc, true, false, cond, not, List, [], ◌∷◌, map, Option, Some, None, IsSome, filter, length, is_some, nat_lt, refl, sym, ap, ap₂, subst, ◌∙◌, arith}
-use Rattle.std.proofs.lemmas.Bool.{eq-eqb, eqb-true, ne_eqb}
-use Rattle.std.proofs.lemmas.List.Sums.{count_by-le-length}
-use Rattle.std.proofs.lemmas.Option.{same_Some}
-use Rattle.std.specs.Option.{option_map, option_map_or}
+use Rattle.task_records.proofs.Core.{[], add_work, ap, ap₂, AreApart, arith, AtPlace, bare, bare_call, bare_work, Call, call_key, call_number, calls_of, cond, Core, core_of, count_by-le-length, count_work, Each, EachEntry, Entry, eq-eqb, eqb-true, false, filter, get, get-records, group_key, GroupKey, HasNumber, High, HostTaskKey, inl, inr, is_aborted, is_host_call, is_moving, is_never, is_of_group, is_some, is_stage_live, IsGroupKept, IsSeated, IsSome, IsSound, IsTable, IsWhole, item_at, item_of, Keeps, key_in, kinds, length, List, loose_call, loose_work, map, mapped, mapped-pushed, nat_lt, ne_eqb, next_place, None, not, number_in, Ok, on_item, one_if_passes, Option, option_map, option_map_or, Parts, parts_of, passing, pushed, Records, records, refl, row, same_Some, seen, set_number, size, size-records-le, Some, SoundTable, subst, suc, sym, Table, table_len, TableId, Target, thread_number, true, uninterested, unmoved, Work, work_caller_target, work_entries, work_key, work_of, ℕ, ◌&&◌, ◌+◌, ◌<◌, ◌==◌, ◌^◌, ◌||◌, ◌∙◌, ◌∷◌, ◌≡◌, ◌≤◌}
+use Rattle.task_records.specs.declared.{calls.GuestTask.GuestTask, calls.TaskGroup.TaskGroup, parts.CoreParts.CoreParts, parts.Kept.Kept, single.Single.Single, threads.Queued.Queued, works.HostWork.HostWork}
 use Rattle.make_words.proofs.MoreLemmas.{early, passing_more, table_bare}
-use Rattle.task_table.proofs.RecordCountLemmas.{size-records-le}
 use Rattle.make_words.proofs.RestoreLemmas.{handles_grown}
 use Rattle.place_words.specs.Moved.{Alike}
 use Rattle.queue_words.proofs.RowLemmas.{row_known}
@@ -15,48 +11,10 @@ use Rattle.removal_words.proofs.BareTables.{sound_mapped}
 use Rattle.removal_words.proofs.GroupLemmas.{numbers_alike}
 use Rattle.removal_words.proofs.RewriteLemmas.{each_rewritten, rewritten_alike}
 use Rattle.removal_words.specs.Counted.{IsIn, uncalled}
-use Rattle.task_index.specs.Counts.{one_if_passes, passing}
-use Rattle.task_index.specs.Rows.{Each}
-use Rattle.task_machine.specs.Core.{Core}
-use Rattle.task_machine.specs.Maps.{Records, get, size}
-use Rattle.task_machine.specs.Read.{is_aborted, is_host_call, is_never, is_stage_live}
-use Rattle.task_machine.specs.Write.{add_work, count_work}
-use Rattle.task_machine.specs.declared.records.Entry.{Entry}
-use Rattle.task_machine.specs.declared.records.Entry.TheVariants as entry
-use Rattle.task_machine.specs.declared.records.Call.{Call}
-use Rattle.task_machine.specs.declared.records.Work.{Work}
 use Rattle.task_records.proofs.HomeLemmas.{place_in_bare}
 use Rattle.task_records.proofs.KindLemmas.{item_number, item_read, item_stands, table_written}
 use Rattle.task_records.proofs.MakeLemmas.{number_kept, number_new, records_more, table_more}
 use Rattle.task_records.proofs.ReadLemmas.{work_shown}
-use Rattle.task_records.specs.Image.{Parts, core_of}
-use Rattle.task_records.specs.Kept.{IsGroupKept, calls_of, is_of_group}
-use Rattle.task_records.specs.Keys.{call_key, group_key, work_key}
-use Rattle.task_records.specs.declared.calls.GuestTask.{GuestTask}
-use Rattle.task_records.specs.Kinds.{item_of, on_item}
-use Rattle.task_records.specs.Names.{AtPlace, HasNumber, Target, kinds, work_caller_target}
-use Rattle.task_records.specs.Rows.{High, IsSeated, row}
-use Rattle.task_records.specs.Seen.{IsSound, parts_of, seen}
-use Rattle.task_records.specs.Sound.{EachEntry, IsWhole, SoundTable, bare, bare_call, bare_work, loose_call, uninterested, loose_work, unmoved}
-use Rattle.task_records.specs.declared.calls.TaskGroup.{TaskGroup}
-use Rattle.task_records.specs.declared.parts.CoreParts.{CoreParts}
-use Rattle.task_records.specs.declared.parts.Kept.{Kept}
-use Rattle.task_records.specs.declared.single.Single.{Single}
-use Rattle.task_records.specs.declared.threads.Queued.{Queued}
-use Rattle.task_records.specs.declared.works.HostWork.{HostWork}
-use Rattle.task_rules.specs.Works.{is_moving}
-use Rattle.task_table.proofs.MappedLemmas.{mapped-pushed}
-use Rattle.task_table.specs.Changes.{next_place, pushed}
-use Rattle.task_table.specs.Answers.{item_at}
-use Rattle.task_table.specs.Mapped.{mapped}
-use Rattle.task_table.proofs.RecordLemmas.{get-records}
-use Rattle.task_table.specs.Records.{AreApart, key_in, number_in, records}
-use Rattle.task_table.specs.Table.{IsTable, Table, table_len}
-use Rattle.task_table.specs.declared.id.TableId.{TableId}
-use Rattle.task_wait.specs.declared.keys.GroupKey.{GroupKey}
-use Rattle.task_wait.specs.declared.keys.HostTaskKey.{HostTaskKey}
-use Rattle.task_words.specs.Apart.{work_entries}
-use Rattle.task_words.specs.StateView.{Keeps, call_number, set_number, thread_number, work_of}
 use Rattle.work_makes.proofs.WorkMoreLemmas.{at_more, more, more_whole, works_counted}
 use Rattle.work_makes.specs.Loose.{AreWorkLoose, nodes_of}
 use Rattle.work_makes.specs.Raised.{GroupHere, IsHere, IsWorkNext, Raises, group_name, raised, record_for}
@@ -109,9 +67,9 @@ module _ (a : CoreParts) (sound : IsSound a) where
   no_entry_yet = by_row (row bared High) (row_known bared whole High)
     where
       by_entry : (q : Queued) (m : ℕ) → m ≤ a.made.works → (e : Entry) → is_entry_of_work m e ≡ true → (es : List Entry) → work_entries (a.made.works + 1) es ≡ 0 → work_entries (a.made.works + 1) (e ∷ es) ≡ 0
-      by_entry q m few (entry.Thread n) is es none = absurd (cc)
-      by_entry q m few (entry.Push j) is es none = let same = eqb-true m j is in ap (λ b. cond b (suc (work_entries (a.made.works + 1) es)) (work_entries (a.made.works + 1) es)) (ne_eqb (a.made.works + 1) j (λ here. omega arith)) ∙ none
-      by_entry q m few (entry.Host j) is es none = let same = eqb-true m j is in ap (λ b. cond b (suc (work_entries (a.made.works + 1) es)) (work_entries (a.made.works + 1) es)) (ne_eqb (a.made.works + 1) j (λ here. omega arith)) ∙ none
+      by_entry q m few (Entry.Thread n) is es none = absurd (cc)
+      by_entry q m few (Entry.Push j) is es none = let same = eqb-true m j is in ap (λ b. cond b (suc (work_entries (a.made.works + 1) es)) (work_entries (a.made.works + 1) es)) (ne_eqb (a.made.works + 1) j (λ here. omega arith)) ∙ none
+      by_entry q m few (Entry.Host j) is es none = let same = eqb-true m j is in ap (λ b. cond b (suc (work_entries (a.made.works + 1) es)) (work_entries (a.made.works + 1) es)) (ne_eqb (a.made.works + 1) j (λ here. omega arith)) ∙ none
 
       by_row : (qs : List Queued) → Each (IsSeated bared) qs → work_entries (a.made.works + 1) (map (λ (q : Queued). q.entry) qs) ≡ 0
       by_row [] known = refl

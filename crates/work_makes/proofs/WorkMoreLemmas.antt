@@ -1,6 +1,6 @@
 -- Parts with one host work more, whose nodes and chain hung on nothing: they are whole.
-use Rattle.std.proofs.Common.{inl, inr, ◌⊎◌, ◌≡◌, ◌+◌, ◌<◌, ℕ, Bool, false, cond, Option, Some, None, IsSome, filter, length, nat_lt, refl, sym, ap, subst, ◌∙◌, arith}
-use Rattle.std.proofs.lemmas.Bool.{cases_eq}
+use Rattle.task_records.proofs.Core.{ap, AreChained, AreCounted, arith, AtPlace, BlockedOn, Bool, CallOf, calls_of, cases_eq, cond, core_of, EachEntry, Entry, entry_seated, false, filings, filter, group_key, HasHome, HasNumber, HaveRowNodes, HeldIn, host_entry, inl, inr, is_host_call, is_in_set, is_live, is_of_group, is_of_instance, is_stage_live, IsCallNamed, IsGroupKept, IsSeated, IsSome, IsWhole, IsWorkNamed, join_target, kinds, length, live_chain, live_value, nat_lt, None, Nothing, one_if_passes, Option, part, Parts, passing, place_chain, place_filing, Placed, push_entry, pushed, ready_in, ready_work_chain, refl, row, row_chain, SetOf, shelf_chain, Some, SoundTable, Status, subst, Subtask, sym, Table, table_use, Target, ThreadOf, UnderOf, WaitsOn, Where, Work, work_key, WorkOf, ℕ, ◌+◌, ◌<◌, ◌∙◌, ◌≡◌, ◌⊎◌}
+use Rattle.task_records.specs.declared.{calls.GuestTask.GuestTask, calls.TaskGroup.TaskGroup, parts.Kept.Kept, single.Single.Single, threads.GuestThread.GuestThread, threads.Queued.Queued, works.HostWork.HostWork}
 use Rattle.make_words.proofs.FreshLemmas.{chain_new, chain_other, each_more}
 use Rattle.make_words.proofs.LooseLemmas.{IsIndex-opened}
 use Rattle.make_words.proofs.MoreLemmas.{IsRows-known, index_more, new_or_old, nodes_more, passing_more, seat_stays}
@@ -9,32 +9,7 @@ use Rattle.place_words.specs.Moved.{Alike}
 use Rattle.removal_words.proofs.GroupLemmas.{numbers_alike}
 use Rattle.removal_words.specs.Counted.{uncalled}
 use Rattle.strand_words.proofs.ThreadPushLemmas.{none_in_list}
-use Rattle.task_index.specs.Counts.{one_if_passes, passing}
-use Rattle.task_index.specs.Index.{filings}
-use Rattle.task_machine.specs.Read.{is_host_call, is_in_set, is_live, is_stage_live, table_use}
-use Rattle.task_machine.specs.declared.records.Entry.{Entry}
-use Rattle.task_machine.specs.declared.records.Entry.TheVariants as entry
-use Rattle.task_machine.specs.declared.words.Status.{Status}
-use Rattle.task_machine.specs.declared.records.Subtask.TheVariants as subtask
-use Rattle.task_machine.specs.declared.records.Work.{Work}
 use Rattle.task_records.proofs.MakeLemmas.{stands_more}
-use Rattle.task_records.specs.Image.{Parts, core_of}
-use Rattle.task_records.specs.Kept.{IsGroupKept, calls_of, is_of_group}
-use Rattle.task_records.specs.Keys.{group_key, work_key}
-use Rattle.task_records.specs.Names.{AtPlace, CallOf, HasHome, HasNumber, IsCallNamed, IsWorkNamed, Nothing, SetOf, Target, ThreadOf, WorkOf, join_target, kinds}
-use Rattle.task_records.specs.Places.{BlockedOn, HeldIn, UnderOf, WaitsOn, Where, live_chain, live_value, place_chain, place_filing, ready_in, ready_work_chain}
-use Rattle.task_records.specs.Rows.{IsSeated, entry_seated, host_entry, is_of_instance, push_entry, row, row_chain, shelf_chain}
-use Rattle.task_records.specs.Sound.{AreChained, AreCounted, EachEntry, HaveRowNodes, IsWhole, SoundTable}
-use Rattle.task_records.specs.declared.calls.GuestTask.{GuestTask}
-use Rattle.task_records.specs.declared.calls.TaskGroup.{TaskGroup}
-use Rattle.task_records.specs.declared.parts.Kept.{Kept}
-use Rattle.task_records.specs.declared.single.Single.{Single}
-use Rattle.task_records.specs.declared.threads.GuestThread.{GuestThread}
-use Rattle.task_records.specs.declared.threads.Queued.{Queued}
-use Rattle.task_records.specs.declared.works.HostWork.{HostWork}
-use Rattle.task_index.specs.Rows.{part}
-use Rattle.task_table.specs.Changes.{pushed}
-use Rattle.task_table.specs.Table.{Placed, Table}
 use Rattle.work_makes.specs.Loose.{AreWorkLoose, nodes_of}
 use Rattle.work_makes.specs.Raised.{IsWorkNext}
 
@@ -45,16 +20,16 @@ abbrev machine : HostWork → Work
 machine w = w.work
 
 abbrev host_in : Where → ℕ
-host_in (BlockedOn (subtask.Host i)) = i
+host_in (BlockedOn (Subtask.Host i)) = i
 host_in _ = 0
 
-blocked_is : (n : ℕ) (k : Where) → (k ≡ BlockedOn (subtask.Host n)) ⊎ (k ≡ BlockedOn (subtask.Host n) → ⊥)
+blocked_is : (n : ℕ) (k : Where) → (k ≡ BlockedOn (Subtask.Host n)) ⊎ (k ≡ BlockedOn (Subtask.Host n) → ⊥)
 blocked_is n (WaitsOn x) = inr (λ same. absurd (cc))
 blocked_is n (HeldIn i) = inr (λ same. absurd (cc))
 blocked_is n (UnderOf m) = inr (λ same. absurd (cc))
-blocked_is n (BlockedOn (subtask.Guest k)) = inr (λ same. absurd (cc))
-blocked_is n (BlockedOn (subtask.Host i)) = elim (cases_eq i n) [
-  | inl same ↦ inl (ap (λ m. BlockedOn (subtask.Host m)) same)
+blocked_is n (BlockedOn (Subtask.Guest k)) = inr (λ same. absurd (cc))
+blocked_is n (BlockedOn (Subtask.Host i)) = elim (cases_eq i n) [
+  | inl same ↦ inl (ap (λ m. BlockedOn (Subtask.Host m)) same)
   | inr other ↦ inr (λ same. other (ap host_in same))
 ]
 
@@ -104,20 +79,20 @@ module _ (p : Parts) (whole : IsWhole p) (sound : SoundTable work_key p.works p.
   entry_more q is_q = by q.entry is_q
     where
       by : (e : Entry) → entry_seated p e q.place ≡ Some q → entry_seated more e q.place ≡ Some q
-      by (entry.Thread n) at = at
-      by (entry.Push i) at = seat_stays p.works g sound.table push_entry q.place q at
-      by (entry.Host i) at = seat_stays p.works g sound.table host_entry q.place q at
+      by (Entry.Thread n) at = at
+      by (Entry.Push i) at = seat_stays p.works g sound.table push_entry q.place q at
+      by (Entry.Host i) at = seat_stays p.works g sound.table host_entry q.place q at
 
   -- ---- Keys
 
-  place_others : (k : Where) → (k ≡ BlockedOn (subtask.Host g.number) → ⊥) → place_chain more k ≡ place_chain p k
+  place_others : (k : Where) → (k ≡ BlockedOn (Subtask.Host g.number) → ⊥) → place_chain more k ≡ place_chain p k
   place_others (WaitsOn x) other = refl
   place_others (HeldIn i) other = refl
   place_others (UnderOf n) other = refl
-  place_others (BlockedOn (subtask.Guest k)) other = refl
-  place_others (BlockedOn (subtask.Host i)) other = chain_other number machine (λ (x : HostWork). x.blocked) p.works g sound.table sound.apart (sound.later g.number later) i (λ same. other (ap (λ m. BlockedOn (subtask.Host m)) same))
+  place_others (BlockedOn (Subtask.Guest k)) other = refl
+  place_others (BlockedOn (Subtask.Host i)) other = chain_other number machine (λ (x : HostWork). x.blocked) p.works g sound.table sound.apart (sound.later g.number later) i (λ same. other (ap (λ m. BlockedOn (Subtask.Host m)) same))
 
-  has_blocked : place_chain more (BlockedOn (subtask.Host g.number)) ≡ Some g.blocked
+  has_blocked : place_chain more (BlockedOn (Subtask.Host g.number)) ≡ Some g.blocked
   has_blocked = chain_new number machine (λ (x : HostWork). x.blocked) p.works g sound.table sound.apart (sound.later g.number later)
 
   not_live : is_live g.work ≡ false
@@ -125,8 +100,8 @@ module _ (p : Parts) (whole : IsWhole p) (sound : SoundTable work_key p.works p.
 
   chained_more : AreChained more
   chained_more = record {
-    places = IsIndex-opened (place_chain p) (place_chain more) p.places (BlockedOn (subtask.Host g.number)) (blocked_is g.number) place_others g.blocked has_blocked loose.blocked (filings place_filing p.threads) whole.chained.places
-        (none_in_list (kinds p) p.threads (BlockedOn (subtask.Host g.number)) (λ rep q at. (whole.named.threads rep q at).place) (λ rep at. let few = at.0 in let is = later in omega arith));
+    places = IsIndex-opened (place_chain p) (place_chain more) p.places (BlockedOn (Subtask.Host g.number)) (blocked_is g.number) place_others g.blocked has_blocked loose.blocked (filings place_filing p.threads) whole.chained.places
+        (none_in_list (kinds p) p.threads (BlockedOn (Subtask.Host g.number)) (λ rep q at. (whole.named.threads rep q at).place) (λ rep at. let few = at.0 in let is = later in omega arith));
     ready_calls = whole.chained.ready_calls;
     ready_works = index_more p.works g sound.table (λ h. h.ready.index) (λ h. ready_in h.work.event h.work.join) (λ r h. r) p.ready_works loose.ready (ready_work_chain p) whole.chained.ready_works (ap (λ (e : Option Status). ready_in e g.work.join) next.event);
     polled = index_more p.works g sound.table (λ h. h.live.index) (λ h. cond (is_stage_live h.work.stage) (Some tt) None) live_value p.polled loose.live (live_chain p) whole.chained.polled (ap (λ b. cond b (Some tt) None) not_live);

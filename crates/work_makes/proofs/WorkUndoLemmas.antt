@@ -1,36 +1,19 @@
 -- A work that was made is taken back, and one that has its handle is pushed.
-use Rattle.std.proofs.Common.{Ok, ◌≡◌, ◌+◌, ◌-◌, ℕ, Some, refl, ap, ap₂, ◌∙◌, arith}
+use Rattle.task_records.proofs.Core.{ap, ap₂, arith, Core, deleted, Entry, give_handle, GroupKey, IsSound, IsTable, item_at, item_of, new_handle, Ok, Parts, parts_of, push_high, refl, set_subtask_handle, Some, Subtask, TableId, with_entry, with_handle, work_entries, ℕ, ◌+◌, ◌-◌, ◌∙◌, ◌≡◌}
+use Rattle.task_records.specs.declared.{calls.TaskGroup.TaskGroup, parts.CoreParts.CoreParts, works.HostWork.HostWork}
 use Rattle.make_words.proofs.RestoreLemmas.{Restores-deleted, Restores-pushed, Restores-same, Restores-written, restored_from}
 use Rattle.make_words.specs.Restored.{IsRestored}
-use Rattle.task_machine.specs.Core.{Core}
-use Rattle.task_machine.specs.Read.{new_handle}
 use Rattle.task_machine.specs.Write as write
-use Rattle.task_machine.specs.Write.{give_handle, push_high, set_subtask_handle}
-use Rattle.task_machine.specs.declared.records.Entry.{Entry}
-use Rattle.task_machine.specs.declared.records.Subtask.TheVariants as subtask
 use Rattle.task_records.proofs.KindLemmas.{item_stands}
-use Rattle.task_records.specs.Image.{Parts}
-use Rattle.task_records.specs.Kinds.{item_of}
-use Rattle.task_records.specs.Seen.{IsSound, parts_of}
-use Rattle.task_records.specs.declared.calls.TaskGroup.{TaskGroup}
-use Rattle.task_records.specs.declared.parts.CoreParts.{CoreParts}
-use Rattle.task_records.specs.declared.works.HostWork.{HostWork}
-use Rattle.task_rules.specs.Calls.{with_handle}
-use Rattle.task_table.specs.Answers.{item_at}
-use Rattle.task_table.specs.Changes.{deleted, with_entry}
-use Rattle.task_table.specs.Table.{IsTable}
-use Rattle.task_table.specs.declared.id.TableId.{TableId}
-use Rattle.task_wait.specs.declared.keys.GroupKey.{GroupKey}
-use Rattle.task_words.specs.Apart.{work_entries}
 use Rattle.work_makes.specs.Raised.{PushesWork}
 
 -- the queues and the handles are apart
-pub push_after_handle : (e : Entry) (i n : ℕ) (s : Core) → push_high e (with_handle i (subtask.Host n) s) ≡ with_handle i (subtask.Host n) (push_high e s)
+pub push_after_handle : (e : Entry) (i n : ℕ) (s : Core) → push_high e (with_handle i (Subtask.Host n) s) ≡ with_handle i (Subtask.Host n) (push_high e s)
 unfolding push_high with_handle set_subtask_handle give_handle new_handle write.on_work
 push_after_handle e i n s = refl
 
 -- nor does a handle queue anything
-pub unqueued_with_handle : (i n m : ℕ) (s : Core) → work_entries m (with_handle i (subtask.Host n) s).queues.high ≡ work_entries m s.queues.high
+pub unqueued_with_handle : (i n m : ℕ) (s : Core) → work_entries m (with_handle i (Subtask.Host n) s).queues.high ≡ work_entries m s.queues.high
 unfolding with_handle set_subtask_handle give_handle write.on_work
 unqueued_with_handle i n m s = refl
 

@@ -1,8 +1,6 @@
 use Rattle.count_words.proofs.limits.at_handle_limit.Goals as goal
-use Rattle.std.proofs.Common.{ap₂, nat_le, ◌∙◌}
-use Rattle.task_machine.specs.Read.{at_handle_limit}
+use Rattle.task_records.proofs.Core.{ap₂, at_handle_limit, nat_le, seen, ◌∙◌}
 use Rattle.task_records.proofs.KeptLemmas.{handles_are}
-use Rattle.task_records.specs.Seen.{seen}
 
 pub returns : goal.returns
 unfolding at_handle_limit seen

@@ -1,11 +1,6 @@
 use Rattle.count_words.proofs.limits.count_work.Goals as goal
-use Rattle.std.proofs.Common.{arith, refl, ◌+◌}
-use Rattle.task_machine.specs.Write.{count_work, with_works_made}
-use Rattle.task_machine.specs.declared.records.Made.{Made}
+use Rattle.task_records.proofs.Core.{arith, bare, count_work, IsSound, kinds, Made, parts_of, refl, seen, with_works_made, ◌+◌}
 use Rattle.task_records.proofs.LaterLemmas.{IsLater, handles_later, whole_later}
-use Rattle.task_records.specs.Names.{kinds}
-use Rattle.task_records.specs.Seen.{IsSound, parts_of, seen}
-use Rattle.task_records.specs.Sound.{bare}
 
 one_more : (m : Made) → IsLater m (with_works_made (m.works + 1) m)
 one_more m = record { threads = omega arith; works = omega arith; sets = omega arith; groups = omega arith }

@@ -1,8 +1,7 @@
 use Rattle.count_words.proofs.limits.fits.Goals as goal
 use Rattle.count_words.proofs.RoomLemmas.{has_room, no_room}
-use Rattle.task_machine.specs.Read.{fits}
+use Rattle.task_records.proofs.Core.{fits, seen}
 use Rattle.task_records.proofs.KeptLemmas.{used_is}
-use Rattle.task_records.specs.Seen.{seen}
 
 pub returns-then-entries-parts : goal.returns-then-entries-parts
 unfolding fits seen

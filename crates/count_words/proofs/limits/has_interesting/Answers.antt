@@ -1,8 +1,7 @@
 use Rattle.count_words.proofs.limits.has_interesting.Goals as goal
-use Rattle.std.proofs.Common.{ap, nat_lt, ◌∙◌}
-use Rattle.task_records.proofs.KeptLemmas.{any_passing}
-use Rattle.task_records.specs.Seen.{IsSound, seen}
+use Rattle.task_records.proofs.Core.{ap, IsSound, nat_lt, seen, ◌∙◌}
 use Rattle.task_rules.specs.MainOps.{has_interesting}
+use Rattle.task_records.proofs.KeptLemmas.{any_passing}
 
 pub returns : goal.returns
 unfolding IsSound has_interesting seen

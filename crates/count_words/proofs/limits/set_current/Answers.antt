@@ -1,6 +1,5 @@
 use Rattle.count_words.proofs.limits.set_current.Goals as goal
-use Rattle.std.proofs.Common.{refl}
-use Rattle.task_records.specs.Seen.{IsSound, seen}
+use Rattle.task_records.proofs.Core.{IsSound, refl, seen}
 
 pub returns-clause-sound : goal.returns-clause-sound
 unfolding IsSound

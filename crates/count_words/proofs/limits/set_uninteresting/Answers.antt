@@ -1,7 +1,6 @@
 use Rattle.count_words.proofs.RoomLemmas.{one_less, same_left}
 use Rattle.count_words.proofs.limits.set_uninteresting.Goals as goal
-use Rattle.std.proofs.Common.{ap, cond}
-use Rattle.task_machine.specs.Write.{set_uninteresting}
+use Rattle.task_records.proofs.Core.{ap, cond, set_uninteresting}
 use Rattle.task_records.proofs.WriteLemmas.{call_nowhere, interest_counted, uninterested_sound, uninterested_writes}
 
 pub overflow_sub-parts : goal.overflow_sub-parts

@@ -1,10 +1,8 @@
 use Rattle.count_words.proofs.MemberLemmas.{some_member}
 use Rattle.count_words.proofs.members.has_member.Goals as goal
-use Rattle.std.proofs.Common.{ap, nat_lt, sym, ◌∙◌}
-use Rattle.task_machine.specs.Read.{has_member}
+use Rattle.task_records.proofs.Core.{ap, has_member, nat_lt, seen, sym, ◌∙◌}
 use Rattle.task_records.proofs.KeptLemmas.{set_members}
 use Rattle.task_records.proofs.ReadLemmas.{set_named}
-use Rattle.task_records.specs.Seen.{seen}
 
 pub returns : goal.returns
 returns c =

@@ -1,7 +1,5 @@
 use Rattle.count_words.proofs.members.is_deletable.Goals as goal
-use Rattle.std.proofs.Common.{ap, ap₂, false, not, ◌&&◌, ◌∙◌}
-use Rattle.std.specs.Option.{option_map_or}
-use Rattle.task_machine.specs.Moves.{is_deletable, is_deletable_call}
+use Rattle.task_records.proofs.Core.{ap, ap₂, false, is_deletable, is_deletable_call, not, option_map_or, ◌&&◌, ◌∙◌}
 
 pub returns-in-Some : goal.returns-in-Some
 unfolding is_deletable

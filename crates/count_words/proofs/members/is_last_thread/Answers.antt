@@ -1,9 +1,7 @@
 use Rattle.count_words.proofs.members.is_last_thread.Goals as goal
-use Rattle.std.proofs.Common.{ap, sym, ◌∙◌}
+use Rattle.task_records.proofs.Core.{ap, seen, sym, threads_of, ◌∙◌}
 use Rattle.task_records.proofs.AloneLemmas.{call_there, last_of_call, nobody_else}
 use Rattle.task_records.proofs.KeptLemmas.{call_threads}
-use Rattle.task_records.specs.Kept.{threads_of}
-use Rattle.task_records.specs.Seen.{seen}
 
 pub unreachable-requires : goal.unreachable-requires
 unreachable-requires c = call_there c.args.parts.now c.requires c.args.thread c.in-Some.field-0.now c.in-Some.ensures.item (sym c.task_of-call.ensures.is ∙ c.in-None-call.ensures.nothing)

@@ -1,12 +1,6 @@
 use Rattle.count_words.proofs.members.threads.Goals as goal
-use Rattle.std.proofs.Common.{None, Option, Some, count_by, is_some, refl, sym, ◌∙◌, ◌≡◌}
-use Rattle.task_records.specs.Keys.{thread_key}
-use Rattle.task_records.specs.Seen.{IsSound, seen}
-use Rattle.task_records.specs.declared.single.Single.{Single}
-use Rattle.task_records.specs.declared.threads.GuestThread.{GuestThread}
-use Rattle.task_table.proofs.RecordCountLemmas.{size-records}
-use Rattle.task_table.specs.Records.{is_of}
-use Rattle.task_table.specs.Table.{Placed}
+use Rattle.task_records.proofs.Core.{count_by, is_of, is_some, IsSound, None, Option, Placed, refl, seen, size-records, Some, sym, thread_key, ◌∙◌, ◌≡◌}
+use Rattle.task_records.specs.declared.{single.Single.Single, threads.GuestThread.GuestThread}
 
 -- each entry is a thread
 is_thread : (o : Option (Placed (Single GuestThread))) → is_of thread_key o ≡ is_some o

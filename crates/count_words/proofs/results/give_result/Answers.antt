@@ -1,9 +1,6 @@
 use Rattle.count_words.proofs.ResultLemmas.{is_there, lives_in, no_room, result_given, written_sound}
 use Rattle.count_words.proofs.results.give_result.Goals as goal
-use Rattle.std.proofs.Common.{ap, refl, ◌∙◌}
-use Rattle.task_records.specs.Seen.{seen}
-use Rattle.task_machine.specs.Write.{give_result}
-use Rattle.task_words.specs.StateView.{on_core}
+use Rattle.task_records.proofs.Core.{ap, give_result, on_core, refl, seen, ◌∙◌}
 
 pub unreachable-requires : goal.unreachable-requires
 unreachable-requires c = no_room c.args.parts.now c.requires.sound c.args.call c.in-Some.found.now c.in-Some.ensures.item c.requires.main c.in-None-get_mut.ensures.value

@@ -1,11 +1,7 @@
 use Rattle.count_words.proofs.ResultLemmas.{get-given, given, has_written, results_seen, room_unseen, same_sound, written_sound}
 use Rattle.count_words.proofs.results.make_room.Goals as goal
 use Rattle.count_words.specs.Rooms.{wanted}
-use Rattle.std.proofs.Common.{ap, refl, subst, sym, true, ◌∙◌}
-use Rattle.std.specs.BTreeMap.{is_at}
-use Rattle.std.specs.Map.{lookup}
-use Rattle.std.specs.Ordering.{nat_cmp}
-use Rattle.task_records.specs.Seen.{IsSound, seen}
+use Rattle.task_records.proofs.Core.{ap, is_at, IsSound, lookup, nat_cmp, refl, seen, subst, sym, true, ◌∙◌}
 
 pub returns-in-Some-clause-sound : goal.returns-in-Some-clause-sound
 returns-in-Some-clause-sound c = subst IsSound (sym c.put_room.ensures.only) (written_sound c.args.parts.now c.requires c.put_room.new.parts.results c.args.call (wanted (record c.in-Some.room.now { lives = true })) c.put_room.ensures.writes (λ has. refl))

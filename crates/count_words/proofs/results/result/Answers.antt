@@ -1,7 +1,6 @@
 use Rattle.count_words.proofs.ResultLemmas.{get-given, given}
 use Rattle.count_words.proofs.results.result.Goals as goal
-use Rattle.std.proofs.Common.{ap, sym, ◌∙◌}
-use Rattle.task_records.specs.Seen.{seen}
+use Rattle.task_records.proofs.Core.{ap, seen, sym, ◌∙◌}
 
 pub returns-in-Some : goal.returns-in-Some
 unfolding seen

@@ -1,8 +1,7 @@
 use Rattle.count_words.proofs.ResultLemmas.{given_wanted, lives_in, lives_wanted, nothing_taken, result_taken, written_sound}
 use Rattle.count_words.proofs.results.take_result.Goals as goal
 use Rattle.count_words.specs.Rooms.{wanted}
-use Rattle.std.proofs.Common.{None, ap, refl, subst, sym, ◌∙◌}
-use Rattle.task_records.specs.Seen.{IsSound, seen}
+use Rattle.task_records.proofs.Core.{ap, IsSound, None, refl, seen, subst, sym, ◌∙◌}
 
 pub returns-in-Some-clause-sound : goal.returns-in-Some-clause-sound
 returns-in-Some-clause-sound c =

@@ -1,7 +1,6 @@
 use Rattle.count_words.proofs.LimitLemmas.{capacity_sound}
 use Rattle.count_words.proofs.settings.set_capacity.Goals as goal
-use Rattle.std.proofs.Common.{refl}
-use Rattle.task_records.specs.Seen.{seen}
+use Rattle.task_records.proofs.Core.{refl, seen}
 
 pub returns-clause-sound : goal.returns-clause-sound
 returns-clause-sound c = capacity_sound c.args.parts.now c.requires.sound c.args.entries c.requires.few

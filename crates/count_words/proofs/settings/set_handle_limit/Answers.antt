@@ -1,9 +1,6 @@
 use Rattle.count_words.proofs.LimitLemmas.{limit_sound}
 use Rattle.count_words.proofs.settings.set_handle_limit.Goals as goal
-use Rattle.std.proofs.Common.{ap, subst, sym}
-use Rattle.task_handles.specs.declared.counter.HandleCounter.{HandleCounter}
-use Rattle.task_records.specs.Seen.{IsSound, seen}
-use Rattle.task_words.specs.StateView.{StateView}
+use Rattle.task_records.proofs.Core.{ap, HandleCounter, IsSound, seen, subst, sym}
 
 pub returns-clause-sound : goal.returns-clause-sound
 returns-clause-sound c =

@@ -1,9 +1,7 @@
 use Rattle.count_words.proofs.stalls.some_entry_may_not.Goals as goal
-use Rattle.std.proofs.Common.{rules, tests}
+use Rattle.task_records.proofs.Core.{may_not_suspend, rules, seen, tests}
 use Rattle.std.proofs.lemmas.Iterator.Consumers.{YieldsList-from_first}
 use Rattle.std.proofs.lemmas.Iterator.Search.{any_from_yields_List}
-use Rattle.task_machine.specs.Read.{may_not_suspend}
-use Rattle.task_records.specs.Seen.{seen}
 
 pub returns : goal.returns
 returns c =

@@ -1,8 +1,6 @@
 use Rattle.count_words.proofs.ScanLemmas.{scanned}
 use Rattle.count_words.proofs.stalls.some_may_not_suspend.Goals as goal
-use Rattle.std.proofs.Common.{◌∙◌}
-use Rattle.task_machine.specs.Read.{may_not_suspend}
-use Rattle.task_records.specs.Seen.{IsSound, seen}
+use Rattle.task_records.proofs.Core.{IsSound, may_not_suspend, seen, ◌∙◌}
 
 pub returns : goal.returns
 unfolding IsSound seen

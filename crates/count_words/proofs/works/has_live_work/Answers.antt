@@ -1,9 +1,6 @@
 use Rattle.count_words.proofs.works.has_live_work.Goals as goal
-use Rattle.std.proofs.Common.{ap, nat_lt, ◌∙◌}
-use Rattle.task_machine.specs.Read.{is_live}
+use Rattle.task_records.proofs.Core.{ap, has_live_work, is_live, nat_lt, seen, ◌∙◌}
 use Rattle.task_records.proofs.KeptLemmas.{any_passing, live_is}
-use Rattle.task_records.specs.Seen.{seen}
-use Rattle.task_rules.specs.Works.{has_live_work}
 
 pub returns : goal.returns
 unfolding has_live_work

@@ -1,8 +1,6 @@
 use Rattle.count_words.proofs.works.has_moving_work.Goals as goal
-use Rattle.std.proofs.Common.{ap, nat_lt, ◌∙◌}
+use Rattle.task_records.proofs.Core.{ap, has_moving_work, is_moving, IsSound, nat_lt, seen, ◌∙◌}
 use Rattle.task_records.proofs.KeptLemmas.{any_passing}
-use Rattle.task_records.specs.Seen.{IsSound, seen}
-use Rattle.task_rules.specs.Works.{has_moving_work, is_moving}
 
 pub returns : goal.returns
 unfolding IsSound has_moving_work seen

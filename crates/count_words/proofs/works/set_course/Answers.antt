@@ -1,13 +1,9 @@
 use Rattle.count_words.proofs.works.set_course.Goals as goal
 use Rattle.count_words.specs.Ones.{one_if}
-use Rattle.std.proofs.Common.{Bool, Option, refl, subst, sym, ◌+◌, ◌≡◌, ◌≤◌, ◌∙◌}
-use Rattle.task_links.specs.declared.links.Node.{Node}
-use Rattle.task_machine.specs.Write.{set_course}
+use Rattle.task_records.proofs.Core.{Bool, is_moving, IsSound, Node, Option, refl, seen, set_course, subst, sym, ◌+◌, ◌∙◌, ◌≡◌, ◌≤◌}
+use Rattle.task_records.specs.declared.{parts.CoreParts.CoreParts}
 use Rattle.task_records.proofs.KeptLemmas.{moving_few}
 use Rattle.task_records.proofs.WriteLemmas.{moved_sound, moved_writes, moving_counted, work_nowhere}
-use Rattle.task_records.specs.Seen.{IsSound, seen}
-use Rattle.task_records.specs.declared.parts.CoreParts.{CoreParts}
-use Rattle.task_rules.specs.Works.{is_moving}
 
 pub recounted-parts-requires-clause-some : goal.recounted-parts-requires-clause-some
 recounted-parts-requires-clause-some c =

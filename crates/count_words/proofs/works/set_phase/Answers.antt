@@ -1,10 +1,8 @@
 use Rattle.count_words.proofs.works.set_phase.Goals as goal
 use Rattle.count_words.specs.Ones.{one_if}
-use Rattle.std.proofs.Common.{Bool, refl, subst, sym, ◌+◌, ◌≡◌, ◌≤◌, ◌∙◌}
-use Rattle.task_machine.specs.Write.{set_phase}
+use Rattle.task_records.proofs.Core.{Bool, is_moving, refl, set_phase, subst, sym, ◌+◌, ◌∙◌, ◌≡◌, ◌≤◌}
 use Rattle.task_records.proofs.KeptLemmas.{moving_few}
 use Rattle.task_records.proofs.WriteLemmas.{moved_sound, moved_writes, moving_counted, work_nowhere}
-use Rattle.task_rules.specs.Works.{is_moving}
 
 pub recounted-parts-requires-clause-some : goal.recounted-parts-requires-clause-some
 recounted-parts-requires-clause-some c =

@@ -1,10 +1,5 @@
 use Rattle.handle_words.proofs.items.free_handle.Goals as goal
-use Rattle.std.proofs.Common.{◌<◌, refl, subst, sym, ℕ, ◌∙◌}
-use Rattle.std.specs.Prelude.{OnOk, Result}
-use Rattle.task_handles.specs.Counted.{Removes}
-use Rattle.task_handles.specs.declared.kinds.HandleError.{HandleError}
-use Rattle.task_handles.specs.declared.kinds.Rep.{Rep}
-use Rattle.std.specs.Prelude.{Bool}
+use Rattle.task_records.proofs.Core.{Bool, HandleError, OnOk, refl, Removes, Rep, Result, subst, sym, ℕ, ◌<◌, ◌∙◌}
 use Rattle.task_records.proofs.HandleTaken.{item_counted, item_taken_sound, item_taken_writes, subtask_held, subtask_instance}
 use Rattle.task_records.proofs.InstanceReads.{read_at}
 

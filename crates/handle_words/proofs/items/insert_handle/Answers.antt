@@ -1,9 +1,6 @@
 use Rattle.handle_words.proofs.ItemLemmas.{nothing_parts}
 use Rattle.handle_words.proofs.items.insert_handle.Goals as goal
-use Rattle.std.proofs.Common.{ap, refl, set}
-use Rattle.std.specs.Vec.{with_item}
-use Rattle.task_handles.specs.Handles.{Handles}
-use Rattle.task_handles.specs.declared.kinds.Held.{Held}
+use Rattle.task_records.proofs.Core.{ap, Handles, Held, refl, set, with_item}
 use Rattle.task_records.proofs.HandleItems.{handle_is, handle_sound, handle_writes}
 use Rattle.task_records.proofs.HandleWrites.{counts_items, nothing_given, nothing_seen}
 use Rattle.task_records.proofs.InstanceReads.{read_at}

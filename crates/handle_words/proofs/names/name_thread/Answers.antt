@@ -1,9 +1,7 @@
 use Rattle.handle_words.proofs.NameLemmas.{named, owns}
 use Rattle.handle_words.proofs.names.name_thread.Goals as goal
 use Rattle.task_records.proofs.HomeLemmas.{thread_at_place, thread_within}
-use Rattle.std.proofs.Common.{subst, sym, ℕ}
-use Rattle.task_records.specs.Names.{AtPlace, ThreadOf}
-use Rattle.task_records.specs.Seen.{parts_of, seen}
+use Rattle.task_records.proofs.Core.{AtPlace, parts_of, seen, subst, sym, ThreadOf, ℕ}
 
 pub insert_thread_handle-requires-clause-there : goal.insert_thread_handle-requires-clause-there
 insert_thread_handle-requires-clause-there c = thread_within c.args.parts.now c.requires.sound c.args.thread c.in-Some.entry.now c.in-Some.ensures.item

@@ -1,12 +1,8 @@
 use Rattle.handle_words.proofs.names.set_thread_handle.Goals as goal
-use Rattle.std.proofs.Common.{Some, ap, refl, sym, ◌∙◌, ℕ}
-use Rattle.std.proofs.lemmas.Option.{same_Some}
-use Rattle.task_machine.specs.Read.{thread_at}
-use Rattle.task_machine.specs.Write.{set_thread_handle}
+use Rattle.task_records.proofs.Core.{ap, refl, same_Some, seen, set_thread_handle, Some, sym, thread_at, ℕ, ◌∙◌}
 use Rattle.task_records.proofs.HomeLemmas.{thread_instance}
 use Rattle.task_records.proofs.ReadLemmas.{thread_named}
 use Rattle.task_records.proofs.WriteLemmas.{thread_nowhere, thread_put_sound, thread_put_writes}
-use Rattle.task_records.specs.Seen.{seen}
 
 pub returns-in-Ok-clause-sound : goal.returns-in-Ok-clause-sound
 unfolding seen

@@ -1,11 +1,7 @@
 use Rattle.handle_words.proofs.NameLemmas.{subtask_named}
 use Rattle.handle_words.proofs.subtasks.name_subtask.Goals as goal
-use Rattle.std.proofs.Common.{ap, ◌∙◌}
-use Rattle.task_machine.specs.Write.{give_handle}
-use Rattle.task_machine.specs.declared.records.Named.{Named}
+use Rattle.task_records.proofs.Core.{ap, give_handle, Named, on_core, seen, ◌∙◌}
 use Rattle.task_records.proofs.InstanceReads.{instance_there}
-use Rattle.task_records.specs.Seen.{seen}
-use Rattle.task_words.specs.StateView.{on_core}
 
 pub insert_handle-requires-clause-there : goal.insert_handle-requires-clause-there
 insert_handle-requires-clause-there c = instance_there c.args.parts.now c.args.instance c.requires.there

@@ -1,8 +1,6 @@
 use Rattle.handle_words.proofs.subtasks.subtask_held.Goals as goal
-use Rattle.std.proofs.Common.{subst, sym, ℕ}
+use Rattle.task_records.proofs.Core.{AtPlace, CallOf, parts_of, subst, sym, WorkOf, ℕ}
 use Rattle.task_records.proofs.HomeLemmas.{call_at_place, place_in_bare, work_at_place}
-use Rattle.task_records.specs.Names.{AtPlace, CallOf, WorkOf}
-use Rattle.task_records.specs.Seen.{parts_of}
 
 pub returns-in-Guest-clause-stands : goal.returns-in-Guest-clause-stands
 returns-in-Guest-clause-stands c =

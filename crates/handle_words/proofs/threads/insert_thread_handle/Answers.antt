@@ -1,9 +1,6 @@
 use Rattle.handle_words.proofs.ItemLemmas.{nothing_parts}
 use Rattle.handle_words.proofs.threads.insert_thread_handle.Goals as goal
-use Rattle.std.proofs.Common.{ap, refl, set}
-use Rattle.std.specs.Vec.{with_item}
-use Rattle.task_handles.specs.Handles.{Handles}
-use Rattle.task_handles.specs.declared.kinds.Rep.{Rep}
+use Rattle.task_records.proofs.Core.{ap, Handles, refl, Rep, set, with_item}
 use Rattle.task_records.proofs.HandleWrites.{counts_threads, nothing_given, nothing_seen, thread_handle_is, thread_handle_names, thread_handle_sound, thread_handle_writes}
 use Rattle.task_records.proofs.InstanceReads.{read_at}
 

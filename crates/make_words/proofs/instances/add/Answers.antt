@@ -1,6 +1,6 @@
 use Rattle.make_words.proofs.AddLemmas.{instance_seen, instance_sound, on_err, same_seen, same_sound}
 use Rattle.make_words.proofs.instances.add.Goals as goal
-use Rattle.std.proofs.Common.{refl}
+use Rattle.task_records.proofs.Core.{refl}
 
 pub returns-clause-sound : goal.returns-clause-sound
 returns-clause-sound c = instance_sound c.args.parts.now _ refl c.new.ensures c.new-2.ensures _ c.in_ok-push.ensures.items c.requires.sound c.requires.loose c.requires.high c.requires.low

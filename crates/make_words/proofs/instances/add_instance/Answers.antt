@@ -1,8 +1,6 @@
 use Rattle.make_words.proofs.AddLemmas.{instance_count, none_yet}
 use Rattle.make_words.proofs.instances.add_instance.Goals as goal
-use Rattle.std.proofs.Common.{ap, arith, ◌<◌, ◌≡◌, ◌∙◌}
-use Rattle.task_machine.specs.Maps.{get, size}
-use Rattle.task_records.specs.Seen.{seen}
+use Rattle.task_records.proofs.Core.{ap, arith, get, seen, size, ◌<◌, ◌∙◌, ◌≡◌}
 
 pub overflow_cast-number : goal.overflow_cast-number
 overflow_cast-number c =

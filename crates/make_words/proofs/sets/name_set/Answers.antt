@@ -1,14 +1,8 @@
 use Rattle.make_words.proofs.RestoreLemmas.{image_restored, sound_restored}
 use Rattle.make_words.proofs.UndoLemmas.{set_restored}
 use Rattle.make_words.proofs.sets.name_set.Goals as goal
-use Rattle.std.proofs.Common.{ap, ap₂, refl, subst, sym, ℕ, ◌∙◌}
-use Rattle.task_machine.specs.Core.{Core}
-use Rattle.task_machine.specs.Write.{give_handle}
-use Rattle.task_machine.specs.declared.records.Named.TheVariants as names
+use Rattle.task_records.proofs.Core.{ap, ap₂, AtPlace, Core, give_handle, IsSound, Keeps, Named, parts_of, refl, seen, SetOf, StateView, subst, sym, ℕ, ◌∙◌}
 use Rattle.task_records.proofs.HomeLemmas.{place_in_bare, set_at_place}
-use Rattle.task_records.specs.Names.{AtPlace, SetOf}
-use Rattle.task_records.specs.Seen.{IsSound, parts_of, seen}
-use Rattle.task_words.specs.StateView.{Keeps, StateView}
 
 pub insert_handle-requires-clause-stands : goal.insert_handle-requires-clause-stands
 unfolding seen
@@ -21,7 +15,7 @@ pub returns-in-Ok-insert_handle-clause-core : goal.returns-in-Ok-insert_handle-c
 unfolding seen
 returns-in-Ok-insert_handle-clause-core c =
     ap (λ (v : StateView). v.core) c.in-Ok-insert_handle.ensures.new
-    ∙ ap₂ (λ (n : ℕ) (s : Core). give_handle c.args.instance (names.Set n) s) c.requires.next c.in-Ok.ensures.core
+    ∙ ap₂ (λ (n : ℕ) (s : Core). give_handle c.args.instance (Named.Set n) s) c.requires.next c.in-Ok.ensures.core
 
 pub returns-in-Err-insert_handle-clause-sound : goal.returns-in-Err-insert_handle-clause-sound
 unfolding IsSound

@@ -1,8 +1,6 @@
 use Rattle.make_words.proofs.LooseLemmas.{made_set_loose}
 use Rattle.make_words.proofs.sets.new_set.Goals as goal
-use Rattle.std.proofs.Common.{ap, arith, ◌+◌, ◌<◌, ◌^◌, ◌≡◌, ◌∙◌}
-use Rattle.task_records.specs.Seen.{seen}
-use Rattle.task_words.specs.StateView.{StateView}
+use Rattle.task_records.proofs.Core.{ap, arith, seen, StateView, ◌+◌, ◌<◌, ◌^◌, ◌∙◌, ◌≡◌}
 
 pub overflow_add-result : goal.overflow_add-result
 unfolding seen

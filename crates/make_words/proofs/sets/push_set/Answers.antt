@@ -1,7 +1,6 @@
 use Rattle.make_words.proofs.SetAddLemmas.{set_core, set_named, set_sound, set_tags, used_few}
 use Rattle.make_words.proofs.sets.push_set.Goals as goal
-use Rattle.std.proofs.Common.{arith, refl, ◌+◌, ◌<◌, ◌^◌}
-use Rattle.task_records.specs.Seen.{seen}
+use Rattle.task_records.proofs.Core.{arith, refl, seen, ◌+◌, ◌<◌, ◌^◌}
 
 pub overflow_add-parts-in-Ok : goal.overflow_add-parts-in-Ok
 overflow_add-parts-in-Ok c = let few : c.args.parts.now.kept.used + 1 < 2 ^ 64 = used_few c.args.parts.now c.requires.sound c.requires.room in omega arith

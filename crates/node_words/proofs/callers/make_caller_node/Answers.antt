@@ -1,9 +1,7 @@
 use Rattle.node_words.proofs.CallerLemmas.{caller_made_seen, caller_made_sound}
 use Rattle.node_words.proofs.callers.make_caller_node.Goals as goal
-use Rattle.std.proofs.Common.{List, ap, refl, subst, sym}
-use Rattle.task_links.specs.Links.{Spot}
-use Rattle.task_records.specs.Seen.{IsSound, seen}
-use Rattle.task_records.specs.declared.threads.Follower.{Follower}
+use Rattle.task_records.proofs.Core.{ap, IsSound, List, refl, seen, Spot, subst, sym}
+use Rattle.task_records.specs.declared.{threads.Follower.Follower}
 
 pub returns-in-Ok-clause-sound : goal.returns-in-Ok-clause-sound
 returns-in-Ok-clause-sound c = caller_made_sound c.args.parts.now c.requires _ _ _ c.in-Ok.ensures.made refl

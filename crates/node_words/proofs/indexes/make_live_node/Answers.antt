@@ -1,9 +1,7 @@
 use Rattle.node_words.proofs.indexes.make_live_node.Goals as goal
-use Rattle.std.proofs.Common.{List, refl, subst, sym}
-use Rattle.task_links.specs.Links.{Spot}
+use Rattle.task_records.proofs.Core.{IsSound, List, refl, seen, Spot, subst, sym}
+use Rattle.task_records.specs.declared.{works.LiveWork.LiveWork}
 use Rattle.task_records.proofs.LinkLemmas.{live_made_sound}
-use Rattle.task_records.specs.Seen.{IsSound, seen}
-use Rattle.task_records.specs.declared.works.LiveWork.{LiveWork}
 
 pub returns-in-Ok-clause-sound : goal.returns-in-Ok-clause-sound
 returns-in-Ok-clause-sound c = live_made_sound c.args.parts.now c.requires _ _ _ c.in-Ok.ensures.made refl

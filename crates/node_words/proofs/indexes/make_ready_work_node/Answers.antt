@@ -1,8 +1,6 @@
 use Rattle.node_words.proofs.indexes.make_ready_work_node.Goals as goal
-use Rattle.std.proofs.Common.{List, refl, subst, sym, ℕ}
-use Rattle.task_links.specs.Links.{Spot}
+use Rattle.task_records.proofs.Core.{IsSound, List, refl, seen, Spot, subst, sym, ℕ}
 use Rattle.task_records.proofs.LinkLemmas.{ready_work_made_sound}
-use Rattle.task_records.specs.Seen.{IsSound, seen}
 
 pub returns-in-Ok-clause-sound : goal.returns-in-Ok-clause-sound
 returns-in-Ok-clause-sound c = ready_work_made_sound c.args.parts.now c.requires _ _ _ c.in-Ok.ensures.made refl

@@ -1,4 +1,4 @@
-use Rattle.std.proofs.Common.{◌∙◌}
+use Rattle.task_records.proofs.Core.{◌∙◌}
 use Rattle.place_words.proofs.EntryLemmas.{no_set_there}
 use Rattle.place_words.proofs.entries.no_set.Goals as goal
 

@@ -1,10 +1,7 @@
-use Rattle.std.proofs.Common.{Option, ap, refl, subst, sym, ◌∙◌, ℕ}
-use Rattle.std.specs.Option.{option_map}
+use Rattle.task_records.proofs.Core.{ap, Option, option_map, Refiles, refl, set_event, subst, sym, ℕ, ◌∙◌}
 use Rattle.place_words.proofs.GoneLemmas.{call_gone}
 use Rattle.place_words.proofs.TellLemmas.{join_at, ready_live, ready_made, kept_same, same_sets, told_seen, told_sound}
 use Rattle.place_words.proofs.events.set_call_event.Goals as goal
-use Rattle.task_index.specs.Index.{Refiles}
-use Rattle.task_machine.specs.Write.{set_event}
 
 pub call_chain-chain-requires-clause-at : goal.call_chain-chain-requires-clause-at
 call_chain-chain-requires-clause-at c = join_at c.args.parts.now c.requires c.args.call c.in-Some.found.now c.in-Some.ensures.item

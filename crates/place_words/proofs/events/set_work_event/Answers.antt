@@ -1,10 +1,7 @@
-use Rattle.std.proofs.Common.{Option, ap, refl, subst, sym, ◌∙◌, ℕ}
-use Rattle.std.specs.Option.{option_map}
+use Rattle.task_records.proofs.Core.{ap, Option, option_map, Refiles, refl, set_event, subst, sym, ℕ, ◌∙◌}
 use Rattle.place_words.proofs.GoneLemmas.{work_gone}
 use Rattle.place_words.proofs.HearLemmas.{is_whole, work_join_at, ready_live, ready_made, kept_same, same_sets, stays_live, heard_seen, heard_sound}
 use Rattle.place_words.proofs.events.set_work_event.Goals as goal
-use Rattle.task_index.specs.Index.{Refiles}
-use Rattle.task_machine.specs.Write.{set_event}
 
 pub work_chain-chain-requires-clause-at : goal.work_chain-chain-requires-clause-at
 work_chain-chain-requires-clause-at c = work_join_at c.args.parts.now c.requires c.args.work c.in-Some.found.now c.in-Some.ensures.item

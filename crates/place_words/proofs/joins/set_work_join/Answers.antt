@@ -1,22 +1,10 @@
-use Rattle.std.proofs.Common.{Option, ap, refl, subst, sym, ◌+◌, ◌∙◌, ◌≡◌, ℕ}
-use Rattle.std.specs.Option.{option_map}
+use Rattle.task_records.proofs.Core.{ap, entry_of, IsSound, item_at, item_of, Join, on_core, on_work, Option, option_map, Refiles, refl, seen, set_join, subst, sym, Table, with_entry, Work, work_of, ℕ, ◌+◌, ◌∙◌, ◌≡◌}
+use Rattle.task_records.specs.declared.{sets.WaitSet.WaitSet, single.Single.Single}
 use Rattle.place_words.proofs.GoneLemmas.{work_gone}
 use Rattle.place_words.proofs.JoinLemmas.{in_is, less_fits, more_fits, sets_sound}
 use Rattle.place_words.proofs.HearLemmas.{is_whole, heard_seen, heard_sound, joined_alike, joined_now, kept_joined, ready_live, ready_made, some_member, stays_live, work_join_at}
 use Rattle.place_words.proofs.joins.set_work_join.Goals as goal
 use Rattle.place_words.specs.Moved.{joined_set, rejoined}
-use Rattle.task_index.specs.Index.{Refiles}
-use Rattle.task_machine.specs.Write.{on_work, set_join}
-use Rattle.task_machine.specs.declared.records.Join.{Join}
-use Rattle.task_machine.specs.declared.records.Work.{Work}
-use Rattle.task_records.specs.Kinds.{entry_of, item_of}
-use Rattle.task_records.specs.Seen.{IsSound, seen}
-use Rattle.task_records.specs.declared.sets.WaitSet.{WaitSet}
-use Rattle.task_records.specs.declared.single.Single.{Single}
-use Rattle.task_table.specs.Answers.{item_at}
-use Rattle.task_table.specs.Changes.{with_entry}
-use Rattle.task_table.specs.Table.{Table}
-use Rattle.task_words.specs.StateView.{work_of, on_core}
 
 pub joined_set-from-requires-clause-at : goal.joined_set-from-requires-clause-at
 joined_set-from-requires-clause-at c = work_join_at c.args.parts.now c.requires c.args.work c.in-Some.found.now c.in-Some.ensures.item

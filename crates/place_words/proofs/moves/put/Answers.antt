@@ -1,22 +1,10 @@
-use Rattle.std.proofs.Common.{◌≡◌, ◌+◌, ap, arith, subst, sym, ◌∙◌, Option, ℕ}
+use Rattle.task_records.proofs.Core.{ap, arith, bare, entry_of, IsSound, item_at, item_of, on_core, on_thread, Option, option_and_then, option_map, parts_of, place_chain, Refiles, seen, subst, sym, Table, thread_of, where_at, with_entry, ℕ, ◌+◌, ◌∙◌, ◌≡◌}
+use Rattle.task_records.specs.declared.{sets.WaitSet.WaitSet, single.Single.Single}
 use Rattle.place_words.proofs.FitLemmas.{less_fits, more_fits}
 use Rattle.place_words.proofs.PlacedLemmas.{chain_live, node_made, placed_seen, placed_sound}
 use Rattle.place_words.proofs.moves.put.Goals as goal
 use Rattle.place_words.specs.Moved.{recounted}
-use Rattle.std.specs.Option.{option_and_then, option_map}
-use Rattle.task_records.specs.Kinds.{entry_of, item_of}
-use Rattle.task_records.specs.Places.{place_chain, where_at}
-use Rattle.task_records.specs.Sound.{bare}
-use Rattle.task_table.specs.Answers.{item_at}
-use Rattle.task_table.specs.Changes.{with_entry}
-use Rattle.task_index.specs.Index.{Refiles}
-use Rattle.task_machine.specs.Write.{on_thread}
 use Rattle.task_records.proofs.HomeLemmas.{place_bare, thread_home}
-use Rattle.task_records.specs.Seen.{IsSound, parts_of, seen}
-use Rattle.task_records.specs.declared.sets.WaitSet.{WaitSet}
-use Rattle.task_records.specs.declared.single.Single.{Single}
-use Rattle.task_table.specs.Table.{Table}
-use Rattle.task_words.specs.StateView.{on_core, thread_of}
 
 pub entry_set-from-requires-clause-place : goal.entry_set-from-requires-clause-place
 entry_set-from-requires-clause-place c = place_bare c.args.parts.now _ _ (thread_home c.args.parts.now c.requires.sound c.args.id c.args.old c.requires.item).place

@@ -1,21 +1,10 @@
-use Rattle.std.proofs.Common.{◌≡◌, ◌+◌, ap, arith, subst, sym, ◌∙◌}
+use Rattle.task_records.proofs.Core.{ap, arith, AtPlace, entry_of, IsSound, item_at, item_of, on_core, on_thread, parts_of, place_target, seen, subst, sym, Table, thread_of, with_entry, ◌+◌, ◌∙◌, ◌≡◌}
+use Rattle.task_records.specs.declared.{parts.CoreParts.CoreParts, sets.WaitSet.WaitSet, single.Single.Single, threads.GuestThread.GuestThread}
 use Rattle.place_words.proofs.FitLemmas.{less_fits, more_fits}
 use Rattle.place_words.proofs.PlacedLemmas.{placed_seen, placed_sound, stays_filed}
 use Rattle.place_words.proofs.moves.put_there.Goals as goal
 use Rattle.place_words.specs.Moved.{recounted}
-use Rattle.task_records.specs.Kinds.{entry_of, item_of}
-use Rattle.task_table.specs.Answers.{item_at}
-use Rattle.task_table.specs.Changes.{with_entry}
-use Rattle.task_machine.specs.Write.{on_thread}
 use Rattle.task_records.proofs.HomeLemmas.{place_bare, thread_home}
-use Rattle.task_records.specs.Seen.{IsSound, parts_of, seen}
-use Rattle.task_records.specs.Names.{AtPlace, place_target}
-use Rattle.task_records.specs.declared.parts.CoreParts.{CoreParts}
-use Rattle.task_records.specs.declared.sets.WaitSet.{WaitSet}
-use Rattle.task_records.specs.declared.threads.GuestThread.{GuestThread}
-use Rattle.task_records.specs.declared.single.Single.{Single}
-use Rattle.task_table.specs.Table.{Table}
-use Rattle.task_words.specs.StateView.{on_core, thread_of}
 
 pub entry_set-from-requires-clause-place : goal.entry_set-from-requires-clause-place
 entry_set-from-requires-clause-place c = place_bare c.args.parts.now _ _ (thread_home c.args.parts.now c.requires.sound c.args.id c.args.old c.requires.item).place

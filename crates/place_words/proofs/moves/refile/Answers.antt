@@ -1,8 +1,5 @@
-use Rattle.std.proofs.Common.{Option, subst, sym, ℕ}
-use Rattle.std.specs.Option.{option_map}
+use Rattle.task_records.proofs.Core.{Option, option_map, Refiles, Refiles-removed, subst, sym, ℕ}
 use Rattle.place_words.proofs.moves.refile.Goals as goal
-use Rattle.task_index.proofs.Refilings.{Refiles-removed}
-use Rattle.task_index.specs.Index.{Refiles}
 
 pub returns-in-None-clause-links : goal.returns-in-None-clause-links
 returns-in-None-clause-links c =

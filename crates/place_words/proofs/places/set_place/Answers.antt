@@ -1,8 +1,6 @@
-use Rattle.std.proofs.Common.{ap}
+use Rattle.task_records.proofs.Core.{ap, Place, set_place}
 use Rattle.place_words.proofs.ThreadLemmas.{how_far_at, thread_gone}
 use Rattle.place_words.proofs.places.set_place.Goals as goal
-use Rattle.task_machine.specs.Write.{set_place}
-use Rattle.task_machine.specs.declared.records.Place.{Place}
 
 pub put-requires-clause-how_far : goal.put-requires-clause-how_far
 put-requires-clause-how_far c = how_far_at c.args.parts.now c.requires c.args.thread c.in-Some.found.now c.in-Some.ensures.item

@@ -1,22 +1,8 @@
-use Rattle.std.proofs.Common.{ap, refl, subst, sym, ◌∙◌}
-use Rattle.std.proofs.lemmas.Option.{same_Some}
-use Rattle.std.specs.Option.{option_and_then, option_map}
+use Rattle.task_records.proofs.Core.{ap, AtPlace, held_why, Mark, number_in, option_and_then, option_map, parts_of, Place, place_target, record_at, refl, same_Some, set_place, subst, sym, Table, Thread, thread_key, Why, ◌∙◌}
+use Rattle.task_records.specs.declared.{single.Single.Single, threads.GuestThread.GuestThread}
 use Rattle.place_words.proofs.ThreadLemmas.{how_far_at, numbers_put}
 use Rattle.place_words.proofs.places.unhold.Goals as goal
-use Rattle.task_machine.specs.Read.{held_why}
-use Rattle.task_machine.specs.Write.{set_place}
-use Rattle.task_machine.specs.declared.records.Place.TheVariants as place
-use Rattle.task_machine.specs.declared.records.Thread.{Thread}
-use Rattle.task_machine.specs.declared.records.Why.{Why}
-use Rattle.task_machine.specs.declared.words.Mark.TheVariants as mark
 use Rattle.task_records.proofs.HomeLemmas.{place_bare, thread_home}
-use Rattle.task_records.specs.Names.{AtPlace, place_target}
-use Rattle.task_records.specs.Seen.{parts_of}
-use Rattle.task_table.specs.Table.{Table}
-use Rattle.task_records.specs.Keys.{thread_key}
-use Rattle.task_records.specs.declared.single.Single.{Single}
-use Rattle.task_records.specs.declared.threads.GuestThread.{GuestThread}
-use Rattle.task_table.specs.Records.{number_in, record_at}
 
 pub put-requires-clause-place : goal.put-requires-clause-place
 put-requires-clause-place c =
@@ -32,7 +18,7 @@ unfolding set_place
 returns-clause-new c w is =
     let t = c.in-Some.found.now.thread in
     let read = ap (λ o. option_and_then held_why (option_map (λ (x : Thread). x.place) o)) c.in-Some.ensures.is in
-    c.put.ensures.new _ (ap (λ (v : Why). record t { place = place.Ready mark.High v }) (same_Some w c.in-Held.why (sym is ∙ (sym read ∙ ap held_why c.in-Held.is))))
+    c.put.ensures.new _ (ap (λ (v : Why). record t { place = Place.Ready Mark.High v }) (same_Some w c.in-Held.why (sym is ∙ (sym read ∙ ap held_why c.in-Held.is))))
 
 pub returns-clause-numbers : goal.returns-clause-numbers
 returns-clause-numbers c r =

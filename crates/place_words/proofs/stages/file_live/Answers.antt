@@ -1,11 +1,8 @@
-use Rattle.std.proofs.Common.{IsSome, List, None, Option, Some, subst, sym, ◌≡◌, ℕ, true}
-use Rattle.std.specs.Option.{IfSome, option_map}
+use Rattle.task_records.proofs.Core.{IsSome, List, list_of, None, Option, option_map, refiled_free, Refiles, Refiles-linked, Refiles-removed, Refiles-twice, Some, Spot, subst, sym, ℕ, ◌≡◌}
+use Rattle.std.specs.Option.{IfSome}
+use Rattle.task_records.specs.declared.{works.LiveWork.LiveWork}
 use Rattle.place_words.proofs.RiseLemmas.{Rises-linked, Rises-removed}
 use Rattle.place_words.proofs.stages.file_live.Goals as goal
-use Rattle.task_index.proofs.Refilings.{Refiles-linked, Refiles-removed, Refiles-twice, refiled_free}
-use Rattle.task_index.specs.Index.{Refiles}
-use Rattle.task_links.specs.Links.{Spot, list_of}
-use Rattle.task_records.specs.declared.works.LiveWork.{LiveWork}
 
 -- the chain is live when the node is out
 still_live : (old out : List (Spot LiveWork)) (n k : ℕ) (o : Option ℕ) → Refiles old out n None → o ≡ Some k → IfSome o (λ c. IsSome (list_of old c)) → IsSome (list_of out k)

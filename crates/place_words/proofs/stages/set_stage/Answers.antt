@@ -1,14 +1,10 @@
-use Rattle.std.proofs.Common.{Bool, Option, ap, cond, refl, subst, sym, ◌+◌, ◌∙◌, ◌≤◌, ℕ}
-use Rattle.std.specs.Option.{option_map}
+use Rattle.task_records.proofs.Core.{ap, Bool, cond, live_value, Option, option_map, Refiles, refl, set_stage, subst, sym, ℕ, ◌+◌, ◌∙◌, ◌≤◌}
+use Rattle.task_records.specs.declared.{works.LiveWork.LiveWork}
 use Rattle.place_words.proofs.GoneLemmas.{work_gone}
 use Rattle.place_words.proofs.HearLemmas.{is_whole, heard_seen, heard_sound, kept_same, live_made, same_sets, work_join_at}
 use Rattle.place_words.proofs.StageLemmas.{live_few, live_some, moving_some, recounted_is, stage_live, stays_ready}
 use Rattle.place_words.proofs.stages.set_stage.Goals as goal
-use Rattle.task_index.specs.Index.{Refiles}
-use Rattle.task_machine.specs.Write.{set_stage}
 use Rattle.task_records.proofs.KeptLemmas.{moving_few}
-use Rattle.task_records.specs.Places.{live_value}
-use Rattle.task_records.specs.declared.works.LiveWork.{LiveWork}
 
 pub file_live-requires-clause-made : goal.file_live-requires-clause-made
 file_live-requires-clause-made c = live_made c.args.parts.now c.requires c.args.work c.in-Some.found.now c.in-Some.ensures.item

@@ -1,9 +1,7 @@
-use Rattle.std.proofs.Common.{ap, refl, sym, ◌+◌, ◌∙◌}
+use Rattle.task_records.proofs.Core.{ap, refl, seen, sym, with_core, ◌+◌, ◌∙◌}
 use Rattle.place_words.proofs.StepLemmas.{advanced_none, advanced_one, at_position}
 use Rattle.place_words.proofs.ThreadLemmas.{thread_gone}
 use Rattle.place_words.proofs.steps.advance.Goals as goal
-use Rattle.task_records.specs.Seen.{seen}
-use Rattle.task_words.specs.StateView.{with_core}
 
 pub returns-in-Some-clause-new : goal.returns-in-Some-clause-new
 returns-in-Some-clause-new c =

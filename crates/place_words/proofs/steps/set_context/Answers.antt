@@ -1,7 +1,7 @@
-use Rattle.std.proofs.Common.{refl}
+use Rattle.task_records.proofs.Core.{refl}
+use Rattle.task_words.specs.Context.{with_context}
 use Rattle.place_words.proofs.ThreadLemmas.{thread_gone}
 use Rattle.place_words.proofs.steps.set_context.Goals as goal
-use Rattle.task_words.specs.Context.{with_context}
 
 pub returns-in-Some-clause-new : goal.returns-in-Some-clause-new
 unfolding with_context

@@ -1,8 +1,6 @@
-use Rattle.std.proofs.Common.{ap}
+use Rattle.task_records.proofs.Core.{ap, HowFar, set_how_far}
 use Rattle.place_words.proofs.ThreadLemmas.{thread_gone}
 use Rattle.place_words.proofs.steps.set_how_far.Goals as goal
-use Rattle.task_machine.specs.Write.{set_how_far}
-use Rattle.task_machine.specs.declared.records.HowFar.{HowFar}
 
 pub returns-in-Some-clause-new : goal.returns-in-Some-clause-new
 unfolding set_how_far

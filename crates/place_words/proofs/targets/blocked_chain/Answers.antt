@@ -1,10 +1,6 @@
-use Rattle.std.proofs.Common.{ap, ◌∙◌}
+use Rattle.task_records.proofs.Core.{ap, bare, BlockedOn, parts_of, place_chain, seen, subtask_in, ◌∙◌}
 use Rattle.place_words.proofs.TargetLemmas.{blocked_is, blocked_none, work_blocked_is, work_blocked_none}
 use Rattle.place_words.proofs.targets.blocked_chain.Goals as goal
-use Rattle.task_records.specs.Places.{BlockedOn, place_chain}
-use Rattle.task_records.specs.Seen.{parts_of, seen}
-use Rattle.task_records.specs.Sound.{bare}
-use Rattle.task_words.specs.Names.{subtask_in}
 
 pub returns-in-Some : goal.returns-in-Some
 returns-in-Some c =

@@ -1,7 +1,6 @@
-use Rattle.std.proofs.Common.{ap, not, sym}
+use Rattle.task_records.proofs.Core.{ap, is_nil, not, sym}
 use Rattle.queue_words.proofs.CallerLemmas.{callers_chain_of, callers_live, gone_callers, some_callers}
 use Rattle.queue_words.proofs.callers.has_callers.Goals as goal
-use Rattle.task_machine.specs.Read.{is_nil}
 
 pub first-requires : goal.first-requires
 first-requires c = callers_live c.args.parts.now c.requires _ c.in-Some.found.now.callers (callers_chain_of c.args.parts.now c.requires c.args.thread c.in-Some.found.now c.in-Some.ensures.item)

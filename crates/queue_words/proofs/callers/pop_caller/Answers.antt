@@ -1,9 +1,7 @@
-use Rattle.std.proofs.Common.{Some, ap, subst, sym, ◌<◌, ◌∙◌, ℕ}
+use Rattle.task_records.proofs.Core.{ap, first_number, later_of, Some, subst, sym, ℕ, ◌<◌, ◌∙◌}
 use Rattle.queue_words.proofs.CallerLemmas.{callers_chain_of, callers_live, follower_made, left_seen, left_sound, no_oldest, none_seen, oldest}
 use Rattle.queue_words.proofs.SwitchLemmas.{follower_here, follower_positive}
 use Rattle.queue_words.proofs.callers.pop_caller.Goals as goal
-use Rattle.task_rules.specs.Works.{first_number}
-use Rattle.task_words.specs.Apart.{later_of}
 
 pub first-requires : goal.first-requires
 first-requires c = callers_live c.args.parts.now c.requires.sound _ c.live_thread-found.result.callers (callers_chain_of c.args.parts.now c.requires.sound c.args.thread c.live_thread-found.result c.live_thread-found.ensures)

@@ -1,8 +1,7 @@
-use Rattle.std.proofs.Common.{Some, ap, subst, sym, ◌<◌, ◌∙◌, ℕ}
+use Rattle.task_records.proofs.Core.{ap, newest_of, older_of, Some, subst, sym, ℕ, ◌<◌, ◌∙◌}
 use Rattle.queue_words.proofs.CallerLemmas.{callers_chain_of, callers_live, follower_made, left_seen, left_sound, newest_one, no_newest, none_seen}
 use Rattle.queue_words.proofs.SwitchLemmas.{follower_here, follower_positive}
 use Rattle.queue_words.proofs.callers.pop_newest_caller.Goals as goal
-use Rattle.task_words.specs.Apart.{newest_of, older_of}
 
 pub last-requires : goal.last-requires
 last-requires c = callers_live c.args.parts.now c.requires.sound _ c.live_thread-found.result.callers (callers_chain_of c.args.parts.now c.requires.sound c.args.thread c.live_thread-found.result c.live_thread-found.ensures)

@@ -1,7 +1,6 @@
-use Rattle.std.proofs.Common.{refl}
+use Rattle.task_records.proofs.Core.{High, refl}
 use Rattle.queue_words.proofs.PushLemmas.{free_mark, free_shelf, instance_there, live_mark, live_shelf, push_high_seen, push_sound}
 use Rattle.queue_words.proofs.pushes.push_high.Goals as goal
-use Rattle.task_records.specs.Rows.{High}
 
 pub high_chains-chain-requires-clause-within : goal.high_chains-chain-requires-clause-within
 high_chains-chain-requires-clause-within c = instance_there c.args.parts.now c.requires.sound c.args.thread c.live_thread-found.result c.live_thread-found.ensures

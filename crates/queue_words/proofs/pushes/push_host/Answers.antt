@@ -1,4 +1,4 @@
-use Rattle.std.proofs.Common.{IsSome, subst}
+use Rattle.task_records.proofs.Core.{IsSome, subst}
 use Rattle.queue_words.proofs.PushLemmas.{high_there, host_free, host_live, host_seen, host_sound}
 use Rattle.queue_words.proofs.pushes.push_host.Goals as goal
 

@@ -1,9 +1,6 @@
-use Rattle.std.proofs.Common.{Some, None, ap, sym, ◌∙◌}
-use Rattle.std.specs.Option.{option_map}
+use Rattle.task_records.proofs.Core.{ap, None, option_map, seen, Some, sym, thread_of, ◌∙◌}
 use Rattle.queue_words.proofs.SwitchLemmas.{follower_kept, follower_number, switch_seen, switch_sound}
 use Rattle.queue_words.proofs.pushes.set_switch.Goals as goal
-use Rattle.task_records.specs.Seen.{seen}
-use Rattle.task_words.specs.StateView.{thread_of}
 
 pub returns-in-Some-clause-sound : goal.returns-in-Some-clause-sound
 returns-in-Some-clause-sound c =

@@ -1,4 +1,4 @@
-use Rattle.std.proofs.Common.{sym, ◌∙◌}
+use Rattle.task_records.proofs.Core.{sym, ◌∙◌}
 use Rattle.queue_words.proofs.LeaveLemmas.{mark_is_made, shelf_is_made, thread_leaves, work_leaves}
 use Rattle.queue_words.proofs.removals.leave.Goals as goal
 

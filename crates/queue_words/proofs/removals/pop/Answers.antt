@@ -1,16 +1,12 @@
-use Rattle.std.proofs.Common.{None, ap, refl, sym, ◌∙◌, ◌≡◌}
+use Rattle.task_records.proofs.Core.{ap, Mark, None, on_core, popped, refl, seen, sym, ◌∙◌, ◌≡◌}
+use Rattle.task_records.specs.declared.{parts.CoreParts.CoreParts}
 use Rattle.queue_words.proofs.SwitchLemmas.{switch_after, switch_seen, switch_sound}
 use Rattle.queue_words.proofs.removals.pop.Goals as goal
-use Rattle.task_machine.specs.declared.words.Mark.TheVariants as mark
-use Rattle.task_records.specs.Seen.{seen}
-use Rattle.task_records.specs.declared.parts.CoreParts.{CoreParts}
-use Rattle.task_rules.specs.Takes.{popped}
-use Rattle.task_words.specs.StateView.{on_core}
 
 pub returns-in-Switch-clause-sound : goal.returns-in-Switch-clause-sound
 returns-in-Switch-clause-sound c = switch_sound c.args.parts.now None c.requires tt
 
-switch_popped : (a : CoreParts) → seen (switch_after a None) ≡ on_core (popped mark.Switch) (seen a)
+switch_popped : (a : CoreParts) → seen (switch_after a None) ≡ on_core (popped Mark.Switch) (seen a)
 unfolding popped
 switch_popped a = switch_seen a None None refl
 

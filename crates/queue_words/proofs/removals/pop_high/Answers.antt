@@ -1,7 +1,7 @@
 use Rattle.queue_words.proofs.LeaveLemmas.{left_sound, pop_high_nothing, pop_high_seen}
 use Rattle.queue_words.proofs.TopLemmas.{mark_live, top_seated}
 use Rattle.queue_words.proofs.removals.pop_high.Goals as goal
-use Rattle.task_records.specs.Rows.{High}
+use Rattle.task_records.proofs.Core.{High}
 
 pub first_queued-requires : goal.first_queued-requires
 first_queued-requires c = mark_live c.args.parts.now c.requires High

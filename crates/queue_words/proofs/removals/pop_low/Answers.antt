@@ -1,7 +1,7 @@
 use Rattle.queue_words.proofs.LeaveLemmas.{left_sound, pop_low_nothing, pop_low_seen}
 use Rattle.queue_words.proofs.TopLemmas.{mark_live, top_seated}
 use Rattle.queue_words.proofs.removals.pop_low.Goals as goal
-use Rattle.task_records.specs.Rows.{Low}
+use Rattle.task_records.proofs.Core.{Low}
 
 pub first_queued-requires : goal.first_queued-requires
 first_queued-requires c = mark_live c.args.parts.now c.requires Low

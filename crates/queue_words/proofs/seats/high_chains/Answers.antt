@@ -1,7 +1,6 @@
-use Rattle.std.proofs.Common.{subst, IsSome}
+use Rattle.task_records.proofs.Core.{High, IsSome, subst}
 use Rattle.queue_words.proofs.BareLemmas.{at_index, high_made, shelf_bare}
 use Rattle.queue_words.proofs.seats.high_chains.Goals as goal
-use Rattle.task_records.specs.Rows.{High}
 
 pub unreachable-requires : goal.unreachable-requires
 unreachable-requires c = let none = subst IsSome c.in-None.is (high_made c.args.parts.now c.requires.sound c.args.instance c.requires.within) in absurd (cc)

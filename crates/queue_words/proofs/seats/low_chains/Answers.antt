@@ -1,7 +1,6 @@
-use Rattle.std.proofs.Common.{subst, IsSome}
+use Rattle.task_records.proofs.Core.{IsSome, Low, subst}
 use Rattle.queue_words.proofs.BareLemmas.{at_index, low_made, shelf_bare}
 use Rattle.queue_words.proofs.seats.low_chains.Goals as goal
-use Rattle.task_records.specs.Rows.{Low}
 
 pub unreachable-requires : goal.unreachable-requires
 unreachable-requires c = let none = subst IsSome c.in-None.is (low_made c.args.parts.now c.requires.sound c.args.instance c.requires.within) in absurd (cc)

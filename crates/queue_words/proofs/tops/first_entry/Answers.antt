@@ -1,7 +1,6 @@
-use Rattle.std.proofs.Common.{None, Some, ap, refl, subst, sym, ◌<◌, ◌∙◌, ℕ}
+use Rattle.task_records.proofs.Core.{ap, High, Low, None, refl, Some, subst, sym, ℕ, ◌<◌, ◌∙◌}
 use Rattle.queue_words.proofs.TopLemmas.{first_from_low, first_high, first_none, first_past, first_some, shelf_live}
 use Rattle.queue_words.proofs.tops.first_entry.Goals as goal
-use Rattle.task_records.specs.Rows.{High, Low}
 
 pub first_queued-requires : goal.first_queued-requires
 first_queued-requires c = shelf_live c.args.parts.now c.requires c.args.instance c.in-Some.record.now c.in-Some.ensures.item High

@@ -1,9 +1,7 @@
-use Rattle.std.proofs.Common.{Some, ap, subst, sym, ◌<◌, ◌∙◌, ℕ}
-use Rattle.std.specs.Option.{option_map}
+use Rattle.task_records.proofs.Core.{ap, option_map, seen, Some, subst, sym, ℕ, ◌<◌, ◌∙◌}
+use Rattle.task_records.specs.declared.{threads.Follower.Follower}
 use Rattle.queue_words.proofs.SwitchLemmas.{follower_here, follower_positive, switch_follows}
 use Rattle.queue_words.proofs.tops.switch.Goals as goal
-use Rattle.task_records.specs.Seen.{seen}
-use Rattle.task_records.specs.declared.threads.Follower.{Follower}
 
 pub returns-in-Some-clause-is : goal.returns-in-Some-clause-is
 unfolding seen

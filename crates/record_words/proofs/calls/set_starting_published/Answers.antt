@@ -1,6 +1,5 @@
 use Rattle.record_words.proofs.calls.set_starting_published.Goals as goal
-use Rattle.std.proofs.Common.{true, refl}
-use Rattle.task_machine.specs.Write.{set_starting_published}
+use Rattle.task_records.proofs.Core.{refl, set_starting_published, true}
 use Rattle.task_records.proofs.WriteLemmas.{call_nowhere, call_sound, call_writes}
 
 pub returns-in-Ok-clause-sound : goal.returns-in-Ok-clause-sound

@@ -1,11 +1,7 @@
 use Rattle.record_words.proofs.handles.new_handle.Goals as goal
-use Rattle.std.proofs.Common.{Option, ap, ◌∙◌}
-use Rattle.std.specs.Option.{option_map_or}
+use Rattle.task_records.proofs.Core.{ap, Named, named_of, new_handle, next_handle, Option, option_map_or, ◌∙◌}
 use Rattle.task_machine.specs.Core.{Table}
-use Rattle.task_machine.specs.Read.{new_handle, next_handle}
-use Rattle.task_machine.specs.declared.records.Named.{Named}
 use Rattle.task_records.proofs.HandleReads.{next_given}
-use Rattle.task_records.specs.Instances.{named_of}
 
 pub returns-in-Some : goal.returns-in-Some
 unfolding new_handle

@@ -1,8 +1,6 @@
 use Rattle.record_words.proofs.handles.new_thread_handle.Goals as goal
-use Rattle.std.proofs.Common.{Option, ap, ◌∙◌, ℕ}
-use Rattle.std.specs.Option.{option_map_or}
+use Rattle.task_records.proofs.Core.{ap, new_thread_handle, next_handle, Option, option_map_or, ℕ, ◌∙◌}
 use Rattle.task_machine.specs.Core.{Table}
-use Rattle.task_machine.specs.Read.{new_thread_handle, next_handle}
 use Rattle.task_records.proofs.HandleReads.{next_given}
 use Rattle.task_records.specs.Instances.{thread_of as thread_named}
 

@@ -1,6 +1,5 @@
 use Rattle.record_words.proofs.instances.set_do_not_suspend.Goals as goal
-use Rattle.std.proofs.Common.{arith, refl}
-use Rattle.task_machine.specs.Write.{set_do_not_suspend}
+use Rattle.task_records.proofs.Core.{arith, refl, set_do_not_suspend}
 use Rattle.task_records.proofs.InstanceReads.{instance_nowhere, instance_sound, instance_writes, read_at, read_past}
 
 pub returns-then-instance-len-clause-sound : goal.returns-then-instance-len-clause-sound

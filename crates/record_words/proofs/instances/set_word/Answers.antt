@@ -1,6 +1,5 @@
 use Rattle.record_words.proofs.instances.set_word.Goals as goal
-use Rattle.std.proofs.Common.{List, ap, sym, ℕ, arith, refl}
-use Rattle.task_machine.specs.Write.{set_word}
+use Rattle.task_records.proofs.Core.{ap, arith, List, refl, set_word, sym, ℕ}
 use Rattle.task_records.proofs.InstanceReads.{instance_nowhere, instance_sound, instance_writes, read_at, read_past}
 
 pub returns-then-instance-len-clause-sound : goal.returns-then-instance-len-clause-sound

@@ -1,6 +1,5 @@
 use Rattle.record_words.proofs.subtasks.set_call_handle.Goals as goal
-use Rattle.std.proofs.Common.{refl}
-use Rattle.task_machine.specs.Write.{set_subtask_handle}
+use Rattle.task_records.proofs.Core.{refl, set_subtask_handle}
 use Rattle.task_records.proofs.WriteLemmas.{call_nowhere, call_sound, call_writes}
 
 pub returns-in-Ok-clause-sound : goal.returns-in-Ok-clause-sound

@@ -1,6 +1,5 @@
 use Rattle.record_words.proofs.subtasks.set_work_handle.Goals as goal
-use Rattle.std.proofs.Common.{refl}
-use Rattle.task_machine.specs.Write.{set_subtask_handle}
+use Rattle.task_records.proofs.Core.{refl, set_subtask_handle}
 use Rattle.task_records.proofs.WriteLemmas.{work_nowhere, work_sound, work_writes}
 
 pub returns-in-Ok-clause-sound : goal.returns-in-Ok-clause-sound

@@ -1,6 +1,5 @@
 use Rattle.record_words.proofs.threads.set_register.Goals as goal
-use Rattle.std.proofs.Common.{List, ap, refl, sym, ℕ}
-use Rattle.task_machine.specs.Write.{set_register}
+use Rattle.task_records.proofs.Core.{ap, List, refl, set_register, sym, ℕ}
 use Rattle.task_records.proofs.WriteLemmas.{thread_nowhere, thread_sound, thread_writes}
 
 pub returns-in-Ok-clause-sound : goal.returns-in-Ok-clause-sound

@@ -1,6 +1,5 @@
 use Rattle.record_words.proofs.threads.set_saved_callee.Goals as goal
-use Rattle.std.proofs.Common.{refl}
-use Rattle.task_machine.specs.Write.{set_saved_callee}
+use Rattle.task_records.proofs.Core.{refl, set_saved_callee}
 use Rattle.task_records.proofs.WriteLemmas.{thread_nowhere, thread_sound, thread_writes}
 
 pub returns-in-Ok-clause-sound : goal.returns-in-Ok-clause-sound

@@ -1,6 +1,5 @@
 use Rattle.record_words.proofs.works.set_cancelled.Goals as goal
-use Rattle.std.proofs.Common.{true, refl}
-use Rattle.task_machine.specs.Write.{set_cancelled}
+use Rattle.task_records.proofs.Core.{refl, set_cancelled, true}
 use Rattle.task_records.proofs.WriteLemmas.{work_nowhere, work_sound, work_writes}
 
 pub returns-in-Ok-clause-sound : goal.returns-in-Ok-clause-sound

@@ -1,21 +1,7 @@
 use Rattle.removal_words.proofs.JoinLemmas.{call_apart, call_group_left, call_joined, call_removed}
 use Rattle.removal_words.proofs.calls.delete_call.Goals as goal
-use Rattle.std.proofs.Common.{◌<◌, ◌≡◌, ap, ap₂, false, None, refl, subst, sym, ℕ, ◌∙◌}
-use Rattle.task_machine.proofs.MapLemmas.{get-remove_same}
-use Rattle.task_machine.specs.Core.{Core}
-use Rattle.task_machine.specs.Maps.{get}
-use Rattle.task_machine.specs.Moves.{group_settled}
-use Rattle.task_machine.specs.Read.{call_group, has_thread, join_of}
-use Rattle.task_machine.specs.Write.{remove_call}
-use Rattle.task_machine.specs.declared.records.Join.TheVariants as join
-use Rattle.task_machine.specs.declared.records.Subtask.TheVariants as subtask
-use Rattle.task_records.specs.Keys.{group_key}
-use Rattle.task_records.specs.Seen.{seen}
-use Rattle.task_records.specs.declared.parts.CoreParts.{CoreParts}
-use Rattle.task_table.specs.Records.{number_of}
-use Rattle.task_table.specs.declared.id.TableId.{TableId}
-use Rattle.task_wait.specs.declared.keys.GroupKey.{GroupKey}
-use Rattle.task_words.specs.StateView.{KeepsBut, StateView, Tags, call_of, lost_call}
+use Rattle.task_records.proofs.Core.{ap, ap₂, call_group, call_of, Core, false, get, get-remove_same, group_key, group_settled, GroupKey, has_thread, Join, join_of, KeepsBut, lost_call, None, number_of, refl, remove_call, seen, StateView, subst, Subtask, sym, TableId, Tags, ℕ, ◌<◌, ◌∙◌, ◌≡◌}
+use Rattle.task_records.specs.declared.{parts.CoreParts.CoreParts}
 
 pub drop_call-group-requires-clause-live : goal.drop_call-group-requires-clause-live
 drop_call-group-requires-clause-live c = subst (λ (v : StateView). 0 < call_of v c.args.call) (sym c.set_join.ensures.new) c.requires.live
@@ -24,7 +10,7 @@ pub drop_call-group-requires-clause-last : goal.drop_call-group-requires-clause-
 drop_call-group-requires-clause-last c = subst (λ (v : StateView). has_thread (call_of v c.args.call) v.core ≡ false) (sym c.set_join.ensures.new) (call_apart _ _ _ ∙ c.requires.last)
 
 pub drop_call-group-requires-clause-join : goal.drop_call-group-requires-clause-join
-drop_call-group-requires-clause-join c = subst (λ (v : StateView). join_of (subtask.Guest (call_of v c.args.call)) v.core ≡ join.Nowhere) (sym c.set_join.ensures.new) (call_joined _ _ _ refl)
+drop_call-group-requires-clause-join c = subst (λ (v : StateView). join_of (Subtask.Guest (call_of v c.args.call)) v.core ≡ Join.Nowhere) (sym c.set_join.ensures.new) (call_joined _ _ _ refl)
 
 call_gone : (k : ℕ) (s : Core) → get (remove_call k s).calls k ≡ None
 unfolding remove_call

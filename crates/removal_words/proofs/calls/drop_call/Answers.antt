@@ -1,10 +1,7 @@
 use Rattle.removal_words.proofs.CallLemmas.{blocked_live, call_counted, call_deleted, group_counted, group_named, group_positive, interest_counted, ready_made, removed_core, removed_sound, removed_tags}
 use Rattle.removal_words.proofs.calls.drop_call.Goals as goal
-use Rattle.std.proofs.Common.{◌<◌, ◌≡◌, ◌≤◌, ap, arith, cond, refl, subst, sym, ℕ, ◌∙◌}
-use Rattle.std.specs.Option.{option_map_or}
-use Rattle.task_machine.specs.declared.records.Call.{Call}
+use Rattle.task_records.proofs.Core.{ap, arith, Call, cond, option_map_or, refl, seen, subst, sym, ℕ, ◌<◌, ◌∙◌, ◌≡◌, ◌≤◌}
 use Rattle.task_records.proofs.HomeLemmas.{call_names}
-use Rattle.task_records.specs.Seen.{seen}
 
 pub group_there-requires : goal.group_there-requires
 group_there-requires c = subst (λ (n : ℕ). 0 < n) (sym (call_names c.args.parts.now c.requires.sound c.args.call c.in-Some.found.now c.in-Some.ensures.item).group) (call_names c.args.parts.now c.requires.sound c.args.call c.in-Some.found.now c.in-Some.ensures.item).positive

@@ -1,7 +1,6 @@
-use Rattle.std.proofs.Common.{length}
+use Rattle.task_records.proofs.Core.{entries, length}
 use Rattle.removal_words.proofs.chains.close.Given as goal
 use Rattle.removal_words.specs.Chains.{Empties}
-use Rattle.task_links.specs.Links.{entries}
 
 -- all else stays as nodes leave
 abbrev pub invariant-loop-node : goal.invariant-loop-node

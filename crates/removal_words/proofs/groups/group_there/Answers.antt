@@ -1,7 +1,7 @@
 use Rattle.removal_words.proofs.groups.group_there.Goals as goal
-use Rattle.std.proofs.Common.{arith, sym, ◌∙◌}
+use Rattle.task_records.proofs.Core.{arith, sym, ◌∙◌}
+use Rattle.task_records.specs.declared.{calls.TaskGroup.TaskGroup}
 use Rattle.task_records.proofs.KindLemmas.{item_number, refused_number}
-use Rattle.task_records.specs.declared.calls.TaskGroup.{TaskGroup}
 
 pub unreachable-requires : goal.unreachable-requires
 unreachable-requires c =

@@ -1,6 +1,6 @@
 use Rattle.removal_words.proofs.WorkLemmas.{is_there}
 use Rattle.removal_words.proofs.groups.lower_group.Goals as goal
-use Rattle.std.proofs.Common.{ap, not, ◌∙◌}
+use Rattle.task_records.proofs.Core.{ap, not, ◌∙◌}
 
 pub overflow_sub-counted : goal.overflow_sub-counted
 overflow_sub-counted c =

@@ -1,8 +1,8 @@
 use Rattle.removal_words.proofs.SettleLemmas.{group_deleted, group_stays, groups_counted, none_above, one_above, settled_seen, settled_sound, use_counted}
 use Rattle.removal_words.proofs.groups.settle_group.Goals as goal
-use Rattle.std.proofs.Common.{arith, ◌-◌}
+use Rattle.task_records.proofs.Core.{arith, ◌-◌}
+use Rattle.task_records.specs.declared.{calls.TaskGroup.TaskGroup}
 use Rattle.task_records.proofs.KindLemmas.{refused_number}
-use Rattle.task_records.specs.declared.calls.TaskGroup.{TaskGroup}
 
 pub unreachable-requires : goal.unreachable-requires
 unreachable-requires c =

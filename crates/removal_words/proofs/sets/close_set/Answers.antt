@@ -1,8 +1,5 @@
 use Rattle.removal_words.proofs.sets.close_set.Goals as goal
-use Rattle.std.proofs.Common.{◌<◌, ap, subst, sym, ◌∙◌}
-use Rattle.task_machine.specs.Write.{remove_set}
-use Rattle.task_records.specs.Seen.{seen}
-use Rattle.task_words.specs.StateView.{KeepsBut, StateView, lost_set, set_of}
+use Rattle.task_records.proofs.Core.{ap, KeepsBut, lost_set, remove_set, seen, set_of, StateView, subst, sym, ◌<◌, ◌∙◌}
 
 pub remove_set-requires-clause-live : goal.remove_set-requires-clause-live
 remove_set-requires-clause-live c = subst (λ (v : StateView). 0 < set_of v c.args.set) (sym c.free_set_handle.ensures.new) c.requires.live

@@ -1,10 +1,6 @@
 use Rattle.removal_words.proofs.HandleLemmas.{set_held, set_instance}
 use Rattle.removal_words.proofs.sets.free_set_handle.Goals as goal
-use Rattle.std.proofs.Common.{◌<◌, refl, subst, sym, ℕ, ◌∙◌}
-use Rattle.std.specs.Prelude.{OnOk, Result}
-use Rattle.task_handles.specs.Counted.{Removes}
-use Rattle.task_handles.specs.declared.kinds.HandleError.{HandleError}
-use Rattle.task_handles.specs.declared.kinds.Rep.{Rep}
+use Rattle.task_records.proofs.Core.{HandleError, OnOk, refl, Removes, Rep, Result, subst, sym, ℕ, ◌<◌, ◌∙◌}
 use Rattle.task_records.proofs.HandleTaken.{item_counted, item_taken_sound, item_taken_writes}
 use Rattle.task_records.proofs.InstanceReads.{read_at}
 

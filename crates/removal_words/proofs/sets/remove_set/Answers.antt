@@ -1,7 +1,6 @@
 use Rattle.removal_words.proofs.SetLemmas.{calls_live, removed_core, removed_sound, removed_tags, set_counted, set_deleted, waiters_live, works_live}
 use Rattle.removal_words.proofs.sets.remove_set.Goals as goal
-use Rattle.std.proofs.Common.{refl}
-use Rattle.task_records.specs.Seen.{seen}
+use Rattle.task_records.proofs.Core.{refl, seen}
 
 pub close-requires : goal.close-requires
 close-requires c = waiters_live c.args.parts.now c.requires.sound c.args.set c.in-Some.found.now c.in-Some.ensures.item

@@ -1,8 +1,7 @@
 use Rattle.removal_words.proofs.CloseLemmas.{closed_free}
 use Rattle.removal_words.proofs.ThreadLemmas.{call_counted, caller_unlinked, callers_live, mark_unlinked, node_made, removed_core, removed_sound, removed_tags, shelf_unlinked, thread_counted, thread_deleted, under_live}
 use Rattle.removal_words.proofs.threads.drop_thread.Goals as goal
-use Rattle.std.proofs.Common.{refl}
-use Rattle.task_records.specs.Seen.{seen}
+use Rattle.task_records.proofs.Core.{refl, seen}
 
 pub overflow_sub-call : goal.overflow_sub-call
 overflow_sub-call c = call_counted c.args.parts.now c.requires.sound c.args.thread c.with_call.result.0 c.with_call.ensures.thread c.with_call.result.1 c.with_call.result.2 c.with_call.ensures.call c.with_call.ensures.of

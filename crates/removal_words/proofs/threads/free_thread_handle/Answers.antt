@@ -1,11 +1,7 @@
 use Rattle.removal_words.proofs.ThreadHandleLemmas.{named_one, thread_handle_counted, thread_held, thread_instance, thread_taken_sound, thread_taken_writes}
 use Rattle.removal_words.proofs.threads.free_thread_handle.Goals as goal
-use Rattle.std.proofs.Common.{◌<◌, ap, refl, subst, sym, ℕ, ◌∙◌}
-use Rattle.std.specs.Prelude.{OnOk, Result}
-use Rattle.task_handles.specs.Counted.{Removes}
+use Rattle.task_records.proofs.Core.{ap, HandleError, OnOk, refl, Removes, Rep, Result, subst, sym, ℕ, ◌<◌, ◌∙◌}
 use Rattle.task_handles.specs.Held.{thread_of}
-use Rattle.task_handles.specs.declared.kinds.HandleError.{HandleError}
-use Rattle.task_handles.specs.declared.kinds.Rep.{Rep}
 use Rattle.task_records.proofs.InstanceReads.{read_at}
 
 pub index_mut-entry-requires : goal.index_mut-entry-requires

@@ -1,14 +1,7 @@
 use Rattle.removal_words.proofs.ThreadHandleLemmas.{gone_removed, names_removed, owned_by, retired}
 use Rattle.removal_words.proofs.threads.retire_thread.Goals as goal
-use Rattle.std.proofs.Common.{IsSome, Option, ap, refl, subst, sym, ◌∙◌, ◌≡◌, ℕ}
-use Rattle.std.proofs.lemmas.Option.{same_Some}
+use Rattle.task_records.proofs.Core.{ap, Core, free_thread_handle, get, IsSome, Option, refl, same_Some, StateView, subst, sym, Thread, thread_at, ℕ, ◌∙◌, ◌≡◌}
 use Rattle.std.specs.Prelude.{option_and_then}
-use Rattle.task_machine.specs.Core.{Core}
-use Rattle.task_machine.specs.Maps.{get}
-use Rattle.task_machine.specs.Read.{thread_at}
-use Rattle.task_machine.specs.Write.{free_thread_handle}
-use Rattle.task_machine.specs.declared.records.Thread.{Thread}
-use Rattle.task_words.specs.StateView.{StateView}
 
 pub free_thread_handle-requires-clause-names : goal.free_thread_handle-requires-clause-names
 free_thread_handle-requires-clause-names c =

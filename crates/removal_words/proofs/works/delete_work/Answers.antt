@@ -1,34 +1,25 @@
 use Rattle.removal_words.proofs.JoinLemmas.{deleted_none, deleted_one, named_none, named_one, work_ended, work_group_left, work_high, work_joined, work_removed}
 use Rattle.removal_words.proofs.works.delete_work.Goals as goal
-use Rattle.std.proofs.Common.{◌≡◌, ap, ap₂, subst, sym, ◌∙◌}
-use Rattle.task_machine.specs.Moves.{group_settled}
-use Rattle.task_machine.specs.Read.{join_of, stage_of}
-use Rattle.task_machine.specs.Write.{remove_work, set_stage}
-use Rattle.task_machine.specs.declared.records.Join.TheVariants as join
-use Rattle.task_machine.specs.declared.records.Stage.TheVariants as stage
-use Rattle.task_machine.specs.declared.records.Subtask.TheVariants as subtask
-use Rattle.task_rules.specs.Calls.{work_group}
-use Rattle.task_words.specs.Apart.{work_entries}
-use Rattle.task_words.specs.StateView.{StateView, on_core, work_of}
+use Rattle.task_records.proofs.Core.{ap, ap₂, group_settled, Join, join_of, on_core, remove_work, set_stage, Stage, stage_of, StateView, subst, Subtask, sym, work_entries, work_group, work_of, ◌∙◌, ◌≡◌}
 
 pub drop_work-requires-clause-unqueued : goal.drop_work-requires-clause-unqueued
 drop_work-requires-clause-unqueued c =
-    let both = c.set_stage.ensures.new ∙ ap (λ (v : StateView). on_core (set_stage (work_of v c.args.work) stage.Ended) v) c.set_join.ensures.new in
+    let both = c.set_stage.ensures.new ∙ ap (λ (v : StateView). on_core (set_stage (work_of v c.args.work) Stage.Ended) v) c.set_join.ensures.new in
     subst (λ (v : StateView). work_entries (work_of v c.args.work) v.core.queues.high ≡ 0) (sym both) (ap (work_entries _) (work_high _ _) ∙ c.requires.unqueued)
 
 pub drop_work-requires-clause-join : goal.drop_work-requires-clause-join
 drop_work-requires-clause-join c =
-    let both = c.set_stage.ensures.new ∙ ap (λ (v : StateView). on_core (set_stage (work_of v c.args.work) stage.Ended) v) c.set_join.ensures.new in
-    subst (λ (v : StateView). join_of (subtask.Host (work_of v c.args.work)) v.core ≡ join.Nowhere) (sym both) (work_joined _ _)
+    let both = c.set_stage.ensures.new ∙ ap (λ (v : StateView). on_core (set_stage (work_of v c.args.work) Stage.Ended) v) c.set_join.ensures.new in
+    subst (λ (v : StateView). join_of (Subtask.Host (work_of v c.args.work)) v.core ≡ Join.Nowhere) (sym both) (work_joined _ _)
 
 pub drop_work-requires-clause-stage : goal.drop_work-requires-clause-stage
 drop_work-requires-clause-stage c =
-    let both = c.set_stage.ensures.new ∙ ap (λ (v : StateView). on_core (set_stage (work_of v c.args.work) stage.Ended) v) c.set_join.ensures.new in
-    subst (λ (v : StateView). stage_of (work_of v c.args.work) v.core ≡ stage.Ended) (sym both) (work_ended _ _)
+    let both = c.set_stage.ensures.new ∙ ap (λ (v : StateView). on_core (set_stage (work_of v c.args.work) Stage.Ended) v) c.set_join.ensures.new in
+    subst (λ (v : StateView). stage_of (work_of v c.args.work) v.core ≡ Stage.Ended) (sym both) (work_ended _ _)
 
 pub returns-in-Some-clause-core : goal.returns-in-Some-clause-core
 returns-in-Some-clause-core c =
-    let both = c.set_stage.ensures.new ∙ ap (λ (v : StateView). on_core (set_stage (work_of v c.args.work) stage.Ended) v) c.set_join.ensures.new in
+    let both = c.set_stage.ensures.new ∙ ap (λ (v : StateView). on_core (set_stage (work_of v c.args.work) Stage.Ended) v) c.set_join.ensures.new in
     let one = named_one _ _ c.in-Some.group c.in-Some.ensures.group in
     ap (λ (v : StateView). v.core) c.settle_group.ensures.new
     ∙ (ap₂ group_settled one.1.1.0 (c.drop_work.ensures.core ∙ (ap (λ (v : StateView). remove_work (work_of v c.args.work) v.core) both ∙ work_removed _ _))
@@ -36,7 +27,7 @@ returns-in-Some-clause-core c =
 
 pub returns-in_default-clause-core : goal.returns-in_default-clause-core
 returns-in_default-clause-core c =
-    let both = c.set_stage.ensures.new ∙ ap (λ (v : StateView). on_core (set_stage (work_of v c.args.work) stage.Ended) v) c.set_join.ensures.new in
+    let both = c.set_stage.ensures.new ∙ ap (λ (v : StateView). on_core (set_stage (work_of v c.args.work) Stage.Ended) v) c.set_join.ensures.new in
     c.drop_work.ensures.core
     ∙ ((ap (λ (v : StateView). remove_work (work_of v c.args.work) v.core) both ∙ work_removed _ _)
     ∙ deleted_none _ _ (sym (work_group_left _ _) ∙ (sym (ap (λ (v : StateView). work_group (work_of v c.args.work) v.core) both) ∙ named_none _ _ c.in_default.ensures.group)))

@@ -1,9 +1,7 @@
 use Rattle.removal_words.proofs.WorkLemmas.{blocked_live, group_counted, group_named, live_free, mark_unlinked, ready_made, removed_core, removed_sound, removed_tags, use_counted, work_deleted}
 use Rattle.removal_words.proofs.works.drop_work.Goals as goal
-use Rattle.std.proofs.Common.{◌≡◌, ◌≤◌, ap, arith, cond, refl, subst, sym, ℕ, ◌∙◌}
-use Rattle.task_machine.specs.Read.{is_host_call}
+use Rattle.task_records.proofs.Core.{ap, arith, cond, is_host_call, refl, seen, subst, sym, ℕ, ◌∙◌, ◌≡◌, ◌≤◌}
 use Rattle.task_records.proofs.HomeLemmas.{work_names}
-use Rattle.task_records.specs.Seen.{seen}
 
 pub lower_group-group-requires-clause-named : goal.lower_group-group-requires-clause-named
 lower_group-group-requires-clause-named c = (work_names c.args.parts.now c.requires.sound c.args.work c.in-Some.found.now c.in-Some.ensures.item).group

@@ -1,17 +1,9 @@
 use Rattle.make_words.proofs.RestoreLemmas.{image_restored, item_restored, sound_restored}
-use Rattle.std.proofs.Common.{ap, arith, subst, sym, true, ◌+◌, ◌<◌, ◌^◌, ◌≡◌, ◌∙◌}
-use Rattle.std.specs.Prelude.{IsSome}
+use Rattle.task_records.proofs.Core.{add_group, ap, arith, bare, call_made, fits, get, IsSome, IsSound, parts_of, seen, StateView, subst, sym, true, ◌+◌, ◌<◌, ◌^◌, ◌∙◌, ◌≡◌}
+use Rattle.task_records.specs.declared.{parts.CoreParts.CoreParts}
 use Rattle.strand_words.proofs.MainLemmas.{fits_fewer, fits_grouped, group_restored, strand_loose_beside}
 use Rattle.strand_words.proofs.calls.add_main_strand.Goals as goal
 use Rattle.strand_words.specs.Loose.{AreStrandLoose}
-use Rattle.task_machine.specs.Maps.{get}
-use Rattle.task_machine.specs.Read.{fits}
-use Rattle.task_machine.specs.Write.{add_group}
-use Rattle.task_records.specs.Seen.{IsSound, parts_of, seen}
-use Rattle.task_records.specs.Sound.{bare}
-use Rattle.task_records.specs.declared.parts.CoreParts.{CoreParts}
-use Rattle.task_rules.specs.Calls.{call_made}
-use Rattle.task_words.specs.StateView.{StateView}
 
 pub overflow_add-number : goal.overflow_add-number
 unfolding seen

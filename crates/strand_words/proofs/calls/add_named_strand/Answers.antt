@@ -1,15 +1,8 @@
 use Rattle.make_words.proofs.RestoreLemmas.{image_restored, sound_restored}
-use Rattle.std.proofs.Common.{ap, sym, ◌+◌, ◌∙◌}
+use Rattle.task_records.proofs.Core.{ap, IsSound, item_at, item_of, Parts, parts_of, seen, StateView, sym, Table, ◌+◌, ◌∙◌}
+use Rattle.task_records.specs.declared.{calls.TaskGroup.TaskGroup, single.Single.Single}
 use Rattle.strand_words.proofs.StrandUndoLemmas.{item_written, made_instance, named_core, strand_restored}
 use Rattle.strand_words.proofs.calls.add_named_strand.Goals as goal
-use Rattle.task_records.specs.Image.{Parts}
-use Rattle.task_records.specs.Kinds.{item_of}
-use Rattle.task_records.specs.Seen.{IsSound, parts_of, seen}
-use Rattle.task_records.specs.declared.calls.TaskGroup.{TaskGroup}
-use Rattle.task_records.specs.declared.single.Single.{Single}
-use Rattle.task_table.specs.Answers.{item_at}
-use Rattle.task_table.specs.Table.{Table}
-use Rattle.task_words.specs.StateView.{StateView}
 
 pub drop_strand-requires-clause-item : goal.drop_strand-requires-clause-item
 drop_strand-requires-clause-item c =

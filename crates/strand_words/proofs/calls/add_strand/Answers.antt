@@ -1,11 +1,7 @@
-use Rattle.std.proofs.Common.{ap, arith, ◌+◌, ◌<◌, ◌^◌, ◌∙◌}
+use Rattle.task_records.proofs.Core.{ap, arith, call_made, registers_for, seen, ◌+◌, ◌<◌, ◌^◌, ◌∙◌}
+use Rattle.task_records.specs.declared.{calls.GuestTask.GuestTask, threads.GuestThread.GuestThread}
 use Rattle.strand_words.proofs.RequestLemmas.{request_core, request_strand}
 use Rattle.strand_words.proofs.calls.add_strand.Goals as goal
-use Rattle.task_records.specs.Seen.{seen}
-use Rattle.task_records.specs.declared.calls.GuestTask.{GuestTask}
-use Rattle.task_records.specs.declared.threads.GuestThread.{GuestThread}
-use Rattle.task_rules.specs.Calls.{call_made}
-use Rattle.task_rules.specs.Scripts.{registers_for}
 
 pub overflow_add-number : goal.overflow_add-number
 unfolding seen

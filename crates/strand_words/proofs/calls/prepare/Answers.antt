@@ -1,6 +1,5 @@
-use Rattle.std.proofs.Common.{arith, ◌+◌, ◌<◌, ◌^◌}
+use Rattle.task_records.proofs.Core.{arith, seen, ◌+◌, ◌<◌, ◌^◌}
 use Rattle.strand_words.proofs.calls.prepare.Goals as goal
-use Rattle.task_records.specs.Seen.{seen}
 
 pub overflow_add-number : goal.overflow_add-number
 unfolding seen

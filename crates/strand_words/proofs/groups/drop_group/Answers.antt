@@ -1,11 +1,6 @@
-use Rattle.std.proofs.Common.{sym, ◌≡◌, ◌∙◌, Err, Ok}
-use Rattle.std.specs.Prelude.{Result}
+use Rattle.task_records.proofs.Core.{deletion_refused, Err, IsSound, item_of, Ok, ResourceTableError, Result, sym, ◌∙◌, ◌≡◌}
+use Rattle.task_records.specs.declared.{calls.TaskGroup.TaskGroup}
 use Rattle.strand_words.proofs.groups.drop_group.Goals as goal
-use Rattle.task_records.specs.Kinds.{item_of}
-use Rattle.task_records.specs.Seen.{IsSound}
-use Rattle.task_records.specs.declared.calls.TaskGroup.{TaskGroup}
-use Rattle.task_table.proofs.ItemLemmas.{deletion_refused}
-use Rattle.task_table.specs.declared.error.ResourceTableError.{ResourceTableError}
 
 pub unreachable-requires : goal.unreachable-requires
 unfolding IsSound

@@ -1,4 +1,4 @@
-use Rattle.std.proofs.Common.{arith}
+use Rattle.task_records.proofs.Core.{arith}
 use Rattle.strand_words.proofs.GroupPushLemmas.{group_counts, group_seen, group_sound}
 use Rattle.strand_words.proofs.groups.push_group.Goals as goal
 

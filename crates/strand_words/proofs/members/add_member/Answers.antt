@@ -1,23 +1,10 @@
 use Rattle.make_words.proofs.RestoreLemmas.{image_restored, sound_restored}
-use Rattle.std.proofs.Common.{None, ap, arith, sym, true, ◌+◌, ◌<◌, ◌^◌, ◌∙◌, ℕ}
+use Rattle.task_records.proofs.Core.{add_thread, ap, arith, call_of, IsSound, item_at, item_of, new_thread, None, Parts, parts_of, registers_for, Script, seen, StateView, sym, Table, Thread, thread_of, true, ℕ, ◌+◌, ◌<◌, ◌^◌, ◌∙◌}
+use Rattle.task_records.specs.declared.{calls.GuestTask.GuestTask, single.Single.Single, threads.GuestThread.GuestThread}
 use Rattle.strand_words.proofs.MemberAddLemmas.{member_restored, threads_few}
 use Rattle.strand_words.proofs.RequestLemmas.{member_instance, request_member}
 use Rattle.strand_words.proofs.StrandUndoLemmas.{item_written, named_core}
 use Rattle.strand_words.proofs.members.add_member.Goals as goal
-use Rattle.task_machine.specs.Write.{add_thread}
-use Rattle.task_machine.specs.declared.records.Script.TheVariants as script
-use Rattle.task_machine.specs.declared.records.Thread.{Thread}
-use Rattle.task_records.specs.Image.{Parts}
-use Rattle.task_records.specs.Kinds.{item_of}
-use Rattle.task_records.specs.Seen.{IsSound, parts_of, seen}
-use Rattle.task_records.specs.declared.calls.GuestTask.{GuestTask}
-use Rattle.task_records.specs.declared.single.Single.{Single}
-use Rattle.task_records.specs.declared.threads.GuestThread.{GuestThread}
-use Rattle.task_rules.specs.Calls.{new_thread}
-use Rattle.task_rules.specs.Scripts.{registers_for}
-use Rattle.task_table.specs.Answers.{item_at}
-use Rattle.task_table.specs.Table.{Table}
-use Rattle.task_words.specs.StateView.{StateView, call_of, thread_of}
 
 pub overflow_add-number : goal.overflow_add-number
 unfolding seen
@@ -27,7 +14,7 @@ pub push_thread-requires-clause-member : goal.push_thread-requires-clause-member
 push_thread-requires-clause-member c =
     let a = c.args.parts.now in
     let thread = c.thread_record-thread.ensures in
-    request_member a (call_of (seen a) c.args.task) c.in-Some.found.now c.args.task.rep (script.Slot c.args.slot) (registers_for c.args.words.now) c.thread_record-thread.result
+    request_member a (call_of (seen a) c.args.task) c.in-Some.found.now c.args.task.rep (Script.Slot c.args.slot) (registers_for c.args.words.now) c.thread_record-thread.result
     (ap (λ (h : GuestThread). h.number) thread) (ap (λ (h : GuestThread). h.thread) thread ∙ c.new_thread-thread.ensures) (ap (λ (h : GuestThread). h.task) thread ∙ c.rep.ensures) (ap (λ (h : GuestThread). h.instance) thread)
     c.in-Some.ensures.is c.requires.there
 
@@ -49,9 +36,9 @@ returns-in-Ok-name_thread-clause-core c =
     let n = call_of (seen c.args.parts.now) c.args.task in
     ap (λ (v : StateView). v.core) c.in-Ok-name_thread.ensures.new
     ∙ named_core _ _ _ _ _
-    (c.in-Ok.ensures.core ∙ ap (λ (t : Thread). add_thread t s) (ap (λ (h : GuestThread). h.thread) c.thread_record-thread.ensures ∙ (c.new_thread-thread.ensures ∙ ap (λ (k : ℕ). new_thread k true (script.Slot c.args.slot) (registers_for c.args.words.now) None) c.in-Some.ensures.number)))
+    (c.in-Ok.ensures.core ∙ ap (λ (t : Thread). add_thread t s) (ap (λ (h : GuestThread). h.thread) c.thread_record-thread.ensures ∙ (c.new_thread-thread.ensures ∙ ap (λ (k : ℕ). new_thread k true (Script.Slot c.args.slot) (registers_for c.args.words.now) None) c.in-Some.ensures.number)))
     c.in-Ok.ensures.thread
-    (member_instance (new_thread n true (script.Slot c.args.slot) (registers_for c.args.words.now) None) s)
+    (member_instance (new_thread n true (Script.Slot c.args.slot) (registers_for c.args.words.now) None) s)
 
 pub returns-in-Err-name_thread-clause-sound : goal.returns-in-Err-name_thread-clause-sound
 unfolding IsSound

@@ -1,7 +1,6 @@
-use Rattle.std.proofs.Common.{subst, ◌<◌, ℕ}
+use Rattle.task_records.proofs.Core.{IsSound, subst, ℕ, ◌<◌}
 use Rattle.strand_words.proofs.members.drop_member.Goals as goal
 use Rattle.task_records.proofs.ReadLemmas.{thread_shown}
-use Rattle.task_records.specs.Seen.{IsSound}
 
 pub drop_thread-requires-clause-live : goal.drop_thread-requires-clause-live
 drop_thread-requires-clause-live c = subst (λ (n : ℕ). 0 < n) (thread_shown c.args.parts.now c.args.new) c.requires.thread

@@ -1,14 +1,7 @@
-use Rattle.std.proofs.Common.{ap, arith, refl, subst, sym, ◌+◌, ◌<◌, ◌^◌, ◌≡◌, ◌∙◌}
+use Rattle.task_records.proofs.Core.{add_thread, ap, arith, IsSound, IsTable, Keeps, refl, seen, subst, sym, Table, thread_of, with_entry, ◌+◌, ◌<◌, ◌^◌, ◌∙◌, ◌≡◌}
+use Rattle.task_records.specs.declared.{calls.GuestTask.GuestTask, single.Single.Single, threads.GuestThread.GuestThread}
 use Rattle.strand_words.proofs.MemberAddLemmas.{as_member, member_core, member_named, member_sound, member_tags, member_used, threads_few}
 use Rattle.strand_words.proofs.members.push_thread.Goals as goal
-use Rattle.task_machine.specs.Write.{add_thread}
-use Rattle.task_records.specs.Seen.{IsSound, seen}
-use Rattle.task_records.specs.declared.calls.GuestTask.{GuestTask}
-use Rattle.task_records.specs.declared.single.Single.{Single}
-use Rattle.task_records.specs.declared.threads.GuestThread.{GuestThread}
-use Rattle.task_table.specs.Changes.{with_entry}
-use Rattle.task_table.specs.Table.{IsTable, Table}
-use Rattle.task_words.specs.StateView.{Keeps, thread_of}
 
 pub one_thread_more-more-requires : goal.one_thread_more-more-requires
 one_thread_more-more-requires c = threads_few c.args.parts.now c.requires.sound c.args.task c.args.call c.requires.call c.args.thread

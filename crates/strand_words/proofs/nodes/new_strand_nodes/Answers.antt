@@ -1,8 +1,6 @@
 use Rattle.strand_words.proofs.NodeLemmas.{call_loose_kept, chains_apart, extends_on}
 use Rattle.strand_words.proofs.nodes.new_strand_nodes.Goals as goal
-use Rattle.task_records.specs.Places.{place_chain}
-use Rattle.task_records.specs.Seen.{parts_of}
-use Rattle.task_records.specs.Sound.{bare}
+use Rattle.task_records.proofs.Core.{bare, parts_of, place_chain}
 
 pub returns-clause-loose : goal.returns-clause-loose
 returns-clause-loose c = record {

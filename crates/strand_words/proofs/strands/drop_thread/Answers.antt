@@ -1,9 +1,7 @@
-use Rattle.std.proofs.Common.{arith}
+use Rattle.task_records.proofs.Core.{arith, deletion_refused, item_of}
+use Rattle.task_records.specs.declared.{threads.GuestThread.GuestThread}
 use Rattle.strand_words.proofs.strands.drop_thread.Goals as goal
 use Rattle.task_records.proofs.KindLemmas.{refused_number}
-use Rattle.task_records.specs.Kinds.{item_of}
-use Rattle.task_records.specs.declared.threads.GuestThread.{GuestThread}
-use Rattle.task_table.proofs.ItemLemmas.{deletion_refused}
 
 pub unreachable-requires : goal.unreachable-requires
 unreachable-requires c =

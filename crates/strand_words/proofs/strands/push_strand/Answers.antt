@@ -1,19 +1,10 @@
 use Rattle.make_words.proofs.RestoreLemmas.{Restores-deleted, Restores-same, sound_restored}
 use Rattle.make_words.specs.Restored.{Restores}
-use Rattle.std.proofs.Common.{arith, ap, refl, subst, sym, ◌+◌, ◌<◌, ◌^◌, ◌≡◌, ◌∙◌, ℕ}
+use Rattle.task_records.proofs.Core.{add_call, add_thread, ap, arith, call_key, call_of, children_of, children_of-pushed, IsSound, IsTable, Keeps, next_place, number_of, parts_of, pushed, refl, seen, subst, sym, Table, thread_of, ℕ, ◌+◌, ◌<◌, ◌^◌, ◌∙◌, ◌≡◌}
+use Rattle.task_records.specs.declared.{calls.GuestTask.GuestTask, single.Single.Single}
 use Rattle.strand_words.proofs.StrandAddLemmas.{as_made, call_named, group_few, interesting_few, strand_core, strand_sound, strand_tags, thread_named, used_few}
 use Rattle.strand_words.proofs.strands.push_strand.Goals as goal
-use Rattle.task_machine.specs.Write.{add_call, add_thread}
 use Rattle.task_records.proofs.MakeLemmas.{number_new}
-use Rattle.task_records.specs.Keys.{call_key}
-use Rattle.task_records.specs.Seen.{IsSound, parts_of, seen}
-use Rattle.task_records.specs.declared.calls.GuestTask.{GuestTask}
-use Rattle.task_records.specs.declared.single.Single.{Single}
-use Rattle.task_table.proofs.Laws.{children_of-pushed}
-use Rattle.task_table.specs.Changes.{next_place, pushed}
-use Rattle.task_table.specs.Records.{number_of}
-use Rattle.task_table.specs.Table.{IsTable, Table, children_of}
-use Rattle.task_words.specs.StateView.{Keeps, call_of, thread_of}
 
 pub one_more-requires-clause-few : goal.one_more-requires-clause-few
 one_more-requires-clause-few c = group_few c.args.parts.now c.requires.sound (record c.args.call { first = next_place c.args.parts.now.threads }) (record c.args.thread { task = next_place c.args.parts.now.calls }) c.args.id c.args.group c.requires.group

@@ -1,11 +1,7 @@
-use Rattle.std.proofs.Common.{ap, ◌∙◌, Option, ℕ}
-use Rattle.std.specs.Option.{option_map_or}
+use Rattle.task_records.proofs.Core.{ap, Call, call_group, Option, option_map_or, seen, ℕ, ◌∙◌}
 use Rattle.strand_words.proofs.GroupFindLemmas.{group_item, group_number, no_serial}
 use Rattle.strand_words.proofs.thread_calls.group_of.Goals as goal
-use Rattle.task_machine.specs.Read.{call_group}
-use Rattle.task_machine.specs.declared.records.Call.{Call}
 use Rattle.task_records.proofs.HomeLemmas.{call_names}
-use Rattle.task_records.specs.Seen.{seen}
 
 pub unreachable-requires-in-None-serial_at : goal.unreachable-requires-in-None-serial_at
 unreachable-requires-in-None-serial_at c =

@@ -1,10 +1,7 @@
 use Rattle.make_words.proofs.RestoreLemmas.{image_restored}
-use Rattle.std.proofs.Common.{ap, refl, subst, sym, ℕ, ◌∙◌}
+use Rattle.task_records.proofs.Core.{ap, AtPlace, Keeps, parts_of, refl, seen, StateView, subst, sym, thread_of, ThreadOf, ℕ, ◌∙◌}
 use Rattle.strand_words.proofs.thread_calls.make_call.Goals as goal
 use Rattle.task_records.proofs.HomeLemmas.{thread_at_place}
-use Rattle.task_records.specs.Names.{AtPlace, ThreadOf}
-use Rattle.task_records.specs.Seen.{parts_of, seen}
-use Rattle.task_words.specs.StateView.{Keeps, StateView, thread_of}
 
 pub add_strand-requires-clause-caller : goal.add_strand-requires-clause-caller
 add_strand-requires-clause-caller c =

@@ -1,9 +1,6 @@
-use Rattle.std.proofs.Common.{ap, subst, sym, ℕ, ◌∙◌}
+use Rattle.task_records.proofs.Core.{ap, AtPlace, parts_of, StateView, subst, sym, thread_of, ThreadOf, ℕ, ◌∙◌}
 use Rattle.strand_words.proofs.thread_calls.make_direct_call.Goals as goal
 use Rattle.task_records.proofs.HomeLemmas.{thread_at_place}
-use Rattle.task_records.specs.Names.{AtPlace, ThreadOf}
-use Rattle.task_records.specs.Seen.{parts_of}
-use Rattle.task_words.specs.StateView.{StateView, thread_of}
 
 pub add_named_strand-requires-clause-caller : goal.add_named_strand-requires-clause-caller
 add_named_strand-requires-clause-caller c =

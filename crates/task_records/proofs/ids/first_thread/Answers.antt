@@ -1,14 +1,8 @@
-use Rattle.std.proofs.Common.{Bool, ap, cond, false, refl, sym, true, ◌∙◌, ◌≡◌, ℕ}
-use Rattle.std.specs.Prelude.{is_some}
-use Rattle.task_machine.specs.Maps.{get}
+use Rattle.task_records.proofs.Core.{ap, Bool, cond, false, get, is_some, IsSound, kept_in, refl, seen, sym, thread_number, ThreadOf, true, ℕ, ◌∙◌, ◌≡◌}
+use Rattle.task_records.specs.declared.{threads.GuestThread.GuestThread}
 use Rattle.task_records.proofs.HomeLemmas.{call_names, place_bare}
 use Rattle.task_records.proofs.StandLemmas.{shown_beyond}
 use Rattle.task_records.proofs.ids.first_thread.Goals as goal
-use Rattle.task_records.specs.Names.{ThreadOf}
-use Rattle.task_records.specs.Seen.{IsSound, seen}
-use Rattle.task_records.specs.declared.threads.GuestThread.{GuestThread}
-use Rattle.task_words.specs.Live.{kept_in}
-use Rattle.task_words.specs.StateView.{thread_number}
 
 pub named_thread-requires-clause-stands : goal.named_thread-requires-clause-stands
 named_thread-requires-clause-stands c = (place_bare c.args.parts.now c.in-Some.entry.now.first (ThreadOf c.in-Some.entry.now.number) (call_names c.args.parts.now c.requires c.args.call c.in-Some.entry.now c.in-Some.ensures.item).first).1

@@ -1,8 +1,7 @@
 use Rattle.task_records.proofs.StandLemmas.{shown_kept, shown_none, shown_other}
 use Rattle.task_records.proofs.ids.named_call.Goals as goal
-use Rattle.task_records.specs.Seen.{IsSound, seen}
-use Rattle.task_records.specs.declared.calls.GuestTask.{GuestTask}
-use Rattle.task_words.specs.StateView.{call_number}
+use Rattle.task_records.proofs.Core.{call_number, IsSound, seen}
+use Rattle.task_records.specs.declared.{calls.GuestTask.GuestTask}
 
 pub returns-then-item-number : goal.returns-then-item-number
 unfolding seen IsSound

@@ -1,8 +1,7 @@
 use Rattle.task_records.proofs.StandLemmas.{shown_kept, shown_none, shown_other}
 use Rattle.task_records.proofs.ids.named_set.Goals as goal
-use Rattle.task_records.specs.Seen.{IsSound, seen}
-use Rattle.task_records.specs.declared.sets.WaitSet.{WaitSet}
-use Rattle.task_words.specs.StateView.{set_number}
+use Rattle.task_records.proofs.Core.{IsSound, seen, set_number}
+use Rattle.task_records.specs.declared.{sets.WaitSet.WaitSet}
 
 pub returns-then-item-number : goal.returns-then-item-number
 unfolding seen IsSound

@@ -1,8 +1,7 @@
 use Rattle.task_records.proofs.StandLemmas.{shown_kept, shown_none, shown_other}
 use Rattle.task_records.proofs.ids.named_work.Goals as goal
-use Rattle.task_records.specs.Seen.{IsSound, seen}
-use Rattle.task_records.specs.declared.works.HostWork.{HostWork}
-use Rattle.task_words.specs.StateView.{work_number}
+use Rattle.task_records.proofs.Core.{IsSound, seen, work_number}
+use Rattle.task_records.specs.declared.{works.HostWork.HostWork}
 
 pub returns-then-item-number : goal.returns-then-item-number
 unfolding seen IsSound

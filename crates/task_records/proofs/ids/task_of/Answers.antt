@@ -1,12 +1,8 @@
-use Rattle.std.proofs.Common.{ap, arith, subst, sym, ◌<◌, ◌∙◌, ℕ}
-use Rattle.std.specs.Option.{option_map_or}
-use Rattle.task_machine.specs.declared.records.Thread.{Thread}
+use Rattle.task_records.proofs.Core.{ap, arith, call_number, IsSound, option_map_or, seen, subst, sym, Thread, ℕ, ◌<◌, ◌∙◌}
+use Rattle.task_records.specs.declared.{calls.GuestTask.GuestTask}
 use Rattle.task_records.proofs.HomeLemmas.{task_live, task_place}
 use Rattle.task_records.proofs.StandLemmas.{shown_beyond}
 use Rattle.task_records.proofs.ids.task_of.Goals as goal
-use Rattle.task_records.specs.Seen.{IsSound, seen}
-use Rattle.task_records.specs.declared.calls.GuestTask.{GuestTask}
-use Rattle.task_words.specs.StateView.{call_number}
 
 pub returns-in-Some-clause-is : goal.returns-in-Some-clause-is
 returns-in-Some-clause-is c = c.call_at.ensures ∙ task_place c.args.parts.now c.requires c.args.thread c.in-Some.entry.now c.in-Some.ensures.item

@@ -1,8 +1,7 @@
 use Rattle.task_records.proofs.StandLemmas.{shown_here, shown_nowhere}
 use Rattle.task_records.proofs.ids.work_at.Goals as goal
-use Rattle.task_records.specs.Seen.{seen}
-use Rattle.task_records.specs.declared.works.HostWork.{HostWork}
-use Rattle.task_words.specs.StateView.{work_number}
+use Rattle.task_records.proofs.Core.{seen, work_number}
+use Rattle.task_records.specs.declared.{works.HostWork.HostWork}
 
 pub returns-in-Some : goal.returns-in-Some
 unfolding seen work_number

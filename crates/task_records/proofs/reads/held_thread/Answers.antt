@@ -1,8 +1,8 @@
-use Rattle.std.proofs.Common.{Some, ap, option_map, refl, ◌∙◌}
+use Rattle.task_records.proofs.Core.{ap, refl, seen, Some, ◌∙◌}
+use Rattle.std.proofs.Common.{option_map}
 use Rattle.task_records.proofs.HandleReads.{thread_named_at, thread_past, names_here}
 use Rattle.task_records.proofs.reads.held_thread.Goals as goal
 use Rattle.task_records.specs.Instances.{thread_of as thread_named}
-use Rattle.task_records.specs.Seen.{seen}
 
 pub returns-then-handle-gt4294967295-clause-is : goal.returns-then-handle-gt4294967295-clause-is
 returns-then-handle-gt4294967295-clause-is c = thread_past c.args.parts.now c.requires c.args.index (Some c.in-Some.entry.now) c.in-Some.ensures.item c.args.handle c.if-handle-gt4294967295.true

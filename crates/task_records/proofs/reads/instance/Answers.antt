@@ -1,4 +1,4 @@
-use Rattle.std.proofs.Common.{None, Some, arith, slice_get, ◌≡◌}
+use Rattle.task_records.proofs.Core.{arith, None, slice_get, Some, ◌≡◌}
 use Rattle.task_records.proofs.InstanceReads.{handles_read, instance_read, read_at, read_past, thread_handles_read}
 use Rattle.task_records.proofs.reads.instance.Goals as goal
 

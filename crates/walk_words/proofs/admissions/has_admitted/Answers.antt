@@ -1,8 +1,7 @@
-use Rattle.std.proofs.Common.{◌∙◌}
+use Rattle.task_records.proofs.Core.{HeldIn, ◌∙◌}
 use Rattle.walk_words.proofs.ChainLemmas.{chain_live}
 use Rattle.walk_words.proofs.HeldLemmas.{held_chain, held_members, nobody_held, some_held}
 use Rattle.walk_words.proofs.admissions.has_admitted.Goals as goal
-use Rattle.task_records.specs.Places.{HeldIn}
 
 pub some_admitted-requires-clause-live : goal.some_admitted-requires-clause-live
 some_admitted-requires-clause-live c = chain_live c.args.parts.now c.requires (HeldIn c.args.instance) _ (held_chain c.args.parts.now c.args.instance _ c.in-Some.ensures.item)

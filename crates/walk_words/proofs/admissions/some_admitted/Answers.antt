@@ -1,8 +1,5 @@
-use Rattle.std.proofs.Common.{◌||◌, ap, is_some, map, option_map, refl, subst, sym, ◌∙◌}
-use Rattle.std.proofs.lemmas.Bool.{or_left}
-use Rattle.std.specs.List.{list_any}
-use Rattle.task_links.specs.Links.{entries}
-use Rattle.task_records.specs.Seen.{seen}
+use Rattle.task_records.proofs.Core.{ap, entries, is_some, list_any, map, or_left, refl, seen, subst, sym, ◌||◌, ◌∙◌}
+use Rattle.std.proofs.Common.{option_map}
 use Rattle.walk_words.proofs.WalkLemmas.{walk_begins, walk_ends, walk_good, walk_link, walk_more, walk_smaller}
 use Rattle.walk_words.proofs.admissions.some_admitted.Goals as goal
 use Rattle.walk_words.specs.Held.{AnyLeft, is_admitted}

@@ -1,6 +1,5 @@
+use Rattle.task_records.proofs.Core.{entries, IsLinks, seen}
 use Rattle.std.proofs.Common.{option_map}
-use Rattle.task_links.specs.Links.{IsLinks, entries}
-use Rattle.task_records.specs.Seen.{seen}
 use Rattle.walk_words.proofs.admissions.some_admitted.Given as goal
 use Rattle.walk_words.specs.Held.{AnyLeft, is_admitted}
 use Rattle.walk_words.specs.Walks.{Walk, left_from, of_chain, of_node}

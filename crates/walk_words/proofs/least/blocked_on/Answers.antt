@@ -1,19 +1,13 @@
-use Rattle.std.proofs.Common.{ap, sym, ◌∙◌}
+use Rattle.task_records.proofs.Core.{ap, blocked_on, BlockedOn, call_of, seen, Subtask, subtask_in, sym, work_of, ◌∙◌}
 use Rattle.place_words.proofs.TargetLemmas.{blocked_is, work_blocked_is}
-use Rattle.task_machine.specs.Read.{blocked_on}
-use Rattle.task_machine.specs.declared.records.Subtask.TheVariants as subtask
-use Rattle.task_records.specs.Places.{BlockedOn}
-use Rattle.task_records.specs.Seen.{seen}
-use Rattle.task_words.specs.Names.{subtask_in}
-use Rattle.task_words.specs.StateView.{call_of, work_of}
 use Rattle.walk_words.proofs.ChainLemmas.{blocked_least, blocked_live, chain_live}
 use Rattle.walk_words.proofs.least.blocked_on.Goals as goal
 
 pub least-requires-clause-live : goal.least-requires-clause-live
-least-requires-clause-live c = let a = c.args.parts.now in chain_live a c.requires.sound (BlockedOn (subtask.Guest (call_of (seen a) c.in-Guest.call))) _ (blocked_is a c.requires.sound _ _ _ c.in-Some.found.now c.in-Some.ensures.number c.in-Some.ensures.item)
+least-requires-clause-live c = let a = c.args.parts.now in chain_live a c.requires.sound (BlockedOn (Subtask.Guest (call_of (seen a) c.in-Guest.call))) _ (blocked_is a c.requires.sound _ _ _ c.in-Some.found.now c.in-Some.ensures.number c.in-Some.ensures.item)
 
 pub least-requires-in-Some-work-clause-live : goal.least-requires-in-Some-work-clause-live
-least-requires-in-Some-work-clause-live c = let a = c.args.parts.now in chain_live a c.requires.sound (BlockedOn (subtask.Host (work_of (seen a) c.in-Host.work))) _ (work_blocked_is a c.requires.sound _ _ _ c.in-Some-work.found.now c.in-Some-work.ensures.number c.in-Some-work.ensures.item)
+least-requires-in-Some-work-clause-live c = let a = c.args.parts.now in chain_live a c.requires.sound (BlockedOn (Subtask.Host (work_of (seen a) c.in-Host.work))) _ (work_blocked_is a c.requires.sound _ _ _ c.in-Some-work.found.now c.in-Some-work.ensures.number c.in-Some-work.ensures.item)
 
 pub returns-in-Some-clause-is : goal.returns-in-Some-clause-is
 returns-in-Some-clause-is c =

@@ -1,7 +1,5 @@
-use Rattle.std.proofs.Common.{None, Some, ap, is_some, map, option_map, refl, subst, sym, ◌∙◌}
-use Rattle.task_links.specs.Links.{entries}
-use Rattle.task_records.specs.Seen.{seen}
-use Rattle.task_words.specs.StateView.{thread_of}
+use Rattle.task_records.proofs.Core.{ap, entries, is_some, map, None, refl, seen, Some, subst, sym, thread_of, ◌∙◌}
+use Rattle.std.proofs.Common.{option_map}
 use Rattle.walk_words.proofs.WalkLemmas.{walk_begins, walk_ends, walk_link, walk_more, walk_smaller}
 use Rattle.walk_words.proofs.least.least.Goals as goal
 use Rattle.walk_words.specs.Least.{HasLeast, least_from, lesser}

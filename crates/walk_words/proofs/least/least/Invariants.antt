@@ -1,7 +1,5 @@
+use Rattle.task_records.proofs.Core.{entries, IsLinks, seen, thread_of}
 use Rattle.std.proofs.Common.{option_map}
-use Rattle.task_links.specs.Links.{IsLinks, entries}
-use Rattle.task_records.specs.Seen.{seen}
-use Rattle.task_words.specs.StateView.{thread_of}
 use Rattle.walk_words.proofs.least.least.Given as goal
 use Rattle.walk_words.specs.Least.{HasLeast}
 use Rattle.walk_words.specs.Walks.{Walk, left_from, of_chain, of_node}

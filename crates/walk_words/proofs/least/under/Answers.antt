@@ -1,8 +1,5 @@
-use Rattle.std.proofs.Common.{◌∙◌}
+use Rattle.task_records.proofs.Core.{seen, thread_of, UnderOf, ◌∙◌}
 use Rattle.place_words.proofs.TargetLemmas.{under_is}
-use Rattle.task_records.specs.Places.{UnderOf}
-use Rattle.task_records.specs.Seen.{seen}
-use Rattle.task_words.specs.StateView.{thread_of}
 use Rattle.walk_words.proofs.ChainLemmas.{chain_live, under_least, under_live}
 use Rattle.walk_words.proofs.least.under.Goals as goal
 

@@ -1,5 +1,5 @@
-use Rattle.std.proofs.Common.{Some, ap, is_some, option_map, sym, ◌∙◌, ℕ}
-use Rattle.task_links.specs.Links.{entries}
+use Rattle.task_records.proofs.Core.{ap, entries, is_some, Some, ℕ, ◌∙◌}
+use Rattle.std.proofs.Common.{option_map}
 use Rattle.walk_words.proofs.PollLemmas.{chain_rises, found_here, live_numbered, passed_here, polled_live, walk_value}
 use Rattle.walk_words.proofs.WalkLemmas.{walk_ends, walk_good, walk_more, walk_smaller}
 use Rattle.walk_words.proofs.polls.first_above.Goals as goal

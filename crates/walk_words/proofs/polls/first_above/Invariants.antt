@@ -1,5 +1,5 @@
+use Rattle.task_records.proofs.Core.{AreLinked, entries, IsLinks}
 use Rattle.std.proofs.Common.{option_map}
-use Rattle.task_links.specs.Links.{AreLinked, IsLinks, entries}
 use Rattle.walk_words.proofs.polls.first_above.Given as goal
 use Rattle.walk_words.specs.Walks.{HasNext, Walk, left_from}
 

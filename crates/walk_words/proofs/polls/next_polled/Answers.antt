@@ -1,4 +1,4 @@
-use Rattle.std.proofs.Common.{◌∙◌}
+use Rattle.task_records.proofs.Core.{◌∙◌}
 use Rattle.walk_words.proofs.PollLemmas.{next_is, none_polled}
 use Rattle.walk_words.proofs.polls.next_polled.Goals as goal
 

@@ -1,4 +1,4 @@
-use Rattle.std.proofs.Common.{Some, ap, sym, ◌∙◌, ℕ}
+use Rattle.task_records.proofs.Core.{ap, Some, sym, ℕ, ◌∙◌}
 use Rattle.walk_words.proofs.PollLemmas.{begins_there}
 use Rattle.walk_words.proofs.polls.search_start.Goals as goal
 

@@ -1,16 +1,7 @@
-use Rattle.std.proofs.Common.{ap, subst, sym, ◌<◌, ◌∙◌}
+use Rattle.task_records.proofs.Core.{ap, Entry, number_in, on_core, push_high, put_high, record_at, seen, subst, sym, Table, thread_key, thread_of, ◌<◌, ◌∙◌}
+use Rattle.task_records.specs.declared.{single.Single.Single, threads.GuestThread.GuestThread}
 use Rattle.walk_words.proofs.ReleaseLemmas.{some_why, stood_same, stood_unqueued}
 use Rattle.walk_words.proofs.releases.put_high.Goals as goal
-use Rattle.task_machine.specs.Moves.{put_high}
-use Rattle.task_machine.specs.Write.{push_high}
-use Rattle.task_machine.specs.declared.records.Entry.TheVariants as entry
-use Rattle.task_records.specs.Keys.{thread_key}
-use Rattle.task_records.specs.Seen.{seen}
-use Rattle.task_records.specs.declared.single.Single.{Single}
-use Rattle.task_records.specs.declared.threads.GuestThread.{GuestThread}
-use Rattle.task_table.specs.Records.{number_in, record_at}
-use Rattle.task_table.specs.Table.{Table}
-use Rattle.task_words.specs.StateView.{on_core, thread_of}
 
 pub push_high-requires-clause-live : goal.push_high-requires-clause-live
 push_high-requires-clause-live c = let one = some_why _ c.requires.held in subst (λ n. 0 < n) (sym (stood_same (seen c.args.parts.now) (seen c.unhold.new.parts) c.args.thread _ (c.unhold.ensures.new one.0 one.1))) c.requires.live
@@ -20,7 +11,7 @@ push_high-requires-clause-unqueued c = let one = some_why _ c.requires.held in s
 
 pub returns-clause-new : goal.returns-clause-new
 unfolding put_high
-returns-clause-new c w is = c.push_high.ensures.new ∙ ap (λ v. on_core (push_high (entry.Thread (thread_of v c.args.thread))) v) (c.unhold.ensures.new w is)
+returns-clause-new c w is = c.push_high.ensures.new ∙ ap (λ v. on_core (push_high (Entry.Thread (thread_of v c.args.thread))) v) (c.unhold.ensures.new w is)
 
 pub returns-clause-numbers : goal.returns-clause-numbers
 returns-clause-numbers c r = ap (λ (t : Table (Single GuestThread)). number_in (record_at thread_key t.places r)) c.push_high.ensures.threads ∙ c.unhold.ensures.numbers r

@@ -1,7 +1,4 @@
-use Rattle.std.proofs.Common.{[], refl}
-use Rattle.task_index.proofs.Members.{admitted_permute}
-use Rattle.task_machine.specs.Moves.{released}
-use Rattle.task_records.specs.Seen.{seen}
+use Rattle.task_records.proofs.Core.{[], admitted_permute, refl, released, seen}
 use Rattle.walk_words.proofs.HeldLemmas.{held_chain, nobody_held}
 use Rattle.walk_words.proofs.releases.release.Goals as goal
 

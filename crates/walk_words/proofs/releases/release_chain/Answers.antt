@@ -1,8 +1,5 @@
-use Rattle.std.proofs.Common.{ap, is_some, option_map, subst, sym}
-use Rattle.task_index.proofs.Members.{admitted_permute}
-use Rattle.task_links.specs.Links.{entries}
-use Rattle.task_records.specs.Places.{HeldIn}
-use Rattle.task_records.specs.Seen.{seen}
+use Rattle.task_records.proofs.Core.{admitted_permute, ap, entries, HeldIn, is_some, seen, subst, sym}
+use Rattle.std.proofs.Common.{option_map}
 use Rattle.walk_words.proofs.ChainLemmas.{chain_live}
 use Rattle.walk_words.proofs.HeldLemmas.{held_members}
 use Rattle.walk_words.proofs.ReleaseLemmas.{next_unqueued, release_begins, release_ends, release_smaller, release_step}

@@ -1,6 +1,5 @@
+use Rattle.task_records.proofs.Core.{entries, IsLinks, IsSound, seen}
 use Rattle.std.proofs.Common.{option_map}
-use Rattle.task_links.specs.Links.{IsLinks, entries}
-use Rattle.task_records.specs.Seen.{IsSound, seen}
 use Rattle.walk_words.proofs.releases.release_chain.Given as goal
 use Rattle.walk_words.specs.Held.{Releases}
 use Rattle.walk_words.specs.Walks.{Walk, left_from, of_chain}

@@ -1,9 +1,7 @@
-use Rattle.std.proofs.Common.{ap, sym, ◌∙◌}
+use Rattle.task_records.proofs.Core.{ap, seen, sym, thread_of, ◌∙◌}
 use Rattle.walk_words.proofs.ReleaseLemmas.{admitted_held, held_positive, leaves}
 use Rattle.walk_words.proofs.releases.release_node.Goals as goal
 use Rattle.walk_words.specs.Held.{is_admitted}
-use Rattle.task_records.specs.Seen.{seen}
-use Rattle.task_words.specs.StateView.{thread_of}
 
 pub put_high-requires-clause-live : goal.put_high-requires-clause-live
 put_high-requires-clause-live c =

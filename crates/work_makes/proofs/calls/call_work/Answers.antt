@@ -1,23 +1,7 @@
 use Rattle.make_words.proofs.RestoreLemmas.{image_restored, sound_restored}
-use Rattle.std.proofs.Common.{Some, ap, ap₂, arith, cond, subst, sym, refl, ℕ, ◌+◌, ◌<◌, ◌^◌, ◌≡◌, ◌∙◌}
+use Rattle.task_records.proofs.Core.{add_work, ap, ap₂, arith, cond, Core, count_work, Entry, image, is_host_call, IsSound, item_at, item_of, Keeps, new_handle, Parts, parts_of, push_high, refl, seen, Some, StateView, subst, Subtask, sym, Table, with_handle, work_entries, work_of, work_queued, ℕ, ◌+◌, ◌<◌, ◌^◌, ◌∙◌, ◌≡◌}
+use Rattle.task_records.specs.declared.{calls.TaskGroup.TaskGroup, parts.CoreParts.CoreParts, single.Single.Single, works.HostWork.HostWork}
 use Rattle.strand_words.proofs.StrandUndoLemmas.{item_written}
-use Rattle.task_machine.specs.Core.{Core}
-use Rattle.task_machine.specs.Read.{is_host_call, new_handle}
-use Rattle.task_machine.specs.Write.{add_work, count_work, push_high}
-use Rattle.task_machine.specs.declared.records.Entry.TheVariants as entry
-use Rattle.task_machine.specs.declared.records.Subtask.TheVariants as subtask
-use Rattle.task_records.specs.Image.{Parts, image}
-use Rattle.task_records.specs.Kinds.{item_of}
-use Rattle.task_records.specs.Seen.{IsSound, parts_of, seen}
-use Rattle.task_records.specs.declared.calls.TaskGroup.{TaskGroup}
-use Rattle.task_records.specs.declared.parts.CoreParts.{CoreParts}
-use Rattle.task_records.specs.declared.single.Single.{Single}
-use Rattle.task_records.specs.declared.works.HostWork.{HostWork}
-use Rattle.task_rules.specs.Calls.{with_handle, work_queued}
-use Rattle.task_table.specs.Answers.{item_at}
-use Rattle.task_table.specs.Table.{Table}
-use Rattle.task_words.specs.Apart.{work_entries}
-use Rattle.task_words.specs.StateView.{Keeps, StateView, work_of}
 use Rattle.work_makes.proofs.WorkAddLemmas.{record_next}
 use Rattle.work_makes.proofs.WorkUndoLemmas.{push_after_handle, unqueued_with_handle, work_restored}
 use Rattle.work_makes.proofs.calls.call_work.Goals as goal
@@ -60,9 +44,9 @@ returns-in-Ok-name_work-clause-core c =
     let s = (seen c.args.parts.now).core in
     let i = c.args.instance in
     ap (λ (v : StateView). v.core) c.queue_push.ensures.new
-    ∙ (ap (λ (v : StateView). push_high (entry.Push (work_of v c.in-Ok.new)) v.core) c.in-Ok-name_work.ensures.new
-    ∙ (ap₂ (λ (n : ℕ) (x : Core). push_high (entry.Push n) (with_handle i (subtask.Host n) x)) c.in-Ok.ensures.work c.in-Ok.ensures.core
-    ∙ (ap (λ (w : HostWork). push_high (entry.Push (s.made.works + 1)) (with_handle i (subtask.Host (s.made.works + 1)) (add_work w.number w.work (count_work s)))) c.record_for-work.ensures
+    ∙ (ap (λ (v : StateView). push_high (Entry.Push (work_of v c.in-Ok.new)) v.core) c.in-Ok-name_work.ensures.new
+    ∙ (ap₂ (λ (n : ℕ) (x : Core). push_high (Entry.Push n) (with_handle i (Subtask.Host n) x)) c.in-Ok.ensures.work c.in-Ok.ensures.core
+    ∙ (ap (λ (w : HostWork). push_high (Entry.Push (s.made.works + 1)) (with_handle i (Subtask.Host (s.made.works + 1)) (add_work w.number w.work (count_work s)))) c.record_for-work.ensures
     ∙ push_after_handle _ i (s.made.works + 1) _)))
 
 pub returns-in-Err-name_work-clause-sound : goal.returns-in-Err-name_work-clause-sound

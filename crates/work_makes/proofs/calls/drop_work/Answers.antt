@@ -1,10 +1,7 @@
-use Rattle.std.proofs.Common.{arith, ◌<◌, subst, ℕ}
+use Rattle.task_records.proofs.Core.{arith, deletion_refused, IsSound, item_of, subst, ℕ, ◌<◌}
+use Rattle.task_records.specs.declared.{works.HostWork.HostWork}
 use Rattle.task_records.proofs.KindLemmas.{refused_number}
 use Rattle.task_records.proofs.ReadLemmas.{work_shown}
-use Rattle.task_records.specs.Kinds.{item_of}
-use Rattle.task_records.specs.Seen.{IsSound}
-use Rattle.task_records.specs.declared.works.HostWork.{HostWork}
-use Rattle.task_table.proofs.ItemLemmas.{deletion_refused}
 use Rattle.work_makes.proofs.calls.drop_work.Goals as goal
 
 pub unreachable-requires : goal.unreachable-requires

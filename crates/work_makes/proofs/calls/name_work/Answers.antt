@@ -1,13 +1,6 @@
 use Rattle.handle_words.proofs.NameLemmas.{subtask_named}
-use Rattle.std.proofs.Common.{ap, subst, sym, ℕ, ◌∙◌}
-use Rattle.task_machine.specs.Write.{give_handle}
-use Rattle.task_machine.specs.declared.records.Named.TheVariants as named
-use Rattle.task_machine.specs.declared.records.Subtask.TheVariants as subtask
+use Rattle.task_records.proofs.Core.{ap, AtPlace, give_handle, Named, on_core, parts_of, seen, subst, Subtask, SubtaskId, sym, WorkOf, ℕ, ◌∙◌}
 use Rattle.task_records.proofs.HomeLemmas.{place_in_bare, work_at_place}
-use Rattle.task_records.specs.Names.{AtPlace, WorkOf}
-use Rattle.task_records.specs.Seen.{parts_of, seen}
-use Rattle.task_words.specs.StateView.{on_core}
-use Rattle.task_words.specs.declared.names.SubtaskId.TheVariants as ids
 use Rattle.work_makes.proofs.calls.name_work.Goals as goal
 
 pub insert_handle-requires-clause-stands : goal.insert_handle-requires-clause-stands
@@ -18,6 +11,6 @@ insert_handle-requires-clause-stands c =
 
 pub returns-in-Ok-clause-new : goal.returns-in-Ok-clause-new
 returns-in-Ok-clause-new c =
-    subtask_named (seen c.args.parts.now) (seen c.insert_handle.new.parts) (ids.Host c.args.work) c.args.instance c.in-Ok.handle
-    (c.in-Ok.ensures.new ∙ ap (λ (n : ℕ). on_core (give_handle c.args.instance (named.Subtask (subtask.Host n))) (seen c.args.parts.now)) c.work_number.ensures)
+    subtask_named (seen c.args.parts.now) (seen c.insert_handle.new.parts) (SubtaskId.Host c.args.work) c.args.instance c.in-Ok.handle
+    (c.in-Ok.ensures.new ∙ ap (λ (n : ℕ). on_core (give_handle c.args.instance (Named.Subtask (Subtask.Host n))) (seen c.args.parts.now)) c.work_number.ensures)
     (seen c.set_subtask_handle.new.parts) c.set_subtask_handle.ensures.new c.in-Ok.ensures.handle

@@ -1,8 +1,5 @@
-use Rattle.std.proofs.Common.{ap, subst, sym, ℕ, ◌∙◌}
+use Rattle.task_records.proofs.Core.{ap, AtPlace, parts_of, StateView, subst, sym, thread_of, ThreadOf, ℕ, ◌∙◌}
 use Rattle.task_records.proofs.HomeLemmas.{thread_at_place, thread_within}
-use Rattle.task_records.specs.Names.{AtPlace, ThreadOf}
-use Rattle.task_records.specs.Seen.{parts_of}
-use Rattle.task_words.specs.StateView.{StateView, thread_of}
 use Rattle.work_makes.proofs.calls.queue_call.Goals as goal
 
 pub call_work-requires-clause-there : goal.call_work-requires-clause-there

@@ -1,5 +1,5 @@
 use Rattle.queue_words.proofs.PushLemmas.{high_there}
-use Rattle.std.proofs.Common.{IsSome, subst}
+use Rattle.task_records.proofs.Core.{IsSome, subst}
 use Rattle.work_makes.proofs.EntryLemmas.{chain_live, entry_free, entry_seen, entry_sound}
 use Rattle.work_makes.proofs.entries.queue_push.Goals as goal
 

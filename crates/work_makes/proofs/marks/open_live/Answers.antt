@@ -1,5 +1,4 @@
-use Rattle.std.proofs.Common.{sym, ◌∙◌}
-use Rattle.task_records.specs.Seen.{seen}
+use Rattle.task_records.proofs.Core.{seen, sym, ◌∙◌}
 use Rattle.work_makes.proofs.LiveLemmas.{live_opened_sound}
 use Rattle.work_makes.proofs.marks.open_live.Goals as goal
 

@@ -1,8 +1,5 @@
-use Rattle.std.proofs.Common.{ap, subst, sym, ℕ, ◌∙◌}
+use Rattle.task_records.proofs.Core.{ap, AtPlace, parts_of, StateView, subst, sym, thread_of, ThreadOf, ℕ, ◌∙◌}
 use Rattle.task_records.proofs.HomeLemmas.{thread_at_place}
-use Rattle.task_records.specs.Names.{AtPlace, ThreadOf}
-use Rattle.task_records.specs.Seen.{parts_of}
-use Rattle.task_words.specs.StateView.{StateView, thread_of}
 use Rattle.work_makes.proofs.queued.queue_sync_call.Goals as goal
 
 pub queue_work-requires-clause-caller : goal.queue_work-requires-clause-caller

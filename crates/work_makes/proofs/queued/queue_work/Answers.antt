@@ -1,11 +1,5 @@
-use Rattle.std.proofs.Common.{ap, ap₂, arith, ℕ, ◌+◌, ◌<◌, ◌^◌, ◌∙◌}
-use Rattle.task_machine.specs.Core.{Core}
-use Rattle.task_machine.specs.Write.{add_work, count_work, push_high}
-use Rattle.task_machine.specs.declared.records.Entry.TheVariants as entry
-use Rattle.task_records.specs.Seen.{seen}
-use Rattle.task_records.specs.declared.works.HostWork.{HostWork}
-use Rattle.task_rules.specs.Calls.{work_queued}
-use Rattle.task_words.specs.StateView.{StateView}
+use Rattle.task_records.proofs.Core.{add_work, ap, ap₂, arith, Core, count_work, Entry, push_high, seen, StateView, work_queued, ℕ, ◌+◌, ◌<◌, ◌^◌, ◌∙◌}
+use Rattle.task_records.specs.declared.{works.HostWork.HostWork}
 use Rattle.work_makes.proofs.WorkAddLemmas.{record_next}
 use Rattle.work_makes.proofs.queued.queue_work.Goals as goal
 
@@ -21,5 +15,5 @@ unfolding seen work_queued
 returns-in-Ok-clause-core c =
     let s = (seen c.args.parts.now).core in
     ap (λ (v : StateView). v.core) c.queue_push.ensures.new
-    ∙ (ap₂ (λ (n : ℕ) (x : Core). push_high (entry.Push n) x) c.in-Ok.ensures.work c.in-Ok.ensures.core
-    ∙ ap (λ (w : HostWork). push_high (entry.Push (s.made.works + 1)) (add_work w.number w.work (count_work s))) c.record_for-work.ensures)
+    ∙ (ap₂ (λ (n : ℕ) (x : Core). push_high (Entry.Push n) x) c.in-Ok.ensures.work c.in-Ok.ensures.core
+    ∙ ap (λ (w : HostWork). push_high (Entry.Push (s.made.works + 1)) (add_work w.number w.work (count_work s))) c.record_for-work.ensures)

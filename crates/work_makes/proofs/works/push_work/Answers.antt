@@ -1,10 +1,5 @@
-use Rattle.std.specs.Option.{option_map}
-use Rattle.task_records.specs.declared.calls.TaskGroup.{TaskGroup}
-use Rattle.std.proofs.Common.{ap, ap₂, ℕ, cond, sym, refl, ◌+◌, ◌∙◌}
-use Rattle.task_records.specs.Seen.{seen}
-use Rattle.task_records.specs.declared.single.Single.{Single}
-use Rattle.task_records.specs.declared.works.HostWork.{HostWork}
-use Rattle.task_table.specs.Table.{Table}
+use Rattle.task_records.proofs.Core.{ap, ap₂, cond, option_map, refl, seen, sym, Table, ℕ, ◌+◌, ◌∙◌}
+use Rattle.task_records.specs.declared.{calls.TaskGroup.TaskGroup, single.Single.Single, works.HostWork.HostWork}
 use Rattle.work_makes.proofs.WorkAddLemmas.{groups_few, made_core, made_named, made_sound, made_tags, no_entry_yet, raises_of, same_tags}
 use Rattle.make_words.proofs.SetAddLemmas.{used_few}
 use Rattle.work_makes.proofs.works.push_work.Goals as goal

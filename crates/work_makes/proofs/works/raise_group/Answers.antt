@@ -1,4 +1,4 @@
-use Rattle.std.proofs.Common.{subst}
+use Rattle.task_records.proofs.Core.{subst}
 use Rattle.work_makes.specs.Raised.{IsHere}
 use Rattle.work_makes.proofs.works.raise_group.Goals as goal
 

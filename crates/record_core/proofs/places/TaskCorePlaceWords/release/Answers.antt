@@ -1,6 +1,5 @@
-use Rattle.std.proofs.Common.{subst, sym}
+use Rattle.task_records.proofs.Core.{StateView, subst, sym}
 use Rattle.task_rules.specs.Places.{Placed}
-use Rattle.task_words.specs.StateView.{StateView}
 use Rattle.record_core.proofs.places.TaskCorePlaceWords.release.Goals as goal
 
 pub release-requires-clause-placed : goal.release-requires-clause-placed

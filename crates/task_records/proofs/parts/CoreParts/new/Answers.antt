@@ -1,6 +1,6 @@
 use Rattle.task_records.proofs.OpeningLemmas.{opening_shown, opening_sound}
 use Rattle.task_records.proofs.parts.CoreParts.new.Goals as goal
-use Rattle.task_records.specs.Seen.{IsSound, seen}
+use Rattle.task_records.proofs.Core.{IsSound, seen}
 
 pub returns-clause-sound : goal.returns-clause-sound
 unfolding IsSound
