@@ -15,3 +15,4 @@ pub mod MainLemmas
 pub mod FreshLemmas
 pub mod CoveredLemmas
 pub mod RowLemmas
+pub mod LaterLemmas

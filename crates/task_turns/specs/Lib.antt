@@ -6,3 +6,4 @@ pub mod Drive
 pub mod Taken
 pub mod Kept
 pub mod Main
+pub mod Later

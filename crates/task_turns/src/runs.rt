@@ -1,11 +1,12 @@
 //! The step of the running thread: its op is done by its row.
-ghost use Rattle.std.specs.Prelude.{◌≡◌, ◌+◌, ◌<◌, ◌^◌, IfOk, Some, is_some, length, true};
+ghost use Rattle.std.specs.Prelude.{◌≡◌, ◌+◌, ◌<◌, ◌^◌, IfOk, Some, is_some, length, true, OnOk};
 ghost use Rattle.task_machine.specs.Labels.{choice_of};
 ghost use Rattle.task_machine.specs.Maps.{get};
 ghost use Rattle.task_machine.specs.Read.{instance_of, position_of};
 ghost use Rattle.task_ops.specs.Came.{Meets};
 ghost use Rattle.task_ops.specs.Stays.{StaysAfter};
 ghost use Rattle.task_ops.specs.Steps.{label_of};
+ghost use Rattle.task_ops.specs.Works.{KeepsWorks};
 ghost use Rattle.task_rules.specs.Scripts.{script_of};
 ghost use Rattle.task_rules.specs.Step.{did, op_row};
 ghost use Rattle.task_turns.specs.Covered.{IsCovered, op_fits};
@@ -40,6 +41,7 @@ fn do_op<W: Words>(
     ensures meets { IfOk result (λ came. Meets (op_row component.now (thread_of (W.view w.old) thread) (W.view w.old).core (choice_of (label_of (thread_of (W.view w.old) thread) came)) op.now) (W.view w.old).core came (W.view w.new).core) }
     ensures goes { IfOk result (λ came. GoesOn came (W.view w.new)) }
     ensures stays { IfOk result (λ came. StaysAfter came (W.view w.old) (W.view w.new)) }
+    ensures works { OnOk result (KeepsWorks (W.view w.old) (W.view w.new)) }
 {
     match op {
         Op::Data(op) => Ok(compute(w, thread, *op, end)),
@@ -59,6 +61,7 @@ fn run_op<W: Words>(component: &Component, w: &mut W, thread: ThreadId) -> Resul
     ensures meets { IfOk result (λ came. Meets (did component.now (thread_of (W.view w.old) thread) (W.view w.old).core (choice_of (label_of (thread_of (W.view w.old) thread) came))) (W.view w.old).core came (W.view w.new).core) }
     ensures goes { IfOk result (λ came. GoesOn came (W.view w.new)) }
     ensures stays { IfOk result (λ came. StaysAfter came (W.view w.old) (W.view w.new)) }
+    ensures works { OnOk result (KeepsWorks (W.view w.old) (W.view w.new)) }
 {
     let call = w.task_of(thread);
     let script = script_ops(component, w.callee(call), w.script(thread));
@@ -76,6 +79,7 @@ pub fn step_run<W: Words>(component: &Component, w: &mut W, number: u64) -> Resu
     requires few { given (W.view w.old).core < 2 ^ 61 }
     ensures makes { IfOk result (λ made. Makes component.now (Turn.Run number) (W.view w.old) made (W.view w.new)) }
     ensures free { IfOk result (λ made. IsFree made.turn) }
+    ensures works { OnOk result (KeepsWorks (W.view w.old) (W.view w.new)) }
 {
     w.none_is_zero();
     let Some(thread) = w.current() else {
