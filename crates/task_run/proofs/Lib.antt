@@ -4,3 +4,4 @@ pub mod ScriptLemmas
 pub mod RunnableLemmas
 pub mod HeadlineLemmas
 pub mod ToolLemmas
+pub mod SpawnLemmas

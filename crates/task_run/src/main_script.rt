@@ -1,6 +1,6 @@
 ghost use Rattle.std.specs.Prelude.{◌≡◌, ◌+◌, ◌<◌, ◌^◌, ◌-◌, ◌++◌, ◌∷◌, [], length, option_copied, IfOk, IfErr, IfNone, IfSome, IsSome, None, OnOk, OnErr, Some, slice_get, slice_set};
 ghost use Rattle.task_machine.specs.declared.component.ExportDef.{ExportDef};
-ghost use Rattle.task_rules.specs.MainOps.{spawned_at, started_at};
+ghost use Rattle.task_rules.specs.MainOps.{is_complete, is_ready_for_call, spawned_at, started_at};
 ghost use Rattle.task_rules.specs.Run.{main_opening};
 ghost use Rattle.task_rules.specs.Scripts.{export_at, values_in};
 ghost use Rattle.task_calls.specs.declared.error.TaskError.TheVariants as task_error;
@@ -9,9 +9,9 @@ ghost use Rattle.task_loop.specs.Calls.{callee_of};
 ghost use Rattle.task_turns.specs.Covered.{IsCovered};
 ghost use Rattle.task_turns.specs.Main.{Steps};
 ghost use Rattle.task_turns.specs.Turn.{Sits, given, running_of};
-ghost use Rattle.task_run.specs.Script.{Suits, part_of, place_of, script_of, started};
-ghost use Rattle.task_run.specs.Spawns.{KnowsSpawns};
 ghost use Rattle.task_run.specs.Knows.{knows_later};
+ghost use Rattle.task_run.specs.Script.{Suits, part_of, place_of, script_of, started};
+ghost use Rattle.task_run.specs.Spawns.{KnowsSpawns, abort_in, phase_in};
 ghost use Rattle.task_machine.specs.Maps.{get};
 ghost use Rattle.task_ops.specs.Works.{KeepsWorks};
 ghost use Rattle.task_rules.specs.Cancels.{aborted_phase};
@@ -21,7 +21,7 @@ use futures::task::Poll;
 use std::alloc::{AllocError, Global};
 use task_calls::finish_call as take_result;
 use task_loop::{Func, MainStep, MainTask, TaskError, operand_value};
-use task_machine::{Component, Label, MainLabel, Operand, Phase, Trap, Turn};
+use task_machine::{Component, HostDef, Label, MainLabel, Operand, Phase, Trap, Turn};
 use task_scenario::MainOp;
 use task_store::{Access, Whole};
 use task_words::{InstanceWords, ResultWords, View, WorkId, WorkWords};
@@ -248,6 +248,13 @@ fn finish_call<T, H>(
     }
 }
 
+// The host at this place, if there is one.
+fn host_here(hosts: &[HostDef], at: u32) -> Option<HostDef>
+    ensures { result ≡ slice_get hosts.now at }
+{
+    hosts.get(at as usize).copied()
+}
+
 // Main spawns a work of the host at this place of the component.
 #[tactic(auto, using(std::proofs::lemmas::Option::slice_get_within))]
 fn spawn_work<T, H>(
@@ -271,10 +278,10 @@ fn spawn_work<T, H>(
     let Some(number) = main.next_spawn() else {
         return Err(TaskError::NoMemory);
     };
-    let Some(def) = component.hosts.as_slice().get(host as usize) else {
+    let Some(def) = host_here(component.hosts.as_slice(), host) else {
         unreachable!()
     };
-    let Ok(work) = access.store.state.queue_spawn(*def) else {
+    let Ok(work) = access.store.state.queue_spawn(def) else {
         return Err(TaskError::NoMemory);
     };
     let future = access.store.state.work_number(work);
@@ -314,6 +321,21 @@ fn after_abort(phase: Phase) -> Phase
     }
 }
 
+// The phase of the work, which an abort is asked for; it is complete where the work isn't there.
+fn abort<T, H>(access: &mut Access<'_, T, Whole, H>, work: Option<WorkId>) -> Phase
+    ensures same { access.new.store.ghost_name ≡ access.old.store.ghost_name }
+    ensures stands { access.new.store.now.running ≡ access.old.store.now.running }
+    ensures phase { result ≡ phase_in access.old.store.now.state work }
+    ensures state { access.new.store.now.state ≡ abort_in access.old.store.now.state work }
+{
+    let Some(work) = work else {
+        return Phase::Complete;
+    };
+    let phase = access.store.state.phase(work);
+    access.store.state.set_phase(work, after_abort(phase));
+    phase
+}
+
 // Main aborts the work of a spawn.
 #[tactic(auto, using(std::proofs::lemmas::Option::slice_get_within))]
 fn abort_work<T, H>(
@@ -328,23 +350,26 @@ fn abort_work<T, H>(
     ensures stands { access.new.store.now.running ≡ access.old.store.now.running }
     ensures ops { main.new.ops ≡ main.old.ops }
     ensures spawns { main.new.spawns ≡ main.old.spawns }
-    ensures current { access.new.store.now.state.current ≡ access.old.store.now.state.current }
+    ensures current { running_of access.new.store.now.state ≡ running_of access.old.store.now.state }
     ensures names { KeepsWorks access.old.store.now.state access.new.store.now.state }
     ensures ok { Steps component.now (script_of main.old) (part_of main.old) access.old.store.now.state.core result (part_of main.new) access.new.store.now.state.core }
 {
     let _component = component;
     let at = main.next_place();
-    let found = work_of(main, access, spawn);
+    let work = work_of(main, access, spawn);
+    let phase = abort(access, work);
     main.at = at;
-    let phase = match found {
-        Some(work) => {
-            let phase = access.store.state.phase(work);
-            access.store.state.set_phase(work, after_abort(phase));
-            phase
-        }
-        None => Phase::Complete,
-    };
     MainStep::Did(Label::Main(MainLabel::Abort(phase, spawn)))
+}
+
+// Whether the work has ended, or isn't there.
+fn is_complete<T, H>(access: &Access<'_, T, Whole, H>, work: Option<WorkId>) -> bool
+    ensures { result ≡ is_complete (phase_in access.now.store.now.state work) }
+{
+    let Some(work) = work else {
+        return true;
+    };
+    matches!(access.store.state.phase(work), Phase::Complete)
 }
 
 // Main waits until the work of a spawn has ended.
@@ -363,10 +388,9 @@ fn await_work<T, H>(
 {
     let _component = component;
     let at = main.next_place();
-    if let Some(work) = work_of(main, access, spawn) {
-        if !matches!(access.store.state.phase(work), Phase::Complete) {
-            return MainStep::Pends;
-        }
+    let work = work_of(main, access, spawn);
+    if !is_complete(access, work) {
+        return MainStep::Pends;
     }
     main.at = at;
     MainStep::Did(Label::Main(MainLabel::Await(spawn)))
@@ -393,6 +417,14 @@ fn await_quiet<T, H>(
     MainStep::Did(Label::Main(MainLabel::Quiet))
 }
 
+// Whether an instance takes calls.
+#[tactic(auto, unfolding(task_rules::specs::MainOps::is_ready_for_call))]
+fn is_ready<T, H>(access: &Access<'_, T, Whole, H>, instance: u32) -> bool
+    ensures { result ≡ is_ready_for_call instance access.now.store.now.state.core }
+{
+    !access.store.state.may_not_enter(instance) && access.store.state.backpressure(instance) == 0
+}
+
 // Main waits until the export's instance takes calls.
 #[tactic(auto, using(std::proofs::lemmas::Option::slice_get_within))]
 fn await_ready<T, H>(
@@ -408,8 +440,7 @@ fn await_ready<T, H>(
 {
     let _component = component;
     let at = main.next_place();
-    let instance = func.instance.index;
-    if access.store.state.may_not_enter(instance) || access.store.state.backpressure(instance) != 0 {
+    if !is_ready(access, func.instance.index) {
         return MainStep::Pends;
     }
     main.at = at;

@@ -49,3 +49,10 @@ last_by_works s t same = record {
 pub last_by_turned : (x : Setting) (p : Turn) (m n : Main) (s t : StateView) (o : Option Made) → Turned x p m s o n t → KeepsWorks s t → WorksLast s t
 last_by_turned x p m n s t (Some made) turned names = last_by_step x p made.turn m n made.label s t turned.step names
 last_by_turned x p m n s t None turned names = last_same s t turned.1.1
+
+pub last_by_core : (s t : StateView) → t.core ≡ s.core → KeepsWorks s t → WorksLast s t
+last_by_core s t e names = record {
+  names = λ id live. inl (names id live);
+  made = subst (λ (c : Core). s.core.made.works ≤ c.made.works) (sym e) (le_refl _);
+  gone = λ i below none. ap (λ (c : Core). get c.works i) e ∙ none;
+}
