@@ -186,7 +186,7 @@ module _ (s : ScenarioText) (formed : IsWellFormed s) where
   line_or_answer (l ∷ lines) zero o at = inl (l, (refl, same_Some _ _ at))
   line_or_answer (l ∷ lines) (suc i) o at = line_or_answer lines i o at
 
-  line_is_so : (l : MainOpText) → script.is_start_finish_or_answer (lower.main_op l) ≡ true
+  line_is_so : (l : MainOpText) → script.is_built (lower.main_op l) ≡ true
   line_is_so (text.Start f xs) = refl
   line_is_so (text.Finish k r) = refl
 
@@ -197,11 +197,19 @@ module _ (s : ScenarioText) (formed : IsWellFormed s) where
       sym (ap (params_of s.instances) callee) ∙ stands.1 ∙ ap (λ (zs : List Operand). Some (length zs)) words
   start_line (text.Finish k r) f xs is before stands = absurd (cc)
 
+  no_spawn : (l : MainOpText) (h : ℕ) → lower.main_op l ≡ main_op.Spawn h → ⊥
+  no_spawn (text.Start f xs) h is = absurd (cc)
+  no_spawn (text.Finish k r) h is = absurd (cc)
+
   suits : SuitsOps (scenario_of s).main c
   suits = record {
     only = λ i o at. elim (line_or_answer s.main i o at) [
-      | inl l ↦ sym (ap script.is_start_finish_or_answer l.1.1) ∙ line_is_so l.0
-      | inr answer ↦ ap script.is_start_finish_or_answer answer
+      | inl l ↦ sym (ap script.is_built l.1.1) ∙ line_is_so l.0
+      | inr answer ↦ ap script.is_built answer
+    ];
+    spawns = λ i h at. elim (line_or_answer s.main i (main_op.Spawn h) at) [
+      | inl l ↦ absurd (no_spawn l.0 h l.1.1)
+      | inr answer ↦ absurd (cc)
     ];
     starts = λ i f xs at. elim (line_or_answer s.main i (main_op.Start f xs) at) [
       | inl l ↦ let p = export_params s.instances (callee_of f) (length xs) (start_line l.0 f xs l.1.1 (take i s.main) (stands_at (MainOpStands s.instances) s.main i l.0 formed.main l.1.0)) in (p.0, (at_lowered (callee_of f) ∙ p.1.0, p.1.1))
