@@ -3,7 +3,7 @@ ghost use Rattle.op_dispatch.specs.Fits.{HasInstances, call_op_fits};
 ghost use Rattle.op_dispatch.specs.Goes.{GoesOn, given};
 ghost use Rattle.op_dispatch.specs.Polls.{Polls};
 ghost use Rattle.op_dispatch.specs.Runner.{Runner};
-ghost use Rattle.std.specs.Prelude.{◌≡◌, ◌+◌, ◌<◌, ◌≤◌, ◌^◌, IfOk, IsSome, is_some, length, true};
+ghost use Rattle.std.specs.Prelude.{◌≡◌, ◌+◌, ◌<◌, ◌≤◌, ◌^◌, IfOk, IsSome, is_some, length, true, OnOk};
 ghost use Rattle.subtask_ops.specs.Refused.{mode_of};
 ghost use Rattle.task_machine.specs.Labels.{choice_of};
 ghost use Rattle.task_machine.specs.Maps.{get};
@@ -13,6 +13,7 @@ ghost use Rattle.task_machine.specs.declared.op.Op.TheVariants as ops;
 ghost use Rattle.task_ops.specs.Came.{Meets};
 ghost use Rattle.task_ops.specs.Stays.{StaysAfter};
 ghost use Rattle.task_ops.specs.Steps.{label_of};
+ghost use Rattle.task_ops.specs.Works.{KeepsWorks, NamesWorks};
 ghost use Rattle.task_rules.specs.Calls.{call_host_row, call_row, call_sync_host_row, call_sync_row};
 ghost use Rattle.task_rules.specs.Cancels.{cancel_row, subtask_row};
 ghost use Rattle.task_rules.specs.Scripts.{values_in};
@@ -48,6 +49,7 @@ fn call<W: Words>(
     ensures meets { IfOk result (λ came. Meets (call_row component.now (thread_of (W.view w.old) thread) to register callee (values_in (registers_of (thread_of (W.view w.old) thread) (W.view w.old).core) params.now) (W.view w.old).core (how_far_of (thread_of (W.view w.old) thread) (W.view w.old).core)) (W.view w.old).core came (W.view w.new).core) }
     ensures goes { IfOk result (λ came. GoesOn came (W.view w.new)) }
     ensures stays { IfOk result (λ came. StaysAfter came (W.view w.old) (W.view w.new)) }
+    ensures works { OnOk result (KeepsWorks (W.view w.old) (W.view w.new)) }
 {
     w.none_is_zero();
     match w.how_far(thread) {
@@ -78,6 +80,7 @@ fn call_sync<W: Words>(
     ensures meets { IfOk result (λ came. Meets (call_sync_row component.now (thread_of (W.view w.old) thread) to callee (values_in (registers_of (thread_of (W.view w.old) thread) (W.view w.old).core) params.now) (W.view w.old).core (how_far_of (thread_of (W.view w.old) thread) (W.view w.old).core)) (W.view w.old).core came (W.view w.new).core) }
     ensures goes { IfOk result (λ came. GoesOn came (W.view w.new)) }
     ensures stays { IfOk result (λ came. StaysAfter came (W.view w.old) (W.view w.new)) }
+    ensures works { OnOk result (KeepsWorks (W.view w.old) (W.view w.new)) }
 {
     w.none_is_zero();
     match w.how_far(thread) {
@@ -107,6 +110,7 @@ fn call_of_host<W: Words>(
     ensures goes { IfOk result (λ done. GoesOn done.came (W.view w.new)) }
     ensures stays { IfOk result (λ done. StaysAfter done.came (W.view w.old) (W.view w.new)) }
     ensures polls { IfOk result (λ done. Polls component.now (how_far_of (thread_of (W.view w.old) thread) (W.view w.old).core) (ops.Call (CallOp.CallHost to register host)) (W.view w.old) done (W.view w.new)) }
+    ensures works { OnOk result (KeepsWorks (W.view w.old) (W.view w.new)) }
 {
     let host = host_def(component, host);
     let (came, work) = call_host(w, thread, to, register, host)?;
@@ -132,6 +136,7 @@ fn call_sync_of_host<W: Words>(
     ensures goes { IfOk result (λ done. GoesOn done.came (W.view w.new)) }
     ensures stays { IfOk result (λ done. StaysAfter done.came (W.view w.old) (W.view w.new)) }
     ensures polls { IfOk result (λ done. Polls component.now (how_far_of (thread_of (W.view w.old) thread) (W.view w.old).core) (ops.Call (CallOp.CallSyncHost to host)) (W.view w.old) done (W.view w.new)) }
+    ensures works { OnOk result (NamesWorks (W.view w.old) (W.view w.new)) }
 {
     w.none_is_zero();
     if let HowFarId::Calls(SubtaskId::Host(work)) = w.how_far(thread) {
@@ -159,6 +164,7 @@ fn cancels<W: Words>(
     ensures meets { Meets (cancel_row (mode_of sync) (thread_of (W.view w.old) thread) to handle (W.view w.old).core (how_far_of (thread_of (W.view w.old) thread) (W.view w.old).core)) (W.view w.old).core result (W.view w.new).core }
     ensures goes { GoesOn result (W.view w.new) }
     ensures stays { StaysAfter result (W.view w.old) (W.view w.new) }
+    ensures works { KeepsWorks (W.view w.old) (W.view w.new) }
 {
     match w.how_far(thread) {
         HowFarId::Cancels(subtask) => go_on_cancelling(w, thread, to, sync, subtask),
@@ -184,6 +190,7 @@ pub(crate) fn do_call_op<W: Words>(
     ensures goes { IfOk result (λ done. GoesOn done.came (W.view w.new)) }
     ensures stays { IfOk result (λ done. StaysAfter done.came (W.view w.old) (W.view w.new)) }
     ensures polls { IfOk result (λ done. Polls component.now (how_far_of (thread_of (W.view w.old) thread) (W.view w.old).core) (ops.Call op.now) (W.view w.old) done (W.view w.new)) }
+    ensures works { OnOk result (NamesWorks (W.view w.old) (W.view w.new)) }
 {
     match op {
         CallOp::Call {

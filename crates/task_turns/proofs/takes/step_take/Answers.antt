@@ -16,5 +16,5 @@ unreachable-requires g c =
     let arm = c.in-Some-default-Host in
     no_host_next c.args.component.now c.args.ended s.core c.requires.order arm.field-0-0 (work_of s arm.field-0-1-0) (sym arm.ensures ∙ ap (λ (e : EntryId). Some (arm.field-0-0, entry_in s.tags e)) arm.field-0-1-is)
 
-pub returns-in-Some-default-Push : goal.returns-in-Some-default-Push
-returns-in-Some-default-Push g c = (c.step_push.ensures.makes c.args.component.now c.args.ended, free_at _ _ c.step_push.ensures.turn (λ x s m. tt))
+pub returns-in-Some-default-Push-clause-took : goal.returns-in-Some-default-Push-clause-took
+returns-in-Some-default-Push-clause-took g c = (c.step_push.ensures.makes c.args.component.now c.args.ended, free_at _ _ c.step_push.ensures.turn (λ x s m. tt))
