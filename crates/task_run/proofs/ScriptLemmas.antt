@@ -13,8 +13,8 @@ use Rattle.task_rules.specs.Step.{MainProgresses, ScriptStep}
 use Rattle.task_rules.specs.Stalled.{is_pending, pends_at}
 use Rattle.task_rules.specs.Turns.{at_turn}
 use Rattle.std.proofs.Common.{ap₂, Result, Ok, Err}
-use Rattle.task_calls.specs.declared.error.TaskError.{TaskError}
-use Rattle.task_calls.specs.declared.error.TaskError.TheVariants as task_error
+use Rattle.state_calls.specs.declared.error.TaskError.{TaskError}
+use Rattle.state_calls.specs.declared.error.TaskError.TheVariants as task_error
 use Rattle.task_machine.specs.declared.component.Callee.{Callee}
 use Rattle.task_machine.specs.declared.trap.Trap.{Trap}
 use Rattle.task_rules.specs.MainOps.{start_act}

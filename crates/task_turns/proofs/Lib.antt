@@ -13,4 +13,5 @@ pub mod IdleLemmas
 pub mod MainLemmas
 pub mod FreshLemmas
 pub mod CoveredLemmas
+pub mod RanLemmas
 pub mod LaterLemmas
