@@ -6,7 +6,6 @@ use Rattle.std.specs.Prelude.{Bool, None, Option, Some, false, if◌then◌else�
 use Rattle.op_dispatch.specs.Runner.{Runner, UnderWay}
 use Rattle.subtask_ops.specs.Named.{NamedCallsThere}
 use Rattle.task_laws.proofs.MemberLemmas.{members_named}
-use Rattle.task_laws.specs.Order as laws
 use Rattle.task_laws.specs.Order.{InOrder, IsOf, cancelled_by, is_awaited, set_of_op, set_of_place}
 use Rattle.task_machine.specs.Core.{Core, Unscripted}
 use Rattle.task_machine.specs.Maps.{get}
