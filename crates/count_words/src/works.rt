@@ -58,6 +58,7 @@ pub fn recounted(kept: u64, was: bool, is: bool) -> u64
     }
 }
 
+/// Writes the course of a work, which is what a poll leaves of it. The search for the next live work begins there.
 pub fn set_course(parts: &mut CoreParts, work: WorkId, course: Course)
     requires { IsSound parts.old }
     ensures sound { IsSound parts.new }
@@ -67,6 +68,7 @@ pub fn set_course(parts: &mut CoreParts, work: WorkId, course: Course)
         let was = is_moving(&entry.work);
         entry.work.course = course;
         let is = is_moving(&entry.work);
+        parts.polled_last = Some(entry.live);
         parts.kept.moving = recounted(parts.kept.moving, was, is);
     }
 }

@@ -1,4 +1,4 @@
-ghost use Rattle.std.specs.Prelude.{◌≡◌, ◌<◌, IfOk, IsSome, OnErr, OnOk, length};
+ghost use Rattle.std.specs.Prelude.{◌≡◌, ◌<◌, ◌^◌, IfOk, IsSome, OnErr, OnOk, length};
 ghost use Rattle.handle_words.specs.Kinds.{IsHandleKind};
 ghost use Rattle.task_handles.specs.Counted.{Counts, Inserts, Unchanged};
 ghost use Rattle.task_machine.specs.Read.{new_handle, subtask_at};
@@ -47,6 +47,7 @@ pub fn insert_handle(parts: &mut CoreParts, index: u32, item: Held) -> Result<u3
     requires stands { IsHeldNamed (kinds (bare (parts_of parts.old))) item.kind item.rep }
     ensures sound { IsSound parts.new }
     ensures handle { IfOk result (λ h. h ≡ new_handle index (seen parts.old).core) }
+    ensures small { IfOk result (λ h. h < 2 ^ 28) }
     ensures new { OnOk result (seen parts.new ≡ on_core (give_handle index (named_of item)) (seen parts.old)) }
     ensures err { OnErr result (seen parts.new ≡ seen parts.old) }
     ensures same { OnErr result (parts_of parts.new ≡ parts_of parts.old) }

@@ -1,4 +1,4 @@
-ghost use Rattle.std.specs.Prelude.{◌≡◌, IfOk, OnErr, OnOk, is_some, true};
+ghost use Rattle.std.specs.Prelude.{◌≡◌, ◌<◌, ◌^◌, IfOk, OnErr, OnOk, is_some, true};
 ghost use Rattle.handle_words.specs.Kinds.{IsHandleKind};
 ghost use Rattle.task_machine.specs.Maps.{get};
 ghost use Rattle.task_machine.specs.Read.{new_handle};
@@ -58,6 +58,7 @@ pub fn name_subtask(
     requires there { is_some (get (seen parts.old).core.handles instance) ≡ true }
     ensures sound { IsSound parts.new }
     ensures handle { IfOk result (λ h. h ≡ new_handle instance (seen parts.old).core) }
+    ensures small { IfOk result (λ h. h < 2 ^ 28) }
     ensures new { OnOk result (seen parts.new ≡ on_core (with_handle instance (subtask_in (seen parts.old).tags subtask)) (seen parts.old)) }
     ensures err { OnErr result (seen parts.new ≡ seen parts.old) }
 {

@@ -103,7 +103,7 @@ module _ (p : Parts) (whole : IsWhole p) (r : InstanceRecord) (loose : AreLoose 
   home_grown g h = record { call = h.call; there = h.there; instance = h.instance; within = there_still p.instances r g.instance h.within; place = h.place; how_far = h.how_far }
 
   call_grown : (g : GuestTask) → IsCallNamed p g → IsCallNamed grown g
-  call_grown g h = record { caller = h.caller; join = h.join; group = h.group; positive = h.positive }
+  call_grown g h = record { caller = h.caller; first = h.first; join = h.join; group = h.group; positive = h.positive }
 
   work_grown : (w : HostWork) → IsWorkNamed p w → IsWorkNamed grown w
   work_grown w h = record { caller = h.caller; join = h.join; group = h.group }
@@ -202,6 +202,7 @@ module _ (p : Parts) (whole : IsWhole p) (r : InstanceRecord) (loose : AreLoose 
       ready_calls = whole.chained.ready_calls;
       ready_works = whole.chained.ready_works;
       polled = whole.chained.polled;
+      rising = whole.chained.rising;
       marks = whole.chained.marks;
       shelves = shelves_grown;
       low = whole.chained.low;

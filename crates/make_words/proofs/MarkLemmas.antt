@@ -33,7 +33,7 @@ module _ (p : Parts) (whole : IsWhole p) (high low : Option ℕ) where
   home_same g h = record { call = h.call; there = h.there; instance = h.instance; within = h.within; place = h.place; how_far = h.how_far }
 
   call_same : (g : GuestTask) → IsCallNamed p g → IsCallNamed marked g
-  call_same g h = record { caller = h.caller; join = h.join; group = h.group; positive = h.positive }
+  call_same g h = record { caller = h.caller; first = h.first; join = h.join; group = h.group; positive = h.positive }
 
   work_same : (w : HostWork) → IsWorkNamed p w → IsWorkNamed marked w
   work_same w h = record { caller = h.caller; join = h.join; group = h.group }
@@ -54,6 +54,7 @@ module _ (p : Parts) (whole : IsWhole p) (high low : Option ℕ) where
         ready_calls = whole.chained.ready_calls;
         ready_works = whole.chained.ready_works;
         polled = whole.chained.polled;
+        rising = whole.chained.rising;
         marks = rows;
         shelves = IsRows-same (shelf_chain p) (λ q. q.shelf.index) (IsSeated p) p.shelves (part is_of_instance (row p)) whole.chained.shelves (part is_of_instance (row marked)) (λ k c at. ap (filter (is_of_instance k.0)) (same k.1));
         low = subst (Each IsOfThread) (sym (same Low)) whole.chained.low;

@@ -105,20 +105,20 @@ module _ {T : Type 0} (t : Table (Single T)) (g : T) (table : IsTable t) where
     }
 
   -- it is filed nowhere
-  module _ {K : Type 0} (node : T → ℕ) (key_of : T → Option K) (links : List (Spot ℕ)) (spare : IsSpare node t links (node g)) (chain : K → Option ℕ) where
-    abbrev pub says : ℕ → ℕ → Single T → Option (Filing K ℕ)
-    says r serial e = Some (record { node = node e.item; key = key_of e.item; value = r })
+  module _ {K P : Type 0} (node : T → ℕ) (key_of : T → Option K) (value : ℕ → T → P) (links : List (Spot P)) (spare : IsSpare node t links (node g)) (chain : K → Option ℕ) where
+    abbrev pub says : ℕ → ℕ → Single T → Option (Filing K P)
+    says r serial e = Some (record { node = node e.item; key = key_of e.item; value = value r e.item })
 
-    apart : (r : ℕ) (f : Filing K ℕ) → filings says t r ≡ Some f → f.node ≡ node g → ⊥
+    apart : (r : ℕ) (f : Filing K P) → filings says t r ≡ Some f → f.node ≡ node g → ⊥
     unfolding filings
     apart r f is same = by (place_at t r) refl is
       where
         by : (o : Option (Placed (Single T))) → place_at t r ≡ o → said says r o ≡ Some f → ⊥
         by None at is = absurd (cc)
-        by (Some q) at is = spare.apart r q at (ap (λ (h : Filing K ℕ). h.node) (same_Some _ f is) ∙ same)
+        by (Some q) at is = spare.apart r q at (ap (λ (h : Filing K P). h.node) (same_Some _ f is) ∙ same)
 
     pub index_more : IsIndex chain links (filings says t) → key_of g ≡ None → IsIndex chain links (filings says more)
-    index_more index unfiled = IsIndex-pushed says chain t links index table (record { item = g }) (record { node = node g; key = key_of g; value = next_place t }) refl spare.made (spare.free ∙ sym (ap (λ (k : Option K). link_for chain (record { node = node g; key = k; value = next_place t })) unfiled)) apart
+    index_more index unfiled = IsIndex-pushed says chain t links index table (record { item = g }) (record { node = node g; key = key_of g; value = value (next_place t) g }) refl spare.made (spare.free ∙ sym (ap (λ (k : Option K). link_for chain (record { node = node g; key = k; value = value (next_place t) g })) unfiled)) apart
 
 -- ---- An entry that is written
 

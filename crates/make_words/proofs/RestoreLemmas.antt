@@ -168,7 +168,7 @@ module _ (p : Parts) (threads : Table (Single GuestThread)) (calls : Table (Sing
   }
 
   call_kept : (g : GuestTask) → IsCallNamed p g → IsCallNamed restored g
-  call_kept g h = record { caller = at_restored g.maker _ h.caller; join = at_restored g.joined _ h.join; group = ap (λ o. number_in (key_in group_key o)) (same_groups g.group) ∙ h.group; positive = h.positive }
+  call_kept g h = record { caller = at_restored g.maker _ h.caller; first = at_restored g.first (ThreadOf g.number) h.first; join = at_restored g.joined _ h.join; group = ap (λ o. number_in (key_in group_key o)) (same_groups g.group) ∙ h.group; positive = h.positive }
 
   work_kept : (w : HostWork) → IsWorkNamed p w → IsWorkNamed restored w
   work_kept w h = record { caller = at_restored w.maker _ h.caller; join = at_restored w.joined _ h.join; group = λ n is. let one = h.group n is in (ap (λ o. number_in (key_in group_key o)) (same_groups w.group) ∙ one.0, one.1) }
@@ -208,6 +208,7 @@ module _ (p : Parts) (threads : Table (Single GuestThread)) (calls : Table (Sing
       ready_calls = IsIndex-same (ready_call_chain restored) p.ready_calls (filings ready_call p.calls) (IsIndex-same_chains (ready_call_chain p) p.ready_calls (filings ready_call p.calls) whole.chained.ready_calls (ready_call_chain restored) (found_same ready_calls_key p.sets sets same_sets)) (filings ready_call calls) (filings_same ready_call p.calls calls same_calls);
       ready_works = IsIndex-same (ready_work_chain restored) p.ready_works (filings ready_work p.works) (IsIndex-same_chains (ready_work_chain p) p.ready_works (filings ready_work p.works) whole.chained.ready_works (ready_work_chain restored) (found_same ready_works_key p.sets sets same_sets)) (filings ready_work works) (filings_same ready_work p.works works same_works);
       polled = IsIndex-same (live_chain p) p.polled (filings live_work p.works) whole.chained.polled (filings live_work works) (filings_same live_work p.works works same_works);
+      rising = whole.chained.rising;
       marks = IsRows-known _ _ (IsSeated p) (IsSeated restored) _ _ seat_kept whole.chained.marks;
       shelves = IsRows-known _ _ (IsSeated p) (IsSeated restored) _ _ seat_kept whole.chained.shelves;
       low = whole.chained.low;

@@ -67,7 +67,7 @@ module _ (p : Parts) (whole : IsWhole p) (tables : SoundTable set_key p.sets p.m
   home_more g h = record { call = h.call; there = h.there; instance = h.instance; within = h.within; place = at_more g.beside _ h.place; how_far = at_more g.awaited _ h.how_far }
 
   call_more : (g : GuestTask) → IsCallNamed p g → IsCallNamed with_set g
-  call_more g h = record { caller = at_more g.maker _ h.caller; join = at_more g.joined _ h.join; group = h.group; positive = h.positive }
+  call_more g h = record { caller = at_more g.maker _ h.caller; first = at_more g.first (ThreadOf g.number) h.first; join = at_more g.joined _ h.join; group = h.group; positive = h.positive }
 
   work_more : (w : HostWork) → IsWorkNamed p w → IsWorkNamed with_set w
   work_more w h = record { caller = at_more w.maker _ h.caller; join = at_more w.joined _ h.join; group = h.group }
@@ -171,6 +171,7 @@ module _ (p : Parts) (whole : IsWhole p) (tables : SoundTable set_key p.sets p.m
       ready_calls = IsIndex-opened (ready_call_chain p) (ready_call_chain with_set) p.ready_calls x.number (λ n. cases_eq n x.number) (other_chain (λ y. y.ready_calls)) x.ready_calls (has_chain (λ y. y.ready_calls)) loose.ready_calls (filings ready_call p.calls) whole.chained.ready_calls none_call;
       ready_works = IsIndex-opened (ready_work_chain p) (ready_work_chain with_set) p.ready_works x.number (λ n. cases_eq n x.number) (other_chain (λ y. y.ready_works)) x.ready_works (has_chain (λ y. y.ready_works)) loose.ready_works (filings ready_work p.works) whole.chained.ready_works none_work;
       polled = whole.chained.polled;
+      rising = whole.chained.rising;
       marks = whole.chained.marks;
       shelves = whole.chained.shelves;
       low = whole.chained.low;

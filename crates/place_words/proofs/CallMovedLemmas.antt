@@ -1,10 +1,7 @@
 -- A call is written that has another event or set, and the numbers of members of sets: what else holds of the parts stays.
 use Rattle.std.proofs.Common.{◌≡◌, ◌+◌, ◌*◌, ◌==◌, ℕ, Bool, List, Option, Some, None, IsSome, count_by, length, refl, sym, ap, ap₂, subst, ◌∙◌}
 use Rattle.std.proofs.lemmas.Option.{same_Some}
-use Rattle.std.specs.BTreeMap.{is_at}
-use Rattle.std.specs.Map.{lookup}
 use Rattle.std.specs.Option.{option_map, option_map_or}
-use Rattle.std.specs.Ordering.{nat_cmp}
 use Rattle.task_index.proofs.Indexes.{IsIndex-same_chains}
 use Rattle.task_index.specs.Counts.{passing}
 use Rattle.task_index.specs.Index.{IsIndex, filings}
@@ -15,7 +12,7 @@ use Rattle.task_machine.specs.declared.records.Call.{Call}
 use Rattle.task_machine.specs.declared.records.Goal.TheVariants as goal
 use Rattle.task_machine.specs.declared.records.Subtask.TheVariants as subtask
 use Rattle.task_records.proofs.KeptLemmas.{passing_seconds, records_seconds, seconds, size_seconds}
-use Rattle.task_records.specs.Image.{Parts, core_of}
+use Rattle.task_records.specs.Image.{HasRoom, Parts, core_of}
 use Rattle.task_records.specs.Kept.{IsCallKept, IsGroupKept, IsSetKept, is_of_group}
 use Rattle.task_records.specs.Keys.{call_key}
 use Rattle.task_records.specs.Kinds.{on_item}
@@ -61,13 +58,13 @@ module _ (p : Parts) (whole : IsWhole p) (calls : Table (Single GuestTask)) (ali
   home_told g h = record { call = number_alike still_call calls p.calls alike (λ (g : GuestTask). g.number) (λ g. refl) (λ (g : GuestTask). g.call) quiet_call (λ g. refl) g.task ∙ h.call; there = h.there; instance = instance_told g.thread.call ∙ h.instance; within = h.within; place = at_told g.beside _ h.place; how_far = at_told g.awaited _ h.how_far }
 
   call_told : (g : GuestTask) → IsCallNamed p g → IsCallNamed told (still_call g)
-  call_told g h = record { caller = at_told g.maker _ h.caller; join = tt; group = h.group; positive = h.positive }
+  call_told g h = record { caller = at_told g.maker _ h.caller; first = at_told g.first (ThreadOf g.number) h.first; join = tt; group = h.group; positive = h.positive }
 
   calls_told : EachEntry (λ (g : GuestTask). AtPlace told g.joined (join_target g.call.join)) calls → EachEntry (IsCallNamed told) calls
   calls_told joins r q at =
       let one = place_alike still_call calls p.calls alike r q at in
       let h = subst (IsCallNamed told) one.1.1 (call_told one.0.entry.item (whole.named.calls r one.0 one.1.0)) in
-      record { caller = h.caller; join = joins r q at; group = h.group; positive = h.positive }
+      record { caller = h.caller; first = h.first; join = joins r q at; group = h.group; positive = h.positive }
 
   work_told : (w : HostWork) → IsWorkNamed p w → IsWorkNamed told w
   work_told w h = record { caller = at_told w.maker _ h.caller; join = at_told w.joined _ h.join; group = h.group }
@@ -91,6 +88,7 @@ module _ (p : Parts) (whole : IsWhole p) (calls : Table (Single GuestTask)) (ali
     ready_calls = IsIndex-same_chains (ready_call_chain p) ready (filings ready_call calls) index (ready_call_chain told) ready_calls_told;
     ready_works = IsIndex-same_chains (ready_work_chain p) p.ready_works _ whole.chained.ready_works (ready_work_chain told) ready_works_told;
     polled = whole.chained.polled;
+    rising = whole.chained.rising;
     marks = whole.chained.marks;
     shelves = whole.chained.shelves;
     low = whole.chained.low;
@@ -114,10 +112,10 @@ module _ (p : Parts) (whole : IsWhole p) (calls : Table (Single GuestTask)) (ali
   group_told : (g : TaskGroup) → IsGroupKept (core_of p) g → IsGroupKept (core_of told) g
   group_told g h = h ∙ ap (λ n. n + passing (is_of_group g.number) (core_of p).works) (sym (passing_told (λ c. c.group == g.number)))
 
-  results_told : (k : ℕ) (c : Call) → get (core_of told).calls k ≡ Some c → c.goal ≡ goal.Main → IsSome (lookup (is_at (nat_cmp k)) p.results)
+  results_told : (k : ℕ) (c : Call) → get (core_of told).calls k ≡ Some c → c.goal ≡ goal.Main → HasRoom k p.results
   results_told k c is main = by (get (core_of p).calls k) refl (sym (ap (option_map quiet_call) is) ∙ get_told k)
     where
-      by : (o : Option Call) → get (core_of p).calls k ≡ o → Some (quiet_call c) ≡ option_map quiet_call o → IsSome (lookup (is_at (nat_cmp k)) p.results)
+      by : (o : Option Call) → get (core_of p).calls k ≡ o → Some (quiet_call c) ≡ option_map quiet_call o → HasRoom k p.results
       by None was same = absurd (cc)
       by (Some d) was same = whole.counted.results k d was (sym (ap (λ (x : Call). x.goal) (same_Some (quiet_call c) (quiet_call d) same)) ∙ main)
 

@@ -29,10 +29,11 @@ use Rattle.task_records.specs.Kept.{IsSetKept, members_of}
 use Rattle.task_records.specs.Keys.{set_key, work_key}
 use Rattle.task_records.specs.Kinds.{entry_of, item_of, on_item}
 use Rattle.task_records.specs.Names.{AreHandlesNamed, AtPlace, CallOf, IsHeldNamed, SetOf, ThreadOf, WorkOf, join_target, kinds}
-use Rattle.task_records.specs.Places.{live_chain, live_work, ready_in, ready_work, ready_work_chain}
+use Rattle.task_records.specs.Places.{Rises, live_chain, live_value, live_work, ready_in, ready_work, ready_work_chain}
 use Rattle.task_records.specs.Seen.{IsSound, parts_of, seen}
 use Rattle.task_records.specs.Sound.{EachEntry, IsWhole, SoundTable, bare, bare_work, loose_work, unmoved}
 use Rattle.task_records.specs.declared.works.HostWork.{HostWork}
+use Rattle.task_records.specs.declared.works.LiveWork.{LiveWork}
 use Rattle.task_records.specs.declared.instances.InstanceRecord.{InstanceRecord}
 use Rattle.task_records.specs.declared.parts.CoreParts.{CoreParts}
 use Rattle.task_records.specs.declared.sets.WaitSet.{WaitSet}
@@ -119,7 +120,7 @@ module _ (a : CoreParts) (sound : IsSound a) (id : TableId HostTaskKey) (g : Hos
     pub works_alike : Alike still_work bare_now bared.works
     works_alike = ap (mapped (on_item still_work)) bare_put ∙ mapped-with_entry_same (on_item still_work) bared.works id.rep (entry_of (bare_work h)) bare_placed bare_stands (ap entry_of stays ∙ sym (ap (on_item still_work) bare_entry))
 
-    module _ (sets : Table (Single WaitSet)) (as_sets : Alike uncounted sets a.sets) (links : List (Spot ℕ)) (polled : List (Spot ℕ)) (live moving : ℕ) where
+    module _ (sets : Table (Single WaitSet)) (as_sets : Alike uncounted sets a.sets) (links : List (Spot ℕ)) (polled : List (Spot LiveWork)) (live moving : ℕ) where
       abbrev pub heard_after : CoreParts
       heard_after = record a { works = works_now; sets = sets; ready_works = links; polled = polled; kept = record a.kept { live = live; moving = moving } }
 
@@ -138,7 +139,7 @@ module _ (a : CoreParts) (sound : IsSound a) (id : TableId HostTaskKey) (g : Hos
       pub members_same : h.work.join ≡ g.work.join → (n : ℕ) → members_of n (core_of bared) ≡ members_of n (core_of after)
       members_same same n = let law = members_change n in let one : one_if_passes (λ (c : Work). is_in_set n c.join) (Some g.work) ≡ one_if_passes (λ (c : Work). is_in_set n c.join) (Some h.work) = ap (λ j. cond (is_in_set n j) 1 0) (sym same) in omega (arith, law, one)
 
-      module _ (at : AtPlace (parts_of a) h.joined (join_target h.work.join)) (sets_sound : SoundTable set_key sets a.made.sets) (kept : EachEntry (IsSetKept (core_of after)) sets) (live_is : live + one_if_passes is_live (Some g.work) ≡ a.kept.live + one_if_passes is_live (Some h.work)) (moving_is : moving + one_if_passes is_moving (Some g.work) ≡ a.kept.moving + one_if_passes is_moving (Some h.work)) (live_re : Refiles a.polled polled g.live.index (link_for (live_chain bared) (record { node = g.live.index; key = live_key h.work.stage; value = id.rep }))) (re : Refiles a.ready_works links g.ready.index (link_for (ready_work_chain bared) (record { node = g.ready.index; key = ready_in h.work.event h.work.join; value = id.rep }))) where
+      module _ (at : AtPlace (parts_of a) h.joined (join_target h.work.join)) (sets_sound : SoundTable set_key sets a.made.sets) (kept : EachEntry (IsSetKept (core_of after)) sets) (live_is : live + one_if_passes is_live (Some g.work) ≡ a.kept.live + one_if_passes is_live (Some h.work)) (moving_is : moving + one_if_passes is_moving (Some g.work) ≡ a.kept.moving + one_if_passes is_moving (Some h.work)) (live_re : Refiles a.polled polled g.live.index (link_for (live_chain bared) (record { node = g.live.index; key = live_key h.work.stage; value = live_value id.rep h }))) (rises : Rises polled a.live) (re : Refiles a.ready_works links g.ready.index (link_for (ready_work_chain bared) (record { node = g.ready.index; key = ready_in h.work.event h.work.join; value = id.rep }))) where
         joins_now : EachEntry (λ (x : HostWork). AtPlace after x.joined (join_target x.work.join)) bare_now
         joins_now = subst (EachEntry (λ (x : HostWork). AtPlace after x.joined (join_target x.work.join))) (sym bare_put)
             (each_written bared.works id.rep bare_placed bare_stands (λ (x : HostWork). AtPlace after x.joined (join_target x.work.join)) (bare_work h)
@@ -156,10 +157,10 @@ module _ (a : CoreParts) (sound : IsSound a) (id : TableId HostTaskKey) (g : Hos
         live_index : IsIndex (live_chain bared) polled (filings live_work bare_now)
         live_index = subst (λ (t : Table (Single HostWork)). IsIndex (live_chain bared) polled (filings live_work t)) (sym bare_put)
             (IsIndex-with_entry live_work (live_chain bared) bared.works a.polled is_whole.chained.polled id.rep bare_placed bare_stands polled (entry_of (bare_work h))
-            (record { node = bare_placed.entry.item.live.index; key = live_key bare_placed.entry.item.work.stage; value = id.rep })
-            (record { node = h.live.index; key = live_key h.work.stage; value = id.rep })
+            (record { node = bare_placed.entry.item.live.index; key = live_key bare_placed.entry.item.work.stage; value = live_value id.rep bare_placed.entry.item })
+            (record { node = h.live.index; key = live_key h.work.stage; value = live_value id.rep h })
             refl refl (ap (λ (x : HostWork). x.live.index) stays ∙ sym (ap (λ (e : Single HostWork). e.item.live.index) bare_entry))
-            (subst (λ n. Refiles a.polled polled n (link_for (live_chain bared) (record { node = h.live.index; key = live_key h.work.stage; value = id.rep }))) (sym (ap (λ (e : Single HostWork). e.item.live.index) bare_entry)) live_re))
+            (subst (λ n. Refiles a.polled polled n (link_for (live_chain bared) (record { node = h.live.index; key = live_key h.work.stage; value = live_value id.rep h }))) (sym (ap (λ (e : Single HostWork). e.item.live.index) bare_entry)) live_re))
 
         -- the live works are counted
         live_counted : live ≡ passing is_live (core_of after).works
@@ -196,7 +197,7 @@ module _ (a : CoreParts) (sound : IsSound a) (id : TableId HostTaskKey) (g : Hos
             sets = sets_sound;
             groups = sound.tables.groups;
           };
-          whole = heard_whole bared is_whole bare_now works_alike sets as_sets links polled live joins_now kept index_now live_index live_counted;
+          whole = heard_whole bared is_whole bare_now works_alike sets as_sets links polled live joins_now kept index_now live_index rises live_counted;
           interesting = sound.interesting;
           moving = let law = passing_written (λ (g : HostWork). g.number) (λ (g : HostWork). g.work) a.works a.made.works sound.tables.works id.rep id.serial g is h same_number is_moving in let was = sound.moving in omega (arith, law, was, moving_is);
           handles = λ i r at. handles_now r (sound.handles i r at);
@@ -219,15 +220,16 @@ module _ (a : CoreParts) (sound : IsSound a) (id : TableId HostTaskKey) (g : Hos
           (tags_alike uncounted set_key (λ e. refl) sets a.sets as_sets)))
 
     -- the sets as they were count what they counted, where the work stays in its set
-    pub kept_same : h.work.join ≡ g.work.join → (links : List (Spot ℕ)) → (polled : List (Spot ℕ)) (live moving : ℕ) → EachEntry (IsSetKept (core_of (after a.sets refl links polled live moving))) a.sets
+    pub kept_same : h.work.join ≡ g.work.join → (links : List (Spot ℕ)) → (polled : List (Spot LiveWork)) (live moving : ℕ) → EachEntry (IsSetKept (core_of (after a.sets refl links polled live moving))) a.sets
     kept_same same links polled live moving r q at = let was = is_whole.counted.sets r q at in record { members = was.members ∙ members_same a.sets refl links polled live moving same q.entry.item.number; entries = was.entries }
 
     -- a work that stays as live as it was stays filed
-    pub stays_live : h.work.stage ≡ g.work.stage → Refiles a.polled a.polled g.live.index (link_for (live_chain bared) (record { node = g.live.index; key = live_key h.work.stage; value = id.rep }))
+    pub stays_live : h.work.stage ≡ g.work.stage → Refiles a.polled a.polled g.live.index (link_for (live_chain bared) (record { node = g.live.index; key = live_key h.work.stage; value = live_value id.rep h }))
     stays_live same = record {
-      here = subst (λ (e : Single HostWork). link_of a.polled e.item.live.index ≡ link_for (live_chain bared) (record { node = e.item.live.index; key = live_key e.item.work.stage; value = id.rep })) bare_entry
+      here = subst (λ (e : Single HostWork). link_of a.polled e.item.live.index ≡ link_for (live_chain bared) (record { node = e.item.live.index; key = live_key e.item.work.stage; value = live_value id.rep e.item })) bare_entry
           (is_whole.chained.polled.has_link id.rep _ (filings_at live_work bared.works id.rep (Some bare_placed) bare_stands))
-          ∙ ap (λ x. link_for (live_chain bared) (record { node = g.live.index; key = live_key x; value = id.rep })) (sym same);
+          ∙ (ap (λ x. link_for (live_chain bared) (record { node = g.live.index; key = live_key x; value = live_value id.rep g })) (sym same)
+          ∙ ap (λ n. link_for (live_chain bared) (record { node = g.live.index; key = live_key h.work.stage; value = record { number = n; place = id.rep } })) (sym same_number));
       others = λ n other. refl;
       made = λ n made. made;
       live = λ c live. live;

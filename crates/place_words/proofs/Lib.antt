@@ -15,6 +15,7 @@ pub mod WorkMovedLemmas
 pub mod JoinLemmas
 pub mod TellLemmas
 pub mod HearLemmas
+pub mod RiseLemmas
 pub mod StageLemmas
 pub mod ChainLemmas
 pub mod GoneLemmas

@@ -52,7 +52,7 @@ module _ (p : Parts) (whole : IsWhole p) (threads : Table (Single GuestThread)) 
   home_moved g h = record { call = h.call; there = h.there; instance = h.instance; within = h.within; place = at_moved g.beside _ h.place; how_far = at_moved g.awaited _ h.how_far }
 
   call_moved : (g : GuestTask) → IsCallNamed p g → IsCallNamed moved g
-  call_moved g h = record { caller = at_moved g.maker _ h.caller; join = at_moved g.joined _ h.join; group = h.group; positive = h.positive }
+  call_moved g h = record { caller = at_moved g.maker _ h.caller; first = at_moved g.first (ThreadOf g.number) h.first; join = at_moved g.joined _ h.join; group = h.group; positive = h.positive }
 
   work_moved : (w : HostWork) → IsWorkNamed p w → IsWorkNamed moved w
   work_moved w h = record { caller = at_moved w.maker _ h.caller; join = at_moved w.joined _ h.join; group = h.group }
@@ -97,6 +97,7 @@ module _ (p : Parts) (whole : IsWhole p) (threads : Table (Single GuestThread)) 
     ready_calls = IsIndex-same_chains (ready_call_chain p) p.ready_calls _ whole.chained.ready_calls (ready_call_chain moved) ready_calls_moved;
     ready_works = IsIndex-same_chains (ready_work_chain p) p.ready_works _ whole.chained.ready_works (ready_work_chain moved) ready_works_moved;
     polled = whole.chained.polled;
+    rising = whole.chained.rising;
     marks = IsRows-alike (row_chain p) (row_chain moved) (λ q. q.mark.index) (IsSeated p) (IsSeated moved) p.marks (row p) (row moved) whole.chained.marks (λ k. refl) seated_moved (λ k. refl);
     shelves = IsRows-alike (shelf_chain p) (shelf_chain moved) (λ q. q.shelf.index) (IsSeated p) (IsSeated moved) p.shelves (part is_of_instance (row p)) (part is_of_instance (row moved)) whole.chained.shelves (λ k. refl) seated_moved (λ k. refl);
     low = whole.chained.low;

@@ -16,7 +16,7 @@ use Rattle.task_records.specs.Kept.{IsGroupKept, IsSetKept, is_of_group}
 use Rattle.task_records.specs.Keys.{work_key}
 use Rattle.task_records.specs.Kinds.{on_item}
 use Rattle.task_records.specs.Names.{AtPlace, CallOf, HasHome, IsCallNamed, IsWorkNamed, Nothing, SetOf, Target, ThreadOf, WorkOf, join_target}
-use Rattle.task_records.specs.Places.{BlockedOn, HeldIn, UnderOf, WaitsOn, Where, live_chain, live_work, place_chain, ready_call_chain, ready_work, ready_work_chain}
+use Rattle.task_records.specs.Places.{Rises, BlockedOn, HeldIn, UnderOf, WaitsOn, Where, live_chain, live_work, place_chain, ready_call_chain, ready_work, ready_work_chain}
 use Rattle.task_records.specs.Rows.{IsSeated, entry_seated, host_entry, is_of_instance, push_entry, row, row_chain, shelf_chain}
 use Rattle.task_index.specs.Rows.{part}
 use Rattle.task_records.specs.declared.threads.Queued.{Queued}
@@ -27,6 +27,7 @@ use Rattle.task_records.specs.declared.sets.WaitSet.{WaitSet}
 use Rattle.task_records.specs.declared.single.Single.{Single}
 use Rattle.task_records.specs.declared.threads.GuestThread.{GuestThread}
 use Rattle.task_records.specs.declared.works.HostWork.{HostWork}
+use Rattle.task_records.specs.declared.works.LiveWork.{LiveWork}
 use Rattle.task_table.specs.Mapped.{mapped}
 use Rattle.task_table.specs.Records.{records}
 use Rattle.task_table.specs.Table.{Table}
@@ -35,7 +36,7 @@ use Rattle.place_words.proofs.MovedLemmas.{IsRows-alike}
 use Rattle.place_words.proofs.PutLemmas.{sets_same}
 use Rattle.place_words.specs.Moved.{Alike, quiet_work, still_work, uncounted}
 
-module _ (p : Parts) (whole : IsWhole p) (works : Table (Single HostWork)) (alike : Alike still_work works p.works) (sets : Table (Single WaitSet)) (sets_alike : Alike uncounted sets p.sets) (ready : List (Spot ℕ)) (polled : List (Spot ℕ)) (live : ℕ) where
+module _ (p : Parts) (whole : IsWhole p) (works : Table (Single HostWork)) (alike : Alike still_work works p.works) (sets : Table (Single WaitSet)) (sets_alike : Alike uncounted sets p.sets) (ready : List (Spot ℕ)) (polled : List (Spot LiveWork)) (live : ℕ) where
   abbrev pub heard : Parts
   heard = record p { works = works; sets = sets; ready_works = ready; polled = polled; kept = record p.kept { live = live } }
 
@@ -50,7 +51,7 @@ module _ (p : Parts) (whole : IsWhole p) (works : Table (Single HostWork)) (alik
   home_heard g h = record { call = h.call; there = h.there; instance = h.instance; within = h.within; place = at_heard g.beside _ h.place; how_far = at_heard g.awaited _ h.how_far }
 
   call_heard : (g : GuestTask) → IsCallNamed p g → IsCallNamed heard g
-  call_heard g h = record { caller = at_heard g.maker _ h.caller; join = at_heard g.joined _ h.join; group = h.group; positive = h.positive }
+  call_heard g h = record { caller = at_heard g.maker _ h.caller; first = at_heard g.first (ThreadOf g.number) h.first; join = at_heard g.joined _ h.join; group = h.group; positive = h.positive }
 
   work_heard : (w : HostWork) → IsWorkNamed p w → IsWorkNamed heard (still_work w)
   work_heard w h = record { caller = at_heard w.maker _ h.caller; join = tt; group = h.group }
@@ -82,12 +83,13 @@ module _ (p : Parts) (whole : IsWhole p) (works : Table (Single HostWork)) (alik
   ready_works_heard : (x : ℕ) → ready_work_chain heard x ≡ ready_work_chain p x
   ready_works_heard x = found_alike uncounted sets p.sets sets_alike (λ (x : WaitSet). x.number) (λ x. refl) (λ (x : WaitSet). x.ready_works) (λ x. refl) x
 
-  chained_heard : IsIndex (ready_work_chain p) ready (filings ready_work works) → IsIndex (live_chain p) polled (filings live_work works) → AreChained heard
-  chained_heard index live_index = record {
+  chained_heard : IsIndex (ready_work_chain p) ready (filings ready_work works) → IsIndex (live_chain p) polled (filings live_work works) → Rises polled p.live → AreChained heard
+  chained_heard index live_index rises = record {
     places = IsIndex-same_chains (place_chain p) p.places _ whole.chained.places (place_chain heard) place_chain_heard;
     ready_calls = IsIndex-same_chains (ready_call_chain p) p.ready_calls _ whole.chained.ready_calls (ready_call_chain heard) ready_calls_heard;
     ready_works = IsIndex-same_chains (ready_work_chain p) ready (filings ready_work works) index (ready_work_chain heard) ready_works_heard;
     polled = live_index;
+    rising = rises;
     marks = IsRows-alike (row_chain p) (row_chain heard) (λ q. q.mark.index) (IsSeated p) (IsSeated heard) p.marks (row p) (row heard) whole.chained.marks (λ k. refl) seated_heard (λ k. refl);
     shelves = IsRows-alike (shelf_chain p) (shelf_chain heard) (λ q. q.shelf.index) (IsSeated p) (IsSeated heard) p.shelves (part is_of_instance (row p)) (part is_of_instance (row heard)) whole.chained.shelves (λ k. refl) seated_heard (λ k. refl);
     low = whole.chained.low;
@@ -120,15 +122,15 @@ module _ (p : Parts) (whole : IsWhole p) (works : Table (Single HostWork)) (alik
     results = whole.counted.results;
   }
 
-  pub heard_whole : EachEntry (λ (w : HostWork). AtPlace heard w.joined (join_target w.work.join)) works → EachEntry (IsSetKept (core_of heard)) sets → IsIndex (ready_work_chain p) ready (filings ready_work works) → IsIndex (live_chain p) polled (filings live_work works) → live ≡ passing is_live (core_of heard).works → IsWhole heard
-  heard_whole joins kept index live_index live_is = record {
+  pub heard_whole : EachEntry (λ (w : HostWork). AtPlace heard w.joined (join_target w.work.join)) works → EachEntry (IsSetKept (core_of heard)) sets → IsIndex (ready_work_chain p) ready (filings ready_work works) → IsIndex (live_chain p) polled (filings live_work works) → Rises polled p.live → live ≡ passing is_live (core_of heard).works → IsWhole heard
+  heard_whole joins kept index live_index rises live_is = record {
     named = record {
       threads = λ r q at. home_heard q.entry.item (whole.named.threads r q at);
       calls = λ r q at. call_heard q.entry.item (whole.named.calls r q at);
       works = works_heard joins;
       switch = whole.named.switch;
     };
-    chained = chained_heard index live_index;
+    chained = chained_heard index live_index rises;
     nodes = record {
       marks = whole.nodes.marks;
       shelves = whole.nodes.shelves;

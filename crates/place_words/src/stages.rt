@@ -1,17 +1,20 @@
 //! The stages of host works: the live ones are a list, and are counted.
 ghost use Rattle.place_words.specs.Moved.{live_key};
-ghost use Rattle.std.specs.Prelude.{◌≡◌, option_and_then};
+ghost use Rattle.std.specs.Prelude.{◌≡◌, IfSome, IsSome, Option, ℕ, option_and_then, option_map, true};
+ghost use Rattle.task_index.specs.Index.{Refiles};
+ghost use Rattle.task_links.specs.Links.{is_made, list_of};
 ghost use Rattle.task_machine.specs.Read.{is_live};
 ghost use Rattle.task_machine.specs.Write.{set_stage};
-ghost use Rattle.task_records.specs.Places.{live_chain};
+ghost use Rattle.task_records.specs.Places.{Rises, live_chain};
 ghost use Rattle.task_records.specs.Seen.{IsSound, parts_of, seen};
 ghost use Rattle.task_records.specs.Sound.{bare};
 ghost use Rattle.task_words.specs.StateView.{on_core, work_of};
 
-use crate::moves::refile;
 use count_words::{is_moving, recounted};
+use task_links::Links;
 use task_machine::{Stage, Work};
-use task_records::CoreParts;
+use task_records::{CoreParts, LiveWork, Node};
+use task_wait::put_in_order;
 use task_words::WorkId;
 
 fn is_live(work: &Work) -> bool
@@ -30,6 +33,22 @@ fn stage_chain(parts: &CoreParts, stage: Stage) -> Option<usize>
     }
 }
 
+// The node is in this chain alone, where its number belongs, or in none.
+fn file_live(links: &mut Links<LiveWork>, node: Node, chain: Option<usize>, work: LiveWork)
+    requires made { is_made links.old node.index ≡ true }
+    requires live { IfSome chain (λ c. IsSome (list_of links.old c)) }
+    ensures links { Refiles links.old links.new node.index (option_map (λ c. (c, work)) chain) }
+    ensures rising { (o : Option ℕ) → Rises links.old o → Rises links.new o }
+{
+    links.no_node_is_twice();
+    links.remove(node);
+    if let Some(chain) = chain {
+        put_in_order(links, chain, node, work);
+    }
+}
+
+/// Writes the stage of a work. A work that becomes live goes among the live ones by its number: in constant time where
+/// it is the greatest, as it is where works become live in the order in which they were made.
 pub fn set_stage(parts: &mut CoreParts, work: WorkId, stage: Stage)
     requires { IsSound parts.old }
     ensures sound { IsSound parts.new }
@@ -40,7 +59,11 @@ pub fn set_stage(parts: &mut CoreParts, work: WorkId, stage: Stage)
         let chain = stage_chain(parts, stage);
         let mut new = old;
         new.work.stage = stage;
-        refile(&mut parts.polled, old.live, chain, work.rep());
+        let live = LiveWork {
+            number: old.number,
+            place: work.rep(),
+        };
+        file_live(&mut parts.polled, old.live, chain, live);
         parts.kept.live = recounted(parts.kept.live, is_live(&old.work), is_live(&new.work));
         parts.kept.moving = recounted(
             parts.kept.moving,

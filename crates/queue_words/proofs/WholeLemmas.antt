@@ -34,7 +34,7 @@ module _ (p : Parts) (whole : IsWhole p) (marks shelves : List (Spot Queued)) (b
   home_same g h = record { call = h.call; there = h.there; instance = h.instance; within = h.within; place = h.place; how_far = h.how_far }
 
   call_same : (g : GuestTask) → IsCallNamed p g → IsCallNamed now g
-  call_same g h = record { caller = h.caller; join = h.join; group = h.group; positive = h.positive }
+  call_same g h = record { caller = h.caller; first = h.first; join = h.join; group = h.group; positive = h.positive }
 
   work_same : (w : HostWork) → IsWorkNamed p w → IsWorkNamed now w
   work_same w h = record { caller = h.caller; join = h.join; group = h.group }
@@ -85,6 +85,7 @@ module _ (p : Parts) (whole : IsWhole p) (marks shelves : List (Spot Queued)) (b
       ready_calls = whole.chained.ready_calls;
       ready_works = whole.chained.ready_works;
       polled = whole.chained.polled;
+      rising = whole.chained.rising;
       marks = marks_are;
       shelves = shelves_are;
       low = low;

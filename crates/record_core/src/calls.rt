@@ -51,6 +51,10 @@ impl CallWords for TaskCore {
         record_words::call_group(&self.parts, call)
     }
 
+    fn first_thread(&self, call: CallId) -> ThreadId {
+        task_records::first_thread(&self.parts, call)
+    }
+
     fn has_thread(&self, call: CallId) -> bool {
         count_words::has_thread(&self.parts, call)
     }

@@ -27,7 +27,7 @@ use Rattle.task_records.specs.Image.{Parts, core_of}
 use Rattle.task_records.specs.Kept.{IsGroupKept, calls_of}
 use Rattle.task_records.specs.Keys.{call_key, group_key}
 use Rattle.task_records.specs.Kinds.{entry_of, item_of}
-use Rattle.task_records.specs.Names.{HasHome, HasNumber, IsCallNamed, IsWorkNamed, kinds}
+use Rattle.task_records.specs.Names.{HasHome, HasNumber, IsCallNamed, IsWorkNamed, kinds, ThreadOf}
 use Rattle.task_records.specs.Places.{BlockedOn, HeldIn, UnderOf, WaitsOn, Where, place_chain, place_filing, ready_call, ready_call_chain, ready_in}
 use Rattle.task_records.specs.Sound.{AreChained, AreCounted, EachEntry, IsWhole, SoundTable}
 use Rattle.task_records.specs.declared.calls.GuestTask.{GuestTask}
@@ -89,7 +89,7 @@ module _ (p : Parts) (whole : IsWhole p) (made : ℕ) (sound : SoundTable call_k
     group_left r n at = number_alike uncalled groups p.groups alike (λ (x : TaskGroup). x.number) (λ x. refl) (λ (x : TaskGroup). x.calls) (λ (k : ℕ). 0) (λ x. refl) r ∙ at
 
     call_left : (x : GuestTask) → IsCallNamed p x → IsCallNamed less x
-    call_left x named = record { caller = named_left (kinds p) (kinds less) left x.maker _ named.caller; join = named_left (kinds p) (kinds less) left x.joined _ named.join; group = group_left x.group x.call.group named.group; positive = named.positive }
+    call_left x named = record { caller = named_left (kinds p) (kinds less) left x.maker _ named.caller; first = named_left (kinds p) (kinds less) left x.first (ThreadOf x.number) named.first; join = named_left (kinds p) (kinds less) left x.joined _ named.join; group = group_left x.group x.call.group named.group; positive = named.positive }
 
     work_left : (w : HostWork) → IsWorkNamed p w → IsWorkNamed less w
     work_left w named = record { caller = named_left (kinds p) (kinds less) left w.maker _ named.caller; join = named_left (kinds p) (kinds less) left w.joined _ named.join; group = λ n at. let one = named.group n at in (group_left w.group n one.0, one.1) }
@@ -138,6 +138,7 @@ module _ (p : Parts) (whole : IsWhole p) (made : ℕ) (sound : SoundTable call_k
             (subst (λ (e : Single GuestTask). Drops p.ready_calls ready_calls e.item.ready.index) (sym stands.1.1.1) ready_out) whole.chained.ready_calls;
         ready_works = whole.chained.ready_works;
         polled = whole.chained.polled;
+        rising = whole.chained.rising;
         marks = whole.chained.marks;
         shelves = whole.chained.shelves;
         low = whole.chained.low;

@@ -10,9 +10,12 @@ use Rattle.task_index.proofs.Rows.{IsRows-renamed}
 use Rattle.task_index.proofs.Tables.{filings-deleted_here, filings-deleted_other, filings_at}
 use Rattle.task_index.specs.Index.{Filing, IsIndex, filings}
 use Rattle.task_index.specs.Rows.{Each, IsRows}
-use Rattle.task_links.specs.Links.{FreeNode, Renames, Spot, Unmade, link_of, list_or_nil, spot_list}
+use Rattle.task_links.specs.Links.{FreeNode, Renames, Spot, Unmade, link_of, list_of, list_or_nil, spot_at, spot_is_made, spot_link, spot_list}
+use Rattle.task_records.specs.Places.{Rises, live_order}
+use Rattle.task_records.specs.declared.works.LiveWork.{LiveWork}
 use Rattle.task_table.specs.Changes.{deleted}
 use Rattle.task_table.specs.Table.{Placed, Table, place_at}
+use Rattle.task_wait.specs.Sets.{IsAscending}
 
 none_is : {X Y : Type 0} (x : X) → ◌≡◌ {A = Option X} None (Some x) → Y
 none_is x is = absurd (cc)
@@ -118,3 +121,25 @@ Each-but Known Now u knows (x ∷ xs) none all = by (u x) refl none (Each-but Kn
     by : (b : Bool) → u x ≡ b → (b || list_any u xs) ≡ false → (list_any u xs ≡ false → Each Known xs → Each Now xs) → Each Now (x ∷ xs)
     by true is none rest = absurd (cc)
     by false is none rest = (knows x all.0 is, rest none all.1)
+
+-- ---- A free node is dropped
+
+module _ {P : Type 0} (old new : List (Spot P)) (n : ℕ) (names : Renames old new n FreeNode Unmade) where
+  pub Drops-renamed : Drops old new n
+  Drops-renamed = record {
+    here = ap spot_link names.names;
+    links = λ m other. ap spot_link (names.others m other);
+    made = λ m other made. ap spot_is_made (names.others m other) ∙ made;
+    live = λ c live. subst IsSome (sym (lists c live)) live;
+  }
+    where
+      lists : (c : ℕ) → IsSome (list_of old c) → list_of new c ≡ list_of old c
+      lists c live = ap spot_list (names.others c (λ same. absurd (let none : list_of old c ≡ None = ap (list_of old) same ∙ ap spot_list names.named in let two = subst IsSome none live in cc)))
+
+-- the live works stay in order
+pub Rises-renamed : (old new : List (Spot LiveWork)) (n : ℕ) → Renames old new n FreeNode Unmade → (o : Option ℕ) → Rises old o → Rises new o
+Rises-renamed old new n names None rises = tt
+Rises-renamed old new n names (Some c) rises = elim (cases_eq c n) [
+  | inl same ↦ subst (λ s. IsAscending live_order (list_or_nil (spot_list s))) (sym (ap (spot_at new) same ∙ names.names)) tt
+  | inr other ↦ subst (λ s. IsAscending live_order (list_or_nil (spot_list s))) (sym (names.others c other)) rises
+]

@@ -18,7 +18,7 @@ use Rattle.task_records.specs.Image.{Parts, core_of}
 use Rattle.task_records.specs.Kept.{IsSetKept}
 use Rattle.task_records.specs.Keys.{set_key}
 use Rattle.task_records.specs.Kinds.{item_of}
-use Rattle.task_records.specs.Names.{HasHome, IsCallNamed, IsWorkNamed, kinds}
+use Rattle.task_records.specs.Names.{HasHome, IsCallNamed, IsWorkNamed, kinds, ThreadOf}
 use Rattle.task_records.specs.Places.{BlockedOn, HeldIn, UnderOf, WaitsOn, Where, place_chain, ready_call_chain, ready_work_chain}
 use Rattle.task_records.specs.Seen.{IsSound, parts_of, seen}
 use Rattle.task_records.specs.Sound.{IsWhole, bare}
@@ -149,7 +149,7 @@ module _ (a : CoreParts) (sound : IsSound a) (id : TableId SetKey) (g : WaitSet)
     home_left h home = record { call = home.call; there = home.there; instance = home.instance; within = home.within; place = named_left (kinds (bare (parts_of a))) (kinds gone) left _ _ home.place; how_far = named_left (kinds (bare (parts_of a))) (kinds gone) left _ _ home.how_far }
 
     call_left : (c : GuestTask) → IsCallNamed (bare (parts_of a)) c → IsCallNamed (bare (parts_of set_removed)) c
-    call_left c named = record { caller = named_left (kinds (bare (parts_of a))) (kinds gone) left _ _ named.caller; join = named_left (kinds (bare (parts_of a))) (kinds gone) left _ _ named.join; group = named.group; positive = named.positive }
+    call_left c named = record { caller = named_left (kinds (bare (parts_of a))) (kinds gone) left _ _ named.caller; first = named_left (kinds (bare (parts_of a))) (kinds gone) left c.first (ThreadOf c.number) named.first; join = named_left (kinds (bare (parts_of a))) (kinds gone) left _ _ named.join; group = named.group; positive = named.positive }
 
     work_left : (w : HostWork) → IsWorkNamed (bare (parts_of a)) w → IsWorkNamed (bare (parts_of set_removed)) w
     work_left w named = record { caller = named_left (kinds (bare (parts_of a))) (kinds gone) left _ _ named.caller; join = named_left (kinds (bare (parts_of a))) (kinds gone) left _ _ named.join; group = named.group }
@@ -168,6 +168,7 @@ module _ (a : CoreParts) (sound : IsSound a) (id : TableId SetKey) (g : WaitSet)
         ready_calls = IsIndex-shut (ready_call_chain (bare (parts_of a))) (ready_call_chain gone) a.ready_calls ready_calls g.number g.ready_calls under_calls no_calls calls_else calls_shut _ whole.chained.ready_calls;
         ready_works = IsIndex-shut (ready_work_chain (bare (parts_of a))) (ready_work_chain gone) a.ready_works ready_works g.number g.ready_works under_works no_works works_else works_shut _ whole.chained.ready_works;
         polled = whole.chained.polled;
+        rising = whole.chained.rising;
         marks = whole.chained.marks;
         shelves = whole.chained.shelves;
         low = whole.chained.low;

@@ -136,11 +136,11 @@ module _ (p : Parts) (whole : IsWhole p) (made made_calls made_works : ℕ) (sou
       less_whole = record {
         named = record {
           threads = λ s q at. home_left q.entry.item (whole.named.threads s q at);
-          calls = λ s q at. let one = whole.named.calls s q at in record { caller = one.caller; join = one.join; group = at_other q.entry.item.group q.entry.item.call.group (call_else s q at) one.group; positive = one.positive };
+          calls = λ s q at. let one = whole.named.calls s q at in record { caller = one.caller; first = one.first; join = one.join; group = at_other q.entry.item.group q.entry.item.call.group (call_else s q at) one.group; positive = one.positive };
           works = λ s q at. let one = whole.named.works s q at in record { caller = one.caller; join = one.join; group = λ n has. let two = one.group n has in (at_other q.entry.item.group n (work_else s q at n has) two.0, two.1) };
           switch = whole.named.switch;
         };
-        chained = record { places = whole.chained.places; ready_calls = whole.chained.ready_calls; ready_works = whole.chained.ready_works; polled = whole.chained.polled; marks = whole.chained.marks; shelves = whole.chained.shelves; low = whole.chained.low; behind = whole.chained.behind };
+        chained = record { places = whole.chained.places; ready_calls = whole.chained.ready_calls; ready_works = whole.chained.ready_works; polled = whole.chained.polled; rising = whole.chained.rising; marks = whole.chained.marks; shelves = whole.chained.shelves; low = whole.chained.low; behind = whole.chained.behind };
         nodes = record { marks = whole.nodes.marks; shelves = whole.nodes.shelves; callers = whole.nodes.callers; works = whole.nodes.works; apart = whole.nodes.apart };
         counted = counted_left;
       }

@@ -36,7 +36,7 @@ use Rattle.task_records.specs.Image.{Parts, chained, core_of}
 use Rattle.task_records.specs.Kept.{IsCallKept, is_of_group, threads_of}
 use Rattle.task_records.specs.Keys.{call_key, thread_key}
 use Rattle.task_records.specs.Kinds.{entry_of, item_of}
-use Rattle.task_records.specs.Names.{HasHome, IsCallNamed, IsWorkNamed, kinds}
+use Rattle.task_records.specs.Names.{HasHome, IsCallNamed, IsWorkNamed, kinds, ThreadOf}
 use Rattle.task_records.specs.Places.{BlockedOn, HeldIn, UnderOf, WaitsOn, Where, place_chain, place_filing, ready_call, ready_call_chain, where_at}
 use Rattle.task_records.specs.Rows.{High, IsFollower, IsOfThread, IsSeated, Low, Row, callers_chain, callers_row, entry_seated, follower, is_of_instance, row, row_chain, shelf_chain, thread_entry}
 use Rattle.task_records.specs.Sound.{AreChained, AreCounted, EachEntry, HaveRowNodes, IsWhole, SoundTable}
@@ -110,9 +110,9 @@ module _ (p : Parts) (whole : IsWhole p) (made : ℕ) (sound : SoundTable thread
 
     call_left : (x y : GuestTask) → unthreaded x ≡ unthreaded y → IsCallNamed p x → IsCallNamed less y
     call_left x y same named =
-        let bare : IsCallNamed less (unthreaded x) = record { caller = named_left (kinds p) (kinds less) left x.maker _ named.caller; join = named_left (kinds p) (kinds less) left x.joined _ named.join; group = named.group; positive = named.positive } in
+        let bare : IsCallNamed less (unthreaded x) = record { caller = named_left (kinds p) (kinds less) left x.maker _ named.caller; first = named_left (kinds p) (kinds less) left x.first (ThreadOf x.number) named.first; join = named_left (kinds p) (kinds less) left x.joined _ named.join; group = named.group; positive = named.positive } in
         let one : IsCallNamed less (unthreaded y) = subst (IsCallNamed less) same bare in
-        record { caller = one.caller; join = one.join; group = one.group; positive = one.positive }
+        record { caller = one.caller; first = one.first; join = one.join; group = one.group; positive = one.positive }
 
     work_left : (w : HostWork) → IsWorkNamed p w → IsWorkNamed less w
     work_left w named = record { caller = named_left (kinds p) (kinds less) left w.maker _ named.caller; join = named_left (kinds p) (kinds less) left w.joined _ named.join; group = named.group }
@@ -190,6 +190,7 @@ module _ (p : Parts) (whole : IsWhole p) (made : ℕ) (sound : SoundTable thread
           ready_calls = IsIndex-same (ready_call_chain p) p.ready_calls _ whole.chained.ready_calls (filings ready_call calls) (filings_alike unthreaded ready_call (λ r s x. refl) calls p.calls alike);
           ready_works = whole.chained.ready_works;
           polled = whole.chained.polled;
+          rising = whole.chained.rising;
           marks = IsRows-same (row_chain p) (λ q. q.mark.index) (IsSeated less) marks (row p) marks_left (row less) (λ r c at. row_left r);
           shelves = IsRows-same (shelf_chain p) (λ q. q.shelf.index) (IsSeated less) shelves (part is_of_instance (row p)) shelves_left (part is_of_instance (row less)) (λ k c at. ap (filter (is_of_instance k.0)) (row_left k.1));
           low = subst (Each IsOfThread) (sym (row_left Low)) whole.chained.low;

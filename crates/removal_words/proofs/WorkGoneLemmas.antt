@@ -9,7 +9,7 @@ use Rattle.place_words.specs.Moved.{Alike}
 use Rattle.queue_words.proofs.ListLemmas.{none_in_part}
 use Rattle.queue_words.proofs.RowLemmas.{IsRows-known}
 use Rattle.queue_words.specs.Seats.{is_entry_of_work}
-use Rattle.removal_words.proofs.GoneLemmas.{Each-but, IsIndex-gone, IsIndex-shut, IsRows-dropped}
+use Rattle.removal_words.proofs.GoneLemmas.{Drops-renamed, Each-but, IsIndex-gone, IsIndex-shut, IsRows-dropped, Rises-renamed}
 use Rattle.removal_words.proofs.GroupLemmas.{numbers_alike}
 use Rattle.removal_words.proofs.LeftLemmas.{Leaves, named_left}
 use Rattle.removal_words.proofs.LessLemmas.{found_gone, found_still, placed_before}
@@ -35,8 +35,8 @@ use Rattle.task_records.specs.Image.{Parts, chained, core_of}
 use Rattle.task_records.specs.Kept.{IsGroupKept, calls_of, is_of_group}
 use Rattle.task_records.specs.Keys.{group_key, work_key}
 use Rattle.task_records.specs.Kinds.{entry_of, item_of}
-use Rattle.task_records.specs.Names.{HasHome, HasNumber, IsCallNamed, IsWorkNamed, kinds}
-use Rattle.task_records.specs.Places.{BlockedOn, HeldIn, UnderOf, WaitsOn, Where, live_chain, live_work, place_chain, place_filing, ready_in, ready_work, ready_work_chain}
+use Rattle.task_records.specs.Names.{HasHome, HasNumber, IsCallNamed, IsWorkNamed, kinds, ThreadOf}
+use Rattle.task_records.specs.Places.{BlockedOn, HeldIn, UnderOf, WaitsOn, Where, live_chain, live_value, live_work, place_chain, place_filing, ready_in, ready_work, ready_work_chain}
 use Rattle.task_records.specs.Rows.{High, IsOfThread, IsSeated, Low, Row, entry_seated, host_entry, is_of_instance, push_entry, row, row_chain, shelf_chain}
 use Rattle.task_records.specs.Sound.{AreChained, AreCounted, EachEntry, HaveRowNodes, IsWhole, SoundTable}
 use Rattle.task_records.specs.declared.calls.GuestTask.{GuestTask}
@@ -46,6 +46,7 @@ use Rattle.task_records.specs.declared.single.Single.{Single}
 use Rattle.task_records.specs.declared.threads.GuestThread.{GuestThread}
 use Rattle.task_records.specs.declared.threads.Queued.{Queued}
 use Rattle.task_records.specs.declared.works.HostWork.{HostWork}
+use Rattle.task_records.specs.declared.works.LiveWork.{LiveWork}
 use Rattle.task_table.specs.Answers.{item_at}
 use Rattle.task_table.specs.Changes.{deleted}
 use Rattle.task_table.specs.Table.{Placed, Table, place_at}
@@ -65,7 +66,7 @@ module _ (p : Parts) (whole : IsWhole p) (made : ℕ) (sound : SoundTable work_k
 
   -- ---- The parts without it
 
-  module _ (groups : Table (Single TaskGroup)) (alike : Alike uncalled groups p.groups) (places ready_works polled : List (Spot ℕ)) (marks : List (Spot Queued)) (kept : Kept) where
+  module _ (groups : Table (Single TaskGroup)) (alike : Alike uncalled groups p.groups) (places ready_works : List (Spot ℕ)) (polled : List (Spot LiveWork)) (marks : List (Spot Queued)) (kept : Kept) where
     abbrev pub less : Parts
     less = record p { works = deleted rep p.works; groups = groups; places = places; ready_works = ready_works; polled = polled; marks = marks; kept = kept }
 
@@ -97,7 +98,7 @@ module _ (p : Parts) (whole : IsWhole p) (made : ℕ) (sound : SoundTable work_k
     home_left h home = record { call = home.call; there = home.there; instance = home.instance; within = home.within; place = named_left (kinds p) (kinds less) left h.beside _ home.place; how_far = named_left (kinds p) (kinds less) left h.awaited _ home.how_far }
 
     call_left : (x : GuestTask) → IsCallNamed p x → IsCallNamed less x
-    call_left x named = record { caller = named_left (kinds p) (kinds less) left x.maker _ named.caller; join = named_left (kinds p) (kinds less) left x.joined _ named.join; group = group_left x.group x.call.group named.group; positive = named.positive }
+    call_left x named = record { caller = named_left (kinds p) (kinds less) left x.maker _ named.caller; first = named_left (kinds p) (kinds less) left x.first (ThreadOf x.number) named.first; join = named_left (kinds p) (kinds less) left x.joined _ named.join; group = group_left x.group x.call.group named.group; positive = named.positive }
 
     work_left : (w : HostWork) → IsWorkNamed p w → IsWorkNamed less w
     work_left w named = record { caller = named_left (kinds p) (kinds less) left w.maker _ named.caller; join = named_left (kinds p) (kinds less) left w.joined _ named.join; group = λ n at. let one = named.group n at in (group_left w.group n one.0, one.1) }
@@ -128,7 +129,7 @@ module _ (p : Parts) (whole : IsWhole p) (made : ℕ) (sound : SoundTable work_k
     groups_same : (core_of less).groups ≡ (core_of p).groups
     groups_same = ap (filter (nat_lt p.finished)) (numbers_alike groups p.groups alike)
 
-    module _ (unqueued : (r : Row) → list_any (λ (q : Queued). is_entry_of_work g.number q.entry) (row p r) ≡ false) (shut : Closes p.places places g.blocked) (ready_out : Drops p.ready_works ready_works g.ready.index) (live_out : Drops p.polled polled g.live.index) (mark_out : Renames p.marks marks g.mark.index FreeNode Unmade) where
+    module _ (unqueued : (r : Row) → list_any (λ (q : Queued). is_entry_of_work g.number q.entry) (row p r) ≡ false) (shut : Closes p.places places g.blocked) (ready_out : Drops p.ready_works ready_works g.ready.index) (live_out : Renames p.polled polled g.live.index FreeNode Unmade) (mark_out : Renames p.marks marks g.mark.index FreeNode Unmade) where
       marks_left : IsRows (row_chain p) (λ q. q.mark.index) (IsSeated less) marks (row p)
       marks_left =
           let rows = IsRows-dropped (row_chain p) (λ q. q.mark.index) (IsSeated p) p.marks (row p) whole.chained.marks marks g.mark.index mark_out in
@@ -152,8 +153,9 @@ module _ (p : Parts) (whole : IsWhole p) (made : ℕ) (sound : SoundTable work_k
         ready_calls = whole.chained.ready_calls;
         ready_works = IsIndex-gone ready_work (ready_work_chain less) p.works rep stands.0 stands.1.0 (record { node = stands.0.entry.item.ready.index; key = ready_in stands.0.entry.item.work.event stands.0.entry.item.work.join; value = rep }) refl p.ready_works ready_works
             (subst (λ (e : Single HostWork). Drops p.ready_works ready_works e.item.ready.index) (sym stands.1.1.1) ready_out) whole.chained.ready_works;
-        polled = IsIndex-gone live_work (live_chain less) p.works rep stands.0 stands.1.0 (record { node = stands.0.entry.item.live.index; key = cond (is_stage_live stands.0.entry.item.work.stage) (Some tt) None; value = rep }) refl p.polled polled
-            (subst (λ (e : Single HostWork). Drops p.polled polled e.item.live.index) (sym stands.1.1.1) live_out) whole.chained.polled;
+        polled = IsIndex-gone live_work (live_chain less) p.works rep stands.0 stands.1.0 (record { node = stands.0.entry.item.live.index; key = cond (is_stage_live stands.0.entry.item.work.stage) (Some tt) None; value = live_value rep stands.0.entry.item }) refl p.polled polled
+            (subst (λ (e : Single HostWork). Drops p.polled polled e.item.live.index) (sym stands.1.1.1) (Drops-renamed p.polled polled g.live.index live_out)) whole.chained.polled;
+        rising = Rises-renamed p.polled polled g.live.index live_out p.live whole.chained.rising;
         marks = IsRows-same (row_chain p) (λ q. q.mark.index) (IsSeated less) marks (row p) marks_left (row less) (λ r c at. row_left r);
         shelves = IsRows-same (shelf_chain p) (λ q. q.shelf.index) (IsSeated less) p.shelves (part is_of_instance (row p)) shelves_left (part is_of_instance (row less)) (λ k c at. ap (filter (is_of_instance k.0)) (row_left k.1));
         low = subst (Each IsOfThread) (sym (row_left Low)) whole.chained.low;

@@ -21,10 +21,12 @@ use Rattle.removal_words.proofs.WorkGoneLemmas.{left, less, less_whole, row_left
 use Rattle.removal_words.specs.Chains.{Closes, Drops}
 use Rattle.removal_words.specs.Counted.{IsIn, IsNamedBy, Lowers, uncalled}
 use Rattle.task_index.proofs.Counts.{passing-with_at}
+use Rattle.task_index.proofs.Refilings.{free_unlinked}
 use Rattle.task_index.proofs.Tables.{filings_at}
 use Rattle.task_index.specs.Counts.{one_if_passes, passing}
+use Rattle.task_index.specs.Index.{link_for}
 use Rattle.task_index.specs.Rows.{Each}
-use Rattle.task_links.specs.Links.{FreeNode, IsLinks, Renames, Spot, Unmade, is_free, is_made, list_of}
+use Rattle.task_links.specs.Links.{FreeNode, IsLinks, Renames, Spot, Unmade, is_free, is_made, link_of, list_of}
 use Rattle.task_machine.specs.Core.{Core}
 use Rattle.task_machine.specs.Maps.{Records, get, remove}
 use Rattle.task_machine.specs.Read.{is_aborted, is_host_call, is_live, is_never, is_stage_live, join_of, stage_of, table_use}
@@ -43,7 +45,7 @@ use Rattle.task_records.specs.Kept.{IsGroupKept, calls_of, is_of_group}
 use Rattle.task_records.specs.Keys.{group_key, work_key}
 use Rattle.task_records.specs.Kinds.{entry_of, item_of, on_item}
 use Rattle.task_records.specs.Names.{AreHandlesNamed, kinds}
-use Rattle.task_records.specs.Places.{BlockedOn, live_work, ready_work}
+use Rattle.task_records.specs.Places.{BlockedOn, live_chain, live_value, live_work, ready_work}
 use Rattle.task_records.specs.Rows.{High, IsOfThread, IsSeated, Low, Row, host_entry, row}
 use Rattle.task_records.specs.Seen.{IsSound, parts_of, seen}
 use Rattle.task_records.specs.Sound.{EachEntry, IsWhole, SoundTable, bare, bare_work, loose_work, unmoved}
@@ -53,6 +55,7 @@ use Rattle.task_records.specs.declared.parts.Kept.{Kept}
 use Rattle.task_records.specs.declared.single.Single.{Single}
 use Rattle.task_records.specs.declared.threads.Queued.{Queued}
 use Rattle.task_records.specs.declared.works.HostWork.{HostWork}
+use Rattle.task_records.specs.declared.works.LiveWork.{LiveWork}
 use Rattle.task_rules.specs.Calls.{work_group}
 use Rattle.task_rules.specs.Works.{is_moving}
 use Rattle.task_table.proofs.ItemLemmas.{deletion_refused}
@@ -118,8 +121,12 @@ module _ (a : CoreParts) (sound : IsSound a) (id : TableId HostTaskKey) (g : Hos
   pub ready_made : is_made a.ready_works g.ready.index ≡ true
   ready_made = subst (λ (e : Single HostWork). is_made a.ready_works e.item.ready.index ≡ true) bare_stands.1.1.1 (whole.chained.ready_works.made id.rep _ (filings_at ready_work bared.works id.rep (Some bare_stands.0) bare_stands.1.0))
 
-  pub live_made : is_made a.polled g.live.index ≡ true
-  live_made = subst (λ (e : Single HostWork). is_made a.polled e.item.live.index ≡ true) bare_stands.1.1.1 (whole.chained.polled.made id.rep _ (filings_at live_work bared.works id.rep (Some bare_stands.0) bare_stands.1.0))
+  -- one that has ended is in no chain of the live works
+  pub live_free : stage_of (work_of (seen a) id) (seen a).core ≡ stage.Ended → is_free a.polled g.live.index ≡ true
+  live_free ended = free_unlinked a.polled g.live.index
+      (subst (λ (e : Single HostWork). link_of a.polled e.item.live.index ≡ link_for (live_chain bared) (record { node = e.item.live.index; key = cond (is_stage_live e.item.work.stage) (Some tt) None; value = live_value id.rep e.item })) bare_stands.1.1.1 (whole.chained.polled.has_link id.rep _ (filings_at live_work bared.works id.rep (Some bare_stands.0) bare_stands.1.0))
+      ∙ ap (λ x. link_for (live_chain bared) (record { node = g.live.index; key = cond (is_stage_live x) (Some tt) None; value = live_value id.rep g })) (ap (λ o. option_map_or (λ (w : Work). w.stage) o stage.Ended) (work_read a sound id g is) ∙ ended))
+      (subst (λ (e : Single HostWork). is_made a.polled e.item.live.index ≡ true) bare_stands.1.1.1 (whole.chained.polled.made id.rep _ (filings_at live_work bared.works id.rep (Some bare_stands.0) bare_stands.1.0)))
 
   pub mark_unlinked : work_entries (work_of (seen a) id) (seen a).core.queues.high ≡ 0 → IsLinks a.marks → is_free a.marks g.mark.index ≡ true
   mark_unlinked none links = by a.high refl (high_there a sound id g is)
@@ -201,7 +208,7 @@ module _ (a : CoreParts) (sound : IsSound a) (id : TableId HostTaskKey) (g : Hos
           by (Some n) None has l = absurd l
           by (Some n) (Some k) has l = (number_of_alike uncalled group_key (λ e. refl) groups a.groups alike k.rep k.serial ∙ (item_number group_number group_calls a.groups k.rep k.serial l.0 l.1.0 ∙ l.1.1.0), ((work_names a sound id g is).group n has).1)
 
-      module _ (places ready_works polled : List (Spot ℕ)) (shut : Closes a.places places g.blocked) (ready_out : Drops a.ready_works ready_works g.ready.index) (live_out : Drops a.polled polled g.live.index) (marks : List (Spot Queued)) (mark_out : Renames a.marks marks g.mark.index FreeNode Unmade) (used : ℕ) (still : used + cond (is_host_call g.work) 1 0 ≡ a.kept.used) where
+      module _ (places ready_works : List (Spot ℕ)) (polled : List (Spot LiveWork)) (shut : Closes a.places places g.blocked) (ready_out : Drops a.ready_works ready_works g.ready.index) (live_out : Renames a.polled polled g.live.index FreeNode Unmade) (marks : List (Spot Queued)) (mark_out : Renames a.marks marks g.mark.index FreeNode Unmade) (used : ℕ) (still : used + cond (is_host_call g.work) 1 0 ≡ a.kept.used) where
         abbrev pub work_removed : CoreParts
         work_removed = record a { works = deleted id.rep a.works; groups = groups; places = places; ready_works = ready_works; polled = polled; marks = marks; kept = record a.kept { used = used } }
 

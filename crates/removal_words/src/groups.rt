@@ -15,8 +15,8 @@ use task_records::{CoreParts, Single, TaskGroup};
 use task_table::{ResourceTable, TableId};
 use task_wait::GroupKey;
 
-/// One where it is so.
-pub fn one_if(flag: bool) -> u64
+// One where it is so.
+pub(crate) fn one_if(flag: bool) -> u64
     ensures { result ≡ (if flag then 1 else 0) }
 {
     if flag { 1 } else { 0 }
@@ -32,8 +32,8 @@ fn group_at(groups: &ResourceTable<Single<TaskGroup>>, place: u32) -> TableId<Gr
     }
 }
 
-/// The group that stands at a place, with its id.
-pub fn group_there(
+// The group that stands at a place, with its id.
+pub(crate) fn group_there(
     groups: &ResourceTable<Single<TaskGroup>>,
     place: u32,
 ) -> (TableId<GroupKey>, TaskGroup)

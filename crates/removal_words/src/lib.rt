@@ -11,7 +11,6 @@ mod threads;
 mod works;
 
 pub use calls::delete_call;
-pub use groups::{group_there, one_if};
 pub use sets::close_set;
 pub use threads::{remove_thread, retire_thread};
 pub use works::delete_work;

@@ -39,7 +39,7 @@ fn drop_work(parts: &mut CoreParts, work: WorkId) -> Option<TableId<GroupKey>>
     let group = lower_group(&mut parts.groups, found.group, found.work.group);
     close(&mut parts.places, found.blocked);
     drop_node(&mut parts.ready_works, found.ready);
-    drop_node(&mut parts.polled, found.live);
+    parts.polled.drop_node(found.live);
     parts.marks.no_node_is_twice();
     parts.marks.drop_node(found.mark);
     match parts.works.delete(work) {

@@ -43,7 +43,7 @@ turn_of p n e = absurd (cc)
 
 -- the new store sits at main's turn
 pub opens : (c : Component) → HasPlainExports c → length c.instances ≡ 1 → (s : StateView) → s ≡ with_core (fresh 1 100000 1000000) nothing → Sits c turn.Main s.core
-opens c plain one s is = subst (λ (u : StateView). Sits c turn.Main u.core) (sym is) (sits_fresh c (covered_of c plain) (codes_of c plain) 1 100000 1000000 (omega (arith, one)))
+opens c plain one s is = subst (λ (u : StateView). Sits c turn.Main u.core) (sym is) (sits_fresh c (codes_of c plain) 1 100000 1000000 (omega (arith, one)))
 
 -- few numbers were given in it
 pub opens_given : (s : StateView) → s ≡ with_core (fresh 1 100000 1000000) nothing → given s.core ≡ 0

@@ -94,7 +94,7 @@ module _ (p : Parts) (whole : IsWhole p) (groups : SoundTable group_key p.groups
   home_still g h = record { call = h.call; there = h.there; instance = h.instance; within = h.within; place = h.place; how_far = h.how_far }
 
   call_still : (c : GuestTask) → IsCallNamed p c → IsCallNamed with_group c
-  call_still c h = record { caller = h.caller; join = h.join; group = group_still c.group c.call.group h.group h.positive; positive = h.positive }
+  call_still c h = record { caller = h.caller; first = h.first; join = h.join; group = group_still c.group c.call.group h.group h.positive; positive = h.positive }
 
   work_still : (w : HostWork) → IsWorkNamed p w → IsWorkNamed with_group w
   work_still w h = record { caller = h.caller; join = h.join; group = λ n is. let one = h.group n is in (group_still w.group n one.0 one.1, one.1) }
@@ -119,6 +119,7 @@ module _ (p : Parts) (whole : IsWhole p) (groups : SoundTable group_key p.groups
       ready_calls = whole.chained.ready_calls;
       ready_works = whole.chained.ready_works;
       polled = whole.chained.polled;
+      rising = whole.chained.rising;
       marks = whole.chained.marks;
       shelves = whole.chained.shelves;
       low = whole.chained.low;

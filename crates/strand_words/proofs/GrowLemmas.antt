@@ -48,7 +48,7 @@ module _ (p : Parts) (g : GuestThread) (threads : SoundTable thread_key p.thread
   }
 
   pub call_grown : (c : GuestTask) → IsCallNamed p c → IsCallNamed grown c
-  call_grown c named = record { caller = at_grown c.maker _ named.caller; join = at_grown c.joined _ named.join; group = grows.group c.group c.call.group named.group named.positive; positive = named.positive }
+  call_grown c named = record { caller = at_grown c.maker _ named.caller; first = at_grown c.first (ThreadOf c.number) named.first; join = at_grown c.joined _ named.join; group = grows.group c.group c.call.group named.group named.positive; positive = named.positive }
 
   group_grown : (rep n : ℕ) → HasNumber group_key p.groups rep n × (0 < n) → HasNumber group_key groups rep n × (0 < n)
   group_grown rep n has = (grows.group rep n has.0 has.1, has.1)

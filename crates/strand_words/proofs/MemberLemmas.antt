@@ -80,6 +80,7 @@ module _ (p : Parts) (whole : IsWhole p) (tables : AreTables p) (rep : ℕ) (q :
     ready_calls = IsIndex-with_entry_same ready_call (ready_call_chain p) p.calls p.ready_calls whole.chained.ready_calls rep q at (record { item = one_more }) refl;
     ready_works = whole.chained.ready_works;
     polled = whole.chained.polled;
+    rising = whole.chained.rising;
     marks = whole.chained.marks;
     shelves = whole.chained.shelves;
     low = whole.chained.low;
@@ -103,7 +104,7 @@ module _ (p : Parts) (whole : IsWhole p) (tables : AreTables p) (rep : ℕ) (q :
   chained : AreChained with_member
   chained =
       let both = thread_chained recounted g tables.threads.table tables.threads.apart (tables.threads.later g.number later) recounted_loose (kinds p) later named (ap (where_at g.instance) is.unplaced) recounted_chained in
-      record { places = both.places; ready_calls = both.ready_calls; ready_works = both.ready_works; polled = both.polled; marks = both.marks; shelves = both.shelves; low = both.low; behind = both.behind }
+      record { places = both.places; ready_calls = both.ready_calls; ready_works = both.ready_works; polled = both.polled; rising = both.rising; marks = both.marks; shelves = both.shelves; low = both.low; behind = both.behind }
 
   nodes : HaveRowNodes with_member
   nodes =
@@ -185,7 +186,7 @@ module _ (p : Parts) (whole : IsWhole p) (tables : AreTables p) (rep : ℕ) (q :
   member_whole = record {
     named = named_grown p g tables.threads is.next calls_now p.groups with_member.kept grows whole.named home
         (each_but p.calls rep q at one_more (IsCallNamed with_member)
-        (let was = call_grown p g tables.threads is.next calls_now p.groups with_member.kept grows q.entry.item (whole.named.calls rep q at) in record { caller = was.caller; join = was.join; group = was.group; positive = was.positive })
+        (let was = call_grown p g tables.threads is.next calls_now p.groups with_member.kept grows q.entry.item (whole.named.calls rep q at) in record { caller = was.caller; first = was.first; join = was.join; group = was.group; positive = was.positive })
         (λ r w other w_at. call_grown p g tables.threads is.next calls_now p.groups with_member.kept grows w.entry.item (whole.named.calls r w w_at)));
     chained = chained;
     nodes = nodes;

@@ -83,8 +83,8 @@ loose_grown {P = P} chain links new c grown loose = record { empty = ap spot_lis
     made none = absurd (let here : ◌≡◌ {A = Option (List (ℕ × P))} (Some []) None = sym loose.empty ∙ ap spot_list none in cc)
 
 -- an entry's node in an index is made
-pub filed_made : {T K : Type 0} (node : T → ℕ) (key_of : T → Option K) (chain : K → Option ℕ) (t : Table (Single T)) (links : List (Spot ℕ)) → IsIndex chain links (filings (λ r s (e : Single T). Some (record { node = node e.item; key = key_of e.item; value = r })) t) → (r : ℕ) (q : Placed (Single T)) → place_at t r ≡ Some q → is_made links (node q.entry.item) ≡ true
-filed_made node key_of chain t links index r q at = index.made r (record { node = node q.entry.item; key = key_of q.entry.item; value = r }) (filings_at (λ r s e. Some (record { node = node e.item; key = key_of e.item; value = r })) t r (Some q) at)
+pub filed_made : {T K P : Type 0} (node : T → ℕ) (key_of : T → Option K) (value : ℕ → T → P) (chain : K → Option ℕ) (t : Table (Single T)) (links : List (Spot P)) → IsIndex chain links (filings (λ r s (e : Single T). Some (record { node = node e.item; key = key_of e.item; value = value r e.item })) t) → (r : ℕ) (q : Placed (Single T)) → place_at t r ≡ Some q → is_made links (node q.entry.item) ≡ true
+filed_made node key_of value chain t links index r q at = index.made r (record { node = node q.entry.item; key = key_of q.entry.item; value = value r q.entry.item }) (filings_at (λ r s e. Some (record { node = node e.item; key = key_of e.item; value = value r e.item })) t r (Some q) at)
 
 -- ---- Those of a core
 
@@ -121,7 +121,7 @@ module _ (a b : CoreParts) (ext : Extends a b) where
     pub place_node_new : Renames a.places b.places n Unmade FreeNode → IsSpare (λ (g : GuestThread). g.node.index) (bare (parts_of b)).threads b.places n
     unfolding IsSound
     place_node_new names = subst (λ (y : CoreParts). IsSpare (λ (g : GuestThread). g.node.index) (bare (parts_of y)).threads b.places n) (sym ext.only)
-        (spare_made _ _ a.places b.places n (filed_made (λ (g : GuestThread). g.node.index) (λ g. where_at g.instance g.thread.place) (place_chain (bare (parts_of a))) (bare (parts_of a)).threads a.places sound.whole.chained.places) names)
+        (spare_made _ _ a.places b.places n (filed_made (λ (g : GuestThread). g.node.index) (λ g. where_at g.instance g.thread.place) (λ r g. r) (place_chain (bare (parts_of a))) (bare (parts_of a)).threads a.places sound.whole.chained.places) names)
 
     pub place_chain_new : Renames a.places b.places n Unmade (ChainOf []) → IsLoose (place_chain (bare (parts_of b))) b.places n
     unfolding IsSound
@@ -131,7 +131,7 @@ module _ (a b : CoreParts) (ext : Extends a b) where
     pub ready_node_new : Renames a.ready_calls b.ready_calls n Unmade FreeNode → IsSpare (λ (g : GuestTask). g.ready.index) (bare (parts_of b)).calls b.ready_calls n
     unfolding IsSound
     ready_node_new names = subst (λ (y : CoreParts). IsSpare (λ (g : GuestTask). g.ready.index) (bare (parts_of y)).calls b.ready_calls n) (sym ext.only)
-        (spare_made _ _ a.ready_calls b.ready_calls n (filed_made (λ (g : GuestTask). g.ready.index) (λ g. ready_in g.call.event g.call.join) (ready_call_chain (bare (parts_of a))) (bare (parts_of a)).calls a.ready_calls sound.whole.chained.ready_calls) names)
+        (spare_made _ _ a.ready_calls b.ready_calls n (filed_made (λ (g : GuestTask). g.ready.index) (λ g. ready_in g.call.event g.call.join) (λ r g. r) (ready_call_chain (bare (parts_of a))) (bare (parts_of a)).calls a.ready_calls sound.whole.chained.ready_calls) names)
 
     pub mark_node_new : Renames a.marks b.marks n Unmade FreeNode → IsSpare (λ (g : GuestThread). g.mark.index) (bare (parts_of b)).threads b.marks n
     unfolding IsSound

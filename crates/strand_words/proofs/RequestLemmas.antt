@@ -2,10 +2,7 @@
 use Rattle.std.proofs.Common.{◌≡◌, ◌+◌, ℕ, Bool, true, false, cond, is_some, List, None, Option, Some, IsSome, slice_get, refl, sym, ap, ap₂, subst, ◌∙◌}
 use Rattle.std.proofs.lemmas.Bool.{eq-eqb}
 use Rattle.std.proofs.lemmas.Option.{slice_get-map}
-use Rattle.std.specs.BTreeMap.{is_at}
-use Rattle.std.specs.Map.{lookup}
 use Rattle.std.specs.Option.{option_map, option_map_or}
-use Rattle.std.specs.Ordering.{nat_cmp}
 use Rattle.strand_words.specs.Member.{IsMember}
 use Rattle.strand_words.specs.Strand.{IsStrand}
 use Rattle.strand_words.specs.declared.records.Request.{Request}
@@ -22,6 +19,7 @@ use Rattle.task_records.proofs.HomeLemmas.{place_in_bare}
 use Rattle.task_records.proofs.InstanceReads.{handles_read, instance_read}
 use Rattle.task_records.specs.Instances.{handle_table, named_of}
 use Rattle.task_records.specs.Kinds.{on_item}
+use Rattle.task_records.specs.Image.{HasRoom}
 use Rattle.task_records.specs.Names.{AtPlace, caller_target}
 use Rattle.task_records.specs.Seen.{parts_of, seen}
 use Rattle.task_records.specs.Sound.{bare, bare_call, bare_instance, bare_thread}
@@ -58,8 +56,8 @@ module _ (a : CoreParts) (request : Request) (group : ℕ) (words : List ℕ) (c
   pub request_strand :
       AtPlace (parts_of a) request.maker (caller_target request.caller)
       → IsSome (get (seen a).core.instances request.callee.instance)
-      → (request.goal ≡ goal.Main → IsSome (lookup (is_at (nat_cmp (a.made.threads + 1))) a.results.entries))
-      → IsStrand (bare (parts_of a)) (bare_call c) (bare_thread (record g { task = next_place a.calls }))
+      → (request.goal ≡ goal.Main → HasRoom (a.made.threads + 1) a.results.entries)
+      → IsStrand (bare (parts_of a)) (bare_call (record c { first = next_place a.threads })) (bare_thread (record g { task = next_place a.calls }))
   request_strand caller there room = record {
     call_next = call_number;
     thread_next = thread_number;
@@ -70,12 +68,13 @@ module _ (a : CoreParts) (request : Request) (group : ℕ) (words : List ℕ) (c
     unplaced = ap (λ (t : Thread). t.place) thread_is;
     fresh = ap (λ (t : Thread). t.how_far) thread_is;
     task = sym (next_place-mapped (on_item bare_call) a.calls);
+    first_at = sym (next_place-mapped (on_item bare_thread) a.threads);
     instance = instance ∙ sym (ap (λ (k : Call). k.callee.instance) call_is);
     within = subst (λ (i : ℕ). IsSome (slice_get (bare (parts_of a)).instances i)) (sym instance) (bare_within a request.callee.instance there);
     caller =
         subst (λ (m : ℕ). AtPlace (bare (parts_of a)) m (caller_target c.call.caller)) (sym maker)
         (subst (λ (k : Call). AtPlace (bare (parts_of a)) request.maker (caller_target k.caller)) (sym call_is) (place_in_bare a request.maker (caller_target request.caller) caller));
-    room = λ main. subst (λ (m : ℕ). IsSome (lookup (is_at (nat_cmp m)) a.results.entries)) (sym call_number) (room (sym (ap (λ (k : Call). k.goal) call_is) ∙ main));
+    room = λ main. subst (λ (m : ℕ). HasRoom m a.results.entries) (sym call_number) (room (sym (ap (λ (k : Call). k.goal) call_is) ∙ main));
   }
 
   pub request_core : (s : Core) → add_thread g.thread (add_call c.number c.call s) ≡ add_thread (new_thread (a.made.threads + 1) false script.Start words None) (add_call (a.made.threads + 1) (new_call request.caller request.callee request.kind request.goal group) s)

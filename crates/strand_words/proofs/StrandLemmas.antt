@@ -20,7 +20,7 @@ use Rattle.task_machine.specs.declared.records.Place.{Place}
 use Rattle.task_machine.specs.declared.words.Status.{Status}
 use Rattle.task_records.proofs.MakeLemmas.{stands_more}
 use Rattle.task_records.specs.Image.{Parts, core_of}
-use Rattle.task_records.specs.Keys.{call_key, group_key}
+use Rattle.task_records.specs.Keys.{call_key, group_key, thread_key}
 use Rattle.task_records.specs.Names.{AtPlace, HasHome, IsCallNamed, how_far_target, join_target, kinds, place_target}
 use Rattle.task_records.specs.Places.{ready_in, where_at}
 use Rattle.task_records.specs.Sound.{AreChained, AreTables, HaveRowNodes, IsWhole}
@@ -66,7 +66,7 @@ module _ (p : Parts) (whole : IsWhole p) (tables : AreTables p) (c : GuestTask) 
   chained =
       let first = call_chained p c tables.calls.table tables.calls.apart (tables.calls.later c.number later) call_loose (kinds p) later named (ap (λ (e : Option Status). ready_in e c.call.join) is.eventless) whole.chained in
       let both = thread_chained with_calls g tables.threads.table tables.threads.apart (tables.threads.later g.number thread_later) still_loose (kinds p) thread_later named (ap (where_at g.instance) is.unplaced) first in
-      record { places = both.places; ready_calls = both.ready_calls; ready_works = both.ready_works; polled = both.polled; marks = both.marks; shelves = both.shelves; low = both.low; behind = both.behind }
+      record { places = both.places; ready_calls = both.ready_calls; ready_works = both.ready_works; polled = both.polled; rising = both.rising; marks = both.marks; shelves = both.shelves; low = both.low; behind = both.behind }
 
   nodes : HaveRowNodes after
   nodes =
@@ -102,6 +102,7 @@ module _ (p : Parts) (whole : IsWhole p) (tables : AreTables p) (c : GuestTask) 
   call_named : IsCallNamed after c
   call_named = record {
     caller = at_grown p g tables.threads is.thread_next after.calls after.groups after.kept grows c.maker _ is.caller;
+    first = (let next = is.call_next in omega arith, λ some. ap (λ o. number_in (key_in thread_key o)) (ap (place_at after.threads) is.first_at ∙ at_new p.threads g tables.threads.table) ∙ (is.thread_next ∙ sym is.call_next));
     join = subst (λ (x : Join). AtPlace after c.joined (join_target x)) (sym is.nowhere) tt;
     group = number_written p.groups rep q at (record q.entry.item { calls = q.entry.item.calls + 1 }) group_key refl c.group c.call.group (ap (λ o. number_in (key_in group_key o)) (ap (place_at p.groups) place ∙ at) ∙ of_group);
     positive = subst (λ (n : ℕ). 0 < n) of_group (number_positive (λ (r : TaskGroup). r.number) (λ (r : TaskGroup). r.calls) p.groups p.made.groups tables.groups rep q at);

@@ -72,12 +72,13 @@ pub fn new_thread(call: u64, explicit: bool, script: Script, words: &[u64]) -> T
 
 // The record of a call, under its number, in the group at a place.
 pub fn call_record(number: u64, call: Call, maker: u32, group: u32, nodes: CallNodes) -> GuestTask
-    ensures { result ≡ record { number = number; call = call; maker = maker; joined = 0; group = group; threads = 1; ready = nodes.ready; blocked = nodes.blocked } }
+    ensures { result ≡ record { number = number; call = call; maker = maker; first = 0; joined = 0; group = group; threads = 1; ready = nodes.ready; blocked = nodes.blocked } }
 {
     GuestTask {
         number,
         call,
         maker,
+        first: 0,
         joined: 0,
         group,
         threads: 1,

@@ -97,7 +97,7 @@ pub fn push_strand(
     requires group { Ok group ≡ item_at item_of parts.old.groups id.rep id.serial }
     requires place { call.group ≡ id.rep }
     requires of_group { group.number ≡ call.call.group }
-    requires strand { IsStrand (bare (parts_of parts.old)) (bare_call call) (bare_thread (record thread { task = next_place parts.old.calls })) }
+    requires strand { IsStrand (bare (parts_of parts.old)) (bare_call (record call { first = next_place parts.old.threads })) (bare_thread (record thread { task = next_place parts.old.calls })) }
     requires loose { AreStrandLoose (bare (parts_of parts.old)) (record { ready = call.ready; blocked = call.blocked }) (record { node = thread.node; mark = thread.mark; shelf = thread.shelf; caller = thread.caller; callers = thread.callers; under = thread.under }) }
     requires unnamed { thread.thread.handle ≡ None }
     requires interests { call.call.interesting ≡ true }
@@ -110,6 +110,11 @@ pub fn push_strand(
     ensures pushes { IfOk result (λ ids. PushesStrand parts.old parts.new id group ids.0 ids.1) }
     ensures err { OnErr result (IsRestored (parts_of parts.old) (parts_of parts.new)) }
 {
+    let Some(place) = parts.threads.next_place() else {
+        return Err(NoMemory);
+    };
+    let mut call = call;
+    call.first = place;
     match parts.calls.push::<GuestTaskKey>(call) {
         Ok(task) => {
             let mut thread = thread;

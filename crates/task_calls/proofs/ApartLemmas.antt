@@ -1,6 +1,7 @@
 -- Order hangs neither on limits, nor on groups, nor on whether the store is trapped.
 use Rattle.std.specs.Prelude.{Bool, List, Some, true, ℕ, ◌≡◌}
-use Rattle.task_laws.specs.Order.{CancelsWatched, InOrder, JoinNamed}
+use Rattle.task_laws.specs.Wakes.{NoneBlockedOnEnd}
+use Rattle.task_laws.specs.Order.{CancelsNamed, CancelsWatched, InOrder, JoinNamed}
 use Rattle.task_machine.specs.Core.{Core, Main}
 use Rattle.task_machine.specs.Read.{join_of, subtask_at, subtask_handle, work_caller_of}
 use Rattle.task_rules.specs.Allowed.{is_async_work}
@@ -59,13 +60,24 @@ module _ (trapped : Bool) (groups : List ℕ) (handle_limit capacity : ℕ) wher
     unbegun = λ k t e first waits. let h = o.unbegun k t e first waits in record { unended = h.unended; alone = h.alone };
     works_named = record { by_handle = o.works_named.by_handle; by_op = o.works_named.by_op };
     watched = watched;
+    cancelled = cancelled;
     inside = o.inside;
     held = o.held;
-    awake = λ e. let h = o.awake e in record { alone = h.alone };
+    works_told = λ i w e. let h = o.works_told i w e in record { late = h.late; told = h.told; finishing = h.finishing };
+    calls_told = o.calls_told;
+    awake = λ e. let h = o.awake e in record { alone = h.alone; starts_there = h.starts_there; blocked = blocked h.blocked };
   }
     where
       there : (i h k : ℕ) → subtask_at i h (beside s) ≡ Some (subtask.Guest k) → subtask_handle (subtask.Guest k) (beside s) ≡ Some h
       there i h k e = o.names.there i h k e
+
+      blocked : NoneBlockedOnEnd s → NoneBlockedOnEnd (beside s)
+      blocked q n (subtask.Guest k) at = q n (subtask.Guest k) at
+      blocked q n (subtask.Host i) at = q n (subtask.Host i) at
+
+      cancelled : CancelsNamed (beside s)
+      cancelled n (subtask.Guest k) e = o.cancelled n (subtask.Guest k) e
+      cancelled n (subtask.Host i) e = o.cancelled n (subtask.Host i) e
 
       watched : CancelsWatched (beside s)
       watched n (subtask.Guest k) e = o.watched n (subtask.Guest k) e
@@ -90,6 +102,4 @@ trap_in_order c p s sits = record {
   order = λ m. beside_in_order _ _ s.handle_limit s.capacity c p s m (sits.order m);
   there = sits.there;
   handles = sits.handles;
-  ops = sits.ops;
-  lacks = sits.lacks;
 }

@@ -17,8 +17,8 @@ use Rattle.task_rules.specs.Ends.{may_tell}
 use Rattle.task_rules.specs.Progress.{Goes, Traps, may, trap_if}
 use Rattle.task_rules.specs.Task.{ret_bad_row, ret_done, ret_row}
 use Rattle.task_table.specs.declared.id.TableId.{TableId}
-use Rattle.task_turns.specs.Covered.{IsCovered}
-use Rattle.task_turns.specs.Runner.{Runner}
+use Rattle.task_turns.specs.WellFormed.{IsWellFormed}
+use Rattle.op_dispatch.specs.Runner.{Runner}
 use Rattle.task_turns.specs.Turn.{Sits}
 use Rattle.task_wait.specs.declared.keys.ThreadKey.{ThreadKey}
 use Rattle.task_words.specs.StateView.{StateView, Tags, thread_of, with_core}
@@ -35,7 +35,7 @@ use Rattle.task_rules.specs.Turns.{at_turn, goes_to}
 use Rattle.task_turns.proofs.KeptLemmas.{setting, sits_after}
 use Rattle.task_turns.specs.Turn.{state_at}
 
-pub position_fits : (c : Component) → IsCovered c → (id : TableId ThreadKey) (k : ℕ) (s : StateView) → Sits c (turn.Run k) s.core → Runner id s → position_of (thread_of s id) s.core + 1 < 2 ^ 32
+pub position_fits : (c : Component) → IsWellFormed c → (id : TableId ThreadKey) (k : ℕ) (s : StateView) → Sits c (turn.Run k) s.core → Runner id s → position_of (thread_of s id) s.core + 1 < 2 ^ 32
 position_fits c covered id k s sits q =
     let within = ((sits.order Unscripted).fits (thread_of s id) q.thread q.here).position in
     let short = covered.short (callee_of q.thread.call s.core) q.thread.script in

@@ -6,10 +6,10 @@ ghost use Rattle.task_machine.specs.declared.op.Op.{Op};
 ghost use Rattle.task_machine.specs.declared.op.Operand.{Operand};
 ghost use Rattle.task_machine.specs.declared.op.TaskOp.{TaskOp};
 ghost use Rattle.task_rules.specs.Scripts.{op_of, value_of};
-ghost use Rattle.task_turns.specs.Covered.{IsCovered};
+ghost use Rattle.task_turns.specs.WellFormed.{IsWellFormed};
 ghost use Rattle.task_turns.specs.Turn.{Sits, running_of};
 
-use crate::error::TaskError;
+use state_calls::TaskError;
 use task_machine::Component;
 use task_ops::{Came, ret, ret_bad};
 use task_words::Words;
@@ -38,7 +38,7 @@ pub fn task_return<W: Words>(
     memory: u32,
     value: u64,
 ) -> Result<(), TaskError>
-    requires covered { IsCovered component.now }
+    requires covered { IsWellFormed component.now }
     requires order { Sits component.now (Turn.Run number) (W.view w.old).core }
     requires runs { running_of (W.view w.old) ≡ Some number }
     ensures order { (x : Operand) → op_of component.now number (W.view w.old).core ≡ Op.Task (TaskOp.Ret x) → value_of number (W.view w.old).core x ≡ value → Sits component.now (Turn.Run number) (W.view w.new).core }

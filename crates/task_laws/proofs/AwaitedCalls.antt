@@ -1,9 +1,6 @@
 -- The call that an op is inside of is there: along the words of a step.
-use Rattle.task_rules.proofs.Machine.{after_word, Allowed, ap, arith, Bool, Call, CallEnd, Core, end_of, false, get, goal_of, has_ended, HasCalled, how_far_of, HowFar, inl, inr, is_deletable, is_direct, is_none, IsNamed, IsRunner, IsStarting, MayCome, MayTakeEvent, MayTell, next_thread, None, Option, option_map_or, Place, place_of, refl, Scene, Some, Status, subst, Subtask, sym, TakesCalled, TakesCancelled, TakesNamed, Thread, true, Turn, Word, ℕ, ⊎_elim, ◌&&◌, ◌||◌, ◌∙◌, ◌≡◌, ◌≤◌, ◌⊎◌}
-use Rattle.task_laws.proofs.CallsCame.{call_came, CallAfter, op_came}
-use Rattle.task_laws.proofs.CallEnds.{Telling, telling_of, telling_came, TellingCame, Same, Gone, Made, TellsNow, EndsNow, is_for_guest, ending}
-use Rattle.task_laws.proofs.NamedCalls.{NamesHold, called_call, calls_call, NamesGo, WasInside, unnamed_inside}
-use Rattle.task_laws.specs.Order.{CallsAwaited, cancelled_call, is_awaited, is_returned, Numbered, StartsFirst, OnlyCalled}
+use Rattle.task_laws.proofs.Words.{after_word, Allowed, ap, arith, Bool, Call, call_came, CallAfter, CallEnd, CallsAwaited, cancelled_call, Core, end_of, false, get, goal_of, has_ended, HasCalled, how_far_of, HowFar, inl, inr, is_awaited, is_deletable, is_direct, is_none, is_returned, IsNamed, IsRunner, IsStarting, MayCome, MayTakeEvent, MayTell, next_thread, None, Numbered, OnlyCalled, op_came, Option, option_map_or, Place, place_of, refl, Scene, Some, StartsFirst, Status, subst, Subtask, sym, TakesCalled, TakesCancelled, TakesNamed, Thread, true, Turn, Word, ℕ, ⊎_elim, ◌&&◌, ◌||◌, ◌∙◌, ◌≡◌, ◌≤◌, ◌⊎◌}
+use Rattle.task_laws.proofs.{CallEnds.EndsNow, CallEnds.Gone, CallEnds.Made, CallEnds.Same, CallEnds.Telling, CallEnds.TellingCame, CallEnds.TellsNow, CallEnds.ending, CallEnds.is_for_guest, CallEnds.telling_came, CallEnds.telling_of, NamedCalls.NamesGo, NamedCalls.NamesHold, NamedCalls.WasInside, NamedCalls.called_call, NamedCalls.calls_call, NamedCalls.unnamed_inside}
 
 -- ---- Which calls are direct
 

@@ -1,5 +1,5 @@
 -- Booleans and numbers that can't be.
-use Rattle.task_rules.proofs.Machine.{arith, false, None, Some, subst, sym, T, true, ℕ, ◌+◌, ◌==◌, ◌≡◌, ◌≤◌}
+use Rattle.task_laws.proofs.Rules.{arith, false, None, Some, subst, sym, T, true, ℕ, ◌+◌, ◌==◌, ◌≡◌, ◌≤◌}
 
 pub true_is_not_false : true ≡ false → ⊥
 true_is_not_false h = subst T h tt

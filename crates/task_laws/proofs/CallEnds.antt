@@ -1,16 +1,5 @@
 -- What calls tell of their ends along the words of a step, and the results that are there for main.
-use Rattle.task_rules.proofs.Machine.{add_call, add_group, add_set, add_thread, add_work, after_word, Allowed, ap, arith, Bool, Call, call_made, CallEnd, Caller, change, Core, count_work, end_of, EndCall, ended_as, event_of, false, free_handle, free_thread_handle, fresh, get, get-change, get-empty, get-insert, get-remove, give_handle, give_result, give_thread_handle, GiveResult, Goal, goal_of, has_ended, if◌then◌else◌, inl, inr, is_direct, is_for_main, is_guest_call, is_some, Label, le_trans, MakeCall, MayEnd, MayRemoveCall, MayTell, nat_tests, next_thread, None, not, on_call, on_instance, on_thread, on_work, Option, option_map, poll_pends, push_high, refl, remove_call, remove_group, remove_set, remove_thread, remove_work, RemoveCall, SaysEnd, Scene, scene_of, set_backpressure, set_cancel_delivered, set_cancelled, set_course, set_do_not_enter, set_do_not_suspend, set_end, set_event, set_exited, set_how_far, set_join, set_own_event, set_phase, set_position, set_register, set_result, set_saved_callee, set_saved_own, set_script, set_stage, set_started, set_starting_published, set_subtask_handle, set_thread_handle, set_trapped, set_uninteresting, set_word, SetCallEvent, Setting, Some, State, Status, status_of_end, Subtask, sym, take_result, TakeResult, true, undelivered_end, Walked, with_handle, with_thread_handle, Word, work_queued, ℕ, ⊎_elim, ◌&&◌, ◌∙◌, ◌≡◌, ◌≤◌, ◌⊎◌}
-use Rattle.task_laws.specs.Written.{EndsToldAsRecorded}
-use Rattle.task_laws.proofs.Basics.{some_none}
-use Rattle.task_laws.proofs.CallsLaw.{CallsGo, CallsHold}
-use Rattle.task_laws.proofs.CallsSteps.{calls_begin, of_base, word_goes, opening_holds, step_goes}
-use Rattle.task_laws.proofs.CountLemmas.{made_threads_word}
-use Rattle.task_laws.proofs.ReachLemmas.{reached_keeps}
-use Rattle.task_laws.specs.Settings.{CodesInCallbacks, Reached}
-use Rattle.task_rules.proofs.ChainLemmas.{along}
-use Rattle.task_rules.proofs.StandLemmas.{by_number}
-use Rattle.task_laws.proofs.EachLemmas.{after_change, after_insert, after_remove}
-use Rattle.task_rules.proofs.WalkSteps.{step_walks}
+use Rattle.task_laws.proofs.Words.{add_call, add_group, add_set, add_thread, add_work, after_change, after_insert, after_remove, after_word, Allowed, along, ap, arith, Bool, by_number, Call, call_made, CallEnd, Caller, calls_begin, CallsGo, CallsHold, change, CodesInCallbacks, Core, count_work, end_of, EndCall, ended_as, EndsToldAsRecorded, event_of, false, free_handle, free_thread_handle, fresh, get, get-change, get-empty, get-insert, get-remove, give_handle, give_result, give_thread_handle, GiveResult, Goal, goal_of, has_ended, if◌then◌else◌, inl, inr, is_direct, is_for_main, is_guest_call, is_some, Label, le_trans, made_threads_word, MakeCall, MayEnd, MayRemoveCall, MayTell, nat_tests, next_thread, None, not, of_base, on_call, on_instance, on_thread, on_work, opening_holds, Option, option_map, poll_pends, push_high, Reached, reached_keeps, refl, remove_call, remove_group, remove_set, remove_thread, remove_work, RemoveCall, SaysEnd, Scene, scene_of, set_backpressure, set_cancel_delivered, set_cancelled, set_course, set_do_not_enter, set_do_not_suspend, set_end, set_event, set_exited, set_how_far, set_join, set_own_event, set_phase, set_position, set_register, set_result, set_saved_callee, set_saved_own, set_script, set_stage, set_started, set_starting_published, set_subtask_handle, set_thread_handle, set_trapped, set_uninteresting, set_word, SetCallEvent, Setting, Some, some_none, State, Status, status_of_end, step_goes, step_walks, Subtask, sym, take_result, TakeResult, true, undelivered_end, Walked, with_handle, with_thread_handle, Word, word_goes, work_queued, ℕ, ⊎_elim, ◌&&◌, ◌∙◌, ◌≡◌, ◌≤◌, ◌⊎◌}
 
 -- ---- What a call tells
 

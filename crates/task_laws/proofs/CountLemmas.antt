@@ -1,6 +1,5 @@
 -- A step makes few: of threads, works, sets and groups at most one each.
-use Rattle.task_rules.proofs.Machine.{add_call, add_group, add_set, add_thread, add_work, AddGroup, after_word, Allowed, ap, arith, call_made, Core, count_work, CountWork, free_handle, free_thread_handle, give_handle, give_result, give_thread_handle, Made, MakeCall, MakeThread, on_call, on_instance, on_thread, on_work, OpenSet, poll_pends, push_high, QueueWork, remove_call, remove_group, remove_set, remove_thread, remove_work, Scene, set_backpressure, set_cancel_delivered, set_cancelled, set_course, set_do_not_enter, set_do_not_suspend, set_end, set_event, set_exited, set_how_far, set_join, set_own_event, set_phase, set_position, set_register, set_result, set_saved_callee, set_saved_own, set_script, set_stage, set_started, set_starting_published, set_subtask_handle, set_thread_handle, set_trapped, set_uninteresting, set_word, take_result, with_handle, with_thread_handle, Word, work_queued, ◌≡◌, ◌≤◌}
-use Rattle.task_laws.specs.Order.{MakesFew}
+use Rattle.task_laws.proofs.Rules.{add_call, add_group, add_set, add_thread, add_work, AddGroup, after_word, Allowed, ap, arith, call_made, Core, count_work, CountWork, free_handle, free_thread_handle, give_handle, give_result, give_thread_handle, Made, MakeCall, MakesFew, MakeThread, on_call, on_instance, on_thread, on_work, OpenSet, poll_pends, push_high, QueueWork, remove_call, remove_group, remove_set, remove_thread, remove_work, Scene, set_backpressure, set_cancel_delivered, set_cancelled, set_course, set_do_not_enter, set_do_not_suspend, set_end, set_event, set_exited, set_how_far, set_join, set_own_event, set_phase, set_position, set_register, set_result, set_saved_callee, set_saved_own, set_script, set_stage, set_started, set_starting_published, set_subtask_handle, set_thread_handle, set_trapped, set_uninteresting, set_word, take_result, with_handle, with_thread_handle, Word, work_queued, ◌≡◌, ◌≤◌}
 
 none_made : (b s : Core) → s.made ≡ b.made →
     (s.made.threads ≡ b.made.threads) × ((s.made.works ≡ b.made.works) × ((s.made.sets ≡ b.made.sets) × (s.made.groups ≡ b.made.groups)))

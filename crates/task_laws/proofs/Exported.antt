@@ -1,11 +1,7 @@
 -- Calls name exports, and instances stay, along the words of a step.
-use Rattle.task_rules.proofs.Machine.{after_word, Allowed, arith, Callee, Caller, component_of, Core, get, is_some, MayCall, refl, Scene, scene_of, sym, Word, ℕ, ◌∙◌, ◌≡◌}
-use Rattle.task_laws.proofs.CallsCame.{CallAfter, Grown, NewCall, NoCall, call_came}
-use Rattle.task_laws.proofs.Basics.{some_none}
+use Rattle.task_laws.proofs.Words.{after_word, Allowed, along, arith, call_came, CallAfter, Callee, Caller, CallsExported, component_of, Core, ExportsExist, get, Grown, InstancesStay, is_some, IsExported, MayCall, NewCall, NoCall, refl, Scene, scene_of, some_none, step_walks, StepsKeepExports, sym, Word, ℕ, ◌∙◌, ◌≡◌}
 use Rattle.task_laws.proofs.OneHolder.{instance_stays, op_callee, table_stays}
-use Rattle.task_laws.specs.Exports.{CallsExported, ExportsExist, HandleTablesStay, InstancesStay, IsExported, StepsKeepExports}
-use Rattle.task_rules.proofs.ChainLemmas.{along}
-use Rattle.task_rules.proofs.WalkSteps.{step_walks}
+use Rattle.task_laws.specs.Exports.{HandleTablesStay}
 use Rattle.task_rules.specs.Allowed as may
 
 module _ (a : Scene) (exist : ExportsExist a.setting) where
@@ -26,8 +22,6 @@ pub steps_keep_exports : StepsKeepExports
 steps_keep_exports x s l t exist q step =
     let w = step_walks x s l t step in
     along (CallsExported x.component) (exported_word (scene_of x s l w.next) exist) q w.walk
-
--- ---- Instances
 
 pub instances_stay : InstancesStay
 instances_stay x s l t step i =

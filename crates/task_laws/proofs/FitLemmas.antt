@@ -1,13 +1,5 @@
 -- What script each thread runs, and where in it, along the words of a step.
-use Rattle.task_rules.proofs.Machine.{[], after_word, Allowed, ap, arith, AtOp, Bool, call_instance, Callee, callee_of, can_come, Component, component_of, Core, ends_activation, EndsActivation, false, get, HowFar, inl, InOp, inr, is_explicit, is_some, is_sync_call, length, MayMove, new_thread, next_thread, None, Op, op_at_place, op_in, op_of, op_of_thread, Option, option_map, option_map_or, Place, place_of, refl, registers_for, Scene, Script, script_in, script_of, script_of_thread, Some, sym, task_of, Thread, true, Turn, WasReady, WasUnder, Why, Word, ℕ, ⊎_elim, ◌∙◌, ◌∷◌, ◌≡◌, ◌≤◌, ◌⊎◌}
-use Rattle.task_rules.proofs.WalkTask.{one_runner}
-use Rattle.task_laws.proofs.CallsCame.{IsBeside, IsFirst, IsGone, IsSame, RunsOn, ThreadAfter, thread_came, Ends}
-use Rattle.task_laws.proofs.Basics.{no_way, some_none}
-use Rattle.task_laws.proofs.CallsLaw.{CallsGo, CallsHold, code_callback, delivered_in, shifted_delivers, turned_silent}
-use Rattle.task_laws.proofs.CameLemmas.{Came, Comes, MayStand, Shifts, Turns, came_word, Enters, Moved, Entered, Leaves, IsMade}
-use Rattle.task_laws.proofs.HousedLemmas.{RunnerHoused}
-use Rattle.task_laws.specs.Order.{Fits, is_delivery, is_delivered, names_script, has_one_on_top}
-use Rattle.task_laws.specs.Settings.{CodesInCallbacks}
+use Rattle.task_laws.proofs.Words.{[], after_word, Allowed, ap, arith, AtOp, Bool, call_instance, Callee, callee_of, CallsGo, CallsHold, Came, came_word, can_come, code_callback, CodesInCallbacks, Comes, Component, component_of, Core, delivered_in, Ends, ends_activation, EndsActivation, Entered, Enters, false, Fits, get, has_one_on_top, HowFar, inl, InOp, inr, is_delivered, is_delivery, is_explicit, is_some, is_sync_call, IsBeside, IsFirst, IsGone, IsMade, IsSame, Leaves, length, MayMove, MayStand, Moved, names_script, new_thread, next_thread, None, one_runner, Op, op_at_place, op_in, op_of, op_of_thread, Option, option_map, option_map_or, Place, place_of, refl, registers_for, RunnerHoused, RunsOn, Scene, Script, script_in, script_of, script_of_thread, shifted_delivers, Shifts, Some, some_none, sym, task_of, Thread, thread_came, ThreadAfter, true, Turn, turned_silent, Turns, WasReady, WasUnder, Why, Word, ℕ, ⊎_elim, ◌∙◌, ◌∷◌, ◌≡◌, ◌≤◌, ◌⊎◌}
 
 -- what brings a delivery for the thread: there was one, its activation ends, or it was taken with one
 abbrev pub Brings : Scene → ℕ → Option Place → Type 0

@@ -1,7 +1,6 @@
 -- Handle tables: a handle that is given isn't live, and one that was freed isn't either.
-use Rattle.task_rules.proofs.Machine.{[], arith, get, get-insert, get-remove, giving, insert, less_one, List, nat_tests, next_handle, None, refl, size, Some, Table, taking, ℕ, ◌+◌, ◌∷◌, ◌≡◌}
+use Rattle.task_laws.proofs.Rules.{[], arith, get, get-insert, get-remove, giving, insert, less_one, List, nat_tests, next_handle, None, refl, size, Some, Table, TableKept, taking, ℕ, ◌+◌, ◌∷◌, ◌≡◌}
 use Rattle.task_machine.proofs.SizeLemmas.{size-insert_new, size-remove_present}
-use Rattle.task_laws.specs.Order.{TableKept}
 
 module _ {X : Type 0} where
   -- the next handle isn't live

@@ -1,8 +1,6 @@
 -- The call of each thread is there, along the words of a step.
-use Rattle.task_rules.proofs.Machine.{after_word, Allowed, arith, Core, get, is_some, IsRunner, nat_tests, Scene, task_of, true, Word, ℕ, ◌≡◌}
-use Rattle.task_rules.proofs.CallThreads.{no_thread_left}
-use Rattle.task_laws.proofs.CallsCame.{CallAfter, ThreadAfter, call_came, thread_came}
-use Rattle.task_laws.specs.Order.{CallsThere}
+use Rattle.task_laws.proofs.Rules.{after_word, Allowed, arith, CallsThere, Core, get, is_some, IsRunner, nat_tests, no_thread_left, Scene, task_of, true, Word, ℕ, ◌≡◌}
+use Rattle.task_laws.proofs.CallsCame.{call_came, CallAfter, thread_came, ThreadAfter}
 
 -- the call of the thread that runs or was taken was there
 abbrev pub RunnerHoused : Scene → Type 0

@@ -1,42 +1,70 @@
 -- Which host works handles name, and that none names the work of a sync call, along the words of a step.
-use Rattle.task_rules.proofs.Machine.{add_call, add_group, add_set, add_thread, add_work, after_word, Allowed, ap, arith, as_subtask, call_made, change, Core, count_work, false, free_handle, free_thread_handle, fresh, get, get-change, get-empty, get-insert, get-remove, give_handle, give_result, give_thread_handle, giving, handle_of_table, how_far_of, HowFar, inl, inr, is_async_work, is_some, le_trans, MayCome, MayRemoveWork, Named, NameWork, nat_tests, None, on_call, on_instance, on_thread, on_work, poll_pends, push_high, QueueWork, refl, remove_call, remove_group, remove_set, remove_thread, remove_work, RemoveWork, Scene, set_backpressure, set_cancel_delivered, set_cancelled, set_course, set_do_not_enter, set_do_not_suspend, set_end, set_event, set_exited, set_how_far, set_join, set_own_event, set_phase, set_position, set_register, set_result, set_saved_callee, set_saved_own, set_script, set_stage, set_started, set_starting_published, set_subtask_handle, set_thread_handle, set_trapped, set_uninteresting, set_word, Some, Subtask, subtask_at, subtask_handle, take_result, taking, Thread, true, UnnameWork, with_handle, with_thread_handle, Word, work_caller_of, work_queued, ℕ, ⊎_elim, ◌∙◌, ◌≡◌, ◌≤◌, ◌⊎◌}
-use Rattle.task_laws.proofs.CallsCame.{op_came}
-use Rattle.task_laws.proofs.CountLemmas.{made_works_word}
+use Rattle.task_laws.proofs.Words.{add_call, add_group, add_set, add_thread, add_work, after_word, Allowed, ap, arith, as_subtask, by_number, call_made, change, Core, count_work, free_handle, free_thread_handle, fresh, get, get-change, get-empty, get-insert, get-remove, give_handle, give_result, give_thread_handle, given_names, giving, handle_of_table, how_far_of, HowFar, inl, inr, is_async_work, is_some, le_trans, made_works_word, MayBeAborted, MayCome, MayRemoveWork, Named, NameWork, nat_tests, next_work, None, none_named, on_call, on_instance, on_thread, on_work, op_came, Option, poll_pends, push_high, QueueWork, refl, remove_call, remove_group, remove_set, remove_thread, remove_work, RemoveWork, Scene, set_backpressure, set_cancel_delivered, set_cancelled, set_course, set_do_not_enter, set_do_not_suspend, set_end, set_event, set_exited, set_how_far, set_join, set_own_event, set_phase, set_position, set_register, set_result, set_saved_callee, set_saved_own, set_script, set_stage, set_started, set_starting_published, set_subtask_handle, set_thread_handle, set_trapped, set_uninteresting, set_word, Some, Subtask, subtask_at, subtask_handle, subtask_in, take_result, taking, Thread, too_high, true, UnnameWork, with_handle, with_thread_handle, Word, work_caller_of, work_queued, WorkCaller, WorksKnown, ℕ, ⊎_elim, ◌∙◌, ◌≡◌, ◌≤◌, ◌⊎◌}
 use Rattle.task_laws.proofs.NamedCalls.{next_given}
-use Rattle.task_laws.proofs.NamedWorks.{caller_stays}
-use Rattle.task_laws.proofs.SetHandles.{given_names, none_named, subtask_in}
-use Rattle.task_laws.proofs.SyncWorks.{called_work, calls_work}
-use Rattle.task_laws.specs.Order.{WorksKnown}
+
+-- ---- Who calls a work
+
+-- who calls a work stays until it is removed
+caller_stays : (a : Scene) (w : Word) (s : Core) → Allowed a w s → (i : ℕ) → i ≤ s.made.works →
+    (work_caller_of i (after_word w s) ≡ work_caller_of i s) ⊎ (MayRemoveWork a i s × (get (after_word w s).works i ≡ None))
+unfolding add_call add_group add_set add_thread add_work count_work free_handle free_thread_handle give_handle give_result give_thread_handle on_call on_instance on_thread on_work push_high remove_call remove_group remove_set remove_thread remove_work set_backpressure set_cancel_delivered set_cancelled set_course set_do_not_enter set_do_not_suspend set_end set_event set_exited set_how_far set_join set_own_event set_phase set_position set_register set_result set_saved_callee set_saved_own set_script set_stage set_started set_starting_published set_subtask_handle set_thread_handle set_trapped set_uninteresting set_word take_result call_made with_handle with_thread_handle work_queued poll_pends
+caller_stays a (RemoveWork j) s ok i below = by_number j i _ (λ e. inr (rw e at ok, grind (arith, nat_tests, get-remove)))
+    (λ e. inl (grind (arith, nat_tests, get-remove, e)))
+caller_stays a w s ok i below = inl (grind (arith, nat_tests, get-change, get-insert))
+
+pub abort_kept : (a : Scene) (w : Word) (s : Core) → Allowed a w s → (i : ℕ) → MayBeAborted s i → MayBeAborted (after_word w s) i
+abort_kept a w s ok i q = record {
+  made = le_trans q.made (made_works_word a w s);
+  other = ⊎_elim (λ same. rw same q.other) (λ gone. let none = gone.1 in grind arith) (caller_stays a w s ok i q.made);
+}
+
+abbrev called_work : HowFar → Option ℕ
+called_work (HowFar.Calls (Subtask.Host i)) = Some i
+called_work f = None
+
+calls_work : (f : HowFar) (i : ℕ) → called_work f ≡ Some i → f ≡ HowFar.Calls (Subtask.Host i)
+calls_work f i h = grind arith
 
 -- On the way of a step: what is known of works, whose numbers were given.
 pub record WorksSaid (s : Core) : Type 0 where
   pub known : WorksKnown s
   pub number : (j : ℕ) → is_some (get s.works j) ≡ true → j ≤ s.made.works
 
-module _ (a : Scene) (w : Word) (s : Core) (ok : Allowed a w s) (q : WorksSaid s) where
-  called_after : (n j : ℕ) → how_far_of n (after_word w s) ≡ HowFar.Calls (Subtask.Host j) →
-      (j ≤ (after_word w s).made.works) × (is_async_work (work_caller_of j (after_word w s)) ≡ false)
-  called_after n j far = go (op_came called_work j w s ok n refl (ap called_work far))
+-- a work that a handle names is no sync call's
+pub named_other : (s : Core) → WorksSaid s → (i h j : ℕ) → subtask_at i h s ≡ Some (Subtask.Host j) → MayBeAborted s j
+named_other s q i h j e = let async = q.known.async h j (q.known.there i h j e) in let low = q.number j in
+    record { made = grind arith; other = grind arith }
+
+module _ (a : Scene) (base : WorksKnown a.base) (w : Word) (s : Core) (ok : Allowed a w s) (q : WorksSaid s) where
+  -- the work of a thread inside the call isn't removed, nor is a new one
+  removed : (n i : ℕ) → work_caller_of i s ≡ WorkCaller.Sync n →
+      (how_far_of n s ≡ HowFar.Calls (Subtask.Host i)) ⊎ (i ≡ next_work a.base) → MayRemoveWork a i s → ⊥
+  removed n i caller (inl far) (m, (is, (same, inl (was, done)))) =
+      let mine = (base.called m i was).1 in let one : m ≡ n = grind arith in absurd (let fresh = rw one at done in cc)
+  removed n i caller (inr new) (m, (is, (same, inl (was, done)))) = too_high new (base.called m i was).0
+  removed n i caller or (m, (is, (same, inr (ended, (free, (over, (h, named))))))) =
+      let async = base.async h i (base.there _ h i named) in absurd (grind arith)
+
+  called_after : (n i : ℕ) → how_far_of n (after_word w s) ≡ HowFar.Calls (Subtask.Host i) →
+      (i ≤ (after_word w s).made.works) × (work_caller_of i (after_word w s) ≡ WorkCaller.Sync n)
+  called_after n i far = go (op_came called_work i w s ok n refl (ap called_work far))
     where
-      stays : (j ≤ s.made.works) × (is_async_work (work_caller_of j s) ≡ false) →
-          (j ≤ (after_word w s).made.works) × (is_async_work (work_caller_of j (after_word w s)) ≡ false)
-      stays c = (
-        le_trans c.0 (made_works_word a w s),
-        ⊎_elim (λ same. ap is_async_work same ∙ c.1) (λ gone. let none = gone.1 in grind arith) (caller_stays a w s ok j c.0),
-      )
+      on : (i ≤ s.made.works) × (work_caller_of i s ≡ WorkCaller.Sync n) → (MayRemoveWork a i s → ⊥) →
+          (i ≤ (after_word w s).made.works) × (work_caller_of i (after_word w s) ≡ WorkCaller.Sync n)
+      on c not = (le_trans c.0 (made_works_word a w s), ⊎_elim (λ e. e ∙ c.1) (λ gone. absurd (not gone.0)) (caller_stays a w s ok i c.0))
 
-      go : (called_work (how_far_of n s) ≡ Some j) ⊎ ((g : HowFar) × (MayCome a n g s × (called_work g ≡ Some j))) →
-          (j ≤ (after_word w s).made.works) × (is_async_work (work_caller_of j (after_word w s)) ≡ false)
-      go (inl was) = stays (q.known.called n j (calls_work (how_far_of n s) j was))
+      go : (called_work (how_far_of n s) ≡ Some i) ⊎ ((g : HowFar) × (MayCome a n g s × (called_work g ≡ Some i))) →
+          (i ≤ (after_word w s).made.works) × (work_caller_of i (after_word w s) ≡ WorkCaller.Sync n)
+      go (inl was) = let f = calls_work (how_far_of n s) i was in let c = q.known.called n i f in on c (removed n i c.1 (inl f))
       go (inr (g, (come, is))) =
-          let m = rw (calls_work g j is) at come in let new = m.1.0 in let sync = m.1.1.0 in stays (grind arith, grind arith)
+          let m = rw (calls_work g i is) at come in on (grind arith, m.1.1.0) (removed n i m.1.1.0 (inr m.1.0.0))
 
--- a sync call's work, which is removed, has no handle
-unnamed_removed : (a : Scene) → WorksKnown a.base → (j : ℕ) (s : Core) → WorksKnown s → MayRemoveWork a j s →
+-- a work that is removed has no handle
+pub unnamed_removed : (a : Scene) → WorksKnown a.base → (j : ℕ) (s : Core) → WorksKnown s → MayRemoveWork a j s →
     subtask_handle (Subtask.Host j) s ≡ None
-unnamed_removed a base j s q (m, (is, inl (far, (done, same)))) = let sync = (base.called m j far).1 in
-    let async = λ (h : ℕ). q.async h j in grind (arith, async)
-unnamed_removed a base j s q (m, (is, inr ended)) = ended.1.0
+unnamed_removed a base j s q (m, (is, (same, inl (far, done)))) =
+    let sync = (base.called m j far).1 in let async = λ (h : ℕ). q.async h j in grind (arith, async)
+unnamed_removed a base j s q (m, (is, (same, inr ended))) = ended.1.0
 
 pub works_said_word : (a : Scene) → WorksKnown a.base → (w : Word) (s : Core) → Allowed a w s → WorksSaid s → WorksSaid (after_word w s)
 unfolding add_call add_group add_set add_thread add_work call_made count_work free_handle free_thread_handle give_handle give_result give_thread_handle on_call on_instance on_thread on_work poll_pends push_high remove_call remove_group remove_set remove_thread remove_work set_backpressure set_cancel_delivered set_cancelled set_course set_do_not_enter set_do_not_suspend set_end set_event set_exited set_how_far set_join set_own_event set_phase set_position set_register set_result set_saved_callee set_saved_own set_script set_stage set_started set_starting_published set_subtask_handle set_thread_handle set_trapped set_uninteresting set_word take_result with_handle with_thread_handle work_queued
@@ -45,7 +73,7 @@ works_said_word a base (NameWork i k) s ok q = record {
     there = λ l g j e. ⊎_elim (λ f. old l g j f) (λ f. grind (arith, nat_tests, get-change, f.0, f.1.1, next_given i s)) (new l g j e);
     once = λ l m g f j e h. grind (arith, q.known.once l m g f j, q.known.there l g j, q.known.there m f j, new l g j e, new m f j h);
     async = λ h j e. grind (arith, nat_tests, get-change, q.known.async h j);
-    called = called_after a (NameWork i k) s ok q;
+    called = called_after a base (NameWork i k) s ok q;
   };
   number = λ j e. grind (arith, nat_tests, get-change, q.number j);
 }
@@ -68,7 +96,7 @@ works_said_word a base (UnnameWork i h k) s ok q = record {
         grind (arith, nat_tests, get-change, q.known.there l g j o.0, q.known.there i h j, q.known.once l i g h j o.0);
     once = λ l m g f j e d. q.known.once l m g f j (other l g j e).0 (other m f j d).0;
     async = λ g j e. grind (arith, nat_tests, get-change, q.known.async g j);
-    called = called_after a (UnnameWork i h k) s ok q;
+    called = called_after a base (UnnameWork i h k) s ok q;
   };
   number = λ j e. grind (arith, nat_tests, get-change, q.number j);
 }
@@ -81,7 +109,7 @@ works_said_word a base (RemoveWork k) s ok q = let free = unnamed_removed a base
     there = λ l g j e. grind (arith, nat_tests, get-remove, q.known.there l g j);
     once = q.known.once;
     async = λ g j e. grind (arith, nat_tests, get-remove, q.known.async g j);
-    called = called_after a (RemoveWork k) s ok q;
+    called = called_after a base (RemoveWork k) s ok q;
   };
   number = λ j e. grind (arith, nat_tests, get-remove, q.number j);
 }
@@ -90,7 +118,7 @@ works_said_word a base (QueueWork f host group) s ok q = record {
     there = λ l g j e. let low = q.number j in grind (arith, nat_tests, get-insert, q.known.there l g j);
     once = q.known.once;
     async = λ g j e. grind (arith, nat_tests, get-insert, q.known.async g j);
-    called = called_after a (QueueWork f host group) s ok q;
+    called = called_after a base (QueueWork f host group) s ok q;
   };
   number = λ j e. grind (arith, nat_tests, get-insert, q.number j);
 }
@@ -99,7 +127,7 @@ works_said_word a base w s ok q = record {
     there = λ l g j e. grind (arith, nat_tests, get-change, get-insert, get-remove, q.known.there l g j);
     once = λ l m g f j e d. grind (arith, nat_tests, get-change, get-insert, get-remove, q.known.once l m g f j);
     async = λ g j e. grind (arith, nat_tests, get-change, q.known.async g j);
-    called = called_after a w s ok q;
+    called = called_after a base w s ok q;
   };
   number = λ j e. grind (arith, nat_tests, get-change, q.number j);
 }

@@ -1,8 +1,10 @@
+pub mod Rules
 pub mod Basics
 pub mod EachLemmas
 pub mod ReachLemmas
 pub mod SetHandles
 pub mod CameLemmas
+pub mod Words
 pub mod StrandLemmas
 pub mod WaitLemmas
 pub mod SceneLemmas
@@ -27,11 +29,11 @@ pub mod SaidEnds
 pub mod CallEnds
 pub mod OnceLemmas
 pub mod StepEnds
+pub mod StartLemmas
 pub mod WrittenLaws
 pub mod NamedCalls
 pub mod AwaitedCalls
-pub mod NamedWorks
-pub mod SyncWorks
-pub mod LackLemmas
 pub mod KnownWorks
 pub mod MemberLemmas
+pub mod CancelLemmas
+pub mod EventLemmas

@@ -1,21 +1,12 @@
 -- The ready members of a set are named in the set's instance.
-use Rattle.task_machine.specs.Core.{Core}
-use Rattle.task_machine.specs.Read.{is_ready_member, join_of, subtask_at, subtask_handle}
-use Rattle.task_machine.specs.declared.records.Join.{Join}
-use Rattle.task_machine.specs.declared.records.Join.TheVariants as join
-use Rattle.task_machine.specs.declared.records.Subtask.{Subtask}
-use Rattle.task_machine.specs.declared.records.Subtask.TheVariants as subtask
-use Rattle.std.specs.Prelude.{Some, true, ℕ, ◌≡◌}
-use Rattle.std.proofs.Common.{arith}
-use Rattle.std.proofs.lemmas.Bool.Decides.{nat_tests}
-use Rattle.task_laws.specs.Order.{IsOf, JoinsNamed, NamesKnown, WorksKnown}
+use Rattle.task_laws.proofs.Words.{arith, Core, is_ready_member, IsOf, Join, join_of, JoinsNamed, NamesKnown, nat_tests, Some, Subtask, subtask_at, subtask_handle, true, WorksKnown, ℕ, ◌≡◌}
 
 -- the handle that names a subtask is the one that its record says
 pub handle_is : (s : Core) → NamesKnown s → WorksKnown s → (i h : ℕ) (sub : Subtask) → subtask_at i h s ≡ Some sub → subtask_handle sub s ≡ Some h
-handle_is s calls works i h (subtask.Guest k) e = calls.there i h k e
-handle_is s calls works i h (subtask.Host j) e = works.there i h j e
+handle_is s calls works i h (Subtask.Guest k) e = calls.there i h k e
+handle_is s calls works i h (Subtask.Host j) e = works.there i h j e
 
-member_joined : (x : ℕ) (sub : Subtask) (s : Core) → is_ready_member x sub s ≡ true → join_of sub s ≡ join.Set x
+member_joined : (x : ℕ) (sub : Subtask) (s : Core) → is_ready_member x sub s ≡ true → join_of sub s ≡ Join.Set x
 member_joined x sub s ready = grind (arith, nat_tests)
 
 pub members_named : (s : Core) → JoinsNamed s → NamesKnown s → WorksKnown s → (i x : ℕ) → IsOf i x s → (sub : Subtask) → is_ready_member x sub s ≡ true →

@@ -1,11 +1,6 @@
 -- Which calls handles and ops name: along the words of a step each handle of a call is the one in its record, and an op is inside a call
 -- that its thread made and no handle names.
-use Rattle.task_laws.proofs.CallsCame.{CallAfter, Grown, NewCall, NoCall, call_came, op_came}
-use Rattle.task_laws.proofs.CountLemmas.{made_threads_word}
-use Rattle.task_laws.specs.Order.{NamesKnown, OnlyCalled, is_uncancelled, is_cancelled, at_most_returned}
-use Rattle.task_laws.proofs.SetHandles.{given_names, none_named, subtask_in}
-use Rattle.task_rules.proofs.Machine.{add_call, add_group, add_set, add_thread, add_work, after_word, Allowed, ap, arith, as_subtask, Call, call_made, CallEnd, Caller, cancel_was_delivered, change, Core, count_work, false, free_handle, free_thread_handle, fresh, get, get-change, get-empty, get-insert, get-remove, give_handle, give_result, give_thread_handle, giving, handle_of_table, how_far_of, HowFar, inl, inr, instance_of, is_deletable, is_some, IsCalled, IsNamed, le_trans, MakeCall, MayCome, MayDeliver, MayEnd, MayNameCall, MayOwe, NameCall, Named, nat_tests, new_handle, next_thread, None, not, on_call, on_instance, on_thread, on_work, Option, option_and_then, option_map_or, own_event_of, OwnEvent, poll_pends, push_high, refl, remove_call, remove_group, remove_set, remove_thread, remove_work, RemoveCall, Scene, set_backpressure, set_cancel_delivered, set_cancelled, set_course, set_do_not_enter, set_do_not_suspend, set_end, set_event, set_exited, set_how_far, set_join, set_own_event, set_phase, set_position, set_register, set_result, set_saved_callee, set_saved_own, set_script, set_stage, set_started, set_starting_published, set_subtask_handle, set_thread_handle, set_trapped, set_uninteresting, set_word, Some, subst, Subtask, subtask_at, subtask_handle, sym, take_result, taking, Thread, true, Turn, UnnameCall, with_handle, with_thread_handle, Word, work_queued, ℕ, ⊎_elim, ◌∙◌, ◌≡◌, ◌≤◌, ◌⊎◌}
-use Rattle.task_laws.proofs.Basics.{some_none, too_high}
+use Rattle.task_laws.proofs.Words.{add_call, add_group, add_set, add_thread, add_work, after_word, Allowed, ap, arith, as_subtask, at_most_returned, Call, call_came, call_made, CallAfter, CallEnd, Caller, cancel_was_delivered, change, Core, count_work, false, free_handle, free_thread_handle, fresh, get, get-change, get-empty, get-insert, get-remove, give_handle, give_result, give_thread_handle, given_names, giving, Grown, handle_of_table, how_far_of, HowFar, inl, inr, instance_of, is_cancelled, is_deletable, is_some, is_uncancelled, IsCalled, IsNamed, le_trans, made_threads_word, MakeCall, MayCome, MayDeliver, MayEnd, MayNameCall, MayOwe, NameCall, Named, NamesKnown, nat_tests, new_handle, NewCall, next_thread, NoCall, None, none_named, not, on_call, on_instance, on_thread, on_work, OnlyCalled, op_came, Option, option_and_then, option_map_or, own_event_of, OwnEvent, poll_pends, push_high, refl, remove_call, remove_group, remove_set, remove_thread, remove_work, RemoveCall, Scene, set_backpressure, set_cancel_delivered, set_cancelled, set_course, set_do_not_enter, set_do_not_suspend, set_end, set_event, set_exited, set_how_far, set_join, set_own_event, set_phase, set_position, set_register, set_result, set_saved_callee, set_saved_own, set_script, set_stage, set_started, set_starting_published, set_subtask_handle, set_thread_handle, set_trapped, set_uninteresting, set_word, Some, some_none, subst, Subtask, subtask_at, subtask_handle, subtask_in, sym, take_result, taking, Thread, too_high, true, Turn, UnnameCall, with_handle, with_thread_handle, Word, work_queued, ℕ, ⊎_elim, ◌∙◌, ◌≡◌, ◌≤◌, ◌⊎◌}
 
 -- the call that the running thread's op is inside of before the step is there
 abbrev pub InsideThere : Scene → Type 0
@@ -91,7 +86,7 @@ pub next_given : (i : ℕ) (s : Core) → new_handle i s ≡ handle_of_table s.h
 unfolding new_handle
 next_given i s = refl
 
-deletable_unnamed : (k : ℕ) (s : Core) → is_deletable k s ≡ true → subtask_handle (Subtask.Guest k) s ≡ None
+pub deletable_unnamed : (k : ℕ) (s : Core) → is_deletable k s ≡ true → subtask_handle (Subtask.Guest k) s ≡ None
 unfolding is_deletable
 deletable_unnamed k s h = grind arith
 

@@ -1,8 +1,6 @@
 -- From facts of each step to all that is once in a run.
-use Rattle.task_rules.proofs.Machine.{[], arith, Bool, changes_end, Component, cond, Core, covers_end, end_code, end_for, EndsOnce, event_of, false, get, handed, hands_out, hands_out_written, history, inl, inr, is_end_of, is_known, is_other, is_some, is_written, Label, List, Moment, nat_tests, None, not, Option, option_map_or, refl, Run, same_subtask, Setting, Some, State, Status, Step, Subtask, SubtaskEnd, sum_by-cons, sym, true, undelivered_end, with_end, writes_end, written, ℕ, ⊎_elim, ◌&&◌, ◌+◌, ◌==◌, ◌||◌, ◌∙◌, ◌∷◌, ◌≡◌, ◌≤◌, ◌⊎◌}
+use Rattle.task_laws.proofs.Words.{[], arith, Bool, changes_end, Component, cond, Core, covers_end, doing_of, end_code, end_for, EndsOnce, event_of, false, get, handed, hands_out, hands_out_written, history, inl, inr, is_end_of, is_known, is_other, is_some, is_written, Label, List, Moment, nat_tests, no_way, None, not, Option, option_map_or, refl, Run, same_subtask, Setting, Some, State, Status, Step, Subtask, SubtaskEnd, sum_by-cons, sym, true, undelivered_end, with_end, writes_end, written, ℕ, ⊎_elim, ◌&&◌, ◌+◌, ◌==◌, ◌||◌, ◌∙◌, ◌∷◌, ◌≡◌, ◌≤◌, ◌⊎◌}
 use Rattle.std.specs.Prelude.{count_by}
-use Rattle.task_laws.proofs.Basics.{no_way}
-use Rattle.task_laws.proofs.WorksCame.{doing_of}
 use Rattle.task_laws.proofs.Works.{due_in}
 
 -- ---- The same end

@@ -1,10 +1,6 @@
 -- What each word of a step keeps holds in each reached state.
+use Rattle.task_laws.proofs.Rules.{[], after_word, Allowed, along, arith, Core, filled, fresh, get, get-empty, get-insert, Label, List, nat_tests, opening, Reached, Run, run_goes_on, Scene, scene_of, Setting, Some, State, Step, step_walks, sym, Word, ℕ, ◌++◌, ◌∙◌, ◌∷◌, ◌≡◌}
 use Rattle.task_laws.proofs.Basics.{some_none}
-use Rattle.task_rules.proofs.Machine.{[], after_word, Allowed, arith, Core, filled, fresh, get, get-empty, get-insert, Label, List, nat_tests, opening, Run, Scene, scene_of, Setting, Some, State, Step, sym, Word, ℕ, ◌++◌, ◌∙◌, ◌∷◌, ◌≡◌}
-use Rattle.task_laws.specs.Settings.{Reached}
-use Rattle.task_rules.proofs.LawLemmas.{run_goes_on}
-use Rattle.task_rules.proofs.ChainLemmas.{along}
-use Rattle.task_rules.proofs.WalkSteps.{step_walks}
 
 -- what each step keeps holds along a run
 pub run_keeps : (x : Setting) (I : State → Type 0) → ((s : State) (l : Label) (t : State) → Step x s l t → I s → I t) → (s : State) → I s →

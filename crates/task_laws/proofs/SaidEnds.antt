@@ -1,6 +1,5 @@
 -- What a label says of ends is read beside the marks.
-use Rattle.task_rules.proofs.Machine.{arith, Component, Core, end_for, handed_by, Label, LoopLabel, Main, op_of, Option, Queues, SaysEnd, script_of, Scripted, Setting, Some, State, Status, Subtask, SubtaskEnd, Turn, Unscripted, written_by, ℕ, ◌≡◌}
-use Rattle.task_laws.proofs.CallsSteps.{plain_scene}
+use Rattle.task_laws.proofs.Words.{arith, Component, Core, end_for, handed_by, Label, LoopLabel, Main, op_of, Option, plain_scene, Queues, SaysEnd, script_of, Scripted, Setting, Some, State, Status, Subtask, SubtaskEnd, Turn, Unscripted, written_by, ℕ, ◌≡◌}
 
 pub said_at : (c : Component) (s : Core) (q : Queues) (t : Core) (l : Label) (o : Option SubtaskEnd) →
     written_by c (record s { queues = q }) l t ≡ o → written_by c s l t ≡ o

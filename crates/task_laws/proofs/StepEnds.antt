@@ -1,22 +1,6 @@
 -- What a step owes of the end of a subtask: of a call, and of a host work.
-use Rattle.task_rules.proofs.LawLemmas.{never_fewer}
-use Rattle.task_laws.proofs.CallsSteps.{calls_begin, step_goes}
-use Rattle.task_laws.proofs.CallEnds.{ends_go, tells_there}
-use Rattle.task_rules.proofs.Machine.{after_word, Allowed, Answers, ap, arith, Call, CallEnd, Core, course_of, course_value, covers_end, end_code, end_for, EndsByExit, EndsCall, EndsOwn, EndsSubtask, EndWords, event_of, false, get, goal_of, HandsAtOnce, HandsOut, has_end, has_ended, host_status, how_far_of, HowFar, inl, inr, is_async_work, is_direct, is_over, is_some, is_stage_ended, IsNamed, IsPolled, IsReadyAtOnce, IsRunner, Label, LaterBy, le_trans, Moment, nat_tests, None, Option, option_and_then, option_map, refl, SaysEnd, Scene, scene_of, Setting, Some, stage_of, State, Status, status_of_end, Step, Subtask, sym, TakesEvent, TakesResult, task_of, true, Turn, undelivered_end, Walked, Word, work_caller_of, Writes, WritesAtOnce, WritesCall, WritesNever, WritesPolled, WritesToo, written, ℕ, ⊎_elim, ◌∙◌, ◌≡◌, ◌≤◌, ◌⊎◌}
-use Rattle.task_laws.specs.Rises.{Rises}
-use Rattle.task_laws.proofs.CallsLaw.{CallsHold, exits_unended}
-use Rattle.task_laws.proofs.CallsSteps.{plain, plain_scene}
-use Rattle.task_laws.specs.Settings.{CodesInCallbacks}
-use Rattle.task_rules.proofs.ChainLemmas.{along}
-use Rattle.task_laws.proofs.CallEnds.{IsOfEnd, EndsGo, EndsTold, is_withdrawn, recorded}
-use Rattle.task_laws.proofs.OnceLemmas.{Keeps, Over, Due, EndStep, is_over_code, covers_none}
-use Rattle.task_laws.proofs.SaidEnds.{hands_at, said_at, said_plain, written_at}
-use Rattle.task_laws.proofs.CallsCame.{call_came, CallAfter}
-use Rattle.task_laws.specs.Ends.{is_sync_work}
-use Rattle.task_laws.proofs.PolledWorks.{polled_is_live}
-use Rattle.task_laws.proofs.Basics.{too_high}
-use Rattle.task_laws.proofs.WorksCame.{Doing, doing, doing_of}
-use Rattle.task_laws.proofs.Works.{doing_or, doing_there, WorksGo, WorksHold, Lasts, due_in, stage_ended, number_of}
+use Rattle.task_laws.proofs.Words.{after_word, Allowed, along, Answers, ap, arith, Call, call_came, CallAfter, CallEnd, calls_begin, CallsHold, CodesInCallbacks, Core, course_of, course_value, covers_end, Doing, doing, doing_of, end_code, end_for, EndsByExit, EndsCall, EndsOwn, EndsSubtask, EndWords, event_of, exits_unended, false, get, goal_of, HandsAtOnce, HandsOut, has_end, has_ended, host_status, how_far_of, HowFar, inl, inr, is_async_work, is_direct, is_over, is_some, is_stage_ended, is_sync_work, IsNamed, IsPolled, IsReadyAtOnce, IsRunner, Label, LaterBy, le_trans, Moment, nat_tests, never_fewer, None, Option, option_and_then, option_map, plain, plain_scene, polled_is_live, refl, Rises, SaysEnd, Scene, scene_of, Setting, Some, stage_of, State, Status, status_of_end, Step, step_goes, Subtask, sym, TakesEvent, TakesResult, task_of, too_high, true, Turn, undelivered_end, Walked, Word, work_caller_of, Writes, WritesAtOnce, WritesCall, WritesNever, WritesPolled, WritesToo, written, ℕ, ⊎_elim, ◌∙◌, ◌≡◌, ◌≤◌, ◌⊎◌}
+use Rattle.task_laws.proofs.{CallEnds.EndsGo, CallEnds.EndsTold, CallEnds.IsOfEnd, CallEnds.ends_go, CallEnds.is_withdrawn, CallEnds.recorded, CallEnds.tells_there, OnceLemmas.Due, OnceLemmas.EndStep, OnceLemmas.Keeps, OnceLemmas.Over, OnceLemmas.covers_none, OnceLemmas.is_over_code, SaidEnds.hands_at, SaidEnds.said_at, SaidEnds.said_plain, SaidEnds.written_at, Works.Lasts, Works.WorksGo, Works.WorksHold, Works.doing_or, Works.doing_there, Works.due_in, Works.number_of, Works.stage_ended}
 
 -- the calls that come to an end are there: that of the running thread, and one that a handle names
 pub record CallsFound (a : Scene) : Type 0 where
@@ -32,7 +16,7 @@ work_code : (i : ℕ) (s : Core) → is_over_code (end_code (Subtask.Host i) s) 
 work_code i s = grind (arith, nat_tests)
 
 -- on the way too, of a call that was made before the step
-over_word : (a : Scene) (k : ℕ) → k ≤ a.base.made.threads → (w : Word) (s : Core) → Allowed a w s → is_over k s ≡ true →
+pub over_word : (a : Scene) (k : ℕ) → k ≤ a.base.made.threads → (w : Word) (s : Core) → Allowed a w s → is_over k s ≡ true →
     is_over k (after_word w s) ≡ true
 over_word a k below w s ok over = let i : CallAfter a w s k = call_came w s ok k in grind arith
 

@@ -1,7 +1,5 @@
 -- Who is under whom, along the words of a step.
-use Rattle.task_rules.proofs.Machine.{after_word, Allowed, arith, Core, inl, inr, is_some, is_there, IsRunner, MayMove, next_thread, Option, Place, place_of, Scene, Some, true, Why, Word, ℕ, ◌+◌, ◌≡◌, ◌≤◌, ◌⊎◌}
-use Rattle.task_laws.proofs.CameLemmas.{Came, Comes, Moved, Shifts, Turned, Turns, came_word}
-use Rattle.task_laws.proofs.CountLemmas.{made_threads_word}
+use Rattle.task_laws.proofs.Words.{after_word, Allowed, arith, Came, came_word, Comes, Core, inl, inr, is_some, is_there, IsRunner, made_threads_word, MayMove, Moved, next_thread, Option, Place, place_of, Scene, Shifts, Some, true, Turned, Turns, Why, Word, ℕ, ◌+◌, ◌≡◌, ◌≤◌, ◌⊎◌}
 
 -- On the way of a step: who is under a thread that was made now is the running one.
 pub record Layered (a : Scene) (s : Core) : Type 0 where

@@ -1,11 +1,5 @@
 -- Each call that a handle names, or that an op under way is about, was made as a call: along the words of a step.
-use Rattle.task_rules.proofs.Machine.{add_call, add_group, add_set, add_thread, add_work, after_word, Allowed, ap, arith, as_subtask, ByHandle, ByOp, call_made, change, CloseSet, Core, count_work, free_handle, free_thread_handle, fresh, get-change, get-empty, get-remove, give_handle, give_result, give_thread_handle, giving, HasSubtask, HowFar, IfSome, inl, inr, IsNew, le_trans, MayCome, NameCall, Named, named_by, NameWork, nat_tests, on_call, on_instance, on_thread, on_work, OpenSet, option_and_then, poll_pends, push_high, refl, remove_call, remove_group, remove_set, remove_thread, remove_work, Scene, set_backpressure, set_cancel_delivered, set_cancelled, set_course, set_do_not_enter, set_do_not_suspend, set_end, set_event, set_exited, set_how_far, set_join, set_own_event, set_phase, set_position, set_register, set_result, set_saved_callee, set_saved_own, set_script, set_stage, set_started, set_starting_published, set_subtask_handle, set_thread_handle, set_trapped, set_uninteresting, set_word, Some, Subtask, subtask_at, subtask_under_way, take_result, Thread, UnnameCall, UnnameWork, with_handle, with_thread_handle, Word, work_queued, ℕ, ⊎_elim, ◌+◌, ◌≡◌, ◌≤◌, ◌⊎◌}
-use Rattle.task_laws.proofs.CallsCame.{ThreadAfter, op_came, thread_came}
-use Rattle.task_laws.proofs.CountLemmas.{made_threads_word}
-use Rattle.task_laws.proofs.SetHandles.{given_names, none_named}
-use Rattle.task_laws.proofs.CountLemmas.{made_works_word}
-use Rattle.task_laws.specs.Order.{WorksNamed, CallsNamed, WasCall}
-use Rattle.task_rules.proofs.WalkParts.{cancels_own}
+use Rattle.task_laws.proofs.Words.{add_call, add_group, add_set, add_thread, add_work, after_word, Allowed, ap, arith, as_subtask, ByHandle, ByOp, call_made, CallsNamed, cancels_own, change, CloseSet, Core, count_work, free_handle, free_thread_handle, fresh, get-change, get-empty, get-remove, give_handle, give_result, give_thread_handle, given_names, giving, HasSubtask, HowFar, IfSome, inl, inr, IsNew, le_trans, made_threads_word, made_works_word, MayCome, NameCall, Named, named_by, NameWork, nat_tests, none_named, on_call, on_instance, on_thread, on_work, op_came, OpenSet, option_and_then, poll_pends, push_high, refl, remove_call, remove_group, remove_set, remove_thread, remove_work, Scene, set_backpressure, set_cancel_delivered, set_cancelled, set_course, set_do_not_enter, set_do_not_suspend, set_end, set_event, set_exited, set_how_far, set_join, set_own_event, set_phase, set_position, set_register, set_result, set_saved_callee, set_saved_own, set_script, set_stage, set_started, set_starting_published, set_subtask_handle, set_thread_handle, set_trapped, set_uninteresting, set_word, Some, Subtask, subtask_at, subtask_under_way, take_result, Thread, thread_came, ThreadAfter, UnnameCall, UnnameWork, WasCall, with_handle, with_thread_handle, Word, work_queued, WorksNamed, ℕ, ⊎_elim, ◌+◌, ◌≡◌, ◌≤◌, ◌⊎◌}
 
 -- a subtask of the thread, or a new one
 abbrev Known : Scene → Core → Subtask → Type 0
@@ -15,8 +9,6 @@ Known a s sub = (n : ℕ) × (HasSubtask a n sub ⊎ IsNew a sub s)
 abbrev pub NamedNow : Scene → Core → Subtask → Type 0
 NamedNow a s (Subtask.Guest k) = (j : ℕ) × Allowed a (NameCall j k) s
 NamedNow a s (Subtask.Host i) = (j : ℕ) × Allowed a (NameWork j i) s
-
--- ---- What a word names, and what an op comes to
 
 module _ (a : Scene) (s : Core) where
   given_named : (j : ℕ) (nm : Named) (i h : ℕ) (sub : Subtask) → IfSome (as_subtask nm) (NamedNow a s) →
@@ -45,8 +37,6 @@ module _ (a : Scene) (s : Core) where
   come_known n (HowFar.AwaitsEnd sub) ok = (n, inl (cancels_own a n sub ok.1.0))
   come_known n f ok = tt
 
--- ---- Calls that were made
-
 was_word : (a : Scene) (w : Word) (s : Core) → Allowed a w s → (k : ℕ) → WasCall s k → WasCall (after_word w s) k
 was_word a w s ok k h =
     let i : ThreadAfter a w s k = thread_came w s ok k in
@@ -73,8 +63,6 @@ module _ (a : Scene) (known : CallsNamed a.base) (s : Core) (q : Traced a s) whe
     };
   }
 
--- ---- Works that were made
-
 -- a work of the thread's was made
 work_known : (a : Scene) (s : Core) → WorksNamed a.base → a.base.made.works ≤ s.made.works → (j : ℕ) → Known a s (Subtask.Host j) → j ≤ s.made.works
 work_known a s known more j (n, inl (ByHandle h e)) = le_trans (known.by_handle _ h j e) more
@@ -87,8 +75,6 @@ works_named_word a known w s ok more q = record {
   by_handle = λ i h j e. le_trans (⊎_elim (q.by_handle i h j) (λ now. work_known a s known more j (named_known a s (Subtask.Host j) now)) (handle_named a s w ok i h (Subtask.Host j) e)) (made_works_word a w s);
   by_op = λ n j e. le_trans (⊎_elim (q.by_op n j) (λ g. work_known a s known more j (rw g.1.1 at (come_known a s n g.0 g.1.0))) (op_came (λ f. subtask_under_way f) (Subtask.Host j) w s ok n refl e)) (made_works_word a w s);
 }
-
--- ---- The first state
 
 pub opening_named : (instances handle_limit capacity : ℕ) → CallsNamed (fresh instances handle_limit capacity)
 unfolding fresh

@@ -1,9 +1,5 @@
 -- Where the first thread of a call waits for its start: along the words of a step.
-use Rattle.task_rules.proofs.Machine.{after_word, Allowed, arith, Bool, CallEnd, component_of, Core, end_of, Exits, false, get, GivesUp, inl, inr, is_explicit, is_fresh, is_some, IsWithdrawn, MayEnd, MayMove, next_thread, None, not, Option, option_map_or, Place, place_of, refl, ReturnsNow, Scene, Some, task_of, Thread, true, Turn, WasReady, Why, Word, ℕ, ⊎_elim, ◌&&◌, ◌≡◌, ◌⊎◌}
-use Rattle.task_laws.proofs.CallsCame.{call_came, CallAfter, IsBeside, IsFirst, IsGone, IsSame, thread_came, ThreadAfter, Grown, NoCall, NewCall}
-use Rattle.task_laws.proofs.CallsLaw.{CallsGo, CallsHold}
-use Rattle.task_laws.proofs.CameLemmas.{came_word, Comes, Moved, MayStand, PlaceAfter, Shifts, Turns}
-use Rattle.task_laws.specs.Order.{HasNotRun, StartsFirst}
+use Rattle.task_laws.proofs.Words.{after_word, Allowed, arith, Bool, call_came, CallAfter, CallEnd, CallsGo, CallsHold, came_word, Comes, component_of, Core, end_of, Exits, false, get, GivesUp, Grown, HasNotRun, inl, inr, is_explicit, is_fresh, is_some, IsBeside, IsFirst, IsGone, IsSame, IsWithdrawn, MayEnd, MayMove, MayStand, Moved, NewCall, next_thread, NoCall, None, not, Option, option_map_or, Place, place_of, PlaceAfter, refl, ReturnsNow, Scene, Shifts, Some, StartsFirst, task_of, Thread, thread_came, ThreadAfter, true, Turn, Turns, WasReady, Why, Word, ℕ, ⊎_elim, ◌&&◌, ◌≡◌, ◌⊎◌}
 
 abbrev is_new_start : Option Place → Bool
 is_new_start o = is_some o && is_fresh o

@@ -1,12 +1,6 @@
 -- What each word of a step does to a host work, and that works have their entries.
-use Rattle.task_rules.proofs.Machine.{[], add_call, add_group, add_set, add_thread, add_work, after_placing, after_word, Allowed, ap, arith, Bool, call_made, change, change-change_same, Core, count_work, Course, course_of, course_value, EndWork, Entry, false, FinishWork, free_handle, free_thread_handle, get, get-change, give_handle, give_result, give_thread_handle, has_end, host_status, HostDef, inl, inr, is_aborted, is_async_work, is_some, is_stage_ended, is_stage_live, Label, List, LoopLabel, Mark, MayAbort, MayFinish, MayRemoveWork, nat_tests, new_work, next_entry, next_work, None, on_call, on_instance, on_thread, on_work, one_if, Option, option_map, or_high, Pend, Phase, Places, poll_pends, popped, push_high, QueueWork, refl, remove_call, remove_group, remove_set, remove_thread, remove_work, RemoveWork, rest_of, Scene, set_backpressure, set_cancel_delivered, set_cancelled, set_course, set_do_not_enter, set_do_not_suspend, set_end, set_event, set_exited, set_high, set_how_far, set_join, set_own_event, set_phase, set_position, set_register, set_result, set_saved_callee, set_saved_own, set_script, set_stage, set_started, set_starting_published, set_subtask_handle, set_thread_handle, set_trapped, set_uninteresting, set_word, SetPhase, Some, Stage, stage_of, Status, sym, take_result, TakeHost, TakePush, TakeWorkEvent, true, unqueued, with_handle, with_thread_handle, Withdraw, Word, Work, work_caller_of, work_queued, WorkCaller, ℕ, ⊎_elim, ◌++◌, ◌+◌, ◌∙◌, ◌∷◌, ◌≡◌, ◌≤◌, ◌⊎◌}
-use Rattle.task_laws.specs.Order.{is_host_of, is_push_of, stands}
-use Rattle.task_laws.proofs.CountLemmas.{made_works_word}
-use Rattle.task_laws.proofs.Basics.{no_way}
-use Rattle.task_rules.proofs.PlacingLemmas.{placing_works, unqueued_works, work_entries}
-use Rattle.task_laws.proofs.EachLemmas.{after_remove, at_change, at_insert}
-use Rattle.task_laws.proofs.PolledWorks.{polled_is_live}
-use Rattle.task_laws.specs.Order.{is_queued, is_finishing}
+use Rattle.task_laws.proofs.Rules.{[], add_call, add_group, add_set, add_thread, add_work, after_placing, after_word, Allowed, ap, arith, Bool, call_made, change, change-change_same, Core, count_work, Course, course_of, course_value, EndWork, Entry, false, FinishWork, free_handle, free_thread_handle, get, get-change, give_handle, give_result, give_thread_handle, has_end, host_status, HostDef, inl, inr, is_aborted, is_async_work, is_finishing, is_host_of, is_late, is_push_of, is_queued, is_some, is_stage_ended, is_stage_live, Label, List, LoopLabel, Mark, MayAbort, MayFinish, MayRemoveWork, nat_tests, new_work, next_entry, next_work, None, on_call, on_instance, on_thread, on_work, one_if, Option, option_map, or_high, Pend, Phase, Places, placing_works, poll_pends, popped, push_high, QueueWork, refl, remove_call, remove_group, remove_set, remove_thread, remove_work, RemoveWork, rest_of, Scene, set_backpressure, set_cancel_delivered, set_cancelled, set_course, set_do_not_enter, set_do_not_suspend, set_end, set_event, set_exited, set_high, set_how_far, set_join, set_own_event, set_phase, set_position, set_register, set_result, set_saved_callee, set_saved_own, set_script, set_stage, set_started, set_starting_published, set_subtask_handle, set_thread_handle, set_trapped, set_uninteresting, set_word, SetPhase, Some, Stage, stage_of, stands, Status, sym, take_result, TakeHost, TakePush, TakeWorkEvent, true, unqueued, unqueued_works, with_handle, with_thread_handle, Withdraw, Word, Work, work_caller_of, work_entries, work_queued, WorkCaller, ℕ, ⊎_elim, ◌++◌, ◌+◌, ◌∙◌, ◌∷◌, ◌≡◌, ◌≤◌, ◌⊎◌}
+use Rattle.task_laws.proofs.{Basics.no_way, CountLemmas.made_works_word, EachLemmas.after_remove, EachLemmas.at_change, EachLemmas.at_insert, PolledWorks.polled_is_live}
 
 -- ---- What a work does
 
@@ -23,11 +17,6 @@ doing w = record { caller = w.caller; course = w.course; stage = w.stage; phase 
 
 abbrev pub doing_of : ℕ → Core → Option Doing
 doing_of i s = option_map doing (get s.works i)
-
-abbrev pub is_late : Stage → Bool
-is_late Stage.Finishing = true
-is_late Stage.Ended = true
-is_late _ = false
 
 -- ---- Entries
 
@@ -157,7 +146,7 @@ module _ {S : Type 0} (a : Scene) (s : Core) (q : WorksStand S s)
       (λ none why. let z = q.high j (inr why) in grind (arith, nat_tests))
       (λ w at. let z = q.high j (inl (grind arith)) in Lives (doing w) refl (grind (arith, nat_tests)) refl (grind (arith, nat_tests))) i
   work_came (TakeHost m j) ok i =
-      let t = taken m (Entry.Host j) s ok refl q.low in let h = ap (Standing j) t.0 in
+      let t = taken m (Entry.Host j) s ok.0 refl q.low in let h = ap (Standing j) t.0 in
       rw (change-change_same s.works j (λ w. record w { event = Some (host_status (course_value (course_of j s))) })
       (λ w. record w { stage = Stage.Ended }))
       (changed j _ (High (popped m s)) (λ i e. let h = ap (Standing i) t.0 in grind (arith, nat_tests))
@@ -182,7 +171,7 @@ module _ {S : Type 0} (a : Scene) (s : Core) (q : WorksStand S s)
   low_after (Places p) ok i = same_standing i _ _ (placing_works a p s ok).low ∙ q.low i
   low_after (Withdraw j) ok i = same_standing i _ _ (unqueued_works j s).low ∙ q.low i
   low_after (TakePush m j) ok i = ap (Standing i) (taken m (Entry.Push j) s ok refl q.low).1 ∙ q.low i
-  low_after (TakeHost m j) ok i = ap (Standing i) (taken m (Entry.Host j) s ok refl q.low).1 ∙ q.low i
+  low_after (TakeHost m j) ok i = ap (Standing i) (taken m (Entry.Host j) s ok.0 refl q.low).1 ∙ q.low i
   low_after w ok i = q.low i
 
   pub stand_word : (w : Word) → Allowed a w s → WorksStand S (after_word w s)

@@ -6,5 +6,4 @@ pub mod Handles
 pub mod Order
 pub mod Ends
 pub mod Exports
-pub mod Lacks
 pub mod Wakes

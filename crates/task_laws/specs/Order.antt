@@ -2,17 +2,21 @@
 use Rattle.task_machine.specs.declared.records.Stage.TheVariants as stage
 use Rattle.task_machine.specs.declared.records.Entry.TheVariants as entry
 use Rattle.task_machine.specs.declared.records.Work.{Work}
+use Rattle.task_machine.specs.declared.records.WorkCaller.TheVariants as work_caller
 use Rattle.task_machine.specs.declared.records.Stage.{Stage}
 use Rattle.task_machine.specs.declared.records.Entry.{Entry}
 use Rattle.task_machine.specs.declared.records.Subtask.{Subtask}
 use Rattle.task_machine.specs.declared.records.Named.{Named}
 use Rattle.task_rules.specs.Allowed.{is_async_work, subtask_under_way, watches}
+use Rattle.task_rules.specs.Takes.{host_status}
+use Rattle.task_rules.specs.Works.{has_end}
+use Rattle.task_machine.specs.declared.records.WorkCaller.TheVariants as work_caller
 use Rattle.std.specs.Prelude.{Bool, None, Option, Some, false, is_none, is_some, option_and_then, option_map, true, ℕ, ◌+◌, ◌≡◌, ◌≤◌, length, List, [], ◌∷◌, ◌==◌, ◌⊎◌, ◌&&◌, ◌||◌, not}
 use Rattle.task_laws.specs.Settings.{CodesInCallbacks}
-use Rattle.task_laws.specs.Wakes.{NoneAdmitted}
+use Rattle.task_laws.specs.Wakes.{NoneAdmitted, NoneBlockedOnEnd}
 use Rattle.task_machine.specs.Core.{Core, Main, State, Table}
 use Rattle.task_machine.specs.Maps.{get, size}
-use Rattle.task_machine.specs.Read.{call_instance, how_far_of, instance_of, is_async_lifted, is_callback, is_direct, is_explicit, goal_of, kind_of, place_of, task_of, set_at, subtask_at, end_of, is_guest_call, subtask_handle, join_of, is_stage_ended, stage_of, work_caller_of}
+use Rattle.task_machine.specs.Read.{call_instance, how_far_of, instance_of, is_async_lifted, is_callback, is_direct, is_explicit, goal_of, kind_of, place_of, task_of, set_at, subtask_at, end_of, is_guest_call, subtask_handle, join_of, is_stage_ended, stage_of, work_caller_of, event_of, has_ended, undelivered_end, course_value}
 use Rattle.task_machine.specs.declared.component.Component.{Component}
 use Rattle.task_machine.specs.declared.label.Label.{Label}
 use Rattle.task_machine.specs.declared.records.Call.{Call}
@@ -130,14 +134,14 @@ pub record CallsAwaited (s : Core) : Type 0 where
       (place_of n s ≡ Some (place.Under k)) ⊎ (option_map_or is_awaited (get s.calls k) false ≡ true)
   pub apart : (n m k : ℕ) → how_far_of n s ≡ how_far.Calls (subtask.Guest k) → cancelled_call (how_far_of m s) ≡ Some k → ⊥
 
--- The record of a host's work says which handle names it, in one instance. None names the work of a sync call, and a thread inside a sync
--- call of a host is inside the work of one, which was made.
+-- The record of a host's work says which handle names it, in one instance, and that is the work of an async call. A thread inside a sync
+-- call of a host is inside the work of that call, which was made.
 pub record WorksKnown (s : Core) : Type 0 where
   pub there : (i h j : ℕ) → subtask_at i h s ≡ Some (subtask.Host j) → subtask_handle (subtask.Host j) s ≡ Some h
   pub once : (i l h g j : ℕ) → subtask_at i h s ≡ Some (subtask.Host j) → subtask_at l g s ≡ Some (subtask.Host j) → i ≡ l
   pub async : (h j : ℕ) → subtask_handle (subtask.Host j) s ≡ Some h → is_async_work (work_caller_of j s) ≡ true
   pub called : (n j : ℕ) → how_far_of n s ≡ how_far.Calls (subtask.Host j) →
-      (j ≤ s.made.works) × (is_async_work (work_caller_of j s) ≡ false)
+      (j ≤ s.made.works) × (work_caller_of j s ≡ work_caller.Sync n)
 
 -- Each work that a handle names, or that an op under way is about, was made.
 pub record WorksNamed (s : Core) : Type 0 where
@@ -149,6 +153,10 @@ abbrev pub cancelled_by : HowFar → Option Subtask
 cancelled_by (how_far.Cancels sub) = Some sub
 cancelled_by (how_far.AwaitsEnd sub) = Some sub
 cancelled_by _ = None
+
+-- a subtask that an op cancels is there, and a handle names it
+abbrev pub CancelsNamed : Core → Type 0
+CancelsNamed s = (n : ℕ) (sub : Subtask) → cancelled_by (how_far_of n s) ≡ Some sub → is_some (subtask_handle sub s) ≡ true
 
 -- a subtask that an op cancels is in the thread's own set, or gone
 abbrev pub CancelsWatched : Core → Type 0
@@ -278,6 +286,14 @@ Fits c s = (n : ℕ) (t : Thread) → get s.threads n ≡ Some t → ThreadFits 
 abbrev pub StartsAwaited : Core → Type 0
 StartsAwaited s = (k : ℕ) (c : Call) → get s.calls k ≡ Some c → c.started ≡ false → is_fresh (place_of k s) ≡ true
 
+-- the call's start hasn't run, and it hasn't ended
+abbrev pub is_unbegun : ℕ → Core → Bool
+is_unbegun k s = option_map_or (λ (c : Call). not c.started && is_none c.«end») (get s.calls k) false
+
+-- the first thread of a call whose start hasn't run, and that hasn't ended, is there
+abbrev pub StartsThere : Core → Type 0
+StartsThere s = (k : ℕ) → is_unbegun k s ≡ true → is_some (place_of k s) ≡ true
+
 -- the call hasn't ended, and has no other thread than the first one
 pub record HasNotRun (s : Core) (k : ℕ) : Type 0 where
   pub unended : end_of k s ≡ None
@@ -332,6 +348,27 @@ abbrev pub HostsAwaited : Core → Type 0
 HostsAwaited s = (n i : ℕ) → how_far_of n s ≡ how_far.Calls (subtask.Host i) →
     (i ≤ s.made.works) × ((place_of n s ≡ Some (place.Blocked (subtask.Host i))) ⊎ (is_stage_ended (stage_of i s) ≡ true))
 
+-- a work that is finishing or has ended
+abbrev pub is_late : Stage → Bool
+is_late stage.Finishing = true
+is_late stage.Ended = true
+is_late _ = false
+
+-- A work has come to its end just where its stage says so. Its event is an end only where it is of an async call and has ended, and it is
+-- finishing only where it is of an async call.
+pub record WorkTold (w : Work) : Type 0 where
+  pub late : has_end w.course ≡ is_late w.stage
+  pub told : (e : Status) → undelivered_end w.event ≡ Some e → (is_stage_ended w.stage ≡ true) ×
+      ((is_async_work w.caller ≡ true) × (e ≡ host_status (course_value w.course)))
+  pub finishing : is_finishing w.stage ≡ true → is_async_work w.caller ≡ true
+
+abbrev pub WorksTold : Core → Type 0
+WorksTold s = (i : ℕ) (w : Work) → get s.works i ≡ Some w → WorkTold w
+
+-- a call whose event is an end has ended
+abbrev pub CallsTold : Core → Type 0
+CallsTold s = (k : ℕ) (e : Status) → undelivered_end (event_of (subtask.Guest k) s) ≡ Some e → has_ended k s ≡ true
+
 -- ---- Counts
 
 -- From s to t at most one thread is made, one work, one set and one group, and at most two of them in all.
@@ -358,6 +395,8 @@ RunsAlone p s = (n : ℕ) → place_of n s ≡ Some place.Running → p ≡ turn
 -- What is so of a core while the turns aren't over.
 pub record Awake (p : Turn) (s : Core) : Type 0 where
   pub alone : RunsAlone p s
+  pub starts_there : StartsThere s
+  pub blocked : NoneBlockedOnEnd s
 
 -- ---- All of it
 
@@ -386,8 +425,11 @@ pub record InOrderIf (goes_on : Bool) (c : Component) (s : State) : Type 0 where
   pub starts : StartsAwaited s.core
   pub unbegun : StartsFirst s.core
   pub watched : CancelsWatched s.core
+  pub cancelled : CancelsNamed s.core
   pub inside : InsideOps s.core
   pub held : NoneAdmitted s.core
+  pub works_told : WorksTold s.core
+  pub calls_told : CallsTold s.core
   pub awake : goes_on ≡ true → Awake s.turn s.core
 
 abbrev pub InOrder : Component → State → Type 0

@@ -1,10 +1,10 @@
 -- What holds of all that contracts see of a `Links`.
-use Rattle.std.proofs.Common.{◌≡◌, ℕ, List, Some, IsSome, refl, sym, ap, subst, ◌∙◌}
+use Rattle.std.proofs.Common.{◌≡◌, ℕ, List, [], ◌∷◌, Some, IsSome, refl, sym, ap, subst, ◌∙◌}
 use Rattle.std.proofs.lemmas.Option.{some_pair_parts}
 use Rattle.task_links.specs.declared.links.Role.{Role}
 use Rattle.task_links.specs.declared.links.Role.TheVariants.{Unused, Chain, Free, Linked}
-use Rattle.task_links.specs.Links.{In, Apart, IsLinks, entries, list_of, link_of, list_or_nil, spot_list, spot_link}
-use Rattle.task_links.specs.Rings.{role_at, ring_list, AreRings, shown, spot_of}
+use Rattle.task_links.specs.Links.{AreLinked, In, Apart, IsLinks, entries, list_of, link_of, list_or_nil, spot_list, spot_link}
+use Rattle.task_links.specs.Rings.{role_at, ring_list, AreRings, Path, shown, spot_of}
 use Rattle.task_links.proofs.Paths.{Path-role}
 use Rattle.task_links.proofs.Spots.{spot_at-shown}
 use Rattle.task_links.proofs.Neighbours.{link_seen, entries_seen}
@@ -46,3 +46,16 @@ module _ {P : Type 0} (nx pv : List ℕ) (rs : List (Role P)) (sound : AreRings 
     listed = λ n c v link. listed n c v (role_at rs n) refl (sym (link_seen nx rs (shown nx rs) n refl (role_at rs n) refl) ∙ link);
     entered = λ n c i. entered n c (role_at rs c) refl (subst (In n) (seen c) i);
   }
+
+  linked_in : (c s : ℕ) (list : List (ℕ × P)) (to : ℕ) → Path nx pv rs c s list to → AreLinked (shown nx rs) c list
+  linked_in c s [] to path = tt
+  linked_in c s (e ∷ es) to path = (link_seen nx rs (shown nx rs) e.0 refl (Linked c e.1) path.1.1.0, linked_in c e.0 es to path.1.1.1)
+
+  pub AreLinked-shown : (c : ℕ) → AreLinked (shown nx rs) c (entries (shown nx rs) c)
+  AreLinked-shown c = subst (AreLinked (shown nx rs) c) (sym (seen c)) (by (role_at rs c) refl)
+    where
+      by : (r : Role P) → role_at rs c ≡ r → AreLinked (shown nx rs) c (list_or_nil (spot_list (spot_of nx rs c r)))
+      by Unused is = tt
+      by Chain is = linked_in c c (ring_list nx rs c) c (sound.rings c is).path
+      by Free is = tt
+      by (Linked d v) is = tt

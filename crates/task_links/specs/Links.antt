@@ -165,6 +165,11 @@ module _ {P : Type 0} where
   In n [] = ⊥
   In n (e ∷ es) = (n ≡ e.0) ⊎ In n es
 
+  -- each node of the list is in the chain with its value
+  abbrev pub AreLinked : List (Spot P) → ℕ → List (ℕ × P) → Type 0
+  AreLinked links chain [] = Unit {0}
+  AreLinked links chain (e ∷ es) = (link_of links e.0 ≡ Some (chain, e.1)) × AreLinked links chain es
+
   -- no node is twice in the list
   abbrev pub Apart : List (ℕ × P) → Type 0
   Apart [] = Unit {0}

@@ -1,6 +1,6 @@
 ghost use Rattle.std.specs.Prelude.{◌≡◌, ◌⊎◌, ◌<◌, ◌≤◌, ◌++◌, ◌∷◌, [], ◌↔◌, true, Some, slice_set, length, IsSome, is_some, IfOk, OnOk, OnErr, vec_capacity};
 ghost use Rattle.std.specs.Option.{option_map};
-ghost use Rattle.task_links.specs.Links.{spot_at, Unmade, ChainOf, FreeNode, Renames, IsLinks, entries, is_free, is_made, link_of, list_of, linked, removed, inserted, head_of, following, last_of, preceding};
+ghost use Rattle.task_links.specs.Links.{spot_at, Unmade, ChainOf, FreeNode, Renames, AreLinked, IsLinks, entries, is_free, is_made, link_of, list_of, linked, removed, inserted, head_of, following, last_of, preceding};
 ghost use Rattle.task_links.specs.Rings.{HasRoom, IsSound, entry_at, shown, new_spot, role_at, role_is_chain, role_is_free, role_is_new, role_is_node};
 
 use std::alloc::{AllocError, Global};
@@ -349,6 +349,13 @@ impl<P: Copy> Links<P> {
         ensures { IsLinks self.now }
     {
         let _names = self.roles.len();
+    }
+
+    /// The law that each node of a chain has its value there. It does nothing.
+    pub fn nodes_have_values(&self, chain: usize)
+        ensures { AreLinked self.now chain (entries self.now chain) }
+    {
+        let _chain = (self.roles.len(), chain);
     }
 
     /// Whether this names a live chain. It may be asked of any number.

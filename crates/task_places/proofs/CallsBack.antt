@@ -1,7 +1,6 @@
 -- A thread whose turn comes as the one on top of it is gone is inside of no call.
-use Rattle.task_rules.proofs.Machine.{after_word, arith, Collapses, Core, Enter, false, get, get-change, GoesBack, how_far_of, HowFar, is_none, IsRunner, Lands, LandsAt, MayLand, MayMove, Move, nat_tests, None, on_thread, Option, Place, place_of, Places, Placing, Quits, Remains, Scene, set_how_far, Some, Stay, subtask_under_way, sym, Trip, Turn, ℕ, ◌∙◌, ◌≡◌}
+use Rattle.task_places.proofs.Laws.{after_word, arith, Collapses, Core, Enter, false, get, get-change, GoesBack, how_far_of, HowFar, is_none, IsRunner, Lands, LandsAt, MayLand, MayMove, Move, nat_tests, None, not_main, on_thread, one_runner, Option, Place, place_of, Places, Placing, Quits, Remains, Scene, set_how_far, Some, Stay, subtask_under_way, sym, Trip, Turn, ℕ, ◌∙◌, ◌≡◌}
 use Rattle.task_places.proofs.PlaceLaw.{covered_still, Frame, no_cover, runner_there, stay_stand}
-use Rattle.task_rules.proofs.WalkTask.{not_main, one_runner}
 
 -- who comes to a place and runs on is the runner, where that is there
 move_next : {a : Scene} (j : ℕ) (r : Place) (s : Core) (k : ℕ) → a.next ≡ Turn.Run k → MayMove a j r s →

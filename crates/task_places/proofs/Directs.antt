@@ -1,11 +1,6 @@
 -- Under the first thread of a direct call there is another one, along the words of a step.
-use Rattle.task_rules.proofs.MoveLemmas.{at_place}
-use Rattle.task_rules.proofs.Machine.{arith, Core, false, get, goal_of, inl, inr, is_direct, None, Option, Place, place_of, refl, Scene, Some, Steady, task_of, Thread, true, Turn, ℕ, ◌∙◌, ◌≡◌, ◌≤◌, ◌⊎◌}
-use Rattle.task_laws.proofs.AwaitedCalls.{DirectsRun}
-use Rattle.task_laws.specs.Order.{DirectsOnTop, Numbered}
-use Rattle.task_places.proofs.PlaceLaw.{Arrives, no_way}
-
--- ---- After a step
+use Rattle.task_places.proofs.Laws.{arith, at_place, Core, DirectsOnTop, DirectsRun, false, get, goal_of, inl, inr, is_direct, None, Numbered, Option, Place, place_of, refl, Scene, Some, Steady, task_of, Thread, true, Turn, ℕ, ◌∙◌, ◌≡◌, ◌≤◌, ◌⊎◌}
+use Rattle.task_places.proofs.PlaceLaw.{Arrives}
 
 module _ (a : Scene) (s t : Core) (steady : Steady s t) (before : Numbered s) (after : Numbered t) (arrives : Arrives a t)
     (home : (k : ℕ) → place_of k a.base ≡ place_of k s) (calls : (k : ℕ) → goal_of k a.base ≡ goal_of k s) where

@@ -1,8 +1,5 @@
 -- Entries that are taken out, entries of works, and new threads, beside a busy thread.
-use Rattle.task_rules.proofs.Machine.{[], add_thread, ap, arith, Bool, callers_of, Core, entries, Entry, false, get-insert, has_entry, HasPlace, if◌then◌else◌, is_behind_of, is_entry_of, is_fresh, less, less_switch, List, Mark, nat_tests, next_entry, None, on_thread, one_if, Option, Place, place_of, popped, promoted, Queues, refl, remove_thread, rest_of, says, set_high, set_low, set_place, set_switch, Some, subst, switch_entries, sym, T, Thread, times, true, unqueued, Why, why_of, ℕ, ◌+◌, ◌==◌, ◌∙◌, ◌∷◌, ◌≡◌, ◌≤◌}
-use Rattle.task_rules.proofs.MoveLemmas.{at_place, removed_is, no_time, removed_gone, removed_loose, removed_placed, other_place}
-use Rattle.task_rules.proofs.StandLemmas.{Drops, moves_stand, Loose, Stand, by_number, entries-append, entries-less, eq_refl, zero_one, Watch, Left, left_loose, left_placed}
-use Rattle.task_rules.proofs.StopLemmas.{switch_adds, Untouched, fresh_apart, so_again}
+use Rattle.task_places.proofs.Laws.{[], add_thread, ap, arith, at_place, Bool, by_number, callers_of, Core, Drops, entries, entries-less, Entry, eq_refl, false, fresh_apart, get-insert, has_entry, HasPlace, if◌then◌else◌, is_behind_of, is_entry_of, is_fresh, Left, left_loose, left_placed, less, less_switch, List, Loose, Mark, moves_stand, nat_tests, next_entry, no_time, None, on_thread, one_if, Option, other_place, Place, place_of, popped, promoted, Queues, refl, remove_thread, removed_gone, removed_is, removed_loose, removed_placed, rest_of, says, set_high, set_low, set_place, set_switch, so_again, Some, Stand, subst, switch_adds, switch_entries, sym, T, Thread, times, true, unqueued, Untouched, Watch, Why, why_of, zero_one, ℕ, ◌+◌, ◌==◌, ◌∙◌, ◌∷◌, ◌≡◌, ◌≤◌}
 
 -- ---- Entries are taken out
 

@@ -1,15 +1,6 @@
 -- A thread inside a sync call of a host waits for its work, or that is done; and host works have their entries: along the words of a step.
-use Rattle.task_rules.proofs.Machine.{[], after_placing, after_word, Allowed, ap, arith, behind_one, Collapses, Core, Departs, EndsOver, Enter, false, get, GoBehind, GoesBack, how_far_of, HowFar, inl, inr, is_stage_ended, IsRunner, Label, Lands, LandsAt, Made, Mark, MayCome, MayLand, MayRemoveWork, Move, Option, option_map_or, Place, place_of, Places, Placing, push_high, push_low, Put, put_high, put_low, Quits, refl, Remains, RemoveThread, Scene, scene_of, set_callers, set_place, SetHowFar, Setting, Settles, Some, Stage, stage_of, State, Stay, subst, Subtask, sym, Thread, Trip, true, Walked, WasUnder, Word, Work, ℕ, ⊎_elim, ◌==◌, ◌∙◌, ◌≡◌, ◌≤◌, ◌⊎◌}
-use Rattle.task_places.proofs.PlaceSteps.{Reads, Withdrawable, step_by}
-use Rattle.task_rules.proofs.PlacingLemmas.{placing_shifted, SameWorks}
-use Rattle.task_rules.proofs.WalkMoves.{blocked_place}
-use Rattle.task_laws.proofs.CallsCame.{IsBeside, IsFirst, IsGone, IsSame, ThreadAfter, thread_came}
-use Rattle.task_laws.specs.Order.{HostsAwaited, WorksQueued, InPlace}
-use Rattle.task_places.proofs.PlaceLaw.{Frame, beside, exits, move_runner, runner_there, stands, stay_word, stuck_word, watch, yield_leaves}
-use Rattle.task_places.proofs.WorksQueued.{ended_word, works_word, others_move}
-use Rattle.task_laws.proofs.CountLemmas.{made_works_word}
-use Rattle.task_rules.proofs.ChainLemmas.{along, fall_allowed, land_allowed, stays_allowed, settle_stays}
-use Rattle.task_rules.proofs.StandLemmas.{Stand, by_number, place_kept}
+use Rattle.task_places.proofs.Laws.{[], after_placing, after_word, Allowed, along, ap, arith, behind_one, blocked_place, by_number, Collapses, Core, Departs, EndsOver, Enter, fall_allowed, false, get, GoBehind, GoesBack, HostsAwaited, how_far_of, HowFar, inl, InPlace, inr, is_stage_ended, IsBeside, IsFirst, IsGone, IsRunner, IsSame, Label, land_allowed, Lands, LandsAt, Made, made_works_word, Mark, MayCome, MayLand, MayRemoveWork, Move, Option, option_map_or, Place, place_kept, place_of, Places, Placing, placing_shifted, push_high, push_low, Put, put_high, put_low, Quits, refl, Remains, RemoveThread, SameWorks, Scene, scene_of, set_callers, set_place, SetHowFar, Setting, settle_stays, Settles, Some, Stage, stage_of, Stand, State, Stay, stays_allowed, subst, Subtask, sym, Thread, thread_came, ThreadAfter, Trip, true, Walked, WasUnder, Word, Work, WorksQueued, ℕ, ⊎_elim, ◌==◌, ◌∙◌, ◌≡◌, ◌≤◌, ◌⊎◌}
+use Rattle.task_places.proofs.{PlaceLaw.Frame, PlaceLaw.beside, PlaceLaw.exits, PlaceLaw.move_runner, PlaceLaw.runner_there, PlaceLaw.stands, PlaceLaw.stay_word, PlaceLaw.stuck_word, PlaceLaw.watch, PlaceLaw.yield_leaves, PlaceSteps.Reads, PlaceSteps.Withdrawable, PlaceSteps.step_by, WorksQueued.ended_word, WorksQueued.others_move, WorksQueued.works_word}
 
 -- a blocked thread stays, or the work is done, where the word is a change of places
 abbrev Stuck : Word → Core → Type 0
@@ -59,7 +50,7 @@ Asked a = (m i : ℕ) → IsRunner a m → how_far_of m a.base ≡ HowFar.Calls 
 
 goes_ended : (a : Scene) (i : ℕ) (s : Core) → Asked a → Working a s → MayRemoveWork a i s → is_stage_ended (stage_of i s) ≡ true
 goes_ended a i s asked h ok =
-    ⊎_elim (λ far. let e = asked ok.0 i ok.1.0 far.0 in h.ended i e.0 e.1) (λ e. e.1.1.0) ok.1.1
+    ⊎_elim (λ far. let e = asked ok.0 i ok.1.0 far.0 in h.ended i e.0 e.1) (λ e. e.1.1.0) ok.1.1.1
 
 working_word : (a : Scene) → Asked a → (w : Word) (s : Core) → Allowed a w s → Stuck w s → Working a s → Working a (after_word w s)
 working_word a asked w s ok stuck h = record {
@@ -127,7 +118,7 @@ module _ {a : Scene} {b : Core} {n : ℕ} {q : Option Place} (f : Frame a b n q)
       settles (working_word a asked (RemoveThread k) s (Departs leave) (λ j i at x e. absurd (cc)) (stays first c)) d
   trip_works first (GoesBack s t k m v c is runs to under d ok) =
       let g =
-      settles (working_word a asked (RemoveThread k) s (EndsOver m is to under) (λ j i at x e. absurd (cc)) (stays first c)) d in
+      settles (working_word a asked (RemoveThread k) s (EndsOver m is runs to under) (λ j i at x e. absurd (cc)) (stays first c)) d in
       let low : place_of m t ≡ Some (Place.Under k) = (exits f k s t is c d).1.1 m k under in
       let back = after_word (Places (Move m Place.Running)) t in
       let other =

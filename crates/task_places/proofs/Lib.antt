@@ -1,3 +1,4 @@
+pub mod Laws
 pub mod Entries
 pub mod PlaceLaw
 pub mod PlaceSteps
@@ -12,3 +13,4 @@ pub mod OrderLemmas
 pub mod OnceSteps
 pub mod WakeLines
 pub mod IdleLemmas
+pub mod BlockedLemmas

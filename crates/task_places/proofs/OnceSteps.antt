@@ -1,23 +1,7 @@
 -- Each step owes of the ends what it should, and so each run has each end once.
-use Rattle.task_rules.proofs.Machine.{[], AbortsOwn, ap, arith, base_at, Core, fresh, get, get-empty, instance_of, is_some, is_spawn, Label, le_refl, Main, main_opening, MainPlace, MayAbort, opening, ProgramAborts, refl, SameMain, Scene, scene_of, ScriptAborts, Scripted, Setting, slice_get, Some, spawned_at, State, Status, Step, subst, Subtask, subtask_at, suc, sym, task_of, true, Unscripted, unwrap_or, Walked, zero, ℕ, ⊎_elim, ◌-◌, ◌≡◌, ◌≤◌, ◌⊎◌}
-use Rattle.task_laws.proofs.NamedWorks.{NamesNoSync, abort_kept, names_word, opening_names}
-use Rattle.task_laws.proofs.CallsLaw.{CallsHold}
-use Rattle.task_laws.proofs.CallsSteps.{of_base}
-use Rattle.task_rules.proofs.ChainLemmas.{along}
-use Rattle.task_laws.proofs.CallEnds.{EndsTold, ends_go, opening_ends_told}
-use Rattle.task_laws.proofs.OnceLemmas.{Due, Over, EndStep, due_over, ends_once}
-use Rattle.task_laws.proofs.SceneLemmas.{base_is, runner_there}
-use Rattle.task_laws.specs.Ends.{is_sync_work, MayBeAborted, SyncUnnamed}
-use Rattle.task_laws.proofs.SyncWorks.{CallersKnown, callers_word, opening_callers}
-use Rattle.task_laws.proofs.WorksCame.{Doing, doing_of}
-use Rattle.task_laws.proofs.Works.{WorksGo, WorksHold, number_of, opening_works, first_works, works_word}
-use Rattle.task_rules.proofs.WalkSteps.{step_walks}
-use Rattle.task_laws.specs.Order.{InOrder, OpeningInOrder}
-use Rattle.task_laws.proofs.StepEnds.{Answered, CallsFound, step_ends}
-use Rattle.task_places.specs.Once.{RunsAreOnce, IsUnbegun}
+use Rattle.task_places.proofs.Laws.{[], abort_kept, AbortsOwn, along, Answered, ap, arith, base_at, base_is, CallsFound, Core, Due, due_over, ends_go, ends_once, EndStep, EndsTold, first_works, fresh, get, get-empty, how_far_of, HowFar, InOrder, instance_of, is_some, is_spawn, is_sync_work, Label, le_refl, Main, main_opening, MainPlace, MayAbort, MayBeAborted, named_other, of_base, opening, opening_ends_told, opening_works, OpeningInOrder, Over, ProgramAborts, refl, runner_there, SameMain, Scene, scene_of, ScriptAborts, Scripted, Setting, slice_get, Some, spawned_at, State, Status, Step, step_ends, step_walks, subst, Subtask, subtask_at, suc, sym, task_of, true, Unscripted, unwrap_or, Walked, work_caller_of, WorkCaller, works_word, WorksGo, WorksHold, zero, ℕ, ⊎_elim, ◌-◌, ◌≡◌, ◌⊎◌}
 use Rattle.task_places.proofs.OrderLemmas.{asked, held_of, opening_in_order, step_in_order}
-
--- ---- What is known before a step
+use Rattle.task_places.specs.Once.{IsUnbegun, RunsAreOnce}
 
 -- what is to be handed out has ended
 abbrev DueOver : Core → Type 0
@@ -27,8 +11,8 @@ record Known (x : Setting) (s : State) : Type 0 where
   order : InOrder x.component s
   told : EndsTold s.core
   works : WorksHold (Unit {0}) s.core
-  unnamed : SyncUnnamed s
-  callers : CallersKnown s.core
+  -- what main names as a spawn may be aborted
+  spawns : (p : MainPlace) (j : ℕ) → s.main ≡ Scripted p → MayBeAborted s.core (spawned_at p j)
   zero : MayBeAborted s.core 0
   over : DueOver s.core
 
@@ -51,39 +35,21 @@ module _ (x : Setting) (s : State) (l : Label) (t : State) (k : Known x s) (step
   at_base : (i : ℕ) → MayBeAborted s.core i → MayBeAborted a.base i
   at_base i q = to_base (λ c. MayBeAborted c i) (record { made = q.made; other = q.other })
 
-  at_first : (i : ℕ) → MayBeAborted a.base i → MayBeAborted s.core i
-  at_first i h = let q = from_base (λ c. MayBeAborted c i) h in record { made = q.made; other = q.other }
-
-  names_base : NamesNoSync a.base
-  names_base i h j e = at_base j (k.unnamed.works i h j (from_base (λ c. subtask_at i h c ≡ Some (Subtask.Host j)) e))
-
-  callers_base : CallersKnown a.base
-  callers_base = to_base CallersKnown k.callers
+  names_base : (i h j : ℕ) → subtask_at i h a.base ≡ Some (Subtask.Host j) → MayBeAborted a.base j
+  names_base i h j e = at_base j (named_other s.core (record { known = k.order.works_known; number = k.order.works.made }) i h j
+      (from_base (λ c. subtask_at i h c ≡ Some (Subtask.Host j)) e))
 
   -- nothing that is aborted is a sync call's
   unsync : (i : ℕ) → MayAbort a i → MayBeAborted a.base i
   unsync i (AbortsOwn (n, (h, (runner, named)))) = names_base (instance_of n a.base) h i named
-  unsync i (ScriptAborts p j main is) = at_base i (rw is (k.unnamed.spawns p j main))
+  unsync i (ScriptAborts p j main is) = at_base i (rw is (k.spawns p j main))
   unsync i (ProgramAborts main is) = at_base i (spawn_is k.works i (from_base (λ c. is_spawn i c ≡ true) is))
 
-  abbrev Kept : Core → Type 0
-  Kept u = WorksGo (Unit {0}) a u × (NamesNoSync u × (((i : ℕ) → MayBeAborted s.core i → MayBeAborted u i) × CallersKnown u))
-
-  -- the works, and which of them handles name
-  works_after : Kept t.core
-  works_after = along Kept
-      (λ v u ok q. (
-        works_word (λ y. unsync) v u ok q.0,
-        (
-          names_word a v u ok q.0.holds q.1.0,
-          (
-            λ i h. abort_kept a v u ok i (q.1.1.0 i h),
-            callers_word a (to_base (λ c. (i : ℕ) (v : Doing) → doing_of i c ≡ Some v → i ≤ c.made.works) (number_of k.works))
-                callers_base names_base v u ok q.0 (λ i h. q.1.1.0 i (at_first i h)) q.1.1.1,
-          ),
-        ),
-      ))
-      (first_works x s l w.next k.works, (k.unnamed.works, (λ i h. h, k.callers))) w.walk
+  -- the works, and which of them may be aborted
+  works_after : WorksGo (Unit {0}) a t.core × ((i : ℕ) → MayBeAborted s.core i → MayBeAborted t.core i)
+  works_after = along (λ u. WorksGo (Unit {0}) a u × ((i : ℕ) → MayBeAborted s.core i → MayBeAborted u i))
+      (λ v u ok q. (works_word (λ y. unsync) v u ok q.0, λ i h. abort_kept a v u ok i (q.1 i h)))
+      (first_works x s l w.next k.works, λ i h. h) w.walk
 
   spawns_after : (p : MainPlace) (j : ℕ) → t.main ≡ Scripted p → MayBeAborted t.core (spawned_at p j)
   spawns_after p j at = by s.main refl t.main at w.main
@@ -92,12 +58,16 @@ module _ (x : Setting) (s : State) (l : Label) (t : State) (k : Known x s) (step
       by (Scripted o) was (Scripted q) is same =
           let e : q ≡ p = cc in
           subst (λ r. MayBeAborted t.core (spawned_at r j)) e
-          (⊎_elim (λ n. subst (MayBeAborted t.core) (sym n.1) (works_after.1.1.0 (spawned_at o n.0) (k.unnamed.spawns o n.0 was)))
+          (⊎_elim (λ n. subst (MayBeAborted t.core) (sym n.1) (works_after.1 (spawned_at o n.0) (k.spawns o n.0 was)))
           (λ spawn. spawn_is works_after.0.holds (spawned_at q j) spawn) (same j))
       by m was n is same = absurd (grind arith)
 
+  called : (n i : ℕ) → how_far_of n a.base ≡ HowFar.Calls (Subtask.Host i) → work_caller_of i a.base ≡ WorkCaller.Sync n
+  called = to_base (λ c. (n i : ℕ) → how_far_of n c ≡ HowFar.Calls (Subtask.Host i) → work_caller_of i c ≡ WorkCaller.Sync n)
+      (λ n i far. (k.order.works_known.called n i far).1)
+
   answered : Answered a
-  answered n i runner far = (ap (λ c. is_sync_work c) (callers_base n i far), (asked x s l t k.order w n i runner far).1)
+  answered n i runner far = (ap (λ c. is_sync_work c) (called n i far), (asked x s l t k.order w n i runner far).1)
 
   found : CallsFound a
   found = record {
@@ -115,13 +85,10 @@ module _ (x : Setting) (s : State) (l : Label) (t : State) (k : Known x s) (step
     order = step_in_order x s l t k.order step;
     told = (ends_go k.order.codes (held_of k.order) k.told w).1.told;
     works = works_after.0.holds;
-    unnamed = record { works = works_after.1.0; spawns = spawns_after };
-    callers = works_after.1.1.1;
-    zero = works_after.1.1.0 0 k.zero;
+    spawns = spawns_after;
+    zero = works_after.1 0 k.zero;
     over = λ sub e due. due_over (end_step sub) e ((end_step sub).comes e due);
   }
-
--- ---- Runs
 
 none_due : (instances handle_limit capacity : ℕ) (sub : Subtask) (e : Status) → Due sub e (fresh instances handle_limit capacity) → ⊥
 unfolding fresh
@@ -150,11 +117,7 @@ runs_are_once x codes instances handle_limit capacity main begun ls t run =
       order = opening_in_order x.component codes instances handle_limit capacity main;
       told = opening_ends_told instances handle_limit capacity;
       works = opening_works instances handle_limit capacity;
-      unnamed = record {
-        works = opening_names instances handle_limit capacity;
-        spawns = opening_spawns instances handle_limit capacity main begun;
-      };
-      callers = opening_callers instances handle_limit capacity;
+      spawns = opening_spawns instances handle_limit capacity main begun;
       zero = zero_unmade instances handle_limit capacity;
       over = λ sub e due. absurd (none_due instances handle_limit capacity sub e due);
     }) (λ sub e due. none_due instances handle_limit capacity sub e due) ls t run

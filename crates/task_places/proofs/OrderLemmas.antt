@@ -1,39 +1,7 @@
 -- A state in order: each opening state is, and each step leads from one to one.
-use Rattle.task_rules.proofs.Machine.{[], ap, arith, base_at, Bool, ByHandle, ByOp, Call, callee_of, can_come, Component, Core, false, fresh, get, get-empty, HasSubtask, how_far_of, HowFar, inl, inr, instance_of, is_fresh, is_some, is_sync_call, is_there, IsRunner, Label, le_refl, le_trans, length, List, None, Op, op_at_place, op_of_thread, opening, option_map, option_map_or, Place, place_of, Placed, refl, Run, Scene, scene_of, Script, script_in, Setting, Some, State, Steady, Step, subst, Subtask, subtask_under_way, sym, task_of, Thread, true, Turn, Walk, Walked, was_started, Work, ℕ, ⊎_elim, ◌∙◌, ◌∷◌, ◌≡◌, ◌≤◌, ◌⊎◌}
-use Rattle.task_laws.specs.Wakes.{NoneAdmitted}
-use Rattle.task_laws.proofs.HeldLemmas.{held_word}
-use Rattle.task_places.proofs.InsideLemmas.{step_inside}
-use Rattle.task_places.proofs.AloneLemmas.{step_alone}
-use Rattle.task_rules.proofs.LawLemmas.{step_over, steady}
-use Rattle.task_places.proofs.HostsAwaited.{Asked, step_asked, step_works}
-use Rattle.task_places.proofs.Directs.{directs_on_top}
-use Rattle.task_laws.proofs.Joins.{joins_word, opening_joins}
-use Rattle.task_laws.proofs.Subtasks.{Traced, opening_named, opening_works_named, traced_word, works_named_word}
-use Rattle.task_laws.proofs.WatchLemmas.{queued_watched, watched_word}
-use Rattle.task_laws.proofs.CountLemmas.{made_works_word, few_word}
-use Rattle.task_laws.specs.Order.{WaitsPlaced, WorksKnown, Awake, InOrderIf, is_open, CancelsWatched, WorksNamed, InPlace, StartsFirst, CallsAwaited, cancelled_call, is_awaited, HasNotRun, CallsNamed, InOrder, Numbered, OpeningInOrder, SetsNamed, StartsAwaited, StepInOrder, WasCall, CallsThere, MakesFew, Strands, WaitsAtHome, StepsMakeFew, JoinsNamed, DirectsOnTop, Fits, WorksQueued, HostsAwaited}
-use Rattle.task_rules.proofs.WalkSteps.{step_walks}
-use Rattle.task_rules.proofs.ChainLemmas.{along}
-use Rattle.task_laws.proofs.WaitLemmas.{Homed, KnownHome, homed_word}
-use Rattle.task_laws.proofs.StrandLemmas.{Layered, layered_word}
-use Rattle.task_laws.proofs.SceneLemmas.{runner_there}
-use Rattle.task_laws.proofs.HousedLemmas.{RunnerHoused, housed_word}
-use Rattle.task_laws.proofs.FitLemmas.{AllFit, fits_word, OfBase}
-use Rattle.task_laws.proofs.SetHandles.{opening_sets, sets_named_word}
-use Rattle.task_laws.proofs.CallsLaw.{CallsGo, CallsHold}
-use Rattle.task_laws.proofs.CallsSteps.{calls_begin, of_base, word_goes, opening_holds, plain, plain_scene, step_goes}
-use Rattle.task_laws.proofs.AwaitedCalls.{DirectsRun, Inside, directs_word, CallsInside, inside_word, apart_after}
-use Rattle.task_laws.proofs.NamedCalls.{NamesHold, NamesGo, InsideThere, names_go_word, opening_names_known}
-use Rattle.task_laws.proofs.UnbegunCalls.{first_waits, Unbegun, unbegun_word, Waited}
-use Rattle.task_places.proofs.CallsBack.{back_apart}
-use Rattle.task_laws.proofs.LackLemmas.{KnownLacks, lacks_word, op_lacks}
-use Rattle.task_laws.specs.Lacks.{LacksOps, LacksWorks, StepsLackWorks}
-use Rattle.task_laws.proofs.KnownWorks.{WorksSaid, opening_works_known, works_said_word}
-use Rattle.task_places.proofs.WaitsKept.{AtWaits, far_waits, step_waits, wait_op}
-use Rattle.task_places.proofs.PlaceLaw.{Arrives}
-use Rattle.task_places.proofs.PlaceSteps.{step_by, Withdrawable, settled_run, step_arrives}
+use Rattle.task_places.proofs.Laws.{[], after_word, AllFit, Allowed, along, ap, apart_after, arith, at_place, Awake, base_at, Bool, ByHandle, ByOp, Call, callee_of, calls_begin, calls_told_word, CallsAwaited, CallsGo, CallsHold, CallsInside, CallsNamed, CallsThere, CallsTold, can_come, cancelled_call, cancels_word, CancelsGo, CancelsWatched, Component, Core, directs_word, DirectsOnTop, DirectsRun, EndWords, event_of, false, few_word, first_waits, Fits, fits_word, fresh, get, get-empty, HasNotRun, HasSubtask, held_word, Homed, homed_word, host_event_word, host_taken, HostsAwaited, housed_word, how_far_of, HowFar, inl, InOrder, InOrderIf, InPlace, inr, Inside, inside_word, InsideThere, instance_of, is_awaited, is_fresh, is_open, is_some, is_sync_call, is_there, IsRunner, joins_word, JoinsNamed, KnownCancels, KnownHome, Label, Layered, layered_word, le_refl, le_trans, length, List, made_works_word, MakesFew, names_go_word, NamesGo, NamesHold, None, NoneAdmitted, Numbered, of_base, OfBase, Op, op_at_place, op_of_thread, opening, opening_holds, opening_joins, opening_named, opening_names_known, opening_sets, opening_works_known, opening_works_named, OpeningInOrder, option_map, option_map_or, Place, place_of, Placed, plain, plain_scene, queued_handle, queued_watched, refl, Run, runner_there, RunnerHoused, said_plain, Scene, scene_of, Script, script_in, sets_named_word, SetsNamed, Setting, Some, starts_word, StartsAwaited, StartsFirst, StartsGo, StartsThere, State, Status, Steady, steady, Step, step_goes, step_over, step_walks, StepInOrder, StepsMakeFew, Strands, subst, Subtask, subtask_under_way, sym, task_of, telling_word, TellingGoes, Thread, Traced, traced_word, true, Turn, Unbegun, unbegun_word, undelivered_end, Waited, WaitsAtHome, WaitsPlaced, Walk, Walked, was_started, WasCall, watched_word, Word, word_goes, Work, works_go, works_hold, works_named_word, works_said_word, works_told, WorksKnown, WorksNamed, WorksQueued, WorksSaid, WorksTold, writes_over, written_at, ℕ, ⊎_elim, ◌∙◌, ◌∷◌, ◌≡◌, ◌≤◌, ◌⊎◌}
+use Rattle.task_places.proofs.{AloneLemmas.step_alone, BlockedLemmas.step_blocked, CallsBack.back_apart, Directs.directs_on_top, HostsAwaited.Asked, HostsAwaited.step_asked, HostsAwaited.step_works, InsideLemmas.step_inside, PlaceLaw.Arrives, PlaceSteps.Withdrawable, PlaceSteps.settled_run, PlaceSteps.step_arrives, PlaceSteps.step_by, WaitsKept.AtWaits, WaitsKept.far_waits, WaitsKept.step_waits, WaitsKept.wait_op, WorksQueued.stands_of}
 use Rattle.task_places.specs.Kept.{ReachedInOrder, ReachedInPlace, StepsKeepPlaces}
-use Rattle.task_rules.proofs.MoveLemmas.{at_place}
 
 -- ---- Starts
 
@@ -119,18 +87,23 @@ module _ (x : Setting) (s : State) (l : Label) (t : State) {g : Bool} (h : InOrd
       (along (Traced a) (λ v m ok q. traced_word a known m q v ok) first walk).named
 
   -- the works that are named, and the subtasks that ops cancel
-  watches_kept : WorksNamed t.core × CancelsWatched t.core
-  watches_kept =
-      let works : WorksNamed a.base = record { by_handle = h.works_named.by_handle; by_op = h.works_named.by_op } in
-      let first : Traced a s.core = record { was = λ k q. assumption; named = h.calls_named } in
-      (along (λ u. Traced a u × ((a.base.made.works ≤ u.made.works) × (WorksNamed u × CancelsWatched u)))
-      (λ v m ok q. (
-        traced_word a known m q.0 v ok,
-        (
-          le_trans q.1.0 (made_works_word a v m),
-          (works_named_word a works v m ok q.1.0 q.1.1.0, watched_word a (queued_watched (base_at s.turn s.core).queues s.core h.watched) v m ok q.0.named q.1.1.0 q.1.1.1),
-        ),
-      )) (first, (le_refl _, (h.works_named, h.watched))) walk).1.1
+  abbrev Watching : Core → Type 0
+  Watching u = Traced a u × ((a.base.made.works ≤ u.made.works) × (WorksNamed u × CancelsWatched u))
+
+  watching_first : Watching s.core
+  watching_first = (record { was = λ k q. assumption; named = h.calls_named }, (le_refl _, (h.works_named, h.watched)))
+
+  watching_word : (v : Word) (m : Core) → Allowed a v m → Watching m → Watching (after_word v m)
+  watching_word v m ok q = (
+    traced_word a known m q.0 v ok,
+    (
+      le_trans q.1.0 (made_works_word a v m),
+      (
+        works_named_word a (record { by_handle = h.works_named.by_handle; by_op = h.works_named.by_op }) v m ok q.1.0 q.1.1.0,
+        watched_word a (queued_watched (base_at s.turn s.core).queues s.core h.watched) v m ok q.0.named q.1.1.0 q.1.1.1,
+      ),
+    ),
+  )
 
   -- a call's start that the running thread may withdraw
   withdrawable : Withdrawable (scene_of x s l w.next)
@@ -280,8 +253,45 @@ module _ (x : Setting) (s : State) (l : Label) (t : State) {g : Bool} (h : InOrd
       (λ v m ok q. (word_goes a h.codes b.0 v m ok q.0, (housed_word a runner_housed v m ok q.1.0, held_word a v m ok q.1.0 q.0.numbered q.1.1)))
       (b.1, (h.calls_there, h.held)) walk).1.1
 
-  pub awake_kept : Awake s.turn s.core → is_open t.turn ≡ true → Awake t.turn t.core
-  awake_kept first live = record { alone = step_alone x s l t w h.in_place withdrawable (grind arith) first.alone }
+  -- starts, while the turns aren't over
+  starts_last : StartsThere s.core → StartsGo a t.core
+  starts_last first =
+      let b = plain x s l w.next (λ c. CallsHold x.component c.base × CallsGo c s.core) (calls_begin x s l w.next (held_of h)) in
+      (along (λ u. CallsGo a u × StartsGo a u) (λ v m ok q. (
+        word_goes a h.codes b.0 v m ok q.0,
+        starts_word a h.in_place.runs (λ n there. (h.in_place.placed n).number there) h.starts
+            (λ k named. (known.by_handle _ named.1.0 k named.1.1.1).number) v m ok (λ k there. let number = q.0.numbered.calls k in grind arith) q.1,
+      )) (b.1, record { was = λ k now. inl now; there = λ k now. inl (first k now) }) walk).1
+
+  starts_after : StartsThere s.core → is_open t.turn ≡ true → StartsThere t.core
+  starts_after first live k now = let q = starts_last first in ⊎_elim (λ there. there)
+      (⊎_elim (λ over. absurd (let to = w.turn in grind arith)) (λ drawn. absurd (writes_over a t.core h.calls_told k drawn.0 (q.was k now)
+      (Subtask.Guest k) refl ((plain x s l w.next (λ c. EndWords c t.core) w.ends.says).writes (Subtask.Guest k) Status.StartCancelled
+      (written_at x.component s.core _ t.core l _ (said_plain x s l w.next t.core k Status.StartCancelled drawn.1))) now))) (q.there k now)
+
+  -- ---- Events
+
+  works_told_kept : WorksTold t.core
+  works_told_kept = works_told t.core (works_go {S = ⊥} x s l t w (λ no. absurd no) (works_hold s.core (stands_of h.works) h.works_told)).holds
+
+  calls_told_kept : CallsTold t.core
+  calls_told_kept = along CallsTold (calls_told_word a) h.calls_told walk
+
+  telling : TellingGoes a t.core
+  telling = along (TellingGoes a) (telling_word a) (record { made = le_refl _; told = λ k below told. told; ends = λ k e below is. inl is }) walk
+
+  hosts_told : (i : ℕ) (e : Status) → undelivered_end (event_of (Subtask.Host i) t.core) ≡ Some e →
+      (undelivered_end (event_of (Subtask.Host i) s.core) ≡ Some e) ⊎ (host_taken l ≡ Some i)
+  hosts_told i e is = along (λ (u : Core). undelivered_end (event_of (Subtask.Host i) u) ≡ Some e →
+      (undelivered_end (event_of (Subtask.Host i) s.core) ≡ Some e) ⊎ (host_taken l ≡ Some i))
+      (λ v u ok q now. ⊎_elim q inr (host_event_word a v u ok i e now)) inl walk is
+
+  pub awake_kept : Steady s.core t.core → Awake s.turn s.core → is_open t.turn ≡ true → Awake t.turn t.core
+  awake_kept steady first live = record {
+    alone = step_alone x s l t w h.in_place withdrawable (grind arith) first.alone;
+    starts_there = starts_after first.starts_there live;
+    blocked = step_blocked x s l t w h withdrawable steady (λ over. let e = w.turn in absurd (grind arith)) telling hosts_told calls_told_kept works_told_kept first.blocked;
+  }
 
   pub fits_kept : Steady s.core t.core → Fits x.component t.core
   fits_kept steady n r at =
@@ -322,8 +332,25 @@ module _ (x : Setting) (s : State) (l : Label) (t : State) {g : Bool} (h : InOrd
     called = h.works_known.called;
   }
 
-  pub works_known_kept : WorksKnown t.core
-  works_known_kept = (along WorksSaid (works_said_word a works_known_base) (record { known = h.works_known; number = h.works.made }) walk).known
+  known_cancels : KnownCancels a
+  known_cancels = record {
+    calls = names_base.known;
+    works = works_known_base;
+    cancels = λ n sub far. ap (λ o. is_some o) (queued_handle (base_at s.turn s.core).queues s.core sub) ∙ h.cancelled n sub far;
+  }
+
+  -- handles of works and of what ops cancel
+  handles_last : (Watching t.core × NamesGo a t.core) × (WorksSaid t.core × CancelsGo a t.core)
+  handles_last = along (λ u. (Watching u × NamesGo a u) × (WorksSaid u × CancelsGo a u)) (λ v m ok q. (
+    (watching_word v m ok q.0.0, names_go_word a names_base inside_there v m ok q.0.1),
+    (
+      works_said_word a works_known_base v m ok q.1.0,
+      cancels_word a known_cancels v m ok q.0.1.hold q.1.0 q.0.0.1.1.1 q.1.1,
+    ),
+  )) (
+    (watching_first, record { hold = names_first; were = λ n k far. inl far }),
+    (record { known = h.works_known; number = h.works.made }, record { kept = λ to sub is. ap (λ o. is_some o) (sym (queued_handle (base_at s.turn s.core).queues s.core sub)) ∙ is; named = h.cancelled }),
+  ) walk
 
   module _ (turn : (m : ℕ) → s.turn ≡ Turn.Run m → g ≡ true) where
     known_home : KnownHome a
@@ -361,13 +388,6 @@ module _ (x : Setting) (s : State) (l : Label) (t : State) {g : Bool} (h : InOrd
         same : (n : ℕ) → is_there n t.core ≡ true → is_there n s.core ≡ true → instance_of n t.core ≡ instance_of n s.core
         same n now before = same_instance s.core t.core steady h.numbered h.calls_there calls_kept n before now
 
-  -- async calls of hosts, where no op makes them
-  known_lacks : LacksOps x.component → LacksWorks s.core → KnownLacks a
-  known_lacks lacks none = record { base = none; runs = λ n e. op_lacks x.component lacks n a.base }
-
-  pub lacks_kept : LacksOps x.component → LacksWorks s.core → LacksWorks t.core
-  lacks_kept lacks none = along LacksWorks (lacks_word a (known_lacks lacks none)) none walk
-
 -- the turns of a state that has a step aren't over
 step_open : (x : Setting) (s : State) (l : Label) (t : State) → Step x s l t → is_open s.turn ≡ true
 step_open x s l t step = by s.turn refl
@@ -375,9 +395,6 @@ step_open x s l t step = by s.turn refl
     by : (p : Turn) → s.turn ≡ p → is_open p ≡ true
     by Turn.Over is = absurd (step_over x s l t is step)
     by p is = refl
-
-pub steps_lack_works : StepsLackWorks
-steps_lack_works x lacks s l t h none step = lacks_kept x s l t h (step_walks x s l t step) lacks none
 
 -- ---- A step in order
 
@@ -397,10 +414,10 @@ step_kept x s l t h step turn b awake =
       numbered = q.numbered;
       calls_there = calls_kept x s l t h w;
       calls_named = named_kept x s l t h w;
-      works_named = (watches_kept x s l t h w).0;
+      works_named = (handles_last x s l t h w).0.0.1.1.0;
       names = (called x s l t h w).1.0.hold.known;
       calls = awaited_kept x s l t h w;
-      works_known = works_known_kept x s l t h w;
+      works_known = (handles_last x s l t h w).1.0.known;
       waits = waits_kept x s l t h w turn (steady x s l t step);
       waits_placed = placed_kept x s l t h w;
       sets_named = (joined_kept x s l t h w turn).0;
@@ -410,15 +427,18 @@ step_kept x s l t h step turn b awake =
       fits = fits_kept x s l t h w (steady x s l t step);
       starts = starts_kept x s l t h w (steady x s l t step);
       unbegun = unbegun_kept x s l t h w;
-      watched = (watches_kept x s l t h w).1;
+      watched = (handles_last x s l t h w).0.0.1.1.1;
+      cancelled = (handles_last x s l t h w).1.1.named;
       inside = step_inside x s l t w h.in_place (withdrawable x s l t h w) h.inside;
       held = held_kept x s l t h w;
+      works_told = works_told_kept x s l t h w;
+      calls_told = calls_told_kept x s l t h w;
       awake = awake;
     }
 
 pub step_in_order : StepInOrder
 step_in_order x s l t h step =
-    let w = step_walks x s l t step in step_kept x s l t h step (λ m e. step_open x s l t step) (is_open t.turn) (λ live. awake_kept x s l t h w (h.awake (step_open x s l t step)) live)
+    let w = step_walks x s l t step in step_kept x s l t h step (λ m e. step_open x s l t step) (is_open t.turn) (λ live. awake_kept x s l t h w (steady x s l t step) (h.awake (step_open x s l t step)) live)
 
 -- ---- The first state
 
@@ -454,9 +474,16 @@ opening_in_order c codes instances handle_limit capacity main =
       starts = λ k c at e. let o = get-empty {X = Call} k in absurd (cc);
       unbegun = λ k t at first waits. let o = get-empty {X = Thread} k in absurd (cc);
       watched = λ n sub far. let o = get-empty {X = Thread} n in absurd (cc);
+      cancelled = λ n sub far. let o = get-empty {X = Thread} n in absurd (cc);
       inside = λ n p at. let o = get-empty {X = Thread} n in absurd (cc);
       held = λ n v at. let o = get-empty {X = Thread} n in absurd (cc);
-      awake = λ live. record { alone = λ n is. let o = get-empty {X = Thread} n in absurd (cc) };
+      works_told = λ i w is. let o = get-empty {X = Work} i in absurd (cc);
+      calls_told = λ k e is. let o = get-empty {X = Call} k in absurd (grind arith);
+      awake = λ live. record {
+        alone = λ n is. let o = get-empty {X = Thread} n in absurd (cc);
+        starts_there = λ k now. let o = get-empty {X = Call} k in absurd (grind arith);
+        blocked = λ n sub is. let o = get-empty {X = Thread} n in absurd (cc);
+      };
     }
 
 -- ---- Runs

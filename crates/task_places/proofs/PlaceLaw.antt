@@ -1,14 +1,6 @@
 -- Where each thread is along the words of a step: each has its place, and one that waits for its start still does, or its call has begun.
-use Rattle.task_rules.proofs.Machine.{[], add_call, add_group, add_set, add_work, after_placing, after_word, ap, arith, AwaitsEvent, Blocks, Bool, ByHandle, Call, call_made, Collapses, Core, count_work, Departs, EndsOver, Enter, entries, Entry, Falls, false, free_handle, free_thread_handle, get, get-change, give_handle, give_result, give_thread_handle, GoBehind, GoesBack, has_entry, HasPlace, HasSubtask, Holds, HowFar, if◌then◌else◌, inl, inr, is_at_high, is_at_low, is_at_switch, is_begun, is_done_host, is_explicit, is_for_start, is_free, is_fresh, is_none, is_some, is_there, is_under, IsFall, IsFoot, IsRunner, IsSettling, Lands, LandsAt, LastWords, Leaves, MakeCall, MakeThread, Mark, MayGo, MayLand, MayMove, MayPut, MayWithdraw, MayYield, Move, nat_tests, new_thread, next_thread, None, on_call, on_instance, on_thread, on_work, Option, option_map, option_map_or, Place, place_of, Placed, Places, Placing, poll_pends, Promote, promoted, push_high, Put, put_high, put_low, Quits, refl, registers_for, Remains, remove_call, remove_group, remove_set, remove_thread, remove_work, RemoveThread, Runs, says, Scene, Script, set_backpressure, set_cancel_delivered, set_cancelled, set_course, set_do_not_enter, set_do_not_suspend, set_end, set_event, set_exited, set_how_far, set_join, set_own_event, set_phase, set_place, set_position, set_register, set_result, set_saved_callee, set_saved_own, set_script, set_stage, set_started, set_starting_published, set_subtask_handle, set_thread_handle, set_trapped, set_uninteresting, set_word, Settles, SetTrapped, SetUninteresting, Some, Stay, Stays, Stop, subst, Subtask, Suspends, switch_entries, sym, T, take_result, TakeHost, TakePush, task_of, Thread, Trip, true, Turn, Uncovers, Waits, WaitsAgain, was_started, Why, with_handle, with_thread_handle, Withdraw, Word, work_queued, ℕ, ⊎_elim, ◌+◌, ◌==◌, ◌||◌, ◌∙◌, ◌≡◌, ◌≤◌, ◌⊎◌}
-use Rattle.task_rules.proofs.WalkMoves.{blocked_place}
-use Rattle.task_places.proofs.Entries.{added_stand, has_stands, next_first, popped_quiet, promoted_stand, removed_fresh, withdrawn_stand, flipped}
-use Rattle.task_rules.proofs.ChainLemmas.{along}
-use Rattle.task_rules.proofs.MoveLemmas.{at_place, removed_is, all_of, idle_loose, is_busy, is_idle, is_parked, loose_idle, put_stand, removed_all, no_time, one_time, stand_of, removed_gone, removed_placed, removed_loose, gone_place}
-use Rattle.task_rules.proofs.PlacingLemmas.{placing_shifted}
-use Rattle.task_rules.proofs.StandLemmas.{nobody, entries-append, set_place_is, Adds, adds_all, Loose, Stand, by_number, put_high_adds, put_low_adds, set_place_adds, place_kept, place_written, Given, Watch, Nothing, Awaits, Covered, is_so, is_watched, Stuck, watching}
-use Rattle.task_rules.proofs.StopLemmas.{Untouched, behind_adds, foot_there, given_there, quiet_placed, quiet_stand, stopped_stand, switch_there}
-use Rattle.task_rules.proofs.WalkParts.{withdraws}
-use Rattle.task_rules.proofs.WalkTask.{not_main, one_runner}
+use Rattle.task_places.proofs.Laws.{[], add_call, add_group, add_set, add_work, Adds, adds_all, after_placing, after_word, all_of, along, ap, arith, at_place, Awaits, AwaitsEvent, behind_adds, blocked_place, Blocks, Bool, by_number, ByHandle, Call, call_made, Collapses, Core, count_work, Covered, Departs, EndsOver, Enter, entries, entries-append, Entry, Falls, false, foot_there, free_handle, free_thread_handle, get, get-change, give_handle, give_result, give_thread_handle, Given, given_there, GoBehind, GoesBack, gone_place, has_entry, HasPlace, HasSubtask, Holds, HowFar, idle_loose, if◌then◌else◌, inl, inr, is_at_high, is_at_low, is_at_switch, is_begun, is_busy, is_done_host, is_explicit, is_for_start, is_free, is_fresh, is_idle, is_none, is_parked, is_so, is_some, is_there, is_under, is_watched, IsFall, IsFoot, IsRunner, IsSettling, Lands, LandsAt, LastWords, Leaves, Loose, loose_idle, MakeCall, MakeThread, Mark, MayGo, MayLand, MayMove, MayPut, MayWithdraw, MayYield, Move, nat_tests, new_thread, next_thread, no_time, nobody, None, not_main, Nothing, on_call, on_instance, on_thread, on_work, one_runner, one_time, Option, option_map, option_map_or, Place, place_kept, place_of, place_written, Placed, Places, Placing, placing_shifted, poll_pends, Promote, promoted, push_high, Put, put_high, put_high_adds, put_low, put_low_adds, put_stand, quiet_placed, quiet_stand, Quits, refl, registers_for, Remains, remove_call, remove_group, remove_set, remove_thread, remove_work, removed_all, removed_gone, removed_is, removed_loose, removed_placed, RemoveThread, Runs, says, Scene, Script, set_backpressure, set_cancel_delivered, set_cancelled, set_course, set_do_not_enter, set_do_not_suspend, set_end, set_event, set_exited, set_how_far, set_join, set_own_event, set_phase, set_place, set_place_adds, set_place_is, set_position, set_register, set_result, set_saved_callee, set_saved_own, set_script, set_stage, set_started, set_starting_published, set_subtask_handle, set_thread_handle, set_trapped, set_uninteresting, set_word, Settles, SetTrapped, SetUninteresting, Some, Stand, stand_of, Stay, Stays, Stop, stopped_stand, Stuck, subst, Subtask, Suspends, switch_entries, switch_there, sym, T, take_result, TakeHost, TakePush, task_of, Thread, Trip, true, Turn, Uncovers, Untouched, Waits, WaitsAgain, was_started, Watch, watching, Why, with_handle, with_thread_handle, Withdraw, withdraws, Word, work_queued, ℕ, ⊎_elim, ◌+◌, ◌==◌, ◌||◌, ◌∙◌, ◌≡◌, ◌≤◌, ◌⊎◌}
+use Rattle.task_places.proofs.Entries.{added_stand, flipped, has_stands, next_first, popped_quiet, promoted_stand, removed_fresh, withdrawn_stand}
 
 pub no_way : {A : Type 0} → false ≡ true → A
 no_way h = absurd (subst T (sym h) tt)
@@ -126,12 +118,12 @@ module _ {a : Scene} {b : Core} {n : ℕ} {q : Option Place} (f : Follows a b n 
   keeps_word {P = P} (Withdraw k) s ok puts fresh st =
       let gone = fresh k refl in
       subst (λ (t : Core). Stand P n q [] t) (sym (withdraws k s))
-      (withdrawn_stand n q k s (not_here k s st (λ e. let runs = f.runs ok.0 ok.1.1.1.1.1.0 in absurd (grind arith))) gone st)
+      (withdrawn_stand n q k s (not_here k s st (λ e. let runs = f.runs ok.0.0 ok.0.1.1.1.1.1.0 in absurd (grind arith))) gone st)
   keeps_word (RemoveThread m) s ok puts fresh st = absurd ok
   keeps_word (TakePush x i) s ok puts fresh st =
       let u = popped_quiet x (Entry.Push i) s (next_first s x (Entry.Push i) ok) (λ k. refl) in quiet_stand n q [] s _ (grind arith) st
   keeps_word (TakeHost x i) s ok puts fresh st =
-      let u = popped_quiet x (Entry.Host i) s (next_first s x (Entry.Host i) ok) (λ k. refl) in quiet_stand n q [] s _ (grind arith) st
+      let u = popped_quiet x (Entry.Host i) s (next_first s x (Entry.Host i) ok.0) (λ k. refl) in quiet_stand n q [] s _ (grind arith) st
   keeps_word w s ok puts fresh st = quiet_stand n q [] s _ (grind (arith, nat_tests, get-change, entries-append)) st
 
   withdraws_waits : (k : ℕ) (s : Core) → MayWithdraw a k s → waits a k ≡ true
@@ -150,7 +142,7 @@ module _ {a : Scene} {b : Core} {n : ℕ} {q : Option Place} (f : Follows a b n 
       puts x m v (inr may) so = absurd may
 
       waiting : (k : ℕ) → Stays a (Withdraw k) s → is_fresh (place_of k s) ≡ true
-      waiting k may = fresh_still a st k (withdraws_waits k s may)
+      waiting k may = fresh_still a st k (withdraws_waits k s may.0)
 
   -- what is so of a thread's place stays so by a word that, where it puts the thread, puts it so
   pub watched_word : (v : Watch) (m : ℕ) (w : Word) (s : Core) → Stays a w s → Stand (watch a) n q [] s →
@@ -158,7 +150,7 @@ module _ {a : Scene} {b : Core} {n : ℕ} {q : Option Place} (f : Follows a b n 
       is_so v (place_of m s) ≡ true → is_so v (place_of m (after_word w s)) ≡ true
   watched_word v m w s ok st puts is at =
       let kept = (keeps_word w s ok (λ x k u e g so. put x k u (subst (λ (y : Word). Stays a y s) e ok) g)
-      (λ k e. fresh_still a st k (withdraws_waits k s (subst (λ (y : Word). Stays a y s) e ok))) before).kept m in
+      (λ k e. fresh_still a st k (withdraws_waits k s (subst (λ (y : Word). Stays a y s) e ok).0)) before).kept m in
       grind (arith, nat_tests)
     where
       only : ℕ → Watch
@@ -368,7 +360,7 @@ module _ {a : Scene} {b : Core} {n : ℕ} {q : Option Place} (f : Frame a b n q)
   moves k r s (Uncovers m is to under none at) c = no_way (sym (runner_there m s is c) ∙ none)
   moves k r s (AwaitsEvent x l d g at) c = let h = beside k l.0 in left h.1 c r _ l (set_place_adds k r h.0 s (ap is_free at))
   moves k r s (Waits x l g at) c = let h = beside k l.0 in left h.1 c r _ l (set_place_adds k r h.0 s (ap is_free at))
-  moves k r s (Blocks sub l g at) c = let h = beside k l.0 in left h.1 c r _ l (set_place_adds k r h.0 s (ap is_free at))
+  moves k r s (Blocks sub l g o at) c = let h = beside k l.0 in left h.1 c r _ l (set_place_adds k r h.0 s (ap is_free at))
   moves k r s (Suspends l at) c = let h = beside k l.0 in left h.1 c r _ l (set_place_adds k r h.0 s (ap is_free at))
 
   lands : (x : Placing) (s : Core) → MayLand a x s → Stay a b s → Arrives a (after_placing x s)
@@ -397,7 +389,7 @@ module _ {a : Scene} {b : Core} {n : ℕ} {q : Option Place} (f : Frame a b n q)
       -- who goes is the runner, or was under one that is gone
       above : (m : ℕ) → place_of j a.base ≡ Some (Place.Under m) → MayGo a j s → place_of m (remove_thread j s) ≡ None
       above m at (Departs l) = no_cover j m l.0 at
-      above m at (EndsOver i is to under) = no_cover j m is at
+      above m at (EndsOver i is runs to under) = no_cover j m is at
       above m at (Falls over (inl i)) = no_cover j m i at
       above m at (Falls over (inr u)) = grind (arith, nat_tests, removed_is m j s)
 
@@ -406,7 +398,7 @@ module _ {a : Scene} {b : Core} {n : ℕ} {q : Option Place} (f : Frame a b n q)
 
       loose : MayGo a j s → Loose j s
       loose (Departs l) = loose_runner l.0
-      loose (EndsOver m is to under) = loose_runner is
+      loose (EndsOver m is runs to under) = loose_runner is
       loose (Falls over (inl is)) = loose_runner is
       loose (Falls over (inr u)) = by_number j n _ (λ e. subst (λ (m : ℕ). Loose m s) (sym e) h.own)
           (λ e. idle_loose j (place_of j s) s refl (h.idle j (ap is_idle u.1.0)) (h.others j e))

@@ -1,17 +1,6 @@
 -- Where threads are that are inside waits, along the words of a step.
-use Rattle.task_rules.proofs.Machine.{IsRunner, Runs, Uncovers, Holds, WaitsAgain, AwaitsEvent, Waits, Blocks, Suspends, [], after_placing, after_word, Allowed, ap, arith, behind_one, Collapses, Component, Core, Enter, false, get, get-change, get-remove, GoBehind, GoesBack, how_far_of, HowFar, inl, inr, is_at_wait, is_resumption, is_wait, IsFall, Label, Lands, lands_alone, LandsAt, Leaves, Mark, MayCome, MayLand, MayMove, MayPut, MayYield, Move, nat_tests, None, on_thread, Op, op_in, op_of, Option, option_map, option_map_or, Place, place_of, Places, Placing, push_high, push_low, Put, put_high, put_low, Quits, refl, Remains, remove_thread, RemoveThread, Scene, scene_of, set_callers, set_how_far, set_place, set_trapped, SetHowFar, Setting, Settles, SetTrapped, Some, State, Stay, sym, Thread, Trip, true, Turn, Walked, Why, Word, ℕ, ⊎_elim, ◌==◌, ◌∙◌, ◌≡◌, ◌⊎◌}
-use Rattle.task_places.proofs.HostsAwaited.{land_kept}
-use Rattle.task_places.proofs.PlaceSteps.{Reads, Withdrawable, step_by}
-use Rattle.task_places.proofs.PlaceLaw.{Frame, move_runner, no_way, runner_there, stay_word, watch, watched_word, yield_leaves}
-use Rattle.task_rules.proofs.PlacingLemmas.{placing_shifted, shifted_far}
-use Rattle.task_rules.proofs.ChainLemmas.{along, land_allowed, stays_allowed}
-use Rattle.task_rules.proofs.StandLemmas.{Pauses, Stand, by_number, place_kept}
-use Rattle.task_rules.proofs.WalkMoves.{settle_threads}
-use Rattle.task_rules.proofs.WalkTask.{moved_passes}
-use Rattle.task_laws.proofs.CallsCame.{op_came}
-use Rattle.task_laws.proofs.CameLemmas.{read_same}
-use Rattle.task_laws.proofs.FitLemmas.{op_there}
-use Rattle.task_laws.specs.Order.{Fits, InPlace, WaitsPlaced, set_of_op}
+use Rattle.task_places.proofs.Laws.{[], admits, after_placing, after_word, Allowed, along, ap, arith, AwaitsEvent, behind_one, Blocks, by_number, Collapses, Component, Core, Enter, false, Fits, get, get-change, get-remove, GoBehind, GoesBack, Holds, how_far_of, HowFar, inl, InPlace, inr, is_at_wait, is_resumption, is_wait, IsFall, IsRunner, Label, Lands, lands_alone, LandsAt, Leaves, Mark, MayCome, MayLand, MayMove, MayPut, MayYield, Move, moved_passes, nat_tests, None, on_thread, Op, op_came, op_in, op_of, op_there, Option, option_map, option_map_or, Pauses, Place, place_of, Places, Placing, placing_shifted, push_high, push_low, Put, put_high, put_low, Quits, read_same, refl, Remains, remove_thread, RemoveThread, Runs, Scene, scene_of, set_callers, set_how_far, set_of_op, set_place, set_trapped, SetHowFar, Setting, settle_threads, Settles, SetTrapped, shifted_far, Some, Stand, State, Stay, stays_allowed, Suspends, sym, Thread, Trip, true, Turn, Uncovers, Waits, WaitsAgain, WaitsPlaced, Walked, Why, Word, ℕ, ⊎_elim, ◌==◌, ◌∙◌, ◌≡◌, ◌⊎◌}
+use Rattle.task_places.proofs.{HostsAwaited.land_kept, PlaceLaw.Frame, PlaceLaw.move_runner, PlaceLaw.no_way, PlaceLaw.runner_there, PlaceLaw.stay_word, PlaceLaw.watch, PlaceLaw.watched_word, PlaceLaw.yield_leaves, PlaceSteps.Withdrawable, PlaceSteps.step_by}
 
 -- ---- One word
 
@@ -99,6 +88,11 @@ module _ (a : Scene) (w : Word) (s : Core) (ok : Allowed a w s) where
 
 -- ---- Trips
 
+-- a resumption is never held
+held_resumes : (k : ℕ) (s : Core) (w : Why) → is_resumption w ≡ true → admits k s w ≡ false → ⊥
+held_resumes k s Why.Resumption is out = absurd (cc)
+held_resumes k s w is out = absurd (cc)
+
 module _ {a : Scene} {b : Core} {n : ℕ} {q : Option Place} (f : Frame a b n q) (base : WaitsPlaced a.base) where
   -- the running thread runs as the step begins
   ran : (k : ℕ) → Leaves a k → place_of k a.base ≡ Some Place.Running
@@ -113,14 +107,14 @@ module _ {a : Scene} {b : Core} {n : ℕ} {q : Option Place} (f : Frame a b n q)
       (lands_alone (Move k r) ≡ true) ⊎ (a.next ≡ Turn.Main → ⊥) → is_at_wait x r ≡ true
   move_waits k x r s (Runs is to b e) p far fit = rw e refl
   move_waits k x r s (Uncovers m is to under gone e) p far fit = rw e refl
-  move_waits k x r s (Holds w l was kept e) p far fit = absurd (let resumed = resumes k x s w was.0 p far was.1 in grind arith)
+  move_waits k x r s (Holds w l was kept e) p far fit = absurd (held_resumes k s w (resumes k x s w was.0 p far was.1) kept)
   move_waits k x r s (WaitsAgain y l was e) p far fit = absurd (let resumed = resumes k x s _ was.0 p far was.1 in grind arith)
   move_waits k x r s (AwaitsEvent y l ends has e) p far fit = absurd (let wait = p.wait k x far in let code = ends.1 in grind arith)
   move_waits k x r s (Waits y l has e) p far (inl alone) = no_way (rw e at alone)
-  move_waits k x r s (Blocks sub l has e) p far (inl alone) = no_way (rw e at alone)
+  move_waits k x r s (Blocks sub l has opens e) p far (inl alone) = no_way (rw e at alone)
   move_waits k x r s (Suspends l e) p far (inl alone) = no_way (rw e at alone)
   move_waits k x r s (Waits y l has e) p far (inr on) = absurd (on l.1.0)
-  move_waits k x r s (Blocks sub l has e) p far (inr on) = absurd (on l.1.0)
+  move_waits k x r s (Blocks sub l has opens e) p far (inr on) = absurd (on l.1.0)
   move_waits k x r s (Suspends l e) p far (inr on) = absurd (on l.1.0)
 
   stays : {t : Core} → Pausing a b → Stay a b t → Pausing a t

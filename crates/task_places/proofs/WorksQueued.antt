@@ -1,10 +1,7 @@
 -- Host works have their entries, along the words of a step.
-use Rattle.task_rules.proofs.Machine.{after_word, Allowed, arith, Bool, Core, get, inl, inr, is_stage_ended, MayAbort, MayRemoveWork, None, Option, option_map_or, refl, Scene, Some, stage_of, true, Word, Work, ℕ, ◌∙◌, ◌≡◌, ◌≤◌}
-use Rattle.task_laws.specs.Order.{WorksQueued}
-use Rattle.task_rules.proofs.PlacingLemmas.{SameWorks}
-use Rattle.task_laws.proofs.WorksCame.{WorksStand, Doing, WorkCame, High, entries_for, doing_of, same_standing, stand_word, work_came}
+use Rattle.task_places.proofs.Laws.{after_word, Allowed, arith, Bool, Core, Doing, doing_of, entries_for, get, High, inl, inr, is_stage_ended, MayAbort, MayRemoveWork, None, Option, option_map_or, refl, same_standing, SameWorks, Scene, Some, stage_of, stand_word, true, Word, Work, work_came, WorkCame, WorksQueued, WorksStand, ℕ, ◌∙◌, ◌≡◌, ◌≤◌}
 
-stands_of : {s : Core} → WorksQueued s → WorksStand (Unit {0}) s
+pub stands_of : {s : Core} → WorksQueued s → WorksStand (Unit {0}) s
 stands_of {s = s} q = record {
   low = λ i. let l = q.low i in grind arith;
   number = λ i there. q.made i (grind arith);

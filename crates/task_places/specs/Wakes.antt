@@ -1,16 +1,20 @@
 -- What is so of wakes in each reached state.
 use Rattle.std.specs.Prelude.{true, ◌≡◌}
-use Rattle.task_laws.specs.Order.{InOrder}
+use Rattle.task_laws.specs.Order.{InOrder, is_open}
 use Rattle.task_laws.specs.Settings.{Reached}
 use Rattle.task_laws.specs.Wakes.{CallersGoOn, NoneAdmitted, NoneBlockedOnEnd, WakesCounted}
 use Rattle.task_machine.specs.Core.{State}
-use Rattle.task_rules.specs.Stalled.{Idle, Setting, Stalled, none_admitted}
+use Rattle.task_rules.specs.Stalled.{Idle, Setting, Stalled, none_admitted, none_blocked_on_end}
 
 -- in each reached state no held thread is admitted, which is line 5 of Stalled
 unfoldable pub ReachedHoldBack : Type 0
 ReachedHoldBack = (x : Setting) (s : State) → Reached x s → NoneAdmitted s.core × (none_admitted s.core ≡ true)
 
--- an idle state in order with the other three facts is stalled
+-- in each reached state whose turns aren't over no thread is blocked on an end that is its subtask's event, which is line 7
+unfoldable pub ReachedUnblocked : Type 0
+ReachedUnblocked = (x : Setting) (s : State) → Reached x s → is_open s.turn ≡ true →
+    NoneBlockedOnEnd s.core × (none_blocked_on_end s.core ≡ true)
+
+-- an idle state in order with the other two facts is stalled
 unfoldable pub IdleIsStalled : Type 0
-IdleIsStalled = (x : Setting) (s : State) → InOrder x.component s → WakesCounted s.core → CallersGoOn s.core → NoneBlockedOnEnd s.core →
-    Idle x s → Stalled x s
+IdleIsStalled = (x : Setting) (s : State) → InOrder x.component s → WakesCounted s.core → CallersGoOn s.core → Idle x s → Stalled x s

@@ -1,4 +1,3 @@
-ghost use Rattle.task_laws.specs.Lacks.{StepsLackWorks};
 ghost use Rattle.task_laws.specs.Order.{OpeningInOrder, StepInOrder, StepsMakeFew};
 ghost use Rattle.task_places.specs.Kept.{ReachedInOrder};
 
@@ -24,9 +23,4 @@ pub fn reached_in_order()
 #[tactic(auto, using(crate::proofs::OrderLemmas::steps_make_few))]
 pub fn steps_make_few()
     ensures { StepsMakeFew }
-{}
-
-/// Where no op calls a host asynchronously, a step from a core without such calls leads to one.
-pub fn steps_lack_works()
-    ensures { StepsLackWorks }
 {}

@@ -1,4 +1,4 @@
-ghost use Rattle.task_places.specs.Wakes.{IdleIsStalled, ReachedHoldBack};
+ghost use Rattle.task_places.specs.Wakes.{IdleIsStalled, ReachedHoldBack, ReachedUnblocked};
 
 /// In each state that a run comes to no held thread is admitted: a flag or a counter that kept it
 /// out falls only together with its release.
@@ -7,9 +7,16 @@ pub fn reached_hold_back()
     ensures { ReachedHoldBack }
 {}
 
+/// In each state that a run comes to, while its turns aren't over, no thread is blocked on a
+/// subtask that has an end as its event: who is blocked on it goes on as that is set.
+#[tactic(auto, using(crate::proofs::IdleLemmas::reached_unblocked))]
+pub fn reached_unblocked()
+    ensures { ReachedUnblocked }
+{}
+
 /// A state in order in which nothing stands, no work moves and main pends is stalled, where each
-/// set that has a waiter has at least as many woken threads as ready members, no caller stands
-/// behind a stopped strand, and no thread is blocked on an end that is its subtask's event.
+/// set that has a waiter has at least as many woken threads as ready members, and no caller stands
+/// behind a stopped strand.
 #[tactic(auto, using(crate::proofs::IdleLemmas::idle_is_stalled))]
 pub fn idle_is_stalled()
     ensures { IdleIsStalled }

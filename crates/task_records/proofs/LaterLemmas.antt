@@ -58,6 +58,7 @@ module _ (p : Parts) (n : Made) (later : IsLater p.made n) where
   call_later : (g : GuestTask) → IsCallNamed p g → IsCallNamed (record p { made = n }) g
   call_later g named = record {
     caller = named_later (kinds p) n later _ _ named.caller;
+    first = named_later (kinds p) n later g.first (ThreadOf g.number) named.first;
     join = named_later (kinds p) n later _ _ named.join;
     group = named.group;
     positive = named.positive;
@@ -84,6 +85,7 @@ module _ (p : Parts) (n : Made) (later : IsLater p.made n) where
       ready_calls = whole.chained.ready_calls;
       ready_works = whole.chained.ready_works;
       polled = whole.chained.polled;
+      rising = whole.chained.rising;
       marks = whole.chained.marks;
       shelves = whole.chained.shelves;
       low = whole.chained.low;

@@ -101,6 +101,7 @@ opening_chained = record {
   ready_calls = no_index _ _ (λ x. refl) (λ r. refl);
   ready_works = no_index _ _ (λ x. refl) (λ r. refl);
   polled = no_index _ _ (λ k. refl) (λ r. refl);
+  rising = tt;
   marks = no_rows _ _ _ _ no_row;
   shelves = no_rows _ _ _ _ (λ k. refl);
   low = tt;

@@ -123,9 +123,10 @@ pub record HasHome (p : Parts) (g : GuestThread) : Type 0 where
 abbrev pub OwnsHandle : Parts → GuestThread → Type 0
 OwnsHandle p g = (h : ℕ) → g.thread.handle ≡ Some h → thread_at g.instance h (core_of p) ≡ Some g.number
 
--- What a call names.
+-- What a call names; its first thread has its number.
 pub record IsCallNamed (p : Parts) (g : GuestTask) : Type 0 where
   pub caller : AtPlace p g.maker (caller_target g.call.caller)
+  pub first : AtPlace p g.first (ThreadOf g.number)
   pub join : AtPlace p g.joined (join_target g.call.join)
   pub group : HasNumber group_key p.groups g.group g.call.group
   pub positive : 0 < g.call.group

@@ -1,6 +1,9 @@
 -- The lists that the machine finds by a test of its records, as indexes: who waits on a set, is held in an instance, is under a thread or blocked on a subtask; the ready members of a set; the live works.
-use Rattle.std.specs.Prelude.{ℕ, Option, Some, None, slice_get, option_map, if◌then◌else◌}
+use Rattle.std.specs.Ordering.{nat_cmp, ordering_then}
+use Rattle.std.specs.Prelude.{ℕ, List, Option, Some, None, slice_get, option_map, if◌then◌else◌}
+use Rattle.std.specs.declared.cmp.Ordering.{Ordering}
 use Rattle.task_index.specs.Index.{Filing}
+use Rattle.task_links.specs.Links.{Spot, entries}
 use Rattle.task_machine.specs.Read.{is_stage_live}
 use Rattle.task_machine.specs.declared.records.Join.{Join}
 use Rattle.task_machine.specs.declared.records.Join.TheVariants as join
@@ -15,7 +18,9 @@ use Rattle.task_records.specs.declared.calls.GuestTask.{GuestTask}
 use Rattle.task_records.specs.declared.single.Single.{Single}
 use Rattle.task_records.specs.declared.threads.GuestThread.{GuestThread}
 use Rattle.task_records.specs.declared.works.HostWork.{HostWork}
+use Rattle.task_records.specs.declared.works.LiveWork.{LiveWork}
 use Rattle.task_table.specs.Records.{found_record}
+use Rattle.task_wait.specs.Sets.{IsAscending}
 
 -- In which list a thread is: it is in one at a time.
 pub data Where : Type 0 where
@@ -59,9 +64,20 @@ ready_call_chain p x = found_record ready_calls_key x p.sets.places
 abbrev pub ready_work_chain : Parts → ℕ → Option ℕ
 ready_work_chain p x = found_record ready_works_key x p.sets.places
 
--- the live works are one list
-abbrev pub live_work : ℕ → ℕ → Single HostWork → Option (Filing (Unit {0}) ℕ)
-live_work rep serial w = Some (record { node = w.item.live.index; key = if is_stage_live w.item.work.stage then Some tt else None; value = rep })
+-- the live works are one list, in order of number
+abbrev pub live_value : ℕ → HostWork → LiveWork
+live_value rep w = record { number = w.number; place = rep }
+
+abbrev pub live_work : ℕ → ℕ → Single HostWork → Option (Filing (Unit {0}) LiveWork)
+live_work rep serial w = Some (record { node = w.item.live.index; key = if is_stage_live w.item.work.stage then Some tt else None; value = live_value rep w.item })
 
 abbrev pub live_chain : Parts → Unit {0} → Option ℕ
 live_chain p one = p.live
+
+abbrev pub live_order : LiveWork → LiveWork → Ordering
+live_order a b = ordering_then (nat_cmp a.number b.number) (nat_cmp a.place b.place)
+
+-- The chain is in that order.
+abbrev pub Rises : List (Spot LiveWork) → Option ℕ → Type 0
+Rises links None = Unit {0}
+Rises links (Some c) = IsAscending live_order (entries links c)

@@ -11,6 +11,8 @@ pub struct GuestTask {
     pub call: Call,
     /// The place of the thread that made it, if one did.
     pub maker: u32,
+    /// The place of its first thread, as long as that is there.
+    pub first: u32,
     /// The place of what `call.join` names, if it names anything.
     pub joined: u32,
     /// The place of its group.

@@ -5,7 +5,7 @@ ghost use Rattle.task_records.specs.Keys.{call_key, set_key, thread_key, work_ke
 ghost use Rattle.task_records.specs.Names.{StandsAt};
 ghost use Rattle.task_records.specs.Seen.{IsSound, seen};
 ghost use Rattle.task_table.specs.Records.{number_in, record_at};
-ghost use Rattle.task_words.specs.Live.{kept_in};
+ghost use Rattle.task_words.specs.Live.{kept_in, live_thread};
 ghost use Rattle.task_words.specs.StateView.{call_of, set_of, thread_of, work_of};
 
 use crate::parts::CoreParts;
@@ -140,6 +140,17 @@ pub fn task_of(parts: &CoreParts, thread: ThreadId) -> CallId
 {
     match crate::reads::thread(parts, thread) {
         Some(entry) => call_at(parts, entry.task),
+        None => nowhere(),
+    }
+}
+
+/// The first thread of a call, which has the call's number; it names nothing where that is gone.
+pub fn first_thread(parts: &CoreParts, call: CallId) -> ThreadId
+    requires { IsSound parts.now }
+    ensures { thread_of (seen parts.now) result ≡ live_thread (call_of (seen parts.now) call) (seen parts.now).core }
+{
+    match crate::reads::call(parts, call) {
+        Some(entry) => named_thread(parts, entry.first, entry.number),
         None => nowhere(),
     }
 }

@@ -17,14 +17,14 @@ mod works;
 
 pub use calls::{GuestTask, TaskGroup};
 pub use ids::{
-    call_at, named_call, named_set, named_thread, named_work, none_is_zero, set_at, task_of,
-    thread_at, work_at,
+    call_at, first_thread, named_call, named_set, named_thread, named_work, none_is_zero, set_at,
+    task_of, thread_at, work_at,
 };
 pub use instances::InstanceRecord;
-pub use parts::{CoreParts, Kept};
+pub use parts::{CoreParts, Kept, ResultRoom};
 pub use reads::{call, held, held_thread, instance, set, thread, work};
 pub use sets::WaitSet;
 pub use single::Single;
 pub use task_links::Node;
 pub use threads::{Follower, GuestThread, Queued};
-pub use works::HostWork;
+pub use works::{HostWork, LiveWork};

@@ -8,11 +8,11 @@ use crate::instances::InstanceRecord;
 use crate::sets::WaitSet;
 use crate::single::Single;
 use crate::threads::{Follower, GuestThread, Queued};
-use crate::works::HostWork;
+use crate::works::{HostWork, LiveWork};
 use std::alloc::Global;
 use std::collections::BTreeMap;
 use task_handles::HandleCounter;
-use task_links::Links;
+use task_links::{Links, Node};
 use task_machine::Made;
 use task_table::{ResourceTable, TableId};
 use task_wait::ThreadKey;
@@ -29,6 +29,13 @@ pub struct Kept {
     /// How many host works are live, and how many of these move.
     pub live: u64,
     pub moving: u64,
+}
+
+/// Room for the result of a call by main: the result, if it was given and not taken, and whether the call is there.
+#[derive(Clone, Copy)]
+pub struct ResultRoom {
+    pub given: Option<u64>,
+    pub lives: bool,
 }
 
 /// The parts of a core.
@@ -48,8 +55,10 @@ pub struct CoreParts {
     /// The ready members of sets: calls, and host works.
     pub ready_calls: Links<u32>,
     pub ready_works: Links<u32>,
-    /// The live works.
-    pub polled: Links<u32>,
+    /// The live works, in order of number.
+    pub polled: Links<LiveWork>,
+    /// The node of the work that was polled last: where the search for the next one begins.
+    pub polled_last: Option<Node>,
     /// The entries at high and low, and of each instance there.
     pub marks: Links<Queued>,
     pub shelves: Links<Queued>,
@@ -63,8 +72,8 @@ pub struct CoreParts {
     pub switch: Option<Follower>,
     /// The thread that runs.
     pub current: Option<TableId<ThreadKey>>,
-    /// Of each call by main that was not taken yet its result, if it has returned.
-    pub results: BTreeMap<u64, Option<u64>>,
+    /// The rooms for results, by the numbers of calls by main: of each that is there or whose result was not taken.
+    pub results: BTreeMap<u64, ResultRoom>,
     pub kept: Kept,
     /// The groups up to this number were finished by the trap of the store.
     pub finished: u64,
@@ -119,6 +128,7 @@ impl CoreParts {
             ready_calls: Links::new(alloc),
             ready_works: Links::new(alloc),
             polled: Links::new(alloc),
+            polled_last: None,
             marks: Links::new(alloc),
             shelves: Links::new(alloc),
             behind: Links::new(alloc),

@@ -24,6 +24,13 @@ pub struct HostWork {
     pub blocked: usize,
 }
 
+/// A live work: its number, and its place. Live works are ordered by number.
+#[derive(Clone, Copy, PartialEq, Eq, PartialOrd, Ord)]
+pub struct LiveWork {
+    pub number: u64,
+    pub place: u32,
+}
+
 impl Kind<Single<HostWork>> for HostTaskKey {
     ghost use Rattle.task_records.specs.Kinds.{entry_of, item_of, no_other, wrapped};
 

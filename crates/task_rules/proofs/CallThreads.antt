@@ -1,7 +1,7 @@
 -- The threads that a call has: what of them is found by number, and who is the last one.
 use Rattle.task_rules.proofs.Machine.{[], arith, below_all, Bool, Core, false, get, has_thread, is_deletable, is_last_thread, is_lt, is_over, is_sorted, leaves_no_result, List, list_any, nat_cmp, nat_tests, None, not, Option, option_map, option_map_or, refl, Some, sym, T, task_of, Thread, true, unsigned_tied, ℕ, ◌&&◌, ◌==◌, ◌∙◌, ◌∷◌, ◌≡◌}
-use Rattle.std.specs.FinMap.Entries.{find as seek}
 use Rattle.task_rules.proofs.PlacingLemmas.{Shifted, shifted_calls, unplaced}
+use Rattle.std.specs.FinMap.Entries.{find as seek}
 
 pub any_found : {X : Type 0} (test : X → Bool) (q : ℕ) (es : List (ℕ × X)) → option_map_or test (seek nat_cmp q es) false ≡ true →
     list_any (λ e. test e.1) es ≡ true

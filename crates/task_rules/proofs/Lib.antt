@@ -5,6 +5,7 @@ pub mod PromotionLemmas
 pub mod ChainLemmas
 pub mod MuteLemmas
 pub mod SayLemmas
+pub mod Walks
 pub mod WalkSteps
 pub mod WalkTakes
 pub mod WalkOps
@@ -18,3 +19,4 @@ pub mod ReleaseLemmas
 pub mod StandLemmas
 pub mod StopLemmas
 pub mod MoveLemmas
+pub mod FreeLemmas

@@ -1,7 +1,7 @@
 -- What labels say of the ends of calls: the events that are taken.
 use Rattle.task_rules.proofs.Machine.{[], and_parts, ap, arith, Bool, call_settled, Choice, chosen, Core, end_answered, end_for, event_of, false, find, finished_call, get, get-change, get-remove, get-remove_same, Gift, gift, gift_after_own, given_for, group_settled, handed_by_event, handed_out, HandsOut, has_result, if◌then◌else◌, instance_of, is_handed_end, is_none, List, map, MemberGift, nat_cmp, nat_tests, NoGift, None, numbers, on_call, on_work, Option, option_and_then, option_map, option_map_or, option_or, OwnEvent, OwnGift, Records, refl, remove, remove_call, remove_group, Scene, set_event, set_result, Some, Status, status_code, subst, Subtask, subtask_at, SubtaskEnd, take_result, taken, TakesEvent, true, undelivered_end, unsigned_tied, unwrap_or, ℕ, ◌&&◌, ◌==◌, ◌∙◌, ◌∷◌, ◌≡◌}
-use Rattle.std.specs.FinMap.Entries.{find as seek}
 use Rattle.task_rules.proofs.StopLemmas.{find_passes}
+use Rattle.std.specs.FinMap.Entries.{find as seek}
 
 -- the handle that the choice shows names the member
 member_at : (o : Option OwnEvent) (n y : ℕ) (ch : Choice) (s : Core) (sub : Subtask) → gift_after_own o y (chosen n ch s) s ≡ Some (MemberGift sub) → subtask_at (instance_of n s) (unwrap_or ch.member 0) s ≡ Some sub
@@ -9,8 +9,6 @@ member_at o n y ch s sub h = grind arith
 
 handed_as : (f : Option Status) (o : Option Subtask) (sub to : Subtask) (e : Status) → o ≡ Some sub → (if is_handed_end (unwrap_or f Status.Starting) then option_map (end_for (unwrap_or f Status.Starting)) o else None) ≡ Some (end_for e to) → (sub ≡ to) × (undelivered_end f ≡ Some e)
 handed_as f o sub to e is out = (grind arith, grind arith)
-
--- ---- The event is gone
 
 abbrev pub HasNoEnd : Subtask → Core → Type 0
 HasNoEnd sub s = undelivered_end (event_of sub s) ≡ None
@@ -38,8 +36,6 @@ pub result_gone : (k : ℕ) (s : Core) → HasNoEnd (Subtask.Guest k) (set_resul
 unfolding set_result set_event on_call
 result_gone k s = grind (arith, nat_tests, get-change)
 
--- ---- What a call or a cancel finds
-
 -- what is so of the end that is said
 pub said_is : (P : Subtask → Status → Type 0) {f e : Status} {d sub : Subtask} → Some (end_for f d) ≡ Some (end_for e sub) → P d f → P sub e
 said_is P {f = f} {d = d} is p = subst (λ (y : SubtaskEnd). P y.subtask y.status) (ap (λ (o : Option SubtaskEnd). unwrap_or o (end_for f d)) is) p
@@ -53,13 +49,11 @@ module _ (sub to : Subtask) (f : Status) (o : Option Subtask) (is : o ≡ Some s
   pub cancel_hands_of : (g : Status) → option_and_then (λ e. option_map (end_for e) o) (end_answered (status_code g)) ≡ Some (end_for f to) → (sub ≡ to) × (g ≡ f)
   cancel_hands_of g out = grind arith
 
--- ---- What main finishes
-
 pub result_taken : (n : ℕ) (s : Core) → get (take_result n s).results n ≡ None
 unfolding take_result
 result_taken n s = get-remove_same s.results n
 
-found_none : (test : ℕ → Bool) (q v : ℕ) (es : List (ℕ × ℕ)) → seek nat_cmp q es ≡ Some v → test q ≡ true → find test (map (λ e. e.0) es) ≡ None → ⊥
+pub found_none : {X : Type 0} (test : ℕ → Bool) (q : ℕ) (v : X) (es : List (ℕ × X)) → seek nat_cmp q es ≡ Some v → test q ≡ true → find test (map (λ e. e.0) es) ≡ None → ⊥
 found_none test q v [] h on none = grind arith
 found_none test q v (e ∷ es) h on none = grind (arith, nat_tests, unsigned_tied q e.0, found_none test q v es)
 

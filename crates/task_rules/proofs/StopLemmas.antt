@@ -1,6 +1,6 @@
 -- What the moves that put threads, and a stop, do to places and entries.
 use Rattle.task_rules.proofs.Machine.{[], ap, arith, behind, behind_one, Bool, callers_of, Core, displaced, entries, find, foot_from, foot_of, get-change, get-insert, HasPlace, is_at, is_behind_of, is_fresh, is_there, is_under, List, Mark, nat_tests, newest, None, numbers, older, on_thread, one_if, Option, passed_on, Place, place_of, push_high_first, put_high, put_switch, refl, resumed_all, says, set_callers, set_place, set_switch, size, Some, stopped, suc, switch_entries, sym, times, true, under_of, Why, why_of, zero, ℕ, ◌∙◌, ◌∷◌, ◌≡◌, ◌≤◌}
-use Rattle.task_rules.proofs.StandLemmas.{Adds, Given, Left, Loose, Stand, adds_given, adds_stand, by_count, callers_say, eq_refl, left_loose, left_placed, moves_stand, once_or_not, put_high_adds, times-append, times-newest, zero_one, Watch, is_so, is_watched}
+use Rattle.task_rules.proofs.StandLemmas.{Adds, adds_given, adds_stand, by_count, callers_say, eq_refl, Given, is_so, is_watched, Left, left_loose, left_placed, Loose, moves_stand, once_or_not, put_high_adds, Stand, times-append, times-newest, Watch, zero_one}
 
 -- ---- What leaves every place and every entry of a thread alone
 

@@ -1,12 +1,6 @@
 -- The end of a task as a chain of words.
-use Rattle.task_rules.proofs.Machine.{after_word, ap, arith, Call, CallEnd, Caller, caller_of, cancelled, Core, EndCall, false, get, get-change, give_result, GiveResult, Goal, goal_of, is_over, is_some, is_told, nat_tests, on_call, on_thread, Option, option_map_or, published, Records, refl, result_given, returned, same_map, SaysEnd, Scene, set_end, set_event, set_register, set_result, SetRegister, SetResult, Some, Status, status_of_end, subst, Subtask, sym, task_of, told, true, ℕ, ◌∙◌, ◌≡◌}
-use Rattle.task_rules.proofs.WalkMoves.{shifted, told_at, told_shifts, published_shifts}
-use Rattle.task_rules.proofs.CallThreads.{LastEnds}
-use Rattle.task_rules.proofs.PlacingLemmas.{shifted_calls, shifted_task, shifts_shifted}
-use Rattle.task_rules.proofs.ChainLemmas.{Keep, chain_if}
-use Rattle.task_rules.proofs.WalkMoves.{ToldTo, word}
-
--- ---- What an end and a result leave of a call
+use Rattle.task_rules.proofs.Machine.{after_word, ap, arith, Bool, Call, CallEnd, Caller, caller_of, cancelled, Core, EndCall, EndTells, false, get, get-change, give_result, GiveResult, Goal, goal_of, if◌then◌else◌, is_over, is_some, is_told, nat_tests, on_call, on_thread, Option, option_map_or, published, Records, refl, result_given, returned, same_map, SaysEnd, Scene, set_end, set_event, set_register, set_result, SetRegister, SetResult, Some, Status, status_of_end, subst, Subtask, sym, task_of, TellsNever, TellsNow, told, true, Walk, ℕ, ◌∙◌, ◌≡◌}
+use Rattle.task_rules.proofs.{CallThreads.LastEnds, ChainLemmas.Keep, ChainLemmas.chain_if, FreeLemmas.published_frees, PlacingLemmas.shifted_calls, PlacingLemmas.shifted_task, PlacingLemmas.shifts_shifted, WalkMoves.ToldTo, WalkMoves.published_shifts, WalkMoves.shifted, WalkMoves.told_at, WalkMoves.told_shifts, WalkMoves.word}
 
 given_told : (g : Goal) (f : Caller) (k v : ℕ) (e : CallEnd) (s : Core) → is_told k (result_given g f k v (set_end k e s)) ≡ is_told k s
 unfolding set_end on_call give_result set_register on_thread set_result
@@ -17,8 +11,6 @@ given_to : (g : Goal) (f : Caller) (k v : ℕ) (e : CallEnd) (w : Option ℕ) (s
 unfolding set_end on_call give_result set_register on_thread set_result
 given_to g f k v e w s to told y is n at =
     let chosen = to (sym (given_told g f k v e s) ∙ told) y (grind (arith, nat_tests, get-change, is)) n at in grind (arith, nat_tests, get-change, chosen)
-
--- ---- The word that ends a call
 
 abbrev pub call_ends : ℕ → CallEnd → Core → Core
 call_ends k e s = after_word (EndCall k e) s
@@ -41,8 +33,6 @@ told_given Goal.Main f k v e s = refl
 told_given (Goal.Register r) (Caller.Thread n) k v e s = refl
 told_given Goal.Answer f k v e s = ap (λ (m : Records Call). record s { calls = m }) (same_map _ _ (λ q. grind (arith, nat_tests, get-change)))
 told_given _ f k v e s = refl
-
--- ---- A call whose end is written
 
 given_over : (g : Goal) (f : Caller) (k v : ℕ) (e : CallEnd) (n : ℕ) (y : Status) (s : Core) →
     (task_of n (told_at k y (result_given g f k v (set_end k e s))) ≡ task_of n s) × (is_over k (told_at k y (result_given g f k v (set_end k e s))) ≡ true)
@@ -81,6 +71,35 @@ module _ {a : Scene} {b : Core} where
       (λ told. shifted (published_shifts (Subtask.Guest k) (status_of_end e) w t refl (given_to g f k v e w s to told))
       (subst (λ (u : Core). Keep a b u) (sym (told_given g f k v (status_of_end e) (set_end k e s) ∙ ap (result_given g f k v) (ends_told k e s (sym is ∙ told) ran))) c))
       (λ untold. subst (λ (u : Core). Keep a b u) (sym (ap (result_given g f k v) (ends_untold k e s (sym is ∙ untold)))) c)
+
+  -- where the end is told, who is blocked on the call goes on
+  ends_tells : {r : Core} (g : Goal) (f : Caller) (k v : ℕ) (e : CallEnd) (w : Option ℕ) (s : Core) → (e ≡ CallEnd.StartCancelled → ⊥) →
+      ToldTo k w s → b.threads ≡ a.base.threads → is_told k s ≡ is_told k a.base → Keep a b (result_given g f k v (call_ends k e s)) →
+      Walk a (told k (status_of_end e) w (result_given g f k v (set_end k e s))) r → EndTells a r (Subtask.Guest k) (status_of_end e)
+  unfolding told
+  ends_tells {r = r} g f k v e w s ran to home base c d = by (is_told k t) refl d
+    where
+      t : Core
+      t = result_given g f k v (set_end k e s)
+
+      is : is_told k t ≡ is_told k s
+      is = given_told g f k v e s
+
+      by : (q : Bool) → is_told k t ≡ q → Walk a (if q then published (Subtask.Guest k) (status_of_end e) w t else t) r → EndTells a r (Subtask.Guest k) (status_of_end e)
+      by true told d = TellsNow (Subtask.Guest k) (status_of_end e) (published_frees (Subtask.Guest k) (status_of_end e) w t home refl (given_to g f k v e w s to told)
+          (subst (λ (u : Core). Keep a b u) (sym (told_given g f k v (status_of_end e) (set_end k e s) ∙ ap (result_given g f k v) (ends_told k e s (sym is ∙ told) ran))) c) d)
+      by false untold d = TellsNever k (status_of_end e) (sym base ∙ (sym is ∙ untold))
+
+  pub returned_tells : {r : Core} (k v : ℕ) (w : Option ℕ) (s : Core) → SaysEnd a k Status.Returned → ToldTo k w s → b.threads ≡ a.base.threads →
+      is_told k s ≡ is_told k a.base → Keep a b (call_ends k CallEnd.Returned s) → Walk a (returned k v w s) r → EndTells a r (Subtask.Guest k) Status.Returned
+  unfolding returned on_call
+  returned_tells k v w s says to home base c d =
+      ends_tells (goal_of k s) (caller_of k s) k v CallEnd.Returned w s (λ e. absurd (cc)) to home base (result_given_walks (goal_of k s) (caller_of k s) k v (grind (arith, nat_tests, get-change)) says c) d
+
+  pub cancelled_tells : {r : Core} (k : ℕ) (w : Option ℕ) (s : Core) → ToldTo k w s → b.threads ≡ a.base.threads → is_told k s ≡ is_told k a.base →
+      Keep a b (call_ends k CallEnd.ReturnCancelled s) → Walk a (cancelled k w s) r → EndTells a r (Subtask.Guest k) Status.ReturnCancelled
+  unfolding cancelled
+  cancelled_tells k w s to home base c d = ends_tells Goal.Direct Caller.Main k 0 CallEnd.ReturnCancelled w s (λ e. absurd (cc)) to home base c d
 
   pub returned_rest : (k v : ℕ) (w : Option ℕ) (s : Core) → SaysEnd a k Status.Returned → ToldTo k w s → Keep a b (call_ends k CallEnd.Returned s) → Keep a b (returned k v w s)
   unfolding returned on_call

@@ -1,15 +1,7 @@
 -- The rows of the ops on sets, subtasks and threads as chains of words.
-use Rattle.task_rules.proofs.Machine.{[], aborted_phase, AbortsOwn, add_work, advanced, after_word, AlreadyEnded, and_parts, answered, Answers, ap, arith, assigned, Async, at_handle_limit, AtOnce, blocked_code, Bool, ByHandle, ByOp, BySetHandle, ByThread, ByWait, call_answered, call_begins, call_host_polled, call_instance, call_of_op, call_pending, call_queues, call_resumes, call_returned, call_row, call_settled, call_status, call_sync_begins, call_sync_host_polled, call_sync_host_row, call_sync_host_stops, call_sync_row, call_sync_status, call_sync_stops, CallbackWaits, CallbackYields, Callee, callee_of_op, CallEnd, Caller, caller_of, CallLabel, CallOp, calls_host, cancel_aborts_host, cancel_asks, cancel_by_end, cancel_case, cancel_ended_row, cancel_guest, cancel_label, cancel_promotes_yield, cancel_resumed, cancel_row, cancel_stops, cancel_subtask, cancel_takes_end, cancel_target, cancel_wakes_callback, cancel_withdraws, CancelCase, cancelled_of_op, Cancelling, Cancels, checked, Choice, chosen, CloseSet, Core, count_work, CountWork, Delivery, dropped, end_for, ended, EndsSubtask, EndWords, enter_runs, event_of, export_kind, Failing, false, finds_nothing, first_poll, FirstPoll, fits, free_handle, get, get-change, get-insert_same, get-remove, Gift, gift, give_handle, Goal, Goes, group_settled, handed_by, handed_by_cancel, handed_by_event, handed_on, handed_out, HandsAtOnce, HandsOut, has_ended, has_member, has_waiters, HasSubtask, host_answered, host_at, host_end, host_pending, host_ready, HostDef, how_far_of, HowFar, if◌then◌else◌, inl, inr, instance_of, is_async_lifted, is_async_work, is_callback_yield, is_cancel, is_direct, is_for_main, is_joined, is_ready_to_resume, is_script, is_some, is_sync_call, is_sync_cancel, is_sync_host_call, is_thread_op, is_wait, is_waiting_on, is_watched, is_yielded, IsNamed, IsNew, IsReadyAtOnce, Join, join_done, join_label, join_of, join_to, joined, joins, Label, Later, Leaves, List, Made, Main, makes_set, MakeThread, Mark, may, may_hand_on, may_wake_new, MayCancel, MayJoin, MayMakeCall, MemberGift, Mode, Move, moved_to, NameCall, NameThread, NameWork, nat_tests, new_handle, new_thread, new_thread_handle, new_work, next_thread, next_work, NoGift, None, not, NoWord, on_call, on_instance, on_thread, on_work, Op, op_in, op_of, OpenSet, Option, option_and_then, option_map, option_map_or, OtherwiseRuns, OwnEvent, OwnGift, packed, passes_check, pauses, phase_of, Place, place_of, Progress, Promote, promoted, promoted_unless, push_high, Put, put_back, put_switch, QueueWork, received, received_woken, Records, refl, registers_for, registers_of, remove_group, remove_thread, remove_work, result_of, Resumes, returned_of_op, saved_callee_of, says, Scene, Script, set_at, set_cancelled, set_do_not_suspend, set_dropped, set_end, set_event, set_given, set_how_far, set_join, set_made, set_own_event, set_phase, set_position, set_register, set_result, set_row, set_saved_callee, set_subtask_handle, set_switch, SetCancelled, SetExited, SetLabel, SetOp, SetOwnEvent, SetPhase, SetRegister, SetResult, SetSavedCallee, Setting, SetUninteresting, Shifts, Slot, slot_at, Some, StartNotRun, Status, status_code, status_found, Stay, Stops, subst, Subtask, subtask_at, subtask_ended, subtask_handle, subtask_instance, subtask_row, subtask_under_way, suc, Suspends, suspends, sym, Sync, T, TakesEvent, task_of, Then, Thread, thread_at, thread_group, thread_handle_of, ThreadLabel, ThreadOp, Trap, trap_if, Trip, true, Turn, undelivered_end, UnnameCall, UnnameWork, unwrap_or, value_of, values_in, wait_begins, wait_goes_on, wait_label, wait_row, wait_stops, wait_stops_checked, wakes_joined, Walk, was_cancelled, was_started, Why, with_handle, Withdraw, withdrawn, Work, work_answered, work_caller_of, work_deleted, work_queued, work_value, WorkCaller, Writes, WritesAtOnce, WritesCall, WritesNever, WritesToo, written_by, written_by_cancel, Yields, yields, zero, ℕ, ◌+◌, ◌==◌, ◌∙◌, ◌∷◌, ◌≡◌, ◌⊎◌}
+use Rattle.task_rules.proofs.Walks.{[], aborted_phase, AbortsOwn, add_work, advanced, after_word, AlreadyEnded, and_parts, answered, Answers, ap, arith, assigned, Async, at_handle_limit, AtOnce, blocked_code, Bool, by_number, ByHandle, ByOp, BySetHandle, ByThread, ByWait, Call, call_answered, call_begins, call_done_walks, call_ends, call_host_polled, call_instance, call_of_op, call_pending, call_queues, call_resumes, call_returned, call_row, call_settled, call_settles, call_status, call_sync_begins, call_sync_host_polled, call_sync_host_row, call_sync_host_stops, call_sync_row, call_sync_status, call_sync_stops, CallbackWaits, CallbackYields, Callee, callee_of_op, CallEnd, Caller, caller_of, CallLabel, CallOp, calls_host, cancel_aborts_host, cancel_asks, cancel_by_end, cancel_case, cancel_ended_row, cancel_guest, cancel_hands_of, cancel_label, cancel_promotes_yield, cancel_resumed, cancel_row, cancel_stops, cancel_subtask, cancel_takes_end, cancel_target, cancel_wakes_callback, cancel_withdraws, cancel_writes_of, CancelCase, cancelled_of_op, Cancelling, Cancels, checked, checked_shifts, Choice, chosen, chosen_of, CloseSet, Core, count_work, CountWork, Delivery, dropped, end_for, ended, EndsSubtask, EndTells, EndWords, enter_runs, event_gone, event_of, export_kind, Failing, false, finds_nothing, first_poll, FirstPoll, fits, free_handle, get, get-change, get-insert_same, get-remove, Gift, gift, give_handle, given_out, Goal, Goes, Going, group_settled, handed_by, handed_by_cancel, handed_by_event, handed_on, handed_on_shifts, handed_out, hands_by, HandsAtOnce, HandsOut, has_ended, has_member, has_waiters, HasNoEnd, HasSubtask, host_answered, host_at, host_end, host_pending, host_ready, host_taken, HostDef, how_far_of, HowFar, if◌then◌else◌, inl, inr, instance_of, is_async_lifted, is_async_work, is_callback_yield, is_cancel, is_direct, is_for_main, is_joined, is_ready_to_resume, is_script, is_some, is_sync_call, is_sync_cancel, is_sync_host_call, is_thread_op, is_wait, is_waiting_on, is_watched, is_yielded, IsNamed, IsNew, IsReadyAtOnce, Join, join, join_done, join_label, join_of, join_to, joined, joins, Keep, keep_stay, keep_still, Label, lands_at, Later, Leaves, List, Made, Main, makes_set, MakeThread, Mark, may, may_hand_on, may_wake_new, MayCancel, MayJoin, MayMakeCall, MayTake, MemberGift, Mode, Move, moved_to, mute_words, NameCall, NameThread, NameWork, nat_tests, new_handle, new_thread, new_thread_handle, new_work, next_thread, next_work, NoGift, None, none_said, not, NoWord, on_call, on_instance, on_thread, on_work, Op, op_in, op_of, OpenSet, Option, option_and_then, option_map, option_map_or, OtherwiseRuns, OwnEvent, OwnGift, packed, passes_check, pauses, phase_of, Place, place_of, placed, placing_shifted, Progress, Promote, promoted, promoted_unless, promoted_walks, push_high, Put, put_back, put_switch, QueueWork, received, received_woken, Records, refl, registers_for, registers_of, remove_group, remove_thread, remove_work, result_gone, result_of, Resumes, returned_of_op, said_is, saved_callee_of, says, says_by, Scene, Script, set_at, set_cancelled, set_do_not_suspend, set_dropped, set_end, set_event, set_given, set_how_far, set_join, set_made, set_own_event, set_phase, set_position, set_register, set_result, set_row, set_saved_callee, set_subtask_handle, set_switch, SetCancelled, SetExited, SetLabel, SetOp, SetOwnEvent, SetPhase, SetRegister, SetResult, SetSavedCallee, Setting, settled, settled_gone, SetUninteresting, Shifted, shifted, shifted_after, shifted_calls, shifted_far, shifted_made, shifted_task, Shifts, shifts_shifted, Slot, slot_at, Some, StartNotRun, Status, status_code, status_found, Stay, stay_walk, Stops, subst, Subtask, subtask_at, subtask_ended, subtask_handle, subtask_instance, subtask_row, subtask_under_way, suc, Suspends, suspends, sym, Sync, T, TakesEvent, task_of, TellsLater, TellsNone, Then, Thread, thread_at, thread_group, thread_handle_of, ThreadLabel, ThreadOp, Trap, trap_if, Trip, true, Turn, undelivered_end, UnnameCall, UnnameWork, unwrap_or, value_of, values_in, wait_begins, wait_goes_on, wait_label, wait_row, wait_stops, wait_stops_checked, wake_shifts, wakes_joined, Walk, was_cancelled, was_started, Why, with_handle, Withdraw, withdrawn, word, Work, work_answered, work_caller_of, work_deleted, work_queued, work_value, WorkCaller, Writes, WritesAtOnce, WritesCall, WritesNever, WritesToo, written_by, written_by_cancel, Yields, yields, zero, ℕ, ◌+◌, ◌==◌, ◌∙◌, ◌∷◌, ◌≡◌, ◌⊎◌}
+use Rattle.task_rules.proofs.{WalkParts.AtOps, WalkParts.answered_first, WalkParts.answered_fresh, WalkParts.answered_settled, WalkParts.assigned_fresh, WalkParts.call_answers_walks, WalkParts.call_queues_walks, WalkParts.call_resumes_walks, WalkParts.call_stops_walks, WalkParts.cancel_goes_behind_walks, WalkParts.cancel_stops_walks, WalkParts.checked_walks, WalkParts.enter_gives, WalkParts.enter_runs_walks, WalkParts.event_taken_walks, WalkParts.gift_is, WalkParts.join_walks, WalkParts.joined_ended, WalkParts.parted_answers_walks, WalkParts.parted_takes_walks, WalkParts.put_back_walks, WalkParts.received_walks, WalkParts.rejoined, WalkParts.stopped_walks, WalkParts.wait_stops_walks, WalkParts.withdrawn_walks, WalkParts.withdraws, WalkParts.work_deleted_walks, WalkTask.Leads, WalkTask.Stands, WalkTask.advanced_walks, WalkTask.answered_walks, WalkTask.assigned_walks, WalkTask.goes_on, WalkTask.goes_on_told, WalkTask.goes_over, WalkTask.is_plain, WalkTask.is_still, WalkTask.may_leads, WalkTask.or_never_leads, WalkTask.or_trap_leads, WalkTask.over_now, WalkTask.running_scene, WalkTask.stops_here, WalkTask.trap_if_leads, WalkTask.unnot}
 use Rattle.task_rules.specs.Threads.{by_how_far, Halt, halt_row, halted, halted_checked, halted_promoting, halted_resuming, halting, halts, has_yielded, resume_why, resumed_later, Suspension, then_promote, then_promote_row, then_resume_row, thread_made, thread_new_row, thread_row, Yielding}
-use Rattle.task_rules.proofs.ChainLemmas.{Going, join, stay_walk, Keep, keep_stay}
-use Rattle.task_rules.proofs.WalkMoves.{keep_still, MayTake, checked_shifts, chosen_of, handed_on_shifts, shifted, wake_shifts, word, lands_at, promoted_walks, call_done_walks, settled, call_settles}
-use Rattle.task_rules.proofs.PlacingLemmas.{Shifted, placed, placing_shifted, shifted_calls, shifted_far, shifted_made, shifted_task, shifts_shifted}
-use Rattle.task_rules.proofs.WalkParts.{parted_answers_walks, parted_takes_walks, rejoined, AtOps, call_queues_walks, call_resumes_walks, call_stops_walks, cancel_goes_behind_walks, cancel_stops_walks, checked_walks, enter_gives, enter_runs_walks, gift_is, join_walks, put_back_walks, received_walks, stopped_walks, wait_stops_walks, withdrawn_walks, work_deleted_walks, withdraws, answered_first, answered_settled, call_answers_walks, answered_fresh, assigned_fresh, event_taken_walks}
-use Rattle.task_rules.proofs.MuteLemmas.{mute_words, none_said, says_by, hands_by}
-use Rattle.task_rules.proofs.SayLemmas.{cancel_hands_of, cancel_writes_of, HasNoEnd, said_is, given_out, settled_gone, event_gone, result_gone}
-use Rattle.task_rules.proofs.StandLemmas.{by_number}
-use Rattle.task_rules.proofs.WalkTask.{Stands, Leads, advanced_walks, answered_walks, assigned_walks, goes_on, goes_on_told, goes_over, may_leads, or_never_leads, or_trap_leads, running_scene, stops_here, trap_if_leads, unnot, is_still, over_now, is_plain}
-use Rattle.task_rules.proofs.WalkEnds.{call_ends}
 
 -- ---- What the rows read
 
@@ -31,6 +23,18 @@ unfolding answered assigned advanced moved_to set_how_far set_position on_thread
 resumed_card n r v k s = grind (arith, nat_tests, get-change)
 
 -- the op is as far as it was while its strand stops
+-- it has no event any more
+resumed_open : (n k : ℕ) (s u : Core) → Shifted (checked (instance_of n s) (call_resumes n k s)) u → undelivered_end (event_of (Subtask.Guest k) u) ≡ None
+unfolding call_resumes
+resumed_open n k s u d =
+    let same = shifted_calls (shifted_after (shifts_shifted (checked_shifts (instance_of n s) (call_resumes n k s))) d) in
+    ap (λ (m : Records Call). undelivered_end (option_and_then (λ (c : Call). c.event) (get m k))) same ∙ event_gone (Subtask.Guest k) (put_back (saved_callee_of n s) (call_instance k s) s) (call_resumes n k s) refl refl
+
+-- nor has a work that is new
+queued_open : (f : WorkCaller) (host : HostDef) (group : Option ℕ) (t : Core) → undelivered_end (event_of (Subtask.Host (next_work t)) (work_queued f host group t)) ≡ None
+unfolding work_queued push_high add_work count_work
+queued_open f host group t = ap (λ (o : Option Work). undelivered_end (option_and_then (λ (w : Work). w.event) o)) (get-insert_same t.works (t.made.works + 1) (new_work f host group))
+
 resumed_far : (n k : ℕ) (s u : Core) → Shifted (checked (instance_of n s) (call_resumes n k s)) u → how_far_of n u ≡ how_far_of n s
 unfolding call_resumes set_event on_call set_do_not_suspend on_instance
 resumed_far n k s u d =
@@ -65,9 +69,9 @@ module _ (x : Setting) (main : Main) (s : Core) (n : ℕ) (l : Label) (next : Tu
   told k t plain says c = goes_on_told x main s n l next k t plain (λ is to. says is) c
 
   -- a host that is ready at once is handed out, too
-  at_once_says : (k : Label) (t : Core) → written_by x.component s k t ≡ host_end (next_work s) Status.Returned → handed_by x.component main s k t ≡ host_end (next_work s) Status.Returned → IsReadyAtOnce a t (next_work s) → l ≡ k → EndWords a t
-  at_once_says k t w h ready is =
-      says_by a t is (λ sub e says. said_is (λ d g. Writes a t d) (sym w ∙ says) (WritesAtOnce (next_work s) ready))
+  at_once_says : (k : Label) (t : Core) → written_by x.component s k t ≡ host_end (next_work s) Status.Returned → handed_by x.component main s k t ≡ host_end (next_work s) Status.Returned → host_taken k ≡ None → IsReadyAtOnce a t (next_work s) → l ≡ k → EndWords a t
+  at_once_says k t w h other ready is =
+      says_by a t is other (λ sub e says. said_is (λ d g. Writes a t d × EndTells a t d g) (sym w ∙ says) (WritesAtOnce (next_work s) ready, TellsLater (next_work s) Status.Returned))
       (λ sub e out. said_is (HandsOut a t) (sym h ∙ out) (HandsAtOnce (next_work s) ready (ap (λ (y : Label). written_by x.component s y t) is ∙ w)))
 
   -- what an op on a set hands out is the member's event
@@ -88,7 +92,7 @@ module _ (x : Setting) (main : Main) (s : Core) (n : ℕ) (l : Label) (next : Tu
       stop _ (wait_stops_checked n y s) refl (λ leave. wait_stops_walks n refl at_ops y can leave (BySetHandle h named) (checked_walks n refl (instance_of n s) NoWord)))
   wait_begins_leads r h ch y false can named =
       or_never_leads a s (gift false (task_of n s) y (chosen n ch s) s) _ (λ g e.
-      told (Label.Set (SetLabel.Wait (handed_out ch s g) n)) (received n r g (handed_out ch s g) s) refl (λ is. hands_by a _ is refl (gift_out r y ch g s e)) (λ is. received_walks n refl on r g (handed_out ch s g) (takes y ch g e) NoWord))
+      told (Label.Set (SetLabel.Wait (handed_out ch s g) n)) (received n r g (handed_out ch s g) s) refl (λ is. hands_by a _ is refl refl (gift_out r y ch g s e)) (λ is. received_walks n refl on r g (handed_out ch s g) (takes y ch g e) NoWord))
 
   received_leads : (y r : ℕ) (ch : Choice) (g : Gift) → gift false (task_of n s) y (chosen n ch s) s ≡ Some g → Leads a s (may (may_hand_on y g ch.woken s) (Goes (wait_label n (handed_out ch s g) ch.woken) (received_woken n y r ch.woken g (handed_out ch s g) s) n))
   unfolding received_woken
@@ -102,7 +106,7 @@ module _ (x : Setting) (main : Main) (s : Core) (n : ℕ) (l : Label) (next : Tu
       -- only a wake that is handed on is shown
       says : (w : Option ℕ) → l ≡ wait_label n (handed_out ch s g) w → EndWords a (received_woken n y r w g (handed_out ch s g) s)
       says (Some z) is = mute_words a _ is refl
-      says None is = hands_by a _ is refl (gift_out r y ch g (handed_on y g None s) e)
+      says None is = hands_by a _ is refl refl (gift_out r y ch g (handed_on y g None s) e)
 
   wait_goes_on_leads : (y r : ℕ) (ch : Choice) (g : Gift) → is_wait (op_in a n) ≡ true → how_far_of n s ≡ HowFar.Waits y → gift false (task_of n s) y (chosen n ch s) s ≡ Some g → Leads a s (wait_goes_on n y r ch s g)
   wait_goes_on_leads y r ch NoGift can far e = stop _ (wait_stops n y s) refl (λ leave. wait_stops_walks n refl at_ops y can leave (ByWait far) NoWord)
@@ -144,7 +148,7 @@ module _ (x : Setting) (main : Main) (s : Core) (n : ℕ) (l : Label) (next : Tu
   set_row_leads ch (SetOp.Poll r v) is =
       or_trap_leads a s (set_at (instance_of n s) (value_of n s v) s) Trap.BadHandle _ (λ y named.
       or_never_leads a s (gift false (task_of n s) y (chosen n ch s) s) _ (λ g e.
-      told (Label.Set (SetLabel.Poll (handed_out ch s g) n)) (received n r g (handed_out ch s g) s) refl (λ is. hands_by a _ is refl (gift_out r y ch g s e)) (λ is. received_walks n refl on r g (handed_out ch s g) (takes y ch g e) NoWord)))
+      told (Label.Set (SetLabel.Poll (handed_out ch s g) n)) (received n r g (handed_out ch s g) s) refl (λ is. hands_by a _ is refl refl (gift_out r y ch g s e)) (λ is. received_walks n refl on r g (handed_out ch s g) (takes y ch g e) NoWord)))
   set_row_leads ch (SetOp.Join v y) is = or_trap_leads a s (subtask_at (instance_of n s) (value_of n s v) s) Trap.BadHandle _ (λ sub named. join_to_leads (value_of n s v) (value_of n s y) ch.woken sub named)
 
   -- ---- Calls
@@ -190,7 +194,7 @@ module _ (x : Setting) (main : Main) (s : Core) (n : ℕ) (l : Label) (next : Tu
   unfolding call_returned answered assigned advanced moved_to set_how_far set_position on_thread set_register set_saved_callee call_resumes
   call_status_leads r k Status.Returned far found =
       told (Label.Call (CallLabel.Call 2 n)) (call_returned n r k s) refl
-      (λ is. hands_by a _ is refl (returned_out k (call_returned n r k s) far found (settled_gone k (call_resumes n k s) (call_returned n r k s) refl (event_gone (Subtask.Guest k) (put_back (saved_callee_of n s) (call_instance k s) s) (call_resumes n k s) refl refl))))
+      (λ is. hands_by a _ is refl refl (returned_out k (call_returned n r k s) far found (settled_gone k (call_resumes n k s) (call_returned n r k s) refl (event_gone (Subtask.Guest k) (put_back (saved_callee_of n s) (call_instance k s) s) (call_resumes n k s) refl refl))))
       (λ is to. done_walks r 2 k (call_resumes n k s) far (call_answers_walks n refl on r 2 k far NoWord to))
   call_status_leads r k e far found = call_pending_leads r k e (λ h. absurd (cc)) (λ h. absurd (grind arith)) far
 
@@ -202,16 +206,16 @@ module _ (x : Setting) (main : Main) (s : Core) (n : ℕ) (l : Label) (next : Tu
   unfolding call_answered set_result on_call answered assigned advanced moved_to set_how_far set_position on_thread set_register set_saved_callee call_resumes call_sync_stops
   call_sync_status_leads r k Status.Returned can far found =
       told (Label.Call (CallLabel.CallSync n (result_of k s))) (call_answered n r k s) refl
-      (λ is. hands_by a _ is refl (returned_out k (call_answered n r k s) far found (settled_gone k (set_result k None (call_resumes n k s)) (call_answered n r k s) refl (result_gone k (put_back (saved_callee_of n s) (call_instance k s) s)))))
+      (λ is. hands_by a _ is refl refl (returned_out k (call_answered n r k s) far found (settled_gone k (set_result k None (call_resumes n k s)) (call_answered n r k s) refl (result_gone k (put_back (saved_callee_of n s) (call_instance k s) s)))))
       (λ is to. done_walks r (result_of k s) k (set_result k None (call_resumes n k s)) far (Then _ (SetResult k None) (call_answers_walks n refl on r (result_of k s) k far NoWord to) tt))
   call_sync_status_leads r k e can far found =
       trap_if_leads a s (not (passes_check (instance_of n s) (call_resumes n k s))) Trap.CannotBlockSyncTask _ (λ f.
-      stop _ (call_sync_stops n k s) refl (λ leave. call_stops_walks n refl at_ops (Subtask.Guest k) (checked (instance_of n s) (call_resumes n k s)) can leave (λ u d. inl (ByOp (ap (λ h. subtask_under_way h) far))) (λ u d at. (refl, inl (far, resumed_far n k s u d ∙ far))) (checked_walks n refl (instance_of n s) (call_resumes_walks n refl k far (λ h. absurd (grind arith)) NoWord))))
+      stop _ (call_sync_stops n k s) refl (λ leave. call_stops_walks n refl at_ops (Subtask.Guest k) (checked (instance_of n s) (call_resumes n k s)) can leave (λ u d. inl (ByOp (ap (λ h. subtask_under_way h) far))) (λ u d at. (refl, inl (far, resumed_far n k s u d ∙ far))) (λ u d. resumed_open n k s u d) (checked_walks n refl (instance_of n s) (call_resumes_walks n refl k far (λ h. absurd (grind arith)) NoWord))))
 
   call_sync_row_leads : (r : ℕ) (e : Callee) (words : List ℕ) (f : HowFar) → is_sync_call (op_in a n) ≡ true → callee_of_op (op_in a n) ≡ Some e → how_far_of n s ≡ f → Leads a s (call_sync_row x.component n r e words s f)
   call_sync_row_leads r e words (HowFar.Answered v) sync callee far =
       told (Label.Call (CallLabel.CallSync n v)) (assigned n r v s) refl
-      (λ is. hands_by a _ is refl (λ sub f out. none_said (ap (λ (h : HowFar). option_map (end_for Status.Returned) (call_of_op h)) far) out))
+      (λ is. hands_by a _ is refl refl (λ sub f out. none_said (ap (λ (h : HowFar). option_map (end_for Status.Returned) (call_of_op h)) far) out))
       (λ is. assigned_walks n refl on r v NoWord)
   call_sync_row_leads r e words (HowFar.Calls (Subtask.Guest k)) sync callee far = call_sync_status_leads r k (status_found k s) (calls callee) far refl
   call_sync_row_leads r e words _ sync callee far = by_lift (is_async_lifted (export_kind x.component e)) refl
@@ -231,7 +235,7 @@ module _ (x : Setting) (main : Main) (s : Core) (n : ℕ) (l : Label) (next : Tu
   unfolding host_ready host_pending assigned advanced moved_to set_how_far set_position on_thread set_register count_work work_queued push_high add_work
   call_host_polled_leads r q (AtOnce v) calls =
       told (Label.Call (CallLabel.CallPolls 2 n (next_work s))) (host_ready n r q v s) refl
-      (λ is. at_once_says _ (host_ready n r q v s) refl refl (refl, (refl, refl)) is)
+      (λ is. at_once_says _ (host_ready n r q v s) refl refl refl (refl, (refl, refl)) is)
       (λ is. assigned_walks n refl on r 2 (word (SetRegister n q v) tt (word CountWork refl NoWord)))
   call_host_polled_leads r q Failing calls = tt
   call_host_polled_leads r q (Later host) calls =
@@ -251,14 +255,14 @@ module _ (x : Setting) (main : Main) (s : Core) (n : ℕ) (l : Label) (next : Tu
       let queued = work_queued (WorkCaller.Sync n) host group t in
       let new : (u : Core) → Shifted queued u → IsNew a (Subtask.Host (next_work s)) u = λ u d. (refl, ap (λ (m : Made). m.works) (shifted_made d) ∙ ap (λ (k : ℕ). k + 1) made) in
       let caller : (u : Core) → Shifted queued u → work_caller_of (next_work s) u ≡ WorkCaller.Sync n = λ u d. ap (λ (c : Core). work_caller_of (next_work s) c) (sym d.only) ∙ (ap (λ (k : ℕ). work_caller_of (k + 1) queued) (sym made) ∙ queued_caller (WorkCaller.Sync n) host group t) in
-      call_stops_walks n refl at_ops (Subtask.Host (next_work s)) queued can leave (λ u d. inr (new u d)) (λ u d at. (refl, (new u d, (caller u d, at))))
+      call_stops_walks n refl at_ops (Subtask.Host (next_work s)) queued can leave (λ u d. inr (new u d)) (λ u d at. (refl, (new u d, (caller u d, at)))) (λ u d. ap (λ (c : Core). undelivered_end (event_of (Subtask.Host (next_work s)) c)) (sym d.only) ∙ (ap (λ (k : ℕ). undelivered_end (event_of (Subtask.Host (k + 1)) queued)) (sym made) ∙ queued_open (WorkCaller.Sync n) host group t))
       (word (QueueWork (WorkCaller.Sync n) host group) (shifted_made h, (refl, refl)) (checked_walks n refl (instance_of n s) NoWord))
 
   call_sync_host_polled_leads : (r : ℕ) (f : FirstPoll) → is_sync_host_call (op_in a n) ≡ true → Leads a s (call_sync_host_polled n r s f)
   unfolding host_answered assigned advanced moved_to set_how_far set_position on_thread set_register count_work
   call_sync_host_polled_leads r (AtOnce v) can =
       told (Label.CallSyncPolls n v (next_work s)) (host_answered n r v s) refl
-      (λ is. at_once_says _ (host_answered n r v s) refl refl (refl, (refl, refl)) is)
+      (λ is. at_once_says _ (host_answered n r v s) refl refl refl (refl, (refl, refl)) is)
       (λ is. assigned_walks n refl on r v (word CountWork refl NoWord))
   call_sync_host_polled_leads r Failing can = tt
   call_sync_host_polled_leads r (Later host) can =
@@ -270,8 +274,8 @@ module _ (x : Setting) (main : Main) (s : Core) (n : ℕ) (l : Label) (next : Tu
   unfolding work_answered
   call_sync_host_row_leads r h (HowFar.Calls (Subtask.Host i)) can far =
       told (Label.Call (CallLabel.CallSync n (work_value i s))) (work_answered n r i s) refl
-      (λ is. hands_by a _ is refl (λ sub f out. said_is (HandsOut a (work_answered n r i s)) (sym (ap (λ (y : HowFar). option_map (end_for Status.Returned) (call_of_op y)) far) ∙ out) (Answers n i refl far (work_gone n r i s))))
-      (λ is to. subst (λ (t : Core). Stay a s t) (answered_first n r (work_value i s) i s) (join (assigned_walks n refl on r (work_value i s) NoWord to) (keep_stay (work_deleted_walks n refl i (n, (refl, inl (far, (assigned_fresh n r (work_value i s) s, assigned_caller n r (work_value i s) i s)))) NoWord))))
+      (λ is. hands_by a _ is refl refl (λ sub f out. said_is (HandsOut a (work_answered n r i s)) (sym (ap (λ (y : HowFar). option_map (end_for Status.Returned) (call_of_op y)) far) ∙ out) (Answers n i refl far (work_gone n r i s))))
+      (λ is to. subst (λ (t : Core). Stay a s t) (answered_first n r (work_value i s) i s) (join (assigned_walks n refl on r (work_value i s) NoWord to) (keep_stay (work_deleted_walks n refl i (n, (refl, (assigned_caller n r (work_value i s) i s, inl (far, assigned_fresh n r (work_value i s) s)))) NoWord))))
   call_sync_host_row_leads r h _ can far = call_sync_host_polled_leads r (first_poll (host_at x.component h)) can
 
   -- ---- Cancels
@@ -292,15 +296,22 @@ module _ (x : Setting) (main : Main) (s : Core) (n : ℕ) (l : Label) (next : Tu
   cancel_is : (mode : Mode) (v : ℕ) (t : Core) → (written_by x.component s (cancel_label mode n v) t ≡ written_by_cancel x.component n s v) × (handed_by x.component main s (cancel_label mode n v) t ≡ handed_by_cancel x.component n s v)
   cancel_is mode v t = (grind arith, grind arith)
 
+  -- the end that a cancel says is written is that of a withdrawn start
+  cancel_tells : (t : Core) (v : ℕ) (to : Subtask) (f : Status) → written_by_cancel x.component n s v ≡ Some (end_for f to) → EndTells a t to f
+  cancel_tells t v to f says = rw (withdrawn_status (v == 3) (cancelled_of_op x.component n s (how_far_of n s)) says) (TellsNone to)
+    where
+      withdrawn_status : (b : Bool) (o : Option Subtask) → (if b then option_map (end_for Status.StartCancelled) o else None) ≡ Some (end_for f to) → f ≡ Status.StartCancelled
+      withdrawn_status b o h = grind arith
+
   -- a cancel that takes an end of its subtask
   cancel_says : (mode : Mode) (r : ℕ) (sub : Subtask) (t : Core) (e : Status) → cancelled_of_op x.component n s (how_far_of n s) ≡ Some sub → undelivered_end (event_of sub s) ≡ Some e → l ≡ cancel_label mode n (status_code e) → EndWords a (cancel_takes_end n r sub e t)
   unfolding cancel_takes_end answered assigned advanced moved_to set_how_far set_position on_thread set_register set_saved_callee
   cancel_says mode r sub t e target found is =
       let o = cancelled_of_op x.component n s (how_far_of n s) in
-      says_by a (cancel_takes_end n r sub e t) is
+      says_by a (cancel_takes_end n r sub e t) is (grind arith)
       (λ to f says.
       let q = cancel_writes_of sub to f o target e (sym (cancel_is mode (status_code e) (cancel_takes_end n r sub e t)).0 ∙ says) in
-      WritesNever to (subst (λ (d : Subtask). undelivered_end (event_of d s) ≡ Some Status.StartCancelled) q.0 (found ∙ ap (λ (g : Status). Some g) q.1)))
+      (WritesNever to (subst (λ (d : Subtask). undelivered_end (event_of d s) ≡ Some Status.StartCancelled) q.0 (found ∙ ap (λ (g : Status). Some g) q.1)), cancel_tells (cancel_takes_end n r sub e t) (status_code e) to f (sym (cancel_is mode (status_code e) (cancel_takes_end n r sub e t)).0 ∙ says)))
       (λ to f out.
       let q = cancel_hands_of sub to f o target e (sym (cancel_is mode (status_code e) (cancel_takes_end n r sub e t)).1 ∙ out) in
       subst (λ (d : Subtask). HandsOut a (cancel_takes_end n r sub e t) d f) q.0 (TakesEvent sub f (found ∙ ap (λ (g : Status). Some g) q.1) (event_gone sub t _ refl refl)))
@@ -310,12 +321,12 @@ module _ (x : Setting) (main : Main) (s : Core) (n : ℕ) (l : Label) (next : Tu
   cancel_ended_row_leads mode r sub t None target found has c = tt
   cancel_ended_row_leads mode r sub t (Some e) target found has c = told (cancel_label mode n (status_code e)) (cancel_takes_end n r sub e t) (grind arith) (λ is. cancel_says mode r sub t e target found is) (λ is. answered_walks n refl on r (status_code e) (event_taken_walks n refl sub has c))
 
-  cancel_by_end_leads : (mode : Mode) (r : ℕ) (sub : Subtask) (t : Core) (b : Bool) → CancelOp mode → cancelled_of_op x.component n s (how_far_of n s) ≡ Some sub → event_of sub t ≡ event_of sub s → join_of sub t ≡ join_of sub s → MayCancel a n sub → IsFree sub → Keep a s t → Leads a s (cancel_by_end mode n r sub t b)
-  cancel_by_end_leads mode r sub t true by target same joined has free c = cancel_ended_row_leads mode r sub t (undelivered_end (event_of sub t)) target (ap (λ o. undelivered_end o) (sym same)) has c
-  cancel_by_end_leads Async r sub t false by target same joined has free c = go (cancel_label Async n blocked_code) (answered n r blocked_code t) refl (answered_walks n refl on r blocked_code c)
-  cancel_by_end_leads Sync r sub t false by target same joined has free c =
+  cancel_by_end_leads : (mode : Mode) (r : ℕ) (sub : Subtask) (t : Core) (b : Bool) → CancelOp mode → cancelled_of_op x.component n s (how_far_of n s) ≡ Some sub → event_of sub t ≡ event_of sub s → join_of sub t ≡ join_of sub s → MayCancel a n sub → IsFree sub → subtask_ended sub t ≡ b → Keep a s t → Leads a s (cancel_by_end mode n r sub t b)
+  cancel_by_end_leads mode r sub t true by target same joined has free over c = cancel_ended_row_leads mode r sub t (undelivered_end (event_of sub t)) target (ap (λ o. undelivered_end o) (sym same)) has c
+  cancel_by_end_leads Async r sub t false by target same joined has free over c = go (cancel_label Async n blocked_code) (answered n r blocked_code t) refl (answered_walks n refl on r blocked_code c)
+  cancel_by_end_leads Sync r sub t false by target same joined has free over c =
       trap_if_leads a s (not (passes_check (instance_of n t) t)) Trap.CannotBlockSyncTask _ (λ e.
-      stop (pauses n) (cancel_stops n sub t) refl (λ leave. cancel_stops_walks n refl at_ops sub joined by leave has free c))
+      stop (pauses n) (cancel_stops n sub t) refl (λ leave. cancel_stops_walks n refl at_ops sub joined by leave has free over c))
 
   -- one that goes on: the subtask leaves the thread's own set once the op is done
   parted_ended_leads : (mode : Mode) (r : ℕ) (sub : Subtask) (t : Core) (o : Option Status) → cancelled_of_op x.component n s (how_far_of n s) ≡ Some sub → undelivered_end (event_of sub s) ≡ o → Cancelling a n sub → join_of sub t ≡ join_of sub s → Keep a s t → Leads a s (cancel_ended_row mode n r sub (set_join sub Join.Nowhere t) o)
@@ -325,15 +336,15 @@ module _ (x : Setting) (main : Main) (s : Core) (n : ℕ) (l : Label) (next : Tu
       let u = set_join sub Join.Nowhere t in
       told (cancel_label mode n (status_code e)) (cancel_takes_end n r sub e u) (grind arith) (λ is. cancel_says mode r sub u e target found is) (λ is. parted_takes_walks n refl on r (status_code e) sub far joined c)
 
-  parted_leads : (mode : Mode) (r : ℕ) (sub : Subtask) (t : Core) (b : Bool) → CancelOp mode → cancelled_of_op x.component n s (how_far_of n s) ≡ Some sub → event_of sub (set_join sub Join.Nowhere t) ≡ event_of sub s → join_of sub t ≡ join_of sub s → Cancelling a n sub → IsFree sub → Keep a s t → Leads a s (cancel_by_end mode n r sub (set_join sub Join.Nowhere t) b)
-  parted_leads mode r sub t true by target same joined far free c =
+  parted_leads : (mode : Mode) (r : ℕ) (sub : Subtask) (t : Core) (b : Bool) → CancelOp mode → cancelled_of_op x.component n s (how_far_of n s) ≡ Some sub → event_of sub (set_join sub Join.Nowhere t) ≡ event_of sub s → join_of sub t ≡ join_of sub s → Cancelling a n sub → IsFree sub → subtask_ended sub (set_join sub Join.Nowhere t) ≡ b → Keep a s t → Leads a s (cancel_by_end mode n r sub (set_join sub Join.Nowhere t) b)
+  parted_leads mode r sub t true by target same joined far free over c =
       parted_ended_leads mode r sub t (undelivered_end (event_of sub (set_join sub Join.Nowhere t))) target (ap (λ o. undelivered_end o) (sym same)) far joined c
-  parted_leads Async r sub t false by target same joined far free c =
+  parted_leads Async r sub t false by target same joined far free over c =
       go (cancel_label Async n blocked_code) (answered n r blocked_code (set_join sub Join.Nowhere t)) refl (parted_answers_walks n refl on r blocked_code sub far joined c)
-  parted_leads Sync r sub t false by target same joined far free c =
+  parted_leads Sync r sub t false by target same joined far free over c =
       let u = set_join sub Join.Nowhere t in
       trap_if_leads a s (not (passes_check (instance_of n u) u)) Trap.CannotBlockSyncTask _ (λ e.
-      stop (pauses n) (cancel_stops n sub u) refl (λ leave. subst (λ (v : Core). Trip a s v) (sym (rejoined n sub t)) (cancel_stops_walks n refl at_ops sub joined by leave (inr far) free c)))
+      stop (pauses n) (cancel_stops n sub u) refl (λ leave. subst (λ (v : Core). Trip a s v) (sym (rejoined n sub t)) (cancel_stops_walks n refl at_ops sub joined by leave (inr far) free (sym (joined_ended sub Join.Nowhere t) ∙ over) c)))
 
   asks_walks : (k h : ℕ) → subtask_at (instance_of n s) h s ≡ Some (Subtask.Guest k) → (has_ended k s ≡ false) × (was_started k s ≡ true) → Keep a s (cancel_asks k s)
   unfolding cancel_asks
@@ -351,8 +362,8 @@ module _ (x : Setting) (main : Main) (s : Core) (n : ℕ) (l : Label) (next : Tu
       let v : Core = after_word (Withdraw k) s in
       let u : Core = call_ends k CallEnd.StartCancelled v in
       let rest : Walk a u (cancel_withdraws n r k s) = subst (λ (w : Core). Walk a (call_ends k CallEnd.StartCancelled w) (cancel_withdraws n r k s)) (sym (withdraws k s)) (stay_walk (answered_walks n refl (subst (λ (w : Core). Stands a (call_ends k CallEnd.StartCancelled w) n) (withdraws k s) (withdrawn_low k CallEnd.StartCancelled)) r 3 (word (SetUninteresting k) tt (word (SetExited k) tt NoWord)) to)) in
-      says_by a t at
-      (λ to f says. said_is (λ d g. Writes a t d) (sym ((cancel_is mode 3 t).0 ∙ ap (option_map (end_for Status.StartCancelled)) target) ∙ says) (WritesCall k u (EndsSubtask named unended) (over_now k CallEnd.StartCancelled v) rest))
+      says_by a t at (grind arith)
+      (λ to f says. said_is (λ d g. Writes a t d × EndTells a t d g) (sym ((cancel_is mode 3 t).0 ∙ ap (option_map (end_for Status.StartCancelled)) target) ∙ says) (WritesCall k u (EndsSubtask named unended) (over_now k CallEnd.StartCancelled v) rest, TellsNone (Subtask.Guest k)))
       (λ to f out. said_is (HandsOut a t) (sym ((cancel_is mode 3 t).1 ∙ ap (option_map (end_for Status.StartCancelled)) target) ∙ out) (WritesToo k Status.StartCancelled (ap (λ (y : Label). written_by x.component s y s) at ∙ ((cancel_is mode 3 s).0 ∙ ap (option_map (end_for Status.StartCancelled)) target)) (inr refl)))
 
   put_stands : (m : ℕ) (w : Why) (t : Core) → is_some (put_switch m w t).queues.switch ≡ true
@@ -387,7 +398,7 @@ module _ (x : Setting) (main : Main) (s : Core) (n : ℕ) (l : Label) (next : Tu
       let asks = asks_walks k h named (grind (arith, is), grind (arith, is)) in
       stop (pauses n) (cancel_promotes_yield n k s) refl (λ leave. cancel_goes_behind_walks n refl at_ops k (promoted_stands k (cancel_asks k s)) (promoted_join k k (cancel_asks k s) ∙ grind (arith, nat_tests, get-change)) (cancels mode by) leave (inl (h, named)) free
       (promoted_walks n k refl (ready_at (place_of k s) (inr (grind (arith, is)))) asks))
-  cancel_guest_leads mode r h k OtherwiseRuns by target is named free = cancel_by_end_leads mode r (Subtask.Guest k) (cancel_asks k s) (subtask_ended (Subtask.Guest k) (cancel_asks k s)) by target (grind (arith, nat_tests, get-change)) (grind (arith, nat_tests, get-change)) (inl (h, named)) (inl free) (asks_walks k h named (grind (arith, is), grind (arith, is)))
+  cancel_guest_leads mode r h k OtherwiseRuns by target is named free = cancel_by_end_leads mode r (Subtask.Guest k) (cancel_asks k s) (subtask_ended (Subtask.Guest k) (cancel_asks k s)) by target (grind (arith, nat_tests, get-change)) (grind (arith, nat_tests, get-change)) (inl (h, named)) (inl free) refl (asks_walks k h named (grind (arith, is), grind (arith, is)))
 
   cancel_subtask_leads : (mode : Mode) (r h : ℕ) (sub : Subtask) → CancelOp mode → cancelled_of_op x.component n s (how_far_of n s) ≡ Some sub → subtask_at (instance_of n s) h s ≡ Some sub → is_joined (join_of sub s) ≡ false → Leads a s (cancel_subtask mode n r s sub)
   unfolding cancel_aborts_host set_cancelled set_phase on_work
@@ -395,14 +406,14 @@ module _ (x : Setting) (main : Main) (s : Core) (n : ℕ) (l : Label) (next : Tu
   cancel_subtask_leads mode r h (Subtask.Host i) by target named free =
       let has : HasSubtask a n (Subtask.Host i) = ByHandle h named in
       trap_if_leads a s (was_cancelled i s) Trap.SubtaskCancelAfterTerminal _ (λ e.
-      cancel_by_end_leads mode r (Subtask.Host i) (cancel_aborts_host i s) (subtask_ended (Subtask.Host i) (cancel_aborts_host i s)) by target (grind (arith, nat_tests, get-change)) (grind (arith, nat_tests, get-change)) (inl (h, named)) (inl free) (word (SetCancelled i) (n, (refl, has)) (word (SetPhase i (aborted_phase (phase_of i s))) (AbortsOwn (n, (h, (refl, named))), refl) NoWord)))
+      cancel_by_end_leads mode r (Subtask.Host i) (cancel_aborts_host i s) (subtask_ended (Subtask.Host i) (cancel_aborts_host i s)) by target (grind (arith, nat_tests, get-change)) (grind (arith, nat_tests, get-change)) (inl (h, named)) (inl free) refl (word (SetCancelled i) (n, (refl, has)) (word (SetPhase i (aborted_phase (phase_of i s))) (AbortsOwn (n, (h, (refl, named))), refl) NoWord)))
 
   cancel_row_leads : (mode : Mode) (r h : ℕ) (f : HowFar) → CancelOp mode → cancel_target n s (op_of x.component n s) ≡ subtask_at (instance_of n s) h s → how_far_of n s ≡ f → Leads a s (cancel_row mode n r h s f)
   unfolding cancel_resumed set_join on_call on_work set_saved_callee on_thread set_do_not_suspend on_instance
   cancel_row_leads mode r h (HowFar.Cancels sub) by target far =
       let has : HasSubtask a n sub = ByOp (ap (λ y. subtask_under_way y) far) in
       let t = set_saved_callee n None (put_back (saved_callee_of n s) (subtask_instance sub s) s) in
-      parted_leads mode r sub t (subtask_ended sub (set_join sub Join.Nowhere t)) by (ap (cancelled_of_op x.component n s) far) (grind (arith, nat_tests, get-change)) (grind (arith, nat_tests, get-change)) (inl far) (inr far)
+      parted_leads mode r sub t (subtask_ended sub (set_join sub Join.Nowhere t)) by (ap (cancelled_of_op x.component n s) far) (grind (arith, nat_tests, get-change)) (grind (arith, nat_tests, get-change)) (inl far) (inr far) refl
       (word (SetSavedCallee n None) tt (put_back_walks n refl (saved_callee_of n s) (subtask_instance sub s) NoWord))
   cancel_row_leads mode r h (HowFar.AwaitsEnd sub) by target far =
       parted_ended_leads mode r sub s (undelivered_end (event_of sub (set_join sub Join.Nowhere s))) (ap (cancelled_of_op x.component n s) far) (grind (arith, nat_tests, get-change)) (inr far) refl NoWord
@@ -418,12 +429,12 @@ module _ (x : Setting) (main : Main) (s : Core) (n : ℕ) (l : Label) (next : Tu
   dropped_walks h (Subtask.Guest k) named ended apart =
       let sub = Subtask.Guest k in
       let t = set_join sub Join.Nowhere s in
-      advanced_walks n refl on (settled (call_settles k _ (λ gone. grind (arith, nat_tests, get-change, ended))) (word (UnnameCall (instance_of n s) h k) (n, (refl, (refl, (named, grind (arith, nat_tests, get-change))))) (join_walks n refl sub Join.Nowhere (n, (refl, (ByHandle h named, inl apart))) NoWord)))
+      λ to. advanced_walks n refl on (settled (call_settles k _ (λ gone. grind (arith, nat_tests, get-change, ended))) (word (UnnameCall (instance_of n s) h k) (n, (refl, (refl, (named, (grind (arith, nat_tests, get-change), to))))) (join_walks n refl sub Join.Nowhere (n, (refl, (ByHandle h named, inl apart))) NoWord))) to
   dropped_walks h (Subtask.Host i) named ended apart =
       let sub = Subtask.Host i in
       let t = set_join sub Join.Nowhere s in
-      advanced_walks n refl on (work_deleted_walks n refl i (n, (refl, inr (ended, (grind (arith, nat_tests, get-change), (grind (arith, nat_tests, get-change, ended), (h, named))))))
-      (word (UnnameWork (instance_of n s) h i) (n, (refl, (refl, (named, grind (arith, nat_tests, get-change))))) (join_walks n refl sub Join.Nowhere (n, (refl, (ByHandle h named, inl apart))) NoWord)))
+      λ to. advanced_walks n refl on (work_deleted_walks n refl i (n, (refl, (grind (arith, nat_tests, get-change), inr (ended, (grind (arith, nat_tests, get-change), (grind (arith, nat_tests, get-change, ended), (h, named)))))))
+      (word (UnnameWork (instance_of n s) h i) (n, (refl, (refl, (named, (grind (arith, nat_tests, get-change), to))))) (join_walks n refl sub Join.Nowhere (n, (refl, (ByHandle h named, inl apart))) NoWord))) to
 
   pub subtask_row_leads : (o : CallOp) → op_in a n ≡ Op.Call o → Leads a s (subtask_row x.component n s o)
   subtask_row_leads (CallOp.Call r q e xs) is = call_row_leads r q e (values_in (registers_of n s) xs) (how_far_of n s) (ap (λ p. callee_of_op p) is) refl

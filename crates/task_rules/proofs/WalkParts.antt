@@ -1,12 +1,6 @@
 -- What the rows of the ops are made of, as chains of words: what is read, gifts, moves, and a new call.
-use Rattle.task_rules.proofs.Machine.{add_call, add_thread, advanced, after_placing, after_word, answered, ap, ap₂, arith, assigned, AtOp, behind_one, behind_switch, Blocks, Bool, ByHandle, ByOp, call_clears_flag, call_instance, call_made, call_queues, call_resumes, call_settled, call_stops, Callee, callee_of_op, CallEnd, Caller, can_come, cancel_goes_behind, cancel_stops, Cancelling, change-change_same, checked, Choice, chosen, Core, EndCall, Enter, enter_runs, event_of, ExportKind, false, foot_of, get, get-change, get-insert, get-remove_same, Gift, gift, give_thread_handle, Given, given_code, given_handle, given_result, Goal, goal_of, GoBehind, group_settled, HasCalled, HasSet, HasSubtask, how_far_of, HowFar, inl, inr, instance_of, is_at_wait, is_begun, is_blocked_on, is_cancel, is_deletable, is_deletable_call, is_direct, is_explicit, is_group_done, is_joined, is_none, is_running, is_some, is_sync_call, is_sync_cancel, is_wait, IsNew, IsRunner, IsWithdrawn, Join, join_of, Leaves, less_switch, List, Made, MakeCall, Mark, may_not_suspend, MayCancel, MayCome, MayDeliver, MayJoin, MayMakeCall, MayRemoveWork, MayWithdraw, MemberGift, Move, moved_to, NameThread, nat_tests, next_thread, NoGift, None, not, NoWord, on_call, on_instance, on_thread, on_work, op_in, Option, option_map, option_map_or, own_event_of, OwnEvent, OwnGift, Place, place_of, Put, put_back, put_switch, received, refl, remove_call, remove_group, remove_thread, remove_work, RemoveWork, saved_callee_of, says, SaysEnd, Scene, set_do_not_suspend, set_end, set_event, set_exited, set_given, set_high, set_how_far, set_join, set_low, set_place, set_position, set_register, set_saved_callee, set_saved_own, set_started, set_switch, set_thread_handle, set_uninteresting, SetCallEvent, SetCallJoin, SetDoNotSuspend, SetExited, SetRegister, SetSavedCallee, SetSavedOwn, SetStarted, settle_group_of, SetUninteresting, SetWorkJoin, Some, Starts, Status, Stop, stopped, subst, Subtask, subtask_under_way, sync_sets_flag, TakesCalled, TakesCancelled, TakesNamed, TakeWorkEvent, task_of, Then, Thread, thread_group, Trip, true, Turn, unqueued, unwrap_or, wait_stops, Waits, watches, Why, with_thread_handle, Withdraw, withdrawn, work_deleted, work_group, ℕ, ◌&&◌, ◌+◌, ◌==◌, ◌∙◌, ◌≡◌, ◌⊎◌}
-use Rattle.task_rules.proofs.ChainLemmas.{Going, Keep, keep_stay}
-use Rattle.task_rules.proofs.WalkMoves.{keep_still, MayTake, checked_shifts, shifted, stopped_shifts, taken_walks, word, lands_at, settled, group_settles}
-use Rattle.task_rules.proofs.MoveLemmas.{put_place}
-use Rattle.task_rules.proofs.PlacingLemmas.{Shifted, placed, placing_shifted, shifted_after, shifted_calls, shifted_explicit, shifted_made, shifted_same, shifts_shifted}
-use Rattle.task_rules.proofs.WalkEnds.{call_ends}
-use Rattle.task_rules.proofs.WalkTask.{Stands, advanced_walks, answered_walks, moved_passes, not_main}
-use Rattle.task_rules.proofs.CallThreads.{has_same}
+use Rattle.task_rules.proofs.Walks.{add_call, add_thread, advanced, after_placing, after_word, answered, ap, ap₂, arith, assigned, AtOp, behind_one, behind_switch, Blocks, Bool, ByHandle, ByOp, call_clears_flag, call_ends, call_instance, call_made, call_queues, call_resumes, call_settled, call_stops, Callee, callee_of_op, CallEnd, Caller, can_come, cancel_goes_behind, cancel_stops, Cancelling, change-change_same, checked, checked_shifts, Choice, chosen, Core, EndCall, Enter, enter_runs, event_of, ExportKind, false, foot_of, get, get-change, get-insert, get-remove_same, Gift, gift, give_thread_handle, Given, given_code, given_handle, given_result, Goal, goal_of, GoBehind, Going, group_settled, group_settles, has_same, HasCalled, HasSet, HasSubtask, how_far_of, HowFar, inl, inr, instance_of, is_at_wait, is_begun, is_blocked_on, is_cancel, is_deletable, is_deletable_call, is_direct, is_explicit, is_group_done, is_joined, is_none, is_running, is_some, is_sync_call, is_sync_cancel, is_wait, IsNew, IsRunner, IsWithdrawn, Join, join_of, Keep, keep_still, lands_at, Leaves, less_switch, List, Made, MakeCall, Mark, may_not_suspend, MayCancel, MayCome, MayDeliver, MayJoin, MayMakeCall, MayRemoveWork, MayTake, MayWithdraw, MemberGift, Move, moved_to, NameThread, nat_tests, next_thread, NoGift, None, not, NoWord, on_call, on_instance, on_thread, on_work, op_in, Option, option_map, option_map_or, own_event_of, OwnEvent, OwnGift, Place, place_of, placed, placing_shifted, Put, put_back, put_place, put_switch, received, refl, remove_call, remove_group, remove_thread, remove_work, RemoveWork, saved_callee_of, says, SaysEnd, Scene, set_do_not_suspend, set_end, set_event, set_exited, set_given, set_high, set_how_far, set_join, set_low, set_place, set_position, set_register, set_saved_callee, set_saved_own, set_started, set_switch, set_thread_handle, set_uninteresting, SetCallEvent, SetCallJoin, SetDoNotSuspend, SetExited, SetRegister, SetSavedCallee, SetSavedOwn, SetStarted, settle_group_of, settled, SetUninteresting, SetWorkJoin, Shifted, shifted, shifted_after, shifted_calls, shifted_explicit, shifted_made, shifts_shifted, Some, Starts, Status, Stop, stopped, stopped_shifts, subst, Subtask, subtask_ended, subtask_under_way, sym, sync_sets_flag, taken_walks, TakesCalled, TakesCancelled, TakesNamed, TakeWorkEvent, task_of, Then, Thread, thread_group, Trip, true, Turn, undelivered_end, unqueued, unwrap_or, wait_stops, Waits, watches, Why, with_thread_handle, Withdraw, withdrawn, word, work_deleted, work_group, ℕ, ◌&&◌, ◌+◌, ◌==◌, ◌∙◌, ◌≡◌, ◌⊎◌}
+use Rattle.task_rules.proofs.WalkTask.{advanced_walks, answered_walks, moved_passes, Stands}
 
 -- ---- What is read
 
@@ -77,6 +71,22 @@ answered_fresh n r v s = assigned_fresh n r v (set_saved_callee n None s)
 abbrev pub AtOps : Scene → Core → ℕ → Type 0
 AtOps a b n = (t : Core) → Keep a b t → AtOp a n t
 
+-- ---- Whether a subtask has ended
+
+shifted_ended : (sub : Subtask) {s t : Core} → Shifted s t → subtask_ended sub t ≡ subtask_ended sub s
+shifted_ended (Subtask.Guest k) d = ap (λ (c : Core). subtask_ended (Subtask.Guest k) c) (sym d.only)
+shifted_ended (Subtask.Host i) d = ap (λ (c : Core). subtask_ended (Subtask.Host i) c) (sym d.only)
+
+pub joined_ended : (sub : Subtask) (j : Join) (s : Core) → subtask_ended sub (set_join sub j s) ≡ subtask_ended sub s
+unfolding set_join on_call on_work
+joined_ended (Subtask.Guest k) j s = grind (arith, nat_tests, get-change)
+joined_ended (Subtask.Host i) j s = grind (arith, nat_tests, get-change)
+
+saved_ended : (sub : Subtask) (n : ℕ) (b : Option Bool) (s : Core) → subtask_ended sub (set_saved_callee n b s) ≡ subtask_ended sub s
+unfolding set_saved_callee on_thread
+saved_ended (Subtask.Guest k) n b s = refl
+saved_ended (Subtask.Host i) n b s = refl
+
 module _ {a : Scene} {b : Core} (n : ℕ) (is : IsRunner a n) where
   pub set_given_walks : (r : ℕ) (v : Given) {t : Core} → Keep a b t → Keep a b (set_given n r v t)
   unfolding set_given
@@ -123,12 +133,12 @@ module _ {a : Scene} {b : Core} (n : ℕ) (is : IsRunner a n) where
       let u = put_back (saved_callee_of n t) (call_instance k t) t in
       Then _ (SetCallEvent k None) (answered_walks n is on r v (put_back_walks (saved_callee_of n t) (call_instance k t) c) to) (TakesCalled n is far (inl (answered_fresh n r v u)))
 
-  pub call_stops_walks : AtOps a b n → (sub : Subtask) (t : Core) → can_come (op_in a n) (HowFar.Calls sub) ≡ true → Leaves a n → ((u : Core) → Shifted t u → HasSubtask a n sub ⊎ IsNew a sub u) → ((u : Core) → Shifted t u → option_map_or (is_blocked_on sub) (place_of n u) true ≡ true → MayCome a n (HowFar.Calls sub) u) → Keep a b t → Trip a b (call_stops n sub t)
+  pub call_stops_walks : AtOps a b n → (sub : Subtask) (t : Core) → can_come (op_in a n) (HowFar.Calls sub) ≡ true → Leaves a n → ((u : Core) → Shifted t u → HasSubtask a n sub ⊎ IsNew a sub u) → ((u : Core) → Shifted t u → option_map_or (is_blocked_on sub) (place_of n u) true ≡ true → MayCome a n (HowFar.Calls sub) u) → ((u : Core) → Shifted t u → undelivered_end (event_of sub u) ≡ None) → Keep a b t → Trip a b (call_stops n sub t)
   unfolding call_stops
-  call_stops_walks at sub t can leave own come c =
+  call_stops_walks at sub t can leave own come open_end c =
       let u = stopped (foot_of n t) t in
       let h : Shifted t u = placing_shifted (Stop (foot_of n t)) t in
-      lands_at (Move n (Place.Blocked sub)) n (HowFar.Calls sub) (grind (arith, nat_tests)) (Blocks sub leave (own u h) refl) (come (set_place n (Place.Blocked sub) u) (shifted_after h (placing_shifted (Move n (Place.Blocked sub)) u)) (moved_passes (is_blocked_on sub) (Place.Blocked sub) (grind (arith, nat_tests)) n u)) (at u (stopped_walks t c)) can (stopped_walks t c)
+      lands_at (Move n (Place.Blocked sub)) n (HowFar.Calls sub) (grind (arith, nat_tests)) (Blocks sub leave (own u h) (inl (open_end u h)) refl) (come (set_place n (Place.Blocked sub) u) (shifted_after h (placing_shifted (Move n (Place.Blocked sub)) u)) (moved_passes (is_blocked_on sub) (Place.Blocked sub) (grind (arith, nat_tests)) n u)) (at u (stopped_walks t c)) can (stopped_walks t c)
 
   pub sync_sets_flag_walks : (m j : ℕ) (k : ExportKind) {t : Core} → Keep a b t → Keep a b (sync_sets_flag m j k t)
   sync_sets_flag_walks m j ExportKind.Sync {t = t} c = word (SetDoNotSuspend j true) tt (word (SetSavedOwn m (Some (may_not_suspend j t))) tt c)
@@ -146,15 +156,15 @@ module _ {a : Scene} {b : Core} (n : ℕ) (is : IsRunner a n) where
   unfolding work_deleted
   work_deleted_walks i {t = t} ok c = settle_group_of_walks (work_group i t) (word (RemoveWork i) ok c)
 
-  pub cancel_stops_walks : AtOps a b n → (sub : Subtask) {t : Core} → join_of sub t ≡ join_of sub a.base → is_sync_cancel (op_in a n) ≡ true → Leaves a n → MayCancel a n sub → (is_joined (join_of sub a.base) ≡ false) ⊎ (how_far_of n a.base ≡ HowFar.Cancels sub) → Keep a b t → Trip a b (cancel_stops n sub t)
+  pub cancel_stops_walks : AtOps a b n → (sub : Subtask) {t : Core} → join_of sub t ≡ join_of sub a.base → is_sync_cancel (op_in a n) ≡ true → Leaves a n → MayCancel a n sub → (is_joined (join_of sub a.base) ≡ false) ⊎ (how_far_of n a.base ≡ HowFar.Cancels sub) → subtask_ended sub t ≡ false → Keep a b t → Trip a b (cancel_stops n sub t)
   unfolding cancel_stops set_saved_callee on_thread
-  cancel_stops_walks at sub {t = t} same can leave has free c =
+  cancel_stops_walks at sub {t = t} same can leave has free unended c =
       let u = set_join sub (Join.Watched n) (set_saved_callee n None t) in
       let d = stopped_walks (checked (instance_of n t) u) (checked_walks (instance_of n t) (join_walks sub (Join.Watched n) (is, (cancels_own a n sub has, (free, grind (arith, same)))) (word (SetSavedCallee n None) tt c))) in
       let i = instance_of n t in
       let v = stopped (foot_of n (checked i u)) (checked i u) in
       let moved = shifted_after (shifts_shifted (checked_shifts i u)) (shifted_after (placing_shifted (Stop (foot_of n (checked i u))) (checked i u)) (placing_shifted (Move n (Place.Blocked sub)) v)) in
-      lands_at (Move n (Place.Blocked sub)) n (HowFar.AwaitsEnd sub) (grind (arith, nat_tests)) (Blocks sub leave (inl (cancels_own a n sub has)) refl) (is, (has, shifted_watches n sub moved ∙ joined_watches n sub (set_saved_callee n None t))) (at _ d) can d
+      lands_at (Move n (Place.Blocked sub)) n (HowFar.AwaitsEnd sub) (grind (arith, nat_tests)) (Blocks sub leave (inl (cancels_own a n sub has)) (inr (shifted_ended sub (shifted_after (shifts_shifted (checked_shifts i u)) (placing_shifted (Stop (foot_of n (checked i u))) (checked i u))) ∙ (joined_ended sub (Join.Watched n) (set_saved_callee n None t) ∙ (saved_ended sub n None t ∙ unended)))) refl) (leave, (has, shifted_watches n sub moved ∙ joined_watches n sub (set_saved_callee n None t))) (at _ d) can d
 
   -- the op that cancels is done before the subtask leaves the thread's own set
   pub parted_answers_walks : Stands a b n → (r v : ℕ) (sub : Subtask) {t : Core} → Cancelling a n sub → join_of sub t ≡ join_of sub a.base → Keep a b t → Going a b n (answered n r v (set_join sub Join.Nowhere t))
@@ -181,13 +191,13 @@ module _ {a : Scene} {b : Core} (n : ℕ) (is : IsRunner a n) where
       let j = call_instance k t in
       let v = set_do_not_suspend j false (set_saved_callee n (Some (may_not_suspend j t)) t) in
       let d = join_walks (Subtask.Guest k) (Join.Watched n) (is, (cancels_own a n (Subtask.Guest k) has, (inl free, grind (arith, same)))) (word (SetDoNotSuspend j false) tt (word (SetSavedCallee n (Some (may_not_suspend j t))) tt c)) in
-      behind_switch_walks t.queues.switch (HowFar.Cancels (Subtask.Guest k)) stands refl leave (λ u moved. (is, (has, shifted_watches n (Subtask.Guest k) moved ∙ joined_watches n (Subtask.Guest k) v))) (at _ d) can d
+      behind_switch_walks t.queues.switch (HowFar.Cancels (Subtask.Guest k)) stands refl leave (λ u moved. (leave, (has, shifted_watches n (Subtask.Guest k) moved ∙ joined_watches n (Subtask.Guest k) v))) (at _ d) can d
 
   pub withdrawn_walks : (k : ℕ) {t : Core} → MayWithdraw a k t → SaysEnd a k Status.StartCancelled → Keep a b t → Keep a b (withdrawn k t)
   unfolding withdrawn remove_thread set_end
   withdrawn_walks k {t = t} ok says c =
       subst (λ (v : Core). Keep a b (set_uninteresting k (set_exited k (call_ends k CallEnd.StartCancelled v)))) (withdraws k t)
-      (word (SetUninteresting k) tt (word (SetExited k) tt (word (EndCall k CallEnd.StartCancelled) (IsWithdrawn ok (ap (λ (o : Option Thread). is_none o) (get-remove_same t.threads k)) refl, says) (word (Withdraw k) ok c))))
+      (word (SetUninteresting k) tt (word (SetExited k) tt (word (EndCall k CallEnd.StartCancelled) (IsWithdrawn ok (ap (λ (o : Option Thread). is_none o) (get-remove_same t.threads k)) refl, says) (word (Withdraw k) (ok, says) c))))
 
 -- ---- A new call
 

@@ -1,15 +1,7 @@
 -- Each step as a chain of words: host works, main, the loop and all turns.
-use Rattle.task_rules.proofs.Machine.{[], Abort, aborted_phase, act_of, add_group, add_work, AddGroup, advanced_main, Answer, ap, arith, at_turn, Await, base_at, base_without, Began, begun_holder, blocked_on, Bool, ByProgram, ByScript, call_made, Callee, Caller, CallLabel, Chain, Choice, choice_of, Collapses, Core, count_work, course_for, course_of, course_value, deadlock_trap, DeadlockStep, did, Does, EmptyFor, end_for, ended, Ends, EndWords, EndWork, Entry, entry_number, export_kind, Fails, FailsNow, Falls, false, Finish, finish_act, finish_result, finished_call, FinishWork, followed, FuturesStep, get, get-change, get-insert, get-remove, get-remove_same, Goal, Goes, goes_to, handed_by_main, HandsOut, has_end, has_interesting, has_moving_work, host_at, host_done, host_label, host_result, host_status, inl, inr, is_async_work, is_complete, is_direct, is_free, is_none, is_ready_for_call, is_some, is_spawn, is_stage_ended, is_unended_take, IsFall, IsRunner, join_of, Label, LastWords, length, line_of, List, LoopLabel, Main, main_aborted, main_outcome, main_row, main_spawned, main_started, MainAct, MainLabel, MainOpDef, MainPlace, MainProgress, MainProgresses, MainStep, MakeCall, Mark, may, may_act, may_deadlock, may_publish, MayAbort, MayCall, MayFinish, nat_tests, Never, next_entry, next_polled, next_thread, next_work, None, not, NoWord, on_thread, on_work, Op, op_at, op_of, op_row, OpenAct, OpenProgresses, Option, option_map, option_map_or, Ordered, Outcome, outcome_of_label, Pend, Pends, Phase, phase_of, Place, place_of, Poll, poll_ends, poll_of, poll_pends, Polled, Pop, popped, ProgramAborts, Progress, Progresses, push_high, pushed, Put, put_high, QueueWork, Quiet, Ready, refl, Refused, Remains, remove_thread, remove_threads, RemoveThread, RestStep, runner_at, SameMain, Scene, ScriptAborts, Scripted, ScriptStep, set_course, set_event, set_phase, set_place, set_stage, set_trapped, SetPhase, SetRegister, Setting, settled_turn, SetTrapped, Shifts, size, slice_get, Some, Spawn, spawned_at, SpawnsNamed, Stage, stage_of, Start, start_act, start_of, start_refusal, Started, started_at, started_end, Starts, State, Status, Step, StepsAreWalks, StillPends, Stops, strand_from, strand_of, struck, subst, Subtask, suc, sym, T, take_result, take_row, TakeHost, TakeLabel, TakePush, TakeResult, TakesResult, TakeStep, Then, Thread, thread_of_entry, Trap, trap_label, Traps, Trip, true, Turn, TurnStep, under_of, unless_pending, Unscripted, unwrap_or, Walk, Why, woken_of, work_caller_of, work_queued, WorkCaller, Writes, WritesPolled, zero, ℕ, ⊎_elim, ◌&&◌, ◌++◌, ◌+◌, ◌-◌, ◌∙◌, ◌∷◌, ◌≡◌, ◌⊎◌}
+use Rattle.task_rules.proofs.Walks.{[], Abort, aborted_phase, act_of, add_group, add_work, AddGroup, advanced_main, Answer, ap, arith, at_turn, Await, base_at, base_without, Began, begun_holder, blocked_at, blocked_on, Bool, ByProgram, ByScript, call_made, Callee, Caller, CallLabel, Chain, Choice, choice_of, chosen_in_of, Collapses, Core, count_work, course_for, course_of, course_value, deadlock_trap, DeadlockStep, did, Does, EmptyFor, end_for, ended, Ends, EndTells, EndWords, EndWork, Entry, entry_number, export_kind, Fails, FailsNow, Falls, false, Finish, finish_act, finish_result, finished_call, finished_is, FinishWork, followed, Frees, FuturesStep, get, get-change, get-insert, get-remove, get-remove_same, Goal, Goes, goes_to, handed_by_main, hands_by, HandsOut, has_end, has_interesting, has_moving_work, host_at, host_done, host_label, host_result, host_status, host_taken, inl, inr, is_async_work, is_complete, is_direct, is_free, is_mute, is_none, is_ready_for_call, is_some, is_spawn, is_stage_ended, is_unended_take, IsFall, IsRunner, join, join_of, Keep, keep_stay, Label, LastWords, length, line_of, List, LoopLabel, Main, main_aborted, main_outcome, main_row, main_spawned, main_started, MainAct, MainLabel, MainOpDef, MainPlace, MainProgress, MainProgresses, MainStep, MakeCall, Mark, may, may_act, may_deadlock, may_publish, MayAbort, MayCall, MayFinish, mute_words, nat_tests, Never, next_entry, next_polled, next_thread, next_work, None, none_said, not, NoWord, on_thread, on_work, Op, op_at, op_of, op_row, OpenAct, OpenProgresses, Option, option_map, option_map_or, Ordered, Outcome, outcome_of_label, Pend, Pends, Phase, phase_of, Place, place_of, placed, Poll, poll_ends, poll_of, poll_pends, Polled, Pop, popped, popped_shifted, ProgramAborts, Progress, Progresses, published_frees, published_shifts, push_high, pushed, Put, put_high, QueueWork, Quiet, Ready, refl, Refused, Remains, remove_thread, remove_threads, RemoveThread, RestStep, result_taken, runner_at, said_is, SameMain, Scene, ScriptAborts, Scripted, ScriptStep, set_course, set_event, set_high, set_low, set_phase, set_place, set_stage, set_switch, set_trapped, SetPhase, SetRegister, Setting, settled_turn, SetTrapped, shifted, Shifts, size, slice_get, Some, Spawn, spawned_at, SpawnsNamed, Stage, stage_of, Start, start_act, start_of, start_refusal, Started, started_at, started_end, Starts, State, Status, stay_walk, Step, StepsAreWalks, StillPends, Stops, strand_from, strand_of, struck, subst, Subtask, suc, sym, T, take_result, take_row, TakeHost, TakeLabel, TakePush, TakeResult, takes_by, TakesResult, TakeStep, TellsLater, Then, Thread, thread_of_entry, Trap, trap_label, Traps, Trip, trip_walk, true, Turn, TurnStep, unblocked_shifts, under_of, unless_pending, Unscripted, unwrap_or, Walk, Why, woken_of, word, work_caller_of, work_queued, WorkCaller, Writes, writes_by, WritesPolled, zero, ℕ, ⊎_elim, ◌&&◌, ◌++◌, ◌+◌, ◌-◌, ◌∙◌, ◌∷◌, ◌≡◌, ◌⊎◌}
+use Rattle.task_rules.proofs.{WalkOps.set_row_leads, WalkOps.subtask_row_leads, WalkOps.thread_row_leads, WalkParts.Born, WalkParts.call_born, WalkTakes.thread_taken_leads, WalkTask.Leads, WalkTask.data_row_leads, WalkTask.is_exit_op, WalkTask.op_stands, WalkTask.running_scene, WalkTask.seen, WalkTask.task_row_leads, WalkTask.under_place}
 use Rattle.task_rules.specs.MainOps.{Answers}
-use Rattle.task_rules.proofs.MuteLemmas.{is_mute, mute_words, none_said, hands_by, writes_by}
-use Rattle.task_rules.proofs.SayLemmas.{finished_is, result_taken, said_is}
-use Rattle.task_rules.proofs.ChainLemmas.{Keep, join, keep_stay, trip_walk}
-use Rattle.task_rules.proofs.WalkTask.{is_exit_op, op_stands, Leads, data_row_leads, running_scene, task_row_leads, under_place, seen}
-use Rattle.task_rules.proofs.PlacingLemmas.{placed, popped_shifted}
-use Rattle.task_rules.proofs.WalkMoves.{blocked_at, chosen_in_of, shifted, unblocked_shifts, word, published_shifts}
-use Rattle.task_rules.proofs.WalkOps.{set_row_leads, subtask_row_leads, thread_row_leads}
-use Rattle.task_rules.proofs.WalkParts.{Born, call_born}
-use Rattle.task_rules.proofs.WalkTakes.{thread_taken_leads}
 
 -- ---- A host call whose entry is taken
 
@@ -41,6 +33,21 @@ module _ {a : Scene} {b : Core} where
       let v = course_value (course_of i s) in
       let t = set_stage i Stage.Ended s in
       host_result_walks (work_caller_of i s) v (shifted (published_shifts (Subtask.Host i) (host_status v) w t (ended_stage i s) (λ y is. chosen_in_of (join_of (Subtask.Host i) s) w s may y (grind (arith, nat_tests, get-change, is)))) c)
+
+-- and who is blocked on it goes on
+host_frees : {a : Scene} {b : Core} (i : ℕ) (w : Option ℕ) (s : Core) → b.threads ≡ a.base.threads → may_publish (Subtask.Host i) w s ≡ true → Keep a b (told_end i s) → Frees a (host_done i w s) (Subtask.Host i)
+unfolding host_done may_publish set_stage on_work
+host_frees i w s home may c =
+    let v = course_value (course_of i s) in
+    published_frees (Subtask.Host i) (host_status v) w (set_stage i Stage.Ended s) home (ended_stage i s) (λ y is. chosen_in_of (join_of (Subtask.Host i) s) w s may y (grind (arith, nat_tests, get-change, is))) c
+    (stay_walk (keep_stay (host_result_walks (work_caller_of i s) v NoWord)))
+
+popped_same : (m : Mark) (s : Core) → s.threads ≡ (popped m s).threads
+unfolding popped set_switch set_high set_low
+popped_same m s = grind arith
+
+taken_is : (m : Mark) (i : ℕ) (w : Option ℕ) (j : ℕ) → host_taken (host_label m i w) ≡ Some j → j ≡ i
+taken_is m i w j h = grind arith
 
 -- ---- A strand that falls
 
@@ -208,7 +215,7 @@ module _ (x : Setting) (s : State) (l : Label) where
   Names k y = (p : MainPlace) → s.main ≡ Scripted p → started_at p k ≡ y
 
   finish_says : (k n v : ℕ) → Names k (Began n) → get s.core.results n ≡ Some v → l ≡ Label.Main (MainLabel.Finish k v) → EndWords a (take_result n s.core)
-  finish_says k n v names there is = hands_by a t is refl (by_main s.main refl)
+  finish_says k n v names there is = hands_by a t is refl refl (by_main s.main refl)
     where
       t : Core
       t = take_result n s.core
@@ -299,7 +306,7 @@ module _ (x : Setting) (s : State) (l : Label) where
   polled_walks n i (Ends v) t at poll is =
       let new = poll_ends i v s.core in
       idle (Turn.Futures n) s.core (Turn.Take true) s.main (Label.Loop (LoopLabel.FutureEnds i)) new refl (same_main s.main new) is.0 is.1
-      (writes_by _ _ is.0 refl (λ sub e says. said_is (λ d g. Writes (idle_scene (Turn.Futures n) s.core (Turn.Take true)) new d) says (WritesPolled i is.0 (n, (refl, at)) (poll_ended i v s.core))))
+      (writes_by _ _ is.0 refl refl (λ sub e says. said_is (λ d g. Writes (idle_scene (Turn.Futures n) s.core (Turn.Take true)) new d × EndTells (idle_scene (Turn.Futures n) s.core (Turn.Take true)) new d g) says (WritesPolled i is.0 (n, (refl, at)) (poll_ended i v s.core), TellsLater i _)))
       (followed_walks n i v at is.0 poll)
   polled_walks n i FailsNow t at poll is = idle (Turn.Futures n) s.core Turn.Over s.main (Label.Loop (LoopLabel.FutureFails i)) (set_trapped s.core) refl (same_main s.main _) is.0 is.1 (mute_words _ _ is.0 refl) (word SetTrapped tt NoWord)
 
@@ -346,9 +353,9 @@ module _ (x : Setting) (s : State) (l : Label) where
   host_entry_walks ended m i t at true may is =
       let base = popped m s.core in
       let a = scene_at (Turn.Take ended) (Some (m, Entry.Host i)) Turn.Main in
-      let taken_first : Keep a s.core (told_end i base) = subst (λ (u : Core). Keep a s.core (told_end i u)) (popped_shifted m s.core).only (word (TakeHost m i) at NoWord) in
+      let taken_first : Keep a s.core (told_end i base) = subst (λ (u : Core). Keep a s.core (told_end i u)) (popped_shifted m s.core).only (word (TakeHost m i) (at, (woken_of l, is.0)) NoWord) in
       idle (Turn.Take ended) base Turn.Main s.main (host_label m i (woken_of l)) (host_done i (woken_of l) base) (grind arith) (same_main s.main _) is.0 is.1
-      (mute_words a _ is.0 (grind arith)) (host_done_walks i (woken_of l) base may taken_first)
+      (takes_by a _ is.0 (grind arith) (λ j at. rw (taken_is m i (woken_of l) j at) (host_frees {b = s.core} i (woken_of l) base (popped_same m s.core) may taken_first))) (host_done_walks i (woken_of l) base may taken_first)
   host_entry_walks ended m i t at false may is = absurd is
 
   entry_walks : (ended : Bool) (m : Mark) (e : Entry) (t : State) → next_entry s.core ≡ Some (m, e) → Progresses s (popped m s.core) (entry_number e) (take_row m (choice_of l) (popped m s.core) e) l t → WalkedBy (scene_at (Turn.Take ended) (Some (m, e))) s.core s.main t

@@ -1,15 +1,6 @@
 -- The rows of ops as chains of words: what a row owes, the ops on registers and words, and the ops that end a task or an activation.
-use Rattle.task_rules.proofs.ChainLemmas.{Going, Keep, keep_stay, trip_walk, stay_walk}
-use Rattle.task_rules.proofs.SayLemmas.{said_is}
-use Rattle.task_rules.proofs.MuteLemmas.{both_none, is_mute, mute_words, none_said, says_by, writes_by}
-use Rattle.task_rules.proofs.WalkEnds.{cancelled_rest, returned_rest, call_ends, ends_untold, ended_last, returned_last}
-use Rattle.task_rules.proofs.Machine.{[], Advance, advanced, and_parts, answered, ap, ap₂, arith, assigned, AwaitsEvent, backpressure_of, begun_holder, blocking_exit_row, blocking_exits, Bool, BySetHandle, Call, CallEnd, cancel_was_delivered, change, checked, Choice, code_exits, code_finds, code_kind_row, code_row, code_stops, code_wait_row, code_waits, code_yields, ComesAgain, Component, component_of, Core, data_row, DataLabel, DataOp, Delivery, direct_exit_to, direct_exits, end_for, end_reopens, EndCall, ended, ends_activation, EndsActivation, EndsByExit, EndsCall, EndsOwn, EndWords, exit_label, exit_restores, exit_row_for, exit_stops, Exits, ExportKind, Fails, false, FindsEvent, foot_of, get, get-change, GivesUp, goal_of, Goes, GoesBack, handed_by, HandsOut, has_ended, has_event_for, HasSet, held_by_flag, holder_at_exit, HowFar, if◌then◌else◌, implicit_exit_row, inl, inr, instance_of, is_async_lifted, is_at, is_code_op, is_direct, is_ending_exit, is_exit, is_explicit, is_holding, is_none, is_over, is_running, is_under, IsPermutation, IsRunner, kind_exit_row, kind_of, Label, LastWords, Leaves, leaves_no_result, length, List, Main, Mark, may, may_tell, MayBar, MayEnd, MayOwe, min, Move, moved_to, nat_le, nat_lt, nat_tests, Never, None, NoneHeldIn, not, NoWord, numbers, on_call, on_instance, on_thread, Op, op_at_place, op_in, op_of, Option, option_map, option_map_or, or_never, or_trap, Ordered, outcome_of_label, own_event_of, own_or_none, OwnEvent, passes_after_return, passes_after_stop, passes_check, Place, place_of, position_of, Progress, Put, Records, refl, register_of, Remains, ret_label, returned, returned_holder, ReturnsNow, saved_own_of, SaysEnd, Scene, script_of, set_at, set_backpressure, set_do_not_enter, set_do_not_suspend, set_end, set_how_far, set_place, SetBackpressure, SetDoNotEnter, SetDoNotSuspend, SetOwnEvent, SetRegister, SetSavedCallee, Setting, SetWord, skip_row, skipped, Some, Status, stopped, Stops, stored, subst, Subtask, SubtaskEnd, suc, sym, sync_exit_row, sync_exits, T, task_cancel_label, task_end, task_of, TaskLabel, TaskOp, Then, Thread, thread_exit_row, Trap, trap_if, Traps, Trip, true, Turn, Uncovers, under_of, unwrap_or, value_of, Walk, Why, Writes, WritesCall, WritesToo, written_by, zero, ℕ, ◌%◌, ◌&&◌, ◌*◌, ◌+◌, ◌-◌, ◌/◌, ◌==◌, ◌||◌, ◌∙◌, ◌∷◌, ◌≡◌, ◌≤◌, ◌⊎◌}
+use Rattle.task_rules.proofs.Walks.{[], Advance, advanced, and_parts, answered, ap, ap₂, arith, assigned, AwaitsEvent, backpressure_of, begun_holder, blocking_exit_row, blocking_exits, blocking_returned, Bool, both_none, BySetHandle, Call, call_ends, CallEnd, Caller, cancel_was_delivered, cancelled_rest, cancelled_tells, change, checked, checked_shifts, Choice, chosen_released, code_exits, code_finds, code_kind_row, code_row, code_stops, code_wait_row, code_waits, code_yields, ComesAgain, Component, component_of, Core, data_row, DataLabel, DataOp, Delivery, direct_exit_to, direct_exits, end_for, end_reopens, EndCall, ended, ended_last, ended_walks, ends_activation, ends_untold, EndsActivation, EndsByExit, EndsCall, EndsOwn, EndTells, EndWords, exit_label, exit_restores, exit_row_for, exit_stops, Exits, exits_trip, ExportKind, Fails, false, find_passes, FindsEvent, foot_of, get, get-change, GivesUp, Goal, goal_of, Goes, GoesBack, Going, handed_by, HandsOut, has_ended, has_event_for, HasSet, held_by_flag, holder_at_exit, host_taken, HowFar, if◌then◌else◌, implicit_exit_row, inl, inr, instance_of, is_async_lifted, is_at, is_code_op, is_direct, is_ending_exit, is_exit, is_explicit, is_guest_call, is_holding, is_mute, is_none, is_over, is_running, is_under, IsPermutation, IsRunner, Keep, keep_position, keep_stay, kind_exit_row, kind_of, Label, lands, last_of, last_shifted, LastEnds, LastWords, Leaves, leaves_no_result, Left, left_gone, length, List, Main, Mark, may, may_tell, MayBar, MayEnd, MayOwe, min, Move, moved_to, mute_words, nat_le, nat_lt, nat_tests, Never, None, none_said, NoneHeldIn, not, NoWord, numbers, on_call, on_instance, on_thread, Op, op_at_place, op_in, op_of, Option, option_map, option_map_or, or_never, or_trap, Ordered, outcome_of_label, own_event_of, own_or_none, OwnEvent, passes_after_return, passes_after_stop, passes_check, Place, place_of, placing_shifted, position_of, Progress, Put, Records, refl, register_of, release_leaves, released_on, released_shifts, Remains, ret_label, returned, returned_holder, returned_last, returned_rest, returned_tells, ReturnsNow, said_is, saved_own_of, says_by, SaysEnd, Scene, script_of, set_at, set_backpressure, set_do_not_enter, set_do_not_suspend, set_end, set_how_far, set_place, SetBackpressure, SetDoNotEnter, SetDoNotSuspend, SetOwnEvent, SetRegister, SetSavedCallee, Setting, SetWord, Shifted, shifted, shifted_after, shifted_calls, shifted_task, shifts_shifted, skip_row, skipped, Some, Status, stay_walk, stopped, stopped_shifts, Stops, stored, subst, Subtask, SubtaskEnd, suc, sym, sync_exit_row, sync_exits, T, task_cancel_label, task_end, task_of, TaskLabel, TaskOp, TellsNever, Then, Thread, thread_exit_row, told_to, ToldTo, Trap, trap_if, Traps, Trip, trip_walk, true, Turn, Uncovers, under_of, unwrap_or, value_of, Walk, Why, word, Writes, writes_by, WritesCall, WritesToo, written_by, zero, ℕ, ◌%◌, ◌&&◌, ◌*◌, ◌+◌, ◌-◌, ◌/◌, ◌==◌, ◌||◌, ◌∙◌, ◌∷◌, ◌≡◌, ◌≤◌, ◌⊎◌}
 use Rattle.task_rules.specs.Task.{dec_from, dec_lowers, dec_opens, held_by_counter, inc_raises, ret_done, ret_row, task_cancel_done, task_cancel_row, task_row}
-use Rattle.task_rules.proofs.StopLemmas.{find_passes}
-use Rattle.task_rules.proofs.PlacingLemmas.{Shifted, shifted_calls, shifted_task, shifts_shifted, placing_shifted, shifted_after}
-use Rattle.task_rules.proofs.ReleaseLemmas.{release_leaves, released_on}
-use Rattle.task_rules.proofs.WalkMoves.{keep_position, ToldTo, checked_shifts, chosen_released, ended_walks, exits_trip, lands, released_shifts, shifted, stopped_shifts, told_to, word, Left, left_gone}
-use Rattle.task_rules.proofs.CallThreads.{LastEnds, last_of, last_shifted}
 
 -- ---- The op in its script
 
@@ -143,17 +134,18 @@ module _ {a : Scene} {b : Core} (n : ℕ) (is : IsRunner a n) where
   unfolding exit_stops
   exit_stops_walks {t = t} last c = ended_walks n (last_shifted n (shifted_after (shifts_shifted (checked_shifts (instance_of n t) t)) (shifts_shifted (stopped_shifts (foot_of n t) (checked (instance_of n t) t)))) last) (shifted (stopped_shifts (foot_of n t) (checked (instance_of n t) t)) (shifted (checked_shifts (instance_of n t) t) c))
 
-  sync_exits_walks : (w : Option ℕ) (t : Core) → SaysEnd a (task_of n t) Status.Returned → ToldTo (task_of n t) w (exit_restores n t) → Keep a b (call_ends (task_of n t) CallEnd.Returned (exit_restores n t)) → Left a b n (sync_exits n w t)
+  -- once the task has returned
+  sync_exits_walks : (w : Option ℕ) (t : Core) → ToldTo (task_of n t) w (exit_restores n t) → Keep a b (returned (task_of n t) (register_of n 0 t) w (exit_restores n t)) → Left a b n (sync_exits n w t)
   unfolding sync_exits exit_restores set_do_not_suspend on_instance
-  sync_exits_walks w t says to c =
+  sync_exits_walks w t to c =
       let r = returned (task_of n t) (register_of n 0 t) w (exit_restores n t) in
-      ended_walks n (last_shifted n (shifts_shifted (stopped_shifts (foot_of n t) r)) (returned_last n (task_of n t) (register_of n 0 t) w (exit_restores n t) to refl)) (shifted (stopped_shifts (foot_of n t) r) (returned_rest (task_of n t) (register_of n 0 t) w (exit_restores n t) says to c))
+      ended_walks n (last_shifted n (shifts_shifted (stopped_shifts (foot_of n t) r)) (returned_last n (task_of n t) (register_of n 0 t) w (exit_restores n t) to refl)) (shifted (stopped_shifts (foot_of n t) r) c)
 
-  blocking_exits_walks : (w : Option ℕ) (order : List ℕ) (t : Core) → SaysEnd a (task_of n t) Status.Returned → ToldTo (task_of n t) w (end_reopens (instance_of n t) order t) → Keep a b (call_ends (task_of n t) CallEnd.Returned (end_reopens (instance_of n t) order t)) → Left a b n (blocking_exits n w order t)
+  blocking_exits_walks : (w : Option ℕ) (order : List ℕ) (t : Core) → ToldTo (task_of n t) w (end_reopens (instance_of n t) order t) → Keep a b (blocking_returned n w order t) → Left a b n (blocking_exits n w order t)
   unfolding blocking_exits set_do_not_enter on_instance
-  blocking_exits_walks w order t says to c =
+  blocking_exits_walks w order t to c =
       let r = end_reopens (instance_of n t) order t in
-      exit_stops_walks (returned_last n (task_of n t) (register_of n 0 t) w r to (shifted_task (reopened_shifted (instance_of n t) order t) n)) (returned_rest (task_of n t) (register_of n 0 t) w r says to c)
+      exit_stops_walks (returned_last n (task_of n t) (register_of n 0 t) w r to (shifted_task (reopened_shifted (instance_of n t) order t) n)) c
 
   -- the thread m goes on, under which n ran
   direct_exits_walks : (m v : ℕ) (t : Core) → is_direct (goal_of (task_of n t) t) ≡ true → a.turn ≡ Turn.Run n → a.next ≡ Turn.Run m → place_of m a.base ≡ Some (Place.Under n) → Keep a b (call_ends (task_of n t) CallEnd.Returned t) → Trip a b (direct_exits n m v t) × (get (direct_exits n m v t).threads n ≡ None)
@@ -251,16 +243,16 @@ module _ (x : Setting) (main : Main) (s : Core) (n : ℕ) (l : Label) (next : Tu
   exit_says t w is implicit kind = ap (λ (k : Label). written_by x.component s k t) is ∙ exit_ends w t implicit kind
 
   -- the label says an end of the task
-  writes_task : (f : Status) (t u : Core) {o : Option SubtaskEnd} → o ≡ task_end n f s → EndsCall a (task_of n s) → is_over (task_of n s) u ≡ true → Walk a u t → (sub : Subtask) (e : Status) → o ≡ Some (end_for e sub) → Writes a t sub
-  writes_task f t u is ends over c sub e says = said_is (λ d g. Writes a t d) (sym is ∙ says) (WritesCall (task_of n s) u ends over c)
+  writes_task : (f : Status) (t u : Core) {o : Option SubtaskEnd} → o ≡ task_end n f s → EndsCall a (task_of n s) → is_over (task_of n s) u ≡ true → Walk a u t → EndTells a t (Subtask.Guest (task_of n s)) f → (sub : Subtask) (e : Status) → o ≡ Some (end_for e sub) → Writes a t sub × EndTells a t sub e
+  writes_task f t u is ends over c tells sub e says = said_is (λ d g. Writes a t d × EndTells a t d g) (sym is ∙ says) (WritesCall (task_of n s) u ends over c, tells)
 
   -- an exit that ends no task
   exit_is_none : (t : Core) → is_ending_exit n s ≡ false → l ≡ exit_label n None → EndWords a t
   exit_is_none t none is = mute_words a t is (grind (arith, none))
 
   -- an exit that ends the task
-  exit_says_end : (w : Option ℕ) (t : Core) → l ≡ exit_label n w → is_explicit n s ≡ false → is_async_lifted (kind_of (task_of n s) s) ≡ false → is_direct (goal_of (task_of n s) s) ≡ false → (u : Core) → is_over (task_of n s) u ≡ true → Walk a u t → EndWords a t
-  exit_says_end w t is implicit kind direct u over c = writes_by a t is (grind (arith, direct)) (writes_task Status.Returned t u (exit_ends w t implicit (inr kind)) (EndsByExit (n, (refl, (refl, (implicit, inr kind))))) over c)
+  exit_says_end : (w : Option ℕ) (t : Core) → l ≡ exit_label n w → is_explicit n s ≡ false → is_async_lifted (kind_of (task_of n s) s) ≡ false → is_direct (goal_of (task_of n s) s) ≡ false → (u : Core) → is_over (task_of n s) u ≡ true → Walk a u t → EndTells a t (Subtask.Guest (task_of n s)) Status.Returned → EndWords a t
+  exit_says_end w t is implicit kind direct u over c tells = writes_by a t is (grind arith) (grind (arith, direct)) (writes_task Status.Returned t u (exit_ends w t implicit (inr kind)) (EndsByExit (n, (refl, (refl, (implicit, inr kind))))) over c tells)
 
   thread_exit_row_leads : is_ending_exit n s ≡ false → Leads a s (thread_exit_row n s)
   thread_exit_row_leads none =
@@ -278,9 +270,13 @@ module _ (x : Setting) (main : Main) (s : Core) (n : ℕ) (l : Label) (next : Tu
       let k = task_of n s in
       let t = exit_restores n s in
       let told = told_to k w s may in
+      let over : l ≡ exit_label n w → Keep a s (call_ends k CallEnd.Returned t) = λ at. word (EndCall k CallEnd.Returned) (exits w t at implicit (inr kind) refl, exit_says s w at implicit (inr kind)) (word (SetDoNotSuspend (instance_of n s) (unwrap_or (saved_own_of n s) false)) tt NoWord) in
       gone_here (exit_label n w) (sync_exits n w s) (exit_is n w s).0
-      (λ at leave. exit_says_end w (sync_exits n w s) at implicit kind direct (call_ends k CallEnd.Returned t) (over_now k CallEnd.Returned t) (trip_walk (exits_trip n leave (sync_exits_walks n refl w s (exit_says s w at implicit (inr kind)) told NoWord))))
-      (λ at. sync_exits_walks n refl w s (exit_says s w at implicit (inr kind)) told (word (EndCall k CallEnd.Returned) (exits w t at implicit (inr kind) refl, exit_says s w at implicit (inr kind)) (word (SetDoNotSuspend (instance_of n s) (unwrap_or (saved_own_of n s) false)) tt NoWord))))
+      (λ at leave.
+      let says = exit_says s w at implicit (inr kind) in
+      exit_says_end w (sync_exits n w s) at implicit kind direct (call_ends k CallEnd.Returned t) (over_now k CallEnd.Returned t) (trip_walk (exits_trip n leave (sync_exits_walks n refl w s told (returned_rest k (register_of n 0 s) w t says told NoWord))))
+      (returned_tells k (register_of n 0 s) w t says told refl refl (over at) (trip_walk (exits_trip n leave (sync_exits_walks n refl w s told NoWord)))))
+      (λ at. sync_exits_walks n refl w s told (returned_rest k (register_of n 0 s) w t (exit_says s w at implicit (inr kind)) told (over at))))
 
   -- where a holding entry returns
   bars : (w : Option ℕ) → l ≡ exit_label n w → is_explicit n s ≡ false → is_holding (kind_of (task_of n s) s) ≡ true → is_direct (goal_of (task_of n s) s) ≡ false → MayBar a (instance_of n s) false
@@ -297,9 +293,13 @@ module _ (x : Setting) (main : Main) (s : Core) (n : ℕ) (l : Label) (next : Tu
       let same = shifted_calls (reopened_shifted i order s) in
       let lifted : is_async_lifted (kind_of (task_of n s) s) ≡ false = ap (λ y. is_async_lifted y) kind in
       let told : ToldTo k w t = λ is y at. chosen_released order y w (set_do_not_enter i false s) (told_to k w s may (grind (arith, is, same)) y (grind (arith, at, same))) in
+      let over : l ≡ exit_label n w → Keep a s (call_ends k CallEnd.Returned t) = λ at. word (EndCall k CallEnd.Returned) (exits w t at implicit (inr lifted) same, exit_says s w at implicit (inr lifted)) (reopens_walks n refl i order (bars w at implicit (ap (λ y. is_holding y) kind) direct) perm NoWord) in
       gone_here (exit_label n w) (blocking_exits n w order s) (exit_is n w s).0
-      (λ at leave. exit_says_end w (blocking_exits n w order s) at implicit lifted direct (call_ends k CallEnd.Returned t) (over_now k CallEnd.Returned t) (trip_walk (exits_trip n leave (blocking_exits_walks n refl w order s (exit_says s w at implicit (inr lifted)) told NoWord))))
-      (λ at. blocking_exits_walks n refl w order s (exit_says s w at implicit (inr lifted)) told (word (EndCall k CallEnd.Returned) (exits w t at implicit (inr lifted) same, exit_says s w at implicit (inr lifted)) (reopens_walks n refl i order (bars w at implicit (ap (λ y. is_holding y) kind) direct) perm NoWord)))))
+      (λ at leave.
+      let says = exit_says s w at implicit (inr lifted) in
+      exit_says_end w (blocking_exits n w order s) at implicit lifted direct (call_ends k CallEnd.Returned t) (over_now k CallEnd.Returned t) (trip_walk (exits_trip n leave (blocking_exits_walks n refl w order s told (returned_rest k (register_of n 0 s) w t says told NoWord))))
+      (returned_tells k (register_of n 0 s) w t says told refl (ap (λ (m : Records Call). is_guest_call (option_map_or (λ (c : Call). c.caller) (get m k) Caller.Main) && not (is_direct (option_map_or (λ (c : Call). c.goal) (get m k) Goal.Nowhere))) same) (over at) (trip_walk (exits_trip n leave (blocking_exits_walks n refl w order s told NoWord)))))
+      (λ at. blocking_exits_walks n refl w order s told (returned_rest k (register_of n 0 s) w t (exit_says s w at implicit (inr lifted)) told (over at)))))
 
   direct_leads : (m : ℕ) (t : Core) → under_of n s ≡ Some m → is_explicit n s ≡ false → is_direct (goal_of (task_of n s) s) ≡ true → task_of n t ≡ task_of n s → t.calls ≡ s.calls → Keep a s t → Leads a s (Goes (exit_label n None) (direct_exits n m (register_of n 0 s) t) m)
   direct_leads m t under implicit direct task calls c =
@@ -309,8 +309,8 @@ module _ (x : Setting) (main : Main) (s : Core) (n : ℕ) (l : Label) (next : Tu
       let says : l ≡ exit_label n None → SaysEnd a (task_of n t) Status.Returned = λ is. subst (λ (k : ℕ). SaysEnd a k Status.Returned) (sym task) (exit_says s None is implicit (inl direct)) in
       λ here over.
       goes_over (exit_label n None) m (direct_exits n m v t) refl (inr (direct_exits_runs n m v t))
-      (λ at. says_by a _ at
-      (writes_task Status.Returned _ (call_ends (task_of n t) CallEnd.Returned t) (exit_ends None (direct_exits n m v t) implicit (inl direct)) (EndsByExit (n, (refl, (refl, (implicit, inl direct))))) (subst (λ (i : ℕ). is_over k (call_ends i CallEnd.Returned t) ≡ true) (sym task) (over_now k CallEnd.Returned t)) (trip_walk (direct_exits_walks n refl m v t is_so refl over (under_place n m s under) NoWord).0))
+      (λ at. says_by a _ at refl
+      (writes_task Status.Returned _ (call_ends (task_of n t) CallEnd.Returned t) (exit_ends None (direct_exits n m v t) implicit (inl direct)) (EndsByExit (n, (refl, (refl, (implicit, inl direct))))) (subst (λ (i : ℕ). is_over k (call_ends i CallEnd.Returned t) ≡ true) (sym task) (over_now k CallEnd.Returned t)) (trip_walk (direct_exits_walks n refl m v t is_so refl over (under_place n m s under) NoWord).0) (TellsNever k Status.Returned (grind (arith, direct))))
       (λ sub e out. said_is (HandsOut a (direct_exits n m v t)) (sym (ap₂ (λ (f g : Bool). if not f && g then task_end n Status.Returned s else None) implicit direct) ∙ out) (WritesToo k Status.Returned (exit_says s None at implicit (inl direct)) (inl direct))))
       (λ is to.
       let r = direct_exits_walks n refl m v t is_so refl to (under_place n m s under) (word (EndCall (task_of n t) CallEnd.Returned) (subst (λ (k : ℕ). MayEnd a k CallEnd.Returned t) (sym task) (exits None t is implicit (inl direct) calls), says is) c) in
@@ -375,8 +375,13 @@ module _ (x : Setting) (main : Main) (s : Core) (n : ℕ) (l : Label) (next : Tu
   -- ---- The task and backpressure
 
   -- the task comes to an end that it hadn't
-  task_says : (f : Status) (t : Core) {k : Label} → l ≡ k → written_by x.component s k t ≡ task_end n f s → handed_by x.component main s k t ≡ None → has_ended (task_of n s) s ≡ false → (u : Core) → is_over (task_of n s) u ≡ true → Walk a u t → EndWords a t
-  task_says f t at is none unended u over c = writes_by a t at none (writes_task f t u is (EndsOwn n refl refl unended) over c)
+  task_says : (f : Status) (t : Core) {k : Label} → l ≡ k → written_by x.component s k t ≡ task_end n f s → handed_by x.component main s k t ≡ None → host_taken k ≡ None → has_ended (task_of n s) s ≡ false → (u : Core) → is_over (task_of n s) u ≡ true → Walk a u t → EndTells a t (Subtask.Guest (task_of n s)) f → EndWords a t
+  task_says f t at is none other unended u over c tells = writes_by a t at other none (writes_task f t u is (EndsOwn n refl refl unended) over c tells)
+
+  -- the op is done
+  advances_last : Stands a s n → {r : Core} → Keep a s r → next ≡ Turn.Run n → Walk a r (advanced n r)
+  unfolding advanced
+  advances_last on {r = r} c to = stay_walk (moved_to_walks n refl (position_of n r + 1) refl (let low = keep_position n c in let high = on.1 in omega (arith, low, high)) NoWord to)
 
   on_after_end : Stands a s n → (k : ℕ) (e : CallEnd) → Stands a (call_ends k e s) n
   unfolding on_call
@@ -391,12 +396,14 @@ module _ (x : Setting) (main : Main) (s : Core) (n : ℕ) (l : Label) (next : Tu
       let k = task_of n s in
       let told = told_to k w s may in
       let is_so = ret_is x.component main n v w s in
+      let over : l ≡ ret_label n v w → Keep a s (call_ends k CallEnd.Returned s) = λ is. word (EndCall k CallEnd.Returned) (ReturnsNow n refl refl refl unended (unnot (is_async_lifted (kind_of k s)) lifted) refl, ap (λ (k : Label). written_by x.component s k s) is ∙ (is_so s).1.0) NoWord in
       goes_on_told (ret_label n v w) (ret_done n v w s) (is_so s).0
-      (λ is to. task_says Status.Returned (ret_done n v w s) is (is_so (ret_done n v w s)).1.0 (is_so (ret_done n v w s)).1.1 unended (call_ends k CallEnd.Returned s) (over_now k CallEnd.Returned s)
-      (stay_walk (advanced_walks n refl (on_after_end on k CallEnd.Returned) (returned_rest k v w s (ap (λ (k : Label). written_by x.component s k s) is ∙ (is_so s).1.0) told NoWord) to)))
-      (λ is.
+      (λ is to.
       let says : SaysEnd a k Status.Returned = ap (λ (k : Label). written_by x.component s k s) is ∙ (is_so s).1.0 in
-      advanced_walks n refl on (returned_rest k v w s says told (word (EndCall k CallEnd.Returned) (ReturnsNow n refl refl refl unended (unnot (is_async_lifted (kind_of k s)) lifted) refl, says) NoWord))))))
+      task_says Status.Returned (ret_done n v w s) is (is_so (ret_done n v w s)).1.0 (is_so (ret_done n v w s)).1.1 (grind arith) unended (call_ends k CallEnd.Returned s) (over_now k CallEnd.Returned s)
+      (stay_walk (advanced_walks n refl (on_after_end on k CallEnd.Returned) (returned_rest k v w s says told NoWord) to))
+      (returned_tells k v w s says told refl refl (over is) (advances_last on (returned_rest k v w s says told (over is)) to)))
+      (λ is. advanced_walks n refl on (returned_rest k v w s (ap (λ (k : Label). written_by x.component s k s) is ∙ (is_so s).1.0) told (over is))))))
 
   task_cancel_row_leads : Stands a s n → (w : Option ℕ) → Leads a s (task_cancel_row n w s)
   unfolding task_cancel_done
@@ -407,10 +414,12 @@ module _ (x : Setting) (main : Main) (s : Core) (n : ℕ) (l : Label) (next : Tu
       let k = task_of n s in
       let told = told_to k w s may in
       let is_so = task_cancel_is x.component main n w s in
+      let over : l ≡ task_cancel_label n w → Keep a s (call_ends k CallEnd.ReturnCancelled s) = λ is. word (EndCall k CallEnd.ReturnCancelled) (GivesUp n refl refl refl unended (unnot (cancel_was_delivered k s) delivered) refl, ap (λ (k : Label). written_by x.component s k s) is ∙ (is_so s).1.0) NoWord in
       goes_on_told (task_cancel_label n w) (task_cancel_done n w s) (is_so s).0
-      (λ is to. task_says Status.ReturnCancelled (task_cancel_done n w s) is (is_so (task_cancel_done n w s)).1.0 (is_so (task_cancel_done n w s)).1.1 unended (call_ends k CallEnd.ReturnCancelled s) (over_now k CallEnd.ReturnCancelled s)
-      (stay_walk (advanced_walks n refl (on_after_end on k CallEnd.ReturnCancelled) (cancelled_rest k w s told NoWord) to)))
-      (λ is. advanced_walks n refl on (cancelled_rest k w s told (word (EndCall k CallEnd.ReturnCancelled) (GivesUp n refl refl refl unended (unnot (cancel_was_delivered k s) delivered) refl, ap (λ (k : Label). written_by x.component s k s) is ∙ (is_so s).1.0) NoWord))))))
+      (λ is to. task_says Status.ReturnCancelled (task_cancel_done n w s) is (is_so (task_cancel_done n w s)).1.0 (is_so (task_cancel_done n w s)).1.1 (grind arith) unended (call_ends k CallEnd.ReturnCancelled s) (over_now k CallEnd.ReturnCancelled s)
+      (stay_walk (advanced_walks n refl (on_after_end on k CallEnd.ReturnCancelled) (cancelled_rest k w s told NoWord) to))
+      (cancelled_tells k w s told refl refl (over is) (advances_last on (cancelled_rest k w s told (over is)) to)))
+      (λ is. advanced_walks n refl on (cancelled_rest k w s told (over is))))))
 
   dec_from_leads : Stands a s n → (b : ℕ) → backpressure_of (instance_of n s) s ≡ b → Leads a s (dec_from n s b)
   unfolding dec_lowers dec_opens held_by_counter set_backpressure

@@ -3,9 +3,10 @@ use Rattle.task_machine.specs.declared.records.Course.{Course}
 use Rattle.std.specs.Option.{option_map_or}
 use Rattle.std.specs.Prelude.{◌≤◌, length, Bool, None, Option, Some, [], false, is_none, true, ℕ, ◌||◌, ◌∷◌, ◌≡◌, ◌⊎◌, not, is_some, ◌==◌}
 use Rattle.task_machine.specs.Core.{Core, MainPlace, Scripted, Unscripted}
+use Rattle.task_machine.specs.Labels.{host_label}
 use Rattle.task_machine.specs.Maps.{get}
 use Rattle.task_machine.specs.Moves.{has_entry, is_callback_waiter, is_deletable, is_group_done}
-use Rattle.task_machine.specs.Read.{admits, caller_of, cancel_was_delivered, course_of, course_value, end_of, event_of, goal_of, has_ended, has_member, has_waiters, how_far_of, position_of, instance_of, is_async_lifted, is_at, is_direct, is_explicit, is_joined, is_stage_ended, is_waiter, is_watched, join_of, kind_of, may_not_enter, next_entry, own_event_of, phase_of, place_of, set_at, stage_of, subtask_at, subtask_ended, subtask_handle, task_of, thread_group, was_started, work_caller_of, is_guest_call, is_aborted, is_blocked_on, foot_of}
+use Rattle.task_machine.specs.Read.{admits, caller_of, cancel_was_delivered, course_of, course_value, end_of, event_of, goal_of, has_ended, has_member, has_waiters, how_far_of, position_of, instance_of, is_async_lifted, is_at, is_direct, is_explicit, is_joined, is_stage_ended, is_waiter, is_watched, join_of, kind_of, may_not_enter, next_entry, own_event_of, phase_of, place_of, set_at, stage_of, subtask_at, subtask_ended, subtask_handle, undelivered_end, task_of, thread_group, was_started, work_caller_of, is_guest_call, is_aborted, is_blocked_on, foot_of}
 use Rattle.task_machine.specs.Write.{set_backpressure, set_do_not_enter}
 use Rattle.task_machine.specs.declared.component.Callee.{Callee}
 use Rattle.task_machine.specs.declared.component.ExportKind.{ExportKind}
@@ -206,8 +207,9 @@ pub data MayMove (a : Scene) (n : ℕ) (p : Place) (s : Core) : Type 0 where
   -- its activation ends, and it waits for an event
   AwaitsEvent : (x : ℕ) → Leaves a n → EndsActivation a n → HasSet a n x → p ≡ place.Waiting x true → MayMove a n p s
   Waits : (x : ℕ) → Leaves a n → HasSet a n x → p ≡ place.Waiting x false → MayMove a n p s
-  -- its op waits for a subtask of its own, or for a new one
-  Blocks : (sub : Subtask) → Leaves a n → HasSubtask a n sub ⊎ IsNew a sub s → p ≡ place.Blocked sub → MayMove a n p s
+  -- its op waits for a subtask of its own, or for a new one, that has no end to tell
+  Blocks : (sub : Subtask) → Leaves a n → HasSubtask a n sub ⊎ IsNew a sub s →
+      (undelivered_end (event_of sub s) ≡ None) ⊎ (subtask_ended sub s ≡ false) → p ≡ place.Blocked sub → MayMove a n p s
   Suspends : Leaves a n → p ≡ place.Suspended → MayMove a n p s
   -- its direct callee m ran, and is gone
   Uncovers : (m : ℕ) → IsRunner a m → a.next ≡ turn.Run n → place_of n a.base ≡ Some (place.Under m) → is_none (get s.threads m) ≡ true →
@@ -263,8 +265,8 @@ MayCome a n (how_far.Calls (subtask.Guest k)) s = IsRunner a n × (((how_far_of 
     (how_far_of n s ≡ how_far.Calls (subtask.Guest k))) ⊎ (IsNew a (subtask.Guest k) s × HasCalled n k s))
 MayCome a n (how_far.Calls (subtask.Host i)) s = IsRunner a n × (IsNew a (subtask.Host i) s × ((work_caller_of i s ≡ work_caller.Sync n) ×
     (option_map_or (is_blocked_on (subtask.Host i)) (place_of n s) true ≡ true)))
-MayCome a n (how_far.Cancels sub) s = IsRunner a n × (MayCancel a n sub × (watches n sub s ≡ true))
-MayCome a n (how_far.AwaitsEnd sub) s = IsRunner a n × (MayCancel a n sub × (watches n sub s ≡ true))
+MayCome a n (how_far.Cancels sub) s = Leaves a n × (MayCancel a n sub × (watches n sub s ≡ true))
+MayCome a n (how_far.AwaitsEnd sub) s = Leaves a n × (MayCancel a n sub × (watches n sub s ≡ true))
 -- its direct callee, which ran, has come to a value
 MayCome a n (how_far.Answered v) s = (m : ℕ) × (IsRunner a m × ((a.next ≡ turn.Run n) × (place_of n a.base ≡ Some (place.Under m))))
 MayCome a n h s = IsRunner a n
@@ -298,7 +300,7 @@ pub data MayGo (a : Scene) (n : ℕ) (s : Core) : Type 0 where
   -- the running thread
   Departs : Leaves a n → MayGo a n s
   -- the running thread, and the one under it goes on
-  EndsOver : (m : ℕ) → IsRunner a n → a.next ≡ turn.Run m → place_of m a.base ≡ Some (place.Under n) → MayGo a n s
+  EndsOver : (m : ℕ) → IsRunner a n → a.turn ≡ turn.Run n → a.next ≡ turn.Run m → place_of m a.base ≡ Some (place.Under n) → MayGo a n s
   -- the strand that trapped: the thread that ran or was taken, and those that were under ones that are gone
   Falls : a.next ≡ turn.Over →
       IsRunner a n ⊎ ((m : ℕ) × ((place_of n a.base ≡ Some (place.Under m)) × (is_none (get s.threads m) ≡ true))) → MayGo a n s
@@ -427,7 +429,8 @@ MayNameCall a i k s = (n : ℕ) × ((a.turn ≡ turn.Run n) × ((i ≡ instance_
 -- the handle names the subtask, which is in no set any more
 abbrev pub MayUnname : Scene → ℕ → ℕ → Subtask → Core → Type 0
 MayUnname a i h sub s = (n : ℕ) ×
-    (IsRunner a n × ((i ≡ instance_of n a.base) × ((subtask_at i h s ≡ Some sub) × (is_joined (join_of sub s) ≡ false))))
+    (IsRunner a n × ((i ≡ instance_of n a.base) × ((subtask_at i h s ≡ Some sub) × ((is_joined (join_of sub s) ≡ false) ×
+    (a.next ≡ turn.Run n)))))
 
 -- ---- Works
 
@@ -447,12 +450,11 @@ IsPolled a i s = (n : ℕ) × ((a.turn ≡ turn.Futures n) × (next_polled n s �
 
 -- the sync call of the running thread is answered, and done, or its ended subtask is dropped; whose the work is is as before the step
 abbrev pub MayRemoveWork : Scene → ℕ → Core → Type 0
-MayRemoveWork a i s = (n : ℕ) × (IsRunner a n ×
-    (((how_far_of n a.base ≡ how_far.Calls (subtask.Host i)) × ((how_far_of n s ≡ how_far.Fresh) ×
-    (work_caller_of i s ≡ work_caller_of i a.base))) ⊎
+MayRemoveWork a i s = (n : ℕ) × (IsRunner a n × ((work_caller_of i s ≡ work_caller_of i a.base) ×
+    (((how_far_of n a.base ≡ how_far.Calls (subtask.Host i)) × (how_far_of n s ≡ how_far.Fresh)) ⊎
     ((subtask_ended (subtask.Host i) a.base ≡ true) × ((subtask_handle (subtask.Host i) s ≡ None) ×
     ((is_stage_ended (stage_of i s) ≡ true) ×
-    ((h : ℕ) × (subtask_at (instance_of n a.base) h a.base ≡ Some (subtask.Host i))))))))
+    ((h : ℕ) × (subtask_at (instance_of n a.base) h a.base ≡ Some (subtask.Host i)))))))))
 
 -- the loop polls the work to its end, and without a value where an abort was asked for
 abbrev pub MayFinish : Scene → ℕ → Course → Core → Type 0
@@ -505,7 +507,7 @@ Allowed a (Restart n) s = MayRestart a n
 Allowed a (SetHowFar n h) s = MayCome a n h s × CanCome a n h s
 Allowed a (MakeThread t) s = MayMake a t s
 Allowed a (RemoveThread n) s = MayGo a n s
-Allowed a (Withdraw k) s = MayWithdraw a k s
+Allowed a (Withdraw k) s = MayWithdraw a k s × SaysEnd a k status.StartCancelled
 Allowed a (MakeCall f e x g group words) s = MayMakeCall a f e x g group s
 Allowed a (SetStarted k) s = MayStart a k s
 Allowed a (EndCall k e) s = MayEnd a k e s × SaysEnd a k (status_of_end e)
@@ -522,7 +524,7 @@ Allowed a (TakePush m i) s = next_entry s ≡ Some (m, entry.Push i)
 Allowed a (Pend i host) s = IsPolled a i s
 Allowed a (EndWork i c) s = MayFinish a i c s × (is_async_work (work_caller_of i s) ≡ false)
 Allowed a (FinishWork i c) s = MayFinish a i c s × (is_async_work (work_caller_of i s) ≡ true)
-Allowed a (TakeHost m i) s = next_entry s ≡ Some (m, entry.Host i)
+Allowed a (TakeHost m i) s = (next_entry s ≡ Some (m, entry.Host i)) × ((w : Option ℕ) × (a.label ≡ host_label m i w))
 -- an abort is asked for
 Allowed a (SetPhase i p) s = MayAbort a i × (p ≡ aborted_phase (phase_of i s))
 Allowed a (SetCancelled i) s = IsOwn a (subtask.Host i)

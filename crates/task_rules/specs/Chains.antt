@@ -6,7 +6,7 @@ use Rattle.task_rules.specs.Calls.{next_work}
 use Rattle.task_rules.specs.SubtaskEnds.{end_for, handed_by, written_by}
 use Rattle.task_machine.specs.declared.words.Status.{Status}
 use Rattle.std.specs.Option.{option_map_or}
-use Rattle.std.specs.Prelude.{Bool, None, Some, false, is_some, true, ℕ, ◌≡◌, ◌⊎◌}
+use Rattle.std.specs.Prelude.{Bool, None, Option, Some, false, is_some, true, ℕ, ◌==◌, ◌≡◌, ◌⊎◌}
 use Rattle.task_machine.specs.Core.{Core, Main, Scripted, State, Unscripted, MainPlace}
 use Rattle.task_machine.specs.Maps.{get}
 use Rattle.task_machine.specs.Moves.{ended}
@@ -15,6 +15,7 @@ use Rattle.task_machine.specs.declared.label.Label.{Label}
 use Rattle.task_machine.specs.declared.outcome.Outcome.{Outcome}
 use Rattle.task_machine.specs.declared.records.Place.{Place}
 use Rattle.task_machine.specs.declared.records.Turn.{Turn}
+use Rattle.task_rules.specs.Ends.{is_told}
 use Rattle.task_rules.specs.Allowed.{Allowed, IsRunner, MayShift, SaysEnd, is_exit, IsPolled, IsNamed, IsFall, IsSettling, Leaves, MayLand, MayMove, Stays}
 use Rattle.task_machine.specs.declared.records.HowFar.{HowFar}
 use Rattle.task_rules.specs.Laws.{is_free}
@@ -30,6 +31,7 @@ use Rattle.task_machine.specs.declared.words.Status.TheVariants as status
 use Rattle.task_machine.specs.declared.records.Subtask.TheVariants as subtask
 use Rattle.task_machine.specs.declared.records.HowFar.TheVariants as how_far
 use Rattle.task_machine.specs.declared.label.Label.TheVariants as label
+use Rattle.task_machine.specs.declared.label.TakeLabel.TheVariants as take_label
 use Rattle.task_machine.specs.declared.label.LoopLabel.TheVariants as loop_label
 use Rattle.task_machine.specs.declared.records.Place.TheVariants as place
 use Rattle.task_machine.specs.declared.records.Turn.TheVariants as turn
@@ -149,10 +151,42 @@ pub data HandsOut (a : Scene) (t : Core) : Subtask → Status → Type 0 where
   Answers : (n i : ℕ) → IsRunner a n → how_far_of n a.base ≡ how_far.Calls (subtask.Host i) → get t.works i ≡ None →
       HandsOut a t (subtask.Host i) status.Returned
 
+-- What becomes of those who are blocked on the subtask as its event is set: by the changes of places from `before` to `after` one of them
+-- gets its entry, if there is one.
+pub record Frees (a : Scene) (t : Core) (sub : Subtask) : Type 0 where
+  pub first : Core
+  pub home : first.threads ≡ a.base.threads
+  pub before : Core
+  pub after : Core
+  pub stays : Stay a first before
+  pub shifts : Shifts before after
+  pub rest : Walk a after t
+  -- who is blocked on it still was so beside another one
+  pub freed : (n : ℕ) → place_of n after ≡ Some (place.Blocked sub) →
+      (m : ℕ) × ((place_of m before ≡ Some (place.Blocked sub)) × ((n == m) ≡ false))
+
+-- Whether an end that the label says is set as the event of its subtask.
+pub data EndTells (a : Scene) (t : Core) : Subtask → Status → Type 0 where
+  TellsNow : (sub : Subtask) (e : Status) → Frees a t sub → EndTells a t sub e
+  -- that of a direct call, or of one that main made, isn't
+  TellsNever : (k : ℕ) (e : Status) → is_told k a.base ≡ false → EndTells a t (subtask.Guest k) e
+  -- that of a withdrawn start isn't
+  TellsNone : (sub : Subtask) → EndTells a t sub status.StartCancelled
+  -- that of a host's work is, as its entry is taken
+  TellsLater : (i : ℕ) (e : Status) → EndTells a t (subtask.Host i) e
+
+-- the work whose entry is taken
+abbrev pub host_taken : Label → Option ℕ
+host_taken (label.Take (take_label.Host m i)) = Some i
+host_taken (label.Take (take_label.HostWakes m i w)) = Some i
+host_taken _ = None
+
 -- What the label of a step says of the ends of subtasks.
 pub record EndWords (a : Scene) (t : Core) : Type 0 where
   pub writes : (sub : Subtask) (e : Status) → written_by (component_of a) a.base a.label t ≡ Some (end_for e sub) → Writes a t sub
   pub hands : (sub : Subtask) (e : Status) → handed_by (component_of a) a.main a.base a.label t ≡ Some (end_for e sub) → HandsOut a t sub e
+  pub tells : (sub : Subtask) (e : Status) → written_by (component_of a) a.base a.label t ≡ Some (end_for e sub) → EndTells a t sub e
+  pub takes : (i : ℕ) → host_taken a.label ≡ Some i → Frees a t (subtask.Host i)
 
 -- What the last words of a step leave.
 pub record LastWords (a : Scene) (t : Core) : Type 0 where

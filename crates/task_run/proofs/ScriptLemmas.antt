@@ -13,8 +13,8 @@ use Rattle.task_rules.specs.Step.{MainProgresses, ScriptStep}
 use Rattle.task_rules.specs.Stalled.{is_pending, pends_at}
 use Rattle.task_rules.specs.Turns.{at_turn}
 use Rattle.std.proofs.Common.{ap₂, Result, Ok, Err}
-use Rattle.task_calls.specs.declared.error.TaskError.{TaskError}
-use Rattle.task_calls.specs.declared.error.TaskError.TheVariants as task_error
+use Rattle.state_calls.specs.declared.error.TaskError.{TaskError}
+use Rattle.state_calls.specs.declared.error.TaskError.TheVariants as task_error
 use Rattle.task_machine.specs.declared.component.Callee.{Callee}
 use Rattle.task_machine.specs.declared.trap.Trap.{Trap}
 use Rattle.task_rules.specs.MainOps.{start_act}
@@ -23,13 +23,13 @@ use Rattle.task_words.specs.StateView.{StateView}
 use Rattle.task_turns.specs.Main as main
 use Rattle.task_turns.specs.Main.{IsOpOfMain, main_setting}
 use Rattle.task_turns.specs.Turn.{state_at}
-
 use Rattle.std.specs.Prelude.{unwrap_or}
 use Rattle.task_machine.specs.declared.component.HostDef.{HostDef}
 use Rattle.task_machine.specs.declared.records.WorkCaller.TheVariants as work_caller
 use Rattle.task_rules.specs.Calls.{next_work, work_queued}
 use Rattle.task_rules.specs.MainOps.{main_spawned}
 use Rattle.task_rules.specs.Scripts.{host_at, never_host}
+
 
 module _ (c : Component) (ops : List MainOpDef) (p : MainPlace) (s : Core) (o : MainOpDef) (at : op_at ops p ≡ Some o) where
   -- the op is done

@@ -3,7 +3,7 @@ ghost use Rattle.task_machine.specs.declared.component.ExportDef.{ExportDef};
 ghost use Rattle.task_rules.specs.MainOps.{is_complete, is_ready_for_call, spawned_at, started_at};
 ghost use Rattle.task_rules.specs.Run.{main_opening};
 ghost use Rattle.task_rules.specs.Scripts.{export_at, values_in};
-ghost use Rattle.task_calls.specs.declared.error.TaskError.TheVariants as task_error;
+ghost use Rattle.state_calls.specs.declared.error.TaskError.TheVariants as task_error;
 ghost use Rattle.task_scenario.specs.declared.scenario.MainOp.TheVariants as main_op;
 ghost use Rattle.task_loop.specs.Calls.{callee_of};
 ghost use Rattle.task_turns.specs.Covered.{IsCovered};

@@ -1,4 +1,4 @@
-ghost use Rattle.std.specs.Prelude.{◌≡◌, ◌<◌, ◌≤◌, ◌+◌, ◌-◌, ◌==◌, if◌then◌else◌, false, Some, None, IsSome, is_some, length, IfSome, IfOk, IfErr, OnOk, OnErr};
+ghost use Rattle.std.specs.Prelude.{◌≡◌, ◌↔◌, ◌<◌, ◌≤◌, ◌+◌, ◌-◌, ◌==◌, if◌then◌else◌, false, Some, None, IsSome, is_some, length, true, IfSome, IfOk, IfErr, OnOk, OnErr};
 ghost use Rattle.std.specs.Option.{option_and_then, option_copied, option_map};
 ghost use Rattle.std.specs.Result.{result_err};
 ghost use Rattle.std.specs.Borrow.{sem};
@@ -179,6 +179,20 @@ impl<E> ResourceTable<E> {
         match K::view_mut(self.entry_mut(id.rep)) {
             Some(item) => Ok(item),
             None => Err(ResourceTableError::WrongType),
+        }
+    }
+
+    /// The place that the next push gives. `None` where no push is allowed.
+    pub fn next_place(&self) -> Option<u32>
+        ensures some { IfSome result (λ rep. rep ≡ next_place self.now) }
+        ensures none { (result ≡ None) ↔ (is_full self.now ≡ true) }
+    {
+        if self.is_full() {
+            return None;
+        }
+        match self.free.last() {
+            Some(rep) => Some(*rep),
+            None => Some(self.places.len() as u32),
         }
     }
 

@@ -13,18 +13,26 @@ use Rattle.task_machine.specs.declared.component.Component.{Component}
 use Rattle.task_machine.specs.declared.component.ExportDef.{ExportDef}
 use Rattle.task_machine.specs.declared.component.InstanceDef.{InstanceDef}
 use Rattle.task_machine.specs.declared.component.Slot.TheVariants as slot
+use Rattle.op_dispatch.specs.Fits.{op_fits}
 use Rattle.task_machine.specs.declared.op.Op.{Op}
+use Rattle.task_machine.specs.declared.op.Op.TheVariants as op
 use Rattle.task_machine.specs.declared.records.Script.{Script}
 use Rattle.task_machine.specs.declared.records.Turn.{Turn}
 use Rattle.task_machine.specs.declared.records.Script.TheVariants as script
-use Rattle.task_rules.specs.Scripts.{export_at, script_in, slot_at, slot_script}
-use Rattle.task_turns.specs.Covered.{HasPlainExports, IsCovered, IsPlainExport, op_fits}
+use Rattle.task_rules.specs.Scripts.{export_at, script_in, slot_script}
+use Rattle.task_turns.specs.Covered.{HasPlainExports, IsPlainExport, is_covered_op}
+use Rattle.task_turns.specs.WellFormed.{IsWellFormed}
 use Rattle.task_turns.specs.Turn.{Sits}
 
-fits_at : (ops : List Op) (p : ℕ) (o : Op) → list_all op_fits ops ≡ true → slice_get ops p ≡ Some o → op_fits o ≡ true
-fits_at [] p o all e = absurd (cc)
-fits_at (x ∷ ops) zero o all e = grind arith
-fits_at (x ∷ ops) (suc p) o all e = fits_at ops p o (grind arith) e
+plain_fits : (c : Component) (o : Op) → is_covered_op o ≡ true → op_fits c o ≡ true
+plain_fits c (op.Data x) plain = refl
+plain_fits c (op.Task x) plain = refl
+plain_fits c o plain = absurd (cc)
+
+fits_at : (c : Component) (ops : List Op) (p : ℕ) (o : Op) → list_all is_covered_op ops ≡ true → slice_get ops p ≡ Some o → op_fits c o ≡ true
+fits_at c [] p o all e = absurd (cc)
+fits_at c (x ∷ ops) zero o all e = plain_fits c o (grind arith)
+fits_at c (x ∷ ops) (suc p) o all e = fits_at c ops p o (grind arith) e
 
 module _ (c : Component) (plain : HasPlainExports c) where
   -- a start script is an export's, and there are no other scripts
@@ -41,11 +49,11 @@ module _ (c : Component) (plain : HasPlainExports c) where
       go (Some d) e = subst P (sym (plain.exports f d e).react) none
   each_script P none start f (script.Slot j) = subst P (sym (plain.slots f.instance j)) none
 
-  pub covered_of : IsCovered c
+  pub covered_of : IsWellFormed c
   covered_of = record {
     few_params = λ f d at. (plain.exports f d at).few_params;
     short = each_script (λ (ops : List Op). length ops ≤ 4096) (omega arith) (λ e p. p.short);
-    ops = λ f x p o at. fits_at (script_in c f x) p o (each_script (λ (ops : List Op). list_all op_fits ops ≡ true) refl (λ e q. q.ops) f x) at;
+    ops = λ f x p o at. fits_at c (script_in c f x) p o (each_script (λ (ops : List Op). list_all is_covered_op ops ≡ true) refl (λ e q. q.ops) f x) at;
   }
 
   pub codes_of : CodesInCallbacks c

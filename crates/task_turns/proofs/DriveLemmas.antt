@@ -25,7 +25,7 @@ use Rattle.task_places.proofs.OrderLemmas.{steps_make_few}
 use Rattle.task_turns.specs.Drive.{Drives, Drove, Going, IsOn}
 use Rattle.task_turns.proofs.KeptLemmas.{sits_after}
 use Rattle.task_turns.proofs.SettleLemmas.{step_settles}
-use Rattle.task_turns.specs.Turn.{IsAtTurn, PendsIn, Sits, Turned, Turns, given, goes_on, is_open, running_of, runs_in, setting_of, state_at}
+use Rattle.task_turns.specs.Turn.{IsAtTurn, PendsIn, Sits, Turned, Turns, given, goes_on, setting_of, state_at}
 use Rattle.task_words.specs.StateView.{StateView}
 
 -- a run and then one more step

@@ -1,15 +1,13 @@
 -- What comes of a turn that finds nothing, and of polls.
 use Rattle.std.proofs.Common.{ap, ap₂, arith, inl, inr, refl, subst, sym, ◌∙◌}
-use Rattle.std.proofs.lemmas.Bool.Decides.{nat_tests}
 use Rattle.std.specs.List.{list_any}
 use Rattle.std.specs.Option.{option_map_or}
-use Rattle.std.specs.Prelude.{Bool, List, None, Option, Some, [], false, is_none, is_some, not, suc, true, zero, ℕ, ◌&&◌, ◌+◌, ◌<◌, ◌∷◌, ◌≡◌, ◌||◌, ◌⊎◌}
+use Rattle.std.specs.Prelude.{Bool, List, None, Option, Some, [], false, is_none, not, suc, true, zero, ℕ, ◌&&◌, ◌<◌, ◌∷◌, ◌≡◌, ◌||◌, ◌⊎◌}
 use Rattle.task_laws.proofs.PolledWorks.{none_passes, polled_is_live}
 use Rattle.task_laws.specs.Order.{WorkEntries, WorksQueued, is_finishing, is_host_of, is_push_of, is_queued, stands}
 use Rattle.task_machine.specs.Core.{Core, Main}
 use Rattle.task_machine.specs.Maps.{get, numbers}
-use Rattle.task_machine.specs.Read.{blocked_on, is_at, is_blocked_on, is_live, next_entry, or_first, or_high, place_of}
-use Rattle.task_machine.specs.declared.component.Component.{Component}
+use Rattle.task_machine.specs.Read.{blocked_on, is_at, is_blocked_on, is_live, is_stage_ended, next_entry, or_high, place_of, stage_of}
 use Rattle.task_machine.specs.declared.records.Entry.{Entry}
 use Rattle.task_machine.specs.declared.records.Entry.TheVariants as entry
 use Rattle.task_machine.specs.declared.records.Place.{Place}
@@ -25,15 +23,14 @@ use Rattle.task_rules.specs.Outcome.{is_at_rest}
 use Rattle.task_rules.proofs.StopLemmas.{find_passes}
 use Rattle.task_rules.specs.Places.{HasPlace, Placed, is_at_high, is_at_low, one_if, says}
 use Rattle.task_rules.specs.Stalled.{Setting, is_idle, is_idle_trap, is_queued_or_finishing, is_unended_take, main_pends, works_rest}
-use Rattle.task_rules.specs.Turns.{nothing_stands, settled_futures, settled_take, settled_turn}
+use Rattle.task_rules.specs.Turns.{nothing_stands, settled_futures, settled_take}
 use Rattle.task_rules.specs.Works.{has_live_work, has_moving_work, next_polled}
-use Rattle.task_turns.proofs.OrderLemmas.{none_some}
 use Rattle.task_ops.specs.Steps.{turn_after}
 use Rattle.task_ops.specs.declared.came.Came.{Came}
 use Rattle.task_ops.specs.declared.came.Came.TheVariants as came
-use Rattle.task_turns.specs.Turn.{IsFree, IsSettled, Makes, PendsIn, Turned, Turns, idle_line_of, state_at}
+use Rattle.task_turns.specs.Turn.{IsFree, IsSettled, Makes, PendsIn, Turns, idle_line_of, state_at}
 use Rattle.task_turns.specs.declared.made.Made.{Made}
-use Rattle.task_words.specs.Apart.{IsBlockedUnqueued, IsUnqueued, work_entries}
+use Rattle.task_words.specs.Apart.{IsBlockedUnqueued, work_entries}
 use Rattle.task_words.specs.StateView.{StateView}
 
 -- ---- Nothing stands
@@ -128,6 +125,20 @@ live_stage i s q (Some w) at live = let e : WorkEntries s i w = q.each i w at in
 
     not_finishing : (w : Work) → is_live w ≡ true → one_if (is_finishing w.stage) ≡ 0
     not_finishing w live = grind arith
+
+-- a work that has ended has no entry
+pub ended_unqueued : (i : ℕ) (s : Core) → WorksQueued s → is_stage_ended (stage_of i s) ≡ true → work_entries i s.queues.high ≡ 0
+ended_unqueued i s q over = by (get s.works i) refl over
+  where
+    not_queued : (g : Stage) → is_stage_ended g ≡ true → one_if (is_queued g) ≡ 0
+    not_queued g h = grind arith
+
+    not_finishing : (g : Stage) → is_stage_ended g ≡ true → one_if (is_finishing g) ≡ 0
+    not_finishing g h = grind arith
+
+    by : (o : Option Work) → get s.works i ≡ o → is_stage_ended (option_map_or (λ (w : Work). w.stage) o stage.Ended) ≡ true → work_entries i s.queues.high ≡ 0
+    by None at h = let e = q.gone i at in both i s.queues.high e.0 e.1
+    by (Some w) at h = let e : WorkEntries s i w = q.each i w at in both i s.queues.high (e.push ∙ not_queued w.stage h) (e.host ∙ not_finishing w.stage h)
 
 -- a live work has no entry
 pub polled_unqueued : (k i : ℕ) (s : Core) → WorksQueued s → next_polled k s ≡ Some i → work_entries i s.queues.high ≡ 0

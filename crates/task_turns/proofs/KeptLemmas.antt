@@ -1,14 +1,18 @@
 -- Turns and the calls of a host keep order, by the walk.
 use Rattle.std.proofs.Common.{ap, arith, refl, subst, sym, ◌∙◌}
 use Rattle.std.proofs.lemmas.Bool.Decides.{nat_tests}
-use Rattle.std.specs.Prelude.{Bool, List, Some, [], false, is_some, true, ℕ, ◌+◌, ◌==◌, ◌≡◌, ◌≤◌}
+use Rattle.std.specs.Prelude.{Bool, List, None, Some, [], false, is_some, true, ℕ, ◌+◌, ◌==◌, ◌≡◌, ◌≤◌}
 use Rattle.task_laws.proofs.Exported.{handle_tables_stay, instances_stay}
-use Rattle.task_laws.specs.Order.{Awake, InOrderIf, is_open}
+use Rattle.task_laws.specs.Order.{Awake, InOrderIf, StartsThere, is_open}
 use Rattle.task_machine.proofs.CommuteLemmas.{get-change}
 use Rattle.task_machine.specs.Core.{Began, Core, Main, Unscripted}
 use Rattle.task_machine.specs.Maps.{get-insert}
 use Rattle.task_machine.specs.Moves.{put_high}
-use Rattle.task_machine.specs.Read.{place_of}
+use Rattle.task_laws.specs.Wakes.{NoneBlockedOnEnd}
+use Rattle.task_machine.specs.Read.{event_of, place_of, undelivered_end}
+use Rattle.task_machine.specs.declared.records.Place.{Place}
+use Rattle.task_machine.specs.declared.records.Subtask.{Subtask}
+use Rattle.task_machine.specs.declared.records.Subtask.TheVariants as subtask
 use Rattle.task_machine.specs.Write.{add_call, add_group, add_thread, on_thread, push_high, set_place, set_trapped, take_result}
 use Rattle.task_machine.specs.declared.component.Callee.{Callee}
 use Rattle.task_machine.specs.declared.component.Component.{Component}
@@ -20,7 +24,7 @@ use Rattle.task_machine.specs.declared.records.Place.TheVariants as place
 use Rattle.task_machine.specs.declared.records.Turn.{Turn}
 use Rattle.task_machine.specs.declared.records.Turn.TheVariants as turn
 use Rattle.task_machine.specs.declared.scenario.IdleLine.TheVariants as idle_line
-use Rattle.task_places.proofs.OrderLemmas.{lacks_kept, step_in_order, step_kept, steps_lack_works}
+use Rattle.task_places.proofs.OrderLemmas.{step_in_order, step_kept}
 use Rattle.task_rules.proofs.WalkSteps.{step_walks}
 use Rattle.task_rules.specs.Calls.{call_made}
 use Rattle.task_rules.specs.MainOps.{Does, Finish, MainAct, MainProgress, Start, finish_result, main_row, main_started, may_act, start_act}
@@ -60,8 +64,11 @@ at_turn_of c s m k p q runs b awake o = record {
   calls = o.calls;
   unbegun = o.unbegun;
   watched = o.watched;
+  cancelled = o.cancelled;
   inside = o.inside;
   held = o.held;
+  works_told = o.works_told;
+  calls_told = o.calls_told;
   awake = awake;
 }
 
@@ -73,8 +80,6 @@ sits_after x s t m k p q l sits step =
       order = λ j. at_turn_of x.component t k j q q after.in_place.runs (is_open q) after.awake after;
       there = λ i below. instances_stay x (state_at s m p) l (state_at t k q) step i ∙ sits.there i below;
       handles = λ i below. handle_tables_stay x (state_at s m p) l (state_at t k q) step i ∙ sits.handles i below;
-      ops = sits.ops;
-      lacks = steps_lack_works x sits.ops (state_at s m p) l (state_at t k q) (sits.order m) sits.lacks step;
     }
 
 pub made_in_order : MadeInOrder
@@ -96,8 +101,6 @@ acted c p act l s t may row kept stays sits =
       order = λ m. at_turn_of c t Unscripted m turn.Main p (λ n e. kept n ((sits.order m).in_place.runs n e)) (is_open p) (λ e. stays ((sits.order m).awake e)) after;
       there = λ i below. instances_stay (setting c) u (label.Main l) v step i ∙ sits.there i below;
       handles = λ i below. handle_tables_stay (setting c) u (label.Main l) v step i ∙ sits.handles i below;
-      ops = sits.ops;
-      lacks = lacks_kept (setting c) u (label.Main l) v before (step_walks (setting c) u (label.Main l) v step) sits.ops sits.lacks;
     }
 
 -- a thread that is there stays where it is
@@ -105,10 +108,28 @@ started_place : (c : Component) (e : Callee) (words : List ℕ) (s : Core) (n : 
 unfolding main_started put_high push_high set_place on_thread call_made add_thread add_call add_group
 started_place c e words s n other = grind (arith, nat_tests, get-insert, get-change)
 
--- and who runs was there
-started_runs : (c : Component) (e : Callee) (words : List ℕ) (s : Core) (n : ℕ) → place_of n (main_started c e words s) ≡ Some place.Running → place_of n s ≡ Some place.Running
+-- who isn't at a mark was there before
+abbrev is_unmarked : Place → Bool
+is_unmarked (place.Ready m w) = false
+is_unmarked p = true
+
+started_at : (c : Component) (e : Callee) (words : List ℕ) (s : Core) (n : ℕ) (p : Place) → is_unmarked p ≡ true → place_of n (main_started c e words s) ≡ Some p → place_of n s ≡ Some p
 unfolding main_started put_high push_high set_place on_thread call_made add_thread add_call add_group
-started_runs c e words s n is = grind (arith, nat_tests, get-insert, get-change)
+started_at c e words s n p free is = grind (arith, nat_tests, get-insert, get-change)
+
+-- a new call has no event
+started_event : (c : Component) (e : Callee) (words : List ℕ) (s : Core) (sub : Subtask) → undelivered_end (event_of sub s) ≡ None → undelivered_end (event_of sub (main_started c e words s)) ≡ None
+unfolding main_started put_high push_high set_place on_thread call_made add_thread add_call add_group
+started_event c e words s (subtask.Guest k) none = grind (arith, nat_tests, get-insert)
+started_event c e words s (subtask.Host i) none = none
+
+started_blocked : (c : Component) (e : Callee) (words : List ℕ) (s : Core) → NoneBlockedOnEnd s → NoneBlockedOnEnd (main_started c e words s)
+started_blocked c e words s none n sub at = started_event c e words s sub (none n sub (started_at c e words s n (place.Blocked sub) refl at))
+
+-- the new call's first thread is there, and so are the others
+started_there : (c : Component) (e : Callee) (words : List ℕ) (s : Core) → StartsThere s → StartsThere (main_started c e words s)
+unfolding main_started put_high push_high set_place on_thread call_made add_thread add_call add_group
+started_there c e words s h k now = grind (arith, nat_tests, get-insert, get-change, h k)
 
 given_apart : (n k : ℕ) → n ≤ k → (n == k + 1) ≡ false
 given_apart n k h = grind (arith, nat_tests)
@@ -117,7 +138,7 @@ pub start_in_order : StartInOrder
 start_in_order c p e words s takes free sits =
     acted c p (Start e words) (main_label.Start 1 (s.made.threads + 1)) s (main_started c e words s) takes (ap (start_act c 1 e words s) free)
     (λ n at. started_place c e words s n (given_apart n s.made.threads (((sits.order Unscripted).in_place.placed n).number (there n at))) ∙ at)
-    (λ o. record { alone = λ n is. o.alone n (started_runs c e words s n is) }) sits
+    (λ o. record { alone = λ n is. o.alone n (started_at c e words s n place.Running refl is); starts_there = started_there c e words s o.starts_there; blocked = started_blocked c e words s o.blocked }) sits
   where
     there : (n : ℕ) → place_of n s ≡ Some place.Running → is_there n s ≡ true
     there n at = ap is_some at
@@ -126,13 +147,31 @@ trapped_place : (s : Core) (n : ℕ) → place_of n (set_trapped s) ≡ place_of
 unfolding set_trapped
 trapped_place s n = refl
 
+trapped_event : (s : Core) (sub : Subtask) → undelivered_end (event_of sub s) ≡ None → undelivered_end (event_of sub (set_trapped s)) ≡ None
+unfolding set_trapped
+trapped_event s (subtask.Guest k) none = none
+trapped_event s (subtask.Host i) none = none
+
+trapped_there : (s : Core) → StartsThere s → StartsThere (set_trapped s)
+unfolding set_trapped
+trapped_there s h = h
+
 pub refusal_in_order : RefusalInOrder
 refusal_in_order c p e words why s takes refused sits =
-    acted c p (Start e words) (main_label.StartRefused why 1) s (set_trapped s) takes (ap (start_act c 1 e words s) refused) (λ n at. trapped_place s n ∙ at) (λ o. record { alone = λ n is. o.alone n (sym (trapped_place s n) ∙ is) }) sits
+    acted c p (Start e words) (main_label.StartRefused why 1) s (set_trapped s) takes (ap (start_act c 1 e words s) refused) (λ n at. trapped_place s n ∙ at) (λ o. record { alone = λ n is. o.alone n (sym (trapped_place s n) ∙ is); starts_there = trapped_there s o.starts_there; blocked = λ n sub at. trapped_event s sub (o.blocked n sub (sym (trapped_place s n) ∙ at)) }) sits
 
 taken_place : (k : ℕ) (s : Core) (n : ℕ) → place_of n (take_result k s) ≡ place_of n s
 unfolding take_result
 taken_place k s n = refl
 
+taken_there : (k : ℕ) (s : Core) → StartsThere s → StartsThere (take_result k s)
+unfolding take_result
+taken_there k s h = h
+
+taken_event : (k : ℕ) (s : Core) (sub : Subtask) → undelivered_end (event_of sub s) ≡ None → undelivered_end (event_of sub (take_result k s)) ≡ None
+unfolding take_result
+taken_event k s (subtask.Guest j) none = none
+taken_event k s (subtask.Host i) none = none
+
 pub finish_in_order : FinishInOrder
-finish_in_order c p k v s found sits = acted c p (Finish (Began k)) (main_label.Finish 1 v) s (take_result k s) refl (ap (finish_result 1 k s) found) (λ n at. taken_place k s n ∙ at) (λ o. record { alone = λ n is. o.alone n (sym (taken_place k s n) ∙ is) }) sits
+finish_in_order c p k v s found sits = acted c p (Finish (Began k)) (main_label.Finish 1 v) s (take_result k s) refl (ap (finish_result 1 k s) found) (λ n at. taken_place k s n ∙ at) (λ o. record { alone = λ n is. o.alone n (sym (taken_place k s n) ∙ is); starts_there = taken_there k s o.starts_there; blocked = λ n sub at. taken_event k s sub (o.blocked n sub (sym (taken_place k s n) ∙ at)) }) sits

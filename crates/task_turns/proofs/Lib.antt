@@ -1,4 +1,3 @@
-pub mod GoesLemmas
 pub mod OrderLemmas
 pub mod RunLemmas
 pub mod ContextLemmas
@@ -14,5 +13,5 @@ pub mod IdleLemmas
 pub mod MainLemmas
 pub mod FreshLemmas
 pub mod CoveredLemmas
-pub mod RowLemmas
+pub mod RanLemmas
 pub mod LaterLemmas

@@ -1,5 +1,5 @@
 -- What a step of main makes.
-use Rattle.std.proofs.Common.{ap, refl, subst, sym, ◌∙◌}
+use Rattle.std.proofs.Common.{refl, subst, sym, ◌∙◌}
 use Rattle.std.specs.Prelude.{None, Option, Some, is_none, true, ℕ, ◌≡◌}
 use Rattle.task_machine.specs.Core.{Core, Main, MainPlace, Scripted, State, Unscripted}
 use Rattle.task_machine.specs.declared.label.Label.{Label}
@@ -20,7 +20,6 @@ use Rattle.task_rules.specs.Works.{next_polled}
 use Rattle.task_turns.proofs.PollLemmas.{futures_open, in_futures}
 use Rattle.task_turns.specs.Main.{Answers, Did, IsOpOfMain, Pends, main_setting}
 use Rattle.task_turns.specs.Turn.{Turns, running_of, state_at}
-use Rattle.task_turns.specs.declared.made.Made.{Made}
 use Rattle.task_words.specs.StateView.{StateView}
 
 -- the idle line is of no account

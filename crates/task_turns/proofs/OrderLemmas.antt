@@ -1,32 +1,42 @@
 -- What a state in order gives to the thread that runs.
-use Rattle.std.proofs.Common.{arith, ap, refl, subst, sym, ◌∙◌}
+use Rattle.std.proofs.Common.{ap, ap₂, arith, inl, inr, refl, subst, sym, ◌∙◌}
 use Rattle.std.proofs.lemmas.Bool.Decides.{nat_tests}
-use Rattle.std.specs.Option.{option_map_or}
-use Rattle.std.specs.Prelude.{None, Option, Some, false, is_some, option_and_then, option_map, suc, true, zero, ℕ, ◌<◌, ◌≡◌}
+use Rattle.std.specs.Option.{option_and_then, option_map_or}
+use Rattle.std.specs.Prelude.{Bool, None, Option, Some, false, if◌then◌else◌, is_some, option_map, suc, true, zero, ℕ, ◌<◌, ◌≡◌}
+use Rattle.op_dispatch.specs.Runner.{Runner, UnderWay}
+use Rattle.subtask_ops.specs.Named.{NamedCallsThere}
 use Rattle.task_laws.proofs.MemberLemmas.{members_named}
-use Rattle.task_laws.specs.Order.{InOrder, IsOf, set_of_op, set_of_place}
+use Rattle.task_laws.specs.Order.{InOrder, IsOf, cancelled_by, is_awaited, set_of_op, set_of_place}
 use Rattle.task_machine.specs.Core.{Core, Unscripted}
 use Rattle.task_machine.specs.Maps.{get}
-use Rattle.task_machine.specs.Read.{goal_of, instance_of, is_direct, is_explicit, is_under, is_waiting_on, place_of, task_of, under_of}
+use Rattle.task_machine.specs.Read.{goal_of, how_far_of, instance_of, is_direct, is_explicit, is_stage_ended, is_under, is_waiting_on, place_of, stage_of, task_of, under_of, work_caller_of}
 use Rattle.task_machine.specs.declared.component.Component.{Component}
+use Rattle.task_machine.specs.declared.records.Call.{Call}
+use Rattle.task_machine.specs.declared.records.HowFar.{HowFar}
+use Rattle.task_machine.specs.declared.records.HowFar.TheVariants as how_far
 use Rattle.task_machine.specs.declared.records.Place.{Place}
 use Rattle.task_machine.specs.declared.records.Place.TheVariants as place
-use Rattle.task_machine.specs.declared.records.Thread.{Thread}
+use Rattle.task_machine.specs.declared.records.Subtask.{Subtask}
 use Rattle.task_machine.specs.declared.records.Subtask.TheVariants as subtask
+use Rattle.task_machine.specs.declared.records.Thread.{Thread}
 use Rattle.task_machine.specs.declared.records.Turn.{Turn}
 use Rattle.task_machine.specs.declared.records.Turn.TheVariants as turn
-use Rattle.task_ops.specs.Gifts.{AllMembersNamed, MembersNamed}
-use Rattle.task_ops.specs.Running.{IsRunning, IsTopmost}
-use Rattle.task_ops.specs.Stays.{StaysAfter}
-use Rattle.task_ops.specs.declared.came.Came.{Came}
-use Rattle.task_ops.specs.declared.came.Came.TheVariants as came
+use Rattle.task_machine.specs.declared.records.Work.{Work}
+use Rattle.task_machine.specs.declared.records.WorkCaller.{WorkCaller}
+use Rattle.task_machine.specs.declared.records.WorkCaller.TheVariants as work_caller
 use Rattle.task_ops.proofs.BesideLemmas.{stand_of}
 use Rattle.task_ops.proofs.BlockLemmas.{first_found}
+use Rattle.task_ops.specs.Gifts.{AllMembersNamed, MembersNamed}
+use Rattle.task_ops.specs.Running.{IsTopmost}
+use Rattle.task_ops.specs.Stays.{StaysAfter}
 use Rattle.task_ops.specs.Wakes.{WaitersTogether}
+use Rattle.task_ops.specs.declared.came.Came.{Came}
+use Rattle.task_ops.specs.declared.came.Came.TheVariants as came
 use Rattle.task_table.specs.declared.id.TableId.{TableId}
-use Rattle.task_turns.specs.Runner.{Runner, WaitsThere}
+use Rattle.task_turns.proofs.IdleLemmas.{ended_unqueued}
 use Rattle.task_turns.specs.Turn.{CanStrike, Sits, running_of, state_at}
 use Rattle.task_wait.specs.declared.keys.ThreadKey.{ThreadKey}
+use Rattle.task_words.specs.Live.{live_how_far, live_subtask}
 use Rattle.task_words.specs.StateView.{StateView, thread_of}
 
 pub none_some : {X : Type 0} {A : Type 0} {x : X} {o : Option X} → o ≡ None → o ≡ Some x → A
@@ -70,11 +80,77 @@ module _ (c : Component) (p : Turn) (s : Core) (sits : Sits c p s) where
   pub all_members_named : (i : ℕ) → AllMembersNamed i s
   all_members_named i h x e = members_at i x (known.sets_named.home i h x e)
 
-  pub waits_there : (n : ℕ) → WaitsThere n s
-  waits_there n = record {
-    there = λ x e. some_from _ (get s.sets x) (instance_of n s) (known.waits.by_op n x (ap set_of_op e));
-    members = λ x e. members_at (instance_of n s) x (known.waits.by_op n x (ap set_of_op e));
-  }
+  -- the subtask that an op under way cancels
+  cancelled_there : (n : ℕ) (sub : Subtask) → cancelled_by (how_far_of n s) ≡ Some sub → live_subtask sub s ≡ sub
+  cancelled_there n (subtask.Guest k) e = by (get s.calls k) refl (known.cancelled n (subtask.Guest k) e)
+    where
+      by : (o : Option Call) → get s.calls k ≡ o → is_some (option_and_then (λ (x : Call). x.handle) o) ≡ true → subtask.Guest (if is_some (get s.calls k) then k else 0) ≡ subtask.Guest k
+      by None at h = absurd (cc)
+      by (Some x) at h = ap (λ (p : Option Call). subtask.Guest (if is_some p then k else 0)) at
+  cancelled_there n (subtask.Host i) e = by (get s.works i) refl (known.cancelled n (subtask.Host i) e)
+    where
+      by : (o : Option Work) → get s.works i ≡ o → is_some (option_and_then (λ (x : Work). x.handle) o) ≡ true → subtask.Host (if is_some (get s.works i) then i else 0) ≡ subtask.Host i
+      by None at h = absurd (cc)
+      by (Some x) at h = ap (λ (p : Option Work). subtask.Host (if is_some p then i else 0)) at
+
+  call_there : (k : ℕ) (o : Option Call) → get s.calls k ≡ o → option_map_or is_awaited o false ≡ true → is_some (get s.calls k) ≡ true
+  call_there k None e h = absurd (cc)
+  call_there k (Some x) e h = ap is_some e
+
+  work_there : (i n : ℕ) → work_caller_of i s ≡ work_caller.Sync n → is_some (get s.works i) ≡ true
+  work_there i n e = by (get s.works i) e
+    where
+      by : (o : Option Work) → option_map_or (λ (w : Work). w.caller) o work_caller.Spawn ≡ work_caller.Sync n → is_some o ≡ true
+      by None h = absurd (cc)
+      by (Some w) h = refl
+
+  module _ (n : ℕ) (runs : place_of n s ≡ Some place.Running) where
+    calls_there : (k : ℕ) → how_far_of n s ≡ how_far.Calls (subtask.Guest k) → is_some (get s.calls k) ≡ true
+    calls_there k e = elim (known.calls.inside n k e) [
+      | inl under ↦ absurd (let x = sym under ∙ runs in cc)
+      | inr awaited ↦ call_there k (get s.calls k) refl awaited
+    ]
+
+    works_there : (i : ℕ) → how_far_of n s ≡ how_far.Calls (subtask.Host i) → is_some (get s.works i) ≡ true
+    works_there i e = work_there i n (known.works_known.called n i e).1
+
+    ended_work : (i : ℕ) → how_far_of n s ≡ how_far.Calls (subtask.Host i) → is_stage_ended (stage_of i s) ≡ true
+    ended_work i e = elim (known.awaited n i e).1 [
+      | inl blocked ↦ absurd (let x = sym blocked ∙ runs in cc)
+      | inr over ↦ over
+    ]
+
+    pub under_way : UnderWay n s
+    under_way = record {
+      names = op_names (how_far_of n s) refl;
+      sets = λ x e. some_from _ (get s.sets x) (instance_of n s) (known.waits.by_op n x (ap set_of_op e));
+      members = λ x e. members_at (instance_of n s) x (known.waits.by_op n x (ap set_of_op e));
+      calls = calls_there;
+      works = works_there;
+      unqueued = λ i e. ended_unqueued i s known.works (ended_work i e);
+    }
+      where
+        kept : (b : Bool) (k : ℕ) → b ≡ true → (if b then k else 0) ≡ k
+        kept true k e = refl
+        kept false k e = absurd (cc)
+
+        op_names : (h : HowFar) → how_far_of n s ≡ h → live_how_far (how_far_of n s) s ≡ how_far_of n s
+        op_names (how_far.Waits x) e = rw e (ap how_far.Waits (kept _ x (some_from _ (get s.sets x) (instance_of n s) (known.waits.by_op n x (ap set_of_op e)))))
+        op_names (how_far.Calls (subtask.Guest k)) e = rw e (ap (λ j. how_far.Calls (subtask.Guest j)) (kept _ k (calls_there k e)))
+        op_names (how_far.Calls (subtask.Host i)) e = rw e (ap (λ j. how_far.Calls (subtask.Host j)) (kept _ i (works_there i e)))
+        op_names (how_far.Cancels sub) e = rw e (ap how_far.Cancels (cancelled_there n sub (ap cancelled_by e)))
+        op_names (how_far.AwaitsEnd sub) e = rw e (ap how_far.AwaitsEnd (cancelled_there n sub (ap cancelled_by e)))
+        op_names how_far.Fresh e = rw e refl
+        op_names (how_far.Answered v) e = rw e refl
+        op_names how_far.Suspends e = rw e refl
+        op_names how_far.Yields e = rw e refl
+
+  pub named_calls_there : NamedCallsThere s
+  named_calls_there i h k e = by (get s.calls k) refl (known.names.there i h k e)
+    where
+      by : (o : Option Call) → get s.calls k ≡ o → option_and_then (λ (x : Call). x.handle) o ≡ Some h → is_some (get s.calls k) ≡ true
+      by None at handle = absurd (cc)
+      by (Some x) at handle = ap is_some at
 
   waiting_at : (x : ℕ) (o : Option Place) → option_map_or (is_waiting_on x) o false ≡ true → option_and_then set_of_place o ≡ Some x
   waiting_at x None h = absurd (cc)
@@ -106,8 +182,12 @@ module _ (c : Component) (n : ℕ) (s : StateView) (sits : Sits c (turn.Run n) s
     join = λ x e. let j = order.joins_named.joins (subtask.Guest (task_of (thread_of s id) s.core)) x e in some_from _ (get s.core.sets x) j.instance j.home;
     under = λ implicit direct. let below = order.directs (thread_of s id) (ap is_some runs) implicit direct in under_found (thread_of s id) below.0 s.core below.1;
     members = all_members_named c (turn.Run n) s.core sits (instance_of (thread_of s id) s.core);
-    waits = waits_there c (turn.Run n) s.core sits (thread_of s id);
+    under_way = under_way c (turn.Run n) s.core sits (thread_of s id) runs;
     together = waiters_together c (turn.Run n) s.core sits;
+    calls = named_calls_there c (turn.Run n) s.core sits;
+    starts = order.starts;
+    waiting = (order.awake refl).starts_there;
+    works = order.works;
   }
 
   -- the thread that runs, by its id

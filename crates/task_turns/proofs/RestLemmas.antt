@@ -1,5 +1,5 @@
 -- What comes where nothing stands.
-use Rattle.std.proofs.Common.{ap, arith, refl, subst, sym, ◌∙◌}
+use Rattle.std.proofs.Common.{ap, refl, subst, sym, ◌∙◌}
 use Rattle.std.specs.Prelude.{None, Option, false, option_map, true, ◌≡◌}
 use Rattle.task_machine.specs.Core.{Core, Main}
 use Rattle.task_machine.specs.Read.{next_entry}
@@ -15,7 +15,7 @@ use Rattle.task_rules.specs.Stalled.{Setting, deadlock_trap, is_idle, main_pends
 use Rattle.task_rules.specs.Step.{DeadlockStep, EmptyFor, Step, TakeStep}
 use Rattle.task_rules.specs.Turns.{at_turn}
 use Rattle.task_rules.specs.Works.{has_live_work, has_moving_work}
-use Rattle.task_turns.specs.Turn.{Makes, Turns, given, running_of, state_at}
+use Rattle.task_turns.specs.Turn.{Makes, Turns, running_of, state_at}
 use Rattle.task_turns.specs.declared.made.Made.{Made}
 use Rattle.task_words.specs.StateView.{StateView, on_core, thread_of}
 

@@ -1,13 +1,12 @@
 -- What the taking of an entry shows, and what a trap leaves.
-use Rattle.std.proofs.Common.{ap, refl, subst, sym, ◌∙◌}
-use Rattle.std.specs.Prelude.{Bool, Err, IfOk, List, None, Ok, Option, Result, Some, false, true, ℕ, ◌<◌, ◌≡◌}
+use Rattle.std.proofs.Common.{refl, subst, sym}
+use Rattle.std.specs.Prelude.{Bool, None, Option, Some, false, true, ℕ, ◌<◌, ◌≡◌}
 use Rattle.task_machine.specs.Core.{Core}
 use Rattle.task_machine.specs.Labels.{Choice, event_label, held_label, take_label}
 use Rattle.task_machine.specs.Moves.{Gift, MemberGift, NoGift, OwnGift, gift, may_hand_on}
 use Rattle.task_machine.specs.Read.{at_handle_limit, is_explicit, task_of}
 use Rattle.task_machine.specs.declared.records.Delivery.TheVariants as delivery
 use Rattle.task_machine.specs.declared.records.Place.TheVariants as place
-use Rattle.task_machine.specs.declared.trap.Trap.{Trap}
 use Rattle.task_machine.specs.declared.trap.Trap.TheVariants as trap
 use Rattle.task_machine.specs.declared.words.Given.{Given}
 use Rattle.task_machine.specs.declared.words.Mark.{Mark}
@@ -19,11 +18,11 @@ use Rattle.task_ops.specs.declared.came.Came.{Came}
 use Rattle.task_ops.specs.declared.came.Came.TheVariants as came
 use Rattle.task_rules.specs.Ends.{may_tell}
 use Rattle.task_rules.specs.Outcome.{outcome_of_label}
-use Rattle.task_rules.specs.Progress.{Fails, Goes, Never, Ordered, Progress, Stops, Traps, may, or_never, trap_if}
+use Rattle.task_rules.specs.Progress.{Goes, Stops, may, or_never}
 use Rattle.task_rules.specs.Sets.{chosen, handed_out}
 use Rattle.task_rules.specs.Takes.{activated_woken, delivered, may_tell_starting, set_delivered, start_admitted, start_begins, start_holds, start_row}
 use Rattle.task_table.specs.declared.id.TableId.{TableId}
-use Rattle.task_turns.proofs.RowLemmas.{ShowsAs, here, if_lawful, if_traps, shows_of}
+use Rattle.op_dispatch.proofs.RowLemmas.{ShowsAs, here, if_lawful, if_traps, shows_of}
 use Rattle.task_turns.specs.Taken.{Taken}
 use Rattle.task_turns.specs.Turn.{CanStrike, Shows}
 use Rattle.task_wait.specs.declared.keys.ThreadKey.{ThreadKey}
@@ -74,21 +73,6 @@ delivered_shows m n x ch s r t h = shows_of n (delivered m n ch s (delivery.Set 
 
 -- ---- A trap
 
-same_view : (s t : StateView) → t.core ≡ s.core → t.tags ≡ s.tags → t.current ≡ s.current → t ≡ s
-same_view s t core tags current =
-    ap (λ d. let v : StateView = record { core = d; tags = t.tags; current = t.current } in v) core
-    ∙ (ap (λ d. let v : StateView = record { core = s.core; tags = d; current = t.current } in v) tags
-    ∙ ap (λ d. let v : StateView = record { core = s.core; tags = s.tags; current = d } in v) current)
-
--- an op that changes no name, and not who is current
-pub same_stays : (p : Progress) (s t : StateView) (r : Came) → Meets p s.core r t.core → t.tags ≡ s.tags → t.current ≡ s.current → StaysAfter r s t
-same_stays (Goes l new m) s t r h tags current = subst (λ (q : Came). StaysAfter q s t) (sym h.0) tt
-same_stays (Stops l new) s t r h tags current = subst (λ (q : Came). StaysAfter q s t) (sym h.0) tt
-same_stays (Traps why) s t r h tags current = subst (λ (q : Came). StaysAfter q s t) (sym h.0) (same_view s t h.1 tags current)
-same_stays (Fails i) s t r h tags current = subst (λ (q : Came). StaysAfter q s t) (sym h.0) (same_view s t h.1 tags current)
-same_stays Never s t r h tags current = absurd h
-same_stays (Ordered ns next) s t r h tags current = same_stays (next h.0) s t r h.1.1 tags current
-
 -- the strand of a taken thread that trapped is there
 topmost : (m : Mark) (n : ℕ) (s : Core) → Taken m n s → IsTopmost n s
 topmost m n s q = record { place = place.Ready m (why_of n s); stand = q.stands; apart = λ p e. absurd (cc) }
@@ -98,7 +82,3 @@ taken_strikes m (came.Goes l k) id s t q e = tt
 taken_strikes m (came.Stops l) id s t q e = tt
 taken_strikes m (came.Traps why) id s t q e = subst (λ (v : StateView). (0 < thread_of v id) × IsTopmost (thread_of v id) v.core) (sym e) (q.live, topmost m (thread_of s id) s.core q)
 taken_strikes m (came.Fails i) id s t q e = subst (λ (v : StateView). (0 < thread_of v id) × IsTopmost (thread_of v id) v.core) (sym e) (q.live, topmost m (thread_of s id) s.core q)
-
-pub ok_then : {X E : Type 0} (P Q : X → Type 0) (r : Result X E) → ((x : X) → P x → Q x) → IfOk r P → IfOk r Q
-ok_then P Q (Ok x) f h = f x h
-ok_then P Q (Err e) f h = tt

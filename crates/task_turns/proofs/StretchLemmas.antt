@@ -1,12 +1,11 @@
 -- A run goes on by the ops of a stretch.
-use Rattle.std.proofs.Common.{ap, ap₂, arith, refl, subst, sym, ◌∙◌, ◌++◌, ◌∷◌, []}
+use Rattle.std.proofs.Common.{ap, ap₂, refl, subst, sym, ◌∙◌, ◌++◌, ◌∷◌, []}
 use Rattle.std.specs.Option.{option_map_or}
 use Rattle.std.specs.Prelude.{List, None, Option, Some, slice_get, unwrap_or, ℕ, ◌+◌, ◌≡◌}
 use Rattle.task_machine.specs.Core.{Core, Main}
 use Rattle.task_machine.specs.Labels.{choice_of}
 use Rattle.task_machine.specs.Maps.{Records, get}
 use Rattle.task_machine.specs.Read.{callee_of, how_far_of, instance_of, no_callee, position_of, registers_of, task_of}
-use Rattle.task_machine.specs.Write.{on_thread}
 use Rattle.task_machine.specs.declared.component.Callee.{Callee}
 use Rattle.task_machine.specs.declared.component.Component.{Component}
 use Rattle.task_machine.specs.declared.label.DataLabel.{DataLabel}
@@ -36,7 +35,7 @@ use Rattle.task_turns.proofs.RunLemmas.{script_is, settled}
 use Rattle.task_turns.specs.Context.{KeepsBeside, in_context, state_in}
 use Rattle.task_table.specs.declared.id.TableId.{TableId}
 use Rattle.task_turns.specs.Drive.{KeepsOn}
-use Rattle.task_turns.specs.Turn.{Sits, Turns, given, running_of, state_at}
+use Rattle.task_turns.specs.Turn.{Sits, Turns, running_of, state_at}
 use Rattle.task_turns.specs.declared.context.ThreadContext.{ThreadContext}
 use Rattle.task_turns.specs.declared.made.Made.{Made}
 use Rattle.task_words.specs.Context.{with_context}

@@ -1,7 +1,7 @@
 -- What a state in order gives to the thread whose entry is taken.
 use Rattle.std.proofs.Common.{ap, arith, refl, subst, sym, ◌∙◌}
 use Rattle.std.specs.Option.{option_map_or}
-use Rattle.std.specs.Prelude.{Bool, List, None, Option, Some, is_some, option_and_then, true, [], ℕ, ◌≡◌, ◌≤◌, ◌∷◌}
+use Rattle.std.specs.Prelude.{Bool, List, None, Option, Some, is_some, option_and_then, true, [], ℕ, ◌≡◌, ◌<◌, ◌≤◌, ◌∷◌}
 use Rattle.task_laws.specs.Order.{InOrder, IsOf, WorkEntries, is_host_of, set_of_place, stands}
 use Rattle.task_machine.specs.Core.{Core, Queues, Unscripted}
 use Rattle.task_machine.specs.Maps.{get}
@@ -30,8 +30,8 @@ use Rattle.task_ops.specs.Running.{Stand}
 use Rattle.task_places.proofs.Entries.{Cleared, First, next_first, popped_cleared}
 use Rattle.task_rules.proofs.MoveLemmas.{no_time, one_time}
 use Rattle.task_rules.proofs.StandLemmas.{Loose, by_number, eq_refl, left_placed, zero_one}
-use Rattle.task_rules.specs.Places.{HasPlace, entries, is_at_high, is_at_low, is_at_switch, is_behind_of, one_if, says, switch_entries, times}
-use Rattle.task_rules.specs.Takes.{popped}
+use Rattle.task_rules.specs.Places.{HasPlace, Placed, entries, is_at_high, is_at_low, is_at_switch, is_behind_of, one_if, says, switch_entries, times}
+use Rattle.task_rules.specs.Takes.{popped, rest_of}
 use Rattle.task_turns.proofs.OrderLemmas.{positive, some_from}
 use Rattle.task_turns.specs.Taken.{FindsSet, Taken}
 use Rattle.task_turns.specs.Turn.{Sits, state_at}
@@ -125,7 +125,7 @@ module _ (c : Component) (ended : Bool) (s : Core) (sits : Sits c (turn.Take end
         join = popped_join m n s joined;
       }
 
--- ---- The set of a delivery is there, and no async call of a host ends
+-- ---- The set of a delivery is there
 
 delivered_place : (o : Option Place) (x : ℕ) → delivered_set (option_map_or ready_why o why.Resumption) ≡ Some x → option_and_then set_of_place o ≡ Some x
 delivered_place o x e = grind arith
@@ -151,18 +151,52 @@ module _ (c : Component) (ended : Bool) (s : Core) (sits : Sits c (turn.Take end
   finds mark.High n = record { there = there n; members = λ x e. queued_members _ (instance_of n s) x s (members n x e) }
   finds mark.Low n = record { there = there n; members = λ x e. queued_members _ (instance_of n s) x s (members n x e) }
 
-  no_host : (i : ℕ) → stands (is_host_of i) s.queues.high ≡ 0
-  no_host i = go (get s.works i) refl
+-- ---- The entry of an ended host work
+
+module _ (c : Component) (ended : Bool) (s : Core) (sits : Sits c (turn.Take ended) s) (none : get s.works 0 ≡ None) where
+  known : InOrder c (state_at s Unscripted (turn.Take ended))
+  known = sits.order Unscripted
+
+  some_stands : (i : ℕ) (es es' : List Entry) → es ≡ entry.Host i ∷ es' → 1 ≤ stands (is_host_of i) es
+  some_stands i es es' e = let x = ap (stands (is_host_of i)) e in let y = ap one_if (eq_refl i) in omega (arith, x, y)
+
+  -- it stands at high
+  at_high : (m : Mark) (i : ℕ) → First m (entry.Host i) s → (m ≡ mark.High) × (1 ≤ stands (is_host_of i) s.queues.high)
+  at_high mark.Switch i f = absurd (let e = f.1.1 in cc)
+  at_high mark.High i f = (refl, some_stands i s.queues.high _ f)
+  at_high mark.Low i f = absurd (let a = some_stands i s.queues.low _ f in let b = (known.works.low i).1 in omega (arith, a, b))
+
+  -- the work is there
+  pub host_live : (m : Mark) (i : ℕ) → next_entry s ≡ Some (m, entry.Host i) → 0 < i
+  host_live m i next = by i (get s.works i) refl (at_high m i (next_first s m (entry.Host i) next)).1
     where
-      go : (o : Option Work) → get s.works i ≡ o → stands (is_host_of i) s.queues.high ≡ 0
-      go None e = ((sits.order Unscripted).works.gone i e).1
-      go (Some w) e = let h : WorkEntries s i w = (sits.order Unscripted).works.each i w e in h.host ∙ ap one_if (sits.lacks i w e).1
+      by : (j : ℕ) (o : Option Work) → get s.works j ≡ o → 1 ≤ stands (is_host_of j) s.queues.high → 0 < j
+      by j None e h = absurd (let b = (known.works.gone j e).1 in omega (arith, b, h))
+      by ℕ.zero (Some w) e h = absurd (let x = sym none ∙ e in cc)
+      by (ℕ.suc j) (Some w) e h = omega arith
 
-  first_host : (m : Mark) (i : ℕ) → First m (entry.Host i) s → ⊥
-  first_host mark.Switch i f = absurd (let e = f.1.1 in cc)
-  first_host mark.High i f = absurd (let a = sym (ap (stands (is_host_of i)) f) ∙ no_host i in let one = ap one_if (eq_refl i) in omega (arith, a, one))
-  first_host mark.Low i f = absurd (let a = sym (ap (stands (is_host_of i)) f) ∙ ((sits.order Unscripted).works.low i).1 in let one = ap one_if (eq_refl i) in omega (arith, a, one))
+  rest_entries : (k i : ℕ) (es es' : List Entry) → es ≡ entry.Host i ∷ es' → entries k (rest_of es) ≡ entries k es
+  rest_entries k i es es' e = subst (λ (xs : List Entry). entries k (rest_of xs) ≡ entries k xs) (sym e) (omega arith)
 
-  -- the next entry isn't that of an ended host work
-  pub no_host_next : (m : Mark) (i : ℕ) → next_entry s ≡ Some (m, entry.Host i) → ⊥
-  no_host_next m i e = first_host m i (next_first s m (entry.Host i) e)
+  -- each thread has its place still
+  pub host_placed : (m : Mark) (i : ℕ) → next_entry s ≡ Some (m, entry.Host i) → Placed (popped m s)
+  unfolding popped set_high
+  host_placed m i next = by m (next_first s m (entry.Host i) next) (at_high m i (next_first s m (entry.Host i) next)).0
+    where
+      by : (q : Mark) → First q (entry.Host i) s → q ≡ mark.High → Placed (popped q s)
+      by mark.High f e = λ k. let h : HasPlace k s = known.in_place.placed k in record {
+        number = h.number;
+        behind = h.behind;
+        switch = h.switch;
+        high = rest_entries k i s.queues.high _ f ∙ h.high;
+        low = h.low;
+        callers = h.callers;
+      }
+      by mark.Switch f e = absurd (cc)
+      by mark.Low f e = absurd (cc)
+
+  pub host_joined : (m : Mark) (i : ℕ) → IsJoinThere (subtask.Host i) (popped m s)
+  unfolding popped set_switch set_high set_low
+  host_joined mark.Switch i x e = let j = known.joins_named.joins (subtask.Host i) x e in some_from _ (get s.sets x) j.instance j.home
+  host_joined mark.High i x e = let j = known.joins_named.joins (subtask.Host i) x e in some_from _ (get s.sets x) j.instance j.home
+  host_joined mark.Low i x e = let j = known.joins_named.joins (subtask.Host i) x e in some_from _ (get s.sets x) j.instance j.home

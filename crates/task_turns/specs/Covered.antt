@@ -1,43 +1,29 @@
--- The components that are run.
+-- Components of callbacks with start scripts alone.
 use Rattle.std.specs.List.{list_all}
-use Rattle.std.specs.Prelude.{Bool, Some, [], false, length, nat_le, slice_get, true, ℕ, ◌≡◌, ◌≤◌}
+use Rattle.std.specs.Prelude.{Bool, Some, [], false, length, true, ℕ, ◌≡◌, ◌≤◌}
 use Rattle.task_machine.specs.declared.component.Callee.{Callee}
 use Rattle.task_machine.specs.declared.component.Component.{Component}
 use Rattle.task_machine.specs.declared.component.ExportDef.{ExportDef}
 use Rattle.task_machine.specs.declared.component.ExportKind.TheVariants as kind
 use Rattle.task_machine.specs.declared.op.Op.{Op}
 use Rattle.task_machine.specs.declared.op.Op.TheVariants as op
-use Rattle.task_machine.specs.declared.op.SetOp.{SetOp}
-use Rattle.task_machine.specs.declared.op.SetOp.TheVariants as set_op
-use Rattle.task_machine.specs.declared.records.Script.{Script}
-use Rattle.task_rules.specs.Scripts.{export_at, script_in, slot_at, slot_script}
+use Rattle.task_rules.specs.Scripts.{export_at, slot_at, slot_script}
+use Rattle.task_turns.specs.WellFormed.{IsWellFormed}
 
--- an event is written to a register and the two after it; joins aren't built
-abbrev pub set_op_fits : SetOp → Bool
-set_op_fits (set_op.Wait r x) = nat_le r 13
-set_op_fits (set_op.Poll r x) = nat_le r 13
-set_op_fits (set_op.Join x y) = false
-set_op_fits o = true
+abbrev pub IsCovered : Component → Type 0
+IsCovered c = IsWellFormed c
 
--- ops on subtasks aren't built
-abbrev pub op_fits : Op → Bool
-op_fits (op.Set o) = set_op_fits o
-op_fits (op.Call o) = false
-op_fits o = true
-
--- An export takes at most 16 words, a script has at most 4096 ops, and each op fits.
-pub record IsCovered (c : Component) : Type 0 where
-  pub few_params : (f : Callee) (e : ExportDef) → export_at c f ≡ Some e → e.params ≤ 16
-  pub short : (f : Callee) (x : Script) → length (script_in c f x) ≤ 4096
-  pub ops : (f : Callee) (x : Script) (p : ℕ) (o : Op) → slice_get (script_in c f x) p ≡ Some o → op_fits o ≡ true
-
--- ---- Callbacks with start scripts alone
+-- the ops on registers and words, and those of the task
+abbrev pub is_covered_op : Op → Bool
+is_covered_op (op.Data x) = true
+is_covered_op (op.Task x) = true
+is_covered_op _ = false
 
 pub record IsPlainExport (e : ExportDef) : Type 0 where
   pub called_back : e.kind ≡ kind.Callback
   pub few_params : e.params ≤ 16
   pub short : length e.start ≤ 4096
-  pub ops : list_all op_fits e.start ≡ true
+  pub ops : list_all is_covered_op e.start ≡ true
   pub react : e.react ≡ []
 
 -- All exports are such ones, and no slot has a script.

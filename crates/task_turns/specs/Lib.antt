@@ -1,9 +1,10 @@
 pub mod Covered
 pub mod Turn
-pub mod Runner
 pub mod Context
 pub mod Drive
 pub mod Taken
 pub mod Kept
 pub mod Main
+pub mod WellFormed
+pub mod Ran
 pub mod Later

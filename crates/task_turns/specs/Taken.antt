@@ -1,18 +1,15 @@
 -- A thread whose entry was taken, as its taking needs it.
-use Rattle.std.specs.Prelude.{◌≡◌, ◌<◌, ℕ, None, Option, Some, [], is_some, true}
+use Rattle.std.specs.Prelude.{◌≡◌, ◌<◌, ℕ, Some, [], is_some, true}
 use Rattle.task_machine.specs.Core.{Core}
 use Rattle.task_machine.specs.Maps.{get}
 use Rattle.task_machine.specs.Moves.{why_of}
 use Rattle.task_machine.specs.Read.{instance_of, task_of}
-use Rattle.task_machine.specs.declared.records.Entry.{Entry}
-use Rattle.task_machine.specs.declared.records.Entry.TheVariants as entry
 use Rattle.task_machine.specs.declared.records.Place.TheVariants as place
 use Rattle.task_machine.specs.declared.records.Subtask.TheVariants as subtask
 use Rattle.task_machine.specs.declared.words.Mark.{Mark}
 use Rattle.task_moves.specs.Idle.{IsJoinThere}
 use Rattle.task_ops.specs.Gifts.{MembersNamed}
 use Rattle.task_ops.specs.Running.{Stand}
-use Rattle.task_rules.specs.Takes.{popped}
 use Rattle.task_words.specs.Live.{delivered_set}
 
 -- Its entry left the mark, and each other thread has its place. The set that its call is joined to is there.

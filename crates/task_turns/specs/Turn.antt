@@ -1,6 +1,6 @@
 -- What a turn of the loop makes.
-use Rattle.std.specs.Prelude.{◌≡◌, ◌<◌, ◌≤◌, ◌+◌, List, ℕ, Bool, true, false, Option, Some, None, is_none, is_some, length, option_map}
-use Rattle.task_laws.specs.Lacks.{LacksOps, LacksWorks}
+use Rattle.std.specs.Prelude.{◌≡◌, ◌<◌, List, ℕ, Bool, true, false, Option, Some, None, is_none, is_some, length}
+use Rattle.op_dispatch.specs.Fits.{HasHandles, HasInstances}
 use Rattle.task_laws.specs.Order.{InOrder}
 pub use Rattle.task_laws.specs.Order.{is_open}
 use Rattle.task_machine.specs.Core.{Core, Main, One, State}
@@ -17,33 +17,23 @@ use Rattle.task_machine.specs.declared.outcome.Outcome.TheVariants as outcome
 use Rattle.task_machine.specs.declared.scenario.IdleLine.{IdleLine}
 use Rattle.task_machine.specs.declared.scenario.IdleLine.TheVariants as idle_line
 use Rattle.task_machine.specs.declared.scenario.MainOpDef.{MainOpDef}
+pub use Rattle.op_dispatch.specs.Goes.{GoesOn, Shows, given, running_of}
 use Rattle.task_rules.specs.Outcome.{is_at_rest, outcome_of_label}
 use Rattle.task_rules.specs.Stalled.{Setting, main_pends}
 use Rattle.task_rules.specs.Step.{Step}
 use Rattle.task_rules.specs.Turns.{settled_turn}
 use Rattle.task_turns.specs.declared.made.Made.{Made}
-use Rattle.task_words.specs.StateView.{StateView, thread_of}
+use Rattle.task_words.specs.StateView.{StateView}
 
 -- the state with this core and this part of main, at this turn
 abbrev pub state_at : Core → Main → Turn → State
 state_at s m p = record { version = One; core = s; main = m; turn = p }
 
--- Each instance of the component has its table of handles.
-abbrev pub HasHandles : Component → Core → Type 0
-HasHandles c s = (i : ℕ) → i < length c.instances → is_some (get s.handles i) ≡ true
-
--- The core is in order at this turn, whatever main's part is. No op of the component calls a host asynchronously, and the core has no such
--- call. Each instance of the component is there.
+-- The core is in order at this turn, whatever main's part is, and each instance of the component is there, with its table of handles.
 pub record Sits (c : Component) (p : Turn) (s : Core) : Type 0 where
   pub order : (m : Main) → InOrder c (state_at s m p)
-  pub there : (i : ℕ) → i < length c.instances → is_some (get s.instances i) ≡ true
+  pub there : HasInstances c s
   pub handles : HasHandles c s
-  pub ops : LacksOps c
-  pub lacks : LacksWorks s
-
--- the number of the thread that runs
-abbrev pub running_of : StateView → Option ℕ
-running_of s = option_map (λ id. thread_of s id) s.current
 
 -- the thread that runs in this turn
 abbrev pub runs_in : Turn → Option ℕ
@@ -56,10 +46,6 @@ pub record Makes (c : Component) (p : Turn) (s : StateView) (made : Made) (t : S
   pub step : (x : Setting) → x.component ≡ c → (m : Main) → Step x (state_at s.core m p) made.label (state_at t.core m made.turn)
   pub running : running_of t ≡ runs_in made.turn
   pub over : is_none (outcome_of_label made.label) ≡ is_open made.turn
-
--- how many threads, works, sets and groups were made
-abbrev pub given : Core → ℕ
-given s = s.made.threads + s.made.works + s.made.sets + s.made.groups
 
 -- where main has pended, its op pends still
 abbrev pub PendsIn : Setting → Core → Main → Turn → Type 0
@@ -108,23 +94,17 @@ idle_line_of false = idle_line.Wait
 abbrev pub setting_of : Component → List MainOpDef → (trap_on_idle : Bool) → Setting
 setting_of c ops b = record { component = c; script = ops; idle = idle_line_of b }
 
+-- it goes on or stops, and hasn't trapped
+abbrev pub is_going : Came → Bool
+is_going (came.Goes l m) = true
+is_going (came.Stops l) = true
+is_going _ = false
+
 -- the strand of a thread that trapped is there
 abbrev pub CanStrike : Came → ℕ → Core → Type 0
 CanStrike (came.Traps why) n s = (0 < n) × IsTopmost n s
 CanStrike (came.Fails i) n s = (0 < n) × IsTopmost n s
 CanStrike _ n s = Unit {0}
-
--- a thread that goes on is the one that runs, and what is shown gives no outcome
-abbrev pub GoesOn : Came → StateView → Type 0
-GoesOn (came.Goes l m) s = (running_of s ≡ Some m) × (outcome_of_label l ≡ None)
-GoesOn (came.Stops l) s = outcome_of_label l ≡ None
-GoesOn _ s = Unit {0}
-
--- if a thread goes on, it is this one, and what is shown gives no outcome
-abbrev pub Shows : ℕ → Came → Type 0
-Shows n (came.Goes l m) = (m ≡ n) × (outcome_of_label l ≡ None)
-Shows n (came.Stops l) = outcome_of_label l ≡ None
-Shows n _ = Unit {0}
 
 -- the same of a turn in which main has no part, whatever main is
 abbrev pub TurnedBeside : Component → (trap_on_idle : Bool) → Turn → StateView → Option Made → StateView → Type 0

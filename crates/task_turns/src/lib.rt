@@ -3,31 +3,26 @@
 #![tactic(auto)]
 
 mod context;
-mod exits;
 mod futures;
 mod kept;
 mod made;
 mod mains;
 mod rests;
 mod runs;
-mod scripts;
-mod sets;
 mod settles;
 mod stretches;
 mod takes;
-mod tasks;
-mod threads;
 mod trace;
 mod turns;
 
 pub use context::{ThreadContext, operand_value};
 pub use futures::step_poll;
 pub use kept::{finish_in_order, made_in_order, refusal_in_order, start_in_order};
-pub use made::Made;
+pub use made::{Made, Ran};
 pub use mains::{MainStep, made_by_main};
+pub use op_dispatch::{export_def, script_ops};
 pub use rests::{step_deadlock, step_rest};
 pub use runs::step_run;
-pub use scripts::{export_def, script_ops};
 pub use settles::{turn_after_end, turn_after_polls};
 pub use stretches::stretch;
 pub use takes::step_take;

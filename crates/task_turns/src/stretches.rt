@@ -3,15 +3,16 @@
 ghost use Rattle.std.specs.Prelude.{◌≡◌, ◌≤◌, IfOk, Some, true};
 ghost use Rattle.task_machine.specs.Read.{how_far_of};
 ghost use Rattle.task_machine.specs.declared.records.HowFar.TheVariants as how_far;
-ghost use Rattle.task_turns.specs.Covered.{IsCovered};
+ghost use Rattle.task_turns.specs.Later.{SameWorks};
+ghost use Rattle.task_turns.specs.WellFormed.{IsWellFormed};
 ghost use Rattle.task_turns.specs.Drive.{KeepsOn};
 ghost use Rattle.task_turns.specs.Later.{SameWorks};
 ghost use Rattle.task_turns.specs.Turn.{Sits, running_of};
 ghost use Rattle.task_words.specs.StateView.{thread_of};
 
 use crate::context::{computes_in, context_of};
-use crate::scripts::{op_at, script_ops};
 use crate::trace::Trace;
+use op_dispatch::{op_at, script_ops};
 use task_machine::{Component, Label, NoMemory, Op, Turn};
 use task_words::{HowFarId, ThreadId, Words};
 
@@ -36,7 +37,7 @@ pub fn stretch<W: Words>(
     added: u32,
     steps: u32,
 ) -> Result<u32, NoMemory>
-    requires covered { IsCovered component.now }
+    requires covered { IsWellFormed component.now }
     requires order { Sits component.now (Turn.Run number) (W.view w.old).core }
     requires runs { running_of (W.view w.old) ≡ Some number }
     requires few { added ≤ steps }

@@ -16,6 +16,7 @@ ghost use Rattle.task_turns.specs.Turn.{IsFree, Makes, Shows, Sits, Took};
 ghost use Rattle.task_words.specs.StateView.{thread_of, work_of};
 
 use crate::made::{Made, made_of};
+use subtask_ops::take_host;
 use task_machine::{Component, Delivery, Label, Mark, NoMemory, TakeLabel, Turn, Why};
 use task_ops::{Came, deliver_own, deliver_set, hold_delivery, resume, take_push, take_start};
 use task_words::{EntryId, ThreadId, Words, WorkId};
@@ -106,6 +107,33 @@ fn step_push<W: Words>(w: &mut W, mark: Mark, work: WorkId) -> Made
     }
 }
 
+// The next entry is that of an ended host work, at this mark: it is taken, and the subtask is done.
+fn step_host<W: Words>(
+    component: &Component,
+    w: &mut W,
+    ended: bool,
+    mark: Mark,
+    work: WorkId,
+) -> Made
+    requires order { Sits component.now (Turn.Take ended) (W.view w.old).core }
+    requires current { (W.view w.old).current ≡ None }
+    requires next { next_entry (W.view w.old).core ≡ Some (mark, entries.Host (work_of (W.view w.old) work)) }
+    ensures makes { Makes component.now (Turn.Take ended) (W.view w.old) result (W.view w.new) }
+    ensures turn { result.turn ≡ Turn.Main }
+    ensures works { KeepsWorks (W.view w.old) (W.view w.new) }
+{
+    let _component = component;
+    w.none_is_zero();
+    w.pop(mark);
+    let Came::Stops(label) = take_host(w, mark, work) else {
+        unreachable!()
+    };
+    Made {
+        label,
+        turn: Turn::Main,
+    }
+}
+
 /// The next entry is taken; none where nothing stands.
 pub fn step_take<W: Words>(
     component: &Component,
@@ -124,6 +152,6 @@ pub fn step_take<W: Words>(
             Ok(Some(made))
         }
         Some((mark, EntryId::Push(work))) => Ok(Some(step_push(w, mark, work))),
-        Some((_, EntryId::Host(_))) => unreachable!(),
+        Some((mark, EntryId::Host(work))) => Ok(Some(step_host(component, w, ended, mark, work))),
     }
 }

@@ -7,7 +7,8 @@ ghost use Rattle.task_ops.specs.Works.{KeepsWorks};
 ghost use Rattle.task_rules.specs.Outcome.{is_at_rest};
 ghost use Rattle.task_rules.specs.Places.{Placed};
 ghost use Rattle.task_rules.specs.Stalled.{Setting, is_unended_take};
-ghost use Rattle.task_turns.specs.Covered.{IsCovered};
+ghost use Rattle.task_turns.specs.Later.{SameWorks};
+ghost use Rattle.task_turns.specs.WellFormed.{IsWellFormed};
 ghost use Rattle.task_turns.specs.Drive.{KeepsOn};
 ghost use Rattle.task_turns.specs.Later.{SameWorks};
 ghost use Rattle.task_turns.specs.Turn.{IsAtTurn, IsSettled, PendsIn, Sits, TurnedBeside, Turns, idle_line_of, running_of, runs_in, state_at};
@@ -85,7 +86,7 @@ pub fn compute<W: Words>(
     added: u32,
     steps: u32,
 ) -> Result<u32, NoMemory>
-    requires covered { IsCovered component.now }
+    requires covered { IsWellFormed component.now }
     requires order { Sits component.now turn (W.view w.old).core }
     requires runs { running_of (W.view w.old) ≡ runs_in turn }
     requires few { added ≤ steps }

@@ -17,6 +17,6 @@ pub use laws::{
     callback_code_unpacks, packed_status_unpacks, waitables_by_kind_and_id,
     waiters_by_task_and_thread,
 };
-pub use set::WaitableSet;
+pub use set::{WaitableSet, put_in_order};
 pub use task_links::{Links, Node, others_stay};
 pub use task_machine::{NoMemory, Status};

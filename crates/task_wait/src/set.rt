@@ -92,8 +92,9 @@ fn place<P: Copy + Ord>(links: &Links<P>, chain: usize, value: P) -> Option<Node
     place
 }
 
-// Puts a free node into a chain, after the last value that is less.
-fn put_in_order<P: Copy + Ord>(links: &mut Links<P>, chain: usize, node: Node, value: P)
+/// Puts a free node into a live chain, after the last value that is less, so that a chain into which all were put so
+/// stands in ascending order. Where it is the greatest, that takes constant time.
+pub fn put_in_order<P: Copy + Ord>(links: &mut Links<P>, chain: usize, node: Node, value: P)
     requires chain { IsSome (list_of links.old chain) }
     requires free { is_free links.old node.index ≡ true }
     ensures links { links.new ≡ linked chain node.index value (placed P.cmp (node.index, value) (entries links.old chain)) links.old }

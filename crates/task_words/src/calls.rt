@@ -8,7 +8,7 @@ ghost use Rattle.task_machine.specs.declared.records.Caller.TheVariants as calle
 ghost use Rattle.task_machine.specs.declared.records.Goal.TheVariants as goals;
 ghost use Rattle.task_rules.specs.Calls.{call_made, next_thread, with_thread_handle};
 ghost use Rattle.task_rules.specs.Takes.{starting_is_published};
-ghost use Rattle.task_words.specs.Live.{live_caller};
+ghost use Rattle.task_words.specs.Live.{live_caller, live_thread};
 ghost use Rattle.task_words.specs.Names.{caller_in};
 ghost use Rattle.task_words.specs.StateView.{Keeps, KeepsBut, call_of, lost_call, on_core, thread_of};
 
@@ -56,6 +56,10 @@ pub trait CallWords: View {
     /// The number of the call's group.
     fn call_group(&self, call: CallId) -> u64
         ensures { result ≡ call_group (call_of (Self.view self.now) call) (Self.view self.now).core };
+
+    /// The call's first thread, whose number is the call's; it names nothing where that is gone.
+    fn first_thread(&self, call: CallId) -> ThreadId
+        ensures { thread_of (Self.view self.now) result ≡ live_thread (call_of (Self.view self.now) call) (Self.view self.now).core };
 
     /// Whether some thread of the call is left.
     fn has_thread(&self, call: CallId) -> bool

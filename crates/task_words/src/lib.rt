@@ -1,4 +1,4 @@
-//! The words of a core, keyed by the ids of its table: what an op reads, writes, makes and removes.
+//! The words of a core, keyed by the ids of its table: what ops read, write, make and remove.
 //!
 //! Each is one equation of what contracts see. An id that names nothing has the number 0, under
 //! which nothing stands: a read of it answers the machine's default, a write of it changes nothing.

@@ -1,4 +1,4 @@
-ghost use Rattle.std.specs.Prelude.{◌≡◌, IfOk, OnErr, OnOk, false, is_some, true};
+ghost use Rattle.std.specs.Prelude.{◌≡◌, ◌<◌, ◌^◌, IfOk, OnErr, OnOk, false, is_some, true};
 ghost use Rattle.task_machine.specs.Maps.{get};
 ghost use Rattle.task_machine.specs.Read.{at_handle_limit, event_of, join_of, new_handle, subtask_ended, subtask_handle};
 ghost use Rattle.task_machine.specs.Write.{set_event, set_join, set_subtask_handle};
@@ -39,6 +39,7 @@ pub trait SubtaskWords: View {
         requires there { is_some (get (Self.view self.old).core.handles instance) ≡ true }
         requires limit { at_handle_limit (Self.view self.old).core ≡ false }
         ensures handle { IfOk result (λ h. h ≡ new_handle instance (Self.view self.old).core) }
+        ensures small { IfOk result (λ h. h < 2 ^ 28) }
         ensures new { OnOk result (Self.view self.new ≡ on_core (with_handle instance (subtask_in (Self.view self.old).tags subtask)) (Self.view self.old)) }
         ensures err { OnErr result (Self.view self.new ≡ Self.view self.old) };
 }

@@ -1,5 +1,5 @@
 ghost use Rattle.std.specs.Prelude.{◌≡◌, ◌+◌, ◌<◌, ◌^◌, IfOk, None, OnErr, OnOk, Some, false, option_map, true};
-ghost use Rattle.task_machine.specs.Read.{at_handle_limit, course_of, fits, instance_of, phase_of, stage_of, thread_group, was_cancelled, work_caller_of};
+ghost use Rattle.task_machine.specs.Read.{at_handle_limit, course_of, fits, instance_of, new_handle, phase_of, stage_of, thread_group, was_cancelled, work_caller_of};
 ghost use Rattle.task_machine.specs.Write.{count_work, set_cancelled, set_course, set_phase, set_stage};
 ghost use Rattle.task_machine.specs.declared.records.Subtask.TheVariants as subtasks;
 ghost use Rattle.task_machine.specs.declared.records.WorkCaller.TheVariants as work_callers;
@@ -101,6 +101,7 @@ pub trait WorkWords: View {
         requires room { fits 1 (Self.view self.old).core ≡ true }
         requires limit { at_handle_limit (Self.view self.old).core ≡ false }
         ensures work { IfOk result (λ id. work_of (Self.view self.new) id ≡ next_work (Self.view self.old).core) }
+        ensures small { OnOk result (new_handle (instance_of (thread_of (Self.view self.old) thread) (Self.view self.old).core) (Self.view self.old).core < 2 ^ 28) }
         ensures core { OnOk result ((Self.view self.new).core ≡ with_handle (instance_of (thread_of (Self.view self.old) thread) (Self.view self.old).core) (subtasks.Host (next_work (Self.view self.old).core)) (work_queued (work_callers.Async (thread_of (Self.view self.old) thread) register) host (Some (thread_group (thread_of (Self.view self.old) thread) (Self.view self.old).core)) (Self.view self.old).core)) }
         ensures current { (Self.view self.new).current ≡ (Self.view self.old).current }
         ensures tags { Keeps (Self.view self.old).tags (Self.view self.new).tags }

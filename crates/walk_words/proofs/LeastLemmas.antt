@@ -48,7 +48,7 @@ pub cases_or : (b c : Bool) → (b || c) ≡ true → (b ≡ true) ⊎ (c ≡ tr
 cases_or true c is = inl refl
 cases_or false c is = inr is
 
-or_later : (b c : Bool) → c ≡ true → (b || c) ≡ true
+pub or_later : (b c : Bool) → c ≡ true → (b || c) ≡ true
 or_later true c is = refl
 or_later false c is = is
 
@@ -99,10 +99,22 @@ T_left : (a b : Bool) → T (a && b) → T a
 T_left true b p = tt
 T_left false b p = absurd p
 
-and_parts : (a b : Bool) → (a && b) ≡ true → (a ≡ true) × (b ≡ true)
+pub and_parts : (a b : Bool) → (a && b) ≡ true → (a ≡ true) × (b ≡ true)
 and_parts true true is = (refl, refl)
 and_parts true false is = absurd (cc)
 and_parts false b is = absurd (cc)
+
+-- a number that fails is none of those that pass
+pub first_fails : (p : ℕ → Bool) (m : ℕ) (ms : List ℕ) → p m ≡ false → (n : ℕ) → (has n (m ∷ ms) && p n) ≡ (has n ms && p n)
+first_fails p m ms fails n = cases (n == m) refl
+  where
+    never : (a : Bool) → (a && false) ≡ false
+    never true = refl
+    never false = refl
+
+    cases : (b : Bool) → (n == m) ≡ b → ((b || has n ms) && p n) ≡ (has n ms && p n)
+    cases true is = let off : p n ≡ false = ap p (eqb-true n m is) ∙ fails in off ∙ sym (ap (λ b. has n ms && b) off ∙ never (has n ms))
+    cases false is = refl
 
 module _ {X : Type 0} where
   abbrev pub keys : List (ℕ × X) → List ℕ
@@ -129,15 +141,7 @@ module _ {X : Type 0} where
       ]
 
       other : p e.0 ≡ false → (n : ℕ) → (has n (keys (e ∷ es)) && p n) ≡ (has n (keys es) && p n)
-      other fails n = cases (n == e.0) refl
-        where
-          never : (a : Bool) → (a && false) ≡ false
-          never true = refl
-          never false = refl
-
-          cases : (b : Bool) → (n == e.0) ≡ b → ((b || has n (keys es)) && p n) ≡ (has n (keys es) && p n)
-          cases true is = let off : p n ≡ false = ap p (eqb-true n e.0 is) ∙ fails in off ∙ sym (ap (λ b. has n (keys es) && b) off ∙ never (has n (keys es)))
-          cases false is = refl
+      other fails n = first_fails p e.0 (keys es) fails n
 
       by : (b : Bool) → p e.0 ≡ b → IsFirst (λ n. has n (keys es) && p n) (find p (keys es)) → IsFirst (λ n. has n (keys (e ∷ es)) && p n) (cond b (Some e.0) (find p (keys es)))
       by true passes rest = (ap₂ (λ a b. a && b) (has_first e.0 (keys es)) passes, at_most)

@@ -1,60 +1,60 @@
--- The live work of the least number above another one.
-use Rattle.std.proofs.Common.{inl, inr, ◌≡◌, ◌≤◌, ◌==◌, ◌&&◌, ℕ, Bool, true, false, cond, filter, nat_lt, List, [], ◌∷◌, Option, Some, None, IsSome, is_some, T, refl, sym, ap, subst, ◌∙◌, arith}
+-- The first of the live works above a number is what the machine polls next.
+use Rattle.std.proofs.Common.{inl, inr, ◌≡◌, ◌<◌, ◌≤◌, ◌==◌, ◌&&◌, ◌||◌, ◌++◌, ℕ, Bool, true, false, cond, map, nat_lt, List, [], ◌∷◌, Option, Some, None, IsSome, is_some, T, refl, sym, ap, ap₂, subst, ◌∙◌, arith}
 use Rattle.std.proofs.lemmas.Bool.{eq-eqb, eqb-true}
-use Rattle.std.proofs.lemmas.Option.{same_Some}
+use Rattle.std.proofs.lemmas.Map.Keys.{ge_from_not_lt}
+use Rattle.std.proofs.lemmas.Option.{same_Some, some_pair_parts}
 use Rattle.std.specs.Cmp.{unsigned_tied}
-use Rattle.std.specs.FinMap.Entries.{find, is_sorted}
-use Rattle.std.specs.Ordering.{nat_cmp}
-use Rattle.task_index.proofs.Indexes.{IsIndex-same}
-use Rattle.task_index.proofs.Members.{IsMembers-filter, IsMembers-numbers}
+use Rattle.std.specs.FinMap.Entries.{is_sorted}
+use Rattle.std.specs.FinMap.Entries as entry_list
+use Rattle.std.specs.List.{find}
+use Rattle.std.specs.Ordering.{is_lt, nat_cmp, ordering_then}
+use Rattle.std.specs.declared.cmp.Ordering.{Ordering}
+use Rattle.std.specs.declared.cmp.Ordering.TheVariants.{Less, Equal, Greater}
+use Rattle.task_index.proofs.Indexes.{IsIndex-same, link_says}
+use Rattle.task_index.proofs.Members.{IsMembers-numbers}
+use Rattle.task_index.proofs.Tables.{filings_at}
 use Rattle.task_index.proofs.Walks.{IsMembers-walked}
 use Rattle.task_index.specs.Index.{Filing, IsIndex, Tests, filings, said}
 use Rattle.task_index.specs.Members.{has}
-use Rattle.task_index.specs.Walks.{passes_at, passes_in}
-use Rattle.task_links.specs.Links.{IsLinks, list_of}
+use Rattle.task_index.specs.Walks.{number_at, number_in_link, passes_at, passes_in}
+use Rattle.task_links.proofs.Paths.{split}
+use Rattle.task_links.specs.Links.{AreLinked, IsLinks, Spot, entries, head_of, link_of, list_of}
 use Rattle.task_machine.specs.Maps.{get, numbers}
 use Rattle.task_machine.specs.Read.{is_live, is_stage_live}
 use Rattle.task_machine.specs.declared.records.Stage.{Stage}
 use Rattle.task_machine.specs.declared.records.Work.{Work}
 use Rattle.task_records.specs.Keys.{work_key}
 use Rattle.task_records.specs.Kinds.{on_item}
-use Rattle.task_records.specs.Places.{live_chain, live_work}
+use Rattle.task_records.specs.Places.{Rises, live_chain, live_order, live_value, live_work}
 use Rattle.task_records.specs.Seen.{IsSound, parts_of, seen}
 use Rattle.task_records.specs.Sound.{bare, bare_work}
 use Rattle.task_records.specs.declared.parts.CoreParts.{CoreParts}
 use Rattle.task_records.specs.declared.single.Single.{Single}
 use Rattle.task_records.specs.declared.works.HostWork.{HostWork}
+use Rattle.task_records.specs.declared.works.LiveWork.{LiveWork}
 use Rattle.task_rules.specs.Works.{first_number, live_after, next_polled}
 use Rattle.task_table.proofs.MappedLemmas.{place_at-mapped}
 use Rattle.task_table.proofs.RecordLemmas.{get-records, record_found}
 use Rattle.task_table.specs.Mapped.{placed_as}
-use Rattle.task_table.specs.Records.{key_in, number_in, records}
+use Rattle.task_table.specs.Records.{key_in, number_in, record_at, records}
 use Rattle.task_table.specs.Table.{Placed, place_at}
+use Rattle.task_wait.specs.Sets.{IsAscending, IsLeast}
 use Rattle.place_words.specs.Moved.{live_key}
 use Rattle.queue_words.proofs.BareLemmas.{place_mapped}
-use Rattle.walk_words.proofs.LeastLemmas.{IsFirst, below_keys, cases_or, keys, least_first, one_first, right, same_first, sorted_below}
-use Rattle.walk_words.specs.Least.{least_from, least_of, lesser, lesser_after}
-use Rattle.walk_words.specs.Walks.{of_live_chain, work_at_place}
-
--- one number more
-pub after_step : (p : ℕ) (least : Option ℕ) (n : ℕ) (ns : List ℕ) → least_from (lesser_after p least n) (filter (nat_lt p) ns) ≡ least_from least (filter (nat_lt p) (n ∷ ns))
-after_step p least n ns = by (nat_lt p n)
-  where
-    by : (b : Bool) → least_from (cond b (Some (lesser least n)) least) (filter (nat_lt p) ns) ≡ least_from least (cond b (n ∷ filter (nat_lt p) ns) (filter (nat_lt p) ns))
-    by true = refl
-    by false = refl
+use Rattle.walk_words.proofs.LeastLemmas.{IsFirst, and_parts, below_keys, cases_or, first_fails, has_first, keys, one_first, or_later, right, same_first, sorted_below}
+use Rattle.walk_words.specs.Walks.{HasNext, Walk, live_numbers}
 
 -- ---- What the machine polls next is the first that passes
 
 abbrev passes : ℕ → List (ℕ × Work) → ℕ → Bool
-passes p es k = passes_in (λ (e : ℕ × Work). is_live e.1) k (find nat_cmp k es) && nat_lt p k
+passes p es k = passes_in (λ (e : ℕ × Work). is_live e.1) k (entry_list.find nat_cmp k es) && nat_lt p k
 
-found_key : (k : ℕ) (es : List (ℕ × Work)) → T (is_sorted nat_cmp es) → has k (keys es) ≡ is_some (find nat_cmp k es)
+found_key : (k : ℕ) (es : List (ℕ × Work)) → T (is_sorted nat_cmp es) → has k (keys es) ≡ is_some (entry_list.find nat_cmp k es)
 unfolding numbers get
 found_key k es sorted = (IsMembers-numbers (record { list = es; sorted = sorted })).are k
 
 passing_key : (p k : ℕ) (es : List (ℕ × Work)) → T (is_sorted nat_cmp es) → passes p es k ≡ true → has k (keys es) ≡ true
-passing_key p k es sorted is = found_key k es sorted ∙ by (find nat_cmp k es) is
+passing_key p k es sorted is = found_key k es sorted ∙ by (entry_list.find nat_cmp k es) is
   where
     by : (o : Option Work) → (passes_in (λ (e : ℕ × Work). is_live e.1) k o && nat_lt p k) ≡ true → is_some o ≡ true
     by None is = absurd (cc)
@@ -70,11 +70,11 @@ after_first p (e ∷ es) sorted = by (is_live e.1 && nat_lt p e.0) refl (after_f
   where
     here : (k : ℕ) → (k == e.0) ≡ true → passes p (e ∷ es) k ≡ (is_live e.1 && nat_lt p e.0)
     here k same =
-        ap (λ b. passes_in (λ (x : ℕ × Work). is_live x.1) k (cond b (Some e.1) (find nat_cmp k es)) && nat_lt p k) (unsigned_tied k e.0 ∙ same)
+        ap (λ b. passes_in (λ (x : ℕ × Work). is_live x.1) k (cond b (Some e.1) (entry_list.find nat_cmp k es)) && nat_lt p k) (unsigned_tied k e.0 ∙ same)
         ∙ ap (λ n. is_live e.1 && nat_lt p n) (eqb-true k e.0 same)
 
     there : (k : ℕ) → (k == e.0) ≡ false → passes p (e ∷ es) k ≡ passes p es k
-    there k other = ap (λ b. passes_in (λ (x : ℕ × Work). is_live x.1) k (cond b (Some e.1) (find nat_cmp k es)) && nat_lt p k) (unsigned_tied k e.0 ∙ other)
+    there k other = ap (λ b. passes_in (λ (x : ℕ × Work). is_live x.1) k (cond b (Some e.1) (entry_list.find nat_cmp k es)) && nat_lt p k) (unsigned_tied k e.0 ∙ other)
 
     at_most : (k : ℕ) → passes p (e ∷ es) k ≡ true → e.0 ≤ k
     at_most k is = elim (cases_or (k == e.0) (has k (keys es)) (passing_key p k (e ∷ es) sorted is)) [
@@ -102,6 +102,102 @@ after_first p (e ∷ es) sorted = by (is_live e.1 && nat_lt p e.0) refl (after_f
 
 -- ---- The chain of the live works
 
+not_less : (v e : LiveWork) → is_lt (live_order v e) ≡ false → e.number ≤ v.number
+not_less v e is = ge_from_not_lt v.number e.number (by (nat_cmp v.number e.number) (nat_cmp v.place e.place) is)
+  where
+    by : (o q : Ordering) → is_lt (ordering_then o q) ≡ false → is_lt o ≡ false
+    by Less q is = is
+    by Equal q is = refl
+    by Greater q is = refl
+
+or_none : (a b : Bool) → (a || b) ≡ false → (a ≡ false) × (b ≡ false)
+or_none true b is = absurd (cc)
+or_none false b is = (refl, is)
+
+-- what stands after a work has a number as great
+above_all : (e : LiveWork) (es : List (ℕ × LiveWork)) → IsLeast live_order e es → (k : ℕ) → has k (live_numbers es) ≡ true → e.number ≤ k
+above_all e [] least k is = absurd (cc)
+above_all e (f ∷ fs) least k is =
+    let parts = or_none (is_lt (live_order f.1 e)) _ least in
+    elim (cases_or (k == f.1.number) (has k (live_numbers fs)) is) [
+      | inl first ↦ (let same = eqb-true k f.1.number first in let up = not_less f.1 e parts.0 in omega (arith, same, up))
+      | inr later ↦ above_all e fs parts.1 k later
+    ]
+
+first_rising : (p : ℕ) (es : List (ℕ × LiveWork)) → IsAscending live_order es → IsFirst (λ n. has n (live_numbers es) && nat_lt p n) (find (nat_lt p) (live_numbers es))
+first_rising p [] up = λ n is. absurd (cc)
+first_rising p (e ∷ es) up = by (nat_lt p e.1.number) refl (first_rising p es up.1)
+  where
+    at_most : (n : ℕ) → (has n (live_numbers (e ∷ es)) && nat_lt p n) ≡ true → e.1.number ≤ n
+    at_most n is = elim (cases_or (n == e.1.number) (has n (live_numbers es)) (and_parts _ _ is).0) [
+      | inl first ↦ (let same = eqb-true n e.1.number first in omega (arith, same))
+      | inr later ↦ above_all e.1 es up.0 n later
+    ]
+
+    other : nat_lt p e.1.number ≡ false → (n : ℕ) → (has n (live_numbers (e ∷ es)) && nat_lt p n) ≡ (has n (live_numbers es) && nat_lt p n)
+    other fails n = first_fails (nat_lt p) e.1.number (live_numbers es) fails n
+
+    by : (b : Bool) → nat_lt p e.1.number ≡ b → IsFirst (λ n. has n (live_numbers es) && nat_lt p n) (find (nat_lt p) (live_numbers es)) → IsFirst (λ n. has n (live_numbers (e ∷ es)) && nat_lt p n) (cond b (Some e.1.number) (find (nat_lt p) (live_numbers es)))
+    by true passes rest = (ap₂ (λ a b. a && b) (has_first e.1.number (live_numbers es)) passes, at_most)
+    by false fails rest = same_first (λ n. has n (live_numbers es) && nat_lt p n) (λ n. has n (live_numbers (e ∷ es)) && nat_lt p n) (other fails) (find (nat_lt p) (live_numbers es)) rest
+
+-- ---- A walk that begins within the chain
+
+-- the numbers up to one that is not above are passed over
+passed : (p : ℕ) (a : List (ℕ × LiveWork)) (e : ℕ × LiveWork) (b : List (ℕ × LiveWork)) → IsAscending live_order (a ++ e ∷ b) → e.1.number ≤ p → find (nat_lt p) (live_numbers (e ∷ b)) ≡ find (nat_lt p) (live_numbers (a ++ e ∷ b))
+passed p [] e b up low = refl
+passed p (x ∷ xs) e b up low =
+    passed p xs e b up.1 low
+    ∙ sym (ap (λ t. cond t (Some x.1.number) (find (nat_lt p) (live_numbers (xs ++ e ∷ b)))) (not_above (above_all x.1 (xs ++ e ∷ b) up.0 e.1.number (has_there xs))))
+  where
+    has_there : (ys : List (ℕ × LiveWork)) → has e.1.number (live_numbers (ys ++ e ∷ b)) ≡ true
+    has_there [] = has_first e.1.number (live_numbers b)
+    has_there (y ∷ ys) = or_later (e.1.number == y.1.number) _ (has_there ys)
+
+    not_above : x.1.number ≤ e.1.number → nat_lt p x.1.number ≡ false
+    not_above up = grind (arith, up, low)
+
+pub found_here : (p : ℕ) (e : ℕ × LiveWork) (b : List (ℕ × LiveWork)) → p < e.1.number → Some e.1.number ≡ find (nat_lt p) (live_numbers (e ∷ b))
+found_here p e b above = sym (ap (λ t. cond t (Some e.1.number) (find (nat_lt p) (live_numbers b))) (by above))
+  where
+    by : p < e.1.number → nat_lt p e.1.number ≡ true
+    by above = grind (arith, above)
+
+pub passed_here : (p : ℕ) (e : ℕ × LiveWork) (b : List (ℕ × LiveWork)) → e.1.number ≤ p → find (nat_lt p) (live_numbers b) ≡ find (nat_lt p) (live_numbers (e ∷ b))
+passed_here p e b low = sym (ap (λ t. cond t (Some e.1.number) (find (nat_lt p) (live_numbers b))) (by low))
+  where
+    by : e.1.number ≤ p → nat_lt p e.1.number ≡ false
+    by low = grind (arith, low)
+
+linked_there : (links : List (Spot LiveWork)) (c : ℕ) (a : List (ℕ × LiveWork)) (e : ℕ × LiveWork) (b : List (ℕ × LiveWork)) → AreLinked links c (a ++ e ∷ b) → link_of links e.0 ≡ Some (c, e.1)
+linked_there links c [] e b linked = linked.0
+linked_there links c (x ∷ xs) e b linked = linked_there links c xs e b linked.1
+
+numbers_linked : (links : List (Spot LiveWork)) (c : ℕ) (es : List (ℕ × LiveWork)) → AreLinked links c es → map (λ e. number_at (λ (v : LiveWork). v.number) links e.0) es ≡ live_numbers es
+numbers_linked links c [] linked = refl
+numbers_linked links c (e ∷ es) linked = ap₂ (λ n ns. n ∷ ns) (ap (number_in_link (λ (v : LiveWork). v.number)) linked.0) (numbers_linked links c es linked.1)
+
+module _ (links : List (Spot LiveWork)) (c : ℕ) (linked : AreLinked links c (entries links c)) where
+  pub begins_there : (p n : ℕ) (v : LiveWork) → IsLinks links → IsAscending live_order (entries links c) → link_of links n ≡ Some (c, v) → v.number ≤ p → Walk (HasNext p (entries links c)) (entries links c) (Some (n, v))
+  begins_there p n v sound up link low =
+      let (a, (b, (w, is))) = split n (entries links c) (sound.listed n c v link).1 in
+      let same : w ≡ v = (some_pair_parts c c w v (sym (linked_there links c a (n, w) b (subst (AreLinked links c) is linked)) ∙ link)).1 in
+      record {
+        front = a;
+        back = (n, w) ∷ b;
+        parts = is;
+        next_is = ap (λ (x : LiveWork). Some (n, x)) (sym same);
+        good = passed p a (n, w) b (subst (IsAscending live_order) is up) (subst (λ (x : LiveWork). x.number ≤ p) (sym same) low) ∙ ap (λ l. find (nat_lt p) (live_numbers l)) (sym is);
+      }
+
+  -- the node that a walk has come to has its value there
+  pub walk_value : (Good : List (ℕ × LiveWork) → Type 0) (next : Option (ℕ × LiveWork)) (e : ℕ × LiveWork) → Walk Good (entries links c) next → next ≡ Some e → link_of links e.0 ≡ Some (c, e.1)
+  walk_value Good next e walk is = by walk.back (sym walk.next_is ∙ is) walk.parts
+    where
+      by : (back : List (ℕ × LiveWork)) → head_of back ≡ Some e → entries links c ≡ walk.front ++ back → link_of links e.0 ≡ Some (c, e.1)
+      by [] none parts = absurd (cc)
+      by (x ∷ b) first parts = linked_there links c walk.front e b (subst (λ y. AreLinked links c (walk.front ++ y ∷ b)) (same_Some x e first) (subst (AreLinked links c) parts linked))
+
 module _ (a : CoreParts) (sound : IsSound a) where
   polled_filed : IsIndex (live_chain (bare (parts_of a))) a.polled (filings live_work a.works)
   unfolding IsSound filings
@@ -114,6 +210,10 @@ module _ (a : CoreParts) (sound : IsSound a) where
   pub polled_live : (c : ℕ) → a.live ≡ Some c → IsSome (list_of a.polled c)
   polled_live c is = polled_filed.live tt c is
 
+  pub chain_rises : (c : ℕ) → a.live ≡ Some c → Rises a.polled (Some c)
+  unfolding IsSound
+  chain_rises c is = subst (Rises a.polled) is sound.whole.chained.rising
+
   is_key : (x : Stage) → live_key x ≡ Some tt → is_stage_live x ≡ true
   is_key x is = by (is_stage_live x) refl is
     where
@@ -123,27 +223,42 @@ module _ (a : CoreParts) (sound : IsSound a) where
 
   live_tests : Tests live_work work_key tt (λ (e : ℕ × Work). is_live e.1)
   live_tests = record {
-    passes = λ rep serial e f says is_k. ((e.item.number, e.item.work), (refl, is_key e.item.work.stage (ap (λ (g : Filing (Unit {0}) ℕ). g.key) (same_Some (record { node = e.item.live.index; key = live_key e.item.work.stage; value = rep }) f says) ∙ is_k)));
-    filed = λ rep serial e x says is. (record { node = e.item.live.index; key = live_key e.item.work.stage; value = rep }, (refl, ap (λ b. cond b (Some tt) None) (ap (λ (y : ℕ × Work). is_live y.1) (same_Some (e.item.number, e.item.work) x says) ∙ is)));
+    passes = λ rep serial e f says is_k. ((e.item.number, e.item.work), (refl, is_key e.item.work.stage (ap (λ (g : Filing (Unit {0}) LiveWork). g.key) (same_Some (record { node = e.item.live.index; key = live_key e.item.work.stage; value = live_value rep e.item }) f says) ∙ is_k)));
+    filed = λ rep serial e x says is. (record { node = e.item.live.index; key = live_key e.item.work.stage; value = live_value rep e.item }, (refl, ap (λ b. cond b (Some tt) None) (ap (λ (y : ℕ × Work). is_live y.1) (same_Some (e.item.number, e.item.work) x says) ∙ is)));
   }
 
-  reads : (r : ℕ) (p : Placed (Single HostWork)) (f : Filing (Unit {0}) ℕ) (x : ℕ × Work) → place_at a.works r ≡ Some p → live_work r p.serial p.entry ≡ Some f → work_key p.entry ≡ Some x → work_at_place a f.value ≡ x.0
+  reads : (r : ℕ) (p : Placed (Single HostWork)) (f : Filing (Unit {0}) LiveWork) (x : ℕ × Work) → place_at a.works r ≡ Some p → live_work r p.serial p.entry ≡ Some f → work_key p.entry ≡ Some x → f.value.number ≡ x.0
   reads r p f x at says key =
-      ap (λ (g : Filing (Unit {0}) ℕ). work_at_place a g.value) (sym (same_Some (record { node = p.entry.item.live.index; key = live_key p.entry.item.work.stage; value = r }) f says))
-      ∙ (ap (λ o. number_in (key_in work_key o)) at ∙ ap number_in key)
+      ap (λ (g : Filing (Unit {0}) LiveWork). g.value.number) (sym (same_Some (record { node = p.entry.item.live.index; key = live_key p.entry.item.work.stage; value = live_value r p.entry.item }) f says))
+      ∙ ap (λ (y : ℕ × Work). y.0) (same_Some (p.entry.item.number, p.entry.item.work) x key)
+
+  -- a node of the chain has the number of the work at its place
+  pub live_numbered : (c : ℕ) → a.live ≡ Some c → (n : ℕ) (v : LiveWork) → link_of a.polled n ≡ Some (c, v) → number_in (record_at work_key a.works.places v.place) ≡ v.number
+  live_numbered c is n v link =
+      let o = polled_filed.owner n c v link in
+      let said = link_says (live_chain (bare (parts_of a))) a.polled (filings live_work a.works) polled_filed tt c is o.0 o.1.0 o.1.1.0 v (ap (link_of a.polled) o.1.1.1 ∙ link) in
+      subst (λ w. number_in (record_at work_key a.works.places w.place) ≡ w.number) said.1 (by o.0 o.1.0 (place_at a.works o.0) refl o.1.1.0)
+    where
+      by : (r : ℕ) (f : Filing (Unit {0}) LiveWork) (q : Option (Placed (Single HostWork))) → place_at a.works r ≡ q → filings live_work a.works r ≡ Some f → number_in (record_at work_key a.works.places f.value.place) ≡ f.value.number
+      by r f None at filed = absurd (let none = sym (filings_at live_work a.works r None at) ∙ filed in cc)
+      by r f (Some q) at filed =
+          subst (λ (g : Filing (Unit {0}) LiveWork). number_in (record_at work_key a.works.places g.value.place) ≡ g.value.number) (same_Some (record { node = q.entry.item.live.index; key = live_key q.entry.item.work.stage; value = live_value r q.entry.item }) f (sym (filings_at live_work a.works r (Some q) at) ∙ filed))
+          (ap (λ o. number_in (key_in work_key o)) at)
 
   module _ (p : ℕ) where
     machine_first : IsFirst (λ k. passes_at (λ (e : ℕ × Work). is_live e.1) (records work_key a.works.places) k && nat_lt p k) (next_polled p (seen a).core)
     unfolding next_polled seen get
     machine_first = after_first p (records work_key a.works.places).list (records work_key a.works.places).sorted
 
-    -- the least of the chain above p is polled next
-    pub least_polled : IsLinks a.polled → (c : ℕ) → a.live ≡ Some c → least_of (filter (nat_lt p) (of_live_chain a c)) ≡ next_polled p (seen a).core
+    -- the first of the chain above p is polled next
+    pub next_is : (c : ℕ) → a.live ≡ Some c → IsLinks a.polled → AreLinked a.polled c (entries a.polled c) → find (nat_lt p) (live_numbers (entries a.polled c)) ≡ next_polled p (seen a).core
     unfolding IsSound
-    least_polled links c is =
-        let members = IsMembers-walked live_work (live_chain (bare (parts_of a))) a.works a.polled polled_filed tt c is work_key (λ (e : ℕ × Work). is_live e.1) live_tests links sound.tables.works.apart (work_at_place a) reads in
-        one_first (λ k. passes_at (λ (e : ℕ × Work). is_live e.1) (records work_key a.works.places) k && nat_lt p k) (least_of (filter (nat_lt p) (of_live_chain a c))) (next_polled p (seen a).core)
-        (same_first (λ n. has n (filter (nat_lt p) (of_live_chain a c))) (λ k. passes_at (λ (e : ℕ × Work). is_live e.1) (records work_key a.works.places) k && nat_lt p k) (λ n. sym ((IsMembers-filter _ (of_live_chain a c) members (nat_lt p)).are n)) (least_of (filter (nat_lt p) (of_live_chain a c))) (least_first None (filter (nat_lt p) (of_live_chain a c))))
+    next_is c is links linked =
+        let members = IsMembers-walked live_work (live_chain (bare (parts_of a))) a.works a.polled polled_filed tt c is work_key (λ (e : ℕ × Work). is_live e.1) live_tests links sound.tables.works.apart (λ (v : LiveWork). v.number) reads in
+        one_first (λ k. passes_at (λ (e : ℕ × Work). is_live e.1) (records work_key a.works.places) k && nat_lt p k) (find (nat_lt p) (live_numbers (entries a.polled c))) (next_polled p (seen a).core)
+        (same_first (λ n. has n (live_numbers (entries a.polled c)) && nat_lt p n) (λ k. passes_at (λ (e : ℕ × Work). is_live e.1) (records work_key a.works.places) k && nat_lt p k)
+        (λ n. ap (λ b. b && nat_lt p n) (sym (ap (has n) (sym (numbers_linked a.polled c (entries a.polled c) linked)) ∙ members.are n))) _
+        (first_rising p (entries a.polled c) (chain_rises c is)))
         machine_first
 
     -- where the chain was not made there is no work

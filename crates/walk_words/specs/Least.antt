@@ -1,5 +1,5 @@
 -- The least of a list of numbers.
-use Rattle.std.specs.Prelude.{◌≡◌, ℕ, if◌then◌else◌, nat_lt, List, [], ◌∷◌, filter, map, Option, None, Some}
+use Rattle.std.specs.Prelude.{◌≡◌, ℕ, if◌then◌else◌, nat_lt, List, [], ◌∷◌, map, Option, None, Some}
 
 abbrev pub lesser : Option ℕ → ℕ → ℕ
 lesser None n = n
@@ -16,10 +16,3 @@ least_of ns = least_from None ns
 -- the numbers of what is left, with what was found before, have the least of all
 abbrev pub HasLeast : {P : Type 0} → (ℕ → ℕ) → List ℕ → Option ℕ → List (ℕ × P) → Type 0
 HasLeast number all least left = least_from least (map (λ e. number e.0) left) ≡ least_of all
-
--- the same of those above p
-abbrev pub lesser_after : ℕ → Option ℕ → ℕ → Option ℕ
-lesser_after p least n = if nat_lt p n then Some (lesser least n) else least
-
-abbrev pub HasLeastAfter : {P : Type 0} → ℕ → (ℕ → ℕ) → List ℕ → Option ℕ → List (ℕ × P) → Type 0
-HasLeastAfter p number all least left = least_from least (filter (nat_lt p) (map (λ e. number e.0) left)) ≡ least_of (filter (nat_lt p) all)

@@ -1,9 +1,11 @@
 -- A walk through a chain, from its first node on.
-use Rattle.std.specs.Prelude.{◌≡◌, ◌==◌, ◌++◌, ℕ, if◌then◌else◌, List, [], ◌∷◌, Option, None, Some, length}
+use Rattle.std.specs.List.{find}
+use Rattle.std.specs.Prelude.{◌≡◌, ◌==◌, ◌++◌, ℕ, if◌then◌else◌, List, [], ◌∷◌, Option, None, Some, length, map, nat_lt}
 use Rattle.task_index.specs.Walks.{number_at, walked}
 use Rattle.task_links.specs.Links.{head_of}
-use Rattle.task_records.specs.Keys.{thread_key, work_key}
+use Rattle.task_records.specs.Keys.{thread_key}
 use Rattle.task_records.specs.declared.parts.CoreParts.{CoreParts}
+use Rattle.task_records.specs.declared.works.LiveWork.{LiveWork}
 use Rattle.task_table.specs.Records.{number_in, record_at}
 
 -- the number of the thread at a place
@@ -17,15 +19,13 @@ of_node a n = number_at (at_place a) a.places n
 abbrev pub of_chain : CoreParts → ℕ → List ℕ
 of_chain a c = walked (at_place a) a.places c
 
--- the same of host works, in the chain of the live ones
-abbrev pub work_at_place : CoreParts → ℕ → ℕ
-work_at_place a place = number_in (record_at work_key a.works.places place)
+-- the numbers of works in the chain of the live ones
+abbrev pub live_numbers : List (ℕ × LiveWork) → List ℕ
+live_numbers es = map (λ e. e.1.number) es
 
-abbrev pub of_live_node : CoreParts → ℕ → ℕ
-of_live_node a n = number_at (work_at_place a) a.polled n
-
-abbrev pub of_live_chain : CoreParts → ℕ → List ℕ
-of_live_chain a c = walked (work_at_place a) a.polled c
+-- what is left has the first above p
+abbrev pub HasNext : ℕ → List (ℕ × LiveWork) → List (ℕ × LiveWork) → Type 0
+HasNext p all left = find (nat_lt p) (live_numbers left) ≡ find (nat_lt p) (live_numbers all)
 
 module _ {P : Type 0} where
   -- A walk has come to the next entry: what holds of the entries that are left.

@@ -71,7 +71,8 @@ fn some_admitted(parts: &CoreParts, instance: u32, chain: usize) -> bool
     false
 }
 
-/// Whether a held thread of the instance is admitted.
+/// Whether a held thread of the instance is admitted. It looks at those that are held, up to the first that is: it is
+/// asked where they are to be released.
 pub fn has_admitted(parts: &CoreParts, instance: u32) -> bool
     requires { IsSound parts.now }
     ensures { result ≡ not (is_nil (admitted_held instance (seen parts.now).core)) }

@@ -45,7 +45,8 @@ fn least(parts: &CoreParts, chain: usize) -> Option<ThreadId>
     least
 }
 
-/// The thread that waits under this one for its direct callee.
+/// The thread that waits under this one for its direct callee: of those in the chain that of the least number. Where the
+/// machine has come there itself one thread at most is under another, so that takes constant time.
 pub fn under(parts: &CoreParts, thread: ThreadId) -> Option<ThreadId>
     requires sound { IsSound parts.now }
     requires live { 0 < thread_of (seen parts.now) thread }
@@ -58,7 +59,8 @@ pub fn under(parts: &CoreParts, thread: ThreadId) -> Option<ThreadId>
     }
 }
 
-/// The thread that is blocked on a subtask.
+/// The thread that is blocked on a subtask: of those in the chain that of the least number. Where the machine has come
+/// there itself one thread at most is blocked on a subtask, so that takes constant time.
 pub fn blocked_on(parts: &CoreParts, subtask: SubtaskId) -> Option<ThreadId>
     requires sound { IsSound parts.now }
     requires live { 0 < number_in (seen parts.now).tags subtask }

@@ -1,77 +1,66 @@
-//! The live work that is polled next: of those above the one that was polled last that of the least
-//! number, wherever it stands among the live ones.
-ghost use Rattle.std.specs.Prelude.{◌≡◌, IsSome, filter, nat_lt, option_map};
-ghost use Rattle.task_links.specs.Links.{IsLinks, link_of, list_of};
+//! The live work that is polled next. The live works stand in order of number, so it is the one after the work that was
+//! polled last.
+ghost use Rattle.std.specs.List.{find};
+ghost use Rattle.std.specs.Prelude.{◌≡◌, IsSome, nat_lt, option_map};
+ghost use Rattle.task_links.specs.Links.{AreLinked, IsLinks, entries, list_of};
+ghost use Rattle.task_records.specs.Places.{Rises};
 ghost use Rattle.task_records.specs.Seen.{IsSound, seen};
 ghost use Rattle.task_rules.specs.Works.{next_polled};
 ghost use Rattle.task_words.specs.StateView.{work_of};
-ghost use Rattle.walk_words.specs.Least.{least_of, lesser_after};
-ghost use Rattle.walk_words.specs.Walks.{of_live_chain, of_live_node};
+ghost use Rattle.walk_words.specs.Walks.{HasNext, Walk, live_numbers};
 
-use record_words::work_number;
-use task_records::{CoreParts, Node, work_at};
+use task_records::{CoreParts, LiveWork, Node, work_at};
 use task_words::WorkId;
 
-// The live work that a node stands for.
-fn node_work(parts: &CoreParts, node: Node) -> WorkId
-    requires { IsSome (link_of parts.now.polled node.index) }
-    ensures { work_of (seen parts.now) result ≡ of_live_node parts.now node.index }
+// Where the search begins: at the node of the work that was polled last, if it is in the chain and not above, else at
+// the first.
+fn search_start(parts: &CoreParts, chain: usize, polled: u64) -> Option<(Node, LiveWork)>
+    requires live { IsSome (list_of parts.now.polled chain) }
+    requires rising { Rises parts.now.polled (Some chain) }
+    ensures walk { Walk (HasNext polled (entries parts.now.polled chain)) (entries parts.now.polled chain) (option_map (λ e. (e.0.index, e.1)) result) }
+    ensures links { IsLinks parts.now.polled }
+    ensures linked { AreLinked parts.now.polled chain (entries parts.now.polled chain) }
 {
-    match parts.polled.get(node) {
-        Some((_, place)) => work_at(parts, place),
-        None => unreachable!(),
-    }
-}
-
-// Of a work, if its number is above this one, and of one that was found before that of the smaller number.
-fn lesser_after(
-    parts: &CoreParts,
-    polled: u64,
-    least: Option<WorkId>,
-    work: WorkId,
-) -> Option<WorkId>
-    requires { IsSound parts.now }
-    ensures { option_map (λ id. work_of (seen parts.now) id) result ≡ lesser_after polled (option_map (λ id. work_of (seen parts.now) id) least) (work_of (seen parts.now) work) }
-{
-    let number = work_number(parts, work);
-    if polled < number {
-        match least {
-            Some(other) => {
-                if work_number(parts, other) < number {
-                    Some(other)
-                } else {
-                    Some(work)
+    parts.polled.no_node_is_twice();
+    parts.polled.nodes_have_values(chain);
+    if let Some(node) = parts.polled_last {
+        if parts.polled.is_made(node) {
+            if let Some((found, work)) = parts.polled.get(node) {
+                if found == chain && work.number <= polled {
+                    return Some((node, work));
                 }
             }
-            None => Some(work),
         }
-    } else {
-        least
     }
+    parts.polled.first(chain)
 }
 
-fn least_after(parts: &CoreParts, chain: usize, polled: u64) -> Option<WorkId>
+// The first work of the chain whose number is above this one.
+fn first_above(parts: &CoreParts, chain: usize, polled: u64) -> Option<WorkId>
     requires sound { IsSound parts.now }
-    requires live { IsSome (list_of parts.now.polled chain) }
-    ensures is { option_map (λ id. work_of (seen parts.now) id) result ≡ least_of (filter (nat_lt polled) (of_live_chain parts.now chain)) }
+    requires is { parts.now.live ≡ Some chain }
+    ensures is { option_map (λ id. work_of (seen parts.now) id) result ≡ find (nat_lt polled) (live_numbers (entries parts.now.polled chain)) }
     ensures links { IsLinks parts.now.polled }
+    ensures linked { AreLinked parts.now.polled chain (entries parts.now.polled chain) }
 {
-    let mut least = None;
-    let mut next = parts.polled.first(chain);
-    while let Some(entry) = next {
-        least = lesser_after(parts, polled, least, node_work(parts, entry.0));
-        next = parts.polled.next(entry.0);
+    let mut next = search_start(parts, chain, polled);
+    while let Some((node, work)) = next {
+        if polled < work.number {
+            return Some(work_at(parts, work.place));
+        }
+        next = parts.polled.next(node);
     }
-    least
+    None
 }
 
-/// The live work that is polled next, where those with numbers up to this one were.
+/// The live work that is polled next, where those with numbers up to this one were. Where this one is the number of the
+/// work that was polled last, or 0, that takes constant time.
 pub fn next_polled(parts: &CoreParts, polled: u64) -> Option<WorkId>
     requires { IsSound parts.now }
     ensures { option_map (λ id. work_of (seen parts.now) id) result ≡ next_polled polled (seen parts.now).core }
 {
     match parts.live {
-        Some(chain) => least_after(parts, chain, polled),
+        Some(chain) => first_above(parts, chain, polled),
         None => None,
     }
 }

@@ -2,11 +2,11 @@
 use Rattle.std.proofs.Common.{inl, ◌≡◌, ℕ, [], Option, Some, None, IsSome, is_some, false, refl, sym, ap, subst, ◌∙◌}
 use Rattle.make_words.proofs.LooseLemmas.{IsIndex-opened}
 use Rattle.task_index.specs.Index.{Filing, filings, said}
-use Rattle.task_links.specs.Links.{ChainOf, Renames, Unmade, list_of, spot_list}
+use Rattle.task_links.specs.Links.{ChainOf, Renames, Unmade, list_of, list_or_nil, spot_list}
 use Rattle.task_machine.specs.Read.{table_use}
 use Rattle.task_records.specs.Image.{Parts}
 use Rattle.task_records.specs.Names.{HasHome, IsCallNamed, IsWorkNamed}
-use Rattle.task_records.specs.Places.{live_chain, live_work}
+use Rattle.task_records.specs.Places.{live_chain, live_order, live_work}
 use Rattle.task_records.specs.Seen.{IsSound, parts_of}
 use Rattle.task_records.specs.Sound.{IsWhole, bare}
 use Rattle.task_records.specs.declared.calls.GuestTask.{GuestTask}
@@ -14,7 +14,9 @@ use Rattle.task_records.specs.declared.parts.CoreParts.{CoreParts}
 use Rattle.task_records.specs.declared.single.Single.{Single}
 use Rattle.task_records.specs.declared.threads.GuestThread.{GuestThread}
 use Rattle.task_records.specs.declared.works.HostWork.{HostWork}
+use Rattle.task_records.specs.declared.works.LiveWork.{LiveWork}
 use Rattle.task_table.specs.Table.{Placed, place_at}
+use Rattle.task_wait.specs.Sets.{IsAscending}
 
 pub none_there : {X : Type 0} (o : Option X) → is_some o ≡ false → o ≡ None
 none_there None is = refl
@@ -27,7 +29,7 @@ module _ (p : Parts) (whole : IsWhole p) (none : p.live ≡ None) (c : ℕ) (emp
   no_chain : {X : Type 0} (d : ℕ) → p.live ≡ Some d → X
   no_chain d is = absurd (let two = sym none ∙ is in cc)
 
-  no_work : (r : ℕ) (f : Filing (Unit {0}) ℕ) → filings live_work p.works r ≡ Some f → f.key ≡ Some tt → ⊥
+  no_work : (r : ℕ) (f : Filing (Unit {0}) LiveWork) → filings live_work p.works r ≡ Some f → f.key ≡ Some tt → ⊥
   unfolding filings
   no_work r f is key = by (place_at p.works r) refl is
     where
@@ -42,7 +44,7 @@ module _ (p : Parts) (whole : IsWhole p) (none : p.live ≡ None) (c : ℕ) (emp
   home_same g h = record { call = h.call; there = h.there; instance = h.instance; within = h.within; place = h.place; how_far = h.how_far }
 
   call_same : (g : GuestTask) → IsCallNamed p g → IsCallNamed opened g
-  call_same g h = record { caller = h.caller; join = h.join; group = h.group; positive = h.positive }
+  call_same g h = record { caller = h.caller; first = h.first; join = h.join; group = h.group; positive = h.positive }
 
   work_same : (w : HostWork) → IsWorkNamed p w → IsWorkNamed opened w
   work_same w h = record { caller = h.caller; join = h.join; group = h.group }
@@ -61,6 +63,7 @@ module _ (p : Parts) (whole : IsWhole p) (none : p.live ≡ None) (c : ℕ) (emp
       ready_calls = whole.chained.ready_calls;
       ready_works = whole.chained.ready_works;
       polled = IsIndex-opened (live_chain p) (live_chain opened) p.polled tt (λ j. inl refl) (λ j other. absurd (other refl)) c refl (record { empty = empty; apart = λ k at. no_chain c at }) (filings live_work p.works) whole.chained.polled no_work;
+      rising = subst (IsAscending live_order) (sym (ap list_or_nil empty)) tt;
       marks = whole.chained.marks;
       shelves = whole.chained.shelves;
       low = whole.chained.low;

@@ -6,7 +6,7 @@ use Rattle.strand_words.proofs.NodeLemmas.{filed_made, spare_made}
 use Rattle.task_index.specs.Index.{filings}
 use Rattle.task_links.specs.Links.{ChainOf, FreeNode, Renames, Unmade}
 use Rattle.task_machine.specs.Read.{is_stage_live}
-use Rattle.task_records.specs.Places.{live_chain, place_chain, place_filing, ready_in, ready_work_chain}
+use Rattle.task_records.specs.Places.{live_chain, live_value, place_chain, place_filing, ready_in, ready_work_chain}
 use Rattle.task_records.specs.Seen.{IsSound, parts_of}
 use Rattle.task_records.specs.Sound.{bare}
 use Rattle.task_records.specs.declared.parts.CoreParts.{CoreParts}
@@ -27,11 +27,11 @@ module _ (a b c d e : CoreParts) (n : WorkNodes) (sound_a : IsSound a) (sound_b 
 
   ready_new : IsSpare (λ (w : HostWork). w.ready.index) (bare (parts_of b)).works c.ready_works n.ready.index
   unfolding IsSound
-  ready_new = spare_made _ _ b.ready_works c.ready_works n.ready.index (filed_made (λ (w : HostWork). w.ready.index) (λ w. ready_in w.work.event w.work.join) (ready_work_chain (bare (parts_of b))) (bare (parts_of b)).works b.ready_works sound_b.whole.chained.ready_works) ready
+  ready_new = spare_made _ _ b.ready_works c.ready_works n.ready.index (filed_made (λ (w : HostWork). w.ready.index) (λ w. ready_in w.work.event w.work.join) (λ r w. r) (ready_work_chain (bare (parts_of b))) (bare (parts_of b)).works b.ready_works sound_b.whole.chained.ready_works) ready
 
   live_new : IsSpare (λ (w : HostWork). w.live.index) (bare (parts_of c)).works d.polled n.live.index
   unfolding IsSound
-  live_new = spare_made _ _ c.polled d.polled n.live.index (filed_made (λ (w : HostWork). w.live.index) (λ w. if is_stage_live w.work.stage then Some tt else None) (live_chain (bare (parts_of c))) (bare (parts_of c)).works c.polled sound_c.whole.chained.polled) live
+  live_new = spare_made _ _ c.polled d.polled n.live.index (filed_made (λ (w : HostWork). w.live.index) (λ w. if is_stage_live w.work.stage then Some tt else None) live_value (live_chain (bare (parts_of c))) (bare (parts_of c)).works c.polled sound_c.whole.chained.polled) live
 
   mark_new : IsSpare (λ (w : HostWork). w.mark.index) (bare (parts_of d)).works e.marks n.mark.index
   unfolding IsSound

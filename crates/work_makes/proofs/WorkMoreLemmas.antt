@@ -22,7 +22,7 @@ use Rattle.task_records.specs.Image.{Parts, core_of}
 use Rattle.task_records.specs.Kept.{IsGroupKept, calls_of, is_of_group}
 use Rattle.task_records.specs.Keys.{group_key, work_key}
 use Rattle.task_records.specs.Names.{AtPlace, CallOf, HasHome, HasNumber, IsCallNamed, IsWorkNamed, Nothing, SetOf, Target, ThreadOf, WorkOf, join_target, kinds}
-use Rattle.task_records.specs.Places.{BlockedOn, HeldIn, UnderOf, WaitsOn, Where, live_chain, place_chain, place_filing, ready_in, ready_work_chain}
+use Rattle.task_records.specs.Places.{BlockedOn, HeldIn, UnderOf, WaitsOn, Where, live_chain, live_value, place_chain, place_filing, ready_in, ready_work_chain}
 use Rattle.task_records.specs.Rows.{IsSeated, entry_seated, host_entry, is_of_instance, push_entry, row, row_chain, shelf_chain}
 use Rattle.task_records.specs.Sound.{AreChained, AreCounted, EachEntry, HaveRowNodes, IsWhole, SoundTable}
 use Rattle.task_records.specs.declared.calls.GuestTask.{GuestTask}
@@ -88,7 +88,7 @@ module _ (p : Parts) (whole : IsWhole p) (sound : SoundTable work_key p.works p.
   home_more h home = record { call = home.call; there = home.there; instance = home.instance; within = home.within; place = at_more h.beside _ home.place; how_far = at_more h.awaited _ home.how_far }
 
   call_more : (x : GuestTask) → IsCallNamed p x → IsCallNamed more x
-  call_more x named = record { caller = at_more x.maker _ named.caller; join = at_more x.joined _ named.join; group = group_more x.group x.call.group named.group; positive = named.positive }
+  call_more x named = record { caller = at_more x.maker _ named.caller; first = at_more x.first (ThreadOf x.number) named.first; join = at_more x.joined _ named.join; group = group_more x.group x.call.group named.group; positive = named.positive }
 
   work_more : (w : HostWork) → IsWorkNamed p w → IsWorkNamed more w
   work_more w named = record { caller = at_more w.maker _ named.caller; join = at_more w.joined _ named.join; group = λ n at. let one = named.group n at in (group_more w.group n one.0, one.1) }
@@ -128,8 +128,9 @@ module _ (p : Parts) (whole : IsWhole p) (sound : SoundTable work_key p.works p.
     places = IsIndex-opened (place_chain p) (place_chain more) p.places (BlockedOn (subtask.Host g.number)) (blocked_is g.number) place_others g.blocked has_blocked loose.blocked (filings place_filing p.threads) whole.chained.places
         (none_in_list (kinds p) p.threads (BlockedOn (subtask.Host g.number)) (λ rep q at. (whole.named.threads rep q at).place) (λ rep at. let few = at.0 in let is = later in omega arith));
     ready_calls = whole.chained.ready_calls;
-    ready_works = index_more p.works g sound.table (λ h. h.ready.index) (λ h. ready_in h.work.event h.work.join) p.ready_works loose.ready (ready_work_chain p) whole.chained.ready_works (ap (λ (e : Option Status). ready_in e g.work.join) next.event);
-    polled = index_more p.works g sound.table (λ h. h.live.index) (λ h. cond (is_stage_live h.work.stage) (Some tt) None) p.polled loose.live (live_chain p) whole.chained.polled (ap (λ b. cond b (Some tt) None) not_live);
+    ready_works = index_more p.works g sound.table (λ h. h.ready.index) (λ h. ready_in h.work.event h.work.join) (λ r h. r) p.ready_works loose.ready (ready_work_chain p) whole.chained.ready_works (ap (λ (e : Option Status). ready_in e g.work.join) next.event);
+    polled = index_more p.works g sound.table (λ h. h.live.index) (λ h. cond (is_stage_live h.work.stage) (Some tt) None) live_value p.polled loose.live (live_chain p) whole.chained.polled (ap (λ b. cond b (Some tt) None) not_live);
+    rising = whole.chained.rising;
     marks = IsRows-known (row_chain p) (λ q. q.mark.index) (IsSeated p) (IsSeated more) p.marks (row p) entry_more whole.chained.marks;
     shelves = IsRows-known (shelf_chain p) (λ q. q.shelf.index) (IsSeated p) (IsSeated more) p.shelves (part is_of_instance (row p)) entry_more whole.chained.shelves;
     low = whole.chained.low;

@@ -1,5 +1,5 @@
 ghost use Rattle.std.specs.Prelude.{◌≡◌, ◌+◌, ◌-◌, ◌<◌, ◌^◌, IfOk, IsSome, Ok, OnErr, OnOk, Some, false, length, true};
-ghost use Rattle.task_machine.specs.Read.{fits, instance_of, thread_group};
+ghost use Rattle.task_machine.specs.Read.{fits, instance_of, new_handle, thread_group};
 ghost use Rattle.task_machine.specs.declared.records.Subtask.TheVariants as subtasks;
 ghost use Rattle.task_machine.specs.declared.records.WorkCaller.TheVariants as callers;
 ghost use Rattle.task_records.specs.Kinds.{entry_of, item_of};
@@ -33,6 +33,7 @@ fn name_work(parts: &mut CoreParts, instance: u32, work: WorkId) -> Result<u32, 
     requires sound { IsSound parts.old }
     requires there { instance < length parts.old.instances.items }
     ensures sound { IsSound parts.new }
+    ensures small { OnOk result (new_handle instance (seen parts.old).core < 2 ^ 28) }
     ensures new { OnOk result (seen parts.new ≡ on_core (with_handle instance (subtasks.Host (work_of (seen parts.old) work))) (seen parts.old)) }
     ensures same { OnErr result (parts_of parts.new ≡ parts_of parts.old) }
 {
@@ -91,6 +92,7 @@ fn call_work(
     requires live { IsSome parts.old.live }
     ensures sound { IsSound parts.new }
     ensures work { IfOk result (λ id. work_of (seen parts.new) id ≡ next_work (seen parts.old).core) }
+    ensures small { OnOk result (new_handle instance (seen parts.old).core < 2 ^ 28) }
     ensures core { OnOk result ((seen parts.new).core ≡ with_handle instance (subtasks.Host (next_work (seen parts.old).core)) (work_queued request.caller request.host (group_name (Some group)) (seen parts.old).core)) }
     ensures current { (seen parts.new).current ≡ (seen parts.old).current }
     ensures tags { Keeps (seen parts.old).tags (seen parts.new).tags }
@@ -127,6 +129,7 @@ pub fn queue_call(
     requires room { fits 1 (seen parts.old).core ≡ true }
     ensures sound { IsSound parts.new }
     ensures work { IfOk result (λ id. work_of (seen parts.new) id ≡ next_work (seen parts.old).core) }
+    ensures small { OnOk result (new_handle (instance_of (thread_of (seen parts.old) thread) (seen parts.old).core) (seen parts.old).core < 2 ^ 28) }
     ensures core { OnOk result ((seen parts.new).core ≡ with_handle (instance_of (thread_of (seen parts.old) thread) (seen parts.old).core) (subtasks.Host (next_work (seen parts.old).core)) (work_queued (callers.Async (thread_of (seen parts.old) thread) register) host (Some (thread_group (thread_of (seen parts.old) thread) (seen parts.old).core)) (seen parts.old).core)) }
     ensures current { (seen parts.new).current ≡ (seen parts.old).current }
     ensures tags { Keeps (seen parts.old).tags (seen parts.new).tags }

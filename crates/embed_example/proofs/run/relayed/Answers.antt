@@ -15,7 +15,7 @@ drive-requires-clause-covered c = covered_of c.args.component.now c.requires.exp
 pub drive-requires-clause-order : goal.drive-requires-clause-order
 drive-requires-clause-order c =
     let d = c.args.component.now in
-    rw (c.in-Ok.ensures.turn, c.run_concurrent.ensures.store, c.in_ok-store.ensures.state) (sits_fresh d (covered_of d c.requires.exports) (codes_of d c.requires.exports) 2 100000 1000000 (let two = c.requires.two in omega arith))
+    rw (c.in-Ok.ensures.turn, c.run_concurrent.ensures.store, c.in_ok-store.ensures.state) (sits_fresh d (codes_of d c.requires.exports) 2 100000 1000000 (let two = c.requires.two in omega arith))
 
 pub drive-requires-clause-given : goal.drive-requires-clause-given
 drive-requires-clause-given c = rw (c.run_concurrent.ensures.store, c.in_ok-store.ensures.state, given_fresh) (omega arith)

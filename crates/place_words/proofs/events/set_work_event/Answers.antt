@@ -1,7 +1,7 @@
 use Rattle.std.proofs.Common.{Option, ap, refl, subst, sym, ◌∙◌, ℕ}
 use Rattle.std.specs.Option.{option_map}
 use Rattle.place_words.proofs.GoneLemmas.{work_gone}
-use Rattle.place_words.proofs.HearLemmas.{work_join_at, ready_live, ready_made, kept_same, same_sets, stays_live, heard_seen, heard_sound}
+use Rattle.place_words.proofs.HearLemmas.{is_whole, work_join_at, ready_live, ready_made, kept_same, same_sets, stays_live, heard_seen, heard_sound}
 use Rattle.place_words.proofs.events.set_work_event.Goals as goal
 use Rattle.task_index.specs.Index.{Refiles}
 use Rattle.task_machine.specs.Write.{set_event}
@@ -21,7 +21,7 @@ returns-in-Ok-clause-sound c =
     let g = c.in-Some.found.now in
     let h = record g { work = record g.work { event = c.args.event } } in
     heard_sound a c.requires c.args.work g c.in-Some.ensures.item h refl a.sets refl c.refile.new.links a.polled a.kept.live a.kept.moving (work_join_at a c.requires c.args.work g c.in-Some.ensures.item) (same_sets a c.requires c.args.work g c.in-Some.ensures.item h refl)
-    (kept_same a c.requires c.args.work g c.in-Some.ensures.item h refl refl c.refile.new.links a.polled a.kept.live a.kept.moving) refl refl (stays_live a c.requires c.args.work g c.in-Some.ensures.item h refl refl)
+    (kept_same a c.requires c.args.work g c.in-Some.ensures.item h refl refl c.refile.new.links a.polled a.kept.live a.kept.moving) refl refl (stays_live a c.requires c.args.work g c.in-Some.ensures.item h refl refl) (is_whole a c.requires c.args.work g c.in-Some.ensures.item).chained.rising
     (subst (λ (l : Option (ℕ × ℕ)). Refiles a.ready_works c.refile.new.links g.ready.index l)
     (ap (λ r. option_map (λ k. (k, r)) c.work_chain-chain.result) c.rep.ensures ∙ ap (option_map (λ k. (k, c.args.work.rep))) (sym c.work_chain-chain.ensures)) c.refile.ensures.links)
 

@@ -2,7 +2,7 @@ use Rattle.std.proofs.Common.{Option, ap, refl, subst, sym, ◌+◌, ◌∙◌, 
 use Rattle.std.specs.Option.{option_map}
 use Rattle.place_words.proofs.GoneLemmas.{work_gone}
 use Rattle.place_words.proofs.JoinLemmas.{in_is, less_fits, more_fits, sets_sound}
-use Rattle.place_words.proofs.HearLemmas.{heard_seen, heard_sound, joined_alike, joined_now, kept_joined, ready_live, ready_made, some_member, stays_live, work_join_at}
+use Rattle.place_words.proofs.HearLemmas.{is_whole, heard_seen, heard_sound, joined_alike, joined_now, kept_joined, ready_live, ready_made, some_member, stays_live, work_join_at}
 use Rattle.place_words.proofs.joins.set_work_join.Goals as goal
 use Rattle.place_words.specs.Moved.{joined_set, rejoined}
 use Rattle.task_index.specs.Index.{Refiles}
@@ -43,7 +43,7 @@ returns-in-Ok-clause-sound c =
     let h = record g { work = record g.work { join = c.named_join-named.result.0 }; joined = c.named_join-named.result.1 } in
     let links = c.refile.new.links in
     subst (λ (t : Table (Single WaitSet)). IsSound (record a { works = with_entry c.args.work.rep (entry_of h) a.works; sets = t; ready_works = links })) (sym (c.enter.ensures ∙ ap (rejoined (λ n. n + 1) c.joined_set-to.result.rep c.joined_set-to.result.serial) c.leave.ensures))
-    (heard_sound a c.requires c.args.work g c.in-Some.ensures.item h refl (joined_now a c.requires c.args.work g c.in-Some.ensures.item h refl c.joined_set-from.result c.joined_set-to.result c.joined_set-from.ensures c.joined_set-to.ensures links) (joined_alike a c.requires c.args.work g c.in-Some.ensures.item h refl c.joined_set-from.result c.joined_set-to.result c.joined_set-from.ensures c.joined_set-to.ensures links) links a.polled a.kept.live a.kept.moving c.named_join-named.ensures.at (sets_sound a c.requires (joined_set g.work.join) (joined_set c.named_join-named.result.0) c.joined_set-from.result c.joined_set-to.result c.joined_set-from.ensures c.joined_set-to.ensures) (kept_joined a c.requires c.args.work g c.in-Some.ensures.item h refl c.joined_set-from.result c.joined_set-to.result c.joined_set-from.ensures c.joined_set-to.ensures links) refl refl (stays_live a c.requires c.args.work g c.in-Some.ensures.item h refl refl)
+    (heard_sound a c.requires c.args.work g c.in-Some.ensures.item h refl (joined_now a c.requires c.args.work g c.in-Some.ensures.item h refl c.joined_set-from.result c.joined_set-to.result c.joined_set-from.ensures c.joined_set-to.ensures links) (joined_alike a c.requires c.args.work g c.in-Some.ensures.item h refl c.joined_set-from.result c.joined_set-to.result c.joined_set-from.ensures c.joined_set-to.ensures links) links a.polled a.kept.live a.kept.moving c.named_join-named.ensures.at (sets_sound a c.requires (joined_set g.work.join) (joined_set c.named_join-named.result.0) c.joined_set-from.result c.joined_set-to.result c.joined_set-from.ensures c.joined_set-to.ensures) (kept_joined a c.requires c.args.work g c.in-Some.ensures.item h refl c.joined_set-from.result c.joined_set-to.result c.joined_set-from.ensures c.joined_set-to.ensures links) refl refl (stays_live a c.requires c.args.work g c.in-Some.ensures.item h refl refl) (is_whole a c.requires c.args.work g c.in-Some.ensures.item).chained.rising
     (subst (λ (l : Option (ℕ × ℕ)). Refiles a.ready_works links g.ready.index l)
     (ap (λ r. option_map (λ k. (k, r)) c.work_chain-chain.result) c.rep.ensures ∙ ap (option_map (λ k. (k, c.args.work.rep))) (sym c.work_chain-chain.ensures)) c.refile.ensures.links))
 

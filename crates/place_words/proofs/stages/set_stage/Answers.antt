@@ -1,18 +1,20 @@
 use Rattle.std.proofs.Common.{Bool, Option, ap, cond, refl, subst, sym, ◌+◌, ◌∙◌, ◌≤◌, ℕ}
 use Rattle.std.specs.Option.{option_map}
 use Rattle.place_words.proofs.GoneLemmas.{work_gone}
-use Rattle.place_words.proofs.HearLemmas.{heard_seen, heard_sound, kept_same, live_made, same_sets, work_join_at}
+use Rattle.place_words.proofs.HearLemmas.{is_whole, heard_seen, heard_sound, kept_same, live_made, same_sets, work_join_at}
 use Rattle.place_words.proofs.StageLemmas.{live_few, live_some, moving_some, recounted_is, stage_live, stays_ready}
 use Rattle.place_words.proofs.stages.set_stage.Goals as goal
 use Rattle.task_index.specs.Index.{Refiles}
 use Rattle.task_machine.specs.Write.{set_stage}
 use Rattle.task_records.proofs.KeptLemmas.{moving_few}
+use Rattle.task_records.specs.Places.{live_value}
+use Rattle.task_records.specs.declared.works.LiveWork.{LiveWork}
 
-pub refile-requires-clause-made : goal.refile-requires-clause-made
-refile-requires-clause-made c = live_made c.args.parts.now c.requires c.args.work c.in-Some.found.now c.in-Some.ensures.item
+pub file_live-requires-clause-made : goal.file_live-requires-clause-made
+file_live-requires-clause-made c = live_made c.args.parts.now c.requires c.args.work c.in-Some.found.now c.in-Some.ensures.item
 
-pub refile-requires-clause-live : goal.refile-requires-clause-live
-refile-requires-clause-live c = stage_live c.args.parts.now c.requires c.args.work c.in-Some.found.now c.in-Some.ensures.item c.args.stage _ c.stage_chain-chain.ensures
+pub file_live-requires-clause-live : goal.file_live-requires-clause-live
+file_live-requires-clause-live c = stage_live c.args.parts.now c.requires c.args.work c.in-Some.found.now c.in-Some.ensures.item c.args.stage _ c.stage_chain-chain.ensures
 
 pub recounted-parts-requires-clause-some : goal.recounted-parts-requires-clause-some
 recounted-parts-requires-clause-some c some =
@@ -37,12 +39,13 @@ returns-in-Ok-clause-sound c =
     let a = c.args.parts.now in
     let g = c.in-Some.found.now in
     let h = record g { work = record g.work { stage = c.args.stage } } in
-    let links = c.refile.new.links in
+    let links = c.file_live.new.links in
     heard_sound a c.requires c.args.work g c.in-Some.ensures.item h refl a.sets refl a.ready_works links c.recounted-parts.result c.recounted-parts-in-Some.result (work_join_at a c.requires c.args.work g c.in-Some.ensures.item) (same_sets a c.requires c.args.work g c.in-Some.ensures.item h refl)
     (kept_same a c.requires c.args.work g c.in-Some.ensures.item h refl refl a.ready_works links c.recounted-parts.result c.recounted-parts-in-Some.result)
     (recounted_is a.kept.live c.recounted-parts.result _ _ _ _ c.is_live.ensures c.is_live-in-Some.ensures c.recounted-parts.ensures)
     (recounted_is a.kept.moving c.recounted-parts-in-Some.result _ _ _ _ c.is_moving.ensures c.is_moving-in-Some.ensures c.recounted-parts-in-Some.ensures)
-    (subst (λ (l : Option (ℕ × ℕ)). Refiles a.polled links g.live.index l) (ap (λ r. option_map (λ k. (k, r)) c.stage_chain-chain.result) c.rep.ensures ∙ ap (option_map (λ k. (k, c.args.work.rep))) (sym c.stage_chain-chain.ensures)) c.refile.ensures.links)
+    (subst (λ (l : Option (ℕ × LiveWork)). Refiles a.polled links g.live.index l) (ap (λ r. option_map (λ k. (k, live_value r g)) c.stage_chain-chain.result) c.rep.ensures ∙ ap (option_map (λ k. (k, live_value c.args.work.rep g))) (sym c.stage_chain-chain.ensures)) c.file_live.ensures.links)
+    (c.file_live.ensures.rising a.live (is_whole a c.requires c.args.work g c.in-Some.ensures.item).chained.rising)
     (stays_ready a c.requires c.args.work g c.in-Some.ensures.item)
 
 pub returns-in-Ok-clause-new : goal.returns-in-Ok-clause-new
@@ -50,7 +53,7 @@ unfolding set_stage
 returns-in-Ok-clause-new c =
     let a = c.args.parts.now in
     let g = c.in-Some.found.now in
-    heard_seen a c.requires c.args.work g c.in-Some.ensures.item (record g { work = record g.work { stage = c.args.stage } }) refl a.sets refl a.ready_works c.refile.new.links c.recounted-parts.result c.recounted-parts-in-Some.result _ refl
+    heard_seen a c.requires c.args.work g c.in-Some.ensures.item (record g { work = record g.work { stage = c.args.stage } }) refl a.sets refl a.ready_works c.file_live.new.links c.recounted-parts.result c.recounted-parts-in-Some.result _ refl
 
 pub returns-in_default-clause-new : goal.returns-in_default-clause-new
 unfolding set_stage

@@ -1,4 +1,4 @@
-use Rattle.removal_words.proofs.WorkLemmas.{blocked_live, group_counted, group_named, live_made, mark_unlinked, ready_made, removed_core, removed_sound, removed_tags, use_counted, work_deleted}
+use Rattle.removal_words.proofs.WorkLemmas.{blocked_live, group_counted, group_named, live_free, mark_unlinked, ready_made, removed_core, removed_sound, removed_tags, use_counted, work_deleted}
 use Rattle.removal_words.proofs.works.drop_work.Goals as goal
 use Rattle.std.proofs.Common.{◌≡◌, ◌≤◌, ap, arith, cond, refl, subst, sym, ℕ, ◌∙◌}
 use Rattle.task_machine.specs.Read.{is_host_call}
@@ -18,7 +18,7 @@ pub drop_node-requires : goal.drop_node-requires
 drop_node-requires c = ready_made c.args.parts.now c.requires.sound c.args.work c.in-Some.found.now c.in-Some.ensures.item
 
 pub drop_node-requires-2 : goal.drop_node-requires-2
-drop_node-requires-2 c = live_made c.args.parts.now c.requires.sound c.args.work c.in-Some.found.now c.in-Some.ensures.item
+drop_node-requires-2 c = live_free c.args.parts.now c.requires.sound c.args.work c.in-Some.found.now c.in-Some.ensures.item c.requires.stage
 
 pub drop_node-requires-3 : goal.drop_node-requires-3
 drop_node-requires-3 c = mark_unlinked c.args.parts.now c.requires.sound c.args.work c.in-Some.found.now c.in-Some.ensures.item c.requires.unqueued c.no_node_is_twice.ensures
@@ -32,14 +32,14 @@ overflow_sub-parts c = subst (λ (n : ℕ). n ≤ c.args.parts.now.kept.used) (s
 pub returns-clause-sound : goal.returns-clause-sound
 returns-clause-sound c =
     removed_sound c.args.parts.now c.requires.sound c.args.work c.in-Some.found.now c.in-Some.ensures.item c.requires.unqueued c.requires.join c.requires.stage c.lower_group-group.new.groups c.lower_group-group.result c.lower_group-group.ensures
-    c.close.new.links c.drop_node.new.links c.drop_node-2.new.links c.close.ensures c.drop_node.ensures c.drop_node-2.ensures c.drop_node-3.new.self c.drop_node-3.ensures _
+    c.close.new.links c.drop_node.new.links c.drop_node-2.new.self c.close.ensures c.drop_node.ensures c.drop_node-2.ensures c.drop_node-3.new.self c.drop_node-3.ensures _
     (let few = use_counted c.args.parts.now c.requires.sound c.args.work c.in-Some.found.now c.in-Some.ensures.item in let one : c.one_if.result ≡ cond {A = ℕ} (is_host_call c.in-Some.found.now.work) 1 0 = c.one_if.ensures ∙ ap (λ b. cond b 1 0) c.is_some.ensures in omega arith)
     c.delete.new.self c.in-Ok.ensures.ok c.delete.ensures.sound
 
 pub returns-clause-core : goal.returns-clause-core
 returns-clause-core c =
     removed_core c.args.parts.now c.requires.sound c.args.work c.in-Some.found.now c.in-Some.ensures.item c.requires.unqueued c.requires.join c.requires.stage c.lower_group-group.new.groups c.lower_group-group.result c.lower_group-group.ensures
-    c.close.new.links c.drop_node.new.links c.drop_node-2.new.links c.close.ensures c.drop_node.ensures c.drop_node-2.ensures c.drop_node-3.new.self c.drop_node-3.ensures _
+    c.close.new.links c.drop_node.new.links c.drop_node-2.new.self c.close.ensures c.drop_node.ensures c.drop_node-2.ensures c.drop_node-3.new.self c.drop_node-3.ensures _
     (let few = use_counted c.args.parts.now c.requires.sound c.args.work c.in-Some.found.now c.in-Some.ensures.item in let one : c.one_if.result ≡ cond {A = ℕ} (is_host_call c.in-Some.found.now.work) 1 0 = c.one_if.ensures ∙ ap (λ b. cond b 1 0) c.is_some.ensures in omega arith)
     c.delete.new.self c.in-Ok.ensures.ok
 
@@ -50,7 +50,7 @@ returns-clause-current c = refl
 pub returns-clause-tags : goal.returns-clause-tags
 returns-clause-tags c =
     removed_tags c.args.parts.now c.requires.sound c.args.work c.in-Some.found.now c.in-Some.ensures.item c.requires.unqueued c.requires.join c.requires.stage c.lower_group-group.new.groups c.lower_group-group.result c.lower_group-group.ensures
-    c.close.new.links c.drop_node.new.links c.drop_node-2.new.links c.close.ensures c.drop_node.ensures c.drop_node-2.ensures c.drop_node-3.new.self c.drop_node-3.ensures _
+    c.close.new.links c.drop_node.new.links c.drop_node-2.new.self c.close.ensures c.drop_node.ensures c.drop_node-2.ensures c.drop_node-3.new.self c.drop_node-3.ensures _
     (let few = use_counted c.args.parts.now c.requires.sound c.args.work c.in-Some.found.now c.in-Some.ensures.item in let one : c.one_if.result ≡ cond {A = ℕ} (is_host_call c.in-Some.found.now.work) 1 0 = c.one_if.ensures ∙ ap (λ b. cond b 1 0) c.is_some.ensures in omega arith)
     c.delete.new.self c.in-Ok.ensures.ok
 

@@ -15,7 +15,7 @@ pub push_strand-requires-clause-strand : goal.push_strand-requires-clause-strand
 push_strand-requires-clause-strand c =
     let call = c.call_record-call.ensures in
     let thread = c.thread_record-thread.ensures in
-    request_strand c.args.parts.now c.args.request c.args.group.number (registers_for c.args.words.now) _ c.thread_record-thread.result
+    request_strand c.args.parts.now c.args.request c.args.group.number (registers_for c.args.words.now) c.call_record-call.result c.thread_record-thread.result
     (ap (λ (d : GuestTask). d.number) call) (ap (λ (d : GuestTask). d.call) call ∙ c.new_call-call.ensures) (ap (λ (d : GuestTask). d.maker) call) (ap (λ (d : GuestTask). d.threads) call)
     (ap (λ (h : GuestThread). h.number) thread) (ap (λ (h : GuestThread). h.thread) thread ∙ c.new_thread-thread.ensures) (ap (λ (h : GuestThread). h.instance) thread)
     c.requires.caller c.requires.there c.requires.result

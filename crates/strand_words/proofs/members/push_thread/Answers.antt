@@ -1,11 +1,13 @@
-use Rattle.std.proofs.Common.{ap, arith, refl, subst, ◌+◌, ◌<◌, ◌^◌, ◌≡◌, ◌∙◌}
+use Rattle.std.proofs.Common.{ap, arith, refl, subst, sym, ◌+◌, ◌<◌, ◌^◌, ◌≡◌, ◌∙◌}
 use Rattle.strand_words.proofs.MemberAddLemmas.{as_member, member_core, member_named, member_sound, member_tags, member_used, threads_few}
 use Rattle.strand_words.proofs.members.push_thread.Goals as goal
 use Rattle.task_machine.specs.Write.{add_thread}
 use Rattle.task_records.specs.Seen.{IsSound, seen}
 use Rattle.task_records.specs.declared.calls.GuestTask.{GuestTask}
+use Rattle.task_records.specs.declared.single.Single.{Single}
+use Rattle.task_records.specs.declared.threads.GuestThread.{GuestThread}
 use Rattle.task_table.specs.Changes.{with_entry}
-use Rattle.task_table.specs.Table.{IsTable}
+use Rattle.task_table.specs.Table.{IsTable, Table}
 use Rattle.task_words.specs.StateView.{Keeps, thread_of}
 
 pub one_thread_more-more-requires : goal.one_thread_more-more-requires
@@ -42,3 +44,6 @@ returns-in-Ok-clause-tags c =
     let a = c.args.parts.now in
     as_member a c.requires.sound c.args.task c.args.call c.requires.call c.args.thread _ _ c.in-Ok.ensures.pushed (c.put_call.ensures ∙ ap (λ (d : GuestTask). with_entry c.args.task.rep (record { item = d }) a.calls) c.one_thread_more-more.ensures) (λ b. Keeps (seen a).tags (seen b).tags)
     (member_tags a c.requires.sound c.args.task c.args.call c.requires.call c.args.thread c.requires.member c.requires.loose)
+
+pub returns-in-Err-clause-sound : goal.returns-in-Err-clause-sound
+returns-in-Err-clause-sound c = subst (λ (t : Table (Single GuestThread)). IsSound (record c.args.parts.now { threads = t })) (sym c.in-Err.ensures.err) c.requires.sound

@@ -9,7 +9,7 @@ use Rattle.task_ops.specs.Steps.{label_of}
 use Rattle.task_rules.specs.Task.{ret_row}
 use Rattle.task_turns.proofs.OrderLemmas as order
 use Rattle.task_turns.proofs.OrderLemmas.{number_at}
-use Rattle.task_turns.specs.Runner.{Runner}
+use Rattle.op_dispatch.specs.Runner.{Runner}
 use Rattle.task_words.specs.StateView.{thread_of}
 use Rattle.task_calls.proofs.returns.task_return.Given.{Over}
 use Rattle.task_calls.proofs.returns.task_return.Goals as goal

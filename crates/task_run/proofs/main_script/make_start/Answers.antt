@@ -6,7 +6,7 @@ use Rattle.task_machine.specs.declared.label.MainLabel.TheVariants as main_label
 use Rattle.task_machine.specs.declared.scenario.MainOpDef.TheVariants as machine
 use Rattle.task_rules.specs.MainOps.{Does, start_act, start_refusal}
 use Rattle.task_calls.specs.Calls.{Starts}
-use Rattle.task_calls.specs.declared.error.TaskError.{TaskError}
+use Rattle.state_calls.specs.declared.error.TaskError.{TaskError}
 use Rattle.task_loop.proofs.StartLemmas.{start_current}
 use Rattle.task_loop.specs.Calls.{callee_of}
 use Rattle.task_run.specs.Script.{machine_op, place_of, script_of, started_of}

@@ -16,7 +16,7 @@ use Rattle.task_run.proofs.report.run.Goals as goal
 
 pub drive-driven-requires-clause-order : goal.drive-driven-requires-clause-order
 drive-driven-requires-clause-order c =
-    rw (c.in-Ok.ensures.turn, c.run_concurrent.ensures.store, c.in_ok-store.ensures.state, c.len.ensures) (sits_fresh c.args.scenario.now.component c.requires.component c.requires.codes _ c.args.scenario.now.handles c.args.scenario.now.table (omega arith))
+    rw (c.in-Ok.ensures.turn, c.run_concurrent.ensures.store, c.in_ok-store.ensures.state, c.len.ensures) (sits_fresh c.args.scenario.now.component c.requires.codes _ c.args.scenario.now.handles c.args.scenario.now.table (omega arith))
 
 pub drive-driven-requires-clause-given : goal.drive-driven-requires-clause-given
 drive-driven-requires-clause-given c = rw (c.run_concurrent.ensures.store, c.in_ok-store.ensures.state, given_fresh) (omega arith)

@@ -73,9 +73,9 @@ ops-preserved g c =
     let x = c.ops.context in
     let y = c.computes_in-label.new.context in
     let l = c.computes_in-label.result in
-    let row = c.computes_in-label.ensures.row d (ap length (script_there d n t q.0.thread found runs ops script x)) in
+    let row = c.computes_in-label.ensures.row d (ap length (script_there d n t q.0 found runs ops script x)) in
     let here : slice_get ops x.position ≡ Some (op.Data c.in-Some-Data.op) = sym c.op_at.ensures ∙ (ap option_copied c.in-Some-Data.is ∙ ap (λ (o : Op). Some o) c.in-Some-Data.field-0-is) in
-    let on = keeps_on d n t q.0.thread found runs ops script x c.in-Some-Data.op l y u c.computes_in-label.ensures.beside row here s c.args.trace.now c.ops.trace c.args.added c.ops.count c.ops.invariant.on in
+    let on = keeps_on d n t q.0 found runs ops script x c.in-Some-Data.op l y u c.computes_in-label.ensures.beside row here s c.args.trace.now c.ops.trace c.args.added c.ops.count c.ops.invariant.on in
     record {
       beside = beside_both s t u beside c.computes_in-label.ensures.beside;
       on = subst (λ (ls : List Label). KeepsOn d (turn.Run n) s c.args.trace.now c.args.added (state_in n y u) ls (c.ops.count + 1)) (sym c.in-Ok.ensures.ok) on;

@@ -5,7 +5,8 @@ use Rattle.task_ops.specs.Came.{Meets}
 use Rattle.task_ops.specs.Stays.{StaysAfter}
 use Rattle.task_ops.specs.Steps.{label_of}
 use Rattle.task_rules.specs.Takes.{start_row}
-use Rattle.task_turns.proofs.ShowLemmas.{ok_then, same_stays, start_shows}
+use Rattle.op_dispatch.proofs.StayLemmas.{ok_then, same_stays}
+use Rattle.task_turns.proofs.ShowLemmas.{start_shows}
 use Rattle.task_turns.proofs.takes.take_thread.Goals as goal
 use Rattle.task_turns.specs.Turn.{Shows}
 use Rattle.task_words.specs.StateView.{thread_of}

@@ -1,5 +1,5 @@
 use Rattle.std.proofs.Common.{subst, sym}
-use Rattle.std.specs.Prelude.{None, Option, Some}
+use Rattle.std.specs.Prelude.{Option}
 use Rattle.task_laws.specs.Order.{WorksQueued}
 use Rattle.task_machine.specs.Core.{Unscripted}
 use Rattle.task_machine.specs.declared.component.Component.{Component}

@@ -2,7 +2,7 @@ use Rattle.make_words.proofs.RestoreLemmas.{image_restored, sound_restored}
 use Rattle.std.proofs.Common.{Some, ap, ap₂, arith, cond, subst, sym, refl, ℕ, ◌+◌, ◌<◌, ◌^◌, ◌≡◌, ◌∙◌}
 use Rattle.strand_words.proofs.StrandUndoLemmas.{item_written}
 use Rattle.task_machine.specs.Core.{Core}
-use Rattle.task_machine.specs.Read.{is_host_call}
+use Rattle.task_machine.specs.Read.{is_host_call, new_handle}
 use Rattle.task_machine.specs.Write.{add_work, count_work, push_high}
 use Rattle.task_machine.specs.declared.records.Entry.TheVariants as entry
 use Rattle.task_machine.specs.declared.records.Subtask.TheVariants as subtask
@@ -48,6 +48,11 @@ drop_work-requires-clause-item c =
     let group = c.args.group.1 in
     item_written c.args.parts.now.groups id.rep id.serial group (record group { calls = group.calls + 1 }) c.requires.here
     ∙ sym (ap (λ (t : Table (Single TaskGroup)). item_at item_of t id.rep id.serial) (ap (λ (q : Parts). q.groups) c.in-Err-name_work.ensures.same ∙ ap (λ (y : CoreParts). y.groups) c.in-Ok.ensures.pushes.only))
+
+pub returns-in-Ok-name_work-clause-small : goal.returns-in-Ok-name_work-clause-small
+unfolding new_handle add_work count_work
+returns-in-Ok-name_work-clause-small c =
+    subst (λ (n : ℕ). n < 2 ^ 28) (ap (new_handle c.args.instance) c.in-Ok.ensures.core) c.in-Ok-name_work.ensures.small
 
 pub returns-in-Ok-name_work-clause-core : goal.returns-in-Ok-name_work-clause-core
 unfolding seen work_queued

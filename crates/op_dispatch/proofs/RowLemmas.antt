@@ -1,0 +1,306 @@
+-- What the row of an op shows: the thread goes on or none does, and the label gives no outcome.
+use Rattle.std.proofs.Common.{refl, subst, sym}
+use Rattle.std.specs.Prelude.{Bool, List, None, Option, Some, false, nat_le, nat_lt, not, suc, true, zero, ℕ, ◌%◌, ◌/◌, ◌==◌, ◌≡◌}
+use Rattle.task_machine.specs.Core.{Core}
+use Rattle.task_machine.specs.Labels.{Choice, exit_label, ret_label, task_cancel_label, wait_label}
+use Rattle.task_machine.specs.Moves.{Gift, MemberGift, NoGift, OwnGift, gift, may_hand_on, passes_check}
+use Rattle.task_machine.specs.Read.{at_handle_limit, backpressure_of, cancel_was_delivered, fits, foot_of, has_ended, has_member, has_waiters, how_far_of, instance_of, is_async_lifted, kind_of, new_handle, set_at, task_of, thread_at}
+use Rattle.task_machine.specs.declared.component.Component.{Component}
+use Rattle.task_machine.specs.declared.component.Slot.{Slot}
+use Rattle.task_machine.specs.declared.component.Slot.TheVariants as slot
+use Rattle.task_machine.specs.declared.label.Label.{Label}
+use Rattle.task_machine.specs.declared.label.Label.TheVariants as label
+use Rattle.task_machine.specs.declared.label.SetLabel.TheVariants as set_label
+use Rattle.task_machine.specs.declared.label.TaskLabel.TheVariants as task_label
+use Rattle.task_machine.specs.declared.label.ThreadLabel.{ThreadLabel}
+use Rattle.task_machine.specs.declared.label.ThreadLabel.TheVariants as thread_label
+use Rattle.task_machine.specs.declared.op.DataOp.{DataOp}
+use Rattle.task_machine.specs.declared.op.DataOp.TheVariants as data_op
+use Rattle.task_machine.specs.declared.op.ThreadOp.{ThreadOp}
+use Rattle.task_machine.specs.declared.op.ThreadOp.TheVariants as thread_op
+use Rattle.task_machine.specs.declared.records.HowFar.{HowFar}
+use Rattle.task_machine.specs.declared.records.HowFar.TheVariants as how_far
+use Rattle.task_machine.specs.declared.records.Why.{Why}
+use Rattle.task_machine.specs.declared.trap.Trap.{Trap}
+use Rattle.task_machine.specs.declared.trap.Trap.TheVariants as trap
+use Rattle.task_machine.specs.declared.words.Given.{Given}
+use Rattle.task_ops.specs.Came.{Meets}
+use Rattle.task_ops.specs.declared.came.Came.{Came}
+use Rattle.task_rules.specs.Cancels.{pauses}
+use Rattle.task_rules.specs.Data.{data_row, skip_row}
+use Rattle.task_rules.specs.Ends.{blocking_exit_row, blocking_exits, code_exits, code_kind_row, code_row, code_wait_row, exit_stops, has_event_for, held_by_flag, leaves_no_result, may_tell, passes_after_return, passes_after_stop, sync_exit_row, sync_exits, thread_exit_row}
+use Rattle.task_rules.specs.Outcome.{outcome_of_label}
+use Rattle.task_rules.specs.Progress.{Fails, Goes, Never, Ordered, Progress, Stops, Traps, may, or_never, or_trap, trap_if}
+use Rattle.task_rules.specs.Scripts.{slot_at, value_of}
+use Rattle.task_rules.specs.Sets.{chosen, finds_nothing, handed_out, poll_row, poll_takes, received_woken, set_drop_found, set_drop_row, set_dropped, set_made, set_new_row, wait_begins, wait_goes_on, wait_row, wait_stops_checked, wait_takes}
+use Rattle.task_rules.specs.Task.{dec_from, dec_row, inc_raises, inc_row, ret_bad_row, ret_done, ret_row, task_cancel_done, task_cancel_row}
+use Rattle.task_rules.specs.Threads.{Halt, Suspension, Yielding, by_how_far, halt_row, halted_resuming, halting, halts, has_yielded, resume_later_found, resume_later_row, resume_why, resumed_later, then_promote, then_promote_found, then_promote_row, then_resume_found, then_resume_row, thread_made, thread_new_label, thread_new_row, thread_row}
+use Rattle.op_dispatch.specs.Goes.{GoesOn, Shows}
+use Rattle.task_words.specs.StateView.{StateView}
+
+-- who goes on is so, and the label gives no outcome
+abbrev pub ShowsFor : (ℕ → Type 0) → Progress → Type 0
+ShowsFor P (Goes l new m) = P m × (outcome_of_label l ≡ None)
+ShowsFor P (Stops l new) = outcome_of_label l ≡ None
+ShowsFor P (Ordered ns next) = (order : List ℕ) → ShowsFor P (next order)
+ShowsFor P _ = Unit {0}
+
+-- this thread goes on, if one does
+abbrev pub here : ℕ → ℕ → Type 0
+here n m = m ≡ n
+
+abbrev pub ShowsAs : ℕ → Progress → Type 0
+ShowsAs n p = ShowsFor (here n) p
+
+-- no thread goes on
+abbrev pub nobody : ℕ → Type 0
+nobody m = ⊥
+
+abbrev pub StopsAs : Progress → Type 0
+StopsAs p = ShowsFor nobody p
+
+pub shows_of : (n : ℕ) (p : Progress) (s : Core) (r : Came) (t : Core) → ShowsAs n p → Meets p s r t → Shows n r
+shows_of n (Goes l new m) s r t g h = subst (Shows n) (sym h.0) g
+shows_of n (Stops l new) s r t g h = subst (Shows n) (sym h.0) g
+shows_of n (Traps why) s r t g h = subst (Shows n) (sym h.0) tt
+shows_of n (Fails i) s r t g h = subst (Shows n) (sym h.0) tt
+shows_of n Never s r t g h = absurd h
+shows_of n (Ordered ns next) s r t g h = shows_of n (next h.0) s r t (g h.0) h.1.1
+
+pub stops_goes : (v : StateView) (p : Progress) (s : Core) (r : Came) (t : Core) → StopsAs p → Meets p s r t → GoesOn r v
+stops_goes v (Goes l new m) s r t g h = absurd g.0
+stops_goes v (Stops l new) s r t g h = subst (λ (q : Came). GoesOn q v) (sym h.0) g
+stops_goes v (Traps why) s r t g h = subst (λ (q : Came). GoesOn q v) (sym h.0) tt
+stops_goes v (Fails i) s r t g h = subst (λ (q : Came). GoesOn q v) (sym h.0) tt
+stops_goes v Never s r t g h = absurd h
+stops_goes v (Ordered ns next) s r t g h = stops_goes v (next h.0) s r t (g h.0) h.1.1
+
+pub if_traps : (P : ℕ → Type 0) (b : Bool) (why : Trap) (p : Progress) → ShowsFor P p → ShowsFor P (trap_if b why p)
+if_traps P true why p g = tt
+if_traps P false why p g = g
+
+pub if_lawful : (P : ℕ → Type 0) (b : Bool) (p : Progress) → ShowsFor P p → ShowsFor P (may b p)
+if_lawful P true p g = g
+if_lawful P false p g = tt
+
+pub if_found : {X : Type 0} (P : ℕ → Type 0) (o : Option X) (why : Trap) (next : X → Progress) → ((x : X) → ShowsFor P (next x)) → ShowsFor P (or_trap o why next)
+if_found P None why next g = tt
+if_found P (Some x) why next g = g x
+
+pub if_given : {X : Type 0} (P : ℕ → Type 0) (o : Option X) (next : X → Progress) → ((x : X) → ShowsFor P (next x)) → ShowsFor P (or_never o next)
+if_given P None next g = tt
+if_given P (Some x) next g = g x
+
+-- ---- Ops on registers and words
+
+skip_shows : (c : Component) (n ops : ℕ) (s : Core) (b : Bool) → ShowsAs n (skip_row c n ops s b)
+skip_shows c n ops s true = (refl, refl)
+skip_shows c n ops s false = (refl, refl)
+
+pub data_shows : (c : Component) (n : ℕ) (s : Core) (o : DataOp) → ShowsAs n (data_row c n s o)
+data_shows c n s (data_op.Set q x) = (refl, refl)
+data_shows c n s (data_op.Add q x) = (refl, refl)
+data_shows c n s (data_op.Handle q x) = (refl, refl)
+data_shows c n s (data_op.Load q w) = (refl, refl)
+data_shows c n s (data_op.Store w x) = (refl, refl)
+data_shows c n s (data_op.SkipEq x y ops) = skip_shows c n ops s (value_of n s x == value_of n s y)
+
+-- after two tests
+pub two_traps : (P : ℕ → Type 0) (a b : Bool) (x y : Trap) (p : Progress) → ShowsFor P p → ShowsFor P (trap_if a x (trap_if b y p))
+two_traps P a b x y p g = if_traps P a x (trap_if b y p) (if_traps P b y p g)
+
+-- ---- The end of an activation
+
+module _ (l : Label) (quiet : outcome_of_label l ≡ None) (n : ℕ) (s : Core) where
+  wait_ends : (x : ℕ) (held : List ℕ) (b : Bool) → StopsAs (code_wait_row l n x held s b)
+  wait_ends x held true = λ order. quiet
+  wait_ends x held false = λ order. quiet
+
+  kind_ends : (held : List ℕ) (k rest : ℕ) → StopsAs (code_kind_row l n held s k rest)
+  kind_ends held zero rest =
+      two_traps nobody (not (passes_after_stop (instance_of n s) (foot_of n s) held s)) (leaves_no_result n s) trap.CannotBlockSyncTask trap.NoAsyncResult
+      (Ordered held (λ order. Stops l (code_exits n order s))) (λ order. quiet)
+  kind_ends held (suc zero) rest = λ order. quiet
+  kind_ends held (suc (suc zero)) rest =
+      if_found nobody (set_at (instance_of n s) rest s) trap.BadHandle (λ x. code_wait_row l n x held s (has_event_for (task_of n s) x s)) (λ x. wait_ends x held (has_event_for (task_of n s) x s))
+  kind_ends held (suc (suc (suc k))) rest = tt
+
+  pub code_stops : (code : ℕ) → StopsAs (code_row l n s code)
+  code_stops code =
+      let held = held_by_flag (instance_of n s) s in
+      if_traps nobody (nat_lt 4294967295 code) trap.UnsupportedCallbackCode (code_kind_row l n held s (code % 16) (code / 16)) (kind_ends held (code % 16) (code / 16))
+
+-- ---- Exits
+
+exit_quiet : (n : ℕ) (w : Option ℕ) → outcome_of_label (exit_label n w) ≡ None
+exit_quiet n None = refl
+exit_quiet n (Some k) = refl
+
+module _ (n : ℕ) (w : Option ℕ) (s : Core) where
+  pub thread_exit_stops : StopsAs (thread_exit_row n s)
+  thread_exit_stops =
+      two_traps nobody (not (passes_check (instance_of n s) s)) (leaves_no_result n s) trap.CannotBlockSyncTask trap.NoAsyncResult (Stops (exit_label n None) (exit_stops n s)) refl
+
+  pub sync_exit_stops : StopsAs (sync_exit_row n w s)
+  sync_exit_stops = if_lawful nobody (may_tell (task_of n s) w s) (Stops (exit_label n w) (sync_exits n w s)) (exit_quiet n w)
+
+  pub blocking_exit_stops : StopsAs (blocking_exit_row n w s)
+  blocking_exit_stops =
+      let leaves = Ordered (held_by_flag (instance_of n s) s) (λ order. Stops (exit_label n w) (blocking_exits n w order s)) in
+      if_traps nobody (not (passes_after_return n w s)) trap.CannotBlockSyncTask (may (may_tell (task_of n s) w s) leaves) (if_lawful nobody (may_tell (task_of n s) w s) leaves (λ order. exit_quiet n w))
+
+-- ---- Ops of the task
+
+ret_quiet : (n v : ℕ) (w : Option ℕ) → outcome_of_label (ret_label n v w) ≡ None
+ret_quiet n v None = refl
+ret_quiet n v (Some k) = refl
+
+cancel_quiet : (n : ℕ) (w : Option ℕ) → outcome_of_label (task_cancel_label n w) ≡ None
+cancel_quiet n None = refl
+cancel_quiet n (Some k) = refl
+
+module _ (n : ℕ) (s : Core) where
+  pub ret_shows : (v : ℕ) (w : Option ℕ) → ShowsAs n (ret_row n v w s)
+  ret_shows v w =
+      let b = may_tell (task_of n s) w s in
+      let done = Goes (ret_label n v w) (ret_done n v w s) n in
+      two_traps (here n) (has_ended (task_of n s) s) (not (is_async_lifted (kind_of (task_of n s) s))) trap.TaskCancelOrReturnTwice trap.TaskReturnInvalid (may b done)
+      (if_lawful (here n) b done (refl, ret_quiet n v w))
+
+  pub ret_bad_shows : ShowsAs n (ret_bad_row n s)
+  ret_bad_shows = if_traps (here n) (has_ended (task_of n s) s) trap.TaskCancelOrReturnTwice (Traps trap.TaskReturnInvalid) tt
+
+  pub task_cancel_shows : (w : Option ℕ) → ShowsAs n (task_cancel_row n w s)
+  task_cancel_shows w =
+      let b = may_tell (task_of n s) w s in
+      let done = Goes (task_cancel_label n w) (task_cancel_done n w s) n in
+      two_traps (here n) (not (cancel_was_delivered (task_of n s) s)) (has_ended (task_of n s) s) trap.TaskCancelNotCancelled trap.TaskCancelOrReturnTwice (may b done)
+      (if_lawful (here n) b done (refl, cancel_quiet n w))
+
+  pub inc_shows : ShowsAs n (inc_row n s)
+  inc_shows = if_traps (here n) (nat_le 65535 (backpressure_of (instance_of n s) s)) trap.BackpressureOverflow (Goes (label.Task (task_label.BpInc n)) (inc_raises n s) n) (refl, refl)
+
+  dec_from_shows : (b : ℕ) → ShowsAs n (dec_from n s b)
+  dec_from_shows zero = tt
+  dec_from_shows (suc zero) = λ order. (refl, refl)
+  dec_from_shows (suc (suc b)) = (refl, refl)
+
+  pub dec_shows : ShowsAs n (dec_row n s)
+  dec_shows = dec_from_shows (backpressure_of (instance_of n s) s)
+
+-- ---- Ops on sets
+
+wait_quiet : (n : ℕ) (v : Given) (w : Option ℕ) → outcome_of_label (wait_label n v w) ≡ None
+wait_quiet n v None = refl
+wait_quiet n v (Some k) = refl
+
+module _ (n : ℕ) (ch : Choice) (s : Core) where
+  takes_shows : (x r : ℕ) (g : Gift) → ShowsAs n (may (may_hand_on x g ch.woken s) (Goes (wait_label n (handed_out ch s g) ch.woken) (received_woken n x r ch.woken g (handed_out ch s g) s) n))
+  takes_shows x r g =
+      if_lawful (here n) (may_hand_on x g ch.woken s) (Goes (wait_label n (handed_out ch s g) ch.woken) (received_woken n x r ch.woken g (handed_out ch s g) s) n) (refl, wait_quiet n (handed_out ch s g) ch.woken)
+
+  goes_on_shows : (x r : ℕ) (g : Gift) → ShowsAs n (wait_goes_on n x r ch s g)
+  goes_on_shows x r NoGift = refl
+  goes_on_shows x r (OwnGift e) = takes_shows x r (OwnGift e)
+  goes_on_shows x r (MemberGift h) = takes_shows x r (MemberGift h)
+
+  begins_shows : (r x : ℕ) (b : Bool) → ShowsAs n (wait_begins n r ch s x b)
+  begins_shows r x true = if_traps (here n) (not (passes_check (instance_of n s) s)) trap.CannotBlockSyncTask (Stops (label.Thread (thread_label.Pauses n)) (wait_stops_checked n x s)) refl
+  begins_shows r x false = if_given (here n) (gift false (task_of n s) x (chosen n ch s) s) (wait_takes n r ch s) (λ g. (refl, refl))
+
+  fresh_shows : (r h : ℕ) → ShowsAs n (wait_row n r h ch s how_far.Fresh)
+  fresh_shows r h = if_found (here n) (set_at (instance_of n s) h s) trap.BadHandle (λ x. wait_begins n r ch s x (finds_nothing n x s)) (λ x. begins_shows r x (finds_nothing n x s))
+
+  wait_shows : (r h : ℕ) (f : HowFar) → ShowsAs n (wait_row n r h ch s f)
+  wait_shows r h (how_far.Waits x) = if_given (here n) (gift false (task_of n s) x (chosen n ch s) s) (wait_goes_on n x r ch s) (goes_on_shows x r)
+  wait_shows r h how_far.Fresh = fresh_shows r h
+  wait_shows r h (how_far.Calls sub) = fresh_shows r h
+  wait_shows r h (how_far.Answered v) = fresh_shows r h
+  wait_shows r h (how_far.Cancels sub) = fresh_shows r h
+  wait_shows r h (how_far.AwaitsEnd sub) = fresh_shows r h
+  wait_shows r h how_far.Suspends = fresh_shows r h
+  wait_shows r h how_far.Yields = fresh_shows r h
+
+  pub poll_shows : (r h : ℕ) → ShowsAs n (poll_row n r h ch s)
+  poll_shows r h =
+      if_found (here n) (set_at (instance_of n s) h s) trap.BadHandle (λ x. or_never (gift false (task_of n s) x (chosen n ch s) s) (poll_takes n r ch s))
+      (λ x. if_given (here n) (gift false (task_of n s) x (chosen n ch s) s) (poll_takes n r ch s) (λ g. (refl, refl)))
+
+  pub set_new_shows : (r : ℕ) → ShowsAs n (set_new_row n r s)
+  set_new_shows r =
+      two_traps (here n) (not (fits 1 s)) (at_handle_limit s) trap.TableFull trap.HandleLimit (Goes (label.Set (set_label.New (new_handle (instance_of n s) s) n)) (set_made n r s) n) (refl, refl)
+
+  pub set_drop_shows : (h : ℕ) → ShowsAs n (set_drop_row n h s)
+  set_drop_shows h =
+      if_found (here n) (set_at (instance_of n s) h s) trap.BadHandle (set_drop_found n h s)
+      (λ x. two_traps (here n) (has_waiters x s) (has_member x s) trap.WaitableSetDropHasWaiters trap.TableHasChildren (Goes (label.Set (set_label.Drop n)) (set_dropped n h x s) n) (refl, refl))
+
+  pub waiting_shows : (r h : ℕ) → ShowsAs n (wait_row n r h ch s (how_far_of n s))
+  waiting_shows r h = wait_shows r h (how_far_of n s)
+
+-- ---- Ops on threads
+
+module _ (n : ℕ) (s : Core) where
+  new_shows : (r x v : ℕ) (o : Slot) → ShowsAs n (thread_new_row n r x v s o)
+  new_shows r x v slot.Empty = tt
+  new_shows r x v slot.Bad = tt
+  new_shows r x v (slot.Script ops) = two_traps (here n) (not (fits 2 s)) (at_handle_limit s) trap.TableFull trap.HandleLimit (Goes (thread_new_label n s) (thread_made n r x v s) n) (refl, refl)
+
+  pub later_shows : (h : ℕ) → ShowsAs n (resume_later_row n h s)
+  later_shows h = if_found (here n) (thread_at (instance_of n s) h s) trap.BadHandle (resume_later_found n s) (λ m. found m)
+    where
+      found : (m : ℕ) → ShowsAs n (resume_later_found n s m)
+      found m =
+          let why = resume_why m s in
+          let next : Why → Progress = λ w. Goes (label.Thread (thread_label.ResumeLater n)) (resumed_later n m w s) n in
+          if_traps (here n) (m == n) trap.CannotResumeThread (or_trap why trap.CannotResumeThread next) (if_found (here n) why trap.CannotResumeThread next (λ w. (refl, refl)))
+
+  halts_shows : (x : Halt) (l : ThreadLabel) (b : Bool) → ShowsAs n (halts x n (label.Thread l) s b)
+  halts_shows x l true = refl
+  halts_shows Suspension l false = tt
+  halts_shows Yielding l false = (refl, refl)
+
+  halt_shows : (x : Halt) (l : ThreadLabel) → ShowsAs n (halt_row x n (label.Thread l) s)
+  halt_shows x l = halts_shows x l (passes_check (instance_of n s) s)
+
+  resume_shows : (x : Halt) (h : ℕ) → ShowsAs n (then_resume_row x n h s)
+  resume_shows x h = if_found (here n) (thread_at (instance_of n s) h s) trap.BadHandle (then_resume_found x n s) (λ m. found m)
+    where
+      found : (m : ℕ) → ShowsAs n (then_resume_found x n s m)
+      found m =
+          let why = resume_why m s in
+          let next : Why → Progress = λ w. Stops (pauses n) (halted_resuming x n m w s) in
+          if_traps (here n) (m == n) trap.CannotResumeThread (or_trap why trap.CannotResumeThread next) (if_found (here n) why trap.CannotResumeThread next (λ w. refl))
+
+  promotes_shows : (x : Halt) (l : ThreadLabel) (m : ℕ) (b : Bool) → ShowsAs n (then_promote x n (label.Thread l) s m b)
+  promotes_shows x l m true = refl
+  promotes_shows x l m false = halt_shows x l
+
+  promote_shows : (x : Halt) (h : ℕ) (l : ThreadLabel) → ShowsAs n (then_promote_row x n h (label.Thread l) s)
+  promote_shows x h l =
+      if_found (here n) (thread_at (instance_of n s) h s) trap.BadHandle (then_promote_found x n (label.Thread l) s)
+      (λ m. if_traps (here n) (m == n) trap.CannotResumeThread (then_promote x n (label.Thread l) s m (has_yielded m s)) (promotes_shows x l m (has_yielded m s)))
+
+  far_shows : (f : HowFar) (l : ThreadLabel) (p : Progress) → ShowsAs n p → ShowsAs n (by_how_far f n (label.Thread l) s p)
+  far_shows how_far.Suspends l p g = (refl, refl)
+  far_shows how_far.Yields l p g = (refl, refl)
+  far_shows how_far.Fresh l p g = g
+  far_shows (how_far.Waits x) l p g = g
+  far_shows (how_far.Calls sub) l p g = g
+  far_shows (how_far.Answered v) l p g = g
+  far_shows (how_far.Cancels sub) l p g = g
+  far_shows (how_far.AwaitsEnd sub) l p g = g
+
+  pub halting_shows : (l : ThreadLabel) (row : Label → Progress) → ShowsAs n (row (label.Thread l)) → ShowsAs n (halting n s l row)
+  halting_shows l row g = far_shows (how_far_of n s) l (row (label.Thread l)) g
+
+  pub thread_shows : (c : Component) (o : ThreadOp) → ShowsAs n (thread_row c n s o)
+  thread_shows c (thread_op.New r x v) = new_shows r x (value_of n s v) (slot_at c (instance_of n s) x)
+  thread_shows c (thread_op.Index r) = (refl, refl)
+  thread_shows c (thread_op.ResumeLater x) = later_shows (value_of n s x)
+  thread_shows c thread_op.Suspend = halting_shows (thread_label.Suspend n) (λ l. halt_row Suspension n l s) (halt_shows Suspension (thread_label.Suspend n))
+  thread_shows c thread_op.Yield = halting_shows (thread_label.Yield n) (λ l. halt_row Yielding n l s) (halt_shows Yielding (thread_label.Yield n))
+  thread_shows c (thread_op.SuspendThenResume x) = halting_shows (thread_label.SuspendThenResume n) (λ l. then_resume_row Suspension n (value_of n s x) s) (resume_shows Suspension (value_of n s x))
+  thread_shows c (thread_op.YieldThenResume x) = halting_shows (thread_label.YieldThenResume n) (λ l. then_resume_row Yielding n (value_of n s x) s) (resume_shows Yielding (value_of n s x))
+  thread_shows c (thread_op.SuspendThenPromote x) = halting_shows (thread_label.SuspendThenPromote n) (λ l. then_promote_row Suspension n (value_of n s x) l s) (promote_shows Suspension (value_of n s x) (thread_label.SuspendThenPromote n))
+  thread_shows c (thread_op.YieldThenPromote x) = halting_shows (thread_label.YieldThenPromote n) (λ l. then_promote_row Yielding n (value_of n s x) l s) (promote_shows Yielding (value_of n s x) (thread_label.YieldThenPromote n))

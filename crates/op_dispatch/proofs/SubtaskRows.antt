@@ -1,0 +1,163 @@
+-- What the rows of ops on subtasks show.
+use Rattle.std.proofs.Common.{refl}
+use Rattle.std.specs.Prelude.{Bool, List, None, Option, Some, false, is_some, not, true, ℕ, ◌≡◌}
+use Rattle.op_dispatch.proofs.RowLemmas.{ShowsAs, ShowsFor, StopsAs, here, if_found, if_lawful, if_traps, nobody, two_traps}
+use Rattle.task_machine.specs.Core.{Core}
+use Rattle.task_machine.specs.Labels.{join_label}
+use Rattle.task_machine.specs.Moves.{passes_check}
+use Rattle.task_machine.specs.Read.{at_handle_limit, event_of, fits, instance_of, is_joined, is_watched, join_of, new_handle, result_of, set_at, subtask_at, subtask_ended, undelivered_end, was_cancelled}
+use Rattle.task_machine.specs.Statuses.{packed}
+use Rattle.task_machine.specs.Write.{set_join}
+use Rattle.task_machine.specs.declared.component.Callee.{Callee}
+use Rattle.task_machine.specs.declared.component.Component.{Component}
+use Rattle.task_machine.specs.declared.component.ExportKind.{ExportKind}
+use Rattle.task_machine.specs.declared.label.CallLabel.TheVariants as call_label
+use Rattle.task_machine.specs.declared.label.Label.TheVariants as label
+use Rattle.task_machine.specs.declared.label.ThreadLabel.TheVariants as thread_label
+use Rattle.task_machine.specs.declared.records.Goal.{Goal}
+use Rattle.task_machine.specs.declared.records.Goal.TheVariants as goal
+use Rattle.task_machine.specs.declared.records.HowFar.{HowFar}
+use Rattle.task_machine.specs.declared.records.HowFar.TheVariants as how_far
+use Rattle.task_machine.specs.declared.records.Join.TheVariants as join
+use Rattle.task_machine.specs.declared.records.Subtask.{Subtask}
+use Rattle.task_machine.specs.declared.records.Subtask.TheVariants as subtask
+use Rattle.task_machine.specs.declared.trap.Trap.TheVariants as trap
+use Rattle.task_machine.specs.declared.words.Status.{Status}
+use Rattle.task_machine.specs.declared.words.Status.TheVariants as status
+use Rattle.task_rules.specs.Calls as calls
+use Rattle.task_rules.specs.Calls.{AtOnce, Failing, FirstPoll, Later, call_begins, call_host_polled, call_pending, call_queues, call_resumes, call_status, call_sync_begins, call_sync_host_polled, call_sync_host_row, call_sync_host_stops, call_sync_status, call_sync_stops, enter_row, enter_runs, first_poll, host_pending, next_thread, next_work}
+use Rattle.task_rules.specs.Cancels as cancels
+use Rattle.task_rules.specs.Cancels.{CancelCase, Mode, after_cancel, cancel_aborts_host, cancel_asks, cancel_by_end, cancel_case, cancel_ended_row, cancel_found, cancel_guest, cancel_host, cancel_resumed, cancel_row, cancel_stops, cancel_subtask, cancel_unended_row, drop_found, drop_row, dropped, pauses}
+use Rattle.task_rules.specs.Outcome.{outcome_of_label}
+use Rattle.task_rules.specs.Progress.{Goes, Progress, Stops, may, trap_if}
+use Rattle.task_rules.specs.Scripts.{export_kind, host_at}
+use Rattle.task_rules.specs.Sets.{join_done, join_row, join_to, joined, may_wake_new}
+
+-- whoever goes on, what is shown gives no outcome
+abbrev pub anybody : ℕ → Type 0
+anybody m = Unit {0}
+
+abbrev pub IsQuiet : Progress → Type 0
+IsQuiet p = ShowsFor anybody p
+
+-- ---- Joins and drops
+
+join_quiet : (n : ℕ) (w : Option ℕ) → outcome_of_label (join_label n w) ≡ None
+join_quiet n None = refl
+join_quiet n (Some k) = refl
+
+module _ (n : ℕ) (s : Core) where
+  joins_shows : (sub : Subtask) (w x : Option ℕ) → ShowsAs n (join_done n sub w s x)
+  joins_shows sub w x =
+      let b = may_wake_new (event_of sub s) x w s in
+      let done = Goes (join_label n w) (joined n sub x w s) n in
+      if_traps (here n) (is_watched (join_of sub s)) trap.WaitableSyncAndAsync (may b done) (if_lawful (here n) b done (refl, join_quiet n w))
+
+  to_shows : (y : ℕ) (w : Option ℕ) (sub : Subtask) → ShowsAs n (join_to n y w s sub)
+  to_shows ℕ.zero w sub = joins_shows sub w None
+  to_shows (ℕ.suc h) w sub = if_found (here n) (set_at (instance_of n s) (ℕ.suc h) s) trap.BadHandle (λ x. join_done n sub w s (Some x)) (λ x. joins_shows sub w (Some x))
+
+  pub join_shows : (h y : ℕ) (w : Option ℕ) → ShowsAs n (join_row n h y w s)
+  join_shows h y w = if_found (here n) (subtask_at (instance_of n s) h s) trap.BadHandle (join_to n y w s) (to_shows y w)
+
+  drops_shows : (h : ℕ) (sub : Subtask) → ShowsAs n (drop_found n h s sub)
+  drops_shows h sub =
+      let done = Goes (label.Call (call_label.Drop n)) (dropped n h sub s) n in
+      if_traps (here n) (is_watched (join_of sub s)) trap.WaitableSyncAndAsync (trap_if (not (subtask_ended sub s)) trap.SubtaskDropNotResolved (trap_if (is_some (event_of sub s)) trap.SubtaskDropNotResolved done))
+      (two_traps (here n) (not (subtask_ended sub s)) (is_some (event_of sub s)) trap.SubtaskDropNotResolved trap.SubtaskDropNotResolved done (refl, refl))
+
+  pub drop_shows : (h : ℕ) → ShowsAs n (drop_row n h s)
+  drop_shows h = if_found (here n) (subtask_at (instance_of n s) h s) trap.BadHandle (drop_found n h s) (drops_shows h)
+
+  -- ---- Calls of exports
+
+  pending_shows : (r k : ℕ) (e : Status) → ShowsAs n (trap_if (at_handle_limit s) trap.HandleLimit (Goes (label.Call (call_label.Call (packed (new_handle (instance_of n s) s) e) n)) (call_pending n r k (packed (new_handle (instance_of n s) s) e) s) n))
+  pending_shows r k e = if_traps (here n) (at_handle_limit s) trap.HandleLimit (Goes (label.Call (call_label.Call (packed (new_handle (instance_of n s) s) e) n)) (call_pending n r k (packed (new_handle (instance_of n s) s) e) s) n) (refl, refl)
+
+  pub status_shows : (r k : ℕ) (e : Status) → ShowsAs n (call_status n r k s e)
+  status_shows r k status.Returned = (refl, refl)
+  status_shows r k status.Starting = pending_shows r k status.Starting
+  status_shows r k status.Started = pending_shows r k status.Started
+  status_shows r k status.StartCancelled = pending_shows r k status.StartCancelled
+  status_shows r k status.ReturnCancelled = pending_shows r k status.ReturnCancelled
+
+  stopping_shows : (k : ℕ) → ShowsAs n (trap_if (not (passes_check (instance_of n s) (call_resumes n k s))) trap.CannotBlockSyncTask (Stops (label.Thread (thread_label.Pauses n)) (call_sync_stops n k s)))
+  stopping_shows k = if_traps (here n) (not (passes_check (instance_of n s) (call_resumes n k s))) trap.CannotBlockSyncTask (Stops (label.Thread (thread_label.Pauses n)) (call_sync_stops n k s)) refl
+
+  pub sync_status_shows : (r k : ℕ) (e : Status) → ShowsAs n (call_sync_status n r k s e)
+  sync_status_shows r k status.Returned = (refl, refl)
+  sync_status_shows r k status.Starting = stopping_shows k
+  sync_status_shows r k status.Started = stopping_shows k
+  sync_status_shows r k status.StartCancelled = stopping_shows k
+  sync_status_shows r k status.ReturnCancelled = stopping_shows k
+
+  pub begins_quiet : (c : Component) (e : Callee) (g : Goal) (words : List ℕ) → IsQuiet (call_begins c n e g words s)
+  begins_quiet c e g words = if_traps anybody (not (fits 3 s)) trap.TableFull (Stops (label.Call (call_label.Calls n (next_thread s))) (call_queues n e (export_kind c e) g words s)) refl
+
+  enter_quiet : (e : Callee) (x : ExportKind) (words : List ℕ) → IsQuiet (enter_row n e x words s)
+  enter_quiet e x words = two_traps anybody (not (fits 3 s)) (at_handle_limit s) trap.TableFull trap.HandleLimit (Goes (label.Call (call_label.Enters n (next_thread s))) (enter_runs n e x words s) (next_thread s)) (tt, refl)
+
+  pub begins_sync_quiet : (c : Component) (e : Callee) (words : List ℕ) (b : Bool) → IsQuiet (call_sync_begins c n e words s b)
+  begins_sync_quiet c e words true = begins_quiet c e goal.Answer words
+  begins_sync_quiet c e words false = enter_quiet e (export_kind c e) words
+
+  -- ---- Calls of hosts
+
+  pub host_shows : (r q : ℕ) (p : FirstPoll) → ShowsAs n (call_host_polled n r q s p)
+  host_shows r q (AtOnce v) = (refl, refl)
+  host_shows r q Failing = tt
+  host_shows r q (Later host) =
+      let v = packed (new_handle (instance_of n s) s) status.Started in
+      two_traps (here n) (not (fits 1 s)) (at_handle_limit s) trap.TableFull trap.HandleLimit (Goes (label.Call (call_label.CallPolls v n (next_work s))) (host_pending n r q v host s) n) (refl, refl)
+
+  pub sync_host_shows : (r : ℕ) (p : FirstPoll) → ShowsAs n (call_sync_host_polled n r s p)
+  sync_host_shows r (AtOnce v) = (refl, refl)
+  sync_host_shows r Failing = tt
+  sync_host_shows r (Later host) =
+      two_traps (here n) (not (fits 1 s)) (not (passes_check (instance_of n s) s)) trap.TableFull trap.CannotBlockSyncTask (Stops (label.Call (call_label.PausesPolls n (next_work s))) (call_sync_host_stops n host s)) refl
+
+-- ---- Cancels
+
+ended_shows : (mode : Mode) (n r : ℕ) (sub : Subtask) (s : Core) (o : Option Status) → ShowsAs n (cancel_ended_row mode n r sub s o)
+ended_shows mode n r sub s None = tt
+ended_shows cancels.Async n r sub s (Some e) = (refl, refl)
+ended_shows cancels.Sync n r sub s (Some e) = (refl, refl)
+
+unended_shows : (mode : Mode) (n r : ℕ) (sub : Subtask) (s : Core) → ShowsAs n (cancel_unended_row mode n r sub s)
+unended_shows cancels.Async n r sub s = (refl, refl)
+unended_shows cancels.Sync n r sub s = if_traps (here n) (not (passes_check (instance_of n s) s)) trap.CannotBlockSyncTask (Stops (pauses n) (cancel_stops n sub s)) refl
+
+by_end_shows : (mode : Mode) (n r : ℕ) (sub : Subtask) (s : Core) (b : Bool) → ShowsAs n (cancel_by_end mode n r sub s b)
+by_end_shows mode n r sub s true = ended_shows mode n r sub s (undelivered_end (event_of sub s))
+by_end_shows mode n r sub s false = unended_shows mode n r sub s
+
+guest_shows : (mode : Mode) (n r k : ℕ) (s : Core) (x : CancelCase) → ShowsAs n (cancel_guest mode n r k s x)
+guest_shows mode n r k s cancels.AlreadyEnded = ended_shows mode n r (subtask.Guest k) s (undelivered_end (event_of (subtask.Guest k) s))
+guest_shows cancels.Async n r k s cancels.StartNotRun = (refl, refl)
+guest_shows cancels.Sync n r k s cancels.StartNotRun = (refl, refl)
+guest_shows mode n r k s cancels.CallbackWaits = refl
+guest_shows mode n r k s cancels.CallbackYields = refl
+guest_shows mode n r k s cancels.OtherwiseRuns = by_end_shows mode n r (subtask.Guest k) (cancel_asks k s) (subtask_ended (subtask.Guest k) (cancel_asks k s))
+
+subtask_shows : (mode : Mode) (n r : ℕ) (s : Core) (sub : Subtask) → ShowsAs n (cancel_subtask mode n r s sub)
+subtask_shows mode n r s (subtask.Guest k) = guest_shows mode n r k s (cancel_case k s)
+subtask_shows mode n r s (subtask.Host i) =
+    if_traps (here n) (was_cancelled i s) trap.SubtaskCancelAfterTerminal (after_cancel mode n r (subtask.Host i) (cancel_aborts_host i s))
+    (by_end_shows mode n r (subtask.Host i) (cancel_aborts_host i s) (subtask_ended (subtask.Host i) (cancel_aborts_host i s)))
+
+module _ (mode : Mode) (n r h : ℕ) (s : Core) where
+  fresh_cancels : ShowsAs n (cancel_row mode n r h s how_far.Fresh)
+  fresh_cancels = if_found (here n) (subtask_at (instance_of n s) h s) trap.BadHandle (cancel_found mode n r s)
+      (λ sub. if_traps (here n) (is_joined (join_of sub s)) trap.WaitableSyncAndAsync (cancel_subtask mode n r s sub) (subtask_shows mode n r s sub))
+
+  pub cancel_shows : (f : HowFar) → ShowsAs n (cancel_row mode n r h s f)
+  cancel_shows (how_far.Cancels sub) = by_end_shows mode n r sub (cancel_resumed n sub s) (subtask_ended sub (cancel_resumed n sub s))
+  cancel_shows (how_far.AwaitsEnd sub) =
+      let t = set_join sub join.Nowhere s in
+      ended_shows mode n r sub t (undelivered_end (event_of sub t))
+  cancel_shows how_far.Fresh = fresh_cancels
+  cancel_shows (how_far.Waits x) = fresh_cancels
+  cancel_shows (how_far.Calls sub) = fresh_cancels
+  cancel_shows (how_far.Answered v) = fresh_cancels
+  cancel_shows how_far.Suspends = fresh_cancels
+  cancel_shows how_far.Yields = fresh_cancels

@@ -1,0 +1,39 @@
+-- Which ops fit their component.
+use Rattle.std.specs.Prelude.{Bool, is_some, length, nat_le, true, ℕ, ◌&&◌, ◌<◌, ◌≡◌}
+use Rattle.task_machine.specs.Core.{Core}
+use Rattle.task_machine.specs.Maps.{get}
+use Rattle.task_machine.specs.declared.component.Component.{Component}
+use Rattle.task_machine.specs.declared.op.CallOp.{CallOp}
+use Rattle.task_machine.specs.declared.op.CallOp.TheVariants as call_op
+use Rattle.task_machine.specs.declared.op.Op.{Op}
+use Rattle.task_machine.specs.declared.op.Op.TheVariants as op
+use Rattle.task_machine.specs.declared.op.SetOp.{SetOp}
+use Rattle.task_machine.specs.declared.op.SetOp.TheVariants as set_op
+use Rattle.task_rules.specs.MainOps.{takes_words}
+
+-- an event is written to a register and the two after it
+abbrev pub set_op_fits : SetOp → Bool
+set_op_fits (set_op.Wait r x) = nat_le r 13
+set_op_fits (set_op.Poll r x) = nat_le r 13
+set_op_fits o = true
+
+-- a call is of an export that is there, with as many words as it takes, at most 16
+abbrev pub call_op_fits : Component → CallOp → Bool
+call_op_fits c (call_op.Call r q e xs) = takes_words c e (length xs) && nat_le (length xs) 16
+call_op_fits c (call_op.CallSync r e xs) = takes_words c e (length xs) && nat_le (length xs) 16
+call_op_fits c o = true
+
+abbrev pub op_fits : Component → Op → Bool
+op_fits c (op.Set o) = set_op_fits o
+op_fits c (op.Call o) = call_op_fits c o
+op_fits c o = true
+
+-- ---- Where ops find their instances
+
+-- each instance of the component is there
+abbrev pub HasInstances : Component → Core → Type 0
+HasInstances c s = (i : ℕ) → i < length c.instances → is_some (get s.instances i) ≡ true
+
+-- and has its table of handles
+abbrev pub HasHandles : Component → Core → Type 0
+HasHandles c s = (i : ℕ) → i < length c.instances → is_some (get s.handles i) ≡ true

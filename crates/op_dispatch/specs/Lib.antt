@@ -1,0 +1,4 @@
+pub mod Runner
+pub mod Goes
+pub mod Fits
+pub mod Polls

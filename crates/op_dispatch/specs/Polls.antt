@@ -1,0 +1,41 @@
+-- The host that an op polls first, and the work that it makes.
+use Rattle.std.specs.Prelude.{None, Option, Some, option_map, ℕ, ◌≡◌, ◌⊎◌}
+use Rattle.op_dispatch.specs.declared.done.Done.{Done}
+use Rattle.subtask_ops.specs.Queued.{GoesOnWith, queued_work}
+use Rattle.task_machine.specs.Core.{Core}
+use Rattle.task_machine.specs.declared.component.Component.{Component}
+use Rattle.task_machine.specs.declared.component.HostDef.{HostDef}
+use Rattle.task_machine.specs.declared.op.CallOp.TheVariants as call_op
+use Rattle.task_machine.specs.declared.op.Op.{Op}
+use Rattle.task_machine.specs.declared.op.Op.TheVariants as op
+use Rattle.task_machine.specs.declared.records.HowFar.{HowFar}
+use Rattle.task_machine.specs.declared.records.HowFar.TheVariants as how_far
+use Rattle.task_machine.specs.declared.records.Subtask.TheVariants as subtask
+use Rattle.task_ops.specs.declared.came.Came.{Came}
+use Rattle.task_rules.specs.Calls.{first_poll}
+use Rattle.task_rules.specs.Scripts.{host_at}
+use Rattle.task_table.specs.declared.id.TableId.{TableId}
+use Rattle.task_wait.specs.declared.keys.HostTaskKey.{HostTaskKey}
+use Rattle.task_words.specs.StateView.{StateView, work_of}
+
+-- what an op that has come so far polls first: a host that it calls now
+abbrev pub polled_host : Component → HowFar → Op → Option HostDef
+polled_host c h (op.Call (call_op.CallHost r q i)) = Some (host_at c i)
+polled_host c (how_far.Calls (subtask.Host j)) (op.Call (call_op.CallSyncHost r i)) = None
+polled_host c h (op.Call (call_op.CallSyncHost r i)) = Some (host_at c i)
+polled_host c h o = None
+
+abbrev pub made_work : Option HostDef → Came → Core → Option ℕ
+made_work None r s = None
+made_work (Some host) r s = queued_work (first_poll host) r s
+
+abbrev pub MakesWork : Option HostDef → Option (TableId HostTaskKey) → StateView → Type 0
+MakesWork None id t = Unit {0}
+MakesWork (Some host) id t = GoesOnWith (first_poll host) id t
+
+-- What was done says which host was polled first, and which work was made.
+pub record Polls (c : Component) (h : HowFar) (o : Op) (s : StateView) (done : Done) (t : StateView) : Type 0 where
+  pub polled : done.polled ≡ polled_host c h o
+  pub work : option_map (λ id. work_of t id) done.work ≡ made_work done.polled done.came s.core
+  pub course : MakesWork done.polled done.work t
+  pub none : done.work ≡ None → (done.polled ≡ None) ⊎ (t.core.works ≡ s.core.works)

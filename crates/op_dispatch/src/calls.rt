@@ -1,0 +1,284 @@
+//! The ops on subtasks, as they begin or resumed inside them.
+ghost use Rattle.op_dispatch.specs.Fits.{HasInstances, call_op_fits};
+ghost use Rattle.op_dispatch.specs.Goes.{GoesOn, given};
+ghost use Rattle.op_dispatch.specs.Polls.{Polls};
+ghost use Rattle.op_dispatch.specs.Runner.{Runner, UnderWay, awaits_end, called_call, called_work, given_answer, waits_behind};
+ghost use Rattle.std.specs.Prelude.{◌≡◌, ◌+◌, ◌<◌, ◌≤◌, ◌^◌, IfOk, IfSome, IsSome, OnOk, is_some, length, option_map, true};
+ghost use Rattle.subtask_ops.specs.Refused.{mode_of};
+ghost use Rattle.task_machine.specs.Labels.{choice_of};
+ghost use Rattle.task_machine.specs.Maps.{get};
+ghost use Rattle.task_machine.specs.Read.{how_far_of, instance_of, position_of, registers_of};
+ghost use Rattle.task_machine.specs.declared.op.CallOp.{CallOp};
+ghost use Rattle.task_machine.specs.declared.op.Op.TheVariants as ops;
+ghost use Rattle.task_ops.specs.Came.{Meets};
+ghost use Rattle.task_ops.specs.Stays.{StaysAfter};
+ghost use Rattle.task_ops.specs.Steps.{label_of};
+ghost use Rattle.task_ops.specs.Works.{KeepsWorks, NamesWorks};
+ghost use Rattle.task_rules.specs.Calls.{call_host_row, call_row, call_sync_host_row, call_sync_row};
+ghost use Rattle.task_rules.specs.Cancels.{cancel_row, subtask_row};
+ghost use Rattle.task_rules.specs.Scripts.{values_in};
+ghost use Rattle.task_words.specs.Names.{subtask_in};
+ghost use Rattle.task_words.specs.StateView.{call_of, thread_of, work_of};
+
+use crate::done::{Done, plain};
+use crate::scripts::{export_kind, host_def};
+use subtask_ops::{
+    answer_call, begin_call, begin_call_sync, call_host, call_sync_host, cancel, drop_subtask,
+    go_on_awaiting, go_on_calling, go_on_calling_host, go_on_calling_sync, go_on_cancelling,
+    operand_values,
+};
+use task_machine::{CallOp, Callee, Component, Goal, NoMemory, Operand};
+use task_ops::{Came, value_of};
+use task_words::{CallId, HowFarId, SubtaskId, ThreadId, Words, WorkId};
+
+// The call that the op is inside of.
+fn called<W: Words>(w: &W, thread: ThreadId) -> Option<CallId>
+    requires { UnderWay (thread_of (W.view w.now) thread) (W.view w.now).core }
+    ensures is { option_map (λ id. call_of (W.view w.now) id) result ≡ called_call (how_far_of (thread_of (W.view w.now) thread) (W.view w.now).core) }
+    ensures live { IfSome result (λ id. 0 < call_of (W.view w.now) id) }
+{
+    w.none_is_zero();
+    match w.how_far(thread) {
+        HowFarId::Calls(SubtaskId::Guest(call)) => Some(call),
+        _ => None,
+    }
+}
+
+// The host work that the op is inside of.
+fn served<W: Words>(w: &W, thread: ThreadId) -> Option<WorkId>
+    requires { UnderWay (thread_of (W.view w.now) thread) (W.view w.now).core }
+    ensures is { option_map (λ id. work_of (W.view w.now) id) result ≡ called_work (how_far_of (thread_of (W.view w.now) thread) (W.view w.now).core) }
+    ensures live { IfSome result (λ id. 0 < work_of (W.view w.now) id) }
+{
+    w.none_is_zero();
+    match w.how_far(thread) {
+        HowFarId::Calls(SubtaskId::Host(work)) => Some(work),
+        _ => None,
+    }
+}
+
+// The answer that the op was given.
+fn answered<W: Words>(w: &W, thread: ThreadId) -> Option<u64>
+    ensures { result ≡ given_answer (how_far_of (thread_of (W.view w.now) thread) (W.view w.now).core) }
+{
+    match w.how_far(thread) {
+        HowFarId::Answered(value) => Some(value),
+        _ => None,
+    }
+}
+
+// The subtask behind whose callee the cancel waits.
+fn cancelling<W: Words>(w: &W, thread: ThreadId) -> Option<SubtaskId>
+    requires { UnderWay (thread_of (W.view w.now) thread) (W.view w.now).core }
+    ensures { option_map (subtask_in (W.view w.now).tags) result ≡ waits_behind (how_far_of (thread_of (W.view w.now) thread) (W.view w.now).core) }
+{
+    match w.how_far(thread) {
+        HowFarId::Cancels(subtask) => Some(subtask),
+        _ => None,
+    }
+}
+
+// The subtask whose end the cancel awaits.
+fn awaiting<W: Words>(w: &W, thread: ThreadId) -> Option<SubtaskId>
+    requires { UnderWay (thread_of (W.view w.now) thread) (W.view w.now).core }
+    ensures { option_map (subtask_in (W.view w.now).tags) result ≡ awaits_end (how_far_of (thread_of (W.view w.now) thread) (W.view w.now).core) }
+{
+    match w.how_far(thread) {
+        HowFarId::AwaitsEnd(subtask) => Some(subtask),
+        _ => None,
+    }
+}
+
+// `call R Q F X*`
+fn call<W: Words>(
+    component: &Component,
+    w: &mut W,
+    thread: ThreadId,
+    to: u8,
+    register: u8,
+    callee: Callee,
+    params: &[Operand],
+) -> Result<Came, NoMemory>
+    requires runner { Runner thread (W.view w.old) }
+    requires words { length params.now ≤ 16 }
+    requires there { IsSome (get (W.view w.old).core.instances callee.instance) }
+    requires position { position_of (thread_of (W.view w.old) thread) (W.view w.old).core + 1 < 2 ^ 32 }
+    requires handles { is_some (get (W.view w.old).core.handles (instance_of (thread_of (W.view w.old) thread) (W.view w.old).core)) ≡ true }
+    requires few { given (W.view w.old).core < 2 ^ 61 }
+    ensures meets { IfOk result (λ came. Meets (call_row component.now (thread_of (W.view w.old) thread) to register callee (values_in (registers_of (thread_of (W.view w.old) thread) (W.view w.old).core) params.now) (W.view w.old).core (how_far_of (thread_of (W.view w.old) thread) (W.view w.old).core)) (W.view w.old).core came (W.view w.new).core) }
+    ensures goes { IfOk result (λ came. GoesOn came (W.view w.new)) }
+    ensures stays { IfOk result (λ came. StaysAfter came (W.view w.old) (W.view w.new)) }
+    ensures works { OnOk result (KeepsWorks (W.view w.old) (W.view w.new)) }
+{
+    if let Some(call) = called(w, thread) {
+        return go_on_calling(w, thread, to, call);
+    }
+    let words = operand_values(w, thread, params);
+    let kind = export_kind(component, callee);
+    let goal = Goal::Register { register };
+    begin_call(w, thread, callee, kind, goal, &words[..params.len()])
+}
+
+// `call_sync R F X*`
+fn call_sync<W: Words>(
+    component: &Component,
+    w: &mut W,
+    thread: ThreadId,
+    to: u8,
+    callee: Callee,
+    params: &[Operand],
+) -> Result<Came, NoMemory>
+    requires runner { Runner thread (W.view w.old) }
+    requires words { length params.now ≤ 16 }
+    requires there { IsSome (get (W.view w.old).core.instances callee.instance) }
+    requires position { position_of (thread_of (W.view w.old) thread) (W.view w.old).core + 1 < 2 ^ 32 }
+    requires few { given (W.view w.old).core < 2 ^ 61 }
+    ensures meets { IfOk result (λ came. Meets (call_sync_row component.now (thread_of (W.view w.old) thread) to callee (values_in (registers_of (thread_of (W.view w.old) thread) (W.view w.old).core) params.now) (W.view w.old).core (how_far_of (thread_of (W.view w.old) thread) (W.view w.old).core)) (W.view w.old).core came (W.view w.new).core) }
+    ensures goes { IfOk result (λ came. GoesOn came (W.view w.new)) }
+    ensures stays { IfOk result (λ came. StaysAfter came (W.view w.old) (W.view w.new)) }
+    ensures works { OnOk result (KeepsWorks (W.view w.old) (W.view w.new)) }
+{
+    if let Some(value) = answered(w, thread) {
+        return Ok(answer_call(w, thread, to, value));
+    }
+    if let Some(call) = called(w, thread) {
+        return Ok(go_on_calling_sync(w, thread, to, call));
+    }
+    let words = operand_values(w, thread, params);
+    let kind = export_kind(component, callee);
+    begin_call_sync(w, thread, callee, kind, &words[..params.len()])
+}
+
+// `call R Q H`
+fn call_of_host<W: Words>(
+    component: &Component,
+    w: &mut W,
+    thread: ThreadId,
+    to: u8,
+    register: u8,
+    host: u32,
+) -> Result<Done, NoMemory>
+    requires runner { Runner thread (W.view w.old) }
+    requires position { position_of (thread_of (W.view w.old) thread) (W.view w.old).core + 1 < 2 ^ 32 }
+    requires few { given (W.view w.old).core < 2 ^ 61 }
+    ensures meets { IfOk result (λ done. Meets (call_host_row component.now (thread_of (W.view w.old) thread) to register host (W.view w.old).core) (W.view w.old).core done.came (W.view w.new).core) }
+    ensures goes { IfOk result (λ done. GoesOn done.came (W.view w.new)) }
+    ensures stays { IfOk result (λ done. StaysAfter done.came (W.view w.old) (W.view w.new)) }
+    ensures polls { IfOk result (λ done. Polls component.now (how_far_of (thread_of (W.view w.old) thread) (W.view w.old).core) (ops.Call (CallOp.CallHost to register host)) (W.view w.old) done (W.view w.new)) }
+    ensures works { OnOk result (KeepsWorks (W.view w.old) (W.view w.new)) }
+{
+    let host = host_def(component, host);
+    let (came, work) = call_host(w, thread, to, register, host)?;
+    Ok(Done {
+        came,
+        polled: Some(host),
+        work,
+    })
+}
+
+// `call_sync R H`
+fn call_sync_of_host<W: Words>(
+    component: &Component,
+    w: &mut W,
+    thread: ThreadId,
+    to: u8,
+    host: u32,
+) -> Result<Done, NoMemory>
+    requires runner { Runner thread (W.view w.old) }
+    requires position { position_of (thread_of (W.view w.old) thread) (W.view w.old).core + 1 < 2 ^ 32 }
+    requires few { given (W.view w.old).core < 2 ^ 61 }
+    ensures meets { IfOk result (λ done. Meets (call_sync_host_row component.now (thread_of (W.view w.old) thread) to host (W.view w.old).core (how_far_of (thread_of (W.view w.old) thread) (W.view w.old).core)) (W.view w.old).core done.came (W.view w.new).core) }
+    ensures goes { IfOk result (λ done. GoesOn done.came (W.view w.new)) }
+    ensures stays { IfOk result (λ done. StaysAfter done.came (W.view w.old) (W.view w.new)) }
+    ensures polls { IfOk result (λ done. Polls component.now (how_far_of (thread_of (W.view w.old) thread) (W.view w.old).core) (ops.Call (CallOp.CallSyncHost to host)) (W.view w.old) done (W.view w.new)) }
+    ensures works { OnOk result (NamesWorks (W.view w.old) (W.view w.new)) }
+{
+    if let Some(work) = served(w, thread) {
+        return Ok(plain(go_on_calling_host(w, thread, to, work)));
+    }
+    let host = host_def(component, host);
+    let (came, work) = call_sync_host(w, thread, to, host)?;
+    Ok(Done {
+        came,
+        polled: Some(host),
+        work,
+    })
+}
+
+// `cancel R X` and `cancel_sync R X`
+fn cancels<W: Words>(w: &mut W, thread: ThreadId, to: u8, handle: u64, sync: bool) -> Came
+    requires runner { Runner thread (W.view w.old) }
+    requires position { position_of (thread_of (W.view w.old) thread) (W.view w.old).core + 1 < 2 ^ 32 }
+    ensures meets { Meets (cancel_row (mode_of sync) (thread_of (W.view w.old) thread) to handle (W.view w.old).core (how_far_of (thread_of (W.view w.old) thread) (W.view w.old).core)) (W.view w.old).core result (W.view w.new).core }
+    ensures goes { GoesOn result (W.view w.new) }
+    ensures stays { StaysAfter result (W.view w.old) (W.view w.new) }
+    ensures works { KeepsWorks (W.view w.old) (W.view w.new) }
+{
+    if let Some(subtask) = cancelling(w, thread) {
+        return go_on_cancelling(w, thread, to, sync, subtask);
+    }
+    if let Some(subtask) = awaiting(w, thread) {
+        return go_on_awaiting(w, thread, to, sync, subtask);
+    }
+    cancel(w, thread, to, handle, sync)
+}
+
+/// An op on subtasks. Where memory is wanting, all is as before.
+pub(crate) fn do_call_op<W: Words>(
+    component: &Component,
+    w: &mut W,
+    thread: ThreadId,
+    op: &CallOp,
+) -> Result<Done, NoMemory>
+    requires runner { Runner thread (W.view w.old) }
+    requires fits { call_op_fits component.now op.now ≡ true }
+    requires position { position_of (thread_of (W.view w.old) thread) (W.view w.old).core + 1 < 2 ^ 32 }
+    requires handles { is_some (get (W.view w.old).core.handles (instance_of (thread_of (W.view w.old) thread) (W.view w.old).core)) ≡ true }
+    requires instances { HasInstances component.now (W.view w.old).core }
+    requires few { given (W.view w.old).core < 2 ^ 61 }
+    ensures meets { IfOk result (λ done. Meets (subtask_row component.now (thread_of (W.view w.old) thread) (W.view w.old).core op.now) (W.view w.old).core done.came (W.view w.new).core) }
+    ensures goes { IfOk result (λ done. GoesOn done.came (W.view w.new)) }
+    ensures stays { IfOk result (λ done. StaysAfter done.came (W.view w.old) (W.view w.new)) }
+    ensures polls { IfOk result (λ done. Polls component.now (how_far_of (thread_of (W.view w.old) thread) (W.view w.old).core) (ops.Call op.now) (W.view w.old) done (W.view w.new)) }
+    ensures works { OnOk result (NamesWorks (W.view w.old) (W.view w.new)) }
+{
+    match op {
+        CallOp::Call {
+            to,
+            result,
+            callee,
+            params,
+        } => {
+            let came = call(
+                component,
+                w,
+                thread,
+                *to,
+                *result,
+                *callee,
+                params.as_slice(),
+            )?;
+            Ok(plain(came))
+        }
+        CallOp::CallSync { to, callee, params } => {
+            let came = call_sync(component, w, thread, *to, *callee, params.as_slice())?;
+            Ok(plain(came))
+        }
+        CallOp::CallHost { to, result, host } => {
+            call_of_host(component, w, thread, *to, *result, *host)
+        }
+        CallOp::CallSyncHost { to, host } => call_sync_of_host(component, w, thread, *to, *host),
+        CallOp::Cancel { to, subtask } => {
+            let handle = value_of(w, thread, *subtask);
+            Ok(plain(cancels(w, thread, *to, handle, false)))
+        }
+        CallOp::CancelSync { to, subtask } => {
+            let handle = value_of(w, thread, *subtask);
+            Ok(plain(cancels(w, thread, *to, handle, true)))
+        }
+        CallOp::Drop { subtask } => {
+            let handle = value_of(w, thread, *subtask);
+            Ok(plain(drop_subtask(w, thread, handle)))
+        }
+    }
+}

@@ -1,0 +1,16 @@
+//! The op of the running thread over the words of a core: its row is done, whatever op it is.
+#![tactic(auto)]
+
+mod calls;
+mod done;
+mod exits;
+mod ops;
+mod scripts;
+mod sets;
+mod tasks;
+mod threads;
+
+pub use done::Done;
+pub use exits::exit;
+pub use ops::do_op;
+pub use scripts::{export_def, op_at, script_ops};

@@ -1,0 +1,55 @@
+//! An op of the running thread, by its group.
+ghost use Rattle.op_dispatch.specs.Fits.{HasInstances, op_fits};
+ghost use Rattle.op_dispatch.specs.Goes.{GoesOn, given};
+ghost use Rattle.op_dispatch.specs.Polls.{Polls};
+ghost use Rattle.op_dispatch.specs.Runner.{Runner};
+ghost use Rattle.std.specs.Prelude.{◌≡◌, ◌<◌, ◌^◌, IfOk, is_some, length, true, OnOk};
+ghost use Rattle.task_machine.specs.Labels.{choice_of};
+ghost use Rattle.task_machine.specs.Maps.{get};
+ghost use Rattle.task_machine.specs.Read.{how_far_of, instance_of, position_of};
+ghost use Rattle.task_ops.specs.Came.{Meets};
+ghost use Rattle.task_ops.specs.Stays.{StaysAfter};
+ghost use Rattle.task_ops.specs.Steps.{label_of};
+ghost use Rattle.task_ops.specs.Works.{NamesWorks};
+ghost use Rattle.task_rules.specs.Scripts.{script_of};
+ghost use Rattle.task_rules.specs.Step.{op_row};
+ghost use Rattle.task_words.specs.StateView.{thread_of};
+
+use crate::calls::do_call_op;
+use crate::done::{Done, plain};
+use crate::sets::do_set_op;
+use crate::tasks::do_task_op;
+use crate::threads::do_thread_op;
+use task_machine::{Component, NoMemory, Op};
+use task_ops::compute;
+use task_words::{ThreadId, Words};
+
+/// An op of the thread's script, which ends at `end`, is done. Where memory is wanting, all is as before.
+pub fn do_op<W: Words>(
+    component: &Component,
+    w: &mut W,
+    thread: ThreadId,
+    op: &Op,
+    end: u32,
+) -> Result<Done, NoMemory>
+    requires runner { Runner thread (W.view w.old) }
+    requires fits { op_fits component.now op.now ≡ true }
+    requires instances { HasInstances component.now (W.view w.old).core }
+    requires within { position_of (thread_of (W.view w.old) thread) (W.view w.old).core < end }
+    requires ends { length (script_of component.now (thread_of (W.view w.old) thread) (W.view w.old).core) ≡ end }
+    requires handles { is_some (get (W.view w.old).core.handles (instance_of (thread_of (W.view w.old) thread) (W.view w.old).core)) ≡ true }
+    requires few { given (W.view w.old).core < 2 ^ 61 }
+    ensures meets { IfOk result (λ done. Meets (op_row component.now (thread_of (W.view w.old) thread) (W.view w.old).core (choice_of (label_of (thread_of (W.view w.old) thread) done.came)) op.now) (W.view w.old).core done.came (W.view w.new).core) }
+    ensures goes { IfOk result (λ done. GoesOn done.came (W.view w.new)) }
+    ensures stays { IfOk result (λ done. StaysAfter done.came (W.view w.old) (W.view w.new)) }
+    ensures polls { IfOk result (λ done. Polls component.now (how_far_of (thread_of (W.view w.old) thread) (W.view w.old).core) op.now (W.view w.old) done (W.view w.new)) }
+    ensures works { OnOk result (NamesWorks (W.view w.old) (W.view w.new)) }
+{
+    match op {
+        Op::Data(op) => Ok(plain(compute(w, thread, *op, end))),
+        Op::Task(op) => Ok(plain(do_task_op(w, thread, *op))),
+        Op::Set(op) => Ok(plain(do_set_op(w, thread, *op)?)),
+        Op::Call(op) => do_call_op(component, w, thread, op),
+        Op::Thread(op) => Ok(plain(do_thread_op(component, w, thread, *op)?)),
+    }
+}

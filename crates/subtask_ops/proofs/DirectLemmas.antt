@@ -1,0 +1,22 @@
+-- A direct call that has begun, written.
+use Rattle.std.proofs.Common.{refl}
+use Rattle.std.specs.Prelude.{List, ℕ, ◌≡◌}
+use Rattle.task_table.specs.declared.id.TableId.{TableId}
+use Rattle.task_wait.specs.declared.keys.GuestTaskKey.{GuestTaskKey}
+use Rattle.task_wait.specs.declared.keys.ThreadKey.{ThreadKey}
+use Rattle.task_machine.specs.Core.{Core}
+use Rattle.task_machine.specs.Read.{thread_group}
+use Rattle.task_machine.specs.Write.{set_how_far, set_place, set_started}
+use Rattle.task_machine.specs.declared.component.Callee.{Callee}
+use Rattle.task_machine.specs.declared.component.ExportKind.{ExportKind}
+use Rattle.task_machine.specs.declared.records.Caller.TheVariants as caller
+use Rattle.task_machine.specs.declared.records.Goal.TheVariants as goal
+use Rattle.task_machine.specs.declared.records.HowFar.TheVariants as how_far
+use Rattle.task_machine.specs.declared.records.Place.TheVariants as place
+use Rattle.task_machine.specs.declared.records.Subtask.TheVariants as subtask
+use Rattle.task_rules.specs.Calls.{call_made, enter_runs, next_thread, sync_sets_flag, with_thread_handle}
+use Rattle.task_words.specs.StateView.{StateView, call_of, on_core, thread_of}
+
+pub entered_is : (n m : TableId ThreadKey) (k : TableId GuestTaskKey) (N : ℕ) (e : Callee) (x : ExportKind) (words : List ℕ) (s : Core) (t u v y z a : StateView) → thread_of t n ≡ N → thread_of t m ≡ next_thread s → call_of t k ≡ next_thread s → t.core ≡ with_thread_handle e.instance (next_thread s) (call_made (caller.Thread N) e x goal.Direct (thread_group N s) words s) → u ≡ on_core (set_started (call_of t k)) t → v ≡ on_core (sync_sets_flag (thread_of u m) e.instance x) u → y ≡ on_core (set_place (thread_of v m) place.Running) v → z ≡ on_core (set_place (thread_of y n) (place.Under (thread_of y m))) y → a ≡ on_core (set_how_far (thread_of z n) (how_far.Calls (subtask.Guest (call_of z k)))) z → a.core ≡ enter_runs N e x words s
+unfolding enter_runs
+entered_is n m k N e x words s t u v y z a pn pm pk pt pu pv py pz pa = rw (pa, pz, py, pv, pu, pn, pm, pk, pt) refl

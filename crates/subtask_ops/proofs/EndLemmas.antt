@@ -1,0 +1,131 @@
+-- What follows a cancel, where it traps and where it doesn't.
+use Rattle.std.proofs.Common.{ap, refl, subst, sym, ◌∙◌}
+use Rattle.std.specs.Prelude.{Bool, None, Option, Some, false, if◌then◌else◌, not, true, ℕ, ◌+◌, ◌<◌, ◌≡◌}
+use Rattle.task_table.specs.declared.id.TableId.{TableId}
+use Rattle.task_wait.specs.declared.keys.ThreadKey.{ThreadKey}
+use Rattle.task_machine.specs.Core.{Core}
+use Rattle.task_machine.specs.Moves.{checked, passes_check}
+use Rattle.task_machine.specs.Read.{event_of, foot_of, instance_of, position_of, subtask_ended, undelivered_end}
+use Rattle.task_machine.specs.Write.{on_call, on_work, set_event, set_join, set_saved_callee}
+use Rattle.task_machine.specs.declared.records.Join.TheVariants as join
+use Rattle.task_machine.specs.declared.records.Place.TheVariants as place
+use Rattle.task_machine.specs.declared.records.Subtask.{Subtask}
+use Rattle.task_machine.specs.declared.records.Subtask.TheVariants as subtask
+use Rattle.task_machine.specs.declared.trap.Trap.{Trap}
+use Rattle.task_machine.specs.declared.trap.Trap.TheVariants as trap
+use Rattle.task_machine.specs.declared.words.Status.{Status}
+use Rattle.task_moves.specs.Stops.{MayStop}
+use Rattle.task_ops.proofs.PositionLemmas.{still_below}
+use Rattle.task_ops.proofs.RunLemmas.{checked_stands, foot_may_stop}
+use Rattle.task_ops.specs.Came.{Meets}
+use Rattle.task_ops.specs.Running.{IsRunning}
+use Rattle.task_ops.specs.declared.came.Came.{Came}
+use Rattle.task_ops.specs.declared.came.Came.TheVariants as came
+use Rattle.task_rules.specs.Cancels.{Async, Mode, Sync, after_cancel, cancel_by_end, cancel_ended_row, cancel_stops, cancel_unended_row, pauses}
+use Rattle.task_rules.specs.Progress.{Progress, Stops, Traps, trap_if}
+use Rattle.task_words.specs.Names.{subtask_in}
+use Rattle.task_words.specs.StateView.{StateView, on_core, thread_of}
+use Rattle.task_words.specs.declared.names.SubtaskId.{SubtaskId}
+use Rattle.subtask_ops.proofs.SteadyLemmas.{Steady, join_steady, saved_steady, steady_check, still_runs}
+use Rattle.subtask_ops.specs.Refused.{refused, refused_block, refused_end}
+
+no_trap : {A : Type 0} {t : Trap} → Some t ≡ None → A
+no_trap e = absurd (none e)
+  where
+    none : {t : Trap} → Some t ≡ None → ⊥
+    none e = cc
+
+same_trap : (t u : Trap) → Some t ≡ Some u → t ≡ u
+same_trap t u e = cc
+
+-- ---- It traps
+
+refused_end_row : (mode : Mode) (n r : ℕ) (sub : Subtask) (s : Core) (o : Option Status) (t : Trap) → refused_end o ≡ Some t → cancel_ended_row mode n r sub s o ≡ Traps t
+refused_end_row mode n r sub s None t e = ap (λ (u : Trap). Traps u) (same_trap _ _ e)
+refused_end_row mode n r sub s (Some o) t e = no_trap (sym e)
+
+refused_block_row : (mode : Mode) (n r : ℕ) (sub : Subtask) (s : Core) (t : Trap) → refused_block mode n s ≡ Some t → cancel_unended_row mode n r sub s ≡ Traps t
+refused_block_row Async n r sub s t e = no_trap (sym e)
+refused_block_row Sync n r sub s t e = go (passes_check (instance_of n s) s) e
+  where
+    go : (b : Bool) → (if b then None else Some trap.CannotBlockSyncTask) ≡ Some t → trap_if (not b) trap.CannotBlockSyncTask (Stops (pauses n) (cancel_stops n sub s)) ≡ Traps t
+    go true d = no_trap (sym d)
+    go false d = ap (λ (u : Trap). Traps u) (same_trap _ _ d)
+
+pub refused_row : (mode : Mode) (n r : ℕ) (sub : Subtask) (s : Core) (t : Trap) → refused mode n sub s ≡ Some t → after_cancel mode n r sub s ≡ Traps t
+unfolding refused
+refused_row mode n r sub s t e = go (subtask_ended sub s) e
+  where
+    go : (b : Bool) → (if b then refused_end (undelivered_end (event_of sub s)) else refused_block mode n s) ≡ Some t → cancel_by_end mode n r sub s b ≡ Traps t
+    go true d = refused_end_row mode n r sub s (undelivered_end (event_of sub s)) t d
+    go false d = refused_block_row mode n r sub s t d
+
+-- ---- It doesn't, so it matters not where it began
+
+let_end : (mode : Mode) (n r : ℕ) (sub : Subtask) (s a b : Core) (o : Option Status) (c : Came) (u : Core) → refused_end o ≡ None → Meets (cancel_ended_row mode n r sub s o) a c u → Meets (cancel_ended_row mode n r sub s o) b c u
+let_end mode n r sub s a b None c u e h = no_trap e
+let_end mode n r sub s a b (Some o) c u e h = h
+
+let_block : (mode : Mode) (n r : ℕ) (sub : Subtask) (s a b : Core) (c : Came) (u : Core) → refused_block mode n s ≡ None → Meets (cancel_unended_row mode n r sub s) a c u → Meets (cancel_unended_row mode n r sub s) b c u
+let_block Async n r sub s a b c u e h = h
+let_block Sync n r sub s a b c u e h = go (passes_check (instance_of n s) s) e h
+  where
+    go : (y : Bool) → (if y then None else Some trap.CannotBlockSyncTask) ≡ None → Meets (trap_if (not y) trap.CannotBlockSyncTask (Stops (pauses n) (cancel_stops n sub s))) a c u → Meets (trap_if (not y) trap.CannotBlockSyncTask (Stops (pauses n) (cancel_stops n sub s))) b c u
+    go true d m = m
+    go false d m = no_trap d
+
+pub let_go : (mode : Mode) (n r : ℕ) (sub : Subtask) (s a b : Core) (c : Came) (u : Core) → refused mode n sub s ≡ None → Meets (after_cancel mode n r sub s) a c u → Meets (after_cancel mode n r sub s) b c u
+unfolding refused
+let_go mode n r sub s a b c u e h = go (subtask_ended sub s) e h
+  where
+    go : (y : Bool) → (if y then refused_end (undelivered_end (event_of sub s)) else refused_block mode n s) ≡ None → Meets (cancel_by_end mode n r sub s y) a c u → Meets (cancel_by_end mode n r sub s y) b c u
+    go true d m = let_end mode n r sub s a b (undelivered_end (event_of sub s)) c u d m
+    go false d m = let_block mode n r sub s a b c u d m
+
+-- ---- It is so still
+
+block_same : (mode : Mode) (n : ℕ) (s t : Core) → Steady s t → refused_block mode n t ≡ refused_block mode n s
+block_same Async n s t a = refl
+block_same Sync n s t a = ap (λ (b : Bool). if b then None else Some trap.CannotBlockSyncTask) (steady_check (instance_of n t) s t a ∙ ap (λ (i : ℕ). passes_check i s) (a.homes n))
+
+pub refused_same : (mode : Mode) (n : ℕ) (sub : Subtask) (s t : Core) → Steady s t → refused mode n sub t ≡ refused mode n sub s
+unfolding refused
+refused_same mode n sub s t a =
+    ap (λ (b : Bool). if b then refused_end (undelivered_end (event_of sub t)) else refused_block mode n t) (a.ended sub)
+    ∙ (ap (λ (o : Option Status). if subtask_ended sub s then refused_end (undelivered_end o) else refused_block mode n t) (a.events sub)
+    ∙ ap (λ (o : Option Trap). if subtask_ended sub s then refused_end (undelivered_end (event_of sub s)) else o) (block_same mode n s t a))
+
+-- ---- In the words of what contracts see
+
+module _ (mode : Mode) (n : TableId ThreadKey) (r : ℕ) (sub : SubtaskId) (f : Core → Core) (s t : StateView) (e : t ≡ on_core f s) where
+  pub refused_on : (o : Option Trap) → refused mode (thread_of s n) (subtask_in s.tags sub) (f s.core) ≡ o → refused mode (thread_of t n) (subtask_in t.tags sub) t.core ≡ o
+  refused_on o h = ap (λ (v : StateView). refused mode (thread_of v n) (subtask_in v.tags sub) v.core) e ∙ h
+
+  pub finished : (c : Came) (u : Core) → refused mode (thread_of s n) (subtask_in s.tags sub) (f s.core) ≡ None → Meets (after_cancel mode (thread_of t n) r (subtask_in t.tags sub) t.core) t.core c u → Meets (after_cancel mode (thread_of s n) r (subtask_in s.tags sub) (f s.core)) s.core c u
+  finished c u may meets =
+      let_go mode (thread_of s n) r (subtask_in s.tags sub) (f s.core) (f s.core) s.core c u may
+      (subst (λ (v : StateView). Meets (after_cancel mode (thread_of v n) r (subtask_in v.tags sub) v.core) v.core c u) e meets)
+
+-- it traps, and nothing has changed
+pub trapped_meets : (mode : Mode) (n r : ℕ) (q : Subtask) (s t : Core) (y : Trap) → refused mode n q t ≡ Some y → Meets (after_cancel mode n r q t) s (came.Traps y) s
+trapped_meets mode n r q s t y e = subst (λ (p : Progress). Meets p s (came.Traps y) s) (sym (refused_row mode n r q t y e)) (refl, refl)
+
+-- ---- The position, after the event is taken
+
+event_position : (n : ℕ) (sub : Subtask) (e : Option Status) (s : Core) → position_of n (set_event sub e s) ≡ position_of n s
+unfolding set_event on_call on_work
+event_position n (subtask.Guest k) e s = refl
+event_position n (subtask.Host i) e s = refl
+
+pub event_below : (n : TableId ThreadKey) (sub : Subtask) (e : Option Status) (b : ℕ) (s t : StateView) → t ≡ on_core (set_event sub e) s → position_of (thread_of s n) s.core + 1 < b → position_of (thread_of t n) t.core + 1 < b
+event_below n sub e b s t is small = still_below n b (set_event sub e) s t is (event_position (thread_of s n) sub e s.core) small
+
+-- ---- The thread waits for the end
+
+pub awaits_may_stop : (n f : TableId ThreadKey) (sub : SubtaskId) (i : ℕ) (s a b t : StateView) → IsRunning (thread_of s n) s.core → a ≡ on_core (set_saved_callee (thread_of s n) None) s → b ≡ on_core (set_join (subtask_in a.tags sub) (join.Watched (thread_of a n))) a → t ≡ on_core (checked i) b → thread_of t f ≡ foot_of (thread_of t n) t.core → MayStop (thread_of t f) t.core
+awaits_may_stop n f sub i s a b t st saved watched check foot =
+    let N = thread_of s n in
+    let q = subtask_in a.tags sub in
+    let ra = still_runs n (set_saved_callee N None) s a saved (saved_steady N None s.core) st in
+    let rb = still_runs n (set_join q (join.Watched (thread_of a n))) a b watched (join_steady q (join.Watched (thread_of a n)) a.core) ra in
+    foot_may_stop n place.Running f t refl (checked_stands n place.Running i b t rb check) foot

@@ -1,0 +1,175 @@
+-- Joins.
+use Rattle.std.proofs.Common.{ap, arith, refl, subst, sym, ◌∙◌}
+use Rattle.std.specs.Option.{option_map_or}
+use Rattle.std.specs.Prelude.{Bool, None, Option, Some, false, option_map, suc, true, zero, ℕ, ◌+◌, ◌<◌, ◌≡◌}
+use Rattle.task_table.specs.declared.id.TableId.{TableId}
+use Rattle.task_wait.specs.declared.keys.SetKey.{SetKey}
+use Rattle.task_wait.specs.declared.keys.ThreadKey.{ThreadKey}
+use Rattle.task_machine.specs.Core.{Core}
+use Rattle.task_machine.specs.Labels.{choice_of, join_label}
+use Rattle.task_machine.specs.Maps.{get}
+use Rattle.task_machine.specs.Moves.{may_wake}
+use Rattle.task_machine.specs.Read.{event_of, has_waiter, instance_of, is_blocked_on, is_waiting_on, is_watched, join_of, place_of, position_of, set_at}
+use Rattle.task_machine.specs.Write.{on_call, on_work, set_join}
+use Rattle.task_machine.specs.declared.label.Label.{Label}
+use Rattle.task_machine.specs.declared.records.Join.{Join}
+use Rattle.task_machine.specs.declared.records.Place.{Place}
+use Rattle.task_machine.specs.declared.records.Place.TheVariants as place
+use Rattle.task_machine.specs.declared.records.Subtask.{Subtask}
+use Rattle.task_machine.specs.declared.records.Subtask.TheVariants as subtask
+use Rattle.task_machine.specs.declared.trap.Trap.TheVariants as trap
+use Rattle.task_machine.specs.declared.words.Status.{Status}
+use Rattle.task_moves.specs.Idle.{AreIdleUnqueued}
+use Rattle.task_ops.proofs.PositionLemmas.{position_wake, still_below}
+use Rattle.task_ops.specs.Came.{Meets}
+use Rattle.task_ops.specs.Running.{IsRunning}
+use Rattle.task_ops.specs.declared.came.Came.TheVariants as came
+use Rattle.task_rules.proofs.MoveLemmas.{no_time}
+use Rattle.task_rules.proofs.StandLemmas.{by_number}
+use Rattle.task_rules.specs.Data.{advanced}
+use Rattle.task_rules.specs.Places.{HasPlace, is_at_high, is_at_low, says}
+use Rattle.task_rules.specs.Progress.{Goes, Progress, Traps, may, or_trap, trap_if}
+use Rattle.task_rules.specs.Sets.{join_done, join_to, joined, joins, may_wake_new, wakes_joined}
+use Rattle.task_words.specs.Apart.{IsUnqueued}
+use Rattle.task_words.specs.Live.{live_subtask}
+use Rattle.task_words.specs.Names.{join_in, subtask_in}
+use Rattle.task_words.specs.StateView.{StateView, Tags, on_core, set_number, set_of, thread_of}
+use Rattle.task_words.specs.declared.names.JoinId.{JoinId}
+use Rattle.task_words.specs.declared.names.SubtaskId.{SubtaskId}
+use Rattle.subtask_ops.proofs.SteadyLemmas.{join_steady, still_runs, still_within}
+use Rattle.subtask_ops.proofs.SubtaskLemmas.{Alike, kept_alike}
+
+-- ---- Who waits or is blocked has no entry
+
+-- the place is no mark
+placed_idle : (n : ℕ) (p : Place) (s : Core) → place_of n s ≡ Some p → is_at_high p ≡ false → is_at_low p ≡ false → HasPlace n s → IsUnqueued n s
+placed_idle n p s at high low h = record {
+  high = h.high ∙ (ap (λ o. says is_at_high o) at ∙ grind (arith, high));
+  low = h.low ∙ (ap (λ o. says is_at_low o) at ∙ grind (arith, low));
+}
+
+waiting_place : (x : ℕ) (o : Option Place) → option_map_or (is_waiting_on x) o false ≡ true → (b : Bool) × (o ≡ Some (place.Waiting x b))
+waiting_place x o h = grind arith
+
+blocked_place : (sub : Subtask) (o : Option Place) → option_map_or (is_blocked_on sub) o false ≡ true → (on : Subtask) × (o ≡ Some (place.Blocked on))
+blocked_place sub o h = grind arith
+
+pub running_idle : (n : ℕ) (s : Core) → IsRunning n s → AreIdleUnqueued s
+running_idle n s st = record {
+  waiters = λ x k h. let p = waiting_place x (place_of k s) h in placed_idle k (place.Waiting x p.0) s p.1 refl refl (placed k _ p.1 (λ e. waits e));
+  blocked = λ sub k h. let p = blocked_place sub (place_of k s) h in placed_idle k (place.Blocked p.0) s p.1 refl refl (placed k _ p.1 (λ e. blocks e));
+}
+  where
+    waits : {x : ℕ} {b : Bool} → Some place.Running ≡ Some (place.Waiting x b) → ⊥
+    waits e = cc
+
+    blocks : {on : Subtask} → Some place.Running ≡ Some (place.Blocked on) → ⊥
+    blocks e = cc
+
+    placed : (k : ℕ) (p : Place) → place_of k s ≡ Some p → (Some place.Running ≡ Some p → ⊥) → HasPlace k s
+    placed k p at apart = by_number k n (HasPlace k s) (λ e. absurd (apart (sym st.here ∙ (ap (λ j. place_of j s) (sym e) ∙ at)))) (λ d. st.placed k (no_time k n d))
+
+-- ---- A subtask that may be gone
+
+done_alike : (n : ℕ) (a b : Subtask) (w : Option ℕ) (s : Core) (x : Option ℕ) → Alike a b s → join_done n a w s x ≡ join_done n b w s x
+unfolding joined
+done_alike n a b w s x like = ap (λ j. row j (event_of a s) (set_join a (joins x) s)) like.join ∙ (ap (λ e. row (join_of b s) e (set_join a (joins x) s)) like.event ∙ ap (λ c. row (join_of b s) (event_of b s) c) (like.joined (joins x)))
+  where
+    row : Join → Option Status → Core → Progress
+    row j e c = trap_if (is_watched j) trap.WaitableSyncAndAsync (may (may_wake_new e x w s) (Goes (join_label n w) (advanced n (wakes_joined e x w c)) n))
+
+to_alike : (n y : ℕ) (w : Option ℕ) (s : Core) (a b : Subtask) → Alike a b s → join_to n y w s a ≡ join_to n y w s b
+to_alike n zero w s a b like = done_alike n a b w s None like
+to_alike n (suc h) w s a b like = go (set_at (instance_of n s) (suc h) s)
+  where
+    go : (o : Option ℕ) → or_trap o trap.BadHandle (λ x. join_done n a w s (Some x)) ≡ or_trap o trap.BadHandle (λ x. join_done n b w s (Some x))
+    go None = refl
+    go (Some x) = done_alike n a b w s (Some x) like
+
+pub to_kept : (n y : ℕ) (w : Option ℕ) (s : Core) → get s.calls 0 ≡ None → get s.works 0 ≡ None → (sub : Subtask) → join_to n y w s sub ≡ join_to n y w s (live_subtask sub s)
+to_kept n y w s calls works sub = to_alike n y w s sub (live_subtask sub s) (kept_alike sub s calls works)
+
+-- ---- The set's handle
+
+pub to_set : (n y x : ℕ) (w : Option ℕ) (s : Core) (q : Subtask) → (y ≡ 0 → ⊥) → Some x ≡ set_at (instance_of n s) y s → join_to n y w s q ≡ join_done n q w s (Some x)
+to_set n zero x w s q some at = absurd (some refl)
+to_set n (suc h) x w s q some at = ap (λ o. or_trap o trap.BadHandle (λ y. join_done n q w s (Some y))) (sym at)
+
+pub to_none : (n y : ℕ) (w : Option ℕ) (s : Core) (q : Subtask) → (y ≡ 0 → ⊥) → None ≡ set_at (instance_of n s) y s → join_to n y w s q ≡ Traps trap.BadHandle
+to_none n zero w s q some at = absurd (some refl)
+to_none n (suc h) w s q some at = ap (λ o. or_trap o trap.BadHandle (λ y. join_done n q w s (Some y))) (sym at)
+
+-- ---- A waiter is woken
+
+wakes_kept : (e : Option Status) (x w : Option ℕ) (sub : Subtask) (j : Join) (s : Core) → may_wake_new e x w (set_join sub j s) ≡ may_wake_new e x w s
+unfolding set_join on_call on_work may_wake has_waiter
+wakes_kept (Some e) (Some x) (Some w) (subtask.Guest k) j s = refl
+wakes_kept (Some e) (Some x) (Some w) (subtask.Host i) j s = refl
+wakes_kept (Some e) (Some x) None (subtask.Guest k) j s = refl
+wakes_kept (Some e) (Some x) None (subtask.Host i) j s = refl
+wakes_kept (Some e) None w sub j s = refl
+wakes_kept None x w sub j s = refl
+
+position_woken : (n : ℕ) (e : Option Status) (x w : Option ℕ) (s : Core) → position_of n (wakes_joined e x w s) ≡ position_of n s
+position_woken n (Some e) (Some x) w s = position_wake n x w s
+position_woken n (Some e) None w s = refl
+position_woken n None x w s = refl
+
+woken_shown : (m : ℕ) (w : Option ℕ) → (choice_of (join_label m w)).woken ≡ w
+woken_shown m None = refl
+woken_shown m (Some w) = refl
+
+module _ (n : TableId ThreadKey) (q : Subtask) (e : Option Status) (x w : Option ℕ) (s t u : StateView) (joined_is : t ≡ on_core (set_join q (joins x)) s) where
+  pub joined_idle : IsRunning (thread_of s n) s.core → AreIdleUnqueued t.core
+  joined_idle st = running_idle (thread_of t n) t.core (still_runs n (set_join q (joins x)) s t joined_is (join_steady q (joins x) s.core) st)
+
+  pub joined_below : (b : ℕ) → u ≡ on_core (wakes_joined e x w) t → position_of (thread_of s n) s.core + 1 < b → position_of (thread_of u n) u.core + 1 < b
+  joined_below b d small = still_below n b (wakes_joined e x w) t u d (position_woken (thread_of t n) e x w t.core) (still_within n (set_join q (joins x)) s t joined_is (join_steady q (joins x) s.core) b small)
+
+  done_is : is_watched (join_of q s.core) ≡ false → e ≡ event_of q s.core → may_wake_new e x w t.core ≡ true → join_done (thread_of s n) q w s.core x ≡ Goes (join_label (thread_of s n) w) (joined (thread_of s n) q x w s.core) (thread_of s n)
+  done_is apart event may_w =
+      let N = thread_of s n in
+      let choice : may_wake_new (event_of q s.core) x w s.core ≡ true = ap (λ o. may_wake_new o x w s.core) (sym event) ∙ (sym (wakes_kept e x w q (joins x) s.core) ∙ (ap (λ (v : StateView). may_wake_new e x w v.core) (sym joined_is) ∙ may_w)) in
+      ap (λ b. trap_if b trap.WaitableSyncAndAsync (may (may_wake_new (event_of q s.core) x w s.core) (Goes (join_label N w) (joined N q x w s.core) N))) apart
+      ∙ ap (λ b. may b (Goes (join_label N w) (joined N q x w s.core) N)) choice
+
+  pub join_meets : (m : ℕ) (v : StateView) → m ≡ thread_of s n → is_watched (join_of q s.core) ≡ false → e ≡ event_of q s.core → may_wake_new e x w t.core ≡ true → u ≡ on_core (wakes_joined e x w) t → v ≡ on_core (advanced (thread_of u n)) u → Meets (join_done (thread_of s n) q (choice_of (join_label m w)).woken s.core x) s.core (came.Goes (join_label m w) m) v.core
+  unfolding joined
+  join_meets m v number apart event may_w d f =
+      let N = thread_of s n in
+      let core = ap (λ (y : StateView). y.core) f ∙ (ap (λ (y : StateView). advanced (thread_of y n) y.core) d ∙ (ap (λ (y : StateView). advanced (thread_of y n) (wakes_joined e x w y.core)) joined_is ∙ ap (λ o. advanced N (wakes_joined o x w (set_join q (joins x) s.core))) event)) in
+      subst (λ (j : ℕ). Meets (join_done N q (choice_of (join_label j w)).woken s.core x) s.core (came.Goes (join_label j w) j) v.core) (sym number)
+      (subst (λ (o : Option ℕ). Meets (join_done N q o s.core x) s.core (came.Goes (join_label N w) N) v.core) (sym (woken_shown N w))
+      (subst (λ (p : Progress). Meets p s.core (came.Goes (join_label N w) N) v.core) (sym (done_is apart event may_w)) (refl, core)))
+
+-- ---- The steps of a join
+
+module _ (n : TableId ThreadKey) (sub : SubtaskId) (set : Option (TableId SetKey)) (j : JoinId) (s t : StateView) (left : t ≡ on_core (set_join (subtask_in s.tags sub) (join_in s.tags j)) s) (to : join_in s.tags j ≡ joins (option_map (λ id. set_of s id) set)) where
+  joined_as : t ≡ on_core (set_join (subtask_in s.tags sub) (joins (option_map (λ id. set_of s id) set))) s
+  joined_as = left ∙ ap (λ (k : Join). on_core (set_join (subtask_in s.tags sub) k) s) to
+
+  same_tags : t.tags ≡ s.tags
+  same_tags = ap (λ (v : StateView). v.tags) joined_as
+
+  pub join_idle : IsRunning (thread_of s n) s.core → AreIdleUnqueued t.core
+  join_idle st = joined_idle n (subtask_in s.tags sub) None (option_map (λ id. set_of s id) set) None s t t joined_as st
+
+  module _ (waiter : Option (TableId ThreadKey)) (e : Option Status) (u : StateView) (woken : u ≡ on_core (wakes_joined e (option_map (λ id. set_of t id) set) (option_map (λ id. thread_of t id) waiter)) t) where
+    woken_as : u ≡ on_core (wakes_joined e (option_map (λ id. set_of s id) set) (option_map (λ id. thread_of t id) waiter)) t
+    woken_as = woken ∙ ap (λ (g : Tags). on_core (wakes_joined e (option_map (λ id. set_number g id) set) (option_map (λ id. thread_of t id) waiter)) t) same_tags
+
+    pub join_below : (b : ℕ) → position_of (thread_of s n) s.core + 1 < b → position_of (thread_of u n) u.core + 1 < b
+    join_below b small = joined_below n (subtask_in s.tags sub) e (option_map (λ id. set_of s id) set) (option_map (λ id. thread_of t id) waiter) s t u joined_as b woken_as small
+
+    pub set_joined_meets : (m : ℕ) (l : Label) (o : Option ℕ) (v : StateView) → m ≡ thread_of s n → l ≡ join_label m o → o ≡ option_map (λ id. thread_of t id) waiter → is_watched (join_of (subtask_in s.tags sub) s.core) ≡ false → e ≡ event_of (subtask_in s.tags sub) s.core → may_wake_new e (option_map (λ id. set_of t id) set) (option_map (λ id. thread_of t id) waiter) t.core ≡ true → v ≡ on_core (advanced (thread_of u n)) u → Meets (join_done (thread_of s n) (subtask_in s.tags sub) (choice_of l).woken s.core (option_map (λ id. set_of s id) set)) s.core (came.Goes l m) v.core
+    set_joined_meets m l o v number shown chosen apart event may_w done =
+        let N = thread_of s n in
+        let q = subtask_in s.tags sub in
+        let x = option_map (λ id. set_of s id) set in
+        let w = option_map (λ id. thread_of t id) waiter in
+        let choice : may_wake_new e x w t.core ≡ true = ap (λ (g : Tags). may_wake_new e (option_map (λ id. set_number g id) set) w t.core) (sym same_tags) ∙ may_w in
+        subst (λ (y : Label). Meets (join_done N q (choice_of y).woken s.core x) s.core (came.Goes y m) v.core) (sym (shown ∙ ap (join_label m) chosen))
+        (join_meets n q e x w s t u joined_as m v number apart event choice woken_as done)
+
+pub to_zero : (n y : ℕ) (w : Option ℕ) (s : Core) (q : Subtask) → y ≡ 0 → join_to n y w s q ≡ join_done n q w s None
+to_zero n y w s q e = ap (λ (k : ℕ). join_to n k w s q) e

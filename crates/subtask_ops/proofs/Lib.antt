@@ -1,0 +1,13 @@
+pub mod CallLemmas
+pub mod DirectLemmas
+pub mod ReturnLemmas
+pub mod TakeLemmas
+pub mod HostLemmas
+pub mod SubtaskLemmas
+pub mod SteadyLemmas
+pub mod JoinLemmas
+pub mod DropLemmas
+pub mod EndLemmas
+pub mod CancelLemmas
+pub mod ResumeLemmas
+pub mod GuestLemmas

@@ -1,0 +1,17 @@
+-- What ops ask of the subtasks that handles name.
+use Rattle.std.specs.Prelude.{Some, is_some, true, ℕ, ◌≡◌}
+use Rattle.task_machine.specs.Core.{Core}
+use Rattle.task_machine.specs.Maps.{get}
+use Rattle.task_machine.specs.Read.{subtask_at}
+use Rattle.task_machine.specs.declared.records.Subtask.{Subtask}
+use Rattle.task_machine.specs.declared.records.Subtask.TheVariants as subtask
+use Rattle.task_words.specs.StateView.{Lost, lost_call, lost_work}
+
+-- A handle of a call names one that is there.
+abbrev pub NamedCallsThere : Core → Type 0
+NamedCallsThere s = (i h k : ℕ) → subtask_at i h s ≡ Some (subtask.Guest k) → is_some (get s.calls k) ≡ true
+
+-- what of the subtask may be gone
+abbrev pub lost_subtask : Subtask → Lost
+lost_subtask (subtask.Guest k) = lost_call k
+lost_subtask (subtask.Host i) = lost_work i

@@ -1,0 +1,22 @@
+-- The work that a call of a host has made.
+use Rattle.std.specs.Prelude.{None, Option, Some, ℕ, ◌≡◌}
+use Rattle.task_machine.specs.Core.{Core}
+use Rattle.task_machine.specs.Read.{course_of}
+use Rattle.task_machine.specs.declared.records.Course.TheVariants as course
+use Rattle.task_ops.specs.declared.came.Came.{Came}
+use Rattle.task_ops.specs.declared.came.Came.TheVariants as came
+use Rattle.task_rules.specs.Calls.{FirstPoll, Later, next_work}
+use Rattle.task_table.specs.declared.id.TableId.{TableId}
+use Rattle.task_wait.specs.declared.keys.HostTaskKey.{HostTaskKey}
+use Rattle.task_words.specs.StateView.{StateView, work_of}
+
+-- the next one, where the host pends and the call hasn't trapped
+abbrev pub queued_work : FirstPoll → Came → Core → Option ℕ
+queued_work (Later host) (came.Goes l n) s = Some (next_work s)
+queued_work (Later host) (came.Stops l) s = Some (next_work s)
+queued_work _ _ s = None
+
+-- it goes on with what its first poll has left of the host
+abbrev pub GoesOnWith : FirstPoll → Option (TableId HostTaskKey) → StateView → Type 0
+GoesOnWith (Later left) (Some id) s = course_of (work_of s id) s.core ≡ course.Goes left
+GoesOnWith _ _ s = Unit {0}

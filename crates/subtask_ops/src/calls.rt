@@ -1,0 +1,88 @@
+//! Calls of exports whose start is queued, as they begin.
+ghost use Rattle.std.specs.Prelude.{◌≡◌, ◌+◌, ◌<◌, ◌≤◌, ◌^◌, IfOk, IsSome, OnErr, OnOk, length, true};
+ghost use Rattle.task_machine.specs.Maps.{get};
+ghost use Rattle.task_machine.specs.Read.{fits};
+ghost use Rattle.task_machine.specs.declared.component.Component.{Component};
+ghost use Rattle.task_ops.specs.Came.{IsCurrent, Meets};
+ghost use Rattle.task_ops.specs.Running.{IsRunning};
+ghost use Rattle.task_ops.specs.Stays.{StaysAfter};
+ghost use Rattle.task_rules.specs.Calls.{call_begins, call_clears_flag, call_queues, next_thread};
+ghost use Rattle.task_rules.specs.Scripts.{export_kind};
+ghost use Rattle.task_words.specs.StateView.{Keeps, on_core, thread_of};
+
+use task_machine::{CallLabel, Callee, ExportKind, Goal, Label, Trap};
+use task_moves::{put_behind, put_switch};
+use task_ops::Came;
+use task_words::{HowFarId, NoMemory, SubtaskId, ThreadId, WhyId, Words};
+
+// The flag of the callee's instance is saved and cleared.
+fn clear_flag<W: Words>(w: &mut W, thread: ThreadId, instance: u32, kind: ExportKind)
+    ensures { W.view w.new ≡ on_core (call_clears_flag (thread_of (W.view w.old) thread) instance kind) (W.view w.old) }
+{
+    if matches!(kind, ExportKind::Sync) {
+        return;
+    }
+    let flag = w.may_not_suspend(instance);
+    w.set_saved_callee(thread, Some(flag));
+    w.set_do_not_suspend(instance, false);
+}
+
+// The call is made, its start becomes the switch entry, and the calling thread goes behind it.
+fn queue_start<W: Words>(
+    w: &mut W,
+    thread: ThreadId,
+    callee: Callee,
+    kind: ExportKind,
+    goal: Goal,
+    words: &[u64],
+) -> Result<ThreadId, NoMemory>
+    requires live { 0 < thread_of (W.view w.old) thread }
+    requires running { IsRunning (thread_of (W.view w.old) thread) (W.view w.old).core }
+    requires there { IsSome (get (W.view w.old).core.instances callee.instance) }
+    requires words { length words.now ≤ 16 }
+    requires few { (W.view w.old).core.made.threads + 1 < 2 ^ 64 }
+    requires room { fits 3 (W.view w.old).core ≡ true }
+    ensures thread { IfOk result (λ id. thread_of (W.view w.new) id ≡ next_thread (W.view w.old).core) }
+    ensures core { OnOk result ((W.view w.new).core ≡ call_queues (thread_of (W.view w.old) thread) callee kind goal words.now (W.view w.old).core) }
+    ensures tags { Keeps (W.view w.old).tags (W.view w.new).tags }
+    ensures current { (W.view w.new).current ≡ (W.view w.old).current }
+    ensures err { OnErr result (W.view w.new ≡ W.view w.old) }
+{
+    let (other, call) = w.make_call(thread, callee, kind, goal, words)?;
+    put_switch(w, other, WhyId::Start);
+    clear_flag(w, thread, callee.instance, kind);
+    put_behind(w, other, thread);
+    w.set_how_far(thread, HowFarId::Calls(SubtaskId::Guest(call)));
+    Ok(other)
+}
+
+/// A call that begins and queues its callee's start: `call R Q F X*`, or `call_sync R F X*` of a
+/// stackful or callback export. Where memory is wanting, all is as before.
+pub fn begin_call<W: Words>(
+    w: &mut W,
+    thread: ThreadId,
+    callee: Callee,
+    kind: ExportKind,
+    goal: Goal,
+    words: &[u64],
+) -> Result<Came, NoMemory>
+    requires live { 0 < thread_of (W.view w.old) thread }
+    requires running { IsRunning (thread_of (W.view w.old) thread) (W.view w.old).core }
+    requires there { IsSome (get (W.view w.old).core.instances callee.instance) }
+    requires words { length words.now ≤ 16 }
+    requires few { (W.view w.old).core.made.threads + 1 < 2 ^ 64 }
+    ensures meets { IfOk result (λ came. (c : Component) → export_kind c callee ≡ kind → Meets (call_begins c (thread_of (W.view w.old) thread) callee goal words.now (W.view w.old).core) (W.view w.old).core came (W.view w.new).core) }
+    ensures stays { IfOk result (λ came. StaysAfter came (W.view w.old) (W.view w.new)) }
+    ensures tags { Keeps (W.view w.old).tags (W.view w.new).tags }
+    ensures current { (W.view w.new).current ≡ (W.view w.old).current }
+    ensures goes { IfOk result (λ came. IsCurrent came (W.view w.new)) }
+    ensures err { OnErr result (W.view w.new ≡ W.view w.old) }
+{
+    let number = w.number(thread);
+    if !w.fits(3) {
+        return Ok(Came::Traps(Trap::TableFull));
+    }
+    let other = queue_start(w, thread, callee, kind, goal, words)?;
+    let other = w.number(other);
+    Ok(Came::Stops(Label::Call(CallLabel::Calls(number, other))))
+}

@@ -1,0 +1,98 @@
+//! Dropping a subtask.
+ghost use Rattle.std.specs.Prelude.{◌≡◌, ◌+◌, ◌<◌, ◌^◌, IsSome, true, ℕ};
+ghost use Rattle.subtask_ops.specs.Named.{lost_subtask};
+ghost use Rattle.task_laws.specs.Order.{WorksQueued};
+ghost use Rattle.task_machine.specs.Read.{instance_of, position_of, subtask_at, subtask_ended};
+ghost use Rattle.task_machine.specs.declared.records.Subtask.TheVariants as subtasks;
+ghost use Rattle.task_ops.specs.Came.{Meets};
+ghost use Rattle.task_ops.specs.Stays.{StaysAfter};
+ghost use Rattle.task_rules.specs.Cancels.{drop_row, dropped, subtask_settled};
+ghost use Rattle.task_words.specs.Apart.{work_entries};
+ghost use Rattle.task_words.specs.Names.{subtask_in};
+ghost use Rattle.task_words.specs.StateView.{KeepsBut, thread_of, work_of};
+ghost use Rattle.task_ops.specs.Works.{NamesWorks};
+
+use crate::joins::is_watched;
+use task_machine::{CallLabel, Label, Trap};
+use task_moves::settle_call;
+use task_ops::Came;
+use task_words::{JoinId, SubtaskId, ThreadId, Words, WorkId};
+
+// A work is gone, if it is there.
+fn delete_work<W: Words>(w: &mut W, work: WorkId)
+    requires unqueued { work_entries (work_of (W.view w.old) work) (W.view w.old).core.queues.high ≡ 0 }
+    ensures core { (W.view w.new).core ≡ subtask_settled (subtasks.Host (work_of (W.view w.old) work)) (W.view w.old).core }
+    ensures current { (W.view w.new).current ≡ (W.view w.old).current }
+    ensures tags { KeepsBut (lost_subtask (subtasks.Host (work_of (W.view w.old) work))) (W.view w.old).tags (W.view w.new).tags }
+{
+    w.none_is_zero();
+    if w.work_number(work) > 0 {
+        w.delete_work(work);
+    }
+}
+
+// What has no handle any more is gone, if nothing else keeps it.
+fn settle<W: Words>(w: &mut W, subtask: SubtaskId)
+    requires live { (k : ℕ) → subtask_in (W.view w.old).tags subtask ≡ subtasks.Guest k → 0 < k }
+    requires unqueued { (i : ℕ) → subtask_in (W.view w.old).tags subtask ≡ subtasks.Host i → work_entries i (W.view w.old).core.queues.high ≡ 0 }
+    ensures core { (W.view w.new).core ≡ subtask_settled (subtask_in (W.view w.old).tags subtask) (W.view w.old).core }
+    ensures current { (W.view w.new).current ≡ (W.view w.old).current }
+    ensures tags { KeepsBut (lost_subtask (subtask_in (W.view w.old).tags subtask)) (W.view w.old).tags (W.view w.new).tags }
+{
+    match subtask {
+        SubtaskId::Guest(call) => settle_call(w, call),
+        SubtaskId::Host(work) => delete_work(w, work),
+    }
+}
+
+// An ended subtask leaves its set, and its handle is gone.
+#[tactic(auto, unfolding(task_rules::specs::Cancels::dropped))]
+fn part<W: Words>(w: &mut W, thread: ThreadId, handle: u32, subtask: SubtaskId)
+    requires live { 0 < thread_of (W.view w.old) thread }
+    requires names { IsSome (subtask_at (instance_of (thread_of (W.view w.old) thread) (W.view w.old).core) handle (W.view w.old).core) }
+    requires ended { subtask_ended (subtask_in (W.view w.old).tags subtask) (W.view w.old).core ≡ true }
+    requires works { WorksQueued (W.view w.old).core }
+    requires position { position_of (thread_of (W.view w.old) thread) (W.view w.old).core + 1 < 2 ^ 32 }
+    ensures core { (W.view w.new).core ≡ dropped (thread_of (W.view w.old) thread) handle (subtask_in (W.view w.old).tags subtask) (W.view w.old).core }
+    ensures thread { thread_of (W.view w.new) thread ≡ thread_of (W.view w.old) thread }
+    ensures current { (W.view w.new).current ≡ (W.view w.old).current }
+    ensures tags { KeepsBut (lost_subtask (subtask_in (W.view w.old).tags subtask)) (W.view w.old).tags (W.view w.new).tags }
+{
+    w.none_is_zero();
+    let instance = w.instance_of(thread);
+    w.set_join(subtask, JoinId::Nowhere);
+    w.set_subtask_handle(subtask, None);
+    w.free_handle(instance, handle);
+    settle(w, subtask);
+    w.advance(thread);
+}
+
+/// `drop X`
+pub fn drop_subtask<W: Words>(w: &mut W, thread: ThreadId, handle: u64) -> Came
+    requires live { 0 < thread_of (W.view w.old) thread }
+    requires works { WorksQueued (W.view w.old).core }
+    requires position { position_of (thread_of (W.view w.old) thread) (W.view w.old).core + 1 < 2 ^ 32 }
+    ensures meets { Meets (drop_row (thread_of (W.view w.old) thread) handle (W.view w.old).core) (W.view w.old).core result (W.view w.new).core }
+    ensures stays { StaysAfter result (W.view w.old) (W.view w.new) }
+    ensures thread { thread_of (W.view w.new) thread ≡ thread_of (W.view w.old) thread }
+    ensures current { (W.view w.new).current ≡ (W.view w.old).current }
+    ensures works { NamesWorks (W.view w.old) (W.view w.new) }
+{
+    w.none_is_zero();
+    let number = w.number(thread);
+    let instance = w.instance_of(thread);
+    let Some(subtask) = w.subtask_at(instance, handle) else {
+        return Came::Traps(Trap::BadHandle);
+    };
+    if is_watched(w, subtask) {
+        return Came::Traps(Trap::WaitableSyncAndAsync);
+    }
+    if !w.has_ended(subtask) {
+        return Came::Traps(Trap::SubtaskDropNotResolved);
+    }
+    if w.event(subtask).is_some() {
+        return Came::Traps(Trap::SubtaskDropNotResolved);
+    }
+    part(w, thread, handle as u32, subtask);
+    Came::Goes(Label::Call(CallLabel::Drop(number)), number)
+}

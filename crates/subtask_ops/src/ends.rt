@@ -1,0 +1,150 @@
+//! What follows a cancel: the end is answered, or it is waited for.
+ghost use Rattle.std.specs.Prelude.{◌≡◌, ◌+◌, ◌<◌, ◌^◌, None};
+ghost use Rattle.subtask_ops.specs.Refused.{mode_of, refused};
+ghost use Rattle.task_machine.specs.Read.{event_of, position_of, undelivered_end};
+ghost use Rattle.task_machine.specs.Statuses.{status_code};
+ghost use Rattle.task_ops.specs.Came.{Meets};
+ghost use Rattle.task_ops.specs.Running.{IsRunning};
+ghost use Rattle.task_ops.specs.Stays.{StaysAfter};
+ghost use Rattle.task_rules.specs.Cancels.{after_cancel, cancel_ended_row, cancel_label, cancel_stops, cancel_takes_end};
+ghost use Rattle.task_words.specs.Names.{subtask_in};
+ghost use Rattle.task_words.specs.StateView.{StateView, on_core, thread_of};
+
+use crate::returns::answer;
+use task_machine::{CallLabel, Label, Status, ThreadLabel, Trap};
+use task_moves::{check, foot_of, passes_check, stop};
+use task_ops::Came;
+use task_words::{HowFarId, JoinId, PlaceId, SubtaskId, ThreadId, Words};
+
+// What `cancel`, or `cancel_sync`, shows when it is done.
+pub(crate) fn cancel_label(sync: bool, thread: u64, answer: u32) -> Label
+    ensures { result ≡ cancel_label (mode_of sync) thread answer }
+{
+    if sync {
+        Label::Call(CallLabel::CancelSync(answer, thread))
+    } else {
+        Label::Call(CallLabel::Cancel(answer, thread))
+    }
+}
+
+// The end that wasn't handed out.
+pub(crate) fn undelivered_end<W: Words>(w: &W, subtask: SubtaskId) -> Option<Status>
+    ensures { result ≡ undelivered_end (event_of (subtask_in (W.view w.now).tags subtask) (W.view w.now).core) }
+{
+    match w.event(subtask) {
+        Some(Status::Starting | Status::Started) => None,
+        event => event,
+    }
+}
+
+// The undelivered end is taken and answered.
+#[tactic(auto, unfolding(task_rules::specs::Cancels::cancel_takes_end))]
+pub(crate) fn answer_end<W: Words>(
+    w: &mut W,
+    thread: ThreadId,
+    to: u8,
+    sync: bool,
+    subtask: SubtaskId,
+    status: Status,
+) -> Came
+    requires position { position_of (thread_of (W.view w.old) thread) (W.view w.old).core + 1 < 2 ^ 32 }
+    ensures is { result ≡ Came.Goes (cancel_label (mode_of sync) (thread_of (W.view w.old) thread) (status_code status)) (thread_of (W.view w.old) thread) }
+    ensures new { W.view w.new ≡ on_core (cancel_takes_end (thread_of (W.view w.old) thread) to (subtask_in (W.view w.old).tags subtask) status) (W.view w.old) }
+{
+    let number = w.number(thread);
+    w.set_event(subtask, None);
+    answer(w, thread, to, u64::from(status.number()));
+    Came::Goes(cancel_label(sync, number, status.number()), number)
+}
+
+// A cancel of an ended subtask.
+pub(crate) fn cancel_ended<W: Words>(
+    w: &mut W,
+    thread: ThreadId,
+    to: u8,
+    sync: bool,
+    subtask: SubtaskId,
+) -> Came
+    requires position { position_of (thread_of (W.view w.old) thread) (W.view w.old).core + 1 < 2 ^ 32 }
+    ensures meets { Meets (cancel_ended_row (mode_of sync) (thread_of (W.view w.old) thread) to (subtask_in (W.view w.old).tags subtask) (W.view w.old).core (undelivered_end (event_of (subtask_in (W.view w.old).tags subtask) (W.view w.old).core))) (W.view w.old).core result (W.view w.new).core }
+    ensures stays { StaysAfter result (W.view w.old) (W.view w.new) }
+    ensures tags { (W.view w.new).tags ≡ (W.view w.old).tags }
+    ensures current { (W.view w.new).current ≡ (W.view w.old).current }
+{
+    match undelivered_end(w, subtask) {
+        None => Came::Traps(Trap::SubtaskCancelAfterTerminal),
+        Some(status) => answer_end(w, thread, to, sync, subtask, status),
+    }
+}
+
+// The subtask joins the thread's own set, and the thread waits for its end.
+#[tactic(auto, unfolding(task_rules::specs::Cancels::cancel_stops))]
+fn await_end<W: Words>(w: &mut W, thread: ThreadId, subtask: SubtaskId)
+    requires live { 0 < thread_of (W.view w.old) thread }
+    requires running { IsRunning (thread_of (W.view w.old) thread) (W.view w.old).core }
+    ensures { W.view w.new ≡ on_core (cancel_stops (thread_of (W.view w.old) thread) (subtask_in (W.view w.old).tags subtask)) (W.view w.old) }
+{
+    let instance = w.instance_of(thread);
+    w.set_saved_callee(thread, None);
+    w.set_join(subtask, JoinId::Watched(thread));
+    check(w, instance);
+    let foot = foot_of(w, thread);
+    stop(w, foot);
+    w.set_place(thread, PlaceId::Blocked(subtask));
+    w.set_how_far(thread, HowFarId::AwaitsEnd(subtask));
+}
+
+// Why what follows a cancel traps, if it does.
+#[tactic(auto, unfolding(crate::specs::Refused::refused))]
+pub(crate) fn refusal<W: Words>(
+    w: &W,
+    thread: ThreadId,
+    sync: bool,
+    subtask: SubtaskId,
+) -> Option<Trap>
+    ensures { result ≡ refused (mode_of sync) (thread_of (W.view w.now) thread) (subtask_in (W.view w.now).tags subtask) (W.view w.now).core }
+{
+    if w.has_ended(subtask) {
+        match undelivered_end(w, subtask) {
+            Some(_) => None,
+            None => Some(Trap::SubtaskCancelAfterTerminal),
+        }
+    } else if !sync || passes_check(w, w.instance_of(thread)) {
+        None
+    } else {
+        Some(Trap::CannotBlockSyncTask)
+    }
+}
+
+// What follows a cancel that doesn't trap.
+#[tactic(auto, unfolding(crate::specs::Refused::refused))]
+pub(crate) fn finish_cancel<W: Words>(
+    w: &mut W,
+    thread: ThreadId,
+    to: u8,
+    sync: bool,
+    subtask: SubtaskId,
+) -> Came
+    requires live { 0 < thread_of (W.view w.old) thread }
+    requires running { IsRunning (thread_of (W.view w.old) thread) (W.view w.old).core }
+    requires position { position_of (thread_of (W.view w.old) thread) (W.view w.old).core + 1 < 2 ^ 32 }
+    requires may { refused (mode_of sync) (thread_of (W.view w.old) thread) (subtask_in (W.view w.old).tags subtask) (W.view w.old).core ≡ None }
+    ensures meets { Meets (after_cancel (mode_of sync) (thread_of (W.view w.old) thread) to (subtask_in (W.view w.old).tags subtask) (W.view w.old).core) (W.view w.old).core result (W.view w.new).core }
+    ensures goes { (s : StateView) → StaysAfter result s (W.view w.new) }
+    ensures tags { (W.view w.new).tags ≡ (W.view w.old).tags }
+    ensures current { (W.view w.new).current ≡ (W.view w.old).current }
+{
+    let number = w.number(thread);
+    if w.has_ended(subtask) {
+        let Some(status) = undelivered_end(w, subtask) else {
+            unreachable!()
+        };
+        return answer_end(w, thread, to, sync, subtask, status);
+    }
+    if sync {
+        await_end(w, thread, subtask);
+        return Came::Stops(Label::Thread(ThreadLabel::Pauses(number)));
+    }
+    answer(w, thread, to, 4_294_967_295);
+    Came::Goes(cancel_label(sync, number, 4_294_967_295), number)
+}

@@ -1,0 +1,249 @@
+//! Calls of hosts.
+ghost use Rattle.std.specs.Prelude.{◌≡◌, ◌+◌, ◌<◌, ◌^◌, IfOk, None, OnErr, OnOk, false, option_map, true, ℕ};
+ghost use Rattle.subtask_ops.specs.Queued.{GoesOnWith, queued_work};
+ghost use Rattle.task_machine.specs.Maps.{get};
+ghost use Rattle.task_machine.specs.Read.{at_handle_limit, fits, instance_of, new_handle, position_of};
+ghost use Rattle.task_machine.specs.Statuses.{packed};
+ghost use Rattle.task_machine.specs.declared.component.Component.{Component};
+ghost use Rattle.task_machine.specs.declared.records.HowFar.TheVariants as how_fars;
+ghost use Rattle.task_machine.specs.declared.records.Subtask.TheVariants as subtasks;
+ghost use Rattle.task_machine.specs.declared.words.Status.TheVariants as statuses;
+ghost use Rattle.task_ops.specs.Came.{Meets};
+ghost use Rattle.task_ops.specs.Running.{IsRunning};
+ghost use Rattle.task_ops.specs.Stays.{StaysAfter};
+ghost use Rattle.task_rules.specs.Calls.{Later, call_host_polled, call_sync_host_polled, call_sync_host_row, call_sync_host_stops, first_poll, host_answered, host_pending, host_ready, next_work};
+ghost use Rattle.task_words.specs.Apart.{work_entries};
+ghost use Rattle.task_words.specs.StateView.{Keeps, KeepsBut, lost_work, on_core, thread_of, work_of};
+
+use crate::returns::stop_blocked;
+use crate::takes::value_of_work;
+use task_machine::{CallLabel, HostDef, Label, Trap};
+use task_moves::{check, passes_check};
+use task_ops::Came;
+use task_words::{NoMemory, SubtaskId, ThreadId, Words, WorkId};
+
+// The host was ready at its first poll: the value goes to the result's register.
+#[tactic(auto, unfolding(task_rules::specs::Calls::host_ready))]
+fn take_value<W: Words>(w: &mut W, thread: ThreadId, to: u8, register: u8, value: u64)
+    requires position { position_of (thread_of (W.view w.old) thread) (W.view w.old).core + 1 < 2 ^ 32 }
+    requires few { (W.view w.old).core.made.works + 1 < 2 ^ 64 }
+    ensures { W.view w.new ≡ on_core (host_ready (thread_of (W.view w.old) thread) to register value) (W.view w.old) }
+{
+    w.count_work();
+    w.set_register(thread, register, value);
+    w.assign(thread, to, 2);
+}
+
+// The work is made, and the answer is packed of its handle and Started.
+fn queue_work<W: Words>(
+    w: &mut W,
+    thread: ThreadId,
+    to: u8,
+    register: u8,
+    host: HostDef,
+) -> Result<(u32, WorkId), NoMemory>
+    requires live { 0 < thread_of (W.view w.old) thread }
+    requires position { position_of (thread_of (W.view w.old) thread) (W.view w.old).core + 1 < 2 ^ 32 }
+    requires few { (W.view w.old).core.made.works + 1 < 2 ^ 64 }
+    requires room { fits 1 (W.view w.old).core ≡ true }
+    requires limit { at_handle_limit (W.view w.old).core ≡ false }
+    ensures value { IfOk result (λ r. r.0 ≡ packed (new_handle (instance_of (thread_of (W.view w.old) thread) (W.view w.old).core) (W.view w.old).core) statuses.Started) }
+    ensures work { IfOk result (λ r. work_of (W.view w.new) r.1 ≡ next_work (W.view w.old).core) }
+    ensures core { IfOk result (λ r. (W.view w.new).core ≡ host_pending (thread_of (W.view w.old) thread) to register r.0 host (W.view w.old).core) }
+    ensures tags { Keeps (W.view w.old).tags (W.view w.new).tags }
+    ensures current { (W.view w.new).current ≡ (W.view w.old).current }
+    ensures err { OnErr result (W.view w.new ≡ W.view w.old) }
+{
+    let handle = w.new_handle(w.instance_of(thread));
+    let work = w.queue_call(thread, register, host)?;
+    let value = 16 * handle + 1;
+    w.assign(thread, to, u64::from(value));
+    Ok((value, work))
+}
+
+// A `call` whose host pends.
+fn call_pending_host<W: Words>(
+    w: &mut W,
+    thread: ThreadId,
+    to: u8,
+    register: u8,
+    host: HostDef,
+) -> Result<(Came, Option<WorkId>), NoMemory>
+    requires live { 0 < thread_of (W.view w.old) thread }
+    requires position { position_of (thread_of (W.view w.old) thread) (W.view w.old).core + 1 < 2 ^ 32 }
+    requires few { (W.view w.old).core.made.works + 1 < 2 ^ 64 }
+    ensures meets { IfOk result (λ r. Meets (call_host_polled (thread_of (W.view w.old) thread) to register (W.view w.old).core (Later host)) (W.view w.old).core r.0 (W.view w.new).core) }
+    ensures work { IfOk result (λ r. option_map (λ id. work_of (W.view w.new) id) r.1 ≡ queued_work (Later host) r.0 (W.view w.old).core) }
+    ensures course { IfOk result (λ r. GoesOnWith (Later host) r.1 (W.view w.new)) }
+    ensures stays { IfOk result (λ r. StaysAfter r.0 (W.view w.old) (W.view w.new)) }
+    ensures tags { Keeps (W.view w.old).tags (W.view w.new).tags }
+    ensures current { (W.view w.new).current ≡ (W.view w.old).current }
+    ensures err { OnErr result (W.view w.new ≡ W.view w.old) }
+{
+    if !w.fits(1) {
+        return Ok((Came::Traps(Trap::TableFull), None));
+    }
+    if w.at_handle_limit() {
+        return Ok((Came::Traps(Trap::HandleLimit), None));
+    }
+    let number = w.number(thread);
+    let next = w.made().works + 1;
+    let (value, work) = queue_work(w, thread, to, register, host)?;
+    let label = Label::Call(CallLabel::CallPolls(value, number, next));
+    Ok((Came::Goes(label, number), Some(work)))
+}
+
+/// `call R Q H`: the host is polled once. Where it pends, the id of its work is answered, too. Where
+/// memory is wanting, all is as before.
+pub fn call_host<W: Words>(
+    w: &mut W,
+    thread: ThreadId,
+    to: u8,
+    register: u8,
+    host: HostDef,
+) -> Result<(Came, Option<WorkId>), NoMemory>
+    requires live { 0 < thread_of (W.view w.old) thread }
+    requires position { position_of (thread_of (W.view w.old) thread) (W.view w.old).core + 1 < 2 ^ 32 }
+    requires few { (W.view w.old).core.made.works + 1 < 2 ^ 64 }
+    ensures meets { IfOk result (λ r. Meets (call_host_polled (thread_of (W.view w.old) thread) to register (W.view w.old).core (first_poll host)) (W.view w.old).core r.0 (W.view w.new).core) }
+    ensures work { IfOk result (λ r. option_map (λ id. work_of (W.view w.new) id) r.1 ≡ queued_work (first_poll host) r.0 (W.view w.old).core) }
+    ensures course { IfOk result (λ r. GoesOnWith (first_poll host) r.1 (W.view w.new)) }
+    ensures stays { IfOk result (λ r. StaysAfter r.0 (W.view w.old) (W.view w.new)) }
+    ensures tags { Keeps (W.view w.old).tags (W.view w.new).tags }
+    ensures current { (W.view w.new).current ≡ (W.view w.old).current }
+    ensures err { OnErr result (W.view w.new ≡ W.view w.old) }
+{
+    let number = w.number(thread);
+    let next = w.made().works + 1;
+    match (host.polls, host.value) {
+        (Some(0), None) => Ok((Came::Fails(next), None)),
+        (Some(0), Some(value)) => {
+            take_value(w, thread, to, register, value);
+            let label = Label::Call(CallLabel::CallPolls(2, number, next));
+            Ok((Came::Goes(label, number), None))
+        }
+        (polls, value) => {
+            let polls = polls.map(|polls| polls - 1);
+            call_pending_host(w, thread, to, register, HostDef { polls, value })
+        }
+    }
+}
+
+// The host was ready at its first poll: the value is the answer.
+#[tactic(auto, unfolding(task_rules::specs::Calls::host_answered))]
+fn answer_value<W: Words>(w: &mut W, thread: ThreadId, to: u8, value: u64)
+    requires position { position_of (thread_of (W.view w.old) thread) (W.view w.old).core + 1 < 2 ^ 32 }
+    requires few { (W.view w.old).core.made.works + 1 < 2 ^ 64 }
+    ensures { W.view w.new ≡ on_core (host_answered (thread_of (W.view w.old) thread) to value) (W.view w.old) }
+{
+    w.count_work();
+    w.assign(thread, to, value);
+}
+
+// The work is made, and after a check the strand stops and its top is blocked on the work.
+fn stop_on_host<W: Words>(w: &mut W, thread: ThreadId, host: HostDef) -> Result<WorkId, NoMemory>
+    requires live { 0 < thread_of (W.view w.old) thread }
+    requires running { IsRunning (thread_of (W.view w.old) thread) (W.view w.old).core }
+    requires few { (W.view w.old).core.made.works + 1 < 2 ^ 64 }
+    requires room { fits 1 (W.view w.old).core ≡ true }
+    ensures work { IfOk result (λ id. work_of (W.view w.new) id ≡ next_work (W.view w.old).core) }
+    ensures core { OnOk result ((W.view w.new).core ≡ call_sync_host_stops (thread_of (W.view w.old) thread) host (W.view w.old).core) }
+    ensures tags { Keeps (W.view w.old).tags (W.view w.new).tags }
+    ensures current { (W.view w.new).current ≡ (W.view w.old).current }
+    ensures err { OnErr result (W.view w.new ≡ W.view w.old) }
+{
+    let instance = w.instance_of(thread);
+    let work = w.queue_sync_call(thread, host)?;
+    check(w, instance);
+    stop_blocked(w, thread, SubtaskId::Host(work));
+    Ok(work)
+}
+
+// A `call_sync` whose host pends.
+fn call_sync_pending_host<W: Words>(
+    w: &mut W,
+    thread: ThreadId,
+    to: u8,
+    host: HostDef,
+) -> Result<(Came, Option<WorkId>), NoMemory>
+    requires live { 0 < thread_of (W.view w.old) thread }
+    requires running { IsRunning (thread_of (W.view w.old) thread) (W.view w.old).core }
+    requires few { (W.view w.old).core.made.works + 1 < 2 ^ 64 }
+    ensures meets { IfOk result (λ r. Meets (call_sync_host_polled (thread_of (W.view w.old) thread) to (W.view w.old).core (Later host)) (W.view w.old).core r.0 (W.view w.new).core) }
+    ensures work { IfOk result (λ r. option_map (λ id. work_of (W.view w.new) id) r.1 ≡ queued_work (Later host) r.0 (W.view w.old).core) }
+    ensures course { IfOk result (λ r. GoesOnWith (Later host) r.1 (W.view w.new)) }
+    ensures stays { IfOk result (λ r. StaysAfter r.0 (W.view w.old) (W.view w.new)) }
+    ensures tags { Keeps (W.view w.old).tags (W.view w.new).tags }
+    ensures current { (W.view w.new).current ≡ (W.view w.old).current }
+    ensures err { OnErr result (W.view w.new ≡ W.view w.old) }
+{
+    let _to = to;
+    if !w.fits(1) {
+        return Ok((Came::Traps(Trap::TableFull), None));
+    }
+    if !passes_check(w, w.instance_of(thread)) {
+        return Ok((Came::Traps(Trap::CannotBlockSyncTask), None));
+    }
+    let number = w.number(thread);
+    let next = w.made().works + 1;
+    let work = stop_on_host(w, thread, host)?;
+    let label = Label::Call(CallLabel::PausesPolls(number, next));
+    Ok((Came::Stops(label), Some(work)))
+}
+
+/// `call_sync R H`, as it begins: the host is polled once. Where it pends, the id of its work is
+/// answered, too. Where memory is wanting, all is as before.
+pub fn call_sync_host<W: Words>(
+    w: &mut W,
+    thread: ThreadId,
+    to: u8,
+    host: HostDef,
+) -> Result<(Came, Option<WorkId>), NoMemory>
+    requires live { 0 < thread_of (W.view w.old) thread }
+    requires running { IsRunning (thread_of (W.view w.old) thread) (W.view w.old).core }
+    requires position { position_of (thread_of (W.view w.old) thread) (W.view w.old).core + 1 < 2 ^ 32 }
+    requires few { (W.view w.old).core.made.works + 1 < 2 ^ 64 }
+    ensures meets { IfOk result (λ r. Meets (call_sync_host_polled (thread_of (W.view w.old) thread) to (W.view w.old).core (first_poll host)) (W.view w.old).core r.0 (W.view w.new).core) }
+    ensures work { IfOk result (λ r. option_map (λ id. work_of (W.view w.new) id) r.1 ≡ queued_work (first_poll host) r.0 (W.view w.old).core) }
+    ensures course { IfOk result (λ r. GoesOnWith (first_poll host) r.1 (W.view w.new)) }
+    ensures stays { IfOk result (λ r. StaysAfter r.0 (W.view w.old) (W.view w.new)) }
+    ensures tags { Keeps (W.view w.old).tags (W.view w.new).tags }
+    ensures current { (W.view w.new).current ≡ (W.view w.old).current }
+    ensures err { OnErr result (W.view w.new ≡ W.view w.old) }
+{
+    let number = w.number(thread);
+    let next = w.made().works + 1;
+    match (host.polls, host.value) {
+        (Some(0), None) => Ok((Came::Fails(next), None)),
+        (Some(0), Some(value)) => {
+            answer_value(w, thread, to, value);
+            let label = Label::CallSyncPolls(number, value, next);
+            Ok((Came::Goes(label, number), None))
+        }
+        (polls, value) => {
+            let polls = polls.map(|polls| polls - 1);
+            call_sync_pending_host(w, thread, to, HostDef { polls, value })
+        }
+    }
+}
+
+/// `call_sync R H`, once the work that it was blocked on has ended: the work is gone.
+#[tactic(auto, unfolding(task_rules::specs::Calls::work_answered))]
+pub fn go_on_calling_host<W: Words>(w: &mut W, thread: ThreadId, to: u8, work: WorkId) -> Came
+    requires live { 0 < thread_of (W.view w.old) thread }
+    requires work { 0 < work_of (W.view w.old) work }
+    requires unqueued { work_entries (work_of (W.view w.old) work) (W.view w.old).core.queues.high ≡ 0 }
+    requires position { position_of (thread_of (W.view w.old) thread) (W.view w.old).core + 1 < 2 ^ 32 }
+    ensures meets { (c : Component) → (h : ℕ) → Meets (call_sync_host_row c (thread_of (W.view w.old) thread) to h (W.view w.old).core (how_fars.Calls (subtasks.Host (work_of (W.view w.old) work)))) (W.view w.old).core result (W.view w.new).core }
+    ensures stays { StaysAfter result (W.view w.old) (W.view w.new) }
+    ensures tags { KeepsBut (lost_work (work_of (W.view w.old) work)) (W.view w.old).tags (W.view w.new).tags }
+    ensures gone { get (W.view w.new).core.works (work_of (W.view w.old) work) ≡ None }
+    ensures thread { thread_of (W.view w.new) thread ≡ thread_of (W.view w.old) thread }
+    ensures current { (W.view w.new).current ≡ (W.view w.old).current }
+{
+    let number = w.number(thread);
+    let value = value_of_work(w, work).unwrap_or(0);
+    w.delete_work(work);
+    w.assign(thread, to, value);
+    Came::Goes(Label::Call(CallLabel::CallSync(number, value)), number)
+}

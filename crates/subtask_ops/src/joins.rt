@@ -1,0 +1,108 @@
+//! Joining a set.
+ghost use Rattle.std.specs.Prelude.{◌≡◌, ◌+◌, ◌<◌, ◌^◌, IfSome, Option, Some, option_map, true};
+ghost use Rattle.task_machine.specs.Labels.{choice_of, join_label};
+ghost use Rattle.task_machine.specs.Read.{is_watched, join_of, position_of};
+ghost use Rattle.task_moves.specs.Idle.{AreIdleUnqueued};
+ghost use Rattle.task_ops.specs.Came.{Meets};
+ghost use Rattle.task_ops.specs.Running.{IsRunning, SetsThere};
+ghost use Rattle.task_ops.specs.Stays.{StaysAfter};
+ghost use Rattle.task_ops.specs.Steps.{label_of};
+ghost use Rattle.task_rules.specs.Sets.{join_done, join_row, joins, may_wake_new, wakes_joined};
+ghost use Rattle.task_words.specs.Names.{join_in, subtask_in};
+ghost use Rattle.task_words.specs.StateView.{on_core, set_of, thread_of};
+
+use task_machine::{Label, SetLabel, Status, Trap};
+use task_moves::wake;
+use task_ops::{Came, set_named};
+use task_words::{JoinId, SetId, SubtaskId, ThreadId, Words};
+
+// Whether the subtask stands in a thread's own set.
+pub(crate) fn is_watched<W: Words>(w: &W, subtask: SubtaskId) -> bool
+    ensures { result ≡ is_watched (join_of (subtask_in (W.view w.now).tags subtask) (W.view w.now).core) }
+{
+    matches!(w.join(subtask), JoinId::Watched(_))
+}
+
+// A waiter of the new set is woken, where the subtask has an event.
+fn wake_joined<W: Words>(w: &mut W, event: Option<Status>, set: Option<SetId>) -> Option<ThreadId>
+    requires live { IfSome set (λ id. 0 < set_of (W.view w.old) id) }
+    requires idle { AreIdleUnqueued (W.view w.old).core }
+    ensures choice { may_wake_new event (option_map (λ id. set_of (W.view w.old) id) set) (option_map (λ id. thread_of (W.view w.old) id) result) (W.view w.old).core ≡ true }
+    ensures new { W.view w.new ≡ on_core (wakes_joined event (option_map (λ id. set_of (W.view w.old) id) set) (option_map (λ id. thread_of (W.view w.old) id) result)) (W.view w.old) }
+{
+    match (event, set) {
+        (Some(_), Some(set)) => wake(w, set),
+        _ => None,
+    }
+}
+
+// The set as a join, or none.
+fn joins<W: Words>(w: &W, set: Option<SetId>) -> JoinId
+    ensures { join_in (W.view w.now).tags result ≡ joins (option_map (λ id. set_of (W.view w.now) id) set) }
+{
+    let _w = w;
+    match set {
+        None => JoinId::Nowhere,
+        Some(set) => JoinId::Set(set),
+    }
+}
+
+// What a join shows.
+fn join_label(thread: u64, woken: Option<u64>) -> Label
+    ensures { result ≡ join_label thread woken }
+{
+    match woken {
+        None => Label::Set(SetLabel::Join(thread)),
+        Some(woken) => Label::Set(SetLabel::JoinWakes(thread, woken)),
+    }
+}
+
+// The subtask leaves its set and joins the other one, if there is one.
+#[tactic(auto, unfolding(task_rules::specs::Sets::joined))]
+fn join_set<W: Words>(w: &mut W, thread: ThreadId, subtask: SubtaskId, set: Option<SetId>) -> Came
+    requires live { IfSome set (λ id. 0 < set_of (W.view w.old) id) }
+    requires running { IsRunning (thread_of (W.view w.old) thread) (W.view w.old).core }
+    requires position { position_of (thread_of (W.view w.old) thread) (W.view w.old).core + 1 < 2 ^ 32 }
+    ensures meets { Meets (join_done (thread_of (W.view w.old) thread) (subtask_in (W.view w.old).tags subtask) (choice_of (label_of (thread_of (W.view w.old) thread) result)).woken (W.view w.old).core (option_map (λ id. set_of (W.view w.old) id) set)) (W.view w.old).core result (W.view w.new).core }
+    ensures stays { StaysAfter result (W.view w.old) (W.view w.new) }
+    ensures tags { (W.view w.new).tags ≡ (W.view w.old).tags }
+    ensures current { (W.view w.new).current ≡ (W.view w.old).current }
+{
+    if is_watched(w, subtask) {
+        return Came::Traps(Trap::WaitableSyncAndAsync);
+    }
+    let number = w.number(thread);
+    let event = w.event(subtask);
+    let join = joins(w, set);
+    w.set_join(subtask, join);
+    let waiter = wake_joined(w, event, set);
+    w.advance(thread);
+    match waiter {
+        None => Came::Goes(join_label(number, None), number),
+        Some(woken) => Came::Goes(join_label(number, Some(w.number(woken))), number),
+    }
+}
+
+/// `join X Y`
+pub fn join<W: Words>(w: &mut W, thread: ThreadId, handle: u64, set: u64) -> Came
+    requires running { IsRunning (thread_of (W.view w.old) thread) (W.view w.old).core }
+    requires sets { SetsThere (W.view w.old).core }
+    requires position { position_of (thread_of (W.view w.old) thread) (W.view w.old).core + 1 < 2 ^ 32 }
+    ensures meets { Meets (join_row (thread_of (W.view w.old) thread) handle set (choice_of (label_of (thread_of (W.view w.old) thread) result)).woken (W.view w.old).core) (W.view w.old).core result (W.view w.new).core }
+    ensures stays { StaysAfter result (W.view w.old) (W.view w.new) }
+    ensures tags { (W.view w.new).tags ≡ (W.view w.old).tags }
+    ensures current { (W.view w.new).current ≡ (W.view w.old).current }
+{
+    w.none_is_zero();
+    let instance = w.instance_of(thread);
+    let Some(subtask) = w.subtask_at(instance, handle) else {
+        return Came::Traps(Trap::BadHandle);
+    };
+    if set == 0 {
+        return join_set(w, thread, subtask, None);
+    }
+    let Some(set) = set_named(w, instance, set) else {
+        return Came::Traps(Trap::BadHandle);
+    };
+    join_set(w, thread, subtask, Some(set))
+}

@@ -1,0 +1,29 @@
+//! The ops of guests on subtasks over the words of a core: each is its row of the machine. It tests in
+//! the row's order, then makes the moves in the order of the row's new core.
+#![tactic(auto)]
+
+mod aborts;
+mod calls;
+mod cancels;
+mod directs;
+mod drops;
+mod ends;
+mod guests;
+mod hosts;
+mod joins;
+mod operands;
+mod resumes;
+mod returns;
+mod takes;
+mod withdrawals;
+
+pub use calls::begin_call;
+pub use cancels::cancel;
+pub use directs::{answer_call, begin_call_sync, enter};
+pub use drops::drop_subtask;
+pub use hosts::{call_host, call_sync_host, go_on_calling_host};
+pub use joins::join;
+pub use operands::operand_values;
+pub use resumes::{go_on_awaiting, go_on_cancelling};
+pub use returns::{go_on_calling, go_on_calling_sync};
+pub use takes::take_host;

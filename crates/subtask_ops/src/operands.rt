@@ -1,0 +1,21 @@
+//! The words that a call passes.
+ghost use Rattle.std.specs.Prelude.{◌≡◌, ◌≤◌, length, take};
+ghost use Rattle.task_machine.specs.Read.{registers_of};
+ghost use Rattle.task_rules.specs.Scripts.{values_in};
+ghost use Rattle.task_words.specs.StateView.{thread_of};
+
+use task_machine::Operand;
+use task_ops::value_of;
+use task_words::{ThreadId, Words};
+
+/// The values of a call's operands, at most 16, in the first words.
+pub fn operand_values<W: Words>(w: &W, thread: ThreadId, operands: &[Operand]) -> [u64; 16]
+    requires { length operands.now ≤ 16 }
+    ensures { take (length operands.now) result ≡ values_in (registers_of (thread_of (W.view w.now) thread) (W.view w.now).core) operands.now }
+{
+    let mut words = [0; 16];
+    for place in 0..operands.len() {
+        words[place] = value_of(w, thread, operands[place]);
+    }
+    words
+}

@@ -1,0 +1,111 @@
+//! Cancels that go on.
+ghost use Rattle.std.specs.Prelude.{◌≡◌, ◌+◌, ◌<◌, ◌^◌, ℕ};
+ghost use Rattle.subtask_ops.specs.Refused.{mode_of, refused};
+ghost use Rattle.task_machine.specs.Read.{position_of, saved_callee_of};
+ghost use Rattle.task_machine.specs.declared.records.HowFar.TheVariants as how_fars;
+ghost use Rattle.task_ops.specs.Came.{Meets};
+ghost use Rattle.task_ops.specs.Running.{IsRunning};
+ghost use Rattle.task_ops.specs.Stays.{StaysAfter};
+ghost use Rattle.task_rules.specs.Calls.{put_back};
+ghost use Rattle.task_rules.specs.Cancels.{cancel_resumed, cancel_row, subtask_instance};
+ghost use Rattle.task_words.specs.Names.{subtask_in};
+ghost use Rattle.task_words.specs.StateView.{on_core, thread_of};
+
+use crate::ends::{answer_end, finish_cancel, refusal, undelivered_end};
+use task_machine::Trap;
+use task_ops::Came;
+use task_words::{JoinId, SubtaskId, ThreadId, Words};
+
+// The instance of the callee; that of a host call is of no account.
+fn subtask_instance<W: Words>(w: &W, subtask: SubtaskId) -> u32
+    ensures { result ≡ subtask_instance (subtask_in (W.view w.now).tags subtask) (W.view w.now).core }
+{
+    match subtask {
+        SubtaskId::Guest(call) => w.callee(call).instance,
+        SubtaskId::Host(_) => 0,
+    }
+}
+
+// A saved flag is written back.
+pub(crate) fn put_back<W: Words>(w: &mut W, saved: Option<bool>, instance: u32)
+    ensures { W.view w.new ≡ on_core (put_back saved instance) (W.view w.old) }
+{
+    if let Some(flag) = saved {
+        w.set_do_not_suspend(instance, flag);
+    }
+}
+
+// Why what follows would trap, once the saved flag is written back.
+fn refusal_after<W: Words>(
+    w: &mut W,
+    thread: ThreadId,
+    sync: bool,
+    subtask: SubtaskId,
+) -> Option<Trap>
+    ensures is { result ≡ refused (mode_of sync) (thread_of (W.view w.old) thread) (subtask_in (W.view w.old).tags subtask) (put_back (saved_callee_of (thread_of (W.view w.old) thread) (W.view w.old).core) (subtask_instance (subtask_in (W.view w.old).tags subtask) (W.view w.old).core) (W.view w.old).core) }
+    ensures same { W.view w.new ≡ W.view w.old }
+{
+    let instance = subtask_instance(w, subtask);
+    let flag = w.may_not_suspend(instance);
+    let saved = w.saved_callee(thread);
+    put_back(w, saved, instance);
+    let refusal = refusal(w, thread, sync, subtask);
+    w.set_do_not_suspend(instance, flag);
+    refusal
+}
+
+// The saved flag is written back, and the subtask leaves its set.
+#[tactic(auto, unfolding(task_rules::specs::Cancels::cancel_resumed))]
+fn resume_canceller<W: Words>(w: &mut W, thread: ThreadId, subtask: SubtaskId)
+    ensures { W.view w.new ≡ on_core (cancel_resumed (thread_of (W.view w.old) thread) (subtask_in (W.view w.old).tags subtask)) (W.view w.old) }
+{
+    let saved = w.saved_callee(thread);
+    let instance = subtask_instance(w, subtask);
+    put_back(w, saved, instance);
+    w.set_saved_callee(thread, None);
+    w.set_join(subtask, JoinId::Nowhere);
+}
+
+/// `cancel R X`, and `cancel_sync R X`, resumed behind the callee
+pub fn go_on_cancelling<W: Words>(
+    w: &mut W,
+    thread: ThreadId,
+    to: u8,
+    sync: bool,
+    subtask: SubtaskId,
+) -> Came
+    requires live { 0 < thread_of (W.view w.old) thread }
+    requires running { IsRunning (thread_of (W.view w.old) thread) (W.view w.old).core }
+    requires position { position_of (thread_of (W.view w.old) thread) (W.view w.old).core + 1 < 2 ^ 32 }
+    ensures meets { (h : ℕ) → Meets (cancel_row (mode_of sync) (thread_of (W.view w.old) thread) to h (W.view w.old).core (how_fars.Cancels (subtask_in (W.view w.old).tags subtask))) (W.view w.old).core result (W.view w.new).core }
+    ensures stays { StaysAfter result (W.view w.old) (W.view w.new) }
+    ensures tags { (W.view w.new).tags ≡ (W.view w.old).tags }
+    ensures current { (W.view w.new).current ≡ (W.view w.old).current }
+{
+    if let Some(trap) = refusal_after(w, thread, sync, subtask) {
+        return Came::Traps(trap);
+    }
+    resume_canceller(w, thread, subtask);
+    finish_cancel(w, thread, to, sync, subtask)
+}
+
+/// `cancel_sync R X`, resumed once the end was told
+pub fn go_on_awaiting<W: Words>(
+    w: &mut W,
+    thread: ThreadId,
+    to: u8,
+    sync: bool,
+    subtask: SubtaskId,
+) -> Came
+    requires position { position_of (thread_of (W.view w.old) thread) (W.view w.old).core + 1 < 2 ^ 32 }
+    ensures meets { (h : ℕ) → Meets (cancel_row (mode_of sync) (thread_of (W.view w.old) thread) to h (W.view w.old).core (how_fars.AwaitsEnd (subtask_in (W.view w.old).tags subtask))) (W.view w.old).core result (W.view w.new).core }
+    ensures stays { StaysAfter result (W.view w.old) (W.view w.new) }
+    ensures tags { (W.view w.new).tags ≡ (W.view w.old).tags }
+    ensures current { (W.view w.new).current ≡ (W.view w.old).current }
+{
+    let Some(status) = undelivered_end(w, subtask) else {
+        return Came::Traps(Trap::SubtaskCancelAfterTerminal);
+    };
+    w.set_join(subtask, JoinId::Nowhere);
+    answer_end(w, thread, to, sync, subtask, status)
+}

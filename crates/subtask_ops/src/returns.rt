@@ -1,0 +1,215 @@
+//! Calls of exports whose start was queued, as they go on.
+ghost use Rattle.std.specs.Prelude.{◌≡◌, ◌+◌, ◌*◌, ◌<◌, ◌^◌, IfOk, OnErr, false, is_some, true};
+ghost use Rattle.task_machine.specs.Maps.{get};
+ghost use Rattle.task_machine.specs.Moves.{passes_check};
+ghost use Rattle.task_machine.specs.Read.{at_handle_limit, instance_of, new_handle, position_of, result_of};
+ghost use Rattle.task_machine.specs.Statuses.{packed, status_code};
+ghost use Rattle.task_machine.specs.declared.records.Subtask.TheVariants as subtasks;
+ghost use Rattle.task_ops.specs.Came.{Meets};
+ghost use Rattle.task_ops.specs.Running.{IsRunning};
+ghost use Rattle.task_ops.specs.Stays.{StaysAfter};
+ghost use Rattle.task_rules.specs.Calls.{answered, call_answered, call_pending, call_resumes, call_returned, call_status, call_stops, call_sync_status, call_sync_stops, status_found};
+ghost use Rattle.task_words.specs.Names.{subtask_in};
+ghost use Rattle.task_words.specs.StateView.{KeepsBut, call_of, lost_call, on_core, thread_of};
+
+use task_machine::{CallLabel, Label, Status, ThreadLabel, Trap};
+use task_moves::{check, foot_of, passes_check, settle_call, stop};
+use task_ops::Came;
+use task_words::{CallId, HowFarId, NoMemory, PlaceId, SubtaskId, ThreadId, Words};
+
+// The number under which a status is handed out.
+fn status_code(status: Status) -> u32
+    ensures code { result ≡ status_code status }
+    ensures small { result < 16 }
+{
+    match status {
+        Status::Starting => 0,
+        Status::Started => 1,
+        Status::Returned => 2,
+        Status::StartCancelled => 3,
+        Status::ReturnCancelled => 4,
+    }
+}
+
+// The status that the calling thread finds.
+fn status_found<W: Words>(w: &W, call: CallId) -> Status
+    ensures { result ≡ status_found (call_of (W.view w.now) call) (W.view w.now).core }
+{
+    w.event(SubtaskId::Guest(call)).unwrap_or(Status::Starting)
+}
+
+// The calling thread is resumed: the saved flag is written back, and the callee's event is taken.
+#[tactic(auto, unfolding(task_rules::specs::Calls::call_resumes))]
+fn resume<W: Words>(w: &mut W, thread: ThreadId, call: CallId)
+    ensures { W.view w.new ≡ on_core (call_resumes (thread_of (W.view w.old) thread) (call_of (W.view w.old) call)) (W.view w.old) }
+{
+    if let Some(flag) = w.saved_callee(thread) {
+        let instance = w.callee(call).instance;
+        w.set_do_not_suspend(instance, flag);
+    }
+    w.set_event(SubtaskId::Guest(call), None);
+}
+
+// The op is done, and nothing is saved any more.
+#[tactic(auto, unfolding(task_rules::specs::Calls::answered))]
+pub(crate) fn answer<W: Words>(w: &mut W, thread: ThreadId, to: u8, value: u64)
+    requires { position_of (thread_of (W.view w.old) thread) (W.view w.old).core + 1 < 2 ^ 32 }
+    ensures { W.view w.new ≡ on_core (answered (thread_of (W.view w.old) thread) to value) (W.view w.old) }
+{
+    w.set_saved_callee(thread, None);
+    w.assign(thread, to, value);
+}
+
+// The strand stops, and its top is blocked on the subtask of its call.
+#[tactic(auto, unfolding(task_rules::specs::Calls::call_stops))]
+pub(crate) fn stop_blocked<W: Words>(w: &mut W, thread: ThreadId, subtask: SubtaskId)
+    requires live { 0 < thread_of (W.view w.old) thread }
+    requires running { IsRunning (thread_of (W.view w.old) thread) (W.view w.old).core }
+    ensures { W.view w.new ≡ on_core (call_stops (thread_of (W.view w.old) thread) (subtask_in (W.view w.old).tags subtask)) (W.view w.old) }
+{
+    let foot = foot_of(w, thread);
+    stop(w, foot);
+    w.set_place(thread, PlaceId::Blocked(subtask));
+    w.set_how_far(thread, HowFarId::Calls(subtask));
+}
+
+// The callee has returned to a `call`.
+#[tactic(auto, unfolding(task_rules::specs::Calls::call_returned))]
+fn take_return<W: Words>(w: &mut W, thread: ThreadId, to: u8, call: CallId)
+    requires live { 0 < thread_of (W.view w.old) thread }
+    requires call { 0 < call_of (W.view w.old) call }
+    requires position { position_of (thread_of (W.view w.old) thread) (W.view w.old).core + 1 < 2 ^ 32 }
+    ensures core { (W.view w.new).core ≡ call_returned (thread_of (W.view w.old) thread) to (call_of (W.view w.old) call) (W.view w.old).core }
+    ensures current { (W.view w.new).current ≡ (W.view w.old).current }
+    ensures tags { KeepsBut (lost_call (call_of (W.view w.old) call)) (W.view w.old).tags (W.view w.new).tags }
+{
+    resume(w, thread, call);
+    settle_call(w, call);
+    answer(w, thread, to, 2);
+}
+
+// The subtask gets a handle, and the answer is packed of it and the status. Where memory is wanting, all is as before.
+fn pend<W: Words>(
+    w: &mut W,
+    thread: ThreadId,
+    to: u8,
+    call: CallId,
+    status: Status,
+) -> Result<u32, NoMemory>
+    requires position { position_of (thread_of (W.view w.old) thread) (W.view w.old).core + 1 < 2 ^ 32 }
+    requires there { is_some (get (W.view w.old).core.handles (instance_of (thread_of (W.view w.old) thread) (W.view w.old).core)) ≡ true }
+    requires limit { at_handle_limit (W.view w.old).core ≡ false }
+    ensures value { IfOk result (λ v. v ≡ packed (new_handle (instance_of (thread_of (W.view w.old) thread) (W.view w.old).core) (W.view w.old).core) status) }
+    ensures new { IfOk result (λ v. W.view w.new ≡ on_core (call_pending (thread_of (W.view w.old) thread) to (call_of (W.view w.old) call) v) (W.view w.old)) }
+    ensures err { OnErr result (W.view w.new ≡ W.view w.old) }
+{
+    let instance = w.instance_of(thread);
+    let handle = w.name_subtask(instance, SubtaskId::Guest(call))?;
+    let value = 16 * handle + status_code(status);
+    resume(w, thread, call);
+    answer(w, thread, to, u64::from(value));
+    Ok(value)
+}
+
+/// `call R Q F X*`, going on inside the call. Where memory is wanting, all is as before.
+pub fn go_on_calling<W: Words>(
+    w: &mut W,
+    thread: ThreadId,
+    to: u8,
+    call: CallId,
+) -> Result<Came, NoMemory>
+    requires live { 0 < thread_of (W.view w.old) thread }
+    requires call { 0 < call_of (W.view w.old) call }
+    requires position { position_of (thread_of (W.view w.old) thread) (W.view w.old).core + 1 < 2 ^ 32 }
+    requires there { is_some (get (W.view w.old).core.handles (instance_of (thread_of (W.view w.old) thread) (W.view w.old).core)) ≡ true }
+    ensures meets { IfOk result (λ came. Meets (call_status (thread_of (W.view w.old) thread) to (call_of (W.view w.old) call) (W.view w.old).core (status_found (call_of (W.view w.old) call) (W.view w.old).core)) (W.view w.old).core came (W.view w.new).core) }
+    ensures stays { IfOk result (λ came. StaysAfter came (W.view w.old) (W.view w.new)) }
+    ensures tags { KeepsBut (lost_call (call_of (W.view w.old) call)) (W.view w.old).tags (W.view w.new).tags }
+    ensures thread { thread_of (W.view w.new) thread ≡ thread_of (W.view w.old) thread }
+    ensures current { (W.view w.new).current ≡ (W.view w.old).current }
+    ensures err { OnErr result (W.view w.new ≡ W.view w.old) }
+{
+    let number = w.number(thread);
+    let status = status_found(w, call);
+    if matches!(status, Status::Returned) {
+        take_return(w, thread, to, call);
+        return Ok(Came::Goes(Label::Call(CallLabel::Call(2, number)), number));
+    }
+    if w.at_handle_limit() {
+        return Ok(Came::Traps(Trap::HandleLimit));
+    }
+    let value = pend(w, thread, to, call, status)?;
+    Ok(Came::Goes(Label::Call(CallLabel::Call(value, number)), number))
+}
+
+// The callee has returned to a `call_sync`, whose answer is the result.
+#[tactic(auto, unfolding(task_rules::specs::Calls::call_answered))]
+fn take_answer<W: Words>(w: &mut W, thread: ThreadId, to: u8, call: CallId) -> u64
+    requires live { 0 < thread_of (W.view w.old) thread }
+    requires call { 0 < call_of (W.view w.old) call }
+    requires position { position_of (thread_of (W.view w.old) thread) (W.view w.old).core + 1 < 2 ^ 32 }
+    ensures value { result ≡ result_of (call_of (W.view w.old) call) (W.view w.old).core }
+    ensures core { (W.view w.new).core ≡ call_answered (thread_of (W.view w.old) thread) to (call_of (W.view w.old) call) (W.view w.old).core }
+    ensures current { (W.view w.new).current ≡ (W.view w.old).current }
+    ensures tags { KeepsBut (lost_call (call_of (W.view w.old) call)) (W.view w.old).tags (W.view w.new).tags }
+{
+    let value = w.result_of(call);
+    resume(w, thread, call);
+    w.set_result(call, None);
+    settle_call(w, call);
+    answer(w, thread, to, value);
+    value
+}
+
+// A check of the instance passes once the calling thread is resumed.
+fn passes_resumed<W: Words>(w: &mut W, thread: ThreadId, call: CallId, instance: u32) -> bool
+    ensures passes { result ≡ passes_check instance (call_resumes (thread_of (W.view w.old) thread) (call_of (W.view w.old) call) (W.view w.old).core) }
+    ensures same { W.view w.new ≡ W.view w.old }
+{
+    let event = w.event(SubtaskId::Guest(call));
+    let callee = w.callee(call).instance;
+    let flag = w.may_not_suspend(callee);
+    resume(w, thread, call);
+    let passes = passes_check(w, instance);
+    w.set_event(SubtaskId::Guest(call), event);
+    w.set_do_not_suspend(callee, flag);
+    passes
+}
+
+// The strand stops after a check, and its top is blocked on the callee.
+#[tactic(auto, unfolding(task_rules::specs::Calls::call_sync_stops))]
+fn stop_sync<W: Words>(w: &mut W, thread: ThreadId, call: CallId)
+    requires live { 0 < thread_of (W.view w.old) thread }
+    requires running { IsRunning (thread_of (W.view w.old) thread) (W.view w.old).core }
+    ensures { W.view w.new ≡ on_core (call_sync_stops (thread_of (W.view w.old) thread) (call_of (W.view w.old) call)) (W.view w.old) }
+{
+    let instance = w.instance_of(thread);
+    resume(w, thread, call);
+    check(w, instance);
+    stop_blocked(w, thread, SubtaskId::Guest(call));
+}
+
+/// `call_sync R F X*`, going on inside the call.
+pub fn go_on_calling_sync<W: Words>(w: &mut W, thread: ThreadId, to: u8, call: CallId) -> Came
+    requires live { 0 < thread_of (W.view w.old) thread }
+    requires call { 0 < call_of (W.view w.old) call }
+    requires running { IsRunning (thread_of (W.view w.old) thread) (W.view w.old).core }
+    requires position { position_of (thread_of (W.view w.old) thread) (W.view w.old).core + 1 < 2 ^ 32 }
+    ensures meets { Meets (call_sync_status (thread_of (W.view w.old) thread) to (call_of (W.view w.old) call) (W.view w.old).core (status_found (call_of (W.view w.old) call) (W.view w.old).core)) (W.view w.old).core result (W.view w.new).core }
+    ensures stays { StaysAfter result (W.view w.old) (W.view w.new) }
+    ensures tags { KeepsBut (lost_call (call_of (W.view w.old) call)) (W.view w.old).tags (W.view w.new).tags }
+    ensures thread { thread_of (W.view w.new) thread ≡ thread_of (W.view w.old) thread }
+    ensures current { (W.view w.new).current ≡ (W.view w.old).current }
+{
+    let number = w.number(thread);
+    if matches!(status_found(w, call), Status::Returned) {
+        let value = take_answer(w, thread, to, call);
+        return Came::Goes(Label::Call(CallLabel::CallSync(number, value)), number);
+    }
+    let instance = w.instance_of(thread);
+    if !passes_resumed(w, thread, call, instance) {
+        return Came::Traps(Trap::CannotBlockSyncTask);
+    }
+    stop_sync(w, thread, call);
+    Came::Stops(Label::Thread(ThreadLabel::Pauses(number)))
+}
