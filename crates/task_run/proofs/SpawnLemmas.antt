@@ -2,7 +2,7 @@
 use Rattle.std.proofs.Common.{IfNone, IfSome, ap, ap₂, arith, inl, inr, le_refl, refl, subst, sym, ⊎_elim, ◌∙◌}
 use Rattle.std.proofs.lemmas.Bool.Decides.{nat_tests}
 use Rattle.std.specs.Option.{option_map_or}
-use Rattle.std.specs.Prelude.{Err, List, None, Ok, OnOk, IfOk, Option, Result, Some, slice_get, ℕ, ◌<◌, ◌≡◌, ◌≤◌}
+use Rattle.std.specs.Prelude.{[], Err, List, None, Ok, OnOk, IfOk, Option, Result, Some, slice_get, suc, zero, ℕ, ◌+◌, ◌++◌, ◌∷◌, ◌<◌, ◌≡◌, ◌≤◌, ◌⊎◌}
 use Rattle.task_calls.specs.Calls.{Finishes, Starts}
 use Rattle.task_calls.specs.declared.error.TaskError.{TaskError}
 use Rattle.futures.specs.declared.task.Poll.{Poll}
@@ -14,6 +14,10 @@ use Rattle.task_machine.specs.Read.{phase_of}
 use Rattle.task_machine.specs.Write.{on_work, set_phase}
 use Rattle.task_machine.specs.declared.component.Callee.{Callee}
 use Rattle.task_machine.specs.declared.component.Component.{Component}
+use Rattle.task_machine.specs.declared.component.HostDef.{HostDef}
+use Rattle.task_machine.specs.declared.label.Label.{Label}
+use Rattle.task_machine.specs.declared.records.WorkCaller.TheVariants as work_caller
+use Rattle.task_rules.specs.Calls.{next_work, work_queued}
 use Rattle.task_machine.specs.declared.label.MainLabel.TheVariants as main_label
 use Rattle.task_machine.specs.declared.records.Turn.TheVariants as turn
 use Rattle.task_machine.specs.declared.records.Work.{Work}
@@ -87,3 +91,27 @@ start_names c e words s t None (Err why) h id live = h.1.tags.works id live
 pub finish_names : (k : ℕ) (s t : StateView) (r : Poll ℕ) → Finishes k s r t → KeepsWorks s t
 finish_names k s t (Ready v) h id live = ap (λ (u : StateView). work_of u id) h.1
 finish_names k s t Pending h id live = ap (λ (u : StateView). work_of u id) h.1
+
+-- ---- A spawn
+
+made_by_spawn : (h : Spawned) (s t : StateView) (host : HostDef) → h.number ≡ next_work s.core → t.core ≡ work_queued work_caller.Spawn host None s.core → work_of t h.work ≡ h.number → IsMadeIn h t
+unfolding next_work work_queued
+made_by_spawn h s t host number core named = record {
+  some = subst (λ (n : ℕ). 0 < n) (sym number) (omega arith);
+  made = subst (λ (n : ℕ). n ≤ t.core.made.works) (sym number) (subst (λ (u : Core). s.core.made.works + 1 ≤ u.made.works) (sym core) (le_refl _));
+  named = inl named;
+}
+
+one_more : (xs : List Spawned) (h g : Spawned) (k : ℕ) → slice_get (xs ++ h ∷ []) k ≡ Some g → (slice_get xs k ≡ Some g) ⊎ (h ≡ g)
+one_more [] h g zero at = inr (cc)
+one_more [] h g (suc k) at = absurd (cc)
+one_more (x ∷ xs) h g zero at = inl at
+one_more (x ∷ xs) h g (suc k) at = one_more xs h g k at
+
+-- the work that was spawned is known, as the others are
+pub knows_more : (c : Component) (ops : List MainOpDef) (a b : Main) (l : Label) (m n : ScriptMain) (s t : StateView) (h : Spawned) (host : HostDef) → n.spawns.items ≡ m.spawns.items ++ h ∷ [] →
+    h.number ≡ next_work s.core → t.core ≡ work_queued work_caller.Spawn host None s.core → work_of t h.work ≡ h.number → Steps c ops a s.core (step.Did l) b t.core → KeepsWorks s t → KnowsSpawns m s → KnowsSpawns n t
+knows_more c ops a b l m n s t h host grown number core named steps names knows k g at =
+    ⊎_elim (λ old. knows_later m s t (steps_last c ops a b s t (step.Did l) steps names) knows k g old)
+      (λ same. subst (λ (q : Spawned). IsMadeIn q t) same (made_by_spawn h s t host number core named))
+      (one_more m.spawns.items h g k (sym (ap (λ (xs : List Spawned). slice_get xs k) grown) ∙ at))

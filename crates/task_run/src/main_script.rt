@@ -15,7 +15,7 @@ ghost use Rattle.task_run.specs.Spawns.{KnowsSpawns, abort_in, phase_in};
 ghost use Rattle.task_machine.specs.Maps.{get};
 ghost use Rattle.task_ops.specs.Works.{KeepsWorks};
 ghost use Rattle.task_rules.specs.Cancels.{aborted_phase};
-ghost use Rattle.task_words.specs.StateView.{work_of};
+ghost use Rattle.task_words.specs.StateView.{StateView, work_of};
 
 use futures::task::Poll;
 use std::alloc::{AllocError, Global};
@@ -72,6 +72,7 @@ impl<'a> ScriptMain<'a> {
     pub fn new(alloc: Global, ops: &'a [MainOp]) -> Self
         ensures place { place_of result ≡ main_opening }
         ensures ops { result.ops.now ≡ ops.now }
+        ensures knows { (s : StateView) → KnowsSpawns result s }
     {
         ScriptMain {
             alloc,

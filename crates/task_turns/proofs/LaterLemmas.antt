@@ -7,7 +7,7 @@ use Rattle.task_machine.specs.declared.label.Label.{Label}
 use Rattle.task_machine.specs.declared.records.Made.{Made as Count}
 use Rattle.task_machine.specs.declared.records.Turn.{Turn}
 use Rattle.task_machine.specs.declared.records.Work.{Work}
-use Rattle.task_ops.specs.Works.{KeepsWorks}
+use Rattle.task_ops.specs.Works.{KeepsWorks, NamesWorks}
 use Rattle.task_rules.proofs.LawLemmas.{steady}
 use Rattle.task_rules.specs.Laws.{LaterBy, LaterWork}
 use Rattle.task_rules.specs.Stalled.{Setting}
@@ -23,14 +23,17 @@ gone_later None None h e = refl
 gone_later None (Some w) h e = absurd h
 gone_later (Some v) p h e = absurd (cc)
 
-pub last_by_step : (x : Setting) (p q : Turn) (m n : Main) (l : Label) (s t : StateView) → Step x (state_at s.core m p) l (state_at t.core n q) → KeepsWorks s t → WorksLast s t
-last_by_step x p q m n l s t step names =
+pub last_by_names : (x : Setting) (p q : Turn) (m n : Main) (l : Label) (s t : StateView) → Step x (state_at s.core m p) l (state_at t.core n q) → NamesWorks s t → WorksLast s t
+last_by_names x p q m n l s t step names =
     let r = steady x (state_at s.core m p) l (state_at t.core n q) step in
     record {
-      names = λ id live. inl (names id live);
+      names = names;
       made = r.works_made;
       gone = λ i below none. gone_later (get s.core.works i) (get t.core.works i) (r.works i below) none;
     }
+
+pub last_by_step : (x : Setting) (p q : Turn) (m n : Main) (l : Label) (s t : StateView) → Step x (state_at s.core m p) l (state_at t.core n q) → KeepsWorks s t → WorksLast s t
+last_by_step x p q m n l s t step names = last_by_names x p q m n l s t step (λ id live. inl (names id live))
 
 pub last_same : (s t : StateView) → t ≡ s → WorksLast s t
 last_same s t e = record {
