@@ -49,6 +49,7 @@ impl Opening {
     }
 }
 
+#[inline(always)]
 #[tactic(auto, unfolding(crate::specs::State::with_op))]
 fn push_op(callback: bool, ops: &mut Seq<Op>, op: Op) -> Result<(), LineError>
     ensures { Becomes ops.new result (with_op callback ops.old op) }
