@@ -77,6 +77,10 @@ impl MainTask<(), ()> for Relay {
 
     ghost suits = { λ _ c. TakesOne c DOUBLE × TakesOne c NEXT };
 
+    ghost knows = { λ _ _. Unit {0} };
+
+    ghost stays = { λ main before after last known. tt };
+
     fn step(
         &mut self,
         access: &mut Access<'_, (), Whole, ()>,

@@ -1,7 +1,7 @@
 -- The thread that runs, as its ops need it.
 use Rattle.std.specs.Prelude.{Bool, IsSome, None, Option, Some, false, is_some, true, ℕ, ◌<◌, ◌≡◌, ◌||◌}
-use Rattle.subtask_ops.specs.Named.{CallsThere, StartsThere}
-use Rattle.task_laws.specs.Order.{StartsAwaited, WorksQueued}
+use Rattle.subtask_ops.specs.Named.{NamedCallsThere}
+use Rattle.task_laws.specs.Order.{StartsAwaited, StartsThere, WorksQueued}
 use Rattle.task_machine.specs.Core.{Core}
 use Rattle.task_machine.specs.Maps.{get}
 use Rattle.task_machine.specs.Read.{goal_of, how_far_of, instance_of, is_direct, is_explicit, task_of, under_of}
@@ -82,7 +82,7 @@ pub record Runner (id : TableId ThreadKey) (s : StateView) : Type 0 where
   pub members : AllMembersNamed (instance_of (thread_of s id) s.core) s.core
   pub under_way : UnderWay (thread_of s id) s.core
   pub together : WaitersTogether s.core
-  pub calls : CallsThere s.core
+  pub calls : NamedCallsThere s.core
   pub starts : StartsAwaited s.core
   pub waiting : StartsThere s.core
   pub works : WorksQueued s.core

@@ -3,7 +3,7 @@ ghost use Rattle.op_dispatch.specs.Fits.{HasInstances, call_op_fits};
 ghost use Rattle.op_dispatch.specs.Goes.{GoesOn, given};
 ghost use Rattle.op_dispatch.specs.Polls.{Polls};
 ghost use Rattle.op_dispatch.specs.Runner.{Runner, UnderWay, awaits_end, called_call, called_work, given_answer, waits_behind};
-ghost use Rattle.std.specs.Prelude.{◌≡◌, ◌+◌, ◌<◌, ◌≤◌, ◌^◌, IfOk, IfSome, IsSome, is_some, length, option_map, true};
+ghost use Rattle.std.specs.Prelude.{◌≡◌, ◌+◌, ◌<◌, ◌≤◌, ◌^◌, IfOk, IfSome, IsSome, OnOk, is_some, length, option_map, true};
 ghost use Rattle.subtask_ops.specs.Refused.{mode_of};
 ghost use Rattle.task_machine.specs.Labels.{choice_of};
 ghost use Rattle.task_machine.specs.Maps.{get};
@@ -13,6 +13,7 @@ ghost use Rattle.task_machine.specs.declared.op.Op.TheVariants as ops;
 ghost use Rattle.task_ops.specs.Came.{Meets};
 ghost use Rattle.task_ops.specs.Stays.{StaysAfter};
 ghost use Rattle.task_ops.specs.Steps.{label_of};
+ghost use Rattle.task_ops.specs.Works.{KeepsWorks, NamesWorks};
 ghost use Rattle.task_rules.specs.Calls.{call_host_row, call_row, call_sync_host_row, call_sync_row};
 ghost use Rattle.task_rules.specs.Cancels.{cancel_row, subtask_row};
 ghost use Rattle.task_rules.specs.Scripts.{values_in};
@@ -107,6 +108,7 @@ fn call<W: Words>(
     ensures meets { IfOk result (λ came. Meets (call_row component.now (thread_of (W.view w.old) thread) to register callee (values_in (registers_of (thread_of (W.view w.old) thread) (W.view w.old).core) params.now) (W.view w.old).core (how_far_of (thread_of (W.view w.old) thread) (W.view w.old).core)) (W.view w.old).core came (W.view w.new).core) }
     ensures goes { IfOk result (λ came. GoesOn came (W.view w.new)) }
     ensures stays { IfOk result (λ came. StaysAfter came (W.view w.old) (W.view w.new)) }
+    ensures works { OnOk result (KeepsWorks (W.view w.old) (W.view w.new)) }
 {
     if let Some(call) = called(w, thread) {
         return go_on_calling(w, thread, to, call);
@@ -134,6 +136,7 @@ fn call_sync<W: Words>(
     ensures meets { IfOk result (λ came. Meets (call_sync_row component.now (thread_of (W.view w.old) thread) to callee (values_in (registers_of (thread_of (W.view w.old) thread) (W.view w.old).core) params.now) (W.view w.old).core (how_far_of (thread_of (W.view w.old) thread) (W.view w.old).core)) (W.view w.old).core came (W.view w.new).core) }
     ensures goes { IfOk result (λ came. GoesOn came (W.view w.new)) }
     ensures stays { IfOk result (λ came. StaysAfter came (W.view w.old) (W.view w.new)) }
+    ensures works { OnOk result (KeepsWorks (W.view w.old) (W.view w.new)) }
 {
     if let Some(value) = answered(w, thread) {
         return Ok(answer_call(w, thread, to, value));
@@ -162,6 +165,7 @@ fn call_of_host<W: Words>(
     ensures goes { IfOk result (λ done. GoesOn done.came (W.view w.new)) }
     ensures stays { IfOk result (λ done. StaysAfter done.came (W.view w.old) (W.view w.new)) }
     ensures polls { IfOk result (λ done. Polls component.now (how_far_of (thread_of (W.view w.old) thread) (W.view w.old).core) (ops.Call (CallOp.CallHost to register host)) (W.view w.old) done (W.view w.new)) }
+    ensures works { OnOk result (KeepsWorks (W.view w.old) (W.view w.new)) }
 {
     let host = host_def(component, host);
     let (came, work) = call_host(w, thread, to, register, host)?;
@@ -187,6 +191,7 @@ fn call_sync_of_host<W: Words>(
     ensures goes { IfOk result (λ done. GoesOn done.came (W.view w.new)) }
     ensures stays { IfOk result (λ done. StaysAfter done.came (W.view w.old) (W.view w.new)) }
     ensures polls { IfOk result (λ done. Polls component.now (how_far_of (thread_of (W.view w.old) thread) (W.view w.old).core) (ops.Call (CallOp.CallSyncHost to host)) (W.view w.old) done (W.view w.new)) }
+    ensures works { OnOk result (NamesWorks (W.view w.old) (W.view w.new)) }
 {
     if let Some(work) = served(w, thread) {
         return Ok(plain(go_on_calling_host(w, thread, to, work)));
@@ -207,6 +212,7 @@ fn cancels<W: Words>(w: &mut W, thread: ThreadId, to: u8, handle: u64, sync: boo
     ensures meets { Meets (cancel_row (mode_of sync) (thread_of (W.view w.old) thread) to handle (W.view w.old).core (how_far_of (thread_of (W.view w.old) thread) (W.view w.old).core)) (W.view w.old).core result (W.view w.new).core }
     ensures goes { GoesOn result (W.view w.new) }
     ensures stays { StaysAfter result (W.view w.old) (W.view w.new) }
+    ensures works { KeepsWorks (W.view w.old) (W.view w.new) }
 {
     if let Some(subtask) = cancelling(w, thread) {
         return go_on_cancelling(w, thread, to, sync, subtask);
@@ -234,6 +240,7 @@ pub(crate) fn do_call_op<W: Words>(
     ensures goes { IfOk result (λ done. GoesOn done.came (W.view w.new)) }
     ensures stays { IfOk result (λ done. StaysAfter done.came (W.view w.old) (W.view w.new)) }
     ensures polls { IfOk result (λ done. Polls component.now (how_far_of (thread_of (W.view w.old) thread) (W.view w.old).core) (ops.Call op.now) (W.view w.old) done (W.view w.new)) }
+    ensures works { OnOk result (NamesWorks (W.view w.old) (W.view w.new)) }
 {
     match op {
         CallOp::Call {

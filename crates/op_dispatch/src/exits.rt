@@ -4,6 +4,7 @@ ghost use Rattle.task_machine.specs.Labels.{choice_of};
 ghost use Rattle.task_ops.specs.Came.{Meets};
 ghost use Rattle.task_ops.specs.Stays.{StaysAfter};
 ghost use Rattle.task_ops.specs.Steps.{label_of};
+ghost use Rattle.task_ops.specs.Works.{KeepsWorks};
 ghost use Rattle.task_rules.specs.Ends.{exit_row, kind_exit_row};
 ghost use Rattle.task_machine.specs.Read.{kind_of, task_of};
 ghost use Rattle.op_dispatch.specs.Runner.{Runner};
@@ -20,6 +21,7 @@ fn exit_by_kind<W: Words>(w: &mut W, thread: ThreadId) -> Came
     ensures meets { Meets (kind_exit_row (thread_of (W.view w.old) thread) (choice_of (label_of (thread_of (W.view w.old) thread) result)).woken (W.view w.old).core (kind_of (task_of (thread_of (W.view w.old) thread) (W.view w.old).core) (W.view w.old).core)) (W.view w.old).core result (W.view w.new).core }
     ensures goes { GoesOn result (W.view w.new) }
     ensures stays { StaysAfter result (W.view w.old) (W.view w.new) }
+    ensures works { KeepsWorks (W.view w.old) (W.view w.new) }
 {
     match w.kind(w.task_of(thread)) {
         ExportKind::Sync => exit_sync(w, thread),
@@ -38,6 +40,7 @@ pub fn exit<W: Words>(w: &mut W, thread: ThreadId) -> Came
     ensures meets { Meets (exit_row (thread_of (W.view w.old) thread) (choice_of (label_of (thread_of (W.view w.old) thread) result)).woken (W.view w.old).core) (W.view w.old).core result (W.view w.new).core }
     ensures goes { GoesOn result (W.view w.new) }
     ensures stays { StaysAfter result (W.view w.old) (W.view w.new) }
+    ensures works { KeepsWorks (W.view w.old) (W.view w.new) }
 {
     if w.is_explicit(thread) {
         return exit_thread(w, thread);

@@ -1,11 +1,12 @@
 //! The ops on waitable sets.
-ghost use Rattle.std.specs.Prelude.{◌≡◌, ◌+◌, ◌<◌, ◌≤◌, ◌^◌, IfOk, is_some, true};
+ghost use Rattle.std.specs.Prelude.{◌≡◌, ◌+◌, ◌<◌, ◌≤◌, ◌^◌, IfOk, is_some, true, OnOk};
 ghost use Rattle.task_machine.specs.Labels.{choice_of};
 ghost use Rattle.task_machine.specs.Maps.{get};
 ghost use Rattle.task_machine.specs.Read.{how_far_of, instance_of, position_of};
 ghost use Rattle.task_ops.specs.Came.{Meets};
 ghost use Rattle.task_ops.specs.Stays.{StaysAfter};
 ghost use Rattle.task_ops.specs.Steps.{label_of};
+ghost use Rattle.task_ops.specs.Works.{KeepsWorks};
 ghost use Rattle.task_rules.specs.Sets.{set_row, wait_row};
 ghost use Rattle.op_dispatch.specs.Fits.{set_op_fits};
 ghost use Rattle.op_dispatch.specs.Runner.{Runner};
@@ -25,6 +26,7 @@ fn wait<W: Words>(w: &mut W, thread: ThreadId, to: u8, handle: u64) -> Came
     ensures meets { Meets (wait_row (thread_of (W.view w.old) thread) to handle (choice_of (label_of (thread_of (W.view w.old) thread) result)) (W.view w.old).core (how_far_of (thread_of (W.view w.old) thread) (W.view w.old).core)) (W.view w.old).core result (W.view w.new).core }
     ensures tags { (W.view w.new).tags ≡ (W.view w.old).tags }
     ensures current { (W.view w.new).current ≡ (W.view w.old).current }
+    ensures works { KeepsWorks (W.view w.old) (W.view w.new) }
 {
     w.none_is_zero();
     match w.how_far(thread) {
@@ -43,6 +45,7 @@ pub(crate) fn do_set_op<W: Words>(w: &mut W, thread: ThreadId, op: SetOp) -> Res
     ensures meets { IfOk result (λ came. Meets (set_row (thread_of (W.view w.old) thread) (W.view w.old).core (choice_of (label_of (thread_of (W.view w.old) thread) came)) op) (W.view w.old).core came (W.view w.new).core) }
     ensures goes { IfOk result (λ came. GoesOn came (W.view w.new)) }
     ensures stays { IfOk result (λ came. StaysAfter came (W.view w.old) (W.view w.new)) }
+    ensures works { OnOk result (KeepsWorks (W.view w.old) (W.view w.new)) }
 {
     match op {
         SetOp::New { to } => set_new(w, thread, to),

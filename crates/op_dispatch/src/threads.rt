@@ -1,11 +1,12 @@
 //! The ops on the task's own threads.
-ghost use Rattle.std.specs.Prelude.{◌≡◌, ◌+◌, ◌<◌, ◌^◌, IfOk, is_some, true};
+ghost use Rattle.std.specs.Prelude.{◌≡◌, ◌+◌, ◌<◌, ◌^◌, IfOk, is_some, true, OnOk};
 ghost use Rattle.task_machine.specs.Maps.{get};
 ghost use Rattle.task_machine.specs.declared.component.Component.{Component};
 ghost use Rattle.task_machine.specs.Read.{how_far_of, instance_of, position_of};
 ghost use Rattle.task_ops.specs.Came.{Meets};
 ghost use Rattle.task_ops.specs.Halting.{halt_of};
 ghost use Rattle.task_ops.specs.Stays.{StaysAfter};
+ghost use Rattle.task_ops.specs.Works.{KeepsWorks};
 ghost use Rattle.task_rules.specs.Data.{advanced};
 ghost use Rattle.task_rules.specs.Threads.{halt_row, halting, then_promote_row, then_resume_row, thread_row};
 ghost use Rattle.op_dispatch.specs.Runner.{Runner, is_halting, is_resumed};
@@ -32,6 +33,7 @@ fn finish<W: Words>(w: &mut W, thread: ThreadId, label: ThreadLabel) -> Came
     requires { position_of (thread_of (W.view w.old) thread) (W.view w.old).core + 1 < 2 ^ 32 }
     ensures is { result ≡ Came.Goes (Label.Thread label) (thread_of (W.view w.old) thread) }
     ensures new { W.view w.new ≡ on_core (advanced (thread_of (W.view w.old) thread)) (W.view w.old) }
+    ensures works { KeepsWorks (W.view w.old) (W.view w.new) }
 {
     w.advance(thread);
     Came::Goes(Label::Thread(label), w.number(thread))
@@ -44,6 +46,7 @@ fn halts<W: Words>(w: &mut W, thread: ThreadId, yielding: bool, label: ThreadLab
     ensures meets { Meets (halting (thread_of (W.view w.old) thread) (W.view w.old).core label (λ l. halt_row (halt_of yielding) (thread_of (W.view w.old) thread) l (W.view w.old).core)) (W.view w.old).core result (W.view w.new).core }
     ensures tags { (W.view w.new).tags ≡ (W.view w.old).tags }
     ensures current { (W.view w.new).current ≡ (W.view w.old).current }
+    ensures works { KeepsWorks (W.view w.old) (W.view w.new) }
 {
     if is_resumed(w, thread) {
         return finish(w, thread, label);
@@ -64,6 +67,7 @@ fn resumes<W: Words>(
     ensures meets { Meets (halting (thread_of (W.view w.old) thread) (W.view w.old).core label (λ l. then_resume_row (halt_of yielding) (thread_of (W.view w.old) thread) other (W.view w.old).core)) (W.view w.old).core result (W.view w.new).core }
     ensures tags { (W.view w.new).tags ≡ (W.view w.old).tags }
     ensures current { (W.view w.new).current ≡ (W.view w.old).current }
+    ensures works { KeepsWorks (W.view w.old) (W.view w.new) }
 {
     if is_resumed(w, thread) {
         return finish(w, thread, label);
@@ -84,6 +88,7 @@ fn promotes<W: Words>(
     ensures meets { Meets (halting (thread_of (W.view w.old) thread) (W.view w.old).core label (λ l. then_promote_row (halt_of yielding) (thread_of (W.view w.old) thread) other l (W.view w.old).core)) (W.view w.old).core result (W.view w.new).core }
     ensures tags { (W.view w.new).tags ≡ (W.view w.old).tags }
     ensures current { (W.view w.new).current ≡ (W.view w.old).current }
+    ensures works { KeepsWorks (W.view w.old) (W.view w.new) }
 {
     if is_resumed(w, thread) {
         return finish(w, thread, label);
@@ -99,6 +104,7 @@ fn do_halting_op<W: Words>(w: &mut W, thread: ThreadId, op: ThreadOp) -> Came
     ensures meets { (c : Component) → Meets (thread_row c (thread_of (W.view w.old) thread) (W.view w.old).core op) (W.view w.old).core result (W.view w.new).core }
     ensures tags { (W.view w.new).tags ≡ (W.view w.old).tags }
     ensures current { (W.view w.new).current ≡ (W.view w.old).current }
+    ensures works { KeepsWorks (W.view w.old) (W.view w.new) }
 {
     let number = w.number(thread);
     match op {
@@ -156,6 +162,7 @@ pub(crate) fn do_thread_op<W: Words>(
     ensures meets { IfOk result (λ came. Meets (thread_row component.now (thread_of (W.view w.old) thread) (W.view w.old).core op) (W.view w.old).core came (W.view w.new).core) }
     ensures goes { IfOk result (λ came. GoesOn came (W.view w.new)) }
     ensures stays { IfOk result (λ came. StaysAfter came (W.view w.old) (W.view w.new)) }
+    ensures works { OnOk result (KeepsWorks (W.view w.old) (W.view w.new)) }
 {
     match op {
         ThreadOp::New { to, slot, context } => {

@@ -148,6 +148,10 @@ impl<T, H> MainTask<T, H> for Host {
 
     ghost suits = { λ _ _. Unit {0} };
 
+    ghost knows = { λ _ _. Unit {0} };
+
+    ghost stays = { λ main before after last known. tt };
+
     fn step(
         &mut self,
         _access: &mut Access<'_, T, Whole, H>,

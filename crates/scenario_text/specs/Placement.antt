@@ -181,14 +181,16 @@ spawn_opens before = main_has_room before && nat_lt (spawn_count before) 256
 abbrev pub is_spawned : List MainOpText → ℕ → Bool
 is_spawned before k = nat_le 1 k && nat_le k (spawn_count before)
 
--- `abort` and `await` stand in no text yet
+abbrev pub spawn_named : List MainOpText → ℕ → Bool
+spawn_named before k = main_has_room before && is_spawned before k
+
 abbrev pub MainOpStands : List HostText → List InstanceText → List MainOpText → MainOpText → Type 0
 MainOpStands hosts instances before (main.Start f xs) =
     (start_opens before ≡ true) × (params_of instances f ≡ Some (length xs)) × (list_all operand_fits xs ≡ true)
 MainOpStands hosts instances before (main.Finish k r) = (finish_opens before k ≡ true) × (register_fits r ≡ true)
 MainOpStands hosts instances before (main.Spawn h) = (spawn_opens before ≡ true) × (h < length hosts)
-MainOpStands hosts instances before (main.Abort k) = ⊥
-MainOpStands hosts instances before (main.Await k) = ⊥
+MainOpStands hosts instances before (main.Abort k) = spawn_named before k ≡ true
+MainOpStands hosts instances before (main.Await k) = spawn_named before k ≡ true
 MainOpStands hosts instances before main.Quiet = main_has_room before ≡ true
 MainOpStands hosts instances before (main.Ready f) = (main_has_room before ≡ true) × (n : ℕ) × (params_of instances f ≡ Some n)
 

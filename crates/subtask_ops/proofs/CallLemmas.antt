@@ -1,7 +1,7 @@
 -- A call that was made beside the thread that runs, and its start queued.
 use Rattle.std.proofs.Common.{ap, ap₂, arith, le_refl, refl, subst, sym, ◌∙◌}
 use Rattle.std.proofs.lemmas.Bool.Decides.{nat_tests}
-use Rattle.std.specs.Prelude.{Bool, List, None, Option, Some, [], false, is_some, option_map, true, ℕ, ◌+◌, ◌<◌, ◌==◌, ◌≡◌, ◌≤◌}
+use Rattle.std.specs.Prelude.{Bool, List, None, Option, Some, [], false, is_some, option_map, ℕ, ◌+◌, ◌<◌, ◌==◌, ◌≡◌, ◌≤◌}
 use Rattle.task_table.specs.declared.id.TableId.{TableId}
 use Rattle.task_wait.specs.declared.keys.GuestTaskKey.{GuestTaskKey}
 use Rattle.task_wait.specs.declared.keys.ThreadKey.{ThreadKey}
@@ -33,7 +33,7 @@ use Rattle.task_rules.proofs.MoveLemmas.{no_time, one_time}
 use Rattle.task_rules.proofs.StandLemmas.{Loose, by_number, eq_refl}
 use Rattle.task_rules.proofs.StopLemmas.{Untouched}
 use Rattle.task_rules.specs.Calls.{call_clears_flag, call_made, call_queues, new_call, new_thread, next_thread}
-use Rattle.task_rules.specs.Places.{HasPlace, entries, is_at_high, is_at_low, is_at_switch, one_if, says, switch_entries}
+use Rattle.task_rules.specs.Places.{HasPlace, is_at_high, is_at_low, is_at_switch, one_if, says, switch_entries}
 use Rattle.task_rules.specs.Scripts.{registers_for}
 use Rattle.task_words.specs.Apart.{IsBehindNobody, IsSwitchUnqueued, IsUnqueued}
 use Rattle.task_words.specs.StateView.{Keeps, StateView, call_of, on_core, thread_of}

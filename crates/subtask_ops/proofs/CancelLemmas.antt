@@ -21,7 +21,7 @@ use Rattle.task_rules.specs.Progress.{Traps, trap_if}
 use Rattle.task_words.specs.Live.{kept_in, live_subtask}
 use Rattle.subtask_ops.proofs.SteadyLemmas.{Steady, cancelled_steady, phase_steady, steady_after}
 use Rattle.subtask_ops.proofs.SubtaskLemmas.{absent_work}
-use Rattle.subtask_ops.specs.Named.{CallsThere}
+use Rattle.subtask_ops.specs.Named.{NamedCallsThere}
 
 pub aborts_steady : (i : ℕ) (s : Core) → Steady s (cancel_aborts_host i s)
 unfolding cancel_aborts_host
@@ -44,10 +44,10 @@ found_gone mode n r i s gone =
     ∙ (ap (λ (o : Option Work). trap_if (option_map_or (λ (w : Work). w.cancelled) o false) trap.SubtaskCancelAfterTerminal (after_cancel mode n r (subtask.Host i) (cancel_aborts_host i s))) gone
     ∙ (ap (λ (c : Core). after_cancel mode n r (subtask.Host i) c) (aborts_gone i s gone) ∙ after_gone mode n r i s gone))
 
-call_kept : (i h k : ℕ) (s : Core) → CallsThere s → subtask_at i h s ≡ Some (subtask.Guest k) → kept_in s.calls k ≡ k
+call_kept : (i h k : ℕ) (s : Core) → NamedCallsThere s → subtask_at i h s ≡ Some (subtask.Guest k) → kept_in s.calls k ≡ k
 call_kept i h k s there at = ap (λ (b : Bool). if b then k else 0) (there i h k at)
 
-pub cancel_kept : (mode : Mode) (n r i h : ℕ) (s : Core) → get s.works 0 ≡ None → CallsThere s → (sub : Subtask) → subtask_at i h s ≡ Some sub → cancel_found mode n r s sub ≡ cancel_found mode n r s (live_subtask sub s)
+pub cancel_kept : (mode : Mode) (n r i h : ℕ) (s : Core) → get s.works 0 ≡ None → NamedCallsThere s → (sub : Subtask) → subtask_at i h s ≡ Some sub → cancel_found mode n r s sub ≡ cancel_found mode n r s (live_subtask sub s)
 cancel_kept mode n r i h s works there (subtask.Guest k) at = ap (λ (j : ℕ). cancel_found mode n r s (subtask.Guest j)) (sym (call_kept i h k s there at))
 cancel_kept mode n r i h s works there (subtask.Host k) at = go (get s.works k) refl
   where
@@ -56,7 +56,7 @@ cancel_kept mode n r i h s works there (subtask.Host k) at = go (get s.works k) 
     go (Some w) e = refl
 
 -- a call that a handle names is there
-pub named_call : (i h k : ℕ) (q : Subtask) (s : Core) → CallsThere s → q ≡ subtask.Guest k → Some q ≡ option_map (λ sub. live_subtask sub s) (subtask_at i h s) → is_some (get s.calls k) ≡ true
+pub named_call : (i h k : ℕ) (q : Subtask) (s : Core) → NamedCallsThere s → q ≡ subtask.Guest k → Some q ≡ option_map (λ sub. live_subtask sub s) (subtask_at i h s) → is_some (get s.calls k) ≡ true
 named_call i h k q s there is e = go (subtask_at i h s) refl e
   where
     no_both : Some q ≡ None → ⊥

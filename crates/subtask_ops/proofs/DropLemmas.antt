@@ -1,8 +1,8 @@
 -- Drops.
-use Rattle.std.proofs.Common.{T, ap, ap₂, arith, refl, subst, sym, ◌∙◌}
+use Rattle.std.proofs.Common.{T, ap, ap₂, arith, refl, subst, sym, ◌∙◌, inl, inr}
 use Rattle.std.proofs.lemmas.Bool.Decides.{nat_tests}
 use Rattle.std.specs.Option.{option_map_or}
-use Rattle.std.specs.Prelude.{Bool, IsSome, List, None, Option, Some, [], false, if◌then◌else◌, is_some, not, option_and_then, suc, true, zero, ℕ, ◌&&◌, ◌+◌, ◌<◌, ◌∷◌, ◌≡◌}
+use Rattle.std.specs.Prelude.{Bool, IsSome, List, None, Option, Some, [], false, if◌then◌else◌, is_some, not, option_and_then, suc, true, zero, ℕ, ◌&&◌, ◌+◌, ◌<◌, ◌==◌, ◌∷◌, ◌≡◌, ◌⊎◌}
 use Rattle.task_table.specs.declared.id.TableId.{TableId}
 use Rattle.task_wait.specs.declared.keys.ThreadKey.{ThreadKey}
 use Rattle.task_laws.specs.Order.{WorksQueued, is_host_of, is_push_of, stands}
@@ -10,7 +10,7 @@ use Rattle.task_machine.specs.Core.{Core, Queues}
 use Rattle.task_machine.specs.Maps.{Records, get, get-remove, remove, same_map}
 use Rattle.task_machine.specs.Moves.{call_settled, group_settled, is_deletable, is_deletable_call, is_group_done}
 use Rattle.task_machine.specs.Read.{call_group, event_of, has_thread, instance_of, is_stage_ended, is_watched, join_of, position_of, stage_of, subtask_at, subtask_ended}
-use Rattle.task_machine.specs.Write.{free_handle, on_call, on_work, remove_call, remove_group, remove_work, set_join, set_subtask_handle}
+use Rattle.task_machine.specs.Write.{free_handle, on_call, on_work, remove_call, remove_group, remove_work, set_join, set_subtask_handle, on_thread, set_how_far, set_position}
 use Rattle.task_machine.specs.declared.label.CallLabel.TheVariants as call_label
 use Rattle.task_machine.specs.declared.label.Label.TheVariants as label
 use Rattle.task_machine.specs.declared.records.Call.{Call}
@@ -28,15 +28,18 @@ use Rattle.task_ops.specs.Came.{Meets}
 use Rattle.task_ops.specs.declared.came.Came.TheVariants as came
 use Rattle.task_rules.specs.Calls.{settle_group_of, work_deleted, work_group}
 use Rattle.task_rules.specs.Cancels.{drop_found, dropped, subtask_settled}
-use Rattle.task_rules.specs.Data.{advanced}
+use Rattle.task_rules.specs.Data.{advanced, moved_to}
 use Rattle.task_rules.specs.Progress.{Goes, Progress, trap_if}
 use Rattle.task_words.specs.Apart.{work_entries}
 use Rattle.task_words.specs.Live.{live_subtask}
 use Rattle.task_words.specs.Names.{subtask_in}
-use Rattle.task_words.specs.StateView.{KeepsBut, StateView, Tags, on_core, thread_number, thread_of}
+use Rattle.task_words.specs.StateView.{KeepsBut, StateView, Tags, on_core, thread_number, thread_of, work_of}
 use Rattle.task_words.specs.declared.names.SubtaskId.{SubtaskId}
 use Rattle.subtask_ops.proofs.SubtaskLemmas.{Alike, absent_call, absent_work, gone_calls, gone_works}
 use Rattle.subtask_ops.specs.Named.{lost_subtask}
+use Rattle.task_machine.proofs.MapLemmas.{get-remove_same}
+use Rattle.task_wait.specs.declared.keys.HostTaskKey.{HostTaskKey}
+use Rattle.task_rules.proofs.StandLemmas.{by_number, eq_refl}
 
 -- ---- An ended work has no entry
 
@@ -195,6 +198,11 @@ module _ (n : TableId ThreadKey) (id : SubtaskId) (i h : ℕ) (s a b c : StateVi
           let N = thread_of s n in
           subst (λ (p : ℕ). p + 1 < y) (sym (ap (λ (k : ℕ). position_of k d.core) parted_thread ∙ (ap (λ (u : Core). position_of N u) settled ∙ (settled_position N (subtask_in c.tags id) c.core ∙ (ap (λ (v : StateView). position_of N v.core) freed_is ∙ positions_kept N (subtask_in s.tags id) i h s.core))))) small
 
+      pub parted_tags : (e : StateView) → e ≡ on_core (advanced (thread_of d n)) d → KeepsBut (lost_subtask (subtask_in s.tags id)) s.tags e.tags
+      parted_tags e done =
+          subst (λ (g : Tags). KeepsBut (lost_subtask (subtask_in s.tags id)) s.tags g) (sym (ap (λ (v : StateView). v.tags) done))
+          (subst (λ (g : Tags). KeepsBut (lost_subtask (subtask_in g id)) g d.tags) same_tags keeps)
+
       pub parted_core : (e : StateView) → i ≡ instance_of (thread_of s n) s.core → e ≡ on_core (advanced (thread_of d n)) d → e.core ≡ dropped (thread_of s n) h (subtask_in s.tags id) s.core
       unfolding dropped
       parted_core e at done =
@@ -215,3 +223,37 @@ drop_meets n h m q s u number apart ended quiet core =
     ∙ (ap (λ (b : Bool). trap_if (not b) trap.SubtaskDropNotResolved (trap_if (is_some (event_of q s)) trap.SubtaskDropNotResolved done)) ended
     ∙ ap (λ (b : Bool). trap_if b trap.SubtaskDropNotResolved done) quiet) in
     subst (λ (p : Progress). Meets p s (came.Goes (label.Call (call_label.Drop m)) m) u) (sym row) (ap (λ (k : ℕ). came.Goes (label.Call (call_label.Drop k)) k) number, core)
+
+-- ---- What ids of works name after a drop
+
+group_works : (g : ℕ) (s : Core) → (group_settled g s).works ≡ s.works
+unfolding group_settled remove_group
+group_works g s = go (is_group_done g s)
+  where
+    go : (b : Bool) → (if b then remove_group g s else s).works ≡ s.works
+    go true = refl
+    go false = refl
+
+deleted_none : (i : ℕ) (s : Core) → get (work_deleted i s).works i ≡ None
+unfolding work_deleted remove_work
+deleted_none i s = go (work_group i s)
+  where
+    go : (o : Option ℕ) → get (settle_group_of o (remove_work i s)).works i ≡ None
+    go None = get-remove_same s.works i
+    go (Some g) = ap (λ (m : Records Work). get m i) (group_works g (remove_work i s)) ∙ get-remove_same s.works i
+
+dropped_none : (n h i : ℕ) (s : Core) → get (dropped n h (subtask.Host i) s).works i ≡ None
+unfolding dropped advanced moved_to set_how_far set_position on_thread
+dropped_none n h i s = deleted_none i (free_handle (instance_of n s) h (set_subtask_handle (subtask.Host i) None (set_join (subtask.Host i) join.Nowhere s)))
+
+pub dropped_names : (n h : ℕ) (q : Subtask) (s u : StateView) → u.core ≡ dropped n h q s.core → KeepsBut (lost_subtask q) s.tags u.tags → (id : TableId HostTaskKey) → 0 < work_of s id → (work_of u id ≡ work_of s id) ⊎ (get u.core.works (work_of s id) ≡ None)
+dropped_names n h (subtask.Guest k) s u core keeps id live = inl (keeps.works id (λ e. absurd (none (subst (λ j. 0 < j) e live))))
+  where
+    none : ◌<◌ 0 0 → ⊥
+    none h = omega (arith, h)
+dropped_names n h (subtask.Host i) s u core keeps id live = by_number (work_of s id) i ((work_of u id ≡ work_of s id) ⊎ (get u.core.works (work_of s id) ≡ None))
+    (λ e. inr (subst (λ (j : ℕ). get u.core.works j ≡ None) (sym e) (ap (λ (c : Core). get c.works i) core ∙ dropped_none n h i s.core)))
+    (λ d. inl (keeps.works id (λ e. absurd (both (sym d ∙ (ap (λ j. j == i) e ∙ eq_refl i))))))
+  where
+    both : false ≡ true → ⊥
+    both e = cc

@@ -2,11 +2,11 @@
 use Rattle.std.proofs.Common.{T, ap, ap₂, arith, refl, subst, sym, ◌∙◌}
 use Rattle.std.proofs.lemmas.Bool.Decides.{nat_tests}
 use Rattle.std.specs.Option.{option_map_or}
-use Rattle.std.specs.Prelude.{Bool, None, Option, Some, false, if◌then◌else◌, is_some, not, option_and_then, option_map, true, ℕ, ◌+◌, ◌<◌, ◌==◌, ◌≡◌}
+use Rattle.std.specs.Prelude.{Bool, None, Option, Some, false, if◌then◌else◌, is_some, not, option_and_then, option_map, true, ℕ, ◌+◌, ◌<◌, ◌==◌, ◌≡◌, is_none, ◌&&◌}
 use Rattle.task_table.specs.declared.id.TableId.{TableId}
 use Rattle.task_wait.specs.declared.keys.GuestTaskKey.{GuestTaskKey}
 use Rattle.task_wait.specs.declared.keys.ThreadKey.{ThreadKey}
-use Rattle.task_laws.specs.Order.{StartsAwaited}
+use Rattle.task_laws.specs.Order.{StartsAwaited, StartsThere}
 use Rattle.task_machine.specs.Core.{Core}
 use Rattle.task_machine.specs.Maps.{get, get-remove}
 use Rattle.task_machine.specs.Moves.{has_entry, less, less_switch, promoted_unless, put_switch, unqueued, withdrawn}
@@ -39,8 +39,8 @@ use Rattle.task_rules.specs.Places.{HasPlace, entries, is_at_high, is_at_low, is
 use Rattle.task_words.specs.Apart.{IsApart, IsBehindNobody, IsSwitchUnqueued, IsUnqueued}
 use Rattle.task_words.specs.Live.{live_thread}
 use Rattle.task_words.specs.StateView.{KeepsBut, StateView, Tags, call_of, lost_thread, on_core, thread_of, with_core}
-use Rattle.subtask_ops.specs.Named.{StartsThere}
 use Rattle.subtask_ops.proofs.SteadyLemmas.{Steady, asked_steady, still_runs}
+use Rattle.task_machine.specs.declared.records.CallEnd.{CallEnd}
 
 -- ---- The first thread of a call
 
@@ -271,11 +271,11 @@ ended_meets mode n r k s c u ended meets =
 
 -- a call that is there and hasn't begun
 pub unbegun_there : (k : ℕ) (s : Core) → StartsThere s → is_some (get s.calls k) ≡ true → was_started k s ≡ false → end_of k s ≡ None → is_there k s ≡ true
-unbegun_there k s starts there fresh unended = go (get s.calls k) refl there fresh unended
+unbegun_there k s starts there fresh unended = starts k (go (get s.calls k) there fresh unended)
   where
-    go : (o : Option Call) → get s.calls k ≡ o → is_some o ≡ true → option_map_or (λ (c : Call). c.started) o false ≡ false → option_and_then (λ (c : Call). c.«end») o ≡ None → is_there k s ≡ true
-    go None e h a b = absurd (subst T (sym h) tt)
-    go (Some c) e h a b = starts k c e a b
+    go : (o : Option Call) → is_some o ≡ true → option_map_or (λ (c : Call). c.started) o false ≡ false → option_and_then (λ (c : Call). c.«end») o ≡ None → option_map_or (λ (c : Call). not c.started && is_none c.«end») o false ≡ true
+    go None h a b = absurd (subst T (sym h) tt)
+    go (Some c) h a b = ap₂ (λ (x : Bool) (o : Option CallEnd). not x && is_none o) a b
 
 pub unbegun_fresh : (k : ℕ) (s : Core) → StartsAwaited s → is_some (get s.calls k) ≡ true → was_started k s ≡ false → is_fresh (place_of k s) ≡ true
 unbegun_fresh k s starts there fresh = go (get s.calls k) refl there fresh

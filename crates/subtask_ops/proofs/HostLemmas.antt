@@ -14,7 +14,7 @@ use Rattle.task_rules.proofs.PlacingLemmas.{Shifted, placing_shifted, shifted_ma
 use Rattle.task_rules.proofs.WalkMoves.{checked_shifts}
 use Rattle.task_rules.specs.Words.{Stop}
 use Rattle.task_machine.specs.Moves.{checked, first_entry, first_low, group_settled, has_entry, is_group_done, less, promoted, promoted_first, unqueued, why_of}
-use Rattle.task_machine.specs.Read.{course_of, entry_thread, foot_of, first_in, instance_of, is_entry_in, is_entry_of, may_not_suspend, new_handle, position_of, thread_group}
+use Rattle.task_machine.specs.Read.{course_of, entry_thread, foot_of, instance_of, is_entry_in, is_entry_of, may_not_suspend, position_of, thread_group}
 use Rattle.task_machine.specs.Write.{add_work, count_work, give_handle, on_call, on_thread, on_work, push_high, remove_group, remove_work, set_high, set_how_far, set_low, set_place, set_position, set_register, set_subtask_handle, set_switch}
 use Rattle.task_machine.specs.declared.component.HostDef.{HostDef}
 use Rattle.task_machine.specs.declared.records.Entry.{Entry}
@@ -36,8 +36,7 @@ use Rattle.task_rules.proofs.StandLemmas.{entries-append}
 use Rattle.task_rules.proofs.StopLemmas.{Untouched}
 use Rattle.task_rules.specs.Calls.{call_stops, call_sync_host_stops, host_pending, next_work, settle_group_of, with_handle, work_deleted, work_group, work_queued, new_work}
 use Rattle.task_rules.specs.Data.{advanced, assigned, moved_to}
-use Rattle.task_rules.specs.Places.{entries}
-use Rattle.task_words.specs.StateView.{Keeps, KeepsBut, StateView, lost_work, on_core, thread_of, with_core, work_of}
+use Rattle.task_words.specs.StateView.{Keeps, KeepsBut, StateView, lost_work, on_core, thread_of, work_of}
 
 -- ---- An entry that is of no thread, behind the others
 

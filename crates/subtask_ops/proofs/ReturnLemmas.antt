@@ -7,16 +7,15 @@ use Rattle.task_wait.specs.declared.keys.GuestTaskKey.{GuestTaskKey}
 use Rattle.task_wait.specs.declared.keys.ThreadKey.{ThreadKey}
 use Rattle.task_machine.proofs.CommuteLemmas.{change-change_same, insert-present}
 use Rattle.task_machine.proofs.MapLemmas.{change-absent, change-field, insert_is_change}
-use Rattle.task_machine.specs.Core.{Core, Table}
+use Rattle.task_machine.specs.Core.{Core}
 use Rattle.task_machine.specs.Maps.{Records, change, get, insert}
 use Rattle.task_machine.specs.Moves.{call_settled, checked, group_settled, is_deletable, is_group_done}
 use Rattle.task_machine.specs.Read.{call_group, call_instance, event_of, instance_of, may_not_suspend, new_handle, no_callee, position_of, result_of, saved_callee_of}
-use Rattle.task_machine.specs.Write.{give_handle, on_call, on_instance, on_thread, on_work, remove_call, remove_group, set_do_not_suspend, set_event, set_result, set_saved_callee, set_subtask_handle}
+use Rattle.task_machine.specs.Write.{give_handle, on_call, on_instance, remove_call, remove_group, set_do_not_suspend, set_event, set_result, set_saved_callee, set_subtask_handle}
 use Rattle.task_machine.specs.declared.records.Call.{Call}
 use Rattle.task_machine.specs.declared.records.Instance.{Instance}
 use Rattle.task_machine.specs.declared.records.Place.TheVariants as place
 use Rattle.task_machine.specs.declared.records.Subtask.TheVariants as subtask
-use Rattle.task_machine.specs.declared.records.Thread.{Thread}
 use Rattle.task_machine.specs.declared.words.Status.{Status}
 use Rattle.task_moves.proofs.TellLemmas.{map_or_is}
 use Rattle.task_ops.proofs.BesideLemmas.{checked_stand, quiet_stand}

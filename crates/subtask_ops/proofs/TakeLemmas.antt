@@ -1,6 +1,6 @@
 -- The taking of a host call's entry, written.
-use Rattle.std.proofs.Common.{T, ap, ap₂, arith, refl, subst, sym, ◌∙◌}
-use Rattle.std.specs.Prelude.{Bool, None, Option, Some, false, if◌then◌else◌, is_some, option_map, true, ℕ, ◌<◌, ◌≡◌}
+use Rattle.std.proofs.Common.{T, ap, arith, refl, subst, sym, ◌∙◌}
+use Rattle.std.specs.Prelude.{Bool, None, Option, Some, false, if◌then◌else◌, is_some, option_map, true, ℕ, ◌≡◌}
 use Rattle.task_table.specs.declared.id.TableId.{TableId}
 use Rattle.task_wait.specs.declared.keys.HostTaskKey.{HostTaskKey}
 use Rattle.task_wait.specs.declared.keys.ThreadKey.{ThreadKey}
@@ -8,7 +8,7 @@ use Rattle.task_machine.proofs.MapLemmas.{change-absent, change-field}
 use Rattle.task_machine.specs.Core.{Core}
 use Rattle.task_machine.specs.Maps.{get}
 use Rattle.task_machine.specs.Moves.{is_callback_waiter, published, put_high, unblocked, wake, wake_joined, waken_by}
-use Rattle.task_machine.specs.Read.{blocked_on, course_of, course_value, is_blocked_on, is_waiting_on, join_of, place_of, work_caller_of}
+use Rattle.task_machine.specs.Read.{blocked_on, course_of, course_value, join_of, place_of, work_caller_of}
 use Rattle.task_machine.specs.Write.{on_call, on_thread, on_work, push_high, set_event, set_register, set_stage}
 use Rattle.task_machine.specs.declared.records.Delivery.TheVariants as delivery
 use Rattle.task_machine.specs.declared.records.Join.{Join}
@@ -35,9 +35,8 @@ use Rattle.task_rules.specs.Places.{HasPlace, Placed, is_at_high, is_at_low, is_
 use Rattle.task_rules.specs.Takes.{host_done, host_result, host_status}
 use Rattle.task_words.specs.Apart.{IsUnqueued}
 use Rattle.task_words.specs.Live.{kept_in, live_work_caller}
-use Rattle.task_words.specs.Names.{subtask_in, work_caller_in}
+use Rattle.task_words.specs.Names.{work_caller_in}
 use Rattle.task_words.specs.StateView.{StateView, on_core, thread_of, with_core, work_of}
-use Rattle.task_words.specs.declared.names.SubtaskId.TheVariants as subtask_id
 use Rattle.task_words.specs.declared.names.WorkCallerId.{WorkCallerId}
 
 -- ---- Who is there stays

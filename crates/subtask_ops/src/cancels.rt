@@ -1,8 +1,8 @@
 //! Cancelling a subtask.
 ghost use Rattle.std.specs.Prelude.{◌≡◌, ◌+◌, ◌<◌, ◌^◌, ℕ};
-ghost use Rattle.subtask_ops.specs.Named.{CallsThere, StartsThere};
+ghost use Rattle.subtask_ops.specs.Named.{NamedCallsThere};
 ghost use Rattle.subtask_ops.specs.Refused.{mode_of};
-ghost use Rattle.task_laws.specs.Order.{StartsAwaited};
+ghost use Rattle.task_laws.specs.Order.{StartsAwaited, StartsThere};
 ghost use Rattle.task_machine.specs.Read.{is_joined, join_of, position_of};
 ghost use Rattle.task_machine.specs.declared.records.HowFar.TheVariants as how_fars;
 ghost use Rattle.task_machine.specs.declared.records.Subtask.TheVariants as subtasks;
@@ -12,6 +12,7 @@ ghost use Rattle.task_ops.specs.Stays.{StaysAfter};
 ghost use Rattle.task_rules.specs.Cancels.{cancel_found, cancel_row};
 ghost use Rattle.task_words.specs.Names.{subtask_in};
 ghost use Rattle.task_words.specs.StateView.{thread_of};
+ghost use Rattle.task_ops.specs.Works.{KeepsWorks};
 
 use crate::aborts::cancel_host;
 use crate::guests::cancel_guest;
@@ -31,13 +32,14 @@ pub fn cancel<W: Words>(w: &mut W, thread: ThreadId, to: u8, handle: u64, sync: 
     requires live { 0 < thread_of (W.view w.old) thread }
     requires running { IsRunning (thread_of (W.view w.old) thread) (W.view w.old).core }
     requires position { position_of (thread_of (W.view w.old) thread) (W.view w.old).core + 1 < 2 ^ 32 }
-    requires calls { CallsThere (W.view w.old).core }
+    requires calls { NamedCallsThere (W.view w.old).core }
     requires starts { StartsAwaited (W.view w.old).core }
     requires waiting { StartsThere (W.view w.old).core }
     ensures meets { Meets (cancel_row (mode_of sync) (thread_of (W.view w.old) thread) to handle (W.view w.old).core how_fars.Fresh) (W.view w.old).core result (W.view w.new).core }
     ensures stays { StaysAfter result (W.view w.old) (W.view w.new) }
     ensures thread { thread_of (W.view w.new) thread ≡ thread_of (W.view w.old) thread }
     ensures current { (W.view w.new).current ≡ (W.view w.old).current }
+    ensures works { KeepsWorks (W.view w.old) (W.view w.new) }
 {
     w.none_is_zero();
     let instance = w.instance_of(thread);

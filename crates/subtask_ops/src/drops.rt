@@ -10,6 +10,7 @@ ghost use Rattle.task_rules.specs.Cancels.{drop_row, dropped, subtask_settled};
 ghost use Rattle.task_words.specs.Apart.{work_entries};
 ghost use Rattle.task_words.specs.Names.{subtask_in};
 ghost use Rattle.task_words.specs.StateView.{KeepsBut, thread_of, work_of};
+ghost use Rattle.task_ops.specs.Works.{NamesWorks};
 
 use crate::joins::is_watched;
 use task_machine::{CallLabel, Label, Trap};
@@ -55,6 +56,7 @@ fn part<W: Words>(w: &mut W, thread: ThreadId, handle: u32, subtask: SubtaskId)
     ensures core { (W.view w.new).core ≡ dropped (thread_of (W.view w.old) thread) handle (subtask_in (W.view w.old).tags subtask) (W.view w.old).core }
     ensures thread { thread_of (W.view w.new) thread ≡ thread_of (W.view w.old) thread }
     ensures current { (W.view w.new).current ≡ (W.view w.old).current }
+    ensures tags { KeepsBut (lost_subtask (subtask_in (W.view w.old).tags subtask)) (W.view w.old).tags (W.view w.new).tags }
 {
     w.none_is_zero();
     let instance = w.instance_of(thread);
@@ -74,6 +76,7 @@ pub fn drop_subtask<W: Words>(w: &mut W, thread: ThreadId, handle: u64) -> Came
     ensures stays { StaysAfter result (W.view w.old) (W.view w.new) }
     ensures thread { thread_of (W.view w.new) thread ≡ thread_of (W.view w.old) thread }
     ensures current { (W.view w.new).current ≡ (W.view w.old).current }
+    ensures works { NamesWorks (W.view w.old) (W.view w.new) }
 {
     w.none_is_zero();
     let number = w.number(thread);

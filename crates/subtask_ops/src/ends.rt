@@ -6,11 +6,11 @@ ghost use Rattle.task_machine.specs.Statuses.{status_code};
 ghost use Rattle.task_ops.specs.Came.{Meets};
 ghost use Rattle.task_ops.specs.Running.{IsRunning};
 ghost use Rattle.task_ops.specs.Stays.{StaysAfter};
-ghost use Rattle.task_rules.specs.Calls.{answered};
 ghost use Rattle.task_rules.specs.Cancels.{after_cancel, cancel_ended_row, cancel_label, cancel_stops, cancel_takes_end};
 ghost use Rattle.task_words.specs.Names.{subtask_in};
 ghost use Rattle.task_words.specs.StateView.{StateView, on_core, thread_of};
 
+use crate::returns::answer;
 use task_machine::{CallLabel, Label, Status, ThreadLabel, Trap};
 use task_moves::{check, foot_of, passes_check, stop};
 use task_ops::Came;
@@ -25,16 +25,6 @@ pub(crate) fn cancel_label(sync: bool, thread: u64, answer: u32) -> Label
     } else {
         Label::Call(CallLabel::Cancel(answer, thread))
     }
-}
-
-// The op is done, and nothing is saved any more.
-#[tactic(auto, unfolding(task_rules::specs::Calls::answered))]
-pub(crate) fn answer<W: Words>(w: &mut W, thread: ThreadId, to: u8, value: u64)
-    requires position { position_of (thread_of (W.view w.old) thread) (W.view w.old).core + 1 < 2 ^ 32 }
-    ensures { W.view w.new ≡ on_core (answered (thread_of (W.view w.old) thread) to value) (W.view w.old) }
-{
-    w.set_saved_callee(thread, None);
-    w.assign(thread, to, value);
 }
 
 // The end that wasn't handed out.

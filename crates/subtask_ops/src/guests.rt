@@ -1,8 +1,7 @@
 //! The cancel of a guest call.
 ghost use Rattle.std.specs.Prelude.{◌≡◌, ◌+◌, ◌<◌, ◌^◌, false, is_some, true};
-ghost use Rattle.subtask_ops.specs.Named.{StartsThere};
 ghost use Rattle.subtask_ops.specs.Refused.{mode_of};
-ghost use Rattle.task_laws.specs.Order.{StartsAwaited};
+ghost use Rattle.task_laws.specs.Order.{StartsAwaited, StartsThere};
 ghost use Rattle.task_machine.specs.Maps.{get};
 ghost use Rattle.task_machine.specs.Read.{has_ended, is_at, is_callback_yield, place_of, position_of, was_started};
 ghost use Rattle.task_machine.specs.declared.records.Subtask.TheVariants as subtasks;
@@ -12,9 +11,11 @@ ghost use Rattle.task_ops.specs.Stays.{StaysAfter};
 ghost use Rattle.task_rules.specs.Cancels.{after_cancel, behind_switch, cancel_asks, cancel_case, cancel_goes_behind, cancel_guest, cancel_promotes_yield, cancel_wakes_callback, cancel_withdraws, is_callback_wait};
 ghost use Rattle.task_rules.specs.Places.{is_fresh, is_there};
 ghost use Rattle.task_words.specs.Apart.{IsBehindNobody};
-ghost use Rattle.task_words.specs.StateView.{call_of, on_core, thread_of};
+ghost use Rattle.task_words.specs.StateView.{call_of, on_core, thread_of, KeepsBut, lost_thread};
+ghost use Rattle.task_ops.specs.Works.{KeepsWorks};
 
-use crate::ends::{answer, cancel_ended, cancel_label, finish_cancel, refusal};
+use crate::ends::{cancel_ended, cancel_label, finish_cancel, refusal};
+use crate::returns::answer;
 use crate::withdrawals::withdraw;
 use task_machine::{Delivery, Label, OwnEvent, Place, ThreadLabel, Why};
 use task_moves::{foot_of, promote_unless, put_behind, put_switch};
@@ -173,6 +174,7 @@ fn withdraw_start<W: Words>(w: &mut W, thread: ThreadId, to: u8, call: CallId)
     requires named { 0 < call_of (W.view w.old) call }
     requires there { is_there (call_of (W.view w.old) call) (W.view w.old).core ≡ true }
     requires fresh { is_fresh (place_of (call_of (W.view w.old) call) (W.view w.old).core) ≡ true }
+    ensures tags { KeepsBut (lost_thread (call_of (W.view w.old) call)) (W.view w.old).tags (W.view w.new).tags }
     ensures core { (W.view w.new).core ≡ cancel_withdraws (thread_of (W.view w.old) thread) to (call_of (W.view w.old) call) (W.view w.old).core }
     ensures thread { thread_of (W.view w.new) thread ≡ thread_of (W.view w.old) thread }
     ensures current { (W.view w.new).current ≡ (W.view w.old).current }
@@ -201,6 +203,7 @@ pub(crate) fn cancel_guest<W: Words>(
     ensures stays { StaysAfter result (W.view w.old) (W.view w.new) }
     ensures thread { thread_of (W.view w.new) thread ≡ thread_of (W.view w.old) thread }
     ensures current { (W.view w.new).current ≡ (W.view w.old).current }
+    ensures works { KeepsWorks (W.view w.old) (W.view w.new) }
 {
     if w.end_of(call).is_some() {
         return cancel_ended(w, thread, to, sync, SubtaskId::Guest(call));

@@ -52,7 +52,7 @@ fn resume<W: Words>(w: &mut W, thread: ThreadId, call: CallId)
 
 // The op is done, and nothing is saved any more.
 #[tactic(auto, unfolding(task_rules::specs::Calls::answered))]
-fn answer<W: Words>(w: &mut W, thread: ThreadId, to: u8, value: u64)
+pub(crate) fn answer<W: Words>(w: &mut W, thread: ThreadId, to: u8, value: u64)
     requires { position_of (thread_of (W.view w.old) thread) (W.view w.old).core + 1 < 2 ^ 32 }
     ensures { W.view w.new ≡ on_core (answered (thread_of (W.view w.old) thread) to value) (W.view w.old) }
 {

@@ -3,8 +3,10 @@ ghost use Rattle.task_machine.specs.Core.{Main};
 ghost use Rattle.task_machine.specs.declared.component.Component.{Component};
 ghost use Rattle.task_machine.specs.declared.scenario.MainOpDef.{MainOpDef};
 ghost use Rattle.task_turns.specs.Covered.{IsCovered};
+ghost use Rattle.task_turns.specs.Later.{WorksLast};
 ghost use Rattle.task_turns.specs.Main.{Steps};
 ghost use Rattle.task_turns.specs.Turn.{Sits, given, running_of};
+ghost use Rattle.task_words.specs.StateView.{StateView};
 
 use task_calls::TaskError;
 use task_machine::{Component, Turn};
@@ -23,6 +25,9 @@ pub trait MainTask<T, H> {
     // What main needs of the component, as that the exports that a script names are there.
     ghost suits: { Self → Component → Type 0 };
 
+    // What main knows of the store, as that the works that it spawned were made there.
+    ghost knows: { Self → StateView → Type 0 };
+
     /// Takes the next op, in a store in order, of a component that suits main, in which no thread runs and
     /// fewer than 2^61 - 4 numbers were given. The label of an op that is done is lawful, and store and main are as it
     /// leaves them; else they are as before. A run stands on the store as before. It answers no error
@@ -35,13 +40,18 @@ pub trait MainTask<T, H> {
         requires covered { IsCovered component.now }
         requires order { Sits component.now Turn.Main access.old.store.now.state.core }
         requires suits { suits self.old component.now }
+        requires knows { knows self.old access.old.store.now.state }
         requires current { running_of access.old.store.now.state ≡ None }
         requires given { given access.old.store.now.state.core + 4 < 2 ^ 61 }
         ensures same { access.new.store.ghost_name ≡ access.old.store.ghost_name }
         ensures stands { access.new.store.now.running ≡ access.old.store.now.running }
         ensures script { script self.new ≡ script self.old }
         ensures suits { OnOk result (suits self.new component.now) }
+        ensures knows { OnOk result (knows self.new access.new.store.now.state) }
         ensures current { OnOk result (running_of access.new.store.now.state ≡ running_of access.old.store.now.state) }
         ensures ok { IfOk result (λ step. Steps component.now (script self.old) (part self.old) access.old.store.now.state.core step (part self.new) access.new.store.now.state.core) }
         ensures err { IfErr result (λ e. e ≡ TaskError.NoMemory) };
+
+    // That is so whatever steps are made in the meantime.
+    ghost stays: { (m : Self) (s t : StateView) → WorksLast s t → knows m s → knows m t };
 }

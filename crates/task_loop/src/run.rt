@@ -67,11 +67,13 @@ fn ask_main<T, H, M: MainTask<T, H>>(
     requires covered { IsCovered component.now }
     requires order { Sits component.now Turn.Main store.old.state.core }
     requires suits { M.suits main.old component.now }
+    requires knows { M.knows main.old store.old.state }
     requires current { running_of store.old.state ≡ None }
     requires given { given store.old.state.core + 4 < 2 ^ 61 }
     ensures stands { store.new.running ≡ store.old.running }
     ensures script { M.script main.new ≡ M.script main.old }
     ensures suits { OnOk result (M.suits main.new component.now) }
+    ensures knows { OnOk result (M.knows main.new store.new.state) }
     ensures current { OnOk result (running_of store.new.state ≡ running_of store.old.state) }
     ensures ok { IfOk result (λ step. Steps component.now (M.script main.old) (M.part main.old) store.old.state.core step (M.part main.new) store.new.state.core) }
 {
@@ -88,10 +90,12 @@ fn step_main<T, H, M: MainTask<T, H>>(
     requires covered { IsCovered component.now }
     requires at { IsAtTurn component.now Turn.Main store.old.state }
     requires suits { M.suits main.old component.now }
+    requires knows { M.knows main.old store.old.state }
     requires given { given store.old.state.core + 4 < 2 ^ 61 }
     ensures stands { store.new.running ≡ store.old.running }
     ensures script { M.script main.new ≡ M.script main.old }
     ensures suits { OnOk result (M.suits main.new component.now) }
+    ensures knows { OnOk result (M.knows main.new store.new.state) }
     ensures turns { IfOk result (λ made. (trap_on_idle : Bool) → Turns (setting_of component.now (M.script main.old) trap_on_idle) Turn.Main (M.part main.old) store.old.state made (M.part main.new) store.new.state) }
 {
     let Ok(step) = ask_main(component, store, main) else {
@@ -122,6 +126,7 @@ impl RunConcurrent {
         requires covered { IsCovered component.now }
         requires order { Sits component.now self.old.turn store.old.state.core }
         requires suits { M.suits main.old component.now }
+        requires knows { M.knows main.old store.old.state }
         requires given { given store.old.state.core ≤ 2 ^ 60 }
         requires current { running_of store.old.state ≡ runs_in self.old.turn }
         requires unfinished { is_open self.old.turn ≡ true }
@@ -129,6 +134,7 @@ impl RunConcurrent {
         requires pends { PendsIn (setting_of component.now (M.script main.old) self.old.trap_on_idle) store.old.state.core (M.part main.old) self.old.turn }
         ensures script { M.script main.new ≡ M.script main.old }
         ensures suits { OnOk result (M.suits main.new component.now) }
+        ensures knows { OnOk result (M.knows main.new store.new.state) }
         ensures idle { self.new.trap_on_idle ≡ self.old.trap_on_idle }
         ensures stands { store.new.running ≡ store.old.running }
         ensures ok { IfOk result (λ outcome. Drives (setting_of component.now (M.script main.old) self.old.trap_on_idle) (state_at store.old.state.core (M.part main.old) self.old.turn) trace.old (state_at store.new.state.core (M.part main.new) self.new.turn) trace.new steps outcome) }
@@ -161,10 +167,12 @@ impl RunConcurrent {
         requires covered { IsCovered component.now }
         requires at { IsAtTurn component.now self.old.turn store.old.state }
         requires suits { M.suits main.old component.now }
+        requires knows { M.knows main.old store.old.state }
         requires given { given store.old.state.core ≤ 2 ^ 60 }
         requires pends { PendsIn (setting_of component.now (M.script main.old) self.old.trap_on_idle) store.old.state.core (M.part main.old) self.old.turn }
         ensures script { M.script main.new ≡ M.script main.old }
         ensures suits { OnOk result (M.suits main.new component.now) }
+        ensures knows { OnOk result (M.knows main.new store.new.state) }
         ensures idle { self.new.trap_on_idle ≡ self.old.trap_on_idle }
         ensures stands { store.new.running ≡ store.old.running }
         ensures ok { IfOk result (λ outcome. Drove (setting_of component.now (M.script main.old) self.old.trap_on_idle) (state_at store.old.state.core (M.part main.old) self.old.turn) trace.old (given store.old.state.core) self.new.turn (M.part main.new) store.new.state trace.new steps outcome) }
@@ -206,10 +214,12 @@ impl RunConcurrent {
         requires covered { IsCovered component.now }
         requires at { IsAtTurn component.now self.now.turn store.old.state }
         requires suits { M.suits main.old component.now }
+        requires knows { M.knows main.old store.old.state }
         requires given { given store.old.state.core + 4 < 2 ^ 61 }
         requires pends { PendsIn (setting_of component.now (M.script main.old) self.now.trap_on_idle) store.old.state.core (M.part main.old) self.now.turn }
         ensures script { M.script main.new ≡ M.script main.old }
         ensures suits { OnOk result (M.suits main.new component.now) }
+        ensures knows { OnOk result (M.knows main.new store.new.state) }
         ensures stands { store.new.running ≡ store.old.running }
         ensures turned { IfOk result (λ made. Turned (setting_of component.now (M.script main.old) self.now.trap_on_idle) self.now.turn (M.part main.old) store.old.state made (M.part main.new) store.new.state) }
     {

@@ -5,3 +5,4 @@ pub mod LoweredLemmas
 pub mod RunnableLemmas
 pub mod HeadlineLemmas
 pub mod ToolLemmas
+pub mod SpawnLemmas

@@ -39,7 +39,6 @@ use Rattle.task_rules.specs.Scripts.{export_at, script_in, slot_at, slot_script}
 use Rattle.task_run.proofs.LoweredLemmas.{at_lowered, export_params, exported, lowered, params_later, script_known, short, slot_stands}
 use Rattle.task_run.specs.Runnable.{IsRunnable}
 use Rattle.task_run.specs.Script.{SuitsOps}
-use Rattle.task_run.specs.Script as script
 use Rattle.task_scenario.specs.Lower as lower
 use Rattle.task_scenario.specs.Lower.{host_def, instance_def, scenario_of}
 use Rattle.task_scenario.specs.declared.scenario.MainOp.{MainOp}
@@ -198,15 +197,6 @@ module _ (s : ScenarioText) (formed : IsWellFormed s) where
   abbrev Stands : List MainOpText → MainOpText → Type 0
   Stands = MainOpStands s.hosts s.instances
 
-  line_is_built : (before : List MainOpText) (l : MainOpText) → Stands before l → script.is_built (lower.main_op l) ≡ true
-  line_is_built before (text.Start f xs) stands = refl
-  line_is_built before (text.Finish k r) stands = refl
-  line_is_built before (text.Spawn h) stands = refl
-  line_is_built before (text.Abort k) stands = absurd stands
-  line_is_built before (text.Await k) stands = absurd stands
-  line_is_built before text.Quiet stands = refl
-  line_is_built before (text.Ready f) stands = refl
-
   start_line : (l : MainOpText) (f : Func) (xs : List Operand) → lower.main_op l ≡ main_op.Start f xs → (before : List MainOpText) → Stands before l → params_of s.instances (callee_of f) ≡ Some (length xs)
   start_line (text.Start g ys) f xs is before stands =
       let callee : g ≡ callee_of f = same_callee g f (start_func g ys f xs is) in
@@ -238,10 +228,6 @@ module _ (s : ScenarioText) (formed : IsWellFormed s) where
 
   suits : SuitsOps (scenario_of s).main (lowered s)
   suits = record {
-    only = λ i o at. elim (line_or_answer s.main i o at) [
-      | inl l ↦ sym (ap script.is_built l.1.1) ∙ line_is_built (take i s.main) l.0 (line_stands i l.0 l.1.0)
-      | inr answer ↦ ap script.is_built answer
-    ];
     spawns = λ i h at. elim (line_or_answer s.main i (main_op.Spawn h) at) [
       | inl l ↦ host_there h (spawn_line l.0 h l.1.1 (take i s.main) (line_stands i l.0 l.1.0))
       | inr answer ↦ absurd (cc)

@@ -20,9 +20,6 @@ use Rattle.task_machine.specs.declared.trap.Trap.{Trap}
 use Rattle.task_rules.specs.MainOps.{start_act}
 use Rattle.task_calls.specs.Calls.{Starts}
 use Rattle.task_words.specs.StateView.{StateView}
-use Rattle.std.proofs.Common.{false}
-use Rattle.task_scenario.specs.declared.scenario.MainOp.{MainOp}
-use Rattle.task_run.specs.Script.{SuitsOps, is_built}
 use Rattle.task_turns.specs.Main as main
 use Rattle.task_turns.specs.Main.{IsOpOfMain, main_setting}
 use Rattle.task_turns.specs.Turn.{state_at}
@@ -32,6 +29,7 @@ use Rattle.task_machine.specs.declared.records.WorkCaller.TheVariants as work_ca
 use Rattle.task_rules.specs.Calls.{next_work, work_queued}
 use Rattle.task_rules.specs.MainOps.{main_spawned}
 use Rattle.task_rules.specs.Scripts.{host_at, never_host}
+
 
 module _ (c : Component) (ops : List MainOpDef) (p : MainPlace) (s : Core) (o : MainOpDef) (at : op_at ops p ≡ Some o) where
   -- the op is done
@@ -80,10 +78,6 @@ module _ (c : Component) (e : Callee) (words : List ℕ) (s t : StateView) (k : 
       let same : Path (Result ℕ TaskError) (Err (task_error.Trap why)) (Err (task_error.Trap other)) = starts.0 in
       let equal : other ≡ why = cc in
       ap₂ (λ w new. Does (main_label.StartRefused w k) new) equal (sym starts.1.core)
-
--- no other op stands in such a script
-pub no_other_op : (ops : List MainOp) (c : Component) → SuitsOps ops c → (i : ℕ) (o : MainOp) → slice_get ops i ≡ Some o → is_built o ≡ false → ⊥
-no_other_op ops c suits i o at not = let only : is_built o ≡ true = suits.only i o at in cc
 
 -- ---- A spawn
 

@@ -1,6 +1,6 @@
-ghost use Rattle.std.specs.Prelude.{◌≡◌, ◌+◌, ◌<◌, ◌^◌, ◌-◌, ◌++◌, ◌∷◌, [], length, option_copied, IfOk, IfErr, IfSome, IsSome, None, OnOk, OnErr, Some, slice_get, slice_set};
+ghost use Rattle.std.specs.Prelude.{◌≡◌, ◌+◌, ◌<◌, ◌^◌, ◌-◌, ◌++◌, ◌∷◌, [], length, option_copied, IfOk, IfErr, IfNone, IfSome, IsSome, None, OnOk, OnErr, Some, slice_get, slice_set};
 ghost use Rattle.task_machine.specs.declared.component.ExportDef.{ExportDef};
-ghost use Rattle.task_rules.specs.MainOps.{is_ready_for_call, started_at};
+ghost use Rattle.task_rules.specs.MainOps.{is_complete, is_ready_for_call, spawned_at, started_at};
 ghost use Rattle.task_rules.specs.Run.{main_opening};
 ghost use Rattle.task_rules.specs.Scripts.{export_at, values_in};
 ghost use Rattle.state_calls.specs.declared.error.TaskError.TheVariants as task_error;
@@ -9,23 +9,35 @@ ghost use Rattle.task_loop.specs.Calls.{callee_of};
 ghost use Rattle.task_turns.specs.Covered.{IsCovered};
 ghost use Rattle.task_turns.specs.Main.{Steps};
 ghost use Rattle.task_turns.specs.Turn.{Sits, given, running_of};
+ghost use Rattle.task_run.specs.Knows.{knows_later};
 ghost use Rattle.task_run.specs.Script.{Suits, part_of, place_of, script_of, started};
-ghost use Rattle.task_words.specs.StateView.{Keeps};
+ghost use Rattle.task_run.specs.Spawns.{KnowsSpawns, abort_in, phase_in};
+ghost use Rattle.task_machine.specs.Maps.{get};
+ghost use Rattle.task_ops.specs.Works.{KeepsWorks};
+ghost use Rattle.task_rules.specs.Cancels.{aborted_phase};
+ghost use Rattle.task_words.specs.StateView.{StateView, work_of};
 
 use futures::task::Poll;
 use std::alloc::{AllocError, Global};
 use task_calls::finish_call as take_result;
 use task_loop::{Func, MainStep, MainTask, TaskError, operand_value};
-use task_machine::{Component, HostDef, Label, MainLabel, Operand, Trap, Turn};
+use task_machine::{Component, HostDef, Label, MainLabel, Operand, Phase, Trap, Turn};
 use task_scenario::MainOp;
 use task_store::{Access, Whole};
-use task_words::{InstanceWords, ResultWords, WorkWords};
+use task_words::{InstanceWords, ResultWords, View, WorkId, WorkWords};
 
 // A start by main: the number of its call, or why it was refused.
 #[derive(Clone, Copy)]
 pub enum Start {
     Called(u64),
     Refused(Trap),
+}
+
+// A work that was spawned: its id, and the number by which labels name it.
+#[derive(Clone, Copy)]
+pub struct Spawned {
+    work: WorkId,
+    number: u64,
 }
 
 /// Main as a script: it takes its ops one by one.
@@ -36,8 +48,8 @@ pub struct ScriptMain<'a> {
     at: usize,
     registers: [u64; 16],
     starts: Vec<Start>,
-    // The numbers of the works that it spawned.
-    spawns: Vec<u64>,
+    // The works that it spawned.
+    spawns: Vec<Spawned>,
 }
 
 // The values of these operands.
@@ -60,6 +72,7 @@ impl<'a> ScriptMain<'a> {
     pub fn new(alloc: Global, ops: &'a [MainOp]) -> Self
         ensures place { place_of result ≡ main_opening }
         ensures ops { result.ops.now ≡ ops.now }
+        ensures knows { (s : StateView) → KnowsSpawns result s }
     {
         ScriptMain {
             alloc,
@@ -112,7 +125,7 @@ impl<'a> ScriptMain<'a> {
     }
 
     // The op is done, and spawned this work.
-    fn keep_spawn(&mut self, work: u64) -> Result<(), AllocError>
+    fn keep_spawn(&mut self, work: Spawned) -> Result<(), AllocError>
         requires { self.old.at < length self.old.ops.now }
         ensures ops { self.new.ops ≡ self.old.ops }
         ensures registers { self.new.registers ≡ self.old.registers }
@@ -136,6 +149,13 @@ impl<'a> ScriptMain<'a> {
             Some(Start::Refused(why)) => Err(*why),
             None => Ok(0),
         }
+    }
+
+    // The work of a spawn, if the spawn is there.
+    fn spawned(&self, spawn: u32) -> Option<Spawned>
+        ensures { result ≡ slice_get self.now.spawns.items (spawn - 1) }
+    {
+        self.spawns.get((spawn as usize).saturating_sub(1)).copied()
     }
 
     // The value of a register.
@@ -167,7 +187,9 @@ fn make_start<T, H>(
     ensures same { access.new.store.ghost_name ≡ access.old.store.ghost_name }
     ensures stands { access.new.store.now.running ≡ access.old.store.now.running }
     ensures ops { main.new.ops ≡ main.old.ops }
+    ensures spawns { main.new.spawns ≡ main.old.spawns }
     ensures current { OnOk result (running_of access.new.store.now.state ≡ running_of access.old.store.now.state) }
+    ensures names { KeepsWorks access.old.store.now.state access.new.store.now.state }
     ensures ok { IfOk result (λ step. Steps component.now (script_of main.old) (part_of main.old) access.old.store.now.state.core step (part_of main.new) access.new.store.now.state.core) }
     ensures err { IfErr result (λ e. e ≡ task_error.NoMemory) }
 {
@@ -203,7 +225,9 @@ fn finish_call<T, H>(
     ensures same { access.new.store.ghost_name ≡ access.old.store.ghost_name }
     ensures stands { access.new.store.now.running ≡ access.old.store.now.running }
     ensures ops { main.new.ops ≡ main.old.ops }
+    ensures spawns { main.new.spawns ≡ main.old.spawns }
     ensures current { OnOk result (running_of access.new.store.now.state ≡ running_of access.old.store.now.state) }
+    ensures names { KeepsWorks access.old.store.now.state access.new.store.now.state }
     ensures ok { IfOk result (λ step. Steps component.now (script_of main.old) (part_of main.old) access.old.store.now.state.core step (part_of main.new) access.new.store.now.state.core) }
     ensures err { IfErr result (λ e. e ≡ task_error.NoMemory) }
 {
@@ -241,13 +265,14 @@ fn spawn_work<T, H>(
     host: u32,
 ) -> Result<MainStep, TaskError>
     requires given { given access.old.store.now.state.core + 4 < 2 ^ 61 }
+    requires knows { KnowsSpawns main.old access.old.store.now.state }
     requires op { slice_get main.old.ops.now main.old.at ≡ Some (main_op.Spawn host) }
     requires there { IsSome (slice_get component.now.hosts host) }
     ensures same { access.new.store.ghost_name ≡ access.old.store.ghost_name }
     ensures stands { access.new.store.now.running ≡ access.old.store.now.running }
     ensures ops { main.new.ops ≡ main.old.ops }
     ensures current { OnOk result (access.new.store.now.state.current ≡ access.old.store.now.state.current) }
-    ensures tags { Keeps access.old.store.now.state.tags access.new.store.now.state.tags }
+    ensures knows { OnOk result (KnowsSpawns main.new access.new.store.now.state) }
     ensures ok { IfOk result (λ step. Steps component.now (script_of main.old) (part_of main.old) access.old.store.now.state.core step (part_of main.new) access.new.store.now.state.core) }
     ensures err { IfErr result (λ e. e ≡ task_error.NoMemory) }
 {
@@ -261,8 +286,115 @@ fn spawn_work<T, H>(
         return Err(TaskError::NoMemory);
     };
     let future = access.store.state.work_number(work);
-    main.keep_spawn(future)?;
+    main.keep_spawn(Spawned {
+        work,
+        number: future,
+    })?;
     Ok(MainStep::Did(Label::Main(MainLabel::Spawn(number, future))))
+}
+
+// The id of a spawn's work, if the spawn and its work are there.
+fn work_of<T, H>(
+    main: &ScriptMain<'_>,
+    access: &Access<'_, T, Whole, H>,
+    spawn: u32,
+) -> Option<WorkId>
+    requires { KnowsSpawns main.now access.now.store.now.state }
+    ensures some { IfSome result (λ id. work_of access.now.store.now.state id ≡ spawned_at (place_of main.now) spawn) }
+    ensures none { IfNone result (get access.now.store.now.state.core.works (spawned_at (place_of main.now) spawn) ≡ None) }
+{
+    access.store.state.none_is_zero();
+    let spawned = main.spawned(spawn)?;
+    if access.store.state.work_number(spawned.work) == spawned.number {
+        Some(spawned.work)
+    } else {
+        None
+    }
+}
+
+// The phase after an abort.
+fn after_abort(phase: Phase) -> Phase
+    ensures { result ≡ aborted_phase phase }
+{
+    match phase {
+        Phase::Running => Phase::AbortRequested,
+        phase => phase,
+    }
+}
+
+// The phase of the work, which an abort is asked for; it is complete where the work isn't there.
+fn abort<T, H>(access: &mut Access<'_, T, Whole, H>, work: Option<WorkId>) -> Phase
+    ensures same { access.new.store.ghost_name ≡ access.old.store.ghost_name }
+    ensures stands { access.new.store.now.running ≡ access.old.store.now.running }
+    ensures phase { result ≡ phase_in access.old.store.now.state work }
+    ensures state { access.new.store.now.state ≡ abort_in access.old.store.now.state work }
+{
+    let Some(work) = work else {
+        return Phase::Complete;
+    };
+    let phase = access.store.state.phase(work);
+    access.store.state.set_phase(work, after_abort(phase));
+    phase
+}
+
+// Main aborts the work of a spawn.
+#[tactic(auto, using(std::proofs::lemmas::Option::slice_get_within))]
+fn abort_work<T, H>(
+    main: &mut ScriptMain<'_>,
+    access: &mut Access<'_, T, Whole, H>,
+    component: &Component,
+    spawn: u32,
+) -> MainStep
+    requires op { slice_get main.old.ops.now main.old.at ≡ Some (main_op.Abort spawn) }
+    requires knows { KnowsSpawns main.old access.old.store.now.state }
+    ensures same { access.new.store.ghost_name ≡ access.old.store.ghost_name }
+    ensures stands { access.new.store.now.running ≡ access.old.store.now.running }
+    ensures ops { main.new.ops ≡ main.old.ops }
+    ensures spawns { main.new.spawns ≡ main.old.spawns }
+    ensures current { running_of access.new.store.now.state ≡ running_of access.old.store.now.state }
+    ensures names { KeepsWorks access.old.store.now.state access.new.store.now.state }
+    ensures ok { Steps component.now (script_of main.old) (part_of main.old) access.old.store.now.state.core result (part_of main.new) access.new.store.now.state.core }
+{
+    let _component = component;
+    let at = main.next_place();
+    let work = work_of(main, access, spawn);
+    let phase = abort(access, work);
+    main.at = at;
+    MainStep::Did(Label::Main(MainLabel::Abort(phase, spawn)))
+}
+
+// Whether the work has ended, or isn't there.
+fn is_complete<T, H>(access: &Access<'_, T, Whole, H>, work: Option<WorkId>) -> bool
+    ensures { result ≡ is_complete (phase_in access.now.store.now.state work) }
+{
+    let Some(work) = work else {
+        return true;
+    };
+    matches!(access.store.state.phase(work), Phase::Complete)
+}
+
+// Main waits until the work of a spawn has ended.
+#[tactic(auto, using(std::proofs::lemmas::Option::slice_get_within))]
+fn await_work<T, H>(
+    main: &mut ScriptMain<'_>,
+    access: &Access<'_, T, Whole, H>,
+    component: &Component,
+    spawn: u32,
+) -> MainStep
+    requires op { slice_get main.old.ops.now main.old.at ≡ Some (main_op.Await spawn) }
+    requires knows { KnowsSpawns main.old access.now.store.now.state }
+    ensures ops { main.new.ops ≡ main.old.ops }
+    ensures spawns { main.new.spawns ≡ main.old.spawns }
+    ensures ok { Steps component.now (script_of main.old) (part_of main.old) access.now.store.now.state.core result (part_of main.new) access.now.store.now.state.core }
+{
+    let _component = component;
+    let at = main.next_place();
+    let work = work_of(main, access, spawn);
+    if !is_complete(access, work) {
+        return MainStep::Pends;
+    }
+    main.at = at;
+    MainStep::Did(Label::Main(MainLabel::Await(spawn)))
 }
 
 // Main waits until no task is interesting.
@@ -274,6 +406,7 @@ fn await_quiet<T, H>(
 ) -> MainStep
     requires op { slice_get main.old.ops.now main.old.at ≡ Some main_op.Quiet }
     ensures ops { main.new.ops ≡ main.old.ops }
+    ensures spawns { main.new.spawns ≡ main.old.spawns }
     ensures ok { Steps component.now (script_of main.old) (part_of main.old) access.now.store.now.state.core result (part_of main.new) access.now.store.now.state.core }
 {
     let _component = component;
@@ -303,6 +436,7 @@ fn await_ready<T, H>(
 ) -> MainStep
     requires op { slice_get main.old.ops.now main.old.at ≡ Some (main_op.Ready func) }
     ensures ops { main.new.ops ≡ main.old.ops }
+    ensures spawns { main.new.spawns ≡ main.old.spawns }
     ensures ok { Steps component.now (script_of main.old) (part_of main.old) access.now.store.now.state.core result (part_of main.new) access.now.store.now.state.core }
 {
     let _component = component;
@@ -328,6 +462,10 @@ impl<T, H> MainTask<T, H> for ScriptMain<'_> {
 
     ghost suits = { Suits };
 
+    ghost knows = { KnowsSpawns };
+
+    ghost stays = { knows_later };
+
     fn step(
         &mut self,
         access: &mut Access<'_, T, Whole, H>,
@@ -345,9 +483,8 @@ impl<T, H> MainTask<T, H> for ScriptMain<'_> {
             Some(MainOp::Spawn(host)) => spawn_work(self, access, component, *host),
             Some(MainOp::Quiet) => Ok(await_quiet(self, access, component)),
             Some(MainOp::Ready(func)) => Ok(await_ready(self, access, component, *func)),
-            // Such a script has no other ops.
-            Some(MainOp::Abort(_)) => unreachable!(),
-            Some(MainOp::Await(_)) => unreachable!(),
+            Some(MainOp::Abort(spawn)) => Ok(abort_work(self, access, component, *spawn)),
+            Some(MainOp::Await(spawn)) => Ok(await_work(self, access, component, *spawn)),
             None => Ok(MainStep::Pends),
         }
     }

@@ -35,7 +35,7 @@ word-context i w n p rs s = refl
 
 pub beside_word : (i w v : ℕ) (s t : StateView) → t ≡ on_core (set_word i w v) s → KeepsBeside s t
 unfolding set_word on_instance
-beside_word i w v s t e = subst (KeepsBeside s) (sym e) (record { threads = refl; calls = refl; made = refl; tags = refl; current = refl })
+beside_word i w v s t e = subst (KeepsBeside s) (sym e) (record { threads = refl; calls = refl; works = refl; made = refl; tags = refl; current = refl })
 
 word_beside : (n p : ℕ) (rs : List ℕ) (i w v : ℕ) (s : Core) → set_word i w v (with_context n p rs s) ≡ with_context n p rs (set_word i w v s)
 unfolding with_context on_thread set_word on_instance

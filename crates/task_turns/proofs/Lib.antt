@@ -14,3 +14,4 @@ pub mod MainLemmas
 pub mod FreshLemmas
 pub mod CoveredLemmas
 pub mod RanLemmas
+pub mod LaterLemmas

@@ -4,9 +4,8 @@ use Rattle.std.proofs.lemmas.Bool.Decides.{nat_tests}
 use Rattle.std.specs.Option.{option_and_then, option_map_or}
 use Rattle.std.specs.Prelude.{Bool, None, Option, Some, false, if◌then◌else◌, is_some, option_map, suc, true, zero, ℕ, ◌<◌, ◌≡◌}
 use Rattle.op_dispatch.specs.Runner.{Runner, UnderWay}
-use Rattle.subtask_ops.specs.Named.{CallsThere, StartsThere}
+use Rattle.subtask_ops.specs.Named.{NamedCallsThere}
 use Rattle.task_laws.proofs.MemberLemmas.{members_named}
-use Rattle.task_laws.specs.Order as laws
 use Rattle.task_laws.specs.Order.{InOrder, IsOf, cancelled_by, is_awaited, set_of_op, set_of_place}
 use Rattle.task_machine.specs.Core.{Core, Unscripted}
 use Rattle.task_machine.specs.Maps.{get}
@@ -146,7 +145,7 @@ module _ (c : Component) (p : Turn) (s : Core) (sits : Sits c p s) where
         op_names how_far.Suspends e = rw e refl
         op_names how_far.Yields e = rw e refl
 
-  pub named_calls_there : CallsThere s
+  pub named_calls_there : NamedCallsThere s
   named_calls_there i h k e = by (get s.calls k) refl (known.names.there i h k e)
     where
       by : (o : Option Call) → get s.calls k ≡ o → option_and_then (λ (x : Call). x.handle) o ≡ Some h → is_some (get s.calls k) ≡ true
@@ -164,10 +163,6 @@ module _ (c : Component) (p : Turn) (s : Core) (sits : Sits c p s) where
     where
       same_home : (i j : ℕ) (o : Option ℕ) → o ≡ Some i → o ≡ Some j → i ≡ j
       same_home i j o a b = cc
-
--- the first thread of a call whose start hasn't run
-starts_there : (s : Core) → laws.StartsThere s → StartsThere s
-starts_there s there k x at unstarted unended = there k (grind (arith, at, unstarted, unended))
 
 module _ (c : Component) (n : ℕ) (s : StateView) (sits : Sits c (turn.Run n) s.core) where
   order : InOrder c (state_at s.core Unscripted (turn.Run n))
@@ -191,7 +186,7 @@ module _ (c : Component) (n : ℕ) (s : StateView) (sits : Sits c (turn.Run n) s
     together = waiters_together c (turn.Run n) s.core sits;
     calls = named_calls_there c (turn.Run n) s.core sits;
     starts = order.starts;
-    waiting = starts_there s.core (order.awake refl).starts_there;
+    waiting = (order.awake refl).starts_there;
     works = order.works;
   }
 

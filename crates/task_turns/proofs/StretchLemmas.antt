@@ -43,10 +43,10 @@ use Rattle.task_wait.specs.declared.keys.ThreadKey.{ThreadKey}
 use Rattle.task_words.specs.StateView.{StateView, Tags, on_core, thread_number, thread_of}
 
 pub beside_same : (s : StateView) → KeepsBeside s s
-beside_same s = record { threads = refl; calls = refl; made = refl; tags = refl; current = refl }
+beside_same s = record { threads = refl; calls = refl; works = refl; made = refl; tags = refl; current = refl }
 
 pub beside_both : (s t u : StateView) → KeepsBeside s t → KeepsBeside t u → KeepsBeside s u
-beside_both s t u a b = record { threads = b.threads ∙ a.threads; calls = b.calls ∙ a.calls; made = b.made ∙ a.made; tags = b.tags ∙ a.tags; current = b.current ∙ a.current }
+beside_both s t u a b = record { threads = b.threads ∙ a.threads; calls = b.calls ∙ a.calls; works = b.works ∙ a.works; made = b.made ∙ a.made; tags = b.tags ∙ a.tags; current = b.current ∙ a.current }
 
 pub beside_script : (c : Component) (n : ℕ) (s t : StateView) → KeepsBeside s t → script_of c n t.core ≡ script_of c n s.core
 unfolding script_of

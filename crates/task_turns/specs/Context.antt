@@ -16,6 +16,7 @@ state_in n x s = on_core (in_context n x) s
 pub record KeepsBeside (s t : StateView) : Type 0 where
   pub threads : t.core.threads ≡ s.core.threads
   pub calls : t.core.calls ≡ s.core.calls
+  pub works : t.core.works ≡ s.core.works
   pub made : t.core.made ≡ s.core.made
   pub tags : t.tags ≡ s.tags
   pub current : t.current ≡ s.current

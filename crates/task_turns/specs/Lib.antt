@@ -7,3 +7,4 @@ pub mod Kept
 pub mod Main
 pub mod WellFormed
 pub mod Ran
+pub mod Later

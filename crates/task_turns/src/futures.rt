@@ -3,6 +3,7 @@ ghost use Rattle.std.specs.Prelude.{◌≡◌, ◌<◌, None, Some, true};
 ghost use Rattle.task_machine.specs.Core.{Main};
 ghost use Rattle.task_machine.specs.declared.component.Component.{Component};
 ghost use Rattle.task_machine.specs.declared.records.Subtask.TheVariants as subtasks;
+ghost use Rattle.task_ops.specs.Works.{KeepsWorks};
 ghost use Rattle.task_rules.specs.Stalled.{Setting, main_pends};
 ghost use Rattle.task_rules.specs.Works.{next_polled};
 ghost use Rattle.task_turns.specs.Turn.{Makes, PendsIn};
@@ -24,6 +25,7 @@ pub fn step_poll<W: Words>(w: &mut W, work: WorkId, polled: u64) -> Made
     requires unqueued { work_entries (work_of (W.view w.old) work) (W.view w.old).core.queues.high ≡ 0 }
     ensures makes { (c : Component) → Makes c (Turn.Futures polled) (W.view w.old) result (W.view w.new) }
     ensures pends { (x : Setting) → (m : Main) → main_pends x (W.view w.old).core m ≡ true → PendsIn x (W.view w.new).core m result.turn }
+    ensures works { KeepsWorks (W.view w.old) (W.view w.new) }
 {
     let number = w.work_number(work);
     match poll_work(w, work) {

@@ -2,6 +2,7 @@
 ghost use Rattle.std.specs.Prelude.{◌≡◌, ◌<◌, None, is_none, true};
 ghost use Rattle.task_ops.specs.Steps.{core_after, label_of, turn_after};
 ghost use Rattle.task_ops.specs.Running.{IsTopmost};
+ghost use Rattle.task_ops.specs.Works.{KeepsWorks};
 ghost use Rattle.task_rules.specs.Outcome.{outcome_of_label};
 ghost use Rattle.task_rules.specs.Step.{struck};
 ghost use Rattle.task_turns.specs.Turn.{CanStrike, GoesOn, is_going, is_open, running_of, runs_in};
@@ -33,6 +34,7 @@ fn fell<W: Words>(w: &mut W, thread: ThreadId, label: Label) -> Made
     ensures core { (W.view w.new).core ≡ struck (thread_of (W.view w.old) thread) (W.view w.old).core }
     ensures current { (W.view w.new).current ≡ None }
     ensures made { result ≡ record { label = label; turn = Turn.Over } }
+    ensures works { KeepsWorks (W.view w.old) (W.view w.new) }
 {
     strike(w, thread);
     w.set_current(None);
@@ -52,6 +54,7 @@ pub(crate) fn made_of<W: Words>(w: &mut W, thread: ThreadId, came: Came) -> Made
     ensures label { result.label ≡ label_of (thread_of (W.view w.old) thread) came }
     ensures turn { result.turn ≡ turn_after came }
     ensures over { is_none (outcome_of_label result.label) ≡ is_open result.turn }
+    ensures works { KeepsWorks (W.view w.old) (W.view w.new) }
 {
     let number = w.number(thread);
     match came {

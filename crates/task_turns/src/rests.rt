@@ -3,6 +3,7 @@ ghost use Rattle.std.specs.Prelude.{◌≡◌, None, false, true};
 ghost use Rattle.task_machine.specs.Core.{Main};
 ghost use Rattle.task_machine.specs.Read.{next_entry};
 ghost use Rattle.task_machine.specs.declared.component.Component.{Component};
+ghost use Rattle.task_ops.specs.Works.{KeepsWorks};
 ghost use Rattle.task_rules.specs.Stalled.{Setting, main_pends, works_rest};
 ghost use Rattle.task_rules.specs.Works.{has_live_work, has_moving_work};
 ghost use Rattle.task_turns.specs.Turn.{Makes, Turns};
@@ -34,7 +35,8 @@ pub fn step_deadlock<W: Words>(w: &mut W) -> Made
     requires moving { has_moving_work (W.view w.old).core ≡ false }
     requires live { has_live_work (W.view w.old).core ≡ false }
     requires rest { works_rest (W.view w.old).core ≡ true }
-    ensures { (x : Setting) → x.idle ≡ IdleLine.Trap → (m : Main) → main_pends x (W.view w.old).core m ≡ true → Turns x (Turn.Take false) m (W.view w.old) result m (W.view w.new) }
+    ensures turns { (x : Setting) → x.idle ≡ IdleLine.Trap → (m : Main) → main_pends x (W.view w.old).core m ≡ true → Turns x (Turn.Take false) m (W.view w.old) result m (W.view w.new) }
+    ensures works { KeepsWorks (W.view w.old) (W.view w.new) }
 {
     Made {
         label: Label::Loop(deadlock(w)),

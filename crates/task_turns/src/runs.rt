@@ -2,12 +2,13 @@
 ghost use Rattle.op_dispatch.specs.Fits.{HasHandles, HasInstances};
 ghost use Rattle.op_dispatch.specs.Polls.{Polls};
 ghost use Rattle.op_dispatch.specs.Runner.{Runner};
-ghost use Rattle.std.specs.Prelude.{◌≡◌, ◌<◌, ◌^◌, IfOk, Some};
+ghost use Rattle.std.specs.Prelude.{◌≡◌, ◌<◌, ◌^◌, IfOk, Some, OnOk};
 ghost use Rattle.task_machine.specs.Labels.{choice_of};
 ghost use Rattle.task_machine.specs.Read.{how_far_of};
 ghost use Rattle.task_ops.specs.Came.{Meets};
 ghost use Rattle.task_ops.specs.Stays.{StaysAfter};
 ghost use Rattle.task_ops.specs.Steps.{label_of};
+ghost use Rattle.task_ops.specs.Works.{NamesWorks};
 ghost use Rattle.task_rules.specs.Scripts.{op_of};
 ghost use Rattle.task_rules.specs.Step.{did};
 ghost use Rattle.task_turns.specs.Ran.{RanPolls};
@@ -31,6 +32,7 @@ fn run_op<W: Words>(component: &Component, w: &mut W, thread: ThreadId) -> Resul
     ensures goes { IfOk result (λ done. GoesOn done.came (W.view w.new)) }
     ensures stays { IfOk result (λ done. StaysAfter done.came (W.view w.old) (W.view w.new)) }
     ensures polls { IfOk result (λ done. Polls component.now (how_far_of (thread_of (W.view w.old) thread) (W.view w.old).core) (op_of component.now (thread_of (W.view w.old) thread) (W.view w.old).core) (W.view w.old) done (W.view w.new)) }
+    ensures works { OnOk result (NamesWorks (W.view w.old) (W.view w.new)) }
 {
     let call = w.task_of(thread);
     let script = script_ops(component, w.callee(call), w.script(thread));
@@ -54,6 +56,7 @@ pub fn step_run<W: Words>(component: &Component, w: &mut W, number: u64) -> Resu
     ensures makes { IfOk result (λ ran. Makes component.now (Turn.Run number) (W.view w.old) ran.made (W.view w.new)) }
     ensures free { IfOk result (λ ran. IsFree ran.made.turn) }
     ensures polls { IfOk result (λ ran. RanPolls component.now number (W.view w.old) ran (W.view w.new)) }
+    ensures works { OnOk result (NamesWorks (W.view w.old) (W.view w.new)) }
 {
     w.none_is_zero();
     let Some(thread) = w.current() else {

@@ -3,6 +3,7 @@
 ghost use Rattle.std.specs.Prelude.{◌≡◌, ◌≤◌, IfOk, Some, true};
 ghost use Rattle.task_machine.specs.Read.{how_far_of};
 ghost use Rattle.task_machine.specs.declared.records.HowFar.TheVariants as how_far;
+ghost use Rattle.task_turns.specs.Later.{SameWorks};
 ghost use Rattle.task_turns.specs.WellFormed.{IsWellFormed};
 ghost use Rattle.task_turns.specs.Drive.{KeepsOn};
 ghost use Rattle.task_turns.specs.Turn.{Sits, running_of};
@@ -41,6 +42,7 @@ pub fn stretch<W: Words>(
     requires few { added ≤ steps }
     ensures few { IfOk result (λ k. (added ≤ k) × (k ≤ steps)) }
     ensures on { IfOk result (λ k. KeepsOn component.now (Turn.Run number) (W.view w.old) trace.old added (W.view w.new) trace.new k) }
+    ensures works { SameWorks (W.view w.old) (W.view w.new) }
 {
     w.none_is_zero();
     let Some(thread) = w.current() else {

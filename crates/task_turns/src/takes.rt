@@ -1,5 +1,5 @@
 //! The taking of an entry of a thread.
-ghost use Rattle.std.specs.Prelude.{◌≡◌, Bool, IfOk, None, Some};
+ghost use Rattle.std.specs.Prelude.{◌≡◌, Bool, IfOk, None, Some, OnOk};
 ghost use Rattle.task_machine.specs.Labels.{choice_of};
 ghost use Rattle.task_machine.specs.Moves.{why_of};
 ghost use Rattle.task_machine.specs.Read.{admits, next_entry, place_of};
@@ -9,6 +9,7 @@ ghost use Rattle.task_machine.specs.declared.records.Why.TheVariants as whys;
 ghost use Rattle.task_ops.specs.Came.{Meets};
 ghost use Rattle.task_ops.specs.Stays.{StaysAfter};
 ghost use Rattle.task_ops.specs.Steps.{label_of};
+ghost use Rattle.task_ops.specs.Works.{KeepsWorks};
 ghost use Rattle.task_rules.specs.Takes.{delivery_row, popped, thread_taken};
 ghost use Rattle.task_turns.specs.Taken.{FindsSet, Taken};
 ghost use Rattle.task_turns.specs.Turn.{IsFree, Makes, Shows, Sits, Took};
@@ -30,6 +31,7 @@ fn take_delivery<W: Words>(w: &mut W, mark: Mark, thread: ThreadId, delivery: De
     ensures stays { StaysAfter result (W.view w.old) (W.view w.new) }
     ensures tags { (W.view w.new).tags ≡ (W.view w.old).tags }
     ensures current { (W.view w.new).current ≡ (W.view w.old).current }
+    ensures works { KeepsWorks (W.view w.old) (W.view w.new) }
 {
     w.none_is_zero();
     if w.may_not_enter(w.instance_of(thread)) {
@@ -56,6 +58,7 @@ fn take_thread<W: Words>(w: &mut W, mark: Mark, thread: ThreadId) -> Result<Came
     ensures stays { IfOk result (λ came. StaysAfter came (W.view w.old) (W.view w.new)) }
     ensures tags { (W.view w.new).tags ≡ (W.view w.old).tags }
     ensures current { (W.view w.new).current ≡ (W.view w.old).current }
+    ensures works { OnOk result (KeepsWorks (W.view w.old) (W.view w.new)) }
 {
     match w.why(thread) {
         Why::Start => take_start(w, mark, thread),
@@ -77,6 +80,7 @@ fn step_thread<W: Words>(
     requires finds { FindsSet (thread_of (W.view w.old) thread) (popped mark (W.view w.old).core) }
     ensures makes { IfOk result (λ made. Makes component.now (Turn.Take ended) (W.view w.old) made (W.view w.new)) }
     ensures free { IfOk result (λ made. IsFree made.turn) }
+    ensures works { OnOk result (KeepsWorks (W.view w.old) (W.view w.new)) }
 {
     let _component = component;
     w.none_is_zero();
@@ -92,6 +96,7 @@ fn step_push<W: Words>(w: &mut W, mark: Mark, work: WorkId) -> Made
     requires next { next_entry (W.view w.old).core ≡ Some (mark, entries.Push (work_of (W.view w.old) work)) }
     ensures makes { (c : Component) → (ended : Bool) → Makes c (Turn.Take ended) (W.view w.old) result (W.view w.new) }
     ensures turn { result.turn ≡ Turn.Main }
+    ensures works { KeepsWorks (W.view w.old) (W.view w.new) }
 {
     w.pop(mark);
     let number = w.work_number(work);
@@ -115,6 +120,7 @@ fn step_host<W: Words>(
     requires next { next_entry (W.view w.old).core ≡ Some (mark, entries.Host (work_of (W.view w.old) work)) }
     ensures makes { Makes component.now (Turn.Take ended) (W.view w.old) result (W.view w.new) }
     ensures turn { result.turn ≡ Turn.Main }
+    ensures works { KeepsWorks (W.view w.old) (W.view w.new) }
 {
     let _component = component;
     w.none_is_zero();
@@ -136,7 +142,8 @@ pub fn step_take<W: Words>(
 ) -> Result<Option<Made>, NoMemory>
     requires order { Sits component.now (Turn.Take ended) (W.view w.old).core }
     requires current { (W.view w.old).current ≡ None }
-    ensures { IfOk result (λ made. Took component.now ended (W.view w.old) made (W.view w.new)) }
+    ensures took { IfOk result (λ made. Took component.now ended (W.view w.old) made (W.view w.new)) }
+    ensures works { OnOk result (KeepsWorks (W.view w.old) (W.view w.new)) }
 {
     match w.next_entry() {
         None => Ok(None),

@@ -1,11 +1,13 @@
 //! The turns of a run in which main has no part.
-ghost use Rattle.std.specs.Prelude.{◌≡◌, ◌≤◌, IfOk, None, false};
+ghost use Rattle.std.specs.Prelude.{◌≡◌, ◌≤◌, IfOk, None, false, OnOk};
 ghost use Rattle.task_laws.specs.Order.{WorksQueued};
 ghost use Rattle.task_machine.specs.Core.{Main};
 ghost use Rattle.task_machine.specs.Read.{next_entry};
+ghost use Rattle.task_ops.specs.Works.{KeepsWorks};
 ghost use Rattle.task_rules.specs.Outcome.{is_at_rest};
 ghost use Rattle.task_rules.specs.Places.{Placed};
 ghost use Rattle.task_rules.specs.Stalled.{Setting, is_unended_take};
+ghost use Rattle.task_turns.specs.Later.{SameWorks};
 ghost use Rattle.task_turns.specs.WellFormed.{IsWellFormed};
 ghost use Rattle.task_turns.specs.Drive.{KeepsOn};
 ghost use Rattle.task_turns.specs.Turn.{IsAtTurn, IsSettled, PendsIn, Sits, TurnedBeside, Turns, idle_line_of, running_of, runs_in, state_at};
@@ -26,7 +28,8 @@ pub fn poll<W: Words>(w: &mut W, polled: u64) -> Made
     requires works { WorksQueued (W.view w.old).core }
     requires current { (W.view w.old).current ≡ None }
     requires settled { IsSettled (W.view w.old).core (Turn.Futures polled) }
-    ensures { (x : Setting) → (m : Main) → PendsIn x (W.view w.old).core m (Turn.Futures polled) → Turns x (Turn.Futures polled) m (W.view w.old) result m (W.view w.new) }
+    ensures turns { (x : Setting) → (m : Main) → PendsIn x (W.view w.old).core m (Turn.Futures polled) → Turns x (Turn.Futures polled) m (W.view w.old) result m (W.view w.new) }
+    ensures works { KeepsWorks (W.view w.old) (W.view w.new) }
 {
     w.none_is_zero();
     let Some(work) = w.next_polled(polled) else {
@@ -40,7 +43,8 @@ fn rest<W: Words>(w: &mut W, trap_on_idle: bool) -> Option<Made>
     requires works { WorksQueued (W.view w.old).core }
     requires current { (W.view w.old).current ≡ None }
     requires none { next_entry (W.view w.old).core ≡ None }
-    ensures { (c : Component) → TurnedBeside c trap_on_idle (Turn.Take false) (W.view w.old) result (W.view w.new) }
+    ensures turned { (c : Component) → TurnedBeside c trap_on_idle (Turn.Take false) (W.view w.old) result (W.view w.new) }
+    ensures works { KeepsWorks (W.view w.old) (W.view w.new) }
 {
     if w.has_moving_work() {
         return Some(step_rest(w));
@@ -62,7 +66,8 @@ pub fn take<W: Words>(
     trap_on_idle: bool,
 ) -> Result<Option<Made>, NoMemory>
     requires at { IsAtTurn component.now (Turn.Take ended) (W.view w.old) }
-    ensures { IfOk result (λ made. TurnedBeside component.now trap_on_idle (Turn.Take ended) (W.view w.old) made (W.view w.new)) }
+    ensures turned { IfOk result (λ made. TurnedBeside component.now trap_on_idle (Turn.Take ended) (W.view w.old) made (W.view w.new)) }
+    ensures works { OnOk result (KeepsWorks (W.view w.old) (W.view w.new)) }
 {
     match step_take(component, w, ended)? {
         Some(made) => Ok(Some(made)),
@@ -86,6 +91,7 @@ pub fn compute<W: Words>(
     requires few { added ≤ steps }
     ensures few { IfOk result (λ k. (added ≤ k) × (k ≤ steps)) }
     ensures on { IfOk result (λ k. KeepsOn component.now turn (W.view w.old) trace.old added (W.view w.new) trace.new k) }
+    ensures works { SameWorks (W.view w.old) (W.view w.new) }
 {
     match turn {
         Turn::Run { thread } => stretch(component, w, thread, trace, added, steps),

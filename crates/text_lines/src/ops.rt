@@ -132,6 +132,7 @@ fn join_after(words: &[&[u8]]) -> Option<SetOp>
 }
 
 /// The op on sets that the words after its first one complete.
+#[inline(never)]
 #[tactic(auto, unfolding(crate::specs::Line::set_op_after))]
 pub fn set_op_after(word: SetWord, words: &[&[u8]]) -> Option<SetOp>
     ensures { result ≡ set_op_after word (map (λ w. w.now) words.now) }
@@ -167,6 +168,7 @@ fn new_thread_after(words: &[&[u8]]) -> Option<ThreadOp>
 }
 
 /// The op on threads that the words after its first one complete.
+#[inline(never)]
 #[tactic(auto, unfolding(crate::specs::Line::thread_op_after))]
 pub fn thread_op_after(word: ThreadWord, words: &[&[u8]]) -> Option<ThreadOp>
     ensures { result ≡ thread_op_after word (map (λ w. w.now) words.now) }

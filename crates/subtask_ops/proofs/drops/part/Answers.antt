@@ -1,4 +1,4 @@
-use Rattle.subtask_ops.proofs.DropLemmas.{freed_entries, freed_live, parted_below, parted_named}
+use Rattle.subtask_ops.proofs.DropLemmas.{freed_entries, freed_live, parted_below, parted_named, parted_tags}
 use Rattle.subtask_ops.proofs.drops.part.Goals as goal
 
 pub free_handle-requires : goal.free_handle-requires
@@ -20,3 +20,8 @@ pub advance-requires : goal.advance-requires
 advance-requires g c =
     let v = g.W.View.view in
     parted_below c.args.thread c.args.subtask _ c.args.handle (v c.args.w.now) _ _ (v c.free_handle.new.self) c.set_join.ensures c.set_subtask_handle.ensures c.free_handle.ensures (v c.settle.new.w) c.settle.ensures.core c.settle.ensures.tags c.requires.live _ c.requires.position
+
+pub returns-clause-tags : goal.returns-clause-tags
+returns-clause-tags g c =
+    let v = g.W.View.view in
+    parted_tags c.args.thread c.args.subtask _ c.args.handle (v c.args.w.now) _ _ (v c.free_handle.new.self) c.set_join.ensures c.set_subtask_handle.ensures c.free_handle.ensures (v c.settle.new.w) c.settle.ensures.core c.settle.ensures.tags c.requires.live (v c.advance.new.self) c.advance.ensures

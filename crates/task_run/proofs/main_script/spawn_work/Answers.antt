@@ -7,8 +7,10 @@ use Rattle.task_machine.specs.declared.label.MainLabel.TheVariants as main_label
 use Rattle.task_machine.specs.declared.scenario.MainOpDef.TheVariants as machine
 use Rattle.task_rules.specs.Calls.{next_work}
 use Rattle.task_rules.specs.MainOps.{Does, main_spawned}
-use Rattle.task_run.specs.Script.{machine_op, place_of, script_of}
+use Rattle.task_machine.specs.declared.label.Label.TheVariants as label
+use Rattle.task_run.specs.Script.{machine_op, part_of, place_of, script_of}
 use Rattle.task_run.proofs.ScriptLemmas.{did_by_row, spawned_row}
+use Rattle.task_run.proofs.SpawnLemmas.{knows_more}
 use Rattle.task_run.proofs.main_script.spawn_work.Goals as goal
 
 pub returns-clause-ok : goal.returns-clause-ok
@@ -21,3 +23,12 @@ returns-clause-ok g c =
     let row = ap (λ (k : ℕ). Does (main_label.Spawn k (next_work s)) (main_spawned d c.args.host s)) (sym c.in-Some.ensures) ∙ spawned_row d c.args.host c.in-Some-host_here.def s t c.in-Some.number c.work_number-future.result there c.in-Ok.ensures.core number in
     rw (c.in_ok-keep_spawn.ensures.at, c.in_ok-keep_spawn.ensures.registers, c.in_ok-keep_spawn.ensures.starts, c.in_ok-keep_spawn.ensures.spawns)
     (did_by_row d (script_of c.args.main.now) (place_of c.args.main.now) s (machine.Spawn c.args.host) (slice_get-map machine_op c.args.main.now.ops.now c.args.main.now.at ∙ ap (option_map machine_op) c.requires.op) (main_label.Spawn c.in-Some.number c.work_number-future.result) t row tt)
+
+pub returns-clause-knows : goal.returns-clause-knows
+returns-clause-knows g c =
+    let main = c.args.main.now in
+    let s = c.args.access.now.store.now.state in
+    let t = c.queue_spawn.new.self in
+    knows_more c.args.component.now (script_of main) (part_of main) (part_of c.keep_spawn.new.self) (label.Main (main_label.Spawn c.in-Some.number c.work_number-future.result)) main c.keep_spawn.new.self s t
+      (record { work = c.in-Ok.work; number = c.work_number-future.result }) c.in-Some-host_here.def c.in_ok-keep_spawn.ensures.spawns (c.work_number-future.ensures ∙ c.in-Ok.ensures.work) c.in-Ok.ensures.core (sym c.work_number-future.ensures)
+      (returns-clause-ok g c) (λ id live. c.queue_spawn.ensures.tags.works id live) c.requires.knows

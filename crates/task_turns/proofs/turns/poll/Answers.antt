@@ -13,5 +13,5 @@ step_poll-requires-clause-blocked g c = blocked_out _ _ c.requires.placed
 pub step_poll-requires-clause-unqueued : goal.step_poll-requires-clause-unqueued
 step_poll-requires-clause-unqueued g c = polled_unqueued c.args.polled _ _ c.requires.works (sym (ap (option_map (λ id. work_of (g.W.View.view c.args.w.now) id)) (sym c.in-Some.is) ∙ c.next_polled.ensures))
 
-pub returns : goal.returns
-returns g c x m pends = makes_turns x _ _ _ _ (c.step_poll.ensures.makes x.component) m (c.step_poll.ensures.pends x m pends)
+pub returns-clause-turns : goal.returns-clause-turns
+returns-clause-turns g c x m pends = makes_turns x _ _ _ _ (c.step_poll.ensures.makes x.component) m (c.step_poll.ensures.pends x m pends)

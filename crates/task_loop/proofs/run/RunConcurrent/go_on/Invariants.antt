@@ -8,6 +8,7 @@ abbrev pub invariant-turns : goal.invariant-turns
 invariant-turns g l = record {
   script : g.M.MainTask.script l.main ≡ g.M.MainTask.script l.initial.main;
   suits : g.M.MainTask.suits l.main l.component;
+  knows : g.M.MainTask.knows l.main l.store.state;
   idle : l.self.trap_on_idle ≡ l.initial.self.trap_on_idle;
   stands : l.store.running ≡ l.initial.store.running;
   on : IsOn (setting_of l.component (g.M.MainTask.script l.initial.main) l.initial.self.trap_on_idle) (state_at l.initial.store.state.core (g.M.MainTask.part l.initial.main) l.initial.self.turn) l.initial.trace (given l.initial.store.state.core) l.self.turn (g.M.MainTask.part l.main) l.store.state l.trace l.added;

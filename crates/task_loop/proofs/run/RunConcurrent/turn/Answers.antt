@@ -1,5 +1,6 @@
 -- Each turn is one of this run.
 use Rattle.std.proofs.Common.{refl, subst}
+use Rattle.task_loop.proofs.KnowsLemmas.{by_poll, by_run, by_take}
 use Rattle.task_loop.proofs.run.RunConcurrent.turn.Goals as goal
 use Rattle.task_machine.specs.Core.{Unscripted}
 use Rattle.task_machine.specs.declared.records.Turn.{Turn}
@@ -23,3 +24,28 @@ pub returns-in_ok-ran-in-Run-clause-turned : goal.returns-in_ok-ran-in-Run-claus
 returns-in_ok-ran-in-Run-clause-turned g c =
     let x = setting_of c.args.component.now (g.M.MainTask.script c.args.main.now) c.args.self.now.trap_on_idle in
     rw c.in-Run.is (makes_turns x (turn.Run c.in-Run.thread) c.args.store.now.state c.in_ok-ran-in-Run.ran.made c.step_run.new.w c.in_ok-ran-in-Run.ensures.makes (g.M.MainTask.part c.args.main.now) (c.in_ok-ran-in-Run.ensures.free x c.step_run.new.w.core (g.M.MainTask.part c.args.main.now)))
+
+pub returns-in_ok-ran-in-Run-clause-knows : goal.returns-in_ok-ran-in-Run-clause-knows
+returns-in_ok-ran-in-Run-clause-knows g c =
+    let main = c.args.main.now in
+    let s = c.args.store.now.state in
+    let t = c.step_run.new.w in
+    let x = setting_of c.args.component.now (g.M.MainTask.script main) c.args.self.now.trap_on_idle in
+    by_run (g.M.MainTask.knows main) s t (λ last. g.M.MainTask.stays main s t last c.requires.knows) x (g.M.MainTask.part main) c.in-Run.thread c.in_ok-ran-in-Run.ran.made c.in_ok-ran-in-Run.ensures.makes c.in_ok-ran-in-Run.ensures.works
+
+pub returns-in-Futures-clause-knows : goal.returns-in-Futures-clause-knows
+returns-in-Futures-clause-knows g c =
+    let main = c.args.main.now in
+    let part = g.M.MainTask.part main in
+    let s = c.args.store.now.state in
+    let t = c.poll.new.w in
+    let x = setting_of c.args.component.now (g.M.MainTask.script main) c.args.self.now.trap_on_idle in
+    by_poll (g.M.MainTask.knows main) s t (λ last. g.M.MainTask.stays main s t last c.requires.knows) x part c.in-Futures.polled c.poll.result (c.poll.ensures.turns x part (rw c.in-Futures.is at c.requires.pends)) c.poll.ensures.works
+
+pub returns-in-Take-clause-knows : goal.returns-in-Take-clause-knows
+returns-in-Take-clause-knows g c =
+    let main = c.args.main.now in
+    let s = c.args.store.now.state in
+    let t = c.take.new.w in
+    let x = setting_of c.args.component.now (g.M.MainTask.script main) c.args.self.now.trap_on_idle in
+    by_take (g.M.MainTask.knows main) s t (λ last. g.M.MainTask.stays main s t last c.requires.knows) x c.args.self.now.trap_on_idle c.in-Take.ended (g.M.MainTask.part main) c.take.result refl (rw c.in-Take.is at c.requires.pends) c.take.ensures.turned c.take.ensures.works

@@ -6,7 +6,8 @@ use Rattle.task_machine.specs.declared.scenario.MainOpDef.TheVariants as machine
 use Rattle.task_scenario.specs.declared.scenario.MainOp.{MainOp}
 use Rattle.task_scenario.specs.declared.scenario.MainOp.TheVariants as main_op
 use Rattle.task_run.specs.Script.{machine_op, place_of, script_of}
-use Rattle.task_run.proofs.ScriptLemmas.{answers_by_row, no_other_op, pends_past}
+use Rattle.task_run.proofs.ScriptLemmas.{answers_by_row, pends_past}
+use Rattle.task_run.proofs.SpawnLemmas.{knows_result, knows_still}
 use Rattle.task_run.proofs.main_script.ScriptMainMainTask.step.Goals as goal
 
 pub returns-in-Some-Answer-clause-ok : goal.returns-in-Some-Answer-clause-ok
@@ -20,8 +21,32 @@ returns-in-None-clause-ok c w =
     let at : slice_get w.args.self.now.ops.now w.args.self.now.at ≡ None = sym w.in-None.ensures in
     pends_past w.args.component.now (script_of w.args.self.now) (place_of w.args.self.now) w.args.access.now.store.now.state.core (slice_get-map machine_op w.args.self.now.ops.now w.args.self.now.at ∙ ap (option_map machine_op) at)
 
-pub unreachable-requires : goal.unreachable-requires
-unreachable-requires c w = no_other_op w.args.self.now.ops.now w.args.component.now w.requires.suits w.args.self.now.at _ (sym w.in-Some-Abort.ensures ∙ ap (λ (o : MainOp). Some o) w.in-Some-Abort.field-0-is) refl
+pub returns-in-Some-Start-clause-knows : goal.returns-in-Some-Start-clause-knows
+returns-in-Some-Start-clause-knows c w =
+    let main = w.args.self.now in
+    knows_result w.args.component.now (script_of main) main w.make_start.new.main w.args.access.now.store.now.state w.make_start.new.access.store.now.state w.make_start.result w.make_start.ensures.spawns w.make_start.ensures.ok w.make_start.ensures.names w.requires.knows
 
-pub unreachable-requires-in-Some-Await : goal.unreachable-requires-in-Some-Await
-unreachable-requires-in-Some-Await c w = no_other_op w.args.self.now.ops.now w.args.component.now w.requires.suits w.args.self.now.at _ (sym w.in-Some-Await.ensures ∙ ap (λ (o : MainOp). Some o) w.in-Some-Await.field-0-is) refl
+pub returns-in-Some-Finish-clause-knows : goal.returns-in-Some-Finish-clause-knows
+returns-in-Some-Finish-clause-knows c w =
+    let main = w.args.self.now in
+    knows_result w.args.component.now (script_of main) main w.finish_call.new.main w.args.access.now.store.now.state w.finish_call.new.access.store.now.state w.finish_call.result w.finish_call.ensures.spawns w.finish_call.ensures.ok w.finish_call.ensures.names w.requires.knows
+
+pub returns-in-Some-Quiet-clause-knows : goal.returns-in-Some-Quiet-clause-knows
+returns-in-Some-Quiet-clause-knows c w =
+    let main = w.args.self.now in
+    knows_still w.args.component.now (script_of main) main w.await_quiet.new.main w.args.access.now.store.now.state w.args.access.now.store.now.state w.await_quiet.result w.await_quiet.ensures.spawns w.await_quiet.ensures.ok (λ id live. refl) w.requires.knows
+
+pub returns-in-Some-Ready-clause-knows : goal.returns-in-Some-Ready-clause-knows
+returns-in-Some-Ready-clause-knows c w =
+    let main = w.args.self.now in
+    knows_still w.args.component.now (script_of main) main w.await_ready.new.main w.args.access.now.store.now.state w.args.access.now.store.now.state w.await_ready.result w.await_ready.ensures.spawns w.await_ready.ensures.ok (λ id live. refl) w.requires.knows
+
+pub returns-in-Some-Abort-clause-knows : goal.returns-in-Some-Abort-clause-knows
+returns-in-Some-Abort-clause-knows c w =
+    let main = w.args.self.now in
+    knows_still w.args.component.now (script_of main) main w.abort_work.new.main w.args.access.now.store.now.state w.abort_work.new.access.store.now.state w.abort_work.result w.abort_work.ensures.spawns w.abort_work.ensures.ok w.abort_work.ensures.names w.requires.knows
+
+pub returns-in-Some-Await-clause-knows : goal.returns-in-Some-Await-clause-knows
+returns-in-Some-Await-clause-knows c w =
+    let main = w.args.self.now in
+    knows_still w.args.component.now (script_of main) main w.await_work.new.main w.args.access.now.store.now.state w.args.access.now.store.now.state w.await_work.result w.await_work.ensures.spawns w.await_work.ensures.ok (λ id live. refl) w.requires.knows

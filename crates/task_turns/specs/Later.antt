@@ -1,0 +1,17 @@
+-- What steps keep of the ids that a host has.
+use Rattle.std.specs.Prelude.{◌≡◌, ◌≤◌, ℕ, None}
+use Rattle.task_machine.specs.Maps.{get}
+use Rattle.task_ops.specs.Works.{NamesWorks}
+use Rattle.task_words.specs.StateView.{StateView}
+
+-- Each id of a work names it still, unless the work is gone; none that is gone comes back, and no number is given twice.
+pub record WorksLast (s t : StateView) : Type 0 where
+  pub names : NamesWorks s t
+  pub made : s.core.made.works ≤ t.core.made.works
+  pub gone : (i : ℕ) → i ≤ s.core.made.works → get s.core.works i ≡ None → get t.core.works i ≡ None
+
+-- no work is changed
+pub record SameWorks (s t : StateView) : Type 0 where
+  pub works : t.core.works ≡ s.core.works
+  pub made : t.core.made ≡ s.core.made
+  pub tags : t.tags ≡ s.tags
