@@ -28,7 +28,7 @@ use subtask_ops::{
 };
 use task_machine::{CallOp, Callee, Component, Goal, NoMemory, Operand};
 use task_ops::{Came, value_of};
-use task_words::{CallId, HowFarId, SubtaskId, ThreadId, WorkId, Words};
+use task_words::{CallId, HowFarId, SubtaskId, ThreadId, Words, WorkId};
 
 // The call that the op is inside of.
 fn called<W: Words>(w: &W, thread: ThreadId) -> Option<CallId>
@@ -201,13 +201,7 @@ fn call_sync_of_host<W: Words>(
 }
 
 // `cancel R X` and `cancel_sync R X`
-fn cancels<W: Words>(
-    w: &mut W,
-    thread: ThreadId,
-    to: u8,
-    handle: u64,
-    sync: bool,
-) -> Came
+fn cancels<W: Words>(w: &mut W, thread: ThreadId, to: u8, handle: u64, sync: bool) -> Came
     requires runner { Runner thread (W.view w.old) }
     requires position { position_of (thread_of (W.view w.old) thread) (W.view w.old).core + 1 < 2 ^ 32 }
     ensures meets { Meets (cancel_row (mode_of sync) (thread_of (W.view w.old) thread) to handle (W.view w.old).core (how_far_of (thread_of (W.view w.old) thread) (W.view w.old).core)) (W.view w.old).core result (W.view w.new).core }
@@ -248,7 +242,15 @@ pub(crate) fn do_call_op<W: Words>(
             callee,
             params,
         } => {
-            let came = call(component, w, thread, *to, *result, *callee, params.as_slice())?;
+            let came = call(
+                component,
+                w,
+                thread,
+                *to,
+                *result,
+                *callee,
+                params.as_slice(),
+            )?;
             Ok(plain(came))
         }
         CallOp::CallSync { to, callee, params } => {

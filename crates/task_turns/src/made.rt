@@ -9,7 +9,7 @@ ghost use Rattle.task_words.specs.StateView.{thread_of};
 
 use task_machine::{CallLabel, HostDef, Label, LoopLabel, Turn};
 use task_ops::{Came, strike};
-use task_words::{ThreadId, WorkId, Words};
+use task_words::{ThreadId, Words, WorkId};
 
 /// A step that was made: its label, and whose turn it is then.
 #[derive(Clone, Copy)]
