@@ -7,7 +7,7 @@ Some files of proofs pass names on. task_rules' Machine passes on each name of s
 that a proof file of these crates brings in, and each lemma of task_machine's proofs; its Walks those and the lemmas of moves to the
 walks over the rows. task_laws' Rules passes all of the rules on to the laws, with the definitions of task_laws, and its Words what
 is known of each word; task_places' Laws passes that and the laws on to the laws of places. Every proof file gets one `use` line
-for what such a file passes on to it. In a proof file new names are written as `use` lines of the
+for what such a file passes on to it, and one for the modules of a folder beside. In a proof file new names are written as `use` lines of the
 modules that declare them; then this is run, and `rt fmt`. Names that a file no longer cites go. A variant is written behind its
 type: where a file has `use ..Place.TheVariants as place`, each `place.Running` becomes `Place.Running`, and the line goes. What a
 file else renames by `as`, a module of task_machine or of task_rules' specs that one file alone cites, and a name that two modules
@@ -18,6 +18,7 @@ import re
 
 CRATES = pathlib.Path(__file__).resolve().parent.parent / 'crates'
 USE = re.compile(r'^use (Rattle\.[\w.]+)\.\{(.*)\}$')
+WORD = re.compile(r"^[\w'-]+$")
 ANY_USE = re.compile(r'^(unfoldable )?(pub )?use ')
 PASSED_ON = re.compile(r'^(unfoldable )?pub use (Rattle\.[\w.]+)\.\{(.*)\}$')
 UNFOLDABLE = re.compile(r'(?m)^\s*unfoldable pub (?:\{[^}]*\} )?(?!use )([^\s:]+)')
@@ -130,10 +131,13 @@ def read(file, modules):
             continue
         where = len(lines) if where is None else where
         names = names_of(match[2])
-        plain = [name for name in names if ' as ' not in name and '.' not in name]
-        home = modules.get(match[1])
-        cited = [name for name in plain if is_cited(name, body) and (home is None or name in home)]
-        brought |= {(match[1] if home is None else home[name], name) for name in cited}
+        plain = [name for name in names if ' as ' not in name]
+        for path in plain:
+            *below, name = path.split('.')
+            module = '.'.join([match[1], *below])
+            home = modules.get(module)
+            if is_cited(name, body) and (home is None or name in home):
+                brought.add((module if home is None else home[name], name))
         if kept := [name for name in names if name not in plain]:
             lines.append(f'use {match[1]}.{{{", ".join(kept)}}}')
     return lines, where, brought
@@ -157,13 +161,29 @@ def owned(cites):
     return {(module, name) for module, name in cites if owners[name] == module}
 
 
+def written(word, pairs):
+    """The lines that bring these pairs in, one for the modules of a folder; operators are brought in by their module alone."""
+    folders, lines = {}, []
+    for module, name in pairs:
+        folders.setdefault(module.rpartition('.')[0], {}).setdefault(module, []).append(name)
+    for folder, modules in folders.items():
+        words = [] if len(modules) == 1 else sorted(
+            f'{module.rpartition(".")[2]}.{name}' for module, names in modules.items() for name in names if WORD.match(name)
+        )
+        if words:
+            lines.append((folder, words))
+        for module, names in modules.items():
+            if others := sorted((name for name in names if not (words and WORD.match(name))), key=by_name):
+                lines.append((module, others))
+    return [f'{word}use {module}.{{{", ".join(names)}}}' for module, names in sorted(lines)]
+
+
 def grouped(pairs, unfoldable):
     """The lines that pass these pairs on, without those of task_machine's types."""
-    for module in sorted({module for module, _ in pairs}):
-        names = sorted((name for other, name in pairs if other == module), key=by_name)
-        for word, unfolds in (('', False), ('unfoldable ', True)):
-            if group := [name for name in names if ((module, name) in unfoldable) == unfolds]:
-                yield f'{word}pub use {module}.{{{", ".join(group)}}}'
+    below = {pair for pair in pairs if pair[0] in PLACES}
+    for group in (below, pairs - below):
+        for word, unfolds in (('pub ', False), ('unfoldable pub ', True)):
+            yield from written(word, {pair for pair in group if (pair in unfoldable) == unfolds})
 
 
 def write(place, lines):
@@ -203,11 +223,9 @@ def main():
     for file, (lines, where, brought) in files.items():
         if where is None:
             continue
-        groups = {}
-        for pair in brought:
-            groups.setdefault(homes[file].get(pair, pair[0]), []).append(pair[1])
-        first = sorted(groups, key=lambda module: (module not in PLACES, module))
-        lines[where:where] = [f'use {module}.{{{", ".join(sorted(groups[module], key=by_name))}}}' for module in first]
+        pairs = {(homes[file].get(pair, pair[0]), pair[1]) for pair in brought}
+        passed_pairs = {pair for pair in pairs if pair[0] in PLACES}
+        lines[where:where] = [*written('', passed_pairs), *written('', pairs - passed_pairs)]
         text = '\n'.join(lines)
         if text != file.read_text():
             file.write_text(text)

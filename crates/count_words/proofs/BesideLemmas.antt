@@ -1,21 +1,19 @@
 -- Another number of finished groups, other kept numbers, other results and another capacity: names, indexes and rows stay.
 use Rattle.std.proofs.Common.{◌≡◌, ◌≤◌, ℕ, List, Option, Some, IsSome}
-use Rattle.std.specs.BTreeMap.{is_at}
-use Rattle.std.specs.Map.{lookup}
-use Rattle.std.specs.Ordering.{nat_cmp}
 use Rattle.task_machine.specs.Maps.{get}
 use Rattle.task_machine.specs.declared.records.Call.{Call}
 use Rattle.task_machine.specs.declared.records.Goal.TheVariants as goal
-use Rattle.task_records.specs.Image.{Parts, core_of}
+use Rattle.task_records.specs.Image.{HasRoom, Parts, core_of}
 use Rattle.task_records.specs.Kept.{AreKept}
 use Rattle.task_records.specs.Names.{HasHome, IsCallNamed, IsWorkNamed}
 use Rattle.task_records.specs.Sound.{IsWhole}
 use Rattle.task_records.specs.declared.calls.GuestTask.{GuestTask}
 use Rattle.task_records.specs.declared.parts.Kept.{Kept}
+use Rattle.task_records.specs.declared.parts.ResultRoom.{ResultRoom}
 use Rattle.task_records.specs.declared.threads.GuestThread.{GuestThread}
 use Rattle.task_records.specs.declared.works.HostWork.{HostWork}
 
-module _ (p : Parts) (finished : ℕ) (kept : Kept) (results : List (ℕ × Option ℕ)) (capacity : ℕ) where
+module _ (p : Parts) (finished : ℕ) (kept : Kept) (results : List (ℕ × ResultRoom)) (capacity : ℕ) where
   abbrev pub beside : Parts
   beside = record p { finished = finished; kept = kept; results = results; capacity = capacity }
 
@@ -28,7 +26,7 @@ module _ (p : Parts) (finished : ℕ) (kept : Kept) (results : List (ℕ × Opti
   work_beside : (w : HostWork) → IsWorkNamed p w → IsWorkNamed beside w
   work_beside w named = record { caller = named.caller; join = named.join; group = named.group }
 
-  pub beside_whole : IsWhole p → AreKept (core_of beside) kept → ((k : ℕ) (c : Call) → get (core_of p).calls k ≡ Some c → c.goal ≡ goal.Main → IsSome (lookup (is_at (nat_cmp k)) results)) → finished ≤ p.made.groups → capacity ≤ 4294967295 →
+  pub beside_whole : IsWhole p → AreKept (core_of beside) kept → ((k : ℕ) (c : Call) → get (core_of p).calls k ≡ Some c → c.goal ≡ goal.Main → HasRoom k results) → finished ≤ p.made.groups → capacity ≤ 4294967295 →
       IsWhole beside
   beside_whole whole counts rooms within few = record {
     named = record {

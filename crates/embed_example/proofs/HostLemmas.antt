@@ -18,7 +18,7 @@ use Rattle.task_machine.specs.Core.{Began, Core, State, Unscripted, fresh}
 use Rattle.task_machine.specs.Maps.{get, size}
 use Rattle.task_machine.specs.Write.{take_result}
 use Rattle.task_calls.specs.Calls.{Finishes, Starts}
-use Rattle.task_calls.specs.declared.error.TaskError.TheVariants as task_error
+use Rattle.state_calls.specs.declared.error.TaskError.TheVariants as task_error
 use Rattle.task_store.proofs.FreshLemmas.{size_fresh}
 use Rattle.task_rules.specs.MainOps as row
 use Rattle.task_rules.specs.MainOps.{finish_result, start_act, start_refusal, takes_words}

@@ -1,7 +1,7 @@
 //! The main: it doubles its word by one call, then adds one by another, and answers that.
 ghost use Rattle.std.specs.Prelude.{◌≡◌, ◌+◌, ◌<◌, ◌^◌, [], IfErr, IfOk, None, OnOk};
 ghost use Rattle.task_machine.specs.Core.{Unscripted};
-ghost use Rattle.task_calls.specs.declared.error.TaskError.TheVariants as task_error;
+ghost use Rattle.state_calls.specs.declared.error.TaskError.TheVariants as task_error;
 ghost use Rattle.task_turns.specs.Covered.{IsCovered};
 ghost use Rattle.task_turns.specs.Main.{Steps};
 ghost use Rattle.task_turns.specs.Turn.{Sits, given, running_of};

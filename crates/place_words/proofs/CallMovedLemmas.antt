@@ -1,10 +1,7 @@
 -- A call is written that has another event or set, and the numbers of members of sets: what else holds of the parts stays.
 use Rattle.std.proofs.Common.{◌≡◌, ◌+◌, ◌*◌, ◌==◌, ℕ, Bool, List, Option, Some, None, IsSome, count_by, length, refl, sym, ap, ap₂, subst, ◌∙◌}
 use Rattle.std.proofs.lemmas.Option.{same_Some}
-use Rattle.std.specs.BTreeMap.{is_at}
-use Rattle.std.specs.Map.{lookup}
 use Rattle.std.specs.Option.{option_map, option_map_or}
-use Rattle.std.specs.Ordering.{nat_cmp}
 use Rattle.task_index.proofs.Indexes.{IsIndex-same_chains}
 use Rattle.task_index.specs.Counts.{passing}
 use Rattle.task_index.specs.Index.{IsIndex, filings}
@@ -15,7 +12,7 @@ use Rattle.task_machine.specs.declared.records.Call.{Call}
 use Rattle.task_machine.specs.declared.records.Goal.TheVariants as goal
 use Rattle.task_machine.specs.declared.records.Subtask.TheVariants as subtask
 use Rattle.task_records.proofs.KeptLemmas.{passing_seconds, records_seconds, seconds, size_seconds}
-use Rattle.task_records.specs.Image.{Parts, core_of}
+use Rattle.task_records.specs.Image.{HasRoom, Parts, core_of}
 use Rattle.task_records.specs.Kept.{IsCallKept, IsGroupKept, IsSetKept, is_of_group}
 use Rattle.task_records.specs.Keys.{call_key}
 use Rattle.task_records.specs.Kinds.{on_item}
@@ -115,10 +112,10 @@ module _ (p : Parts) (whole : IsWhole p) (calls : Table (Single GuestTask)) (ali
   group_told : (g : TaskGroup) → IsGroupKept (core_of p) g → IsGroupKept (core_of told) g
   group_told g h = h ∙ ap (λ n. n + passing (is_of_group g.number) (core_of p).works) (sym (passing_told (λ c. c.group == g.number)))
 
-  results_told : (k : ℕ) (c : Call) → get (core_of told).calls k ≡ Some c → c.goal ≡ goal.Main → IsSome (lookup (is_at (nat_cmp k)) p.results)
+  results_told : (k : ℕ) (c : Call) → get (core_of told).calls k ≡ Some c → c.goal ≡ goal.Main → HasRoom k p.results
   results_told k c is main = by (get (core_of p).calls k) refl (sym (ap (option_map quiet_call) is) ∙ get_told k)
     where
-      by : (o : Option Call) → get (core_of p).calls k ≡ o → Some (quiet_call c) ≡ option_map quiet_call o → IsSome (lookup (is_at (nat_cmp k)) p.results)
+      by : (o : Option Call) → get (core_of p).calls k ≡ o → Some (quiet_call c) ≡ option_map quiet_call o → HasRoom k p.results
       by None was same = absurd (cc)
       by (Some d) was same = whole.counted.results k d was (sym (ap (λ (x : Call). x.goal) (same_Some (quiet_call c) (quiet_call d) same)) ∙ main)
 

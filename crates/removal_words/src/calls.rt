@@ -1,4 +1,5 @@
-ghost use Rattle.std.specs.Prelude.{◌≡◌, ◌<◌, false};
+ghost use Rattle.std.specs.Prelude.{◌≡◌, ◌<◌, None, false};
+ghost use Rattle.task_machine.specs.Maps.{get};
 ghost use Rattle.task_machine.specs.Moves.{group_settled};
 ghost use Rattle.task_machine.specs.Read.{call_group, has_thread, join_of};
 ghost use Rattle.task_machine.specs.Write.{remove_call};
@@ -11,7 +12,10 @@ ghost use Rattle.task_words.specs.StateView.{KeepsBut, call_of, lost_call};
 
 use crate::chains::{close, drop_node};
 use crate::groups::{group_there, one_if, settle_group};
+use count_words::close_room;
 use place_words::set_join;
+use record_words::{call_number, goal};
+use task_machine::Goal;
 use task_records::CoreParts;
 use task_table::TableId;
 use task_wait::GroupKey;
@@ -53,6 +57,19 @@ fn drop_call(parts: &mut CoreParts, call: CallId) -> TableId<GroupKey>
     group
 }
 
+// A call with this goal is gone, and so is its room for a result, where it had one that isn't wanted any more.
+fn leave_room(parts: &mut CoreParts, call: u64, goal: Goal)
+    requires sound { IsSound parts.old }
+    requires gone { get (seen parts.old).core.calls call ≡ None }
+    ensures sound { IsSound parts.new }
+    ensures seen { seen parts.new ≡ seen parts.old }
+    ensures only { parts.new ≡ record parts.old { results = parts.new.results } }
+{
+    if let Goal::Main = goal {
+        close_room(parts, call);
+    }
+}
+
 /// A call is gone, and its group is finished, if nothing of it is left.
 pub fn delete_call(parts: &mut CoreParts, call: CallId)
     requires sound { IsSound parts.old }
@@ -64,6 +81,9 @@ pub fn delete_call(parts: &mut CoreParts, call: CallId)
     ensures tags { KeepsBut (lost_call (call_of (seen parts.old) call)) (seen parts.old).tags (seen parts.new).tags }
 {
     set_join(parts, SubtaskId::Guest(call), JoinId::Nowhere);
+    let number = call_number(parts, call);
+    let goal = goal(parts, call);
     let group = drop_call(parts, call);
+    leave_room(parts, number, goal);
     settle_group(parts, group);
 }

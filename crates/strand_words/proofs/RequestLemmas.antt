@@ -2,10 +2,7 @@
 use Rattle.std.proofs.Common.{◌≡◌, ◌+◌, ℕ, Bool, true, false, cond, is_some, List, None, Option, Some, IsSome, slice_get, refl, sym, ap, ap₂, subst, ◌∙◌}
 use Rattle.std.proofs.lemmas.Bool.{eq-eqb}
 use Rattle.std.proofs.lemmas.Option.{slice_get-map}
-use Rattle.std.specs.BTreeMap.{is_at}
-use Rattle.std.specs.Map.{lookup}
 use Rattle.std.specs.Option.{option_map, option_map_or}
-use Rattle.std.specs.Ordering.{nat_cmp}
 use Rattle.strand_words.specs.Member.{IsMember}
 use Rattle.strand_words.specs.Strand.{IsStrand}
 use Rattle.strand_words.specs.declared.records.Request.{Request}
@@ -22,6 +19,7 @@ use Rattle.task_records.proofs.HomeLemmas.{place_in_bare}
 use Rattle.task_records.proofs.InstanceReads.{handles_read, instance_read}
 use Rattle.task_records.specs.Instances.{handle_table, named_of}
 use Rattle.task_records.specs.Kinds.{on_item}
+use Rattle.task_records.specs.Image.{HasRoom}
 use Rattle.task_records.specs.Names.{AtPlace, caller_target}
 use Rattle.task_records.specs.Seen.{parts_of, seen}
 use Rattle.task_records.specs.Sound.{bare, bare_call, bare_instance, bare_thread}
@@ -58,7 +56,7 @@ module _ (a : CoreParts) (request : Request) (group : ℕ) (words : List ℕ) (c
   pub request_strand :
       AtPlace (parts_of a) request.maker (caller_target request.caller)
       → IsSome (get (seen a).core.instances request.callee.instance)
-      → (request.goal ≡ goal.Main → IsSome (lookup (is_at (nat_cmp (a.made.threads + 1))) a.results.entries))
+      → (request.goal ≡ goal.Main → HasRoom (a.made.threads + 1) a.results.entries)
       → IsStrand (bare (parts_of a)) (bare_call (record c { first = next_place a.threads })) (bare_thread (record g { task = next_place a.calls }))
   request_strand caller there room = record {
     call_next = call_number;
@@ -76,7 +74,7 @@ module _ (a : CoreParts) (request : Request) (group : ℕ) (words : List ℕ) (c
     caller =
         subst (λ (m : ℕ). AtPlace (bare (parts_of a)) m (caller_target c.call.caller)) (sym maker)
         (subst (λ (k : Call). AtPlace (bare (parts_of a)) request.maker (caller_target k.caller)) (sym call_is) (place_in_bare a request.maker (caller_target request.caller) caller));
-    room = λ main. subst (λ (m : ℕ). IsSome (lookup (is_at (nat_cmp m)) a.results.entries)) (sym call_number) (room (sym (ap (λ (k : Call). k.goal) call_is) ∙ main));
+    room = λ main. subst (λ (m : ℕ). HasRoom m a.results.entries) (sym call_number) (room (sym (ap (λ (k : Call). k.goal) call_is) ∙ main));
   }
 
   pub request_core : (s : Core) → add_thread g.thread (add_call c.number c.call s) ≡ add_thread (new_thread (a.made.threads + 1) false script.Start words None) (add_call (a.made.threads + 1) (new_call request.caller request.callee request.kind request.goal group) s)

@@ -2,9 +2,6 @@
 use Rattle.std.proofs.Common.{inl, inr, ◌⊎◌, ◌≡◌, ◌+◌, ◌==◌, ◌<◌, ℕ, Bool, true, false, cond, List, Option, Some, None, IsSome, filter, length, nat_lt, refl, sym, ap, subst, ◌∙◌, arith}
 use Rattle.std.proofs.lemmas.Bool.{cases_eq, eq-eqb, ne_eqb}
 use Rattle.std.proofs.lemmas.Option.{same_Some}
-use Rattle.std.specs.BTreeMap.{is_at}
-use Rattle.std.specs.Map.{lookup}
-use Rattle.std.specs.Ordering.{nat_cmp}
 use Rattle.make_words.proofs.FreshLemmas.{each_more, none_passing}
 use Rattle.make_words.proofs.MoreLemmas.{each_but, early, early_at, get_more, passing_more, size_more}
 use Rattle.queue_words.proofs.BareLemmas.{one_place}
@@ -19,7 +16,7 @@ use Rattle.task_machine.specs.declared.records.Join.TheVariants as join
 use Rattle.task_machine.specs.declared.records.Place.{Place}
 use Rattle.task_machine.specs.declared.records.Place.TheVariants as place
 use Rattle.task_machine.specs.declared.records.Thread.{Thread}
-use Rattle.task_records.specs.Image.{Parts, core_of}
+use Rattle.task_records.specs.Image.{HasRoom, Parts, core_of}
 use Rattle.task_records.specs.Keys.{call_key, group_key, thread_key}
 use Rattle.task_records.specs.Kept.{IsCallKept, IsGroupKept, IsSetKept, threads_of}
 use Rattle.task_records.specs.Sound.{AreCounted, EachEntry, IsWhole, SoundTable}
@@ -93,7 +90,7 @@ module _ (p : Parts) (whole : IsWhole p) (threads : SoundTable thread_key p.thre
               omega arith;
         }
 
-        module _ (of_group : q.entry.item.number ≡ c.call.group) (room : c.call.goal ≡ goal.Main → IsSome (lookup (is_at (nat_cmp c.number)) p.results)) where
+        module _ (of_group : q.entry.item.number ≡ c.call.group) (room : c.call.goal ≡ goal.Main → HasRoom c.number p.results) where
           groups_kept : EachEntry (IsGroupKept (core_of with_strand)) with_strand.groups
           groups_kept = each_but p.groups rep q at one_more (IsGroupKept (core_of with_strand))
               (let was = whole.counted.groups rep q at in
@@ -106,14 +103,14 @@ module _ (p : Parts) (whole : IsWhole p) (threads : SoundTable thread_key p.thre
               let none = fails_none (λ (d : Call). d.group == w.entry.item.number) c.call (ne_eqb c.call.group w.entry.item.number (λ same. other (one_place (λ (h : TaskGroup). h.number) (λ (h : TaskGroup). h.calls) p.groups p.made.groups groups r rep w q w_at at (sym same ∙ sym of_group)))) in
               omega arith)
 
-          rooms : (k : ℕ) (d : Call) → get (core_of with_strand).calls k ≡ Some d → d.goal ≡ goal.Main → IsSome (lookup (is_at (nat_cmp k)) p.results)
+          rooms : (k : ℕ) (d : Call) → get (core_of with_strand).calls k ≡ Some d → d.goal ≡ goal.Main → HasRoom k p.results
           rooms k d is main = by (cases_eq k c.number)
             where
               more : cond (k == c.number) (Some c.call) (get (core_of p).calls k) ≡ Some d
               more = sym (get_more (λ (d : GuestTask). d.number) (λ (d : GuestTask). d.call) p.calls p.made.threads calls c c_next k) ∙ is
 
-              by : (k ≡ c.number) ⊎ (k ≡ c.number → ⊥) → IsSome (lookup (is_at (nat_cmp k)) p.results)
-              by (inl same) = subst (λ (n : ℕ). IsSome (lookup (is_at (nat_cmp n)) p.results)) (sym same) (room (ap (λ (e : Call). e.goal) (same_Some c.call d (sym (ap (λ b. cond b (Some c.call) (get (core_of p).calls k)) (eq-eqb k c.number same)) ∙ more)) ∙ main))
+              by : (k ≡ c.number) ⊎ (k ≡ c.number → ⊥) → HasRoom k p.results
+              by (inl same) = subst (λ (n : ℕ). HasRoom n p.results) (sym same) (room (ap (λ (e : Call). e.goal) (same_Some c.call d (sym (ap (λ b. cond b (Some c.call) (get (core_of p).calls k)) (eq-eqb k c.number same)) ∙ more)) ∙ main))
               by (inr other) = whole.counted.results k d (sym (ap (λ b. cond b (Some c.call) (get (core_of p).calls k)) (ne_eqb k c.number other)) ∙ more) main
 
           groups_same : (core_of with_strand).groups ≡ (core_of p).groups

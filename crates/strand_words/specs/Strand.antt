@@ -1,13 +1,10 @@
 -- A call that is made, and its first thread.
 use Rattle.std.specs.Prelude.{◌≡◌, ◌+◌, None, IsSome, slice_get}
-use Rattle.std.specs.BTreeMap.{is_at}
-use Rattle.std.specs.Map.{lookup}
-use Rattle.std.specs.Ordering.{nat_cmp}
 use Rattle.task_machine.specs.declared.records.Goal.TheVariants as goal
 use Rattle.task_machine.specs.declared.records.HowFar.TheVariants as how_far
 use Rattle.task_machine.specs.declared.records.Join.TheVariants as join
 use Rattle.task_machine.specs.declared.records.Place.TheVariants as place
-use Rattle.task_records.specs.Image.{Parts}
+use Rattle.task_records.specs.Image.{HasRoom, Parts}
 use Rattle.task_records.specs.Names.{AtPlace, caller_target}
 use Rattle.task_records.specs.declared.calls.GuestTask.{GuestTask}
 use Rattle.task_records.specs.declared.threads.GuestThread.{GuestThread}
@@ -29,4 +26,4 @@ pub record IsStrand (p : Parts) (c : GuestTask) (g : GuestThread) : Type 0 where
   pub instance : g.instance ≡ c.call.callee.instance
   pub within : IsSome (slice_get p.instances g.instance)
   pub caller : AtPlace p c.maker (caller_target c.call.caller)
-  pub room : c.call.goal ≡ goal.Main → IsSome (lookup (is_at (nat_cmp c.number)) p.results)
+  pub room : c.call.goal ≡ goal.Main → HasRoom c.number p.results

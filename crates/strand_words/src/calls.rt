@@ -1,6 +1,3 @@
-ghost use Rattle.std.specs.BTreeMap.{is_at};
-ghost use Rattle.std.specs.Map.{lookup};
-ghost use Rattle.std.specs.Ordering.{nat_cmp};
 ghost use Rattle.std.specs.Prelude.{◌≡◌, ◌+◌, ◌<◌, ◌≤◌, ◌^◌, IfOk, IsSome, Ok, OnErr, OnOk, length, true};
 ghost use Rattle.make_words.specs.Restored.{IsRestored};
 ghost use Rattle.strand_words.specs.Loose.{AreStrandLoose};
@@ -10,6 +7,7 @@ ghost use Rattle.task_machine.specs.Read.{fits};
 ghost use Rattle.task_machine.specs.Write.{add_group};
 ghost use Rattle.task_machine.specs.declared.records.Caller.TheVariants as callers;
 ghost use Rattle.task_machine.specs.declared.records.Goal.TheVariants as goals;
+ghost use Rattle.task_records.specs.Image.{HasRoom};
 ghost use Rattle.task_records.specs.Kinds.{item_of};
 ghost use Rattle.task_records.specs.Names.{AtPlace, caller_target};
 ghost use Rattle.task_records.specs.Seen.{IsSound, parts_of, seen};
@@ -47,7 +45,7 @@ pub fn add_strand(
     requires group { Ok group ≡ item_at item_of parts.old.groups id.rep id.serial }
     requires caller { AtPlace (parts_of parts.old) request.maker (caller_target request.caller) }
     requires there { IsSome (get (seen parts.old).core.instances request.callee.instance) }
-    requires result { request.goal ≡ goals.Main → IsSome (lookup (is_at (nat_cmp (parts.old.made.threads + 1))) parts.old.results.entries) }
+    requires result { request.goal ≡ goals.Main → HasRoom (parts.old.made.threads + 1) parts.old.results.entries }
     requires loose { AreStrandLoose (bare (parts_of parts.old)) nodes.0 nodes.1 }
     ensures sound { IsSound parts.new }
     ensures thread { IfOk result (λ ids. thread_of (seen parts.new) ids.0 ≡ (seen parts.old).core.made.threads + 1) }
@@ -77,7 +75,7 @@ pub fn prepare(parts: &mut CoreParts, goal: Goal) -> Result<(CallNodes, ThreadNo
     ensures sound { IsSound parts.new }
     ensures seen { seen parts.new ≡ seen parts.old }
     ensures loose { IfOk result (λ nodes. AreStrandLoose (bare (parts_of parts.new)) nodes.0 nodes.1) }
-    ensures result { OnOk result (goal ≡ goals.Main → IsSome (lookup (is_at (nat_cmp (parts.new.made.threads + 1))) parts.new.results.entries)) }
+    ensures result { OnOk result (goal ≡ goals.Main → HasRoom (parts.new.made.threads + 1) parts.new.results.entries) }
 {
     if let Goal::Main = goal {
         let number = parts.made.threads + 1;
@@ -101,7 +99,7 @@ fn add_main_strand(
     requires room { fits 4 (seen parts.old).core ≡ true }
     requires caller { request.caller ≡ callers.Main }
     requires there { IsSome (get (seen parts.old).core.instances request.callee.instance) }
-    requires result { request.goal ≡ goals.Main → IsSome (lookup (is_at (nat_cmp (parts.old.made.threads + 1))) parts.old.results.entries) }
+    requires result { request.goal ≡ goals.Main → HasRoom (parts.old.made.threads + 1) parts.old.results.entries }
     requires loose { AreStrandLoose (bare (parts_of parts.old)) nodes.0 nodes.1 }
     ensures sound { IsSound parts.new }
     ensures thread { IfOk result (λ ids. thread_of (seen parts.new) ids.0 ≡ (seen parts.old).core.made.threads + 1) }
@@ -183,7 +181,7 @@ pub fn add_named_strand(
     requires group { Ok group ≡ item_at item_of parts.old.groups id.rep id.serial }
     requires caller { AtPlace (parts_of parts.old) request.maker (caller_target request.caller) }
     requires there { IsSome (get (seen parts.old).core.instances request.callee.instance) }
-    requires result { request.goal ≡ goals.Main → IsSome (lookup (is_at (nat_cmp (parts.old.made.threads + 1))) parts.old.results.entries) }
+    requires result { request.goal ≡ goals.Main → HasRoom (parts.old.made.threads + 1) parts.old.results.entries }
     requires loose { AreStrandLoose (bare (parts_of parts.old)) nodes.0 nodes.1 }
     ensures sound { IsSound parts.new }
     ensures thread { IfOk result (λ ids. thread_of (seen parts.new) ids.0 ≡ next_thread (seen parts.old).core) }

@@ -4,7 +4,7 @@ use Rattle.std.proofs.lemmas.Bool.Decides.{nat_tests}
 use Rattle.std.specs.Option.{option_map_or}
 use Rattle.std.specs.Prelude.{Err, IfSome, List, None, Ok, Option, Some, false, length, true, ℕ, ◌==◌, ◌≡◌}
 use Rattle.task_calls.specs.Calls.{Starts}
-use Rattle.task_calls.specs.declared.error.TaskError.TheVariants as task_error
+use Rattle.state_calls.specs.declared.error.TaskError.TheVariants as task_error
 use Rattle.task_calls.proofs.ApartLemmas.{trap_in_order}
 use Rattle.task_machine.specs.Write.{set_trapped}
 use Rattle.task_machine.specs.declared.component.Callee.{Callee}

@@ -2,8 +2,9 @@
 use Rattle.std.proofs.Common.{ap, arith, refl, subst, sym, ◌∙◌}
 use Rattle.std.proofs.lemmas.Bool.Decides.{nat_tests}
 use Rattle.std.specs.Prelude.{None, Ok, Option, Some, false, if◌then◌else◌, true, ℕ, ◌≡◌}
-use Rattle.task_calls.specs.Tasks.{Begins, IsLive, task_made}
-use Rattle.task_calls.specs.declared.tasks.QualifiedThreadId.{QualifiedThreadId}
+use Rattle.state_calls.specs.Named.{IsLive}
+use Rattle.task_calls.specs.Tasks.{Begins, task_made}
+use Rattle.state_calls.specs.declared.names.QualifiedThreadId.{QualifiedThreadId}
 use Rattle.task_machine.specs.Core.{Core}
 use Rattle.task_machine.specs.Maps.{get-insert}
 use Rattle.task_machine.specs.Read.{task_of}

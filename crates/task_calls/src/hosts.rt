@@ -7,8 +7,8 @@ ghost use Rattle.task_rules.specs.MainOps.{start_refusal};
 ghost use Rattle.task_rules.specs.Scripts.{export_at};
 ghost use Rattle.task_turns.specs.Turn.{Sits, given};
 
-use crate::error::TaskError;
 use futures::task::Poll;
+use state_calls::TaskError;
 use task_machine::{Callee, Component, MainLabel};
 use task_ops::{Acted, finish, start};
 use task_turns::export_def;

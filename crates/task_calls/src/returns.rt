@@ -9,7 +9,7 @@ ghost use Rattle.task_rules.specs.Scripts.{op_of, value_of};
 ghost use Rattle.task_turns.specs.WellFormed.{IsWellFormed};
 ghost use Rattle.task_turns.specs.Turn.{Sits, running_of};
 
-use crate::error::TaskError;
+use state_calls::TaskError;
 use task_machine::Component;
 use task_ops::{Came, ret, ret_bad};
 use task_words::Words;

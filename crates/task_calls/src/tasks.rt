@@ -1,22 +1,16 @@
 //! Calls whose threads are New.
-ghost use Rattle.std.specs.Prelude.{◌≡◌, ◌<◌, ◌^◌, ◌↔◌, IfOk, IfSome, IsSome, IsTrue, OnErr, OnOk, true};
-ghost use Rattle.task_calls.specs.Tasks.{Begins, IsLive, entries_of, task_made};
+ghost use Rattle.std.specs.Prelude.{◌≡◌, ◌<◌, ◌^◌, IfOk, IfSome, IsSome, OnErr, OnOk, true};
+ghost use Rattle.state_calls.specs.Named.{IsLive};
+ghost use Rattle.task_calls.specs.Tasks.{Begins, entries_of, task_made};
 ghost use Rattle.task_machine.specs.Maps.{get};
 ghost use Rattle.task_machine.specs.Read.{fits};
 ghost use Rattle.task_rules.specs.Calls.{next_thread};
 ghost use Rattle.task_turns.specs.Turn.{given};
 ghost use Rattle.task_words.specs.StateView.{Keeps, call_of, thread_of};
 
-use crate::error::TaskError;
+use state_calls::{QualifiedThreadId, TaskError};
 use task_machine::{Callee, ExportKind, Goal, NoMemory, Trap};
-use task_words::{CallId, ThreadId, Words};
-
-/// A thread and its call.
-#[derive(Clone, Copy)]
-pub struct QualifiedThreadId {
-    pub task: CallId,
-    pub thread: ThreadId,
-}
+use task_words::Words;
 
 // How many entries of the table a call takes.
 fn entries_for(caller: Option<QualifiedThreadId>) -> usize
@@ -84,12 +78,4 @@ pub fn new_guest_task<W: Words>(
         w.set_trapped();
     }
     Ok(id)
-}
-
-/// Whether the id names a live thread and its call: the test for the condition on ids.
-pub fn is_live<W: Words>(w: &W, thread: QualifiedThreadId) -> bool
-    ensures { IsTrue result ↔ IsLive (W.view w.now) thread }
-{
-    let number = w.number(thread.thread);
-    number != 0 && w.call_number(w.task_of(thread.thread)) == w.call_number(thread.task)
 }

@@ -1,7 +1,6 @@
 -- The call that an op is inside of is there: along the words of a step.
 use Rattle.task_laws.proofs.Words.{after_word, Allowed, ap, arith, Bool, Call, call_came, CallAfter, CallEnd, CallsAwaited, cancelled_call, Core, end_of, false, get, goal_of, has_ended, HasCalled, how_far_of, HowFar, inl, inr, is_awaited, is_deletable, is_direct, is_none, is_returned, IsNamed, IsRunner, IsStarting, MayCome, MayTakeEvent, MayTell, next_thread, None, Numbered, OnlyCalled, op_came, Option, option_map_or, Place, place_of, refl, Scene, Some, StartsFirst, Status, subst, Subtask, sym, TakesCalled, TakesCancelled, TakesNamed, Thread, true, Turn, Word, ℕ, ⊎_elim, ◌&&◌, ◌||◌, ◌∙◌, ◌≡◌, ◌≤◌, ◌⊎◌}
-use Rattle.task_laws.proofs.CallEnds.{ending, EndsNow, Gone, is_for_guest, Made, Same, Telling, telling_came, telling_of, TellingCame, TellsNow}
-use Rattle.task_laws.proofs.NamedCalls.{called_call, calls_call, NamesGo, NamesHold, unnamed_inside, WasInside}
+use Rattle.task_laws.proofs.{CallEnds.EndsNow, CallEnds.Gone, CallEnds.Made, CallEnds.Same, CallEnds.Telling, CallEnds.TellingCame, CallEnds.TellsNow, CallEnds.ending, CallEnds.is_for_guest, CallEnds.telling_came, CallEnds.telling_of, NamedCalls.NamesGo, NamedCalls.NamesHold, NamedCalls.WasInside, NamedCalls.called_call, NamedCalls.calls_call, NamedCalls.unnamed_inside}
 
 -- ---- Which calls are direct
 

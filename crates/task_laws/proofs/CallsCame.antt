@@ -1,7 +1,6 @@
 -- What one word does to the record of a call, and to that of a thread.
 use Rattle.task_laws.proofs.Rules.{add_call, add_group, add_set, add_thread, add_work, Advance, after_word, Allowed, ap, Call, call_made, Callee, CallEnd, Caller, CanCome, change, change-change_same, Core, count_work, EndCall, ExportKind, false, free_handle, free_thread_handle, get, get-insert_same, give_handle, give_result, give_thread_handle, Goal, how_far_of, HowFar, inl, inr, is_deletable, is_some, Join, le_refl, MakeCall, MakeThread, MayAdvance, MayCome, MayDeliver, MayEnd, MayJoin, MayMake, MayMakeCall, MayOwe, MayRestart, MayStart, NameCall, new_call, next_thread, None, on_call, on_instance, on_thread, on_work, Option, option_map, OwnEvent, Place, Places, Placing, placing_shifted, poll_pends, push_high, refl, remove_call, remove_group, remove_set, remove_thread, remove_work, RemoveCall, RemoveThread, Restart, Scene, Script, set_backpressure, set_cancel_delivered, set_cancelled, set_course, set_do_not_enter, set_do_not_suspend, set_end, set_event, set_exited, set_how_far, set_join, set_own_event, set_phase, set_position, set_register, set_result, set_saved_callee, set_saved_own, set_script, set_stage, set_started, set_starting_published, set_subtask_handle, set_thread_handle, set_trapped, set_uninteresting, set_word, SetCallJoin, SetHowFar, Some, subst, Subtask, sym, take_result, TakeHost, TakePush, Thread, true, unplaced, with_handle, with_thread_handle, Withdraw, Word, work_queued, ℕ, ◌≡◌, ◌≤◌, ◌⊎◌}
-use Rattle.task_laws.proofs.EachLemmas.{after_change, after_insert, after_remove}
-use Rattle.task_laws.proofs.SceneLemmas.{popped_threads}
+use Rattle.task_laws.proofs.{EachLemmas.after_change, EachLemmas.after_insert, EachLemmas.after_remove, SceneLemmas.popped_threads}
 
 at_most : {x y : ℕ} → x ≡ y → x ≤ y
 at_most {x = x} e = subst (λ (z : ℕ). x ≤ z) e (le_refl x)

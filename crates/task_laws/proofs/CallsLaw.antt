@@ -1,7 +1,6 @@
 -- Calls along the words of a step: a status only rises, an end stays, numbers name what they named, deliveries are for callbacks.
 use Rattle.task_laws.proofs.Rules.{arith, Bool, Call, Callee, CallEnd, CallKinds, CodesInCallbacks, Component, component_of, Core, DeliveredByCallback, ends_activation, EndsActivation, export_kind, false, get, goal_of, has_ended, is_async_lifted, is_callback, is_delivered, is_delivery, is_direct, is_exit, is_explicit, is_none, is_some, IsRunner, Join, kind_of, LaterBy, MayEnd, MayMove, None, Numbered, op_at_place, op_of, Option, option_map_or, OwnEvent, Place, place_of, Rises, SameThread, Scene, Script, script_in, script_of, Some, task_of, true, WasReady, Why, Word, ℕ, ⊎_elim, ◌≡◌, ◌≤◌, ◌⊎◌}
-use Rattle.task_laws.proofs.CallsCame.{Grew, Grows}
-use Rattle.task_laws.proofs.CameLemmas.{Came, Comes, MayStand, Moved, Shifts, Turned, Turns}
+use Rattle.task_laws.proofs.{CallsCame.Grew, CallsCame.Grows, CameLemmas.Came, CameLemmas.Comes, CameLemmas.MayStand, CameLemmas.Moved, CameLemmas.Shifts, CameLemmas.Turned, CameLemmas.Turns}
 
 -- ---- Statuses
 

@@ -1,11 +1,6 @@
 -- Calls along the words of a step, along steps and along runs.
 use Rattle.task_laws.proofs.Rules.{[], after_word, Allowed, along, arith, base_at, Call, CallEnd, CallsRise, CodesInCallbacks, Component, component_of, Core, DeliveredByCallback, ExplicitNamesNoCall, false, fresh, get, get-empty, is_async_lifted, is_callback, kind_of, Label, LastWords, LaterBy, le_refl, le_trans, List, MayDeliver, MayEnd, never_fewer, opening, Option, place_of, Queues, Reached, refl, Rises, Run, RunsRise, SameThread, Scene, scene_of, Setting, Some, State, Step, step_walks, StepsRise, subst, sym, SyncEndsLast, SyncNeverCancelled, task_of, Thread, ThreadNumbered, true, Turn, Walked, Word, ℕ, ◌∙◌, ◌∷◌, ◌≡◌, ◌≤◌}
-use Rattle.task_laws.proofs.Basics.{some_none, too_high}
-use Rattle.task_laws.proofs.CallsCame.{call_came, CallAfter, Grown, NewCall, NoCall, thread_came, ThreadAfter}
-use Rattle.task_laws.proofs.CallsLaw.{base_task, CallsGo, CallsHold, delivered_in, Goes, goes_after, goes_of, goes_same, GoneOr, kept_callback, kind_kept, KindHolds, later_after, later_none, later_same, place_delivers, ready_delivered, rises_after, rises_same}
-use Rattle.task_laws.proofs.CameLemmas.{came_word}
-use Rattle.task_laws.proofs.CountLemmas.{made_threads_word}
-use Rattle.task_laws.proofs.SceneLemmas.{base_is}
+use Rattle.task_laws.proofs.{Basics.some_none, Basics.too_high, CallsCame.CallAfter, CallsCame.Grown, CallsCame.NewCall, CallsCame.NoCall, CallsCame.ThreadAfter, CallsCame.call_came, CallsCame.thread_came, CallsLaw.CallsGo, CallsLaw.CallsHold, CallsLaw.Goes, CallsLaw.GoneOr, CallsLaw.KindHolds, CallsLaw.base_task, CallsLaw.delivered_in, CallsLaw.goes_after, CallsLaw.goes_of, CallsLaw.goes_same, CallsLaw.kept_callback, CallsLaw.kind_kept, CallsLaw.later_after, CallsLaw.later_none, CallsLaw.later_same, CallsLaw.place_delivers, CallsLaw.ready_delivered, CallsLaw.rises_after, CallsLaw.rises_same, CameLemmas.came_word, CountLemmas.made_threads_word, SceneLemmas.base_is}
 
 module _ (a : Scene) (codes : CodesInCallbacks (component_of a)) (h : CallsHold (component_of a) a.base) where
   -- ---- One word

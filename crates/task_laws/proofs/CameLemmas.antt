@@ -1,8 +1,6 @@
 -- What one word does to the place of a thread.
 use Rattle.task_laws.proofs.Rules.{[], after_word, Allowed, ap, arith, AtOp, behind, behind_one, callers_of, change-field, Core, displaced, Enter, foot_of, GoBehind, inl, inr, insert, is_some, is_sync_call, IsRunner, List, Mark, MayMove, MayPut, MayYield, Move, nat_tests, newest, next_thread, None, older, on_thread, op_in, Option, option_map, passed_on, Place, place_of, Places, Placing, Pop, Promote, promoted, push_high, push_high_first, push_low, Put, put_at, put_high, put_low, put_switch, refl, resumed_all, Scene, set_callers, set_high, set_low, set_place, set_place_is, set_place_there, set_switch, Some, stand, Stop, stopped, sym, Thread, true, Turn, unqueued, Why, why_of, Word, ℕ, ◌∙◌, ◌∷◌, ◌≡◌, ◌≤◌, ◌⊎◌}
-use Rattle.task_laws.proofs.CallsCame.{IsBeside, IsFirst, IsGone, IsSame, thread_came, ThreadAfter}
-use Rattle.task_laws.proofs.EachLemmas.{after_change}
-use Rattle.task_laws.proofs.SceneLemmas.{popped_threads}
+use Rattle.task_laws.proofs.{CallsCame.IsBeside, CallsCame.IsFirst, CallsCame.IsGone, CallsCame.IsSame, CallsCame.ThreadAfter, CallsCame.thread_came, EachLemmas.after_change, SceneLemmas.popped_threads}
 
 -- ---- Moves of other threads
 

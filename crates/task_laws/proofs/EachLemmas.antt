@@ -1,8 +1,6 @@
 -- What each record of a map keeps where one record is changed, made or taken away.
 use Rattle.task_laws.proofs.Rules.{Bool, change, cond, false, get, get-change, get-insert, get-remove, insert, is_eq_of, None, not_eq, Option, option_map, Records, refl, remove, Some, true, ℕ, ◌==◌, ◌≡◌}
 
--- ---- What is at a number before and after
-
 pub at_test : (n k : ℕ) (P : Bool → Type 0) → (n ≡ k → P true) → ((n ≡ k → ⊥) → P false) → P (n == k)
 at_test n k P own rest = go (n == k) refl
   where

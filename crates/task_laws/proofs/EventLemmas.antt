@@ -2,8 +2,6 @@
 use Rattle.task_laws.proofs.Words.{add_call, add_group, add_set, add_thread, add_work, after_word, Allowed, ap, arith, by_number, Call, call_came, call_made, CallAfter, CallEnd, CallsTold, Core, count_work, Doing, doing, EndCall, event_of, free_handle, free_thread_handle, get, get-change, get-insert, get-remove, give_handle, give_result, give_thread_handle, host_label, host_taken, inl, inr, is_told, le_trans, made_threads_word, Mark, nat_tests, None, on_call, on_instance, on_thread, on_work, Option, option_map, poll_pends, push_high, refl, remove_call, remove_group, remove_set, remove_thread, remove_work, SaysEnd, Scene, set_backpressure, set_cancel_delivered, set_cancelled, set_course, set_do_not_enter, set_do_not_suspend, set_end, set_event, set_exited, set_how_far, set_join, set_own_event, set_phase, set_position, set_register, set_result, set_saved_callee, set_saved_own, set_script, set_stage, set_started, set_starting_published, set_subtask_handle, set_thread_handle, set_trapped, set_uninteresting, set_word, SetCallEvent, Some, Status, status_of_end, subst, Subtask, take_result, TakeHost, true, undelivered_end, with_handle, with_thread_handle, Word, Work, work_queued, WorksStand, WorksTold, ℕ, ⊎_elim, ◌≡◌, ◌≤◌, ◌⊎◌}
 use Rattle.task_laws.proofs.Works.{WorkHolds, WorksHold}
 
--- ---- Calls
-
 told_event : (e : Status) → undelivered_end (Some e) ≡ None → (c : Option Status) → c ≡ Some e → undelivered_end c ≡ None
 told_event e none c is = grind arith
 
@@ -45,8 +43,6 @@ telling_word a w s ok q = record {
   told = λ k below told. q.told k below (told_word a w s ok k (le_trans below q.made) told);
   ends = λ k e below h. ⊎_elim (q.ends k e below) (λ now. inr (now.0, (now.1.0, (q.told k below now.1.1.0, now.1.1.1)))) (ends_told_word a w s ok k e h);
 }
-
--- ---- Works
 
 pub host_event_word : (a : Scene) (w : Word) (s : Core) → Allowed a w s → (i : ℕ) (e : Status) →
     undelivered_end (event_of (Subtask.Host i) (after_word w s)) ≡ Some e →

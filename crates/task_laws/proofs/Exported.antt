@@ -23,8 +23,6 @@ steps_keep_exports x s l t exist q step =
     let w = step_walks x s l t step in
     along (CallsExported x.component) (exported_word (scene_of x s l w.next) exist) q w.walk
 
--- ---- Instances
-
 pub instances_stay : InstancesStay
 instances_stay x s l t step i =
     along (λ u. is_some (get u.instances i) ≡ is_some (get s.core.instances i)) (λ w u ok same. instance_stays w u i ∙ same) refl (step_walks x s l t step).walk

@@ -1,8 +1,6 @@
 -- What is known of the thread that runs or is taken, as a step begins.
 use Rattle.task_laws.proofs.Rules.{ap, arith, base_at, base_without, Core, entries, Entry, HasPlace, InPlace, is_there, IsRunner, Label, List, Mark, nat_tests, next_entry, Option, or_high, popped, refl, scene_of, set_high, set_low, set_switch, Setting, Some, State, switch_entries, thread_of_entry, true, Turn, ℕ, ◌≡◌, ◌≤◌, ◌⊎◌}
 
--- ---- The core that a row reads
-
 popped_is : (m : Mark) (s : Core) → popped m s ≡ record s { queues = (popped m s).queues }
 unfolding popped set_switch set_high set_low
 popped_is m s = grind arith
@@ -17,8 +15,6 @@ without_is o s = grind (arith, popped_is)
 pub base_is : (u : Turn) (s : Core) → base_at u s ≡ record s { queues = (base_at u s).queues }
 base_is (Turn.Take ended) s = without_is (next_entry s) s
 base_is u s = refl
-
--- ---- Who runs or is taken is there
 
 -- whose entry stands anywhere is there
 entry_there : (n : ℕ) (s : Core) → HasPlace n s →

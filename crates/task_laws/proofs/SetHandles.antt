@@ -12,16 +12,12 @@ subtask_in tables i h = option_and_then as_subtask (named_by tables i h)
 abbrev pub home_in : Records Set → ℕ → Option ℕ
 home_in sets x = option_map (λ (r : Set). r.instance) (get sets x)
 
--- ---- A handle more, or less
-
 module _ {X : Type 0} (read : Named → Option X) where
   -- what is read of what handles name, as the instance i has given its next handle to nm
   pub given_names : (tables : Records (Table Named)) (i : ℕ) (nm : Named) (j g : ℕ) (x : X) →
       option_and_then read (named_by (change i (giving nm) tables) j g) ≡ Some x →
       (option_and_then read (named_by tables j g) ≡ Some x) ⊎ ((read nm ≡ Some x) × ((j ≡ i) × (g ≡ handle_of_table tables i)))
   given_names tables i nm j g x h = grind (arith, nat_tests, get-change, get-insert)
-
--- ---- Each word
 
 -- no handle more names a set
 fewer_named : {s t : Core} → t.made.sets ≡ s.made.sets → t.sets ≡ s.sets → ((j g x : ℕ) → set_at j g t ≡ Some x → set_at j g s ≡ Some x) →
@@ -57,8 +53,6 @@ sets_named_word a (CloseSet i h y) s ok q = record {
     old : (j g x : ℕ) → set_in (change i (taking h) s.handles) j g ≡ Some x → (set_at j g s ≡ Some x) × (j ≡ i → g ≡ h → ⊥)
     old j g x e = grind (arith, nat_tests, get-change, get-remove)
 sets_named_word a w s ok q = record { number = q.number; home = q.home; once = q.once }
-
--- ---- Reached states
 
 pub none_named : (n i h : ℕ) → named_by (filled (no_handles {X = Named}) n) i h ≡ None
 none_named n i h = go (get (filled no_handles n) i) (λ t is. filled_with n i t is)

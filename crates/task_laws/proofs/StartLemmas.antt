@@ -2,8 +2,6 @@
 use Rattle.task_laws.proofs.Words.{add_call, add_group, add_set, add_thread, add_work, after_word, Allowed, along, ap, arith, by_number, Call, call_came, call_made, CallAfter, CallsTold, Core, count_work, Departs, EndsOver, Falls, free_handle, free_thread_handle, get, get-change, get-insert, get-remove, give_handle, give_result, give_thread_handle, inl, inr, is_over, is_some, is_there, is_unbegun, IsNamed, MakeCall, MayGo, nat_tests, next_thread, None, on_call, on_instance, on_thread, on_work, Option, Place, place_of, Places, placing_shifted, poll_pends, popped_threads, push_high, refl, remove_call, remove_group, remove_set, remove_thread, remove_work, RemoveThread, SaysEnd, Scene, set_backpressure, set_cancel_delivered, set_cancelled, set_course, set_do_not_enter, set_do_not_suspend, set_end, set_event, set_exited, set_how_far, set_join, set_own_event, set_phase, set_position, set_register, set_result, set_saved_callee, set_saved_own, set_script, set_stage, set_started, set_starting_published, set_subtask_handle, set_thread_handle, set_trapped, set_uninteresting, set_word, Some, StartsAwaited, Status, Subtask, take_result, TakeHost, TakePush, too_high, true, Turn, with_handle, with_thread_handle, Withdraw, Word, work_queued, Writes, WritesAtOnce, WritesCall, WritesNever, WritesPolled, ℕ, ⊎_elim, ◌≡◌, ◌≤◌, ◌⊎◌}
 use Rattle.task_laws.proofs.StepEnds.{over_word}
 
--- ---- One word
-
 -- who is there stays, is gone, or is withdrawn
 there_word : (a : Scene) (w : Word) (s : Core) → Allowed a w s → (k : ℕ) → is_there k s ≡ true →
     (is_there k (after_word w s) ≡ true) ⊎ ((w ≡ RemoveThread k) ⊎ (w ≡ Withdraw k))
@@ -28,8 +26,6 @@ new_there : (a : Scene) (w : Word) (s : Core) → Allowed a w s → (k : ℕ) �
 unfolding add_call add_group add_set add_thread add_work call_made count_work free_handle free_thread_handle give_handle give_result give_thread_handle on_call on_instance on_thread on_work poll_pends push_high remove_call remove_group remove_set remove_thread remove_work set_backpressure set_cancel_delivered set_cancelled set_course set_do_not_enter set_do_not_suspend set_end set_event set_exited set_how_far set_join set_own_event set_phase set_position set_register set_result set_saved_callee set_saved_own set_script set_stage set_started set_starting_published set_subtask_handle set_thread_handle set_trapped set_uninteresting set_word take_result with_handle with_thread_handle work_queued
 new_there a (MakeCall f e x g group words) s ok k is none there = grind (arith, nat_tests, get-insert)
 new_there a w s ok k is none there = absurd (grind (arith, nat_tests, get-change, get-remove))
-
--- ---- A step
 
 -- the call was made before the step, whose label says that its start is withdrawn
 abbrev IsWithdrawing : Scene → ℕ → Type 0
@@ -73,8 +69,6 @@ module _ (a : Scene) (runs : (n : ℕ) → a.turn ≡ Turn.Run n → place_of n 
         where
           withdrawn : Allowed a (Withdraw k) s → IsWithdrawing a k
           withdrawn (may, says) = (named k may.1.1.0, says)
-
--- ---- The end of the step
 
 -- whose end the step writes has begun, or ended
 module _ (a : Scene) (t : Core) (told : CallsTold a.base) where

@@ -1,9 +1,6 @@
 -- What a step owes of the end of a subtask: of a call, and of a host work.
 use Rattle.task_laws.proofs.Words.{after_word, Allowed, along, Answers, ap, arith, Call, call_came, CallAfter, CallEnd, calls_begin, CallsHold, CodesInCallbacks, Core, course_of, course_value, covers_end, Doing, doing, doing_of, end_code, end_for, EndsByExit, EndsCall, EndsOwn, EndsSubtask, EndWords, event_of, exits_unended, false, get, goal_of, HandsAtOnce, HandsOut, has_end, has_ended, host_status, how_far_of, HowFar, inl, inr, is_async_work, is_direct, is_over, is_some, is_stage_ended, is_sync_work, IsNamed, IsPolled, IsReadyAtOnce, IsRunner, Label, LaterBy, le_trans, Moment, nat_tests, never_fewer, None, Option, option_and_then, option_map, plain, plain_scene, polled_is_live, refl, Rises, SaysEnd, Scene, scene_of, Setting, Some, stage_of, State, Status, status_of_end, Step, step_goes, Subtask, sym, TakesEvent, TakesResult, task_of, too_high, true, Turn, undelivered_end, Walked, Word, work_caller_of, Writes, WritesAtOnce, WritesCall, WritesNever, WritesPolled, WritesToo, written, ℕ, ⊎_elim, ◌∙◌, ◌≡◌, ◌≤◌, ◌⊎◌}
-use Rattle.task_laws.proofs.CallEnds.{ends_go, EndsGo, EndsTold, is_withdrawn, IsOfEnd, recorded, tells_there}
-use Rattle.task_laws.proofs.OnceLemmas.{covers_none, Due, EndStep, is_over_code, Keeps, Over}
-use Rattle.task_laws.proofs.SaidEnds.{hands_at, said_at, said_plain, written_at}
-use Rattle.task_laws.proofs.Works.{doing_or, doing_there, due_in, Lasts, number_of, stage_ended, WorksGo, WorksHold}
+use Rattle.task_laws.proofs.{CallEnds.EndsGo, CallEnds.EndsTold, CallEnds.IsOfEnd, CallEnds.ends_go, CallEnds.is_withdrawn, CallEnds.recorded, CallEnds.tells_there, OnceLemmas.Due, OnceLemmas.EndStep, OnceLemmas.Keeps, OnceLemmas.Over, OnceLemmas.covers_none, OnceLemmas.is_over_code, SaidEnds.hands_at, SaidEnds.said_at, SaidEnds.said_plain, SaidEnds.written_at, Works.Lasts, Works.WorksGo, Works.WorksHold, Works.doing_or, Works.doing_there, Works.due_in, Works.number_of, Works.stage_ended}
 
 -- the calls that come to an end are there: that of the running thread, and one that a handle names
 pub record CallsFound (a : Scene) : Type 0 where

@@ -10,8 +10,6 @@ abbrev pub NamedNow : Scene → Core → Subtask → Type 0
 NamedNow a s (Subtask.Guest k) = (j : ℕ) × Allowed a (NameCall j k) s
 NamedNow a s (Subtask.Host i) = (j : ℕ) × Allowed a (NameWork j i) s
 
--- ---- What a word names, and what an op comes to
-
 module _ (a : Scene) (s : Core) where
   given_named : (j : ℕ) (nm : Named) (i h : ℕ) (sub : Subtask) → IfSome (as_subtask nm) (NamedNow a s) →
       option_and_then as_subtask (named_by (change j (giving nm) s.handles) i h) ≡ Some sub → (subtask_at i h s ≡ Some sub) ⊎ NamedNow a s sub
@@ -39,8 +37,6 @@ module _ (a : Scene) (s : Core) where
   come_known n (HowFar.AwaitsEnd sub) ok = (n, inl (cancels_own a n sub ok.1.0))
   come_known n f ok = tt
 
--- ---- Calls that were made
-
 was_word : (a : Scene) (w : Word) (s : Core) → Allowed a w s → (k : ℕ) → WasCall s k → WasCall (after_word w s) k
 was_word a w s ok k h =
     let i : ThreadAfter a w s k = thread_came w s ok k in
@@ -67,8 +63,6 @@ module _ (a : Scene) (known : CallsNamed a.base) (s : Core) (q : Traced a s) whe
     };
   }
 
--- ---- Works that were made
-
 -- a work of the thread's was made
 work_known : (a : Scene) (s : Core) → WorksNamed a.base → a.base.made.works ≤ s.made.works → (j : ℕ) → Known a s (Subtask.Host j) → j ≤ s.made.works
 work_known a s known more j (n, inl (ByHandle h e)) = le_trans (known.by_handle _ h j e) more
@@ -81,8 +75,6 @@ works_named_word a known w s ok more q = record {
   by_handle = λ i h j e. le_trans (⊎_elim (q.by_handle i h j) (λ now. work_known a s known more j (named_known a s (Subtask.Host j) now)) (handle_named a s w ok i h (Subtask.Host j) e)) (made_works_word a w s);
   by_op = λ n j e. le_trans (⊎_elim (q.by_op n j) (λ g. work_known a s known more j (rw g.1.1 at (come_known a s n g.0 g.1.0))) (op_came (λ f. subtask_under_way f) (Subtask.Host j) w s ok n refl e)) (made_works_word a w s);
 }
-
--- ---- The first state
 
 pub opening_named : (instances handle_limit capacity : ℕ) → CallsNamed (fresh instances handle_limit capacity)
 unfolding fresh

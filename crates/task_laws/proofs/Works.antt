@@ -1,8 +1,6 @@
 -- What host works come to along the words of a step: their ends, and what they have to hand out.
 use Rattle.task_laws.proofs.Words.{after_word, Allowed, along, ap, arith, base_at, Bool, Core, course_value, Doing, doing_of, false, fresh, get, get-empty, has_end, host_status, if◌then◌else◌, inl, inr, is_aborted, is_async_work, is_finishing, is_late, is_some, is_stage_ended, is_sync_work, Label, later_after, later_same, LaterBy, le_refl, le_trans, LoopLabel, made_works_word, MayAbort, MayBeAborted, None, of_base, Option, option_and_then, refl, Scene, scene_of, Setting, Some, Stage, stand_word, State, Status, true, Turn, undelivered_end, Walked, Word, Work, work_came, WorkAfter, WorkCame, WorksStand, ℕ, ⊎_elim, ◌&&◌, ◌||◌, ◌≡◌, ◌≤◌, ◌⊎◌}
 
--- ---- What holds
-
 -- What holds of a work: an end where its stage says so; an event of its own end, once it has ended; and, where S says that none is
 -- aborted, a sync one ends with a value.
 pub record WorkHolds (S : Type 0) (v : Doing) : Type 0 where
@@ -49,8 +47,6 @@ doing_or i s = grind arith
 pub doing_there : (i : ℕ) (s : Core) → is_some (get s.works i) ≡ true → (v : Doing) × (doing_of i s ≡ Some v)
 doing_there i s h = ⊎_elim (λ none. absurd (grind arith)) (λ v. v) (doing_or i s)
 
--- ---- One word
-
 pub number_of : {S : Type 0} {s : Core} → WorksHold S s → (i : ℕ) (v : Doing) → doing_of i s ≡ Some v → i ≤ s.made.works
 number_of h i v at = h.stand.number i (ap (λ o. is_some o) at)
 
@@ -92,8 +88,6 @@ works_word {S = S} {a = a} unsync w s ok q = record {
     never : (i : ℕ) → S → (u : Doing) → doing_of i s ≡ Some u → is_sync_work u.caller ≡ true → MayAbort a i → ⊥
     never i y u e sync may = let n = unsync y i may in let other = n.other in let was = q.was i n.made in grind arith
 
--- ---- The first state
-
 pub opening_works : {S : Type 0} (instances handle_limit capacity : ℕ) → WorksHold S (fresh instances handle_limit capacity)
 unfolding fresh
 opening_works instances handle_limit capacity = record {
@@ -104,8 +98,6 @@ opening_works instances handle_limit capacity = record {
   };
   works = λ i v at. let e = get-empty {X = Work} i in absurd (cc);
 }
-
--- ---- A step
 
 pub first_works : {S : Type 0} (x : Setting) (s : State) (l : Label) (next : Turn) → WorksHold S s.core → WorksGo S
     (scene_of x s l next) s.core

@@ -1,9 +1,6 @@
 -- What each word of a step does to a host work, and that works have their entries.
 use Rattle.task_laws.proofs.Rules.{[], add_call, add_group, add_set, add_thread, add_work, after_placing, after_word, Allowed, ap, arith, Bool, call_made, change, change-change_same, Core, count_work, Course, course_of, course_value, EndWork, Entry, false, FinishWork, free_handle, free_thread_handle, get, get-change, give_handle, give_result, give_thread_handle, has_end, host_status, HostDef, inl, inr, is_aborted, is_async_work, is_finishing, is_host_of, is_late, is_push_of, is_queued, is_some, is_stage_ended, is_stage_live, Label, List, LoopLabel, Mark, MayAbort, MayFinish, MayRemoveWork, nat_tests, new_work, next_entry, next_work, None, on_call, on_instance, on_thread, on_work, one_if, Option, option_map, or_high, Pend, Phase, Places, placing_works, poll_pends, popped, push_high, QueueWork, refl, remove_call, remove_group, remove_set, remove_thread, remove_work, RemoveWork, rest_of, Scene, set_backpressure, set_cancel_delivered, set_cancelled, set_course, set_do_not_enter, set_do_not_suspend, set_end, set_event, set_exited, set_high, set_how_far, set_join, set_own_event, set_phase, set_position, set_register, set_result, set_saved_callee, set_saved_own, set_script, set_stage, set_started, set_starting_published, set_subtask_handle, set_thread_handle, set_trapped, set_uninteresting, set_word, SetPhase, Some, Stage, stage_of, stands, Status, sym, take_result, TakeHost, TakePush, TakeWorkEvent, true, unqueued, unqueued_works, with_handle, with_thread_handle, Withdraw, Word, Work, work_caller_of, work_entries, work_queued, WorkCaller, ℕ, ⊎_elim, ◌++◌, ◌+◌, ◌∙◌, ◌∷◌, ◌≡◌, ◌≤◌, ◌⊎◌}
-use Rattle.task_laws.proofs.Basics.{no_way}
-use Rattle.task_laws.proofs.CountLemmas.{made_works_word}
-use Rattle.task_laws.proofs.EachLemmas.{after_remove, at_change, at_insert}
-use Rattle.task_laws.proofs.PolledWorks.{polled_is_live}
+use Rattle.task_laws.proofs.{Basics.no_way, CountLemmas.made_works_word, EachLemmas.after_remove, EachLemmas.at_change, EachLemmas.at_insert, PolledWorks.polled_is_live}
 
 -- ---- What a work does
 

@@ -1,12 +1,6 @@
 -- The laws of the ends of calls and works that hold by each step alone.
 use Rattle.task_laws.proofs.Words.{Answers, arith, base_at, Bool, changes_end, end_for, EndsHandedAsTold, EndsWrittenOnce, EndWords, event_of, false, get, HandsAtOnce, HandsOut, inl, inr, is_some, Label, NewEndsAreSaid, NewResultsAreSaid, NoEndIsCovered, None, plain, plain_scene, Reached, reached_holds, reached_keeps, reached_step, refl, Setting, Some, State, Status, Step, step_walks, Subtask, TakesEvent, TakesResult, true, Turn, undelivered_end, Walked, WritesToo, written_by, WrittenEndsAreNew, ◌≡◌, ◌⊎◌}
-use Rattle.task_laws.proofs.CallEnds.{reached_ends_told}
-use Rattle.task_laws.proofs.OnceLemmas.{counts_once, Keeps, Over, over_changes, over_stays}
-use Rattle.task_laws.proofs.SaidEnds.{hands_at, said_plain}
-use Rattle.task_laws.proofs.StepEnds.{events_come, guest_covers, host_keeps, keeps_call, results_come, written_new}
-use Rattle.task_laws.proofs.Works.{opening_works, works_go, WorksHold}
-
--- ---- What a label says of calls
+use Rattle.task_laws.proofs.{CallEnds.reached_ends_told, OnceLemmas.Keeps, OnceLemmas.Over, OnceLemmas.counts_once, OnceLemmas.over_changes, OnceLemmas.over_stays, SaidEnds.hands_at, SaidEnds.said_plain, StepEnds.events_come, StepEnds.guest_covers, StepEnds.host_keeps, StepEnds.keeps_call, StepEnds.results_come, StepEnds.written_new, Works.WorksHold, Works.opening_works, Works.works_go}
 
 pub new_ends_are_said : NewEndsAreSaid
 unfolding NewEndsAreSaid
@@ -42,8 +36,6 @@ ends_handed_as_told x s l t step k e out =
     by next _ _ same (WritesToo j f says why) = inr (inr (let is : j ≡ k = cc in rw (← is) (said_plain x s l next t.core j f says)))
     by next _ _ same (HandsAtOnce i ready is) = absurd (cc)
     by next _ _ same (Answers n i runner far gone) = absurd (cc)
-
--- ---- The end of each record
 
 reached_works : {x : Setting} {s : State} → Reached x s → WorksHold ⊥ s.core
 reached_works {x = x} r = reached_keeps r (λ s. WorksHold ⊥ s.core)

@@ -1,6 +1,6 @@
 -- The calls of a host, by the export that they name.
 use Rattle.std.specs.Prelude.{Err, Ok, Result, ℕ}
-use Rattle.task_calls.specs.declared.error.TaskError.{TaskError}
+use Rattle.state_calls.specs.declared.error.TaskError.{TaskError}
 use Rattle.task_loop.specs.declared.call.Func.{Func}
 use Rattle.task_loop.specs.declared.call.FuncCallConcurrent.{FuncCallConcurrent}
 use Rattle.task_machine.specs.declared.component.Callee.{Callee}

@@ -1,7 +1,6 @@
 -- Nobody runs but the thread whose turn it is, along the words of a step.
 use Rattle.task_places.proofs.Laws.{after_placing, after_word, along, ap, arith, behind_one, by_number, Collapses, Core, Enter, false, get, get-change, get-remove, GoBehind, GoesBack, inl, InPlace, inr, is_none, IsBeside, IsFirst, IsGone, IsRunner, IsSame, Label, Lands, LandsAt, Mark, MayLand, MayMove, Move, Moved, nat_tests, on_thread, Option, option_map, Place, place_of, Places, Placing, placing_shifted, Promote, promoted_shifted, push_high, push_low, Put, put_high, put_low, put_shifted, Quits, Remains, remove_thread, RemoveThread, runner_at, RunsAlone, Scene, scene_of, set_callers, set_how_far, set_place, Setting, settle_threads, settled_turn, Settles, Some, State, Stay, Stays, stays_allowed, Stop, stopped_shifted, sym, Thread, thread_came, ThreadAfter, Trip, true, Turn, Walked, Word, ℕ, ⊎_elim, ◌==◌, ◌∙◌, ◌≡◌, ◌⊎◌}
-use Rattle.task_places.proofs.PlaceLaw.{Frame, yield_leaves}
-use Rattle.task_places.proofs.PlaceSteps.{step_by, Withdrawable}
+use Rattle.task_places.proofs.{PlaceLaw.Frame, PlaceLaw.yield_leaves, PlaceSteps.Withdrawable, PlaceSteps.step_by}
 
 abbrev Runs : ℕ → Core → Type 0
 Runs k s = place_of k s ≡ Some Place.Running
@@ -66,8 +65,6 @@ land_runs a (Enter j m) s ok k is =
     ⊎_elim (λ e. absurd (grind arith)) (λ r. ⊎_elim (λ e. inl (rw e.0 ok.1.0)) (λ q. inr (q.0, (j, (inl ok.0, r.1)))) (set_runs k m _ s r.0)) (set_runs k j _ (set_place m Place.Running s) is)
 land_runs a x s ok k is = absurd (grind arith)
 
--- ---- Trips
-
 module _ {a : Scene} {b : Core} {n : ℕ} {q : Option Place} (f : Frame a b n q) (runner : (k : ℕ) → Runs k b → IsRunner a k) where
   -- who ran before is the runner, and so comes to the place itself
   none_landed : (s : Core) (k : ℕ) → Stay a b s → Landed a k s → a.next ≡ Turn.Run k
@@ -96,8 +93,6 @@ module _ {a : Scene} {b : Core} {n : ℕ} {q : Option Place} (f : Frame a b n q)
   trip_alone (GoesBack s t j m v c is runs to under d ok) open_at k at =
       by_number k m _ (λ e. rw e to) (λ other. none_left s t j k c is d (grind (arith, nat_tests, get-change)))
   trip_alone (Collapses t over c) open_at k is = absurd (open_at over)
-
--- ---- A step
 
 pub step_alone : (x : Setting) (s : State) (l : Label) (t : State) (w : Walked x s l t) → InPlace s → Withdrawable (scene_of x s l w.next) →
     (t.turn ≡ Turn.Over → ⊥) → RunsAlone s.turn s.core → RunsAlone t.turn t.core

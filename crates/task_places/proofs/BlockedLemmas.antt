@@ -1,7 +1,6 @@
 -- No thread is blocked on a subtask that has an end as its event: along the words of a step.
 use Rattle.task_places.proofs.Laws.{after_placing, after_word, Allowed, along, ap, arith, base_at, Bool, by_number, Call, CallsTold, Came, came_word, cancelled_by, cancelled_call, Collapses, Comes, Component, Core, EndTells, EndWords, event_of, false, Frees, get, get-change, get-remove, GoesBack, host_taken, how_far_of, HowFar, inl, InOrderIf, inr, is_async_work, is_inside, is_told, IsBeside, IsFirst, IsGone, IsRunner, IsSame, Label, land_allowed, Lands, LandsAt, MayMove, MayStand, Move, Moved, nat_tests, None, NoneBlockedOnEnd, on_thread, Option, option_map, Place, place_of, Places, Placing, placing_shifted, plain, plain_scene, Promote, promoted_shifted, Put, put_shifted, Quits, refl, Remains, remove_thread, RemoveThread, said_plain, Scene, scene_of, set_how_far, set_place, SetHowFar, Setting, settle_threads, Settles, Shifts, Some, State, Status, status_of_end, Stay, Stays, stays_allowed, Steady, Stop, stopped_shifted, subst, Subtask, subtask_ended, subtask_under_way, sym, TellingGoes, TellsEnd, TellsLater, TellsNever, TellsNone, TellsNow, Thread, thread_came, ThreadAfter, Trip, true, Turn, Turned, Turns, undelivered_end, Walk, Walked, Why, Word, Work, WorksTold, written_at, ℕ, ⊎_elim, ◌∙◌, ◌≡◌, ◌≤◌, ◌⊎◌}
-use Rattle.task_places.proofs.PlaceLaw.{beside, Frame}
-use Rattle.task_places.proofs.PlaceSteps.{step_by, Withdrawable}
+use Rattle.task_places.proofs.{PlaceLaw.Frame, PlaceLaw.beside, PlaceSteps.Withdrawable, PlaceSteps.step_by}
 
 -- the thread is blocked on the subtask
 abbrev pub IsStuck : Subtask → ℕ → Core → Type 0

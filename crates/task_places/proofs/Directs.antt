@@ -2,8 +2,6 @@
 use Rattle.task_places.proofs.Laws.{arith, at_place, Core, DirectsOnTop, DirectsRun, false, get, goal_of, inl, inr, is_direct, None, Numbered, Option, Place, place_of, refl, Scene, Some, Steady, task_of, Thread, true, Turn, ℕ, ◌∙◌, ◌≡◌, ◌≤◌, ◌⊎◌}
 use Rattle.task_places.proofs.PlaceLaw.{Arrives}
 
--- ---- After a step
-
 module _ (a : Scene) (s t : Core) (steady : Steady s t) (before : Numbered s) (after : Numbered t) (arrives : Arrives a t)
     (home : (k : ℕ) → place_of k a.base ≡ place_of k s) (calls : (k : ℕ) → goal_of k a.base ≡ goal_of k s) where
   pub directs_on_top : DirectsOnTop s → DirectsRun a t → DirectsOnTop t

@@ -1,8 +1,6 @@
 -- A thread inside a sync call of a host waits for its work, or that is done; and host works have their entries: along the words of a step.
 use Rattle.task_places.proofs.Laws.{[], after_placing, after_word, Allowed, along, ap, arith, behind_one, blocked_place, by_number, Collapses, Core, Departs, EndsOver, Enter, fall_allowed, false, get, GoBehind, GoesBack, HostsAwaited, how_far_of, HowFar, inl, InPlace, inr, is_stage_ended, IsBeside, IsFirst, IsGone, IsRunner, IsSame, Label, land_allowed, Lands, LandsAt, Made, made_works_word, Mark, MayCome, MayLand, MayRemoveWork, Move, Option, option_map_or, Place, place_kept, place_of, Places, Placing, placing_shifted, push_high, push_low, Put, put_high, put_low, Quits, refl, Remains, RemoveThread, SameWorks, Scene, scene_of, set_callers, set_place, SetHowFar, Setting, settle_stays, Settles, Some, Stage, stage_of, Stand, State, Stay, stays_allowed, subst, Subtask, sym, Thread, thread_came, ThreadAfter, Trip, true, Walked, WasUnder, Word, Work, WorksQueued, ℕ, ⊎_elim, ◌==◌, ◌∙◌, ◌≡◌, ◌≤◌, ◌⊎◌}
-use Rattle.task_places.proofs.PlaceLaw.{beside, exits, Frame, move_runner, runner_there, stands, stay_word, stuck_word, watch, yield_leaves}
-use Rattle.task_places.proofs.PlaceSteps.{Reads, step_by, Withdrawable}
-use Rattle.task_places.proofs.WorksQueued.{ended_word, others_move, works_word}
+use Rattle.task_places.proofs.{PlaceLaw.Frame, PlaceLaw.beside, PlaceLaw.exits, PlaceLaw.move_runner, PlaceLaw.runner_there, PlaceLaw.stands, PlaceLaw.stay_word, PlaceLaw.stuck_word, PlaceLaw.watch, PlaceLaw.yield_leaves, PlaceSteps.Reads, PlaceSteps.Withdrawable, PlaceSteps.step_by, WorksQueued.ended_word, WorksQueued.others_move, WorksQueued.works_word}
 
 -- a blocked thread stays, or the work is done, where the word is a change of places
 abbrev Stuck : Word → Core → Type 0

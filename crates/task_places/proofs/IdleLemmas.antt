@@ -1,12 +1,8 @@
 -- An idle state in order that has the facts on wakes is stalled.
 use Rattle.task_places.proofs.Laws.{[], any_found, any_thread, ap, arith, Bool, CallersGoOn, cond, Core, count_by, event_of, false, found_any, get, goes_on_at, goes_on_within, has_ready_member, has_waiter, HasPlace, Idle, is_behind, is_blocked_on_end, is_held_for, is_passed_over, is_ready_member, is_stalled, is_unended_take, is_woken_for, List, list_any, Mark, next_entry, None, NoneBlockedOnEnd, numbers, Option, option_map, Place, place_of, Placed, ready_members, refl, RunsAlone, Some, Stalled, State, Subtask, subtasks, suc, sum_by-cons, Thread, true, Turn, undelivered_end, WakesCounted, Why, woken, zero, ℕ, ◌∙◌, ◌∷◌, ◌≡◌, ◌≤◌}
-use Rattle.task_places.proofs.OrderLemmas.{reached_in_order}
-use Rattle.task_places.proofs.WakeLines.{none_of}
-use Rattle.task_places.specs.Kept.{ReachedInOrder}
-use Rattle.task_places.specs.Wakes.{IdleIsStalled, ReachedUnblocked}
+use Rattle.task_places.proofs.{OrderLemmas.reached_in_order, WakeLines.none_of}
+use Rattle.task_places.specs.{Kept.ReachedInOrder, Wakes.IdleIsStalled, Wakes.ReachedUnblocked}
 use Rattle.task_rules.specs.Stalled.{is_idle}
-
--- ---- Counts
 
 any_counts : {X : Type 0} (test : X → Bool) (xs : List X) → list_any test xs ≡ true → 1 ≤ count_by test xs
 any_counts test [] h = absurd (grind arith)
@@ -24,8 +20,6 @@ any_place test s h = found_any (λ n t. test t) s.threads.list s.threads.sorted 
 found_place : (test : Thread → Bool) (n : ℕ) (s : Core) (t : Thread) → get s.threads n ≡ Some t → test t ≡ true → any_thread test s ≡ true
 unfolding get
 found_place test n s t at is = any_found test n s.threads.list (grind arith)
-
--- ---- No thread is ready or runs
 
 abbrev is_active : Place → Bool
 is_active (Place.Ready m w) = true
@@ -55,8 +49,6 @@ goes_by s k n still rest o at on = absurd (grind arith)
 none_goes : (s : Core) (k n : ℕ) → Still s → goes_on_within k s n ≡ true → ⊥
 none_goes s zero n still h = absurd (grind arith)
 none_goes s (suc k) n still h = goes_by s k n still (λ m. none_goes s k m still) (place_of n s) refl h
-
--- ---- The lines
 
 false_of : (b : Bool) → (b ≡ true → ⊥) → b ≡ false
 false_of true h = absurd (h refl)

@@ -3,8 +3,6 @@ use Rattle.task_places.proofs.Laws.{[], abort_kept, AbortsOwn, along, Answered, 
 use Rattle.task_places.proofs.OrderLemmas.{asked, held_of, opening_in_order, step_in_order}
 use Rattle.task_places.specs.Once.{IsUnbegun, RunsAreOnce}
 
--- ---- What is known before a step
-
 -- what is to be handed out has ended
 abbrev DueOver : Core → Type 0
 DueOver s = (sub : Subtask) (e : Status) → Due sub e s → Over sub s
@@ -91,8 +89,6 @@ module _ (x : Setting) (s : State) (l : Label) (t : State) (k : Known x s) (step
     zero = works_after.1 0 k.zero;
     over = λ sub e due. due_over (end_step sub) e ((end_step sub).comes e due);
   }
-
--- ---- Runs
 
 none_due : (instances handle_limit capacity : ℕ) (sub : Subtask) (e : Status) → Due sub e (fresh instances handle_limit capacity) → ⊥
 unfolding fresh

@@ -1,5 +1,9 @@
 -- The machine's core that the parts of a core stand for, and what ids name.
-use Rattle.std.specs.Prelude.{ℕ, Bool, List, [], ◌∷◌, Option, Some, None, filter, map, nat_lt, option_map}
+use Rattle.std.specs.BTreeMap.{is_at}
+use Rattle.std.specs.Map.{lookup}
+use Rattle.std.specs.Option.{option_map_or}
+use Rattle.std.specs.Ordering.{nat_cmp}
+use Rattle.std.specs.Prelude.{◌≡◌, false, true, ℕ, Bool, List, [], ◌∷◌, Option, Some, None, filter, map, nat_lt, option_map}
 use Rattle.task_handles.specs.Counter.{Counter}
 use Rattle.task_index.specs.Rows.{values}
 use Rattle.task_links.specs.Links.{Spot}
@@ -12,6 +16,7 @@ use Rattle.task_records.specs.declared.calls.GuestTask.{GuestTask}
 use Rattle.task_records.specs.declared.calls.TaskGroup.{TaskGroup}
 use Rattle.task_records.specs.declared.instances.InstanceRecord.{InstanceRecord}
 use Rattle.task_records.specs.declared.parts.Kept.{Kept}
+use Rattle.task_records.specs.declared.parts.ResultRoom.{ResultRoom}
 use Rattle.task_records.specs.declared.single.Single.{Single}
 use Rattle.task_records.specs.declared.sets.WaitSet.{WaitSet}
 use Rattle.task_records.specs.declared.threads.Follower.{Follower}
@@ -46,7 +51,7 @@ pub record Parts : Type 0 where
   pub live : Option ℕ
   pub switch : Option Follower
   pub current : Option (TableId ThreadKey)
-  pub results : List (ℕ × Option ℕ)
+  pub results : List (ℕ × ResultRoom)
   pub kept : Kept
   pub finished : ℕ
   pub capacity : ℕ
@@ -63,10 +68,17 @@ abbrev pub callers_in : List (Spot Follower) → Single GuestThread → Option (
 callers_in behind g = Some (g.item.number, map (λ f. f.number) (values behind g.item.callers))
 
 -- the results that were given, of those that there is room for
-abbrev pub given_results : List (ℕ × Option ℕ) → Records ℕ
+abbrev pub with_given : Records ℕ → ℕ → Option ℕ → Records ℕ
+with_given rs k None = remove rs k
+with_given rs k (Some v) = insert rs k v
+
+abbrev pub given_results : List (ℕ × ResultRoom) → Records ℕ
 given_results [] = empty
-given_results ((k, None) ∷ rs) = remove (given_results rs) k
-given_results ((k, Some v) ∷ rs) = insert (given_results rs) k v
+given_results (e ∷ es) = with_given (given_results es) e.0 e.1.given
+
+-- There is room for the result of a call of this number that is there.
+abbrev pub HasRoom : ℕ → List (ℕ × ResultRoom) → Type 0
+HasRoom k rs = option_map_or (λ r. r.lives) (lookup (is_at (nat_cmp k)) rs) false ≡ true
 
 abbrev pub core_of : Parts → Core
 core_of p = record {

@@ -3,9 +3,6 @@
 --     bare               the parts without the fields of records on which nothing hangs
 --     IsWhole            names, indexes, rows and kept numbers
 use Rattle.std.specs.Prelude.{◌≡◌, ◌+◌, ◌<◌, ◌≤◌, ℕ, false, [], Option, None, Some, IfSome, IsSome, map, slice_get}
-use Rattle.std.specs.BTreeMap.{is_at}
-use Rattle.std.specs.Map.{lookup}
-use Rattle.std.specs.Ordering.{nat_cmp}
 use Rattle.task_handles.specs.Handles.{no_handles}
 use Rattle.task_index.specs.Counts.{passing}
 use Rattle.task_index.specs.Index.{IsIndex, filings}
@@ -21,7 +18,7 @@ use Rattle.task_machine.specs.declared.records.Script.TheVariants as script
 use Rattle.task_machine.specs.declared.records.Thread.{Thread}
 use Rattle.task_machine.specs.declared.records.Work.{Work}
 use Rattle.task_machine.specs.declared.words.Phase.TheVariants as phase
-use Rattle.task_records.specs.Image.{Parts, core_of}
+use Rattle.task_records.specs.Image.{HasRoom, Parts, core_of}
 use Rattle.task_records.specs.Kept.{AreKept, IsCallKept, IsGroupKept, IsSetKept}
 use Rattle.task_records.specs.Keys.{call_key, group_key, set_key, thread_key, work_key}
 use Rattle.task_records.specs.Kinds.{on_item}
@@ -137,7 +134,7 @@ pub record AreCounted (p : Parts) : Type 0 where
   pub high : (p.instances ≡ [] → ⊥) → IsSome p.high
   pub low : (p.instances ≡ [] → ⊥) → IsSome p.low
   pub works : EachEntry (λ (w : HostWork). IsSome p.high × IsSome p.live) p.works
-  pub results : (k : ℕ) (c : Call) → get (core_of p).calls k ≡ Some c → c.goal ≡ goal.Main → IsSome (lookup (is_at (nat_cmp k)) p.results)
+  pub results : (k : ℕ) (c : Call) → get (core_of p).calls k ≡ Some c → c.goal ≡ goal.Main → HasRoom k p.results
 
 pub record IsWhole (p : Parts) : Type 0 where
   pub named : AreNamed p

@@ -31,6 +31,13 @@ pub struct Kept {
     pub moving: u64,
 }
 
+/// Room for the result of a call by main: the result, if it was given and not taken, and whether the call is there.
+#[derive(Clone, Copy)]
+pub struct ResultRoom {
+    pub given: Option<u64>,
+    pub lives: bool,
+}
+
 /// The parts of a core.
 #[derive(Drop)]
 pub struct CoreParts {
@@ -65,8 +72,8 @@ pub struct CoreParts {
     pub switch: Option<Follower>,
     /// The thread that runs.
     pub current: Option<TableId<ThreadKey>>,
-    /// Of each call by main that was not taken yet its result, if it has returned.
-    pub results: BTreeMap<u64, Option<u64>>,
+    /// The rooms for results, by the numbers of calls by main: of each that is there or whose result was not taken.
+    pub results: BTreeMap<u64, ResultRoom>,
     pub kept: Kept,
     /// The groups up to this number were finished by the trap of the store.
     pub finished: u64,

@@ -3,8 +3,7 @@ use Rattle.task_rules.proofs.Machine.{[], admitted_held, All-permutation, ap, ar
 use Rattle.std.proofs.Math.Bool.{or-false}
 use Rattle.std.proofs.lemmas.List.{nil_from_length}
 use Rattle.std.specs.Prelude.{All}
-use Rattle.task_rules.proofs.PlacingLemmas.{placing_shifted, shifted_instance}
-use Rattle.task_rules.proofs.StopLemmas.{find_passes}
+use Rattle.task_rules.proofs.{PlacingLemmas.placing_shifted, PlacingLemmas.shifted_instance, StopLemmas.find_passes}
 use Rattle.std.specs.FinMap.Entries.{find as seek}
 
 -- ---- What passes a check

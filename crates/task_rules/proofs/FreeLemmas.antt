@@ -1,9 +1,6 @@
 -- Who is blocked on a subtask goes on as its event is set.
 use Rattle.task_rules.proofs.Machine.{arith, blocked_on, Bool, Core, false, Frees, get, is_at, is_blocked_on, is_callback_waiter, is_done_host, Join, join_of, Mark, nat_tests, None, numbers, Option, Place, place_of, published, push_high, put_high, refl, Scene, set_event, Some, Status, Subtask, sym, Thread, true, unblocked, wake, wake_joined, waken_by, Walk, Why, ℕ, ◌==◌, ◌∙◌, ◌≡◌}
-use Rattle.task_rules.proofs.ChainLemmas.{Keep, keep_stay}
-use Rattle.task_rules.proofs.SayLemmas.{found_none}
-use Rattle.task_rules.proofs.StandLemmas.{set_place_is}
-use Rattle.task_rules.proofs.WalkMoves.{blocked_at, ChosenIn, evented, published_shifts}
+use Rattle.task_rules.proofs.{ChainLemmas.Keep, ChainLemmas.keep_stay, SayLemmas.found_none, StandLemmas.set_place_is, WalkMoves.ChosenIn, WalkMoves.blocked_at, WalkMoves.evented, WalkMoves.published_shifts}
 
 abbrev IsStuck : Subtask → ℕ → Core → Type 0
 IsStuck sub n s = place_of n s ≡ Some (Place.Blocked sub)

@@ -1,10 +1,6 @@
 -- The laws of steps and runs.
 use Rattle.task_rules.proofs.Machine.{[], add_call, add_group, add_set, add_thread, add_work, AddGroup, after_word, ap, arith, Call, call_made, Core, count_work, EachStep, free_handle, free_thread_handle, get, get-change, get-insert, get-remove, give_handle, give_result, give_thread_handle, KeptByRuns, Label, LaterBy, LaterCall, LaterWork, le_trans, nat_tests, NeverFewer, None, on_call, on_instance, on_thread, on_work, Option, Outcome, outcome_of_label, OutcomeEnds, OutcomeIsLast, OverIsLast, Places, poll_pends, push_high, refl, remove_call, remove_group, remove_set, remove_thread, remove_work, Run, RunGoesOn, RunsJoin, SameLimits, SameThread, set_backpressure, set_cancel_delivered, set_cancelled, set_course, set_do_not_enter, set_do_not_suspend, set_end, set_event, set_exited, set_how_far, set_join, set_own_event, set_phase, set_position, set_register, set_result, set_saved_callee, set_saved_own, set_script, set_stage, set_started, set_starting_published, set_subtask_handle, set_thread_handle, set_trapped, set_uninteresting, set_word, Setting, settled_turn, SetTrapped, Some, State, Steady, Step, subst, sym, take_result, TakeHost, TakePush, Thread, Turn, TurnStep, with_handle, with_thread_handle, Word, Work, work_queued, ℕ, ◌∙◌, ◌∷◌, ◌≡◌, ◌≤◌}
-use Rattle.task_rules.proofs.ChainLemmas.{along}
-use Rattle.task_rules.proofs.PlacingLemmas.{placing_shifted, popped_shifted}
-use Rattle.task_rules.proofs.WalkSteps.{step_walks}
-
--- ---- The end
+use Rattle.task_rules.proofs.{ChainLemmas.along, PlacingLemmas.placing_shifted, PlacingLemmas.popped_shifted, WalkSteps.step_walks}
 
 -- a label that gives an outcome ends the turns
 pub step_ends : OutcomeEnds
@@ -14,8 +10,6 @@ step_ends x s l t step o is = let c = step_walks x s l t step in c.turn ∙ ap (
 pub step_over : OverIsLast
 unfolding Step
 step_over x s l t is step = subst (λ (u : Turn). TurnStep x s u l t) is step
-
--- ---- Runs
 
 pub run_goes_on : RunGoesOn
 run_goes_on x s [] m l t r step = (t, (subst (λ (y : State). Step x y l t) r step, refl))
@@ -44,8 +38,6 @@ pub outcome_is_last : OutcomeIsLast
 outcome_is_last x s [] l k t r = not_last x r.0 k r.1.1.0 (outcome_of_label l) (step_ends x s l r.0 r.1.0) r.1.1.1.0
 outcome_is_last x s (j ∷ js) l k t r = outcome_is_last x r.0 js l k t r.1.1
 
--- ---- Counts and limits
-
 fewer_word : (w : Word) (s : Core) → NeverFewer s (after_word w s)
 unfolding add_call add_group add_set add_thread add_work call_made count_work free_handle free_thread_handle give_handle give_result give_thread_handle on_call on_instance on_thread on_work poll_pends push_high remove_call remove_group remove_set remove_thread remove_work set_backpressure set_cancel_delivered set_cancelled set_course set_do_not_enter set_do_not_suspend set_end set_event set_exited set_how_far set_join set_own_event set_phase set_position set_register set_result set_saved_callee set_saved_own set_script set_stage set_started set_starting_published set_subtask_handle set_thread_handle set_trapped set_uninteresting set_word take_result with_handle with_thread_handle work_queued
 fewer_word AddGroup s = omega arith
@@ -67,8 +59,6 @@ same_limits = step_kept SameLimits (λ s. assumption) limited_word
 
 pub runs_same_limits : KeptByRuns SameLimits
 runs_same_limits = runs_keep SameLimits (λ s. assumption) (λ s m t a b. grind arith) same_limits
-
--- ---- Records
 
 -- what was there is gone or later, along two steps
 thread_after : (x y z : Option Thread) → LaterBy SameThread x y → LaterBy SameThread y z → LaterBy SameThread x z

@@ -1,7 +1,6 @@
 -- Moves beside a thread that runs or is taken: they leave each other thread its place.
 use Rattle.task_rules.proofs.Machine.{[], ap, arith, Bool, cond, Core, Delivery, displaced, false, get-remove, get-remove_other, get-remove_same, HasPlace, held_why, held_why_of, is_callback_waiter, is_free, is_there, List, Mark, may_wake, nat_tests, None, on_thread, one_if, Option, option_and_then, option_map, option_map_or, Place, place_of, Placed, push_high, push_high_first, push_low, put_at, put_high, put_low, put_switch, refl, released, released_one, ReleaseKeepsPlaces, RemovalKeepsPlaces, remove_thread, set_place, set_switch, Some, StopKeepsPlaces, stopped, subst, switch_entries, sym, Thread, times, true, wake, WakeKeepsPlaces, waken_by, Why, why_of, ℕ, ◌+◌, ◌==◌, ◌∙◌, ◌∷◌, ◌≡◌, ◌≤◌}
-use Rattle.task_rules.proofs.StandLemmas.{Adds, adds_all, by_count, eq_refl, free_drops, is_so, is_watched, Loose, moves_stand, nobody, not_eq, place_kept, put_high_adds, put_low_adds, set_place_adds, Stand, Watch, zero_one}
-use Rattle.task_rules.proofs.StopLemmas.{displaced_stand, stopped_stand, switch_adds}
+use Rattle.task_rules.proofs.{StandLemmas.Adds, StandLemmas.Loose, StandLemmas.Stand, StandLemmas.Watch, StandLemmas.adds_all, StandLemmas.by_count, StandLemmas.eq_refl, StandLemmas.free_drops, StandLemmas.is_so, StandLemmas.is_watched, StandLemmas.moves_stand, StandLemmas.nobody, StandLemmas.not_eq, StandLemmas.place_kept, StandLemmas.put_high_adds, StandLemmas.put_low_adds, StandLemmas.set_place_adds, StandLemmas.zero_one, StopLemmas.displaced_stand, StopLemmas.stopped_stand, StopLemmas.switch_adds}
 pub use Rattle.task_machine.proofs.CommuteLemmas.{get-change}
 
 -- ---- Where other threads are

@@ -12,8 +12,6 @@ less_takes n (e ∷ es) h = by_test (is_entry_of n e) refl (less_takes n es) h
         let r = rest h in
         record { front = e ∷ r.front; back = r.back; before = ap (λ xs. e ∷ xs) r.before; after = ap (λ xs. e ∷ xs) r.after }
 
--- ---- The promoted entry
-
 promoted_moves : (n : ℕ) (s : Core) → (has_entry n s.queues.high || has_entry n s.queues.low) ≡ true → s.queues.switch ≡ None →
     Promotes n s (promoted n s)
 unfolding promoted unqueued set_switch set_place on_thread set_high set_low
@@ -33,8 +31,6 @@ promotion_moves_one n s h = by_switch s.queues.switch refl
         ((if is_some o then s else promoted n s) ≡ s) ⊎ Promotes n s (if is_some o then s else promoted n s)
     by_switch None is = inr (promoted_moves n s h is)
     by_switch (Some k) is = inl refl
-
--- ---- A check
 
 first_is_entry : (i : ℕ) (s : Core) (n : ℕ) (es : List Entry) → first_in i s es ≡ Some n → has_entry n es ≡ true
 first_is_entry i s n [] h = grind arith

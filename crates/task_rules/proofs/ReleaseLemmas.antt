@@ -1,8 +1,7 @@
 -- A release: no held thread of the instance is admitted after it.
 use Rattle.task_rules.proofs.Machine.{[], admits, admitted_held, ap, arith, Bool, Core, false, get, get-change, held_why, held_why_of, Instance, is_held_admitted, is_some, IsPermutation, List, list_any, list_any-IsPermutation, map, nat_cmp, nat_tests, None, NoneHeldIn, numbers, on_instance, on_thread, Option, option_and_then, Place, push_high, put_high, refl, released, released_one, set_place, Some, sym, true, unsigned_tied, Why, ℕ, ◌==◌, ◌∙◌, ◌∷◌, ◌≡◌}
 use Rattle.std.proofs.lemmas.Map.Views.{any-filter_same}
-use Rattle.task_rules.proofs.PlacingLemmas.{Shifted, shifted_calls, shifted_explicit, shifted_instance, shifted_task, shifts_shifted}
-use Rattle.task_rules.proofs.WalkMoves.{released_shifts}
+use Rattle.task_rules.proofs.{PlacingLemmas.Shifted, PlacingLemmas.shifted_calls, PlacingLemmas.shifted_explicit, PlacingLemmas.shifted_instance, PlacingLemmas.shifted_task, PlacingLemmas.shifts_shifted, WalkMoves.released_shifts}
 use Rattle.std.specs.FinMap.Entries.{find as seek}
 
 -- who is admitted hangs on no places

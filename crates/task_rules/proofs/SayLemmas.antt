@@ -10,8 +10,6 @@ member_at o n y ch s sub h = grind arith
 handed_as : (f : Option Status) (o : Option Subtask) (sub to : Subtask) (e : Status) → o ≡ Some sub → (if is_handed_end (unwrap_or f Status.Starting) then option_map (end_for (unwrap_or f Status.Starting)) o else None) ≡ Some (end_for e to) → (sub ≡ to) × (undelivered_end f ≡ Some e)
 handed_as f o sub to e is out = (grind arith, grind arith)
 
--- ---- The event is gone
-
 abbrev pub HasNoEnd : Subtask → Core → Type 0
 HasNoEnd sub s = undelivered_end (event_of sub s) ≡ None
 
@@ -38,8 +36,6 @@ pub result_gone : (k : ℕ) (s : Core) → HasNoEnd (Subtask.Guest k) (set_resul
 unfolding set_result set_event on_call
 result_gone k s = grind (arith, nat_tests, get-change)
 
--- ---- What a call or a cancel finds
-
 -- what is so of the end that is said
 pub said_is : (P : Subtask → Status → Type 0) {f e : Status} {d sub : Subtask} → Some (end_for f d) ≡ Some (end_for e sub) → P d f → P sub e
 said_is P {f = f} {d = d} is p = subst (λ (y : SubtaskEnd). P y.subtask y.status) (ap (λ (o : Option SubtaskEnd). unwrap_or o (end_for f d)) is) p
@@ -52,8 +48,6 @@ module _ (sub to : Subtask) (f : Status) (o : Option Subtask) (is : o ≡ Some s
   -- the end that it hands out
   pub cancel_hands_of : (g : Status) → option_and_then (λ e. option_map (end_for e) o) (end_answered (status_code g)) ≡ Some (end_for f to) → (sub ≡ to) × (g ≡ f)
   cancel_hands_of g out = grind arith
-
--- ---- What main finishes
 
 pub result_taken : (n : ℕ) (s : Core) → get (take_result n s).results n ≡ None
 unfolding take_result

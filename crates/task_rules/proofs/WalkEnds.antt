@@ -1,12 +1,6 @@
 -- The end of a task as a chain of words.
 use Rattle.task_rules.proofs.Machine.{after_word, ap, arith, Bool, Call, CallEnd, Caller, caller_of, cancelled, Core, EndCall, EndTells, false, get, get-change, give_result, GiveResult, Goal, goal_of, if◌then◌else◌, is_over, is_some, is_told, nat_tests, on_call, on_thread, Option, option_map_or, published, Records, refl, result_given, returned, same_map, SaysEnd, Scene, set_end, set_event, set_register, set_result, SetRegister, SetResult, Some, Status, status_of_end, subst, Subtask, sym, task_of, TellsNever, TellsNow, told, true, Walk, ℕ, ◌∙◌, ◌≡◌}
-use Rattle.task_rules.proofs.CallThreads.{LastEnds}
-use Rattle.task_rules.proofs.ChainLemmas.{chain_if, Keep}
-use Rattle.task_rules.proofs.FreeLemmas.{published_frees}
-use Rattle.task_rules.proofs.PlacingLemmas.{shifted_calls, shifted_task, shifts_shifted}
-use Rattle.task_rules.proofs.WalkMoves.{published_shifts, shifted, told_at, told_shifts, ToldTo, word}
-
--- ---- What an end and a result leave of a call
+use Rattle.task_rules.proofs.{CallThreads.LastEnds, ChainLemmas.Keep, ChainLemmas.chain_if, FreeLemmas.published_frees, PlacingLemmas.shifted_calls, PlacingLemmas.shifted_task, PlacingLemmas.shifts_shifted, WalkMoves.ToldTo, WalkMoves.published_shifts, WalkMoves.shifted, WalkMoves.told_at, WalkMoves.told_shifts, WalkMoves.word}
 
 given_told : (g : Goal) (f : Caller) (k v : ℕ) (e : CallEnd) (s : Core) → is_told k (result_given g f k v (set_end k e s)) ≡ is_told k s
 unfolding set_end on_call give_result set_register on_thread set_result
@@ -17,8 +11,6 @@ given_to : (g : Goal) (f : Caller) (k v : ℕ) (e : CallEnd) (w : Option ℕ) (s
 unfolding set_end on_call give_result set_register on_thread set_result
 given_to g f k v e w s to told y is n at =
     let chosen = to (sym (given_told g f k v e s) ∙ told) y (grind (arith, nat_tests, get-change, is)) n at in grind (arith, nat_tests, get-change, chosen)
-
--- ---- The word that ends a call
 
 abbrev pub call_ends : ℕ → CallEnd → Core → Core
 call_ends k e s = after_word (EndCall k e) s
@@ -41,8 +33,6 @@ told_given Goal.Main f k v e s = refl
 told_given (Goal.Register r) (Caller.Thread n) k v e s = refl
 told_given Goal.Answer f k v e s = ap (λ (m : Records Call). record s { calls = m }) (same_map _ _ (λ q. grind (arith, nat_tests, get-change)))
 told_given _ f k v e s = refl
-
--- ---- A call whose end is written
 
 given_over : (g : Goal) (f : Caller) (k v : ℕ) (e : CallEnd) (n : ℕ) (y : Status) (s : Core) →
     (task_of n (told_at k y (result_given g f k v (set_end k e s))) ≡ task_of n s) × (is_over k (told_at k y (result_given g f k v (set_end k e s))) ≡ true)

@@ -1,11 +1,6 @@
 -- The moves of the machine as chains of words.
 use Rattle.task_rules.proofs.Machine.{[], add_call, add_group, add_set, add_thread, add_work, Advance, after_placing, after_word, ap, arith, AtOp, blocked_on, Bool, ByHandle, call_group, call_made, call_settled, can_come, CanCome, checked, chosen, Core, count_work, Delivery, departed, end_of, ended, exited_if, false, first_entry, free_handle, free_thread_handle, freed_thread_handle, FreeThreadHandle, get, get-change, get-insert, get-remove, get-remove_same, Gift, give_handle, give_result, give_thread_handle, group_settled, handed_on, hands_on, has_ended, held_why_of, HowFar, if◌then◌else◌, InOp, inr, instance_of, interest_settled, is_at, is_blocked_on, is_callback_waiter, is_deletable, is_done_host, is_explicit, is_finished, is_group_done, is_some, is_told, is_waiter, is_waiting_on, IsNamed, IsRunner, IsSettling, IsStarting, Join, join_of, Lands, lands_alone, lands_inside, LandsAt, le_refl, le_trans, Leaves, List, MakeThread, Mark, may_hand_on, may_not_suspend, may_publish, may_tell, may_wake, may_wake_joined, MayCome, MayDeliver, MayLand, MayPut, MayRemoveCall, MemberGift, nat_tests, NoGift, None, not, NoWord, numbers, on_call, on_instance, on_thread, on_work, op_in, Option, option_map, option_map_or, OwnEvent, OwnGift, Place, place_of, Places, Placing, poll_pends, position_of, Promote, promoted, promoted_first, promoted_unless, published, push_high, Put, put_at, put_high, Quits, Records, refl, released, released_one, Releases, remove, remove_call, remove_group, remove_set, remove_thread, remove_work, RemoveCall, RemoveGroup, RemoveThread, Restart, Scene, set_backpressure, set_cancel_delivered, set_cancelled, set_course, set_do_not_enter, set_do_not_suspend, set_end, set_event, set_exited, set_how_far, set_join, set_own_event, set_phase, set_position, set_register, set_result, set_saved_callee, set_saved_own, set_script, set_stage, set_started, set_starting_published, set_subtask_handle, set_thread_handle, set_trapped, set_uninteresting, set_word, SetCallEvent, SetCancelDelivered, SetExited, SetOwnEvent, Settles, SetUninteresting, Shifts, Some, Status, Stay, Stop, stopped, subst, Subtask, sym, take_result, TakeHost, taken, TakePush, TakesNamed, TakeWorkEvent, task_of, Tells, Then, Thread, thread_handle_of, told, Trip, true, Turn, unblocked, Unblocks, wake, wake_joined, wake_why, waken_by, Wakes, Why, with_handle, with_thread_handle, Word, work_queued, ℕ, ◌||◌, ◌∙◌, ◌∷◌, ◌≡◌, ◌≤◌}
-use Rattle.task_rules.proofs.CallThreads.{LastEnds, SameTasks}
-use Rattle.task_rules.proofs.ChainLemmas.{along, chain_if, join, Keep, keep_stay, Keeps, settle_keeps, settle_stays, shift_keeps, weaken}
-use Rattle.task_rules.proofs.PlacingLemmas.{placed, placing_shifted, popped_shifted, Shifted, unplaced}
-use Rattle.task_rules.proofs.PromotionLemmas.{first_has_entry}
-use Rattle.task_rules.proofs.StandLemmas.{set_place_is}
-use Rattle.task_rules.proofs.StopLemmas.{find_passes}
+use Rattle.task_rules.proofs.{CallThreads.LastEnds, CallThreads.SameTasks, ChainLemmas.Keep, ChainLemmas.Keeps, ChainLemmas.along, ChainLemmas.chain_if, ChainLemmas.join, ChainLemmas.keep_stay, ChainLemmas.settle_keeps, ChainLemmas.settle_stays, ChainLemmas.shift_keeps, ChainLemmas.weaken, PlacingLemmas.Shifted, PlacingLemmas.placed, PlacingLemmas.placing_shifted, PlacingLemmas.popped_shifted, PlacingLemmas.unplaced, PromotionLemmas.first_has_entry, StandLemmas.set_place_is, StopLemmas.find_passes}
 
 -- ---- What other threads come to
 

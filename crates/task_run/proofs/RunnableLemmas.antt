@@ -1,110 +1,54 @@
 -- A scenario that a text stands for keeps what a run of it needs.
-use Rattle.std.proofs.Common.{inl, inr, ◌≡◌, ◌<◌, ◌≤◌, ◌+◌, ℕ, suc, zero, true, false, List, [], ◌∷◌, ◌++◌, Option, Some, None, map, length, take, slice_get, refl, sym, ap, subst, ◌∙◌, arith}
-use Rattle.std.specs.Prelude.{Bool, nat_lt, ◌&&◌}
+use Rattle.std.proofs.Common.{inl, inr, ◌⊎◌, ◌≡◌, ◌<◌, ◌≤◌, ◌+◌, ℕ, suc, zero, Bool, true, false, List, [], ◌∷◌, ◌++◌, Option, Some, None, map, length, take, slice_get, refl, sym, ap, subst, ◌∙◌, arith}
+use Rattle.std.specs.Prelude.{IsSome, nat_le, nat_lt, not, unwrap_or, ◌&&◌, ◌==◌}
 use Rattle.std.specs.List.{list_all}
-use Rattle.std.specs.Option.{option_map, option_and_then, option_map_or}
-use Rattle.std.proofs.Common.{◌⊎◌}
-use Rattle.std.proofs.lemmas.Option.{same_Some}
-use Rattle.std.proofs.lemmas.Bool.{leb-true}
+use Rattle.std.specs.Option.{option_map, option_map_or}
+use Rattle.std.proofs.lemmas.Bool.{and_from, and_parts, eq-eqb, le-leb, leb-true, not-true}
 use Rattle.std.proofs.lemmas.List.{length_push, length-map}
-use Rattle.std.proofs.lemmas.Option.{slice_get-map}
-use Rattle.scenario_text.specs.declared.tree.ExportText.{ExportText}
+use Rattle.std.proofs.lemmas.Option.{same_Some, slice_get-map}
+use Rattle.op_dispatch.specs.Fits.{call_op_fits, op_fits, set_op_fits}
+use Rattle.scenario_text.specs.declared.tree.HostText.{HostText}
 use Rattle.scenario_text.specs.declared.tree.InstanceText.{InstanceText}
 use Rattle.scenario_text.specs.declared.tree.MainOpText.{MainOpText}
 use Rattle.scenario_text.specs.declared.tree.MainOpText.TheVariants as text
 use Rattle.scenario_text.specs.declared.tree.ScenarioText.{ScenarioText}
-use Rattle.scenario_text.specs.Spelling.{exports_of}
-use Rattle.scenario_text.specs.Placement.{EachStands, ExportStands, InstanceStands, IsWellFormed, MainOpStands, OpStands, kind_fits, op_fits, params_of, task_op_fits}
-use Rattle.scenario_text.proofs.StandingLaws.{some_map, stands_at}
+use Rattle.scenario_text.specs.Placement.{CallStands, EachStands, InstanceStands, IsWellFormed, MainOpStands, OpFits, OpStands, ReactStands, ScriptStands, is_callback_end, op_suits, params_of}
+use Rattle.scenario_text.proofs.CalleeLaws.{some_at}
+use Rattle.scenario_text.proofs.StandingLaws.{stands_at}
+use Rattle.task_laws.specs.Settings.{CodesInCallbacks, HasNoCode}
+use Rattle.task_loop.specs.Calls.{callee_of}
+use Rattle.task_loop.specs.declared.call.Func.{Func}
+use Rattle.task_machine.specs.Read.{is_callback}
 use Rattle.task_machine.specs.declared.component.Callee.{Callee}
-use Rattle.task_machine.specs.declared.component.Component.{Component}
 use Rattle.task_machine.specs.declared.component.ExportDef.{ExportDef}
 use Rattle.task_machine.specs.declared.component.ExportKind.{ExportKind}
-use Rattle.task_machine.specs.declared.component.ExportKind.TheVariants as kind
-use Rattle.task_machine.specs.declared.component.InstanceDef.{InstanceDef}
+use Rattle.task_machine.specs.declared.component.HostDef.{HostDef}
+use Rattle.task_machine.specs.declared.op.CallOp.{CallOp}
+use Rattle.task_machine.specs.declared.op.CallOp.TheVariants as call_op
 use Rattle.task_machine.specs.declared.op.Op.{Op}
 use Rattle.task_machine.specs.declared.op.Op.TheVariants as op
 use Rattle.task_machine.specs.declared.op.Operand.{Operand}
+use Rattle.task_machine.specs.declared.op.SetOp.{SetOp}
+use Rattle.task_machine.specs.declared.op.SetOp.TheVariants as set_op
 use Rattle.task_machine.specs.declared.op.TaskOp.{TaskOp}
-use Rattle.task_machine.specs.declared.op.TaskOp.TheVariants as task
-use Rattle.std.specs.Prelude.{replicate, unwrap_or}
-use Rattle.task_machine.specs.declared.component.Slot.TheVariants as slot
-use Rattle.task_rules.specs.Scripts.{export_at, slot_at, slot_script}
-use Rattle.task_loop.specs.declared.call.Func.{Func}
-use Rattle.task_scenario.specs.declared.scenario.MainOp.{MainOp}
-use Rattle.task_scenario.specs.declared.scenario.MainOp.TheVariants as main_op
-use Rattle.task_turns.proofs.CoveredLemmas.{codes_of, covered_of}
-use Rattle.task_turns.specs.Covered as fit
-use Rattle.task_turns.specs.Covered.{HasPlainExports, IsPlainExport}
+use Rattle.task_machine.specs.declared.op.TaskOp.TheVariants as task_op
+use Rattle.task_machine.specs.declared.records.Script.{Script}
+use Rattle.task_rules.specs.MainOps.{takes_words}
+use Rattle.task_rules.specs.OpParts.{ends_activation}
+use Rattle.task_rules.specs.Scripts.{export_at, script_in, slot_at, slot_script}
+use Rattle.task_run.proofs.LoweredLemmas.{at_lowered, export_params, exported, lowered, params_later, script_known, short, slot_stands}
 use Rattle.task_run.specs.Runnable.{IsRunnable}
-use Rattle.task_scenario.specs.Lower as lower
-use Rattle.task_scenario.specs.Lower.{export_def, instance_def, scenario_of}
-use Rattle.task_loop.specs.Calls.{callee_of}
 use Rattle.task_run.specs.Script.{SuitsOps}
 use Rattle.task_run.specs.Script as script
+use Rattle.task_scenario.specs.Lower as lower
+use Rattle.task_scenario.specs.Lower.{host_def, instance_def, scenario_of}
+use Rattle.task_scenario.specs.declared.scenario.MainOp.{MainOp}
+use Rattle.task_scenario.specs.declared.scenario.MainOp.TheVariants as main_op
+use Rattle.task_turns.specs.WellFormed as fit
+use Rattle.text_lines.specs.Fits.{operand_fits, plain_op_fits, register_fits}
+use Rattle.text_lines.specs.Fits as line
 
--- ---- Exports
-
-module _ (is : List InstanceText) (f : Callee) where
-  abbrev here : Option InstanceText → Option ExportDef
-  here o = option_and_then (λ (d : InstanceDef). slice_get d.exports f.export) (option_map instance_def o)
-
-  -- an export that is there stands in the text
-  pub export_text : (d : ExportDef) → here (slice_get is f.instance) ≡ Some d → (i : InstanceText) × ((slice_get is f.instance ≡ Some i) × ((e : ExportText) × ((slice_get i.exports f.export ≡ Some e) × (export_def e ≡ d))))
-  export_text d at = by_instance (slice_get is f.instance) refl at
-    where
-      by_instance : (o : Option InstanceText) → slice_get is f.instance ≡ o → here o ≡ Some d → (i : InstanceText) × ((slice_get is f.instance ≡ Some i) × ((e : ExportText) × ((slice_get i.exports f.export ≡ Some e) × (export_def e ≡ d))))
-      by_instance None none at = absurd (cc)
-      by_instance (Some i) some at = let e = some_map export_def (slice_get i.exports f.export) d (sym (slice_get-map export_def i.exports f.export) ∙ at) in (i, (some, (e.0, (e.1, e.2))))
-
-  -- the export that a text gives so many parameters
-  pub export_params : (n : ℕ) → params_of is f ≡ Some n → (e : ExportDef) × ((here (slice_get is f.instance) ≡ Some e) × (n ≡ e.params))
-  export_params n at = by_instance (slice_get is f.instance) refl
-    where
-      by_instance : (o : Option InstanceText) → slice_get is f.instance ≡ o → (e : ExportDef) × ((here (slice_get is f.instance) ≡ Some e) × (n ≡ e.params))
-      by_instance None none =
-          let empty : exports_of is f.instance ≡ [] = rw none refl in
-          let gone : params_of is f ≡ None = ap (λ es. option_map (λ (e : ExportText). e.params) (slice_get es f.export)) empty in
-          absurd (cc)
-      by_instance (Some i) some =
-          let mine : exports_of is f.instance ≡ i.exports = rw some refl in
-          let e = some_map (λ (e : ExportText). e.params) (slice_get i.exports f.export) n (sym (ap (λ es. option_map (λ (e : ExportText). e.params) (slice_get es f.export)) mine) ∙ at) in
-          (export_def e.0, (ap here some ∙ slice_get-map export_def i.exports f.export ∙ ap (option_map export_def) e.1, sym e.2))
-
--- ---- Scripts
-
-callback : (k : ExportKind) → kind_fits k ≡ true → k ≡ kind.Callback
-callback kind.Callback fits = refl
-callback kind.Sync fits = absurd (cc)
-callback kind.Blocking fits = absurd (cc)
-callback kind.Stackful fits = absurd (cc)
-
-plain_task : (o : TaskOp) → task_op_fits o ≡ true → fit.is_covered_op (op.Task o) ≡ true
-plain_task (task.Ret x) fits = refl
-plain_task (task.RetBad x) fits = refl
-plain_task task.Exit fits = refl
-plain_task o fits = absurd (cc)
-
-plain_op : (o : Op) → op_fits o ≡ true → fit.is_covered_op o ≡ true
-plain_op (op.Task o) fits = plain_task o fits
-plain_op (op.Data o) fits = refl
-plain_op o fits = absurd (cc)
-
-all_plain : (before xs : List Op) → EachStands OpStands before xs → list_all fit.is_covered_op xs ≡ true
-all_plain before [] stands = refl
-all_plain before (x ∷ xs) stands = rw (plain_op x stands.0.fits, all_plain (before ++ x ∷ []) xs stands.1) refl
-
--- each op had room
-short : (before xs : List Op) → EachStands OpStands before xs → length before ≤ 4096 → length before + length xs ≤ 4096
-short before [] stands few = omega arith
-short before (x ∷ xs) stands few =
-    let room : nat_lt (length before) 4096 ≡ true = stands.0.room in
-    let more : length (before ++ x ∷ []) ≡ length before + 1 = length_push before x in
-    let below : length before < 4096 = grind (arith, room) in
-    let rest = short (before ++ x ∷ []) xs stands.1 (omega arith) in
-    omega arith
-
--- ---- What a start's line gives
+-- ---- What a line gives
 
 start_func : (g : Callee) (ys : List Operand) (f : Func) (xs : List Operand) → main_op.Start (lower.func_of g) ys ≡ main_op.Start f xs → lower.func_of g ≡ f
 start_func g ys f xs is = cc
@@ -115,67 +59,132 @@ start_words g ys f xs is = cc
 same_callee : (g : Callee) (f : Func) → lower.func_of g ≡ f → g ≡ callee_of f
 same_callee g f is = ap callee_of is
 
--- ---- The component
-
-plain_export : (before : List InstanceText) (others : List ExportText) (e : ExportText) → ExportStands before others e → IsPlainExport (export_def e)
-plain_export before others e stands = record {
-  called_back = callback e.kind stands.kind;
-  few_params = stands.params;
-  short = let few = short [] e.start stands.start (omega arith) in omega arith;
-  ops = all_plain [] e.start stands.start;
-  react = refl;
-}
+same_host : (g h : ℕ) → main_op.Spawn g ≡ main_op.Spawn h → g ≡ h
+same_host g h is = cc
 
 first_of_and : (a b : Bool) → (a && b) ≡ true → a ≡ true
 first_of_and true b both = refl
 first_of_and false b both = absurd (cc)
 
+some_there : (d : HostDef) → IsSome (Some d)
+some_there d = refl
+
 -- each instance had room
-below_64 : (before is : List InstanceText) → EachStands InstanceStands before is → length before ≤ 64 → length before + length is ≤ 64
-below_64 before [] stands few = omega arith
-below_64 before (i ∷ is) stands few =
+below_64 : (hosts : List HostText) (before is : List InstanceText) → EachStands (InstanceStands hosts) before is → length before ≤ 64 → length before + length is ≤ 64
+below_64 hosts before [] stands few = omega arith
+below_64 hosts before (i ∷ is) stands few =
     let room : nat_lt (length before) 64 ≡ true = first_of_and _ _ stands.0.opens in
     let more : length (before ++ i ∷ []) ≡ length before + 1 = length_push before i in
     let below : length before < 64 = grind (arith, room) in
-    let rest = below_64 (before ++ i ∷ []) is stands.1 (omega arith) in
+    let rest = below_64 hosts (before ++ i ∷ []) is stands.1 (omega arith) in
     omega arith
 
+-- ---- Ops that end activations
+
+same_ends : (o : TaskOp) → ends_activation (op.Task o) ≡ is_callback_end o
+same_ends (task_op.Ret x) = refl
+same_ends (task_op.RetBad x) = refl
+same_ends task_op.TaskCancel = refl
+same_ends task_op.Exit = refl
+same_ends task_op.CbYield = refl
+same_ends (task_op.CbWait x) = refl
+same_ends (task_op.Code x) = refl
+same_ends task_op.BpInc = refl
+same_ends task_op.BpDec = refl
+
+no_end : (o : Op) → op_suits false o ≡ true → ends_activation o ≡ false
+no_end (op.Task o) suits = same_ends o ∙ not-true _ suits
+no_end (op.Data o) suits = refl
+no_end (op.Set o) suits = refl
+no_end (op.Call o) suits = refl
+no_end (op.Thread o) suits = refl
+
+no_codes : (hosts : List HostText) (earlier : List InstanceText) (ops : List Op) → ScriptStands hosts earlier false ops → HasNoCode ops
+no_codes hosts earlier ops stands = λ p o at. no_end o (stands_at (OpStands hosts earlier false) ops p o stands at).suits
+
+-- only a callback has a react script
+no_react : (hosts : List HostText) (earlier : List InstanceText) (k : ExportKind) (react : Option (List Op)) → ReactStands hosts earlier k react → is_callback k ≡ false → HasNoCode (unwrap_or react [])
+no_react hosts earlier k None stands other = λ p o at. absurd (cc)
+no_react hosts earlier k (Some ops) stands other = absurd (let called : is_callback k ≡ true = stands.0 in cc)
+
+set_fits : (o : SetOp) → line.set_op_fits o ≡ true → set_op_fits o ≡ true
+set_fits (set_op.New r) fits = refl
+set_fits (set_op.Drop x) fits = refl
+set_fits (set_op.Wait r x) fits = (and_parts (nat_le r 13) (operand_fits x) fits).0
+set_fits (set_op.Poll r x) fits = (and_parts (nat_le r 13) (operand_fits x) fits).0
+set_fits (set_op.Join x y) fits = refl
+
 module _ (s : ScenarioText) (formed : IsWellFormed s) where
-  abbrev c : Component
-  c = (scenario_of s).component
+  -- ---- Scripts
 
-  at_lowered : (f : Callee) → export_at c f ≡ here s.instances f (slice_get s.instances f.instance)
-  at_lowered f = ap (option_and_then (λ (d : InstanceDef). slice_get d.exports f.export)) (slice_get-map instance_def s.instances f.instance)
+  few_params : (f : Callee) (d : ExportDef) → export_at (lowered s) f ≡ Some d → d.params ≤ 16
+  few_params f d at = let x = exported s formed f d at in subst (λ (d : ExportDef). d.params ≤ 16) x.is_def x.stands.params
 
-  plain_at : (f : Callee) (d : ExportDef) → export_at c f ≡ Some d → IsPlainExport d
-  plain_at f d at =
-      let e = export_text s.instances f d (sym (at_lowered f) ∙ at) in
-      let i = stands_at InstanceStands s.instances f.instance e.0 formed.instances e.1.0 in
-      let x = e.1.1 in
-      let stands = stands_at (ExportStands (take f.instance s.instances)) e.0.exports f.export x.0 i.exports x.1.0 in
-      subst IsPlainExport x.1.1 (plain_export (take f.instance s.instances) (take f.export e.0.exports) x.0 stands)
+  -- a call's export is there, and takes so many words
+  record Called (f : Callee) (n : ℕ) : Type 0 where
+    takes : takes_words (lowered s) f n ≡ true
+    few : nat_le n 16 ≡ true
 
-  -- no slot has a script
-  empty_slot : (n j : ℕ) → slot_script (unwrap_or (slice_get (replicate n slot.Empty) j) slot.Empty) ≡ []
-  empty_slot zero j = refl
-  empty_slot (suc n) zero = refl
-  empty_slot (suc n) (suc j) = empty_slot n j
+  called : (k : ℕ) (f : Callee) (n : ℕ) → params_of (take k s.instances) f ≡ Some n → Called f n
+  called k f n at =
+      let p = export_params s.instances f n (params_later s.instances k f n at) in
+      let there : export_at (lowered s) f ≡ Some p.0 = at_lowered s f ∙ p.1.0 in
+      let few = few_params f p.0 there in
+      record {
+        takes = ap (λ (o : Option ExportDef). option_map_or (λ (d : ExportDef). d.params == n) o false) there ∙ eq-eqb p.0.params n (sym p.1.1);
+        few = le-leb _ _ (omega (arith, few, p.1.1));
+      }
 
-  slots_empty : (i j : ℕ) → slot_script (slot_at c i j) ≡ []
-  slots_empty i j = go (slice_get c.instances i) (slice_get-map instance_def s.instances i)
-    where
-      go : (o : Option InstanceDef) → o ≡ option_map instance_def (slice_get s.instances i) → slot_script (unwrap_or (option_and_then (λ (d : InstanceDef). slice_get d.slots j) o) slot.Empty) ≡ []
-      go o e = by (slice_get s.instances i) o e
-        where
-          by : (t : Option InstanceText) (o : Option InstanceDef) → o ≡ option_map instance_def t → slot_script (unwrap_or (option_and_then (λ (d : InstanceDef). slice_get d.slots j) o) slot.Empty) ≡ []
-          by None o e = rw e refl
-          by (Some t) o e = rw e (empty_slot 16 j)
+  call_fits : (k : ℕ) (o : CallOp) → CallStands s.hosts (take k s.instances) o → call_op_fits (lowered s) o ≡ true
+  call_fits k (call_op.Call r q f xs) stands = let c = called k f (length xs) stands.1 in and_from _ _ c.takes c.few
+  call_fits k (call_op.CallSync r f xs) stands = let c = called k f (length xs) stands.1 in and_from _ _ c.takes c.few
+  call_fits k (call_op.CallHost r q h) stands = refl
+  call_fits k (call_op.CallSyncHost r h) stands = refl
+  call_fits k (call_op.Cancel r x) stands = refl
+  call_fits k (call_op.CancelSync r x) stands = refl
+  call_fits k (call_op.Drop x) stands = refl
 
-  plain_component : HasPlainExports c
-  plain_component = record { exports = plain_at; slots = slots_empty }
+  fits : (k : ℕ) (o : Op) → OpFits s.hosts (take k s.instances) o → op_fits (lowered s) o ≡ true
+  fits k (op.Set o) stands = set_fits o stands
+  fits k (op.Call o) stands = call_fits k o stands
+  fits k (op.Data o) stands = refl
+  fits k (op.Task o) stands = refl
+  fits k (op.Thread o) stands = refl
 
-  few_instances : length c.instances ≤ 64
-  few_instances = let few = below_64 [] s.instances formed.instances (omega arith) in let same = length-map s.instances instance_def in omega arith
+  well_formed : fit.IsWellFormed (lowered s)
+  well_formed = record {
+    few_params = few_params;
+    short = λ f x.
+        let k = script_known s formed f x in
+        let few = short s.hosts (take k.instances s.instances) k.callback [] (script_in (lowered s) f x) k.stands (omega arith) in
+        omega (arith, few);
+    ops = λ f x p o at.
+        let k = script_known s formed f x in
+        fits k.instances o (stands_at (OpStands s.hosts (take k.instances s.instances) k.callback) (script_in (lowered s) f x) p o k.stands at).fits;
+  }
+
+  -- ---- Codes
+
+  start_codes : (f : Callee) (d : ExportDef) → export_at (lowered s) f ≡ Some d → is_callback d.kind ≡ false → HasNoCode d.start
+  start_codes f d at =
+      let x = exported s formed f d at in
+      subst (λ (d : ExportDef). is_callback d.kind ≡ false → HasNoCode d.start) x.is_def
+      (λ other. no_codes s.hosts (take f.instance s.instances) x.e.start (subst (λ (callback : Bool). ScriptStands s.hosts (take f.instance s.instances) callback x.e.start) other x.stands.start))
+
+  react_codes : (f : Callee) (d : ExportDef) → export_at (lowered s) f ≡ Some d → is_callback d.kind ≡ false → HasNoCode d.react
+  react_codes f d at =
+      let x = exported s formed f d at in
+      subst (λ (d : ExportDef). is_callback d.kind ≡ false → HasNoCode d.react) x.is_def (no_react s.hosts (take f.instance s.instances) x.e.kind x.e.react x.stands.react)
+
+  codes : CodesInCallbacks (lowered s)
+  codes = record {
+    starts = start_codes;
+    reacts = react_codes;
+    slots = λ i j. no_codes s.hosts (take i s.instances) (slot_script (slot_at (lowered s) i j)) (slot_stands s formed i j);
+  }
+
+  few_instances : length (lowered s).instances ≤ 64
+  few_instances = let few = below_64 s.hosts [] s.instances formed.instances (omega arith) in let same = length-map s.instances instance_def in omega arith
 
   -- ---- Main's script
 
@@ -186,25 +195,61 @@ module _ (s : ScenarioText) (formed : IsWellFormed s) where
   line_or_answer (l ∷ lines) zero o at = inl (l, (refl, same_Some _ _ at))
   line_or_answer (l ∷ lines) (suc i) o at = line_or_answer lines i o at
 
-  line_is_so : (l : MainOpText) → script.is_start_finish_or_answer (lower.main_op l) ≡ true
-  line_is_so (text.Start f xs) = refl
-  line_is_so (text.Finish k r) = refl
+  abbrev Stands : List MainOpText → MainOpText → Type 0
+  Stands = MainOpStands s.hosts s.instances
 
-  start_line : (l : MainOpText) (f : Func) (xs : List Operand) → lower.main_op l ≡ main_op.Start f xs → (before : List MainOpText) → MainOpStands s.instances before l → params_of s.instances (callee_of f) ≡ Some (length xs)
+  line_is_built : (before : List MainOpText) (l : MainOpText) → Stands before l → script.is_built (lower.main_op l) ≡ true
+  line_is_built before (text.Start f xs) stands = refl
+  line_is_built before (text.Finish k r) stands = refl
+  line_is_built before (text.Spawn h) stands = refl
+  line_is_built before (text.Abort k) stands = absurd stands
+  line_is_built before (text.Await k) stands = absurd stands
+  line_is_built before text.Quiet stands = refl
+  line_is_built before (text.Ready f) stands = refl
+
+  start_line : (l : MainOpText) (f : Func) (xs : List Operand) → lower.main_op l ≡ main_op.Start f xs → (before : List MainOpText) → Stands before l → params_of s.instances (callee_of f) ≡ Some (length xs)
   start_line (text.Start g ys) f xs is before stands =
       let callee : g ≡ callee_of f = same_callee g f (start_func g ys f xs is) in
       let words : ys ≡ xs = start_words g ys f xs is in
       sym (ap (params_of s.instances) callee) ∙ stands.1 ∙ ap (λ (zs : List Operand). Some (length zs)) words
   start_line (text.Finish k r) f xs is before stands = absurd (cc)
+  start_line (text.Spawn h) f xs is before stands = absurd (cc)
+  start_line (text.Abort k) f xs is before stands = absurd (cc)
+  start_line (text.Await k) f xs is before stands = absurd (cc)
+  start_line text.Quiet f xs is before stands = absurd (cc)
+  start_line (text.Ready g) f xs is before stands = absurd (cc)
 
-  suits : SuitsOps (scenario_of s).main c
+  spawn_line : (l : MainOpText) (h : ℕ) → lower.main_op l ≡ main_op.Spawn h → (before : List MainOpText) → Stands before l → h < length s.hosts
+  spawn_line (text.Spawn g) h is before stands = subst (λ (n : ℕ). n < length s.hosts) (same_host g h is) stands.1
+  spawn_line (text.Start f xs) h is before stands = absurd (cc)
+  spawn_line (text.Finish k r) h is before stands = absurd (cc)
+  spawn_line (text.Abort k) h is before stands = absurd (cc)
+  spawn_line (text.Await k) h is before stands = absurd (cc)
+  spawn_line text.Quiet h is before stands = absurd (cc)
+  spawn_line (text.Ready f) h is before stands = absurd (cc)
+
+  host_there : (h : ℕ) → h < length s.hosts → IsSome (slice_get (lowered s).hosts h)
+  host_there h lt =
+      let t = some_at s.hosts h (slice_get s.hosts h) refl lt in
+      subst (λ (o : Option HostDef). IsSome o) (sym (slice_get-map host_def s.hosts h ∙ ap (option_map host_def) t.1)) (some_there (host_def t.0))
+
+  line_stands : (i : ℕ) (l : MainOpText) → slice_get s.main i ≡ Some l → Stands (take i s.main) l
+  line_stands i l at = stands_at Stands s.main i l formed.main at
+
+  suits : SuitsOps (scenario_of s).main (lowered s)
   suits = record {
     only = λ i o at. elim (line_or_answer s.main i o at) [
-      | inl l ↦ sym (ap script.is_start_finish_or_answer l.1.1) ∙ line_is_so l.0
-      | inr answer ↦ ap script.is_start_finish_or_answer answer
+      | inl l ↦ sym (ap script.is_built l.1.1) ∙ line_is_built (take i s.main) l.0 (line_stands i l.0 l.1.0)
+      | inr answer ↦ ap script.is_built answer
+    ];
+    spawns = λ i h at. elim (line_or_answer s.main i (main_op.Spawn h) at) [
+      | inl l ↦ host_there h (spawn_line l.0 h l.1.1 (take i s.main) (line_stands i l.0 l.1.0))
+      | inr answer ↦ absurd (cc)
     ];
     starts = λ i f xs at. elim (line_or_answer s.main i (main_op.Start f xs) at) [
-      | inl l ↦ let p = export_params s.instances (callee_of f) (length xs) (start_line l.0 f xs l.1.1 (take i s.main) (stands_at (MainOpStands s.instances) s.main i l.0 formed.main l.1.0)) in (p.0, (at_lowered (callee_of f) ∙ p.1.0, p.1.1))
+      | inl l ↦
+          let p = export_params s.instances (callee_of f) (length xs) (start_line l.0 f xs l.1.1 (take i s.main) (line_stands i l.0 l.1.0)) in
+          (p.0, (at_lowered s (callee_of f) ∙ p.1.0, p.1.1))
       | inr answer ↦ absurd (cc)
     ];
   }
@@ -213,7 +258,7 @@ module _ (s : ScenarioText) (formed : IsWellFormed s) where
   runnable_scenario = record {
     handles = leb-true s.handles 268435455 formed.handles;
     few = few_instances;
-    component = covered_of c plain_component;
-    codes = codes_of c plain_component;
+    component = well_formed;
+    codes = codes;
     main = suits;
   }

@@ -1,4 +1,4 @@
-use Rattle.count_words.proofs.ResultLemmas.{is_there, no_room, result_given, written_sound}
+use Rattle.count_words.proofs.ResultLemmas.{is_there, lives_in, no_room, result_given, written_sound}
 use Rattle.count_words.proofs.results.give_result.Goals as goal
 use Rattle.std.proofs.Common.{ap, refl, ◌∙◌}
 use Rattle.task_records.specs.Seen.{seen}
@@ -9,7 +9,7 @@ pub unreachable-requires : goal.unreachable-requires
 unreachable-requires c = no_room c.args.parts.now c.requires.sound c.args.call c.in-Some.found.now c.in-Some.ensures.item c.requires.main c.in-None-get_mut.ensures.value
 
 pub returns-clause-sound : goal.returns-clause-sound
-returns-clause-sound c = written_sound c.args.parts.now c.requires.sound _ c.in-Some.found.now.number _ ((c.get_mut.follows.holds _).3 (is_there _ _ c.in-Some-get_mut.ensures.value)).0
+returns-clause-sound c = written_sound c.args.parts.now c.requires.sound _ c.in-Some.found.now.number _ ((c.get_mut.follows.holds _).3 (is_there _ _ c.in-Some-get_mut.ensures.value)).0 (λ has. ap lives_in c.in-Some-get_mut.ensures.value ∙ has)
 
 pub returns-clause-new : goal.returns-clause-new
 returns-clause-new c =

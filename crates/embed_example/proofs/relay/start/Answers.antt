@@ -2,7 +2,7 @@
 use Rattle.std.specs.Prelude.{Err, Ok, [], ◌∷◌}
 use Rattle.std.proofs.Common.{subst, sym, ◌∙◌}
 use Rattle.task_calls.specs.Calls.{Starts}
-use Rattle.task_calls.specs.declared.error.TaskError.{TaskError}
+use Rattle.state_calls.specs.declared.error.TaskError.{TaskError}
 use Rattle.task_rules.specs.MainOps.{start_refusal}
 use Rattle.task_loop.proofs.StartLemmas.{start_current}
 use Rattle.task_loop.specs.Calls.{callee_of}

@@ -1,0 +1,4 @@
+pub mod WakeLemmas
+pub mod GiveLemmas
+pub mod TakeLemmas
+pub mod PlacedLemmas

@@ -1,0 +1,5 @@
+use Rattle.state_calls.proofs.WakeLemmas.{waiter_unqueued}
+use Rattle.state_calls.proofs.events.mark_ready.Goals as goal
+
+pub wake_member-requires-clause-unqueued : goal.wake_member-requires-clause-unqueued
+wake_member-requires-clause-unqueued g c = waiter_unqueued c.publish_waiter-waiter.result (g.W.View.view c.args.w.now) c.requires.idle c.publish_waiter-waiter.ensures.waits

@@ -1,0 +1,142 @@
+-- What is queued: items, and the entries that they are.
+use Rattle.std.specs.Prelude.{Bool, None, Option, Some, false, true, ℕ, ◌<◌, ◌≡◌}
+use Rattle.state_calls.specs.Named.{IsLive}
+use Rattle.state_calls.specs.declared.entries.Item.{Item}
+use Rattle.state_calls.specs.declared.entries.Item.TheVariants as item
+use Rattle.state_calls.specs.declared.names.QualifiedThreadId.{QualifiedThreadId}
+use Rattle.task_machine.specs.Core.{Core}
+use Rattle.task_machine.specs.Moves.{put_high, put_low, put_switch, why_of}
+use Rattle.task_machine.specs.Read.{is_at, is_explicit, is_new, next_entry, stage_of}
+use Rattle.task_machine.specs.Write.{push_high}
+use Rattle.task_machine.specs.declared.records.Delivery.TheVariants as delivery
+use Rattle.task_machine.specs.declared.records.Entry.{Entry}
+use Rattle.task_machine.specs.declared.records.Entry.TheVariants as entry
+use Rattle.task_machine.specs.declared.records.Place.{Place}
+use Rattle.task_machine.specs.declared.records.Place.TheVariants as place
+use Rattle.task_machine.specs.declared.records.Stage.{Stage}
+use Rattle.task_machine.specs.declared.records.Stage.TheVariants as stage
+use Rattle.task_machine.specs.declared.records.Why.{Why}
+use Rattle.task_machine.specs.declared.records.Why.TheVariants as why
+use Rattle.task_machine.specs.declared.words.Mark.{Mark}
+use Rattle.task_machine.specs.declared.words.Mark.TheVariants as mark
+use Rattle.task_rules.specs.Places.{switch_entries}
+use Rattle.task_rules.specs.Takes.{popped}
+use Rattle.task_words.specs.Apart.{IsSwitchUnqueued, IsUnqueued, work_entries}
+use Rattle.task_words.specs.Live.{live_set}
+use Rattle.task_words.specs.Names.{delivery_in}
+use Rattle.task_words.specs.StateView.{StateView, Tags, on_core, thread_number, thread_of, work_number, work_of}
+
+-- ---- An item as an entry
+
+abbrev pub entry_of : Tags → Item → Entry
+entry_of tags (item.StartImplicit id) = entry.Thread (thread_number tags id.thread)
+entry_of tags (item.StartExplicit id) = entry.Thread (thread_number tags id.thread)
+entry_of tags (item.Deliver id d) = entry.Thread (thread_number tags id.thread)
+entry_of tags (item.Resume id) = entry.Thread (thread_number tags id.thread)
+entry_of tags (item.PushFuture id) = entry.Push (work_number tags id)
+entry_of tags (item.FinishHost id) = entry.Host (work_number tags id)
+
+-- why a thread's item is queued; default: item of a work
+abbrev pub why_in : Tags → Item → Why
+why_in tags (item.StartImplicit id) = why.Start
+why_in tags (item.StartExplicit id) = why.Start
+why_in tags (item.Deliver id d) = why.Delivery (delivery_in tags d)
+why_in tags _ = why.Resumption
+
+-- ---- Putting an item
+
+abbrev pub put_at : Mark → ℕ → Why → Core → Core
+put_at mark.Switch n w s = put_switch n w s
+put_at mark.High n w s = put_high n w s
+put_at mark.Low n w s = put_low n w s
+
+-- the entry is put at the mark, for this reason where it is of a thread; a work's is at high
+abbrev pub entry_put : Mark → Why → Entry → Core → Core
+entry_put m w (entry.Thread n) s = put_at m n w s
+entry_put m w e s = push_high e s
+
+abbrev pub item_put : Tags → Mark → Item → Core → Core
+item_put tags m i s = entry_put m (why_in tags i) (entry_of tags i) s
+
+-- it waits, is blocked, or is behind or under another thread
+abbrev pub is_kept_back : Place → Bool
+is_kept_back (place.Waiting x by_callback) = true
+is_kept_back (place.Blocked sub) = true
+is_kept_back (place.Behind n) = true
+is_kept_back (place.Under n) = true
+is_kept_back _ = false
+
+abbrev pub is_start : Why → Bool
+is_start why.Start = true
+is_start _ = false
+
+-- The thread has no entry and isn't kept back, and it is New just where the item is a start. What stands at switch, if that is where the
+-- item comes to, has no other entry.
+pub record MayPut (m : Mark) (n : ℕ) (w : Why) (s : Core) : Type 0 where
+  pub unqueued : IsUnqueued n s
+  pub switch : switch_entries n s.queues.switch ≡ 0
+  pub free : is_at n s is_kept_back ≡ false
+  pub new : is_at n s is_new ≡ is_start w
+  pub displaces : m ≡ mark.Switch → IsSwitchUnqueued s
+
+-- a work at its first poll, or whose push is queued
+abbrev pub is_unpolled : Stage → Bool
+is_unpolled stage.FirstPoll = true
+is_unpolled stage.Queued = true
+is_unpolled _ = false
+
+abbrev pub is_finishing : Stage → Bool
+is_finishing stage.Finishing = true
+is_finishing _ = false
+
+-- The work is at such a stage, and has no entry. Works have none but at high.
+pub record MayStand (m : Mark) (i : ℕ) (test : Stage → Bool) (s : Core) : Type 0 where
+  pub mark : m ≡ mark.High
+  pub unqueued : work_entries i s.queues.high ≡ 0
+  pub stage : test (stage_of i s) ≡ true
+
+-- An item that may be put at the mark: its ids are live, and it stands nowhere.
+abbrev pub MayQueue : Mark → Item → StateView → Type 0
+MayQueue m (item.StartImplicit id) s = IsLive s id × MayPut m (thread_of s id.thread) why.Start s.core
+MayQueue m (item.StartExplicit id) s = IsLive s id × MayPut m (thread_of s id.thread) why.Start s.core
+MayQueue m (item.Deliver id d) s = IsLive s id × MayPut m (thread_of s id.thread) (why.Delivery (delivery_in s.tags d)) s.core
+MayQueue m (item.Resume id) s = IsLive s id × MayPut m (thread_of s id.thread) why.Resumption s.core
+MayQueue m (item.PushFuture id) s = (0 < work_of s id) × MayStand m (work_of s id) is_unpolled s.core
+MayQueue m (item.FinishHost id) s = (0 < work_of s id) × MayStand m (work_of s id) is_finishing s.core
+
+-- ---- Taking an item
+
+-- why a thread is queued, with the set that its delivery is for where that is there; default: 0, which is none
+abbrev pub live_why : Why → Core → Why
+live_why (why.Delivery (delivery.Set x)) s = why.Delivery (delivery.Set (live_set x s))
+live_why w s = w
+
+-- The id names the thread and its call.
+pub record Names (s : StateView) (n : ℕ) (id : QualifiedThreadId) : Type 0 where
+  pub live : IsLive s id
+  pub number : thread_of s id.thread ≡ n
+
+-- the thread is queued for its start
+pub record IsStarting (made : Bool) (n : ℕ) (s : Core) : Type 0 where
+  pub why : why_of n s ≡ why.Start
+  pub explicit : is_explicit n s ≡ made
+
+-- The item names the thread, and says why it is queued, and for a start whether the thread isn't the first of its call.
+abbrev pub IsItemOf : StateView → ℕ → Item → Type 0
+IsItemOf s n (item.StartImplicit id) = Names s n id × IsStarting false n s.core
+IsItemOf s n (item.StartExplicit id) = Names s n id × IsStarting true n s.core
+IsItemOf s n (item.Deliver id d) = Names s n id × (why.Delivery (delivery_in s.tags d) ≡ live_why (why_of n s.core) s.core)
+IsItemOf s n (item.Resume id) = Names s n id × (why_of n s.core ≡ why.Resumption)
+IsItemOf s n _ = ⊥
+
+abbrev pub IsItem : StateView → Entry → Item → Type 0
+IsItem s (entry.Thread n) i = IsItemOf s n i
+IsItem s (entry.Push j) (item.PushFuture id) = work_of s id ≡ j
+IsItem s (entry.Host j) (item.FinishHost id) = work_of s id ≡ j
+IsItem s e i = ⊥
+
+-- The first entry has left its mark, and the answer is its item.
+abbrev pub Takes : StateView → Option (Mark × Entry) → Option (Mark × Item) → StateView → Type 0
+Takes s None None t = t ≡ s
+Takes s (Some e) (Some r) t = (r.0 ≡ e.0) × (IsItem s e.1 r.1 × (t ≡ on_core (popped e.0) s))
+Takes s e r t = ⊥

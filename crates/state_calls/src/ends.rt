@@ -1,0 +1,37 @@
+//! The end of a thread.
+ghost use Rattle.std.specs.Prelude.{◌≡◌};
+ghost use Rattle.state_calls.specs.Ends.{Ends, MayEnd};
+ghost use Rattle.state_calls.specs.Named.{IsLive};
+ghost use Rattle.task_rules.specs.Ends.{leaves_no_result};
+ghost use Rattle.task_words.specs.StateView.{thread_of};
+
+use crate::error::TaskError;
+use crate::names::QualifiedThreadId;
+use task_machine::Trap;
+use task_moves::end_thread;
+use task_words::{ThreadId, Words};
+
+// The thread is the last of a task that hasn't ended.
+#[tactic(auto, unfolding(task_rules::specs::Ends::leaves_no_result))]
+fn leaves_no_result<W: Words>(w: &W, thread: ThreadId) -> bool
+    ensures { result ≡ leaves_no_result (thread_of (W.view w.now) thread) (W.view w.now).core }
+{
+    w.is_last_thread(thread) && w.end_of(w.task_of(thread)).is_none()
+}
+
+/// Ends a thread that has no entry, is behind nobody, and has no callers and no thread under it: it
+/// gives back its handle and is gone; where it was the first of its call, the task has exited; a call
+/// that nothing keeps is gone, and its group is finished, if nothing of that is left. Refused with
+/// trap 4 exactly where no thread would be left of a task that hasn't ended, and then nothing is
+/// changed.
+pub fn cleanup_thread<W: Words>(w: &mut W, thread: QualifiedThreadId) -> Result<(), TaskError>
+    requires live { IsLive (W.view w.old) thread }
+    requires may { MayEnd (thread_of (W.view w.old) thread.thread) (W.view w.old).core }
+    ensures { Ends (thread_of (W.view w.old) thread.thread) (leaves_no_result (thread_of (W.view w.old) thread.thread) (W.view w.old).core) (W.view w.old) result (W.view w.new) }
+{
+    if leaves_no_result(w, thread.thread) {
+        return Err(TaskError::Trap(Trap::NoAsyncResult));
+    }
+    end_thread(w, thread.thread);
+    Ok(())
+}

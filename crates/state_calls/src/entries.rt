@@ -1,0 +1,128 @@
+//! The items that are queued and taken.
+ghost use Rattle.std.specs.Prelude.{◌≡◌, ◌<◌, Ok};
+ghost use Rattle.state_calls.specs.Items.{IsItemOf, MayPut, MayQueue, Takes, item_put, live_why, put_at};
+ghost use Rattle.state_calls.specs.Named.{IsLive};
+ghost use Rattle.task_machine.specs.Moves.{why_of};
+ghost use Rattle.task_machine.specs.Read.{next_entry};
+ghost use Rattle.task_machine.specs.declared.records.Why.TheVariants as whys;
+ghost use Rattle.task_rules.specs.Places.{Placed};
+ghost use Rattle.task_words.specs.Names.{delivery_in, why_in};
+ghost use Rattle.task_words.specs.StateView.{on_core, thread_of};
+
+use crate::error::TaskError;
+use crate::names::{QualifiedThreadId, qualified};
+use crate::words::StateWords;
+use task_machine::{Delivery, Mark, Why};
+use task_moves::{put_high, put_low, put_switch};
+use task_words::{DeliveryId, EntryId, ThreadId, WhyId, Words, WorkId};
+
+/// What is queued.
+#[derive(Clone, Copy)]
+pub enum Item {
+    /// The start of a call.
+    StartImplicit(QualifiedThreadId),
+    /// The start of a thread that another one made.
+    StartExplicit(QualifiedThreadId),
+    Deliver(QualifiedThreadId, DeliveryId),
+    Resume(QualifiedThreadId),
+    /// A host work that becomes live.
+    PushFuture(WorkId),
+    /// A call of a host that has ended.
+    FinishHost(WorkId),
+}
+
+// A thread without an entry gets one.
+fn put<W: Words>(w: &mut W, thread: ThreadId, mark: Mark, why: WhyId)
+    requires live { 0 < thread_of (W.view w.old) thread }
+    requires may { MayPut mark (thread_of (W.view w.old) thread) (why_in (W.view w.old).tags why) (W.view w.old).core }
+    ensures { W.view w.new ≡ on_core (put_at mark (thread_of (W.view w.old) thread) (why_in (W.view w.old).tags why)) (W.view w.old) }
+{
+    match mark {
+        Mark::Switch => put_switch(w, thread, why),
+        Mark::High => put_high(w, thread, why),
+        Mark::Low => put_low(w, thread, why),
+    }
+}
+
+/// Queues an item that stands nowhere, at the end of its mark; what stood at switch goes to the front
+/// of high. A start is of a thread that is New, and a delivery or a resumption of one that isn't and
+/// that isn't kept back. A work's item comes to high. It is the machine's Put, and is never refused.
+pub fn push_work_item<W: Words + StateWords>(
+    w: &mut W,
+    item: Item,
+    mark: Mark,
+) -> Result<(), TaskError>
+    requires { MayQueue mark item (W.view w.old) }
+    ensures answer { result ≡ Ok tt }
+    ensures put { W.view w.new ≡ on_core (item_put (W.view w.old).tags mark item) (W.view w.old) }
+{
+    match item {
+        Item::StartImplicit(id) => put(w, id.thread, mark, WhyId::Start),
+        Item::StartExplicit(id) => put(w, id.thread, mark, WhyId::Start),
+        Item::Deliver(id, delivery) => put(w, id.thread, mark, WhyId::Delivery(delivery)),
+        Item::Resume(id) => put(w, id.thread, mark, WhyId::Resumption),
+        Item::PushFuture(work) => w.push_work(work),
+        Item::FinishHost(work) => w.push_host(work),
+    }
+    Ok(())
+}
+
+// The start of a thread.
+fn start_of<W: Words>(w: &W, id: QualifiedThreadId) -> Item
+    requires live { IsLive (W.view w.now) id }
+    requires why { why_of (thread_of (W.view w.now) id.thread) (W.view w.now).core ≡ whys.Start }
+    ensures { IsItemOf (W.view w.now) (thread_of (W.view w.now) id.thread) result }
+{
+    if w.is_explicit(id.thread) {
+        Item::StartExplicit(id)
+    } else {
+        Item::StartImplicit(id)
+    }
+}
+
+// What the thread's delivery is for.
+fn delivery_of<W: Words>(w: &W, thread: ThreadId, delivery: Delivery) -> DeliveryId
+    requires { why_of (thread_of (W.view w.now) thread) (W.view w.now).core ≡ whys.Delivery delivery }
+    ensures { whys.Delivery (delivery_in (W.view w.now).tags result) ≡ live_why (why_of (thread_of (W.view w.now) thread) (W.view w.now).core) (W.view w.now).core }
+{
+    match delivery {
+        Delivery::Yield => DeliveryId::Yield,
+        Delivery::Cancel => DeliveryId::Cancel,
+        Delivery::Set { set: _ } => match w.delivered_set(thread) {
+            Some(set) => DeliveryId::Set(set),
+            None => unreachable!(),
+        },
+    }
+}
+
+// The item of a thread that is queued.
+fn item_of<W: Words>(w: &W, thread: ThreadId) -> Item
+    requires { 0 < thread_of (W.view w.now) thread }
+    ensures { IsItemOf (W.view w.now) (thread_of (W.view w.now) thread) result }
+{
+    let id = qualified(w, thread);
+    match w.why(thread) {
+        Why::Start => start_of(w, id),
+        Why::Delivery { delivery } => Item::Deliver(id, delivery_of(w, thread, delivery)),
+        Why::Resumption => Item::Resume(id),
+    }
+}
+
+/// Takes the item that stands at switch, else the first at high, else the first at low; none exactly
+/// where nothing stands. No item that was taken before is still in hand: each thread has its place.
+pub fn take_item<W: Words>(w: &mut W) -> Option<(Mark, Item)>
+    requires { Placed (W.view w.old).core }
+    ensures { Takes (W.view w.old) (next_entry (W.view w.old).core) result (W.view w.new) }
+{
+    w.none_is_zero();
+    let Some((mark, entry)) = w.next_entry() else {
+        return None;
+    };
+    let item = match entry {
+        EntryId::Thread(thread) => item_of(w, thread),
+        EntryId::Push(work) => Item::PushFuture(work),
+        EntryId::Host(work) => Item::FinishHost(work),
+    };
+    w.pop(mark);
+    Some((mark, item))
+}

@@ -1,0 +1,89 @@
+//! The event that a task is given.
+ghost use Rattle.std.specs.Prelude.{◌≡◌, ◌<◌, IfNone, IfSome, None, false, option_map, true};
+ghost use Rattle.state_calls.specs.Gives.{Gives, has_ready_in, is_ready_in, member_told, own_told};
+ghost use Rattle.task_machine.specs.Moves.{own_gift_of, taken_own};
+ghost use Rattle.task_machine.specs.Write.{set_event};
+ghost use Rattle.task_words.specs.Names.{subtask_in};
+ghost use Rattle.task_words.specs.StateView.{call_of, on_core, set_of};
+
+use task_machine::{OwnEvent, Status};
+use task_wait::Event;
+use task_words::{CallId, SetId, SubtaskId, Words};
+
+// The own event, Cancelled only where it may be told.
+fn own_event<W: Words>(w: &W, task: CallId, cancellable: bool) -> Option<OwnEvent>
+    ensures { result ≡ own_gift_of cancellable (call_of (W.view w.now) task) (W.view w.now).core }
+{
+    match w.own_event(task) {
+        Some(OwnEvent::None) => Some(OwnEvent::None),
+        Some(OwnEvent::Cancelled) if cancellable => Some(OwnEvent::Cancelled),
+        _ => None,
+    }
+}
+
+// The own event is taken.
+fn take_own<W: Words>(w: &mut W, task: CallId, event: OwnEvent)
+    ensures { W.view w.new ≡ on_core (taken_own event (call_of (W.view w.old) task)) (W.view w.old) }
+{
+    w.set_own_event(task, None);
+    if let OwnEvent::Cancelled = event {
+        w.set_cancel_delivered(task);
+    }
+}
+
+// The own event as an event.
+fn told(event: OwnEvent) -> Event
+    ensures { result ≡ own_told event }
+{
+    match event {
+        OwnEvent::None => Event::None,
+        OwnEvent::Cancelled => Event::Cancelled,
+    }
+}
+
+// The first ready member of the set, if one is given.
+fn ready_member<W: Words>(w: &W, set: Option<SetId>) -> Option<SubtaskId>
+    requires { IfSome set (λ id. 0 < set_of (W.view w.now) id) }
+    ensures none { IfNone result (has_ready_in (option_map (λ id. set_of (W.view w.now) id) set) (W.view w.now).core ≡ false) }
+    ensures some { IfSome result (λ member. is_ready_in (option_map (λ id. set_of (W.view w.now) id) set) (subtask_in (W.view w.now).tags member) (W.view w.now).core ≡ true) }
+{
+    match set {
+        Some(set) => w.first_ready(set),
+        None => None,
+    }
+}
+
+// The event of a ready member and its handle; the event is gone then.
+fn take_member<W: Words>(w: &mut W, member: SubtaskId) -> (Event, u32)
+    ensures told { result ≡ member_told (subtask_in (W.view w.old).tags member) (W.view w.old).core }
+    ensures gone { W.view w.new ≡ on_core (set_event (subtask_in (W.view w.old).tags member) None) (W.view w.old) }
+{
+    let status = w.event(member).unwrap_or(Status::Starting);
+    let handle = w.subtask_handle(member).unwrap_or(0);
+    w.set_event(member, None);
+    (Event::Subtask(status), handle)
+}
+
+/// Gives a task its own event, and else that of the first ready member of the set, with the member's
+/// handle. Its own event is that it was cancelled only where it may be told so, and comes with 0. The
+/// event is gone then. None exactly where neither is there. The set is one that a guest made. It is the
+/// machine's Give.
+pub fn get_event<W: Words>(
+    w: &mut W,
+    task: CallId,
+    set: Option<SetId>,
+    cancellable: bool,
+) -> Option<(Event, u32)>
+    requires task { 0 < call_of (W.view w.old) task }
+    requires set { IfSome set (λ id. 0 < set_of (W.view w.old) id) }
+    ensures { Gives cancellable (call_of (W.view w.old) task) (option_map (λ id. set_of (W.view w.old) id) set) (W.view w.old) result (W.view w.new) }
+{
+    if let Some(event) = own_event(w, task, cancellable) {
+        take_own(w, task, event);
+        return Some((told(event), 0));
+    }
+    match ready_member(w, set) {
+        Some(member) => Some(take_member(w, member)),
+        None => None,
+    }
+}

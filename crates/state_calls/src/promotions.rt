@@ -1,0 +1,70 @@
+//! Promotions: an entry moves to switch, where none stands.
+ghost use Rattle.std.specs.Prelude.{◌≡◌, IsSome, is_some};
+ghost use Rattle.state_calls.specs.Named.{IsLive};
+ghost use Rattle.state_calls.specs.Promotions.{is_ready_to_begin, local_promoted, thread_promoted};
+ghost use Rattle.task_machine.specs.Maps.{get};
+ghost use Rattle.task_machine.specs.Read.{is_at};
+ghost use Rattle.task_rules.specs.Places.{HasPlace};
+ghost use Rattle.task_rules.specs.Threads.{has_yielded};
+ghost use Rattle.task_words.specs.StateView.{on_core, thread_of};
+
+use crate::names::QualifiedThreadId;
+use task_machine::{Place, Why};
+use task_moves::{promote, promote_unless};
+use task_words::{HowFarId, ThreadId, Words};
+
+// The thread's start or delivery is queued.
+fn is_ready_to_begin<W: Words>(w: &W, thread: ThreadId) -> bool
+    ensures { result ≡ is_at (thread_of (W.view w.now) thread) (W.view w.now).core is_ready_to_begin }
+{
+    match w.place(thread) {
+        Some(Place::Ready { mark: _, why }) => !matches!(why, Why::Resumption),
+        _ => false,
+    }
+}
+
+// The thread has yielded, and its entry is queued.
+#[tactic(auto, unfolding(task_rules::specs::Threads::has_yielded))]
+fn has_yielded<W: Words>(w: &W, thread: ThreadId) -> bool
+    ensures { result ≡ has_yielded (thread_of (W.view w.now) thread) (W.view w.now).core }
+{
+    match w.place(thread) {
+        Some(
+            Place::Ready {
+                mark: _,
+                why: Why::Resumption,
+            },
+        ) => matches!(w.how_far(thread), HowFarId::Yields),
+        _ => false,
+    }
+}
+
+/// Moves a thread's start, delivery or resumption of a yield to switch, unless an entry stands there.
+/// Answers whether an entry stands at switch afterwards. The thread has its place, and so an entry
+/// just where that says so: its item isn't in hand.
+pub fn promote_thread_work_item<W: Words>(w: &mut W, thread: QualifiedThreadId) -> bool
+    requires live { IsLive (W.view w.old) thread }
+    requires placed { HasPlace (thread_of (W.view w.old) thread.thread) (W.view w.old).core }
+    ensures answer { result ≡ is_some (W.view w.new).core.queues.switch }
+    ensures moved { W.view w.new ≡ on_core (thread_promoted (thread_of (W.view w.old) thread.thread)) (W.view w.old) }
+{
+    if is_ready_to_begin(w, thread.thread) || has_yielded(w, thread.thread) {
+        promote_unless(w, thread.thread);
+    }
+    w.switch().is_some()
+}
+
+/// Moves the oldest entry of an instance at high, and else the oldest at low, to switch, unless an
+/// entry stands there. Answers whether an entry stands at switch afterwards.
+pub fn promote_instance_local_thread_work_item<W: Words>(w: &mut W, instance: u32) -> bool
+    requires { IsSome (get (W.view w.old).core.instances instance) }
+    ensures answer { result ≡ is_some (W.view w.new).core.queues.switch }
+    ensures moved { W.view w.new ≡ on_core (local_promoted instance) (W.view w.old) }
+{
+    if w.switch().is_none() {
+        if let Some(thread) = w.first_entry(instance) {
+            promote(w, thread);
+        }
+    }
+    w.switch().is_some()
+}
