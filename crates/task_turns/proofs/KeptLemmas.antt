@@ -25,7 +25,6 @@ use Rattle.task_machine.specs.declared.records.Turn.{Turn}
 use Rattle.task_machine.specs.declared.records.Turn.TheVariants as turn
 use Rattle.task_machine.specs.declared.scenario.IdleLine.TheVariants as idle_line
 use Rattle.task_places.proofs.OrderLemmas.{step_in_order, step_kept}
-use Rattle.task_rules.proofs.WalkSteps.{step_walks}
 use Rattle.task_rules.specs.Calls.{call_made}
 use Rattle.task_rules.specs.MainOps.{Does, Finish, MainAct, MainProgress, Start, finish_result, main_row, main_started, may_act, start_act}
 use Rattle.task_rules.specs.Places.{is_there}
