@@ -1,6 +1,6 @@
 -- Calls of hosts, and the works that they make.
 use Rattle.std.proofs.Common.{ap, refl, subst, sym, ◌∙◌}
-use Rattle.std.specs.Prelude.{Bool, IfOk, List, None, Option, Result, Some, false, not, option_map, true, ℕ, ◌≡◌, ◌⊎◌}
+use Rattle.std.specs.Prelude.{Bool, IfOk, List, None, Result, Some, false, not, true, ℕ, ◌≡◌}
 use Rattle.op_dispatch.proofs.StayLemmas.{ok_then}
 use Rattle.op_dispatch.specs.Polls.{polled_host}
 use Rattle.op_dispatch.specs.Runner.{awaits_end, called_call, called_work, given_answer, waits_behind}
@@ -28,7 +28,6 @@ use Rattle.task_machine.specs.declared.trap.Trap.TheVariants as trap
 use Rattle.task_machine.specs.declared.words.Status.TheVariants as status
 use Rattle.task_ops.specs.Came.{Meets}
 use Rattle.task_ops.specs.declared.came.Came.{Came}
-use Rattle.task_ops.specs.declared.came.Came.TheVariants as came
 use Rattle.task_rules.specs.Calls.{AtOnce, Failing, FirstPoll, Later, call_begins, call_host_polled, call_row, call_sync_begins, call_sync_host_polled, call_sync_host_row, call_sync_host_stops, call_sync_row, first_poll, host_answered, host_pending, host_ready, next_work}
 use Rattle.task_rules.specs.Cancels.{Mode, cancel_row}
 use Rattle.task_rules.specs.Data.{advanced, assigned, moved_to}

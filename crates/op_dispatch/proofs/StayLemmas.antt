@@ -13,7 +13,6 @@ use Rattle.task_machine.specs.declared.component.InstanceDef.{InstanceDef}
 use Rattle.task_ops.specs.Came.{Meets}
 use Rattle.task_ops.specs.Stays.{StaysAfter}
 use Rattle.task_ops.specs.declared.came.Came.{Came}
-use Rattle.task_ops.specs.declared.came.Came.TheVariants as came
 use Rattle.task_rules.specs.MainOps.{takes_words}
 use Rattle.task_rules.specs.Progress.{Fails, Goes, Never, Ordered, Progress, Stops, Traps}
 use Rattle.task_words.specs.StateView.{StateView}

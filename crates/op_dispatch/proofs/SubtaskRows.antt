@@ -1,11 +1,11 @@
 -- What the rows of ops on subtasks show.
 use Rattle.std.proofs.Common.{refl}
 use Rattle.std.specs.Prelude.{Bool, List, None, Option, Some, false, is_some, not, true, ℕ, ◌≡◌}
-use Rattle.op_dispatch.proofs.RowLemmas.{ShowsAs, ShowsFor, StopsAs, here, if_found, if_lawful, if_traps, nobody, two_traps}
+use Rattle.op_dispatch.proofs.RowLemmas.{ShowsAs, ShowsFor, here, if_found, if_lawful, if_traps, two_traps}
 use Rattle.task_machine.specs.Core.{Core}
 use Rattle.task_machine.specs.Labels.{join_label}
 use Rattle.task_machine.specs.Moves.{passes_check}
-use Rattle.task_machine.specs.Read.{at_handle_limit, event_of, fits, instance_of, is_joined, is_watched, join_of, new_handle, result_of, set_at, subtask_at, subtask_ended, undelivered_end, was_cancelled}
+use Rattle.task_machine.specs.Read.{at_handle_limit, event_of, fits, instance_of, is_joined, is_watched, join_of, new_handle, set_at, subtask_at, subtask_ended, undelivered_end, was_cancelled}
 use Rattle.task_machine.specs.Statuses.{packed}
 use Rattle.task_machine.specs.Write.{set_join}
 use Rattle.task_machine.specs.declared.component.Callee.{Callee}
@@ -24,13 +24,12 @@ use Rattle.task_machine.specs.declared.records.Subtask.TheVariants as subtask
 use Rattle.task_machine.specs.declared.trap.Trap.TheVariants as trap
 use Rattle.task_machine.specs.declared.words.Status.{Status}
 use Rattle.task_machine.specs.declared.words.Status.TheVariants as status
-use Rattle.task_rules.specs.Calls as calls
-use Rattle.task_rules.specs.Calls.{AtOnce, Failing, FirstPoll, Later, call_begins, call_host_polled, call_pending, call_queues, call_resumes, call_status, call_sync_begins, call_sync_host_polled, call_sync_host_row, call_sync_host_stops, call_sync_status, call_sync_stops, enter_row, enter_runs, first_poll, host_pending, next_thread, next_work}
+use Rattle.task_rules.specs.Calls.{AtOnce, Failing, FirstPoll, Later, call_begins, call_host_polled, call_pending, call_queues, call_resumes, call_status, call_sync_begins, call_sync_host_polled, call_sync_host_stops, call_sync_status, call_sync_stops, enter_row, enter_runs, host_pending, next_thread, next_work}
 use Rattle.task_rules.specs.Cancels as cancels
 use Rattle.task_rules.specs.Cancels.{CancelCase, Mode, after_cancel, cancel_aborts_host, cancel_asks, cancel_by_end, cancel_case, cancel_ended_row, cancel_found, cancel_guest, cancel_host, cancel_resumed, cancel_row, cancel_stops, cancel_subtask, cancel_unended_row, drop_found, drop_row, dropped, pauses}
 use Rattle.task_rules.specs.Outcome.{outcome_of_label}
 use Rattle.task_rules.specs.Progress.{Goes, Progress, Stops, may, trap_if}
-use Rattle.task_rules.specs.Scripts.{export_kind, host_at}
+use Rattle.task_rules.specs.Scripts.{export_kind}
 use Rattle.task_rules.specs.Sets.{join_done, join_row, join_to, joined, may_wake_new}
 
 -- whoever goes on, what is shown gives no outcome

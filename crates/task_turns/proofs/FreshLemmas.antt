@@ -1,20 +1,15 @@
 -- The core of a new store sits at main's turn.
 use Rattle.std.proofs.Common.{arith, refl}
 use Rattle.std.proofs.lemmas.Bool.Decides.{nat_tests}
-use Rattle.std.specs.Prelude.{false, is_some, length, true, ℕ, ◌<◌, ◌≡◌, ◌≤◌}
+use Rattle.std.specs.Prelude.{is_some, length, true, ℕ, ◌<◌, ◌≡◌, ◌≤◌}
 use Rattle.task_laws.specs.Order.{OpeningInOrder}
 use Rattle.task_laws.specs.Settings.{CodesInCallbacks}
 use Rattle.task_machine.specs.Core.{fresh, no_handles}
-use Rattle.task_machine.specs.Maps.{get, get-empty}
+use Rattle.task_machine.specs.Maps.{get}
 use Rattle.task_machine.specs.declared.component.Component.{Component}
-use Rattle.task_machine.specs.declared.op.Op.{Op}
-use Rattle.task_machine.specs.declared.op.Op.TheVariants as op
 use Rattle.task_machine.specs.declared.records.Turn.TheVariants as turn
-use Rattle.task_machine.specs.declared.records.Work.{Work}
 use Rattle.task_places.proofs.OrderLemmas.{opening_in_order}
 use Rattle.task_rules.proofs.Machine.{filled, get-insert, untouched}
-use Rattle.task_rules.specs.OpParts.{calls_host}
-use Rattle.task_turns.specs.WellFormed.{IsWellFormed}
 use Rattle.task_turns.specs.Turn.{Sits, given}
 
 filled_at : {X : Type 0} (x : X) (n i : ℕ) → i < n → is_some (get (filled x n) i) ≡ true

@@ -1,5 +1,5 @@
 -- What a state in order gives to the thread that runs.
-use Rattle.std.proofs.Common.{ap, ap₂, arith, inl, inr, refl, subst, sym, ◌∙◌}
+use Rattle.std.proofs.Common.{ap, arith, inl, inr, refl, subst, sym, ◌∙◌}
 use Rattle.std.proofs.lemmas.Bool.Decides.{nat_tests}
 use Rattle.std.specs.Option.{option_and_then, option_map_or}
 use Rattle.std.specs.Prelude.{Bool, None, Option, Some, false, if◌then◌else◌, is_some, option_map, suc, true, zero, ℕ, ◌<◌, ◌≡◌}
@@ -9,7 +9,7 @@ use Rattle.task_laws.proofs.MemberLemmas.{members_named}
 use Rattle.task_laws.specs.Order.{InOrder, IsOf, cancelled_by, is_awaited, set_of_op, set_of_place}
 use Rattle.task_machine.specs.Core.{Core, Unscripted}
 use Rattle.task_machine.specs.Maps.{get}
-use Rattle.task_machine.specs.Read.{goal_of, how_far_of, instance_of, is_direct, is_explicit, is_stage_ended, is_under, is_waiting_on, place_of, stage_of, task_of, under_of, work_caller_of}
+use Rattle.task_machine.specs.Read.{how_far_of, instance_of, is_stage_ended, is_under, is_waiting_on, place_of, stage_of, task_of, under_of, work_caller_of}
 use Rattle.task_machine.specs.declared.component.Component.{Component}
 use Rattle.task_machine.specs.declared.records.Call.{Call}
 use Rattle.task_machine.specs.declared.records.HowFar.{HowFar}
@@ -22,7 +22,6 @@ use Rattle.task_machine.specs.declared.records.Thread.{Thread}
 use Rattle.task_machine.specs.declared.records.Turn.{Turn}
 use Rattle.task_machine.specs.declared.records.Turn.TheVariants as turn
 use Rattle.task_machine.specs.declared.records.Work.{Work}
-use Rattle.task_machine.specs.declared.records.WorkCaller.{WorkCaller}
 use Rattle.task_machine.specs.declared.records.WorkCaller.TheVariants as work_caller
 use Rattle.task_ops.proofs.BesideLemmas.{stand_of}
 use Rattle.task_ops.proofs.BlockLemmas.{first_found}

@@ -1,6 +1,6 @@
 -- The work that a step made.
 use Rattle.std.proofs.Common.{ap, arith, inl, inr, refl, subst, sym, ◌∙◌}
-use Rattle.std.specs.Prelude.{Bool, List, None, Option, Some, [], is_some, option_map, true, ℕ, ◌+◌, ◌∷◌, ◌≡◌, ◌≤◌, ◌⊎◌}
+use Rattle.std.specs.Prelude.{List, None, Option, Some, [], is_some, option_map, true, ℕ, ◌+◌, ◌∷◌, ◌≡◌}
 use Rattle.op_dispatch.specs.Polls.{MakesWork, Polls, made_work}
 use Rattle.op_dispatch.specs.declared.done.Done.{Done}
 use Rattle.subtask_ops.specs.Queued.{GoesOnWith, queued_work}

@@ -2,7 +2,7 @@
 use Rattle.std.proofs.Common.{ap, arith, refl, subst, sym, ◌∙◌}
 use Rattle.std.specs.Option.{option_map_or}
 use Rattle.std.specs.Prelude.{Bool, List, None, Option, Some, is_some, option_and_then, true, [], ℕ, ◌≡◌, ◌<◌, ◌≤◌, ◌∷◌}
-use Rattle.task_laws.specs.Order.{InOrder, IsOf, WorkEntries, is_host_of, set_of_place, stands}
+use Rattle.task_laws.specs.Order.{InOrder, IsOf, is_host_of, set_of_place, stands}
 use Rattle.task_machine.specs.Core.{Core, Queues, Unscripted}
 use Rattle.task_machine.specs.Maps.{get}
 use Rattle.task_machine.specs.Moves.{ready_why, why_of}

@@ -1,12 +1,11 @@
 -- What a turn of the loop makes.
-use Rattle.std.specs.Prelude.{◌≡◌, ◌<◌, List, ℕ, Bool, true, false, Option, Some, None, is_none, is_some, length}
+use Rattle.std.specs.Prelude.{◌≡◌, ◌<◌, List, ℕ, Bool, true, false, Option, Some, None, is_none}
 use Rattle.op_dispatch.specs.Fits.{HasHandles, HasInstances}
 use Rattle.task_laws.specs.Order.{InOrder}
 pub use Rattle.task_laws.specs.Order.{is_open}
 use Rattle.task_machine.specs.Core.{Core, Main, One, State}
 use Rattle.task_machine.specs.Read.{next_entry}
 use Rattle.task_machine.specs.declared.component.Component.{Component}
-use Rattle.task_machine.specs.Maps.{get}
 use Rattle.task_machine.specs.declared.records.Turn.{Turn}
 use Rattle.task_machine.specs.declared.records.Turn.TheVariants as turn
 use Rattle.task_ops.specs.Running.{IsTopmost}

@@ -1,6 +1,5 @@
 use Rattle.std.proofs.Common.{ap, subst, sym, ◌∙◌}
 use Rattle.task_machine.specs.Labels.{choice_of}
-use Rattle.task_machine.specs.Read.{how_far_of}
 use Rattle.task_machine.specs.declared.records.HowFar.{HowFar}
 use Rattle.task_ops.specs.Came.{Meets}
 use Rattle.task_ops.specs.Steps.{label_of}
