@@ -11,9 +11,8 @@ loop-place-preserved g c =
     let f = value_of (thread_of s c.args.thread) s.core in
     let i = c.loop-place.place in
     let size = c.loop-place.invariant.1 in
-    let room : i < length c.loop-place.words = omega arith in
-    (
+    let room : i < length c.loop-place.words = omega arith in (
       take_more_set c.loop-place.words i c.value_of.result room
-      ∙ (ap₂ (λ (xs : List ℕ) (y : ℕ). xs ++ y ∷ []) c.loop-place.invariant.0 c.value_of.ensures ∙ sym (map_more f c.args.operands.now i _ c.loop-place-test.true)),
+          ∙ (ap₂ (λ (xs : List ℕ) (y : ℕ). xs ++ y ∷ []) c.loop-place.invariant.0 c.value_of.ensures ∙ sym (map_more f c.args.operands.now i _ c.loop-place-test.true)),
       length-set c.loop-place.words i c.value_of.result ∙ size,
     )
