@@ -206,20 +206,20 @@ module _ (s : ScenarioText) (formed : IsWellFormed s) where
   -- what is asked of a script, which isn't a callback's where the test fails
   record IsFit (callback : Bool) (ops : List Op) : Type 0 where
     pub short : length ops ≤ 4096
-    pub ops : (p : ℕ) (o : Op) → slice_get ops p ≡ Some o → fit.op_fits c o ≡ true
+    pub each : (p : ℕ) (o : Op) → slice_get ops p ≡ Some o → fit.op_fits c o ≡ true
     pub plain : callback ≡ false → HasNoCode ops
 
   no_ops : (callback : Bool) → IsFit callback []
-  no_ops callback = record { short = omega arith; ops = λ p o at. absurd (cc); plain = λ h p o at. absurd (cc) }
+  no_ops callback = record { short = omega arith; each = λ p o at. absurd (cc); plain = λ h p o at. absurd (cc) }
 
   room_left : (k : ℕ) (callback : Bool) (before : List Op) (o : Op) → OpStands s.hosts (take k s.instances) callback before o → length before < 4096
   room_left k callback before o stands = ltb-true (length before) 4096 stands.room
 
   script_fit : (k : ℕ) (callback : Bool) (ops : List Op) → ScriptStands s.hosts (take k s.instances) callback ops → IsFit callback ops
-  script_fit k callback ops each = record {
-    short = few_after (OpStands s.hosts (take k s.instances) callback) 4096 (room_left k callback) [] ops (omega arith) each;
-    ops = λ p o at. fits k o (stands_at (OpStands s.hosts (take k s.instances) callback) ops p o each at).fits;
-    plain = λ other p o at. no_code o (subst (λ (b : Bool). op_suits b o ≡ true) other (stands_at (OpStands s.hosts (take k s.instances) callback) ops p o each at).suits);
+  script_fit k callback ops stand = record {
+    short = few_after (OpStands s.hosts (take k s.instances) callback) 4096 (room_left k callback) [] ops (omega arith) stand;
+    each = λ p o at. fits k o (stands_at (OpStands s.hosts (take k s.instances) callback) ops p o stand at).fits;
+    plain = λ other p o at. no_code o (subst (λ (b : Bool). op_suits b o ≡ true) other (stands_at (OpStands s.hosts (take k s.instances) callback) ops p o stand at).suits);
   }
 
   start_fit : (f : Callee) (d : ExportDef) → export_at c f ≡ Some d → IsFit (is_callback d.kind) d.start
@@ -285,7 +285,7 @@ module _ (s : ScenarioText) (formed : IsWellFormed s) where
   well_formed = record {
     few_params = few_words;
     short = λ f x. (scripts_fit f x).1.short;
-    ops = λ f x p o at. (scripts_fit f x).1.ops p o at;
+    ops = λ f x p o at. (scripts_fit f x).1.each p o at;
   }
 
   codes : CodesInCallbacks c
