@@ -1,15 +1,19 @@
 use scenario_text::{
-    InstanceText, MainOpText, ScenarioText, TextError, number_up_to, one_tree, read_text,
+    HostWork, InstanceText, MainOpText, PartText, ScenarioText, TextError, number_up_to, one_tree,
+    read_text,
 };
 use std::alloc::Global;
 use std::process::Abort;
-use task_machine::{Callee, DataOp, Op, Operand};
+use task_machine::{CallOp, Callee, DataOp, ExportKind, Op, Operand};
 
 const ONE_CALL: &[u8] =
     b"scenario 1\nhandles 100000\ntable 1000000\nidle trap\ninstance a\nexport f callback 1\nret r0\nexit\nmain\nstart a.f 7\nfinish 1 r0\nanswer r0\nend\n";
 
 const TWO_INSTANCES: &[u8] =
     b"scenario 1\nhandles 100000\ntable 1000000\nidle trap\ninstance a\nexport f callback 2\nset r3 r0\nadd r3 18446744073709551615\nhandle r15 r3\nload r4 15\nstore 0 9\nskip_eq r3 0 4096\nret_bad r3\nexport g callback 0\ninstance b\ninstance c\nexport f callback 0\nmain\nstart c.f\nstart a.f 7 r2\nfinish 2 r0\nstart a.g\nfinish 1 r1\nanswer r0\nend";
+
+const EACH_LINE: &[u8] =
+    b"scenario 1\nhandles 9\ntable 99\nidle wait\nhost disk polls 9 value 100\nhost net polls 0 fail\nhost dead never\ninstance a\nexport f callback 1\nset_new r1\ncb_wait r1\nreact\ncode 3\nbad 15\nthread 0\nwait r13 0\npoll r0 1\njoin 1 0\nset_drop 1\nexport g sync 2\nbp_inc\nbp_dec\ntask_cancel\ninstance b\nexport f stackful 0\ncall r3 r4 a.g 1 r2\ncall_sync r3 disk\ncancel r3 4\ncancel_sync r3 4\ndrop 4\nthread_new r1 0 7\nthread_index r2\nresume_later 1\nsuspend\nyield\nsuspend_then_resume 1\nyield_then_resume 1\nsuspend_then_promote 1\nyield_then_promote 1\nmain\nspawn net\nstart b.f\nabort 1\nawait 1\nquiet\nready a.g\nfinish 1 r0\nanswer r0\naborter 1 1\nend\n";
 
 const NOTHING: &[u8] = b"scenario 1\nhandles 0\ntable 0\nidle trap\nmain\nanswer 0\nend\n";
 
@@ -56,8 +60,8 @@ fn starts(op: &MainOpText) -> bool {
 
 // The first instance has two exports, of which the first has seven ops.
 fn has_two_exports(rt: &impl Abort, instance: &InstanceText) {
-    assert!(rt; instance.exports.len() == 2);
-    let Some(export) = instance.exports.as_slice().first() else {
+    assert!(rt; instance.parts.len() == 2);
+    let Some(PartText::Export(export)) = instance.parts.as_slice().first() else {
         panic!(rt; "an export")
     };
     assert!(rt; export.start.len() == 7);
@@ -81,6 +85,39 @@ fn reads_many_instances(rt: HostRuntime) {
     assert!(rt; starts(op));
 }
 
+fn calls(op: &Op) -> bool {
+    matches!(
+        op,
+        Op::Call(CallOp::Call { to: 3, result: 4, callee: Callee { instance: 0, export: 1 }, params }) if params.len() == 2
+    )
+}
+
+// The second instance calls the first one's second export, which stands after two slots.
+fn has_call(rt: &impl Abort, instance: &InstanceText) {
+    let Some(PartText::Export(export)) = instance.parts.as_slice().first() else {
+        panic!(rt; "an export")
+    };
+    assert!(rt; matches!(export.kind, ExportKind::Stackful) && export.react.is_none());
+    let Some(op) = export.start.as_slice().first() else {
+        panic!(rt; "an op")
+    };
+    assert!(rt; calls(op));
+}
+
+#[test]
+fn reads_each_line(rt: HostRuntime) {
+    let tree = read(&rt, rt.alloc(), EACH_LINE);
+    assert!(rt; tree.hosts.len() == 3 && tree.main.len() == 7 && tree.aborters.len() == 1);
+    let Some(host) = tree.hosts.as_slice().first() else {
+        panic!(rt; "a host")
+    };
+    assert!(rt; matches!(host.work, HostWork::Value(9, 100)));
+    let Some(instance) = tree.instances.as_slice().get(1) else {
+        panic!(rt; "an instance")
+    };
+    has_call(&rt, instance);
+}
+
 #[test]
 fn numbers_have_limits(rt: HostRuntime) {
     assert!(rt; matches!(number_up_to(b"40", 40), Some(40)));
@@ -90,7 +127,7 @@ fn numbers_have_limits(rt: HostRuntime) {
 #[test]
 fn names_the_first_bad_line(rt: HostRuntime) {
     let front = &ONE_CALL[..ONE_CALL.len() - 4];
-    let texts: [(&[u8], u32); 12] = [
+    let texts: [(&[u8], u32); 18] = [
         (b"", 1),
         (b"\n", 1),
         (b"scenario 1\nhandles 0100000\n", 2),
@@ -120,6 +157,30 @@ fn names_the_first_bad_line(rt: HostRuntime) {
         (
             b"scenario 1\nhandles 1\ntable 1\nidle trap\ninstance a\nexport f callback 0\nmain\nstart a.f\nfinish 1 r0\nfinish 1 r0\n",
             10,
+        ),
+        (
+            b"scenario 1\nhandles 1\ntable 1\nidle trap\nhost a never\nhost a never\n",
+            6,
+        ),
+        (
+            b"scenario 1\nhandles 1\ntable 1\nidle trap\ninstance a\nexport f sync 0\nreact\n",
+            7,
+        ),
+        (
+            b"scenario 1\nhandles 1\ntable 1\nidle trap\ninstance a\nthread 3\ncb_yield\n",
+            7,
+        ),
+        (
+            b"scenario 1\nhandles 1\ntable 1\nidle trap\ninstance a\nthread 3\nbad 3\n",
+            7,
+        ),
+        (
+            b"scenario 1\nhandles 1\ntable 1\nidle trap\ninstance a\nexport f sync 0\ncall_sync r0 a.f\n",
+            7,
+        ),
+        (
+            b"scenario 1\nhandles 1\ntable 1\nidle trap\nmain\nanswer 0\naborter 1\n",
+            7,
         ),
     ];
     for (text, line) in texts {

@@ -7,8 +7,8 @@ use Rattle.std.proofs.lemmas.List.{take_rest, map-append}
 use Rattle.std.proofs.lemmas.List.Quantifiers.{position-Some}
 use Rattle.std.proofs.lemmas.List.Splits.{slice_split_none}
 use Rattle.scenario_text.specs.Grammar.{lines, words}
-use Rattle.scenario_text.proofs.Position.{none_passes}
-use Rattle.scenario_text.proofs.WordCounts.{bytes_of}
+use Rattle.text_lines.proofs.Position.{none_passes}
+use Rattle.text_lines.proofs.WordCounts.{bytes_of}
 
 -- ---- Lines
 

@@ -8,8 +8,8 @@ use Rattle.std.proofs.lemmas.Bool.{or_parts}
 use Rattle.std.proofs.lemmas.List.{append-nil}
 use Rattle.std.proofs.lemmas.Slice.Eq.{bytes_eq-Decides}
 use Rattle.scenario_text.specs.Placement.{EachStands}
-use Rattle.scenario_text.proofs.Position.{position_head, position_tail}
-use Rattle.scenario_text.proofs.WordLaws.{some_is}
+use Rattle.text_lines.proofs.Position.{position_head, position_tail}
+use Rattle.text_lines.proofs.WordLaws.{some_is}
 
 -- ---- One item more
 
@@ -75,3 +75,9 @@ few_after S n bound before (x ∷ xs) le each =
     let lt = bound before x each.0 in
     let h = few_after S n bound (before ++ x ∷ []) xs (omega (arith, length-append before (x ∷ []))) each.1 in
     omega (arith, h, length-append (before ++ x ∷ []) xs, length-append before (x ∷ []), length-append before (x ∷ xs))
+
+-- as many stand before a place as its number says
+pub length_before : {X : Type 0} (xs : List X) (k : ℕ) (x : X) → slice_get xs k ≡ Some x → length (take k xs) ≡ k
+length_before [] k x e = absurd cc
+length_before (y ∷ xs) zero x e = refl
+length_before (y ∷ xs) (suc k) x e = ap (λ (n : ℕ). suc n) (length_before xs k x e)

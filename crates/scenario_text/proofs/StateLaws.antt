@@ -1,155 +1,46 @@
--- What a state has read, and that each line that it takes is the next one of its spelling.
-use Rattle.std.proofs.Common.{◌≡◌, ℕ, ◌^◌, true, ◌&&◌, cond, eqb, ltb, List, [], ◌∷◌, ◌++◌, length, map, Option, Some, None, refl, sym, ap, subst, ◌∙◌, append_assoc}
-use Rattle.std.specs.Prelude.{codes, slice_get, unwrap_or, position, nat_le}
-use Rattle.std.specs.List.{flat_map, list_all}
-use Rattle.std.specs.Option.{option_map}
-use Rattle.std.specs.Str.{bytes_eq}
-use Rattle.std.proofs.lemmas.Bool.{and_parts, eqb-true, leb-true}
+-- Each line that a state takes is the next one of what was read.
+use Rattle.std.proofs.Common.{◌≡◌, ℕ, Bool, true, false, ◌&&◌, cond, eqb, List, [], ◌∷◌, ◌++◌, length, map, Option, Some, None, refl, sym, ap, subst, ◌∙◌, append_assoc}
+use Rattle.std.specs.Prelude.{nat_le}
+use Rattle.std.specs.List.{list_all}
+use Rattle.std.proofs.lemmas.Bool.{and_parts, and_from, leb-true}
 use Rattle.std.proofs.lemmas.List.{append-nil, map-append}
-use Rattle.std.proofs.lemmas.List.Concat.{flat_map-append}
-use Rattle.task_machine.specs.declared.component.Callee.{Callee}
 use Rattle.task_machine.specs.declared.op.Operand.{Operand}
 use Rattle.task_machine.specs.declared.op.Op.{Op}
+use Rattle.task_machine.specs.declared.op.Op.TheVariants as op
+use Rattle.task_machine.specs.declared.op.CallOp.{CallOp}
+use Rattle.task_machine.specs.declared.op.CallOp.TheVariants as call_op
 use Rattle.task_machine.specs.declared.scenario.IdleLine.{IdleLine}
-use Rattle.scenario_text.specs.declared.line.HeadLine.{HeadLine}
-use Rattle.scenario_text.specs.declared.line.HeadLine.TheVariants as head_line
-use Rattle.scenario_text.specs.declared.line.PartLine.{PartLine}
-use Rattle.scenario_text.specs.declared.line.PartLine.TheVariants as part_line
-use Rattle.scenario_text.specs.declared.line.NamedOp.{NamedOp}
-use Rattle.scenario_text.specs.declared.line.NamedOp.TheVariants as named
-use Rattle.scenario_text.specs.declared.line.Line.{Line}
-use Rattle.scenario_text.specs.declared.line.Line.TheVariants as line
+use Rattle.text_lines.specs.declared.line.HeadLine.{HeadLine}
+use Rattle.text_lines.specs.declared.line.HeadLine.TheVariants as head_line
+use Rattle.text_lines.specs.declared.line.PartLine.{PartLine}
+use Rattle.text_lines.specs.declared.line.PartLine.TheVariants as part_line
+use Rattle.text_lines.specs.declared.line.NamedCall.{NamedCall}
+use Rattle.text_lines.specs.declared.line.NamedOp.{NamedOp}
+use Rattle.text_lines.specs.declared.line.NamedOp.TheVariants as named
+use Rattle.text_lines.specs.declared.line.Line.{Line}
+use Rattle.text_lines.specs.declared.line.Line.TheVariants as line
+use Rattle.text_lines.specs.Words.{◌>>=◌, is_name}
+use Rattle.text_lines.specs.LineWords.{title_words, handles_words, table_words, idle_words, instance_words, export_words, react_words, thread_words, bad_words, subtask_op_words, plain_op_words, main_words, start_words, spawn_words, ready_words, answer_words, aborter_words, end_words}
+use Rattle.text_lines.specs.Fits.{register_fits, operand_fits, handles_fit, table_fits, work_fits, slot_fits, subtask_op_fits, plain_op_fits}
+use Rattle.text_lines.proofs.Numbers.{guarded}
+use Rattle.text_lines.proofs.WordLaws.{bind_some, some_is}
+use Rattle.text_lines.proofs.CallLaws.{named_call_words, named_call_fits, named_words, named_fits}
+use Rattle.text_lines.proofs.LineLaws.{head_line_words, head_line_fits, part_line_words, part_line_fits, line_words, line_fits}
 use Rattle.scenario_text.specs.declared.state.Body.{Body}
 use Rattle.scenario_text.specs.declared.state.Opening.{Opening}
 use Rattle.scenario_text.specs.declared.state.State.{State}
 use Rattle.scenario_text.specs.declared.state.State.TheVariants as state
-use Rattle.scenario_text.specs.declared.tree.ExportText.{ExportText}
+use Rattle.scenario_text.specs.declared.tree.HostText.{HostText}
 use Rattle.scenario_text.specs.declared.tree.InstanceText.{InstanceText}
+use Rattle.scenario_text.specs.declared.tree.PartText.TheVariants as part
 use Rattle.scenario_text.specs.declared.tree.MainOpText.{MainOpText}
 use Rattle.scenario_text.specs.declared.tree.MainOpText.TheVariants as main
-use Rattle.scenario_text.specs.Words.{◌>>=◌, is_name}
-use Rattle.scenario_text.specs.Spelling.{Lines, operand_word, callee_word, title_words, handles_words, table_words, idle_words, head_lines, op_words, export_words, export_lines, instance_words, instance_lines, body_lines, exports_of, export_name, name_of, main_op_words, main_words, main_lines, answer_words, end_words, lines_of}
-use Rattle.scenario_text.specs.Placement.{EachStands, operand_fits, idle_fits, kind_fits, handles_fit, table_fits, op_fits, has_room_for_op, OpStands, export_opens, ExportStands, instance_opens, InstanceStands, start_opens, finish_opens, params_of, MainOpStands, IsWellFormed}
-use Rattle.scenario_text.specs.State.{with_instance, with_export, export_from, script_closed, instance_closed, main_open, after_title, handles_taken, after_handles, table_taken, after_table, after_idle, after_head, after_instance, after_export, after_part, with_op, after_op, after_main, small, instance_place, export_place, callee_of, start_of, finish_of, main_op_of, after_main_op, after_answer, whole, after_end, after}
-use Rattle.scenario_text.proofs.Numbers.{guarded}
-use Rattle.scenario_text.proofs.WordLaws.{bind_some, some_is, passed}
-use Rattle.scenario_text.proofs.LineLaws.{head_line_words, head_line_fits, part_line_words, part_line_fits, named_words, named_fits, line_words, line_fits}
-use Rattle.scenario_text.proofs.StandingLaws.{each_more, place_takes, same_bytes}
-
--- ---- What a state has read
-
--- the lines of the head and of the closed instances
-abbrev pub front : Body → Lines
-front b = head_lines b.handles b.table b.idle ++ body_lines b.instances
-
-abbrev pub so_far : State → Lines
-so_far state.Empty = []
-so_far state.Titled = title_words ∷ []
-so_far (state.Handles h) = title_words ∷ handles_words h ∷ []
-so_far (state.Table h t) = title_words ∷ handles_words h ∷ table_words t ∷ []
-so_far (state.Body b) = front b
-so_far (state.Instance b i) = front b ++ instance_lines i
-so_far (state.Script b i h start) = front b ++ instance_lines i ++ export_lines (export_from h start)
-so_far (state.Main b ops) = front b ++ main_lines b.instances ops
-so_far (state.Answered b ops x) = front b ++ main_lines b.instances ops ++ answer_words x ∷ []
-so_far (state.Ended s) = lines_of s
-
-pub record BodyFits (b : Body) : Type 0 where
-  pub handles : handles_fit b.handles ≡ true
-  pub table : table_fits b.table ≡ true
-  pub idle : idle_fits b.idle ≡ true
-  pub instances : EachStands InstanceStands [] b.instances
-
-pub record ScriptFits (b : Body) (i : InstanceText) (e : ExportText) : Type 0 where
-  pub body : BodyFits b
-  pub instance : InstanceStands b.instances i
-  pub export : ExportStands b.instances i.exports e
-
-pub record MainFits (b : Body) (ops : List MainOpText) : Type 0 where
-  pub body : BodyFits b
-  pub each : EachStands (MainOpStands b.instances) [] ops
-
-pub record AnswerFits (b : Body) (ops : List MainOpText) (x : Operand) : Type 0 where
-  pub main : MainFits b ops
-  pub answer : operand_fits x ≡ true
-
--- what was read stands where it does
-abbrev pub IsSound : State → Type 0
-IsSound state.Empty = Unit {0}
-IsSound state.Titled = Unit {0}
-IsSound (state.Handles h) = handles_fit h ≡ true
-IsSound (state.Table h t) = (handles_fit h ≡ true) × (table_fits t ≡ true)
-IsSound (state.Body b) = BodyFits b
-IsSound (state.Instance b i) = BodyFits b × InstanceStands b.instances i
-IsSound (state.Script b i h start) = ScriptFits b i (export_from h start)
-IsSound (state.Main b ops) = MainFits b ops
-IsSound (state.Answered b ops x) = AnswerFits b ops x
-IsSound (state.Ended s) = IsWellFormed s
-
--- t has read what s has, and then this line
-pub record Follows (s : State) (words : List (List ℕ)) (t : State) : Type 0 where
-  pub lines : so_far t ≡ so_far s ++ words ∷ []
-  pub sound : IsSound t
-
--- ---- What is open is closed
-
-pub instance_grows : (i : InstanceText) (e : ExportText) → instance_lines (with_export i e) ≡ instance_lines i ++ export_lines e
-instance_grows i e =
-    ap (λ (ls : Lines). instance_words i.name ∷ ls) (flat_map-append export_lines i.exports (e ∷ []) ∙ ap (λ (ls : Lines). flat_map export_lines i.exports ++ ls) (append-nil (export_lines e)))
-
-body_grows : (is : List InstanceText) (i : InstanceText) → body_lines (is ++ i ∷ []) ≡ body_lines is ++ instance_lines i
-body_grows is i = flat_map-append instance_lines is (i ∷ []) ∙ ap (λ (ls : Lines). body_lines is ++ ls) (append-nil (instance_lines i))
-
-pub front_grows : (b : Body) (i : InstanceText) → front (with_instance b i) ≡ front b ++ instance_lines i
-front_grows b i =
-    let head = head_lines b.handles b.table b.idle in
-    ap (λ (ls : Lines). head ++ ls) (body_grows b.instances i) ∙ sym (append_assoc head (body_lines b.instances) (instance_lines i))
-
-pub with_export_stands : (b : Body) (i : InstanceText) (e : ExportText) → InstanceStands b.instances i → ExportStands b.instances i.exports e → InstanceStands b.instances (with_export i e)
-with_export_stands b i e fits stands = record { name = fits.name; opens = fits.opens; exports = each_more (ExportStands b.instances) i.exports e fits.exports stands }
-
-pub with_instance_fits : (b : Body) (i : InstanceText) → BodyFits b → InstanceStands b.instances i → BodyFits (with_instance b i)
-with_instance_fits b i fits stands = record { handles = fits.handles; table = fits.table; idle = fits.idle; instances = each_more InstanceStands b.instances i fits.instances stands }
-
-pub record ScriptClosed (s : State) (b : Body) (i : InstanceText) : Type 0 where
-  pub body : BodyFits b
-  pub instance : InstanceStands b.instances i
-  pub lines : so_far s ≡ front b ++ instance_lines i
-
-closes_export : (s : State) (b : Body) (i : InstanceText) (x : ExportText) (p : Body × InstanceText) → so_far s ≡ front b ++ instance_lines i ++ export_lines x → ScriptFits b i x → Some (b, with_export i x) ≡ Some p → ScriptClosed s p.0 p.1
-closes_export s b i x p read sound e =
-    let made : ScriptClosed s b (with_export i x) = record {
-      body = sound.body;
-      instance = with_export_stands b i x sound.instance sound.export;
-      lines = read ∙ append_assoc (front b) (instance_lines i) (export_lines x) ∙ ap (λ (ls : Lines). front b ++ ls) (sym (instance_grows i x));
-    } in
-    subst (λ (q : Body × InstanceText). ScriptClosed s q.0 q.1) (some_is (b, with_export i x) p e) made
-
-pub closes_script : (s : State) (p : Body × InstanceText) → script_closed s ≡ Some p → IsSound s → ScriptClosed s p.0 p.1
-unfolding script_closed
-closes_script (state.Instance b i) p e sound =
-    subst (λ (q : Body × InstanceText). ScriptClosed (state.Instance b i) q.0 q.1) (some_is (b, i) p e) (record { body = sound.0; instance = sound.1; lines = refl })
-closes_script (state.Script b i h start) p e sound = closes_export (state.Script b i h start) b i (export_from h start) p refl sound e
-closes_script _ p e sound = absurd cc
-
-pub record InstanceClosed (s : State) (b : Body) : Type 0 where
-  pub body : BodyFits b
-  pub lines : so_far s ≡ front b
-
-closes_by_script : (s : State) (b : Body) → (script_closed s >>= λ p. Some (with_instance p.0 p.1)) ≡ Some b → IsSound s → InstanceClosed s b
-closes_by_script s b e sound =
-    let p = bind_some (script_closed s) (λ p. Some (with_instance p.0 p.1)) b e in
-    let c = closes_script s p.0 p.1 sound in
-    let made : InstanceClosed s (with_instance p.0.0 p.0.1) = record {
-      body = with_instance_fits p.0.0 p.0.1 c.body c.instance;
-      lines = c.lines ∙ sym (front_grows p.0.0 p.0.1);
-    } in
-    subst (InstanceClosed s) (some_is (with_instance p.0.0 p.0.1) b p.2) made
-
-pub closes_instance : (s : State) (b : Body) → instance_closed s ≡ Some b → IsSound s → InstanceClosed s b
-unfolding instance_closed
-closes_instance (state.Body c) b e sound = subst (InstanceClosed (state.Body c)) (some_is c b e) (record { body = sound; lines = refl })
-closes_instance s b e sound = closes_by_script s b e sound
+use Rattle.scenario_text.specs.Spelling.{Lines, host_line, op_words, script_lines, part_lines, instance_lines, name_of, host_name, main_op_words, main_lines}
+use Rattle.scenario_text.specs.Placement.{EachStands, host_opens, OpFits, CallStands, is_callback, export_opens, slot_opens, instance_opens, main_has_room, start_opens, finish_opens, spawn_opens, spawn_named, params_of, MainOpStands, aborter_opens, AborterStands, IsWellFormed}
+use Rattle.scenario_text.specs.State.{with_host, with_part, script_closed, instance_closed, main_open, script_body, after_title, after_handles, after_table, after_idle, after_head, after_host, after_instance, after_export, after_react, after_thread, after_bad, after_part, with_op, after_op, after_call, after_main, host_place, callee_of, fitting_export, start_of, finish_of, spawn_of, ready_of, main_op_of, call_of, after_main_op, after_answer, after_aborter, whole, after_end, after}
+use Rattle.scenario_text.proofs.StandingLaws.{each_more}
+use Rattle.scenario_text.proofs.CalleeLaws.{host_named, callee_named, export_fits, IsCall, named_call_is}
+use Rattle.scenario_text.proofs.SoFar.{front, until, so_far, IsSound, Follows, BodyFits, MainFits, AnswerFits, host_grows, with_host_fits, part_grows, with_part_stands, closes_script, closes_instance, start_open, react_open, thread_open, takes_op}
 
 -- ---- The head
 
@@ -158,86 +49,168 @@ unfolding after_title
 title_follows state.Empty t e sound = subst (Follows state.Empty title_words) (some_is state.Titled t e) (record { lines = refl; sound = tt })
 title_follows _ t e sound = absurd cc
 
-handles_follow : (s t : State) (h : ℕ) → handles_taken s h ≡ Some t → handles_fit h ≡ true → IsSound s → Follows s (handles_words h) t
+handles_follow : (s t : State) (h : ℕ) → after_handles s h ≡ Some t → handles_fit h ≡ true → IsSound s → Follows s (handles_words h) t
+unfolding after_handles
 handles_follow state.Titled t h e fits sound = subst (Follows state.Titled (handles_words h)) (some_is (state.Handles h) t e) (record { lines = refl; sound = fits })
 handles_follow _ t h e fits sound = absurd cc
 
-table_follows : (s t : State) (n : ℕ) → table_taken s n ≡ Some t → table_fits n ≡ true → IsSound s → Follows s (table_words n) t
+table_follows : (s t : State) (n : ℕ) → after_table s n ≡ Some t → table_fits n ≡ true → IsSound s → Follows s (table_words n) t
+unfolding after_table
 table_follows (state.Handles h) t n e fits sound = subst (Follows (state.Handles h) (table_words n)) (some_is (state.Table h n) t e) (record { lines = refl; sound = (sound, fits) })
 table_follows _ t n e fits sound = absurd cc
 
-idle_follows : (s t : State) (i : IdleLine) → after_idle s i ≡ Some t → idle_fits i ≡ true → IsSound s → Follows s (idle_words i) t
+idle_follows : (s t : State) (i : IdleLine) → after_idle s i ≡ Some t → IsSound s → Follows s (idle_words i) t
 unfolding after_idle
-idle_follows (state.Table h n) t i e fits sound =
-    subst (Follows (state.Table h n) (idle_words i)) (some_is (state.Body (record { handles = h; table = n; idle = i; instances = [] })) t e)
-    (record { lines = refl; sound = record { handles = sound.0; table = sound.1; idle = fits; instances = tt } })
-idle_follows _ t i e fits sound = absurd cc
+idle_follows (state.Table h n) t i e sound =
+    let b : Body = record { handles = h; table = n; idle = i; hosts = []; instances = [] } in
+    let fits : BodyFits b = record { handles = sound.0; table = sound.1; hosts = tt; instances = tt } in
+    subst (Follows (state.Table h n) (idle_words i)) (some_is (state.Hosts b) t e) (record { lines = refl; sound = (fits, refl) })
+idle_follows _ t i e sound = absurd cc
 
 head_follows : (s t : State) (l : HeadLine) → after_head s l ≡ Some t → head_line_fits l ≡ true → IsSound s → Follows s (head_line_words l) t
-unfolding after_head after_handles after_table
+unfolding after_head
 head_follows s t head_line.Title e fits sound = title_follows s t e sound
-head_follows s t (head_line.Handles h) e fits sound = let c = passed (handles_fit h) (handles_taken s h) (Some t) e refl in handles_follow s t h c.1 c.0 sound
-head_follows s t (head_line.Table n) e fits sound = let c = passed (table_fits n) (table_taken s n) (Some t) e refl in table_follows s t n c.1 c.0 sound
-head_follows s t (head_line.Idle i) e fits sound = idle_follows s t i e fits sound
+head_follows s t (head_line.Handles h) e fits sound = handles_follow s t h e fits sound
+head_follows s t (head_line.Table n) e fits sound = table_follows s t n e fits sound
+head_follows s t (head_line.Idle i) e fits sound = idle_follows s t i e sound
 
--- ---- Instances, exports and scripts
+-- ---- Hosts, instances and their parts
+
+host_follows : (s t : State) (h : HostText) → after_host s h ≡ Some t → (is_name h.name && work_fits h.work) ≡ true → IsSound s → Follows s (host_line h) t
+unfolding after_host
+host_follows (state.Hosts b) t h e fits sound =
+    let g = guarded (host_opens b.hosts h.name) (state.Hosts (with_host b h)) t e in
+    let f = and_parts (is_name h.name) (work_fits h.work) fits in
+    let body = with_host_fits b h sound.0 sound.1 (record { name = f.0; work = f.1; opens = g.0 }) in
+    subst (Follows (state.Hosts b) (host_line h)) g.1 (record { lines = host_grows b h sound.1; sound = (body, sound.1) })
+host_follows _ t h e fits sound = absurd cc
 
 instance_follows : (s t : State) (name : List ℕ) → after_instance s name ≡ Some t → is_name name ≡ true → IsSound s → Follows s (instance_words name) t
 unfolding after_instance
 instance_follows s t name e fits sound =
-    let opened = λ (b : Body). state.Instance b (record { name = name; exports = [] }) in
+    let opened = λ (b : Body). state.Instance b (record { name = name; parts = [] }) in
     let b = bind_some (instance_closed s) (λ b. cond (instance_opens b.instances name) (Some (opened b)) None) t e in
     let g = guarded (instance_opens b.0.instances name) (opened b.0) t b.2 in
     let c = closes_instance s b.0 b.1 sound in
     subst (Follows s (instance_words name)) g.1
-    (record { lines = ap (λ (ls : Lines). ls ++ instance_words name ∷ []) (sym c.lines); sound = (c.body, record { name = fits; opens = g.0; exports = tt }) })
+    (record { lines = ap (λ (ls : Lines). ls ++ instance_words name ∷ []) (sym c.lines); sound = (c.body, record { name = fits; opens = g.0; parts = tt }) })
 
-export_follows : (s t : State) (h : Opening) → after_export s h ≡ Some t → (is_name h.name && kind_fits h.kind && nat_le h.params 16) ≡ true → IsSound s → Follows s (export_words h.name h.kind h.params) t
+export_follows : (s t : State) (h : Opening) → after_export s h ≡ Some t → (is_name h.name && nat_le h.params 16) ≡ true → IsSound s → Follows s (export_words h.name h.kind h.params) t
 unfolding after_export
 export_follows s t h e fits sound =
     let opened = λ (p : Body × InstanceText). state.Script p.0 p.1 h [] in
-    let p = bind_some (script_closed s) (λ p. cond (export_opens p.0.instances p.1.exports h.name) (Some (opened p)) None) t e in
-    let g = guarded (export_opens p.0.0.instances p.0.1.exports h.name) (opened p.0) t p.2 in
+    let p = bind_some (script_closed s) (λ p. cond (export_opens p.0.instances p.1.parts h.name) (Some (opened p)) None) t e in
+    let g = guarded (export_opens p.0.0.instances p.0.1.parts h.name) (opened p.0) t p.2 in
     let c = closes_script s p.0 p.1 sound in
-    let f = and_parts (is_name h.name && kind_fits h.kind) (nat_le h.params 16) fits in
-    let q = and_parts (is_name h.name) (kind_fits h.kind) f.0 in
+    let f = and_parts (is_name h.name) (nat_le h.params 16) fits in
     subst (Follows s (export_words h.name h.kind h.params)) g.1
     (record {
       lines = ap (λ (ls : Lines). ls ++ export_words h.name h.kind h.params ∷ []) (sym c.lines);
-      sound = record { body = c.body; instance = c.instance; export = record { name = q.0; kind = q.1; params = leb-true _ _ f.1; opens = g.0; start = tt } };
+      sound = record { body = c.body; instance = c.instance; part = record { name = f.0; params = leb-true _ _ f.1; opens = g.0; start = tt; react = tt } };
+    })
+
+react_follows : (s t : State) → after_react s ≡ Some t → IsSound s → Follows s react_words t
+unfolding after_react
+react_follows (state.Script b i h start) t e sound =
+    let g = guarded (is_callback h.kind) (state.React b i h start []) t e in
+    let open_start = start_open b i h in
+    let open_react = react_open b i h start in
+    let scripts = script_lines b.hosts b.instances start in
+    let opening = export_words h.name h.kind h.params in
+    subst (Follows (state.Script b i h start) react_words) g.1
+    (record {
+      lines =
+          sym (append_assoc (until b i) (opening ∷ scripts) (react_words ∷ [])) ∙ ap (λ (ls : Lines). until b i ++ opening ∷ ls ++ react_words ∷ []) (sym (append-nil scripts));
+      sound = record { body = sound.body; instance = sound.instance; part = record { name = sound.part.name; params = sound.part.params; opens = sound.part.opens; start = sound.part.start; react = (g.0, tt) } };
+    })
+react_follows _ t e sound = absurd cc
+
+thread_follows : (s t : State) (slot : ℕ) → after_thread s slot ≡ Some t → slot_fits slot ≡ true → IsSound s → Follows s (thread_words slot) t
+unfolding after_thread
+thread_follows s t slot e fits sound =
+    let opened = λ (p : Body × InstanceText). state.Thread p.0 p.1 slot [] in
+    let p = bind_some (script_closed s) (λ p. cond (slot_opens p.1.parts slot) (Some (opened p)) None) t e in
+    let g = guarded (slot_opens p.0.1.parts slot) (opened p.0) t p.2 in
+    let c = closes_script s p.0 p.1 sound in
+    subst (Follows s (thread_words slot)) g.1
+    (record {
+      lines = ap (λ (ls : Lines). ls ++ thread_words slot ∷ []) (sym c.lines);
+      sound = record { body = c.body; instance = c.instance; part = (record { fits = fits; opens = g.0 }, tt) };
+    })
+
+bad_follows : (s t : State) (slot : ℕ) → after_bad s slot ≡ Some t → slot_fits slot ≡ true → IsSound s → Follows s (bad_words slot) t
+unfolding after_bad
+bad_follows s t slot e fits sound =
+    let added = λ (p : Body × InstanceText). state.Instance p.0 (with_part p.1 (part.Bad slot)) in
+    let p = bind_some (script_closed s) (λ p. cond (slot_opens p.1.parts slot) (Some (added p)) None) t e in
+    let g = guarded (slot_opens p.0.1.parts slot) (added p.0) t p.2 in
+    let c = closes_script s p.0 p.1 sound in
+    subst (Follows s (bad_words slot)) g.1
+    (record {
+      lines = sym (part_grows p.0.0 p.0.1 (part.Bad slot)) ∙ ap (λ (ls : Lines). ls ++ bad_words slot ∷ []) (sym c.lines);
+      sound = (c.body, with_part_stands p.0.0 p.0.1 (part.Bad slot) c.instance (record { fits = fits; opens = g.0 }));
     })
 
 part_follows : (s t : State) (l : PartLine) → after_part s l ≡ Some t → part_line_fits l ≡ true → IsSound s → Follows s (part_line_words l) t
 unfolding after_part
+part_follows s t (part_line.Host name w) e fits sound = host_follows s t (record { name = name; work = w }) e fits sound
 part_follows s t (part_line.Instance name) e fits sound = instance_follows s t name e fits sound
 part_follows s t (part_line.Export name k n) e fits sound = export_follows s t (record { name = name; kind = k; params = n }) e fits sound
+part_follows s t part_line.React e fits sound = react_follows s t e sound
+part_follows s t (part_line.Thread slot) e fits sound = thread_follows s t slot e fits sound
+part_follows s t (part_line.Bad slot) e fits sound = bad_follows s t slot e fits sound
 
--- a script that grows by an op
-record Grows (ops : List Op) (o : Op) (more : List Op) : Type 0 where
-  is : more ≡ ops ++ o ∷ []
-  stands : EachStands OpStands [] ops → EachStands OpStands [] more
+-- ---- Scripts
 
-grows : (ops more : List Op) (o : Op) → with_op ops o ≡ Some more → op_fits o ≡ true → Grows ops o more
-unfolding with_op
-grows ops more o e fits =
-    let g = guarded (has_room_for_op ops) (ops ++ o ∷ []) more e in
-    subst (Grows ops o) g.1 (record { is = refl; stands = λ each. each_more OpStands ops o each (record { room = g.0; fits = fits }) })
+abbrev OpFollows : State → Body → Op → State → Type 0
+OpFollows s b o t = OpFits b.hosts b.instances o → Follows s (op_words b.hosts b.instances o) t
 
-op_follows : (s t : State) (o : Op) → after_op s o ≡ Some t → op_fits o ≡ true → IsSound s → Follows s (op_words o) t
-unfolding after_op
-op_follows (state.Script b i h start) t o e fits sound =
-    let m = bind_some (with_op start o) (λ ops. Some (state.Script b i h ops)) t e in
-    let g = grows start m.0 o m.1 fits in
-    let before = front b ++ instance_lines i in
-    let opening = export_words h.name h.kind h.params in
-    let grown : export_lines (export_from h m.0) ≡ export_lines (export_from h start) ++ op_words o ∷ [] =
-    ap (λ (ls : Lines). opening ∷ ls) (ap (map op_words) g.is ∙ map-append op_words start (o ∷ [])) in
-    subst (Follows (state.Script b i h start) (op_words o)) (some_is (state.Script b i h m.0) t m.2)
-    (record {
-      lines = ap (λ (ls : Lines). before ++ ls) grown ∙ sym (append_assoc before (export_lines (export_from h start)) (op_words o ∷ []));
-      sound = record { body = sound.body; instance = sound.instance; export = record { name = sound.export.name; kind = sound.export.kind; params = sound.export.params; opens = sound.export.opens; start = g.stands sound.export.start } };
-    })
-op_follows _ t o e fits sound = absurd cc
+op_follows : (s t : State) (b : Body) (o : Op) → script_body s ≡ Some b → after_op s o ≡ Some t → IsSound s → OpFollows s b o t
+unfolding script_body after_op
+op_follows (state.Script c i h start) t b o at e sound =
+    subst (λ b. OpFollows (state.Script c i h start) b o t) (some_is c b at) (λ fits. takes_op c (is_callback h.kind) (λ ops. state.Script c i h ops) (start_open c i h) start o t e fits sound)
+op_follows (state.React c i h start react) t b o at e sound =
+    subst (λ b. OpFollows (state.React c i h start react) b o t) (some_is c b at) (λ fits. takes_op c true (λ ops. state.React c i h start ops) (react_open c i h start) react o t e fits sound)
+op_follows (state.Thread c i slot ops) t b o at e sound =
+    subst (λ b. OpFollows (state.Thread c i slot ops) b o t) (some_is c b at) (λ fits. takes_op c false (λ ops. state.Thread c i slot ops) (thread_open c i slot) ops o t e fits sound)
+op_follows _ t b o at e sound = absurd cc
+
+-- an op that names no callee is spelled without names
+pub record IsPlain (b : Body) (o : Op) : Type 0 where
+  pub words : plain_op_words o ≡ op_words b.hosts b.instances o
+  pub fits : OpFits b.hosts b.instances o
+
+pub plain : (b : Body) (o : Op) → plain_op_fits o ≡ true → IsPlain b o
+plain b (op.Data o) fits = record { words = refl; fits = fits }
+plain b (op.Task o) fits = record { words = refl; fits = fits }
+plain b (op.Set o) fits = record { words = refl; fits = fits }
+plain b (op.Thread o) fits = record { words = refl; fits = fits }
+plain b (op.Call (call_op.Cancel r x)) fits = record { words = refl; fits = fits }
+plain b (op.Call (call_op.CancelSync r x)) fits = record { words = refl; fits = fits }
+plain b (op.Call (call_op.Drop x)) fits = record { words = refl; fits = fits }
+plain b (op.Call _) fits = absurd cc
+
+-- a script is open where an op is taken
+open_body : (s t : State) (o : Op) → after_op s o ≡ Some t → (b : Body) × (script_body s ≡ Some b)
+unfolding script_body after_op
+open_body (state.Script b i h start) t o e = (b, refl)
+open_body (state.React b i h start react) t o e = (b, refl)
+open_body (state.Thread b i slot ops) t o e = (b, refl)
+open_body _ t o e = absurd cc
+
+plain_op_follows : (s t : State) (o : Op) → after_op s o ≡ Some t → plain_op_fits o ≡ true → IsSound s → Follows s (plain_op_words o) t
+plain_op_follows s t o e fits sound =
+    let b = open_body s t o e in
+    let p = plain b.0 o fits in
+    subst (λ (ws : List (List ℕ)). Follows s ws t) (sym p.words) (op_follows s t b.0 o b.1 e sound p.fits)
+
+call_follows : (s t : State) (c : NamedCall) → after_call s c ≡ Some t → named_call_fits c ≡ true → IsSound s → Follows s (named_call_words c) t
+unfolding after_call
+call_follows s t c e fits sound =
+    let b = bind_some (script_body s) (λ b. call_of b.hosts b.instances c >>= λ o. after_op s (op.Call o)) t e in
+    let o = bind_some (call_of b.0.hosts b.0.instances c) (λ o. after_op s (op.Call o)) t b.2 in
+    let is = named_call_is b.0.hosts b.0.instances c o.0 o.1 fits in
+    subst (λ (ws : List (List ℕ)). Follows s ws t) (sym is.0) (op_follows s t b.0 (op.Call o.0) b.1 o.2 sound is.1)
 
 -- ---- Main
 
@@ -249,87 +222,101 @@ main_follows s t e sound =
     subst (Follows s main_words) (some_is (state.Main b.0 []) t b.2)
     (record { lines = ap (λ (ls : Lines). ls ++ main_words ∷ []) (sym c.lines); sound = record { body = c.body; each = tt } })
 
--- the name at the place of a name is that name
-named_place : {X : Type 0} (name : X → List ℕ) (xs : List X) (w : List ℕ) (k : ℕ) → (position (λ x. bytes_eq (name x) w) xs >>= small) ≡ Some k → unwrap_or (option_map name (slice_get xs k)) [] ≡ w
-named_place {X} name xs w k e =
-    let m = bind_some (position (λ x. bytes_eq (name x) w) xs) small k e in
-    let g = guarded (ltb m.0 (2 ^ 32)) m.0 k m.2 in
-    let t = place_takes (λ x. bytes_eq (name x) w) xs k (m.1 ∙ ap (λ (j : ℕ). Some j) g.1) in
-    ap (λ (o : Option X). unwrap_or (option_map name o) []) t.1 ∙ same_bytes (name t.0) w t.2
-
-callee_named : (is : List InstanceText) (instance export : List ℕ) (f : Callee) → callee_of is instance export ≡ Some f → name_of is f ≡ callee_word instance export
-unfolding callee_of
-callee_named is instance export f e =
-    let found = λ (k j : ℕ). let made : Callee = record { instance = k; export = j } in made in
-    let k = bind_some (instance_place is instance) (λ k. export_place (exports_of is k) export >>= λ j. Some (found k j)) f e in
-    let j = bind_some (export_place (exports_of is k.0) export) (λ j. Some (found k.0 j)) f k.2 in
-    let one = named_place (λ i. i.name) is instance k.0 k.1 in
-    let two = named_place (λ x. x.name) (exports_of is k.0) export j.0 j.1 in
-    subst (λ (g : Callee). name_of is g ≡ callee_word instance export) (some_is (found k.0 j.0) f j.2)
-    (ap (λ (v : List ℕ). callee_word v (export_name (exports_of is k.0) j.0)) one ∙ ap (callee_word instance) two)
-
 -- named ops are this op of main, and it stands after those before it
-abbrev pub IsMainOp : List InstanceText → List MainOpText → NamedOp → MainOpText → Type 0
-IsMainOp is before l o = (named_words l ≡ main_op_words is o) × MainOpStands is before o
+abbrev pub IsMainOp : Body → List MainOpText → NamedOp → MainOpText → Type 0
+IsMainOp b before l o = (named_words l ≡ main_op_words b.hosts b.instances o) × MainOpStands b.hosts b.instances before o
 
-start_is : (is : List InstanceText) (before : List MainOpText) (instance export : List ℕ) (xs : List Operand) (o : MainOpText) → start_of is before instance export xs ≡ Some o → list_all operand_fits xs ≡ true → IsMainOp is before (named.Start instance export xs) o
-unfolding start_of
-start_is is before instance export xs o e fits =
-    let tests = λ (n : ℕ). start_opens before && eqb n (length xs) in
-    let f = bind_some (callee_of is instance export) (λ f. params_of is f >>= λ n. cond (tests n) (Some (main.Start f xs)) None) o e in
-    let n = bind_some (params_of is f.0) (λ n. cond (tests n) (Some (main.Start f.0 xs)) None) o f.2 in
-    let g = guarded (tests n.0) (main.Start f.0 xs) o n.2 in
-    let a = and_parts (start_opens before) (eqb n.0 (length xs)) g.0 in
-    subst (IsMainOp is before (named.Start instance export xs)) g.1
-    (ap (λ (v : List ℕ). codes "start" ∷ v ∷ map operand_word xs) (sym (callee_named is instance export f.0 f.1)), (a.0, n.1 ∙ ap (λ (m : ℕ). Some m) (eqb-true _ _ a.1), fits))
+module _ (b : Body) (before : List MainOpText) where
+  start_is : (instance export : List ℕ) (xs : List Operand) (o : MainOpText) → start_of b.instances before instance export xs ≡ Some o → list_all operand_fits xs ≡ true → IsMainOp b before (named.Start instance export xs) o
+  unfolding start_of
+  start_is instance export xs o e fits =
+      let f = bind_some (fitting_export b.instances instance export xs) (λ f. cond (start_opens before) (Some (main.Start f xs)) None) o e in
+      let g = guarded (start_opens before) (main.Start f.0 xs) o f.2 in
+      let t = export_fits b.instances instance export xs f.0 f.1 in
+      subst (IsMainOp b before (named.Start instance export xs)) g.1 (ap (λ (w : List ℕ). start_words w xs) (sym t.name), (g.0, t.params, fits))
 
-finish_is : (is : List InstanceText) (before : List MainOpText) (k r : ℕ) (o : MainOpText) → finish_of before k r ≡ Some o → nat_le r 15 ≡ true → IsMainOp is before (named.Finish k r) o
-unfolding finish_of
-finish_is is before k r o e fits =
-    let g = guarded (finish_opens before k) (main.Finish k r) o e in
-    subst (IsMainOp is before (named.Finish k r)) g.1 (refl, (g.0, leb-true _ _ fits))
+  finish_is : (k r : ℕ) (o : MainOpText) → finish_of before k r ≡ Some o → register_fits r ≡ true → IsMainOp b before (named.Finish k r) o
+  unfolding finish_of
+  finish_is k r o e fits =
+      let g = guarded (finish_opens before k) (main.Finish k r) o e in
+      subst (IsMainOp b before (named.Finish k r)) g.1 (refl, (g.0, fits))
 
-main_op_is : (is : List InstanceText) (before : List MainOpText) (l : NamedOp) (o : MainOpText) → main_op_of is before l ≡ Some o → named_fits l ≡ true → IsMainOp is before l o
-main_op_is is before (named.Start instance export xs) o e fits = start_is is before instance export xs o e (and_parts (is_name instance && is_name export) (list_all operand_fits xs) fits).1
-main_op_is is before (named.Finish k r) o e fits = finish_is is before k r o e (and_parts (nat_le k 4095) (nat_le r 15) fits).1
+  spawn_is : (name : List ℕ) (o : MainOpText) → spawn_of b.hosts before name ≡ Some o → IsMainOp b before (named.Spawn name) o
+  unfolding spawn_of
+  spawn_is name o e =
+      let h = bind_some (host_place b.hosts name) (λ h. cond (spawn_opens before) (Some (main.Spawn h)) None) o e in
+      let g = guarded (spawn_opens before) (main.Spawn h.0) o h.2 in
+      let t = host_named b.hosts name h.0 h.1 in
+      subst (IsMainOp b before (named.Spawn name)) g.1 (ap spawn_words (sym t.0), (g.0, t.1))
 
-pub main_grows : (is : List InstanceText) (ops : List MainOpText) (o : MainOpText) → main_lines is (ops ++ o ∷ []) ≡ main_lines is ops ++ main_op_words is o ∷ []
-main_grows is ops o = ap (λ (ls : Lines). main_words ∷ ls) (map-append (main_op_words is) ops (o ∷ []))
+  ready_is : (instance export : List ℕ) (o : MainOpText) → ready_of b.instances before instance export ≡ Some o → IsMainOp b before (named.Ready instance export) o
+  unfolding ready_of
+  ready_is instance export o e =
+      let f = bind_some (callee_of b.instances instance export) (λ f. params_of b.instances f >>= λ n. cond (main_has_room before) (Some (main.Ready f)) None) o e in
+      let n = bind_some (params_of b.instances f.0) (λ n. cond (main_has_room before) (Some (main.Ready f.0)) None) o f.2 in
+      let g = guarded (main_has_room before) (main.Ready f.0) o n.2 in
+      subst (IsMainOp b before (named.Ready instance export)) g.1 (ap ready_words (sym (callee_named b.instances instance export f.0 f.1)), (g.0, n.0, n.1))
+
+  main_op_is : (l : NamedOp) (o : MainOpText) → main_op_of b before l ≡ Some o → named_fits l ≡ true → IsMainOp b before l o
+  unfolding main_op_of
+  main_op_is (named.Start instance export xs) o e fits = start_is instance export xs o e (and_parts (is_name instance && is_name export) (list_all operand_fits xs) fits).1
+  main_op_is (named.Finish k r) o e fits = finish_is k r o e (and_parts (nat_le k 4095) (register_fits r) fits).1
+  main_op_is (named.Spawn name) o e fits = spawn_is name o e
+  main_op_is (named.Abort k) o e fits = let g = guarded (spawn_named before k) (main.Abort k) o e in subst (IsMainOp b before (named.Abort k)) g.1 (refl, g.0)
+  main_op_is (named.Await k) o e fits = let g = guarded (spawn_named before k) (main.Await k) o e in subst (IsMainOp b before (named.Await k)) g.1 (refl, g.0)
+  main_op_is named.Quiet o e fits = let g = guarded (main_has_room before) main.Quiet o e in subst (IsMainOp b before named.Quiet) g.1 (refl, g.0)
+  main_op_is (named.Ready instance export) o e fits = ready_is instance export o e
 
 main_op_follows : (s t : State) (l : NamedOp) → after_main_op s l ≡ Some t → named_fits l ≡ true → IsSound s → Follows s (named_words l) t
 unfolding after_main_op main_open
 main_op_follows (state.Main b ops) t l e fits sound =
-    let o = bind_some (main_op_of b.instances ops l) (λ o. Some (state.Main b (ops ++ o ∷ []))) t e in
-    let is = main_op_is b.instances ops l o.0 o.1 fits in
-    let grown : main_lines b.instances (ops ++ o.0 ∷ []) ≡ main_lines b.instances ops ++ named_words l ∷ [] =
-    main_grows b.instances ops o.0 ∙ ap (λ (v : List (List ℕ)). main_lines b.instances ops ++ v ∷ []) (sym is.0) in
+    let words = main_op_words b.hosts b.instances in
+    let lines = main_lines b.hosts b.instances in
+    let o = bind_some (main_op_of b ops l) (λ o. Some (state.Main b (ops ++ o ∷ []))) t e in
+    let is = main_op_is b ops l o.0 o.1 fits in
+    let grown : lines (ops ++ o.0 ∷ []) ≡ lines ops ++ named_words l ∷ [] =
+    ap (λ (ls : Lines). main_words ∷ ls) (map-append words ops (o.0 ∷ [])) ∙ ap (λ (v : List (List ℕ)). lines ops ++ v ∷ []) (sym is.0) in
     subst (Follows (state.Main b ops) (named_words l)) (some_is (state.Main b (ops ++ o.0 ∷ [])) t o.2)
     (record {
-      lines = ap (λ (ls : Lines). front b ++ ls) grown ∙ sym (append_assoc (front b) (main_lines b.instances ops) (named_words l ∷ []));
-      sound = record { body = sound.body; each = each_more (MainOpStands b.instances) ops o.0 sound.each is.1 };
+      lines = ap (λ (ls : Lines). front b ++ ls) grown ∙ sym (append_assoc (front b) (lines ops) (named_words l ∷ []));
+      sound = record { body = sound.body; each = each_more (MainOpStands b.hosts b.instances) ops o.0 sound.each is.1 };
     })
 main_op_follows _ t l e fits sound = absurd cc
 
 answer_follows : (s t : State) (x : Operand) → after_answer s x ≡ Some t → operand_fits x ≡ true → IsSound s → Follows s (answer_words x) t
 unfolding after_answer main_open
 answer_follows (state.Main b ops) t x e fits sound =
-    subst (Follows (state.Main b ops) (answer_words x)) (some_is (state.Answered b ops x) t e) (record { lines = refl; sound = record { main = sound; answer = fits } })
+    let lines = front b ++ main_lines b.hosts b.instances ops ++ answer_words x ∷ [] in
+    subst (Follows (state.Main b ops) (answer_words x)) (some_is (state.Answered b ops x []) t e) (record { lines = append-nil lines; sound = record { main = sound; answer = fits; each = tt } })
 answer_follows _ t x e fits sound = absurd cc
 
-pub well_formed : (b : Body) (ops : List MainOpText) (x : Operand) → AnswerFits b ops x → IsWellFormed (whole b ops x)
-well_formed b ops x fits = record {
+aborter_follows : (s t : State) (ks : List ℕ) → after_aborter s ks ≡ Some t → IsSound s → Follows s (aborter_words ks) t
+unfolding after_aborter
+aborter_follows (state.Answered b ops x before) t ks e sound =
+    let lines = front b ++ main_lines b.hosts b.instances ops ++ answer_words x ∷ [] in
+    let g = guarded (aborter_opens ops before ks) (state.Answered b ops x (before ++ ks ∷ [])) t e in
+    subst (Follows (state.Answered b ops x before) (aborter_words ks)) g.1
+    (record {
+      lines = ap (λ (ls : Lines). lines ++ ls) (map-append aborter_words before (ks ∷ [])) ∙ sym (append_assoc lines (map aborter_words before) (aborter_words ks ∷ []));
+      sound = record { main = sound.main; answer = sound.answer; each = each_more (AborterStands ops) before ks sound.each g.0 };
+    })
+aborter_follows _ t ks e sound = absurd cc
+
+pub well_formed : (b : Body) (ops : List MainOpText) (x : Operand) (aborters : List (List ℕ)) → AnswerFits b ops x aborters → IsWellFormed (whole b ops x aborters)
+well_formed b ops x aborters fits = record {
   handles = fits.main.body.handles;
   table = fits.main.body.table;
-  idle = fits.main.body.idle;
+  hosts = fits.main.body.hosts;
   instances = fits.main.body.instances;
   main = fits.main.each;
   answer = fits.answer;
+  aborters = fits.each;
 }
 
 end_follows : (s t : State) → after_end s ≡ Some t → IsSound s → Follows s end_words t
 unfolding after_end
-end_follows (state.Answered b ops x) t e sound =
-    subst (Follows (state.Answered b ops x) end_words) (some_is (state.Ended (whole b ops x)) t e) (record { lines = refl; sound = well_formed b ops x sound })
+end_follows (state.Answered b ops x aborters) t e sound =
+    subst (Follows (state.Answered b ops x aborters) end_words) (some_is (state.Ended (whole b ops x aborters)) t e) (record { lines = refl; sound = well_formed b ops x aborters sound })
 end_follows _ t e sound = absurd cc
 
 -- ---- Any line
@@ -339,8 +326,10 @@ pub after_follows : (s t : State) (l : Line) → after s l ≡ Some t → line_f
 unfolding after
 after_follows s t (line.Head l) e fits sound = head_follows s t l e fits sound
 after_follows s t (line.Part l) e fits sound = part_follows s t l e fits sound
-after_follows s t (line.Op o) e fits sound = op_follows s t o e fits sound
+after_follows s t (line.Op o) e fits sound = plain_op_follows s t o e fits sound
+after_follows s t (line.Call c) e fits sound = call_follows s t c e fits sound
 after_follows s t line.Main e fits sound = main_follows s t e sound
 after_follows s t (line.MainOp o) e fits sound = main_op_follows s t o e fits sound
 after_follows s t (line.Answer x) e fits sound = answer_follows s t x e fits sound
+after_follows s t (line.Aborter ks) e fits sound = aborter_follows s t ks e sound
 after_follows s t line.End e fits sound = end_follows s t e sound

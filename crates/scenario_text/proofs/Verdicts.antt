@@ -7,15 +7,16 @@ use Rattle.scenario_text.specs.declared.read.TextError.{TextError}
 use Rattle.scenario_text.specs.declared.read.TextError.TheVariants as errors
 use Rattle.scenario_text.specs.declared.state.State.{State}
 use Rattle.scenario_text.specs.declared.state.State.TheVariants as state
-use Rattle.scenario_text.specs.Line.{line_at}
+use Rattle.text_lines.specs.Line.{line_at}
 use Rattle.scenario_text.specs.Spelling.{Lines, lines_of}
 use Rattle.scenario_text.specs.Placement.{IsWellFormed}
 use Rattle.scenario_text.specs.Grammar.{lines, words, spelled, IsTextOf, Begins, IsBadLine}
 use Rattle.scenario_text.specs.State.{after, after_words, read_from, go_on, end_at, scenario_of, ReadsAs}
 use Rattle.scenario_text.specs.Answers.{Answers}
-use Rattle.scenario_text.proofs.WordLaws.{bind_some}
-use Rattle.scenario_text.proofs.LineLaws.{line_takes}
-use Rattle.scenario_text.proofs.StateLaws.{so_far, IsSound, Follows, after_follows}
+use Rattle.text_lines.proofs.WordLaws.{bind_some}
+use Rattle.text_lines.proofs.LineLaws.{line_takes}
+use Rattle.scenario_text.proofs.SoFar.{so_far, IsSound, Follows}
+use Rattle.scenario_text.proofs.StateLaws.{after_follows}
 use Rattle.scenario_text.proofs.Completing.{begins, begins_same}
 use Rattle.scenario_text.proofs.Again.{read_again}
 

@@ -1,7 +1,3 @@
-pub mod Keyword
-pub mod Words
-pub mod Line
-pub mod Gives
 pub mod Spelling
 pub mod Placement
 pub mod Grammar

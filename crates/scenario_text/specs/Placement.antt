@@ -1,27 +1,27 @@
 -- What a scenario's tree must keep: each value fits its line, and each line may stand after those before it.
-use Rattle.std.specs.Prelude.{◌≡◌, ℕ, ◌+◌, ◌≤◌, ◌^◌, Bool, true, false, not, List, [], ◌∷◌, ◌++◌, length, count_by, Option, Some, slice_get, nat_lt, nat_le, ◌==◌, ◌&&◌}
+use Rattle.std.specs.Prelude.{◌≡◌, ℕ, ◌+◌, ◌≤◌, ◌<◌, Bool, true, false, not, List, [], ◌∷◌, ◌++◌, length, count_by, Option, Some, None, slice_get, nat_lt, nat_le, ◌==◌, ◌&&◌, ◌||◌}
 use Rattle.std.specs.List.{list_all, list_any, sum_by}
 use Rattle.std.specs.Option.{option_map}
 use Rattle.std.specs.Str.{bytes_eq}
 use Rattle.task_machine.specs.declared.component.Callee.{Callee}
 use Rattle.task_machine.specs.declared.component.ExportKind.{ExportKind}
 use Rattle.task_machine.specs.declared.component.ExportKind.TheVariants as kind
-use Rattle.task_machine.specs.declared.op.Operand.{Operand}
-use Rattle.task_machine.specs.declared.op.Operand.TheVariants.{Number, Register}
 use Rattle.task_machine.specs.declared.op.Op.{Op}
 use Rattle.task_machine.specs.declared.op.Op.TheVariants as op
-use Rattle.task_machine.specs.declared.op.DataOp.{DataOp}
-use Rattle.task_machine.specs.declared.op.DataOp.TheVariants as data_op
+use Rattle.task_machine.specs.declared.op.CallOp.{CallOp}
+use Rattle.task_machine.specs.declared.op.CallOp.TheVariants as call_op
 use Rattle.task_machine.specs.declared.op.TaskOp.{TaskOp}
 use Rattle.task_machine.specs.declared.op.TaskOp.TheVariants as task_op
-use Rattle.task_machine.specs.declared.scenario.IdleLine.{IdleLine}
-use Rattle.task_machine.specs.declared.scenario.IdleLine.TheVariants as idle
+use Rattle.text_lines.specs.Words.{is_name}
+use Rattle.text_lines.specs.Fits.{register_fits, operand_fits, handles_fit, table_fits, slot_fits, work_fits, subtask_op_fits, plain_op_fits}
+use Rattle.scenario_text.specs.declared.tree.HostText.{HostText}
 use Rattle.scenario_text.specs.declared.tree.ExportText.{ExportText}
+use Rattle.scenario_text.specs.declared.tree.PartText.{PartText}
+use Rattle.scenario_text.specs.declared.tree.PartText.TheVariants as part
 use Rattle.scenario_text.specs.declared.tree.InstanceText.{InstanceText}
 use Rattle.scenario_text.specs.declared.tree.MainOpText.{MainOpText}
 use Rattle.scenario_text.specs.declared.tree.MainOpText.TheVariants as main
 use Rattle.scenario_text.specs.declared.tree.ScenarioText.{ScenarioText}
-use Rattle.scenario_text.specs.Words.{is_name}
 use Rattle.scenario_text.specs.Spelling.{exports_of}
 
 -- each item stands after those before it
@@ -29,81 +29,122 @@ abbrev pub EachStands : {X : Type 0} → (List X → X → Type 0) → List X �
 EachStands Stands before [] = Unit {0}
 EachStands Stands before (x ∷ xs) = Stands before x × EachStands Stands (before ++ x ∷ []) xs
 
--- ---- Values of a word
+-- ---- Hosts
 
-abbrev pub operand_fits : Operand → Bool
-operand_fits (Number n) = nat_lt n (2 ^ 64)
-operand_fits (Register r) = nat_le r 15
+-- a host of this name may stand after those before it: 256, with other names
+abbrev pub host_opens : List HostText → List ℕ → Bool
+host_opens before name = nat_lt (length before) 256 && not (list_any (λ h. bytes_eq h.name name) before)
 
-abbrev pub idle_fits : IdleLine → Bool
-idle_fits idle.Trap = true
-idle_fits idle.Wait = false
-
-abbrev pub kind_fits : ExportKind → Bool
-kind_fits kind.Callback = true
-kind_fits _ = false
-
--- at most so many handles may be live at once
-abbrev pub handles_fit : ℕ → Bool
-handles_fit n = nat_le n 268435455
-
--- at most so many entries does the table have room for
-abbrev pub table_fits : ℕ → Bool
-table_fits n = nat_le n 1000000
+pub record HostStands (before : List HostText) (h : HostText) : Type 0 where
+  pub name : is_name h.name ≡ true
+  pub work : work_fits h.work ≡ true
+  pub opens : host_opens before h.name ≡ true
 
 -- ---- Scripts
 
--- the words of an instance are 0 to 15, and a skip is no longer than a script
-abbrev pub data_op_fits : DataOp → Bool
-data_op_fits (data_op.Set r x) = nat_le r 15 && operand_fits x
-data_op_fits (data_op.Add r x) = nat_le r 15 && operand_fits x
-data_op_fits (data_op.Handle r x) = nat_le r 15 && operand_fits x
-data_op_fits (data_op.Load r w) = nat_le r 15 && nat_le w 15
-data_op_fits (data_op.Store w x) = nat_le w 15 && operand_fits x
-data_op_fits (data_op.SkipEq x y n) = operand_fits x && operand_fits y && nat_le n 4096
+-- the number of parameters of an export, where there is one
+abbrev pub params_of : List InstanceText → Callee → Option ℕ
+params_of instances f = option_map (λ e. e.params) (slice_get (exports_of instances f.instance) f.export)
 
-abbrev pub task_op_fits : TaskOp → Bool
-task_op_fits (task_op.Ret x) = operand_fits x
-task_op_fits (task_op.RetBad x) = operand_fits x
-task_op_fits task_op.Exit = true
-task_op_fits _ = false
+-- a callee stands on an earlier line, an export's instance is an earlier one, and there are as many operands as parameters
+abbrev pub CallStands : List HostText → List InstanceText → CallOp → Type 0
+CallStands hosts earlier (call_op.Call r q f xs) =
+    (register_fits r && register_fits q && list_all operand_fits xs ≡ true) × (params_of earlier f ≡ Some (length xs))
+CallStands hosts earlier (call_op.CallSync r f xs) = (register_fits r && list_all operand_fits xs ≡ true) × (params_of earlier f ≡ Some (length xs))
+CallStands hosts earlier (call_op.CallHost r q h) = (register_fits r && register_fits q ≡ true) × (h < length hosts)
+CallStands hosts earlier (call_op.CallSyncHost r h) = (register_fits r ≡ true) × (h < length hosts)
+CallStands hosts earlier o = subtask_op_fits o ≡ true
 
-abbrev pub op_fits : Op → Bool
-op_fits (op.Data o) = data_op_fits o
-op_fits (op.Task o) = task_op_fits o
-op_fits _ = false
+-- it ends an activation of a callback
+abbrev pub is_callback_end : TaskOp → Bool
+is_callback_end task_op.CbYield = true
+is_callback_end (task_op.CbWait x) = true
+is_callback_end (task_op.Code x) = true
+is_callback_end _ = false
+
+-- an op may stand in a callback's scripts, or in others too
+abbrev pub op_suits : Bool → Op → Bool
+op_suits callback (op.Task o) = callback || not (is_callback_end o)
+op_suits callback _ = true
+
+-- the op's values fit, and its callee is known
+abbrev pub OpFits : List HostText → List InstanceText → Op → Type 0
+OpFits hosts earlier (op.Call o) = CallStands hosts earlier o
+OpFits hosts earlier o = plain_op_fits o ≡ true
 
 abbrev pub has_room_for_op : List Op → Bool
 has_room_for_op before = nat_lt (length before) 4096
 
-pub record OpStands (before : List Op) (o : Op) : Type 0 where
+-- an op may stand after these in a script, of a callback or not, of an instance after these
+pub record OpStands (hosts : List HostText) (earlier : List InstanceText) (callback : Bool) (before : List Op) (o : Op) : Type 0 where
   pub room : has_room_for_op before ≡ true
-  pub fits : op_fits o ≡ true
+  pub suits : op_suits callback o ≡ true
+  pub fits : OpFits hosts earlier o
 
--- ---- Exports and instances
+abbrev pub ScriptStands : List HostText → List InstanceText → Bool → List Op → Type 0
+ScriptStands hosts earlier callback ops = EachStands (OpStands hosts earlier callback) [] ops
+
+-- ---- Instances and their parts
+
+abbrev pub is_callback : ExportKind → Bool
+is_callback kind.Callback = true
+is_callback _ = false
+
+abbrev pub ReactStands : List HostText → List InstanceText → ExportKind → Option (List Op) → Type 0
+ReactStands hosts earlier k None = Unit {0}
+ReactStands hosts earlier k (Some ops) = (is_callback k ≡ true) × ScriptStands hosts earlier true ops
+
+abbrev pub is_export : PartText → Bool
+is_export (part.Export e) = true
+is_export _ = false
+
+abbrev pub is_export_named : List ℕ → PartText → Bool
+is_export_named name (part.Export e) = bytes_eq e.name name
+is_export_named name _ = false
+
+abbrev pub exports_among : List PartText → ℕ
+exports_among parts = count_by is_export parts
 
 abbrev pub export_count : List InstanceText → ℕ
-export_count instances = sum_by (λ i. length i.exports) instances
+export_count instances = sum_by (λ i. exports_among i.parts) instances
 
 -- an export of this name may begin after those of earlier instances and of its own: 256 in all, with other names here
-abbrev pub export_opens : List InstanceText → List ExportText → List ℕ → Bool
-export_opens instances before name = nat_lt (export_count instances + length before) 256 && not (list_any (λ e. bytes_eq e.name name) before)
+unfoldable pub export_opens : List InstanceText → List PartText → List ℕ → Bool
+export_opens earlier before name = nat_lt (export_count earlier + exports_among before) 256 && not (list_any (is_export_named name) before)
 
-pub record ExportStands (instances : List InstanceText) (before : List ExportText) (e : ExportText) : Type 0 where
+pub record ExportStands (hosts : List HostText) (earlier : List InstanceText) (before : List PartText) (e : ExportText) : Type 0 where
   pub name : is_name e.name ≡ true
-  pub kind : kind_fits e.kind ≡ true
   pub params : e.params ≤ 16
-  pub opens : export_opens instances before e.name ≡ true
-  pub start : EachStands OpStands [] e.start
+  pub opens : export_opens earlier before e.name ≡ true
+  pub start : ScriptStands hosts earlier (is_callback e.kind) e.start
+  pub react : ReactStands hosts earlier e.kind e.react
+
+abbrev pub fills : ℕ → PartText → Bool
+fills s (part.Export e) = false
+fills s (part.Thread t ops) = t == s
+fills s (part.Bad t) = t == s
+
+-- a slot is given once, by `thread` or by `bad`
+abbrev pub slot_opens : List PartText → ℕ → Bool
+slot_opens before s = not (list_any (fills s) before)
+
+pub record SlotStands (before : List PartText) (s : ℕ) : Type 0 where
+  pub fits : slot_fits s ≡ true
+  pub opens : slot_opens before s ≡ true
+
+abbrev pub PartStands : List HostText → List InstanceText → List PartText → PartText → Type 0
+PartStands hosts earlier before (part.Export e) = ExportStands hosts earlier before e
+PartStands hosts earlier before (part.Thread s ops) = SlotStands before s × ScriptStands hosts earlier false ops
+PartStands hosts earlier before (part.Bad s) = SlotStands before s
 
 -- an instance of this name may begin after those before it: 64, with other names
 abbrev pub instance_opens : List InstanceText → List ℕ → Bool
 instance_opens before name = nat_lt (length before) 64 && not (list_any (λ i. bytes_eq i.name name) before)
 
-pub record InstanceStands (before : List InstanceText) (i : InstanceText) : Type 0 where
+pub record InstanceStands (hosts : List HostText) (before : List InstanceText) (i : InstanceText) : Type 0 where
   pub name : is_name i.name ≡ true
   pub opens : instance_opens before i.name ≡ true
-  pub exports : EachStands (ExportStands before) [] i.exports
+  pub parts : EachStands (PartStands hosts before) [] i.parts
 
 -- ---- Main
 
@@ -113,15 +154,22 @@ main_has_room before = nat_lt (length before) 4095
 
 abbrev pub is_start : MainOpText → Bool
 is_start (main.Start f xs) = true
-is_start (main.Finish k r) = false
+is_start _ = false
+
+abbrev pub is_spawn : MainOpText → Bool
+is_spawn (main.Spawn h) = true
+is_spawn _ = false
 
 abbrev pub finishes : ℕ → MainOpText → Bool
-finishes k (main.Start f xs) = false
 finishes k (main.Finish j r) = j == k
+finishes k _ = false
 
--- the number of starts, which are counted from 1
+-- the numbers of starts and of spawns, which are counted from 1
 abbrev pub start_count : List MainOpText → ℕ
 start_count before = count_by is_start before
+
+abbrev pub spawn_count : List MainOpText → ℕ
+spawn_count before = count_by is_spawn before
 
 abbrev pub start_opens : List MainOpText → Bool
 start_opens before = main_has_room before && nat_lt (start_count before) 256
@@ -130,21 +178,40 @@ start_opens before = main_has_room before && nat_lt (start_count before) 256
 abbrev pub finish_opens : List MainOpText → ℕ → Bool
 finish_opens before k = main_has_room before && nat_le 1 k && nat_le k (start_count before) && not (list_any (finishes k) before)
 
--- the number of parameters of an export, where there is one
-abbrev pub params_of : List InstanceText → Callee → Option ℕ
-params_of instances f = option_map (λ e. e.params) (slice_get (exports_of instances f.instance) f.export)
+abbrev pub spawn_opens : List MainOpText → Bool
+spawn_opens before = main_has_room before && nat_lt (spawn_count before) 256
 
-abbrev pub MainOpStands : List InstanceText → List MainOpText → MainOpText → Type 0
-MainOpStands instances before (main.Start f xs) =
+-- k is an earlier spawn
+abbrev pub is_spawned : List MainOpText → ℕ → Bool
+is_spawned before k = nat_le 1 k && nat_le k (spawn_count before)
+
+abbrev pub spawn_named : List MainOpText → ℕ → Bool
+spawn_named before k = main_has_room before && is_spawned before k
+
+abbrev pub MainOpStands : List HostText → List InstanceText → List MainOpText → MainOpText → Type 0
+MainOpStands hosts instances before (main.Start f xs) =
     (start_opens before ≡ true) × (params_of instances f ≡ Some (length xs)) × (list_all operand_fits xs ≡ true)
-MainOpStands instances before (main.Finish k r) = (finish_opens before k ≡ true) × (r ≤ 15)
+MainOpStands hosts instances before (main.Finish k r) = (finish_opens before k ≡ true) × (register_fits r ≡ true)
+MainOpStands hosts instances before (main.Spawn h) = (spawn_opens before ≡ true) × (h < length hosts)
+MainOpStands hosts instances before (main.Abort k) = spawn_named before k ≡ true
+MainOpStands hosts instances before (main.Await k) = spawn_named before k ≡ true
+MainOpStands hosts instances before main.Quiet = main_has_room before ≡ true
+MainOpStands hosts instances before (main.Ready f) = (main_has_room before ≡ true) × (n : ℕ) × (params_of instances f ≡ Some n)
+
+-- an aborter may follow those before it: 8, each with 1 to 16 spawns of main
+abbrev pub aborter_opens : List MainOpText → List (List ℕ) → List ℕ → Bool
+aborter_opens ops before ks = nat_lt (length before) 8 && nat_le 1 (length ks) && nat_le (length ks) 16 && list_all (is_spawned ops) ks
+
+abbrev pub AborterStands : List MainOpText → List (List ℕ) → List ℕ → Type 0
+AborterStands ops before ks = aborter_opens ops before ks ≡ true
 
 -- ---- The whole
 
 pub record IsWellFormed (s : ScenarioText) : Type 0 where
   pub handles : handles_fit s.handles ≡ true
   pub table : table_fits s.table ≡ true
-  pub idle : idle_fits s.idle ≡ true
-  pub instances : EachStands InstanceStands [] s.instances
-  pub main : EachStands (MainOpStands s.instances) [] s.main
+  pub hosts : EachStands HostStands [] s.hosts
+  pub instances : EachStands (InstanceStands s.hosts) [] s.instances
+  pub main : EachStands (MainOpStands s.hosts s.instances) [] s.main
   pub answer : operand_fits s.answer ≡ true
+  pub aborters : EachStands (AborterStands s.main) [] s.aborters

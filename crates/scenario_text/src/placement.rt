@@ -1,44 +1,83 @@
 //! Where a line may stand: the limits, and the names that stand on earlier lines.
-ghost use Rattle.std.specs.Prelude.{◌≡◌, ◌+◌, ◌-◌, length, position};
-ghost use Rattle.std.specs.List.{list_any};
+ghost use Rattle.std.specs.Prelude.{◌≡◌, ◌+◌, ◌-◌, ◌&&◌};
+ghost use Rattle.std.specs.List.{list_all, list_any};
 ghost use Rattle.std.specs.Str.{bytes_eq};
-ghost use Rattle.scenario_text.specs.Spelling.{exports_of};
-ghost use Rattle.scenario_text.specs.Placement.{handles_fit, table_fits, params_of, export_count, export_opens, instance_opens, main_has_room, is_start, finishes, start_count, start_opens, finish_opens};
-ghost use Rattle.scenario_text.specs.State.{instance_place, export_place, callee_of};
+ghost use Rattle.scenario_text.specs.Placement.{host_opens, has_room_for_op, is_callback_end, op_suits, is_callback, is_export, is_export_named, exports_among, export_count, export_opens, fills, slot_opens, instance_opens, main_has_room, is_start, is_spawn, finishes, start_count, spawn_count, start_opens, finish_opens, spawn_opens, is_spawned, spawn_named, aborter_opens};
 
-use crate::tree::{ExportText, InstanceText, MainOpText};
-use task_machine::Callee;
+use crate::tree::{HostText, InstanceText, MainOpText, PartText};
+use task_machine::{ExportKind, Op, Seq, TaskOp};
 
-/// The most ops of a script.
-pub const OPS: usize = 4_096;
+// The most ops of a script.
+const OPS: usize = 4_096;
 
-// The most handles that may be live at once, and the most entries of the table.
-const HANDLES: u32 = 268_435_455;
+// The most hosts, the most instances, and the most exports of a text in all.
+const HOSTS: usize = 256;
 
-const TABLE: u32 = 1_000_000;
-
-// The most instances, and the most exports of a text in all.
 const INSTANCES: usize = 64;
 
 const EXPORTS: usize = 256;
 
-// The most ops of main before its answer, and the most starts among them.
+// The most ops of main before its answer, and the most starts and the most spawns among them.
 const MAIN_OPS: usize = 4_095;
 
 const STARTS: usize = 256;
 
-/// Whether a text may have this handle limit.
-pub fn handles_fit(handles: u32) -> bool
-    ensures { result ≡ handles_fit handles }
+const SPAWNS: usize = 256;
+
+// The most aborters, and the most spawns that one aborts.
+const ABORTERS: usize = 8;
+
+const ABORTS: usize = 16;
+
+fn has_host(before: &[HostText], name: &[u8]) -> bool
+    ensures { result ≡ list_any (λ h. bytes_eq h.name name.now) before.now }
 {
-    handles <= HANDLES
+    before.iter().any(|h| h.name.as_slice() == name)
 }
 
-/// Whether a text may have this table capacity.
-pub fn table_fits(table: u32) -> bool
-    ensures { result ≡ table_fits table }
+/// Whether a host of this name may stand after those before it.
+pub fn host_opens(before: &[HostText], name: &[u8]) -> bool
+    ensures { result ≡ host_opens before.now name.now }
 {
-    table <= TABLE
+    before.len() < HOSTS && !has_host(before, name)
+}
+
+fn has_room_for_op(before: &[Op]) -> bool
+    ensures { result ≡ has_room_for_op before.now }
+{
+    before.len() < OPS
+}
+
+fn is_callback_end(op: TaskOp) -> bool
+    ensures { result ≡ is_callback_end op }
+{
+    matches!(
+        op,
+        TaskOp::CbYield | TaskOp::CbWait { .. } | TaskOp::Code { .. }
+    )
+}
+
+fn op_suits(callback: bool, op: &Op) -> bool
+    ensures { result ≡ op_suits callback op.now }
+{
+    match op {
+        Op::Task(op) => callback || !is_callback_end(*op),
+        _ => true,
+    }
+}
+
+/// Whether an op may follow these in a script, of a callback or not.
+pub fn op_opens(callback: bool, before: &[Op], op: &Op) -> bool
+    ensures { result ≡ (has_room_for_op before.now && op_suits callback op.now) }
+{
+    has_room_for_op(before) && op_suits(callback, op)
+}
+
+/// Whether an export of this kind has a react script.
+pub fn is_callback(kind: ExportKind) -> bool
+    ensures { result ≡ is_callback kind }
+{
+    matches!(kind, ExportKind::Callback)
 }
 
 fn has_instance(before: &[InstanceText], name: &[u8]) -> bool
@@ -54,32 +93,85 @@ pub fn instance_opens(before: &[InstanceText], name: &[u8]) -> bool
     before.len() < INSTANCES && !has_instance(before, name)
 }
 
+fn is_export(part: &PartText) -> bool
+    ensures { result ≡ is_export part.now }
+{
+    matches!(part, PartText::Export(_))
+}
+
+#[tactic(auto, using(std::proofs::lemmas::List::Sums::count_by_more_yes, std::proofs::lemmas::List::Sums::count_by_more_no))]
+fn export_total(parts: &[PartText]) -> usize
+    ensures { result ≡ exports_among parts.now }
+{
+    let mut total = 0;
+    for part in parts {
+        if is_export(part) {
+            total += 1;
+        }
+    }
+    total
+}
+
 // How many exports there may still be, beside those of these instances and so many more.
 fn room_for_exports(instances: &[InstanceText], more: usize) -> usize
     ensures { result ≡ 256 - (export_count instances.now + more) }
 {
     let mut room = EXPORTS.saturating_sub(more);
     for i in instances {
-        room = room.saturating_sub(i.exports.len());
+        room = room.saturating_sub(export_total(i.parts.as_slice()));
     }
     room
 }
 
-fn has_export(before: &[ExportText], name: &[u8]) -> bool
-    ensures { result ≡ list_any (λ e. bytes_eq e.name name.now) before.now }
+fn is_export_named(part: &PartText, name: &[u8]) -> bool
+    ensures { result ≡ is_export_named name.now part.now }
 {
-    before.iter().any(|e| e.name.as_slice() == name)
+    match part {
+        PartText::Export(export) => export.name.as_slice() == name,
+        _ => false,
+    }
 }
 
-/// Whether an export of this name may begin after those of the instances before and those of its
+fn has_export(before: &[PartText], name: &[u8]) -> bool
+    ensures { result ≡ list_any (is_export_named name.now) before.now }
+{
+    before.iter().any(|p| is_export_named(p, name))
+}
+
+/// Whether an export of this name may begin after those of earlier instances and these parts of its
 /// own.
-pub fn export_opens(instances: &[InstanceText], before: &[ExportText], name: &[u8]) -> bool
-    ensures { result ≡ export_opens instances.now before.now name.now }
+#[tactic(auto, unfolding(crate::specs::Placement::export_opens))]
+pub fn export_opens(earlier: &[InstanceText], before: &[PartText], name: &[u8]) -> bool
+    ensures { result ≡ export_opens earlier.now before.now name.now }
 {
-    room_for_exports(instances, before.len()) > 0 && !has_export(before, name)
+    room_for_exports(earlier, export_total(before)) > 0 && !has_export(before, name)
 }
 
-fn main_has_room(before: &[MainOpText]) -> bool
+fn fills(part: &PartText, slot: u8) -> bool
+    ensures { result ≡ fills slot part.now }
+{
+    match part {
+        PartText::Export(_) => false,
+        PartText::Thread(s, _) => *s == slot,
+        PartText::Bad(s) => *s == slot,
+    }
+}
+
+fn is_filled(before: &[PartText], slot: u8) -> bool
+    ensures { result ≡ list_any (fills slot) before.now }
+{
+    before.iter().any(|p| fills(p, slot))
+}
+
+/// Whether a slot may be given after these parts of its instance.
+pub fn slot_opens(before: &[PartText], slot: u8) -> bool
+    ensures { result ≡ slot_opens before.now slot }
+{
+    !is_filled(before, slot)
+}
+
+/// Whether an op of main may follow these, if nothing else forbids it.
+pub fn main_has_room(before: &[MainOpText]) -> bool
     ensures { result ≡ main_has_room before.now }
 {
     before.len() < MAIN_OPS
@@ -89,6 +181,12 @@ fn is_start(op: &MainOpText) -> bool
     ensures { result ≡ is_start op.now }
 {
     matches!(op, MainOpText::Start(..))
+}
+
+fn is_spawn(op: &MainOpText) -> bool
+    ensures { result ≡ is_spawn op.now }
+{
+    matches!(op, MainOpText::Spawn(_))
 }
 
 fn finishes(op: &MainOpText, start: u32) -> bool
@@ -101,6 +199,12 @@ fn start_count(before: &[MainOpText]) -> usize
     ensures { result ≡ start_count before.now }
 {
     before.iter().filter(|o| is_start(o)).count()
+}
+
+fn spawn_count(before: &[MainOpText]) -> usize
+    ensures { result ≡ spawn_count before.now }
+{
+    before.iter().filter(|o| is_spawn(o)).count()
 }
 
 fn is_finished(before: &[MainOpText], start: u32) -> bool
@@ -126,54 +230,38 @@ pub fn finish_opens(before: &[MainOpText], start: u32) -> bool
         && !is_finished(before, start)
 }
 
-fn instance_position(instances: &[InstanceText], name: &[u8]) -> Option<usize>
-    ensures { result ≡ position (λ i. bytes_eq i.name name.now) instances.now }
+/// Whether a spawn may follow these ops of main.
+pub fn spawn_opens(before: &[MainOpText]) -> bool
+    ensures { result ≡ spawn_opens before.now }
 {
-    instances.iter().position(|i| i.name.as_slice() == name)
+    main_has_room(before) && spawn_count(before) < SPAWNS
 }
 
-fn export_position(exports: &[ExportText], name: &[u8]) -> Option<usize>
-    ensures { result ≡ position (λ e. bytes_eq e.name name.now) exports.now }
+fn is_spawned(before: &[MainOpText], spawn: u32) -> bool
+    ensures { result ≡ is_spawned before.now spawn }
 {
-    exports.iter().position(|e| e.name.as_slice() == name)
+    1 <= spawn && spawn as usize <= spawn_count(before)
 }
 
-fn instance_place(instances: &[InstanceText], name: &[u8]) -> Option<u32>
-    ensures { result ≡ instance_place instances.now name.now }
+/// Whether an op on this spawn, an earlier one, may follow these ops of main.
+pub fn spawn_named(before: &[MainOpText], spawn: u32) -> bool
+    ensures { result ≡ spawn_named before.now spawn }
 {
-    u32::try_from(instance_position(instances, name)?).ok()
+    main_has_room(before) && is_spawned(before, spawn)
 }
 
-fn export_place(exports: &[ExportText], name: &[u8]) -> Option<u32>
-    ensures { result ≡ export_place exports.now name.now }
+fn all_spawned(main: &[MainOpText], spawns: &[u32]) -> bool
+    ensures { result ≡ list_all (is_spawned main.now) spawns.now }
 {
-    u32::try_from(export_position(exports, name)?).ok()
+    spawns.iter().all(|k| is_spawned(main, *k))
 }
 
-fn exports_of(instances: &[InstanceText], place: u32) -> &[ExportText]
-    ensures { result.now ≡ exports_of instances.now place }
+/// Whether an aborter of these spawns of main may follow those before it.
+pub fn aborter_opens(main: &[MainOpText], before: &[Seq<u32>], spawns: &[u32]) -> bool
+    ensures { result ≡ aborter_opens main.now before.now spawns.now }
 {
-    match instances.get(place as usize) {
-        Some(instance) => instance.exports.as_slice(),
-        None => &[],
-    }
-}
-
-/// The export of these names.
-#[tactic(auto, unfolding(crate::specs::State::callee_of))]
-pub fn callee_of(instances: &[InstanceText], instance: &[u8], export: &[u8]) -> Option<Callee>
-    ensures { result ≡ callee_of instances.now instance.now export.now }
-{
-    let instance = instance_place(instances, instance)?;
-    let export = export_place(exports_of(instances, instance), export)?;
-    Some(Callee { instance, export })
-}
-
-/// How many parameters an export has.
-pub fn params_of(instances: &[InstanceText], callee: Callee) -> Option<u32>
-    ensures { result ≡ params_of instances.now callee }
-{
-    let instance = instances.get(callee.instance as usize)?;
-    let export = instance.exports.as_slice().get(callee.export as usize)?;
-    Some(export.params)
+    before.len() < ABORTERS
+        && 1 <= spawns.len()
+        && spawns.len() <= ABORTS
+        && all_spawned(main, spawns)
 }

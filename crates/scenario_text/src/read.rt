@@ -1,16 +1,16 @@
 //! A text, line by line.
 ghost use Rattle.std.specs.Prelude.{◌≡◌, ◌==◌, ◌<◌, [], ◌∷◌, ℕ, List, length, map, position, IsOkUnless, IfOk, IfSome, MatchOption, OnOk};
-ghost use Rattle.scenario_text.specs.Gives.{Becomes};
+ghost use Rattle.text_lines.specs.Gives.{Becomes};
 ghost use Rattle.scenario_text.specs.Grammar.{lines, words, spelled, IsTextOf};
 ghost use Rattle.scenario_text.specs.State.{after_words, read_from, ReadsAs};
 ghost use Rattle.scenario_text.specs.Answers.{Answers};
 ghost use Rattle.scenario_text.specs.declared.tree.ScenarioText.{ScenarioText};
 
-use crate::line::{LineError, read_line};
 use crate::state::State;
 use crate::tree::ScenarioText;
 use memchr::memchr;
 use std::alloc::{AllocError, Global};
+use text_lines::{LineError, read_line};
 
 /// Why a text gave no scenario.
 #[derive(Clone, Copy)]

@@ -1,24 +1,27 @@
 //! What was read so far, and what each kind of line adds to it.
 ghost use Rattle.std.specs.Prelude.{◌≡◌};
-ghost use Rattle.scenario_text.specs.Gives.{Gives, Becomes};
-ghost use Rattle.scenario_text.specs.State.{with_op, start_of, finish_of, main_op_of};
+ghost use Rattle.std.specs.Option.{option_map};
+ghost use Rattle.text_lines.specs.Gives.{Gives, Becomes};
+ghost use Rattle.scenario_text.specs.State.{with_op, start_of, finish_of, spawn_of, ready_of, main_op_of};
 
-use crate::line::{HeadLine, Line, LineError, NamedOp, PartLine};
+use crate::callee::{call_of, callee_of, fitting_export, host_place, params_of};
 use crate::placement::{
-    OPS, callee_of, export_opens, finish_opens, handles_fit, instance_opens, params_of,
-    start_opens, table_fits,
+    aborter_opens, export_opens, finish_opens, host_opens, instance_opens, is_callback,
+    main_has_room, op_opens, slot_opens, spawn_named, spawn_opens, start_opens,
 };
-use crate::tree::{ExportText, InstanceText, MainOpText, Name, ScenarioText};
+use crate::tree::{ExportText, HostText, InstanceText, MainOpText, PartText, ScenarioText};
 use std::alloc::Global;
 use std::mem;
 use task_machine::{ExportKind, IdleLine, Op, Operand, Seq};
+use text_lines::{HeadLine, Line, LineError, Name, NamedCall, NamedOp, PartLine};
 
-/// The head, and the instances that are closed.
+/// The head, the hosts, and the instances that are closed.
 #[derive(Drop)]
 pub struct Body {
     pub handles: u32,
     pub table: u32,
     pub idle: IdleLine,
+    pub hosts: Seq<HostText>,
     pub instances: Seq<InstanceText>,
 }
 
@@ -33,30 +36,31 @@ pub struct Opening {
 impl Opening {
     ghost use Rattle.scenario_text.specs.State.{export_from};
 
-    fn export(self, start: Seq<Op>) -> ExportText
-        ensures { result ≡ export_from self start }
+    fn export(self, start: Seq<Op>, react: Option<Seq<Op>>) -> ExportText
+        ensures { result ≡ export_from self start react }
     {
         ExportText {
             name: self.name,
             kind: self.kind,
             params: self.params,
             start,
+            react,
         }
     }
 }
 
 #[tactic(auto, unfolding(crate::specs::State::with_op))]
-fn push_op(ops: &mut Seq<Op>, op: Op) -> Result<(), LineError>
-    ensures { Becomes ops.new result (with_op ops.old op) }
+fn push_op(callback: bool, ops: &mut Seq<Op>, op: Op) -> Result<(), LineError>
+    ensures { Becomes ops.new result (with_op callback ops.old op) }
 {
-    if ops.len() >= OPS {
+    if !op_opens(callback, ops.as_slice(), &op) {
         return Err(LineError::Bad);
     }
     ops.push(op)?;
     Ok(())
 }
 
-// The op of main that names of an export and operands are, after those before it.
+// The ops of main that lines are, after those before them.
 #[tactic(auto, unfolding(crate::specs::State::start_of))]
 fn start_of(
     instances: &[InstanceText],
@@ -67,9 +71,8 @@ fn start_of(
 ) -> Option<MainOpText>
     ensures { result ≡ start_of instances.now before.now instance.now export.now operands }
 {
-    let callee = callee_of(instances, instance, export)?;
-    let params = params_of(instances, callee)?;
-    if !start_opens(before) || params as usize != operands.len() {
+    let callee = fitting_export(instances, instance, export, operands.as_slice())?;
+    if !start_opens(before) {
         return None;
     }
     Some(MainOpText::Start(callee, operands))
@@ -82,9 +85,33 @@ fn finish_of(before: &[MainOpText], start: u32, register: u8) -> Option<MainOpTe
     finish_opens(before, start).then_some(MainOpText::Finish(start, register))
 }
 
-fn main_op_of(instances: &[InstanceText], before: &[MainOpText], op: NamedOp) -> Option<MainOpText>
-    ensures { result ≡ main_op_of instances.now before.now op }
+#[tactic(auto, unfolding(crate::specs::State::spawn_of))]
+fn spawn_of(hosts: &[HostText], before: &[MainOpText], name: &[u8]) -> Option<MainOpText>
+    ensures { result ≡ spawn_of hosts.now before.now name.now }
 {
+    let host = host_place(hosts, name)?;
+    spawn_opens(before).then_some(MainOpText::Spawn(host))
+}
+
+#[tactic(auto, unfolding(crate::specs::State::ready_of))]
+fn ready_of(
+    instances: &[InstanceText],
+    before: &[MainOpText],
+    instance: &[u8],
+    export: &[u8],
+) -> Option<MainOpText>
+    ensures { result ≡ ready_of instances.now before.now instance.now export.now }
+{
+    let callee = callee_of(instances, instance, export)?;
+    let _params = params_of(instances, callee)?;
+    main_has_room(before).then_some(MainOpText::Ready(callee))
+}
+
+#[tactic(auto, unfolding(crate::specs::State::main_op_of))]
+fn main_op_of(body: &Body, before: &[MainOpText], op: NamedOp) -> Option<MainOpText>
+    ensures { result ≡ main_op_of body.now before.now op }
+{
+    let (hosts, instances) = (body.hosts.as_slice(), body.instances.as_slice());
     match op {
         NamedOp::Start(instance, export, operands) => start_of(
             instances,
@@ -94,6 +121,13 @@ fn main_op_of(instances: &[InstanceText], before: &[MainOpText], op: NamedOp) ->
             operands,
         ),
         NamedOp::Finish(start, register) => finish_of(before, start, register),
+        NamedOp::Spawn(host) => spawn_of(hosts, before, host.as_slice()),
+        NamedOp::Abort(k) => spawn_named(before, k).then_some(MainOpText::Abort(k)),
+        NamedOp::Await(k) => spawn_named(before, k).then_some(MainOpText::Await(k)),
+        NamedOp::Quiet => main_has_room(before).then_some(MainOpText::Quiet),
+        NamedOp::Ready(instance, export) => {
+            ready_of(instances, before, instance.as_slice(), export.as_slice())
+        }
     }
 }
 
@@ -104,19 +138,24 @@ pub enum State {
     Titled,
     Handles(u32),
     Table(u32, u32),
-    /// No instance is open.
-    Body(Body),
+    /// No instance has begun.
+    Hosts(Body),
     /// An instance is open, and no script.
     Instance(Body, InstanceText),
     /// An export is open, with its start script so far.
     Script(Body, InstanceText, Opening, Seq<Op>),
+    /// An export is open, with its start script and its react script so far.
+    React(Body, InstanceText, Opening, Seq<Op>, Seq<Op>),
+    /// A slot is open, with its script so far.
+    Thread(Body, InstanceText, u8, Seq<Op>),
     Main(Body, Seq<MainOpText>),
-    Answered(Body, Seq<MainOpText>, Operand),
+    /// Main has answered; the aborters so far.
+    Answered(Body, Seq<MainOpText>, Operand, Seq<Seq<u32>>),
     Ended(ScenarioText),
 }
 
 impl State {
-    ghost use Rattle.scenario_text.specs.State.{script_closed, instance_closed, main_open, after_title, after_handles, after_table, after_idle, after_head, after_instance, after_export, after_part, after_op, after_main, after_main_op, after_answer, after_end, after, scenario_of};
+    ghost use Rattle.scenario_text.specs.State.{script_closed, instance_closed, main_open, script_body, after_title, after_handles, after_table, after_idle, after_head, after_host, after_instance, after_export, after_react, after_thread, after_bad, after_part, after_op, after_call, after_main, after_main_op, after_answer, after_aborter, after_end, after, scenario_of};
 
     #[tactic(auto, unfolding(crate::specs::State::script_closed))]
     fn close_script(self) -> Result<(Body, InstanceText), LineError>
@@ -125,7 +164,17 @@ impl State {
         match self {
             State::Instance(body, instance) => Ok((body, instance)),
             State::Script(body, mut instance, opening, start) => {
-                instance.exports.push(opening.export(start))?;
+                let export = opening.export(start, None);
+                instance.parts.push(PartText::Export(export))?;
+                Ok((body, instance))
+            }
+            State::React(body, mut instance, opening, start, react) => {
+                let export = opening.export(start, Some(react));
+                instance.parts.push(PartText::Export(export))?;
+                Ok((body, instance))
+            }
+            State::Thread(body, mut instance, slot, ops) => {
+                instance.parts.push(PartText::Thread(slot, ops))?;
                 Ok((body, instance))
             }
             _ => Err(LineError::Bad),
@@ -136,7 +185,7 @@ impl State {
     fn close_instance(self) -> Result<Body, LineError>
         ensures { Gives result (instance_closed self) }
     {
-        if let State::Body(body) = self {
+        if let State::Hosts(body) = self {
             return Ok(body);
         }
         let (mut body, instance) = self.close_script()?;
@@ -148,20 +197,20 @@ impl State {
     fn after_title(self) -> Result<State, LineError>
         ensures { Gives result (after_title self) }
     {
-        match self {
-            State::Empty => Ok(State::Titled),
-            _ => Err(LineError::Bad),
+        if let State::Empty = self {
+            return Ok(State::Titled);
         }
+        Err(LineError::Bad)
     }
 
     #[tactic(auto, unfolding(crate::specs::State::after_handles))]
     fn after_handles(self, handles: u32) -> Result<State, LineError>
         ensures { Gives result (after_handles self handles) }
     {
-        match self {
-            State::Titled if handles_fit(handles) => Ok(State::Handles(handles)),
-            _ => Err(LineError::Bad),
+        if let State::Titled = self {
+            return Ok(State::Handles(handles));
         }
+        Err(LineError::Bad)
     }
 
     #[tactic(auto, unfolding(crate::specs::State::after_table))]
@@ -169,7 +218,7 @@ impl State {
         ensures { Gives result (after_table self table) }
     {
         match self {
-            State::Handles(handles) if table_fits(table) => Ok(State::Table(handles, table)),
+            State::Handles(handles) => Ok(State::Table(handles, table)),
             _ => Err(LineError::Bad),
         }
     }
@@ -179,10 +228,11 @@ impl State {
         ensures { Gives result (after_idle self idle) }
     {
         match self {
-            State::Table(handles, table) => Ok(State::Body(Body {
+            State::Table(handles, table) => Ok(State::Hosts(Body {
                 handles,
                 table,
                 idle,
+                hosts: Seq::new(alloc),
                 instances: Seq::new(alloc),
             })),
             _ => Err(LineError::Bad),
@@ -201,6 +251,22 @@ impl State {
         }
     }
 
+    #[tactic(auto, unfolding(crate::specs::State::after_host))]
+    fn after_host(self, host: HostText) -> Result<State, LineError>
+        ensures { Gives result (after_host self host) }
+    {
+        match self {
+            State::Hosts(mut body) => {
+                if !host_opens(body.hosts.as_slice(), host.name.as_slice()) {
+                    return Err(LineError::Bad);
+                }
+                body.hosts.push(host)?;
+                Ok(State::Hosts(body))
+            }
+            _ => Err(LineError::Bad),
+        }
+    }
+
     #[tactic(auto, unfolding(crate::specs::State::after_instance))]
     fn after_instance(self, alloc: Global, name: Name) -> Result<State, LineError>
         ensures { Gives result (after_instance self name) }
@@ -209,8 +275,8 @@ impl State {
         if !instance_opens(body.instances.as_slice(), name.as_slice()) {
             return Err(LineError::Bad);
         }
-        let exports = Seq::new(alloc);
-        Ok(State::Instance(body, InstanceText { name, exports }))
+        let parts = Seq::new(alloc);
+        Ok(State::Instance(body, InstanceText { name, parts }))
     }
 
     #[tactic(auto, unfolding(crate::specs::State::after_export))]
@@ -220,7 +286,7 @@ impl State {
         let (body, instance) = self.close_script()?;
         if !export_opens(
             body.instances.as_slice(),
-            instance.exports.as_slice(),
+            instance.parts.as_slice(),
             opening.name.as_slice(),
         ) {
             return Err(LineError::Bad);
@@ -228,15 +294,58 @@ impl State {
         Ok(State::Script(body, instance, opening, Seq::new(alloc)))
     }
 
+    #[tactic(auto, unfolding(crate::specs::State::after_react))]
+    fn after_react(self, alloc: Global) -> Result<State, LineError>
+        ensures { Gives result (after_react self) }
+    {
+        match self {
+            State::Script(body, instance, opening, start) => {
+                if !is_callback(opening.kind) {
+                    return Err(LineError::Bad);
+                }
+                let react = Seq::new(alloc);
+                Ok(State::React(body, instance, opening, start, react))
+            }
+            _ => Err(LineError::Bad),
+        }
+    }
+
+    #[tactic(auto, unfolding(crate::specs::State::after_thread))]
+    fn after_thread(self, alloc: Global, slot: u8) -> Result<State, LineError>
+        ensures { Gives result (after_thread self slot) }
+    {
+        let (body, instance) = self.close_script()?;
+        if !slot_opens(instance.parts.as_slice(), slot) {
+            return Err(LineError::Bad);
+        }
+        Ok(State::Thread(body, instance, slot, Seq::new(alloc)))
+    }
+
+    #[tactic(auto, unfolding(crate::specs::State::after_bad))]
+    fn after_bad(self, slot: u8) -> Result<State, LineError>
+        ensures { Gives result (after_bad self slot) }
+    {
+        let (body, mut instance) = self.close_script()?;
+        if !slot_opens(instance.parts.as_slice(), slot) {
+            return Err(LineError::Bad);
+        }
+        instance.parts.push(PartText::Bad(slot))?;
+        Ok(State::Instance(body, instance))
+    }
+
     #[tactic(auto, unfolding(crate::specs::State::after_part))]
     fn after_part(self, alloc: Global, line: PartLine) -> Result<State, LineError>
         ensures { Gives result (after_part self line) }
     {
         match line {
+            PartLine::Host(name, work) => self.after_host(HostText { name, work }),
             PartLine::Instance(name) => self.after_instance(alloc, name),
             PartLine::Export(name, kind, params) => {
                 self.after_export(alloc, Opening { name, kind, params })
             }
+            PartLine::React => self.after_react(alloc),
+            PartLine::Thread(slot) => self.after_thread(alloc, slot),
+            PartLine::Bad(slot) => self.after_bad(slot),
         }
     }
 
@@ -245,9 +354,35 @@ impl State {
         ensures { Becomes self.new result (after_op self.old op) }
     {
         match self {
-            State::Script(_, _, _, start) => push_op(start, op),
+            State::Script(_, _, opening, start) => push_op(is_callback(opening.kind), start, op),
+            State::React(_, _, _, _, react) => push_op(true, react, op),
+            State::Thread(_, _, _, ops) => push_op(false, ops, op),
             _ => Err(LineError::Bad),
         }
+    }
+
+    #[tactic(auto, unfolding(crate::specs::State::script_body))]
+    fn script_body(&self) -> Option<&Body>
+        ensures { option_map (λ b. b.now) result ≡ script_body self.now }
+    {
+        match self {
+            State::Script(body, ..) => Some(body),
+            State::React(body, ..) => Some(body),
+            State::Thread(body, ..) => Some(body),
+            _ => None,
+        }
+    }
+
+    // Adds a call. It stays out of line, as `add_any`.
+    #[inline(never)]
+    #[tactic(auto, unfolding(crate::specs::State::after_call))]
+    fn add_call(&mut self, call: NamedCall) -> Result<(), LineError>
+        ensures { Becomes self.new result (after_call self.old call) }
+    {
+        let body = self.script_body().ok_or(LineError::Bad)?;
+        let op = call_of(body.hosts.as_slice(), body.instances.as_slice(), call);
+        let op = op.ok_or(LineError::Bad)?;
+        self.add_op(Op::Call(op))
     }
 
     #[tactic(auto, unfolding(crate::specs::State::after_main))]
@@ -273,17 +408,33 @@ impl State {
         ensures { Gives result (after_main_op self op) }
     {
         let (body, mut ops) = self.open_main()?;
-        let op = main_op_of(body.instances.as_slice(), ops.as_slice(), op).ok_or(LineError::Bad)?;
+        let op = main_op_of(&body, ops.as_slice(), op).ok_or(LineError::Bad)?;
         ops.push(op)?;
         Ok(State::Main(body, ops))
     }
 
     #[tactic(auto, unfolding(crate::specs::State::after_answer))]
-    fn after_answer(self, value: Operand) -> Result<State, LineError>
+    fn after_answer(self, alloc: Global, value: Operand) -> Result<State, LineError>
         ensures { Gives result (after_answer self value) }
     {
         let (body, ops) = self.open_main()?;
-        Ok(State::Answered(body, ops, value))
+        Ok(State::Answered(body, ops, value, Seq::new(alloc)))
+    }
+
+    #[tactic(auto, unfolding(crate::specs::State::after_aborter))]
+    fn after_aborter(self, spawns: Seq<u32>) -> Result<State, LineError>
+        ensures { Gives result (after_aborter self spawns) }
+    {
+        match self {
+            State::Answered(body, ops, value, mut before) => {
+                if !aborter_opens(ops.as_slice(), before.as_slice(), spawns.as_slice()) {
+                    return Err(LineError::Bad);
+                }
+                before.push(spawns)?;
+                Ok(State::Answered(body, ops, value, before))
+            }
+            _ => Err(LineError::Bad),
+        }
     }
 
     #[tactic(auto, unfolding(crate::specs::State::after_end))]
@@ -291,13 +442,15 @@ impl State {
         ensures { Gives result (after_end self) }
     {
         match self {
-            State::Answered(body, main, answer) => Ok(State::Ended(ScenarioText {
+            State::Answered(body, main, answer, aborters) => Ok(State::Ended(ScenarioText {
                 handles: body.handles,
                 table: body.table,
                 idle: body.idle,
+                hosts: body.hosts,
                 instances: body.instances,
                 main,
                 answer,
+                aborters,
             })),
             _ => Err(LineError::Bad),
         }
@@ -317,6 +470,14 @@ impl State {
         Ok(state)
     }
 
+    fn after_call(self, call: NamedCall) -> Result<State, LineError>
+        ensures { Gives result (after_call self call) }
+    {
+        let mut state = self;
+        state.add_call(call)?;
+        Ok(state)
+    }
+
     #[tactic(auto, unfolding(crate::specs::State::after))]
     fn after_line(self, alloc: Global, line: Line) -> Result<State, LineError>
         ensures { Gives result (after self line) }
@@ -325,9 +486,11 @@ impl State {
             Line::Head(line) => self.after_head(alloc, line),
             Line::Part(line) => self.after_part(alloc, line),
             Line::Op(op) => self.after_op(op),
+            Line::Call(call) => self.after_call(call),
             Line::Main => self.after_main(alloc),
             Line::MainOp(op) => self.after_main_op(op),
-            Line::Answer(value) => self.after_answer(value),
+            Line::Answer(value) => self.after_answer(alloc, value),
+            Line::Aborter(spawns) => self.after_aborter(spawns),
             Line::End => self.after_end(),
         }
     }
@@ -348,6 +511,7 @@ impl State {
     {
         match line {
             Line::Op(op) => self.add_op(op),
+            Line::Call(call) => self.add_call(call),
             line => self.add_any(alloc, line),
         }
     }

@@ -217,7 +217,10 @@ impl RunConcurrent {
             Turn::Main => Ok(Some(step_main(component, store, main)?)),
             Turn::Futures { polled } => Ok(Some(poll(&mut store.state, polled))),
             Turn::Take { ended } => take(component, &mut store.state, ended, self.trap_on_idle),
-            Turn::Run { thread } => Ok(Some(step_run(component, &mut store.state, thread))),
+            Turn::Run { thread } => {
+                let ran = step_run(component, &mut store.state, thread)?;
+                Ok(Some(ran.made))
+            }
             Turn::Over => unreachable!(),
         }
     }

@@ -22,10 +22,16 @@ use Rattle.task_calls.specs.Calls.{Starts}
 use Rattle.task_words.specs.StateView.{StateView}
 use Rattle.std.proofs.Common.{false}
 use Rattle.task_scenario.specs.declared.scenario.MainOp.{MainOp}
-use Rattle.task_run.specs.Script.{SuitsOps, is_start_finish_or_answer}
+use Rattle.task_run.specs.Script.{SuitsOps, is_built}
 use Rattle.task_turns.specs.Main as main
 use Rattle.task_turns.specs.Main.{IsOpOfMain, main_setting}
 use Rattle.task_turns.specs.Turn.{state_at}
+use Rattle.std.specs.Prelude.{unwrap_or}
+use Rattle.task_machine.specs.declared.component.HostDef.{HostDef}
+use Rattle.task_machine.specs.declared.records.WorkCaller.TheVariants as work_caller
+use Rattle.task_rules.specs.Calls.{next_work, work_queued}
+use Rattle.task_rules.specs.MainOps.{main_spawned}
+use Rattle.task_rules.specs.Scripts.{host_at, never_host}
 
 module _ (c : Component) (ops : List MainOpDef) (p : MainPlace) (s : Core) (o : MainOpDef) (at : op_at ops p ≡ Some o) where
   -- the op is done
@@ -76,5 +82,13 @@ module _ (c : Component) (e : Callee) (words : List ℕ) (s t : StateView) (k : 
       ap₂ (λ w new. Does (main_label.StartRefused w k) new) equal (sym starts.1.core)
 
 -- no other op stands in such a script
-pub no_other_op : (ops : List MainOp) (c : Component) → SuitsOps ops c → (i : ℕ) (o : MainOp) → slice_get ops i ≡ Some o → is_start_finish_or_answer o ≡ false → ⊥
-no_other_op ops c suits i o at not = let only : is_start_finish_or_answer o ≡ true = suits.only i o at in cc
+pub no_other_op : (ops : List MainOp) (c : Component) → SuitsOps ops c → (i : ℕ) (o : MainOp) → slice_get ops i ≡ Some o → is_built o ≡ false → ⊥
+no_other_op ops c suits i o at not = let only : is_built o ≡ true = suits.only i o at in cc
+
+-- ---- A spawn
+
+pub spawned_row : (c : Component) (h : ℕ) (host : HostDef) (s t : Core) (k n : ℕ) → Some host ≡ slice_get c.hosts h → t ≡ work_queued work_caller.Spawn host None s → n ≡ next_work s → Does (main_label.Spawn k (next_work s)) (main_spawned c h s) ≡ Does (main_label.Spawn k n) t
+unfolding main_spawned
+spawned_row c h host s t k n there core number =
+    let at : host_at c h ≡ host = ap (λ (o : Option HostDef). unwrap_or o never_host) (sym there) in
+    ap₂ (λ i new. Does (main_label.Spawn k i) new) (sym number) (ap (λ (d : HostDef). work_queued work_caller.Spawn d None s) at ∙ sym core)

@@ -1,5 +1,5 @@
 -- Main as a script.
-use Rattle.std.specs.Prelude.{◌≡◌, ℕ, Bool, true, false, List, [], Some, Result, Ok, Err, map, length, slice_get}
+use Rattle.std.specs.Prelude.{◌≡◌, ℕ, Bool, true, false, IsSome, List, Some, Result, Ok, Err, map, length, slice_get}
 use Rattle.task_machine.specs.declared.component.Component.{Component}
 use Rattle.task_machine.specs.declared.scenario.MainOpDef.{MainOpDef}
 use Rattle.task_machine.specs.declared.scenario.MainOpDef.TheVariants as machine
@@ -31,16 +31,17 @@ machine_op (op.Answer x) = machine.Answer x
 abbrev pub machine_ops : List MainOp → List MainOpDef
 machine_ops ops = map machine_op ops
 
--- a start, a finish or an answer
-abbrev pub is_start_finish_or_answer : MainOp → Bool
-is_start_finish_or_answer (op.Start f xs) = true
-is_start_finish_or_answer (op.Finish k r) = true
-is_start_finish_or_answer (op.Answer x) = true
-is_start_finish_or_answer _ = false
+-- any op but an abort or an await
+abbrev pub is_built : MainOp → Bool
+is_built (op.Abort k) = false
+is_built (op.Await k) = false
+is_built _ = true
 
--- The script starts, finishes and answers alone. Each export that it calls is the component's, and takes as many words.
+-- The script aborts and awaits nothing. Each export that it calls is the component's, and takes as many words; each host that it spawns is
+-- there.
 pub record SuitsOps (ops : List MainOp) (c : Component) : Type 0 where
-  pub only : (i : ℕ) (o : MainOp) → slice_get ops i ≡ Some o → is_start_finish_or_answer o ≡ true
+  pub only : (i : ℕ) (o : MainOp) → slice_get ops i ≡ Some o → is_built o ≡ true
+  pub spawns : (i h : ℕ) → slice_get ops i ≡ Some (op.Spawn h) → IsSome (slice_get c.hosts h)
   pub starts : (i : ℕ) (f : Func) (xs : List Operand) → slice_get ops i ≡ Some (op.Start f xs) → (e : ExportDef) × ((export_at c (callee_of f) ≡ Some e) × (length xs ≡ e.params))
 
 abbrev pub started_of : Start → Started
@@ -49,7 +50,7 @@ started_of (start.Refused why) = Refused why
 
 -- where the script is
 abbrev pub place_of : ScriptMain → MainPlace
-place_of m = record { position = m.at; registers = m.registers; starts = map started_of m.starts.items; spawns = [] }
+place_of m = record { position = m.at; registers = m.registers; starts = map started_of m.starts.items; spawns = m.spawns.items }
 
 abbrev pub part_of : ScriptMain → Main
 part_of m = Scripted (place_of m)

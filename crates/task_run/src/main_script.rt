@@ -1,6 +1,6 @@
-ghost use Rattle.std.specs.Prelude.{◌≡◌, ◌+◌, ◌<◌, ◌^◌, ◌-◌, ◌++◌, ◌∷◌, [], length, option_copied, IfOk, IfErr, IfSome, None, OnOk, OnErr, Some, slice_get, slice_set};
+ghost use Rattle.std.specs.Prelude.{◌≡◌, ◌+◌, ◌<◌, ◌^◌, ◌-◌, ◌++◌, ◌∷◌, [], length, option_copied, IfOk, IfErr, IfSome, IsSome, None, OnOk, OnErr, Some, slice_get, slice_set};
 ghost use Rattle.task_machine.specs.declared.component.ExportDef.{ExportDef};
-ghost use Rattle.task_rules.specs.MainOps.{started_at};
+ghost use Rattle.task_rules.specs.MainOps.{is_ready_for_call, started_at};
 ghost use Rattle.task_rules.specs.Run.{main_opening};
 ghost use Rattle.task_rules.specs.Scripts.{export_at, values_in};
 ghost use Rattle.state_calls.specs.declared.error.TaskError.TheVariants as task_error;
@@ -10,14 +10,16 @@ ghost use Rattle.task_turns.specs.Covered.{IsCovered};
 ghost use Rattle.task_turns.specs.Main.{Steps};
 ghost use Rattle.task_turns.specs.Turn.{Sits, given, running_of};
 ghost use Rattle.task_run.specs.Script.{Suits, part_of, place_of, script_of, started};
+ghost use Rattle.task_words.specs.StateView.{Keeps};
 
 use futures::task::Poll;
 use std::alloc::{AllocError, Global};
 use task_calls::finish_call as take_result;
 use task_loop::{Func, MainStep, MainTask, TaskError, operand_value};
-use task_machine::{Component, Label, MainLabel, Operand, Trap, Turn};
+use task_machine::{Component, HostDef, Label, MainLabel, Operand, Trap, Turn};
 use task_scenario::MainOp;
 use task_store::{Access, Whole};
+use task_words::{InstanceWords, ResultWords, WorkWords};
 
 // A start by main: the number of its call, or why it was refused.
 #[derive(Clone, Copy)]
@@ -34,6 +36,8 @@ pub struct ScriptMain<'a> {
     at: usize,
     registers: [u64; 16],
     starts: Vec<Start>,
+    // The numbers of the works that it spawned.
+    spawns: Vec<u64>,
 }
 
 // The values of these operands.
@@ -63,6 +67,7 @@ impl<'a> ScriptMain<'a> {
             at: 0,
             registers: [0; 16],
             starts: Vec::new(alloc),
+            spawns: Vec::new(alloc),
         }
     }
 
@@ -90,9 +95,33 @@ impl<'a> ScriptMain<'a> {
         ensures registers { self.new.registers ≡ self.old.registers }
         ensures at { OnOk result (self.new.at ≡ self.old.at + 1) }
         ensures starts { OnOk result (self.new.starts.items ≡ self.old.starts.items ++ start ∷ []) }
+        ensures spawns { self.new.spawns ≡ self.old.spawns }
     {
         let at = self.next_place();
         self.starts.push(start)?;
+        self.at = at;
+        Ok(())
+    }
+
+    // The number by which labels name the next spawn, if there is one more.
+    fn next_spawn(&self) -> Option<u32>
+        ensures { IfSome result (λ k. k ≡ length self.now.spawns.items + 1) }
+    {
+        let count = u32::try_from(self.spawns.len()).ok()?;
+        count.checked_add(1)
+    }
+
+    // The op is done, and spawned this work.
+    fn keep_spawn(&mut self, work: u64) -> Result<(), AllocError>
+        requires { self.old.at < length self.old.ops.now }
+        ensures ops { self.new.ops ≡ self.old.ops }
+        ensures registers { self.new.registers ≡ self.old.registers }
+        ensures at { OnOk result (self.new.at ≡ self.old.at + 1) }
+        ensures starts { self.new.starts ≡ self.old.starts }
+        ensures spawns { OnOk result (self.new.spawns.items ≡ self.old.spawns.items ++ work ∷ []) }
+    {
+        let at = self.next_place();
+        self.spawns.push(work)?;
         self.at = at;
         Ok(())
     }
@@ -196,6 +225,95 @@ fn finish_call<T, H>(
     }
 }
 
+// The host at this place, if there is one.
+fn host_here(hosts: &[HostDef], at: u32) -> Option<HostDef>
+    ensures { result ≡ slice_get hosts.now at }
+{
+    hosts.get(at as usize).copied()
+}
+
+// Main spawns a work of the host at this place of the component.
+#[tactic(auto, using(std::proofs::lemmas::Option::slice_get_within))]
+fn spawn_work<T, H>(
+    main: &mut ScriptMain<'_>,
+    access: &mut Access<'_, T, Whole, H>,
+    component: &Component,
+    host: u32,
+) -> Result<MainStep, TaskError>
+    requires given { given access.old.store.now.state.core + 4 < 2 ^ 61 }
+    requires op { slice_get main.old.ops.now main.old.at ≡ Some (main_op.Spawn host) }
+    requires there { IsSome (slice_get component.now.hosts host) }
+    ensures same { access.new.store.ghost_name ≡ access.old.store.ghost_name }
+    ensures stands { access.new.store.now.running ≡ access.old.store.now.running }
+    ensures ops { main.new.ops ≡ main.old.ops }
+    ensures current { OnOk result (access.new.store.now.state.current ≡ access.old.store.now.state.current) }
+    ensures tags { Keeps access.old.store.now.state.tags access.new.store.now.state.tags }
+    ensures ok { IfOk result (λ step. Steps component.now (script_of main.old) (part_of main.old) access.old.store.now.state.core step (part_of main.new) access.new.store.now.state.core) }
+    ensures err { IfErr result (λ e. e ≡ task_error.NoMemory) }
+{
+    let Some(number) = main.next_spawn() else {
+        return Err(TaskError::NoMemory);
+    };
+    let Some(def) = host_here(component.hosts.as_slice(), host) else {
+        unreachable!()
+    };
+    let Ok(work) = access.store.state.queue_spawn(def) else {
+        return Err(TaskError::NoMemory);
+    };
+    let future = access.store.state.work_number(work);
+    main.keep_spawn(future)?;
+    Ok(MainStep::Did(Label::Main(MainLabel::Spawn(number, future))))
+}
+
+// Main waits until no task is interesting.
+#[tactic(auto, using(std::proofs::lemmas::Option::slice_get_within))]
+fn await_quiet<T, H>(
+    main: &mut ScriptMain<'_>,
+    access: &Access<'_, T, Whole, H>,
+    component: &Component,
+) -> MainStep
+    requires op { slice_get main.old.ops.now main.old.at ≡ Some main_op.Quiet }
+    ensures ops { main.new.ops ≡ main.old.ops }
+    ensures ok { Steps component.now (script_of main.old) (part_of main.old) access.now.store.now.state.core result (part_of main.new) access.now.store.now.state.core }
+{
+    let _component = component;
+    let at = main.next_place();
+    if access.store.state.has_interesting() {
+        return MainStep::Pends;
+    }
+    main.at = at;
+    MainStep::Did(Label::Main(MainLabel::Quiet))
+}
+
+// Whether an instance takes calls.
+#[tactic(auto, unfolding(task_rules::specs::MainOps::is_ready_for_call))]
+fn is_ready<T, H>(access: &Access<'_, T, Whole, H>, instance: u32) -> bool
+    ensures { result ≡ is_ready_for_call instance access.now.store.now.state.core }
+{
+    !access.store.state.may_not_enter(instance) && access.store.state.backpressure(instance) == 0
+}
+
+// Main waits until the export's instance takes calls.
+#[tactic(auto, using(std::proofs::lemmas::Option::slice_get_within))]
+fn await_ready<T, H>(
+    main: &mut ScriptMain<'_>,
+    access: &Access<'_, T, Whole, H>,
+    component: &Component,
+    func: Func,
+) -> MainStep
+    requires op { slice_get main.old.ops.now main.old.at ≡ Some (main_op.Ready func) }
+    ensures ops { main.new.ops ≡ main.old.ops }
+    ensures ok { Steps component.now (script_of main.old) (part_of main.old) access.now.store.now.state.core result (part_of main.new) access.now.store.now.state.core }
+{
+    let _component = component;
+    let at = main.next_place();
+    if !is_ready(access, func.instance.index) {
+        return MainStep::Pends;
+    }
+    main.at = at;
+    MainStep::Did(Label::Main(MainLabel::Ready))
+}
+
 // The op at this place, none at the script's end.
 fn op_here(ops: &[MainOp], at: usize) -> Option<&MainOp>
     ensures { option_copied result ≡ slice_get ops.now at }
@@ -224,12 +342,12 @@ impl<T, H> MainTask<T, H> for ScriptMain<'_> {
             Some(MainOp::Answer(value)) => {
                 Ok(MainStep::Answer(operand_value(&self.registers, *value)))
             }
+            Some(MainOp::Spawn(host)) => spawn_work(self, access, component, *host),
+            Some(MainOp::Quiet) => Ok(await_quiet(self, access, component)),
+            Some(MainOp::Ready(func)) => Ok(await_ready(self, access, component, *func)),
             // Such a script has no other ops.
-            Some(MainOp::Spawn(_)) => unreachable!(),
             Some(MainOp::Abort(_)) => unreachable!(),
             Some(MainOp::Await(_)) => unreachable!(),
-            Some(MainOp::Quiet) => unreachable!(),
-            Some(MainOp::Ready(_)) => unreachable!(),
             None => Ok(MainStep::Pends),
         }
     }

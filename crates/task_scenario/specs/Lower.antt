@@ -1,5 +1,13 @@
 -- The scenario that a tree of a text stands for.
-use Rattle.std.specs.Prelude.{◌≡◌, ℕ, List, [], ◌∷◌, ◌++◌, map, replicate, Result, Ok, Err}
+use Rattle.std.specs.Prelude.{◌≡◌, ℕ, List, [], ◌∷◌, ◌++◌, map, replicate, slice_set, unwrap_or, Some, None, Result, Ok, Err}
+use Rattle.text_lines.specs.declared.line.HostWork.{HostWork}
+use Rattle.text_lines.specs.declared.line.HostWork.TheVariants as work
+use Rattle.scenario_text.specs.declared.tree.HostText.{HostText}
+use Rattle.scenario_text.specs.declared.tree.PartText.{PartText}
+use Rattle.scenario_text.specs.declared.tree.PartText.TheVariants as part
+use Rattle.scenario_text.specs.Spelling.{exports_in}
+use Rattle.task_machine.specs.declared.component.HostDef.{HostDef}
+use Rattle.task_machine.specs.declared.component.Slot.{Slot}
 use Rattle.scenario_text.specs.declared.tree.ExportText.{ExportText}
 use Rattle.scenario_text.specs.declared.tree.InstanceText.{InstanceText}
 use Rattle.scenario_text.specs.declared.tree.MainOpText.{MainOpText}
@@ -18,16 +26,34 @@ use Rattle.task_scenario.specs.declared.scenario.Scenario.{Scenario}
 use Rattle.task_scenario.specs.declared.scenario.RunError.{RunError}
 use Rattle.task_scenario.specs.declared.scenario.RunError.TheVariants as errors
 
--- what runs of an export; a react script comes only from a `react` line
-abbrev pub export_def : ExportText → ExportDef
-export_def e = record { kind = e.kind; params = e.params; start = e.start; react = [] }
+abbrev pub work_def : HostWork → HostDef
+work_def (work.Value n v) = record { polls = Some n; value = Some v }
+work_def (work.Fail n) = record { polls = Some n; value = None }
+work_def work.Never = record { polls = None; value = None }
 
--- what runs of an instance; its slots are filled only by `thread` and `bad` lines
+abbrev pub host_def : HostText → HostDef
+host_def h = work_def h.work
+
+-- what runs of an export; without a `react` line its react script is empty
+abbrev pub export_def : ExportText → ExportDef
+export_def e = record { kind = e.kind; params = e.params; start = e.start; react = unwrap_or e.react [] }
+
+-- these slots, with what a part of the instance puts into one of them
+abbrev pub slots_with : List Slot → PartText → List Slot
+slots_with slots (part.Export e) = slots
+slots_with slots (part.Thread s ops) = slice_set slots s (slot.Script ops)
+slots_with slots (part.Bad s) = slice_set slots s slot.Bad
+
+abbrev pub slots_after : List Slot → List PartText → List Slot
+slots_after slots [] = slots
+slots_after slots (p ∷ ps) = slots_after (slots_with slots p) ps
+
+-- what runs of an instance: its exports, and 16 slots, each empty where no `thread` or `bad` line is
 abbrev pub instance_def : InstanceText → InstanceDef
-instance_def i = record { exports = map export_def i.exports; slots = replicate 16 slot.Empty }
+instance_def i = record { exports = map export_def (exports_in i.parts); slots = slots_after (replicate 16 slot.Empty) i.parts }
 
 abbrev pub names_of : InstanceText → InstanceNames
-names_of i = record { instance = i.name; exports = map (λ e. e.name) i.exports }
+names_of i = record { instance = i.name; exports = map (λ e. e.name) (exports_in i.parts) }
 
 abbrev pub func_of : Callee → Func
 func_of f = record { instance = record { index = f.instance }; export = f.export }
@@ -35,16 +61,21 @@ func_of f = record { instance = record { index = f.instance }; export = f.export
 abbrev pub main_op : MainOpText → MainOp
 main_op (text.Start f xs) = op.Start (func_of f) xs
 main_op (text.Finish k r) = op.Finish k r
+main_op (text.Spawn h) = op.Spawn h
+main_op (text.Abort k) = op.Abort k
+main_op (text.Await k) = op.Await k
+main_op text.Quiet = op.Quiet
+main_op (text.Ready f) = op.Ready (func_of f)
 
 abbrev pub scenario_of : ScenarioText → Scenario
 scenario_of s = record {
   handles = s.handles;
   table = s.table;
   idle = s.idle;
-  component = record { instances = map instance_def s.instances; hosts = [] };
+  component = record { instances = map instance_def s.instances; hosts = map host_def s.hosts };
   names = map names_of s.instances;
   main = map main_op s.main ++ op.Answer s.answer ∷ [];
-  aborters = [];
+  aborters = s.aborters;
 }
 
 -- the text stands for the scenario

@@ -1,23 +1,76 @@
 //! From the text's tree to what is run: empty lines of the tree are gone, and the names stand apart.
-ghost use Rattle.std.specs.Prelude.{◌≡◌, ◌≤◌, [], ◌∷◌, ◌++◌, ◌==◌, length, map, replicate, IfOk, IsOkUnless};
-ghost use Rattle.task_scenario.specs.Lower.{export_def, instance_def, names_of, func_of, main_op, scenario_of, Reads, ReadsAs};
+ghost use Rattle.std.specs.Prelude.{◌≡◌, ◌≤◌, [], ◌∷◌, ◌++◌, ◌==◌, length, map, replicate, slice_set, unwrap_or, IfOk, OnOk, IsOkUnless};
+ghost use Rattle.task_scenario.specs.Lower.{host_def, export_def, instance_def, names_of, func_of, main_op, scenario_of, Reads, ReadsAs};
 ghost use Rattle.task_scenario.specs.declared.scenario.Scenario.{Scenario};
 
 use crate::copy::copy_component;
 use crate::scenario::{InstanceNames, MainOp, RunError, Scenario};
-use scenario_text::{ExportText, InstanceText, MainOpText, ScenarioText, TextError, read_text};
+use scenario_text::{
+    ExportText, HostText, HostWork, InstanceText, MainOpText, PartText, ScenarioText, TextError,
+    read_text,
+};
 use std::alloc::{AllocError, Global};
 use task_loop::{Func, Instance};
-use task_machine::{Callee, Component, ExportDef, InstanceDef, NoMemory, Operand, Seq, Slot};
+use task_machine::{
+    Callee, Component, ExportDef, HostDef, InstanceDef, NoMemory, Op, Operand, Seq, Slot,
+};
 
-fn empty_slots(alloc: Global) -> Result<Seq<Slot>, AllocError>
-    ensures { IfOk result (λ slots. slots ≡ replicate 16 Slot.Empty) }
+fn empty_slots(alloc: Global) -> Result<Vec<Slot>, AllocError>
+    ensures { IfOk result (λ slots. slots.items ≡ replicate 16 Slot.Empty) }
 {
-    let mut slots = Seq::new(alloc);
+    let mut slots = Vec::new(alloc);
     while slots.len() < 16 {
         slots.push(Slot::Empty)?;
     }
     Ok(slots)
+}
+
+// Puts something into a slot.
+fn fill(slots: &mut Vec<Slot>, place: u8, with: Slot)
+    ensures { slots.new.items ≡ slice_set slots.old.items place with }
+{
+    let place = place as usize;
+    if place < slots.len() {
+        slots[place] = with;
+    }
+}
+
+fn host_def(host: &HostText) -> HostDef
+    ensures { result ≡ host_def host.now }
+{
+    match host.work {
+        HostWork::Value(polls, value) => HostDef {
+            polls: Some(polls),
+            value: Some(value),
+        },
+        HostWork::Fail(polls) => HostDef {
+            polls: Some(polls),
+            value: None,
+        },
+        HostWork::Never => HostDef {
+            polls: None,
+            value: None,
+        },
+    }
+}
+
+fn host_defs(alloc: Global, hosts: &[HostText]) -> Result<Seq<HostDef>, AllocError>
+    ensures { IfOk result (λ defs. defs ≡ map host_def hosts.now) }
+{
+    let mut defs = Seq::new(alloc);
+    for host in hosts {
+        defs.push(host_def(host))?;
+    }
+    Ok(defs)
+}
+
+fn ops_or_none(alloc: Global, ops: Option<Seq<Op>>) -> Seq<Op>
+    ensures { result ≡ unwrap_or ops [] }
+{
+    match ops {
+        Some(ops) => ops,
+        None => Seq::new(alloc),
+    }
 }
 
 // What runs of an export, beside its name.
@@ -28,30 +81,73 @@ fn export_def(alloc: Global, export: ExportText) -> (Seq<u8>, ExportDef)
         kind: export.kind,
         params: export.params,
         start: export.start,
-        react: Seq::new(alloc),
+        react: ops_or_none(alloc, export.react),
     };
     (export.name, def)
 }
 
+// What the parts of an instance so far have said.
+#[derive(Drop)]
+struct Parts {
+    names: Seq<Seq<u8>>,
+    exports: Seq<ExportDef>,
+    slots: Vec<Slot>,
+}
+
+impl Parts {
+    ghost use Rattle.scenario_text.specs.Spelling.{exports_in};
+    ghost use Rattle.task_scenario.specs.Lower.{slots_with};
+
+    fn new(alloc: Global) -> Result<Parts, AllocError>
+        ensures names { IfOk result (λ p. p.names ≡ []) }
+        ensures exports { IfOk result (λ p. p.exports ≡ []) }
+        ensures slots { IfOk result (λ p. p.slots.items ≡ replicate 16 Slot.Empty) }
+    {
+        Ok(Parts {
+            names: Seq::new(alloc),
+            exports: Seq::new(alloc),
+            slots: empty_slots(alloc)?,
+        })
+    }
+
+    fn add(&mut self, alloc: Global, part: PartText) -> Result<(), AllocError>
+        ensures names { OnOk result (self.new.names ≡ self.old.names ++ map (λ e. e.name) (exports_in (part ∷ []))) }
+        ensures exports { OnOk result (self.new.exports ≡ self.old.exports ++ map export_def (exports_in (part ∷ []))) }
+        ensures slots { OnOk result (self.new.slots.items ≡ slots_with self.old.slots.items part) }
+    {
+        match part {
+            PartText::Export(export) => {
+                let (name, def) = export_def(alloc, export);
+                self.names.push(name)?;
+                self.exports.push(def)?;
+            }
+            PartText::Thread(slot, ops) => fill(&mut self.slots, slot, Slot::Script(ops)),
+            PartText::Bad(slot) => fill(&mut self.slots, slot, Slot::Bad),
+        }
+        Ok(())
+    }
+}
+
+#[tactic(auto, using(crate::proofs::PartLemmas::slots_more, crate::proofs::PartLemmas::exports_more))]
 fn instance_def(
     alloc: Global,
     instance: InstanceText,
 ) -> Result<(InstanceNames, InstanceDef), AllocError>
     ensures { IfOk result (λ p. p ≡ (names_of instance, instance_def instance)) }
 {
-    let mut names = Seq::new(alloc);
-    let mut exports = Seq::new(alloc);
-    for export in instance.exports.into_vec() {
-        let (name, def) = export_def(alloc, export);
-        names.push(name)?;
-        exports.push(def)?;
+    let mut parts = Parts::new(alloc)?;
+    for part in instance.parts.into_vec() {
+        parts.add(alloc, part)?;
     }
     let names = InstanceNames {
         instance: instance.name,
-        exports: names,
+        exports: parts.names,
     };
-    let slots = empty_slots(alloc)?;
-    Ok((names, InstanceDef { exports, slots }))
+    let def = InstanceDef {
+        exports: parts.exports,
+        slots: Seq::from_vec(parts.slots),
+    };
+    Ok((names, def))
 }
 
 fn func(callee: Callee) -> Func
@@ -71,6 +167,11 @@ fn main_op(op: MainOpText) -> MainOp
     match op {
         MainOpText::Start(callee, params) => MainOp::Start(func(callee), params),
         MainOpText::Finish(start, to) => MainOp::Finish(start, to),
+        MainOpText::Spawn(host) => MainOp::Spawn(host),
+        MainOpText::Abort(spawn) => MainOp::Abort(spawn),
+        MainOpText::Await(spawn) => MainOp::Await(spawn),
+        MainOpText::Quiet => MainOp::Quiet,
+        MainOpText::Ready(callee) => MainOp::Ready(func(callee)),
     }
 }
 
@@ -114,11 +215,11 @@ fn scenario_of(alloc: Global, text: ScenarioText) -> Result<Scenario, AllocError
         idle: text.idle,
         component: Component {
             instances,
-            hosts: Seq::new(alloc),
+            hosts: host_defs(alloc, text.hosts.as_slice())?,
         },
         names,
         main: main_ops(alloc, text.main, text.answer)?,
-        aborters: Seq::new(alloc),
+        aborters: text.aborters,
     })
 }
 

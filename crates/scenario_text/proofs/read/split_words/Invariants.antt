@@ -1,6 +1,6 @@
 use Rattle.std.proofs.Common.{◌≡◌, ◌++◌, ◌≤◌, length}
 use Rattle.scenario_text.specs.Grammar.{words}
-use Rattle.scenario_text.proofs.WordCounts.{bytes_of}
+use Rattle.text_lines.proofs.WordCounts.{bytes_of}
 use Rattle.scenario_text.proofs.read.split_words.Given as goal
 
 abbrev pub invariant-loop-end : goal.invariant-loop-end

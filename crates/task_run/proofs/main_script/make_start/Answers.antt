@@ -16,13 +16,13 @@ use Rattle.task_run.proofs.main_script.make_start.Goals as goal
 pub returns-in-Ok-clause-ok : goal.returns-in-Ok-clause-ok
 returns-in-Ok-clause-ok c w =
     let row = ap₂ (λ k ws. start_act w.args.component.now k (callee_of w.args.func) ws w.args.access.now.store.now.state.core (start_refusal w.args.access.now.store.now.state.core)) (ap (λ n. n + 1) (length-map w.args.main.now.starts.items started_of) ∙ sym w.in-Some.ensures) (sym w.in_ok-words.ensures ∙ sym w.as_slice.ensures.value) ∙ started_row w.args.component.now (callee_of w.args.func) w.as_slice.result.now w.args.access.now.store.now.state w.start_call_concurrent.new.store.state w.in-Some.number (start_refusal w.args.access.now.store.now.state.core) w.in-Ok.call.thread w.in-Ok.ensures.starts ∙ ap (λ n. Does (main_label.Start w.in-Some.number n) w.start_call_concurrent.new.store.state.core) (sym w.thread-thread.ensures) in
-    rw (w.in_ok-keep-in-Ok.ensures.at, w.in_ok-keep-in-Ok.ensures.registers, w.in_ok-keep-in-Ok.ensures.starts, map_push)
+    rw (w.in_ok-keep-in-Ok.ensures.at, w.in_ok-keep-in-Ok.ensures.registers, w.in_ok-keep-in-Ok.ensures.starts, w.in_ok-keep-in-Ok.ensures.spawns, map_push)
     (did_by_row w.args.component.now (script_of w.args.main.now) (place_of w.args.main.now) w.args.access.now.store.now.state.core (machine.Start (callee_of w.args.func) w.args.params.now) (slice_get-map machine_op w.args.main.now.ops.now w.args.main.now.at ∙ ap (option_map machine_op) w.requires.op) (main_label.Start w.in-Some.number w.thread-thread.result) _ row tt)
 
 pub returns-in-Err-Trap-clause-ok : goal.returns-in-Err-Trap-clause-ok
 returns-in-Err-Trap-clause-ok c w =
     let row = ap₂ (λ k ws. start_act w.args.component.now k (callee_of w.args.func) ws w.args.access.now.store.now.state.core (start_refusal w.args.access.now.store.now.state.core)) (ap (λ n. n + 1) (length-map w.args.main.now.starts.items started_of) ∙ sym w.in-Some.ensures) (sym w.in_ok-words.ensures ∙ sym w.as_slice.ensures.value) ∙ refused_row w.args.component.now (callee_of w.args.func) w.as_slice.result.now w.args.access.now.store.now.state w.start_call_concurrent.new.store.state w.in-Some.number (start_refusal w.args.access.now.store.now.state.core) w.in-Err-Trap.trap (subst (λ (e : TaskError). Starts w.args.component.now (callee_of w.args.func) w.as_slice.result.now w.args.access.now.store.now.state (start_refusal w.args.access.now.store.now.state.core) (Err e) w.start_call_concurrent.new.store.state) w.in-Err-Trap.field-0-is w.in-Err-Trap.ensures.starts) in
-    rw (w.in_ok-keep-in-Err-Trap.ensures.at, w.in_ok-keep-in-Err-Trap.ensures.registers, w.in_ok-keep-in-Err-Trap.ensures.starts, map_push)
+    rw (w.in_ok-keep-in-Err-Trap.ensures.at, w.in_ok-keep-in-Err-Trap.ensures.registers, w.in_ok-keep-in-Err-Trap.ensures.starts, w.in_ok-keep-in-Err-Trap.ensures.spawns, map_push)
     (did_by_row w.args.component.now (script_of w.args.main.now) (place_of w.args.main.now) w.args.access.now.store.now.state.core (machine.Start (callee_of w.args.func) w.args.params.now) (slice_get-map machine_op w.args.main.now.ops.now w.args.main.now.at ∙ ap (option_map machine_op) w.requires.op) (main_label.StartRefused w.in-Err-Trap.trap w.in-Some.number) _ row tt)
 
 pub returns-in-Ok-clause-current : goal.returns-in-Ok-clause-current

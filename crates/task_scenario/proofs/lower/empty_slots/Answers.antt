@@ -21,12 +21,12 @@ longer old new few e = let more : length new ≡ suc (length old) = ap (λ (xs :
 
 pub loop-slots-preserved : goal.loop-slots-preserved
 loop-slots-preserved c = record {
-  same = grows _ _ c.loop-slots.invariant.same c.in_ok-push.ensures.ok;
-  few = longer _ _ (omega (arith, c.loop-slots-test.true, c.len.ensures)) c.in_ok-push.ensures.ok;
+  same = grows _ _ c.loop-slots.invariant.same c.in_ok-push.ensures.items;
+  few = longer _ _ (omega (arith, c.loop-slots-test.true, c.len.ensures)) c.in_ok-push.ensures.items;
 }
 
 all_made : (slots : List Slot) → slots ≡ replicate (length slots) slot.Empty → 16 ≤ length slots → length slots ≤ 16 → slots ≡ replicate 16 slot.Empty
 all_made slots same many few = let full : length slots ≡ 16 = omega arith in same ∙ ap (λ (n : ℕ). replicate n slot.Empty) full
 
 pub returns : goal.returns
-returns c = all_made c.loop-slots.slots c.loop-slots.invariant.same (omega (arith, c.loop-slots-test.false, c.len.ensures)) c.loop-slots.invariant.few
+returns c = all_made c.loop-slots.slots.items c.loop-slots.invariant.same (omega (arith, c.loop-slots-test.false, c.len.ensures)) c.loop-slots.invariant.few

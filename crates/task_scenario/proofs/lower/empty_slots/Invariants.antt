@@ -5,9 +5,9 @@ use Rattle.task_scenario.proofs.lower.empty_slots.Given as goal
 
 abbrev pub invariant-loop-slots : goal.invariant-loop-slots
 invariant-loop-slots l = record {
-  same : l.slots ≡ replicate (length l.slots) slot.Empty;
-  few : length l.slots ≤ 16;
+  same : l.slots.items ≡ replicate (length l.slots.items) slot.Empty;
+  few : length l.slots.items ≤ 16;
 }
 
 abbrev pub decreases-loop-slots : goal.decreases-loop-slots
-decreases-loop-slots l = 16 - length l.slots
+decreases-loop-slots l = 16 - length l.slots.items

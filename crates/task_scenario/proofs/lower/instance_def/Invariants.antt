@@ -1,9 +1,13 @@
 use Rattle.std.proofs.Common.{◌≡◌, map}
-use Rattle.task_scenario.specs.Lower.{export_def}
+use Rattle.std.specs.Prelude.{replicate}
+use Rattle.scenario_text.specs.Spelling.{exports_in}
+use Rattle.task_machine.specs.declared.component.Slot.TheVariants as slot
+use Rattle.task_scenario.specs.Lower.{export_def, slots_after}
 use Rattle.task_scenario.proofs.lower.instance_def.Given as goal
 
-abbrev pub invariant-loop-export : goal.invariant-loop-export
-invariant-loop-export l = record {
-  names : l.names ≡ map (λ e. e.name) l.yielded;
-  exports : l.exports ≡ map export_def l.yielded;
+abbrev pub invariant-loop-part : goal.invariant-loop-part
+invariant-loop-part l = record {
+  names : l.parts.names ≡ map (λ e. e.name) (exports_in l.yielded);
+  exports : l.parts.exports ≡ map export_def (exports_in l.yielded);
+  slots : l.parts.slots.items ≡ slots_after (replicate 16 slot.Empty) l.yielded;
 }

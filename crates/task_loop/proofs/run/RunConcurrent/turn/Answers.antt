@@ -19,7 +19,7 @@ step_run-requires-clause-order g c = subst (λ (p : Turn). Sits c.args.component
 pub returns-in_ok-step_main-in-Main-clause-turned : goal.returns-in_ok-step_main-in-Main-clause-turned
 returns-in_ok-step_main-in-Main-clause-turned g c = rw c.in-Main.is (c.in_ok-step_main-in-Main.ensures.turns c.args.self.now.trap_on_idle)
 
-pub returns-in-Run-clause-turned : goal.returns-in-Run-clause-turned
-returns-in-Run-clause-turned g c =
+pub returns-in_ok-ran-clause-turned : goal.returns-in_ok-ran-clause-turned
+returns-in_ok-ran-clause-turned g c =
     let x = setting_of c.args.component.now (g.M.MainTask.script c.args.main.now) c.args.self.now.trap_on_idle in
-    rw c.in-Run.is (makes_turns x (turn.Run c.in-Run.thread) c.args.store.now.state c.step_run.result c.step_run.new.w c.step_run.ensures.makes (g.M.MainTask.part c.args.main.now) (c.step_run.ensures.free x c.step_run.new.w.core (g.M.MainTask.part c.args.main.now)))
+    rw c.in-Run.is (makes_turns x (turn.Run c.in-Run.thread) c.args.store.now.state c.in_ok-ran.ran.made c.step_run.new.w c.in_ok-ran.ensures.makes (g.M.MainTask.part c.args.main.now) (c.in_ok-ran.ensures.free x c.step_run.new.w.core (g.M.MainTask.part c.args.main.now)))

@@ -21,16 +21,7 @@ returns-in-None-clause-ok c w =
     pends_past w.args.component.now (script_of w.args.self.now) (place_of w.args.self.now) w.args.access.now.store.now.state.core (slice_get-map machine_op w.args.self.now.ops.now w.args.self.now.at ∙ ap (option_map machine_op) at)
 
 pub unreachable-requires : goal.unreachable-requires
-unreachable-requires c w = no_other_op w.args.self.now.ops.now w.args.component.now w.requires.suits w.args.self.now.at _ (sym w.in-Some-Spawn.ensures ∙ ap (λ (o : MainOp). Some o) w.in-Some-Spawn.field-0-is) refl
-
-pub unreachable-requires-in-Some-Abort : goal.unreachable-requires-in-Some-Abort
-unreachable-requires-in-Some-Abort c w = no_other_op w.args.self.now.ops.now w.args.component.now w.requires.suits w.args.self.now.at _ (sym w.in-Some-Abort.ensures ∙ ap (λ (o : MainOp). Some o) w.in-Some-Abort.field-0-is) refl
+unreachable-requires c w = no_other_op w.args.self.now.ops.now w.args.component.now w.requires.suits w.args.self.now.at _ (sym w.in-Some-Abort.ensures ∙ ap (λ (o : MainOp). Some o) w.in-Some-Abort.field-0-is) refl
 
 pub unreachable-requires-in-Some-Await : goal.unreachable-requires-in-Some-Await
 unreachable-requires-in-Some-Await c w = no_other_op w.args.self.now.ops.now w.args.component.now w.requires.suits w.args.self.now.at _ (sym w.in-Some-Await.ensures ∙ ap (λ (o : MainOp). Some o) w.in-Some-Await.field-0-is) refl
-
-pub unreachable-requires-in-Some-Quiet : goal.unreachable-requires-in-Some-Quiet
-unreachable-requires-in-Some-Quiet c w = no_other_op w.args.self.now.ops.now w.args.component.now w.requires.suits w.args.self.now.at _ (sym w.in-Some-Quiet.ensures ∙ ap (λ (o : MainOp). Some o) w.in-Some-Quiet.field-0-is) refl
-
-pub unreachable-requires-in-Some-Ready : goal.unreachable-requires-in-Some-Ready
-unreachable-requires-in-Some-Ready c w = no_other_op w.args.self.now.ops.now w.args.component.now w.requires.suits w.args.self.now.at _ (sym w.in-Some-Ready.ensures ∙ ap (λ (o : MainOp). Some o) w.in-Some-Ready.field-0-is) refl

@@ -1,8 +1,0 @@
-use Rattle.scenario_text.proofs.WordCounts.{are_two, not_two}
-use Rattle.scenario_text.proofs.line.two.Goals as goal
-
-pub returns-then-words-ne2 : goal.returns-then-words-ne2
-returns-then-words-ne2 c = not_two c.args.words.now c.if-words-ne2.true
-
-pub returns : goal.returns
-returns c = are_two c.args.words.now _ c.if-words-ne2.false

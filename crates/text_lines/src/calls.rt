@@ -1,0 +1,180 @@
+//! The lines that name callees: calls of guests and ops of main.
+ghost use Rattle.std.specs.Prelude.{◌≡◌, ◌<◌, ◌==◌, length, map, position, IfSome};
+ghost use Rattle.std.specs.Option.{option_map};
+ghost use Rattle.text_lines.specs.Line.{callee_at, callee_name_at, params_after, call_after, call_from, call_sync_after, call_line_after, start_after, finish_after, host_name_after, number_after, ready_after, main_op_after};
+ghost use Rattle.text_lines.specs.Gives.{Gives};
+
+use crate::fields::{one, operands, two};
+use crate::keyword::{CallWord, MainWord};
+use crate::line::{CalleeName, Line, LineError, NamedCall, NamedOp};
+use crate::ops::{operand_after, target};
+use crate::parts::copied;
+use crate::words::{Name, bounded, is_name, register};
+use std::alloc::Global;
+use task_machine::{CallOp, Op, Operand, Seq};
+
+fn dot(word: &[u8]) -> Option<usize>
+    ensures place { result ≡ position (λ b. b == 46) word.now }
+    ensures inside { IfSome result (λ i. i < length word.now) }
+{
+    word.iter().position(|b| *b == b'.')
+}
+
+// The two names of `INSTANCE.EXPORT`.
+#[tactic(auto, unfolding(crate::specs::Line::callee_at))]
+fn callee(word: &[u8]) -> Option<(&[u8], &[u8])>
+    ensures { option_map (λ p. (p.0.now, p.1.now)) result ≡ callee_at word.now }
+{
+    let dot = dot(word)?;
+    let instance = &word[..dot];
+    let export = &word[dot + 1..];
+    if !is_name(instance) || !is_name(export) {
+        return None;
+    }
+    Some((instance, export))
+}
+
+// A word with a dot names an export, another one a host.
+#[tactic(auto, unfolding(crate::specs::Line::callee_name_at))]
+fn callee_name(alloc: Global, word: &[u8]) -> Result<CalleeName, LineError>
+    ensures { Gives result (callee_name_at word.now) }
+{
+    if is_name(word) {
+        return Ok(CalleeName::Host(copied(alloc, word)?));
+    }
+    let (instance, export) = callee(word).ok_or(LineError::Bad)?;
+    let instance = copied(alloc, instance)?;
+    Ok(CalleeName::Export(instance, copied(alloc, export)?))
+}
+
+// A callee and its operands.
+#[tactic(auto, unfolding(crate::specs::Line::params_after))]
+fn params_after(alloc: Global, words: &[&[u8]]) -> Result<(CalleeName, Seq<Operand>), LineError>
+    ensures { Gives result (params_after (map (λ w. w.now) words.now)) }
+{
+    let (word, words) = words.split_first().ok_or(LineError::Bad)?;
+    let callee = callee_name(alloc, word)?;
+    Ok((callee, operands(alloc, words)?))
+}
+
+// The rest of `call R Q F X*` after R.
+#[tactic(auto, unfolding(crate::specs::Line::call_from))]
+fn call_from(alloc: Global, to: u8, words: &[&[u8]]) -> Result<NamedCall, LineError>
+    ensures { Gives result (call_from to (map (λ w. w.now) words.now)) }
+{
+    let (word, words) = words.split_first().ok_or(LineError::Bad)?;
+    let result = register(word).ok_or(LineError::Bad)?;
+    let (callee, params) = params_after(alloc, words)?;
+    Ok(NamedCall::Call(to, result, callee, params))
+}
+
+#[tactic(auto, unfolding(crate::specs::Line::call_after))]
+fn call_after(alloc: Global, words: &[&[u8]]) -> Result<NamedCall, LineError>
+    ensures { Gives result (call_after (map (λ w. w.now) words.now)) }
+{
+    let (word, words) = words.split_first().ok_or(LineError::Bad)?;
+    let to = register(word).ok_or(LineError::Bad)?;
+    call_from(alloc, to, words)
+}
+
+#[tactic(auto, unfolding(crate::specs::Line::call_sync_after))]
+fn call_sync_after(alloc: Global, words: &[&[u8]]) -> Result<NamedCall, LineError>
+    ensures { Gives result (call_sync_after (map (λ w. w.now) words.now)) }
+{
+    let (word, words) = words.split_first().ok_or(LineError::Bad)?;
+    let to = register(word).ok_or(LineError::Bad)?;
+    let (callee, params) = params_after(alloc, words)?;
+    Ok(NamedCall::CallSync(to, callee, params))
+}
+
+/// The line of an op on subtasks that the words after its first one complete.
+#[inline(never)]
+#[tactic(auto, unfolding(crate::specs::Line::call_line_after))]
+pub fn call_line_after(alloc: Global, word: CallWord, words: &[&[u8]]) -> Result<Line, LineError>
+    ensures { Gives result (call_line_after word (map (λ w. w.now) words.now)) }
+{
+    match word {
+        CallWord::Call => Ok(Line::Call(call_after(alloc, words)?)),
+        CallWord::CallSync => Ok(Line::Call(call_sync_after(alloc, words)?)),
+        CallWord::Cancel => {
+            let (to, subtask) = target(words).ok_or(LineError::Bad)?;
+            Ok(Line::Op(Op::Call(CallOp::Cancel { to, subtask })))
+        }
+        CallWord::CancelSync => {
+            let (to, subtask) = target(words).ok_or(LineError::Bad)?;
+            Ok(Line::Op(Op::Call(CallOp::CancelSync { to, subtask })))
+        }
+        CallWord::Drop => {
+            let subtask = operand_after(words).ok_or(LineError::Bad)?;
+            Ok(Line::Op(Op::Call(CallOp::Drop { subtask })))
+        }
+    }
+}
+
+#[tactic(auto, unfolding(crate::specs::Line::start_after))]
+fn start_after(alloc: Global, words: &[&[u8]]) -> Result<NamedOp, LineError>
+    ensures { Gives result (start_after (map (λ w. w.now) words.now)) }
+{
+    let (word, words) = words.split_first().ok_or(LineError::Bad)?;
+    let (instance, export) = callee(word).ok_or(LineError::Bad)?;
+    let instance = copied(alloc, instance)?;
+    let export = copied(alloc, export)?;
+    Ok(NamedOp::Start(instance, export, operands(alloc, words)?))
+}
+
+#[tactic(auto, unfolding(crate::specs::Line::finish_after))]
+fn finish_after(words: &[&[u8]]) -> Option<NamedOp>
+    ensures { result ≡ finish_after (map (λ w. w.now) words.now) }
+{
+    let (start, to) = two(words)?;
+    Some(NamedOp::Finish(bounded(start, 4095)? as u32, register(to)?))
+}
+
+#[tactic(auto, unfolding(crate::specs::Line::host_name_after))]
+fn host_name_after(alloc: Global, words: &[&[u8]]) -> Result<Name, LineError>
+    ensures { Gives result (host_name_after (map (λ w. w.now) words.now)) }
+{
+    let name = one(words).ok_or(LineError::Bad)?;
+    if !is_name(name) {
+        return Err(LineError::Bad);
+    }
+    Ok(copied(alloc, name)?)
+}
+
+// The number of a start or of a spawn.
+#[tactic(auto, unfolding(crate::specs::Line::number_after))]
+fn number_after(words: &[&[u8]]) -> Option<u32>
+    ensures { result ≡ number_after (map (λ w. w.now) words.now) }
+{
+    Some(bounded(one(words)?, 4_095)? as u32)
+}
+
+#[tactic(auto, unfolding(crate::specs::Line::ready_after))]
+fn ready_after(alloc: Global, words: &[&[u8]]) -> Result<NamedOp, LineError>
+    ensures { Gives result (ready_after (map (λ w. w.now) words.now)) }
+{
+    let word = one(words).ok_or(LineError::Bad)?;
+    let (instance, export) = callee(word).ok_or(LineError::Bad)?;
+    let instance = copied(alloc, instance)?;
+    Ok(NamedOp::Ready(instance, copied(alloc, export)?))
+}
+
+/// The op of main that the words after its first one complete.
+#[inline(never)]
+#[tactic(auto, unfolding(crate::specs::Line::main_op_after))]
+pub fn main_op_after(alloc: Global, word: MainWord, words: &[&[u8]]) -> Result<NamedOp, LineError>
+    ensures { Gives result (main_op_after word (map (λ w. w.now) words.now)) }
+{
+    match word {
+        MainWord::Start => start_after(alloc, words),
+        MainWord::Finish => finish_after(words).ok_or(LineError::Bad),
+        MainWord::Spawn => Ok(NamedOp::Spawn(host_name_after(alloc, words)?)),
+        MainWord::Abort => Ok(NamedOp::Abort(number_after(words).ok_or(LineError::Bad)?)),
+        MainWord::Await => Ok(NamedOp::Await(number_after(words).ok_or(LineError::Bad)?)),
+        MainWord::Quiet => words
+            .is_empty()
+            .then_some(NamedOp::Quiet)
+            .ok_or(LineError::Bad),
+        MainWord::Ready => ready_after(alloc, words),
+    }
+}

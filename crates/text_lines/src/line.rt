@@ -1,0 +1,162 @@
+//! One line, apart from where it stands.
+ghost use Rattle.std.specs.Prelude.{◌≡◌, map};
+ghost use Rattle.text_lines.specs.Line.{frame_after, line_after, line_at};
+ghost use Rattle.text_lines.specs.Gives.{Gives};
+
+use crate::calls::{call_line_after, main_op_after};
+use crate::fields::numbers;
+use crate::keyword::{FrameWord, Keyword};
+use crate::ops::{data_op_after, operand_after, set_op_after, task_op_after, thread_op_after};
+use crate::parts::{head_after, part_after};
+use crate::words::Name;
+use std::alloc::{AllocError, Global};
+use task_machine::{ExportKind, IdleLine, Op, Operand, Seq};
+
+/// A line of the text's head.
+#[derive(Drop)]
+pub enum HeadLine {
+    Title,
+    Handles(u32),
+    Table(u32),
+    Idle(IdleLine),
+}
+
+/// What a host's work does.
+#[derive(Clone, Copy)]
+pub enum HostWork {
+    /// `polls N value V`: it pends N times and then gives V.
+    Value(u32, u64),
+    /// `polls N fail`: it pends N times and then fails.
+    Fail(u32),
+    /// `never`: it never ends.
+    Never,
+}
+
+/// A line that opens a part of the component.
+#[derive(Drop)]
+pub enum PartLine {
+    Host(Name, HostWork),
+    Instance(Name),
+    /// A name, a kind and a number of parameters.
+    Export(Name, ExportKind, u32),
+    React,
+    /// A slot.
+    Thread(u8),
+    /// A slot.
+    Bad(u8),
+}
+
+/// A callee's name: of an export with its instance, or of a host.
+#[derive(Drop)]
+pub enum CalleeName {
+    Export(Name, Name),
+    Host(Name),
+}
+
+/// A call of a guest, its callee by name.
+#[derive(Drop)]
+pub enum NamedCall {
+    /// The register of the answer, that of the result, the callee and its operands.
+    Call(u8, u8, CalleeName, Seq<Operand>),
+    /// The register of the result, the callee and its operands.
+    CallSync(u8, CalleeName, Seq<Operand>),
+}
+
+/// An op of main, its callee by name: an instance and an export, or a host.
+#[derive(Drop)]
+pub enum NamedOp {
+    Start(Name, Name, Seq<Operand>),
+    Finish(u32, u8),
+    Spawn(Name),
+    Abort(u32),
+    Await(u32),
+    Quiet,
+    Ready(Name, Name),
+}
+
+/// What a line says; names are unresolved.
+#[derive(Drop)]
+pub enum Line {
+    Head(HeadLine),
+    Part(PartLine),
+    /// An op that names no callee.
+    Op(Op),
+    Call(NamedCall),
+    Main,
+    MainOp(NamedOp),
+    Answer(Operand),
+    /// Numbers of spawns.
+    Aborter(Seq<u32>),
+    End,
+}
+
+/// Why no line was read.
+#[derive(Clone, Copy)]
+pub enum LineError {
+    NoMemory,
+    Bad,
+}
+
+impl From<AllocError> for LineError {
+    ghost use Rattle.text_lines.specs.declared.line.LineError.TheVariants.{NoMemory};
+
+    ghost from_gives = { λ _ e. e ≡ NoMemory };
+
+    fn from(_e: AllocError) -> LineError {
+        LineError::NoMemory
+    }
+}
+
+// The line around main's ops that the words after its first one complete.
+#[inline(never)]
+#[tactic(auto, unfolding(crate::specs::Line::frame_after))]
+fn frame_after(alloc: Global, word: FrameWord, words: &[&[u8]]) -> Result<Line, LineError>
+    ensures { Gives result (frame_after word (map (λ w. w.now) words.now)) }
+{
+    match word {
+        FrameWord::Main => words.is_empty().then_some(Line::Main).ok_or(LineError::Bad),
+        FrameWord::Answer => Ok(Line::Answer(operand_after(words).ok_or(LineError::Bad)?)),
+        FrameWord::Aborter => Ok(Line::Aborter(numbers(alloc, words)?)),
+        FrameWord::End => words.is_empty().then_some(Line::End).ok_or(LineError::Bad),
+    }
+}
+
+#[tactic(auto, unfolding(crate::specs::Line::line_after))]
+fn line_after(alloc: Global, keyword: Keyword, words: &[&[u8]]) -> Result<Line, LineError>
+    ensures { Gives result (line_after keyword (map (λ w. w.now) words.now)) }
+{
+    match keyword {
+        Keyword::Head(word) => Ok(Line::Head(head_after(word, words).ok_or(LineError::Bad)?)),
+        Keyword::Part(word) => Ok(Line::Part(part_after(alloc, word, words)?)),
+        Keyword::Data(word) => {
+            let op = data_op_after(word, words).ok_or(LineError::Bad)?;
+            Ok(Line::Op(Op::Data(op)))
+        }
+        Keyword::Task(word) => {
+            let op = task_op_after(word, words).ok_or(LineError::Bad)?;
+            Ok(Line::Op(Op::Task(op)))
+        }
+        Keyword::Set(word) => {
+            let op = set_op_after(word, words).ok_or(LineError::Bad)?;
+            Ok(Line::Op(Op::Set(op)))
+        }
+        Keyword::Call(word) => call_line_after(alloc, word, words),
+        Keyword::Thread(word) => {
+            let op = thread_op_after(word, words).ok_or(LineError::Bad)?;
+            Ok(Line::Op(Op::Thread(op)))
+        }
+        Keyword::Main(word) => Ok(Line::MainOp(main_op_after(alloc, word, words)?)),
+        Keyword::Frame(word) => frame_after(alloc, word, words),
+    }
+}
+
+/// The line that words spell, in the one spelling that it has. Numbers that count earlier lines are
+/// at most 4,095 here.
+#[tactic(auto, unfolding(crate::specs::Line::line_at))]
+pub fn read_line(alloc: Global, words: &[&[u8]]) -> Result<Line, LineError>
+    ensures { Gives result (line_at (map (λ w. w.now) words.now)) }
+{
+    let (word, words) = words.split_first().ok_or(LineError::Bad)?;
+    let keyword = Keyword::from_word(word).ok_or(LineError::Bad)?;
+    line_after(alloc, keyword, words)
+}

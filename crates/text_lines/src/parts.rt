@@ -1,0 +1,141 @@
+//! The lines of the head, and those that open a part of the component.
+ghost use Rattle.std.specs.Prelude.{◌≡◌, map, IfOk};
+ghost use Rattle.text_lines.specs.Line.{head_after, never_after, fail_after, value_after, work_after, host_after, instance_after, export_after, slot_after, part_after};
+ghost use Rattle.text_lines.specs.Gives.{Gives};
+
+use crate::fields::{four, one, three};
+use crate::keyword::{HeadWord, PartWord};
+use crate::line::{HeadLine, HostWork, LineError, PartLine};
+use crate::words::{Name, bounded, export_kind, idle_line, is_name, number};
+use std::alloc::{AllocError, Global};
+use task_machine::Seq;
+
+pub fn copied(alloc: Global, name: &[u8]) -> Result<Name, AllocError>
+    ensures { IfOk result (λ s. s ≡ name.now) }
+{
+    Ok(Seq::from_vec(Vec::from_slice(alloc, name)?))
+}
+
+/// The line of the head that the words after its first one complete.
+#[inline(never)]
+#[tactic(auto, unfolding(crate::specs::Line::head_after))]
+pub fn head_after(word: HeadWord, words: &[&[u8]]) -> Option<HeadLine>
+    ensures { result ≡ head_after word (map (λ w. w.now) words.now) }
+{
+    match word {
+        HeadWord::Scenario => (one(words)? == b"1".as_slice()).then_some(HeadLine::Title),
+        HeadWord::Handles => Some(HeadLine::Handles(bounded(one(words)?, 268_435_455)? as u32)),
+        HeadWord::Table => Some(HeadLine::Table(bounded(one(words)?, 1_000_000)? as u32)),
+        HeadWord::Idle => Some(HeadLine::Idle(idle_line(one(words)?)?)),
+    }
+}
+
+// `never`
+#[tactic(auto, unfolding(crate::specs::Line::never_after))]
+fn never_after(words: &[&[u8]]) -> Option<HostWork>
+    ensures { result ≡ never_after (map (λ w. w.now) words.now) }
+{
+    (one(words)? == b"never".as_slice()).then_some(HostWork::Never)
+}
+
+// `polls N fail`
+#[tactic(auto, unfolding(crate::specs::Line::fail_after))]
+fn fail_after(words: &[&[u8]]) -> Option<HostWork>
+    ensures { result ≡ fail_after (map (λ w. w.now) words.now) }
+{
+    let (first, polls, end) = three(words)?;
+    let polls = bounded(polls, 1_000_000)? as u32;
+    if first != b"polls".as_slice() || end != b"fail".as_slice() {
+        return None;
+    }
+    Some(HostWork::Fail(polls))
+}
+
+// `polls N value V`
+#[tactic(auto, unfolding(crate::specs::Line::value_after))]
+fn value_after(words: &[&[u8]]) -> Option<HostWork>
+    ensures { result ≡ value_after (map (λ w. w.now) words.now) }
+{
+    let (first, polls, end, value) = four(words)?;
+    let polls = bounded(polls, 1_000_000)? as u32;
+    let value = number(value)?;
+    if first != b"polls".as_slice() || end != b"value".as_slice() {
+        return None;
+    }
+    Some(HostWork::Value(polls, value))
+}
+
+#[tactic(auto, unfolding(crate::specs::Line::work_after))]
+fn work_after(words: &[&[u8]]) -> Option<HostWork>
+    ensures { result ≡ work_after (map (λ w. w.now) words.now) }
+{
+    if let Some(work) = never_after(words) {
+        return Some(work);
+    }
+    if let Some(work) = fail_after(words) {
+        return Some(work);
+    }
+    value_after(words)
+}
+
+#[tactic(auto, unfolding(crate::specs::Line::host_after))]
+fn host_after(alloc: Global, words: &[&[u8]]) -> Result<PartLine, LineError>
+    ensures { Gives result (host_after (map (λ w. w.now) words.now)) }
+{
+    let (name, words) = words.split_first().ok_or(LineError::Bad)?;
+    let work = work_after(words).ok_or(LineError::Bad)?;
+    if !is_name(name) {
+        return Err(LineError::Bad);
+    }
+    Ok(PartLine::Host(copied(alloc, name)?, work))
+}
+
+#[tactic(auto, unfolding(crate::specs::Line::instance_after))]
+fn instance_after(alloc: Global, words: &[&[u8]]) -> Result<PartLine, LineError>
+    ensures { Gives result (instance_after (map (λ w. w.now) words.now)) }
+{
+    let name = one(words).ok_or(LineError::Bad)?;
+    if !is_name(name) {
+        return Err(LineError::Bad);
+    }
+    Ok(PartLine::Instance(copied(alloc, name)?))
+}
+
+#[tactic(auto, unfolding(crate::specs::Line::export_after))]
+fn export_after(alloc: Global, words: &[&[u8]]) -> Result<PartLine, LineError>
+    ensures { Gives result (export_after (map (λ w. w.now) words.now)) }
+{
+    let (name, kind, params) = three(words).ok_or(LineError::Bad)?;
+    let kind = export_kind(kind).ok_or(LineError::Bad)?;
+    let params = bounded(params, 16).ok_or(LineError::Bad)? as u32;
+    if !is_name(name) {
+        return Err(LineError::Bad);
+    }
+    Ok(PartLine::Export(copied(alloc, name)?, kind, params))
+}
+
+#[tactic(auto, unfolding(crate::specs::Line::slot_after))]
+fn slot_after(words: &[&[u8]]) -> Option<u8>
+    ensures { result ≡ slot_after (map (λ w. w.now) words.now) }
+{
+    Some(bounded(one(words)?, 15)? as u8)
+}
+
+/// The line that opens a part, completed by the words after its first one.
+#[inline(never)]
+#[tactic(auto, unfolding(crate::specs::Line::part_after))]
+pub fn part_after(alloc: Global, word: PartWord, words: &[&[u8]]) -> Result<PartLine, LineError>
+    ensures { Gives result (part_after word (map (λ w. w.now) words.now)) }
+{
+    match word {
+        PartWord::Host => host_after(alloc, words),
+        PartWord::Instance => instance_after(alloc, words),
+        PartWord::Export => export_after(alloc, words),
+        PartWord::React => words
+            .is_empty()
+            .then_some(PartLine::React)
+            .ok_or(LineError::Bad),
+        PartWord::Thread => Ok(PartLine::Thread(slot_after(words).ok_or(LineError::Bad)?)),
+        PartWord::Bad => Ok(PartLine::Bad(slot_after(words).ok_or(LineError::Bad)?)),
+    }
+}
