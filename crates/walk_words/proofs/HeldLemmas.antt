@@ -5,15 +5,17 @@ use Rattle.std.proofs.lemmas.List.Sorted.{list_any-IsPermutation}
 use Rattle.std.proofs.lemmas.Option.{same_Some, slice_get-map}
 use Rattle.std.specs.List.{list_any}
 use Rattle.std.specs.Option.{option_and_then, option_map, option_map_or}
-use Rattle.std.specs.Prelude.{map}
-use Rattle.task_index.proofs.Members.{IsMembers-nothing, admitted_permute}
+use Rattle.std.specs.Prelude.{IsPermutation, map}
+use Rattle.task_index.proofs.Members.{IsMembers-nothing, admitted_permute, found_permute}
 use Rattle.task_index.proofs.Walks.{IsMembers-walked}
 use Rattle.task_index.specs.Index.{Filing, Tests}
-use Rattle.task_index.specs.Members.{IsMembers, is_held_in}
+use Rattle.task_index.specs.Members.{IsMembers, has, is_held_in}
 use Rattle.task_index.specs.Walks.{passes_in}
-use Rattle.task_links.specs.Links.{IsLinks}
+use Rattle.task_links.specs.Links.{IsLinks, head_of}
+use Rattle.task_links.specs.declared.node.Node.{Node}
+use Rattle.task_machine.specs.Core.{Core}
 use Rattle.task_machine.specs.Maps.{get}
-use Rattle.task_machine.specs.Read.{admitted_held, call_instance, held_why, is_nil}
+use Rattle.task_machine.specs.Read.{admitted_held, call_instance, held_why, instance_of, is_nil}
 use Rattle.task_machine.specs.declared.records.Place.{Place}
 use Rattle.task_machine.specs.declared.records.Place.TheVariants as place
 use Rattle.task_machine.specs.declared.records.Thread.{Thread}
@@ -31,6 +33,7 @@ use Rattle.task_records.specs.declared.threads.GuestThread.{GuestThread}
 use Rattle.task_table.proofs.RecordLemmas.{found_record_at, get-records, record_found}
 use Rattle.task_table.specs.Records.{key_in, number_in, records}
 use Rattle.task_table.specs.Table.{Placed, place_at}
+use Rattle.task_words.specs.Held.{held_in}
 use Rattle.place_words.proofs.FiledLemmas.{places_filed}
 use Rattle.queue_words.proofs.BareLemmas.{place_mapped}
 use Rattle.queue_words.proofs.CallerLemmas.{apart_as, none_as}
@@ -90,6 +93,34 @@ none_in false = refl
 pub held_chain : (a : CoreParts) (i : ℕ) (r : InstanceRecord) → Some r ≡ slice_get a.instances.items i → place_chain (bare (parts_of a)) (HeldIn i) ≡ Some r.held
 held_chain a i r is = ap (option_map (λ (x : InstanceRecord). x.held)) (slice_get-map bare_record a.instances.items i ∙ ap (option_map bare_record) (sym is))
 
+-- a list of just those that pass loses none by the test
+all_pass : (test : ℕ → Bool) (ns : List ℕ) → ((n : ℕ) → has n ns ≡ test n) → list_any (λ n. true) (filter test ns) ≡ not (is_nil ns)
+all_pass test [] are = refl
+all_pass test (n ∷ ns) are =
+    ap (λ b. list_any (λ k. true) (cond b (n ∷ filter test ns) (filter test ns))) (sym (are n) ∙ ap (λ b. b || has n ns) (eq-eqb n n refl))
+
+held_permute : (i : ℕ) (s : Core) (list : List ℕ) → IsMembers (is_held_in i s) list → IsPermutation (held_in i s) (filter (is_held_in i s) list)
+held_permute i s list members = found_permute s.threads (is_held_in i s) (is_held_in i s) list members (λ n. found n (get s.threads n))
+  where
+    none : (b : Bool) → false ≡ ((b && false) && (b && false))
+    none true = refl
+    none false = refl
+
+    twice : (b : Bool) → b ≡ (b && b)
+    twice true = refl
+    twice false = refl
+
+    found : (n : ℕ) (o : Option Thread) → (is_some o && ((instance_of n s == i) && is_some (option_and_then held_why (option_map (λ t. t.place) o)))) ≡ (((instance_of n s == i) && is_some (option_and_then held_why (option_map (λ t. t.place) o))) && ((instance_of n s == i) && is_some (option_and_then held_why (option_map (λ t. t.place) o))))
+    found n None = none (instance_of n s == i)
+    found n (Some t) = twice ((instance_of n s == i) && is_some (held_why t.place))
+
+-- what is first tells whether there is any
+pub first_is_any : {X : Type 0} (f : ℕ × X → ℕ) (es : List (ℕ × X)) (r : Option (Node × X)) → option_map (λ e. (e.0.index, e.1)) r ≡ head_of es → is_some r ≡ not (is_nil (map f es))
+first_is_any f [] None is = refl
+first_is_any f [] (Some e) is = absurd (cc)
+first_is_any f (e ∷ es) None is = absurd (cc)
+first_is_any f (e ∷ es) (Some d) is = refl
+
 module _ (a : CoreParts) (sound : IsSound a) where
   home_at : (r : ℕ) (q : Placed (Single GuestThread)) → place_at a.threads r ≡ Some q → HasHome (bare (parts_of a)) (bare_thread q.entry.item)
   unfolding IsSound
@@ -145,6 +176,14 @@ module _ (a : CoreParts) (sound : IsSound a) where
       some_left (is_admitted i (seen a).core) list
       ∙ (sym (list_any-IsPermutation (λ n. true) (admitted_held i (seen a).core) (filter (is_admitted i (seen a).core) list) (admitted_permute i (seen a).core list members))
       ∙ not_nil (admitted_held i (seen a).core))
+
+  -- ---- Whether some are held
+
+  pub any_held : (i : ℕ) (list : List ℕ) → IsMembers (is_held_in i (seen a).core) list → not (is_nil list) ≡ not (is_nil (held_in i (seen a).core))
+  any_held i list members =
+      sym (all_pass (is_held_in i (seen a).core) list members.are)
+      ∙ (sym (list_any-IsPermutation (λ n. true) (held_in i (seen a).core) (filter (is_held_in i (seen a).core) list) (held_permute i (seen a).core list members))
+      ∙ not_nil (held_in i (seen a).core))
 
   -- in an instance that isn't there nobody is held
   pub nobody_held : (i : ℕ) → None ≡ slice_get a.instances.items i → IsMembers (is_held_in i (seen a).core) []
