@@ -14,6 +14,4 @@ mod scenario;
 #[cfg(test)]
 mod state;
 #[cfg(test)]
-mod state_calls;
-#[cfg(test)]
 mod store;
