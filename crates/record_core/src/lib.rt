@@ -9,6 +9,7 @@ mod places;
 mod queues;
 mod results;
 mod sets;
+mod state;
 mod subtasks;
 mod task_core;
 mod threads;

@@ -1,4 +1,5 @@
-ghost use Rattle.std.specs.Prelude.{◌≡◌};
+ghost use Rattle.std.specs.Prelude.{◌≡◌, is_some};
+ghost use Rattle.task_machine.specs.Maps.{get};
 ghost use Rattle.task_machine.specs.Read.{backpressure_of, may_not_enter, may_not_suspend, word_of};
 ghost use Rattle.task_machine.specs.Write.{set_backpressure, set_do_not_enter, set_do_not_suspend, set_word};
 ghost use Rattle.task_records.specs.Seen.{IsSound, seen};
@@ -6,6 +7,13 @@ ghost use Rattle.task_words.specs.StateView.{on_core};
 
 use crate::words::{put_word, word_in};
 use task_records::CoreParts;
+
+/// Whether there is such an instance.
+pub fn has_instance(parts: &CoreParts, instance: u32) -> bool
+    ensures { result ≡ is_some (get (seen parts.now).core.instances instance) }
+{
+    task_records::instance(parts, instance).is_some()
+}
 
 pub fn backpressure(parts: &CoreParts, instance: u32) -> u16
     ensures { result ≡ backpressure_of instance (seen parts.now).core }

@@ -19,7 +19,7 @@ pub use calls::{
 };
 pub use handles::{new_handle, new_thread_handle, set_at, subtask_at, thread_at};
 pub use instances::{
-    backpressure, may_not_enter, may_not_suspend, set_backpressure, set_do_not_enter,
+    backpressure, has_instance, may_not_enter, may_not_suspend, set_backpressure, set_do_not_enter,
     set_do_not_suspend, set_word, word,
 };
 pub use names::{caller, how_far, join, work_caller};

@@ -11,10 +11,9 @@ ghost use Rattle.task_words.specs.StateView.{on_core, thread_of};
 
 use crate::error::TaskError;
 use crate::names::{QualifiedThreadId, qualified};
-use crate::words::StateWords;
 use task_machine::{Delivery, Mark, Why};
 use task_moves::{put_high, put_low, put_switch};
-use task_words::{DeliveryId, EntryId, ThreadId, WhyId, Words, WorkId};
+use task_words::{DeliveryId, EntryId, StateWords, ThreadId, WhyId, Words, WorkId};
 
 /// What is queued.
 #[derive(Clone, Copy)]

@@ -3,8 +3,7 @@ ghost use Rattle.std.specs.Prelude.{◌≡◌};
 ghost use Rattle.state_calls.specs.Instances.{instance_state};
 ghost use Rattle.state_calls.specs.declared.instances.ConcurrentInstanceState.{ConcurrentInstanceState};
 
-use crate::words::StateWords;
-use task_words::Words;
+use task_words::{StateWords, Words};
 
 /// What a host may know of an instance.
 #[derive(Clone, Copy)]

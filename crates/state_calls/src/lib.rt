@@ -13,7 +13,6 @@ mod joins;
 mod names;
 mod promotions;
 mod stops;
-mod words;
 
 pub use ends::cleanup_thread;
 pub use entries::{Item, push_work_item, take_item};
@@ -25,4 +24,3 @@ pub use joins::join;
 pub use names::{QualifiedThreadId, is_live};
 pub use promotions::{promote_instance_local_thread_work_item, promote_thread_work_item};
 pub use stops::stop;
-pub use words::StateWords;

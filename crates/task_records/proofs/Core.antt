@@ -20,7 +20,7 @@ pub use Rattle.std.specs.List.{list_any}
 pub use Rattle.std.specs.Map.{lookup}
 pub use Rattle.std.specs.Option.{option_and_then, option_map, option_map_or, unwrap_or}
 pub use Rattle.std.specs.Ordering.{eq_by_cmp, is_eq, is_le, is_lt, nat_cmp, ordering_then}
-pub use Rattle.std.specs.Prelude.{Bool, Err, IfSome, if◌then◌else◌, is_some, IsSome, map, None, Ok, OnErr, OnOk, Option, Result, slice_get, slice_set, Some, Vec, ℕ, ◌&&◌, ◌==◌, ◌≤◌}
+pub use Rattle.std.specs.Prelude.{Bool, Err, IfSome, if◌then◌else◌, is_some, IsPermutation, IsSome, map, None, Ok, OnErr, OnOk, Option, Result, slice_get, slice_set, Some, Vec, ℕ, ◌&&◌, ◌==◌, ◌≤◌}
 pub use Rattle.std.specs.Vec.{with_item}
 pub use Rattle.task_handles.specs.Counted.{Inserts, Removes}
 pub use Rattle.task_handles.specs.Counter.{Counter}
@@ -30,7 +30,7 @@ pub use Rattle.task_index.proofs.Counts.{passing-with_at}
 pub use Rattle.task_index.proofs.Entries.{IsIndex-pushed, IsIndex-with_entry, IsIndex-with_entry_same}
 pub use Rattle.task_index.proofs.Indexes.{filed_held, IsIndex-made, IsIndex-nothing, IsIndex-rechained, IsIndex-same, IsIndex-same_chains, link_says, new_for_chains}
 pub use Rattle.task_index.proofs.Lists.{Each-less_by, Each-more, filter-append, filter-none, filter-one}
-pub use Rattle.task_index.proofs.Members.{admitted_permute, IsMembers-filter, IsMembers-nothing, IsMembers-numbers}
+pub use Rattle.task_index.proofs.Members.{admitted_permute, found_permute, IsMembers-filter, IsMembers-nothing, IsMembers-numbers}
 pub use Rattle.task_index.proofs.Refilings.{first_link, first_made, free_unlinked, refiled_free, Refiles-changed, Refiles-linked, Refiles-removed, Refiles-twice}
 pub use Rattle.task_index.proofs.Rows.{free_in_none, IsRows-made, IsRows-opened, IsRows-pushed, IsRows-pushed_first, IsRows-removed, IsRows-renamed, IsRows-same, less_elsewhere, no_chain, values_are}
 pub use Rattle.task_index.proofs.Tables.{filings-deleted_here, filings-deleted_other, filings_at, held_passes, none_in_records, none_passes}

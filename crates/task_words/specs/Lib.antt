@@ -3,3 +3,4 @@ pub mod Names
 pub mod Live
 pub mod Apart
 pub mod Context
+pub mod Held

@@ -1,7 +1,9 @@
 -- The chain of an instance's held threads has just these.
-use Rattle.task_records.proofs.Core.{[], admitted_held, admitted_permute, ap, bare, bare_thread, Bool, call_instance, cond, eq-eqb, eqb-true, false, Filing, filter, found_record_at, get, get-records, HasHome, held_why, HeldIn, is_held_in, is_nil, is_some, IsLinks, IsMembers, IsMembers-nothing, IsMembers-walked, IsSome, IsSound, key_in, List, list_any, map, None, not, number_in, on_item, Option, option_and_then, option_map, option_map_or, parts_of, passes_in, Place, place_at, place_chain, place_filing, Placed, record_found, records, refl, same_Some, seen, slice_get, slice_get-map, Some, subst, sym, Tests, Thread, thread_key, true, Where, where_at, ℕ, ◌&&◌, ◌==◌, ◌||◌, ◌∙◌, ◌∷◌, ◌≡◌}
+use Rattle.task_records.proofs.Core.{[], admitted_held, admitted_permute, ap, bare, bare_thread, Bool, call_instance, cond, Core, eq-eqb, eqb-true, false, Filing, filter, found_permute, found_record_at, get, get-records, has, HasHome, head_of, held_why, HeldIn, instance_of, is_held_in, is_nil, is_some, IsLinks, IsMembers, IsMembers-nothing, IsMembers-walked, IsPermutation, IsSome, IsSound, key_in, List, list_any, map, None, not, number_in, on_item, Option, option_and_then, option_map, option_map_or, parts_of, passes_in, Place, place_at, place_chain, place_filing, Placed, record_found, records, refl, same_Some, seen, slice_get, slice_get-map, Some, subst, sym, Tests, Thread, thread_key, true, Where, where_at, ℕ, ◌&&◌, ◌==◌, ◌||◌, ◌∙◌, ◌∷◌, ◌≡◌}
 use Rattle.std.proofs.lemmas.List.Sorted.{list_any-IsPermutation}
+use Rattle.task_links.specs.declared.node.Node.{Node}
 use Rattle.task_records.specs.declared.{instances.InstanceRecord.InstanceRecord, parts.CoreParts.CoreParts, single.Single.Single, threads.GuestThread.GuestThread}
+use Rattle.task_words.specs.Held.{held_in}
 use Rattle.task_records.proofs.HomeLemmas.{bare_instance}
 use Rattle.task_records.specs.Sound.{bare_instance as bare_record}
 use Rattle.place_words.proofs.FiledLemmas.{places_filed}
@@ -63,6 +65,34 @@ none_in false = refl
 pub held_chain : (a : CoreParts) (i : ℕ) (r : InstanceRecord) → Some r ≡ slice_get a.instances.items i → place_chain (bare (parts_of a)) (HeldIn i) ≡ Some r.held
 held_chain a i r is = ap (option_map (λ (x : InstanceRecord). x.held)) (slice_get-map bare_record a.instances.items i ∙ ap (option_map bare_record) (sym is))
 
+-- a list of just those that pass loses none by the test
+all_pass : (test : ℕ → Bool) (ns : List ℕ) → ((n : ℕ) → has n ns ≡ test n) → list_any (λ n. true) (filter test ns) ≡ not (is_nil ns)
+all_pass test [] are = refl
+all_pass test (n ∷ ns) are =
+    ap (λ b. list_any (λ k. true) (cond b (n ∷ filter test ns) (filter test ns))) (sym (are n) ∙ ap (λ b. b || has n ns) (eq-eqb n n refl))
+
+held_permute : (i : ℕ) (s : Core) (list : List ℕ) → IsMembers (is_held_in i s) list → IsPermutation (held_in i s) (filter (is_held_in i s) list)
+held_permute i s list members = found_permute s.threads (is_held_in i s) (is_held_in i s) list members (λ n. found n (get s.threads n))
+  where
+    none : (b : Bool) → false ≡ ((b && false) && (b && false))
+    none true = refl
+    none false = refl
+
+    twice : (b : Bool) → b ≡ (b && b)
+    twice true = refl
+    twice false = refl
+
+    found : (n : ℕ) (o : Option Thread) → (is_some o && ((instance_of n s == i) && is_some (option_and_then held_why (option_map (λ t. t.place) o)))) ≡ (((instance_of n s == i) && is_some (option_and_then held_why (option_map (λ t. t.place) o))) && ((instance_of n s == i) && is_some (option_and_then held_why (option_map (λ t. t.place) o))))
+    found n None = none (instance_of n s == i)
+    found n (Some t) = twice ((instance_of n s == i) && is_some (held_why t.place))
+
+-- what is first tells whether there is any
+pub first_is_any : {X : Type 0} (f : ℕ × X → ℕ) (es : List (ℕ × X)) (r : Option (Node × X)) → option_map (λ e. (e.0.index, e.1)) r ≡ head_of es → is_some r ≡ not (is_nil (map f es))
+first_is_any f [] None is = refl
+first_is_any f [] (Some e) is = absurd (cc)
+first_is_any f (e ∷ es) None is = absurd (cc)
+first_is_any f (e ∷ es) (Some d) is = refl
+
 module _ (a : CoreParts) (sound : IsSound a) where
   home_at : (r : ℕ) (q : Placed (Single GuestThread)) → place_at a.threads r ≡ Some q → HasHome (bare (parts_of a)) (bare_thread q.entry.item)
   unfolding IsSound
@@ -118,6 +148,14 @@ module _ (a : CoreParts) (sound : IsSound a) where
       some_left (is_admitted i (seen a).core) list
       ∙ (sym (list_any-IsPermutation (λ n. true) (admitted_held i (seen a).core) (filter (is_admitted i (seen a).core) list) (admitted_permute i (seen a).core list members))
       ∙ not_nil (admitted_held i (seen a).core))
+
+  -- ---- Whether some are held
+
+  pub any_held : (i : ℕ) (list : List ℕ) → IsMembers (is_held_in i (seen a).core) list → not (is_nil list) ≡ not (is_nil (held_in i (seen a).core))
+  any_held i list members =
+      sym (all_pass (is_held_in i (seen a).core) list members.are)
+      ∙ (sym (list_any-IsPermutation (λ n. true) (held_in i (seen a).core) (filter (is_held_in i (seen a).core) list) (held_permute i (seen a).core list members))
+      ∙ not_nil (held_in i (seen a).core))
 
   -- in an instance that isn't there nobody is held
   pub nobody_held : (i : ℕ) → None ≡ slice_get a.instances.items i → IsMembers (is_held_in i (seen a).core) []

@@ -6,6 +6,7 @@ ghost use Rattle.task_machine.specs.Moves.{held_why_of};
 ghost use Rattle.task_machine.specs.Read.{admits, admitted_held, is_held_admitted, is_nil};
 ghost use Rattle.task_machine.specs.declared.records.Why.TheVariants as whys;
 ghost use Rattle.task_records.specs.Seen.{IsSound, seen};
+ghost use Rattle.task_words.specs.Held.{held_in};
 ghost use Rattle.task_words.specs.StateView.{thread_of};
 ghost use Rattle.walk_words.specs.Walks.{of_chain};
 
@@ -79,6 +80,26 @@ pub fn has_admitted(parts: &CoreParts, instance: u32) -> bool
 {
     match task_records::instance(parts, instance) {
         Some(found) => some_admitted(parts, instance, found.held),
+        None => false,
+    }
+}
+
+// Whether some thread is in the chain.
+fn has_any(parts: &CoreParts, chain: usize) -> bool
+    requires { IsSome (list_of parts.now.places chain) }
+    ensures is { result ≡ not (is_nil (of_chain parts.now chain)) }
+    ensures links { IsLinks parts.now.places }
+{
+    parts.places.first(chain).is_some()
+}
+
+/// Whether some thread of the instance is held.
+pub fn has_held(parts: &CoreParts, instance: u32) -> bool
+    requires { IsSound parts.now }
+    ensures { result ≡ not (is_nil (held_in instance (seen parts.now).core)) }
+{
+    match task_records::instance(parts, instance) {
+        Some(found) => has_any(parts, found.held),
         None => false,
     }
 }

@@ -8,7 +8,7 @@ mod least;
 mod polls;
 mod releases;
 
-pub use admissions::has_admitted;
+pub use admissions::{has_admitted, has_held};
 pub use least::{blocked_on, under};
 pub use polls::next_polled;
 pub use releases::release;

@@ -24,7 +24,7 @@ fn push_of(place: u32, work: HostWork) -> Queued
 }
 
 /// Queues the push of a work.
-pub(crate) fn queue_push(parts: &mut CoreParts, work: WorkId)
+pub fn queue_push(parts: &mut CoreParts, work: WorkId)
     requires sound { IsSound parts.old }
     requires live { 0 < work_of (seen parts.old) work }
     requires unqueued { work_entries (work_of (seen parts.old) work) (seen parts.old).core.queues.high ≡ 0 }

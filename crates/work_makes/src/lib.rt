@@ -11,4 +11,5 @@ mod requests;
 mod works;
 
 pub use calls::queue_call;
+pub use entries::queue_push;
 pub use queued::{queue_spawn, queue_sync_call};

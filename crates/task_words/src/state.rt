@@ -1,15 +1,16 @@
-//! What these calls ask of a core beside the words of the machine's steps.
-ghost use Rattle.std.specs.Prelude.{◌≡◌, ◌<◌, is_some};
-ghost use Rattle.state_calls.specs.Instances.{has_held};
+ghost use Rattle.std.specs.Prelude.{◌≡◌, ◌<◌, is_some, not};
 ghost use Rattle.task_machine.specs.Maps.{get};
+ghost use Rattle.task_machine.specs.Read.{is_nil};
 ghost use Rattle.task_machine.specs.Write.{push_high};
 ghost use Rattle.task_machine.specs.declared.records.Entry.TheVariants as entries;
 ghost use Rattle.task_words.specs.Apart.{work_entries};
+ghost use Rattle.task_words.specs.Held.{held_in};
 ghost use Rattle.task_words.specs.StateView.{on_core, work_of};
 
-use task_words::{View, WorkId};
+use crate::names::WorkId;
+use crate::view::View;
 
-/// Words that no step of the machine needs.
+/// Words that no step of the machine needs, and calls of a host do.
 pub trait StateWords: View {
     /// Whether there is such an instance.
     fn has_instance(&self, instance: u32) -> bool
@@ -17,7 +18,7 @@ pub trait StateWords: View {
 
     /// Whether some thread of the instance is held.
     fn has_held(&self, instance: u32) -> bool
-        ensures { result ≡ has_held instance (Self.view self.now).core };
+        ensures { result ≡ not (is_nil (held_in instance (Self.view self.now).core)) };
 
     /// Queues the push of a work that was made before.
     fn push_work(&mut self, work: WorkId)
