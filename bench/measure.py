@@ -16,6 +16,8 @@ import sys
 import tempfile
 import time
 
+import texts
+
 TOP = os.path.dirname(os.path.dirname(os.path.abspath(__file__)))
 HEAD = "scenario 1\nhandles 100000\ntable 1000000\nidle trap\ninstance a\nexport f callback 1\n"
 TAIL = "main\nstart a.f 18446744073709551615\nfinish 1 r0\nanswer r0\nend\n"
@@ -32,6 +34,7 @@ def cases():
     yield "longest script of long lines", ["run", "2"], HEAD + "\n".join(ops) + "\n" + TAIL
     yield "256 starts of plain ops", ["run", "1000000"], HEAD + script(4096) + starts(256)
     yield "longest text", ["run", "1"], longest(1_048_576)
+    yield from texts.all_texts()
 
 
 def script(length):

@@ -1,25 +1,39 @@
 -- Calls of hosts, and the works that they make.
-use Rattle.std.proofs.Common.{ap, refl, sym, ◌∙◌}
-use Rattle.std.specs.Prelude.{Bool, List, None, Option, Some, false, not, option_map, true, ℕ, ◌≡◌, ◌⊎◌}
+use Rattle.std.proofs.Common.{ap, refl, subst, sym, ◌∙◌}
+use Rattle.std.specs.Prelude.{Bool, IfOk, List, None, Option, Result, Some, false, not, option_map, true, ℕ, ◌≡◌, ◌⊎◌}
+use Rattle.op_dispatch.proofs.StayLemmas.{ok_then}
+use Rattle.op_dispatch.specs.Polls.{polled_host}
+use Rattle.op_dispatch.specs.Runner.{awaits_end, called_call, called_work, given_answer, waits_behind}
 use Rattle.subtask_ops.specs.Queued.{queued_work}
 use Rattle.task_machine.specs.Core.{Core}
-use Rattle.task_machine.specs.Maps.{Records}
 use Rattle.task_machine.specs.Moves.{passes_check}
-use Rattle.task_machine.specs.Read.{at_handle_limit, fits, instance_of, new_handle}
+use Rattle.task_machine.specs.Read.{at_handle_limit, fits, instance_of, is_async_lifted, new_handle}
 use Rattle.task_machine.specs.Statuses.{packed}
-use Rattle.task_machine.specs.Write.{count_work, on_thread, set_register}
+use Rattle.task_machine.specs.Write.{count_work, on_thread, set_how_far, set_position, set_register}
+use Rattle.task_machine.specs.declared.component.Callee.{Callee}
+use Rattle.task_machine.specs.declared.component.Component.{Component}
+use Rattle.task_machine.specs.declared.component.ExportKind.{ExportKind}
 use Rattle.task_machine.specs.declared.label.CallLabel.TheVariants as call_label
 use Rattle.task_machine.specs.declared.label.Label.TheVariants as label
-use Rattle.task_machine.specs.declared.records.Work.{Work}
+use Rattle.task_machine.specs.declared.memory.NoMemory.{NoMemory}
+use Rattle.task_machine.specs.declared.op.CallOp.TheVariants as call_op
+use Rattle.task_machine.specs.declared.op.Op.TheVariants as op
+use Rattle.task_machine.specs.declared.records.Goal.TheVariants as goal
+use Rattle.task_machine.specs.declared.records.HowFar.{HowFar}
+use Rattle.task_machine.specs.declared.records.HowFar.TheVariants as how_far
+use Rattle.task_machine.specs.declared.records.Subtask.{Subtask}
+use Rattle.task_machine.specs.declared.records.Subtask.TheVariants as subtask
 use Rattle.task_machine.specs.declared.trap.Trap.{Trap}
 use Rattle.task_machine.specs.declared.trap.Trap.TheVariants as trap
 use Rattle.task_machine.specs.declared.words.Status.TheVariants as status
 use Rattle.task_ops.specs.Came.{Meets}
 use Rattle.task_ops.specs.declared.came.Came.{Came}
 use Rattle.task_ops.specs.declared.came.Came.TheVariants as came
-use Rattle.task_rules.specs.Calls.{AtOnce, Failing, FirstPoll, Later, call_host_polled, call_sync_host_polled, call_sync_host_stops, host_answered, host_pending, host_ready, next_work}
+use Rattle.task_rules.specs.Calls.{AtOnce, Failing, FirstPoll, Later, call_begins, call_host_polled, call_row, call_sync_begins, call_sync_host_polled, call_sync_host_row, call_sync_host_stops, call_sync_row, first_poll, host_answered, host_pending, host_ready, next_work}
+use Rattle.task_rules.specs.Cancels.{Mode, cancel_row}
 use Rattle.task_rules.specs.Data.{advanced, assigned, moved_to}
 use Rattle.task_rules.specs.Progress.{Goes, Progress, Stops, trap_if}
+use Rattle.task_rules.specs.Scripts.{export_kind, host_at}
 
 -- ---- No work is made where none is queued
 
@@ -34,11 +48,11 @@ module _ (s t : Core) where
   tested host false false x y p r go h none = go h none
 
   ready_works : (n r q v : ℕ) → (host_ready n r q v s).works ≡ s.works
-  unfolding host_ready assigned advanced moved_to set_register on_thread count_work
+  unfolding host_ready assigned advanced moved_to set_how_far set_position set_register on_thread count_work
   ready_works n r q v = refl
 
   answered_works : (n r v : ℕ) → (host_answered n r v s).works ≡ s.works
-  unfolding host_answered assigned advanced moved_to set_register on_thread count_work
+  unfolding host_answered assigned advanced moved_to set_how_far set_position set_register on_thread count_work
   answered_works n r v = refl
 
   pub host_makes_none : (n r q : ℕ) (p : FirstPoll) (o : Came) → Meets (call_host_polled n r q s p) s o t → queued_work p o s ≡ None → t.works ≡ s.works
@@ -61,3 +75,90 @@ module _ (s t : Core) where
     where
       queues : Some (next_work s) ≡ None → ⊥
       queues e = absurd (cc)
+
+-- ---- By how far the op has come
+
+pub called_at : (h : HowFar) (k : ℕ) → called_call h ≡ Some k → h ≡ how_far.Calls (subtask.Guest k)
+called_at (how_far.Calls (subtask.Guest j)) k e = cc
+called_at h k e = absurd (cc)
+
+pub served_at : (h : HowFar) (i : ℕ) → called_work h ≡ Some i → h ≡ how_far.Calls (subtask.Host i)
+served_at (how_far.Calls (subtask.Host j)) i e = cc
+served_at h i e = absurd (cc)
+
+pub answered_at : (h : HowFar) (v : ℕ) → given_answer h ≡ Some v → h ≡ how_far.Answered v
+answered_at (how_far.Answered w) v e = cc
+answered_at h v e = absurd (cc)
+
+module _ (c : Component) (n r : ℕ) (s : Core) where
+  pub call_fresh : (q : ℕ) (e : Callee) (words : List ℕ) (h : HowFar) → called_call h ≡ None → call_row c n r q e words s h ≡ call_begins c n e (goal.Register q) words s
+  call_fresh q e words (how_far.Calls (subtask.Guest k)) none = absurd (cc)
+  call_fresh q e words (how_far.Calls (subtask.Host i)) none = refl
+  call_fresh q e words how_far.Fresh none = refl
+  call_fresh q e words (how_far.Waits x) none = refl
+  call_fresh q e words (how_far.Answered v) none = refl
+  call_fresh q e words (how_far.Cancels sub) none = refl
+  call_fresh q e words (how_far.AwaitsEnd sub) none = refl
+  call_fresh q e words how_far.Suspends none = refl
+  call_fresh q e words how_far.Yields none = refl
+
+  pub call_sync_fresh : (e : Callee) (words : List ℕ) (h : HowFar) → given_answer h ≡ None → called_call h ≡ None → call_sync_row c n r e words s h ≡ call_sync_begins c n e words s (is_async_lifted (export_kind c e))
+  call_sync_fresh e words (how_far.Calls (subtask.Guest k)) a b = absurd (cc)
+  call_sync_fresh e words (how_far.Calls (subtask.Host i)) a b = refl
+  call_sync_fresh e words how_far.Fresh a b = refl
+  call_sync_fresh e words (how_far.Waits x) a b = refl
+  call_sync_fresh e words (how_far.Answered v) a b = absurd (cc)
+  call_sync_fresh e words (how_far.Cancels sub) a b = refl
+  call_sync_fresh e words (how_far.AwaitsEnd sub) a b = refl
+  call_sync_fresh e words how_far.Suspends a b = refl
+  call_sync_fresh e words how_far.Yields a b = refl
+
+  pub sync_host_fresh : (i : ℕ) (h : HowFar) → called_work h ≡ None → call_sync_host_row c n r i s h ≡ call_sync_host_polled n r s (first_poll (host_at c i))
+  sync_host_fresh i (how_far.Calls (subtask.Guest k)) none = refl
+  sync_host_fresh i (how_far.Calls (subtask.Host j)) none = absurd (cc)
+  sync_host_fresh i how_far.Fresh none = refl
+  sync_host_fresh i (how_far.Waits x) none = refl
+  sync_host_fresh i (how_far.Answered v) none = refl
+  sync_host_fresh i (how_far.Cancels sub) none = refl
+  sync_host_fresh i (how_far.AwaitsEnd sub) none = refl
+  sync_host_fresh i how_far.Suspends none = refl
+  sync_host_fresh i how_far.Yields none = refl
+
+  pub polled_fresh : (i : ℕ) (h : HowFar) → called_work h ≡ None → polled_host c h (op.Call (call_op.CallSyncHost r i)) ≡ Some (host_at c i)
+  polled_fresh i (how_far.Calls (subtask.Guest k)) none = refl
+  polled_fresh i (how_far.Calls (subtask.Host j)) none = absurd (cc)
+  polled_fresh i how_far.Fresh none = refl
+  polled_fresh i (how_far.Waits x) none = refl
+  polled_fresh i (how_far.Answered v) none = refl
+  polled_fresh i (how_far.Cancels sub) none = refl
+  polled_fresh i (how_far.AwaitsEnd sub) none = refl
+  polled_fresh i how_far.Suspends none = refl
+  polled_fresh i how_far.Yields none = refl
+
+-- ---- Cancels
+
+pub behind_at : (h : HowFar) (sub : Subtask) → waits_behind h ≡ Some sub → h ≡ how_far.Cancels sub
+behind_at (how_far.Cancels other) sub e = cc
+behind_at h sub e = absurd (cc)
+
+pub awaits_at : (h : HowFar) (sub : Subtask) → awaits_end h ≡ Some sub → h ≡ how_far.AwaitsEnd sub
+awaits_at (how_far.AwaitsEnd other) sub e = cc
+awaits_at h sub e = absurd (cc)
+
+pub cancel_fresh : (mode : Mode) (n r h : ℕ) (s : Core) (f : HowFar) → waits_behind f ≡ None → awaits_end f ≡ None → cancel_row mode n r h s f ≡ cancel_row mode n r h s how_far.Fresh
+cancel_fresh mode n r h s (how_far.Cancels sub) a b = absurd (cc)
+cancel_fresh mode n r h s (how_far.AwaitsEnd sub) a b = absurd (cc)
+cancel_fresh mode n r h s how_far.Fresh a b = refl
+cancel_fresh mode n r h s (how_far.Waits x) a b = refl
+cancel_fresh mode n r h s (how_far.Calls sub) a b = refl
+cancel_fresh mode n r h s (how_far.Answered v) a b = refl
+cancel_fresh mode n r h s how_far.Suspends a b = refl
+cancel_fresh mode n r h s how_far.Yields a b = refl
+
+-- ---- A sync call of an export begins
+
+pub begins_sync : (c : Component) (n r : ℕ) (e : Callee) (words given : List ℕ) (h : HowFar) (s t : Core) (kind : ExportKind) → kind ≡ export_kind c e → words ≡ given → given_answer h ≡ None → called_call h ≡ None → (o : Result Came NoMemory)
+    → IfOk o (λ (x : Came). (d : Component) → export_kind d e ≡ kind → Meets (call_sync_begins d n e words s (is_async_lifted (export_kind d e))) s x t) → IfOk o (λ (x : Came). Meets (call_sync_row c n r e given s h) s x t)
+begins_sync c n r e words given h s t kind is same a b o all =
+    ok_then (λ (x : Came). (d : Component) → export_kind d e ≡ kind → Meets (call_sync_begins d n e words s (is_async_lifted (export_kind d e))) s x t) (λ (x : Came). Meets (call_sync_row c n r e given s h) s x t) o
+    (λ x f. subst (λ (p : Progress). Meets p s x t) (sym (call_sync_fresh c n r s e given h a b)) (subst (λ (ws : List ℕ). Meets (call_sync_begins c n e ws s (is_async_lifted (export_kind c e))) s x t) same (f c (sym is)))) all

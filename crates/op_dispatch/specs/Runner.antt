@@ -1,5 +1,5 @@
 -- The thread that runs, as its ops need it.
-use Rattle.std.specs.Prelude.{Bool, IsSome, Some, false, is_some, true, ℕ, ◌<◌, ◌≡◌, ◌||◌}
+use Rattle.std.specs.Prelude.{Bool, IsSome, None, Option, Some, false, is_some, true, ℕ, ◌<◌, ◌≡◌, ◌||◌}
 use Rattle.subtask_ops.specs.Named.{CallsThere, StartsThere}
 use Rattle.task_laws.specs.Order.{StartsAwaited, WorksQueued}
 use Rattle.task_machine.specs.Core.{Core}
@@ -7,6 +7,7 @@ use Rattle.task_machine.specs.Maps.{get}
 use Rattle.task_machine.specs.Read.{goal_of, how_far_of, instance_of, is_direct, is_explicit, task_of, under_of}
 use Rattle.task_machine.specs.declared.records.HowFar.{HowFar}
 use Rattle.task_machine.specs.declared.records.HowFar.TheVariants as how_far
+use Rattle.task_machine.specs.declared.records.Subtask.{Subtask}
 use Rattle.task_machine.specs.declared.records.Subtask.TheVariants as subtask
 use Rattle.task_machine.specs.declared.records.Thread.{Thread}
 use Rattle.task_machine.specs.declared.op.ThreadOp.{ThreadOp}
@@ -30,6 +31,30 @@ is_resumed _ = false
 -- an op inside which a thread may be resumed
 abbrev pub is_halting : ThreadOp → Bool
 is_halting o = suspends o || yields o
+
+-- the call that the op is inside of
+abbrev pub called_call : HowFar → Option ℕ
+called_call (how_far.Calls (subtask.Guest k)) = Some k
+called_call _ = None
+
+-- the host work that it is inside of
+abbrev pub called_work : HowFar → Option ℕ
+called_work (how_far.Calls (subtask.Host i)) = Some i
+called_work _ = None
+
+-- the answer that it was given
+abbrev pub given_answer : HowFar → Option ℕ
+given_answer (how_far.Answered v) = Some v
+given_answer _ = None
+
+-- the subtask behind whose callee a cancel waits, and the one whose end it awaits
+abbrev pub waits_behind : HowFar → Option Subtask
+waits_behind (how_far.Cancels sub) = Some sub
+waits_behind _ = None
+
+abbrev pub awaits_end : HowFar → Option Subtask
+awaits_end (how_far.AwaitsEnd sub) = Some sub
+awaits_end _ = None
 
 -- What the op under way is about is there, and the ready members of a set are named in the thread's instance. The work of a host call has
 -- no entry any more.

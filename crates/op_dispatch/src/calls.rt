@@ -2,8 +2,8 @@
 ghost use Rattle.op_dispatch.specs.Fits.{HasInstances, call_op_fits};
 ghost use Rattle.op_dispatch.specs.Goes.{GoesOn, given};
 ghost use Rattle.op_dispatch.specs.Polls.{Polls};
-ghost use Rattle.op_dispatch.specs.Runner.{Runner};
-ghost use Rattle.std.specs.Prelude.{◌≡◌, ◌+◌, ◌<◌, ◌≤◌, ◌^◌, IfOk, IsSome, is_some, length, true};
+ghost use Rattle.op_dispatch.specs.Runner.{Runner, UnderWay, awaits_end, called_call, called_work, given_answer, waits_behind};
+ghost use Rattle.std.specs.Prelude.{◌≡◌, ◌+◌, ◌<◌, ◌≤◌, ◌^◌, IfOk, IfSome, IsSome, is_some, length, option_map, true};
 ghost use Rattle.subtask_ops.specs.Refused.{mode_of};
 ghost use Rattle.task_machine.specs.Labels.{choice_of};
 ghost use Rattle.task_machine.specs.Maps.{get};
@@ -16,7 +16,8 @@ ghost use Rattle.task_ops.specs.Steps.{label_of};
 ghost use Rattle.task_rules.specs.Calls.{call_host_row, call_row, call_sync_host_row, call_sync_row};
 ghost use Rattle.task_rules.specs.Cancels.{cancel_row, subtask_row};
 ghost use Rattle.task_rules.specs.Scripts.{values_in};
-ghost use Rattle.task_words.specs.StateView.{thread_of};
+ghost use Rattle.task_words.specs.Names.{subtask_in};
+ghost use Rattle.task_words.specs.StateView.{call_of, thread_of, work_of};
 
 use crate::done::{Done, plain};
 use crate::scripts::{export_kind, host_def};
@@ -27,7 +28,65 @@ use subtask_ops::{
 };
 use task_machine::{CallOp, Callee, Component, Goal, NoMemory, Operand};
 use task_ops::{Came, value_of};
-use task_words::{HowFarId, SubtaskId, ThreadId, Words};
+use task_words::{CallId, HowFarId, SubtaskId, ThreadId, Words, WorkId};
+
+// The call that the op is inside of.
+fn called<W: Words>(w: &W, thread: ThreadId) -> Option<CallId>
+    requires { UnderWay (thread_of (W.view w.now) thread) (W.view w.now).core }
+    ensures is { option_map (λ id. call_of (W.view w.now) id) result ≡ called_call (how_far_of (thread_of (W.view w.now) thread) (W.view w.now).core) }
+    ensures live { IfSome result (λ id. 0 < call_of (W.view w.now) id) }
+{
+    w.none_is_zero();
+    match w.how_far(thread) {
+        HowFarId::Calls(SubtaskId::Guest(call)) => Some(call),
+        _ => None,
+    }
+}
+
+// The host work that the op is inside of.
+fn served<W: Words>(w: &W, thread: ThreadId) -> Option<WorkId>
+    requires { UnderWay (thread_of (W.view w.now) thread) (W.view w.now).core }
+    ensures is { option_map (λ id. work_of (W.view w.now) id) result ≡ called_work (how_far_of (thread_of (W.view w.now) thread) (W.view w.now).core) }
+    ensures live { IfSome result (λ id. 0 < work_of (W.view w.now) id) }
+{
+    w.none_is_zero();
+    match w.how_far(thread) {
+        HowFarId::Calls(SubtaskId::Host(work)) => Some(work),
+        _ => None,
+    }
+}
+
+// The answer that the op was given.
+fn answered<W: Words>(w: &W, thread: ThreadId) -> Option<u64>
+    ensures { result ≡ given_answer (how_far_of (thread_of (W.view w.now) thread) (W.view w.now).core) }
+{
+    match w.how_far(thread) {
+        HowFarId::Answered(value) => Some(value),
+        _ => None,
+    }
+}
+
+// The subtask behind whose callee the cancel waits.
+fn cancelling<W: Words>(w: &W, thread: ThreadId) -> Option<SubtaskId>
+    requires { UnderWay (thread_of (W.view w.now) thread) (W.view w.now).core }
+    ensures { option_map (subtask_in (W.view w.now).tags) result ≡ waits_behind (how_far_of (thread_of (W.view w.now) thread) (W.view w.now).core) }
+{
+    match w.how_far(thread) {
+        HowFarId::Cancels(subtask) => Some(subtask),
+        _ => None,
+    }
+}
+
+// The subtask whose end the cancel awaits.
+fn awaiting<W: Words>(w: &W, thread: ThreadId) -> Option<SubtaskId>
+    requires { UnderWay (thread_of (W.view w.now) thread) (W.view w.now).core }
+    ensures { option_map (subtask_in (W.view w.now).tags) result ≡ awaits_end (how_far_of (thread_of (W.view w.now) thread) (W.view w.now).core) }
+{
+    match w.how_far(thread) {
+        HowFarId::AwaitsEnd(subtask) => Some(subtask),
+        _ => None,
+    }
+}
 
 // `call R Q F X*`
 fn call<W: Words>(
@@ -49,16 +108,13 @@ fn call<W: Words>(
     ensures goes { IfOk result (λ came. GoesOn came (W.view w.new)) }
     ensures stays { IfOk result (λ came. StaysAfter came (W.view w.old) (W.view w.new)) }
 {
-    w.none_is_zero();
-    match w.how_far(thread) {
-        HowFarId::Calls(SubtaskId::Guest(call)) => go_on_calling(w, thread, to, call),
-        _ => {
-            let words = operand_values(w, thread, params);
-            let kind = export_kind(component, callee);
-            let goal = Goal::Register { register };
-            begin_call(w, thread, callee, kind, goal, &words[..params.len()])
-        }
+    if let Some(call) = called(w, thread) {
+        return go_on_calling(w, thread, to, call);
     }
+    let words = operand_values(w, thread, params);
+    let kind = export_kind(component, callee);
+    let goal = Goal::Register { register };
+    begin_call(w, thread, callee, kind, goal, &words[..params.len()])
 }
 
 // `call_sync R F X*`
@@ -79,16 +135,15 @@ fn call_sync<W: Words>(
     ensures goes { IfOk result (λ came. GoesOn came (W.view w.new)) }
     ensures stays { IfOk result (λ came. StaysAfter came (W.view w.old) (W.view w.new)) }
 {
-    w.none_is_zero();
-    match w.how_far(thread) {
-        HowFarId::Answered(value) => Ok(answer_call(w, thread, to, value)),
-        HowFarId::Calls(SubtaskId::Guest(call)) => Ok(go_on_calling_sync(w, thread, to, call)),
-        _ => {
-            let words = operand_values(w, thread, params);
-            let kind = export_kind(component, callee);
-            begin_call_sync(w, thread, callee, kind, &words[..params.len()])
-        }
+    if let Some(value) = answered(w, thread) {
+        return Ok(answer_call(w, thread, to, value));
     }
+    if let Some(call) = called(w, thread) {
+        return Ok(go_on_calling_sync(w, thread, to, call));
+    }
+    let words = operand_values(w, thread, params);
+    let kind = export_kind(component, callee);
+    begin_call_sync(w, thread, callee, kind, &words[..params.len()])
 }
 
 // `call R Q H`
@@ -133,8 +188,7 @@ fn call_sync_of_host<W: Words>(
     ensures stays { IfOk result (λ done. StaysAfter done.came (W.view w.old) (W.view w.new)) }
     ensures polls { IfOk result (λ done. Polls component.now (how_far_of (thread_of (W.view w.old) thread) (W.view w.old).core) (ops.Call (CallOp.CallSyncHost to host)) (W.view w.old) done (W.view w.new)) }
 {
-    w.none_is_zero();
-    if let HowFarId::Calls(SubtaskId::Host(work)) = w.how_far(thread) {
+    if let Some(work) = served(w, thread) {
         return Ok(plain(go_on_calling_host(w, thread, to, work)));
     }
     let host = host_def(component, host);
@@ -147,24 +201,20 @@ fn call_sync_of_host<W: Words>(
 }
 
 // `cancel R X` and `cancel_sync R X`
-fn cancels<W: Words>(
-    w: &mut W,
-    thread: ThreadId,
-    to: u8,
-    handle: u64,
-    sync: bool,
-) -> Came
+fn cancels<W: Words>(w: &mut W, thread: ThreadId, to: u8, handle: u64, sync: bool) -> Came
     requires runner { Runner thread (W.view w.old) }
     requires position { position_of (thread_of (W.view w.old) thread) (W.view w.old).core + 1 < 2 ^ 32 }
     ensures meets { Meets (cancel_row (mode_of sync) (thread_of (W.view w.old) thread) to handle (W.view w.old).core (how_far_of (thread_of (W.view w.old) thread) (W.view w.old).core)) (W.view w.old).core result (W.view w.new).core }
     ensures goes { GoesOn result (W.view w.new) }
     ensures stays { StaysAfter result (W.view w.old) (W.view w.new) }
 {
-    match w.how_far(thread) {
-        HowFarId::Cancels(subtask) => go_on_cancelling(w, thread, to, sync, subtask),
-        HowFarId::AwaitsEnd(subtask) => go_on_awaiting(w, thread, to, sync, subtask),
-        _ => cancel(w, thread, to, handle, sync),
+    if let Some(subtask) = cancelling(w, thread) {
+        return go_on_cancelling(w, thread, to, sync, subtask);
     }
+    if let Some(subtask) = awaiting(w, thread) {
+        return go_on_awaiting(w, thread, to, sync, subtask);
+    }
+    cancel(w, thread, to, handle, sync)
 }
 
 /// An op on subtasks. Where memory is wanting, all is as before.
@@ -192,7 +242,15 @@ pub(crate) fn do_call_op<W: Words>(
             callee,
             params,
         } => {
-            let came = call(component, w, thread, *to, *result, *callee, params.as_slice())?;
+            let came = call(
+                component,
+                w,
+                thread,
+                *to,
+                *result,
+                *callee,
+                params.as_slice(),
+            )?;
             Ok(plain(came))
         }
         CallOp::CallSync { to, callee, params } => {

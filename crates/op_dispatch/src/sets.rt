@@ -58,9 +58,10 @@ pub(crate) fn do_set_op<W: Words>(w: &mut W, thread: ThreadId, op: SetOp) -> Res
             let handle = value_of(w, thread, set);
             Ok(poll(w, thread, to, handle))
         }
-        SetOp::Join {
-            waitable: _,
-            set: _,
-        } => unreachable!(),
+        SetOp::Join { waitable, set } => {
+            let waitable = value_of(w, thread, waitable);
+            let set = value_of(w, thread, set);
+            Ok(join(w, thread, waitable, set))
+        }
     }
 }

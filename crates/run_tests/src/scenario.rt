@@ -13,7 +13,7 @@ const TWO_INSTANCES: &[u8] =
     b"scenario 1\nhandles 100000\ntable 1000000\nidle trap\ninstance a\nexport f callback 2\nset r3 r0\nadd r3 18446744073709551615\nhandle r15 r3\nload r4 15\nstore 0 9\nskip_eq r3 0 4096\nret_bad r3\nexport g callback 0\ninstance b\ninstance c\nexport f callback 0\nmain\nstart c.f\nstart a.f 7 r2\nfinish 2 r0\nstart a.g\nfinish 1 r1\nanswer r0\nend";
 
 const EACH_LINE: &[u8] =
-    b"scenario 1\nhandles 9\ntable 99\nidle wait\nhost disk polls 9 value 100\nhost net polls 0 fail\nhost dead never\ninstance a\nexport f callback 1\nset_new r1\ncb_wait r1\nreact\ncode 3\nbad 15\nthread 0\nwait r13 0\npoll r0 1\njoin 1 0\nset_drop 1\nexport g sync 2\nbp_inc\nbp_dec\ntask_cancel\ninstance b\nexport f stackful 0\ncall r3 r4 a.g 1 r2\ncall_sync r3 disk\ncancel r3 4\ncancel_sync r3 4\ndrop 4\nthread_new r1 0 7\nthread_index r2\nresume_later 1\nsuspend\nyield\nsuspend_then_resume 1\nyield_then_resume 1\nsuspend_then_promote 1\nyield_then_promote 1\nmain\nspawn net\nstart b.f\nabort 1\nawait 1\nquiet\nready a.g\nfinish 1 r0\nanswer r0\naborter 1 1\nend\n";
+    b"scenario 1\nhandles 9\ntable 99\nidle wait\nhost disk polls 9 value 100\nhost net polls 0 fail\nhost dead never\ninstance a\nexport f callback 1\nset_new r1\ncb_wait r1\nreact\ncode 3\nbad 15\nthread 0\nwait r13 0\npoll r0 1\njoin 1 0\nset_drop 1\nexport g sync 2\nbp_inc\nbp_dec\ntask_cancel\ninstance b\nexport f stackful 0\ncall r3 r4 a.g 1 r2\ncall_sync r3 disk\ncancel r3 4\ncancel_sync r3 4\ndrop 4\nthread_new r1 0 7\nthread_index r2\nresume_later 1\nsuspend\nyield\nsuspend_then_resume 1\nyield_then_resume 1\nsuspend_then_promote 1\nyield_then_promote 1\nmain\nspawn net\nstart b.f\nquiet\nready a.g\nfinish 1 r0\nanswer r0\naborter 1 1\nend\n";
 
 const NOTHING: &[u8] = b"scenario 1\nhandles 0\ntable 0\nidle trap\nmain\nanswer 0\nend\n";
 
@@ -107,7 +107,7 @@ fn has_call(rt: &impl Abort, instance: &InstanceText) {
 #[test]
 fn reads_each_line(rt: HostRuntime) {
     let tree = read(&rt, rt.alloc(), EACH_LINE);
-    assert!(rt; tree.hosts.len() == 3 && tree.main.len() == 7 && tree.aborters.len() == 1);
+    assert!(rt; tree.hosts.len() == 3 && tree.main.len() == 5 && tree.aborters.len() == 1);
     let Some(host) = tree.hosts.as_slice().first() else {
         panic!(rt; "a host")
     };

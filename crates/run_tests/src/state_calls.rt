@@ -65,6 +65,7 @@ fn a_waitable_with_an_event_is_ready(rt: HostRuntime) {
     store
         .state
         .set_event(SubtaskId::Guest(id.task), Some(Status::Started));
+    assert!(rt; store.state.event(SubtaskId::Guest(id.task)).is_some());
     let woken = mark_ready(&mut store.state, Waitable::Guest(id.task));
     assert!(rt; matches!(woken, Ok(None)));
 }

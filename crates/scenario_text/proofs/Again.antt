@@ -30,7 +30,8 @@ use Rattle.scenario_text.specs.declared.tree.MainOpText.{MainOpText}
 use Rattle.scenario_text.specs.declared.tree.MainOpText.TheVariants as main
 use Rattle.scenario_text.specs.declared.tree.ScenarioText.{ScenarioText}
 use Rattle.scenario_text.specs.Spelling.{Lines, head_lines, host_line, exports_of, instance_name, export_name, host_name, script_lines, react_lines, export_lines, part_lines, instance_lines, lines_after, body_lines, main_op_words, main_lines, lines_of}
-use Rattle.scenario_text.specs.Placement.{EachStands, HostStands, is_callback, ReactStands, ExportStands, PartStands, InstanceStands, main_has_room, is_start, is_spawn, finishes, start_count, spawn_count, start_opens, finish_opens, spawn_opens, is_spawned, spawn_named, MainOpStands, aborter_opens, AborterStands, IsWellFormed}
+use Rattle.task_machine.specs.Read.{is_callback}
+use Rattle.scenario_text.specs.Placement.{EachStands, HostStands, ReactStands, ExportStands, PartStands, InstanceStands, main_has_room, is_start, is_spawn, finishes, start_count, spawn_count, start_opens, finish_opens, spawn_opens, is_spawned, MainOpStands, aborter_opens, AborterStands, IsWellFormed}
 use Rattle.scenario_text.specs.State.{with_host, with_instance, with_part, with_export, script_closed, instance_closed, main_open, after_title, after_handles, after_table, after_idle, after_head, after_host, after_instance, after_export, after_react, after_thread, after_bad, after_part, after_main, start_of, finish_of, spawn_of, ready_of, main_op_of, after_main_op, after_answer, after_aborter, after_end, after, read_from, scenario_of}
 use Rattle.scenario_text.proofs.StandingLaws.{few_after}
 use Rattle.scenario_text.proofs.SoFar.{BodyFits, with_host_fits, with_instance_fits}
@@ -168,12 +169,6 @@ few_spawns before k few h =
     let p = and_parts (nat_le 1 k) (nat_le k (spawn_count before)) h in
     le-leb _ _ (omega (arith, count_by-le-length is_spawn before, leb-true _ _ p.1))
 
-few_named : (before : List MainOpText) (k : ℕ) → spawn_named before k ≡ true → nat_le k 4095 ≡ true
-few_named before k h =
-    let p = and_parts (main_has_room before) (is_spawned before k) h in
-    let room = ltb-true _ _ p.0 in
-    few_spawns before k (omega (arith, room)) p.1
-
 -- the line of an op of main, which is read as it
 record MainLine (b : Body) (before : List MainOpText) (o : MainOpText) : Type 0 where
   of : NamedOp
@@ -201,8 +196,8 @@ main_line b before (main.Finish k r) fits stands =
 main_line b before (main.Spawn h) fits stands =
     let name = host_again b.hosts h fits.hosts stands.1 in
     record { of = named.Spawn (host_name b.hosts h); words = refl; fits = name.name; read = rw (name.again, stands.0) refl }
-main_line b before (main.Abort k) fits stands = record { of = named.Abort k; words = refl; fits = few_named before k stands; read = rw stands refl }
-main_line b before (main.Await k) fits stands = record { of = named.Await k; words = refl; fits = few_named before k stands; read = rw stands refl }
+main_line b before (main.Abort k) fits stands = absurd stands
+main_line b before (main.Await k) fits stands = absurd stands
 main_line b before main.Quiet fits stands = record { of = named.Quiet; words = refl; fits = refl; read = rw stands refl }
 main_line b before (main.Ready f) fits stands =
     let names = callee_again b.hosts b.instances fits.instances f stands.1 stands.2 in
@@ -235,8 +230,8 @@ main_room hosts is before (main.Finish k r) stands =
     let q = and_parts (main_has_room before && nat_le 1 k) (nat_le k (start_count before)) p.0 in
     ltb-true _ _ (and_parts (main_has_room before) (nat_le 1 k) q.0).0
 main_room hosts is before (main.Spawn h) stands = ltb-true _ _ (and_parts (main_has_room before) _ stands.0).0
-main_room hosts is before (main.Abort k) stands = ltb-true _ _ (and_parts (main_has_room before) (is_spawned before k) stands).0
-main_room hosts is before (main.Await k) stands = ltb-true _ _ (and_parts (main_has_room before) (is_spawned before k) stands).0
+main_room hosts is before (main.Abort k) stands = absurd stands
+main_room hosts is before (main.Await k) stands = absurd stands
 main_room hosts is before main.Quiet stands = ltb-true _ _ stands
 main_room hosts is before (main.Ready f) stands = ltb-true _ _ stands.0
 

@@ -136,7 +136,7 @@ pub record NamedHost (hosts : List HostText) (k : ℕ) : Type 0 where
   pub name : is_name (host_name hosts k) ≡ true
   pub again : host_place hosts (host_name hosts k) ≡ Some k
 
-some_at : {X : Type 0} (xs : List X) (k : ℕ) (o : Option X) → slice_get xs k ≡ o → k < length xs → (x : X) × (slice_get xs k ≡ Some x)
+pub some_at : {X : Type 0} (xs : List X) (k : ℕ) (o : Option X) → slice_get xs k ≡ o → k < length xs → (x : X) × (slice_get xs k ≡ Some x)
 some_at xs k (Some x) at lt = (x, at)
 some_at [] k None at lt = absurd (omega arith)
 some_at (y ∷ xs) zero None at lt = absurd cc

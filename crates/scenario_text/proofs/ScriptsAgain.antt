@@ -15,7 +15,8 @@ use Rattle.scenario_text.specs.declared.state.State.{State}
 use Rattle.scenario_text.specs.declared.state.State.TheVariants as state
 use Rattle.scenario_text.specs.declared.tree.InstanceText.{InstanceText}
 use Rattle.scenario_text.specs.Spelling.{Lines, call_op_words, op_words, script_lines}
-use Rattle.scenario_text.specs.Placement.{EachStands, CallStands, OpFits, OpStands, is_callback}
+use Rattle.task_machine.specs.Read.{is_callback}
+use Rattle.scenario_text.specs.Placement.{EachStands, CallStands, OpFits, OpStands}
 use Rattle.scenario_text.specs.State.{script_body, with_op, after_op, after_call, after, after_words, read_from}
 use Rattle.scenario_text.proofs.SoFar.{BodyFits}
 use Rattle.scenario_text.proofs.StateLaws.{plain}

@@ -21,7 +21,8 @@ use Rattle.scenario_text.specs.declared.tree.PartText.{PartText}
 use Rattle.scenario_text.specs.declared.tree.PartText.TheVariants as part
 use Rattle.scenario_text.specs.declared.tree.MainOpText.{MainOpText}
 use Rattle.scenario_text.specs.Spelling.{Lines, head_lines, host_line, op_words, script_lines, part_lines, instance_lines, lines_after, body_lines, main_lines, lines_of}
-use Rattle.scenario_text.specs.Placement.{EachStands, HostStands, has_room_for_op, op_suits, OpFits, OpStands, ScriptStands, is_callback, PartStands, InstanceStands, MainOpStands, AborterStands, IsWellFormed}
+use Rattle.task_machine.specs.Read.{is_callback}
+use Rattle.scenario_text.specs.Placement.{EachStands, HostStands, has_room_for_op, op_suits, OpFits, OpStands, ScriptStands, PartStands, InstanceStands, MainOpStands, AborterStands, IsWellFormed}
 use Rattle.scenario_text.specs.State.{with_host, with_instance, with_part, export_from, with_export, script_closed, instance_closed, with_op, script_body}
 use Rattle.scenario_text.proofs.StandingLaws.{each_more}
 

@@ -36,7 +36,8 @@ use Rattle.scenario_text.specs.declared.tree.PartText.TheVariants as part
 use Rattle.scenario_text.specs.declared.tree.MainOpText.{MainOpText}
 use Rattle.scenario_text.specs.declared.tree.MainOpText.TheVariants as main
 use Rattle.scenario_text.specs.Spelling.{Lines, host_line, op_words, script_lines, part_lines, instance_lines, name_of, host_name, main_op_words, main_lines}
-use Rattle.scenario_text.specs.Placement.{EachStands, host_opens, OpFits, CallStands, is_callback, export_opens, slot_opens, instance_opens, main_has_room, start_opens, finish_opens, spawn_opens, spawn_named, params_of, MainOpStands, aborter_opens, AborterStands, IsWellFormed}
+use Rattle.task_machine.specs.Read.{is_callback}
+use Rattle.scenario_text.specs.Placement.{EachStands, host_opens, OpFits, CallStands, export_opens, slot_opens, instance_opens, main_has_room, start_opens, finish_opens, spawn_opens, params_of, MainOpStands, aborter_opens, AborterStands, IsWellFormed}
 use Rattle.scenario_text.specs.State.{with_host, with_part, script_closed, instance_closed, main_open, script_body, after_title, after_handles, after_table, after_idle, after_head, after_host, after_instance, after_export, after_react, after_thread, after_bad, after_part, with_op, after_op, after_call, after_main, host_place, callee_of, fitting_export, start_of, finish_of, spawn_of, ready_of, main_op_of, call_of, after_main_op, after_answer, after_aborter, whole, after_end, after}
 use Rattle.scenario_text.proofs.StandingLaws.{each_more}
 use Rattle.scenario_text.proofs.CalleeLaws.{host_named, callee_named, export_fits, IsCall, named_call_is}
@@ -262,8 +263,8 @@ module _ (b : Body) (before : List MainOpText) where
   main_op_is (named.Start instance export xs) o e fits = start_is instance export xs o e (and_parts (is_name instance && is_name export) (list_all operand_fits xs) fits).1
   main_op_is (named.Finish k r) o e fits = finish_is k r o e (and_parts (nat_le k 4095) (register_fits r) fits).1
   main_op_is (named.Spawn name) o e fits = spawn_is name o e
-  main_op_is (named.Abort k) o e fits = let g = guarded (spawn_named before k) (main.Abort k) o e in subst (IsMainOp b before (named.Abort k)) g.1 (refl, g.0)
-  main_op_is (named.Await k) o e fits = let g = guarded (spawn_named before k) (main.Await k) o e in subst (IsMainOp b before (named.Await k)) g.1 (refl, g.0)
+  main_op_is (named.Abort k) o e fits = absurd cc
+  main_op_is (named.Await k) o e fits = absurd cc
   main_op_is named.Quiet o e fits = let g = guarded (main_has_room before) main.Quiet o e in subst (IsMainOp b before named.Quiet) g.1 (refl, g.0)
   main_op_is (named.Ready instance export) o e fits = ready_is instance export o e
 

@@ -5,13 +5,13 @@ use Rattle.std.specs.Option.{option_map}
 use Rattle.std.specs.Str.{bytes_eq}
 use Rattle.task_machine.specs.declared.component.Callee.{Callee}
 use Rattle.task_machine.specs.declared.component.ExportKind.{ExportKind}
-use Rattle.task_machine.specs.declared.component.ExportKind.TheVariants as kind
 use Rattle.task_machine.specs.declared.op.Op.{Op}
 use Rattle.task_machine.specs.declared.op.Op.TheVariants as op
 use Rattle.task_machine.specs.declared.op.CallOp.{CallOp}
 use Rattle.task_machine.specs.declared.op.CallOp.TheVariants as call_op
 use Rattle.task_machine.specs.declared.op.TaskOp.{TaskOp}
 use Rattle.task_machine.specs.declared.op.TaskOp.TheVariants as task_op
+use Rattle.task_machine.specs.Read.{is_callback}
 use Rattle.text_lines.specs.Words.{is_name}
 use Rattle.text_lines.specs.Fits.{register_fits, operand_fits, handles_fit, table_fits, slot_fits, work_fits, subtask_op_fits, plain_op_fits}
 use Rattle.scenario_text.specs.declared.tree.HostText.{HostText}
@@ -85,10 +85,6 @@ abbrev pub ScriptStands : List HostText → List InstanceText → Bool → List 
 ScriptStands hosts earlier callback ops = EachStands (OpStands hosts earlier callback) [] ops
 
 -- ---- Instances and their parts
-
-abbrev pub is_callback : ExportKind → Bool
-is_callback kind.Callback = true
-is_callback _ = false
 
 abbrev pub ReactStands : List HostText → List InstanceText → ExportKind → Option (List Op) → Type 0
 ReactStands hosts earlier k None = Unit {0}
@@ -185,16 +181,14 @@ spawn_opens before = main_has_room before && nat_lt (spawn_count before) 256
 abbrev pub is_spawned : List MainOpText → ℕ → Bool
 is_spawned before k = nat_le 1 k && nat_le k (spawn_count before)
 
-abbrev pub spawn_named : List MainOpText → ℕ → Bool
-spawn_named before k = main_has_room before && is_spawned before k
-
+-- `abort` and `await` stand in no text yet
 abbrev pub MainOpStands : List HostText → List InstanceText → List MainOpText → MainOpText → Type 0
 MainOpStands hosts instances before (main.Start f xs) =
     (start_opens before ≡ true) × (params_of instances f ≡ Some (length xs)) × (list_all operand_fits xs ≡ true)
 MainOpStands hosts instances before (main.Finish k r) = (finish_opens before k ≡ true) × (register_fits r ≡ true)
 MainOpStands hosts instances before (main.Spawn h) = (spawn_opens before ≡ true) × (h < length hosts)
-MainOpStands hosts instances before (main.Abort k) = spawn_named before k ≡ true
-MainOpStands hosts instances before (main.Await k) = spawn_named before k ≡ true
+MainOpStands hosts instances before (main.Abort k) = ⊥
+MainOpStands hosts instances before (main.Await k) = ⊥
 MainOpStands hosts instances before main.Quiet = main_has_room before ≡ true
 MainOpStands hosts instances before (main.Ready f) = (main_has_room before ≡ true) × (n : ℕ) × (params_of instances f ≡ Some n)
 

@@ -37,7 +37,8 @@ use Rattle.scenario_text.specs.declared.tree.ScenarioText.{ScenarioText}
 use Rattle.text_lines.specs.Words.{◌>>=◌}
 use Rattle.text_lines.specs.Line.{line_at}
 use Rattle.scenario_text.specs.Spelling.{Lines, exports_of}
-use Rattle.scenario_text.specs.Placement.{host_opens, has_room_for_op, op_suits, is_callback, params_of, export_opens, slot_opens, instance_opens, main_has_room, start_opens, finish_opens, spawn_opens, spawn_named, aborter_opens}
+use Rattle.task_machine.specs.Read.{is_callback}
+use Rattle.scenario_text.specs.Placement.{host_opens, has_room_for_op, op_suits, params_of, export_opens, slot_opens, instance_opens, main_has_room, start_opens, finish_opens, spawn_opens, aborter_opens}
 
 abbrev pub with_host : Body → HostText → Body
 with_host b h = record b { hosts = b.hosts ++ h ∷ [] }
@@ -244,8 +245,8 @@ unfoldable pub main_op_of : Body → List MainOpText → NamedOp → Option Main
 main_op_of b ops (named.Start instance export operands) = start_of b.instances ops instance export operands
 main_op_of b ops (named.Finish k r) = finish_of ops k r
 main_op_of b ops (named.Spawn name) = spawn_of b.hosts ops name
-main_op_of b ops (named.Abort k) = if spawn_named ops k then Some (main.Abort k) else None
-main_op_of b ops (named.Await k) = if spawn_named ops k then Some (main.Await k) else None
+main_op_of b ops (named.Abort k) = None
+main_op_of b ops (named.Await k) = None
 main_op_of b ops named.Quiet = if main_has_room ops then Some main.Quiet else None
 main_op_of b ops (named.Ready instance export) = ready_of b.instances ops instance export
 

@@ -2,7 +2,8 @@
 ghost use Rattle.std.specs.Prelude.{◌≡◌, ◌+◌, ◌-◌, ◌&&◌};
 ghost use Rattle.std.specs.List.{list_all, list_any};
 ghost use Rattle.std.specs.Str.{bytes_eq};
-ghost use Rattle.scenario_text.specs.Placement.{host_opens, has_room_for_op, is_callback_end, op_suits, is_callback, is_export, is_export_named, exports_among, export_count, export_opens, fills, slot_opens, instance_opens, main_has_room, is_start, is_spawn, finishes, start_count, spawn_count, start_opens, finish_opens, spawn_opens, is_spawned, spawn_named, aborter_opens};
+ghost use Rattle.task_machine.specs.Read.{is_callback};
+ghost use Rattle.scenario_text.specs.Placement.{host_opens, has_room_for_op, is_callback_end, op_suits, is_export, is_export_named, exports_among, export_count, export_opens, fills, slot_opens, instance_opens, main_has_room, is_start, is_spawn, finishes, start_count, spawn_count, start_opens, finish_opens, spawn_opens, is_spawned, aborter_opens};
 
 use crate::tree::{HostText, InstanceText, MainOpText, PartText};
 use task_machine::{ExportKind, Op, Seq, TaskOp};
@@ -241,13 +242,6 @@ fn is_spawned(before: &[MainOpText], spawn: u32) -> bool
     ensures { result ≡ is_spawned before.now spawn }
 {
     1 <= spawn && spawn as usize <= spawn_count(before)
-}
-
-/// Whether an op on this spawn, an earlier one, may follow these ops of main.
-pub fn spawn_named(before: &[MainOpText], spawn: u32) -> bool
-    ensures { result ≡ spawn_named before.now spawn }
-{
-    main_has_room(before) && is_spawned(before, spawn)
 }
 
 fn all_spawned(main: &[MainOpText], spawns: &[u32]) -> bool

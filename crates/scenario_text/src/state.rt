@@ -7,7 +7,7 @@ ghost use Rattle.scenario_text.specs.State.{with_op, start_of, finish_of, spawn_
 use crate::callee::{call_of, callee_of, fitting_export, host_place, params_of};
 use crate::placement::{
     aborter_opens, export_opens, finish_opens, host_opens, instance_opens, is_callback,
-    main_has_room, op_opens, slot_opens, spawn_named, spawn_opens, start_opens,
+    main_has_room, op_opens, slot_opens, spawn_opens, start_opens,
 };
 use crate::tree::{ExportText, HostText, InstanceText, MainOpText, PartText, ScenarioText};
 use std::alloc::Global;
@@ -122,8 +122,7 @@ fn main_op_of(body: &Body, before: &[MainOpText], op: NamedOp) -> Option<MainOpT
         ),
         NamedOp::Finish(start, register) => finish_of(before, start, register),
         NamedOp::Spawn(host) => spawn_of(hosts, before, host.as_slice()),
-        NamedOp::Abort(k) => spawn_named(before, k).then_some(MainOpText::Abort(k)),
-        NamedOp::Await(k) => spawn_named(before, k).then_some(MainOpText::Await(k)),
+        NamedOp::Abort(_) | NamedOp::Await(_) => None,
         NamedOp::Quiet => main_has_room(before).then_some(MainOpText::Quiet),
         NamedOp::Ready(instance, export) => {
             ready_of(instances, before, instance.as_slice(), export.as_slice())

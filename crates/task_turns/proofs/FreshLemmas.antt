@@ -2,7 +2,6 @@
 use Rattle.std.proofs.Common.{arith, refl}
 use Rattle.std.proofs.lemmas.Bool.Decides.{nat_tests}
 use Rattle.std.specs.Prelude.{false, is_some, length, true, ℕ, ◌<◌, ◌≡◌, ◌≤◌}
-use Rattle.task_laws.specs.Lacks.{LacksOps, LacksWorks}
 use Rattle.task_laws.specs.Order.{OpeningInOrder}
 use Rattle.task_laws.specs.Settings.{CodesInCallbacks}
 use Rattle.task_machine.specs.Core.{fresh, no_handles}

@@ -13,3 +13,4 @@ pub mod IdleLemmas
 pub mod MainLemmas
 pub mod FreshLemmas
 pub mod CoveredLemmas
+pub mod RanLemmas

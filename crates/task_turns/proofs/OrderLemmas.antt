@@ -83,7 +83,16 @@ module _ (c : Component) (p : Turn) (s : Core) (sits : Sits c p s) where
 
   -- the subtask that an op under way cancels
   cancelled_there : (n : ℕ) (sub : Subtask) → cancelled_by (how_far_of n s) ≡ Some sub → live_subtask sub s ≡ sub
-  cancelled_there n sub e = ?
+  cancelled_there n (subtask.Guest k) e = by (get s.calls k) refl (known.cancelled n (subtask.Guest k) e)
+    where
+      by : (o : Option Call) → get s.calls k ≡ o → is_some (option_and_then (λ (x : Call). x.handle) o) ≡ true → subtask.Guest (if is_some (get s.calls k) then k else 0) ≡ subtask.Guest k
+      by None at h = absurd (cc)
+      by (Some x) at h = ap (λ (p : Option Call). subtask.Guest (if is_some p then k else 0)) at
+  cancelled_there n (subtask.Host i) e = by (get s.works i) refl (known.cancelled n (subtask.Host i) e)
+    where
+      by : (o : Option Work) → get s.works i ≡ o → is_some (option_and_then (λ (x : Work). x.handle) o) ≡ true → subtask.Host (if is_some (get s.works i) then i else 0) ≡ subtask.Host i
+      by None at h = absurd (cc)
+      by (Some x) at h = ap (λ (p : Option Work). subtask.Host (if is_some p then i else 0)) at
 
   call_there : (k : ℕ) (o : Option Call) → get s.calls k ≡ o → option_map_or is_awaited o false ≡ true → is_some (get s.calls k) ≡ true
   call_there k None e h = absurd (cc)

@@ -1,10 +1,12 @@
 -- A step of the running thread.
 use Rattle.std.proofs.Common.{ap, refl, subst, sym, ◌∙◌}
 use Rattle.std.specs.Option.{option_map_or}
-use Rattle.std.specs.Prelude.{Bool, List, Option, Some, [], slice_get, unwrap_or, ℕ, ◌≡◌}
+use Rattle.std.specs.Prelude.{Bool, List, None, Option, Some, [], false, is_none, slice_get, true, unwrap_or, ℕ, ◌≡◌}
 use Rattle.task_machine.specs.Core.{Core, Main}
-use Rattle.task_machine.specs.Labels.{choice_of}
+use Rattle.task_machine.specs.Labels.{choice_of, host_label}
 use Rattle.task_machine.specs.Maps.{get}
+use Rattle.task_machine.specs.Moves.{may_publish}
+use Rattle.task_machine.specs.declared.records.Subtask.TheVariants as subtask
 use Rattle.task_machine.specs.Read.{callee_of, next_entry, place_of, position_of, task_of}
 use Rattle.task_machine.specs.declared.component.Callee.{Callee}
 use Rattle.task_machine.specs.declared.component.Component.{Component}
@@ -26,10 +28,12 @@ use Rattle.task_ops.specs.Stays.{StaysAfter}
 use Rattle.task_ops.specs.Steps.{core_after, label_of, turn_after}
 use Rattle.task_ops.specs.declared.came.Came.{Came}
 use Rattle.task_ops.specs.declared.came.Came.TheVariants as came
+use Rattle.task_rules.specs.Outcome.{outcome_of_label}
+use Rattle.task_rules.specs.Progress.{Stops, may}
 use Rattle.task_rules.specs.Scripts.{op_of, script_in, script_of}
 use Rattle.task_rules.specs.Stalled.{Setting}
 use Rattle.task_rules.specs.Step.{Step, did, op_row}
-use Rattle.task_rules.specs.Takes.{host_row, popped, pushed, thread_taken}
+use Rattle.task_rules.specs.Takes.{host_done, host_row, popped, pushed, thread_taken}
 use Rattle.task_rules.specs.Turns.{at_turn, goes_to}
 use Rattle.task_table.specs.declared.id.TableId.{TableId}
 use Rattle.task_turns.specs.Turn.{state_at}
@@ -51,6 +55,11 @@ module _ (c : Component) (n : ℕ) (s : Core) (t : Thread) (here : get s.threads
   pub row_at : (o : Option Op) → o ≡ slice_get ops p → (r : Came) (u : Core) → Meets (op_row c n s (choice_of (label_of n r)) (unwrap_or o (op.Task task.Exit))) s r u → Meets (did c n s (choice_of (label_of n r))) s r u
   unfolding did op_of
   row_at o e r u h = subst (λ (q : Option Op). Meets (op_row c n s (choice_of (label_of n r)) (unwrap_or q (op.Task task.Exit))) s r u) (e ∙ (ap (slice_get ops) place ∙ ap (λ (os : List Op). slice_get os (position_of n s)) (sym script_is))) h
+
+  -- the op at the thread's place; at the script's end it exits
+  pub op_is : (o : Option Op) → o ≡ slice_get ops p → op_of c n s ≡ unwrap_or o (op.Task task.Exit)
+  unfolding op_of
+  op_is o e = sym (ap (λ (q : Option Op). unwrap_or q (op.Task task.Exit)) (e ∙ (ap (slice_get ops) place ∙ ap (λ (os : List Op). slice_get os (position_of n s)) (sym script_is))))
 
 -- ---- The step
 
@@ -115,3 +124,18 @@ took_host c ended mark i s u t r l base next meets is x component m =
     let shown = subst (λ (q : Came). Meets (host_row mark i (choice_of (label_of i q)).woken (popped mark s.core)) (popped mark s.core) q t.core) is based in
     subst (Step x (state_at s.core m (turn.Take ended)) l) (settled (came.Stops l) s.core m (turn.Take ended) t.core)
     (taking_is_step x (state_at s.core m (turn.Take ended)) ended (mark, entry.Host i) (came.Stops l) t.core refl next shown)
+
+host_quiet : (m : Mark) (i : ℕ) (w : Option ℕ) → outcome_of_label (host_label m i w) ≡ None
+host_quiet m i None = refl
+host_quiet m i (Some k) = refl
+
+-- the taking of a host entry stops nothing more, and gives no outcome
+pub host_over : (m : Mark) (i : ℕ) (w : Option ℕ) (s t : Core) (r : Came) (l : Label) → Meets (host_row m i w s) s r t → r ≡ came.Stops l → is_none (outcome_of_label l) ≡ true
+host_over m i w s t r l h is = by (may_publish (subtask.Host i) w s) h
+  where
+    same : (a b : Label) → came.Stops a ≡ came.Stops b → a ≡ b
+    same a b e = cc
+
+    by : (b : Bool) → Meets (may b (Stops (host_label m i w) (host_done i w s))) s r t → is_none (outcome_of_label l) ≡ true
+    by true met = ap (λ (a : Label). is_none (outcome_of_label a)) (same l (host_label m i w) (sym is ∙ met.0)) ∙ ap is_none (host_quiet m i w)
+    by false met = absurd met

@@ -176,7 +176,7 @@ module _ (c : Component) (ended : Bool) (s : Core) (sits : Sits c (turn.Take end
       by (ℕ.suc j) (Some w) e h = omega arith
 
   rest_entries : (k i : ℕ) (es es' : List Entry) → es ≡ entry.Host i ∷ es' → entries k (rest_of es) ≡ entries k es
-  rest_entries k i es es' e = ap (λ (xs : List Entry). entries k (rest_of xs)) e ∙ sym (ap (entries k) e)
+  rest_entries k i es es' e = subst (λ (xs : List Entry). entries k (rest_of xs) ≡ entries k xs) (sym e) (omega arith)
 
   -- each thread has its place still
   pub host_placed : (m : Mark) (i : ℕ) → next_entry s ≡ Some (m, entry.Host i) → Placed (popped m s)

@@ -94,6 +94,12 @@ idle_line_of false = idle_line.Wait
 abbrev pub setting_of : Component → List MainOpDef → (trap_on_idle : Bool) → Setting
 setting_of c ops b = record { component = c; script = ops; idle = idle_line_of b }
 
+-- it goes on or stops, and hasn't trapped
+abbrev pub is_going : Came → Bool
+is_going (came.Goes l m) = true
+is_going (came.Stops l) = true
+is_going _ = false
+
 -- the strand of a thread that trapped is there
 abbrev pub CanStrike : Came → ℕ → Core → Type 0
 CanStrike (came.Traps why) n s = (0 < n) × IsTopmost n s

@@ -1,15 +1,15 @@
 //! What a step made.
-ghost use Rattle.std.specs.Prelude.{◌≡◌, ◌<◌, None, is_none};
+ghost use Rattle.std.specs.Prelude.{◌≡◌, ◌<◌, None, is_none, true};
 ghost use Rattle.task_ops.specs.Steps.{core_after, label_of, turn_after};
 ghost use Rattle.task_ops.specs.Running.{IsTopmost};
 ghost use Rattle.task_rules.specs.Outcome.{outcome_of_label};
 ghost use Rattle.task_rules.specs.Step.{struck};
-ghost use Rattle.task_turns.specs.Turn.{CanStrike, GoesOn, is_open, running_of, runs_in};
+ghost use Rattle.task_turns.specs.Turn.{CanStrike, GoesOn, is_going, is_open, running_of, runs_in};
 ghost use Rattle.task_words.specs.StateView.{thread_of};
 
 use task_machine::{CallLabel, HostDef, Label, LoopLabel, Turn};
 use task_ops::{Came, strike};
-use task_words::{ThreadId, WorkId, Words};
+use task_words::{ThreadId, Words, WorkId};
 
 /// A step that was made: its label, and whose turn it is then.
 #[derive(Clone, Copy)]
@@ -48,6 +48,7 @@ pub(crate) fn made_of<W: Words>(w: &mut W, thread: ThreadId, came: Came) -> Made
     requires goes { GoesOn came (W.view w.old) }
     ensures core { (W.view w.new).core ≡ core_after (thread_of (W.view w.old) thread) came (W.view w.old).core }
     ensures running { running_of (W.view w.new) ≡ runs_in result.turn }
+    ensures tags { is_going came ≡ true → (W.view w.new).tags ≡ (W.view w.old).tags }
     ensures label { result.label ≡ label_of (thread_of (W.view w.old) thread) came }
     ensures turn { result.turn ≡ turn_after came }
     ensures over { is_none (outcome_of_label result.label) ≡ is_open result.turn }

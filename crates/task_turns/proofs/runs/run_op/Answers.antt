@@ -1,14 +1,18 @@
-use Rattle.std.proofs.Common.{ap, length, subst, sym, ◌<◌, ◌≡◌, ◌∙◌}
+use Rattle.op_dispatch.specs.Polls.{Polls, polled_host}
+use Rattle.op_dispatch.specs.declared.done.Done.{Done}
+use Rattle.std.proofs.Common.{ap, inl, length, refl, subst, sym, ◌<◌, ◌≡◌, ◌∙◌}
 use Rattle.std.proofs.lemmas.Option.{slice_get_within}
 use Rattle.std.specs.Prelude.{None, Some, option_copied, slice_get}
 use Rattle.task_machine.specs.Labels.{choice_of}
-use Rattle.task_machine.specs.Read.{callee_of, instance_of, task_of}
+use Rattle.task_machine.specs.Read.{callee_of, how_far_of, instance_of, task_of}
 use Rattle.task_machine.specs.declared.component.Callee.{Callee}
+use Rattle.task_machine.specs.declared.op.Op.{Op}
 use Rattle.task_ops.specs.Came.{Meets}
 use Rattle.task_ops.specs.Steps.{label_of}
+use Rattle.task_rules.specs.Scripts.{op_of}
 use Rattle.task_rules.specs.Step.{did, op_row}
 use Rattle.task_turns.proofs.CoveredLemmas.{home_below}
-use Rattle.task_turns.proofs.RunLemmas.{row_at, script_is}
+use Rattle.task_turns.proofs.RunLemmas.{op_is, row_at, script_is}
 use Rattle.op_dispatch.proofs.StayLemmas.{ok_then}
 use Rattle.task_turns.proofs.runs.run_op.Goals as goal
 use Rattle.task_words.specs.StateView.{call_of, thread_of}
@@ -43,14 +47,38 @@ returns-in-Some-clause-meets g c =
     let t = g.W.View.view c.do_op.new.w in
     let n = thread_of s c.args.thread in
     let q = c.requires.runner in
-    ok_then (λ r. Meets (op_row c.args.component.now n s.core (choice_of (label_of n r)) c.in-Some.op.now) s.core r t.core) (λ r. Meets (did c.args.component.now n s.core (choice_of (label_of n r))) s.core r t.core) c.do_op.result
-    (λ r h. row_at c.args.component.now n s.core q.thread q.here c.script_ops-script.result.now c.callee.result (call_of s c.task_of-call.result) c.position.result c.script.result c.callee.ensures c.task_of-call.ensures.is (c.script.ensures q.thread q.here) c.script_ops-script.ensures c.position.ensures
-    (Some c.in-Some.op.now) (sym (ap option_copied c.in-Some.is) ∙ c.op_at.ensures) r t.core h) c.do_op.ensures.meets
+    ok_then (λ (d : Done). Meets (op_row c.args.component.now n s.core (choice_of (label_of n d.came)) c.in-Some.op.now) s.core d.came t.core) (λ (d : Done). Meets (did c.args.component.now n s.core (choice_of (label_of n d.came))) s.core d.came t.core) c.do_op.result
+    (λ d h. row_at c.args.component.now n s.core q.thread q.here c.script_ops-script.result.now c.callee.result (call_of s c.task_of-call.result) c.position.result c.script.result c.callee.ensures c.task_of-call.ensures.is (c.script.ensures q.thread q.here) c.script_ops-script.ensures c.position.ensures
+    (Some c.in-Some.op.now) (sym (ap option_copied c.in-Some.is) ∙ c.op_at.ensures) d.came t.core h) c.do_op.ensures.meets
+
+pub returns-in-Some-clause-polls : goal.returns-in-Some-clause-polls
+returns-in-Some-clause-polls g c =
+    let s = g.W.View.view c.args.w.now in
+    let t = g.W.View.view c.do_op.new.w in
+    let n = thread_of s c.args.thread in
+    let q = c.requires.runner in
+    let is = op_is c.args.component.now n s.core q.thread q.here c.script_ops-script.result.now c.callee.result (call_of s c.task_of-call.result) c.position.result c.script.result c.callee.ensures c.task_of-call.ensures.is (c.script.ensures q.thread q.here) c.script_ops-script.ensures c.position.ensures (Some c.in-Some.op.now) (sym (ap option_copied c.in-Some.is) ∙ c.op_at.ensures) in
+    ok_then (λ (d : Done). Polls c.args.component.now (how_far_of n s.core) c.in-Some.op.now s d t) (λ (d : Done). Polls c.args.component.now (how_far_of n s.core) (op_of c.args.component.now n s.core) s d t) c.do_op.result
+    (λ d h. subst (λ (o : Op). Polls c.args.component.now (how_far_of n s.core) o s d t) (sym is) h) c.do_op.ensures.polls
 
 pub returns-in-None-clause-meets : goal.returns-in-None-clause-meets
 returns-in-None-clause-meets g c =
     let s = g.W.View.view c.args.w.now in
+    let t = g.W.View.view c.exit.new.w in
     let n = thread_of s c.args.thread in
     let q = c.requires.runner in
     row_at c.args.component.now n s.core q.thread q.here c.script_ops-script.result.now c.callee.result (call_of s c.task_of-call.result) c.position.result c.script.result c.callee.ensures c.task_of-call.ensures.is (c.script.ensures q.thread q.here) c.script_ops-script.ensures c.position.ensures
-    None (sym (ap option_copied c.in-None.is) ∙ c.op_at.ensures) c.exit.result (g.W.View.view c.exit.new.w).core c.exit.ensures.meets
+    None (sym (ap option_copied c.in-None.is) ∙ c.op_at.ensures) c.exit.result t.core c.exit.ensures.meets
+
+pub returns-in-None-clause-polls : goal.returns-in-None-clause-polls
+returns-in-None-clause-polls g c =
+    let s = g.W.View.view c.args.w.now in
+    let n = thread_of s c.args.thread in
+    let q = c.requires.runner in
+    let is = op_is c.args.component.now n s.core q.thread q.here c.script_ops-script.result.now c.callee.result (call_of s c.task_of-call.result) c.position.result c.script.result c.callee.ensures c.task_of-call.ensures.is (c.script.ensures q.thread q.here) c.script_ops-script.ensures c.position.ensures None (sym (ap option_copied c.in-None.is) ∙ c.op_at.ensures) in
+    record {
+      polled = sym (ap (polled_host c.args.component.now (how_far_of n s.core)) is);
+      work = refl;
+      course = tt;
+      none = λ e. inl refl;
+    }

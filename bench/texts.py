@@ -1,0 +1,99 @@
+"""Texts to measure on: short scripts whose runs go on for as many steps as they are given."""
+
+HEAD = "scenario 1\nhandles 100000\ntable 1000000\nidle trap\n"
+FOREVER = ("export f callback 0", "cb_yield", "react")
+
+
+def text(*lines):
+    """The lines behind the head, and a main behind them that starts what stands there and finishes the first call."""
+    return HEAD + "".join(line + "\n" for line in lines)
+
+
+def main(*starts):
+    return ("main", *starts, "finish 1 r0", "answer r0", "end")
+
+
+def yields():
+    """Two callbacks yield in turns."""
+    return text("instance a", *FOREVER, "cb_yield", *main("start a.f", "start a.f"))
+
+
+def plain_ops():
+    """A script of 4,001 plain ops, again and again."""
+    ops = ("add r3 1", "set r4 r3", "store 2 r4", "load r5 2", "skip_eq r5 0 3") * 800
+    return text("instance a", *FOREVER, *ops, "cb_yield", *main("start a.f"))
+
+
+def threads():
+    """Two tasks make threads, which yield, suspend, and are resumed and promoted."""
+    scripts = ("thread 0", *("yield",) * 4, "thread 1", "suspend", "yield")
+    makes = ("thread_new r3 0 r1", "thread_new r4 1 r1", "resume_later r3", "resume_later r4")
+    ops = (*makes, "yield", "yield_then_promote r3", "resume_later r4", "cb_yield")
+    return text("instance a", *scripts, *FOREVER, *ops, *main("start a.f", "start a.f"))
+
+
+def host_works():
+    """256 works of hosts pend, and the loop rests."""
+    ops = ("main", *("spawn h",) * 256, "await 1", "answer r0", "end")
+    return text("host h polls 1000000 value 1", *ops)
+
+
+def direct_calls():
+    """Sync calls of blocking exports, each of which calls a sync one."""
+    exports = ("instance a", "export s sync 1", "add r0 1", "instance b", "export s blocking 1", "call_sync r0 a.s r0", "add r0 1")
+    return text(*exports, "instance c", *FOREVER, *("call_sync r4 b.s r4",) * 100, "cb_yield", *main("start c.f"))
+
+
+def held_calls(count):
+    """So many calls of one instance, of which one at a time is entered and waits for a host."""
+    exports = ("host h polls 256 value 1", "instance a", *FOREVER, "call_sync r3 h", "cb_yield")
+    return text(*exports, *main(*("start a.f",) * count))
+
+
+def waiters(count):
+    """So many threads wait on one set, and a subtask wakes one after the other."""
+    scripts = ("host h polls 1 value 1", "instance a", "thread 0", *("wait r5 1",) * 2000)
+    makes = ("export f callback 0", "set_new r3", *("thread_new r4 0 0", "resume_later r4") * count, "cb_yield")
+    ops = ("react", "call r5 r8 h", "handle r6 r5", "join r6 1", *("yield",) * 3, "join r6 0", "drop r6", "cb_yield")
+    return text(*scripts, *makes, *ops, *main("start a.f"))
+
+
+def pipeline():
+    """16 callbacks call a callback of another instance, which calls a host, and start anew."""
+    store = ("export get callback 1", "set r9 r0", "call r3 r8 disk", "set_new r4", "handle r5 r3", "join r5 r4", "cb_wait r4")
+    store += ("react", "add r8 r9", "drop r1", "set_drop r4", "ret r8", "exit")
+    call = ("call r3 r8 store.get r9", "handle r5 r3", "join r5 r4", "cb_wait r4", "exit")
+    logic = ("export do callback 1", "set r9 r0", "set_new r4", "cb_yield", "react", "skip_eq r0 1 5", *call)
+    logic += ("skip_eq r2 2 1", "cb_wait r4", "drop r1", "add r9 r8", "cb_yield")
+    starts = [f"start logic.do {k}" for k in range(16)]
+    return text("host disk polls 3 value 100", "instance store", *store, "instance logic", *logic, *main(*starts))
+
+
+def requests(count):
+    """So many requests, each through three instances and a host."""
+    store = ("bp_inc", "set r9 r0", "call r3 r8 disk", "set_new r4", "handle r5 r3", "join r5 r4", "cb_wait r4")
+    store += ("react", "add r8 r9", "drop r1", "set_drop r4", "bp_dec", "ret r8", "exit")
+    logic = ("set r9 r0", "call r3 r8 store.get r9", "handle r5 r3", "set_new r4", "join r5 r4", "cb_wait r4")
+    logic += ("react", "skip_eq r2 2 1", "cb_wait r4", "drop r1", "set_drop r4", "add r8 1", "ret r8", "exit")
+    edge = ("instance edge", "export req stackful 1", "call_sync r3 logic.do r0", "ret r3", "exit")
+    exports = ("instance store", "export get callback 1", *store, "instance logic", "export do callback 1", *logic, *edge)
+    numbers = range(1, count + 1)
+    ops = ("main", *(f"start edge.req {k}" for k in numbers), *(f"finish {k} r0" for k in numbers), "answer r0", "end")
+    return text("host disk polls 9 value 100", *exports, *ops)
+
+
+def all_texts():
+    """Name, words and text of each."""
+    million = ["run", "1000000"]
+    yield "two callbacks that yield", million, yields()
+    yield "plain ops, one script", million, plain_ops()
+    yield "threads", million, threads()
+    yield "256 works of hosts", million, host_works()
+    yield "direct calls", million, direct_calls()
+    yield "16 held calls", million, held_calls(16)
+    yield "256 held calls", million, held_calls(256)
+    yield "100 waiters", million, waiters(100)
+    yield "2,000 waiters", million, waiters(2000)
+    yield "a pipeline of calls", million, pipeline()
+    yield "16 requests", million, requests(16)
+    yield "256 requests", million, requests(256)

@@ -1,0 +1,22 @@
+use Rattle.op_dispatch.proofs.CallLemmas.{host_makes_none}
+use Rattle.op_dispatch.proofs.calls.call_of_host.Goals as goal
+use Rattle.std.proofs.Common.{ap, inr, sym, ◌∙◌}
+use Rattle.std.specs.Prelude.{Some, option_map}
+use Rattle.task_machine.specs.declared.component.HostDef.{HostDef}
+use Rattle.task_rules.specs.Calls.{first_poll}
+use Rattle.task_words.specs.StateView.{thread_of, work_of}
+
+pub returns-clause-polls : goal.returns-clause-polls
+returns-clause-polls g c =
+    let v = g.W.View.view in
+    let s = v c.args.w.now in
+    let n = thread_of s c.args.thread in
+    let t = v c.call_host.new.w in
+    let host = c.host_def-host.result in
+    let e = c.in_ok-came.ensures in
+    record {
+      polled = ap (λ (h : HostDef). Some h) c.host_def-host.ensures;
+      work = e.work;
+      course = e.course;
+      none = λ none. inr (host_makes_none s.core t.core n c.args.to c.args.register (first_poll host) c.in_ok-came.came e.meets (sym e.work ∙ ap (option_map (λ id. work_of t id)) none));
+    }
