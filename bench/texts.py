@@ -34,8 +34,8 @@ def threads():
 
 def host_works():
     """256 works of hosts pend, and the loop rests."""
-    ops = ("main", *("spawn h",) * 256, "await 1", "answer r0", "end")
-    return text("host h polls 1000000 value 1", *ops)
+    waits = ("instance a", "export f callback 0", "set_new r4", "cb_wait r4")
+    return text("host h polls 1000000 value 1", *waits, *main(*("spawn h",) * 256, "start a.f"))
 
 
 def direct_calls():
