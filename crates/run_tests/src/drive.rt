@@ -19,7 +19,7 @@ use task_machine::{DataOp, ExportKind, LoopLabel, MainLabel, NoMemory, Seq, Task
 use task_store::{Access, Store, Whole};
 use task_words::{ThreadWords, View};
 
-const CALLEE: Func = Func {
+pub(crate) const CALLEE: Func = Func {
     instance: Instance { index: 0 },
     export: 0,
 };
@@ -81,7 +81,7 @@ fn made_component(alloc: Global) -> Result<Component, AllocError>
     })
 }
 
-fn component(rt: &impl Abort, alloc: Global) -> Component
+pub(crate) fn component(rt: &impl Abort, alloc: Global) -> Component
     ensures exports { HasPlainExports result }
     ensures covered { IsCovered result }
     ensures there { IsSome (export_at result (callee_of CALLEE)) }
@@ -106,7 +106,7 @@ fn new_store(rt: &impl Abort, alloc: Global) -> Store<(), ()>
 }
 
 // A store with that component's one instance.
-fn store(rt: &impl Abort, alloc: Global, component: &Component) -> Store<(), ()>
+pub(crate) fn store(rt: &impl Abort, alloc: Global, component: &Component) -> Store<(), ()>
     requires exports { HasPlainExports component.now }
     requires one { length component.now.instances ≡ 1 }
     ensures order { Sits component.now Turn.Main result.state.core }
@@ -118,7 +118,11 @@ fn store(rt: &impl Abort, alloc: Global, component: &Component) -> Store<(), ()>
 }
 
 // A call of that export with 7, in a store in which nothing was made but the instance.
-fn called(rt: &impl Abort, component: &Component, store: &mut Store<(), ()>) -> FuncCallConcurrent
+pub(crate) fn called(
+    rt: &impl Abort,
+    component: &Component,
+    store: &mut Store<(), ()>,
+) -> FuncCallConcurrent
     requires covered { IsCovered component.now }
     requires there { IsSome (export_at component.now (callee_of CALLEE)) }
     requires params { IfSome (export_at component.now (callee_of CALLEE)) (λ e. 1 ≡ e.params) }

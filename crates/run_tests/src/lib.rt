@@ -14,4 +14,6 @@ mod scenario;
 #[cfg(test)]
 mod state;
 #[cfg(test)]
+mod state_calls;
+#[cfg(test)]
 mod store;
