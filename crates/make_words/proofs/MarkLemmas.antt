@@ -88,7 +88,7 @@ module _ (a b : CoreParts) (sound_a : IsSound a) (sound_b : IsSound b) (only : b
         let p = bare (parts_of b) in
         sound_of_whole b (record b { high = Some c }) refl sound_b
         (marked_whole p sound_b.whole (Some c) b.low (high_row p refl none_high) high_kept (λ some. some)
-            (IsRows-opened (row_chain p) (λ q. q.mark.index) (IsSeated p) b.marks (row p) sound_b.whole.chained.marks (row_chain (marked p sound_b.whole (Some c) b.low)) (row (marked p sound_b.whole (Some c) b.low)) High (λ r. row_is r High) chains (λ r other. high_row p refl none_high r) c none_high refl empty (ap spot_list names.names) unused))
+        (IsRows-opened (row_chain p) (λ q. q.mark.index) (IsSeated p) b.marks (row p) sound_b.whole.chained.marks (row_chain (marked p sound_b.whole (Some c) b.low)) (row (marked p sound_b.whole (Some c) b.low)) High (λ r. row_is r High) chains (λ r other. high_row p refl none_high r) c none_high refl empty (ap spot_list names.names) unused))
       where
         chains : (r : Row) → (r ≡ High → ⊥) → row_chain (marked (bare (parts_of b)) sound_b.whole (Some c) b.low) r ≡ row_chain (bare (parts_of b)) r
         chains High other = absurd (other refl)
@@ -115,7 +115,7 @@ module _ (a b : CoreParts) (sound_a : IsSound a) (sound_b : IsSound b) (only : b
         let p = bare (parts_of b) in
         sound_of_whole b (record b { low = Some c }) refl sound_b
         (marked_whole p sound_b.whole b.high (Some c) (low_row p refl none_low) (λ some. some) low_kept
-            (IsRows-opened (row_chain p) (λ q. q.mark.index) (IsSeated p) b.marks (row p) sound_b.whole.chained.marks (row_chain (marked p sound_b.whole b.high (Some c))) (row (marked p sound_b.whole b.high (Some c))) Low (λ r. row_is r Low) chains (λ r other. low_row p refl none_low r) c none_low refl empty (ap spot_list names.names) unused))
+        (IsRows-opened (row_chain p) (λ q. q.mark.index) (IsSeated p) b.marks (row p) sound_b.whole.chained.marks (row_chain (marked p sound_b.whole b.high (Some c))) (row (marked p sound_b.whole b.high (Some c))) Low (λ r. row_is r Low) chains (λ r other. low_row p refl none_low r) c none_low refl empty (ap spot_list names.names) unused))
       where
         chains : (r : Row) → (r ≡ Low → ⊥) → row_chain (marked (bare (parts_of b)) sound_b.whole b.high (Some c)) r ≡ row_chain (bare (parts_of b)) r
         chains High other = refl

@@ -274,10 +274,10 @@ module _ {a : Scene} {b : Core} {n : ℕ} {q : Option Place} (f : Follows a b n 
 
   pub walk_calling : (out : ℕ → Bool) → ((j : ℕ) → (j == n) ≡ false → out j ≡ false) → {s t : Core} → Stay a s t → Both out s → Both out t
   walk_calling out ok c first = along (Both out) (λ w u may h. (
-      stay_word f w u may h.0,
-      calling_next base u (after_word w u) (stay_moves f u h.0 w may) (λ j g at. ok j (behind_apart u h.0 j g at))
-      (λ m is. ok m (switch_ready a h.0 m is).1) h.1 (made_threads_word a w u),
-    )) first c
+    stay_word f w u may h.0,
+    calling_next base u (after_word w u) (stay_moves f u h.0 w may) (λ j g at. ok j (behind_apart u h.0 j g at))
+        (λ m is. ok m (switch_ready a h.0 m is).1) h.1 (made_threads_word a w u),
+  )) first c
 
   -- ---- A strand that stops
 

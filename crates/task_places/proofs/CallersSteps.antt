@@ -89,15 +89,17 @@ module _ (x : Setting) (s : State) (l : Label) (t : State) (w : Walked x s l t) 
         made = le_refl _;
         new = λ m none there. absurd (grind arith);
       } in
-      let r = trip_called f start (f.follows.start, own) trip on in
-      (record {
-        goes = r.goes;
-        feet = r.feet;
-        under = r.under;
-        fresh = r.fresh;
-        came = λ no j k at. sym (e j) ∙ r.came no j k at;
-        live = λ m old. r.live m (ap is_fresh (e m) ∙ old);
-      }, next_runs trip)) refl live
+      let r = trip_called f start (f.follows.start, own) trip on in (
+        record {
+          goes = r.goes;
+          feet = r.feet;
+          under = r.under;
+          fresh = r.fresh;
+          came = λ no j k at. sym (e j) ∙ r.came no j k at;
+          live = λ m old. r.live m (ap is_fresh (e m) ∙ old);
+        },
+        next_runs trip,
+      )) refl live
     where
       early : (b : Core) → Reads s.core b → (m : ℕ) → s.turn ≡ Turn.Run m → (j k : ℕ) → place_of j b ≡ Some (Place.Behind k) → is_fresh (place_of k b) ≡ false
       early b r m runs j k at = by (is_fresh (place_of k s.core)) refl

@@ -30,7 +30,6 @@ use Rattle.task_rules.specs.Calls.{next_work, work_queued}
 use Rattle.task_rules.specs.MainOps.{main_spawned}
 use Rattle.task_rules.specs.Scripts.{host_at, never_host}
 
-
 module _ (c : Component) (ops : List MainOpDef) (p : MainPlace) (s : Core) (o : MainOpDef) (at : op_at ops p ≡ Some o) where
   -- the op is done
   pub did_by_row : (l : MainLabel) (new : Core) → main_row c (line_of p o) s (act_of p o) ≡ Does l new → IsOpOfMain (label.Main l) → main.Did c ops (Scripted p) s (label.Main l) (Scripted (advanced_main o l p)) new

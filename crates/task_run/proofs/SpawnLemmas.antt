@@ -113,5 +113,5 @@ pub knows_more : (c : Component) (ops : List MainOpDef) (a b : Main) (l : Label)
     h.number ≡ next_work s.core → t.core ≡ work_queued work_caller.Spawn host None s.core → work_of t h.work ≡ h.number → Steps c ops a s.core (step.Did l) b t.core → KeepsWorks s t → KnowsSpawns m s → KnowsSpawns n t
 knows_more c ops a b l m n s t h host grown number core named steps names knows k g at =
     ⊎_elim (λ old. knows_later m s t (steps_last c ops a b s t (step.Did l) steps names) knows k g old)
-      (λ same. subst (λ (q : Spawned). IsMadeIn q t) same (made_by_spawn h s t host number core named))
-      (one_more m.spawns.items h g k (sym (ap (λ (xs : List Spawned). slice_get xs k) grown) ∙ at))
+    (λ same. subst (λ (q : Spawned). IsMadeIn q t) same (made_by_spawn h s t host number core named))
+    (one_more m.spawns.items h g k (sym (ap (λ (xs : List Spawned). slice_get xs k) grown) ∙ at))

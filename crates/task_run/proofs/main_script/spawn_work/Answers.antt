@@ -30,5 +30,5 @@ returns-clause-knows g c =
     let s = c.args.access.now.store.now.state in
     let t = c.queue_spawn.new.self in
     knows_more c.args.component.now (script_of main) (part_of main) (part_of c.keep_spawn.new.self) (label.Main (main_label.Spawn c.in-Some.number c.work_number-future.result)) main c.keep_spawn.new.self s t
-      (record { work = c.in-Ok.work; number = c.work_number-future.result }) c.in-Some-host_here.def c.in_ok-keep_spawn.ensures.spawns (c.work_number-future.ensures ∙ c.in-Ok.ensures.work) c.in-Ok.ensures.core (sym c.work_number-future.ensures)
-      (returns-clause-ok g c) (λ id live. c.queue_spawn.ensures.tags.works id live) c.requires.knows
+    (record { work = c.in-Ok.work; number = c.work_number-future.result }) c.in-Some-host_here.def c.in_ok-keep_spawn.ensures.spawns (c.work_number-future.ensures ∙ c.in-Ok.ensures.work) c.in-Ok.ensures.core (sym c.work_number-future.ensures)
+    (returns-clause-ok g c) (λ id live. c.queue_spawn.ensures.tags.works id live) c.requires.knows
