@@ -37,7 +37,7 @@ impl FuncCallConcurrent {
 }
 
 impl Func {
-    fn callee(self) -> Callee
+    pub(crate) fn callee(self) -> Callee
         ensures { result ≡ callee_of self }
     {
         Callee {
