@@ -109,7 +109,7 @@ pub(crate) fn at_once(came: Came) -> Result<Label, TaskError>
 }
 
 /// The label of an op that is done, or a pause, or why it was refused.
-pub(crate) fn step(came: Came) -> Result<Step<Label>, TaskError>
+pub(crate) fn stepped(came: Came) -> Result<Step<Label>, TaskError>
     ensures { result ≡ answered (λ l. l) came }
 {
     match came {

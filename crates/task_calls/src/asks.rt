@@ -5,7 +5,7 @@ ghost use Rattle.task_calls.specs.Answers.{answer_in, at_once, event_in, nothing
 ghost use Rattle.task_calls.specs.Asks.{Answers, Did, IsAtPlace, IsRunningIn, is_at_once, row_at, row_of, after, turn_in};
 ghost use Rattle.task_turns.specs.Turn.{Sits};
 
-use crate::answers::{Answer, Step, answer_in, at_once, event_in, number_in, step};
+use crate::answers::{Answer, Step, answer_in, at_once, event_in, number_in, stepped};
 use op_dispatch::do_other_op;
 use state_calls::TaskError;
 use task_machine::{Component, Op};
@@ -98,7 +98,7 @@ pub fn begin_nothing<W: Words>(
     ensures answers { Answers (row_of component.now op (W.view w.old).core) nothing_in (W.view w.old) result (W.view w.new) }
     ensures order { IsAtPlace component.now (row_of component.now op (W.view w.old).core) (W.view w.old) → Sits component.now (turn_in (W.view w.new)) (W.view w.new).core }
 {
-    match step(ask(component, w, op)?)? {
+    match stepped(ask(component, w, op)?)? {
         Step::Done(_) => Ok(Step::Done(())),
         Step::Pause => Ok(Step::Pause),
     }
@@ -116,7 +116,7 @@ pub fn begin_number<W: Words>(
     ensures answers { Answers (row_of component.now op (W.view w.old).core) number_in (W.view w.old) result (W.view w.new) }
     ensures order { IsAtPlace component.now (row_of component.now op (W.view w.old).core) (W.view w.old) → Sits component.now (turn_in (W.view w.new)) (W.view w.new).core }
 {
-    match step(ask(component, w, op)?)? {
+    match stepped(ask(component, w, op)?)? {
         Step::Done(label) => Ok(Step::Done(number_in(label))),
         Step::Pause => Ok(Step::Pause),
     }
@@ -134,7 +134,7 @@ pub fn begin_event<W: Words>(
     ensures answers { Answers (row_of component.now op (W.view w.old).core) event_in (W.view w.old) result (W.view w.new) }
     ensures order { IsAtPlace component.now (row_of component.now op (W.view w.old).core) (W.view w.old) → Sits component.now (turn_in (W.view w.new)) (W.view w.new).core }
 {
-    match step(ask(component, w, op)?)? {
+    match stepped(ask(component, w, op)?)? {
         Step::Done(label) => Ok(Step::Done(event_in(label))),
         Step::Pause => Ok(Step::Pause),
     }
@@ -155,7 +155,7 @@ pub fn go_on<W: Words>(component: &Component, w: &mut W) -> Result<Step<Answer>,
         return Err(TaskError::NoMemory);
     };
     leave(w, done.came);
-    match step(done.came)? {
+    match stepped(done.came)? {
         Step::Done(label) => Ok(Step::Done(answer_in(label))),
         Step::Pause => Ok(Step::Pause),
     }

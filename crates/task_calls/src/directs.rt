@@ -72,10 +72,12 @@ pub fn exit_call<W: Words>(component: &Component, w: &mut W, value: u64) -> Resu
     };
     let before = w.register(thread, 0);
     w.set_register(thread, 0, value);
-    let came = exit_direct(w, thread);
-    if let Came::Traps(_) = came {
-        w.set_register(thread, 0, before);
+    match exit_direct(w, thread) {
+        Came::Goes(_, _) => Ok(()),
+        Came::Traps(trap) => {
+            w.set_register(thread, 0, before);
+            Err(TaskError::Trap(trap))
+        }
+        _ => unreachable!(),
     }
-    at_once(came)?;
-    Ok(())
 }

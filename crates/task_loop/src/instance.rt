@@ -6,7 +6,7 @@ ghost use Rattle.task_calls.specs.Intrinsics.{pressure_op};
 ghost use Rattle.task_machine.specs.Read.{instance_of};
 ghost use Rattle.task_machine.specs.declared.op.Operand.{Operand};
 ghost use Rattle.task_rules.specs.Scripts.{op_of, value_of};
-ghost use Rattle.task_turns.specs.Covered.{IsCovered};
+ghost use Rattle.task_turns.specs.WellFormed.{IsWellFormed};
 ghost use Rattle.task_turns.specs.Turn.{Sits, running_of};
 
 use task_calls::{TaskError, ask_nothing, pressure_op, task_return};
@@ -34,7 +34,7 @@ impl Instance {
         memory: u32,
         value: u64,
     ) -> Result<(), TaskError>
-        requires covered { IsCovered component.now }
+        requires covered { IsWellFormed component.now }
         requires runs { IsSome (running_of store.old.state) }
         requires order { IfSome (running_of store.old.state) (λ n. Sits component.now (Turn.Run n) store.old.state.core) }
         requires instance { IfSome (running_of store.old.state) (λ n. instance_of n store.old.state.core ≡ self.index) }

@@ -20,3 +20,14 @@ module _ (g : Over) (c : goal.After-do_other_op g) where
 
   number : thread_of (g.W.View.view c.args.w.now) c.in-Some.thread ≡ c.requires.running.number
   number = number_at c.requires.running.number (g.W.View.view c.args.w.now) c.requires.running.runs c.in-Some.thread (sym c.current.ensures ∙ c.in-Some.is)
+
+pub do_other_op-requires-clause-runner : goal.do_other_op-requires-clause-runner
+do_other_op-requires-clause-runner g c =
+    let q = c.requires.running in
+    order.runner c.args.component.now q.number (g.W.View.view c.args.w.now) q.order c.none_is_zero.ensures.threads q.runs c.in-Some.thread (sym c.current.ensures ∙ c.in-Some.is)
+
+pub do_other_op-requires-clause-instances : goal.do_other_op-requires-clause-instances
+do_other_op-requires-clause-instances g c = c.requires.running.order.there
+
+pub do_other_op-requires-clause-few : goal.do_other_op-requires-clause-few
+do_other_op-requires-clause-few g c = c.requires.running.few
