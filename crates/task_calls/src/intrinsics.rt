@@ -1,5 +1,5 @@
 //! The ops for which the calls of an instance stand, where more than one does.
-ghost use Rattle.std.specs.Prelude.{◌≡◌};
+ghost use Rattle.std.specs.Prelude.{◌≡◌, false, true};
 ghost use Rattle.task_calls.specs.Intrinsics.{cancel_op, pressure_op, suspension_op};
 
 use task_machine::{CallOp, Op, Operand, TaskOp, ThreadOp};
