@@ -37,3 +37,4 @@ pub mod KnownWorks
 pub mod MemberLemmas
 pub mod CancelLemmas
 pub mod EventLemmas
+pub mod CourseLemmas
