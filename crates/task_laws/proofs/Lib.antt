@@ -40,3 +40,4 @@ pub mod CancelLemmas
 pub mod EventLemmas
 pub mod ReadyLemmas
 pub mod ReadyCounts
+pub mod CourseLemmas

@@ -1,20 +1,6 @@
 -- The ready members of a set and its woken threads, counted by numbers.
-use Rattle.std.proofs.Common.{ap, arith, inl, inr, refl, sym}
-use Rattle.std.proofs.lemmas.Bool.Decides.{nat_tests}
-use Rattle.std.proofs.lemmas.List.Folds.{list_any-append}
-use Rattle.std.specs.List.{count_by, list_any}
-use Rattle.std.specs.Option.{option_map_or}
-use Rattle.std.specs.Prelude.{[], Bool, List, None, Option, Some, false, is_some, map, true, ℕ, ◌+◌, ◌==◌, ◌≡◌, ◌≤◌, ◌∷◌, ◌++◌, ◌⊎◌, zero, suc}
-use Rattle.task_laws.proofs.Counts.{at_number, counted_weighs, counts_one, marks, mass, one, one_counted}
-use Rattle.task_laws.proofs.Joins.{any_number}
-use Rattle.task_laws.specs.Wakes.{is_ready_in, ready_members}
-use Rattle.task_machine.specs.Core.{Core}
-use Rattle.task_machine.specs.Maps.{get, numbers}
-use Rattle.task_machine.specs.Read.{has_ready_member, is_ready_member, is_woken_for, same_subtask, subtasks, woken}
-use Rattle.task_machine.specs.declared.records.Call.{Call}
-use Rattle.task_machine.specs.declared.records.Subtask.{Subtask}
-use Rattle.task_machine.specs.declared.records.Thread.{Thread}
-use Rattle.task_machine.specs.declared.records.Work.{Work}
+use Rattle.task_laws.proofs.Words.{[], ap, arith, Bool, Call, Core, count_by, false, get, has_ready_member, is_ready_in, is_ready_member, is_woken_for, List, list_any, list_any-append, map, nat_tests, None, numbers, Option, option_map_or, ready_members, refl, same_subtask, Some, Subtask, suc, Thread, true, woken, Work, zero, ℕ, ◌+◌, ◌∷◌, ◌≡◌, ◌≤◌}
+use Rattle.task_laws.proofs.{Counts.at_number, Counts.counted_weighs, Counts.counts_one, Counts.marks, Counts.mass, Counts.one, Counts.one_counted, Joins.any_number}
 
 -- ---- Members
 

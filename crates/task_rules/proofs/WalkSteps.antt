@@ -252,7 +252,7 @@ module _ (x : Setting) (s : State) (l : Label) where
       let host = host_at x.component h in
       quietly (MainLabel.Spawn k (next_work s.core)) (work_queued WorkCaller.Spawn host None s.core) refl refl
       (λ i e. grind (arith, nat_tests, get-insert, e))
-      (word (QueueWork WorkCaller.Spawn host None) (refl, refl) NoWord)
+      (word (QueueWork WorkCaller.Spawn host None) (refl, (refl, refl)) NoWord)
   main_row_leads k (Abort i) may names aborts = quietly (MainLabel.Abort (phase_of i s.core) k) (set_phase i (aborted_phase (phase_of i s.core)) s.core) refl refl (λ i e. none_said refl e) (word (SetPhase i (aborted_phase (phase_of i s.core))) (aborts i refl, refl) NoWord)
   main_row_leads k (Await i) may names aborts = unless_pending_leads (is_complete (phase_of i s.core)) (MainLabel.Await k) refl refl refl
   main_row_leads k Quiet may names aborts = unless_pending_leads (not (has_interesting s.core)) MainLabel.Quiet refl refl refl

@@ -31,7 +31,7 @@ use Rattle.task_rules.specs.Cancels.{aborted_phase, is_callback_wait}
 use Rattle.task_rules.specs.Ends.{is_told, own_or_none}
 use Rattle.task_rules.specs.MainOps.{op_at, takes_words, spawned_at, is_spawn}
 use Rattle.task_rules.specs.Once.{returned_holder}
-use Rattle.task_rules.specs.OpParts.{callee_of_main_op, callee_of_op, calls_host, can_come, ends_activation, is_join, is_sync_call, is_wait, makes_set}
+use Rattle.task_rules.specs.OpParts.{callee_of_main_op, callee_of_op, calls_host, can_come, ends_activation, is_join, is_sync_call, is_wait, makes_set, queues_work}
 use Rattle.task_rules.specs.Places.{is_at_wait}
 use Rattle.task_rules.specs.Scenes.{Scene, component_of, op_in}
 use Rattle.task_rules.specs.Scripts.{export_kind, is_script, registers_for, script_of, slot_at}
@@ -448,9 +448,10 @@ MayUnname a i h sub s = (n : ℕ) ×
 
 -- main's op spawns it, or the op of the running thread calls it
 abbrev pub MayQueue : Scene → WorkCaller → Option ℕ → Type 0
-MayQueue a work_caller.Spawn group = group ≡ None
+MayQueue a work_caller.Spawn group = (group ≡ None) × (a.turn ≡ turn.Main)
 MayQueue a (work_caller.Async n q) group = IsRunner a n × ((group ≡ Some (thread_group n a.base)) × ((a.turn ≡ turn.Run n) × (calls_host (op_in a n) ≡ true)))
-MayQueue a (work_caller.Sync n) group = IsRunner a n × (group ≡ Some (thread_group n a.base))
+MayQueue a (work_caller.Sync n) group = IsRunner a n × ((group ≡ Some (thread_group n a.base)) × ((a.turn ≡ turn.Run n) ×
+    (queues_work (how_far_of n a.base) (op_in a n) ≡ true)))
 
 abbrev pub is_async_work : WorkCaller → Bool
 is_async_work (work_caller.Async n q) = true
