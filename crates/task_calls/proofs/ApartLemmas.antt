@@ -68,7 +68,7 @@ module _ (trapped : Bool) (groups : List ℕ) (handle_limit capacity : ℕ) wher
     held = o.held;
     works_told = λ i w e. let h = o.works_told i w e in record { late = h.late; told = h.told; finishing = h.finishing };
     calls_told = o.calls_told;
-    awake = λ e. let h = o.awake e in record { alone = h.alone; starts_there = h.starts_there; blocked = blocked h.blocked; callers = callers_stay same h.callers; feet = h.feet; free = record { under = h.free.under; behind = h.free.behind }; counted = counted_as refl refl refl h.counted };
+    awake = λ e. let h = o.awake e in record { alone = h.alone; starts_there = h.starts_there; blocked = blocked h.blocked; callers = callers_stay same h.callers; feet = h.feet; free = record { under = h.free.under; behind = h.free.behind }; counted = counted_as s (beside s) refl refl refl h.counted };
   }
     where
       there : (i h k : ℕ) → subtask_at i h (beside s) ≡ Some (subtask.Guest k) → subtask_handle (subtask.Guest k) (beside s) ≡ Some h

@@ -663,7 +663,7 @@ module _ {s t : Core} where
       waits_now : (y n : ℕ) → option_map_or (λ (u : Thread). is_waiting_on y u.place) (get t.threads n) false ≡ true → is_waiter y n t ≡ true
       waits_now y n on = grind arith
 
-  pub counted_as : t.threads ≡ s.threads → t.calls ≡ s.calls → t.works ≡ s.works → WakesCounted s → WakesCounted t
-  counted_as threads calls works h = counted_stay (λ y j on. ap (λ (r : Records Thread). option_map_or (is_waiting_on y) (option_map (λ (u : Thread). u.place) (get r j)) false) (sym threads) ∙ on)
-      (λ y sub on. sym (member_same y s t calls works sub) ∙ on)
-      (λ y j on. ap (λ (r : Records Thread). option_map_or (λ (u : Thread). is_woken_for y u u.place) (get r j) false) threads ∙ on) h
+pub counted_as : (s t : Core) → t.threads ≡ s.threads → t.calls ≡ s.calls → t.works ≡ s.works → WakesCounted s → WakesCounted t
+counted_as s t threads calls works h = counted_stay (λ y j on. ap (λ (r : Records Thread). option_map_or (is_waiting_on y) (option_map (λ (u : Thread). u.place) (get r j)) false) (sym threads) ∙ on)
+    (λ y sub on. sym (member_same y s t calls works sub) ∙ on)
+    (λ y j on. ap (λ (r : Records Thread). option_map_or (λ (u : Thread). is_woken_for y u u.place) (get r j) false) threads ∙ on) h

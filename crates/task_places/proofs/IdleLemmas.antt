@@ -3,6 +3,9 @@ use Rattle.task_places.proofs.Laws.{[], any_found, any_thread, ap, arith, at_num
 use Rattle.task_places.proofs.{OrderLemmas.reached_in_order, WakeLines.none_of}
 use Rattle.task_places.specs.{Kept.ReachedInOrder, Wakes.IdleIsStalled, Wakes.ReachedCounted, Wakes.ReachedGoOn, Wakes.ReachedUnblocked}
 use Rattle.task_rules.specs.Stalled.{is_idle}
+use Rattle.task_rules.specs.Stalled.{Setting}
+use Rattle.task_laws.specs.Order.{InOrder}
+use Rattle.std.proofs.Common.{sym}
 
 -- a thread that passes, by its number
 any_place : (test : Thread → Bool) (s : Core) → any_thread test s ≡ true → (n : ℕ) × ((t : Thread) × ((get s.threads n ≡ Some t) × (test t ≡ true)))
@@ -106,10 +109,9 @@ reached_unblocked x s r live =
     let q = ((reached_in_order x s r).awake live).blocked in
     (q, let none = false_of (any_thread (λ t. is_blocked_on_end s.core t.place) s.core) (blocked_line s.core q) in grind arith)
 
-pub idle_is_stalled : IdleIsStalled
-unfolding IdleIsStalled is_idle is_stalled
-idle_is_stalled x s h idle =
-    let parts : is_idle x s ≡ true = idle in
+idle_stalled : (x : Setting) (s : State) → InOrder x.component s → is_idle x s ≡ true → is_stalled x s ≡ true
+unfolding is_idle is_stalled
+idle_stalled x s h idle =
     let turn = take_of s.turn (grind arith) in
     let none : next_entry s.core ≡ None = grind arith in
     let still = idle_still s h.in_place.placed (h.awake (grind arith)).alone false turn none in
@@ -118,3 +120,16 @@ idle_is_stalled x s h idle =
     let passed = none_passed s.core still (h.awake (grind arith)).counted (numbers s.core.sets) in
     let ends = false_of (any_thread (λ t. is_blocked_on_end s.core t.place) s.core) (blocked_line s.core (h.awake (grind arith)).blocked) in
     grind arith
+
+pub idle_is_stalled : IdleIsStalled
+unfolding IdleIsStalled
+idle_is_stalled x s h idle = idle_stalled x s h idle
+
+-- so in such a state the first three lines of Stalled are all seven
+pub stalled_as_idle : (x : Setting) (s : State) → InOrder x.component s → is_stalled x s ≡ is_idle x s
+unfolding is_stalled
+stalled_as_idle x s h = by (is_idle x s) refl (idle_stalled x s h)
+  where
+    by : (b : Bool) → is_idle x s ≡ b → (is_idle x s ≡ true → is_stalled x s ≡ true) → is_stalled x s ≡ is_idle x s
+    by true is on = on is ∙ sym is
+    by false is on = grind (arith, is)

@@ -1,5 +1,7 @@
 -- What becomes of wakes in the rows that use one up, and in those of starts and joins.
-use Rattle.task_places.proofs.Laws.{activated, activated_woken, advanced, ap, arith, at_handle_limit, at_turn, Bool, Call, Choice, chosen, Component, Core, Delivery, delivery_row, event_label, event_of, ExportKind, false, foot_of, get, get-change, Gift, gift, gift_none, give_thread_handle, Given, Goes, goes_to, handed_on, handed_out, has_ready_member, held_label, host_taken, if◌then◌else◌, inl, inr, instance_of, is_callback_waiter, is_explicit, is_none, is_ready_member, is_some, is_told, is_waiter, is_waiting_on, is_watched, is_woken_at, Join, join_done, join_label, join_of, join_row, join_to, joined, joins, kind_of, Label, Mark, may, may_hand_on, may_tell, may_tell_starting, may_wake, may_wake_new, member_same, MemberGift, Moved, moved_to, nat_tests, NoGift, None, none_waits, not, on_call, on_instance, on_thread, on_work, Option, option_and_then, option_map, option_map_or, or_never, or_trap, OwnEvent, OwnGift, Place, place_of, placing_shifted, Progresses, published, published_wakes, push_high, put_high, received, received_woken, Records, refl, running, same_subtask, set_at, set_cancel_delivered, set_delivered, set_do_not_enter, set_do_not_suspend, set_event, set_given, set_how_far, set_join, set_own_event, set_place, set_place_is, set_position, set_register, set_saved_own, set_script, set_started, set_starting_published, set_thread_handle, shifted_calls, Some, start_admitted, start_begins, start_holds, start_row, start_sets_flags, starting_is_published, starting_told, State, Status, Stop, stopped, stopped_shifted, Stops, subst, Subtask, subtask_at, suc, sym, take_holds, take_label, taken, task_of, told, told_spares, told_to, ToldSpares, ToldTo, Trap, trap_if, true, Turn, wait_goes_on, wait_label, wake, wake_why, waken_by, wakes_joined, wakes_one, WakesOne, Why, with_thread_handle, written_by, zero, ℕ, ⊎_elim, ◌==◌, ◌∙◌, ◌≡◌, ◌⊎◌}
+use Rattle.task_places.proofs.Laws.{activated, activated_woken, advanced, ap, arith, at_handle_limit, at_turn, Bool, Call, Choice, chosen, Component, Core, Delivery, delivery_row, event_label, event_of, ExportKind, false, foot_of, get, get-change, Gift, gift, gift_none, give_thread_handle, Goes, goes_to, handed_on, handed_out, has_ready_member, held_label, host_taken, if◌then◌else◌, inl, inr, instance_of, is_callback_waiter, is_explicit, is_none, is_ready_member, is_some, is_told, is_waiter, is_waiting_on, is_woken_at, Join, join_done, join_label, join_of, join_row, join_to, joined, joins, kind_of, Label, Mark, may, may_hand_on, may_tell, may_tell_starting, may_wake, may_wake_new, member_same, MemberGift, Moved, moved_to, nat_tests, NoGift, None, none_waits, not, on_call, on_instance, on_thread, on_work, Option, option_and_then, option_map, option_map_or, or_never, or_trap, OwnEvent, OwnGift, Place, place_of, placing_shifted, Progresses, published, published_wakes, push_high, put_high, received, received_woken, Records, refl, running, same_subtask, set_at, set_cancel_delivered, set_delivered, set_do_not_enter, set_do_not_suspend, set_event, set_given, set_how_far, set_join, set_own_event, set_place, set_place_is, set_position, set_register, set_saved_own, set_script, set_started, set_starting_published, set_thread_handle, shifted_calls, Some, start_admitted, start_begins, start_holds, start_row, start_sets_flags, starting_is_published, starting_told, State, Status, Stop, stopped, stopped_shifted, Stops, subst, Subtask, subtask_at, suc, sym, take_holds, take_label, taken, task_of, told, told_spares, told_to, ToldSpares, ToldTo, Trap, trap_if, true, Turn, wait_goes_on, wait_label, wake, wake_why, waken_by, wakes_joined, wakes_one, WakesOne, Why, with_thread_handle, written_by, zero, ℕ, ⊎_elim, ◌==◌, ◌∙◌, ◌≡◌, ◌⊎◌}
+use Rattle.task_machine.specs.declared.words.Given.{Given as Handout}
+use Rattle.task_machine.specs.Read.{is_watched as is_in_own}
 
 -- ---- What is said of wakes
 
@@ -29,10 +31,10 @@ IsSilent l = (host_taken l ≡ None) × ((c : Component) (s t : Core) → writte
 silent_as : {l k : Label} → l ≡ k → IsSilent k → IsSilent l
 silent_as is h = subst (λ (y : Label). IsSilent y) (sym is) h
 
-wait_silent : (n : ℕ) (v : Given) (w : Option ℕ) → IsSilent (wait_label n v w)
+wait_silent : (n : ℕ) (v : Handout) (w : Option ℕ) → IsSilent (wait_label n v w)
 wait_silent n v w = (grind arith, λ c s t. grind arith)
 
-event_silent : (m : Mark) (n : ℕ) (v : Given) (w : Option ℕ) → IsSilent (event_label m n v w)
+event_silent : (m : Mark) (n : ℕ) (v : Handout) (w : Option ℕ) → IsSilent (event_label m n v w)
 event_silent m n v w = (grind arith, λ c s t. grind arith)
 
 held_silent : (m : Mark) (n : ℕ) (w : Option ℕ) → IsSilent (held_label m n w)
@@ -78,11 +80,11 @@ hands x n e w s t may same own = by (has_ready_member x s) refl may same
 
 -- ---- A wait that goes on
 
-received_place : (m n r : ℕ) (e : OwnEvent) (v : Given) (u : Core) → place_of m (received n r (OwnGift e) v u) ≡ place_of m u
+received_place : (m n r : ℕ) (e : OwnEvent) (v : Handout) (u : Core) → place_of m (received n r (OwnGift e) v u) ≡ place_of m u
 unfolding received advanced moved_to set_how_far set_position on_thread set_given set_register taken set_own_event set_cancel_delivered on_call
 received_place m n r e v u = grind (arith, nat_tests, get-change)
 
-received_event : (n r : ℕ) (sub : Subtask) (v : Given) (u : Core) → event_of sub (received n r (MemberGift sub) v u) ≡ None
+received_event : (n r : ℕ) (sub : Subtask) (v : Handout) (u : Core) → event_of sub (received n r (MemberGift sub) v u) ≡ None
 unfolding received advanced moved_to set_how_far set_position on_thread set_given set_register taken set_event on_call on_work
 received_event n r (Subtask.Guest k) v u = grind (arith, nat_tests, get-change)
 received_event n r (Subtask.Host i) v u = grind (arith, nat_tests, get-change)
@@ -100,7 +102,7 @@ module _ (s t : State) (l : Label) (n y : ℕ) where
   wait_spends r ch own (Some NoGift) is row = (silent_as row.0 (refl, λ c s t. refl), led s.core _ _ row.1 (NoneReady (gift_none false (task_of n s.core) y (chosen n ch s.core) s.core is)))
   wait_spends r ch own (Some (OwnGift e)) is row = by (may_hand_on y (OwnGift e) ch.woken s.core) refl row
     where
-      v : Given
+      v : Handout
       v = handed_out ch s.core (OwnGift e)
 
       by : (b : Bool) → may_hand_on y (OwnGift e) ch.woken s.core ≡ b →
@@ -109,7 +111,7 @@ module _ (s t : State) (l : Label) (n y : ℕ) where
       by true is row = (silent_as row.0 (wait_silent n v ch.woken), led s.core _ _ row.1 (hands y n e ch.woken s.core _ is (λ m other. received_place m n r e v (handed_on y (OwnGift e) ch.woken s.core)) own))
   wait_spends r ch own (Some (MemberGift sub)) is row = by (may_hand_on y (MemberGift sub) ch.woken s.core) row
     where
-      v : Given
+      v : Handout
       v = handed_out ch s.core (MemberGift sub)
 
       by : (b : Bool) → Progresses s s.core n (may b (Goes (wait_label n v ch.woken) (received_woken n y r ch.woken (MemberGift sub) v s.core) n)) l t → IsSilent l × Spends y n s.core t.core
@@ -118,11 +120,11 @@ module _ (s t : State) (l : Label) (n y : ℕ) where
 
 -- ---- A delivery for the set
 
-activated_place : (m n : ℕ) (e : OwnEvent) (v : Given) (u : Core) → (m == n) ≡ false → place_of m (activated n (OwnGift e) v u) ≡ place_of m u
+activated_place : (m n : ℕ) (e : OwnEvent) (v : Handout) (u : Core) → (m == n) ≡ false → place_of m (activated n (OwnGift e) v u) ≡ place_of m u
 unfolding activated moved_to set_how_far set_position on_thread set_given set_register taken set_own_event set_cancel_delivered on_call set_place set_script set_do_not_enter on_instance
 activated_place m n e v u other = grind (arith, nat_tests, get-change, other)
 
-activated_event : (n : ℕ) (sub : Subtask) (v : Given) (u : Core) → event_of sub (activated n (MemberGift sub) v u) ≡ None
+activated_event : (n : ℕ) (sub : Subtask) (v : Handout) (u : Core) → event_of sub (activated n (MemberGift sub) v u) ≡ None
 unfolding activated moved_to set_how_far set_position on_thread set_given set_register taken set_event on_call on_work set_place set_script set_do_not_enter on_instance
 activated_event n (Subtask.Guest k) v u = grind (arith, nat_tests, get-change)
 activated_event n (Subtask.Host i) v u = grind (arith, nat_tests, get-change)
@@ -145,7 +147,7 @@ module _ (s t : State) (l : Label) (b : Core) (m : Mark) (n y : ℕ) where
   delivered_spends ch own (Some NoGift) is row = (silent_as row.0 (refl, λ c s t. refl), led s t l n y b _ _ row.1 (NoneReady (gift_none true (task_of n b) y (chosen n ch b) b is)))
   delivered_spends ch own (Some (OwnGift e)) is row = by (may_hand_on y (OwnGift e) ch.woken b) refl row
     where
-      v : Given
+      v : Handout
       v = handed_out ch b (OwnGift e)
 
       by : (q : Bool) → may_hand_on y (OwnGift e) ch.woken b ≡ q →
@@ -154,7 +156,7 @@ module _ (s t : State) (l : Label) (b : Core) (m : Mark) (n y : ℕ) where
       by true is row = (silent_as row.0 (event_silent m n v ch.woken), led s t l n y b _ _ row.1 (hands y n e ch.woken b _ is (λ j other. activated_place j n e v (handed_on y (OwnGift e) ch.woken b) other) own))
   delivered_spends ch own (Some (MemberGift sub)) is row = by (may_hand_on y (MemberGift sub) ch.woken b) row
     where
-      v : Given
+      v : Handout
       v = handed_out ch b (MemberGift sub)
 
       by : (q : Bool) → Progresses s b n (may q (Goes (event_label m n v ch.woken) (activated_woken n y ch.woken (MemberGift sub) v b) n)) l t → IsSilent l × Spends y n b t.core
@@ -386,7 +388,7 @@ join_tells n sub y w s may = (
 module _ (s t : State) (l : Label) (n : ℕ) (live : t.turn ≡ Turn.Over → ⊥) where
   join_leads : (sub : Subtask) (w y : Option ℕ) → Progresses s s.core n (join_done n sub w s.core y) l t → IsSilent l × JoinTells s.core t.core
   unfolding at_turn
-  join_leads sub w y row = by (is_watched (join_of sub s.core)) (may_wake_new (event_of sub s.core) y w s.core) refl row
+  join_leads sub w y row = by (is_in_own (join_of sub s.core)) (may_wake_new (event_of sub s.core) y w s.core) refl row
     where
       by : (c q : Bool) → may_wake_new (event_of sub s.core) y w s.core ≡ q →
           Progresses s s.core n (trap_if c Trap.WaitableSyncAndAsync (may q (Goes (join_label n w) (joined n sub y w s.core) n))) l t → IsSilent l × JoinTells s.core t.core

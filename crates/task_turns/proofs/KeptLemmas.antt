@@ -189,7 +189,7 @@ trapped_same s = record { kept = λ n there. trapped_place s n; back = λ n p he
 
 trapped_counted : (s : Core) → WakesCounted s → WakesCounted (set_trapped s)
 unfolding set_trapped
-trapped_counted s h = counted_as refl refl refl h
+trapped_counted s h = counted_as s (set_trapped s) refl refl refl h
 
 trapped_event : (s : Core) (sub : Subtask) → undelivered_end (event_of sub s) ≡ None → undelivered_end (event_of sub (set_trapped s)) ≡ None
 unfolding set_trapped
@@ -217,7 +217,7 @@ taken_same k s = record { kept = λ n there. taken_place k s n; back = λ n p he
 
 taken_counted : (k : ℕ) (s : Core) → WakesCounted s → WakesCounted (take_result k s)
 unfolding take_result
-taken_counted k s h = counted_as refl refl refl h
+taken_counted k s h = counted_as s (take_result k s) refl refl refl h
 
 taken_event : (k : ℕ) (s : Core) (sub : Subtask) → undelivered_end (event_of sub s) ≡ None → undelivered_end (event_of sub (take_result k s)) ≡ None
 unfolding take_result
