@@ -157,8 +157,10 @@ module _ {a : Scene} {b : Core} {n : ℕ} {o : Option Place} (f : Frame a b n o)
 
   lands_on : (x : Placing) (s : Core) → MayLand a x s → Stay a b s → On (after_word (Places x) s)
   lands_on x s ok c =
-      on_same s (after_word (Places x) s) (ap (λ (t : Core). place_of j t) (placing_shifted x s).only ∙ land_same x s ok c,
-      ap (λ (t : Core). how_far_of j t) (placing_shifted x s).only ∙ shifted_far (placing_shifted x s) j) (stay_on c)
+      on_same s (after_word (Places x) s) (
+        ap (λ (t : Core). place_of j t) (placing_shifted x s).only ∙ land_same x s ok c,
+        ap (λ (t : Core). how_far_of j t) (placing_shifted x s).only ∙ shifted_far (placing_shifted x s) j,
+      ) (stay_on c)
 
   far_on : (m : ℕ) (h : HowFar) (s : Core) → (j == m) ≡ false → On s → On (after_word (SetHowFar m h) s)
   unfolding set_how_far on_thread
@@ -185,6 +187,8 @@ module _ {a : Scene} {b : Core} {n : ℕ} {o : Option Place} (f : Frame a b n o)
   trip_on (GoesBack s t k m v c is runs to under d ok) live =
       let low : (j == m) ≡ false = by_number j m _ (λ e. absurd (free k (ap (λ (i : ℕ). place_of i a.base) e ∙ under))) (λ e. e) in
       far_on m (HowFar.Answered v) (after_word (Places (Move m Place.Running)) t) low
-      (on_same t (after_word (Places (Move m Place.Running)) t) (ap (λ (u : Core). place_of j u) (placing_shifted (Move m Place.Running) t).only ∙ place_kept j m Place.Running t low,
-      ap (λ (u : Core). how_far_of j u) (placing_shifted (Move m Place.Running) t).only ∙ shifted_far (placing_shifted (Move m Place.Running) t) j) (quits_on k s t c is d))
+      (on_same t (after_word (Places (Move m Place.Running)) t) (
+        ap (λ (u : Core). place_of j u) (placing_shifted (Move m Place.Running) t).only ∙ place_kept j m Place.Running t low,
+        ap (λ (u : Core). how_far_of j u) (placing_shifted (Move m Place.Running) t).only ∙ shifted_far (placing_shifted (Move m Place.Running) t) j,
+      ) (quits_on k s t c is d))
   trip_on (Collapses t over c) live = absurd (live over)

@@ -58,9 +58,15 @@ published_wakes sub e (Some m) s chosen spare x is =
     let u = unblocked (blocked_on sub s) t in
     let waits : is_waiter x m t ≡ true = ap (λ (p : Option Place). option_map_or (is_waiting_on x) p false) ((evented sub (Some e) s).0 m) ∙ chosen x is m refl in
     let kept = unblocked_kept sub (blocked_on sub s) t x m (λ j at. (evented sub (Some e) s).0 j ∙ blocked_at sub s j at) waits in
-    inr (m, (waits, subst (λ (j : Join). place_of m (wake_joined j (Some m) u) ≡ Some (Place.Ready Mark.High (wake_why x (is_callback_waiter m t)))) (sym is)
-    (wakes_one x m u (ap (λ (p : Option Place). option_map_or (is_waiting_on x) p false) kept ∙ waits)
-    ∙ ap (λ (p : Option Place). Some (Place.Ready Mark.High (wake_why x (option_map_or waits_by_callback p false)))) kept)))
+    inr (
+      m,
+      (
+        waits,
+        subst (λ (j : Join). place_of m (wake_joined j (Some m) u) ≡ Some (Place.Ready Mark.High (wake_why x (is_callback_waiter m t)))) (sym is)
+            (wakes_one x m u (ap (λ (p : Option Place). option_map_or (is_waiting_on x) p false) kept ∙ waits)
+            ∙ ap (λ (p : Option Place). Some (Place.Ready Mark.High (wake_why x (option_map_or waits_by_callback p false)))) kept),
+      ),
+    )
 
 evented_join : (sub : Subtask) (e : Option Status) (s : Core) → join_of sub (set_event sub e s) ≡ join_of sub s
 unfolding set_event on_call on_work

@@ -45,7 +45,6 @@ unfolding may_deadlock
 may x s m order none live rest idle pends =
     rw live (rw idle (ap (λ v. v && true) (stalled_as_idle x (state_at s m (turn.Take false)) order ∙ is_idle_so x s m none rest pends)))
 
-
 module _ (x : Setting) (s t : StateView) (m : Main) (current : s.current ≡ None) (none : next_entry s.core ≡ None) (moving : has_moving_work s.core ≡ false) (live : has_live_work s.core ≡ false) (rest : works_rest s.core ≡ true) (order : InOrder x.component (state_at s.core m (turn.Take false))) (idle : x.idle ≡ idle_line.Trap) (pends : main_pends x s.core m ≡ true) (new : t ≡ on_core set_trapped s) where
   deadlock_step : Step x (state_at s.core m (turn.Take false)) (label.Loop (loop_label.Deadlock (deadlock_trap s.core))) (state_at t.core m turn.Over)
   unfolding Step at_turn
