@@ -5,6 +5,8 @@ ghost use Rattle.task_records.specs.Seen.{IsSound, seen};
 ghost use Rattle.task_rules.specs.MainOps.{has_interesting};
 ghost use Rattle.task_words.specs.StateView.{call_of, on_core, with_current};
 
+use std::collections::BTreeMap;
+use table_order::TablePlaces;
 use task_machine::Made;
 use task_records::CoreParts;
 use task_words::{CallId, ThreadId};
@@ -87,6 +89,13 @@ pub fn count_work(parts: &mut CoreParts)
     parts.made.works += 1;
 }
 
+// The places of the groups are free, in order of the groups' numbers.
+fn give_groups(places: &mut TablePlaces, groups: &mut BTreeMap<u64, u32>) {
+    while let Some((_, entry)) = groups.pop_first() {
+        places.give(entry);
+    }
+}
+
 /// The store is trapped, and all groups are finished.
 pub fn set_trapped(parts: &mut CoreParts)
     requires { IsSound parts.old }
@@ -97,4 +106,5 @@ pub fn set_trapped(parts: &mut CoreParts)
     parts.finished = parts.made.groups;
     parts.kept.used -= parts.kept.groups;
     parts.kept.groups = 0;
+    give_groups(&mut parts.table_places, &mut parts.group_entries);
 }

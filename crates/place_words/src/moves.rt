@@ -15,24 +15,42 @@ ghost use Rattle.task_table.specs.Changes.{with_entry};
 ghost use Rattle.task_words.specs.StateView.{on_core, thread_of};
 
 use crate::entries::{entry_set, one_less, one_more};
-use task_index::file;
-use task_links::Links;
+use table_order::{Seat, SeatLinks};
 use task_records::{CoreParts, GuestThread, Node};
 use task_words::ThreadId;
 
-// The node is in this chain alone, with the value, or in none.
-pub(crate) fn refile(links: &mut Links<u32>, node: Node, chain: Option<usize>, value: u32)
+// The node is in this chain alone, with the seat, or in none.
+pub(crate) fn refile(links: &mut SeatLinks, node: Node, chain: Option<usize>, seat: Seat)
     requires made { is_made links.old node.index ≡ true }
     requires live { IfSome chain (λ c. IsSome (list_of links.old c)) }
-    ensures links { Refiles links.old links.new node.index (option_map (λ c. (c, value)) chain) }
+    ensures links { Refiles links.old links.new node.index (option_map (λ c. (c, seat)) chain) }
     ensures left { chain ≡ None → links.new ≡ removed node.index links.old }
 {
     match chain {
-        Some(chain) => file(links, node, chain, value),
-        None => {
-            links.no_node_is_twice();
-            links.remove(node);
-        }
+        Some(chain) => links.file(node, chain, seat),
+        None => links.remove(node),
+    }
+}
+
+// The seat of a thread.
+fn thread_seat(place: u32, thread: GuestThread) -> Seat
+    ensures { result ≡ thread_seat place thread }
+{
+    Seat {
+        task: thread.task_entry,
+        thread: thread.entry,
+        place,
+    }
+}
+
+/// The seat of a call or of a host work, by its places in the resource table and in the table of its kind.
+pub(crate) fn member_seat(entry: u32, place: u32) -> Seat
+    ensures { result ≡ member_seat entry place }
+{
+    Seat {
+        task: entry,
+        thread: 0,
+        place,
     }
 }
 
@@ -61,7 +79,7 @@ pub(crate) fn put(
     let to = entry_set(parts, new);
     one_less(&mut parts.sets, from);
     one_more(&mut parts.sets, to);
-    refile(&mut parts.places, old.node, chain, id.rep());
+    refile(&mut parts.places, old.node, chain, thread_seat(id.rep(), old));
     match parts.threads.get_mut(id) {
         Ok(entry) => {
             *entry = new;

@@ -16,15 +16,16 @@ pub fn first_waiter(parts: &CoreParts, set: SetId) -> Option<ThreadId>
     ensures live { IfSome result (λ id. 0 < thread_of (seen parts.now) id) }
 {
     match task_records::set(parts, set) {
-        Some(found) => match task_index::first(&parts.places, found.waiters) {
-            Some((_, place)) => Some(thread_at(parts, place)),
+        Some(found) => match parts.places.first(found.waiters) {
+            Some((_, seat)) => Some(thread_at(parts, seat.place)),
             None => None,
         },
         None => unreachable!(),
     }
 }
 
-/// The first ready member of a set, in the order of the set's chains: calls, then host works.
+/// The first ready member of a set, in the order of `Waitable`: host works, then calls, each by its place in the
+/// resource table.
 pub fn first_ready(parts: &CoreParts, set: SetId) -> Option<SubtaskId>
     requires sound { IsSound parts.now }
     requires live { 0 < set_of (seen parts.now) set }
@@ -32,10 +33,10 @@ pub fn first_ready(parts: &CoreParts, set: SetId) -> Option<SubtaskId>
     ensures some { IfSome result (λ member. is_ready_member (set_of (seen parts.now) set) (subtask_in (seen parts.now).tags member) (seen parts.now).core ≡ true) }
 {
     match task_records::set(parts, set) {
-        Some(found) => match task_index::first(&parts.ready_calls, found.ready_calls) {
-            Some((_, place)) => Some(SubtaskId::Guest(call_at(parts, place))),
-            None => match task_index::first(&parts.ready_works, found.ready_works) {
-                Some((_, place)) => Some(SubtaskId::Host(work_at(parts, place))),
+        Some(found) => match parts.ready_works.first(found.ready_works) {
+            Some((_, seat)) => Some(SubtaskId::Host(work_at(parts, seat.place))),
+            None => match parts.ready_calls.first(found.ready_calls) {
+                Some((_, seat)) => Some(SubtaskId::Guest(call_at(parts, seat.place))),
                 None => None,
             },
         },

@@ -10,7 +10,7 @@ ghost use Rattle.task_records.specs.Seen.{IsSound, seen};
 ghost use Rattle.task_table.specs.Records.{number_of};
 ghost use Rattle.task_words.specs.StateView.{KeepsBut, call_of, lost_call};
 
-use crate::chains::{close, drop_node};
+use crate::chains::{close_seats, drop_seat};
 use crate::groups::{group_there, one_if, settle_group};
 use count_words::close_room;
 use place_words::set_join;
@@ -40,8 +40,8 @@ fn drop_call(parts: &mut CoreParts, call: CallId) -> TableId<GroupKey>
     };
     let (group, mut counted) = group_there(&parts.groups, found.group);
     counted.calls -= 1;
-    close(&mut parts.places, found.blocked);
-    drop_node(&mut parts.ready_calls, found.ready);
+    close_seats(&mut parts.places, found.blocked);
+    drop_seat(&mut parts.ready_calls, found.ready);
     match parts.groups.get_mut(group) {
         Ok(entry) => {
             *entry = counted;
@@ -53,6 +53,7 @@ fn drop_call(parts: &mut CoreParts, call: CallId) -> TableId<GroupKey>
         Err(_) => unreachable!(),
     }
     parts.kept.used -= 1;
+    parts.table_places.give(found.entry);
     parts.kept.interesting -= one_if(found.call.interesting);
     group
 }

@@ -94,4 +94,7 @@ pub(crate) fn settle_group(parts: &mut CoreParts, group: TableId<GroupKey>)
         parts.kept.groups -= 1;
         parts.kept.used -= 1;
     }
+    if let Some(entry) = parts.group_entries.remove(&found.number) {
+        parts.table_places.give(entry);
+    }
 }

@@ -4,7 +4,7 @@ ghost use Rattle.task_machine.specs.Write.{free_handle, remove_set};
 ghost use Rattle.task_records.specs.Seen.{IsSound, seen};
 ghost use Rattle.task_words.specs.StateView.{KeepsBut, lost_set, on_core, set_of};
 
-use crate::chains::close;
+use crate::chains::close_seats;
 use task_records::CoreParts;
 use task_words::SetId;
 
@@ -21,14 +21,15 @@ fn remove_set(parts: &mut CoreParts, set: SetId)
         Some(found) => *found,
         None => unreachable!(),
     };
-    close(&mut parts.places, found.waiters);
-    close(&mut parts.ready_calls, found.ready_calls);
-    close(&mut parts.ready_works, found.ready_works);
+    close_seats(&mut parts.places, found.waiters);
+    close_seats(&mut parts.ready_calls, found.ready_calls);
+    close_seats(&mut parts.ready_works, found.ready_works);
     match parts.sets.delete(set) {
         Ok(_) => {}
         Err(_) => unreachable!(),
     }
     parts.kept.used -= 1;
+    parts.table_places.give(found.entry);
 }
 
 // Takes a handle of a set back.

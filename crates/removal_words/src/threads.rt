@@ -10,7 +10,7 @@ ghost use Rattle.task_table.specs.Answers.{item_at};
 ghost use Rattle.task_words.specs.Apart.{IsApart};
 ghost use Rattle.task_words.specs.StateView.{KeepsBut, lost_thread, on_core, thread_of};
 
-use crate::chains::{close, drop_node};
+use crate::chains::{close, close_seats, drop_seat};
 use place_words::set_place;
 use task_records::{CoreParts, GuestTask, GuestThread, task_of};
 use task_words::{CallId, PlaceId, ThreadId};
@@ -47,8 +47,8 @@ fn drop_thread(parts: &mut CoreParts, thread: ThreadId)
 {
     let (found, task, mut call) = with_call(parts, thread);
     call.threads -= 1;
-    close(&mut parts.places, found.under);
-    drop_node(&mut parts.places, found.node);
+    close_seats(&mut parts.places, found.under);
+    drop_seat(&mut parts.places, found.node);
     parts.behind.no_node_is_twice();
     close(&mut parts.behind, found.callers);
     parts.behind.drop_node(found.caller);
@@ -67,6 +67,8 @@ fn drop_thread(parts: &mut CoreParts, thread: ThreadId)
         Err(_) => unreachable!(),
     }
     parts.kept.used -= 2;
+    parts.table_places.give(found.entry);
+    parts.table_places.give(found.set_entry);
 }
 
 /// A thread is gone, as it stands, and no thread is behind it any more.

@@ -10,7 +10,7 @@ ghost use Rattle.task_rules.specs.Calls.{work_deleted, work_group};
 ghost use Rattle.task_words.specs.Apart.{work_entries};
 ghost use Rattle.task_words.specs.StateView.{KeepsBut, lost_work, work_of};
 
-use crate::chains::{close, drop_node};
+use crate::chains::{close_seats, drop_seat};
 use crate::groups::{lower_group, one_if, settle_group};
 use place_words::{set_join, set_stage};
 use task_machine::Stage;
@@ -37,8 +37,8 @@ fn drop_work(parts: &mut CoreParts, work: WorkId) -> Option<TableId<GroupKey>>
         None => unreachable!(),
     };
     let group = lower_group(&mut parts.groups, found.group, found.work.group);
-    close(&mut parts.places, found.blocked);
-    drop_node(&mut parts.ready_works, found.ready);
+    close_seats(&mut parts.places, found.blocked);
+    drop_seat(&mut parts.ready_works, found.ready);
     parts.polled.drop_node(found.live);
     parts.marks.no_node_is_twice();
     parts.marks.drop_node(found.mark);
@@ -47,6 +47,9 @@ fn drop_work(parts: &mut CoreParts, work: WorkId) -> Option<TableId<GroupKey>>
         Err(_) => unreachable!(),
     }
     parts.kept.used -= one_if(found.work.group.is_some());
+    if found.work.group.is_some() {
+        parts.table_places.give(found.entry);
+    }
     group
 }
 

@@ -10,6 +10,7 @@ ghost use Rattle.task_table.specs.Answers.{item_at};
 ghost use Rattle.task_words.specs.StateView.{Keeps, call_of, thread_of};
 
 use crate::calls::{add_named_strand, add_strand, prepare};
+use crate::entries::{Entries, give_strand, take_strand};
 use crate::records::Request;
 use record_words::number;
 use task_machine::{Callee, Caller, ExportKind, Goal, NoMemory};
@@ -38,6 +39,52 @@ pub fn group_of(parts: &CoreParts, thread: ThreadId) -> (TableId<GroupKey>, Task
     }
 }
 
+// The same, with these places in the resource table.
+fn make_call_with(
+    parts: &mut CoreParts,
+    thread: ThreadId,
+    callee: Callee,
+    kind: ExportKind,
+    goal: Goal,
+    words: &[u64],
+    entries: Entries,
+) -> Result<(ThreadId, CallId), NoMemory>
+    requires sound { IsSound parts.old }
+    requires live { 0 < thread_of (seen parts.old) thread }
+    requires there { IsSome (get (seen parts.old).core.instances callee.instance) }
+    requires words { length words.now ≤ 16 }
+    requires few { (seen parts.old).core.made.threads + 1 < 2 ^ 64 }
+    requires room { fits 3 (seen parts.old).core ≡ true }
+    ensures sound { IsSound parts.new }
+    ensures thread { IfOk result (λ ids. thread_of (seen parts.new) ids.0 ≡ next_thread (seen parts.old).core) }
+    ensures call { IfOk result (λ ids. call_of (seen parts.new) ids.1 ≡ next_thread (seen parts.old).core) }
+    ensures core { OnOk result ((seen parts.new).core ≡ call_made (callers.Thread (thread_of (seen parts.old) thread)) callee kind goal (thread_group (thread_of (seen parts.old) thread) (seen parts.old).core) words.now (seen parts.old).core) }
+    ensures current { (seen parts.new).current ≡ (seen parts.old).current }
+    ensures tags { Keeps (seen parts.old).tags (seen parts.new).tags }
+    ensures err { OnErr result (seen parts.new ≡ seen parts.old) }
+{
+    let request = Request {
+        caller: Caller::Thread {
+            thread: number(parts, thread),
+        },
+        maker: thread.rep(),
+        callee,
+        kind,
+        goal,
+        entries,
+    };
+    match prepare(parts, goal) {
+        Ok(nodes) => {
+            let (id, group) = group_of(parts, thread);
+            match add_strand(parts, id, group, request, words, nodes) {
+                Ok(ids) => Ok(ids),
+                Err(why) => Err(why),
+            }
+        }
+        Err(why) => Err(why),
+    }
+}
+
 /// Makes a call by a thread, in the thread's group, and the call's first thread. Where memory is
 /// wanting, all is as before.
 pub fn make_call(
@@ -62,6 +109,39 @@ pub fn make_call(
     ensures tags { Keeps (seen parts.old).tags (seen parts.new).tags }
     ensures err { OnErr result (seen parts.new ≡ seen parts.old) }
 {
+    let entries = take_strand(&mut parts.table_places)?;
+    match make_call_with(parts, thread, callee, kind, goal, words, entries) {
+        Ok(ids) => Ok(ids),
+        Err(why) => {
+            give_strand(&mut parts.table_places, entries);
+            Err(why)
+        }
+    }
+}
+
+// The same, with these places in the resource table.
+fn make_direct_call_with(
+    parts: &mut CoreParts,
+    thread: ThreadId,
+    callee: Callee,
+    kind: ExportKind,
+    words: &[u64],
+    entries: Entries,
+) -> Result<(ThreadId, CallId), NoMemory>
+    requires sound { IsSound parts.old }
+    requires live { 0 < thread_of (seen parts.old) thread }
+    requires there { IsSome (get (seen parts.old).core.instances callee.instance) }
+    requires words { length words.now ≤ 16 }
+    requires few { (seen parts.old).core.made.threads + 1 < 2 ^ 64 }
+    requires room { fits 3 (seen parts.old).core ≡ true }
+    ensures sound { IsSound parts.new }
+    ensures thread { IfOk result (λ ids. thread_of (seen parts.new) ids.0 ≡ next_thread (seen parts.old).core) }
+    ensures call { IfOk result (λ ids. call_of (seen parts.new) ids.1 ≡ next_thread (seen parts.old).core) }
+    ensures core { OnOk result ((seen parts.new).core ≡ with_thread_handle callee.instance (next_thread (seen parts.old).core) (call_made (callers.Thread (thread_of (seen parts.old) thread)) callee kind goals.Direct (thread_group (thread_of (seen parts.old) thread) (seen parts.old).core) words.now (seen parts.old).core)) }
+    ensures current { (seen parts.new).current ≡ (seen parts.old).current }
+    ensures tags { Keeps (seen parts.old).tags (seen parts.new).tags }
+    ensures err { OnErr result (seen parts.new ≡ seen parts.old) }
+{
     let request = Request {
         caller: Caller::Thread {
             thread: number(parts, thread),
@@ -69,12 +149,13 @@ pub fn make_call(
         maker: thread.rep(),
         callee,
         kind,
-        goal,
+        goal: Goal::Direct,
+        entries,
     };
-    match prepare(parts, goal) {
+    match prepare(parts, request.goal) {
         Ok(nodes) => {
             let (id, group) = group_of(parts, thread);
-            match add_strand(parts, id, group, request, words, nodes) {
+            match add_named_strand(parts, id, group, request, words, nodes) {
                 Ok(ids) => Ok(ids),
                 Err(why) => Err(why),
             }
@@ -106,23 +187,12 @@ pub fn make_direct_call(
     ensures tags { Keeps (seen parts.old).tags (seen parts.new).tags }
     ensures err { OnErr result (seen parts.new ≡ seen parts.old) }
 {
-    let request = Request {
-        caller: Caller::Thread {
-            thread: number(parts, thread),
-        },
-        maker: thread.rep(),
-        callee,
-        kind,
-        goal: Goal::Direct,
-    };
-    match prepare(parts, request.goal) {
-        Ok(nodes) => {
-            let (id, group) = group_of(parts, thread);
-            match add_named_strand(parts, id, group, request, words, nodes) {
-                Ok(ids) => Ok(ids),
-                Err(why) => Err(why),
-            }
+    let entries = take_strand(&mut parts.table_places)?;
+    match make_direct_call_with(parts, thread, callee, kind, words, entries) {
+        Ok(ids) => Ok(ids),
+        Err(why) => {
+            give_strand(&mut parts.table_places, entries);
+            Err(why)
         }
-        Err(why) => Err(why),
     }
 }

@@ -70,12 +70,52 @@ pub fn queue_spawn(parts: &mut CoreParts, host: HostDef) -> Result<WorkId, NoMem
         caller: WorkCaller::Spawn,
         maker: 0,
         host,
+        entry: 0,
     };
     match new_work_nodes(parts) {
         Ok(nodes) => match queue_work(parts, request, None, nodes) {
             Ok(id) => Ok(id),
             Err(why) => Err(why),
         },
+        Err(why) => Err(why),
+    }
+}
+
+// The same, with this place in the resource table.
+fn queue_sync_call_at(
+    parts: &mut CoreParts,
+    thread: ThreadId,
+    host: HostDef,
+    entry: u32,
+) -> Result<WorkId, NoMemory>
+    requires sound { IsSound parts.old }
+    requires live { 0 < thread_of (seen parts.old) thread }
+    requires few { (seen parts.old).core.made.works + 1 < 2 ^ 64 }
+    requires room { fits 1 (seen parts.old).core ≡ true }
+    ensures sound { IsSound parts.new }
+    ensures work { IfOk result (λ id. work_of (seen parts.new) id ≡ next_work (seen parts.old).core) }
+    ensures core { OnOk result ((seen parts.new).core ≡ work_queued (callers.Sync (thread_of (seen parts.old) thread)) host (Some (thread_group (thread_of (seen parts.old) thread) (seen parts.old).core)) (seen parts.old).core) }
+    ensures current { (seen parts.new).current ≡ (seen parts.old).current }
+    ensures tags { Keeps (seen parts.old).tags (seen parts.new).tags }
+    ensures err { OnErr result (seen parts.new ≡ seen parts.old) }
+{
+    let caller = WorkCaller::Sync {
+        thread: number(parts, thread),
+    };
+    let request = WorkRequest {
+        caller,
+        maker: thread.rep(),
+        host,
+        entry,
+    };
+    match new_work_nodes(parts) {
+        Ok(nodes) => {
+            let group = group_of(parts, thread);
+            match queue_work(parts, request, Some(group), nodes) {
+                Ok(id) => Ok(id),
+                Err(why) => Err(why),
+            }
+        }
         Err(why) => Err(why),
     }
 }
@@ -98,22 +138,12 @@ pub fn queue_sync_call(
     ensures tags { Keeps (seen parts.old).tags (seen parts.new).tags }
     ensures err { OnErr result (seen parts.new ≡ seen parts.old) }
 {
-    let caller = WorkCaller::Sync {
-        thread: number(parts, thread),
-    };
-    let request = WorkRequest {
-        caller,
-        maker: thread.rep(),
-        host,
-    };
-    match new_work_nodes(parts) {
-        Ok(nodes) => {
-            let group = group_of(parts, thread);
-            match queue_work(parts, request, Some(group), nodes) {
-                Ok(id) => Ok(id),
-                Err(why) => Err(why),
-            }
+    let entry = parts.table_places.take()?;
+    match queue_sync_call_at(parts, thread, host, entry) {
+        Ok(id) => Ok(id),
+        Err(why) => {
+            parts.table_places.give(entry);
+            Err(why)
         }
-        Err(why) => Err(why),
     }
 }

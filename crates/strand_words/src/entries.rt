@@ -1,0 +1,74 @@
+use std::collections::BTreeMap;
+use table_order::TablePlaces;
+use task_machine::NoMemory;
+
+/// The places in the resource table of a call, of a thread's sync-call set, and of that thread.
+#[derive(Clone, Copy)]
+pub struct Entries {
+    pub task: u32,
+    pub set: u32,
+    pub thread: u32,
+}
+
+// The places of a thread of the call at a place: its set's is taken first. Where memory is wanting, none is taken.
+pub(crate) fn take_thread(places: &mut TablePlaces, task: u32) -> Result<Entries, NoMemory> {
+    let set = places.take()?;
+    match places.take() {
+        Ok(thread) => Ok(Entries { task, set, thread }),
+        Err(why) => {
+            places.give(set);
+            Err(why)
+        }
+    }
+}
+
+// The places of a call and then of its first thread. Where memory is wanting, none is taken.
+pub(crate) fn take_strand(places: &mut TablePlaces) -> Result<Entries, NoMemory> {
+    let task = places.take()?;
+    match take_thread(places, task) {
+        Ok(entries) => Ok(entries),
+        Err(why) => {
+            places.give(task);
+            Err(why)
+        }
+    }
+}
+
+// The place of the thread, and then of its set, is free.
+pub(crate) fn give_thread(places: &mut TablePlaces, entries: Entries) {
+    places.give(entries.thread);
+    places.give(entries.set);
+}
+
+// The places of the thread and then of the call are free.
+pub(crate) fn give_strand(places: &mut TablePlaces, entries: Entries) {
+    give_thread(places, entries);
+    places.give(entries.task);
+}
+
+// The place of a group of this number. Where memory is wanting, none is taken.
+pub(crate) fn take_group(
+    places: &mut TablePlaces,
+    groups: &mut BTreeMap<u64, u32>,
+    number: u64,
+) -> Result<(), NoMemory> {
+    let entry = places.take()?;
+    match groups.insert(number, entry) {
+        Ok(_) => Ok(()),
+        Err(_) => {
+            places.give(entry);
+            Err(NoMemory)
+        }
+    }
+}
+
+// The place of the group of this number is free, if it has one.
+pub(crate) fn give_group(
+    places: &mut TablePlaces,
+    groups: &mut BTreeMap<u64, u32>,
+    number: u64,
+) {
+    if let Some(entry) = groups.remove(&number) {
+        places.give(entry);
+    }
+}
