@@ -4,6 +4,7 @@ use Rattle.task_records.specs.declared.{parts.CoreParts.CoreParts, single.Single
 use Rattle.task_records.proofs.KindLemmas.{item_stands}
 use Rattle.task_records.proofs.StandLemmas.{number_here}
 use Rattle.queue_words.proofs.CallerLemmas.{apart_as}
+use Rattle.table_order.specs.declared.seat_links.Seat.{Seat}
 
 module _ {T X Y : Type 0} (number : T → ℕ) (rec : T → X) (other : T → Y) (t : Table (Single T)) (made : ℕ) (sound : SoundTable (λ e. Some (number e.item, rec e.item)) t made) (rep serial : ℕ) (g : T) (is : Ok g ≡ item_at item_of t rep serial) where
   -- what is kept under the number of a record that is there
@@ -32,6 +33,6 @@ module _ (a : CoreParts) (sound : IsSound a) where
 module _ (k : Where) (test : Place → Bool) (passes : (i : ℕ) (p : Place) → where_at i p ≡ Some k → test p ≡ true) (filed : (i : ℕ) (p : Place) → test p ≡ true → where_at i p ≡ Some k) where
   pub place_tests : Tests place_filing thread_key k (λ (e : ℕ × Thread). test e.1.place)
   place_tests = record {
-    passes = λ rep serial e f says is_k. ((e.item.number, e.item.thread), (refl, passes e.item.instance e.item.thread.place (ap (λ (g : Filing Where ℕ). g.key) (same_Some (record { node = e.item.node.index; key = where_at e.item.instance e.item.thread.place; value = rep }) f says) ∙ is_k)));
+    passes = λ rep serial e f says is_k. ((e.item.number, e.item.thread), (refl, passes e.item.instance e.item.thread.place (ap (λ (g : Filing Where Seat). g.key) (same_Some (record { node = e.item.node.index; key = where_at e.item.instance e.item.thread.place; value = rep }) f says) ∙ is_k)));
     filed = λ rep serial e x says is. (record { node = e.item.node.index; key = where_at e.item.instance e.item.thread.place; value = rep }, (refl, filed e.item.instance e.item.thread.place (ap (λ (y : ℕ × Thread). test y.1.place) (same_Some (e.item.number, e.item.thread) x says) ∙ is)));
   }

@@ -12,6 +12,7 @@ use Rattle.place_words.proofs.PutLemmas.{sets_same}
 use Rattle.place_words.proofs.JoinLemmas.{in_is, members_kept, sets_alike, sets_now}
 use Rattle.place_words.specs.Moved.{Alike, joined_set, live_key, set_named, still_work, uncounted}
 use Rattle.queue_words.proofs.BareLemmas.{place_mapped}
+use Rattle.table_order.specs.declared.seat_links.Seat.{Seat}
 
 module _ (a : CoreParts) (sound : IsSound a) (id : TableId HostTaskKey) (g : HostWork) (is : Ok g ≡ item_at item_of a.works id.rep id.serial) where
   abbrev pub bared : Parts
@@ -77,7 +78,7 @@ module _ (a : CoreParts) (sound : IsSound a) (id : TableId HostTaskKey) (g : Hos
     pub works_alike : Alike still_work bare_now bared.works
     works_alike = ap (mapped (on_item still_work)) bare_put ∙ mapped-with_entry_same (on_item still_work) bared.works id.rep (entry_of (bare_work h)) bare_placed bare_stands (ap entry_of stays ∙ sym (ap (on_item still_work) bare_entry))
 
-    module _ (sets : Table (Single WaitSet)) (as_sets : Alike uncounted sets a.sets) (links : List (Spot ℕ)) (polled : List (Spot LiveWork)) (live moving : ℕ) where
+    module _ (sets : Table (Single WaitSet)) (as_sets : Alike uncounted sets a.sets) (links : List (Spot Seat)) (polled : List (Spot LiveWork)) (live moving : ℕ) where
       abbrev pub heard_after : CoreParts
       heard_after = record a { works = works_now; sets = sets; ready_works = links; polled = polled; kept = record a.kept { live = live; moving = moving } }
 
@@ -177,7 +178,7 @@ module _ (a : CoreParts) (sound : IsSound a) (id : TableId HostTaskKey) (g : Hos
           (tags_alike uncounted set_key (λ e. refl) sets a.sets as_sets)))
 
     -- the sets as they were count what they counted, where the work stays in its set
-    pub kept_same : h.work.join ≡ g.work.join → (links : List (Spot ℕ)) → (polled : List (Spot LiveWork)) (live moving : ℕ) → EachEntry (IsSetKept (core_of (after a.sets refl links polled live moving))) a.sets
+    pub kept_same : h.work.join ≡ g.work.join → (links : List (Spot Seat)) → (polled : List (Spot LiveWork)) (live moving : ℕ) → EachEntry (IsSetKept (core_of (after a.sets refl links polled live moving))) a.sets
     kept_same same links polled live moving r q at = let was = is_whole.counted.sets r q at in record { members = was.members ∙ members_same a.sets refl links polled live moving same q.entry.item.number; entries = was.entries }
 
     -- a work that stays as live as it was stays filed
@@ -205,7 +206,7 @@ module _ (a : CoreParts) (sound : IsSound a) (id : TableId HostTaskKey) (g : Hos
 
   module _ (h : HostWork) (stays : still_work (bare_work h) ≡ still_work (bare_work g)) where
     -- and where it goes from one set to another they count that
-    module _ (from to : TableId SetKey) (from_is : set_of (seen a) from ≡ set_named (joined_set g.work.join) (seen a).core) (to_is : set_of (seen a) to ≡ set_named (joined_set h.work.join) (seen a).core) (links : List (Spot ℕ)) where
+    module _ (from to : TableId SetKey) (from_is : set_of (seen a) from ≡ set_named (joined_set g.work.join) (seen a).core) (to_is : set_of (seen a) to ≡ set_named (joined_set h.work.join) (seen a).core) (links : List (Spot Seat)) where
       abbrev pub joined_now : Table (Single WaitSet)
       joined_now = sets_now a sound (joined_set g.work.join) (joined_set h.work.join) from to from_is to_is
 

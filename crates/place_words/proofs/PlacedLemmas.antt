@@ -13,6 +13,7 @@ use Rattle.place_words.proofs.MovedLemmas.{at_moved, home_moved, moved, moved_wh
 use Rattle.place_words.proofs.PutLemmas.{bare_records, calls_same, counted_there, entries_change, keeps, recount, set_is_the, sets_same, threads_size}
 use Rattle.place_words.specs.Moved.{Alike, entry_set, recounted, set_named, still_thread, uncounted}
 use Rattle.queue_words.proofs.BareLemmas.{number_positive, place_mapped}
+use Rattle.table_order.specs.declared.seat_links.Seat.{Seat}
 
 module _ (a : CoreParts) (sound : IsSound a) (id : TableId ThreadKey) (g : GuestThread) (is : Ok g ≡ item_at item_of a.threads id.rep id.serial) (h : GuestThread) (stays : still_thread (bare_thread h) ≡ still_thread (bare_thread g)) (handle : h.thread.handle ≡ g.thread.handle) where
   abbrev pub bared : Parts
@@ -95,7 +96,7 @@ module _ (a : CoreParts) (sound : IsSound a) (id : TableId ThreadKey) (g : Guest
     to_number : (n : ℕ) → 0 < n → IsSome (get (seen a).core.sets n) → (n == number_of set_key sets_less to.rep to.serial) ≡ is_the n (entry_set h.thread.place h.thread.how_far)
     to_number n positive there = ap (λ m. n == m) (number_of_alike uncounted set_key (λ e. refl) sets_less a.sets less_alike to.rep to.serial ∙ (sym (set_shown a to) ∙ to_is)) ∙ set_is_the (entry_set h.thread.place h.thread.how_far) (seen a).core n positive there
 
-    module _ (places : List (Spot ℕ)) where
+    module _ (places : List (Spot Seat)) where
       abbrev pub placed_after : CoreParts
       placed_after = record a { threads = threads_now; sets = sets_now; places = places }
 

@@ -12,6 +12,7 @@ use Rattle.place_words.proofs.PutLemmas.{sets_same}
 use Rattle.place_words.proofs.JoinLemmas.{in_is, members_kept, sets_alike, sets_now}
 use Rattle.place_words.specs.Moved.{Alike, joined_set, set_named, still_call, uncounted}
 use Rattle.queue_words.proofs.BareLemmas.{place_mapped}
+use Rattle.table_order.specs.declared.seat_links.Seat.{Seat}
 
 module _ (a : CoreParts) (sound : IsSound a) (id : TableId GuestTaskKey) (g : GuestTask) (is : Ok g ≡ item_at item_of a.calls id.rep id.serial) where
   abbrev pub bared : Parts
@@ -72,7 +73,7 @@ module _ (a : CoreParts) (sound : IsSound a) (id : TableId GuestTaskKey) (g : Gu
     pub calls_alike : Alike still_call bare_now bared.calls
     calls_alike = ap (mapped (on_item still_call)) bare_put ∙ mapped-with_entry_same (on_item still_call) bared.calls id.rep (entry_of (bare_call h)) bare_placed bare_stands (ap entry_of stays ∙ sym (ap (on_item still_call) bare_entry))
 
-    module _ (sets : Table (Single WaitSet)) (as_sets : Alike uncounted sets a.sets) (links : List (Spot ℕ)) where
+    module _ (sets : Table (Single WaitSet)) (as_sets : Alike uncounted sets a.sets) (links : List (Spot Seat)) where
       abbrev pub told_after : CoreParts
       told_after = record a { calls = calls_now; sets = sets; ready_calls = links }
 
@@ -154,7 +155,7 @@ module _ (a : CoreParts) (sound : IsSound a) (id : TableId GuestTaskKey) (g : Gu
           (tags_alike uncounted set_key (λ e. refl) sets a.sets as_sets)))
 
     -- the sets as they were count what they counted, where the call stays in its set
-    pub kept_same : h.call.join ≡ g.call.join → (links : List (Spot ℕ)) → EachEntry (IsSetKept (core_of (after a.sets refl links))) a.sets
+    pub kept_same : h.call.join ≡ g.call.join → (links : List (Spot Seat)) → EachEntry (IsSetKept (core_of (after a.sets refl links))) a.sets
     kept_same same links r q at = let was = is_whole.counted.sets r q at in record { members = was.members ∙ members_same a.sets refl links same q.entry.item.number; entries = was.entries }
 
     pub same_sets : SoundTable set_key a.sets a.made.sets
@@ -170,7 +171,7 @@ module _ (a : CoreParts) (sound : IsSound a) (id : TableId GuestTaskKey) (g : Gu
 
   module _ (h : GuestTask) (stays : still_call (bare_call h) ≡ still_call (bare_call g)) where
     -- and where it goes from one set to another they count that
-    module _ (from to : TableId SetKey) (from_is : set_of (seen a) from ≡ set_named (joined_set g.call.join) (seen a).core) (to_is : set_of (seen a) to ≡ set_named (joined_set h.call.join) (seen a).core) (links : List (Spot ℕ)) where
+    module _ (from to : TableId SetKey) (from_is : set_of (seen a) from ≡ set_named (joined_set g.call.join) (seen a).core) (to_is : set_of (seen a) to ≡ set_named (joined_set h.call.join) (seen a).core) (links : List (Spot Seat)) where
       abbrev pub joined_now : Table (Single WaitSet)
       joined_now = sets_now a sound (joined_set g.call.join) (joined_set h.call.join) from to from_is to_is
 

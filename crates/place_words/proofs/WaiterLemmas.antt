@@ -3,6 +3,7 @@ use Rattle.task_records.proofs.Core.{ap, AtPlace, bare, eq-eqb, eqb-true, false,
 use Rattle.task_records.specs.declared.{parts.CoreParts.CoreParts, sets.WaitSet.WaitSet, threads.GuestThread.GuestThread}
 use Rattle.place_words.proofs.FiledLemmas.{kept_under, passes_number, place_tests, places_filed}
 use Rattle.queue_words.proofs.BareLemmas.{number_positive}
+use Rattle.table_order.specs.declared.seat_links.Seat.{Seat}
 
 -- the set of a queued delivery is what the place names
 pub delivery_at : (p : Parts) (rep : ℕ) (o : Place) → AtPlace p rep (place_target o) → AtPlace p rep (why_target (ready_why o))
@@ -60,7 +61,7 @@ module _ (a : CoreParts) (sound : IsSound a) (rep serial : ℕ) (g : WaitSet) (i
     unfolding seen IsSound
     waiter_held x n same at =
         let one = held_passes place_filing (place_chain (bare (parts_of a))) a.threads a.places (places_filed a sound) (WaitsOn g.number) g.waiters waiters_chain thread_key (λ (e : ℕ × Thread). is_waiting_on g.number e.1.place) (place_tests (WaitsOn g.number) (is_waiting_on g.number) (waits_passes g.number) (waits_filed g.number)) sound.tables.threads.apart v holds in
-        let here : one.place ≡ v = ap (λ (f : Filing Where ℕ). f.value) (same_Some (record { node = one.placed.entry.item.node.index; key = where_at one.placed.entry.item.instance one.placed.entry.item.thread.place; value = one.place }) one.filed one.is_said) ∙ one.is_value in
+        let here : one.place ≡ v = ap (λ (f : Filing Where Seat). f.value) (same_Some (record { node = one.placed.entry.item.node.index; key = where_at one.placed.entry.item.instance one.placed.entry.item.thread.place; value = one.place }) one.filed one.is_said) ∙ one.is_value in
         let number : one.entry.0 ≡ n = passes_number (λ (h : GuestThread). h.number) (λ (h : GuestThread). h.thread) place_filing a.threads (λ (e : ℕ × Thread). is_waiting_on g.number e.1.place) v n one here at in
         let found : get (records thread_key a.threads.places) n ≡ Some one.entry.1 = ap (get (records thread_key a.threads.places)) (sym number) ∙ one.is_found in (
           ap (λ o. option_map_or (is_waiting_on x) (option_map (λ (t : Thread). t.place) o) false) found ∙ (ap (λ y. is_waiting_on y one.entry.1.place) (sym same) ∙ one.passes),

@@ -12,6 +12,7 @@ use Rattle.removal_words.specs.Chains.{Closes, Drops}
 use Rattle.removal_words.specs.Counted.{uncalled}
 use Rattle.task_records.proofs.KindLemmas.{absent, item_number, item_read, item_stands}
 use Rattle.task_records.proofs.MakeLemmas.{records_less, stands_less}
+use Rattle.table_order.specs.declared.seat_links.Seat.{Seat}
 
 abbrev number : GuestTask → ℕ
 number g = g.number
@@ -28,7 +29,7 @@ module _ (p : Parts) (whole : IsWhole p) (made : ℕ) (sound : SoundTable call_k
 
   -- ---- The parts without it, with one call less of its group
 
-  module _ (groups : Table (Single TaskGroup)) (alike : Alike uncalled groups p.groups) (places ready_calls : List (Spot ℕ)) (kept : Kept) where
+  module _ (groups : Table (Single TaskGroup)) (alike : Alike uncalled groups p.groups) (places ready_calls : List (Spot Seat)) (kept : Kept) where
     abbrev pub less : Parts
     less = record p { calls = deleted rep p.calls; groups = groups; places = places; ready_calls = ready_calls; kept = kept }
 

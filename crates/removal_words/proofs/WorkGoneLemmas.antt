@@ -16,6 +16,7 @@ use Rattle.removal_words.specs.Chains.{Closes, Drops}
 use Rattle.removal_words.specs.Counted.{uncalled}
 use Rattle.task_records.proofs.KindLemmas.{item_number, item_read, item_stands}
 use Rattle.task_records.proofs.MakeLemmas.{records_less, stands_less}
+use Rattle.table_order.specs.declared.seat_links.Seat.{Seat}
 
 abbrev number : HostWork → ℕ
 number w = w.number
@@ -32,7 +33,7 @@ module _ (p : Parts) (whole : IsWhole p) (made : ℕ) (sound : SoundTable work_k
 
   -- ---- The parts without it
 
-  module _ (groups : Table (Single TaskGroup)) (alike : Alike uncalled groups p.groups) (places ready_works : List (Spot ℕ)) (polled : List (Spot LiveWork)) (marks : List (Spot Queued)) (kept : Kept) where
+  module _ (groups : Table (Single TaskGroup)) (alike : Alike uncalled groups p.groups) (places ready_works : List (Spot Seat)) (polled : List (Spot LiveWork)) (marks : List (Spot Queued)) (kept : Kept) where
     abbrev pub less : Parts
     less = record p { works = deleted rep p.works; groups = groups; places = places; ready_works = ready_works; polled = polled; marks = marks; kept = kept }
 

@@ -7,6 +7,7 @@ use Rattle.make_words.proofs.MoreLemmas.{IsRows-known, index_more, new_or_old, n
 use Rattle.queue_words.proofs.CallerLemmas.{none_as}
 use Rattle.strand_words.specs.Loose.{AreThreadLoose}
 use Rattle.strand_words.specs.declared.nodes.ThreadNodes.{ThreadNodes}
+use Rattle.table_order.specs.declared.seat_links.Seat.{Seat}
 
 -- ---- What a list is named by
 
@@ -32,7 +33,7 @@ abbrev pub PlacesNamed : Kinds → Table (Single GuestThread) → Type 0
 PlacesNamed k t = EachEntry (λ (g : GuestThread). IsNamedAt k g.beside (place_target g.thread.place)) t
 
 -- nobody is in the list of what was not made
-pub none_in_list : (k : Kinds) (t : Table (Single GuestThread)) (w : Where) → PlacesNamed k t → ((rep : ℕ) → IsNamedAt k rep (target_of w) → ⊥) → (rep : ℕ) (f : Filing Where ℕ) → filings place_filing t rep ≡ Some f → f.key ≡ Some w → ⊥
+pub none_in_list : (k : Kinds) (t : Table (Single GuestThread)) (w : Where) → PlacesNamed k t → ((rep : ℕ) → IsNamedAt k rep (target_of w) → ⊥) → (rep : ℕ) (f : Filing Where Seat) → filings place_filing t rep ≡ Some f → f.key ≡ Some w → ⊥
 unfolding filings
 none_in_list k t w named new rep f is key = by (place_at t rep) refl is
   where
@@ -40,7 +41,7 @@ none_in_list k t w named new rep f is key = by (place_at t rep) refl is
     by None at is = absurd (cc)
     by (Some q) at is =
         let g = q.entry.item in
-        new g.beside (names_list k g.beside g.instance g.thread.place w (named rep q at) (ap (λ (h : Filing Where ℕ). h.key) (same_Some _ f is) ∙ key))
+        new g.beside (names_list k g.beside g.instance g.thread.place w (named rep q at) (ap (λ (h : Filing Where Seat). h.key) (same_Some _ f is) ∙ key))
 
 abbrev under_in : Where → ℕ
 under_in (UnderOf n) = n

@@ -16,7 +16,7 @@ pub struct TablePlaces {
 }
 
 impl Model for TablePlaces {
-    ghost use Rattle.std.specs.Prelude.{◌≤◌, ◌×◌, length, reverse, vec_capacity};
+    ghost use Rattle.std.specs.Prelude.{◌≤◌, reverse, vec_capacity};
     ghost use Rattle.table_order.specs.Places.{Places};
 
     ghost Value = { Places };

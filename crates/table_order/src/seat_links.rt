@@ -1,7 +1,7 @@
-ghost use Rattle.std.specs.Prelude.{◌≡◌, [], IfNone, IfOk, IfSome, IsSome, None, OnErr, Some, option_map, true};
+ghost use Rattle.std.specs.Prelude.{◌≡◌, [], IfOk, IfSome, IsSome, None, OnErr, Some, option_map, true};
 ghost use Rattle.table_order.specs.Seats.{AreOrdered, seat_order};
-ghost use Rattle.task_index.specs.Index.{Holds, Refiles};
-ghost use Rattle.task_links.specs.Links.{ChainOf, FreeNode, IsLinks, Renames, Unmade, entries, following, head_of, is_free, is_made, link_of, list_of, removed};
+ghost use Rattle.task_index.specs.Index.{Refiles};
+ghost use Rattle.task_links.specs.Links.{AreLinked, ChainOf, FreeNode, IsLinks, Renames, Unmade, entries, following, head_of, is_free, is_made, link_of, list_of, removed};
 ghost use Rattle.task_wait.specs.Sets.{IsLeast};
 
 use std::alloc::Global;
@@ -106,7 +106,8 @@ impl SeatLinks {
         requires live { IsSome (list_of self.old chain) }
         ensures { Refiles self.old self.new node.index (Some (chain, seat)) }
     {
-        self.remove(node);
+        self.links.no_node_is_twice();
+        self.links.remove(node);
         put_in_order(&mut self.links, chain, node, seat);
     }
 
@@ -114,11 +115,11 @@ impl SeatLinks {
     pub fn first(&self, chain: usize) -> Option<(Node, Seat)>
         requires { IsSome (list_of self.now chain) }
         ensures entry { option_map (λ e. (e.0.index, e.1)) result ≡ head_of (entries self.now chain) }
-        ensures some { IfSome result (λ e. Holds self.now chain e.1) }
-        ensures none { IfNone result ((seat : Seat) → Holds self.now chain seat → ⊥) }
+        ensures linked { AreLinked self.now chain (entries self.now chain) }
         ensures least { IfSome result (λ e. IsLeast seat_order e.1 (entries self.now chain)) }
         ensures sound { IsLinks self.now }
     {
+        self.links.nodes_have_values(chain);
         self.links.first(chain)
     }
 

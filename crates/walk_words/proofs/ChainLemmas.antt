@@ -7,6 +7,7 @@ use Rattle.place_words.proofs.FiledLemmas.{place_tests, places_filed}
 use Rattle.walk_words.proofs.LeastLemmas.{least_at}
 use Rattle.walk_words.specs.Least.{least_of}
 use Rattle.walk_words.specs.Walks.{at_place, of_chain}
+use Rattle.table_order.specs.declared.seat_links.Seat.{Seat}
 
 -- ---- The chain of a list that a test of places finds
 
@@ -23,9 +24,9 @@ module _ (a : CoreParts) (sound : IsSound a) (k : Where) (c : ℕ) (chain : plac
         by None is = rw is refl
         by (Some t) is = rw is refl
 
-    reads : (r : ℕ) (p : Placed (Single GuestThread)) (f : Filing Where ℕ) (x : ℕ × Thread) → place_at a.threads r ≡ Some p → place_filing r p.serial p.entry ≡ Some f → thread_key p.entry ≡ Some x → at_place a f.value ≡ x.0
+    reads : (r : ℕ) (p : Placed (Single GuestThread)) (f : Filing Where Seat) (x : ℕ × Thread) → place_at a.threads r ≡ Some p → place_filing r p.serial p.entry ≡ Some f → thread_key p.entry ≡ Some x → at_place a f.value ≡ x.0
     reads r p f x at says key =
-        ap (λ (g : Filing Where ℕ). at_place a g.value) (sym (same_Some (record { node = p.entry.item.node.index; key = where_at p.entry.item.instance p.entry.item.thread.place; value = r }) f says))
+        ap (λ (g : Filing Where Seat). at_place a g.value) (sym (same_Some (record { node = p.entry.item.node.index; key = where_at p.entry.item.instance p.entry.item.thread.place; value = r }) f says))
         ∙ (ap (λ o. number_in (key_in thread_key o)) at ∙ ap number_in key)
 
     -- has just those that pass

@@ -12,6 +12,7 @@ use Rattle.queue_words.proofs.BareLemmas.{one_place}
 use Rattle.walk_words.proofs.WalkLemmas.{out_others, out_smaller, walk_more, walk_out, walk_smaller}
 use Rattle.walk_words.specs.Held.{IsUntouched, Releases, is_admitted}
 use Rattle.walk_words.specs.Walks.{Walk, at_place, left_from, of_node}
+use Rattle.table_order.specs.declared.seat_links.Seat.{Seat}
 
 -- ---- Admission looks at the thread's record, at calls and at instances
 
@@ -186,25 +187,25 @@ module _ (a : CoreParts) (sound : IsSound a) (c node v : ℕ) (link : link_of a.
   unfolding IsSound
   own_node = by o.0 o.1.0 o.1.1.0 o.1.1.1 (place_at a.threads o.0) refl
     where
-      o : (r : ℕ) × ((f : Filing Where ℕ) × ((filings place_filing a.threads r ≡ Some f) × (f.node ≡ node)))
+      o : (r : ℕ) × ((f : Filing Where Seat) × ((filings place_filing a.threads r ≡ Some f) × (f.node ≡ node)))
       o = (places_filed a sound).owner node c v link
 
-      value : (f : Filing Where ℕ) (x : Option ℕ) → option_map {U = ℕ × ℕ} (λ d. (d, f.value)) x ≡ Some (c, v) → f.value ≡ v
+      value : (f : Filing Where Seat) (x : Option ℕ) → option_map {U = ℕ × ℕ} (λ d. (d, f.value)) x ≡ Some (c, v) → f.value ≡ v
       value f None same = absurd (cc)
       value f (Some d) same = ap (λ (y : ℕ × ℕ). y.1) (same_Some (d, f.value) (c, v) same)
 
-      by : (r : ℕ) (f : Filing Where ℕ) → filings place_filing a.threads r ≡ Some f → f.node ≡ node → (q : Option (Standing (Single GuestThread))) → place_at a.threads r ≡ q → g.node.index ≡ node
+      by : (r : ℕ) (f : Filing Where Seat) → filings place_filing a.threads r ≡ Some f → f.node ≡ node → (q : Option (Standing (Single GuestThread))) → place_at a.threads r ≡ q → g.node.index ≡ node
       by r f filed at None there = absurd (let none = sym (filings_at place_filing a.threads r None there) ∙ filed in cc)
       by r f filed at (Some q) there =
           let says = same_Some (record { node = q.entry.item.node.index; key = where_at q.entry.item.instance q.entry.item.thread.place; value = r }) f (sym (filings_at place_filing a.threads r (Some q) there) ∙ filed) in
           let is_value : f.value ≡ v = value f (option_and_then (place_chain (bare (parts_of a))) f.key) (sym ((places_filed a sound).has_link r f filed) ∙ (ap (link_of a.places) at ∙ link)) in
-          let place : r ≡ v = ap (λ (x : Filing Where ℕ). x.value) says ∙ is_value in
+          let place : r ≡ v = ap (λ (x : Filing Where Seat). x.value) says ∙ is_value in
           let number : q.entry.item.number ≡ of_node a node = sym (ap (number_in_link (at_place a)) link ∙ (ap (at_place a) (sym place) ∙ ap (λ o. number_in (key_in thread_key o)) there)) in
           let one = item_stands (λ (x : GuestThread). x.number) (λ (x : GuestThread). x.thread) a.threads a.made.threads sound.tables.threads id.rep id.serial g is in
           let own : one.0.entry.item.number ≡ q.entry.item.number = ap (λ (e : Single GuestThread). e.item.number) one.1.1.1 ∙ (named ∙ sym number) in
           let same : id.rep ≡ r = one_place (λ (x : GuestThread). x.number) (λ (x : GuestThread). x.thread) a.threads a.made.threads sound.tables.threads id.rep r one.0 q one.1.0 there own in
           let entry : one.0 ≡ q = same_Some one.0 q (sym one.1.0 ∙ (ap (place_at a.threads) same ∙ there)) in
-          sym (ap (λ (e : Single GuestThread). e.item.node.index) one.1.1.1) ∙ (ap (λ (p : Standing (Single GuestThread)). p.entry.item.node.index) entry ∙ (ap (λ (x : Filing Where ℕ). x.node) says ∙ at))
+          sym (ap (λ (e : Single GuestThread). e.item.node.index) one.1.1.1) ∙ (ap (λ (p : Standing (Single GuestThread)). p.entry.item.node.index) entry ∙ (ap (λ (x : Filing Where Seat). x.node) says ∙ at))
 
 -- a thread that is held is there
 pub held_positive : (a : CoreParts) → IsSound a → (n : ℕ) (w : Why) → held_why_of n (seen a).core ≡ Some w → 0 < n
@@ -218,7 +219,7 @@ held_positive a sound n w held = by n held
     by (suc m) is = omega arith
 
 -- what leaves with the node of a thread leaves with the node that stands for it
-pub leaves : (a : CoreParts) → IsSound a → (id : TableId ThreadKey) → 0 < thread_of (seen a) id → (node : ℕ) → IsSome (link_of a.places node) → thread_of (seen a) id ≡ of_node a node → (new : List (Spot ℕ)) → ((g : GuestThread) → Ok g ≡ item_at item_of a.threads id.rep id.serial → new ≡ removed g.node.index a.places) → new ≡ removed node a.places
+pub leaves : (a : CoreParts) → IsSound a → (id : TableId ThreadKey) → 0 < thread_of (seen a) id → (node : ℕ) → IsSome (link_of a.places node) → thread_of (seen a) id ≡ of_node a node → (new : List (Spot Seat)) → ((g : GuestThread) → Ok g ≡ item_at item_of a.threads id.rep id.serial → new ≡ removed g.node.index a.places) → new ≡ removed node a.places
 leaves a sound id live node linked named new takes = by (item_at item_of a.threads id.rep id.serial) refl (link_of a.places node) refl linked
   where
     by : (o : Result GuestThread ResourceTableError) → o ≡ item_at item_of a.threads id.rep id.serial → (l : Option (ℕ × ℕ)) → link_of a.places node ≡ l → IsSome l → new ≡ removed node a.places
