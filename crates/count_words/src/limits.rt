@@ -5,8 +5,7 @@ ghost use Rattle.task_records.specs.Seen.{IsSound, seen};
 ghost use Rattle.task_rules.specs.MainOps.{has_interesting};
 ghost use Rattle.task_words.specs.StateView.{call_of, on_core, with_current};
 
-use std::collections::BTreeMap;
-use table_order::TablePlaces;
+use crate::entries::give_groups;
 use task_machine::Made;
 use task_records::CoreParts;
 use task_words::{CallId, ThreadId};
@@ -87,13 +86,6 @@ pub fn count_work(parts: &mut CoreParts)
     ensures new { seen parts.new ≡ on_core count_work (seen parts.old) }
 {
     parts.made.works += 1;
-}
-
-// The places of the groups are free, in order of the groups' numbers.
-fn give_groups(places: &mut TablePlaces, groups: &mut BTreeMap<u64, u32>) {
-    while let Some((_, entry)) = groups.pop_first() {
-        places.give(entry);
-    }
 }
 
 /// The store is trapped, and all groups are finished.

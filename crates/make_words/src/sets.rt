@@ -150,6 +150,7 @@ fn open_set_at(parts: &mut CoreParts, instance: u32, entry: u32) -> Result<SetId
 }
 
 /// Makes a set of an instance, and its handle there. Where memory is wanting, all is as before.
+#[tactic(auto, unfolding(task_records::specs::Seen::seen, task_records::specs::Seen::IsSound))]
 pub fn open_set(parts: &mut CoreParts, instance: u32) -> Result<SetId, NoMemory>
     requires sound { IsSound parts.old }
     requires there { is_some (get (seen parts.old).core.handles instance) ≡ true }

@@ -7,7 +7,7 @@ ghost use Rattle.task_machine.specs.Write.{on_thread};
 ghost use Rattle.task_machine.specs.declared.records.Thread.{Thread};
 ghost use Rattle.task_records.specs.Kinds.{entry_of, item_of};
 ghost use Rattle.task_records.specs.Names.{AtPlace, how_far_target, place_target};
-ghost use Rattle.task_records.specs.Places.{place_chain, where_at};
+ghost use Rattle.task_records.specs.Places.{member_seat, place_chain, thread_seat, where_at};
 ghost use Rattle.task_records.specs.Seen.{IsSound, parts_of, seen};
 ghost use Rattle.task_records.specs.Sound.{bare, bare_thread};
 ghost use Rattle.task_table.specs.Answers.{item_at};
@@ -28,7 +28,10 @@ pub(crate) fn refile(links: &mut SeatLinks, node: Node, chain: Option<usize>, se
 {
     match chain {
         Some(chain) => links.file(node, chain, seat),
-        None => links.remove(node),
+        None => {
+            links.no_node_is_twice();
+            links.remove(node);
+        }
     }
 }
 

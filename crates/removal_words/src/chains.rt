@@ -33,6 +33,7 @@ pub(crate) fn drop_seat(links: &mut SeatLinks, node: Node)
     requires { is_made links.old node.index ≡ true }
     ensures { Drops links.old links.new node.index }
 {
+    links.no_node_is_twice();
     links.remove(node);
     links.drop_node(node);
 }

@@ -13,11 +13,21 @@ ghost use Rattle.task_words.specs.StateView.{KeepsBut, lost_work, work_of};
 use crate::chains::{close_seats, drop_seat};
 use crate::groups::{lower_group, one_if, settle_group};
 use place_words::{set_join, set_stage};
+use table_order::TablePlaces;
 use task_machine::Stage;
 use task_records::CoreParts;
 use task_table::TableId;
 use task_wait::GroupKey;
 use task_words::{JoinId, SubtaskId, WorkId};
+
+// The place in the resource table is free, where it was taken.
+fn give_if(places: &mut TablePlaces, was_taken: bool, entry: u32)
+    ensures { places.new ≡ (if was_taken then given entry places.old else places.old) }
+{
+    if was_taken {
+        places.give(entry);
+    }
+}
 
 // A work that has ended and is in no set is gone; its group, if it has one, may be finished.
 fn drop_work(parts: &mut CoreParts, work: WorkId) -> Option<TableId<GroupKey>>
@@ -47,9 +57,7 @@ fn drop_work(parts: &mut CoreParts, work: WorkId) -> Option<TableId<GroupKey>>
         Err(_) => unreachable!(),
     }
     parts.kept.used -= one_if(found.work.group.is_some());
-    if found.work.group.is_some() {
-        parts.table_places.give(found.entry);
-    }
+    give_if(&mut parts.table_places, found.work.group.is_some(), found.entry);
     group
 }
 

@@ -8,6 +8,7 @@ use Rattle.queue_words.proofs.CallerLemmas.{none_as}
 use Rattle.strand_words.specs.Loose.{AreThreadLoose}
 use Rattle.strand_words.specs.declared.nodes.ThreadNodes.{ThreadNodes}
 use Rattle.table_order.specs.declared.seat_links.Seat.{Seat}
+use Rattle.task_records.specs.Places.{thread_seat}
 
 -- ---- What a list is named by
 
@@ -98,7 +99,7 @@ module _ (p : Parts) (g : GuestThread) (table : IsTable p.threads) (apart : AreA
 
   pub thread_chained : (k : Kinds) → k.made.threads < g.number → PlacesNamed k p.threads → where_at g.instance g.thread.place ≡ None → AreChained p → AreChained with_thread
   thread_chained k later named filed was = record {
-    places = index_more p.threads g table (λ h. h.node.index) (λ h. where_at h.instance h.thread.place) (λ r h. r) p.places loose.node (place_chain with_thread)
+    places = index_more p.threads g table (λ h. h.node.index) (λ h. where_at h.instance h.thread.place) thread_seat p.places loose.node (place_chain with_thread)
         (IsIndex-opened (place_chain p) (place_chain with_thread) p.places (UnderOf g.number) (under_is g.number) place_others g.under (has_chain (λ h. h.under)) loose.under (filings place_filing p.threads) was.places
         (none_in_list k p.threads (UnderOf g.number) named (λ rep at. let few = at.0 in omega arith)))
         filed;

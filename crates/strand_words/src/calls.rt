@@ -16,12 +16,12 @@ ghost use Rattle.task_rules.specs.Calls.{call_made, next_thread, with_thread_han
 ghost use Rattle.task_table.specs.Answers.{item_at};
 ghost use Rattle.task_words.specs.StateView.{Keeps, call_of, thread_of};
 
-use crate::entries::{Entries, give_group, give_strand, take_group, take_strand};
+use crate::entries::{Entries, give_strand, take_strand};
 use crate::groups::{drop_group, push_group};
 use crate::nodes::{CallNodes, ThreadNodes, new_strand_nodes};
 use crate::records::{Request, call_record, new_call, new_thread, thread_record};
 use crate::strands::{drop_strand, push_strand};
-use count_words::make_room;
+use count_words::{give_group, make_room, take_group};
 use handle_words::name_thread;
 use task_machine::{Callee, Caller, ExportKind, Goal, NoMemory, Script};
 use task_records::{CoreParts, TaskGroup};
@@ -175,6 +175,7 @@ fn make_call_by_main_with(
 
 /// Makes a group, a call by main in it, with room for a result that goes to main, and the call's
 /// first thread. Where memory is wanting, all is as before.
+#[tactic(auto, unfolding(task_records::specs::Seen::seen, task_records::specs::Seen::IsSound))]
 pub fn make_call_by_main(
     parts: &mut CoreParts,
     callee: Callee,

@@ -1,4 +1,3 @@
-use std::collections::BTreeMap;
 use table_order::TablePlaces;
 use task_machine::NoMemory;
 
@@ -44,31 +43,4 @@ pub(crate) fn give_thread(places: &mut TablePlaces, entries: Entries) {
 pub(crate) fn give_strand(places: &mut TablePlaces, entries: Entries) {
     give_thread(places, entries);
     places.give(entries.task);
-}
-
-// The place of a group of this number. Where memory is wanting, none is taken.
-pub(crate) fn take_group(
-    places: &mut TablePlaces,
-    groups: &mut BTreeMap<u64, u32>,
-    number: u64,
-) -> Result<(), NoMemory> {
-    let entry = places.take()?;
-    match groups.insert(number, entry) {
-        Ok(_) => Ok(()),
-        Err(_) => {
-            places.give(entry);
-            Err(NoMemory)
-        }
-    }
-}
-
-// The place of the group of this number is free, if it has one.
-pub(crate) fn give_group(
-    places: &mut TablePlaces,
-    groups: &mut BTreeMap<u64, u32>,
-    number: u64,
-) {
-    if let Some(entry) = groups.remove(&number) {
-        places.give(entry);
-    }
 }

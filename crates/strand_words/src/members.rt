@@ -186,6 +186,7 @@ fn make_thread_with(
 
 /// Makes a thread of a call that runs the script of a slot of the call's instance with these words,
 /// and gives it its handle. Where memory is wanting, all is as before.
+#[tactic(auto, unfolding(task_records::specs::Seen::seen, task_records::specs::Seen::IsSound))]
 pub fn make_thread(
     parts: &mut CoreParts,
     task: CallId,

@@ -163,6 +163,7 @@ fn queue_call_at(
 
 /// Makes the work of a thread's `call`, in the thread's group, with its push, and gives it a handle
 /// in the thread's instance. Where memory is wanting, all is as before.
+#[tactic(auto, unfolding(task_records::specs::Seen::seen, task_records::specs::Seen::IsSound))]
 pub fn queue_call(
     parts: &mut CoreParts,
     thread: ThreadId,

@@ -122,6 +122,7 @@ fn queue_sync_call_at(
 
 /// Makes the work of a thread's `call_sync`, in the thread's group, and its push. Where memory is
 /// wanting, all is as before.
+#[tactic(auto, unfolding(task_records::specs::Seen::seen, task_records::specs::Seen::IsSound))]
 pub fn queue_sync_call(
     parts: &mut CoreParts,
     thread: ThreadId,
