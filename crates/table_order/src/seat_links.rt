@@ -90,6 +90,13 @@ impl SeatLinks {
         self.links.no_node_is_twice();
     }
 
+    /// The law that each chain stands in the order of seats. It does nothing.
+    pub fn chains_are_ordered(&self)
+        ensures { AreOrdered self.now }
+    {
+        self.links.no_node_is_twice();
+    }
+
     /// Takes a node out of the chain that it is in, if it is in one. It is then free.
     pub fn remove(&mut self, node: Node)
         requires { is_made self.old node.index ≡ true }
