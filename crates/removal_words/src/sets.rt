@@ -1,7 +1,11 @@
-ghost use Rattle.std.specs.Prelude.{◌≡◌, ◌<◌, IsSome};
+ghost use Rattle.std.specs.Prelude.{◌≡◌, ◌<◌, IsSome, Ok};
+ghost use Rattle.table_order.specs.Places.{given};
 ghost use Rattle.task_machine.specs.Read.{set_at};
 ghost use Rattle.task_machine.specs.Write.{free_handle, remove_set};
+ghost use Rattle.task_records.specs.Kinds.{item_of};
 ghost use Rattle.task_records.specs.Seen.{IsSound, seen};
+ghost use Rattle.task_records.specs.declared.sets.WaitSet.{WaitSet};
+ghost use Rattle.task_table.specs.Answers.{item_at};
 ghost use Rattle.task_words.specs.StateView.{KeepsBut, lost_set, on_core, set_of};
 
 use crate::chains::close_seats;
@@ -16,6 +20,7 @@ fn remove_set(parts: &mut CoreParts, set: SetId)
     ensures core { (seen parts.new).core ≡ remove_set (set_of (seen parts.old) set) (seen parts.old).core }
     ensures current { (seen parts.new).current ≡ (seen parts.old).current }
     ensures tags { KeepsBut (lost_set (set_of (seen parts.old) set)) (seen parts.old).tags (seen parts.new).tags }
+    ensures places { (x : WaitSet) → Ok x ≡ item_at item_of parts.old.sets set.rep set.serial → parts.new.table_places ≡ given x.entry parts.old.table_places }
 {
     let found = match task_records::set(parts, set) {
         Some(found) => *found,

@@ -6,6 +6,8 @@ ghost use Rattle.task_machine.specs.Write.{free_thread_handle, remove_thread};
 ghost use Rattle.task_machine.specs.declared.records.Place.TheVariants as places;
 ghost use Rattle.task_records.specs.Kinds.{item_of};
 ghost use Rattle.task_records.specs.Seen.{IsSound, seen};
+ghost use Rattle.table_order.specs.Places.{given};
+ghost use Rattle.task_records.specs.declared.threads.GuestThread.{GuestThread};
 ghost use Rattle.task_table.specs.Answers.{item_at};
 ghost use Rattle.task_words.specs.Apart.{IsApart};
 ghost use Rattle.task_words.specs.StateView.{KeepsBut, lost_thread, on_core, thread_of};
@@ -44,6 +46,7 @@ fn drop_thread(parts: &mut CoreParts, thread: ThreadId)
     ensures core { (seen parts.new).core ≡ remove_thread (thread_of (seen parts.old) thread) (seen parts.old).core }
     ensures current { (seen parts.new).current ≡ (seen parts.old).current }
     ensures tags { KeepsBut (lost_thread (thread_of (seen parts.old) thread)) (seen parts.old).tags (seen parts.new).tags }
+    ensures places { (g : GuestThread) → Ok g ≡ item_at item_of parts.old.threads thread.rep thread.serial → parts.new.table_places ≡ given g.set_entry (given g.entry parts.old.table_places) }
 {
     let (found, task, mut call) = with_call(parts, thread);
     call.threads -= 1;

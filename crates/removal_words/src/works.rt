@@ -1,12 +1,16 @@
 ghost use Rattle.removal_words.specs.Counted.{IsNamedBy};
-ghost use Rattle.std.specs.Prelude.{◌≡◌, ◌<◌};
-ghost use Rattle.task_machine.specs.Read.{join_of, stage_of};
+ghost use Rattle.std.specs.Prelude.{◌≡◌, ◌<◌, Ok, if◌then◌else◌};
+ghost use Rattle.table_order.specs.Places.{given};
+ghost use Rattle.task_machine.specs.Read.{is_host_call, join_of, stage_of};
 ghost use Rattle.task_machine.specs.Write.{remove_work};
 ghost use Rattle.task_machine.specs.declared.records.Join.TheVariants as joins;
 ghost use Rattle.task_machine.specs.declared.records.Stage.TheVariants as stages;
 ghost use Rattle.task_machine.specs.declared.records.Subtask.TheVariants as subtasks;
+ghost use Rattle.task_records.specs.Kinds.{item_of};
 ghost use Rattle.task_records.specs.Seen.{IsSound, seen};
+ghost use Rattle.task_records.specs.declared.works.HostWork.{HostWork};
 ghost use Rattle.task_rules.specs.Calls.{work_deleted, work_group};
+ghost use Rattle.task_table.specs.Answers.{item_at};
 ghost use Rattle.task_words.specs.Apart.{work_entries};
 ghost use Rattle.task_words.specs.StateView.{KeepsBut, lost_work, work_of};
 
@@ -41,6 +45,7 @@ fn drop_work(parts: &mut CoreParts, work: WorkId) -> Option<TableId<GroupKey>>
     ensures current { (seen parts.new).current ≡ (seen parts.old).current }
     ensures tags { KeepsBut (lost_work (work_of (seen parts.old) work)) (seen parts.old).tags (seen parts.new).tags }
     ensures group { IsNamedBy parts.new.groups (work_group (work_of (seen parts.old) work) (seen parts.old).core) result }
+    ensures places { (w : HostWork) → Ok w ≡ item_at item_of parts.old.works work.rep work.serial → parts.new.table_places ≡ (if is_host_call w.work then given w.entry parts.old.table_places else parts.old.table_places) }
 {
     let found = match task_records::work(parts, work) {
         Some(found) => *found,

@@ -1,7 +1,10 @@
 use Rattle.removal_words.proofs.CallLemmas.{blocked_live, call_counted, call_deleted, group_counted, group_named, group_positive, interest_counted, ready_made, removed_core, removed_sound, removed_tags}
 use Rattle.removal_words.proofs.calls.drop_call.Goals as goal
 use Rattle.task_records.proofs.Core.{ap, arith, Call, cond, IsSound, option_map_or, refl, seen, subst, sym, ℕ, ◌<◌, ◌∙◌, ◌≡◌, ◌≤◌}
+use Rattle.task_records.specs.declared.{calls.GuestTask.GuestTask}
 use Rattle.task_records.proofs.HomeLemmas.{call_names}
+use Rattle.place_words.proofs.ThreadLemmas.{same_item}
+use Rattle.table_order.specs.Places.{given}
 
 pub group_there-requires : goal.group_there-requires
 group_there-requires c = subst (λ (n : ℕ). 0 < n) (sym (call_names c.args.parts.now c.requires.sound c.args.call c.in-Some.found.now c.in-Some.ensures.item).group) (call_names c.args.parts.now c.requires.sound c.args.call c.in-Some.found.now c.in-Some.ensures.item).positive
@@ -54,3 +57,6 @@ returns-clause-group c = group_named c.args.parts.now c.requires.sound c.args.ca
 
 pub returns-clause-positive : goal.returns-clause-positive
 returns-clause-positive c = subst (λ (n : ℕ). 0 < n) (ap (λ o. option_map_or (λ (x : Call). x.group) o 0) c.in-Some.ensures.is) (group_positive c.args.parts.now c.requires.sound c.args.call c.in-Some.found.now c.in-Some.ensures.item)
+
+pub returns-clause-places : goal.returns-clause-places
+returns-clause-places c g is = ap (λ (h : GuestTask). given h.entry c.args.parts.now.table_places) (same_item c.in-Some.ensures.item is)

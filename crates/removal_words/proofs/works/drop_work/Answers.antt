@@ -1,7 +1,10 @@
 use Rattle.removal_words.proofs.WorkLemmas.{blocked_live, group_counted, group_named, live_free, mark_unlinked, ready_made, removed_core, removed_sound, removed_tags, use_counted, work_deleted}
 use Rattle.removal_words.proofs.works.drop_work.Goals as goal
 use Rattle.task_records.proofs.Core.{ap, arith, cond, is_host_call, IsSound, refl, seen, subst, sym, ℕ, ◌∙◌, ◌≡◌, ◌≤◌}
+use Rattle.task_records.specs.declared.{works.HostWork.HostWork}
 use Rattle.task_records.proofs.HomeLemmas.{work_names}
+use Rattle.place_words.proofs.ThreadLemmas.{same_item}
+use Rattle.table_order.specs.Places.{given}
 
 pub lower_group-group-requires-clause-named : goal.lower_group-group-requires-clause-named
 lower_group-group-requires-clause-named c = (work_names c.args.parts.now c.requires.sound c.args.work c.in-Some.found.now c.in-Some.ensures.item).group
@@ -57,3 +60,9 @@ returns-clause-tags c =
 
 pub returns-clause-group : goal.returns-clause-group
 returns-clause-group c = group_named c.args.parts.now c.requires.sound c.args.work c.in-Some.found.now c.in-Some.ensures.item c.requires.unqueued c.requires.join c.requires.stage c.lower_group-group.new.groups c.lower_group-group.result c.lower_group-group.ensures
+
+pub returns-clause-places : goal.returns-clause-places
+returns-clause-places c w is =
+    let p = c.args.parts.now.table_places in
+    c.give_if.ensures
+    ∙ (ap (λ b. cond b (given c.in-Some.found.now.entry p) p) c.is_some-2.ensures ∙ ap (λ (u : HostWork). cond (is_host_call u.work) (given u.entry p) p) (same_item c.in-Some.ensures.item is))
