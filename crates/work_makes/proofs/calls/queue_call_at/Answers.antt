@@ -1,6 +1,6 @@
 use Rattle.task_records.proofs.Core.{ap, AtPlace, parts_of, StateView, subst, sym, thread_of, ThreadOf, ℕ, ◌∙◌}
 use Rattle.task_records.proofs.HomeLemmas.{thread_at_place, thread_within}
-use Rattle.work_makes.proofs.calls.queue_call.Goals as goal
+use Rattle.work_makes.proofs.calls.queue_call_at.Goals as goal
 
 pub call_work-requires-clause-there : goal.call_work-requires-clause-there
 call_work-requires-clause-there c = thread_within c.new_work_nodes.new.parts c.in-Ok.ensures.sound c.args.thread c.in-Some.entry.now c.in-Some.ensures.item

@@ -1,6 +1,6 @@
 use Rattle.task_records.proofs.Core.{ap, AtPlace, parts_of, StateView, subst, sym, thread_of, ThreadOf, ℕ, ◌∙◌}
 use Rattle.task_records.proofs.HomeLemmas.{thread_at_place}
-use Rattle.work_makes.proofs.queued.queue_sync_call.Goals as goal
+use Rattle.work_makes.proofs.queued.queue_sync_call_at.Goals as goal
 
 pub queue_work-requires-clause-caller : goal.queue_work-requires-clause-caller
 queue_work-requires-clause-caller c =

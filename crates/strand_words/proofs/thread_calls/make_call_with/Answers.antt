@@ -1,6 +1,6 @@
 use Rattle.make_words.proofs.RestoreLemmas.{image_restored}
 use Rattle.task_records.proofs.Core.{ap, AtPlace, Keeps, parts_of, refl, seen, StateView, subst, sym, thread_of, ThreadOf, ℕ, ◌∙◌}
-use Rattle.strand_words.proofs.thread_calls.make_call.Goals as goal
+use Rattle.strand_words.proofs.thread_calls.make_call_with.Goals as goal
 use Rattle.task_records.proofs.HomeLemmas.{thread_at_place}
 
 pub add_strand-requires-clause-caller : goal.add_strand-requires-clause-caller

@@ -1,5 +1,5 @@
 use Rattle.task_records.proofs.Core.{ap, AtPlace, parts_of, StateView, subst, sym, thread_of, ThreadOf, ℕ, ◌∙◌}
-use Rattle.strand_words.proofs.thread_calls.make_direct_call.Goals as goal
+use Rattle.strand_words.proofs.thread_calls.make_direct_call_with.Goals as goal
 use Rattle.task_records.proofs.HomeLemmas.{thread_at_place}
 
 pub add_named_strand-requires-clause-caller : goal.add_named_strand-requires-clause-caller

@@ -1,4 +1,4 @@
-use Rattle.make_words.proofs.sets.open_set.Goals as goal
+use Rattle.make_words.proofs.sets.open_set_at.Goals as goal
 use Rattle.task_records.proofs.Core.{ap, get, is_some, StateView, ◌∙◌}
 use Rattle.task_records.proofs.InstanceReads.{instance_there}
 
