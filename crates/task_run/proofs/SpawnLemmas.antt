@@ -4,7 +4,7 @@ use Rattle.std.proofs.lemmas.Bool.Decides.{nat_tests}
 use Rattle.std.specs.Option.{option_map_or}
 use Rattle.std.specs.Prelude.{[], Err, List, None, Ok, OnOk, IfOk, Option, Result, Some, slice_get, suc, zero, ℕ, ◌+◌, ◌++◌, ◌∷◌, ◌<◌, ◌≡◌, ◌≤◌, ◌⊎◌}
 use Rattle.task_calls.specs.Calls.{Finishes, Starts}
-use Rattle.task_calls.specs.declared.error.TaskError.{TaskError}
+use Rattle.state_calls.specs.declared.error.TaskError.{TaskError}
 use Rattle.futures.specs.declared.task.Poll.{Poll}
 use Rattle.futures.specs.declared.task.Poll.TheVariants.{Ready, Pending}
 use Rattle.task_machine.proofs.CommuteLemmas.{get-change}
