@@ -3,7 +3,7 @@ use Rattle.task_records.proofs.Core.{[], ap, ap₂, bare, Bool, cond, Each, fals
 use Rattle.task_records.specs.declared.{parts.CoreParts.CoreParts, single.Single.Single, threads.GuestThread.GuestThread}
 use Rattle.std.specs.Ordering.{is_lt, nat_cmp}
 use Rattle.place_words.proofs.FiledLemmas.{places_filed}
-use Rattle.place_words.proofs.FirstLemmas.{lt_front, or_falses}
+use Rattle.place_words.proofs.FirstLemmas.{lt_front}
 use Rattle.queue_words.proofs.BareLemmas.{one_place}
 use Rattle.table_order.specs.Seats.{seat_order}
 use Rattle.table_order.specs.declared.seat_links.Seat.{Seat}
@@ -13,6 +13,10 @@ use Rattle.task_table.specs.Table.{Placed as Standing}
 use Rattle.task_wait.specs.Sets.{IsLeast}
 use Rattle.walk_words.specs.Order.{AreInOrder, NotBefore}
 use Rattle.walk_words.specs.Walks.{at_place, at_seat, of_node}
+
+or_falses : (a b : Bool) → (a || b) ≡ false → (a ≡ false) × (b ≡ false)
+or_falses true b is = absurd (cc)
+or_falses false b is = (refl, is)
 
 module _ (a : CoreParts) (sound : IsSound a) where
   -- a link's seat is that of the thread with the number at its place
@@ -61,16 +65,16 @@ module _ (a : CoreParts) (sound : IsSound a) where
 module _ (a : CoreParts) (test : ℕ → Bool) where
   each_filter : (n : ℕ) (ms : List ℕ) → Each (NotBefore a n) ms → Each (NotBefore a n) (filter test ms)
   each_filter n [] all = tt
-  each_filter n (m ∷ ms) all = by (test m)
+  each_filter n (m ∷ ms) all = by (test m) (each_filter n ms all.1)
     where
-      by : (b : Bool) → Each (NotBefore a n) (cond b (m ∷ filter test ms) (filter test ms))
-      by true = (all.0, each_filter n ms all.1)
-      by false = each_filter n ms all.1
+      by : (b : Bool) → Each (NotBefore a n) (filter test ms) → Each (NotBefore a n) (cond b (m ∷ filter test ms) (filter test ms))
+      by true rest = (all.0, rest)
+      by false rest = rest
 
   pub order_filter : (ns : List ℕ) → AreInOrder a ns → AreInOrder a (filter test ns)
   order_filter [] order = tt
-  order_filter (n ∷ ns) order = by (test n)
+  order_filter (n ∷ ns) order = by (test n) (each_filter n ns order.0) (order_filter ns order.1)
     where
-      by : (b : Bool) → AreInOrder a (cond b (n ∷ filter test ns) (filter test ns))
-      by true = (each_filter n ns order.0, order_filter ns order.1)
-      by false = order_filter ns order.1
+      by : (b : Bool) → Each (NotBefore a n) (filter test ns) → AreInOrder a (filter test ns) → AreInOrder a (cond b (n ∷ filter test ns) (filter test ns))
+      by true each rest = (each, rest)
+      by false each rest = rest
