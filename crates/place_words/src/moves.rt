@@ -22,6 +22,7 @@ use task_records::{CoreParts, Node};
 use task_words::ThreadId;
 
 // The node is in this chain alone, with the value, or in none.
+#[inline(always)]
 pub(crate) fn refile(links: &mut Links<u32>, node: Node, chain: Option<usize>, value: u32)
     requires made { is_made links.old node.index ≡ true }
     requires live { IfSome chain (λ c. IsSome (list_of links.old c)) }
@@ -39,6 +40,7 @@ pub(crate) fn refile(links: &mut Links<u32>, node: Node, chain: Option<usize>, v
 
 /// The thread is at another place from now on, in the chain in which it is filed there. An id that names no thread
 /// changes nothing.
+#[inline(always)]
 pub(crate) fn put(
     parts: &mut CoreParts,
     id: ThreadId,
@@ -73,6 +75,7 @@ pub(crate) fn put(
 }
 
 /// The thread has come to another point of its op, where it is. An id that names no thread changes nothing.
+#[inline(always)]
 pub(crate) fn put_there(parts: &mut CoreParts, id: ThreadId, how_far: HowFar, awaited: u32)
     requires sound { IsSound parts.old }
     requires how_far { AtPlace (parts_of parts.old) awaited (how_far_target how_far) }
