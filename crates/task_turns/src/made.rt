@@ -45,6 +45,7 @@ fn fell<W: Words>(w: &mut W, thread: ThreadId, label: Label) -> Made
 }
 
 /// What an op that came to this shows. A strand that trapped is taken away.
+#[inline(always)]
 pub(crate) fn made_of<W: Words>(w: &mut W, thread: ThreadId, came: Came) -> Made
     requires strikes { CanStrike came (thread_of (W.view w.old) thread) (W.view w.old).core }
     requires goes { GoesOn came (W.view w.old) }
