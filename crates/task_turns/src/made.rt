@@ -57,7 +57,6 @@ pub(crate) fn made_of<W: Words>(w: &mut W, thread: ThreadId, came: Came) -> Made
     ensures over { is_none (outcome_of_label result.label) ≡ is_open result.turn }
     ensures works { KeepsWorks (W.view w.old) (W.view w.new) }
 {
-    let number = w.number(thread);
     match came {
         Came::Goes(label, next) => Made {
             label,
@@ -70,7 +69,13 @@ pub(crate) fn made_of<W: Words>(w: &mut W, thread: ThreadId, came: Came) -> Made
                 turn: Turn::Main,
             }
         }
-        Came::Traps(trap) => fell(w, thread, Label::Loop(LoopLabel::Trap(trap, number))),
-        Came::Fails(work) => fell(w, thread, Label::Call(CallLabel::Fails(number, work))),
+        Came::Traps(trap) => {
+            let number = w.number(thread);
+            fell(w, thread, Label::Loop(LoopLabel::Trap(trap, number)))
+        }
+        Came::Fails(work) => {
+            let number = w.number(thread);
+            fell(w, thread, Label::Call(CallLabel::Fails(number, work)))
+        }
     }
 }
