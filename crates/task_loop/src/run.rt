@@ -192,6 +192,7 @@ impl RunConcurrent {
             added = compute(
                 component,
                 &mut store.state,
+                &made.label,
                 self.turn,
                 trace,
                 added + 1,
