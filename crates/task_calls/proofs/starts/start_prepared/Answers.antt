@@ -1,1 +1,0 @@
-use Rattle.task_calls.proofs.starts.start_prepared.Goals as goal
