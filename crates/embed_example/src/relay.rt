@@ -2,7 +2,7 @@
 ghost use Rattle.std.specs.Prelude.{◌≡◌, ◌+◌, ◌<◌, ◌^◌, [], IfErr, IfOk, None, OnOk};
 ghost use Rattle.task_machine.specs.Core.{Unscripted};
 ghost use Rattle.state_calls.specs.declared.error.TaskError.TheVariants as task_error;
-ghost use Rattle.task_turns.specs.Covered.{IsCovered};
+ghost use Rattle.task_turns.specs.WellFormed.{IsWellFormed};
 ghost use Rattle.task_turns.specs.Main.{Steps};
 ghost use Rattle.task_turns.specs.Turn.{Sits, given, running_of};
 ghost use Rattle.embed_example.specs.Host.{TakesOne};
@@ -41,7 +41,7 @@ fn start(
     component: &Component,
     func: Func,
 ) -> Result<MainStep, TaskError>
-    requires covered { IsCovered component.now }
+    requires covered { IsWellFormed component.now }
     requires order { Sits component.now Turn.Main access.old.store.now.state.core }
     requires takes { TakesOne component.now func }
     requires current { running_of access.old.store.now.state ≡ None }

@@ -14,14 +14,14 @@ ghost use Rattle.task_records.specs.declared.threads.GuestThread.{GuestThread};
 ghost use Rattle.task_table.specs.Answers.{item_at};
 ghost use Rattle.task_table.specs.Records.{number_in, record_at};
 ghost use Rattle.task_words.specs.Live.{delivered_set, live_set};
-ghost use Rattle.task_words.specs.Names.{place_in};
+ghost use Rattle.task_words.specs.Names.{place_in, why_in};
 ghost use Rattle.task_words.specs.StateView.{on_core, set_of, thread_of};
 
 use crate::moves::put;
-use crate::targets::{chain_at, held_chain, named_place};
+use crate::targets::{chain_at, held_chain, named_place, named_why};
 use task_machine::{Delivery, Mark, Place, Why};
 use task_records::{CoreParts, named_set};
-use task_words::{PlaceId, SetId, ThreadId};
+use task_words::{PlaceId, SetId, ThreadId, WhyId};
 
 pub fn place(parts: &CoreParts, thread: ThreadId) -> Option<Place>
     requires { IsSound parts.now }
@@ -79,19 +79,55 @@ pub fn delivered_set(parts: &CoreParts, thread: ThreadId) -> Option<SetId>
     }
 }
 
-pub fn set_place(parts: &mut CoreParts, thread: ThreadId, place: PlaceId)
+// The thread runs from now on.
+fn run(parts: &mut CoreParts, thread: ThreadId)
+    requires { IsSound parts.old }
+    ensures sound { IsSound parts.new }
+    ensures new { seen parts.new ≡ on_core (set_place (thread_of (seen parts.old) thread) places.Running) (seen parts.old) }
+{
+    put(parts, thread, Place::Running, 0, None);
+}
+
+// The thread has an entry at the mark from now on.
+fn queue(parts: &mut CoreParts, thread: ThreadId, mark: Mark, why: WhyId)
+    requires { IsSound parts.old }
+    ensures sound { IsSound parts.new }
+    ensures new { seen parts.new ≡ on_core (set_place (thread_of (seen parts.old) thread) (places.Ready mark (why_in (seen parts.old).tags why))) (seen parts.old) }
+{
+    let (named, beside) = named_why(parts, why);
+    put(
+        parts,
+        thread,
+        Place::Ready { mark, why: named },
+        beside,
+        None,
+    );
+}
+
+// The thread is at any place from now on.
+fn put_at(parts: &mut CoreParts, thread: ThreadId, place: PlaceId)
     requires { IsSound parts.old }
     ensures sound { IsSound parts.new }
     ensures new { seen parts.new ≡ on_core (set_place (thread_of (seen parts.old) thread) (place_in (seen parts.old).tags place)) (seen parts.old) }
 {
     if let Some(found) = task_records::thread(parts, thread) {
-        let old = *found;
+        let instance = found.instance;
         let (named, beside) = named_place(parts, place);
-        let chain = chain_at(parts, old.instance, place);
-        let mut new = old;
-        new.thread.place = named;
-        new.beside = beside;
-        put(parts, thread, old, new, chain);
+        let chain = chain_at(parts, instance, place);
+        put(parts, thread, named, beside, chain);
+    }
+}
+
+/// The thread is at this place from now on. Those that most threads go to stand apart, since less is to be done there.
+pub fn set_place(parts: &mut CoreParts, thread: ThreadId, place: PlaceId)
+    requires { IsSound parts.old }
+    ensures sound { IsSound parts.new }
+    ensures new { seen parts.new ≡ on_core (set_place (thread_of (seen parts.old) thread) (place_in (seen parts.old).tags place)) (seen parts.old) }
+{
+    match place {
+        PlaceId::Running => run(parts, thread),
+        PlaceId::Ready { mark, why } => queue(parts, thread, mark, why),
+        other => put_at(parts, thread, other),
     }
 }
 
@@ -102,11 +138,9 @@ pub fn set_mark(parts: &mut CoreParts, thread: ThreadId, mark: Mark)
     ensures new { seen parts.new ≡ on_core (λ s. stand (thread_of (seen parts.old) thread) mark (why_of (thread_of (seen parts.old) thread) s) s) (seen parts.old) }
 {
     if let Some(found) = task_records::thread(parts, thread) {
-        let old = *found;
-        let why = ready_why(old.thread.place);
-        let mut new = old;
-        new.thread.place = Place::Ready { mark, why };
-        put(parts, thread, old, new, None);
+        let beside = found.beside;
+        let why = ready_why(found.thread.place);
+        put(parts, thread, Place::Ready { mark, why }, beside, None);
     }
 }
 
@@ -117,12 +151,10 @@ pub fn hold(parts: &mut CoreParts, thread: ThreadId)
     ensures new { seen parts.new ≡ on_core (λ s. set_place (thread_of (seen parts.old) thread) (places.Held (why_of (thread_of (seen parts.old) thread) s)) s) (seen parts.old) }
 {
     if let Some(found) = task_records::thread(parts, thread) {
-        let old = *found;
-        let why = ready_why(old.thread.place);
-        let chain = held_chain(parts, old.instance);
-        let mut new = old;
-        new.thread.place = Place::Held { why };
-        put(parts, thread, old, new, chain);
+        let beside = found.beside;
+        let why = ready_why(found.thread.place);
+        let chain = held_chain(parts, found.instance);
+        put(parts, thread, Place::Held { why }, beside, chain);
     }
 }
 
@@ -138,15 +170,11 @@ pub fn unhold(parts: &mut CoreParts, thread: ThreadId)
     let Some(found) = task_records::thread(parts, thread) else {
         unreachable!()
     };
-    let old = *found;
-    match old.thread.place {
+    let beside = found.beside;
+    match found.thread.place {
         Place::Held { why } => {
-            let mut new = old;
-            new.thread.place = Place::Ready {
-                mark: Mark::High,
-                why,
-            };
-            put(parts, thread, old, new, None);
+            let mark = Mark::High;
+            put(parts, thread, Place::Ready { mark, why }, beside, None);
         }
         _ => unreachable!(),
     }

@@ -7,3 +7,4 @@ pub mod Order
 pub mod Ends
 pub mod Exports
 pub mod Wakes
+pub mod Courses

@@ -4,12 +4,14 @@
 //! `task_rules` defines.
 #![tactic(auto)]
 
+mod courses;
 mod exports;
 mod handles;
 mod holders;
 mod rises;
 mod written;
 
+pub use courses::{courses_stay, works_are_called};
 pub use exports::{calls_name_exports, handle_tables_stay, instances_stay};
 pub use handles::{sets_are_named_at_home, sets_are_named_once};
 pub use holders::one_entry_holds;

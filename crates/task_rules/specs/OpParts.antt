@@ -55,6 +55,10 @@ abbrev pub is_wait : Op → Bool
 is_wait (op.Set (set_op.Wait r x)) = true
 is_wait _ = false
 
+abbrev pub is_join : Op → Bool
+is_join (op.Set (set_op.Join x y)) = true
+is_join _ = false
+
 abbrev pub is_sync_call : Op → Bool
 is_sync_call (op.Call (call_op.CallSync r e xs)) = true
 is_sync_call _ = false
@@ -62,6 +66,18 @@ is_sync_call _ = false
 abbrev pub is_sync_host_call : Op → Bool
 is_sync_host_call (op.Call (call_op.CallSyncHost r h)) = true
 is_sync_host_call _ = false
+
+-- the thread goes on inside of a host's call
+abbrev pub is_calling_host : HowFar → Bool
+is_calling_host (how_far.Calls (subtask.Host i)) = true
+is_calling_host _ = false
+
+-- an op that has come so far polls a host first, and may make its work
+abbrev pub queues_work : HowFar → Op → Bool
+queues_work h (op.Call (call_op.CallHost r q f)) = true
+queues_work (how_far.Calls (subtask.Host i)) (op.Call (call_op.CallSyncHost r f)) = false
+queues_work h (op.Call (call_op.CallSyncHost r f)) = true
+queues_work h _ = false
 
 abbrev pub is_sync_cancel : Op → Bool
 is_sync_cancel (op.Call (call_op.CancelSync r x)) = true

@@ -19,7 +19,7 @@ use crate::settles::nothing_stands;
 use crate::stretches::stretch;
 use crate::takes::step_take;
 use crate::trace::Trace;
-use task_machine::{Component, NoMemory, Turn};
+use task_machine::{Component, Label, NoMemory, Turn};
 use task_words::Words;
 
 /// The live work that is next is polled.
@@ -43,7 +43,7 @@ fn rest<W: Words>(w: &mut W, trap_on_idle: bool) -> Option<Made>
     requires works { WorksQueued (W.view w.old).core }
     requires current { (W.view w.old).current ≡ None }
     requires none { next_entry (W.view w.old).core ≡ None }
-    ensures turned { (c : Component) → TurnedBeside c trap_on_idle (Turn.Take false) (W.view w.old) result (W.view w.new) }
+    ensures turned { (c : Component) → Sits c (Turn.Take false) (W.view w.old).core → TurnedBeside c trap_on_idle (Turn.Take false) (W.view w.old) result (W.view w.new) }
     ensures works { KeepsWorks (W.view w.old) (W.view w.new) }
 {
     if w.has_moving_work() {
@@ -76,10 +76,12 @@ pub fn take<W: Words>(
     }
 }
 
-/// The ops on registers and words that come next, where a thread runs.
+/// The ops on registers and words that come next, where a thread runs. They are looked for only where such an op
+/// made the last label, since other ops mostly come alone.
 pub fn compute<W: Words>(
     component: &Component,
     w: &mut W,
+    last: &Label,
     turn: Turn,
     trace: &mut Trace,
     added: u32,
@@ -93,6 +95,9 @@ pub fn compute<W: Words>(
     ensures on { IfOk result (λ k. KeepsOn component.now turn (W.view w.old) trace.old added (W.view w.new) trace.new k) }
     ensures works { SameWorks (W.view w.old) (W.view w.new) }
 {
+    if !matches!(last, Label::Data(_)) {
+        return Ok(added);
+    }
     match turn {
         Turn::Run { thread } => stretch(component, w, thread, trace, added, steps),
         _ => Ok(added),
@@ -108,8 +113,7 @@ fn is_take(turn: Turn) -> bool
 
 /// Whether nothing can go on in this turn, and that is no deadlock.
 pub fn is_idle<W: Words>(w: &W, turn: Turn, trap_on_idle: bool) -> bool
-    requires { WorksQueued (W.view w.now).core }
-    ensures { (x : Setting) → x.idle ≡ idle_line_of trap_on_idle → (m : Main) → PendsIn x (W.view w.now).core m turn → is_at_rest x (state_at (W.view w.now).core m turn) ≡ result }
+    ensures { (x : Setting) → Sits x.component turn (W.view w.now).core → x.idle ≡ idle_line_of trap_on_idle → (m : Main) → PendsIn x (W.view w.now).core m turn → is_at_rest x (state_at (W.view w.now).core m turn) ≡ result }
 {
     if !is_take(turn) {
         return false;

@@ -1,0 +1,33 @@
+-- Which steps make host works, and which change what a work is still to do.
+use Rattle.std.specs.Prelude.{Bool, Some, is_some, true, ℕ, ◌+◌, ◌≡◌, ◌≤◌, ◌⊎◌}
+use Rattle.task_machine.specs.Core.{State}
+use Rattle.task_machine.specs.Maps.{get}
+use Rattle.task_machine.specs.Read.{how_far_of}
+use Rattle.task_machine.specs.declared.label.Label.{Label}
+use Rattle.task_machine.specs.declared.records.Turn.TheVariants as turn
+use Rattle.task_machine.specs.declared.records.Work.{Work}
+use Rattle.task_rules.specs.Laws.{LaterBy}
+use Rattle.task_rules.specs.OpParts.{queues_work}
+use Rattle.task_rules.specs.Scripts.{op_of}
+use Rattle.task_rules.specs.Stalled.{Setting}
+use Rattle.task_rules.specs.Step.{Step}
+
+-- the work is still to do the same
+pub record SameCourse (v w : Work) : Type 0 where
+  pub course : w.course ≡ v.course
+
+-- At each turn but that of futures, a work that was made before is gone, or is still to do the same.
+unfoldable pub CoursesStay : Type 0
+CoursesStay = (x : Setting) (s : State) (l : Label) (t : State) → Step x s l t → ((n : ℕ) → s.turn ≡ turn.Futures n → ⊥) →
+    (i : ℕ) → i ≤ s.core.made.works → LaterBy SameCourse (get s.core.works i) (get t.core.works i)
+
+-- Who makes a work: main spawns it, or the op of the running thread calls a host.
+pub data MakesWork (x : Setting) (s : State) : Type 0 where
+  Spawns : s.turn ≡ turn.Main → MakesWork x s
+  CallsHost : (n : ℕ) → s.turn ≡ turn.Run n → queues_work (how_far_of n s.core) (op_of x.component n s.core) ≡ true → MakesWork x s
+
+-- Where each work has a number that was given, a work that is there after a step was made before it, or is made in it, with the next number.
+unfoldable pub WorksAreCalled : Type 0
+WorksAreCalled = (x : Setting) (s : State) (l : Label) (t : State) → Step x s l t →
+    ((i : ℕ) → is_some (get s.core.works i) ≡ true → i ≤ s.core.made.works) →
+    (i : ℕ) → is_some (get t.core.works i) ≡ true → (i ≤ s.core.made.works) ⊎ ((i ≡ s.core.made.works + 1) × MakesWork x s)
