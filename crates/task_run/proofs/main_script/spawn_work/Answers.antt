@@ -1,6 +1,7 @@
 use Rattle.std.proofs.Common.{◌∙◌, ◌+◌, ap, sym}
 use Rattle.std.specs.Option.{option_map}
 use Rattle.std.specs.Prelude.{List, slice_get, ℕ}
+use Rattle.std.proofs.lemmas.List.{length-map, map_push}
 use Rattle.std.proofs.lemmas.Option.{slice_get-map}
 use Rattle.task_machine.specs.declared.component.HostDef.{HostDef}
 use Rattle.task_machine.specs.declared.label.MainLabel.TheVariants as main_label
@@ -12,6 +13,7 @@ use Rattle.task_run.specs.Script.{machine_op, part_of, place_of, script_of}
 use Rattle.task_run.proofs.ScriptLemmas.{did_by_row, spawned_row}
 use Rattle.task_run.proofs.SpawnLemmas.{knows_more}
 use Rattle.task_run.proofs.main_script.spawn_work.Goals as goal
+use Rattle.task_run.specs.declared.main_script.Spawned.{Spawned}
 
 pub returns-clause-ok : goal.returns-clause-ok
 returns-clause-ok g c =
@@ -20,8 +22,8 @@ returns-clause-ok g c =
     let t = c.queue_spawn.new.self.core in
     let there = c.in-Some-host_here.ensures ∙ ap (λ (hs : List HostDef). slice_get hs c.args.host) c.as_slice.ensures in
     let number = c.work_number-future.ensures ∙ c.in-Ok.ensures.work in
-    let row = ap (λ (k : ℕ). Does (main_label.Spawn k (next_work s)) (main_spawned d c.args.host s)) (sym c.in-Some.ensures) ∙ spawned_row d c.args.host c.in-Some-host_here.def s t c.in-Some.number c.work_number-future.result there c.in-Ok.ensures.core number in
-    rw (c.in_ok-keep_spawn.ensures.at, c.in_ok-keep_spawn.ensures.registers, c.in_ok-keep_spawn.ensures.starts, c.in_ok-keep_spawn.ensures.spawns)
+    let row = ap (λ (k : ℕ). Does (main_label.Spawn k (next_work s)) (main_spawned d c.args.host s)) (ap (λ (k : ℕ). k + 1) (length-map c.args.main.now.spawns.items (λ (h : Spawned). h.number)) ∙ sym c.in-Some.ensures) ∙ spawned_row d c.args.host c.in-Some-host_here.def s t c.in-Some.number c.work_number-future.result there c.in-Ok.ensures.core number in
+    rw (c.in_ok-keep_spawn.ensures.at, c.in_ok-keep_spawn.ensures.registers, c.in_ok-keep_spawn.ensures.starts, c.in_ok-keep_spawn.ensures.spawns, map_push)
     (did_by_row d (script_of c.args.main.now) (place_of c.args.main.now) s (machine.Spawn c.args.host) (slice_get-map machine_op c.args.main.now.ops.now c.args.main.now.at ∙ ap (option_map machine_op) c.requires.op) (main_label.Spawn c.in-Some.number c.work_number-future.result) t row tt)
 
 pub returns-clause-knows : goal.returns-clause-knows

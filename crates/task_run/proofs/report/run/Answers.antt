@@ -21,6 +21,9 @@ drive-driven-requires-clause-order c =
 pub drive-driven-requires-clause-given : goal.drive-driven-requires-clause-given
 drive-driven-requires-clause-given c = rw (c.run_concurrent.ensures.store, c.in_ok-store.ensures.state, given_fresh) (omega arith)
 
+pub drive-driven-requires-clause-knows : goal.drive-driven-requires-clause-knows
+drive-driven-requires-clause-knows c = c.new-main.ensures.knows c.run_concurrent.new.store.state
+
 pub returns : goal.returns
 returns c =
     headline (machine_scenario c.args.scenario.now) _ _ _ _ _ c.args.steps c.in-Ok-driven.outcome _
