@@ -11,7 +11,7 @@ use Rattle.task_machine.proofs.CommuteLemmas.{get-change}
 use Rattle.task_machine.specs.Core.{Core, Main}
 use Rattle.task_machine.specs.Maps.{Records, change, get, same_map}
 use Rattle.task_machine.specs.Read.{phase_of}
-use Rattle.task_machine.specs.Write.{on_work, set_phase}
+use Rattle.task_machine.specs.Write.{add_work, count_work, on_work, push_high, set_phase}
 use Rattle.task_machine.specs.declared.component.Callee.{Callee}
 use Rattle.task_machine.specs.declared.component.Component.{Component}
 use Rattle.task_machine.specs.declared.component.HostDef.{HostDef}
@@ -95,7 +95,7 @@ finish_names k s t Pending h id live = ap (λ (u : StateView). work_of u id) h.1
 -- ---- A spawn
 
 made_by_spawn : (h : Spawned) (s t : StateView) (host : HostDef) → h.number ≡ next_work s.core → t.core ≡ work_queued work_caller.Spawn host None s.core → work_of t h.work ≡ h.number → IsMadeIn h t
-unfolding work_queued
+unfolding work_queued push_high add_work count_work
 made_by_spawn h s t host number core named = record {
   some = subst (λ (n : ℕ). 0 < n) (sym number) (omega arith);
   made = subst (λ (n : ℕ). n ≤ t.core.made.works) (sym number) (subst (λ (u : Core). s.core.made.works + 1 ≤ u.made.works) (sym core) (le_refl _));
