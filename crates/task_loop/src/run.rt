@@ -205,7 +205,8 @@ impl RunConcurrent {
         Ok(Outcome::OutOfSteps)
     }
 
-    // Makes a step; none where nothing can go on and that is no deadlock.
+    // Makes a step; none where nothing can go on and that is no deadlock. It is inlined, so that what it made is not copied.
+    #[inline(always)]
     fn turn<T, H, M: MainTask<T, H>>(
         &self,
         component: &Component,
