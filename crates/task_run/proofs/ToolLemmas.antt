@@ -1,15 +1,20 @@
 -- Which statuses are left, once the others are ruled out.
 use Rattle.std.proofs.Common.{◌≡◌, ◌≢◌, ◌⊎◌, ◌∙◌, ◌+◌, ◌<◌, ℕ, List, inl, inr, length, length-append, refl, ap, sym, subst, arith}
-use Rattle.std.specs.Prelude.{Option}
+use Rattle.std.proofs.Common.{zero, suc, Some, None}
+use Rattle.std.specs.Prelude.{MatchOption, Option}
 use Rattle.task_run.specs.declared.program.End.{End}
 use Rattle.task_run.specs.declared.program.End.TheVariants as ends
 use Rattle.task_scenario.specs.declared.scenario.Scenario.{Scenario}
 use Rattle.task_scenario.specs.Lower.{Reads}
 use Rattle.task_rules.specs.Texts.{text}
+use Rattle.task_run.specs.declared.program.ToolEnd.{ToolEnd}
 use Rattle.task_run.specs.declared.report.Report.{Report}
 use Rattle.task_run.specs.Headline.{IsReportOf}
+use Rattle.byte_streams.specs.Outside.{Appends}
 use Rattle.byte_streams.specs.Pump.{IsFront, IsTooLong, IsWhole}
-use Rattle.task_run.specs.Tool.{IsHindered, IsReportCut, SaysBadLine, status_of}
+use Rattle.generated_scenario.specs.Generated.{gen}
+use Rattle.generated_scenario.specs.Summary.{summary}
+use Rattle.task_run.specs.Tool.{IsHindered, IsReportCut, IsSummaryCut, IsSummed, SaysBadLine, status_of}
 
 pub only_done : (e : End) → e ≢ ends.WrongWords → e ≢ ends.BadScenario → e ≢ ends.ReadFailed → e ≢ ends.WriteFailed → e ≢ ends.TooLong → (status_of e ≡ 0) ⊎ (status_of e ≡ 1)
 only_done ends.NoMemory words bad read write long = inr refl
@@ -67,3 +72,31 @@ was_cut ends.BadScenario is = absurd (cc)
 was_cut ends.ReadFailed is = absurd (cc)
 was_cut ends.WriteFailed is = refl
 was_cut ends.TooLong is = absurd (cc)
+
+-- what is said of the report that is answered, where there is one
+abbrev Sums : ℕ → ℕ → ℕ → Option (List ℕ) → Option (List ℕ) → Option Report → Type 0
+Sums n k status old new o =
+    MatchOption o ((status ≡ 1) ⊎ ((status ≡ 5) × IsSummaryCut n k old new)) (λ (q : Report). (status ≡ 0) × IsReportOf (gen n) k q × Appends old new (summary q.trace q.outcome))
+
+-- the summary of the report that is answered was written, or a front of it, and then there is no report
+pub summed : (n k : ℕ) (end : ToolEnd) (r : Report) (old new : Option (List ℕ)) (bytes : List ℕ) → bytes ≡ summary r.trace r.outcome → IsReportOf (gen n) k r → (end.status ≡ 0 → (end.report ≡ Some r) × Appends old new bytes) → (end.status ≢ 0 → (end.report ≡ None) × (end.status ≡ 5) × IsFront old new bytes) → IsSummed n k end old new
+summed n k end r old new bytes text is written cut = by_status end.status refl
+  where
+    by_status : (s : ℕ) → end.status ≡ s → Sums n k end.status old new end.report
+    by_status zero e =
+        let whole = written e in
+        subst (λ (o : Option Report). Sums n k end.status old new o) (sym whole.0) (e, is, subst (λ (bs : List ℕ). Appends old new bs) text whole.1)
+    by_status (suc m) e =
+        let part = cut (λ none. absurd (omega (arith, none, e))) in
+        subst (λ (o : Option Report). Sums n k end.status old new o) (sym part.0) (inr (
+          part.1,
+          record {
+            scenario = is.scenario;
+            trace = r.trace;
+            outcome = r.outcome;
+            core = r.store.state.core;
+            reads = is.reads;
+            run = is.run;
+            written = subst (λ (bs : List ℕ). IsFront old new bs) text part.2;
+          },
+        ))
