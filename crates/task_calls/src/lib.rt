@@ -7,6 +7,7 @@ mod directs;
 mod hosts;
 mod intrinsics;
 mod returns;
+mod starts;
 mod tasks;
 
 pub use answers::{Answer, Step};
@@ -18,4 +19,5 @@ pub use hosts::{finish_call, start_call};
 pub use intrinsics::{SuspensionTarget, cancel_op, pressure_op, suspension_op};
 pub use returns::task_return;
 pub use state_calls::{QualifiedThreadId, TaskError, is_live};
+pub use starts::{prepare_call, start_prepared};
 pub use tasks::new_guest_task;
