@@ -8,8 +8,6 @@ mod calls_of_states;
 #[cfg(test)]
 mod drive;
 #[cfg(test)]
-mod instance_calls;
-#[cfg(test)]
 mod program;
 #[cfg(test)]
 mod report;
