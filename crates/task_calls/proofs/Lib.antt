@@ -5,4 +5,5 @@ pub mod AtOnceLemmas
 pub mod CallLemmas
 pub mod DirectLemmas
 pub mod ReturnLemmas
+pub mod StartLemmas
 pub mod TaskLemmas
