@@ -1,2 +1,1 @@
 pub mod DriveLemmas
-pub mod StateLemmas

@@ -4,8 +4,6 @@
 #![tactic(auto)]
 
 #[cfg(test)]
-mod calls_of_states;
-#[cfg(test)]
 mod drive;
 #[cfg(test)]
 mod program;
