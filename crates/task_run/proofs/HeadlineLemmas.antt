@@ -1,11 +1,13 @@
 -- A driven script is a run of its scenario.
 use Rattle.std.proofs.Common.{◌≡◌, ℕ, List, [], refl, sym, subst}
-use Rattle.std.specs.Prelude.{◌≤◌, length}
+use Rattle.std.specs.Prelude.{◌<◌, ◌≤◌, length}
 use Rattle.task_machine.specs.declared.label.Label.{Label}
 use Rattle.task_machine.specs.declared.outcome.Outcome.{Outcome}
 use Rattle.task_machine.specs.declared.records.Turn.TheVariants as turn
 use Rattle.task_machine.specs.declared.scenario.ScenarioDef.{ScenarioDef}
 use Rattle.task_machine.specs.Core.{Core, State, Scripted, fresh}
+use Rattle.task_rules.specs.History.{history}
+use Rattle.task_rules.specs.Once.{EndsOnce, OneHolder}
 use Rattle.task_rules.specs.Outcome.{IsOutcome}
 use Rattle.task_rules.specs.Run.{Run, main_opening, opens}
 use Rattle.task_rules.specs.Stalled.{Setting, setting_of}
@@ -23,17 +25,27 @@ module _ (x : Scenario) (runnable : IsRunnable x) where
   unfolding opens
   opens_is = refl
 
-pub headline : (x : ScenarioDef) (y : Setting) (s t : State) (before after : List Label) (steps : ℕ) (o : Outcome) (core : Core) → y ≡ setting_of x → s ≡ opens x → before ≡ [] → core ≡ t.core → Drives y s before t after steps o → IsRunOf x steps after o core
-headline x y s t before after steps o core setting start none image drives =
+-- what the scenario's runs keep
+pub record Keeps (x : ScenarioDef) : Type 0 where
+  pub once : (ls : List Label) (t : State) (run : Run (setting_of x) (opens x) ls t) → EndsOnce x.component (history (setting_of x) (opens x) ls t run)
+  pub alone : (ls : List Label) (t : State) (run : Run (setting_of x) (opens x) ls t) → 0 < length x.component.instances →
+      OneHolder (history (setting_of x) (opens x) ls t run)
+
+pub headline : (x : ScenarioDef) → Keeps x → (y : Setting) (s t : State) (before after : List Label) (steps : ℕ) (o : Outcome) (core : Core) →
+    y ≡ setting_of x → s ≡ opens x → before ≡ [] → core ≡ t.core → Drives y s before t after steps o → IsRunOf x steps after o core
+headline x keeps y s t before after steps o core setting start none image drives =
     let one : Drives (setting_of x) s before t after steps o = subst (λ (y : Setting). Drives y s before t after steps o) setting drives in
     let two : Drives (setting_of x) (opens x) before t after steps o = subst (λ (s : State). Drives (setting_of x) s before t after steps o) start one in
     let three : Drives (setting_of x) (opens x) [] t after steps o = subst (λ (ls : List Label). Drives (setting_of x) (opens x) ls t after steps o) none two in
+    let run : Run (setting_of x) (opens x) after t = subst (λ (ls : List Label). Run (setting_of x) (opens x) ls t) (sym three.trace) three.run in
     record {
       last = t;
-      run = subst (λ (ls : List Label). Run (setting_of x) (opens x) ls t) (sym three.trace) three.run;
+      run = run;
       few = subst (λ (ls : List Label). length ls ≤ steps) (sym three.trace) three.few;
       ends = subst (λ (ls : List Label). IsOutcome (setting_of x) t ls steps o) (sym three.trace) three.ends;
       image = image;
+      once = keeps.once after t run;
+      alone = keeps.alone after t run;
     }
 
 -- a run has what it needs of a scenario that a text stands for

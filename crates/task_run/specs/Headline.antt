@@ -1,10 +1,12 @@
 -- What a report says of a scenario: the printed steps are a run of the component machine.
-use Rattle.std.specs.Prelude.{◌≡◌, ℕ, ◌≤◌, List, length, map}
+use Rattle.std.specs.Prelude.{◌≡◌, ◌<◌, ℕ, ◌≤◌, List, length, map}
 use Rattle.task_machine.specs.declared.label.Label.{Label}
 use Rattle.task_machine.specs.declared.outcome.Outcome.{Outcome}
 use Rattle.task_machine.specs.declared.scenario.NamesDef.{NamesDef}
 use Rattle.task_machine.specs.declared.scenario.ScenarioDef.{ScenarioDef}
 use Rattle.task_machine.specs.Core.{Core, State}
+use Rattle.task_rules.specs.History.{history}
+use Rattle.task_rules.specs.Once.{EndsOnce, OneHolder}
 use Rattle.task_rules.specs.Outcome.{IsOutcome}
 use Rattle.task_rules.specs.Run.{Run, opens}
 use Rattle.task_rules.specs.Stalled.{setting_of}
@@ -29,13 +31,16 @@ machine_scenario x = record {
   aborters = x.aborters;
 }
 
--- Some run of the scenario with at most so many steps shows these labels, has come to this, and its last state has this core.
+-- Some run of the scenario with at most so many steps shows these labels, has come to this, and its last state has this core. It hands out
+-- each end once, and one holding entry of an instance runs at a time; without an instance there is no entry.
 pub record IsRunOf (x : ScenarioDef) (steps : ℕ) (trace : List Label) (outcome : Outcome) (core : Core) : Type 0 where
   pub last : State
   pub run : Run (setting_of x) (opens x) trace last
   pub few : length trace ≤ steps
   pub ends : IsOutcome (setting_of x) last trace steps outcome
   pub image : core ≡ last.core
+  pub once : EndsOnce x.component (history (setting_of x) (opens x) trace last run)
+  pub alone : 0 < length x.component.instances → OneHolder (history (setting_of x) (opens x) trace last run)
 
 -- The report is of a run of the scenario that the text stands for.
 pub record IsReportOf (text : List ℕ) (steps : ℕ) (r : Report) : Type 0 where

@@ -11,6 +11,7 @@ use Rattle.std.specs.Prelude.{Bool}
 use Rattle.task_machine.specs.declared.records.Turn.{Turn}
 use Rattle.task_run.specs.Headline.{machine_scenario}
 use Rattle.task_run.proofs.HeadlineLemmas.{headline, opens_is}
+use Rattle.task_run.proofs.OnceLemmas.{scenario_keeps}
 use Rattle.task_turns.proofs.FreshLemmas.{given_fresh, sits_fresh}
 use Rattle.task_run.proofs.report.run.Goals as goal
 
@@ -26,7 +27,7 @@ drive-driven-requires-clause-knows c = c.new-main.ensures.knows c.run_concurrent
 
 pub returns : goal.returns
 returns c =
-    headline (machine_scenario c.args.scenario.now) _ _ _ _ _ c.args.steps c.in-Ok-driven.outcome _
+    headline (machine_scenario c.args.scenario.now) (scenario_keeps c.args.scenario.now c.requires) _ _ _ _ _ c.args.steps c.in-Ok-driven.outcome _
     (ap (λ (b : Bool). loop.setting_of c.args.scenario.now.component (script_of c.new-main.result) b) c.in-Ok.ensures.idle
     ∙ ap (λ i. record { component = c.args.scenario.now.component; script = script_of c.new-main.result; idle = i }) c.traps_on_idle.ensures
     ∙ ap (λ (ops : List MainOp). record { component = c.args.scenario.now.component; script = machine_ops ops; idle = c.args.scenario.now.idle }) (c.new-main.ensures.ops ∙ c.as_slice.ensures))
