@@ -1,26 +1,5 @@
 -- Which steps make host works, and which change what a work is still to do.
-use Rattle.task_laws.proofs.Words.{after_word, Allowed, along, ap, arith, base_at, Core, get, get-change, get-insert, get-remove, inl, inr, is_some, LaterBy, le_refl, le_trans, nat_tests, refl, Scene, scene_of, Setting, State, subst, sym, true, Turn, Word, Work, ℕ, ⊎_elim, ◌+◌, ◌≡◌, ◌≤◌, ◌⊎◌, made_works_word, of_base}
-use Rattle.std.specs.Prelude.{Some, None, Option, Bool, false}
-use Rattle.std.proofs.Common.{◌∙◌}
-use Rattle.task_machine.specs.Read.{how_far_of}
-use Rattle.task_machine.specs.Maps.{Records, insert}
-use Rattle.task_machine.specs.Write.{add_call, add_group, add_set, add_thread, add_work, call_made, count_work, free_handle, free_thread_handle, give_handle, give_result, give_thread_handle, on_call, on_instance, on_thread, on_work, poll_pends, push_high, remove_call, remove_group, remove_set, remove_thread, remove_work, set_backpressure, set_cancel_delivered, set_cancelled, set_course, set_do_not_enter, set_do_not_suspend, set_end, set_event, set_exited, set_how_far, set_join, set_own_event, set_phase, set_position, set_register, set_result, set_saved_callee, set_saved_own, set_script, set_stage, set_started, set_starting_published, set_subtask_handle, set_thread_handle, set_trapped, set_uninteresting, set_word, take_result, with_handle, with_thread_handle, work_queued}
-use Rattle.task_machine.specs.declared.label.Label.{Label}
-use Rattle.task_machine.specs.declared.op.CallOp.{CallOp}
-use Rattle.task_machine.specs.declared.op.Op.{Op}
-use Rattle.task_machine.specs.declared.records.HowFar.{HowFar}
-use Rattle.task_machine.specs.declared.records.Made.{Made}
-use Rattle.task_machine.specs.declared.records.Subtask.{Subtask}
-use Rattle.task_machine.specs.declared.records.WorkCaller.{WorkCaller}
-use Rattle.task_machine.specs.declared.component.HostDef.{HostDef}
-use Rattle.task_rules.proofs.WalkSteps.{step_walks}
-use Rattle.task_rules.specs.Allowed.{MayQueue}
-use Rattle.task_rules.specs.OpParts.{calls_host, queues_work}
-use Rattle.task_rules.specs.Scenes.{op_in}
-use Rattle.task_rules.specs.Scripts.{op_of}
-use Rattle.task_rules.specs.Step.{Step}
-use Rattle.task_rules.specs.Words.{AddGroup, EndWork, FinishWork, Pend, QueueWork}
-use Rattle.task_laws.specs.Courses.{CallsHost, CoursesStay, MakesWork, SameCourse, Spawns, WorksAreCalled}
+use Rattle.task_laws.proofs.Words.{add_call, add_group, add_set, add_thread, add_work, AddGroup, after_word, Allowed, along, ap, arith, base_at, call_made, CallOp, calls_host, CallsHost, Core, count_work, CoursesStay, EndWork, FinishWork, free_handle, free_thread_handle, get, get-change, get-insert, get-remove, give_handle, give_result, give_thread_handle, how_far_of, HowFar, inl, inr, insert, is_some, Label, LaterBy, le_refl, le_trans, Made, made_works_word, MakesWork, MayQueue, nat_tests, of_base, on_call, on_instance, on_thread, on_work, Op, op_in, op_of, Option, Pend, poll_pends, push_high, queues_work, QueueWork, Records, refl, remove_call, remove_group, remove_set, remove_thread, remove_work, SameCourse, Scene, scene_of, set_backpressure, set_cancel_delivered, set_cancelled, set_course, set_do_not_enter, set_do_not_suspend, set_end, set_event, set_exited, set_how_far, set_join, set_own_event, set_phase, set_position, set_register, set_result, set_saved_callee, set_saved_own, set_script, set_stage, set_started, set_starting_published, set_subtask_handle, set_thread_handle, set_trapped, set_uninteresting, set_word, Setting, Spawns, State, step_walks, subst, Subtask, take_result, true, Turn, with_handle, with_thread_handle, Word, Work, work_queued, WorkCaller, WorksAreCalled, ℕ, ⊎_elim, ◌+◌, ◌∙◌, ◌≡◌, ◌≤◌, ◌⊎◌}
 
 -- ---- What a work is still to do
 
