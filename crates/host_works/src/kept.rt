@@ -1,7 +1,7 @@
 //! The works that a store keeps.
 ghost use Rattle.std.specs.Prelude.{◌≡◌, ◌==◌, ℕ, IfOk, IsSome, None, OnErr, OnOk, Some, cond, option_map, option_and_then};
 ghost use Rattle.host_works.specs.Course.{left_after, told};
-ghost use Rattle.host_works.specs.Kept.{held};
+ghost use Rattle.host_works.specs.Kept.{HoldsNone, held};
 
 use crate::work::{AccessorTask, HostPoll, HostWork};
 use std::alloc::Global;
@@ -15,16 +15,18 @@ pub struct HostWorks<H> {
     works: HashMap<u64, H>,
 }
 
-impl<H: HostWork> HostWorks<H> {
+impl<H> HostWorks<H> {
     /// No works.
     pub fn new(alloc: Global) -> Self
-        ensures { (i : ℕ) → held H.course result i ≡ None }
+        ensures { HoldsNone result }
     {
         HostWorks {
             works: HashMap::new(alloc),
         }
     }
+}
 
+impl<H: HostWork> HostWorks<H> {
     /// Keeps a work under its number. Where memory is wanting, the works are as before.
     pub fn keep(&mut self, number: u64, work: H) -> Result<(), NoMemory>
         ensures ok { OnOk result ((i : ℕ) → held H.course self.new i ≡ cond (number == i) (Some (H.course work)) (held H.course self.old i)) }
@@ -43,7 +45,8 @@ impl<H: HostWork> HostWorks<H> {
         let _gone = self.works.remove(&number);
     }
 
-    /// Polls the work with this number, which is there, and lets it go where it has ended.
+    /// Polls the work with this number, which is there, and lets it go where it has ended with
+    /// a value.
     pub fn poll<T>(&mut self, number: u64, host: &mut T) -> HostPoll
     where
         H: AccessorTask<T>,
@@ -55,7 +58,7 @@ impl<H: HostWork> HostWorks<H> {
             Some(work) => work.poll(host),
             None => unreachable!(),
         };
-        if !matches!(answer, HostPoll::Pending) {
+        if matches!(answer, HostPoll::Value(_)) {
             self.let_go(number);
         }
         answer

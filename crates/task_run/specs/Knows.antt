@@ -4,13 +4,14 @@ use Rattle.std.specs.Prelude.{List, None, Option, Some, slice_get, ℕ, ◌<◌,
 use Rattle.task_machine.specs.Core.{Core}
 use Rattle.task_machine.specs.Maps.{get}
 use Rattle.task_machine.specs.declared.records.Work.{Work}
-use Rattle.task_run.specs.Spawns.{IsMadeIn, KnowsSpawns}
+use Rattle.task_run.specs.Spawns.{KnowsSpawns}
+use Rattle.task_store.specs.Spawned.{IsSpawnedIn}
 use Rattle.task_run.specs.declared.main_script.ScriptMain.{ScriptMain}
-use Rattle.task_run.specs.declared.main_script.Spawned.{Spawned}
+use Rattle.task_store.specs.declared.spawn.SpawnHandle.{SpawnHandle}
 use Rattle.task_turns.specs.Later.{WorksLast}
 use Rattle.task_words.specs.StateView.{StateView, work_of}
 
-made_later : (h : Spawned) (s t : StateView) → WorksLast s t → IsMadeIn h s → IsMadeIn h t
+made_later : (h : SpawnHandle) (s t : StateView) → WorksLast s t → IsSpawnedIn h s → IsSpawnedIn h t
 made_later h s t last q = record {
   some = q.some;
   made = le_trans q.made last.made;

@@ -1,0 +1,18 @@
+-- A poll of a host work by the loop, and what is held of it then.
+use Rattle.std.specs.Prelude.{◌≡◌, None, Option, Some, ℕ}
+use Rattle.task_machine.specs.Core.{Core}
+use Rattle.task_machine.specs.Write.{set_trapped}
+use Rattle.task_machine.specs.declared.component.HostDef.{HostDef}
+use Rattle.task_rules.specs.Works.{Ends, FailsNow, Poll, StillPends, poll_ends, poll_pends}
+
+-- the core after a poll that comes to this
+abbrev pub polled_core : ℕ → Poll → Core → Core
+polled_core i (StillPends host) s = poll_pends i host s
+polled_core i (Ends v) s = poll_ends i v s
+polled_core i FailsNow s = set_trapped s
+
+-- what is held of the polled work fits its poll
+abbrev pub Fits : Poll → Option HostDef → Option HostDef → Type 0
+Fits (StillPends host) right left = right ≡ Some host
+Fits (Ends v) right left = right ≡ None
+Fits FailsNow right left = right ≡ left
