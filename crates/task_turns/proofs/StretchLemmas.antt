@@ -6,6 +6,7 @@ use Rattle.task_machine.specs.Core.{Core, Main}
 use Rattle.task_machine.specs.Labels.{choice_of}
 use Rattle.task_machine.specs.Maps.{Records, get}
 use Rattle.task_machine.specs.Read.{callee_of, how_far_of, instance_of, no_callee, position_of, registers_of, task_of}
+use Rattle.task_machine.specs.Write.{on_thread}
 use Rattle.task_machine.specs.declared.component.Callee.{Callee}
 use Rattle.task_machine.specs.declared.component.Component.{Component}
 use Rattle.task_machine.specs.declared.label.DataLabel.{DataLabel}
@@ -35,6 +36,7 @@ use Rattle.task_turns.proofs.RunLemmas.{script_is, settled}
 use Rattle.task_turns.specs.Context.{KeepsBeside, in_context, state_in}
 use Rattle.task_table.specs.declared.id.TableId.{TableId}
 use Rattle.task_turns.specs.Drive.{KeepsOn}
+use Rattle.task_turns.specs.Later.{SameWorks}
 use Rattle.task_turns.specs.Turn.{Sits, Turns, running_of, state_at}
 use Rattle.task_turns.specs.declared.context.ThreadContext.{ThreadContext}
 use Rattle.task_turns.specs.declared.made.Made.{Made}
@@ -120,3 +122,12 @@ begun c n s order none runs id current f k x ops callee call script read =
 -- the context is written back
 pub written : (n : ℕ) (s t u : StateView) (id : TableId ThreadKey) (x : ThreadContext) → thread_of s id ≡ n → KeepsBeside s t → u ≡ on_core (with_context (thread_of t id) x.position x.registers) t → u ≡ state_in n x t
 written n s t u id x number beside e = e ∙ ap (λ k. on_core (with_context k x.position x.registers) t) (ap (λ (g : Tags). thread_number g id) beside.tags ∙ number)
+
+-- no host work is changed
+pub written_works : (s t u : StateView) (k p : ℕ) (registers : List ℕ) → KeepsBeside s t → u ≡ on_core (with_context k p registers) t → SameWorks s u
+unfolding with_context on_thread
+written_works s t u k p registers beside e = record {
+  works = ap (λ (v : StateView). v.core.works) e ∙ beside.works;
+  made = ap (λ (v : StateView). v.core.made) e ∙ beside.made;
+  tags = ap (λ (v : StateView). v.tags) e ∙ beside.tags;
+}

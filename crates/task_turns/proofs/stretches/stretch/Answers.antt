@@ -10,7 +10,7 @@ use Rattle.task_machine.specs.declared.op.Op.TheVariants as op
 use Rattle.task_machine.specs.declared.records.HowFar.TheVariants as how_far
 use Rattle.task_machine.specs.declared.records.Turn.TheVariants as turn
 use Rattle.task_turns.proofs.OrderLemmas.{number_at, runner, runs_still}
-use Rattle.task_turns.proofs.StretchLemmas.{begins, begun, beside_both, beside_same, beside_script, beside_there, keeps_on, script_there, written}
+use Rattle.task_turns.proofs.StretchLemmas.{begins, begun, beside_both, beside_same, beside_script, beside_there, keeps_on, script_there, written, written_works}
 use Rattle.task_turns.proofs.stretches.stretch.Goals as goal
 use Rattle.task_turns.specs.Context.{state_in}
 use Rattle.task_turns.specs.Drive.{KeepsOn}
@@ -89,3 +89,13 @@ returns-clause-on g c =
     let all : c.ops.count ≡ c.args.steps = omega (arith, c.ops-test.false) in
     subst (λ k. KeepsOn c.args.component.now (turn.Run c.args.number) s c.args.trace.now c.args.added (g.W.View.view c.set_context-2.new.self) c.ops.trace k) all
     (subst (λ (u : StateView). KeepsOn c.args.component.now (turn.Run c.args.number) s c.args.trace.now c.args.added u c.ops.trace c.ops.count) (sym back) c.ops.invariant.on)
+
+pub returns-in_default-op_at-clause-works : goal.returns-in_default-op_at-clause-works
+returns-in_default-op_at-clause-works g c =
+    let v = g.W.View.view in
+    written_works (v c.args.w.now) (v c.ops.w) (v c.set_context.new.self) _ _ _ c.ops.invariant.beside c.set_context.ensures
+
+pub returns-clause-works : goal.returns-clause-works
+returns-clause-works g c =
+    let v = g.W.View.view in
+    written_works (v c.args.w.now) (v c.ops.w) (v c.set_context-2.new.self) _ _ _ c.ops.invariant.beside c.set_context-2.ensures
