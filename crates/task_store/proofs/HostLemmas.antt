@@ -4,15 +4,17 @@ use Rattle.std.proofs.lemmas.Bool.Decides.{nat_tests}
 use Rattle.std.specs.Option.{option_and_then, option_map, option_map_or}
 use Rattle.std.specs.Prelude.{Bool, None, Option, Some, cond, false, is_some, suc, true, zero, ℕ, ◌+◌, ◌==◌, ◌≡◌, ◌≤◌, ◌⊎◌}
 use Rattle.host_works.specs.Course.{left_after, told}
+use Rattle.host_works.specs.Kept.{HoldsNone, held}
+use Rattle.host_works.specs.declared.kept.HostWorks.{HostWorks}
 use Rattle.task_laws.proofs.CourseLemmas.{courses_stay, works_are_called}
 use Rattle.task_laws.specs.Courses.{CallsHost, CoursesStay, MakesWork, SameCourse, Spawns, WorksAreCalled}
 use Rattle.task_machine.proofs.CommuteLemmas.{get-change}
 use Rattle.task_rules.proofs.StandLemmas.{is_eq_of}
-use Rattle.task_machine.specs.Core.{Core, Main, State}
-use Rattle.task_machine.specs.Maps.{Records, change, get}
+use Rattle.task_machine.specs.Core.{Core, Main, State, Unscripted, fresh}
+use Rattle.task_machine.specs.Maps.{Records, change, get, get-empty, get-insert}
 use Rattle.task_machine.specs.Moves.{put_high, unblocked}
 use Rattle.task_machine.specs.Read.{blocked_on, course_of, how_far_of, phase_of, work_caller_of}
-use Rattle.task_machine.specs.Write.{on_thread, on_work, push_high, set_course, set_phase, set_place, set_stage, set_trapped}
+use Rattle.task_machine.specs.Write.{add_work, count_work, on_thread, on_work, push_high, set_course, set_phase, set_place, set_stage, set_trapped}
 use Rattle.task_machine.specs.declared.component.HostDef.{HostDef}
 use Rattle.task_machine.specs.declared.label.Label.{Label}
 use Rattle.task_machine.specs.declared.records.Course.{Course}
@@ -27,16 +29,19 @@ use Rattle.task_machine.specs.declared.records.WorkCaller.{WorkCaller}
 use Rattle.task_machine.specs.declared.records.WorkCaller.TheVariants as callers
 use Rattle.task_machine.specs.declared.words.Phase.{Phase}
 use Rattle.task_machine.specs.declared.words.Phase.TheVariants as phases
+use Rattle.task_rules.specs.Calls.{new_work, work_queued}
 use Rattle.task_rules.specs.Laws.{LaterBy}
 use Rattle.task_rules.specs.MainOps.{main_aborted}
 use Rattle.task_rules.specs.OpParts.{queues_work}
 use Rattle.task_rules.specs.Scripts.{op_of}
 use Rattle.task_rules.specs.Stalled.{Setting}
 use Rattle.task_rules.specs.Step.{FuturesStep, Polled, Step}
-use Rattle.task_rules.specs.Turns.{at_turn}
-use Rattle.task_rules.specs.Works.{Ends, FailsNow, Poll, StillPends, course_for, followed, has_end, next_polled, poll_ends, poll_of, poll_pends, polled_again}
-use Rattle.task_store.specs.Hosts.{HoldsWorks}
-use Rattle.task_store.specs.Polled.{Fits, polled_core}
+use Rattle.task_rules.specs.Turns.{at_turn, nothing_stands, settled_futures, settled_take}
+use Rattle.task_rules.specs.Works.{Ends, FailsNow, Poll, StillPends, course_for, followed, has_end, next_polled, poll_ends, poll_of, poll_pends, polled_again, polled_course, polled_in}
+use Rattle.task_store.specs.Hosts.{HoldsHosts, HoldsWorks, WorksNumbered, held_by}
+use Rattle.task_store.specs.Polled.{Fits, Tells, polled_core}
+use Rattle.task_store.specs.declared.store.Store.{Store}
+use Rattle.task_turns.specs.Turn.{IsSettled, state_at}
 
 -- ---- Steps that poll no work
 
@@ -234,3 +239,111 @@ fits_by (Some (suc n)) v = ap (λ (k : ℕ). let d : HostDef = record { polls = 
 
 pub fits_goes : (d : HostDef) → Fits (polled_again d d.polls) (left_after d) (Some d)
 fits_goes d = fits_by d.polls d.value
+
+-- ---- What a work tells
+
+apart : (i j : ℕ) → (j == i) ≡ false → (i == j) ≡ false
+apart i j e = grind (arith, nat_tests, e)
+
+module _ (i : ℕ) (s : Core) (left right : ℕ → Option HostDef) where
+  aborted_fits : phase_of i s ≡ phases.AbortRequested → right i ≡ None → Fits (poll_of i s) (right i) (left i)
+  unfolding poll_of
+  aborted_fits is none = rw is none
+
+  ended_fits : has_end (course_of i s) ≡ true → right i ≡ None → Fits (poll_of i s) (right i) (left i)
+  unfolding poll_of
+  ended_fits has none = by (phase_of i s) (course_of i s) has
+    where
+      by : (p : Phase) (c : Course) → has_end c ≡ true → Fits (polled_in p c) (right i) (left i)
+      by phases.AbortRequested c h = none
+      by p (courses.Goes d) h = absurd (cc)
+      by p (courses.Value v) h = none
+      by p courses.NoValue h = none
+
+  gone_at : ((j : ℕ) → right j ≡ cond (i == j) None (left j)) → right i ≡ None
+  gone_at is = is i ∙ grind (arith, nat_tests)
+
+  -- one that was aborted, or has ended, is let go
+  pub tells_gone : (phase_of i s ≡ phases.AbortRequested) ⊎ (has_end (course_of i s) ≡ true) → ((j : ℕ) → right j ≡ cond (i == j) None (left j)) → Tells i s left right
+  tells_gone why is = record {
+    others = λ j e. is j ∙ rw (apart i j e) refl;
+    fits = ⊎_elim (λ aborted. aborted_fits aborted (gone_at is)) (λ has. ended_fits has (gone_at is)) why;
+  }
+
+  going_fits : (d : HostDef) → (phase_of i s ≡ phases.AbortRequested → ⊥) → course_of i s ≡ courses.Goes d → left i ≡ Some d → right i ≡ left_after d → Fits (poll_of i s) (right i) (left i)
+  unfolding poll_of
+  going_fits d running goes was is = by (phase_of i s) running
+    where
+      polled : Fits (polled_course (course_of i s)) (right i) (left i)
+      polled = rw (goes, was, is) (fits_goes d)
+
+      by : (p : Phase) → (p ≡ phases.AbortRequested → ⊥) → Fits (polled_in p (course_of i s)) (right i) (left i)
+      by phases.AbortRequested n = absurd (n refl)
+      by phases.Running n = polled
+      by phases.Complete n = polled
+
+  -- one that goes on is polled
+  pub tells_polled : (d : HostDef) → (phase_of i s ≡ phases.AbortRequested → ⊥) → course_of i s ≡ courses.Goes d → left i ≡ Some d →
+      ((j : ℕ) → right j ≡ cond (i == j) (option_and_then left_after (left i)) (left j)) → Tells i s left right
+  tells_polled d running goes was is = record {
+    others = λ j e. is j ∙ rw (apart i j e) refl;
+    fits = going_fits d running goes was (is i ∙ (here ∙ ap (λ (o : Option HostDef). option_and_then left_after o) was));
+  }
+    where
+      here : cond (i == i) (option_and_then left_after (left i)) (left i) ≡ option_and_then left_after (left i)
+      here = grind (arith, nat_tests)
+
+next_there : (n : ℕ) (s : Core) → IsSettled s (turn.Futures n) → (i : ℕ) × (next_polled n s ≡ Some i)
+next_there n s settled = by (next_polled n s) refl settled
+  where
+    never : (b : Bool) → settled_take false b ≡ turn.Futures n → ⊥
+    never true h = cc
+    never false h = cc
+
+    by : (o : Option ℕ) → next_polled n s ≡ o → settled_futures n s o ≡ turn.Futures n → (i : ℕ) × (next_polled n s ≡ Some i)
+    by None e h = absurd (never (nothing_stands s) h)
+    by (Some i) e h = (i, e)
+
+-- after the poll of the next work
+pub holds_next : (x : Setting) (s t : Core) (n : ℕ) (l : Label) (p : Turn) (left right : ℕ → Option HostDef) → IsSettled s (turn.Futures n) →
+    Step x (state_at s Unscripted (turn.Futures n)) l (state_at t Unscripted p) → ((i : ℕ) → next_polled n s ≡ Some i → Tells i s left right) → HoldsWorks left s → HoldsWorks right t
+holds_next x s t n l p left right settled step tells h =
+    let next = next_there n s settled in let i = next.0 in let q = tells i next.1 in
+    subst (λ (u : Core). HoldsWorks right u) (sym (core_polled x (state_at s Unscripted (turn.Futures n)) l (state_at t Unscripted p) n i refl next.1 step)) (holds_polled i s left right q.others h (poll_of i s) q.fits)
+
+-- ---- Spawns
+
+-- a work is made, and held
+pub holds_queued : (f : WorkCaller) (d : HostDef) (group : Option ℕ) (s : Core) (left right : ℕ → Option HostDef) → WorksNumbered s →
+    ((i : ℕ) → right i ≡ cond (s.made.works + 1 == i) (Some d) (left i)) → HoldsWorks left s → HoldsWorks right (work_queued f d group s)
+unfolding work_queued push_high add_work count_work
+holds_queued f d group s left right numbered is = holds_after s (work_queued f d group s) left right
+    (λ i below. let e = get-insert s.works (s.made.works + 1) (new_work f d group) i in grind (arith, nat_tests, e))
+    (λ i below. let e = is i in grind (arith, nat_tests))
+    (λ i w at. by i w (i == s.made.works + 1) refl (sym (get-insert s.works (s.made.works + 1) (new_work f d group) i) ∙ at))
+  where
+    by : (i : ℕ) (w : Work) (b : Bool) → (i == s.made.works + 1) ≡ b → cond (i == s.made.works + 1) (Some (new_work f d group)) (get s.works i) ≡ Some w →
+        (i ≤ s.made.works) ⊎ ((e : HostDef) × ((w.course ≡ courses.Goes e) × (right i ≡ Some e)))
+    by i w true e at = let a : Some (new_work f d group) ≡ Some w = rw e at at in
+        inr (d, (let c = ap (λ (o : Option Work). option_map (λ (v : Work). v.course) o) a in cc, let r = is i in let same = is_eq_of i (s.made.works + 1) e in grind (arith, nat_tests)))
+    by i w false e at = inl (numbered i (let a : get s.works i ≡ Some w = rw e at at in ap (λ (o : Option Work). is_some o) a))
+
+-- what is held of other numbers than were given doesn't count
+pub holds_below : (s : Core) (left right : ℕ → Option HostDef) → WorksNumbered s → ((i : ℕ) → i ≤ s.made.works → right i ≡ left i) → HoldsWorks left s → HoldsWorks right s
+holds_below s left right numbered is h = record {
+  there = λ i d goes. is i (numbered i (ap (λ (o : Option Work). is_some o) (some_course (get s.works i) (courses.Goes d) (course_there i s d goes)).1.0)) ∙ h.there i d goes;
+  ended = λ i w at has. is i (numbered i (ap (λ (o : Option Work). is_some o) at)) ∙ h.ended i w at has;
+}
+
+-- ---- A new store
+
+none_held : {H : Type 0} (course : H → HostDef) (kept : HostWorks H) (i : ℕ) → HoldsNone kept → held course kept i ≡ None
+none_held course kept i none = rw none refl
+
+-- it holds no host works, and its core has none
+pub new_holds : {T H : Type 0} (course : H → HostDef) (store : Store T H) (instances handles capacity : ℕ) → HoldsNone store.works → store.state.core ≡ fresh instances handles capacity → HoldsHosts course store
+unfolding fresh
+new_holds course store instances handles capacity none core = subst (λ (s : Core). HoldsWorks (held_by course store) s) (sym core) (record {
+  there = λ i d goes. absurd (let e = get-empty {X = Work} i in grind (arith, e));
+  ended = λ i w at has. none_held course store.works i none;
+})

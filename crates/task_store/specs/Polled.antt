@@ -1,9 +1,9 @@
 -- A poll of a host work by the loop, and what is held of it then.
-use Rattle.std.specs.Prelude.{◌≡◌, None, Option, Some, ℕ}
+use Rattle.std.specs.Prelude.{◌==◌, ◌≡◌, None, Option, Some, false, ℕ}
 use Rattle.task_machine.specs.Core.{Core}
 use Rattle.task_machine.specs.Write.{set_trapped}
 use Rattle.task_machine.specs.declared.component.HostDef.{HostDef}
-use Rattle.task_rules.specs.Works.{Ends, FailsNow, Poll, StillPends, poll_ends, poll_pends}
+use Rattle.task_rules.specs.Works.{Ends, FailsNow, Poll, StillPends, poll_ends, poll_of, poll_pends}
 
 -- the core after a poll that comes to this
 abbrev pub polled_core : ℕ → Poll → Core → Core
@@ -16,3 +16,8 @@ abbrev pub Fits : Poll → Option HostDef → Option HostDef → Type 0
 Fits (StillPends host) right left = right ≡ Some host
 Fits (Ends v) right left = right ≡ None
 Fits FailsNow right left = right ≡ left
+
+-- The work i has told what its poll comes to, or was aborted: what is held of it fits that, and of the others is as before.
+pub record Tells (i : ℕ) (s : Core) (left right : ℕ → Option HostDef) : Type 0 where
+  pub others : (j : ℕ) → (j == i) ≡ false → right j ≡ left j
+  pub fits : Fits (poll_of i s) (right i) (left i)

@@ -1,6 +1,5 @@
 //! The host works of a store: those of guests' calls, and those that a host spawns.
-ghost use Rattle.std.specs.Prelude.{◌==◌, ◌≡◌, ◌<◌, ◌^◌, ℕ, false, IfErr, IfOk, IsSome, None, OnErr, OnOk, Some, option_map};
-ghost use Rattle.host_works.specs.Kept.{held};
+ghost use Rattle.std.specs.Prelude.{◌≡◌, ◌<◌, ◌^◌, ℕ, IfErr, IfOk, None, OnErr, OnOk, Some, option_map};
 ghost use Rattle.task_laws.specs.Order.{WorksQueued};
 ghost use Rattle.task_machine.specs.Core.{Main};
 ghost use Rattle.task_machine.specs.declared.records.Turn.{Turn};
@@ -9,9 +8,9 @@ ghost use Rattle.task_ops.specs.Works.{KeepsWorks};
 ghost use Rattle.task_rules.specs.Calls.{next_work, work_queued};
 ghost use Rattle.task_rules.specs.Places.{Placed};
 ghost use Rattle.task_rules.specs.Stalled.{Setting};
-ghost use Rattle.task_rules.specs.Works.{next_polled, poll_of};
+ghost use Rattle.task_rules.specs.Works.{next_polled};
 ghost use Rattle.task_store.specs.Hosts.{HoldsHosts, WorksNumbered, held_after_call, held_by};
-ghost use Rattle.task_store.specs.Polled.{Fits};
+ghost use Rattle.task_store.specs.Polled.{Tells};
 ghost use Rattle.task_turns.specs.Turn.{IsSettled, PendsIn, Turns, given};
 ghost use Rattle.task_words.specs.StateView.{Keeps, work_of};
 
@@ -56,8 +55,7 @@ impl<T, H: AccessorTask<T>> Store<T, H> {
     // Polls the work that is next. One that was aborted is let go, and isn't polled.
     fn tell(&mut self, polled: u64)
         requires { HoldsHosts H.course self.old }
-        ensures others { (i : ℕ) → next_polled polled self.old.state.core ≡ Some i → (j : ℕ) → (j == i) ≡ false → held_by H.course self.new j ≡ held_by H.course self.old j }
-        ensures fits { (i : ℕ) → next_polled polled self.old.state.core ≡ Some i → Fits (poll_of i self.old.state.core) (held_by H.course self.new i) (held_by H.course self.old i) }
+        ensures told { (i : ℕ) → next_polled polled self.old.state.core ≡ Some i → Tells i self.old.state.core (held_by H.course self.old) (held_by H.course self.new) }
         ensures rest { self.new ≡ record self.old { value = self.new.value; works = self.new.works } }
     {
         let Some(work) = self.state.next_polled(polled) else {
