@@ -1,5 +1,5 @@
 -- Words on one thread: its record is read, or there is none.
-use Rattle.task_records.proofs.Core.{ap, AtPlace, change, changed, entry_of, get, how_far_target, IsSound, item_at, item_of, mapped-with_entry_same, None, number_in, Ok, on_core, on_item, on_thread, option_map, option_map_or, parts_of, ready_why, record_at, refl, Some, StateView, subst, sym, TableId, Thread, thread_key, ThreadKey, Why, why_of, why_target, with_entry, ℕ, ◌∙◌, ◌≡◌}
+use Rattle.task_records.proofs.Core.{ap, AtPlace, change, changed, entry_of, get, how_far_target, IsSound, item_at, item_of, mapped-with_entry_same, None, number_in, Ok, on_core, on_item, on_thread, option_map, option_map_or, parts_of, ready_why, record_at, refl, Result, Some, StateView, subst, sym, TableId, Thread, thread_key, ThreadKey, Why, why_of, why_target, with_entry, ℕ, ◌∙◌, ◌≡◌}
 use Rattle.task_records.specs.declared.{parts.CoreParts.CoreParts, threads.GuestThread.GuestThread}
 use Rattle.task_records.proofs.HomeLemmas.{place_bare, thread_home}
 use Rattle.task_records.proofs.KindLemmas.{item_stands}
@@ -11,6 +11,10 @@ use Rattle.place_words.proofs.WaiterLemmas.{delivery_at}
 pub thread_gone : (s : StateView) (n : ℕ) → None ≡ get s.core.threads n → (f : Thread → Thread) → s ≡ on_core (on_thread n f) s
 unfolding on_thread change
 thread_gone s n none f = ap (λ m. record s { core = record s.core { threads = m } }) (ap (changed s.core.threads n f) none)
+
+-- an id finds one item
+pub same_item : {T E : Type 0} {r : Result T E} {x y : T} → Ok x ≡ r → Ok y ≡ r → x ≡ y
+same_item one two = let both = one ∙ sym two in cc
 
 -- why the entry of a thread is queued, as its record says
 pub why_is : (s : StateView) (n : ℕ) (t : Thread) → Some t ≡ get s.core.threads n → (w : Why) → w ≡ ready_why t.place → why_of n s.core ≡ w

@@ -1,5 +1,5 @@
 -- What is written where a thread gets another place, or a subtask another event or set: the record but for these, and what a set counts.
-use Rattle.std.specs.Prelude.{◌≡◌, ℕ, if◌then◌else◌, Option, Some, None, Result, Ok, Err}
+use Rattle.std.specs.Prelude.{◌≡◌, ℕ, if◌then◌else◌, List, Option, Some, None, Result, Ok, Err}
 use Rattle.task_machine.specs.Core.{Core}
 use Rattle.task_machine.specs.declared.records.Call.{Call}
 use Rattle.task_machine.specs.declared.records.Delivery.TheVariants as delivery
@@ -103,3 +103,15 @@ still_work w = record w { work = quiet_work w.work; joined = 0 }
 -- whether a work of the stage is in the list of the live works
 abbrev pub live_key : Stage → Option (Unit {0})
 live_key x = if is_stage_live x then Some tt else None
+
+-- a thread at another place, with where what it names there stands
+abbrev pub placed : GuestThread → Place → ℕ → GuestThread
+placed g p beside = record g { thread = record g.thread { place = p }; beside = beside }
+
+-- a thread that has come to another point of its op, with where what it names there stands
+abbrev pub arrived : GuestThread → HowFar → ℕ → GuestThread
+arrived g h awaited = record g { thread = record g.thread { how_far = h }; awaited = awaited }
+
+-- a thread with this position and these registers
+abbrev pub at_context : (position : ℕ) → (registers : List ℕ) → Thread → Thread
+at_context p rs t = record t { position = p; registers = rs }

@@ -10,7 +10,7 @@ ghost use Rattle.task_words.specs.Live.{delivered_set};
 ghost use Rattle.task_words.specs.StateView.{set_of};
 
 use task_machine::{Delivery, HowFar, Place, Why};
-use task_records::{CoreParts, GuestThread, Single, WaitSet, named_set, set_at};
+use task_records::{CoreParts, Single, WaitSet, named_set, set_at};
 use task_table::ResourceTable;
 use task_words::SetId;
 
@@ -42,41 +42,48 @@ pub(crate) fn no_set(parts: &CoreParts) -> SetId
     set_at(parts, u32::MAX)
 }
 
-fn resumed_set(parts: &CoreParts, place: u32, how_far: HowFar) -> SetId
+fn resumed_set(parts: &CoreParts, place: u32, how_far: &HowFar) -> SetId
     requires sound { IsSound parts.now }
-    requires at { AtPlace (parts_of parts.now) place (how_far_target how_far) }
-    ensures { set_of (seen parts.now) result ≡ set_named (resumed_set how_far) (seen parts.now).core }
+    requires at { AtPlace (parts_of parts.now) place (how_far_target how_far.now) }
+    ensures { set_of (seen parts.now) result ≡ set_named (resumed_set how_far.now) (seen parts.now).core }
 {
     match how_far {
-        HowFar::Waits { set } => named_set(parts, place, set),
+        HowFar::Waits { set } => named_set(parts, place, *set),
         _ => no_set(parts),
     }
 }
 
-/// The set for which a thread has an entry, or on which it waits; the id names none where there is none.
-pub(crate) fn entry_set(parts: &CoreParts, thread: GuestThread) -> SetId
+/// The set for which a thread at this place that has come so far has an entry, or on which it waits; the id names none
+/// where there is none. The numbers are the places that are kept with what `place` and `how_far` name.
+pub(crate) fn entry_set(
+    parts: &CoreParts,
+    place: &Place,
+    beside: u32,
+    how_far: &HowFar,
+    awaited: u32,
+) -> SetId
     requires sound { IsSound parts.now }
-    requires place { AtPlace (parts_of parts.now) thread.beside (place_target thread.thread.place) }
-    requires how_far { AtPlace (parts_of parts.now) thread.awaited (how_far_target thread.thread.how_far) }
-    ensures { set_of (seen parts.now) result ≡ set_named (entry_set thread.thread.place thread.thread.how_far) (seen parts.now).core }
+    requires place { AtPlace (parts_of parts.now) beside (place_target place.now) }
+    requires how_far { AtPlace (parts_of parts.now) awaited (how_far_target how_far.now) }
+    ensures { set_of (seen parts.now) result ≡ set_named (entry_set place.now how_far.now) (seen parts.now).core }
 {
-    match thread.thread.place {
-        Place::Waiting { set, .. } => named_set(parts, thread.beside, set),
+    match place {
+        Place::Waiting { set, .. } => named_set(parts, beside, *set),
         Place::Ready {
             why: Why::Delivery {
                 delivery: Delivery::Set { set },
             },
             ..
-        } => named_set(parts, thread.beside, set),
+        } => named_set(parts, beside, *set),
         Place::Held {
             why: Why::Delivery {
                 delivery: Delivery::Set { set },
             },
-        } => named_set(parts, thread.beside, set),
+        } => named_set(parts, beside, *set),
         Place::Ready {
             why: Why::Resumption,
             ..
-        } => resumed_set(parts, thread.awaited, thread.thread.how_far),
+        } => resumed_set(parts, awaited, how_far),
         _ => no_set(parts),
     }
 }

@@ -1,15 +1,15 @@
 //! A thread that is written with another place.
 ghost use Rattle.std.specs.Prelude.{◌≡◌, IfSome, IsSome, None, Ok, option_and_then, option_map, true};
-ghost use Rattle.place_words.specs.Moved.{still_thread};
+ghost use Rattle.place_words.specs.Moved.{placed};
 ghost use Rattle.task_index.specs.Index.{Refiles};
 ghost use Rattle.task_links.specs.Links.{is_made, list_of, removed};
-ghost use Rattle.task_machine.specs.Write.{on_thread};
-ghost use Rattle.task_machine.specs.declared.records.Thread.{Thread};
+ghost use Rattle.task_machine.specs.Write.{set_how_far, set_place};
 ghost use Rattle.task_records.specs.Kinds.{entry_of, item_of};
 ghost use Rattle.task_records.specs.Names.{AtPlace, how_far_target, place_target};
 ghost use Rattle.task_records.specs.Places.{place_chain, where_at};
 ghost use Rattle.task_records.specs.Seen.{IsSound, parts_of, seen};
-ghost use Rattle.task_records.specs.Sound.{bare, bare_thread};
+ghost use Rattle.task_records.specs.Sound.{bare};
+ghost use Rattle.task_records.specs.declared.threads.GuestThread.{GuestThread};
 ghost use Rattle.task_table.specs.Answers.{item_at};
 ghost use Rattle.task_table.specs.Changes.{with_entry};
 ghost use Rattle.task_words.specs.StateView.{on_core, thread_of};
@@ -17,7 +17,8 @@ ghost use Rattle.task_words.specs.StateView.{on_core, thread_of};
 use crate::entries::{entry_set, one_less, one_more};
 use task_index::file;
 use task_links::Links;
-use task_records::{CoreParts, GuestThread, Node};
+use task_machine::{HowFar, Place};
+use task_records::{CoreParts, Node};
 use task_words::ThreadId;
 
 // The node is in this chain alone, with the value, or in none.
@@ -36,60 +37,60 @@ pub(crate) fn refile(links: &mut Links<u32>, node: Node, chain: Option<usize>, v
     }
 }
 
-/// Writes a thread that is at another place, or has come to another point of its op, with the chain
-/// that it is filed in there.
+/// The thread is at another place from now on, in the chain in which it is filed there. An id that names no thread
+/// changes nothing.
 pub(crate) fn put(
     parts: &mut CoreParts,
     id: ThreadId,
-    old: GuestThread,
-    new: GuestThread,
+    place: Place,
+    beside: u32,
     chain: Option<usize>,
 )
     requires sound { IsSound parts.old }
-    requires item { Ok old ≡ item_at item_of parts.old.threads id.rep id.serial }
-    requires stays { still_thread (bare_thread new) ≡ still_thread (bare_thread old) }
-    requires handle { new.thread.handle ≡ old.thread.handle }
-    requires place { AtPlace (parts_of parts.old) new.beside (place_target new.thread.place) }
-    requires how_far { AtPlace (parts_of parts.old) new.awaited (how_far_target new.thread.how_far) }
-    requires chain { option_and_then (place_chain (bare (parts_of parts.old))) (where_at new.instance new.thread.place) ≡ chain }
+    requires place { AtPlace (parts_of parts.old) beside (place_target place) }
+    requires chain { (g : GuestThread) → Ok g ≡ item_at item_of parts.old.threads id.rep id.serial → option_and_then (place_chain (bare (parts_of parts.old))) (where_at g.instance place) ≡ chain }
     ensures sound { IsSound parts.new }
-    ensures new { (f : Thread → Thread) → f old.thread ≡ new.thread → seen parts.new ≡ on_core (on_thread (thread_of (seen parts.old) id) f) (seen parts.old) }
-    ensures threads { parts.new.threads ≡ with_entry id.rep (entry_of new) parts.old.threads }
-    ensures left { chain ≡ None → parts.new.places ≡ removed old.node.index parts.old.places }
+    ensures new { seen parts.new ≡ on_core (set_place (thread_of (seen parts.old) id) place) (seen parts.old) }
+    ensures threads { (g : GuestThread) → Ok g ≡ item_at item_of parts.old.threads id.rep id.serial → parts.new.threads ≡ with_entry id.rep (entry_of (placed g place beside)) parts.old.threads }
+    ensures left { (g : GuestThread) → Ok g ≡ item_at item_of parts.old.threads id.rep id.serial → chain ≡ None → parts.new.places ≡ removed g.node.index parts.old.places }
 {
-    let from = entry_set(parts, old);
-    let to = entry_set(parts, new);
-    one_less(&mut parts.sets, from);
-    one_more(&mut parts.sets, to);
-    refile(&mut parts.places, old.node, chain, id.rep());
-    match parts.threads.get_mut(id) {
-        Ok(entry) => {
-            *entry = new;
+    if let Some(found) = task_records::thread(parts, id) {
+        let node = found.node;
+        let (how_far, awaited) = (&found.thread.how_far, found.awaited);
+        let from = entry_set(parts, &found.thread.place, found.beside, how_far, awaited);
+        let to = entry_set(parts, &place, beside, how_far, awaited);
+        one_less(&mut parts.sets, from);
+        one_more(&mut parts.sets, to);
+        refile(&mut parts.places, node, chain, id.rep());
+        match parts.threads.get_mut(id) {
+            Ok(entry) => {
+                entry.thread.place = place;
+                entry.beside = beside;
+            }
+            Err(_) => unreachable!(),
         }
-        Err(_) => unreachable!(),
     }
 }
 
-/// Writes a thread that has come to another point of its op where it is.
-pub(crate) fn put_there(parts: &mut CoreParts, id: ThreadId, old: GuestThread, new: GuestThread)
+/// The thread has come to another point of its op, where it is. An id that names no thread changes nothing.
+pub(crate) fn put_there(parts: &mut CoreParts, id: ThreadId, how_far: HowFar, awaited: u32)
     requires sound { IsSound parts.old }
-    requires item { Ok old ≡ item_at item_of parts.old.threads id.rep id.serial }
-    requires stays { still_thread (bare_thread new) ≡ still_thread (bare_thread old) }
-    requires handle { new.thread.handle ≡ old.thread.handle }
-    requires place { new.thread.place ≡ old.thread.place }
-    requires beside { new.beside ≡ old.beside }
-    requires how_far { AtPlace (parts_of parts.old) new.awaited (how_far_target new.thread.how_far) }
+    requires how_far { AtPlace (parts_of parts.old) awaited (how_far_target how_far) }
     ensures sound { IsSound parts.new }
-    ensures new { (f : Thread → Thread) → f old.thread ≡ new.thread → seen parts.new ≡ on_core (on_thread (thread_of (seen parts.old) id) f) (seen parts.old) }
+    ensures new { seen parts.new ≡ on_core (set_how_far (thread_of (seen parts.old) id) how_far) (seen parts.old) }
 {
-    let from = entry_set(parts, old);
-    let to = entry_set(parts, new);
-    one_less(&mut parts.sets, from);
-    one_more(&mut parts.sets, to);
-    match parts.threads.get_mut(id) {
-        Ok(entry) => {
-            *entry = new;
+    if let Some(found) = task_records::thread(parts, id) {
+        let (place, beside) = (&found.thread.place, found.beside);
+        let from = entry_set(parts, place, beside, &found.thread.how_far, found.awaited);
+        let to = entry_set(parts, place, beside, &how_far, awaited);
+        one_less(&mut parts.sets, from);
+        one_more(&mut parts.sets, to);
+        match parts.threads.get_mut(id) {
+            Ok(entry) => {
+                entry.thread.how_far = how_far;
+                entry.awaited = awaited;
+            }
+            Err(_) => unreachable!(),
         }
-        Err(_) => unreachable!(),
     }
 }

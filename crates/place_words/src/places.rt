@@ -85,13 +85,10 @@ pub fn set_place(parts: &mut CoreParts, thread: ThreadId, place: PlaceId)
     ensures new { seen parts.new ≡ on_core (set_place (thread_of (seen parts.old) thread) (place_in (seen parts.old).tags place)) (seen parts.old) }
 {
     if let Some(found) = task_records::thread(parts, thread) {
-        let old = *found;
+        let instance = found.instance;
         let (named, beside) = named_place(parts, place);
-        let chain = chain_at(parts, old.instance, place);
-        let mut new = old;
-        new.thread.place = named;
-        new.beside = beside;
-        put(parts, thread, old, new, chain);
+        let chain = chain_at(parts, instance, place);
+        put(parts, thread, named, beside, chain);
     }
 }
 
@@ -102,11 +99,9 @@ pub fn set_mark(parts: &mut CoreParts, thread: ThreadId, mark: Mark)
     ensures new { seen parts.new ≡ on_core (λ s. stand (thread_of (seen parts.old) thread) mark (why_of (thread_of (seen parts.old) thread) s) s) (seen parts.old) }
 {
     if let Some(found) = task_records::thread(parts, thread) {
-        let old = *found;
-        let why = ready_why(old.thread.place);
-        let mut new = old;
-        new.thread.place = Place::Ready { mark, why };
-        put(parts, thread, old, new, None);
+        let beside = found.beside;
+        let why = ready_why(found.thread.place);
+        put(parts, thread, Place::Ready { mark, why }, beside, None);
     }
 }
 
@@ -117,12 +112,10 @@ pub fn hold(parts: &mut CoreParts, thread: ThreadId)
     ensures new { seen parts.new ≡ on_core (λ s. set_place (thread_of (seen parts.old) thread) (places.Held (why_of (thread_of (seen parts.old) thread) s)) s) (seen parts.old) }
 {
     if let Some(found) = task_records::thread(parts, thread) {
-        let old = *found;
-        let why = ready_why(old.thread.place);
-        let chain = held_chain(parts, old.instance);
-        let mut new = old;
-        new.thread.place = Place::Held { why };
-        put(parts, thread, old, new, chain);
+        let beside = found.beside;
+        let why = ready_why(found.thread.place);
+        let chain = held_chain(parts, found.instance);
+        put(parts, thread, Place::Held { why }, beside, chain);
     }
 }
 
@@ -138,15 +131,11 @@ pub fn unhold(parts: &mut CoreParts, thread: ThreadId)
     let Some(found) = task_records::thread(parts, thread) else {
         unreachable!()
     };
-    let old = *found;
-    match old.thread.place {
+    let beside = found.beside;
+    match found.thread.place {
         Place::Held { why } => {
-            let mut new = old;
-            new.thread.place = Place::Ready {
-                mark: Mark::High,
-                why,
-            };
-            put(parts, thread, old, new, None);
+            let mark = Mark::High;
+            put(parts, thread, Place::Ready { mark, why }, beside, None);
         }
         _ => unreachable!(),
     }

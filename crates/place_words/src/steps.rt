@@ -1,7 +1,8 @@
 //! How far threads have come.
-ghost use Rattle.std.specs.Prelude.{◌≡◌, ◌+◌, ◌<◌, ◌^◌, slice_set};
+ghost use Rattle.std.specs.Prelude.{◌≡◌, ◌+◌, ◌<◌, ◌^◌};
 ghost use Rattle.task_machine.specs.Read.{position_of};
-ghost use Rattle.task_machine.specs.Write.{set_how_far};
+ghost use Rattle.place_words.specs.Moved.{at_context};
+ghost use Rattle.task_machine.specs.Write.{on_thread, set_how_far};
 ghost use Rattle.task_records.specs.Seen.{IsSound, seen};
 ghost use Rattle.task_rules.specs.Data.{advanced, assigned, moved_to};
 ghost use Rattle.task_words.specs.Context.{with_context};
@@ -10,6 +11,7 @@ ghost use Rattle.task_words.specs.StateView.{on_core, thread_of};
 
 use crate::moves::put_there;
 use crate::targets::named_how_far;
+use record_words::{position, set_position, set_register};
 use task_machine::HowFar;
 use task_records::CoreParts;
 use task_words::{HowFarId, ThreadId};
@@ -19,14 +21,8 @@ pub fn set_how_far(parts: &mut CoreParts, thread: ThreadId, how_far: HowFarId)
     ensures sound { IsSound parts.new }
     ensures new { seen parts.new ≡ on_core (set_how_far (thread_of (seen parts.old) thread) (how_far_in (seen parts.old).tags how_far)) (seen parts.old) }
 {
-    if let Some(found) = task_records::thread(parts, thread) {
-        let old = *found;
-        let (named, awaited) = named_how_far(parts, how_far);
-        let mut new = old;
-        new.thread.how_far = named;
-        new.awaited = awaited;
-        put_there(parts, thread, old, new);
-    }
+    let (named, awaited) = named_how_far(parts, how_far);
+    put_there(parts, thread, named, awaited);
 }
 
 /// The thread goes on with the op at this position.
@@ -35,12 +31,19 @@ pub fn move_to(parts: &mut CoreParts, thread: ThreadId, position: u32)
     ensures sound { IsSound parts.new }
     ensures new { seen parts.new ≡ on_core (moved_to (thread_of (seen parts.old) thread) position) (seen parts.old) }
 {
-    if let Some(found) = task_records::thread(parts, thread) {
-        let old = *found;
-        let mut new = old;
-        new.thread.position = position;
-        new.thread.how_far = HowFar::Fresh;
-        put_there(parts, thread, old, new);
+    set_position(parts, thread, position);
+    put_there(parts, thread, HowFar::Fresh, 0);
+}
+
+// Writes the thread's position and registers.
+fn write_context(parts: &mut CoreParts, thread: ThreadId, position: u32, registers: &[u64; 16])
+    requires { IsSound parts.old }
+    ensures sound { IsSound parts.new }
+    ensures new { seen parts.new ≡ on_core (on_thread (thread_of (seen parts.old) thread) (at_context position registers.now)) (seen parts.old) }
+{
+    if let Ok(entry) = parts.threads.get_mut(thread) {
+        entry.thread.position = position;
+        entry.thread.registers = *registers;
     }
 }
 
@@ -50,15 +53,8 @@ pub fn set_context(parts: &mut CoreParts, thread: ThreadId, position: u32, regis
     ensures sound { IsSound parts.new }
     ensures new { seen parts.new ≡ on_core (with_context (thread_of (seen parts.old) thread) position registers.now) (seen parts.old) }
 {
-    if let Some(found) = task_records::thread(parts, thread) {
-        let old = *found;
-        let words = *registers;
-        let mut new = old;
-        new.thread.position = position;
-        new.thread.registers = words;
-        new.thread.how_far = HowFar::Fresh;
-        put_there(parts, thread, old, new);
-    }
+    write_context(parts, thread, position, registers);
+    put_there(parts, thread, HowFar::Fresh, 0);
 }
 
 /// The op is done.
@@ -68,22 +64,8 @@ pub fn advance(parts: &mut CoreParts, thread: ThreadId)
     ensures sound { IsSound parts.new }
     ensures new { seen parts.new ≡ on_core (advanced (thread_of (seen parts.old) thread)) (seen parts.old) }
 {
-    if let Some(found) = task_records::thread(parts, thread) {
-        let old = *found;
-        let mut new = old;
-        new.thread.position = old.thread.position + 1;
-        new.thread.how_far = HowFar::Fresh;
-        put_there(parts, thread, old, new);
-    }
-}
-
-// Sets a word, 0 to 15; there are no others, and a write of one changes nothing.
-fn put_word(words: &mut [u64; 16], place: u8, value: u64)
-    ensures { words.new ≡ slice_set words.old place value }
-{
-    if place < 16 {
-        words[place as usize] = value;
-    }
+    let at = position(parts, thread);
+    move_to(parts, thread, at + 1);
 }
 
 /// The op is done, with its answer in a register.
@@ -93,12 +75,6 @@ pub fn assign(parts: &mut CoreParts, thread: ThreadId, register: u8, value: u64)
     ensures sound { IsSound parts.new }
     ensures new { seen parts.new ≡ on_core (assigned (thread_of (seen parts.old) thread) register value) (seen parts.old) }
 {
-    if let Some(found) = task_records::thread(parts, thread) {
-        let old = *found;
-        let mut new = old;
-        put_word(&mut new.thread.registers, register, value);
-        new.thread.position = old.thread.position + 1;
-        new.thread.how_far = HowFar::Fresh;
-        put_there(parts, thread, old, new);
-    }
+    set_register(parts, thread, register, value);
+    advance(parts, thread);
 }

@@ -1,8 +1,8 @@
 //! What was read so far, and what each kind of line adds to it.
-ghost use Rattle.std.specs.Prelude.{◌≡◌};
+ghost use Rattle.std.specs.Prelude.{◌≡◌, Some};
 ghost use Rattle.std.specs.Option.{option_map};
 ghost use Rattle.text_lines.specs.Gives.{Gives, Becomes};
-ghost use Rattle.scenario_text.specs.State.{with_op, start_of, finish_of, spawn_of, ready_of, main_op_of};
+ghost use Rattle.scenario_text.specs.State.{with_op, with_part, start_of, finish_of, spawn_of, ready_of, main_op_of};
 
 use crate::callee::{call_of, callee_of, fitting_export, host_place, params_of};
 use crate::placement::{
@@ -46,6 +46,20 @@ impl Opening {
             start,
             react,
         }
+    }
+}
+
+// The instance with one more part.
+fn with_part(
+    body: Body,
+    mut instance: InstanceText,
+    part: PartText,
+) -> Result<(Body, InstanceText), LineError>
+    ensures { Gives result (Some (body, with_part instance part)) }
+{
+    match instance.parts.push(part) {
+        Ok(()) => Ok((body, instance)),
+        Err(_) => Err(LineError::NoMemory),
     }
 }
 
@@ -133,7 +147,6 @@ fn main_op_of(body: &Body, before: &[MainOpText], op: NamedOp) -> Option<MainOpT
 }
 
 /// What the lines so far have said.
-#[derive(Drop)]
 pub enum State {
     Empty,
     Titled,
@@ -155,6 +168,19 @@ pub enum State {
     Ended(ScenarioText),
 }
 
+// By hand, so that letting a state go is one call, proved once: what a derive writes is proved anew at each place where one ends.
+impl Drop for State {
+    fn drop(self) {
+        match self {
+            State::Empty | State::Titled | State::Handles(_) | State::Table(_, _) => {}
+            State::Hosts(_) | State::Instance(_, _) => {}
+            State::Script(_, _, _, _) | State::React(_, _, _, _, _) => {}
+            State::Thread(_, _, _, _) | State::Main(_, _) => {}
+            State::Answered(_, _, _, _) | State::Ended(_) => {}
+        }
+    }
+}
+
 impl State {
     ghost use Rattle.scenario_text.specs.State.{script_closed, instance_closed, main_open, script_body, after_title, after_handles, after_table, after_idle, after_head, after_host, after_instance, after_export, after_react, after_thread, after_bad, after_part, after_op, after_call, after_main, after_main_op, after_answer, after_aborter, after_end, after, scenario_of};
 
@@ -164,19 +190,19 @@ impl State {
     {
         match self {
             State::Instance(body, instance) => Ok((body, instance)),
-            State::Script(body, mut instance, opening, start) => {
-                let export = opening.export(start, None);
-                instance.parts.push(PartText::Export(export))?;
-                Ok((body, instance))
+            State::Script(body, instance, opening, start) => {
+                with_part(
+                    body,
+                    instance,
+                    PartText::Export(opening.export(start, None)),
+                )
             }
-            State::React(body, mut instance, opening, start, react) => {
+            State::React(body, instance, opening, start, react) => {
                 let export = opening.export(start, Some(react));
-                instance.parts.push(PartText::Export(export))?;
-                Ok((body, instance))
+                with_part(body, instance, PartText::Export(export))
             }
-            State::Thread(body, mut instance, slot, ops) => {
-                instance.parts.push(PartText::Thread(slot, ops))?;
-                Ok((body, instance))
+            State::Thread(body, instance, slot, ops) => {
+                with_part(body, instance, PartText::Thread(slot, ops))
             }
             _ => Err(LineError::Bad),
         }

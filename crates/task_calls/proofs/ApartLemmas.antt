@@ -14,6 +14,7 @@ use Rattle.task_machine.specs.declared.records.Subtask.{Subtask}
 use Rattle.task_machine.specs.declared.records.Subtask.TheVariants as subtask
 use Rattle.task_machine.specs.declared.records.Turn.{Turn}
 use Rattle.task_turns.specs.Turn.{Sits, state_at}
+use Rattle.task_places.proofs.CountedSteps.{counted_as}
 
 module _ (trapped : Bool) (groups : List ℕ) (handle_limit capacity : ℕ) where
   abbrev beside : Core → Core
@@ -67,7 +68,7 @@ module _ (trapped : Bool) (groups : List ℕ) (handle_limit capacity : ℕ) wher
     held = o.held;
     works_told = λ i w e. let h = o.works_told i w e in record { late = h.late; told = h.told; finishing = h.finishing };
     calls_told = o.calls_told;
-    awake = λ e. let h = o.awake e in record { alone = h.alone; starts_there = h.starts_there; blocked = blocked h.blocked; callers = callers_stay same h.callers; feet = h.feet; free = record { under = h.free.under; behind = h.free.behind } };
+    awake = λ e. let h = o.awake e in record { alone = h.alone; starts_there = h.starts_there; blocked = blocked h.blocked; callers = callers_stay same h.callers; feet = h.feet; free = record { under = h.free.under; behind = h.free.behind }; counted = counted_as s (beside s) refl refl refl h.counted };
   }
     where
       there : (i h k : ℕ) → subtask_at i h (beside s) ≡ Some (subtask.Guest k) → subtask_handle (subtask.Guest k) (beside s) ≡ Some h

@@ -15,7 +15,7 @@ tables_changed tables i f own kept j = after_change
 
 -- ---- Members
 
-any_number : (p : Subtask → Bool) (wrap : ℕ → Subtask) (k : ℕ) {X : Type 0} (es : List (ℕ × X)) → is_some (find nat_cmp k es) ≡ true →
+pub any_number : (p : Subtask → Bool) (wrap : ℕ → Subtask) (k : ℕ) {X : Type 0} (es : List (ℕ × X)) → is_some (find nat_cmp k es) ≡ true →
     p (wrap k) ≡ true → list_any p (map wrap (map (λ e. e.0) es)) ≡ true
 any_number p wrap k [] h is = absurd (cc)
 any_number p wrap k (e ∷ es) h is = let rest = any_number p wrap k es in let same = unsigned_tied k e.0 in grind (arith, nat_tests)
@@ -31,10 +31,10 @@ member_of (Subtask.Host i) x s h =
 -- ---- Joins, word by word
 
 -- the word joins the subtask to the set, and leaves handles and sets
-abbrev Joins : Scene → Word → Core → Subtask → ℕ → Type 0
+abbrev pub Joins : Scene → Word → Core → Subtask → ℕ → Type 0
 Joins a w s sub x = MayJoin a sub (Join.Set x) s × (((after_word w s).handles ≡ s.handles) × ((after_word w s).sets ≡ s.sets))
 
-now_joined : (a : Scene) (w : Word) (s : Core) → Allowed a w s → (sub : Subtask) (x : ℕ) → join_of sub (after_word w s) ≡ Join.Set x →
+pub now_joined : (a : Scene) (w : Word) (s : Core) → Allowed a w s → (sub : Subtask) (x : ℕ) → join_of sub (after_word w s) ≡ Join.Set x →
     (join_of sub s ≡ Join.Set x) ⊎ Joins a w s sub x
 unfolding on_thread add_group add_set add_work count_work free_handle free_thread_handle give_handle give_result give_thread_handle on_call on_instance on_work push_high remove_call remove_group remove_set remove_work remove_thread set_backpressure set_cancel_delivered set_cancelled set_course set_do_not_enter set_do_not_suspend set_end set_event set_exited set_how_far set_join set_own_event set_phase set_position set_register set_result set_saved_callee set_saved_own set_script set_stage set_started set_starting_published set_subtask_handle set_thread_handle set_trapped set_uninteresting set_word take_result call_made add_call add_thread with_handle with_thread_handle work_queued poll_pends
 now_joined a (SetCallJoin n j) s ok (Subtask.Guest k) x h = by_number n k _

@@ -15,6 +15,7 @@ pub mod WatchLemmas
 pub mod HandleTables
 pub mod Joins
 pub mod CountLemmas
+pub mod Counts
 pub mod CallsCame
 pub mod CallsLaw
 pub mod CallsSteps
@@ -37,4 +38,6 @@ pub mod KnownWorks
 pub mod MemberLemmas
 pub mod CancelLemmas
 pub mod EventLemmas
+pub mod ReadyLemmas
+pub mod ReadyCounts
 pub mod CourseLemmas

@@ -1,7 +1,7 @@
 -- What is known of the thread that runs or is taken, as a step begins.
 use Rattle.task_laws.proofs.Rules.{ap, arith, base_at, base_without, Core, entries, Entry, HasPlace, InPlace, is_there, IsRunner, Label, List, Mark, nat_tests, next_entry, Option, or_high, popped, refl, scene_of, set_high, set_low, set_switch, Setting, Some, State, switch_entries, thread_of_entry, true, Turn, ℕ, ◌≡◌, ◌≤◌, ◌⊎◌}
 
-popped_is : (m : Mark) (s : Core) → popped m s ≡ record s { queues = (popped m s).queues }
+pub popped_is : (m : Mark) (s : Core) → popped m s ≡ record s { queues = (popped m s).queues }
 unfolding popped set_switch set_high set_low
 popped_is m s = grind arith
 

@@ -71,9 +71,9 @@ move_set a s n p (Holds w l r out e) = rw e (held (set_of_why w) (ready_set w (p
     held : (o : Option ℕ) → IfSome o (λ x. set_at_place (place_of n a.base) ≡ Some x) → IfSome o (Brings a n)
     held None h = tt
     held (Some x) h = (l, inr h)
-move_set a s n p (WaitsAgain x l r e) = rw e (l, inl (ByDelivery r))
-move_set a s n p (AwaitsEvent x l c r e) = rw e ((l.0, l.1.0), inl r)
-move_set a s n p (Waits x l r e) = rw e ((l.0, l.1.0), inl r)
+move_set a s n p (WaitsAgain x l r none e) = rw e (l, inl (ByDelivery r))
+move_set a s n p (AwaitsEvent x l c r none e) = rw e ((l.0, l.1.0), inl r)
+move_set a s n p (Waits x l r none e) = rw e ((l.0, l.1.0), inl r)
 move_set a s n p (Runs r l b e) = rw e tt
 move_set a s n p (Blocks sub l r o e) = rw e tt
 move_set a s n p (Suspends l e) = rw e tt

@@ -29,7 +29,7 @@ module _ (a : Scene) (known : CancelsWatched a.base) where
       let was : cancelled_by (how_far_of n a.base) ≡ Some sub = grind arith in
       ⊎_elim (λ e. let one : n ≡ m = grind arith in absurd (let gone = rw one at fresh in grind arith)) (λ gone. let none = (gone n).1 in absurd (grind arith))
       (watches_is n sub a.base (known n sub was))
-  joined_same s sub (Join.Set y) ok m far at = let apart = ok.1.1.1.1.1.1 in absurd (grind arith)
+  joined_same s sub (Join.Set y) ok m far at = let apart = ok.1.1.1.1.1.1.0 in absurd (grind arith)
   joined_same s sub (Join.Watched n) (is, (has, (inl free, same))) m far at = absurd (grind arith)
   joined_same s sub (Join.Watched n) (is, (has, (inr cancels, same))) m far at =
       let was : cancelled_by (how_far_of n a.base) ≡ Some sub = grind arith in

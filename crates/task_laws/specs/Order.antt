@@ -13,7 +13,7 @@ use Rattle.task_rules.specs.Works.{has_end}
 use Rattle.task_machine.specs.declared.records.WorkCaller.TheVariants as work_caller
 use Rattle.std.specs.Prelude.{Bool, None, Option, Some, false, is_none, is_some, option_and_then, option_map, true, ℕ, ◌+◌, ◌≡◌, ◌≤◌, length, List, [], ◌∷◌, ◌==◌, ◌⊎◌, ◌&&◌, ◌||◌, not}
 use Rattle.task_laws.specs.Settings.{CodesInCallbacks}
-use Rattle.task_laws.specs.Wakes.{BehindFeet, CallersGoOn, NoneAdmitted, NoneBlockedOnEnd}
+use Rattle.task_laws.specs.Wakes.{BehindFeet, CallersGoOn, NoneAdmitted, NoneBlockedOnEnd, WakesCounted}
 use Rattle.task_machine.specs.declared.words.Mark.TheVariants as mark
 use Rattle.task_machine.specs.Core.{Core, Main, State, Table}
 use Rattle.task_machine.specs.Maps.{get, size}
@@ -408,6 +408,7 @@ pub record Awake (p : Turn) (s : Core) : Type 0 where
   pub callers : CallersGoOn s
   pub feet : BehindFeet s
   pub free : StartsFree p s
+  pub counted : WakesCounted s
 
 -- ---- All of it
 

@@ -1,16 +1,23 @@
 -- No wake is lost: what is so of each state in which the turns aren't over.
 use Rattle.std.specs.List.{count_by}
-use Rattle.std.specs.Prelude.{Bool, None, Option, Some, false, suc, true, zero, ℕ, ◌≡◌, ◌≤◌}
+use Rattle.std.specs.Prelude.{Bool, None, Option, Some, false, is_some, suc, true, zero, ℕ, ◌&&◌, ◌+◌, ◌≡◌, ◌≤◌}
 use Rattle.task_machine.specs.Core.{Core}
-use Rattle.task_machine.specs.Read.{admits, event_of, has_waiter, is_ready_member, place_of, subtasks, undelivered_end, woken}
+use Rattle.task_machine.specs.Read.{admits, event_of, has_waiter, is_in_set, place_of, undelivered_end, woken}
+use Rattle.task_machine.specs.declared.records.Join.{Join}
 use Rattle.task_machine.specs.declared.records.Place.{Place}
 use Rattle.task_machine.specs.declared.records.Place.TheVariants as place
 use Rattle.task_machine.specs.declared.records.Subtask.{Subtask}
 use Rattle.task_machine.specs.declared.records.Why.{Why}
+use Rattle.task_machine.specs.declared.words.Status.{Status}
 
--- how many members of the set have an event
+-- it is joined to the set, and has an event
+abbrev pub is_ready_in : ℕ → Join → Option Status → Bool
+is_ready_in x j e = is_in_set x j && is_some e
+
+-- how many members of the set, calls and works, have an event
 unfoldable pub ready_members : ℕ → Core → ℕ
-ready_members x s = count_by (λ sub. is_ready_member x sub s) (subtasks s)
+ready_members x s =
+    count_by (λ e. is_ready_in x e.1.join e.1.event) s.calls.list + count_by (λ e. is_ready_in x e.1.join e.1.event) s.works.list
 
 -- for a set that has a waiter at least as many threads are woken as it has ready members
 abbrev pub WakesCounted : Core → Type 0

@@ -18,4 +18,4 @@ pub use publishes::{publish, publish_waiter};
 pub use settle::{settle_call, settle_interest};
 pub use stops::stop;
 pub use tells::{cancel_task, is_told, return_value, tell, tell_waiter};
-pub use wakes::{put_behind, unblock, wake, wake_chosen};
+pub use wakes::{hand_wake_on, put_behind, unblock, wake, wake_chosen};

@@ -1,7 +1,8 @@
 //! Wakes: who waits on a set, or is blocked on a subtask, gets an entry at high.
 ghost use Rattle.std.specs.Prelude.{◌≡◌, ◌<◌, IfSome, option_map, true};
-ghost use Rattle.task_machine.specs.Moves.{behind_one, is_callback_waiter, may_wake, unblocked, wake, waken_by};
+ghost use Rattle.task_machine.specs.Moves.{OwnGift, behind_one, handed_on, is_callback_waiter, may_hand_on, may_wake, unblocked, wake, waken_by};
 ghost use Rattle.task_machine.specs.Read.{blocked_on};
+ghost use Rattle.task_machine.specs.declared.words.OwnEvent.{OwnEvent};
 ghost use Rattle.task_words.specs.Apart.{AreWaitersUnqueued, IsBehindNobody, IsBlockedUnqueued, IsUnqueued};
 ghost use Rattle.task_words.specs.Names.{number_in, subtask_in};
 ghost use Rattle.task_words.specs.StateView.{on_core, set_of, thread_of};
@@ -62,6 +63,22 @@ pub fn wake<W: Words>(w: &mut W, set: SetId) -> Option<ThreadId>
     let waiter = w.first_waiter(set);
     wake_chosen(w, set, waiter);
     waiter
+}
+
+/// Who was woken for the set takes its task's own event: where a member is ready its wake goes on to
+/// another waiter, which is answered.
+#[tactic(auto, unfolding(task_machine::specs::Moves::may_hand_on, task_machine::specs::Moves::handed_on))]
+pub fn hand_wake_on<W: Words>(w: &mut W, set: SetId) -> Option<ThreadId>
+    requires named { 0 < set_of (W.view w.old) set }
+    requires unqueued { AreWaitersUnqueued (set_of (W.view w.old) set) (W.view w.old).core }
+    ensures choice { (event : OwnEvent) → may_hand_on (set_of (W.view w.old) set) (OwnGift event) (option_map (λ id. thread_of (W.view w.old) id) result) (W.view w.old).core ≡ true }
+    ensures new { (event : OwnEvent) → W.view w.new ≡ on_core (handed_on (set_of (W.view w.old) set) (OwnGift event) (option_map (λ id. thread_of (W.view w.old) id) result)) (W.view w.old) }
+{
+    if w.has_ready_member(set) {
+        wake(w, set)
+    } else {
+        None
+    }
 }
 
 /// Who is blocked on the subtask goes to high.

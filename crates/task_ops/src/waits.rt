@@ -17,7 +17,7 @@ use crate::gifts::{Gift, gift_for, given, own_gift};
 use crate::names::set_named;
 use crate::polls::receive;
 use task_machine::{Given, Label, OwnEvent, SetLabel, ThreadLabel, Trap};
-use task_moves::{check, foot_of, passes_check, stop, wake};
+use task_moves::{check, foot_of, hand_wake_on, passes_check, stop};
 use task_words::{HowFarId, PlaceId, SetId, ThreadId, Words};
 
 // A thread that takes the own event while a member is ready wakes another waiter.
@@ -29,7 +29,7 @@ pub(crate) fn hand_on<W: Words>(w: &mut W, set: SetId, gift: Gift) -> Option<Thr
     ensures new { W.view w.new ≡ on_core (handed_on (set_of (W.view w.old) set) (gift_in (W.view w.old).tags gift) (option_map (λ id. thread_of (W.view w.old) id) result)) (W.view w.old) }
 {
     match gift {
-        Gift::Own(_) if w.has_ready_member(set) => wake(w, set),
+        Gift::Own(_) => hand_wake_on(w, set),
         _ => None,
     }
 }

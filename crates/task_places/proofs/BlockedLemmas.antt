@@ -1,60 +1,10 @@
 -- No thread is blocked on a subtask that has an end as its event: along the words of a step.
-use Rattle.task_places.proofs.Laws.{after_placing, after_word, Allowed, along, ap, arith, base_at, Bool, by_number, Call, CallsTold, Came, came_word, cancelled_by, cancelled_call, Collapses, Comes, Component, Core, EndTells, EndWords, event_of, false, Frees, get, get-change, get-remove, GoesBack, host_taken, how_far_of, HowFar, inl, InOrderIf, inr, is_async_work, is_inside, is_told, IsBeside, IsFirst, IsGone, IsRunner, IsSame, Label, land_allowed, Lands, LandsAt, MayMove, MayStand, Move, Moved, nat_tests, None, NoneBlockedOnEnd, on_thread, Option, option_map, Place, place_of, Places, Placing, placing_shifted, plain, plain_scene, Promote, promoted_shifted, Put, put_shifted, Quits, refl, Remains, remove_thread, RemoveThread, said_plain, Scene, scene_of, set_how_far, set_place, SetHowFar, Setting, settle_threads, Settles, Shifts, Some, State, Status, status_of_end, Stay, Stays, stays_allowed, Steady, Stop, stopped_shifted, subst, Subtask, subtask_ended, subtask_under_way, sym, TellingGoes, TellsEnd, TellsLater, TellsNever, TellsNone, TellsNow, Thread, thread_came, ThreadAfter, Trip, true, Turn, Turned, Turns, undelivered_end, Walk, Walked, Why, Word, Work, WorksTold, written_at, ℕ, ⊎_elim, ◌∙◌, ◌≡◌, ◌≤◌, ◌⊎◌}
-use Rattle.task_places.proofs.{PlaceLaw.Frame, PlaceLaw.beside, PlaceSteps.Withdrawable, PlaceSteps.step_by}
+use Rattle.task_places.proofs.Laws.{along, ap, arith, base_at, Bool, Call, CallsTold, cancelled_by, cancelled_call, Component, Core, EndTells, EndWords, event_of, false, Frees, get, host_taken, how_far_of, HowFar, inl, InOrderIf, inr, is_async_work, is_inside, is_told, IsRunner, Label, MayMove, Move, nat_tests, None, NoneBlockedOnEnd, Option, option_map, Place, plain, plain_scene, refl, said_plain, Scene, scene_of, Setting, Some, State, Status, status_of_end, Steady, subst, Subtask, subtask_ended, subtask_under_way, sym, TellingGoes, TellsEnd, TellsLater, TellsNever, TellsNone, TellsNow, Thread, true, Turn, undelivered_end, Walk, Walked, Word, Work, WorksTold, written_at, ℕ, ⊎_elim, ◌∙◌, ◌≡◌, ◌≤◌, ◌⊎◌}
+use Rattle.task_places.proofs.{PlaceSteps.Withdrawable, PlaceSteps.step_by, RestLemmas.Rests, RestLemmas.rests_stay, RestLemmas.rests_walk, RestLemmas.runs_free, RestLemmas.trip_rests}
 
 -- the thread is blocked on the subtask
 abbrev pub IsStuck : Subtask → ℕ → Core → Type 0
-IsStuck sub n s = place_of n s ≡ Some (Place.Blocked sub)
-
--- ---- Who is blocked was so before, or comes to it
-
-moved_stuck : (may : Why → Type 0) (o p : Option Place) (sub : Subtask) → Moved may o p → p ≡ Some (Place.Blocked sub) → o ≡ Some (Place.Blocked sub)
-moved_stuck may o p sub came is = grind arith
-
-turned_stuck : (a : Scene) (s t : Core) (n : ℕ) (o p : Option Place) (sub : Subtask) → Turned a s t n o p → p ≡ Some (Place.Blocked sub) → ⊥
-turned_stuck a s t n o p sub came is = grind arith
-
-stuck_came : (a : Scene) (s t : Core) (n : ℕ) (sub : Subtask) (p : Option Place) → Came a s t n (place_of n s) p → p ≡ Some (Place.Blocked sub) →
-    IsStuck sub n s ⊎ MayMove a n (Place.Blocked sub) s
-stuck_came a s t n sub p (Shifts c) is = inl (moved_stuck (MayStand a s n) (place_of n s) p sub c is)
-stuck_came a s t n sub p (Comes r ok e there) is = let same : r ≡ Place.Blocked sub = cc in inr (rw same at ok)
-stuck_came a s t n sub p (Turns c) is = absurd (turned_stuck a s t n (place_of n s) p sub c is)
-
-stuck_word : (a : Scene) (w : Word) (s : Core) → Allowed a w s → (n : ℕ) (sub : Subtask) → IsStuck sub n (after_word w s) →
-    IsStuck sub n s ⊎ MayMove a n (Place.Blocked sub) s
-stuck_word a w s ok n sub at = stuck_came a s (after_word w s) n sub _ (came_word w s ok n) at
-
-move_runs : (a : Scene) (n : ℕ) (sub : Subtask) (s : Core) → MayMove a n (Place.Blocked sub) s → IsRunner a n
-move_runs a n sub s ok = grind arith
-
-stuck_walk : {a : Scene} {b t : Core} → Walk a b t → (n : ℕ) (sub : Subtask) → (IsRunner a n → ⊥) → IsStuck sub n t → IsStuck sub n b
-stuck_walk {a = a} {b = b} c n sub other at = along (λ (u : Core). IsStuck sub n u → IsStuck sub n b)
-    (λ w s ok q h. q (⊎_elim (λ e. e) (λ m. absurd (other (move_runs a n sub s m))) (stuck_word a w s ok n sub h))) (λ h. h) c at
-
--- no thread comes to be blocked while the running thread stays
-shift_stuck : (a : Scene) (x : Placing) (s : Core) → Stays a (Places x) s → (n : ℕ) (sub : Subtask) → IsStuck sub n (after_placing x s) → IsStuck sub n s
-shift_stuck a (Put m k w) s ok n sub is = moved_stuck _ _ _ sub (put_shifted (λ j v. Unit {0}) (λ j. tt) m k w s tt n) is
-shift_stuck a (Promote k) s ok n sub is = moved_stuck _ _ _ sub (promoted_shifted (λ j v. Unit {0}) (λ j. tt) k s n) is
-shift_stuck a (Stop f) s ok n sub is = moved_stuck _ _ _ sub (stopped_shifted (λ j v. Unit {0}) (λ j. tt) f s n) is
-shift_stuck a x s (inl ok) n sub is = absurd ok
-shift_stuck a x s (inr ok) n sub is = absurd ok
-
-stay_word_stuck : (a : Scene) (w : Word) (s : Core) → Stays a w s → (n : ℕ) (sub : Subtask) → IsStuck sub n (after_word w s) → IsStuck sub n s
-stay_word_stuck a w s ok n sub is = go (thread_came w s (stays_allowed a w s ok) n)
-  where
-    go : ThreadAfter a w s n → IsStuck sub n s
-    go (IsSame r u e f c y far (inl same) z) = grind arith
-    go (IsSame r u e f c y far (inr x) z) =
-        shift_stuck a x.0 s (rw x.1 at ok) n sub (sym (ap (λ (t : Core). place_of n t) (placing_shifted x.0 s).only) ∙ rw x.1 at is)
-    go (IsGone e) = absurd (cc)
-    go (IsBeside u new l same m e) = let place : Place.Blocked sub ≡ Place.New = cc in absurd (grind arith)
-    go (IsFirst u first l there y z far new e x) = let place : Place.Blocked sub ≡ Place.New = cc in absurd (grind arith)
-
-stuck_stay : {a : Scene} {b t : Core} → Stay a b t → (n : ℕ) (sub : Subtask) → IsStuck sub n t → IsStuck sub n b
-stuck_stay {a = a} {b = b} c n sub at =
-    along (λ (u : Core). IsStuck sub n u → IsStuck sub n b) (λ w s ok q h. q (stay_word_stuck a w s ok n sub h)) (λ h. h) c at
-
--- ---- Trips
+IsStuck sub n s = Rests (Place.Blocked sub) n s
 
 -- the subtask has no end to tell
 abbrev pub IsOpen : Subtask → Core → Type 0
@@ -66,41 +16,6 @@ move_opens a n sub s ok = grind arith
 same_open : (sub : Subtask) (s t : Core) → t.calls ≡ s.calls → t.works ≡ s.works → IsOpen sub s → IsOpen sub t
 same_open (Subtask.Guest k) s t calls works h = grind (arith, calls)
 same_open (Subtask.Host i) s t calls works h = grind (arith, works)
-
-land_open : (a : Scene) (x : Placing) (s : Core) (n : ℕ) (sub : Subtask) → Allowed a (Places x) s → IsStuck sub n (after_word (Places x) s) →
-    IsStuck sub n s ⊎ IsOpen sub (after_word (Places x) s)
-land_open a x s n sub ok at =
-    ⊎_elim inl (λ m. inr (same_open sub s (after_word (Places x) s) refl refl (move_opens a n sub s m))) (stuck_word a (Places x) s ok n sub at)
-
-far_place : (m n : ℕ) (h : HowFar) (sub : Subtask) (s : Core) → IsStuck sub n (after_word (SetHowFar m h) s) → IsStuck sub n s
-unfolding set_how_far on_thread
-far_place m n h sub s at = grind (arith, nat_tests, get-change)
-
-module _ {a : Scene} {b : Core} {k : ℕ} {q : Option Place} (f : Frame a b k q) where
-  -- the running thread isn't blocked
-  pub runs_free : (m : ℕ) (sub : Subtask) → IsRunner a m → IsStuck sub m b → ⊥
-  runs_free m sub is at = let h = (beside f m is).1 in let busy = h.follows.busy in let here = h.follows.start.here in absurd (grind arith)
-
-  gone_stuck : {s t : Core} (j n : ℕ) (sub : Subtask) → Stay a b s → IsRunner a j → Settles (after_word (RemoveThread j) s) t → IsStuck sub n t → IsStuck sub n b
-  unfolding remove_thread
-  gone_stuck {s = s} j n sub c is d at =
-      let u : IsStuck sub n (after_word (RemoveThread j) s) =
-      along (λ (u : Core). IsStuck sub n u → IsStuck sub n (after_word (RemoveThread j) s))
-      (λ w v ok r h. r (ap (λ m. option_map (λ (r : Thread). r.place) (get m n)) (sym (settle_threads w v ok)) ∙ h)) (λ h. h) d at in
-      stuck_stay c n sub (grind (arith, nat_tests, get-remove))
-
-  pub trip_stuck : {t : Core} → Trip a b t → (a.next ≡ Turn.Over → ⊥) → (n : ℕ) (sub : Subtask) → IsStuck sub n t → IsStuck sub n b ⊎ IsOpen sub t
-  unfolding set_how_far set_place on_thread
-  trip_stuck (Remains t c still on) live n sub at = inl (stuck_stay c n sub at)
-  trip_stuck (Lands s x c ok fit halts) live n sub at = ⊎_elim (λ e. inl (stuck_stay c n sub e)) inr (land_open a x s n sub (land_allowed a x s ok) at)
-  trip_stuck (LandsAt s x m h c ok fit comes halts) live n sub at =
-      ⊎_elim (λ e. inl (stuck_stay c n sub e)) (λ o. inr (same_open sub (after_word (Places x) s) _ refl refl o))
-      (land_open a x s n sub (land_allowed a x s ok) (far_place m n h sub (after_word (Places x) s) at))
-  trip_stuck (Quits s t j c leave d halts) live n sub at = inl (gone_stuck j n sub c leave.0 d at)
-  trip_stuck (GoesBack s t j m v c is runs to under d ok) live n sub at =
-      let was : IsStuck sub n t = by_number n m _ (λ e. absurd (grind (arith, nat_tests, get-change))) (λ other. grind (arith, nat_tests, get-change)) in
-      inl (gone_stuck j n sub c is d was)
-  trip_stuck (Collapses t over c) live n sub at = absurd (live over)
 
 -- ---- At most one thread is blocked on a subtask
 
@@ -172,8 +87,8 @@ module _ (x : Setting) (s : State) (l : Label) (t : State) (w : Walked x s l t) 
 
   goes : StuckGoes a t.core
   goes = plain x s l w.next (λ c. StuckGoes c t.core) (step_by x s l t w h.in_place may StuckGoes (λ c b n q u base first same f d ends. (
-    λ m sub is at. runs_free f m sub is (f.home m ∙ at),
-    λ on m sub at. ⊎_elim (λ e. inl (sym (f.home m) ∙ e)) inr (trip_stuck f d on m sub at),
+    λ m sub is at. runs_free f m (Place.Blocked sub) refl is (f.home m ∙ at),
+    λ on m sub at. ⊎_elim (λ e. inl (sym (f.home m) ∙ e)) (λ r. inr (same_open sub r.0 u r.1.1.0 r.1.1.1 (move_opens c m sub r.0 r.1.0))) (trip_rests f d on m (Place.Blocked sub) refl at),
   )))
 
   words : EndWords a t.core
@@ -182,9 +97,9 @@ module _ (x : Setting) (s : State) (l : Label) (t : State) (w : Walked x s l t) 
   -- who is blocked and was so before isn't the one that is freed
   freed : (n : ℕ) (sub : Subtask) → IsTold sub s.core → IsStuck sub n s.core → IsStuck sub n t.core → Frees a t.core sub → ⊥
   freed n sub known at still f =
-      let mid = stuck_walk f.rest n sub (λ is. goes.0 n sub is at) still in
+      let mid = rests_walk f.rest n (Place.Blocked sub) refl (λ is. goes.0 n sub is at) still in
       let r = f.freed n mid in
-      let was : IsStuck sub r.0 f.first = stuck_stay f.stays r.0 sub r.1.0 in
+      let was : IsStuck sub r.0 f.first = rests_stay f.stays r.0 (Place.Blocked sub) refl r.1.0 in
       let one = stuck_once h n r.0 sub known at (ap (λ m. option_map (λ (u : Thread). u.place) (get m r.0)) (sym f.home) ∙ was) in
       let other = r.1.1 in absurd (grind (arith, nat_tests))
 

@@ -47,7 +47,7 @@ module _ {a : Scene} {out : ℕ → Bool} (s t : Core) (moves : (j : ℕ) → Mo
       by : Moves a s t j → place_of j s ≡ Some (Place.Under m)
       by (Kept k) = sym k ∙ at
       by (Marked x y w was to why) = absurd (cc)
-      by (Woken p y w was parked to fresh) = absurd (cc)
+      by (Woken p y w was parked to fresh put) = absurd (cc)
       by (Resumed f y was to) = absurd (cc)
       by (Passed f i u was switch same to ready next) = absurd (cc)
       by (Born new none to) = absurd (cc)
@@ -59,7 +59,7 @@ module _ {a : Scene} {out : ℕ → Bool} (s t : Core) (moves : (j : ℕ) → Mo
       by : Moves a s t j → place_of j t ≡ Some (Place.Under m)
       by (Kept k) = k ∙ at
       by (Marked x y w was to why) = absurd (cc)
-      by (Woken p y w was parked to fresh) = absurd (grind arith)
+      by (Woken p y w was parked to fresh put) = absurd (grind arith)
       by (Resumed f y was to) = absurd (cc)
       by (Passed f i u was switch same to ready next) = absurd (cc)
       by (Born new none to) = absurd (cc)
@@ -103,7 +103,7 @@ module _ {a : Scene} {b : Core} (base : Begins a b) {out : ℕ → Bool} (s t : 
       by : Moves a s t j → Goes out t j
       by (Kept k) = AtMark j m w (k ∙ at) o
       by (Marked x y v was to why) = AtMark j y v to o
-      by (Woken p y v was parked to fresh) = AtMark j y v to o
+      by (Woken p y v was parked to fresh put) = AtMark j y v to o
       by (Resumed f y was to) = AtMark j y Why.Resumption to o
       by (Passed f i u was switch same to ready next) = absurd (cc)
       by (Born new none to) = absurd (cc)
@@ -113,7 +113,7 @@ module _ {a : Scene} {b : Core} (base : Begins a b) {out : ℕ → Bool} (s t : 
       by : Moves a s t j → Goes out t j
       by (Kept k) = AtWork j (k ∙ at) o
       by (Marked x y v was to why) = AtMark j y v to o
-      by (Woken p y v was parked to fresh) = AtMark j y v to o
+      by (Woken p y v was parked to fresh put) = AtMark j y v to o
       by (Resumed f y was to) = AtMark j y Why.Resumption to o
       by (Passed f i u was switch same to ready next) = absurd (cc)
       by (Born new none to) = absurd (cc)
@@ -124,7 +124,7 @@ module _ {a : Scene} {b : Core} (base : Begins a b) {out : ℕ → Bool} (s t : 
       by : Goes out t f → Moves a s t j → Goes out t j
       by rec (Kept k) = Back j f (k ∙ at) rec
       by rec (Marked x y v was to why) = AtMark j y v to (outs j f at)
-      by rec (Woken p y v was parked to fresh) = AtMark j y v to (outs j f at)
+      by rec (Woken p y v was parked to fresh put) = AtMark j y v to (outs j f at)
       by rec (Resumed h y was to) = AtMark j y Why.Resumption to (outs j f at)
       by rec (Passed h m u was switch same to ready next) = Back j (foot_of m u) to (passed_goes s t moves apart m u switch same ready)
       by rec (Born new none to) = absurd (cc)
@@ -136,7 +136,7 @@ module _ {a : Scene} {b : Core} (base : Begins a b) {out : ℕ → Bool} (s t : 
       by : Moves a s t m → is_fresh (place_of m t) ≡ false
       by (Kept k) = ap is_fresh k ∙ live
       by (Marked x y w was to why) = grind arith
-      by (Woken p y w was parked to fresh) = grind arith
+      by (Woken p y w was parked to fresh put) = grind arith
       by (Resumed f y was to) = grind arith
       by (Passed f i u was switch same to ready next) = grind arith
       by (Born new none to) = absurd (grind arith)
@@ -148,7 +148,7 @@ module _ {a : Scene} {b : Core} (base : Begins a b) {out : ℕ → Bool} (s t : 
       by : Moves a s t j → Goes out t j
       by (Kept k) = let was = sym k ∙ at in keeps_goes j (q.goes j f was) (λ fresh early. absurd (grind arith))
       by (Marked x y w was to why) = absurd (cc)
-      by (Woken p y w was parked to fresh) = absurd (cc)
+      by (Woken p y w was parked to fresh put) = absurd (cc)
       by (Resumed g y was to) = absurd (cc)
       by (Passed g m u was switch same to ready next) = Back j (foot_of m u) to (passed_goes s t moves apart m u switch same ready)
       by (Born new none to) = absurd (cc)
@@ -163,7 +163,7 @@ module _ {a : Scene} {b : Core} (base : Begins a b) {out : ℕ → Bool} (s t : 
       by : Moves a s t j → ⊥
       by (Kept e) = q.feet j k f (sym e ∙ at) (under_was {out = out} s t moves apart k f under)
       by (Marked x y w was to why) = absurd (cc)
-      by (Woken p y w was parked to fresh) = absurd (cc)
+      by (Woken p y w was parked to fresh put) = absurd (cc)
       by (Resumed g y was to) = absurd (cc)
       by (Passed g m u was switch same to ready next) =
           let foot : foot_of m u ≡ f = grind arith in
@@ -208,7 +208,7 @@ module _ {a : Scene} {b : Core} (base : Begins a b) {out : ℕ → Bool} (s t : 
       old : place_of j s ≡ Some (Place.Behind k) → Moves a s t k → place_of k t ≡ Some (Place.Ready Mark.Switch Why.Start)
       old was (Kept e) = e ∙ q.fresh j k was (ap is_fresh (sym e) ∙ fresh)
       old was (Marked x y w here to why) = ⊎_elim (λ e. grind arith) (λ early. absurd (behind_kept j k was (grind arith) early)) why
-      old was (Woken p y w here parked to same) = let r = q.fresh j k was in absurd (grind arith)
+      old was (Woken p y w here parked to same put) = let r = q.fresh j k was in absurd (grind arith)
       old was (Resumed f y here to) = absurd (grind arith)
       old was (Passed f i u here switch same to ready next) = absurd (grind arith)
       old was (Born new none to) = let r = q.fresh j k was in absurd (grind arith)
@@ -217,7 +217,7 @@ module _ {a : Scene} {b : Core} (base : Begins a b) {out : ℕ → Bool} (s t : 
       by : Moves a s t j → place_of k t ≡ Some (Place.Ready Mark.Switch Why.Start)
       by (Kept e) = old (sym e ∙ at) (moves k)
       by (Marked x y w was to why) = absurd (cc)
-      by (Woken p y w was parked to same) = absurd (cc)
+      by (Woken p y w was parked to same put) = absurd (cc)
       by (Resumed g y was to) = absurd (cc)
       by (Passed g m u was switch same to ready next) =
           let foot : foot_of m u ≡ k = grind arith in
@@ -232,7 +232,7 @@ module _ {a : Scene} {b : Core} (base : Begins a b) {out : ℕ → Bool} (s t : 
       by : Moves a s t j → place_of j b ≡ Some (Place.Behind f)
       by (Kept e) = q.came on j f (sym e ∙ at)
       by (Marked x y w was to why) = absurd (cc)
-      by (Woken p y w was parked to same) = absurd (cc)
+      by (Woken p y w was parked to same put) = absurd (cc)
       by (Resumed g y was to) = absurd (cc)
       by (Passed g m u was switch same to ready next) = absurd (on next)
       by (Born new none to) = absurd (cc)
@@ -244,7 +244,7 @@ module _ {a : Scene} {b : Core} (base : Begins a b) {out : ℕ → Bool} (s t : 
       by : Moves a s t m → b.made.threads + 1 ≤ m
       by (Kept e) = q.new m none (ap (λ (o : Option Place). is_some o) (sym e) ∙ there)
       by (Marked x y w was to why) = q.new m none (ap (λ (o : Option Place). is_some o) was)
-      by (Woken p y w was parked to same) = q.new m none (ap (λ (o : Option Place). is_some o) was)
+      by (Woken p y w was parked to same put) = q.new m none (ap (λ (o : Option Place). is_some o) was)
       by (Resumed g y was to) = q.new m none (ap (λ (o : Option Place). is_some o) was)
       by (Passed g i u was switch same to ready next) = q.new m none (ap (λ (o : Option Place). is_some o) was)
       by (Born new gone to) = let more = q.made in omega (arith, new, more)
@@ -336,7 +336,7 @@ module _ {a : Scene} {b : Core} {n : ℕ} {q : Option Place} (f : Follows a b n 
         (is_fresh (place_of j h.before) ≡ true → Early a h.before → ⊥) → Moves a h.before stop j → Goes lone stop j
     from_mark j m w at o stays (Kept k) = AtMark j m w (k ∙ at) o
     from_mark j m w at o stays (Marked x y v was now why) = AtMark j y v now o
-    from_mark j m w at o stays (Woken x y v was parked now fresh) = AtMark j y v now o
+    from_mark j m w at o stays (Woken x y v was parked now fresh put) = AtMark j y v now o
     from_mark j m w at o stays (Resumed x y was now) = AtMark j y Why.Resumption now o
     from_mark j m w at o stays (Passed x i u was switch same now ready next) = absurd (cc)
     from_mark j m w at o stays (Born new none now) = absurd (cc)
@@ -346,7 +346,7 @@ module _ {a : Scene} {b : Core} {n : ℕ} {q : Option Place} (f : Follows a b n 
         (is_fresh (place_of j h.before) ≡ true → Early a h.before → ⊥) → Moves a h.before stop j → Goes lone stop j
     from_work j at o stays (Kept k) = AtWork j (k ∙ at) o
     from_work j at o stays (Marked x y v was now why) = AtMark j y v now o
-    from_work j at o stays (Woken x y v was parked now fresh) = AtMark j y v now o
+    from_work j at o stays (Woken x y v was parked now fresh put) = AtMark j y v now o
     from_work j at o stays (Resumed x y was now) = AtMark j y Why.Resumption now o
     from_work j at o stays (Passed x i u was switch same now ready next) = absurd (cc)
     from_work j at o stays (Born new none now) = absurd (cc)
@@ -367,7 +367,7 @@ module _ {a : Scene} {b : Core} {n : ℕ} {q : Option Place} (f : Follows a b n 
         back : (j g : ℕ) → place_of j h.before ≡ Some (Place.Behind g) → Goes lone stop g → Moves a h.before stop j → Goes lone stop j
         back j g at z (Kept k) = Back j g (k ∙ at) z
         back j g at z (Marked x e v was now why) = absurd (cc)
-        back j g at z (Woken x e v was parked now fresh) = absurd (grind arith)
+        back j g at z (Woken x e v was parked now fresh put) = absurd (grind arith)
         back j g at z (Resumed x e was now) = AtMark j e Why.Resumption now (behind_apart h.before before.0 j g at)
         back j g at z (Passed x m u was switch same now ready next) = Back j (foot_of m u) now (passed_goes h.before stop moves apart m u switch same ready)
         back j g at z (Born new none now) = absurd (cc)
@@ -401,7 +401,7 @@ module _ {a : Scene} {b : Core} {n : ℕ} {q : Option Place} (f : Follows a b n 
             let was = sym k ∙ at in
             ⊎_elim (λ d. absurd (strand_place j g was d)) (λ y. y) (parts j (before.1.goes j g was) (λ fresh early. absurd (grind arith)))
         go j g at (Marked x e v was now why) = absurd (cc)
-        go j g at (Woken x e v was parked now fresh) = absurd (cc)
+        go j g at (Woken x e v was parked now fresh put) = absurd (cc)
         go j g at (Resumed x e was now) = absurd (cc)
         go j g at (Passed x m u was switch same now ready next) = Back j (foot_of m u) now (passed_goes h.before stop moves apart m u switch same ready)
         go j g at (Born new none now) = absurd (cc)

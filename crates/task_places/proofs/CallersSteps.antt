@@ -26,9 +26,9 @@ goes_of s (suc k) n h = by (λ m. goes_of s k m) (place_of n s) refl h
 move_runs : (a : Scene) (k : ℕ) (p : Place) (s : Core) → MayMove a k p s → (n : ℕ) × IsRunner a n
 move_runs a k p s (Runs is to starts e) = (k, is)
 move_runs a k p s (Holds w l was out e) = (k, l.0)
-move_runs a k p s (WaitsAgain x l was e) = (k, l.0)
-move_runs a k p s (AwaitsEvent x l d g e) = (k, l.0)
-move_runs a k p s (Waits x l g e) = (k, l.0)
+move_runs a k p s (WaitsAgain x l was none e) = (k, l.0)
+move_runs a k p s (AwaitsEvent x l d g none e) = (k, l.0)
+move_runs a k p s (Waits x l g none e) = (k, l.0)
 move_runs a k p s (Blocks sub l g opens e) = (k, l.0)
 move_runs a k p s (Suspends l e) = (k, l.0)
 move_runs a k p s (Uncovers m is to under none e) = (m, is)

@@ -1,16 +1,8 @@
 -- An idle state in order that has the facts on wakes is stalled.
-use Rattle.task_places.proofs.Laws.{[], any_found, any_thread, ap, arith, Bool, CallersGoOn, cond, Core, count_by, event_of, false, found_any, get, goes_on_at, goes_on_within, has_ready_member, has_waiter, HasPlace, Idle, is_behind, is_blocked_on_end, is_held_for, is_passed_over, is_ready_member, is_stalled, is_unended_take, is_woken_for, List, list_any, Mark, next_entry, None, NoneBlockedOnEnd, numbers, Option, option_map, Place, place_of, Placed, ready_members, refl, RunsAlone, Some, Stalled, State, Subtask, subtasks, suc, sum_by-cons, Thread, true, Turn, undelivered_end, WakesCounted, Why, woken, zero, ℕ, ◌∙◌, ◌∷◌, ◌≡◌, ◌≤◌}
+use Rattle.task_places.proofs.Laws.{[], any_found, any_thread, ap, arith, at_number, Bool, CallersGoOn, Core, event_of, false, found_any, found_ready, get, goes_on_at, goes_on_within, has_ready_member, has_waiter, HasPlace, Idle, InOrder, is_behind, is_blocked_on_end, is_held_for, is_passed_over, is_stalled, is_unended_take, is_woken_for, List, list_any, Mark, next_entry, None, NoneBlockedOnEnd, numbers, one_counted, Option, option_map, Place, place_of, Placed, ready_counts, refl, RunsAlone, Setting, Some, Stalled, State, Subtask, suc, sym, Thread, true, Turn, undelivered_end, WakesCounted, Why, woken, zero, ℕ, ◌∙◌, ◌∷◌, ◌≡◌}
 use Rattle.task_places.proofs.{OrderLemmas.reached_in_order, WakeLines.none_of}
-use Rattle.task_places.specs.{Kept.ReachedInOrder, Wakes.IdleIsStalled, Wakes.ReachedGoOn, Wakes.ReachedUnblocked}
+use Rattle.task_places.specs.{Kept.ReachedInOrder, Wakes.IdleIsStalled, Wakes.ReachedCounted, Wakes.ReachedGoOn, Wakes.ReachedUnblocked}
 use Rattle.task_rules.specs.Stalled.{is_idle}
-
-any_counts : {X : Type 0} (test : X → Bool) (xs : List X) → list_any test xs ≡ true → 1 ≤ count_by test xs
-any_counts test [] h = absurd (grind arith)
-any_counts test (x ∷ xs) h = let rest = any_counts test xs in let more = sum_by-cons (λ y. cond (test y) 1 0) x xs in grind arith
-
-counts_any : {X : Type 0} (test : X → Bool) (xs : List X) → 1 ≤ count_by test xs → list_any test xs ≡ true
-counts_any test [] h = absurd (grind arith)
-counts_any test (x ∷ xs) h = let rest = counts_any test xs in let more = sum_by-cons (λ y. cond (test y) 1 0) x xs in grind arith
 
 -- a thread that passes, by its number
 any_place : (test : Thread → Bool) (s : Core) → any_thread test s ≡ true → (n : ℕ) × ((t : Thread) × ((get s.threads n ≡ Some t) × (test t ≡ true)))
@@ -67,20 +59,22 @@ woken_held : (x : ℕ) (t : Thread) → is_active t.place ≡ false → is_woken
 woken_held x t still h = grind arith
 
 passed_line : (s : Core) → Still s → WakesCounted s → (x : ℕ) → is_passed_over x s ≡ true → ⊥
-unfolding woken ready_members has_ready_member
+unfolding woken
 passed_line s still counted x h =
     let waits : has_waiter x s ≡ true = grind arith in
-    let ready : list_any (λ sub. is_ready_member x sub s) (subtasks s) ≡ true = grind arith in
+    let ready : has_ready_member x s ≡ true = grind arith in
     let none : any_thread (λ t. is_held_for x t.place) s ≡ false = grind arith in
-    let one = any_counts (λ sub. is_ready_member x sub s) (subtasks s) ready in
+    let some = found_ready x s ready in
+    let one = ready_counts x some.0 s some.1 in
     let more = counted x waits in
-    let some = counts_any (λ (e : ℕ × Thread). is_woken_for x e.1 e.1.place) s.threads.list (omega (arith, one, more)) in
-    let r = any_place (λ t. is_woken_for x t t.place) s some in
-    let held = woken_held x r.1.0 (still r.0 r.1.0.place (ap (option_map (λ (t : Thread). t.place)) r.1.1.0)) r.1.1.1 in
-    absurd (held_any (λ t. is_held_for x t.place) r.0 s r.1.0 r.1.1.0 held none)
+    let r = one_counted (λ (t : Thread). is_woken_for x t t.place) s.threads (omega (arith, one, more)) in
+    by r.0 r.1 (get s.threads r.0) refl none
   where
-    held_any : (test : Thread → Bool) (n : ℕ) (u : Core) (t : Thread) → get u.threads n ≡ Some t → test t ≡ true → any_thread test u ≡ false → ⊥
-    held_any test n u t at is none = let found = found_place test n u t at is in absurd (grind arith)
+    by : (n : ℕ) → at_number (λ (t : Thread). is_woken_for x t t.place) s.threads n ≡ true → (o : Option Thread) → get s.threads n ≡ o → any_thread (λ t. is_held_for x t.place) s ≡ false → ⊥
+    by n on None at none = absurd (grind arith)
+    by n on (Some t) at none =
+        let held = woken_held x t (still n t.place (ap (option_map (λ (t : Thread). t.place)) at)) (grind (arith, on, at)) in
+        let found = found_place (λ (t : Thread). is_held_for x t.place) n s t at held in absurd (grind arith)
 
 none_passed : (s : Core) → Still s → WakesCounted s → (xs : List ℕ) → list_any (λ x. is_passed_over x s) xs ≡ false
 none_passed s still counted [] = refl
@@ -102,21 +96,37 @@ pub reached_go_on : ReachedGoOn
 unfolding ReachedGoOn ReachedInOrder
 reached_go_on x s r live = ((reached_in_order x s r).awake live).callers
 
+pub reached_counted : ReachedCounted
+unfolding ReachedCounted ReachedInOrder
+reached_counted x s r live = ((reached_in_order x s r).awake live).counted
+
 pub reached_unblocked : ReachedUnblocked
 unfolding ReachedUnblocked ReachedInOrder
 reached_unblocked x s r live =
     let q = ((reached_in_order x s r).awake live).blocked in
     (q, let none = false_of (any_thread (λ t. is_blocked_on_end s.core t.place) s.core) (blocked_line s.core q) in grind arith)
 
-pub idle_is_stalled : IdleIsStalled
-unfolding IdleIsStalled is_idle is_stalled
-idle_is_stalled x s h counted idle =
-    let parts : is_idle x s ≡ true = idle in
+idle_stalled : (x : Setting) (s : State) → InOrder x.component s → is_idle x s ≡ true → is_stalled x s ≡ true
+unfolding is_idle is_stalled
+idle_stalled x s h idle =
     let turn = take_of s.turn (grind arith) in
     let none : next_entry s.core ≡ None = grind arith in
     let still = idle_still s h.in_place.placed (h.awake (grind arith)).alone false turn none in
     let behind = false_of (any_thread (λ t. is_behind t.place) s.core) (behind_line s.core still (h.awake (grind arith)).callers) in
     let held = none_of s.core h.held s.core.instances.list in
-    let passed = none_passed s.core still counted (numbers s.core.sets) in
+    let passed = none_passed s.core still (h.awake (grind arith)).counted (numbers s.core.sets) in
     let ends = false_of (any_thread (λ t. is_blocked_on_end s.core t.place) s.core) (blocked_line s.core (h.awake (grind arith)).blocked) in
     grind arith
+
+pub idle_is_stalled : IdleIsStalled
+unfolding IdleIsStalled
+idle_is_stalled x s h idle = idle_stalled x s h idle
+
+-- so in such a state the first three lines of Stalled are all seven
+pub stalled_as_idle : (x : Setting) (s : State) → InOrder x.component s → is_stalled x s ≡ is_idle x s
+unfolding is_stalled
+stalled_as_idle x s h = by (is_idle x s) refl (idle_stalled x s h)
+  where
+    by : (b : Bool) → is_idle x s ≡ b → (is_idle x s ≡ true → is_stalled x s ≡ true) → is_stalled x s ≡ is_idle x s
+    by true is on = on is ∙ sym is
+    by false is on = grind (arith, is)

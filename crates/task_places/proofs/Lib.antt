@@ -13,9 +13,13 @@ pub mod OrderLemmas
 pub mod OnceSteps
 pub mod WakeLines
 pub mod IdleLemmas
+pub mod RestLemmas
+pub mod WakeRows
+pub mod CountedSteps
 pub mod BlockedLemmas
 pub mod StrandFeet
 pub mod StayMoves
+pub mod WokenTrips
 pub mod CallersLemmas
 pub mod CallersTrips
 pub mod CallersSteps

@@ -318,6 +318,7 @@ pub record Frame (a : Scene) (b : Core) (n : ℕ) (q : Option Place) : Type 0 wh
   pub home : (k : ℕ) → place_of k b ≡ place_of k a.base
   pub one : (m : ℕ) → IsRunner a m → m ≡ n
   pub there : (m : ℕ) → IsRunner a m → (p : Place) × ((q ≡ Some p) × (is_under_place (Some p) ≡ false))
+  pub own : (p : Place) → q ≡ Some p → IsRunner a n
   pub running : (m : ℕ) → a.turn ≡ Turn.Run m → (m ≡ n) × (q ≡ Some Place.Running)
   pub rests : (t : Core) → LastWords a t → (is_idle (place_of n a.base) ≡ true → is_idle (place_of n t) ≡ true) →
       is_idle (place_of n t) ≡ true
@@ -351,13 +352,13 @@ module _ {a : Scene} {b : Core} {n : ℕ} {q : Option Place} (f : Frame a b n q)
       let h = beside k l.0 in
       comes h.1 c r _ (set_place_adds k r h.0 s (ap is_free at) (stands h.1 c).here) (λ m next. not_main m (sym l.1 ∙ next))
       (λ g. inl (let e = was.1 in grind arith))
-  moves k r s (WaitsAgain x l was at) c =
+  moves k r s (WaitsAgain x l was none at) c =
       let h = beside k l.0 in
       comes h.1 c r _ (set_place_adds k r h.0 s (ap is_free at) (stands h.1 c).here) (λ m next. not_main m (sym l.1 ∙ next))
       (λ g. let e = was.1 in absurd (grind arith))
   moves k r s (Uncovers m is to under none at) c = no_way (sym (runner_there m s is c) ∙ none)
-  moves k r s (AwaitsEvent x l d g at) c = let h = beside k l.0 in left h.1 c r _ l (set_place_adds k r h.0 s (ap is_free at))
-  moves k r s (Waits x l g at) c = let h = beside k l.0 in left h.1 c r _ l (set_place_adds k r h.0 s (ap is_free at))
+  moves k r s (AwaitsEvent x l d g none at) c = let h = beside k l.0 in left h.1 c r _ l (set_place_adds k r h.0 s (ap is_free at))
+  moves k r s (Waits x l g none at) c = let h = beside k l.0 in left h.1 c r _ l (set_place_adds k r h.0 s (ap is_free at))
   moves k r s (Blocks sub l g o at) c = let h = beside k l.0 in left h.1 c r _ l (set_place_adds k r h.0 s (ap is_free at))
   moves k r s (Suspends l at) c = let h = beside k l.0 in left h.1 c r _ l (set_place_adds k r h.0 s (ap is_free at))
 

@@ -23,6 +23,7 @@ nobody_frame a b none idle home made all = record {
   home = home;
   one = λ m is. absurd (cc);
   there = λ m is. absurd (cc);
+  own = λ p e. absurd (cc);
   running = λ m e. absurd (idle m e);
   rests = λ t w i. i (ap is_idle (sym (home (b.made.threads + 2)) ∙ gone));
 }
@@ -46,6 +47,7 @@ running_frame a n is runs at may all = record {
   home = λ k. refl;
   one = λ m e. grind arith;
   there = λ m e. (Place.Running, (refl, refl));
+  own = λ p e. is;
   running = λ m e. (grind arith, refl);
   rests = λ t w i. i (ap is_idle at);
 }
@@ -83,6 +85,7 @@ taken_frame a n s is idle take c r made may all = (
     home = λ k. refl;
     one = λ m e. grind arith;
     there = λ m e. (Place.Ready r.0 r.1.0, (refl, refl));
+    own = λ p e. is;
     running = λ m e. absurd (idle m e);
     rests = λ t w i. w.laid n is take;
   },

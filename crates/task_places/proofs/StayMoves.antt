@@ -1,5 +1,5 @@
 -- Where the words of a step bring threads while the running thread stays.
-use Rattle.task_places.proofs.Laws.{[], add_call, add_group, add_set, add_thread, add_work, after_placing, after_word, ap, arith, at_place, behind, behind_one, by_number, call_made, callers_of, callers_say, Core, count_work, displaced, false, foot_of, free_handle, free_thread_handle, get, get-change, get-insert, get-remove, give_handle, give_result, give_thread_handle, given_there, inl, inr, insert, is_for_start, is_fresh, is_parked, is_some, is_there, List, MakeCall, MakeThread, Mark, MayPut, moved_there, nat_tests, newest, no_time, None, NoneCame, older, on_call, on_instance, on_thread, on_work, one_time, Option, option_map, passed_on, Place, place_kept, place_of, place_written, Places, Placing, placing_shifted, poll_pends, popped_threads, Promote, promoted, push_high, push_high_first, push_low, Put, put_at, put_high, put_low, put_switch, refl, remove_call, remove_group, remove_set, remove_thread, remove_work, RemoveThread, resumed_all, resumed_callers, Scene, set_backpressure, set_callers, set_cancel_delivered, set_cancelled, set_course, set_do_not_enter, set_do_not_suspend, set_end, set_event, set_exited, set_high, set_how_far, set_join, set_low, set_own_event, set_phase, set_place, set_place_is, set_place_there, set_position, set_register, set_result, set_saved_callee, set_saved_own, set_script, set_stage, set_started, set_starting_published, set_subtask_handle, set_switch, set_thread_handle, set_trapped, set_uninteresting, set_word, Some, Stand, stand, Stay, Stays, stays_put, Stop, stopped, stopped_shifted, sym, take_result, TakeHost, TakePush, Thread, times, times-newest, true, Turn, unqueued, Why, why_of, with_handle, with_thread_handle, Withdraw, Word, work_queued, ℕ, ⊎_elim, ◌+◌, ◌==◌, ◌∙◌, ◌∷◌, ◌≡◌, ◌≤◌, ◌⊎◌}
+use Rattle.task_places.proofs.Laws.{[], add_call, add_group, add_set, add_thread, add_work, after_placing, after_word, ap, arith, at_place, behind, behind_one, by_number, call_made, callers_of, callers_say, Core, count_work, displaced, false, foot_of, free_handle, free_thread_handle, get, get-change, get-insert, get-remove, give_handle, give_result, give_thread_handle, given_there, inl, inr, insert, is_for_start, is_fresh, is_parked, is_some, is_there, List, MakeCall, MakeThread, Mark, MayPut, moved_there, nat_tests, newest, no_time, None, NoneCame, older, on_call, on_instance, on_thread, on_work, one_time, Option, option_map, passed_on, Place, place_kept, place_of, place_written, Places, Placing, placing_shifted, poll_pends, popped_threads, Promote, promoted, push_high, push_high_first, push_low, Put, put_at, put_high, put_low, put_switch, refl, remove_call, remove_group, remove_set, remove_thread, remove_work, RemoveThread, resumed_all, resumed_callers, Scene, set_backpressure, set_callers, set_cancel_delivered, set_cancelled, set_course, set_do_not_enter, set_do_not_suspend, set_end, set_event, set_exited, set_high, set_how_far, set_join, set_low, set_own_event, set_phase, set_place, set_place_is, set_place_there, set_position, set_register, set_result, set_saved_callee, set_saved_own, set_script, set_stage, set_started, set_starting_published, set_subtask_handle, set_switch, set_thread_handle, set_trapped, set_uninteresting, set_word, Some, Stand, stand, Stay, Stays, stays_put, Stop, stopped, stopped_shifted, subst, sym, take_result, TakeHost, TakePush, Thread, times, times-newest, true, Turn, unqueued, Why, why_of, with_handle, with_thread_handle, Withdraw, Word, work_queued, ℕ, ⊎_elim, ◌+◌, ◌==◌, ◌∙◌, ◌∷◌, ◌≡◌, ◌≤◌, ◌⊎◌}
 use Rattle.task_places.proofs.PlaceLaw.{entry_ready, Follows, fresh_still, listed, parked_at, ReadyAt, watch, withdraws_waits}
 
 -- before any thread has come behind another one in the turn of a thread
@@ -13,7 +13,7 @@ pub data Moves (a : Scene) (s t : Core) (j : ℕ) : Type 0 where
   Marked : (x y : Mark) (w : Why) → place_of j s ≡ Some (Place.Ready x w) → place_of j t ≡ Some (Place.Ready y w) →
       (y ≡ Mark.Switch) ⊎ Early a s → Moves a s t j
   Woken : (p : Place) (y : Mark) (w : Why) → place_of j s ≡ Some p → is_parked p ≡ true → place_of j t ≡ Some (Place.Ready y w) →
-      is_fresh (Some p) ≡ is_for_start w → Moves a s t j
+      is_fresh (Some p) ≡ is_for_start w → MayPut j w s → Moves a s t j
   -- the strand with the foot that it is behind stops
   Resumed : (f : ℕ) (y : Mark) → place_of j s ≡ Some (Place.Behind f) → place_of j t ≡ Some (Place.Ready y Why.Resumption) → Moves a s t j
   Passed : (f m : ℕ) (u : Core) → place_of j s ≡ Some (Place.Behind f) → s.queues.switch ≡ Some m → u.threads ≡ s.threads →
@@ -110,7 +110,7 @@ module _ {a : Scene} {b : Core} {n : ℕ} {q : Option Place} (f : Follows a b n 
       r = at_place is_parked (place_of k s) (parked_at k w s ok).0
 
       here : (y : Mark) (t : Core) → j ≡ k → place_of j t ≡ Some (Place.Ready y w) → Moves a s t j
-      here y t e at = Woken r.0 y w (ap (λ (i : ℕ). place_of i s) e ∙ r.1.0) r.1.1 at (ap is_fresh (sym r.1.0) ∙ put_fresh k w s ok)
+      here y t e at = Woken r.0 y w (ap (λ (i : ℕ). place_of i s) e ∙ r.1.0) r.1.1 at (ap is_fresh (sym r.1.0) ∙ put_fresh k w s ok) (subst (λ (i : ℕ). MayPut i w s) (sym e) ok)
 
       displaces : Early a s → (o : Option ℕ) → s.queues.switch ≡ o → (j == k) ≡ false → Moves a s (set_switch (Some k) (stand k Mark.Switch w (displaced o s))) j
       displaces early None is other = Kept (place_kept j k (Place.Ready Mark.Switch w) s other)
@@ -178,7 +178,7 @@ module _ {a : Scene} {b : Core} {n : ℕ} {q : Option Place} (f : Follows a b n 
   as_moves : (t u : Core) (j : ℕ) → ((i : ℕ) → place_of i u ≡ place_of i t) → place_of j u ≡ place_of j t → Moves a s t j → Moves a s u j
   as_moves t u j all e (Kept k) = Kept (e ∙ k)
   as_moves t u j all e (Marked x y w at to why) = Marked x y w at (e ∙ to) why
-  as_moves t u j all e (Woken p y w at parked to fresh) = Woken p y w at parked (e ∙ to) fresh
+  as_moves t u j all e (Woken p y w at parked to fresh put) = Woken p y w at parked (e ∙ to) fresh put
   as_moves t u j all e (Resumed g y at to) = Resumed g y at (e ∙ to)
   as_moves t u j all e (Passed g m v at switch same to ready next) = Passed g m v at switch same (e ∙ to) (all m ∙ ready) next
   as_moves t u j all e (Born new none to) = Born new none (e ∙ to)

@@ -108,12 +108,12 @@ module _ {a : Scene} {b : Core} {n : ℕ} {q : Option Place} (f : Frame a b n q)
   move_waits k x r s (Runs is to b e) p far fit = rw e refl
   move_waits k x r s (Uncovers m is to under gone e) p far fit = rw e refl
   move_waits k x r s (Holds w l was kept e) p far fit = absurd (held_resumes k s w (resumes k x s w was.0 p far was.1) kept)
-  move_waits k x r s (WaitsAgain y l was e) p far fit = absurd (let resumed = resumes k x s _ was.0 p far was.1 in grind arith)
-  move_waits k x r s (AwaitsEvent y l ends has e) p far fit = absurd (let wait = p.wait k x far in let code = ends.1 in grind arith)
-  move_waits k x r s (Waits y l has e) p far (inl alone) = no_way (rw e at alone)
+  move_waits k x r s (WaitsAgain y l was none e) p far fit = absurd (let resumed = resumes k x s _ was.0 p far was.1 in grind arith)
+  move_waits k x r s (AwaitsEvent y l ends has none e) p far fit = absurd (let wait = p.wait k x far in let code = ends.1 in grind arith)
+  move_waits k x r s (Waits y l has none e) p far (inl alone) = no_way (rw e at alone)
   move_waits k x r s (Blocks sub l has opens e) p far (inl alone) = no_way (rw e at alone)
   move_waits k x r s (Suspends l e) p far (inl alone) = no_way (rw e at alone)
-  move_waits k x r s (Waits y l has e) p far (inr on) = absurd (on l.1.0)
+  move_waits k x r s (Waits y l has none e) p far (inr on) = absurd (on l.1.0)
   move_waits k x r s (Blocks sub l has opens e) p far (inr on) = absurd (on l.1.0)
   move_waits k x r s (Suspends l e) p far (inr on) = absurd (on l.1.0)
 

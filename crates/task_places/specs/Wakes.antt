@@ -19,6 +19,10 @@ ReachedUnblocked = (x : Setting) (s : State) → Reached x s → is_open s.turn 
 unfoldable pub ReachedGoOn : Type 0
 ReachedGoOn = (x : Setting) (s : State) → Reached x s → is_open s.turn ≡ true → CallersGoOn s.core
 
--- an idle state in order in which wakes are counted is stalled
+-- in each reached state whose turns aren't over each set that has a waiter has at least as many woken threads as ready members
+unfoldable pub ReachedCounted : Type 0
+ReachedCounted = (x : Setting) (s : State) → Reached x s → is_open s.turn ≡ true → WakesCounted s.core
+
+-- an idle state in order is stalled
 unfoldable pub IdleIsStalled : Type 0
-IdleIsStalled = (x : Setting) (s : State) → InOrder x.component s → WakesCounted s.core → Idle x s → Stalled x s
+IdleIsStalled = (x : Setting) (s : State) → InOrder x.component s → Idle x s → Stalled x s

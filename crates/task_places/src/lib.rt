@@ -10,4 +10,6 @@ mod wakes;
 pub use once::runs_are_once;
 pub use order::{opening_in_order, reached_in_order, step_in_order, steps_make_few};
 pub use places::{reached_are_placed, steps_keep_places};
-pub use wakes::{idle_is_stalled, reached_go_on, reached_hold_back, reached_unblocked};
+pub use wakes::{
+    idle_is_stalled, reached_counted, reached_go_on, reached_hold_back, reached_unblocked,
+};

@@ -1,4 +1,4 @@
-ghost use Rattle.task_places.specs.Wakes.{IdleIsStalled, ReachedGoOn, ReachedHoldBack, ReachedUnblocked};
+ghost use Rattle.task_places.specs.Wakes.{IdleIsStalled, ReachedCounted, ReachedGoOn, ReachedHoldBack, ReachedUnblocked};
 
 /// In each state that a run comes to no held thread is admitted: a flag or a counter that kept it
 /// out falls only together with its release.
@@ -21,8 +21,14 @@ pub fn reached_go_on()
     ensures { ReachedGoOn }
 {}
 
-/// A state in order in which nothing stands, no work moves and main pends is stalled, where each
-/// set that has a waiter has at least as many woken threads as ready members.
+/// In each state that a run comes to, while its turns aren't over, each set that has a waiter has
+/// at least as many woken threads as members that have an event.
+#[tactic(auto, using(crate::proofs::IdleLemmas::reached_counted))]
+pub fn reached_counted()
+    ensures { ReachedCounted }
+{}
+
+/// A state in order in which nothing stands, no work moves and main pends is stalled.
 #[tactic(auto, using(crate::proofs::IdleLemmas::idle_is_stalled))]
 pub fn idle_is_stalled()
     ensures { IdleIsStalled }

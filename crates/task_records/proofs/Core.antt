@@ -73,6 +73,7 @@ unfoldable pub use Rattle.task_records.specs.Seen.{IsSound, seen}
 pub use Rattle.task_records.specs.Sound.{AreChained, AreCounted, AreNamed, AreTables, bare, bare_call, bare_instance, bare_thread, bare_work, EachEntry, HaveRowNodes, IsWhole, loose_call, loose_thread, loose_work, Sound, SoundTable, uninterested, unmoved}
 pub use Rattle.task_rules.specs.Calls.{new_call, new_thread, settle_group_of, work_group}
 unfoldable pub use Rattle.task_rules.specs.Calls.{call_made, with_handle, with_thread_handle, work_deleted, work_queued}
+unfoldable pub use Rattle.task_rules.specs.Data.{advanced, assigned, moved_to}
 pub use Rattle.task_rules.specs.Places.{is_at_high, is_at_low, one_if, says, switch_entries, times}
 pub use Rattle.task_rules.specs.Scripts.{registers_for}
 pub use Rattle.task_rules.specs.Takes.{rest_of}

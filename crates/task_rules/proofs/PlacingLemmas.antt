@@ -1,5 +1,5 @@
 -- A change of where threads are leaves all else.
-use Rattle.task_rules.proofs.Machine.{[], after_placing, after_word, ap, arith, behind, behind_one, Bool, callers_of, Chain, Core, Entry, false, foot_of, get, get-change, has_entry, how_far_of, if◌then◌else◌, inl, inr, instance_of, is_explicit, IsShift, less, List, Mark, may, MayLeave, MayShift, nat_tests, newest, next_entry, None, older, on_thread, Option, option_map, or_high, passed_on, Place, placed_as, Places, Placing, Pop, popped, Promote, promoted, push_high, push_high_first, push_low, Put, put_high, put_low, put_switch, refl, rest_of, resumed_all, Scene, set_callers, set_high, set_low, set_place, set_switch, Shifts, Some, Stop, stopped, subst, sym, task_of, Then, Thread, true, unqueued, Why, Word, ℕ, ◌++◌, ◌∙◌, ◌∷◌, ◌≡◌, ◌⊎◌}
+use Rattle.task_rules.proofs.Machine.{[], after_placing, after_word, ap, ap₂, arith, behind, behind_one, Bool, Call, callers_of, Chain, Core, Entry, false, foot_of, get, get-change, has_entry, has_ready_member, how_far_of, if◌then◌else◌, inl, inr, instance_of, is_explicit, is_ready_member, IsShift, less, List, list_any, map, Mark, may, MayLeave, MayShift, nat_tests, newest, next_entry, None, numbers, older, on_thread, Option, option_map, or_high, passed_on, Place, placed_as, Places, Placing, Pop, popped, Promote, promoted, push_high, push_high_first, push_low, Put, put_high, put_low, put_switch, Records, refl, rest_of, resumed_all, Scene, set_callers, set_high, set_low, set_place, set_switch, Shifts, Some, Stop, stopped, subst, Subtask, subtasks, sym, task_of, Then, Thread, true, unqueued, Why, Word, Work, ℕ, ◌++◌, ◌∙◌, ◌∷◌, ◌≡◌, ◌⊎◌}
 use Rattle.task_rules.proofs.ChainLemmas.{along}
 
 -- the record of a thread but for its place
@@ -10,6 +10,21 @@ unplaced t = record t { place = Place.New }
 pub record Shifted (s t : Core) : Type 0 where
   pub only : placed_as t s ≡ t
   pub threads : (k : ℕ) → option_map unplaced (get t.threads k) ≡ option_map unplaced (get s.threads k)
+
+any_same : {X : Type 0} (p q : X → Bool) → ((y : X) → p y ≡ q y) → (ys : List X) → list_any p ys ≡ list_any q ys
+any_same p q same [] = refl
+any_same p q same (y ∷ ys) = let first = same y in let rest = any_same p q same ys in grind arith
+
+-- which members have an event hangs on calls and works alone
+pub member_same : (x : ℕ) (s t : Core) → t.calls ≡ s.calls → t.works ≡ s.works → (sub : Subtask) → is_ready_member x sub t ≡ is_ready_member x sub s
+member_same x s t calls works (Subtask.Guest k) = grind (arith, calls)
+member_same x s t calls works (Subtask.Host i) = grind (arith, works)
+
+pub ready_same : (x : ℕ) (s t : Core) → t.calls ≡ s.calls → t.works ≡ s.works → has_ready_member x t ≡ has_ready_member x s
+unfolding has_ready_member
+ready_same x s t calls works =
+    any_same (λ (sub : Subtask). is_ready_member x sub t) (λ (sub : Subtask). is_ready_member x sub s) (member_same x s t calls works) (subtasks t)
+    ∙ ap₂ (λ (c : Records Call) (w : Records Work). list_any (λ (sub : Subtask). is_ready_member x sub s) (map (λ n. Subtask.Guest n) (numbers c) ++ map (λ n. Subtask.Host n) (numbers w))) calls works
 
 module _ {s t : Core} (h : Shifted s t) where
   pub shifted_task : (n : ℕ) → task_of n t ≡ task_of n s
@@ -26,6 +41,12 @@ module _ {s t : Core} (h : Shifted s t) where
 
   pub shifted_made : t.made ≡ s.made
   shifted_made = sym (ap (λ (c : Core). c.made) h.only)
+
+  pub shifted_works : t.works ≡ s.works
+  shifted_works = sym (ap (λ (c : Core). c.works) h.only)
+
+  pub shifted_ready : (x : ℕ) → has_ready_member x t ≡ has_ready_member x s
+  shifted_ready x = ready_same x s t shifted_calls shifted_works
 
   pub shifted_instance : (n : ℕ) → instance_of n t ≡ instance_of n s
   shifted_instance n = grind (arith, shifted_task n, shifted_calls)

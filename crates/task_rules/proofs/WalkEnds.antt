@@ -1,6 +1,6 @@
 -- The end of a task as a chain of words.
 use Rattle.task_rules.proofs.Machine.{after_word, ap, arith, Bool, Call, CallEnd, Caller, caller_of, cancelled, Core, EndCall, EndTells, false, get, get-change, give_result, GiveResult, Goal, goal_of, if◌then◌else◌, is_over, is_some, is_told, nat_tests, on_call, on_thread, Option, option_map_or, published, Records, refl, result_given, returned, same_map, SaysEnd, Scene, set_end, set_event, set_register, set_result, SetRegister, SetResult, Some, Status, status_of_end, subst, Subtask, sym, task_of, TellsNever, TellsNow, told, true, Walk, ℕ, ◌∙◌, ◌≡◌}
-use Rattle.task_rules.proofs.{CallThreads.LastEnds, ChainLemmas.Keep, ChainLemmas.chain_if, FreeLemmas.published_frees, PlacingLemmas.shifted_calls, PlacingLemmas.shifted_task, PlacingLemmas.shifts_shifted, WalkMoves.ToldTo, WalkMoves.published_shifts, WalkMoves.shifted, WalkMoves.told_at, WalkMoves.told_shifts, WalkMoves.word}
+use Rattle.task_rules.proofs.{CallThreads.LastEnds, ChainLemmas.Keep, ChainLemmas.chain_if, FreeLemmas.published_frees, PlacingLemmas.shifted_calls, PlacingLemmas.shifted_task, PlacingLemmas.shifts_shifted, WalkMoves.ToldSpares, WalkMoves.ToldTo, WalkMoves.published_shifts, WalkMoves.shifted, WalkMoves.told_at, WalkMoves.told_shifts, WalkMoves.word}
 
 given_told : (g : Goal) (f : Caller) (k v : ℕ) (e : CallEnd) (s : Core) → is_told k (result_given g f k v (set_end k e s)) ≡ is_told k s
 unfolding set_end on_call give_result set_register on_thread set_result
@@ -11,6 +11,11 @@ given_to : (g : Goal) (f : Caller) (k v : ℕ) (e : CallEnd) (w : Option ℕ) (s
 unfolding set_end on_call give_result set_register on_thread set_result
 given_to g f k v e w s to told y is n at =
     let chosen = to (sym (given_told g f k v e s) ∙ told) y (grind (arith, nat_tests, get-change, is)) n at in grind (arith, nat_tests, get-change, chosen)
+
+given_spares : (g : Goal) (f : Caller) (k v : ℕ) (e : CallEnd) (w : Option ℕ) (s : Core) → ToldSpares k w s → ToldSpares k w (result_given g f k v (set_end k e s))
+unfolding set_end on_call give_result set_register on_thread set_result
+given_spares g f k v e w s spare told y is none n =
+    let free = spare (sym (given_told g f k v e s) ∙ told) y (grind (arith, nat_tests, get-change, is)) none n in grind (arith, nat_tests, get-change, free)
 
 abbrev pub call_ends : ℕ → CallEnd → Core → Core
 call_ends k e s = after_word (EndCall k e) s
@@ -74,10 +79,10 @@ module _ {a : Scene} {b : Core} where
 
   -- where the end is told, who is blocked on the call goes on
   ends_tells : {r : Core} (g : Goal) (f : Caller) (k v : ℕ) (e : CallEnd) (w : Option ℕ) (s : Core) → (e ≡ CallEnd.StartCancelled → ⊥) →
-      ToldTo k w s → b.threads ≡ a.base.threads → is_told k s ≡ is_told k a.base → Keep a b (result_given g f k v (call_ends k e s)) →
+      ToldTo k w s → ToldSpares k w s → b.threads ≡ a.base.threads → is_told k s ≡ is_told k a.base → Keep a b (result_given g f k v (call_ends k e s)) →
       Walk a (told k (status_of_end e) w (result_given g f k v (set_end k e s))) r → EndTells a r (Subtask.Guest k) (status_of_end e)
   unfolding told
-  ends_tells {r = r} g f k v e w s ran to home base c d = by (is_told k t) refl d
+  ends_tells {r = r} g f k v e w s ran to spare home base c d = by (is_told k t) refl d
     where
       t : Core
       t = result_given g f k v (set_end k e s)
@@ -86,20 +91,20 @@ module _ {a : Scene} {b : Core} where
       is = given_told g f k v e s
 
       by : (q : Bool) → is_told k t ≡ q → Walk a (if q then published (Subtask.Guest k) (status_of_end e) w t else t) r → EndTells a r (Subtask.Guest k) (status_of_end e)
-      by true told d = TellsNow (Subtask.Guest k) (status_of_end e) (published_frees (Subtask.Guest k) (status_of_end e) w t home refl (given_to g f k v e w s to told)
+      by true told d = TellsNow (Subtask.Guest k) (status_of_end e) (published_frees (Subtask.Guest k) (status_of_end e) w t home refl (given_to g f k v e w s to told) (given_spares g f k v e w s spare told)
           (subst (λ (u : Core). Keep a b u) (sym (told_given g f k v (status_of_end e) (set_end k e s) ∙ ap (result_given g f k v) (ends_told k e s (sym is ∙ told) ran))) c) d)
       by false untold d = TellsNever k (status_of_end e) (sym base ∙ (sym is ∙ untold))
 
-  pub returned_tells : {r : Core} (k v : ℕ) (w : Option ℕ) (s : Core) → SaysEnd a k Status.Returned → ToldTo k w s → b.threads ≡ a.base.threads →
+  pub returned_tells : {r : Core} (k v : ℕ) (w : Option ℕ) (s : Core) → SaysEnd a k Status.Returned → ToldTo k w s → ToldSpares k w s → b.threads ≡ a.base.threads →
       is_told k s ≡ is_told k a.base → Keep a b (call_ends k CallEnd.Returned s) → Walk a (returned k v w s) r → EndTells a r (Subtask.Guest k) Status.Returned
   unfolding returned on_call
-  returned_tells k v w s says to home base c d =
-      ends_tells (goal_of k s) (caller_of k s) k v CallEnd.Returned w s (λ e. absurd (cc)) to home base (result_given_walks (goal_of k s) (caller_of k s) k v (grind (arith, nat_tests, get-change)) says c) d
+  returned_tells k v w s says to spare home base c d =
+      ends_tells (goal_of k s) (caller_of k s) k v CallEnd.Returned w s (λ e. absurd (cc)) to spare home base (result_given_walks (goal_of k s) (caller_of k s) k v (grind (arith, nat_tests, get-change)) says c) d
 
-  pub cancelled_tells : {r : Core} (k : ℕ) (w : Option ℕ) (s : Core) → ToldTo k w s → b.threads ≡ a.base.threads → is_told k s ≡ is_told k a.base →
+  pub cancelled_tells : {r : Core} (k : ℕ) (w : Option ℕ) (s : Core) → ToldTo k w s → ToldSpares k w s → b.threads ≡ a.base.threads → is_told k s ≡ is_told k a.base →
       Keep a b (call_ends k CallEnd.ReturnCancelled s) → Walk a (cancelled k w s) r → EndTells a r (Subtask.Guest k) Status.ReturnCancelled
   unfolding cancelled
-  cancelled_tells k w s to home base c d = ends_tells Goal.Direct Caller.Main k 0 CallEnd.ReturnCancelled w s (λ e. absurd (cc)) to home base c d
+  cancelled_tells k w s to spare home base c d = ends_tells Goal.Direct Caller.Main k 0 CallEnd.ReturnCancelled w s (λ e. absurd (cc)) to spare home base c d
 
   pub returned_rest : (k v : ℕ) (w : Option ℕ) (s : Core) → SaysEnd a k Status.Returned → ToldTo k w s → Keep a b (call_ends k CallEnd.Returned s) → Keep a b (returned k v w s)
   unfolding returned on_call

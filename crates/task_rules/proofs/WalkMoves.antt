@@ -1,6 +1,6 @@
 -- The moves of the machine as chains of words.
-use Rattle.task_rules.proofs.Machine.{[], add_call, add_group, add_set, add_thread, add_work, Advance, after_placing, after_word, ap, arith, AtOp, blocked_on, Bool, ByHandle, call_group, call_made, call_settled, can_come, CanCome, checked, chosen, Core, count_work, Delivery, departed, Departs, end_of, ended, exited_if, false, first_entry, foot_of, free_handle, free_thread_handle, freed_thread_handle, FreeThreadHandle, get, get-change, get-insert, get-remove, get-remove_same, Gift, give_handle, give_result, give_thread_handle, group_settled, Halted, Halts, handed_on, hands_on, has_ended, held_why_of, HowFar, if◌then◌else◌, InOp, inr, instance_of, interest_settled, is_at, is_blocked_on, is_callback_waiter, is_deletable, is_done_host, is_explicit, is_finished, is_group_done, is_some, is_told, is_waiter, is_waiting_on, IsNamed, IsRunner, IsSettling, IsStarting, Join, join_of, Lands, lands_alone, lands_inside, LandsAt, le_refl, le_trans, Leaves, leaving, List, MakeThread, Mark, may_hand_on, may_not_suspend, may_publish, may_tell, may_wake, may_wake_joined, MayCome, MayDeliver, MayLand, MayPut, MayRemoveCall, MemberGift, nat_tests, NoGift, None, not, NoWord, numbers, on_call, on_instance, on_thread, on_work, op_in, Option, option_map, option_map_or, OwnEvent, OwnGift, Place, place_of, Places, Placing, poll_pends, position_of, Promote, promoted, promoted_first, promoted_unless, published, push_high, Put, put_high, Quits, Records, refl, released, released_one, Releases, remove, remove_call, remove_group, remove_set, remove_thread, remove_work, RemoveCall, RemoveGroup, RemoveThread, Restart, Scene, set_backpressure, set_cancel_delivered, set_cancelled, set_course, set_do_not_enter, set_do_not_suspend, set_end, set_event, set_exited, set_how_far, set_join, set_own_event, set_phase, set_position, set_register, set_result, set_saved_callee, set_saved_own, set_script, set_stage, set_started, set_starting_published, set_subtask_handle, set_thread_handle, set_trapped, set_uninteresting, set_word, SetCallEvent, SetCancelDelivered, SetExited, SetOwnEvent, Settles, SetUninteresting, Shifts, Some, Status, Stay, Stop, stopped, subst, Subtask, sym, take_result, TakeHost, taken, TakePush, TakesNamed, TakeWorkEvent, task_of, Tells, Then, Thread, thread_handle_of, told, Trip, true, Turn, unblocked, Unblocks, wake, wake_joined, wake_why, waken_by, Wakes, Walk, Why, with_handle, with_thread_handle, Word, work_queued, ℕ, ◌||◌, ◌∙◌, ◌∷◌, ◌≡◌, ◌≤◌}
-use Rattle.task_rules.proofs.{CallThreads.LastEnds, CallThreads.SameTasks, ChainLemmas.Keep, ChainLemmas.Keeps, ChainLemmas.along, ChainLemmas.chain_if, ChainLemmas.gone_walk, ChainLemmas.join, ChainLemmas.keep_stay, ChainLemmas.settle_keeps, ChainLemmas.settle_stays, ChainLemmas.shift_keeps, ChainLemmas.weaken, PlacingLemmas.Shifted, PlacingLemmas.placed, PlacingLemmas.placing_shifted, PlacingLemmas.popped_shifted, PlacingLemmas.unplaced, PromotionLemmas.first_has_entry, StandLemmas.set_place_is, StopLemmas.find_passes}
+use Rattle.task_rules.proofs.Machine.{[], add_call, add_group, add_set, add_thread, add_work, Advance, after_placing, after_word, ap, arith, AtOp, blocked_on, Bool, ByHandle, call_group, call_made, call_settled, can_come, CanCome, checked, chosen, Core, count_work, Delivery, departed, Departs, end_of, ended, exited_if, false, first_entry, foot_of, free_handle, free_thread_handle, freed_thread_handle, FreeThreadHandle, get, get-change, get-insert, get-remove, get-remove_same, Gift, give_handle, give_result, give_thread_handle, group_settled, Halted, Halts, handed_on, hands_on, has_ended, has_waiter, held_why_of, HowFar, if◌then◌else◌, InOp, inr, instance_of, interest_settled, is_at, is_blocked_on, is_callback_waiter, is_deletable, is_done_host, is_explicit, is_finished, is_group_done, is_some, is_told, is_waiter, is_waiting_on, IsNamed, IsRunner, IsSettling, IsStarting, Join, join_of, Lands, lands_alone, lands_inside, LandsAt, le_refl, le_trans, Leaves, leaving, List, MakeThread, Mark, may_hand_on, may_not_suspend, may_publish, may_tell, may_wake, may_wake_joined, MayCome, MayDeliver, MayLand, MayPut, MayRemoveCall, MemberGift, nat_tests, NoGift, None, not, NoWord, numbers, on_call, on_instance, on_thread, on_work, op_in, Option, option_map, option_map_or, OwnEvent, OwnGift, Place, place_of, Places, Placing, poll_pends, position_of, Promote, promoted, promoted_first, promoted_unless, published, push_high, Put, put_high, Quits, Records, refl, released, released_one, Releases, remove, remove_call, remove_group, remove_set, remove_thread, remove_work, RemoveCall, RemoveGroup, RemoveThread, Restart, Scene, set_backpressure, set_cancel_delivered, set_cancelled, set_course, set_do_not_enter, set_do_not_suspend, set_end, set_event, set_exited, set_how_far, set_join, set_own_event, set_phase, set_position, set_register, set_result, set_saved_callee, set_saved_own, set_script, set_stage, set_started, set_starting_published, set_subtask_handle, set_thread_handle, set_trapped, set_uninteresting, set_word, SetCallEvent, SetCancelDelivered, SetExited, SetOwnEvent, Settles, SetUninteresting, Shifts, Some, Status, Stay, Stop, stopped, subst, Subtask, sym, take_result, TakeHost, taken, TakePush, TakesNamed, TakeWorkEvent, task_of, Tells, Then, Thread, thread_handle_of, told, Trip, true, Turn, unblocked, Unblocks, wake, wake_joined, wake_why, waken_by, Wakes, Walk, Why, with_handle, with_thread_handle, Word, work_queued, ℕ, ◌||◌, ◌∙◌, ◌∷◌, ◌≡◌, ◌≤◌}
+use Rattle.task_rules.proofs.{CallThreads.LastEnds, CallThreads.SameTasks, CallThreads.any_found, ChainLemmas.Keep, ChainLemmas.Keeps, ChainLemmas.along, ChainLemmas.chain_if, ChainLemmas.gone_walk, ChainLemmas.join, ChainLemmas.keep_stay, ChainLemmas.settle_keeps, ChainLemmas.settle_stays, ChainLemmas.shift_keeps, ChainLemmas.weaken, PlacingLemmas.Shifted, PlacingLemmas.placed, PlacingLemmas.placing_shifted, PlacingLemmas.popped_shifted, PlacingLemmas.unplaced, PromotionLemmas.first_has_entry, StandLemmas.set_place_is, StopLemmas.find_passes}
 
 -- ---- What other threads come to
 
@@ -50,6 +50,18 @@ ChosenIn j w s = (x : ℕ) → j ≡ Join.Set x → Chosen x w s
 pub chosen_in_of : (j : Join) (w : Option ℕ) (s : Core) → may_wake_joined j w s ≡ true → ChosenIn j w s
 chosen_in_of j w s h x is n at = grind (arith, chosen_of x w s)
 
+pub none_waits : (x n : ℕ) (s : Core) → has_waiter x s ≡ false → is_waiter x n s ≡ false
+unfolding has_waiter get
+none_waits x n s h = let found = any_found (λ (t : Thread). is_waiting_on x t.place) n s.threads.list in grind arith
+
+-- where none is chosen, nobody waits on that set
+abbrev pub Spares : Join → Option ℕ → Core → Type 0
+Spares j w s = (x : ℕ) → j ≡ Join.Set x → w ≡ None → (n : ℕ) → is_waiter x n s ≡ false
+
+pub spares_of : (j : Join) (w : Option ℕ) (s : Core) → may_wake_joined j w s ≡ true → Spares j w s
+unfolding may_wake
+spares_of j w s h x is none n = none_waits x n s (grind arith)
+
 wake_joined_shifts : (j : Join) (w : Option ℕ) (s : Core) → ChosenIn j w s → Shifts s (wake_joined j w s)
 wake_joined_shifts (Join.Set x) w s h = wake_shifts x w s (h x refl)
 wake_joined_shifts _ w s h = NoWord
@@ -89,6 +101,17 @@ pub chosen_released : (ns : List ℕ) (x : ℕ) (w : Option ℕ) (s : Core) → 
 unfolding released
 chosen_released [] x w s c = c
 chosen_released (n ∷ ns) x w s c = chosen_released ns x w (released_one n (held_why_of n s) s) (chosen_released_one n (held_why_of n s) x w s refl c)
+
+-- who is released waits on no set
+spared_one : (m : ℕ) (o : Option Why) (x n : ℕ) (s : Core) → is_waiter x n s ≡ false → is_waiter x n (released_one m o s) ≡ false
+unfolding put_high push_high
+spared_one m None x n s h = h
+spared_one m (Some v) x n s h = grind (arith, nat_tests, set_place_is n m (Place.Ready Mark.High v) s)
+
+pub spared_released : (ns : List ℕ) (x n : ℕ) (s : Core) → is_waiter x n s ≡ false → is_waiter x n (released ns s) ≡ false
+unfolding released
+spared_released [] x n s h = h
+spared_released (m ∷ ns) x n s h = spared_released ns x n (released_one m (held_why_of m s) s) (spared_one m (held_why_of m s) x n s h)
 
 -- ---- How far a thread comes in its script
 
@@ -203,6 +226,13 @@ ToldTo k w s = is_told k s ≡ true → ChosenIn (join_of (Subtask.Guest k) s) w
 pub told_to : (k : ℕ) (w : Option ℕ) (s : Core) → may_tell k w s ≡ true → ToldTo k w s
 unfolding may_tell may_publish
 told_to k w s h told = chosen_in_of (join_of (Subtask.Guest k) s) w s (grind arith)
+
+abbrev pub ToldSpares : ℕ → Option ℕ → Core → Type 0
+ToldSpares k w s = is_told k s ≡ true → Spares (join_of (Subtask.Guest k) s) w s
+
+pub told_spares : (k : ℕ) (w : Option ℕ) (s : Core) → may_tell k w s ≡ true → ToldSpares k w s
+unfolding may_tell may_publish
+told_spares k w s h told = spares_of (join_of (Subtask.Guest k) s) w s (grind arith)
 
 -- where the call's status is told, it is its event
 abbrev pub told_at : ℕ → Status → Core → Core

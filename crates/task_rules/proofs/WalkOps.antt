@@ -1,6 +1,6 @@
 -- The rows of the ops on sets, subtasks and threads as chains of words.
-use Rattle.task_rules.proofs.Walks.{[], aborted_phase, AbortsOwn, add_work, advanced, after_word, AlreadyEnded, and_parts, answered, Answers, ap, arith, assigned, Async, at_handle_limit, AtOnce, blocked_code, Bool, by_number, ByHandle, ByOp, BySetHandle, ByThread, ByWait, Call, call_answered, call_begins, call_done_walks, call_ends, call_host_polled, call_instance, call_of_op, call_pending, call_queues, call_resumes, call_returned, call_row, call_settled, call_settles, call_status, call_sync_begins, call_sync_host_polled, call_sync_host_row, call_sync_host_stops, call_sync_row, call_sync_status, call_sync_stops, CallbackWaits, CallbackYields, Callee, callee_of_op, CallEnd, Caller, caller_of, CallLabel, CallOp, calls_host, cancel_aborts_host, cancel_asks, cancel_by_end, cancel_case, cancel_ended_row, cancel_guest, cancel_hands_of, cancel_label, cancel_promotes_yield, cancel_resumed, cancel_row, cancel_stops, cancel_subtask, cancel_takes_end, cancel_target, cancel_wakes_callback, cancel_withdraws, cancel_writes_of, CancelCase, cancelled_of_op, Cancelling, Cancels, checked, checked_shifts, Choice, chosen, chosen_of, CloseSet, Core, count_work, CountWork, Delivery, dropped, end_for, ended, EndsSubtask, EndTells, EndWords, enter_runs, event_gone, event_of, export_kind, Failing, false, finds_nothing, first_poll, FirstPoll, fits, free_handle, get, get-change, get-insert_same, get-remove, Gift, gift, give_handle, given_out, Goal, Goes, Going, group_settled, halted_at, handed_by, handed_by_cancel, handed_by_event, handed_on, handed_on_shifts, handed_out, hands_by, HandsAtOnce, HandsOut, has_ended, has_member, has_waiters, HasNoEnd, HasSubtask, host_answered, host_at, host_end, host_pending, host_ready, host_taken, HostDef, how_far_of, HowFar, if◌then◌else◌, inl, inr, instance_of, is_async_lifted, is_async_work, is_callback_yield, is_calling_host, is_cancel, is_direct, is_for_main, is_joined, is_ready_to_resume, is_script, is_some, is_sync_call, is_sync_cancel, is_sync_host_call, is_thread_op, is_wait, is_waiting_on, is_watched, is_yielded, IsNamed, IsNew, IsReadyAtOnce, Join, join, join_done, join_label, join_of, join_to, joined, joins, Keep, keep_stay, keep_still, Label, lands_at, Later, Leaves, List, Made, Main, makes_set, MakeThread, Mark, may, may_hand_on, may_wake_new, MayCancel, MayJoin, MayMakeCall, MayTake, MemberGift, Mode, Move, moved_to, mute_words, NameCall, NameThread, NameWork, nat_tests, new_handle, new_thread, new_thread_handle, new_work, next_thread, next_work, NoGift, None, none_said, not, NoWord, on_call, on_instance, on_thread, on_work, Op, op_in, op_of, OpenSet, Option, option_and_then, option_map, option_map_or, OtherwiseRuns, OwnEvent, OwnGift, packed, passes_check, pauses, phase_of, Place, place_of, placed, placing_shifted, Progress, Promote, promoted, promoted_unless, promoted_walks, push_high, Put, put_back, put_switch, queues_work, QueueWork, received, received_woken, Records, refl, registers_for, registers_of, remove_group, remove_thread, remove_work, result_gone, result_of, Resumes, returned_of_op, said_is, saved_callee_of, says, says_by, Scene, Script, set_at, set_cancelled, set_do_not_suspend, set_dropped, set_end, set_event, set_given, set_how_far, set_join, set_made, set_own_event, set_phase, set_position, set_register, set_result, set_row, set_saved_callee, set_subtask_handle, set_switch, SetCancelled, SetExited, SetLabel, SetOp, SetOwnEvent, SetPhase, SetRegister, SetResult, SetSavedCallee, Setting, settled, settled_gone, SetUninteresting, Shifted, shifted, shifted_after, shifted_calls, shifted_far, shifted_made, shifted_task, Shifts, shifts_shifted, Slot, slot_at, Some, StartNotRun, Status, status_code, status_found, Stay, stay_walk, Stops, subst, Subtask, subtask_at, subtask_ended, subtask_handle, subtask_instance, subtask_row, subtask_under_way, suc, Suspends, suspends, sym, Sync, T, TakesEvent, task_of, TellsLater, TellsNone, Then, Thread, thread_at, thread_group, thread_handle_of, ThreadLabel, ThreadOp, Trap, trap_if, Trip, true, Turn, undelivered_end, UnnameCall, UnnameWork, unwrap_or, value_of, values_in, wait_begins, wait_goes_on, wait_label, wait_row, wait_stops, wait_stops_checked, wake_shifts, wakes_joined, Walk, was_cancelled, was_started, Why, with_handle, Withdraw, withdrawn, word, Work, work_answered, work_caller_of, work_deleted, work_queued, work_value, WorkCaller, Writes, WritesAtOnce, WritesCall, WritesNever, WritesToo, written_by, written_by_cancel, Yields, yields, zero, ℕ, ◌+◌, ◌==◌, ◌∙◌, ◌∷◌, ◌≡◌, ◌⊎◌}
-use Rattle.task_rules.proofs.{WalkParts.AtOps, WalkParts.answered_first, WalkParts.answered_fresh, WalkParts.answered_settled, WalkParts.assigned_fresh, WalkParts.call_answers_walks, WalkParts.call_queues_walks, WalkParts.call_resumes_walks, WalkParts.call_stops_walks, WalkParts.cancel_goes_behind_walks, WalkParts.cancel_stops_walks, WalkParts.checked_walks, WalkParts.enter_gives, WalkParts.enter_runs_walks, WalkParts.event_taken_walks, WalkParts.gift_is, WalkParts.join_walks, WalkParts.joined_ended, WalkParts.parted_answers_walks, WalkParts.parted_takes_walks, WalkParts.put_back_walks, WalkParts.received_walks, WalkParts.rejoined, WalkParts.stopped_walks, WalkParts.wait_stops_walks, WalkParts.withdrawn_walks, WalkParts.withdraws, WalkParts.work_deleted_walks, WalkTask.Leads, WalkTask.Stands, WalkTask.advanced_walks, WalkTask.answered_walks, WalkTask.assigned_walks, WalkTask.goes_on, WalkTask.goes_on_told, WalkTask.goes_over, WalkTask.is_plain, WalkTask.is_still, WalkTask.may_leads, WalkTask.or_never_leads, WalkTask.or_trap_leads, WalkTask.over_now, WalkTask.running_scene, WalkTask.stops_here, WalkTask.trap_if_leads, WalkTask.unnot}
+use Rattle.task_rules.proofs.Walks.{[], aborted_phase, AbortsOwn, add_work, advanced, after_word, AlreadyEnded, and_parts, answered, Answers, ap, arith, assigned, Async, at_handle_limit, AtOnce, blocked_code, Bool, by_number, ByHandle, ByOp, BySetHandle, ByThread, ByWait, Call, call_answered, call_begins, call_done_walks, call_ends, call_host_polled, call_instance, call_of_op, call_pending, call_queues, call_resumes, call_returned, call_row, call_settled, call_settles, call_status, call_sync_begins, call_sync_host_polled, call_sync_host_row, call_sync_host_stops, call_sync_row, call_sync_status, call_sync_stops, CallbackWaits, CallbackYields, Callee, callee_of_op, CallEnd, Caller, caller_of, CallLabel, CallOp, calls_host, cancel_aborts_host, cancel_asks, cancel_by_end, cancel_case, cancel_ended_row, cancel_guest, cancel_hands_of, cancel_label, cancel_promotes_yield, cancel_resumed, cancel_row, cancel_stops, cancel_subtask, cancel_takes_end, cancel_target, cancel_wakes_callback, cancel_withdraws, cancel_writes_of, CancelCase, cancelled_of_op, Cancelling, Cancels, checked, checked_shifts, Choice, chosen, chosen_of, CloseSet, Core, count_work, CountWork, Delivery, dropped, end_for, ended, EndsSubtask, EndTells, EndWords, enter_runs, event_gone, event_of, export_kind, Failing, false, finds_nothing, first_poll, FirstPoll, fits, free_handle, get, get-change, get-insert_same, get-remove, Gift, gift, give_handle, given_out, Goal, Goes, Going, group_settled, halted_at, handed_by, handed_by_cancel, handed_by_event, handed_on, handed_on_shifts, handed_out, hands_by, HandsAtOnce, HandsOut, has_ended, has_member, has_waiters, HasNoEnd, HasSubtask, host_answered, host_at, host_end, host_pending, host_ready, host_taken, HostDef, how_far_of, HowFar, if◌then◌else◌, inl, inr, instance_of, is_async_lifted, is_async_work, is_callback_yield, is_calling_host, is_cancel, is_direct, is_for_main, is_join, is_joined, is_ready_to_resume, is_script, is_some, is_sync_call, is_sync_cancel, is_sync_host_call, is_thread_op, is_wait, is_waiting_on, is_watched, is_yielded, IsNamed, IsNew, IsReadyAtOnce, Join, join, join_done, join_label, join_of, join_to, joined, joins, Keep, keep_stay, keep_still, Label, lands_at, Later, Leaves, List, Made, Main, makes_set, MakeThread, Mark, may, may_hand_on, may_wake_new, MayCancel, MayJoin, MayMakeCall, MayTake, MemberGift, Mode, Move, moved_to, mute_words, NameCall, NameThread, NameWork, nat_tests, new_handle, new_thread, new_thread_handle, new_work, next_thread, next_work, NoGift, None, none_said, not, NoWord, on_call, on_instance, on_thread, on_work, Op, op_in, op_of, OpenSet, Option, option_and_then, option_map, option_map_or, OtherwiseRuns, OwnEvent, OwnGift, packed, passes_check, pauses, phase_of, Place, place_of, placed, placing_shifted, Progress, Promote, promoted, promoted_unless, promoted_walks, push_high, Put, put_back, put_switch, queues_work, QueueWork, received, received_woken, Records, refl, registers_for, registers_of, remove_group, remove_thread, remove_work, result_gone, result_of, Resumes, returned_of_op, said_is, saved_callee_of, says, says_by, Scene, Script, set_at, set_cancelled, set_do_not_suspend, set_dropped, set_end, set_event, set_given, set_how_far, set_join, set_made, set_own_event, set_phase, set_position, set_register, set_result, set_row, set_saved_callee, set_subtask_handle, set_switch, SetCancelled, SetExited, SetLabel, SetOp, SetOwnEvent, SetPhase, SetRegister, SetResult, SetSavedCallee, Setting, settled, settled_gone, SetUninteresting, Shifted, shifted, shifted_after, shifted_calls, shifted_far, shifted_made, shifted_ready, shifted_task, Shifts, shifts_shifted, Slot, slot_at, Some, StartNotRun, Status, status_code, status_found, Stay, stay_walk, Stops, subst, Subtask, subtask_at, subtask_ended, subtask_handle, subtask_instance, subtask_row, subtask_under_way, suc, Suspends, suspends, sym, Sync, T, TakesEvent, task_of, TellsLater, TellsNone, Then, Thread, thread_at, thread_group, thread_handle_of, ThreadLabel, ThreadOp, Trap, trap_if, Trip, true, Turn, undelivered_end, UnnameCall, UnnameWork, unwrap_or, value_of, values_in, wait_begins, wait_goes_on, wait_label, wait_row, wait_stops, wait_stops_checked, wake_shifts, wakes_joined, Walk, was_cancelled, was_started, Why, with_handle, Withdraw, withdrawn, word, Work, work_answered, work_caller_of, work_deleted, work_queued, work_value, WorkCaller, Writes, WritesAtOnce, WritesCall, WritesNever, WritesToo, written_by, written_by_cancel, Yields, yields, zero, ℕ, ◌+◌, ◌==◌, ◌∙◌, ◌∷◌, ◌≡◌, ◌⊎◌}
+use Rattle.task_rules.proofs.{WalkParts.AtOps, WalkParts.answered_first, WalkParts.answered_fresh, WalkParts.answered_settled, WalkParts.assigned_fresh, WalkParts.call_answers_walks, WalkParts.call_queues_walks, WalkParts.call_resumes_walks, WalkParts.call_stops_walks, WalkParts.cancel_goes_behind_walks, WalkParts.cancel_stops_walks, WalkParts.checked_walks, WalkParts.enter_gives, WalkParts.enter_runs_walks, WalkParts.event_taken_walks, WalkParts.gift_is, WalkParts.gift_none, WalkParts.join_walks, WalkParts.joined_ended, WalkParts.parted_answers_walks, WalkParts.parted_takes_walks, WalkParts.put_back_walks, WalkParts.received_walks, WalkParts.rejoined, WalkParts.stopped_walks, WalkParts.wait_stops_walks, WalkParts.withdrawn_walks, WalkParts.withdraws, WalkParts.work_deleted_walks, WalkTask.Leads, WalkTask.Stands, WalkTask.advanced_walks, WalkTask.answered_walks, WalkTask.assigned_walks, WalkTask.goes_on, WalkTask.goes_on_told, WalkTask.goes_over, WalkTask.is_plain, WalkTask.is_still, WalkTask.may_leads, WalkTask.or_never_leads, WalkTask.or_trap_leads, WalkTask.over_now, WalkTask.running_scene, WalkTask.stops_here, WalkTask.trap_if_leads, WalkTask.unnot}
 use Rattle.task_rules.specs.Threads.{by_how_far, Halt, halt_row, halted, halted_checked, halted_promoting, halted_resuming, halting, halts, has_yielded, resume_why, resumed_later, Suspension, then_promote, then_promote_row, then_resume_row, thread_made, thread_new_row, thread_row, Yielding}
 
 -- ---- What the rows read
@@ -94,12 +94,12 @@ module _ (x : Setting) (main : Main) (s : Core) (n : ℕ) (l : Label) (next : Tu
   takes : (y : ℕ) (ch : Choice) (g : Gift) → gift false (task_of n s) y (chosen n ch s) s ≡ Some g → MayTake a (task_of n s) g
   takes y ch g e = gift_is a n false y ch g refl (λ f o. absurd (subst T (sym f) tt)) e
 
-  wait_begins_leads : (r h : ℕ) (ch : Choice) (y : ℕ) (b : Bool) → is_wait (op_in a n) ≡ true → set_at (instance_of n s) h s ≡ Some y → Leads a s (wait_begins n r ch s y b)
-  unfolding wait_stops_checked
-  wait_begins_leads r h ch y true can named =
+  wait_begins_leads : (r h : ℕ) (ch : Choice) (y : ℕ) (b : Bool) → finds_nothing n y s ≡ b → is_wait (op_in a n) ≡ true → set_at (instance_of n s) h s ≡ Some y → Leads a s (wait_begins n r ch s y b)
+  unfolding wait_stops_checked finds_nothing
+  wait_begins_leads r h ch y true nothing can named =
       trap_if_leads a s (not (passes_check (instance_of n s) s)) Trap.CannotBlockSyncTask _ (λ e.
-      stop _ (wait_stops_checked n y s) refl (λ leave. wait_stops_walks n refl at_ops y can leave (BySetHandle h named) (checked_walks n refl (instance_of n s) NoWord)))
-  wait_begins_leads r h ch y false can named =
+      stop _ (wait_stops_checked n y s) refl (λ leave. wait_stops_walks n refl at_ops y can leave (BySetHandle h named) (shifted_ready (shifts_shifted (checked_shifts (instance_of n s) s)) y ∙ grind arith) (checked_walks n refl (instance_of n s) NoWord)))
+  wait_begins_leads r h ch y false nothing can named =
       or_never_leads a s (gift false (task_of n s) y (chosen n ch s) s) _ (λ g e.
       told (Label.Set (SetLabel.Wait (handed_out ch s g) n)) (received n r g (handed_out ch s g) s) refl (λ is. hands_by a _ is refl refl (gift_out r y ch g s e)) (λ is. received_walks n refl on r g (handed_out ch s g) (takes y ch g e) NoWord))
 
@@ -118,13 +118,13 @@ module _ (x : Setting) (main : Main) (s : Core) (n : ℕ) (l : Label) (next : Tu
       says None is = hands_by a _ is refl refl (gift_out r y ch g (handed_on y g None s) e)
 
   wait_goes_on_leads : (y r : ℕ) (ch : Choice) (g : Gift) → is_wait (op_in a n) ≡ true → how_far_of n s ≡ HowFar.Waits y → gift false (task_of n s) y (chosen n ch s) s ≡ Some g → Leads a s (wait_goes_on n y r ch s g)
-  wait_goes_on_leads y r ch NoGift can far e = stop _ (wait_stops n y s) refl (λ leave. wait_stops_walks n refl at_ops y can leave (ByWait far) NoWord)
+  wait_goes_on_leads y r ch NoGift can far e = stop _ (wait_stops n y s) refl (λ leave. wait_stops_walks n refl at_ops y can leave (ByWait far) (gift_none false (task_of n s) y (chosen n ch s) s e) NoWord)
   wait_goes_on_leads y r ch (OwnGift v) can far e = received_leads y r ch (OwnGift v) e
   wait_goes_on_leads y r ch (MemberGift sub) can far e = received_leads y r ch (MemberGift sub) e
 
   wait_row_leads : (r h : ℕ) (ch : Choice) (f : HowFar) → is_wait (op_in a n) ≡ true → how_far_of n s ≡ f → Leads a s (wait_row n r h ch s f)
   wait_row_leads r h ch (HowFar.Waits y) can far = or_never_leads a s (gift false (task_of n s) y (chosen n ch s) s) _ (λ g e. wait_goes_on_leads y r ch g can far e)
-  wait_row_leads r h ch _ can far = or_trap_leads a s (set_at (instance_of n s) h s) Trap.BadHandle _ (λ y named. wait_begins_leads r h ch y (finds_nothing n y s) can named)
+  wait_row_leads r h ch _ can far = or_trap_leads a s (set_at (instance_of n s) h s) Trap.BadHandle _ (λ y named. wait_begins_leads r h ch y (finds_nothing n y s) refl can named)
 
   joined_walks : (sub : Subtask) (y w : Option ℕ) (o : Option Status) (t : Core) → t.threads ≡ s.threads → may_wake_new o y w s ≡ true → Keep a s t → Keep a s (wakes_joined o y w t)
   joined_walks sub (Some y) w (Some e) t same may c = shifted (wake_shifts y w t (λ m is. ap (λ (r : Records Thread). option_map_or (is_waiting_on y) (option_map (λ u. u.place) (get r m)) false) same ∙ chosen_of y w s may m is)) c
@@ -138,9 +138,9 @@ module _ (x : Setting) (main : Main) (s : Core) (n : ℕ) (l : Label) (next : Tu
       may_leads a s (may_wake_new (event_of sub s) y w s) _ (λ may.
       go (join_label n w) (joined n sub y w s) (grind arith) (advanced_walks n refl on (joined_walks sub y w (event_of sub s) (set_join sub (joins y) s) (grind arith) may (join_walks n refl sub (joins y) (ok e) NoWord)))))
 
-  join_to_leads : (h y : ℕ) (w : Option ℕ) (sub : Subtask) → subtask_at (instance_of n s) h s ≡ Some sub → Leads a s (join_to n y w s sub)
-  join_to_leads h zero w sub named = join_done_leads sub w None (λ e. (n, (refl, (ByHandle h named, inl e))))
-  join_to_leads h (suc y) w sub named = or_trap_leads a s (set_at (instance_of n s) (suc y) s) Trap.BadHandle _ (λ z found. join_done_leads sub w (Some z) (λ e. (n, (h, (suc y, (refl, (named, (found, e))))))))
+  join_to_leads : is_join (op_in a n) ≡ true → (h y : ℕ) (w : Option ℕ) (sub : Subtask) → subtask_at (instance_of n s) h s ≡ Some sub → Leads a s (join_to n y w s sub)
+  join_to_leads can h zero w sub named = join_done_leads sub w None (λ e. (n, (refl, (ByHandle h named, inl e))))
+  join_to_leads can h (suc y) w sub named = or_trap_leads a s (set_at (instance_of n s) (suc y) s) Trap.BadHandle _ (λ z found. join_done_leads sub w (Some z) (λ e. (n, (h, (suc y, (refl, (named, (found, (e, (refl, can))))))))))
 
   pub set_row_leads : (ch : Choice) (o : SetOp) → op_in a n ≡ Op.Set o → Leads a s (set_row n s ch o)
   unfolding set_made set_dropped
@@ -158,7 +158,7 @@ module _ (x : Setting) (main : Main) (s : Core) (n : ℕ) (l : Label) (next : Tu
       or_trap_leads a s (set_at (instance_of n s) (value_of n s v) s) Trap.BadHandle _ (λ y named.
       or_never_leads a s (gift false (task_of n s) y (chosen n ch s) s) _ (λ g e.
       told (Label.Set (SetLabel.Poll (handed_out ch s g) n)) (received n r g (handed_out ch s g) s) refl (λ is. hands_by a _ is refl refl (gift_out r y ch g s e)) (λ is. received_walks n refl on r g (handed_out ch s g) (takes y ch g e) NoWord)))
-  set_row_leads ch (SetOp.Join v y) is = or_trap_leads a s (subtask_at (instance_of n s) (value_of n s v) s) Trap.BadHandle _ (λ sub named. join_to_leads (value_of n s v) (value_of n s y) ch.woken sub named)
+  set_row_leads ch (SetOp.Join v y) is = or_trap_leads a s (subtask_at (instance_of n s) (value_of n s v) s) Trap.BadHandle _ (λ sub named. join_to_leads (ap is_join is) (value_of n s v) (value_of n s y) ch.woken sub named)
 
   -- ---- Calls
 

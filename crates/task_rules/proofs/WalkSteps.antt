@@ -1,5 +1,5 @@
 -- Each step as a chain of words: host works, main, the loop and all turns.
-use Rattle.task_rules.proofs.Walks.{[], Abort, aborted_phase, act_of, add_group, add_work, AddGroup, advanced_main, Answer, ap, arith, at_turn, Await, base_at, base_without, Began, begun_holder, blocked_at, blocked_on, Bool, ByProgram, ByScript, call_made, Callee, Caller, CallLabel, Chain, Choice, choice_of, chosen_in_of, Collapses, Core, count_work, course_for, course_of, course_value, deadlock_trap, DeadlockStep, did, Does, EmptyFor, end_for, ended, Ends, EndTells, EndWords, EndWork, Entry, entry_number, export_kind, Fails, FailsNow, Falls, false, Finish, finish_act, finish_result, finished_call, finished_is, FinishWork, followed, Frees, FuturesStep, get, get-change, get-insert, get-remove, get-remove_same, Goal, Goes, goes_to, handed_by_main, hands_by, HandsOut, has_end, has_interesting, has_moving_work, host_at, host_done, host_label, host_result, host_status, host_taken, inl, inr, is_async_work, is_complete, is_direct, is_free, is_mute, is_none, is_ready_for_call, is_some, is_spawn, is_stage_ended, is_unended_take, IsFall, IsRunner, join, join_of, Keep, keep_stay, Label, LastWords, length, line_of, List, LoopLabel, Main, main_aborted, main_outcome, main_row, main_spawned, main_started, MainAct, MainLabel, MainOpDef, MainPlace, MainProgress, MainProgresses, MainStep, MakeCall, Mark, may, may_act, may_deadlock, may_publish, MayAbort, MayCall, MayFinish, mute_words, nat_tests, Never, next_entry, next_polled, next_thread, next_work, None, none_said, not, NoWord, on_thread, on_work, Op, op_at, op_of, op_row, OpenAct, OpenProgresses, Option, option_map, option_map_or, Ordered, Outcome, outcome_of_label, Pend, Pends, Phase, phase_of, Place, place_of, placed, Poll, poll_ends, poll_of, poll_pends, Polled, Pop, popped, popped_shifted, ProgramAborts, Progress, Progresses, published_frees, published_shifts, push_high, pushed, Put, put_high, QueueWork, Quiet, Ready, refl, Refused, Remains, remove_thread, remove_threads, RemoveThread, RestStep, result_taken, runner_at, said_is, SameMain, Scene, ScriptAborts, Scripted, ScriptStep, set_course, set_event, set_high, set_low, set_phase, set_place, set_stage, set_switch, set_trapped, SetPhase, SetRegister, Setting, settled_turn, SetTrapped, shifted, Shifts, size, slice_get, Some, Spawn, spawned_at, SpawnsNamed, Stage, stage_of, Start, start_act, start_of, start_refusal, Started, started_at, started_end, Starts, State, Status, stay_walk, Step, StepsAreWalks, StillPends, Stops, strand_from, strand_of, struck, subst, Subtask, suc, sym, T, take_result, take_row, TakeHost, TakeLabel, TakePush, TakeResult, takes_by, TakesResult, TakeStep, TellsLater, Then, Thread, thread_of_entry, Trap, trap_label, Traps, Trip, trip_walk, true, Turn, TurnStep, unblocked_shifts, under_of, unless_pending, Unscripted, unwrap_or, Walk, Why, woken_of, word, work_caller_of, work_queued, WorkCaller, Writes, writes_by, WritesPolled, zero, ℕ, ⊎_elim, ◌&&◌, ◌++◌, ◌+◌, ◌-◌, ◌∙◌, ◌∷◌, ◌≡◌, ◌⊎◌}
+use Rattle.task_rules.proofs.Walks.{[], Abort, aborted_phase, act_of, add_group, add_work, AddGroup, advanced_main, Answer, ap, arith, at_turn, Await, base_at, base_without, Began, begun_holder, blocked_at, blocked_on, Bool, ByProgram, ByScript, call_made, Callee, Caller, CallLabel, Chain, Choice, choice_of, chosen_in_of, Collapses, Core, count_work, course_for, course_of, course_value, deadlock_trap, DeadlockStep, did, Does, EmptyFor, end_for, ended, Ends, EndTells, EndWords, EndWork, Entry, entry_number, export_kind, Fails, FailsNow, Falls, false, Finish, finish_act, finish_result, finished_call, finished_is, FinishWork, followed, Frees, FuturesStep, get, get-change, get-insert, get-remove, get-remove_same, Goal, Goes, goes_to, handed_by_main, hands_by, HandsOut, has_end, has_interesting, has_moving_work, host_at, host_done, host_label, host_result, host_status, host_taken, inl, inr, is_async_work, is_complete, is_direct, is_free, is_mute, is_none, is_ready_for_call, is_some, is_spawn, is_stage_ended, is_unended_take, IsFall, IsRunner, join, join_of, Keep, keep_stay, Label, LastWords, length, line_of, List, LoopLabel, Main, main_aborted, main_outcome, main_row, main_spawned, main_started, MainAct, MainLabel, MainOpDef, MainPlace, MainProgress, MainProgresses, MainStep, MakeCall, Mark, may, may_act, may_deadlock, may_publish, MayAbort, MayCall, MayFinish, mute_words, nat_tests, Never, next_entry, next_polled, next_thread, next_work, None, none_said, not, NoWord, on_thread, on_work, Op, op_at, op_of, op_row, OpenAct, OpenProgresses, Option, option_map, option_map_or, Ordered, Outcome, outcome_of_label, Pend, Pends, Phase, phase_of, Place, place_of, placed, Poll, poll_ends, poll_of, poll_pends, Polled, Pop, popped, popped_shifted, ProgramAborts, Progress, Progresses, published_frees, published_shifts, push_high, pushed, Put, put_high, QueueWork, Quiet, Ready, refl, Refused, Remains, remove_thread, remove_threads, RemoveThread, RestStep, result_taken, runner_at, said_is, SameMain, Scene, ScriptAborts, Scripted, ScriptStep, set_course, set_event, set_high, set_low, set_phase, set_place, set_stage, set_switch, set_trapped, SetPhase, SetRegister, Setting, settled_turn, SetTrapped, shifted, Shifts, size, slice_get, Some, spares_of, Spawn, spawned_at, SpawnsNamed, Stage, stage_of, Start, start_act, start_of, start_refusal, Started, started_at, started_end, Starts, State, Status, stay_walk, Step, StepsAreWalks, StillPends, Stops, strand_from, strand_of, struck, subst, Subtask, suc, sym, T, take_result, take_row, TakeHost, TakeLabel, TakePush, TakeResult, takes_by, TakesResult, TakeStep, TellsLater, Then, Thread, thread_of_entry, Trap, trap_label, Traps, Trip, trip_walk, true, Turn, TurnStep, unblocked_shifts, under_of, unless_pending, Unscripted, unwrap_or, Walk, Why, woken_of, word, work_caller_of, work_queued, WorkCaller, Writes, writes_by, WritesPolled, zero, ℕ, ⊎_elim, ◌&&◌, ◌++◌, ◌+◌, ◌-◌, ◌∙◌, ◌∷◌, ◌≡◌, ◌⊎◌}
 use Rattle.task_rules.proofs.{WalkOps.set_row_leads, WalkOps.subtask_row_leads, WalkOps.thread_row_leads, WalkParts.Born, WalkParts.call_born, WalkTakes.thread_taken_leads, WalkTask.Leads, WalkTask.data_row_leads, WalkTask.is_exit_op, WalkTask.op_stands, WalkTask.running_scene, WalkTask.seen, WalkTask.task_row_leads, WalkTask.under_place}
 use Rattle.task_rules.specs.MainOps.{Answers}
 
@@ -39,7 +39,8 @@ host_frees : {a : Scene} {b : Core} (i : ℕ) (w : Option ℕ) (s : Core) → b.
 unfolding host_done may_publish set_stage on_work
 host_frees i w s home may c =
     let v = course_value (course_of i s) in
-    published_frees (Subtask.Host i) (host_status v) w (set_stage i Stage.Ended s) home (ended_stage i s) (λ y is. chosen_in_of (join_of (Subtask.Host i) s) w s may y (grind (arith, nat_tests, get-change, is))) c
+    published_frees (Subtask.Host i) (host_status v) w (set_stage i Stage.Ended s) home (ended_stage i s) (λ y is. chosen_in_of (join_of (Subtask.Host i) s) w s may y (grind (arith, nat_tests, get-change, is)))
+    (λ y is. spares_of (join_of (Subtask.Host i) s) w s may y (grind (arith, nat_tests, get-change, is))) c
     (stay_walk (keep_stay (host_result_walks (work_caller_of i s) v NoWord)))
 
 popped_same : (m : Mark) (s : Core) → s.threads ≡ (popped m s).threads

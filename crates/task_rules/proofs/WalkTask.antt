@@ -1,5 +1,5 @@
 -- The rows of ops as chains of words: what a row owes, the ops on registers and words, and the ops that end a task or an activation.
-use Rattle.task_rules.proofs.Walks.{[], Advance, advanced, and_parts, answered, ap, ap₂, arith, assigned, AwaitsEvent, backpressure_of, begun_holder, blocking_exit_row, blocking_exits, blocking_returned, Bool, both_none, BySetHandle, Call, call_ends, CallEnd, Caller, cancel_was_delivered, cancelled_rest, cancelled_tells, change, checked, checked_shifts, Choice, chosen_released, code_exits, code_finds, code_kind_row, code_row, code_stops, code_wait_row, code_waits, code_yields, ComesAgain, Component, component_of, Core, data_row, DataLabel, DataOp, Delivery, direct_exit_to, direct_exits, end_for, end_reopens, EndCall, ended, ended_halts, ended_last, ended_walks, ends_activation, ends_untold, EndsActivation, EndsByExit, EndsCall, EndsOwn, EndTells, EndWords, exit_label, exit_restores, exit_row_for, exit_stops, Exits, exits_trip, ExportKind, Fails, false, find_passes, FindsEvent, foot_of, get, get-change, GivesUp, Goal, goal_of, Goes, GoesBack, Going, Gone, Halted, halted_from, halted_on, handed_by, HandsOut, has_ended, has_event_for, HasSet, held_by_flag, holder_at_exit, host_taken, HowFar, if◌then◌else◌, implicit_exit_row, inl, inr, instance_of, is_async_lifted, is_at, is_code_op, is_direct, is_ending_exit, is_exit, is_explicit, is_guest_call, is_holding, is_mute, is_none, is_over, is_running, is_under, IsPermutation, IsRunner, join, Keep, keep_position, keep_stay, kind_exit_row, kind_of, Label, lands, last_of, last_shifted, LastEnds, LastWords, Leaves, leaves_no_result, Left, left_gone, left_walk, length, List, Main, Mark, may, may_tell, MayBar, MayEnd, MayOwe, min, Move, moved_to, mute_words, nat_le, nat_lt, nat_tests, Never, None, none_said, NoneHeldIn, not, NoWord, numbers, on_call, on_instance, on_thread, Op, op_at_place, op_in, op_of, Option, option_map, option_map_or, or_never, or_trap, Ordered, outcome_of_label, own_event_of, own_or_none, OwnEvent, passes_after_return, passes_after_stop, passes_check, Place, place_of, placing_shifted, position_of, Progress, Put, Records, refl, register_of, release_leaves, released_on, released_shifts, Remains, ret_label, returned, returned_holder, returned_last, returned_rest, returned_tells, ReturnsNow, said_is, saved_own_of, says_by, SaysEnd, Scene, script_of, set_at, set_backpressure, set_do_not_enter, set_do_not_suspend, set_end, set_how_far, set_place, SetBackpressure, SetDoNotEnter, SetDoNotSuspend, SetOwnEvent, SetRegister, SetSavedCallee, Setting, SetWord, Shifted, shifted, shifted_after, shifted_calls, shifted_task, shifts_shifted, skip_row, skipped, Some, Status, stay_walk, Stop, stopped, stopped_on, Stops, stored, subst, Subtask, SubtaskEnd, suc, sym, sync_exit_row, sync_exits, T, task_cancel_label, task_end, task_of, TaskLabel, TaskOp, TellsNever, Then, Thread, thread_exit_row, told_to, ToldTo, Trap, trap_if, Traps, Trip, trip_walk, true, Turn, Uncovers, under_of, unwrap_or, value_of, Walk, Why, word, Writes, writes_by, WritesCall, WritesToo, written_by, zero, ℕ, ◌%◌, ◌&&◌, ◌*◌, ◌+◌, ◌-◌, ◌/◌, ◌==◌, ◌||◌, ◌∙◌, ◌∷◌, ◌≡◌, ◌≤◌, ◌⊎◌}
+use Rattle.task_rules.proofs.Walks.{[], Advance, advanced, and_parts, answered, ap, ap₂, arith, assigned, AwaitsEvent, backpressure_of, begun_holder, blocking_exit_row, blocking_exits, blocking_returned, Bool, both_none, BySetHandle, Call, call_ends, CallEnd, Caller, cancel_was_delivered, cancelled_rest, cancelled_tells, change, checked, checked_shifts, Choice, chosen_released, code_exits, code_finds, code_kind_row, code_row, code_stops, code_wait_row, code_waits, code_yields, ComesAgain, Component, component_of, Core, data_row, DataLabel, DataOp, Delivery, direct_exit_to, direct_exits, end_for, end_reopens, EndCall, ended, ended_halts, ended_last, ended_walks, ends_activation, ends_untold, EndsActivation, EndsByExit, EndsCall, EndsOwn, EndTells, EndWords, exit_label, exit_restores, exit_row_for, exit_stops, Exits, exits_trip, ExportKind, Fails, false, find_passes, FindsEvent, foot_of, get, get-change, GivesUp, Goal, goal_of, Goes, GoesBack, Going, Gone, Halted, halted_from, halted_on, handed_by, HandsOut, has_ended, has_event_for, has_ready_member, HasSet, held_by_flag, holder_at_exit, host_taken, HowFar, if◌then◌else◌, implicit_exit_row, inl, inr, instance_of, is_async_lifted, is_at, is_code_op, is_direct, is_ending_exit, is_exit, is_explicit, is_guest_call, is_holding, is_mute, is_none, is_over, is_running, is_under, IsPermutation, IsRunner, join, Keep, keep_position, keep_stay, kind_exit_row, kind_of, Label, lands, last_of, last_shifted, LastEnds, LastWords, Leaves, leaves_no_result, Left, left_gone, left_walk, length, List, Main, Mark, may, may_tell, MayBar, MayEnd, MayOwe, min, Move, moved_to, mute_words, nat_le, nat_lt, nat_tests, Never, None, none_said, NoneHeldIn, not, NoWord, numbers, on_call, on_instance, on_thread, Op, op_at_place, op_in, op_of, Option, option_map, option_map_or, or_never, or_trap, Ordered, outcome_of_label, own_event_of, own_or_none, OwnEvent, passes_after_return, passes_after_stop, passes_check, Place, place_of, placing_shifted, position_of, Progress, Put, ready_same, Records, refl, register_of, release_leaves, released_on, released_shifts, Remains, ret_label, returned, returned_holder, returned_last, returned_rest, returned_tells, ReturnsNow, said_is, saved_own_of, says_by, SaysEnd, Scene, script_of, set_at, set_backpressure, set_do_not_enter, set_do_not_suspend, set_end, set_how_far, set_place, SetBackpressure, SetDoNotEnter, SetDoNotSuspend, SetOwnEvent, SetRegister, SetSavedCallee, Setting, SetWord, Shifted, shifted, shifted_after, shifted_calls, shifted_ready, shifted_task, shifts_shifted, skip_row, skipped, Some, spared_released, Status, stay_walk, Stop, stopped, stopped_on, Stops, stored, subst, Subtask, SubtaskEnd, suc, sym, sync_exit_row, sync_exits, T, task_cancel_label, task_end, task_of, TaskLabel, TaskOp, TellsNever, Then, Thread, thread_exit_row, told_spares, told_to, ToldSpares, ToldTo, Trap, trap_if, Traps, Trip, trip_walk, true, Turn, Uncovers, under_of, unwrap_or, value_of, Walk, Why, word, Writes, writes_by, WritesCall, WritesToo, written_by, zero, ℕ, ◌%◌, ◌&&◌, ◌*◌, ◌+◌, ◌-◌, ◌/◌, ◌==◌, ◌||◌, ◌∙◌, ◌∷◌, ◌≡◌, ◌≤◌, ◌⊎◌}
 use Rattle.task_rules.specs.Task.{dec_from, dec_lowers, dec_opens, held_by_counter, inc_raises, ret_done, ret_row, task_cancel_done, task_cancel_row, task_row}
 
 -- ---- The op in its script
@@ -297,7 +297,7 @@ module _ (x : Setting) (main : Main) (s : Core) (n : ℕ) (l : Label) (next : Tu
       (λ at leave.
       let says = exit_says s w at implicit (inr kind) in
       exit_says_end w (sync_exits n w s) at implicit kind direct (call_ends k CallEnd.Returned t) (over_now k CallEnd.Returned t) (left_walk n leave (sync_exits_walks n refl w s told leave (returned_rest k (register_of n 0 s) w t says told NoWord)))
-      (returned_tells k (register_of n 0 s) w t says told refl refl (over at) (left_walk n leave (sync_exits_walks n refl w s told leave NoWord))))
+      (returned_tells k (register_of n 0 s) w t says told (told_spares k w s may) refl refl (over at) (left_walk n leave (sync_exits_walks n refl w s told leave NoWord))))
       (λ at leave. sync_exits_gone n refl w s told leave NoWord (returned_rest k (register_of n 0 s) w t (exit_says s w at implicit (inr kind)) told (over at))))
 
   -- where a holding entry returns
@@ -315,12 +315,13 @@ module _ (x : Setting) (main : Main) (s : Core) (n : ℕ) (l : Label) (next : Tu
       let same = shifted_calls (reopened_shifted i order s) in
       let lifted : is_async_lifted (kind_of (task_of n s) s) ≡ false = ap (λ y. is_async_lifted y) kind in
       let told : ToldTo k w t = λ is y at. chosen_released order y w (set_do_not_enter i false s) (told_to k w s may (grind (arith, is, same)) y (grind (arith, at, same))) in
+      let spare : ToldSpares k w t = λ is y at none m. spared_released order y m (set_do_not_enter i false s) (told_spares k w s may (grind (arith, is, same)) y (grind (arith, at, same)) none m) in
       let over : l ≡ exit_label n w → Keep a s (call_ends k CallEnd.Returned t) = λ at. word (EndCall k CallEnd.Returned) (exits w t at implicit (inr lifted) same, exit_says s w at implicit (inr lifted)) (reopens_walks n refl i order (bars w at implicit (ap (λ y. is_holding y) kind) direct) perm NoWord) in
       gone_here (exit_label n w) (blocking_exits n w order s) (exit_is n w s).0
       (λ at leave.
       let says = exit_says s w at implicit (inr lifted) in
       exit_says_end w (blocking_exits n w order s) at implicit lifted direct (call_ends k CallEnd.Returned t) (over_now k CallEnd.Returned t) (left_walk n leave (blocking_exits_walks n refl w order s told leave (returned_rest k (register_of n 0 s) w t says told NoWord)))
-      (returned_tells k (register_of n 0 s) w t says told refl (ap (λ (m : Records Call). is_guest_call (option_map_or (λ (c : Call). c.caller) (get m k) Caller.Main) && not (is_direct (option_map_or (λ (c : Call). c.goal) (get m k) Goal.Nowhere))) same) (over at) (left_walk n leave (blocking_exits_walks n refl w order s told leave NoWord))))
+      (returned_tells k (register_of n 0 s) w t says told spare refl (ap (λ (m : Records Call). is_guest_call (option_map_or (λ (c : Call). c.caller) (get m k) Caller.Main) && not (is_direct (option_map_or (λ (c : Call). c.goal) (get m k) Goal.Nowhere))) same) (over at) (left_walk n leave (blocking_exits_walks n refl w order s told leave NoWord))))
       (λ at leave. blocking_exits_gone n refl w order s told leave (returned_rest k (register_of n 0 s) w t (exit_says s w at implicit (inr lifted)) told (over at)))))
 
   direct_leads : (m : ℕ) (t : Core) → under_of n s ≡ Some m → is_explicit n s ≡ false → is_direct (goal_of (task_of n s) s) ≡ true → task_of n t ≡ task_of n s → t.calls ≡ s.calls → Keep a s t → Leads a s (Goes (exit_label n None) (direct_exits n m (register_of n 0 s) t) m)
@@ -353,10 +354,10 @@ module _ (x : Setting) (main : Main) (s : Core) (n : ℕ) (l : Label) (next : Tu
   owes None has ends t = inr (n, (ends, (refl, ap own_or_none has)))
   owes (Some e) has ends t = inr (n, (ends, (refl, ap own_or_none has)))
 
-  code_wait_row_leads : (k : Label) (y : ℕ) (b : Bool) → ((t : Core) → is_still a t k ≡ true) → (l ≡ k → MayBar a (instance_of n s) false) → EndsActivation a n → HasSet a n y → Leads a s (code_wait_row k n y (held_by_flag (instance_of n s) s) s b)
-  unfolding code_finds code_waits
-  code_wait_row_leads k y true plain bar ends has = λ order perm is to. stops_here k (code_finds n y order s) (plain _) (λ leave. lands (Put Mark.High n (Why.Delivery (Delivery.Set y))) refl (FindsEvent y leave ends has refl) tt (code_stops_walks n refl order (bar is) perm leave NoWord).0) is to
-  code_wait_row_leads k y false plain bar ends has = λ order perm is to. stops_here k (code_waits n y order s) (plain _) (λ leave. let c = code_stops_walks n refl order (bar is) perm leave NoWord in lands (Move n (Place.Waiting y true)) refl (AwaitsEvent y leave ends has refl) c.1 c.0) is to
+  code_wait_row_leads : (k : Label) (y : ℕ) (b : Bool) → has_event_for (task_of n s) y s ≡ b → ((t : Core) → is_still a t k ≡ true) → (l ≡ k → MayBar a (instance_of n s) false) → EndsActivation a n → HasSet a n y → Leads a s (code_wait_row k n y (held_by_flag (instance_of n s) s) s b)
+  unfolding code_finds code_waits code_stops has_event_for set_do_not_enter on_instance
+  code_wait_row_leads k y true is_so plain bar ends has = λ order perm is to. stops_here k (code_finds n y order s) (plain _) (λ leave. lands (Put Mark.High n (Why.Delivery (Delivery.Set y))) refl (FindsEvent y leave ends has refl) tt (code_stops_walks n refl order (bar is) perm leave NoWord).0) is to
+  code_wait_row_leads k y false is_so plain bar ends has = let open_ready : has_ready_member y (set_do_not_enter (instance_of n s) false s) ≡ false = ready_same y s (set_do_not_enter (instance_of n s) false s) refl refl ∙ grind arith in λ order perm is to. stops_here k (code_waits n y order s) (plain _) (λ leave. let c = code_stops_walks n refl order (bar is) perm leave NoWord in lands (Move n (Place.Waiting y true)) refl (AwaitsEvent y leave ends has (shifted_ready (shifted_after (reopened_shifted (instance_of n s) order s) (placing_shifted (Stop (foot_of n s)) (end_reopens (instance_of n s) order s))) y ∙ open_ready) refl) c.1 c.0) is to
 
   code_exits_leads : (k : Label) → is_quiet s k ≡ true → ((t : Core) → l ≡ k → EndWords a t) → (l ≡ k → MayBar a (instance_of n s) false) → (rest : ℕ) → Leads a s (code_kind_row k n (held_by_flag (instance_of n s) s) s zero rest)
   unfolding code_exits code_stops set_do_not_enter on_instance
@@ -373,7 +374,7 @@ module _ (x : Setting) (main : Main) (s : Core) (n : ℕ) (l : Label) (next : Tu
   code_kind_row_leads k zero rest plain bar ends =
       code_exits_leads k (and_parts (is_quiet s k) (not (is_exit k)) (and_parts (is_plain s k) (is_mute a s k) (plain s)).0).0 (λ t is. mute_words a t is (and_parts (is_plain s k) (is_mute a t k) (plain t)).1) bar rest
   code_kind_row_leads k (suc zero) rest plain bar ends = λ order perm is to. stops_here k (code_yields n order s) (plain _) (λ leave. lands (Put Mark.Low n (Why.Delivery Delivery.Yield)) refl (ComesAgain leave ends refl) tt (word (SetOwnEvent (task_of n s) (own_or_none (own_event_of (task_of n s) s))) (owes (own_event_of (task_of n s) s) refl ends (code_stops n order s)) (code_stops_walks n refl order (bar is) perm leave NoWord).0)) is to
-  code_kind_row_leads k (suc (suc zero)) rest plain bar ends = or_trap_leads a s (set_at (instance_of n s) rest s) Trap.BadHandle _ (λ y named. code_wait_row_leads k y (has_event_for (task_of n s) y s) plain bar ends (BySetHandle rest named))
+  code_kind_row_leads k (suc (suc zero)) rest plain bar ends = or_trap_leads a s (set_at (instance_of n s) rest s) Trap.BadHandle _ (λ y named. code_wait_row_leads k y (has_event_for (task_of n s) y s) refl plain bar ends (BySetHandle rest named))
   code_kind_row_leads k (suc (suc (suc low))) rest plain bar ends = tt
 
   code_row_leads : (k : Label) (code : ℕ) → ((t : Core) → is_still a t k ≡ true) → (l ≡ k → MayBar a (instance_of n s) false) → EndsActivation a n → Leads a s (code_row k n s code)
@@ -426,7 +427,7 @@ module _ (x : Setting) (main : Main) (s : Core) (n : ℕ) (l : Label) (next : Tu
       let says : SaysEnd a k Status.Returned = ap (λ (k : Label). written_by x.component s k s) is ∙ (is_so s).1.0 in
       task_says Status.Returned (ret_done n v w s) is (is_so (ret_done n v w s)).1.0 (is_so (ret_done n v w s)).1.1 (grind arith) unended (call_ends k CallEnd.Returned s) (over_now k CallEnd.Returned s)
       (stay_walk (advanced_walks n refl (on_after_end on k CallEnd.Returned) (returned_rest k v w s says told NoWord) to))
-      (returned_tells k v w s says told refl refl (over is) (advances_last on (returned_rest k v w s says told (over is)) to)))
+      (returned_tells k v w s says told (told_spares k w s may) refl refl (over is) (advances_last on (returned_rest k v w s says told (over is)) to)))
       (λ is. advanced_walks n refl on (returned_rest k v w s (ap (λ (k : Label). written_by x.component s k s) is ∙ (is_so s).1.0) told (over is))))))
 
   task_cancel_row_leads : Stands a s n → (w : Option ℕ) → Leads a s (task_cancel_row n w s)
@@ -442,7 +443,7 @@ module _ (x : Setting) (main : Main) (s : Core) (n : ℕ) (l : Label) (next : Tu
       goes_on_told (task_cancel_label n w) (task_cancel_done n w s) (is_so s).0
       (λ is to. task_says Status.ReturnCancelled (task_cancel_done n w s) is (is_so (task_cancel_done n w s)).1.0 (is_so (task_cancel_done n w s)).1.1 (grind arith) unended (call_ends k CallEnd.ReturnCancelled s) (over_now k CallEnd.ReturnCancelled s)
       (stay_walk (advanced_walks n refl (on_after_end on k CallEnd.ReturnCancelled) (cancelled_rest k w s told NoWord) to))
-      (cancelled_tells k w s told refl refl (over is) (advances_last on (cancelled_rest k w s told (over is)) to)))
+      (cancelled_tells k w s told (told_spares k w s may) refl refl (over is) (advances_last on (cancelled_rest k w s told (over is)) to)))
       (λ is. advanced_walks n refl on (cancelled_rest k w s told (over is))))))
 
   dec_from_leads : Stands a s n → (b : ℕ) → backpressure_of (instance_of n s) s ≡ b → Leads a s (dec_from n s b)

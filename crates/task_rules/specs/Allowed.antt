@@ -6,7 +6,7 @@ use Rattle.task_machine.specs.Core.{Core, MainPlace, Scripted, Unscripted}
 use Rattle.task_machine.specs.Labels.{host_label}
 use Rattle.task_machine.specs.Maps.{get}
 use Rattle.task_machine.specs.Moves.{has_entry, is_callback_waiter, is_deletable, is_group_done}
-use Rattle.task_machine.specs.Read.{admits, caller_of, cancel_was_delivered, course_of, course_value, end_of, event_of, goal_of, has_ended, has_member, has_waiters, how_far_of, position_of, instance_of, is_async_lifted, is_at, is_direct, is_explicit, is_joined, is_stage_ended, is_waiter, is_watched, join_of, kind_of, may_not_enter, next_entry, own_event_of, phase_of, place_of, set_at, stage_of, subtask_at, subtask_ended, subtask_handle, undelivered_end, task_of, thread_group, was_started, work_caller_of, is_guest_call, is_aborted, is_blocked_on, foot_of}
+use Rattle.task_machine.specs.Read.{admits, caller_of, cancel_was_delivered, course_of, course_value, end_of, event_of, goal_of, has_ended, has_member, has_waiters, how_far_of, position_of, instance_of, is_async_lifted, is_at, is_direct, is_explicit, is_joined, is_stage_ended, is_waiter, is_watched, join_of, kind_of, may_not_enter, next_entry, own_event_of, phase_of, place_of, set_at, stage_of, subtask_at, subtask_ended, subtask_handle, undelivered_end, task_of, thread_group, was_started, work_caller_of, is_guest_call, is_aborted, is_blocked_on, foot_of, has_ready_member}
 use Rattle.task_machine.specs.Write.{set_backpressure, set_do_not_enter}
 use Rattle.task_machine.specs.declared.component.Callee.{Callee}
 use Rattle.task_machine.specs.declared.component.ExportKind.{ExportKind}
@@ -31,7 +31,7 @@ use Rattle.task_rules.specs.Cancels.{aborted_phase, is_callback_wait}
 use Rattle.task_rules.specs.Ends.{is_told, own_or_none}
 use Rattle.task_rules.specs.MainOps.{op_at, takes_words, spawned_at, is_spawn}
 use Rattle.task_rules.specs.Once.{returned_holder}
-use Rattle.task_rules.specs.OpParts.{callee_of_main_op, callee_of_op, calls_host, can_come, ends_activation, is_sync_call, is_wait, makes_set, queues_work}
+use Rattle.task_rules.specs.OpParts.{callee_of_main_op, callee_of_op, calls_host, can_come, ends_activation, is_join, is_sync_call, is_wait, makes_set, queues_work}
 use Rattle.task_rules.specs.Places.{is_at_wait}
 use Rattle.task_rules.specs.Scenes.{Scene, component_of, op_in}
 use Rattle.task_rules.specs.Scripts.{export_kind, is_script, registers_for, script_of, slot_at}
@@ -210,10 +210,13 @@ pub data MayMove (a : Scene) (n : ℕ) (p : Place) (s : Core) : Type 0 where
   -- it was taken, isn't admitted, and is held
   Holds : (w : Why) → IsLaid a n → WasReady a n w → admits n s w ≡ false → p ≡ place.Held w → MayMove a n p s
   -- it was taken, found nothing, and waits again
-  WaitsAgain : (x : ℕ) → IsLaid a n → WasReady a n (why.Delivery (delivery.Set x)) → p ≡ place.Waiting x true → MayMove a n p s
+  WaitsAgain : (x : ℕ) → IsLaid a n → WasReady a n (why.Delivery (delivery.Set x)) → has_ready_member x s ≡ false → p ≡ place.Waiting x true →
+      MayMove a n p s
   -- its activation ends, and it waits for an event
-  AwaitsEvent : (x : ℕ) → Leaves a n → EndsActivation a n → HasSet a n x → p ≡ place.Waiting x true → MayMove a n p s
-  Waits : (x : ℕ) → Leaves a n → HasSet a n x → p ≡ place.Waiting x false → MayMove a n p s
+  AwaitsEvent : (x : ℕ) → Leaves a n → EndsActivation a n → HasSet a n x → has_ready_member x s ≡ false → p ≡ place.Waiting x true →
+      MayMove a n p s
+  -- no member of the set has an event
+  Waits : (x : ℕ) → Leaves a n → HasSet a n x → has_ready_member x s ≡ false → p ≡ place.Waiting x false → MayMove a n p s
   -- its op waits for a subtask of its own, or for a new one, that has no end to tell
   Blocks : (sub : Subtask) → Leaves a n → HasSubtask a n sub ⊎ IsNew a sub s →
       (undelivered_end (event_of sub s) ≡ None) ⊎ (subtask_ended sub s ≡ false) → p ≡ place.Blocked sub → MayMove a n p s
@@ -413,13 +416,13 @@ MayRemoveCall a k s = (is_deletable k s ≡ true) × ((has_ended k s ≡ true) �
 
 -- ---- Subtasks
 
--- a join finds the subtask and the set by handles of the running thread's instance; a cancel joins a subtask that is in no set to the
+-- the op `join` finds the subtask and the set by handles of the running thread's instance; a cancel joins a subtask that is in no set to the
 -- thread's own
 abbrev pub MayJoin : Scene → Subtask → Join → Core → Type 0
 MayJoin a sub join.Nowhere s = (n : ℕ) × (IsRunner a n × (HasSubtask a n sub × MayPart a n sub s))
 MayJoin a sub (join.Set x) s = (n : ℕ) × ((h : ℕ) × ((g : ℕ) ×
     (IsRunner a n × ((subtask_at (instance_of n a.base) h s ≡ Some sub) × ((set_at (instance_of n a.base) g s ≡ Some x) ×
-    (is_watched (join_of sub s) ≡ false))))))
+    ((is_watched (join_of sub s) ≡ false) × ((a.turn ≡ turn.Run n) × (is_join (op_in a n) ≡ true))))))))
 MayJoin a sub (join.Watched n) s = IsRunner a n ×
     (HasSubtask a n sub × (((is_joined (join_of sub a.base) ≡ false) ⊎ (how_far_of n a.base ≡ how_far.Cancels sub)) ×
     (join_of sub s ≡ join_of sub a.base)))

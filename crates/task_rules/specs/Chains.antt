@@ -9,14 +9,14 @@ use Rattle.std.specs.Option.{option_map_or}
 use Rattle.std.specs.Prelude.{Bool, None, Option, Some, false, is_some, true, ℕ, ◌==◌, ◌≡◌, ◌⊎◌}
 use Rattle.task_machine.specs.Core.{Core, Main, Scripted, State, Unscripted, MainPlace}
 use Rattle.task_machine.specs.Maps.{get}
-use Rattle.task_machine.specs.Moves.{ended}
-use Rattle.task_machine.specs.Read.{event_of, foot_of, goal_of, has_ended, is_async_lifted, is_direct, is_explicit, kind_of, may_not_enter, place_of, task_of, undelivered_end, course_of, how_far_of}
+use Rattle.task_machine.specs.Moves.{ended, is_callback_waiter}
+use Rattle.task_machine.specs.Read.{event_of, is_waiter, join_of, foot_of, goal_of, has_ended, is_async_lifted, is_direct, is_explicit, kind_of, may_not_enter, place_of, task_of, undelivered_end, course_of, how_far_of}
 use Rattle.task_machine.specs.declared.label.Label.{Label}
 use Rattle.task_machine.specs.declared.outcome.Outcome.{Outcome}
 use Rattle.task_machine.specs.declared.records.Place.{Place}
 use Rattle.task_machine.specs.declared.records.Turn.{Turn}
 use Rattle.task_rules.specs.Ends.{is_told}
-use Rattle.task_rules.specs.Allowed.{Allowed, IsRunner, MayShift, SaysEnd, is_exit, IsPolled, IsNamed, IsFall, IsSettling, Leaves, MayLand, MayMove, Stays}
+use Rattle.task_rules.specs.Allowed.{Allowed, IsRunner, MayShift, SaysEnd, is_exit, IsPolled, IsNamed, IsFall, IsSettling, Leaves, MayLand, MayMove, Stays, wake_why}
 use Rattle.task_machine.specs.declared.records.HowFar.{HowFar}
 use Rattle.task_rules.specs.Laws.{is_free}
 use Rattle.task_rules.specs.Once.{begun_holder}
@@ -33,6 +33,8 @@ use Rattle.task_machine.specs.declared.records.HowFar.TheVariants as how_far
 use Rattle.task_machine.specs.declared.label.Label.TheVariants as label
 use Rattle.task_machine.specs.declared.label.TakeLabel.TheVariants as take_label
 use Rattle.task_machine.specs.declared.label.LoopLabel.TheVariants as loop_label
+use Rattle.task_machine.specs.declared.records.Join.TheVariants as join
+use Rattle.task_machine.specs.declared.words.Mark.TheVariants as mark
 use Rattle.task_machine.specs.declared.records.Place.TheVariants as place
 use Rattle.task_machine.specs.declared.records.Turn.TheVariants as turn
 
@@ -170,8 +172,13 @@ pub data HandsOut (a : Scene) (t : Core) : Subtask → Status → Type 0 where
   Answers : (n i : ℕ) → IsRunner a n → how_far_of n a.base ≡ how_far.Calls (subtask.Host i) → get t.works i ≡ None →
       HandsOut a t (subtask.Host i) status.Returned
 
--- What becomes of those who are blocked on the subtask as its event is set: by the changes of places from `before` to `after` one of them
--- gets its entry, if there is one.
+-- From s to t one thread that waits on the set is woken, if there is one.
+abbrev pub WakesOne : ℕ → Core → Core → Type 0
+WakesOne x s t = ((n : ℕ) → is_waiter x n s ≡ false) ⊎
+    ((m : ℕ) × ((is_waiter x m s ≡ true) × (place_of m t ≡ Some (place.Ready mark.High (wake_why x (is_callback_waiter m s))))))
+
+-- What becomes of those who are blocked on the subtask, and of those who wait on its set, as its event is set: by the changes of places from
+-- `before` to `after` one of each gets its entry, if there is one.
 pub record Frees (a : Scene) (t : Core) (sub : Subtask) : Type 0 where
   pub first : Core
   pub home : first.threads ≡ a.base.threads
@@ -183,6 +190,7 @@ pub record Frees (a : Scene) (t : Core) (sub : Subtask) : Type 0 where
   -- who is blocked on it still was so beside another one
   pub freed : (n : ℕ) → place_of n after ≡ Some (place.Blocked sub) →
       (m : ℕ) × ((place_of m before ≡ Some (place.Blocked sub)) × ((n == m) ≡ false))
+  pub woken : (x : ℕ) → join_of sub before ≡ join.Set x → WakesOne x before after
 
 -- Whether an end that the label says is set as the event of its subtask.
 pub data EndTells (a : Scene) (t : Core) : Subtask → Status → Type 0 where

@@ -55,6 +55,10 @@ abbrev pub is_wait : Op → Bool
 is_wait (op.Set (set_op.Wait r x)) = true
 is_wait _ = false
 
+abbrev pub is_join : Op → Bool
+is_join (op.Set (set_op.Join x y)) = true
+is_join _ = false
+
 abbrev pub is_sync_call : Op → Bool
 is_sync_call (op.Call (call_op.CallSync r e xs)) = true
 is_sync_call _ = false

@@ -11,7 +11,7 @@ use Rattle.task_machine.specs.declared.label.LoopLabel.TheVariants as loop_label
 use Rattle.task_machine.specs.declared.label.MainLabel.TheVariants as main_label
 use Rattle.task_machine.specs.declared.outcome.Outcome.TheVariants as outcome
 use Rattle.task_machine.specs.Core.{State}
-use Rattle.task_rules.specs.Stalled.{Setting, is_idle_trap, stalled_here}
+use Rattle.task_rules.specs.Stalled.{Setting, is_idle_trap, is_stalled}
 use Rattle.task_rules.specs.Works.{has_live_work}
 
 -- the outcome that the last label of a run gives
@@ -42,7 +42,7 @@ last_outcome (l ∷ m ∷ ls) = last_outcome (m ∷ ls)
 
 -- nothing can go on, and this is no deadlock: it is not to trap, or some work is live
 unfoldable pub is_at_rest : Setting → State → Bool
-is_at_rest x s = stalled_here x s && (not (is_idle_trap x.idle) || has_live_work s.core)
+is_at_rest x s = is_stalled x s && (not (is_idle_trap x.idle) || has_live_work s.core)
 
 abbrev pub open_outcome : Bool → Bool → Option Outcome
 open_outcome true used_up = Some outcome.Idle

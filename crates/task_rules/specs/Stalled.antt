@@ -108,10 +108,6 @@ Idle x s = IsTrue (is_idle x s)
 abbrev pub Stalled : Setting → State → Type 0
 Stalled x s = IsTrue (is_stalled x s)
 
--- the states from which a deadlock or the idle outcome comes
-abbrev pub stalled_here : Setting → State → Bool
-stalled_here = is_idle
-
 -- ---- Deadlock
 
 -- the instance of some call may not suspend
@@ -127,4 +123,4 @@ is_idle_trap idle_line.Wait = false
 
 -- a deadlock may come: nothing can go on, no work is live, and it is to trap
 unfoldable pub may_deadlock : Setting → State → Bool
-may_deadlock x s = stalled_here x s && (is_idle_trap x.idle && not (has_live_work s.core))
+may_deadlock x s = is_stalled x s && (is_idle_trap x.idle && not (has_live_work s.core))

@@ -34,7 +34,6 @@ pub struct StandingRun {
 }
 
 /// A store of a host's value `T` and host works of the type `H`.
-#[derive(Drop)]
 pub struct Store<T, H> {
     pub(crate) value: T,
     id: u64,
@@ -45,6 +44,20 @@ pub struct Store<T, H> {
     pub(crate) works: HostWorks<H>,
     // Whether a run stands on the store.
     running: bool,
+}
+
+// By hand, so that letting a store go is one call, proved once.
+impl<T: Drop, H: Drop> Drop for Store<T, H> {
+    fn drop(self) {
+        let Store {
+            value: _,
+            id: _,
+            concurrent: _,
+            state: _,
+            works: _,
+            running: _,
+        } = self;
+    }
 }
 
 impl<T, H> Store<T, H> {

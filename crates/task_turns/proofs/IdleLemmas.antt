@@ -4,8 +4,9 @@ use Rattle.std.specs.List.{list_any}
 use Rattle.std.specs.Option.{option_map_or}
 use Rattle.std.specs.Prelude.{Bool, List, None, Option, Some, [], false, is_none, not, suc, true, zero, ℕ, ◌&&◌, ◌<◌, ◌∷◌, ◌≡◌, ◌||◌, ◌⊎◌}
 use Rattle.task_laws.proofs.PolledWorks.{none_passes, polled_is_live}
-use Rattle.task_laws.specs.Order.{WorkEntries, WorksQueued, is_finishing, is_host_of, is_push_of, is_queued, stands}
-use Rattle.task_machine.specs.Core.{Core, Main}
+use Rattle.task_laws.specs.Order.{InOrder, WorkEntries, WorksQueued, is_finishing, is_host_of, is_push_of, is_queued, stands}
+use Rattle.task_machine.specs.Core.{Core, Main, State}
+use Rattle.task_machine.specs.declared.component.Component.{Component}
 use Rattle.task_machine.specs.Maps.{get, numbers}
 use Rattle.task_machine.specs.Read.{blocked_on, is_at, is_blocked_on, is_live, is_stage_ended, next_entry, or_high, place_of, stage_of}
 use Rattle.task_machine.specs.declared.records.Entry.{Entry}
@@ -19,10 +20,11 @@ use Rattle.task_machine.specs.declared.records.Turn.{Turn}
 use Rattle.task_machine.specs.declared.records.Turn.TheVariants as turn
 use Rattle.task_machine.specs.declared.records.Work.{Work}
 use Rattle.task_machine.specs.declared.words.Mark.{Mark}
+use Rattle.task_places.proofs.IdleLemmas.{stalled_as_idle}
 use Rattle.task_rules.specs.Outcome.{is_at_rest}
 use Rattle.task_rules.proofs.StopLemmas.{find_passes}
 use Rattle.task_rules.specs.Places.{HasPlace, Placed, is_at_high, is_at_low, one_if, says}
-use Rattle.task_rules.specs.Stalled.{Setting, is_idle, is_idle_trap, is_queued_or_finishing, is_unended_take, main_pends, works_rest}
+use Rattle.task_rules.specs.Stalled.{Setting, is_idle, is_idle_trap, is_stalled, is_queued_or_finishing, is_unended_take, main_pends, works_rest}
 use Rattle.task_rules.specs.Turns.{nothing_stands, settled_futures, settled_take}
 use Rattle.task_rules.specs.Works.{has_live_work, has_moving_work, next_polled}
 use Rattle.task_ops.specs.Steps.{turn_after}
@@ -71,30 +73,47 @@ flip true false = refl
 flip false true = refl
 flip false false = refl
 
-no_idle : (a b c d : Bool) → a ≡ false ⊎ (b ≡ false ⊎ c ≡ false) → ((a && (b && c)) && d) ≡ false
-no_idle a b c d off = grind arith
+no_idle : (a b c : Bool) → a ≡ false ⊎ (b ≡ false ⊎ c ≡ false) → (a && (b && c)) ≡ false
+no_idle a b c off = grind arith
 
-module _ (x : Setting) (s : Core) (m : Main) (b : Bool) (idle : x.idle ≡ idle_line_of b) where
+module _ (x : Setting) (s : Core) (m : Main) where
+  -- a state that isn't idle is at no rest
+  idle_off : (p : Turn) → (is_unended_take p && main_pends x s m) ≡ false ⊎ (nothing_stands s ≡ false ⊎ works_rest s ≡ false) → is_idle x (state_at s m p) ≡ false
+  unfolding is_idle
+  idle_off p off = no_idle (is_unended_take p && main_pends x s m) (nothing_stands s) (works_rest s) off
+
+  no_rest : (p : Turn) → is_idle x (state_at s m p) ≡ false → is_at_rest x (state_at s m p) ≡ false
+  unfolding is_at_rest is_stalled
+  no_rest p off = grind (arith, off)
+
   -- another turn, an entry that stands and a work that goes on are no rest
   pub rest_else : (p : Turn) → is_unended_take p ≡ false → is_at_rest x (state_at s m p) ≡ false
-  unfolding is_at_rest is_idle
-  rest_else p other = no_idle (is_unended_take p && main_pends x s m) (nothing_stands s) (works_rest s) (not (is_idle_trap x.idle) || has_live_work s) (inl (ap (λ v. v && main_pends x s m) other))
+  rest_else p other = no_rest p (idle_off p (inl (ap (λ v. v && main_pends x s m) other)))
 
   pub rest_stands : (p : Turn) → nothing_stands s ≡ false → is_at_rest x (state_at s m p) ≡ false
-  unfolding is_at_rest is_idle
-  rest_stands p stands = no_idle (is_unended_take p && main_pends x s m) (nothing_stands s) (works_rest s) (not (is_idle_trap x.idle) || has_live_work s) (inr (inl stands))
+  rest_stands p stands = no_rest p (idle_off p (inr (inl stands)))
 
   pub rest_moves : (p : Turn) → has_moving_work s ≡ true → is_at_rest x (state_at s m p) ≡ false
-  unfolding is_at_rest is_idle
-  rest_moves p moving = no_idle (is_unended_take p && main_pends x s m) (nothing_stands s) (works_rest s) (not (is_idle_trap x.idle) || has_live_work s)
-      (inr (inr (ap (λ v. not v && not (list_any (λ e. is_queued_or_finishing e.1.stage) s.works.list)) moving)))
+  rest_moves p moving = no_rest p (idle_off p (inr (inr (ap (λ v. not v && not (list_any (λ e. is_queued_or_finishing e.1.stage) s.works.list)) moving))))
 
-  pub rest_take : (p : Turn) → is_unended_take p ≡ true → WorksQueued s → nothing_stands s ≡ true → has_moving_work s ≡ false → PendsIn x s m p → is_at_rest x (state_at s m p) ≡ (has_live_work s || not b)
-  unfolding is_at_rest is_idle
-  rest_take (turn.Take false) take q none moving pends =
-      let rest = rest_of s q (none_of (next_entry s) none) moving in
-      rw none (rw pends (rw rest (ap (λ v. not v || has_live_work s) (ap is_idle_trap idle ∙ trap_of b) ∙ flip b (has_live_work s))))
-  rest_take p take q none moving pends = absurd (cc)
+  -- where the state is in order and idle, it is stalled
+  pub stalls : (p : Turn) → InOrder x.component (state_at s m p) → is_unended_take p ≡ true → nothing_stands s ≡ true → has_moving_work s ≡ false → PendsIn x s m p →
+      is_stalled x (state_at s m p) ≡ true
+  unfolding is_idle
+  stalls (turn.Take false) order take none moving pends =
+      let rest = rest_of s order.works (none_of (next_entry s) none) moving in
+      stalled_as_idle x (state_at s m (turn.Take false)) order ∙ rw none (rw pends (rw rest refl))
+  stalls p order take none moving pends = absurd (cc)
+
+  pub rest_take : (b : Bool) → x.idle ≡ idle_line_of b → (p : Turn) → is_unended_take p ≡ true → InOrder x.component (state_at s m p) → nothing_stands s ≡ true → has_moving_work s ≡ false →
+      PendsIn x s m p → is_at_rest x (state_at s m p) ≡ (has_live_work s || not b)
+  unfolding is_at_rest
+  rest_take b idle p take order none moving pends =
+      ap (λ v. v && (not (is_idle_trap x.idle) || has_live_work s)) (stalls p order take none moving pends)
+      ∙ (ap (λ v. not v || has_live_work s) (ap is_idle_trap idle ∙ trap_of b) ∙ flip b (has_live_work s))
+
+pub in_order : (x : Setting) (c : Component) (s : State) (m : Main) → x.component ≡ c → InOrder c s → InOrder x.component s
+in_order x c s m is h = subst (λ (d : Component). InOrder d s) (sym is) h
 
 -- ---- Polls
 

@@ -35,6 +35,10 @@ use Rattle.task_rules.specs.Step.{OpenProgresses, Step}
 use Rattle.task_rules.specs.Turns.{at_turn}
 use Rattle.task_turns.specs.Kept.{FinishInOrder, MadeInOrder, RefusalInOrder, StartInOrder}
 use Rattle.task_turns.specs.Turn.{Sits, state_at}
+use Rattle.task_places.proofs.CountedSteps.{counted_as, counted_stay}
+use Rattle.task_laws.proofs.ReadyCounts.{is_woken_at}
+use Rattle.task_laws.specs.Wakes.{WakesCounted}
+use Rattle.task_machine.specs.Read.{is_ready_member, is_waiter}
 
 abbrev pub setting : Component → Setting
 setting c = record { component = c; script = []; idle = idle_line.Wait }
@@ -145,11 +149,30 @@ started_same c e words s placed = record {
   none = λ m none low. started_place c e words s m (given_apart m s.made.threads low) ∙ none;
 }
 
+started_waits : (c : Component) (e : Callee) (words : List ℕ) (s : Core) (y j : ℕ) → is_waiter y j (main_started c e words s) ≡ true → is_waiter y j s ≡ true
+unfolding main_started put_high push_high set_place on_thread call_made add_thread add_call add_group
+started_waits c e words s y j on = grind (arith, nat_tests, get-insert, get-change)
+
+started_ready : (c : Component) (e : Callee) (words : List ℕ) (s : Core) (y : ℕ) (sub : Subtask) → is_ready_member y sub (main_started c e words s) ≡ true → is_ready_member y sub s ≡ true
+unfolding main_started put_high push_high set_place on_thread call_made add_thread add_call add_group
+started_ready c e words s y (subtask.Guest k) on = grind (arith, nat_tests, get-insert)
+started_ready c e words s y (subtask.Host i) on = on
+
+started_woken : (c : Component) (e : Callee) (words : List ℕ) (s : Core) (y j : ℕ) → (is_there j s ≡ true → (j == s.made.threads + 1) ≡ false) →
+    is_woken_at y j s ≡ true → is_woken_at y j (main_started c e words s) ≡ true
+unfolding main_started put_high push_high set_place on_thread call_made add_thread add_call add_group
+started_woken c e words s y j apart on = let other = apart (grind arith) in grind (arith, nat_tests, get-insert, get-change, other)
+
+-- the new call's thread neither waits nor is woken for a set, and the call is in none
+started_counted : (c : Component) (e : Callee) (words : List ℕ) (s : Core) → Placed s → WakesCounted s → WakesCounted (main_started c e words s)
+started_counted c e words s placed = counted_stay (started_waits c e words s) (started_ready c e words s)
+    (λ y j on. started_woken c e words s y j (λ there. given_apart j s.made.threads ((placed j).number there)) on)
+
 pub start_in_order : StartInOrder
 start_in_order c p e words s takes free sits =
     acted c p (Start e words) (main_label.Start 1 (s.made.threads + 1)) s (main_started c e words s) takes (ap (start_act c 1 e words s) free)
     (λ n at. started_place c e words s n (given_apart n s.made.threads (((sits.order Unscripted).in_place.placed n).number (there n at))) ∙ at)
-    (λ o. record { alone = λ n is. o.alone n (started_at c e words s n place.Running refl is); starts_there = started_there c e words s o.starts_there; blocked = started_blocked c e words s o.blocked; callers = callers_stay same o.callers; feet = feet_stay same o.feet; free = free_stays same (sits.order Unscripted).strands.made o.free }) sits
+    (λ o. record { alone = λ n is. o.alone n (started_at c e words s n place.Running refl is); starts_there = started_there c e words s o.starts_there; blocked = started_blocked c e words s o.blocked; callers = callers_stay same o.callers; feet = feet_stay same o.feet; free = free_stays same (sits.order Unscripted).strands.made o.free; counted = started_counted c e words s (sits.order Unscripted).in_place.placed o.counted }) sits
   where
     there : (n : ℕ) → place_of n s ≡ Some place.Running → is_there n s ≡ true
     there n at = ap is_some at
@@ -164,6 +187,10 @@ trapped_place s n = refl
 trapped_same : (s : Core) → SamePlaces s (set_trapped s)
 trapped_same s = record { kept = λ n there. trapped_place s n; back = λ n p held at. sym (trapped_place s n) ∙ at; none = λ m none low. trapped_place s m ∙ none }
 
+trapped_counted : (s : Core) → WakesCounted s → WakesCounted (set_trapped s)
+unfolding set_trapped
+trapped_counted s h = counted_as s (set_trapped s) refl refl refl h
+
 trapped_event : (s : Core) (sub : Subtask) → undelivered_end (event_of sub s) ≡ None → undelivered_end (event_of sub (set_trapped s)) ≡ None
 unfolding set_trapped
 trapped_event s (subtask.Guest k) none = none
@@ -175,7 +202,7 @@ trapped_there s h = h
 
 pub refusal_in_order : RefusalInOrder
 refusal_in_order c p e words why s takes refused sits =
-    acted c p (Start e words) (main_label.StartRefused why 1) s (set_trapped s) takes (ap (start_act c 1 e words s) refused) (λ n at. trapped_place s n ∙ at) (λ o. record { alone = λ n is. o.alone n (sym (trapped_place s n) ∙ is); starts_there = trapped_there s o.starts_there; blocked = λ n sub at. trapped_event s sub (o.blocked n sub (sym (trapped_place s n) ∙ at)); callers = callers_stay (trapped_same s) o.callers; feet = feet_stay (trapped_same s) o.feet; free = free_stays (trapped_same s) (sits.order Unscripted).strands.made o.free }) sits
+    acted c p (Start e words) (main_label.StartRefused why 1) s (set_trapped s) takes (ap (start_act c 1 e words s) refused) (λ n at. trapped_place s n ∙ at) (λ o. record { alone = λ n is. o.alone n (sym (trapped_place s n) ∙ is); starts_there = trapped_there s o.starts_there; blocked = λ n sub at. trapped_event s sub (o.blocked n sub (sym (trapped_place s n) ∙ at)); callers = callers_stay (trapped_same s) o.callers; feet = feet_stay (trapped_same s) o.feet; free = free_stays (trapped_same s) (sits.order Unscripted).strands.made o.free; counted = trapped_counted s o.counted }) sits
 
 taken_place : (k : ℕ) (s : Core) (n : ℕ) → place_of n (take_result k s) ≡ place_of n s
 unfolding take_result
@@ -188,10 +215,14 @@ taken_there k s h = h
 taken_same : (k : ℕ) (s : Core) → SamePlaces s (take_result k s)
 taken_same k s = record { kept = λ n there. taken_place k s n; back = λ n p held at. sym (taken_place k s n) ∙ at; none = λ m none low. taken_place k s m ∙ none }
 
+taken_counted : (k : ℕ) (s : Core) → WakesCounted s → WakesCounted (take_result k s)
+unfolding take_result
+taken_counted k s h = counted_as s (take_result k s) refl refl refl h
+
 taken_event : (k : ℕ) (s : Core) (sub : Subtask) → undelivered_end (event_of sub s) ≡ None → undelivered_end (event_of sub (take_result k s)) ≡ None
 unfolding take_result
 taken_event k s (subtask.Guest j) none = none
 taken_event k s (subtask.Host i) none = none
 
 pub finish_in_order : FinishInOrder
-finish_in_order c p k v s found sits = acted c p (Finish (Began k)) (main_label.Finish 1 v) s (take_result k s) refl (ap (finish_result 1 k s) found) (λ n at. taken_place k s n ∙ at) (λ o. record { alone = λ n is. o.alone n (sym (taken_place k s n) ∙ is); starts_there = taken_there k s o.starts_there; blocked = λ n sub at. taken_event k s sub (o.blocked n sub (sym (taken_place k s n) ∙ at)); callers = callers_stay (taken_same k s) o.callers; feet = feet_stay (taken_same k s) o.feet; free = free_stays (taken_same k s) (sits.order Unscripted).strands.made o.free }) sits
+finish_in_order c p k v s found sits = acted c p (Finish (Began k)) (main_label.Finish 1 v) s (take_result k s) refl (ap (finish_result 1 k s) found) (λ n at. taken_place k s n ∙ at) (λ o. record { alone = λ n is. o.alone n (sym (taken_place k s n) ∙ is); starts_there = taken_there k s o.starts_there; blocked = λ n sub at. taken_event k s sub (o.blocked n sub (sym (taken_place k s n) ∙ at)); callers = callers_stay (taken_same k s) o.callers; feet = feet_stay (taken_same k s) o.feet; free = free_stays (taken_same k s) (sits.order Unscripted).strands.made o.free; counted = taken_counted k s o.counted }) sits

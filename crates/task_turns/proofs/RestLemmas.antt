@@ -18,6 +18,8 @@ use Rattle.task_rules.specs.Works.{has_live_work, has_moving_work}
 use Rattle.task_turns.specs.Turn.{Makes, Turns, running_of, state_at}
 use Rattle.task_turns.specs.declared.made.Made.{Made}
 use Rattle.task_words.specs.StateView.{StateView, on_core, thread_of}
+use Rattle.task_places.proofs.IdleLemmas.{stalled_as_idle}
+use Rattle.task_laws.specs.Order.{InOrder}
 
 rest_step : (x : Setting) (s : Core) (m : Main) → next_entry s ≡ None → has_moving_work s ≡ true → Step x (state_at s m (turn.Take false)) (label.Loop loop_label.Rest) (state_at s m turn.Main)
 unfolding Step at_turn
@@ -33,11 +35,17 @@ rest_makes c s current none moving = record {
   over = refl;
 }
 
-may : (x : Setting) (s : Core) (m : Main) → next_entry s ≡ None → has_live_work s ≡ false → works_rest s ≡ true → x.idle ≡ idle_line.Trap → main_pends x s m ≡ true → may_deadlock x (state_at s m (turn.Take false)) ≡ true
-unfolding may_deadlock is_idle
-may x s m none live rest idle pends = rw none (rw live (rw rest (rw idle (rw pends refl))))
+is_idle_so : (x : Setting) (s : Core) (m : Main) → next_entry s ≡ None → works_rest s ≡ true → main_pends x s m ≡ true → is_idle x (state_at s m (turn.Take false)) ≡ true
+unfolding is_idle
+is_idle_so x s m none rest pends = rw none (rw rest (rw pends refl))
 
-module _ (x : Setting) (s t : StateView) (m : Main) (current : s.current ≡ None) (none : next_entry s.core ≡ None) (moving : has_moving_work s.core ≡ false) (live : has_live_work s.core ≡ false) (rest : works_rest s.core ≡ true) (idle : x.idle ≡ idle_line.Trap) (pends : main_pends x s.core m ≡ true) (new : t ≡ on_core set_trapped s) where
+may : (x : Setting) (s : Core) (m : Main) → InOrder x.component (state_at s m (turn.Take false)) → next_entry s ≡ None → has_live_work s ≡ false → works_rest s ≡ true → x.idle ≡ idle_line.Trap → main_pends x s m ≡ true →
+    may_deadlock x (state_at s m (turn.Take false)) ≡ true
+unfolding may_deadlock
+may x s m order none live rest idle pends =
+    rw live (rw idle (ap (λ v. v && true) (stalled_as_idle x (state_at s m (turn.Take false)) order ∙ is_idle_so x s m none rest pends)))
+
+module _ (x : Setting) (s t : StateView) (m : Main) (current : s.current ≡ None) (none : next_entry s.core ≡ None) (moving : has_moving_work s.core ≡ false) (live : has_live_work s.core ≡ false) (rest : works_rest s.core ≡ true) (order : InOrder x.component (state_at s.core m (turn.Take false))) (idle : x.idle ≡ idle_line.Trap) (pends : main_pends x s.core m ≡ true) (new : t ≡ on_core set_trapped s) where
   deadlock_step : Step x (state_at s.core m (turn.Take false)) (label.Loop (loop_label.Deadlock (deadlock_trap s.core))) (state_at t.core m turn.Over)
   unfolding Step at_turn
   deadlock_step =
@@ -45,7 +53,7 @@ module _ (x : Setting) (s t : StateView) (m : Main) (current : s.current ≡ Non
       let l = label.Loop (loop_label.Deadlock (deadlock_trap s.core)) in
       subst (λ (o : Option (Mark × Entry)). TakeStep x st o l (state_at t.core m turn.Over)) (sym none)
       (subst (λ b. EmptyFor x st b l (state_at t.core m turn.Over)) (sym moving)
-      (subst (λ b. DeadlockStep st b l (state_at t.core m turn.Over)) (sym (may x s.core m none live rest idle pends)) (refl, ap (λ (v : StateView). state_at v.core m turn.Over) new)))
+      (subst (λ b. DeadlockStep st b l (state_at t.core m turn.Over)) (sym (may x s.core m order none live rest idle pends)) (refl, ap (λ (v : StateView). state_at v.core m turn.Over) new)))
 
   pub deadlock_turns : (made : Made) → made ≡ record { label = label.Loop (loop_label.Deadlock (deadlock_trap s.core)); turn = turn.Over } → Turns x (turn.Take false) m s made m t
   deadlock_turns made is = subst (λ (k : Made). Turns x (turn.Take false) m s k m t) (sym is) (record {

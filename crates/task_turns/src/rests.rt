@@ -6,7 +6,7 @@ ghost use Rattle.task_machine.specs.declared.component.Component.{Component};
 ghost use Rattle.task_ops.specs.Works.{KeepsWorks};
 ghost use Rattle.task_rules.specs.Stalled.{Setting, main_pends, works_rest};
 ghost use Rattle.task_rules.specs.Works.{has_live_work, has_moving_work};
-ghost use Rattle.task_turns.specs.Turn.{Makes, Turns};
+ghost use Rattle.task_turns.specs.Turn.{Makes, Sits, Turns};
 
 use crate::made::Made;
 use task_machine::{IdleLine, Label, LoopLabel, Turn};
@@ -35,7 +35,7 @@ pub fn step_deadlock<W: Words>(w: &mut W) -> Made
     requires moving { has_moving_work (W.view w.old).core ≡ false }
     requires live { has_live_work (W.view w.old).core ≡ false }
     requires rest { works_rest (W.view w.old).core ≡ true }
-    ensures turns { (x : Setting) → x.idle ≡ IdleLine.Trap → (m : Main) → main_pends x (W.view w.old).core m ≡ true → Turns x (Turn.Take false) m (W.view w.old) result m (W.view w.new) }
+    ensures turns { (x : Setting) → Sits x.component (Turn.Take false) (W.view w.old).core → x.idle ≡ IdleLine.Trap → (m : Main) → main_pends x (W.view w.old).core m ≡ true → Turns x (Turn.Take false) m (W.view w.old) result m (W.view w.new) }
     ensures works { KeepsWorks (W.view w.old) (W.view w.new) }
 {
     Made {

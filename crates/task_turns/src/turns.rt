@@ -43,7 +43,7 @@ fn rest<W: Words>(w: &mut W, trap_on_idle: bool) -> Option<Made>
     requires works { WorksQueued (W.view w.old).core }
     requires current { (W.view w.old).current ≡ None }
     requires none { next_entry (W.view w.old).core ≡ None }
-    ensures turned { (c : Component) → TurnedBeside c trap_on_idle (Turn.Take false) (W.view w.old) result (W.view w.new) }
+    ensures turned { (c : Component) → Sits c (Turn.Take false) (W.view w.old).core → TurnedBeside c trap_on_idle (Turn.Take false) (W.view w.old) result (W.view w.new) }
     ensures works { KeepsWorks (W.view w.old) (W.view w.new) }
 {
     if w.has_moving_work() {
@@ -108,8 +108,7 @@ fn is_take(turn: Turn) -> bool
 
 /// Whether nothing can go on in this turn, and that is no deadlock.
 pub fn is_idle<W: Words>(w: &W, turn: Turn, trap_on_idle: bool) -> bool
-    requires { WorksQueued (W.view w.now).core }
-    ensures { (x : Setting) → x.idle ≡ idle_line_of trap_on_idle → (m : Main) → PendsIn x (W.view w.now).core m turn → is_at_rest x (state_at (W.view w.now).core m turn) ≡ result }
+    ensures { (x : Setting) → Sits x.component turn (W.view w.now).core → x.idle ≡ idle_line_of trap_on_idle → (m : Main) → PendsIn x (W.view w.now).core m turn → is_at_rest x (state_at (W.view w.now).core m turn) ≡ result }
 {
     if !is_take(turn) {
         return false;

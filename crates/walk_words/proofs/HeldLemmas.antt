@@ -1,7 +1,6 @@
 -- The chain of an instance's held threads has just these.
-use Rattle.task_records.proofs.Core.{[], admitted_held, admitted_permute, ap, bare, bare_thread, Bool, call_instance, cond, Core, eq-eqb, eqb-true, false, Filing, filter, found_permute, found_record_at, get, get-records, has, HasHome, head_of, held_why, HeldIn, instance_of, is_held_in, is_nil, is_some, IsLinks, IsMembers, IsMembers-nothing, IsMembers-walked, IsPermutation, IsSome, IsSound, key_in, List, list_any, map, None, not, number_in, on_item, Option, option_and_then, option_map, option_map_or, parts_of, passes_in, Place, place_at, place_chain, place_filing, Placed, record_found, records, refl, same_Some, seen, slice_get, slice_get-map, Some, subst, sym, Tests, Thread, thread_key, true, Where, where_at, ℕ, ◌&&◌, ◌==◌, ◌||◌, ◌∙◌, ◌∷◌, ◌≡◌}
+use Rattle.task_records.proofs.Core.{[], admitted_held, admitted_permute, ap, bare, bare_thread, Bool, call_instance, cond, Core, eq-eqb, eqb-true, false, Filing, filter, found_permute, found_record_at, get, get-records, has, HasHome, head_of, held_why, HeldIn, instance_of, is_held_in, is_nil, is_some, IsLinks, IsMembers, IsMembers-nothing, IsMembers-walked, IsPermutation, IsSome, IsSound, key_in, List, list_any, map, Node, None, not, number_in, on_item, Option, option_and_then, option_map, option_map_or, parts_of, passes_in, Place, place_at, place_chain, place_filing, Placed, record_found, records, refl, same_Some, seen, slice_get, slice_get-map, Some, subst, sym, Tests, Thread, thread_key, true, Where, where_at, ℕ, ◌&&◌, ◌==◌, ◌||◌, ◌∙◌, ◌∷◌, ◌≡◌}
 use Rattle.std.proofs.lemmas.List.Sorted.{list_any-IsPermutation}
-use Rattle.task_links.specs.declared.node.Node.{Node}
 use Rattle.task_records.specs.declared.{instances.InstanceRecord.InstanceRecord, parts.CoreParts.CoreParts, single.Single.Single, threads.GuestThread.GuestThread}
 use Rattle.task_words.specs.Held.{held_in}
 use Rattle.task_records.proofs.HomeLemmas.{bare_instance}

@@ -1,39 +1,48 @@
-use Rattle.task_records.proofs.Core.{ap, arith, AtPlace, entry_of, IsSound, item_at, item_of, on_core, on_thread, parts_of, place_target, seen, subst, sym, Table, thread_of, with_entry, ◌+◌, ◌∙◌, ◌≡◌}
-use Rattle.task_records.specs.declared.{parts.CoreParts.CoreParts, sets.WaitSet.WaitSet, single.Single.Single, threads.GuestThread.GuestThread}
+use Rattle.task_records.proofs.Core.{ap, arith, entry_of, IsSound, item_at, item_of, on_core, on_thread, refl, seen, set_how_far, subst, sym, Table, Thread, thread_of, with_entry, ◌+◌, ◌∙◌, ◌≡◌}
+use Rattle.task_records.specs.declared.{sets.WaitSet.WaitSet, single.Single.Single, threads.GuestThread.GuestThread}
 use Rattle.place_words.proofs.FitLemmas.{less_fits, more_fits}
 use Rattle.place_words.proofs.PlacedLemmas.{placed_seen, placed_sound, stays_filed}
+use Rattle.place_words.proofs.ThreadLemmas.{how_far_at, same_item, thread_gone}
 use Rattle.place_words.proofs.moves.put_there.Goals as goal
-use Rattle.place_words.specs.Moved.{recounted}
+use Rattle.place_words.specs.Moved.{arrived, recounted}
 use Rattle.task_records.proofs.HomeLemmas.{place_bare, thread_home}
 
 pub entry_set-from-requires-clause-place : goal.entry_set-from-requires-clause-place
-entry_set-from-requires-clause-place c = place_bare c.args.parts.now _ _ (thread_home c.args.parts.now c.requires.sound c.args.id c.args.old c.requires.item).place
+entry_set-from-requires-clause-place c = place_bare c.args.parts.now _ _ (thread_home c.args.parts.now c.requires.sound c.args.id c.in-Some.found.now c.in-Some.ensures.item).place
 
 pub entry_set-from-requires-clause-how_far : goal.entry_set-from-requires-clause-how_far
-entry_set-from-requires-clause-how_far c = place_bare c.args.parts.now _ _ (thread_home c.args.parts.now c.requires.sound c.args.id c.args.old c.requires.item).how_far
-
-pub one_less-requires : goal.one_less-requires
-one_less-requires c = less_fits c.args.parts.now c.requires.sound c.args.id c.args.old c.requires.item c.args.new c.requires.stays c.requires.handle c.entry_set-from.result c.entry_set-to.result c.entry_set-from.ensures c.entry_set-to.ensures
-
-pub one_more-requires : goal.one_more-requires
-one_more-requires c x is = let few = more_fits c.args.parts.now c.requires.sound c.args.id c.args.old c.requires.item c.args.new c.requires.stays c.requires.handle c.entry_set-from.result c.entry_set-to.result c.entry_set-from.ensures c.entry_set-to.ensures x (is ∙ ap (λ (t : Table (Single WaitSet)). item_at item_of t c.entry_set-to.result.rep c.entry_set-to.result.serial) c.one_less.ensures) in omega (arith, few)
-
--- what a place names stands where it stood
-there : (a : CoreParts) (h g : GuestThread) → h.thread.place ≡ g.thread.place → h.beside ≡ g.beside → AtPlace (parts_of a) g.beside (place_target g.thread.place) → AtPlace (parts_of a) h.beside (place_target h.thread.place)
-there a h g place beside at = subst (λ r. AtPlace (parts_of a) r (place_target h.thread.place)) (sym beside) (subst (λ p. AtPlace (parts_of a) g.beside (place_target p)) (sym place) at)
+entry_set-from-requires-clause-how_far c = how_far_at c.args.parts.now c.requires.sound c.args.id c.in-Some.found.now c.in-Some.ensures.item
 
 pub entry_set-to-requires-clause-place : goal.entry_set-to-requires-clause-place
-entry_set-to-requires-clause-place c = there c.args.parts.now c.args.new c.args.old c.requires.place c.requires.beside (place_bare c.args.parts.now _ _ (thread_home c.args.parts.now c.requires.sound c.args.id c.args.old c.requires.item).place)
+entry_set-to-requires-clause-place c = place_bare c.args.parts.now _ _ (thread_home c.args.parts.now c.requires.sound c.args.id c.in-Some.found.now c.in-Some.ensures.item).place
 
-pub returns-clause-sound : goal.returns-clause-sound
-returns-clause-sound c =
-    let a = c.args.parts.now in
-    subst (λ (t : Table (Single WaitSet)). IsSound (record a { threads = with_entry c.args.id.rep (entry_of c.args.new) a.threads; sets = t })) (sym (c.one_more.ensures ∙ ap (recounted (λ n. n + 1) c.entry_set-to.result.rep c.entry_set-to.result.serial) c.one_less.ensures))
-    (placed_sound c.args.parts.now c.requires.sound c.args.id c.args.old c.requires.item c.args.new c.requires.stays c.requires.handle c.entry_set-from.result c.entry_set-to.result c.entry_set-from.ensures c.entry_set-to.ensures a.places (there a c.args.new c.args.old c.requires.place c.requires.beside (place_bare a _ _ (thread_home a c.requires.sound c.args.id c.args.old c.requires.item).place)) c.requires.how_far
-    (stays_filed c.args.parts.now c.requires.sound c.args.id c.args.old c.requires.item c.args.new c.requires.stays c.requires.handle c.requires.place))
+pub one_less-requires : goal.one_less-requires
+one_less-requires c = less_fits c.args.parts.now c.requires.sound c.args.id c.in-Some.found.now c.in-Some.ensures.item (arrived c.in-Some.found.now c.args.how_far c.args.awaited) refl refl c.entry_set-from.result c.entry_set-to.result c.entry_set-from.ensures c.entry_set-to.ensures
 
-pub returns-clause-new : goal.returns-clause-new
-returns-clause-new c f is_f =
+pub one_more-requires : goal.one_more-requires
+one_more-requires c x is = let few = more_fits c.args.parts.now c.requires.sound c.args.id c.in-Some.found.now c.in-Some.ensures.item (arrived c.in-Some.found.now c.args.how_far c.args.awaited) refl refl c.entry_set-from.result c.entry_set-to.result c.entry_set-from.ensures c.entry_set-to.ensures x (is ∙ ap (λ (t : Table (Single WaitSet)). item_at item_of t c.entry_set-to.result.rep c.entry_set-to.result.serial) c.one_less.ensures) in omega (arith, few)
+
+pub returns-in-Ok-clause-sound : goal.returns-in-Ok-clause-sound
+returns-in-Ok-clause-sound c =
     let a = c.args.parts.now in
-    subst (λ (t : Table (Single WaitSet)). seen (record a { threads = with_entry c.args.id.rep (entry_of c.args.new) a.threads; sets = t }) ≡ on_core (on_thread (thread_of (seen a) c.args.id) f) (seen a)) (sym (c.one_more.ensures ∙ ap (recounted (λ n. n + 1) c.entry_set-to.result.rep c.entry_set-to.result.serial) c.one_less.ensures))
-    (placed_seen c.args.parts.now c.requires.sound c.args.id c.args.old c.requires.item c.args.new c.requires.stays c.requires.handle c.entry_set-from.result c.entry_set-to.result c.entry_set-from.ensures c.entry_set-to.ensures a.places f is_f)
+    let g = c.in-Some.found.now in
+    let h = arrived g c.args.how_far c.args.awaited in
+    subst (λ (x : GuestThread). IsSound (record a { threads = with_entry c.args.id.rep (entry_of (arrived x c.args.how_far c.args.awaited)) a.threads; sets = c.one_more.new.sets })) (same_item c.in-Some.ensures.item c.in-Ok.ensures.value)
+    (subst (λ (t : Table (Single WaitSet)). IsSound (record a { threads = with_entry c.args.id.rep (entry_of h) a.threads; sets = t })) (sym (c.one_more.ensures ∙ ap (recounted (λ n. n + 1) c.entry_set-to.result.rep c.entry_set-to.result.serial) c.one_less.ensures))
+    (placed_sound a c.requires.sound c.args.id g c.in-Some.ensures.item h refl refl c.entry_set-from.result c.entry_set-to.result c.entry_set-from.ensures c.entry_set-to.ensures a.places (place_bare a _ _ (thread_home a c.requires.sound c.args.id g c.in-Some.ensures.item).place) c.requires.how_far
+    (stays_filed a c.requires.sound c.args.id g c.in-Some.ensures.item h refl refl refl)))
+
+pub returns-in-Ok-clause-new : goal.returns-in-Ok-clause-new
+unfolding set_how_far
+returns-in-Ok-clause-new c =
+    let a = c.args.parts.now in
+    let g = c.in-Some.found.now in
+    let h = arrived g c.args.how_far c.args.awaited in
+    let f : Thread → Thread = λ t. record t { how_far = c.args.how_far } in
+    subst (λ (x : GuestThread). seen (record a { threads = with_entry c.args.id.rep (entry_of (arrived x c.args.how_far c.args.awaited)) a.threads; sets = c.one_more.new.sets }) ≡ on_core (on_thread (thread_of (seen a) c.args.id) f) (seen a)) (same_item c.in-Some.ensures.item c.in-Ok.ensures.value)
+    (subst (λ (t : Table (Single WaitSet)). seen (record a { threads = with_entry c.args.id.rep (entry_of h) a.threads; sets = t }) ≡ on_core (on_thread (thread_of (seen a) c.args.id) f) (seen a)) (sym (c.one_more.ensures ∙ ap (recounted (λ n. n + 1) c.entry_set-to.result.rep c.entry_set-to.result.serial) c.one_less.ensures))
+    (placed_seen a c.requires.sound c.args.id g c.in-Some.ensures.item h refl refl c.entry_set-from.result c.entry_set-to.result c.entry_set-from.ensures c.entry_set-to.ensures a.places f refl))
+
+pub returns-in_default-clause-new : goal.returns-in_default-clause-new
+unfolding set_how_far
+returns-in_default-clause-new c = thread_gone _ _ c.in_default.ensures.is _

@@ -1,16 +1,21 @@
-use Rattle.task_records.proofs.Core.{ap, Place, seen, set_place, Why}
-use Rattle.place_words.proofs.ThreadLemmas.{how_far_at, thread_gone, why_at, why_is}
+use Rattle.task_records.proofs.Core.{ap, bare, on_core, option_and_then, parts_of, Place, place_chain, seen, set_place, sym, thread_of, where_at, Why, ◌∙◌}
+use Rattle.task_records.specs.declared.{threads.GuestThread.GuestThread}
+use Rattle.place_words.proofs.ThreadLemmas.{same_item, thread_gone, why_at, why_is}
 use Rattle.place_words.proofs.places.hold.Goals as goal
 
 pub put-requires-clause-place : goal.put-requires-clause-place
 put-requires-clause-place c = why_at c.args.parts.now c.requires c.args.thread c.in-Some.found.now c.in-Some.ensures.item c.ready_why-why.result c.ready_why-why.ensures
 
-pub put-requires-clause-how_far : goal.put-requires-clause-how_far
-put-requires-clause-how_far c = how_far_at c.args.parts.now c.requires c.args.thread c.in-Some.found.now c.in-Some.ensures.item
+pub put-requires-clause-chain : goal.put-requires-clause-chain
+put-requires-clause-chain c g is =
+    let a = c.args.parts.now in
+    ap (λ (x : GuestThread). option_and_then (place_chain (bare (parts_of a))) (where_at x.instance (Place.Held c.ready_why-why.result))) (same_item is c.in-Some.ensures.item) ∙ c.held_chain-chain.ensures
 
 pub returns-in-Some-clause-new : goal.returns-in-Some-clause-new
-unfolding set_place
-returns-in-Some-clause-new c = c.put.ensures.new _ (ap (λ (w : Why). record c.in-Some.found.now.thread { place = Place.Held w }) (why_is (seen c.args.parts.now) _ c.in-Some.found.now.thread c.in-Some.ensures.is c.ready_why-why.result c.ready_why-why.ensures))
+returns-in-Some-clause-new c =
+    let a = c.args.parts.now in
+    c.put.ensures.new
+    ∙ ap (λ (w : Why). on_core (set_place (thread_of (seen a) c.args.thread) (Place.Held w)) (seen a)) (sym (why_is (seen a) _ c.in-Some.found.now.thread c.in-Some.ensures.is c.ready_why-why.result c.ready_why-why.ensures))
 
 pub returns-in_default-clause-new : goal.returns-in_default-clause-new
 unfolding set_place

@@ -1,13 +1,16 @@
-use Rattle.task_records.proofs.Core.{ap, Place, set_place}
-use Rattle.place_words.proofs.ThreadLemmas.{how_far_at, thread_gone}
+use Rattle.task_records.proofs.Core.{ap, bare, on_core, option_and_then, parts_of, place_chain, seen, set_place, sym, thread_of, where_at, ◌∙◌}
+use Rattle.task_records.specs.declared.{threads.GuestThread.GuestThread}
+use Rattle.place_words.proofs.ThreadLemmas.{same_item, thread_gone}
 use Rattle.place_words.proofs.places.set_place.Goals as goal
 
-pub put-requires-clause-how_far : goal.put-requires-clause-how_far
-put-requires-clause-how_far c = how_far_at c.args.parts.now c.requires c.args.thread c.in-Some.found.now c.in-Some.ensures.item
+pub put-requires-clause-chain : goal.put-requires-clause-chain
+put-requires-clause-chain c g is =
+    let a = c.args.parts.now in
+    ap (λ (x : GuestThread). option_and_then (place_chain (bare (parts_of a))) (where_at x.instance c.named_place-named.result.0)) (same_item is c.in-Some.ensures.item)
+    ∙ (ap (λ p. option_and_then (place_chain (bare (parts_of a))) (where_at c.in-Some.found.now.instance p)) (sym c.named_place-named.ensures.is) ∙ c.chain_at-chain.ensures)
 
 pub returns-in-Some-clause-new : goal.returns-in-Some-clause-new
-unfolding set_place
-returns-in-Some-clause-new c = c.put.ensures.new _ (ap (λ (p : Place). record c.in-Some.found.now.thread { place = p }) c.named_place-named.ensures.is)
+returns-in-Some-clause-new c = c.put.ensures.new ∙ ap (λ p. on_core (set_place (thread_of (seen c.args.parts.now) c.args.thread) p) (seen c.args.parts.now)) (sym c.named_place-named.ensures.is)
 
 pub returns-in_default-clause-new : goal.returns-in_default-clause-new
 unfolding set_place

@@ -1,11 +1,5 @@
-use Rattle.task_records.proofs.Core.{ap, HowFar, set_how_far}
-use Rattle.place_words.proofs.ThreadLemmas.{thread_gone}
+use Rattle.task_records.proofs.Core.{ap, on_core, seen, set_how_far, sym, thread_of, ◌∙◌}
 use Rattle.place_words.proofs.steps.set_how_far.Goals as goal
 
-pub returns-in-Some-clause-new : goal.returns-in-Some-clause-new
-unfolding set_how_far
-returns-in-Some-clause-new c = c.put_there.ensures.new _ (ap (λ (h : HowFar). record c.in-Some.found.now.thread { how_far = h }) c.named_how_far-named.ensures.is)
-
-pub returns-in_default-clause-new : goal.returns-in_default-clause-new
-unfolding set_how_far
-returns-in_default-clause-new c = thread_gone _ _ c.in_default.ensures.is _
+pub returns-clause-new : goal.returns-clause-new
+returns-clause-new c = c.put_there.ensures.new ∙ ap (λ h. on_core (set_how_far (thread_of (seen c.args.parts.now) c.args.thread) h) (seen c.args.parts.now)) (sym c.named_how_far-named.ensures.is)

@@ -4,20 +4,24 @@ use Rattle.task_machine.specs.declared.records.Turn.TheVariants as turn
 use Rattle.task_turns.proofs.IdleLemmas.{free_at, makes_turns, rest_of, rest_take}
 use Rattle.task_turns.proofs.turns.rest.Goals as goal
 use Rattle.task_turns.specs.Turn.{idle_line_of}
+use Rattle.std.proofs.Common.{subst}
+use Rattle.task_machine.specs.declared.component.Component.{Component}
+use Rattle.task_turns.specs.Turn.{Sits}
+use Rattle.task_turns.proofs.IdleLemmas.{in_order}
 
 pub returns-then-has_moving_work-clause-turned : goal.returns-then-has_moving_work-clause-turned
-returns-then-has_moving_work-clause-turned g c d x component idle m pends = makes_turns x (turn.Take false) _ _ _ (c.step_rest.ensures.makes x.component) m (free_at _ _ c.step_rest.ensures.turn (λ y s k. tt) x _ m)
+returns-then-has_moving_work-clause-turned g c d sits x component idle m pends = makes_turns x (turn.Take false) _ _ _ (c.step_rest.ensures.makes x.component) m (free_at _ _ c.step_rest.ensures.turn (λ y s k. tt) x _ m)
 
 pub returns-then-has_live_work-clause-turned : goal.returns-then-has_live_work-clause-turned
-returns-then-has_live_work-clause-turned g c d x component idle m pends = (
-  rest_take x _ m c.args.trap_on_idle idle (turn.Take false) refl c.requires.works (ap is_none c.requires.none) (sym c.has_moving_work.ensures ∙ c.if-has_moving_work.false) pends
+returns-then-has_live_work-clause-turned g c d sits x component idle m pends = (
+  rest_take x _ m c.args.trap_on_idle idle (turn.Take false) refl (in_order x d _ m component (sits.order m)) (ap is_none c.requires.none) (sym c.has_moving_work.ensures ∙ c.if-has_moving_work.false) pends
       ∙ ap (λ b. b || not c.args.trap_on_idle) (sym c.has_live_work.ensures ∙ c.if-has_live_work.true),
   (refl, refl),
 )
 
 pub returns-then-not-trap_on_idle-clause-turned : goal.returns-then-not-trap_on_idle-clause-turned
-returns-then-not-trap_on_idle-clause-turned g c d x component idle m pends = (
-  rest_take x _ m c.args.trap_on_idle idle (turn.Take false) refl c.requires.works (ap is_none c.requires.none) (sym c.has_moving_work.ensures ∙ c.if-has_moving_work.false) pends
+returns-then-not-trap_on_idle-clause-turned g c d sits x component idle m pends = (
+  rest_take x _ m c.args.trap_on_idle idle (turn.Take false) refl (in_order x d _ m component (sits.order m)) (ap is_none c.requires.none) (sym c.has_moving_work.ensures ∙ c.if-has_moving_work.false) pends
       ∙ ap₂ (λ a b. a || not b) (sym c.has_live_work.ensures ∙ c.if-has_live_work.false) c.if-not-trap_on_idle.true,
   (refl, refl),
 )
@@ -26,4 +30,4 @@ pub step_deadlock-requires-clause-rest : goal.step_deadlock-requires-clause-rest
 step_deadlock-requires-clause-rest g c = rest_of _ c.requires.works c.requires.none (sym c.has_moving_work.ensures ∙ c.if-has_moving_work.false)
 
 pub returns-clause-turned : goal.returns-clause-turned
-returns-clause-turned g c d x component idle m pends = c.step_deadlock.ensures.turns x (idle ∙ ap idle_line_of c.if-not-trap_on_idle.false) m pends
+returns-clause-turned g c d sits x component idle m pends = c.step_deadlock.ensures.turns x (subst (λ (c : Component). Sits c (turn.Take false) _) (sym component) sits) (idle ∙ ap idle_line_of c.if-not-trap_on_idle.false) m pends

@@ -1,3 +1,4 @@
+use Rattle.task_records.proofs.Core.{◌∙◌}
 use Rattle.walk_words.proofs.HeldLemmas.{first_is_any}
 use Rattle.walk_words.proofs.admissions.has_any.Goals as goal
 

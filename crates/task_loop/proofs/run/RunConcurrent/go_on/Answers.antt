@@ -34,9 +34,6 @@ compute-requires-clause-order g c =
     let turned = turned_same c.args.component.now (script c.turns.main) (script c.args.main.now) c.turns.self.trap_on_idle c.args.self.now.trap_on_idle c.turns.self.turn (part c.turns.main) c.turns.store.state (Some c.in-Some.made) (part c.turn.new.main) c.turn.new.store.state c.turns.invariant.script c.turns.invariant.idle (rw c.in-Some.is at c.in_ok-made.ensures.turned) in
     (on_more x (state_at s.core (part c.args.main.now) c.args.self.now.turn) c.args.trace.now (given s.core) c.turns.self.turn (part c.turns.main) c.turns.store.state c.turns.trace c.turns.added c.turns.invariant.on c.in-Some.made (part c.turn.new.main) c.turn.new.store.state turned c.push.new.self c.in-Ok.ensures.ok (sym c.in_default-outcome_of.ensures)).at.order
 
-pub is_idle-requires : goal.is_idle-requires
-is_idle-requires g c = (c.turns.invariant.on.at.order.order Unscripted).works
-
 pub turns-preserved : goal.turns-preserved
 turns-preserved g c =
     let s = c.args.store.now.state in
@@ -61,7 +58,7 @@ returns-then-is_idle-clause-ok g c =
     let part = g.M.MainTask.part in
     let x = setting_of c.args.component.now (g.M.MainTask.script c.args.main.now) c.args.self.now.trap_on_idle in
     let on = c.turns.invariant.on in
-    let rests = c.is_idle.ensures x (ap idle_line_of (sym c.turns.invariant.idle)) (part c.turns.main) on.pends ∙ c.if-is_idle.true in
+    let rests = c.is_idle.ensures x c.turns.invariant.on.at.order (ap idle_line_of (sym c.turns.invariant.idle)) (part c.turns.main) on.pends ∙ c.if-is_idle.true in
     on_rests x (state_at s.core (part c.args.main.now) c.args.self.now.turn) c.args.trace.now (given s.core) c.turns.self.turn (part c.turns.main) c.turns.store.state c.turns.trace c.turns.added on c.args.steps (omega arith) rests
 
 pub returns-clause-ok : goal.returns-clause-ok
@@ -70,5 +67,5 @@ returns-clause-ok g c =
     let part = g.M.MainTask.part in
     let x = setting_of c.args.component.now (g.M.MainTask.script c.args.main.now) c.args.self.now.trap_on_idle in
     let on = c.turns.invariant.on in
-    let moves = c.is_idle.ensures x (ap idle_line_of (sym c.turns.invariant.idle)) (part c.turns.main) on.pends ∙ c.if-is_idle.false in
+    let moves = c.is_idle.ensures x c.turns.invariant.on.at.order (ap idle_line_of (sym c.turns.invariant.idle)) (part c.turns.main) on.pends ∙ c.if-is_idle.false in
     on_out_at x (state_at s.core (part c.args.main.now) c.args.self.now.turn) c.args.trace.now (given s.core) c.turns.self.turn (part c.turns.main) c.turns.store.state c.turns.trace c.turns.added c.args.steps on (omega arith) moves

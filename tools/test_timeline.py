@@ -1,0 +1,70 @@
+#!/usr/bin/env python3
+"""Looks at what timeline.py draws of the stored run; in a browser too, where there is one. Run it as it is."""
+import html.parser
+import os
+import pathlib
+import shutil
+import subprocess
+import tempfile
+import unittest
+import xml.etree.ElementTree as xml
+
+import timeline
+
+HERE = pathlib.Path(__file__).resolve().parent
+TEXT, REPORT = ((HERE / f'generated_27.{kind}').read_text(encoding='ascii') for kind in ('txt', 'report'))
+BROWSER = next((path for name in ('chromium', 'chromium-browser', 'google-chrome') if (path := shutil.which(name))), None)
+
+
+def drawn(report, text):
+    """The run of the report, and its columns."""
+    run = timeline.Run(report.splitlines())
+    return run, run.columns(timeline.Follower(text, run).names)
+
+
+class Timeline(unittest.TestCase):
+    def setUp(self):
+        self.run_drawn, self.columns = drawn(REPORT, TEXT)
+
+    def test_every_label_is_a_row_and_the_outcome_stands_apart(self):
+        lines = REPORT.splitlines()
+        self.assertEqual(self.run_drawn.labels, lines[:-1])
+        self.assertEqual(self.run_drawn.outcome, lines[-1])
+
+    def test_a_thread_is_in_one_state_at_a_time(self):
+        for thread, _, _ in self.columns:
+            bars = sorted(bar[2:] for bar in self.run_drawn.bars if bar[0] == thread)
+            self.assertTrue(all(before[1] <= after[0] for before, after in zip(bars, bars[1:])), thread)
+
+    def test_every_thread_has_its_call_and_its_export(self):
+        exports, _, _, _ = timeline.read_scripts(TEXT)
+        for thread, call, name in self.columns:
+            self.assertLessEqual(call, thread)
+            self.assertIn(name, exports)
+
+    def test_the_picture_is_whole(self):
+        root = xml.fromstring(timeline.picture(self.run_drawn, self.columns))
+        texts = [''.join(text.itertext()) for text in root.iter('{http://www.w3.org/2000/svg}text')]
+        for row, label in enumerate(self.run_drawn.labels):
+            self.assertIn(f'{row + 1} {label}', texts)
+        self.assertIn(self.run_drawn.outcome, texts)
+
+    def test_the_page_is_whole_and_draws_what_is_in_sight(self):
+        long = '\n'.join([*self.run_drawn.labels] * (10000 // len(self.run_drawn.labels) + 1)) + '\ndone 1\n'
+        page = timeline.page(*drawn(long, TEXT))
+        html.parser.HTMLParser().feed(page)
+        self.assertLess(len(page), 3_000_000)
+        if BROWSER is None:
+            self.skipTest('there is no browser')
+        with tempfile.TemporaryDirectory() as folder:
+            file = os.path.join(folder, 'run.html')
+            pathlib.Path(file).write_text(page, encoding='utf-8')
+            seen = subprocess.run([BROWSER, '--headless', '--no-sandbox', '--disable-gpu', '--dump-dom', f'file://{file}'],
+                                  capture_output=True, text=True, timeout=120, check=True).stdout
+        self.assertIn('>done 1<', seen)
+        self.assertIn(f'{self.run_drawn.labels[0]}</text>', seen)
+        self.assertLess(seen.count('<text'), 1000)
+
+
+if __name__ == '__main__':
+    unittest.main()

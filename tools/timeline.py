@@ -1,0 +1,350 @@
+#!/usr/bin/env python3
+"""Draws a run: a column a thread, a row a label.
+
+    tools/timeline.py REPORT [--text TEXT] [--page FILE | --picture FILE]
+
+REPORT is what `run` printed. The page is HTML with nothing beside it: it draws the rows that are in sight, so that ten thousand
+labels scroll as ten do, and shows the threads that its filter names. The picture is an SVG of the whole run, for short ones. Without
+a file the page goes to standard output.
+
+A column is grouped with those of its call. With --text, the scenario that was run, a group bears the export's name: the tool then
+follows each thread through its script, by the answers in the labels. Grey is an entry at a mark, blue runs, white is stopped (it
+waits, is suspended, blocked or behind another), yellow is held; an arrow goes to a thread that is made, or that is woken.
+"""
+import argparse
+import html
+import json
+import re
+import sys
+
+TALL, WIDE, TOP, LEFT = 18, 26, 46, 330
+LETTER = 6.2
+COLOURS = {'queued': '#b8bcc4', 'runs': '#3b76c4', 'stopped': '#ffffff', 'held': '#f0c648'}
+MADE = re.compile(r'^main start \d+ thread (\d+)$')
+TAKEN = re.compile(r'^take (?:switch|high|low) thread (\d+)(.*)$')
+CALLED = re.compile(r'^thread (\d+) (calls|enters) thread (\d+)$')
+OWN = re.compile(r'^thread (\d+) (.*)$')
+WOKEN = re.compile(r' wakes (\d+)$')
+REGISTER = re.compile(r'^r\d+$')
+THREADS = re.compile(r'(?:thread|wakes) (\d+)')
+
+
+class Run:
+    """What a report says of each thread: the bars of its column, the arrows between columns, and whose call it serves."""
+
+    def __init__(self, lines):
+        *self.labels, self.outcome = lines
+        self.call = {}
+        self.bars, self.arrows = [], []
+        self.open = {}
+        for row, label in enumerate(self.labels):
+            self.read(row, label)
+        for thread in list(self.open):
+            self.close(thread, len(self.labels))
+
+    def close(self, thread, row):
+        state, since = self.open.pop(thread, (None, row))
+        if state and row > since:
+            self.bars.append([thread, state, since, row])
+
+    def turn(self, thread, state, row):
+        """The thread is in this state from the row on."""
+        if thread in self.open and self.open[thread][0] == state:
+            return
+        self.close(thread, row)
+        if state:
+            self.open[thread] = (state, row)
+
+    def make(self, thread, call, state, row):
+        self.call[thread] = call
+        self.turn(thread, state, row)
+
+    def read(self, row, label):
+        if woken := WOKEN.search(label):
+            label = label[:woken.start()]
+        if made := MADE.match(label):
+            self.make(int(made[1]), int(made[1]), 'queued', row)
+        elif taken := TAKEN.match(label):
+            thread, rest = int(taken[1]), taken[2]
+            self.turn(thread, 'held' if rest == ' held' else 'stopped' if rest == ' again' else 'runs', row)
+        elif called := CALLED.match(label):
+            caller, callee = int(called[1]), int(called[3])
+            self.make(callee, callee, 'queued' if called[2] == 'calls' else 'runs', row)
+            self.turn(caller, 'stopped', row + 1)
+            self.arrows.append([row, caller, callee])
+        elif label.startswith('trap thread '):
+            self.turn(int(label.split()[2]), None, row + 1)
+        elif own := OWN.match(label):
+            self.read_own(row, int(own[1]), own[2].split())
+        if woken:
+            runner = THREADS.search(label)
+            self.turn(int(woken[1]), 'queued', row + 1)
+            if runner:
+                self.arrows.append([row, int(runner[1]), int(woken[1])])
+
+    def read_own(self, row, thread, words):
+        """A label of a thread: its op is done, it has stopped, or it has ended."""
+        self.call.setdefault(thread, thread)
+        self.turn(thread, 'runs', row)
+        if words[0] in ('pauses', 'cb_wait', 'code', 'fails'):
+            self.turn(thread, 'stopped', row + 1)
+        elif words[0] == 'cb_yield':
+            self.turn(thread, 'queued', row + 1)
+        elif words[0] == 'exit':
+            self.turn(thread, None, row + 1)
+        elif words[0] == 'thread_new' and 'thread' in words:
+            made = int(words[words.index('thread') + 1])
+            self.make(made, self.call[thread], 'stopped', row)
+            self.arrows.append([row, thread, made])
+
+    def columns(self, names):
+        """The threads, those of a call beside each other, with the name of each group."""
+        order = sorted(self.call, key=lambda thread: (names.get(self.call[thread], ''), self.call[thread], thread))
+        return [[thread, self.call[thread], names.get(self.call[thread], '')] for thread in order]
+
+
+def read_scripts(text):
+    """Of a scenario its exports by name, its slots, what main starts, and its hosts' values."""
+    exports, slots, starts, hosts = {}, {}, [], {}
+    instance, script = None, None
+    for line in text.splitlines():
+        words = line.split()
+        if words[0] == 'host':
+            hosts[words[1]] = int(words[5]) if 'value' in words else 0
+        elif words[0] == 'instance':
+            instance = words[1]
+        elif words[0] == 'export':
+            script = []
+            exports[f'{instance}.{words[1]}'] = {'start': script, 'react': [], 'kind': words[2]}
+            export = f'{instance}.{words[1]}'
+        elif words[0] == 'react':
+            script = exports[export]['react']
+        elif words[0] == 'thread':
+            script = slots.setdefault((instance, int(words[1])), [])
+        elif words[0] in ('main', 'bad'):
+            script = None
+        elif words[0] == 'start':
+            starts.append(words[1])
+        elif script is not None and words[0] not in ('handles', 'table', 'idle', 'scenario', 'end'):
+            script.append(words)
+    return exports, slots, starts, hosts
+
+
+class Follower:
+    """Follows each thread through its script by what the labels answer, to know which export is called."""
+
+    def __init__(self, text, run):
+        self.exports, self.slots, self.starts, self.hosts = read_scripts(text)
+        self.names, self.registers, self.place, self.memory = {}, {}, {}, {}
+        self.results, self.works = {}, {}
+        self.run = run
+        for label in run.labels:
+            self.read(WOKEN.sub('', label).split())
+
+    def value(self, thread, word):
+        return self.registers[thread].get(int(word[1:]), 0) if word[0] == 'r' else int(word)
+
+    def write(self, thread, register, value):
+        self.registers.setdefault(thread, {})[int(register[1:])] = value
+
+    def begin(self, thread, name, values):
+        self.names[thread] = name
+        self.registers[thread] = dict(enumerate(values))
+        self.place[thread] = [self.exports[name]['start'], 0]
+
+    def op(self, thread):
+        script, at = self.place.get(thread, ([], 0))
+        return script[at] if at < len(script) else ['exit']
+
+    def read(self, words):
+        if words[:2] == ['main', 'start'] and words[3] == 'thread':
+            self.begin(int(words[4]), self.starts[int(words[2]) - 1], [])
+        elif words[0] == 'take' and words[2] == 'thread' and 'event' in words:
+            self.react(int(words[3]), words)
+        elif words[0] == 'take' and words[2] == 'host':
+            caller, register, value = self.works.get(int(words[3]), (None, 'r0', 0))
+            if caller:
+                self.write(caller, register, value)
+        elif words[0] == 'thread':
+            self.read_own(int(words[1]), words[2:])
+
+    def give(self, call, value):
+        """The call returns: its result goes to the register that an async call of it has named."""
+        caller, register = self.results.get(call, (None, None))
+        if register:
+            self.write(caller, register, value)
+
+    def react(self, thread, words):
+        event = words.index('event')
+        for register, word in enumerate(words[event + 1:event + 4]):
+            self.write(thread, f'r{register}', int(word))
+        if name := self.names.get(self.run.call.get(thread)):
+            self.place[thread] = [self.exports[name]['react'], 0]
+
+    def read_own(self, thread, words):
+        op = self.op(thread)
+        if words[0] in ('calls', 'enters'):
+            callee = op[3] if op[0] == 'call' else op[2]
+            operands = op[4:] if op[0] == 'call' else op[3:]
+            self.begin(int(words[2]), callee, [self.value(thread, word) for word in operands])
+            self.results[int(words[2])] = (thread, op[2] if op[0] == 'call' else None)
+        elif words[0] not in ('pauses', 'fails') and thread in self.place:
+            self.done(thread, op, words[1:])
+            if words[0] not in ('cb_wait', 'cb_yield', 'code', 'exit'):
+                self.place[thread][1] += 1
+
+    def done(self, thread, op, answers):
+        numbers = [int(word) for word in answers if word.isdigit()]
+        if op[0] in ('wait', 'poll'):
+            for more, value in enumerate(numbers[:3]):
+                self.write(thread, f'r{int(op[1][1:]) + more}', value)
+        elif op[0] == 'skip_eq' and self.value(thread, op[1]) == self.value(thread, op[2]):
+            self.place[thread][1] += int(op[3])
+        elif op[0] == 'ret':
+            self.give(self.run.call.get(thread), numbers[0])
+        elif answers == [] and op[0] == 'exit' and self.exports.get(self.names.get(thread), {}).get('kind') in ('sync', 'blocking'):
+            self.give(thread, self.registers[thread].get(0, 0))
+        elif op[0] == 'thread_new':
+            made = int(answers[answers.index('thread') + 1])
+            instance = self.names[self.run.call[thread]].split('.')[0]
+            self.registers[made] = {0: self.value(thread, op[3])}
+            self.place[made] = [self.slots.get((instance, int(op[2])), []), 0]
+            self.write(thread, op[1], numbers[0])
+        elif op[0] == 'call' and op[3] in self.hosts:
+            value = self.hosts[op[3]]
+            if numbers[0] == 2:
+                self.write(thread, op[2], value)
+            else:
+                self.works[numbers[1]] = (thread, op[2], value)
+            self.write(thread, op[1], numbers[0])
+        elif op[0] not in ('store', 'join', 'drop', 'set_drop') and len(op) > 1 and numbers and REGISTER.match(op[1]):
+            self.write(thread, op[1], numbers[0])
+
+
+def picture(run, columns):
+    """The whole run as an SVG."""
+    at = {column[0]: LEFT + WIDE * place for place, column in enumerate(columns)}
+    tall, wide = TOP + TALL * (len(run.labels) + 2), LEFT + WIDE * len(columns) + 120
+    parts = [f'<svg xmlns="http://www.w3.org/2000/svg" width="{wide}" height="{tall}" font-family="monospace" font-size="11">',
+             '<rect width="100%" height="100%" fill="white"/>', ARROW]
+    last = None
+    for thread, call, name in columns:
+        if call != last:
+            title = html.escape(name or f'call {call}')
+            parts.append(f'<text x="{at[thread] - 8}" y="16" transform="rotate(-12 {at[thread]} 16)">{title}</text>')
+            last = call
+        parts.append(f'<text x="{at[thread] - 4}" y="40" fill="#666">{thread}</text>')
+    for thread, state, since, until in run.bars:
+        parts.append(f'<rect x="{at[thread] - 6}" y="{TOP + TALL * since}" width="12" height="{TALL * (until - since)}" '
+                     f'fill="{COLOURS[state]}" stroke="#9aa0aa"/>')
+    for row, label in enumerate(run.labels):
+        parts.append(f'<text x="8" y="{TOP + TALL * row + 13}"><tspan fill="#999">{row + 1}</tspan> {html.escape(label)}</text>')
+    for row, source, target in run.arrows:
+        if source in at and target in at:
+            y = TOP + TALL * row + TALL // 2
+            parts.append(f'<line x1="{at[source]}" y1="{y}" x2="{at[target]}" y2="{y}" stroke="#333" marker-end="url(#tip)"/>')
+    parts.append(f'<text x="8" y="{TOP + TALL * len(run.labels) + 15}" font-weight="bold">{html.escape(run.outcome)}</text></svg>')
+    return '\n'.join(parts) + '\n'
+
+
+ARROW = ('<defs><marker id="tip" markerWidth="7" markerHeight="7" refX="6" refY="3" orient="auto">'
+         '<path d="M0,0 L6,3 L0,6 z" fill="#333"/></marker></defs>')
+
+PAGE = '''<!doctype html>
+<html lang="en"><head><meta charset="utf-8"><title>A run</title><style>
+body { margin: 0; font: 13px sans-serif; display: flex; flex-direction: column; height: 100vh }
+header { padding: 6px 10px; border-bottom: 1px solid #ccc }
+#heads, #rows { font: 11px monospace } #view { overflow: auto; flex: 1 } .key { padding: 1px 6px; margin-left: 8px; border: 1px solid #9aa0aa }
+</style></head><body>
+<header><b id="outcome"></b> <span id="size"></span> &nbsp; threads: <input id="filter" placeholder="all, or 1 4-7"> KEYS</header>
+<div id="view"><svg id="heads"></svg><div id="space" style="position:relative"><svg id="rows" style="position:absolute;left:0"></svg></div></div>
+<script>
+const run = DATA, TALL = SIZE_TALL, WIDE = SIZE_WIDE, LEFT = SIZE_LEFT, colours = COLOURS_HERE;
+const view = document.getElementById('view'), rows = document.getElementById('rows'), heads = document.getElementById('heads');
+const plain = text => text.replace(/&/g, '&amp;').replace(/</g, '&lt;');
+let at = new Map(), shown = [];
+function wanted(words) {
+  const spans = words.split(/[ ,]+/).filter(word => /^\\d+(-\\d+)?$/.test(word)).map(word => word.split('-').map(Number));
+  return thread => !spans.length || spans.some(([from, to]) => to === undefined ? thread === from : from <= thread && thread <= to);
+}
+function choose() {
+  const keeps = wanted(document.getElementById('filter').value);
+  const columns = run.columns.filter(column => keeps(column[0]));
+  at = new Map(columns.map((column, place) => [column[0], LEFT + WIDE * place]));
+  const all = columns.length === run.columns.length;
+  shown = run.labels.map((label, row) => row).filter(row => all || (run.labels[row].match(/(?:thread|wakes) \\d+/g) || [])
+    .some(word => at.has(Number(word.split(' ')[1]))));
+  const wide = LEFT + WIDE * columns.length + 140;
+  heads.setAttribute('width', wide); heads.setAttribute('height', 46); rows.setAttribute('width', wide);
+  let drawn = '', last = null;
+  for (const [thread, call, name] of columns) {
+    const x = at.get(thread);
+    if (call !== last) drawn += `<text x="${x - 8}" y="16" transform="rotate(-12 ${x} 16)">${plain(name || 'call ' + call)}</text>`;
+    drawn += `<text x="${x - 4}" y="40" fill="#666">${thread}</text>`; last = call;
+  }
+  heads.innerHTML = drawn;
+  document.getElementById('space').style.height = TALL * (shown.length + 1) + 'px';
+  document.getElementById('size').textContent = `${shown.length} of ${run.labels.length} labels, ${columns.length} of ${run.columns.length} threads`;
+  draw();
+}
+function draw() {
+  const first = Math.max(0, Math.floor((view.scrollTop - 46) / TALL) - 5), many = Math.ceil(view.clientHeight / TALL) + 60;
+  const part = shown.slice(first, first + many);
+  rows.style.top = first * TALL + 'px'; rows.setAttribute('height', part.length * TALL + 10);
+  let drawn = 'ARROW_HERE';
+  const place = new Map(part.map((row, index) => [row, index * TALL]));
+  for (const [thread, state, since, until] of run.bars) {
+    if (!at.has(thread) || !part.length || until <= part[0] || since > part[part.length - 1]) continue;
+    const inside = part.filter(row => since <= row && row < until);
+    if (inside.length) drawn += `<rect x="${at.get(thread) - 6}" y="${place.get(inside[0])}" width="12" ` +
+      `height="${inside.length * TALL}" fill="${colours[state]}" stroke="#9aa0aa"/>`;
+  }
+  for (const row of part) drawn += `<text x="8" y="${place.get(row) + 13}"><tspan fill="#999">${row + 1}</tspan> ${plain(run.labels[row])}</text>`;
+  for (const [row, source, target] of run.arrows) if (place.has(row) && at.has(source) && at.has(target)) {
+    const y = place.get(row) + TALL / 2;
+    drawn += `<line x1="${at.get(source)}" y1="${y}" x2="${at.get(target)}" y2="${y}" stroke="#333" marker-end="url(#tip)"/>`;
+  }
+  rows.innerHTML = drawn;
+}
+document.getElementById('outcome').textContent = run.outcome;
+document.getElementById('filter').addEventListener('input', choose);
+view.addEventListener('scroll', draw); window.addEventListener('resize', draw); choose();
+</script></body></html>
+'''
+
+
+def page(run, columns):
+    """The run as one HTML page."""
+    data = json.dumps({'labels': run.labels, 'outcome': run.outcome, 'columns': columns, 'bars': run.bars, 'arrows': run.arrows})
+    keys = ''.join(f'<span class="key" style="background:{colour}">{state}</span>' for state, colour in COLOURS.items())
+    written = PAGE.replace('KEYS', keys).replace('SIZE_TALL', str(TALL)).replace('SIZE_WIDE', str(WIDE)).replace('SIZE_LEFT', str(LEFT))
+    written = written.replace('COLOURS_HERE', json.dumps(COLOURS)).replace('ARROW_HERE', ARROW)
+    return written.replace('DATA', data.replace('</', '<\\/'))
+
+
+def main():
+    parser = argparse.ArgumentParser(description=__doc__.splitlines()[0])
+    parser.add_argument('report')
+    parser.add_argument('--text')
+    where = parser.add_mutually_exclusive_group()
+    where.add_argument('--page')
+    where.add_argument('--picture')
+    options = parser.parse_args()
+    with open(options.report, encoding='ascii') as file:
+        run = Run(file.read().splitlines())
+    names = {}
+    if options.text:
+        with open(options.text, encoding='ascii') as file:
+            names = Follower(file.read(), run).names
+    columns = run.columns(names)
+    drawn = picture(run, columns) if options.picture else page(run, columns)
+    target = options.picture or options.page
+    if target:
+        with open(target, 'w', encoding='utf-8') as file:
+            file.write(drawn)
+    else:
+        sys.stdout.write(drawn)
+
+
+if __name__ == '__main__':
+    main()
