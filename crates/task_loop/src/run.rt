@@ -15,7 +15,7 @@ use task_store::{Access, AccessorTask, FromHost, HostWork, StandingRun, Store};
 use task_turns::{Made, MainStep, Trace, compute, is_idle, made_by_main, step_run, take};
 
 /// A run of the event loop on a store.
-[derive(Drop)]
+#[derive(Drop)]
 pub struct RunConcurrent {
     turn: Turn,
     trap_on_idle: bool,

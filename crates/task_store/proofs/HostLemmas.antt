@@ -2,7 +2,7 @@
 use Rattle.std.proofs.Common.{ap, arith, inl, inr, refl, subst, sym, ⊎_elim, ◌∙◌}
 use Rattle.std.proofs.lemmas.Bool.Decides.{nat_tests}
 use Rattle.std.specs.Option.{option_and_then, option_map, option_map_or}
-use Rattle.std.specs.Prelude.{Bool, None, Option, Some, cond, false, is_some, suc, true, zero, ℕ, ◌+◌, ◌==◌, ◌≡◌, ◌≤◌, ◌⊎◌}
+use Rattle.std.specs.Prelude.{Bool, IsSome, None, Option, Some, cond, false, is_some, suc, true, zero, ℕ, ◌+◌, ◌==◌, ◌||◌, ◌≡◌, ◌≤◌, ◌⊎◌}
 use Rattle.host_works.specs.Course.{left_after, told}
 use Rattle.host_works.specs.Kept.{HoldsNone, held}
 use Rattle.host_works.specs.declared.kept.HostWorks.{HostWorks}
@@ -13,7 +13,7 @@ use Rattle.task_rules.proofs.StandLemmas.{is_eq_of}
 use Rattle.task_machine.specs.Core.{Core, Main, State, Unscripted, fresh}
 use Rattle.task_machine.specs.Maps.{Records, change, get, get-empty, get-insert}
 use Rattle.task_machine.specs.Moves.{put_high, unblocked}
-use Rattle.task_machine.specs.Read.{blocked_on, course_of, how_far_of, phase_of, work_caller_of}
+use Rattle.task_machine.specs.Read.{blocked_on, course_of, how_far_of, is_aborted, phase_of, work_caller_of}
 use Rattle.task_machine.specs.Write.{add_work, count_work, on_thread, on_work, push_high, set_course, set_phase, set_place, set_stage, set_trapped}
 use Rattle.task_machine.specs.declared.component.HostDef.{HostDef}
 use Rattle.task_machine.specs.declared.label.Label.{Label}
@@ -39,7 +39,7 @@ use Rattle.task_rules.specs.Step.{FuturesStep, Polled, Step}
 use Rattle.task_rules.specs.Turns.{at_turn, nothing_stands, settled_futures, settled_take}
 use Rattle.task_rules.specs.Works.{Ends, FailsNow, Poll, StillPends, course_for, followed, has_end, next_polled, poll_ends, poll_of, poll_pends, polled_again, polled_course, polled_in}
 use Rattle.task_store.specs.Hosts.{HoldsHosts, HoldsWorks, WorksNumbered, held_by}
-use Rattle.task_store.specs.Polled.{Fits, Tells, polled_core}
+use Rattle.task_store.specs.Polled.{Fits, Tells, is_over, polled_core}
 use Rattle.task_store.specs.declared.store.Store.{Store}
 use Rattle.task_turns.specs.Turn.{IsSettled, state_at}
 
@@ -122,23 +122,23 @@ module _ (x : Setting) (s : State) (l : Label) (t : State) (step : Step x s l t)
     (numbered : (i : ℕ) → is_some (get s.core.works i) ≡ true → i ≤ s.core.made.works) (left : ℕ → Option HostDef) where
   pub holds_quiet : (MakesWork x s → ⊥) → HoldsWorks left s.core → HoldsWorks left t.core
   unfolding CoursesStay WorksAreCalled
-  holds_quiet none = holds_after s.core t.core left left (courses_stay x s l t step quiet) (λ i below. refl)
-      (λ i w at. ⊎_elim (λ old. inl old) (λ made. absurd (none made.1)) (works_are_called x s l t step numbered i (ap (λ (o : Option Work). is_some o) at)))
+  holds_quiet none h = holds_after s.core t.core left left (courses_stay x s l t step quiet) (λ i below. refl)
+      (λ i w at. ⊎_elim (λ old. inl old) (λ made. absurd (none made.1)) (works_are_called x s l t step numbered i (ap (λ (o : Option Work). is_some o) at))) h
 
   -- the work with the next number isn't there
   pub holds_unmade : get t.core.works (s.core.made.works + 1) ≡ None → HoldsWorks left s.core → HoldsWorks left t.core
   unfolding CoursesStay WorksAreCalled
-  holds_unmade none = holds_after s.core t.core left left (courses_stay x s l t step quiet) (λ i below. refl)
-      (λ i w at. ⊎_elim (λ old. inl old) (λ made. absurd (let e = made.0 in let f = subst (λ (k : ℕ). get t.core.works k ≡ Some w) e at in cc)) (works_are_called x s l t step numbered i (ap (λ (o : Option Work). is_some o) at)))
+  holds_unmade none h = holds_after s.core t.core left left (courses_stay x s l t step quiet) (λ i below. refl)
+      (λ i w at. ⊎_elim (λ old. inl old) (λ made. absurd (let e = made.0 in let f = subst (λ (k : ℕ). get t.core.works k ≡ Some w) e at in cc)) (works_are_called x s l t step numbered i (ap (λ (o : Option Work). is_some o) at))) h
 
   -- it is there, and held
   pub holds_made : (d : HostDef) (right : ℕ → Option HostDef) → course_of (s.core.made.works + 1) t.core ≡ courses.Goes d →
       ((i : ℕ) → right i ≡ cond (s.core.made.works + 1 == i) (Some d) (left i)) → HoldsWorks left s.core → HoldsWorks right t.core
   unfolding CoursesStay WorksAreCalled
-  holds_made d right goes is = holds_after s.core t.core left right (courses_stay x s l t step quiet)
+  holds_made d right goes is h = holds_after s.core t.core left right (courses_stay x s l t step quiet)
       (λ i below. let e = is i in grind (arith, nat_tests))
       (λ i w at. ⊎_elim (λ old. inl old) (λ made. inr (d, (let e = made.0 in let f = subst (λ (k : ℕ). get t.core.works k ≡ Some w) e at in grind (arith), let e = is i in let f = made.0 in grind (arith, nat_tests))))
-      (works_are_called x s l t step numbered i (ap (λ (o : Option Work). is_some o) at)))
+      (works_are_called x s l t step numbered i (ap (λ (o : Option Work). is_some o) at))) h
 
 -- ---- Polls
 
@@ -245,53 +245,68 @@ fits_goes d = fits_by d.polls d.value
 apart : (i j : ℕ) → (j == i) ≡ false → (i == j) ≡ false
 apart i j e = grind (arith, nat_tests, e)
 
+or_end : (b : Bool) → (b || true) ≡ false → ⊥
+or_end true h = cc
+or_end false h = cc
+
 module _ (i : ℕ) (s : Core) (left right : ℕ → Option HostDef) where
-  aborted_fits : phase_of i s ≡ phases.AbortRequested → right i ≡ None → Fits (poll_of i s) (right i) (left i)
+  over_fits : is_over i s ≡ true → right i ≡ None → Fits (poll_of i s) (right i) (left i)
   unfolding poll_of
-  aborted_fits is none = rw is none
-
-  ended_fits : has_end (course_of i s) ≡ true → right i ≡ None → Fits (poll_of i s) (right i) (left i)
-  unfolding poll_of
-  ended_fits has none = by (phase_of i s) (course_of i s) has
+  over_fits over none = by (phase_of i s) (course_of i s) over
     where
-      by : (p : Phase) (c : Course) → has_end c ≡ true → Fits (polled_in p c) (right i) (left i)
+      by : (p : Phase) (c : Course) → (is_aborted p || has_end c) ≡ true → Fits (polled_in p c) (right i) (left i)
       by phases.AbortRequested c h = none
-      by p (courses.Goes d) h = absurd (cc)
-      by p (courses.Value v) h = none
-      by p courses.NoValue h = none
+      by phases.Running (courses.Goes d) h = absurd (cc)
+      by phases.Running (courses.Value v) h = none
+      by phases.Running courses.NoValue h = none
+      by phases.Complete (courses.Goes d) h = absurd (cc)
+      by phases.Complete (courses.Value v) h = none
+      by phases.Complete courses.NoValue h = none
 
-  gone_at : ((j : ℕ) → right j ≡ cond (i == j) None (left j)) → right i ≡ None
-  gone_at is = is i ∙ grind (arith, nat_tests)
+  own : (o : Option HostDef) → cond (i == i) o (left i) ≡ o
+  own o = grind (arith, nat_tests)
 
   -- one that was aborted, or has ended, is let go
-  pub tells_gone : (phase_of i s ≡ phases.AbortRequested) ⊎ (has_end (course_of i s) ≡ true) → ((j : ℕ) → right j ≡ cond (i == j) None (left j)) → Tells i s left right
-  tells_gone why is = record {
+  pub tells_over : is_over i s ≡ true → ((j : ℕ) → right j ≡ cond (i == j) None (left j)) → Tells i s left right
+  tells_over over is = record {
     others = λ j e. is j ∙ rw (apart i j e) refl;
-    fits = ⊎_elim (λ aborted. aborted_fits aborted (gone_at is)) (λ has. ended_fits has (gone_at is)) why;
+    fits = over_fits over (is i ∙ own None);
   }
 
-  going_fits : (d : HostDef) → (phase_of i s ≡ phases.AbortRequested → ⊥) → course_of i s ≡ courses.Goes d → left i ≡ Some d → right i ≡ left_after d → Fits (poll_of i s) (right i) (left i)
+  -- one that isn't goes on
+  going_on : is_over i s ≡ false → (d : HostDef) × (course_of i s ≡ courses.Goes d)
+  going_on going = by (course_of i s) refl going
+    where
+      by : (c : Course) → course_of i s ≡ c → (is_aborted (phase_of i s) || has_end c) ≡ false → (d : HostDef) × (course_of i s ≡ courses.Goes d)
+      by (courses.Goes d) e h = (d, e)
+      by (courses.Value v) e h = absurd (or_end (is_aborted (phase_of i s)) h)
+      by courses.NoValue e h = absurd (or_end (is_aborted (phase_of i s)) h)
+
+  pub held_going : is_over i s ≡ false → HoldsWorks left s → IsSome (left i)
+  held_going going h = let d = going_on going in subst (λ (o : Option HostDef). IsSome o) (sym (h.there i d.0 d.1)) refl
+
+  going_fits : (d : HostDef) → is_over i s ≡ false → course_of i s ≡ courses.Goes d → left i ≡ Some d → right i ≡ left_after d → Fits (poll_of i s) (right i) (left i)
   unfolding poll_of
-  going_fits d running goes was is = by (phase_of i s) running
+  going_fits d going goes was is = by (phase_of i s) going
     where
       polled : Fits (polled_course (course_of i s)) (right i) (left i)
       polled = rw (goes, was, is) (fits_goes d)
 
-      by : (p : Phase) → (p ≡ phases.AbortRequested → ⊥) → Fits (polled_in p (course_of i s)) (right i) (left i)
-      by phases.AbortRequested n = absurd (n refl)
-      by phases.Running n = polled
-      by phases.Complete n = polled
+      by : (p : Phase) → (is_aborted p || has_end (course_of i s)) ≡ false → Fits (polled_in p (course_of i s)) (right i) (left i)
+      by phases.AbortRequested h = absurd (cc)
+      by phases.Running h = polled
+      by phases.Complete h = polled
 
-  -- one that goes on is polled
-  pub tells_polled : (d : HostDef) → (phase_of i s ≡ phases.AbortRequested → ⊥) → course_of i s ≡ courses.Goes d → left i ≡ Some d →
-      ((j : ℕ) → right j ≡ cond (i == j) (option_and_then left_after (left i)) (left j)) → Tells i s left right
-  tells_polled d running goes was is = record {
+  -- and is polled
+  pub tells_polled : is_over i s ≡ false → HoldsWorks left s → ((j : ℕ) → right j ≡ cond (i == j) (option_and_then left_after (left i)) (left j)) → Tells i s left right
+  tells_polled going h is = let d = going_on going in let was = h.there i d.0 d.1 in record {
     others = λ j e. is j ∙ rw (apart i j e) refl;
-    fits = going_fits d running goes was (is i ∙ (here ∙ ap (λ (o : Option HostDef). option_and_then left_after o) was));
+    fits = going_fits d.0 going d.1 was (is i ∙ (own (option_and_then left_after (left i)) ∙ ap (λ (o : Option HostDef). option_and_then left_after o) was));
   }
-    where
-      here : cond (i == i) (option_and_then left_after (left i)) (left i) ≡ option_and_then left_after (left i)
-      here = grind (arith, nat_tests)
+
+-- the number of the work that is next
+pub next_is : (k i n : ℕ) (o : Option ℕ) → n ≡ k → Some k ≡ o → o ≡ Some i → n ≡ i
+next_is k i n o named next is = cc
 
 next_there : (n : ℕ) (s : Core) → IsSettled s (turn.Futures n) → (i : ℕ) × (next_polled n s ≡ Some i)
 next_there n s settled = by (next_polled n s) refl settled

@@ -1,16 +1,18 @@
 //! The host works of a store: those of guests' calls, and those that a host spawns.
-ghost use Rattle.std.specs.Prelude.{◌≡◌, ◌<◌, ◌^◌, ℕ, IfErr, IfOk, None, OnErr, OnOk, Some, option_map};
+ghost use Rattle.std.specs.Prelude.{◌||◌, ◌≡◌, ◌<◌, ◌^◌, ℕ, IfErr, IfOk, None, OnErr, OnOk, Some, option_map};
 ghost use Rattle.task_laws.specs.Order.{WorksQueued};
 ghost use Rattle.task_machine.specs.Core.{Main};
+ghost use Rattle.task_machine.specs.Read.{is_aborted};
 ghost use Rattle.task_machine.specs.declared.records.Turn.{Turn};
 ghost use Rattle.task_machine.specs.declared.records.WorkCaller.TheVariants as work_callers;
 ghost use Rattle.task_ops.specs.Works.{KeepsWorks};
 ghost use Rattle.task_rules.specs.Calls.{next_work, work_queued};
 ghost use Rattle.task_rules.specs.Places.{Placed};
 ghost use Rattle.task_rules.specs.Stalled.{Setting};
-ghost use Rattle.task_rules.specs.Works.{next_polled};
+ghost use Rattle.task_rules.specs.Works.{has_end, next_polled};
 ghost use Rattle.task_store.specs.Hosts.{HoldsHosts, WorksNumbered, held_after_call, held_by};
 ghost use Rattle.task_store.specs.Polled.{Tells};
+ghost use Rattle.task_store.specs.Spawned.{IsSpawnedIn};
 ghost use Rattle.task_turns.specs.Turn.{IsSettled, PendsIn, Turns, given};
 ghost use Rattle.task_words.specs.StateView.{Keeps, work_of};
 
@@ -22,6 +24,17 @@ use task_machine::{Course, HostDef, NoMemory, Phase};
 use task_turns::{Made, poll};
 use task_words::{ResultWords, WorkId, WorkWords};
 
+// Whether a work isn't polled: it was aborted, or has ended.
+fn is_over(phase: Phase, course: Course) -> bool
+    ensures { result ≡ (is_aborted phase || has_end course) }
+{
+    match (phase, course) {
+        (Phase::AbortRequested, _) => true,
+        (_, Course::Goes { host: _ }) => false,
+        _ => true,
+    }
+}
+
 impl<T, H: AccessorTask<T>> Store<T, H> {
     /// Spawns a work beside the calls of the store. It is queued, becomes live when a run takes it,
     /// and is polled from then on, once a turn, until it ends. Where memory is wanting, no work is
@@ -30,6 +43,7 @@ impl<T, H: AccessorTask<T>> Store<T, H> {
         requires given { given self.old.state.core < 2 ^ 61 }
         ensures number { IfOk result (λ h. h.number ≡ next_work self.old.state.core) }
         ensures named { IfOk result (λ h. work_of self.new.state h.work ≡ h.number) }
+        ensures spawned { IfOk result (λ h. IsSpawnedIn h self.new.state) }
         ensures core { OnOk result (self.new.state.core ≡ work_queued work_callers.Spawn (H.course work) None self.old.state.core) }
         ensures current { self.new.state.current ≡ self.old.state.current }
         ensures tags { Keeps self.old.state.tags self.new.state.tags }
@@ -40,9 +54,9 @@ impl<T, H: AccessorTask<T>> Store<T, H> {
     {
         let number = self.state.made().works + 1;
         let left = work.left();
-        if self.works.keep(number, work).is_err() {
+        let Ok(()) = self.works.keep(number, work) else {
             return Err(TaskError::NoMemory);
-        }
+        };
         match self.state.queue_spawn(left) {
             Ok(work) => Ok(SpawnHandle { work, number }),
             Err(_) => {
@@ -62,16 +76,11 @@ impl<T, H: AccessorTask<T>> Store<T, H> {
             return;
         };
         let number = self.state.work_number(work);
-        if matches!(self.state.phase(work), Phase::AbortRequested) {
+        if is_over(self.state.phase(work), self.state.course(work)) {
             self.works.let_go(number);
             return;
         }
-        match self.state.course(work) {
-            Course::Goes { host: _ } => {
-                let _answer = self.works.poll(number, &mut self.value);
-            }
-            _ => self.works.let_go(number),
-        }
+        let _answer = self.works.poll(number, &mut self.value);
     }
 
     /// Polls the live work that is next, past those with numbers up to `polled`.

@@ -81,6 +81,13 @@ impl<T, H> Store<T, H> {
         }
     }
 
+    /// The host's value.
+    pub fn data(&self) -> &T
+        ensures { result.now ≡ self.now.value }
+    {
+        &self.value
+    }
+
     /// Makes an instance and answers its number, from 0. Where memory is wanting, the store is as
     /// before.
     pub fn add_instance(&mut self) -> Result<ComponentInstanceId, NoMemory>

@@ -45,7 +45,7 @@ turns-preserved g c =
     record {
       script = c.in_ok-made.ensures.script ∙ c.turns.invariant.script;
       suits = c.in_ok-made.ensures.suits;
-      knows = g.M.MainTask.stays c.turn.new.main c.turn.new.store.state c.compute.new.w (last_by_works c.turn.new.store.state c.compute.new.w c.in_ok-added.ensures.works) c.in_ok-made.ensures.knows;
+      knows = g.met.M.MainTask.stays c.turn.new.main c.turn.new.store.state c.compute.new.w (last_by_works c.turn.new.store.state c.compute.new.w c.in_ok-added.ensures.works) c.in_ok-made.ensures.knows;
       idle = c.turns.invariant.idle;
       stands = c.in_ok-made.ensures.stands ∙ c.turns.invariant.stands;
       on = c.in_ok-added.ensures.on x refl (state_at s.core (part c.args.main.now) c.args.self.now.turn) c.args.trace.now (given s.core) (part c.turn.new.main) on;

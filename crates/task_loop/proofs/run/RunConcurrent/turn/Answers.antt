@@ -31,7 +31,7 @@ returns-in_ok-ran-in-Run-clause-knows g c =
     let s = c.args.store.now.state in
     let t = c.step_run.new.w in
     let x = setting_of c.args.component.now (g.M.MainTask.script main) c.args.self.now.trap_on_idle in
-    by_run (g.M.MainTask.knows main) s t (λ last. g.M.MainTask.stays main s t last c.requires.knows) x (g.M.MainTask.part main) c.in-Run.thread c.in_ok-ran-in-Run.ran.made c.in_ok-ran-in-Run.ensures.makes c.in_ok-ran-in-Run.ensures.works
+    by_run (g.M.MainTask.knows main) s t (λ last. g.met.M.MainTask.stays main s t last c.requires.knows) x (g.M.MainTask.part main) c.in-Run.thread c.in_ok-ran-in-Run.ran.made c.in_ok-ran-in-Run.ensures.makes c.in_ok-ran-in-Run.ensures.works
 
 pub returns-in-Futures-clause-knows : goal.returns-in-Futures-clause-knows
 returns-in-Futures-clause-knows g c =
@@ -40,7 +40,7 @@ returns-in-Futures-clause-knows g c =
     let s = c.args.store.now.state in
     let t = c.poll.new.w in
     let x = setting_of c.args.component.now (g.M.MainTask.script main) c.args.self.now.trap_on_idle in
-    by_poll (g.M.MainTask.knows main) s t (λ last. g.M.MainTask.stays main s t last c.requires.knows) x part c.in-Futures.polled c.poll.result (c.poll.ensures.turns x part (rw c.in-Futures.is at c.requires.pends)) c.poll.ensures.works
+    by_poll (g.M.MainTask.knows main) s t (λ last. g.met.M.MainTask.stays main s t last c.requires.knows) x part c.in-Futures.polled c.poll.result (c.poll.ensures.turns x part (rw c.in-Futures.is at c.requires.pends)) c.poll.ensures.works
 
 pub returns-in-Take-clause-knows : goal.returns-in-Take-clause-knows
 returns-in-Take-clause-knows g c =
@@ -48,4 +48,4 @@ returns-in-Take-clause-knows g c =
     let s = c.args.store.now.state in
     let t = c.take.new.w in
     let x = setting_of c.args.component.now (g.M.MainTask.script main) c.args.self.now.trap_on_idle in
-    by_take (g.M.MainTask.knows main) s t (λ last. g.M.MainTask.stays main s t last c.requires.knows) x c.args.self.now.trap_on_idle c.in-Take.ended (g.M.MainTask.part main) c.take.result refl (rw c.in-Take.is at c.requires.pends) c.take.ensures.turned c.take.ensures.works
+    by_take (g.M.MainTask.knows main) s t (λ last. g.met.M.MainTask.stays main s t last c.requires.knows) x c.args.self.now.trap_on_idle c.in-Take.ended (g.M.MainTask.part main) c.take.result refl (rw c.in-Take.is at c.requires.pends) c.take.ensures.turned c.take.ensures.works
