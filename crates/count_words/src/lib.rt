@@ -2,6 +2,7 @@
 //! full a store is, and whether something moves.
 #![tactic(auto)]
 
+mod entries;
 mod limits;
 mod members;
 mod results;
@@ -9,6 +10,7 @@ mod settings;
 mod stalls;
 mod works;
 
+pub use entries::{give_group, take_group};
 pub use limits::{
     at_handle_limit, count_work, current, fits, has_interesting, made, set_current, set_trapped,
     set_uninteresting, trapped,

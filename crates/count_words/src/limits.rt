@@ -5,6 +5,7 @@ ghost use Rattle.task_records.specs.Seen.{IsSound, seen};
 ghost use Rattle.task_rules.specs.MainOps.{has_interesting};
 ghost use Rattle.task_words.specs.StateView.{call_of, on_core, with_current};
 
+use crate::entries::give_groups;
 use task_machine::Made;
 use task_records::CoreParts;
 use task_words::{CallId, ThreadId};
@@ -97,4 +98,5 @@ pub fn set_trapped(parts: &mut CoreParts)
     parts.finished = parts.made.groups;
     parts.kept.used -= parts.kept.groups;
     parts.kept.groups = 0;
+    give_groups(&mut parts.table_places, &mut parts.group_entries);
 }

@@ -3,7 +3,7 @@ ghost use Rattle.std.specs.Prelude.{◌≡◌, ◌+◌, ◌<◌, ◌^◌, [], If
 ghost use Rattle.task_machine.specs.Core.{Unscripted};
 ghost use Rattle.state_calls.specs.declared.error.TaskError.TheVariants as task_error;
 ghost use Rattle.task_store.specs.Hosts.{HoldsHosts};
-ghost use Rattle.task_turns.specs.Covered.{IsCovered};
+ghost use Rattle.task_turns.specs.WellFormed.{IsWellFormed};
 ghost use Rattle.task_turns.specs.Main.{Steps};
 ghost use Rattle.task_turns.specs.Turn.{Sits, given, running_of};
 ghost use Rattle.embed_example.specs.Host.{TakesOne};
@@ -42,7 +42,7 @@ fn start(
     component: &Component,
     func: Func,
 ) -> Result<MainStep, TaskError>
-    requires covered { IsCovered component.now }
+    requires covered { IsWellFormed component.now }
     requires order { Sits component.now Turn.Main access.old.store.now.state.core }
     requires takes { TakesOne component.now func }
     requires hosts { HoldsHosts ScriptedHost.course access.old.store.now }

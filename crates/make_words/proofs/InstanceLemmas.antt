@@ -4,6 +4,7 @@ use Rattle.task_records.specs.declared.{calls.GuestTask.GuestTask, instances.Ins
 use Rattle.make_words.proofs.LooseLemmas.{IsIndex-opened}
 use Rattle.make_words.proofs.MarkLemmas.{row_is}
 use Rattle.make_words.specs.Loose.{AreLoose}
+use Rattle.table_order.specs.declared.seat_links.Seat.{Seat}
 
 module _ {X : Type 0} where
   pub pushed_last : (xs : List X) (x : X) → slice_get (xs ++ x ∷ []) (length xs) ≡ Some x
@@ -98,7 +99,7 @@ module _ (p : Parts) (whole : IsWhole p) (r : InstanceRecord) (loose : AreLoose 
   place_others (BlockedOn (Subtask.Guest k)) other = refl
   place_others (BlockedOn (Subtask.Host i)) other = refl
 
-  none_held : (rep : ℕ) (f : Filing Where ℕ) → filings place_filing p.threads rep ≡ Some f → f.key ≡ Some (HeldIn next) → ⊥
+  none_held : (rep : ℕ) (f : Filing Where Seat) → filings place_filing p.threads rep ≡ Some f → f.key ≡ Some (HeldIn next) → ⊥
   unfolding filings
   none_held rep f is key = by_place (place_at p.threads rep) refl is
     where
@@ -106,7 +107,7 @@ module _ (p : Parts) (whole : IsWhole p) (r : InstanceRecord) (loose : AreLoose 
       by_place None at is = absurd (cc)
       by_place (Some q) at is =
           let g = q.entry.item in
-          let one : where_at g.instance g.thread.place ≡ f.key = ap (λ (h : Filing Where ℕ). h.key) (same_Some _ f is) in
+          let one : where_at g.instance g.thread.place ≡ f.key = ap (λ (h : Filing Where Seat). h.key) (same_Some _ f is) in
           not_next rep q at (held_where g.instance next g.thread.place (one ∙ key))
 
   places_grown : IsIndex (place_chain grown) p.places (filings place_filing p.threads)

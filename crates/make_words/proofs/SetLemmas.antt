@@ -5,6 +5,7 @@ use Rattle.make_words.proofs.FreshLemmas.{chain_new, chain_other, each_more, non
 use Rattle.make_words.proofs.LooseLemmas.{IsIndex-opened}
 use Rattle.make_words.specs.Loose.{AreSetLoose}
 use Rattle.task_records.proofs.MakeLemmas.{records_more, stands_more}
+use Rattle.table_order.specs.declared.seat_links.Seat.{Seat}
 
 abbrev set_in : Where → ℕ
 set_in (WaitsOn x) = x
@@ -63,7 +64,7 @@ module _ (p : Parts) (whole : IsWhole p) (tables : SoundTable set_key p.sets p.m
   place_others (BlockedOn (Subtask.Guest k)) other = refl
   place_others (BlockedOn (Subtask.Host i)) other = refl
 
-  none_waits : (rep : ℕ) (f : Filing Where ℕ) → filings place_filing p.threads rep ≡ Some f → f.key ≡ Some (WaitsOn x.number) → ⊥
+  none_waits : (rep : ℕ) (f : Filing Where Seat) → filings place_filing p.threads rep ≡ Some f → f.key ≡ Some (WaitsOn x.number) → ⊥
   unfolding filings
   none_waits rep f is key = by_place (place_at p.threads rep) refl is
     where
@@ -71,10 +72,10 @@ module _ (p : Parts) (whole : IsWhole p) (tables : SoundTable set_key p.sets p.m
       by_place None at is = absurd (cc)
       by_place (Some q) at is =
           let g = q.entry.item in
-          let one : where_at g.instance g.thread.place ≡ f.key = ap (λ (h : Filing Where ℕ). h.key) (same_Some _ f is) in
+          let one : where_at g.instance g.thread.place ≡ f.key = ap (λ (h : Filing Where Seat). h.key) (same_Some _ f is) in
           waits_on_none (kinds p) x.number later g.instance g.thread.place g.beside (whole.named.threads rep q at).place (one ∙ key)
 
-  none_call : (rep : ℕ) (f : Filing ℕ ℕ) → filings ready_call p.calls rep ≡ Some f → f.key ≡ Some x.number → ⊥
+  none_call : (rep : ℕ) (f : Filing ℕ Seat) → filings ready_call p.calls rep ≡ Some f → f.key ≡ Some x.number → ⊥
   unfolding filings
   none_call rep f is key = by_place (place_at p.calls rep) refl is
     where
@@ -82,10 +83,10 @@ module _ (p : Parts) (whole : IsWhole p) (tables : SoundTable set_key p.sets p.m
       by_place None at is = absurd (cc)
       by_place (Some q) at is =
           let g = q.entry.item in
-          let one : ready_in g.call.event g.call.join ≡ f.key = ap (λ (h : Filing ℕ ℕ). h.key) (same_Some _ f is) in
+          let one : ready_in g.call.event g.call.join ≡ f.key = ap (λ (h : Filing ℕ Seat). h.key) (same_Some _ f is) in
           none_ready (kinds p) x.number later g.call.event g.call.join g.joined (whole.named.calls rep q at).join (one ∙ key)
 
-  none_work : (rep : ℕ) (f : Filing ℕ ℕ) → filings ready_work p.works rep ≡ Some f → f.key ≡ Some x.number → ⊥
+  none_work : (rep : ℕ) (f : Filing ℕ Seat) → filings ready_work p.works rep ≡ Some f → f.key ≡ Some x.number → ⊥
   unfolding filings
   none_work rep f is key = by_place (place_at p.works rep) refl is
     where
@@ -93,7 +94,7 @@ module _ (p : Parts) (whole : IsWhole p) (tables : SoundTable set_key p.sets p.m
       by_place None at is = absurd (cc)
       by_place (Some q) at is =
           let w = q.entry.item in
-          let one : ready_in w.work.event w.work.join ≡ f.key = ap (λ (h : Filing ℕ ℕ). h.key) (same_Some _ f is) in
+          let one : ready_in w.work.event w.work.join ≡ f.key = ap (λ (h : Filing ℕ Seat). h.key) (same_Some _ f is) in
           none_ready (kinds p) x.number later w.work.event w.work.join w.joined (whole.named.works rep q at).join (one ∙ key)
 
   -- ---- Kept numbers

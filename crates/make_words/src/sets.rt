@@ -103,8 +103,8 @@ fn name_set(parts: &mut CoreParts, instance: u32, set: WaitSet) -> Result<SetId,
     }
 }
 
-// The record that a set is to have, with its chains.
-fn new_set(parts: &mut CoreParts, instance: u32) -> Result<WaitSet, NoMemory>
+// The record that a set is to have, with its chains and this place in the resource table.
+fn new_set(parts: &mut CoreParts, instance: u32, entry: u32) -> Result<WaitSet, NoMemory>
     requires sound { IsSound parts.old }
     requires few { (seen parts.old).core.made.sets + 1 < 2 ^ 64 }
     ensures sound { IsSound parts.new }
@@ -121,6 +121,7 @@ fn new_set(parts: &mut CoreParts, instance: u32) -> Result<WaitSet, NoMemory>
     Ok(WaitSet {
         number: parts.made.sets + 1,
         set: Set { instance },
+        entry,
         waiters,
         ready_calls,
         ready_works,
@@ -129,7 +130,27 @@ fn new_set(parts: &mut CoreParts, instance: u32) -> Result<WaitSet, NoMemory>
     })
 }
 
+// The same, with this place in the resource table.
+fn open_set_at(parts: &mut CoreParts, instance: u32, entry: u32) -> Result<SetId, NoMemory>
+    requires sound { IsSound parts.old }
+    requires there { is_some (get (seen parts.old).core.handles instance) ≡ true }
+    requires few { (seen parts.old).core.made.sets + 1 < 2 ^ 64 }
+    requires room { fits 1 (seen parts.old).core ≡ true }
+    ensures sound { IsSound parts.new }
+    ensures set { IfOk result (λ id. set_of (seen parts.new) id ≡ (seen parts.old).core.made.sets + 1) }
+    ensures core { OnOk result ((seen parts.new).core ≡ give_handle instance (names.Set ((seen parts.old).core.made.sets + 1)) (add_set (record { instance = instance }) (seen parts.old).core)) }
+    ensures current { (seen parts.new).current ≡ (seen parts.old).current }
+    ensures tags { Keeps (seen parts.old).tags (seen parts.new).tags }
+    ensures err { OnErr result (seen parts.new ≡ seen parts.old) }
+{
+    match new_set(parts, instance, entry) {
+        Ok(set) => name_set(parts, instance, set),
+        Err(why) => Err(why),
+    }
+}
+
 /// Makes a set of an instance, and its handle there. Where memory is wanting, all is as before.
+#[tactic(auto, unfolding(task_records::specs::Seen::seen, task_records::specs::Seen::IsSound))]
 pub fn open_set(parts: &mut CoreParts, instance: u32) -> Result<SetId, NoMemory>
     requires sound { IsSound parts.old }
     requires there { is_some (get (seen parts.old).core.handles instance) ≡ true }
@@ -142,8 +163,12 @@ pub fn open_set(parts: &mut CoreParts, instance: u32) -> Result<SetId, NoMemory>
     ensures tags { Keeps (seen parts.old).tags (seen parts.new).tags }
     ensures err { OnErr result (seen parts.new ≡ seen parts.old) }
 {
-    match new_set(parts, instance) {
-        Ok(set) => name_set(parts, instance, set),
-        Err(why) => Err(why),
+    let entry = parts.table_places.take()?;
+    match open_set_at(parts, instance, entry) {
+        Ok(set) => Ok(set),
+        Err(why) => {
+            parts.table_places.give(entry);
+            Err(why)
+        }
     }
 }

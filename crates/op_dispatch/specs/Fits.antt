@@ -1,5 +1,5 @@
 -- Which ops fit their component.
-use Rattle.std.specs.Prelude.{Bool, is_some, length, nat_le, true, ℕ, ◌&&◌, ◌<◌, ◌≡◌}
+use Rattle.std.specs.Prelude.{Bool, false, is_some, length, nat_le, true, ℕ, ◌&&◌, ◌<◌, ◌≡◌}
 use Rattle.task_machine.specs.Core.{Core}
 use Rattle.task_machine.specs.Maps.{get}
 use Rattle.task_machine.specs.declared.component.Component.{Component}
@@ -27,6 +27,11 @@ abbrev pub op_fits : Component → Op → Bool
 op_fits c (op.Set o) = set_op_fits o
 op_fits c (op.Call o) = call_op_fits c o
 op_fits c o = true
+
+-- an op on registers and words
+abbrev pub is_data_op : Op → Bool
+is_data_op (op.Data o) = true
+is_data_op o = false
 
 -- ---- Where ops find their instances
 

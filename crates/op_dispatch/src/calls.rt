@@ -3,7 +3,7 @@ ghost use Rattle.op_dispatch.specs.Fits.{HasInstances, call_op_fits};
 ghost use Rattle.op_dispatch.specs.Goes.{GoesOn, given};
 ghost use Rattle.op_dispatch.specs.Polls.{Polls};
 ghost use Rattle.op_dispatch.specs.Runner.{Runner, UnderWay, awaits_end, called_call, called_work, given_answer, waits_behind};
-ghost use Rattle.std.specs.Prelude.{◌≡◌, ◌+◌, ◌<◌, ◌≤◌, ◌^◌, IfOk, IfSome, IsSome, OnOk, is_some, length, option_map, true};
+ghost use Rattle.std.specs.Prelude.{◌≡◌, ◌+◌, ◌<◌, ◌≤◌, ◌^◌, IfOk, IfSome, IsSome, OnErr, OnOk, is_some, length, option_map, true};
 ghost use Rattle.subtask_ops.specs.Refused.{mode_of};
 ghost use Rattle.task_machine.specs.Labels.{choice_of};
 ghost use Rattle.task_machine.specs.Maps.{get};
@@ -109,6 +109,7 @@ fn call<W: Words>(
     ensures goes { IfOk result (λ came. GoesOn came (W.view w.new)) }
     ensures stays { IfOk result (λ came. StaysAfter came (W.view w.old) (W.view w.new)) }
     ensures works { OnOk result (KeepsWorks (W.view w.old) (W.view w.new)) }
+    ensures err { OnErr result (W.view w.new ≡ W.view w.old) }
 {
     if let Some(call) = called(w, thread) {
         return go_on_calling(w, thread, to, call);
@@ -137,6 +138,7 @@ fn call_sync<W: Words>(
     ensures goes { IfOk result (λ came. GoesOn came (W.view w.new)) }
     ensures stays { IfOk result (λ came. StaysAfter came (W.view w.old) (W.view w.new)) }
     ensures works { OnOk result (KeepsWorks (W.view w.old) (W.view w.new)) }
+    ensures err { OnErr result (W.view w.new ≡ W.view w.old) }
 {
     if let Some(value) = answered(w, thread) {
         return Ok(answer_call(w, thread, to, value));
@@ -166,6 +168,7 @@ fn call_of_host<W: Words>(
     ensures stays { IfOk result (λ done. StaysAfter done.came (W.view w.old) (W.view w.new)) }
     ensures polls { IfOk result (λ done. Polls component.now (how_far_of (thread_of (W.view w.old) thread) (W.view w.old).core) (ops.Call (CallOp.CallHost to register host)) (W.view w.old) done (W.view w.new)) }
     ensures works { OnOk result (KeepsWorks (W.view w.old) (W.view w.new)) }
+    ensures err { OnErr result (W.view w.new ≡ W.view w.old) }
 {
     let host = host_def(component, host);
     let (came, work) = call_host(w, thread, to, register, host)?;
@@ -192,6 +195,7 @@ fn call_sync_of_host<W: Words>(
     ensures stays { IfOk result (λ done. StaysAfter done.came (W.view w.old) (W.view w.new)) }
     ensures polls { IfOk result (λ done. Polls component.now (how_far_of (thread_of (W.view w.old) thread) (W.view w.old).core) (ops.Call (CallOp.CallSyncHost to host)) (W.view w.old) done (W.view w.new)) }
     ensures works { OnOk result (NamesWorks (W.view w.old) (W.view w.new)) }
+    ensures err { OnErr result (W.view w.new ≡ W.view w.old) }
 {
     if let Some(work) = served(w, thread) {
         return Ok(plain(go_on_calling_host(w, thread, to, work)));
@@ -241,6 +245,7 @@ pub(crate) fn do_call_op<W: Words>(
     ensures stays { IfOk result (λ done. StaysAfter done.came (W.view w.old) (W.view w.new)) }
     ensures polls { IfOk result (λ done. Polls component.now (how_far_of (thread_of (W.view w.old) thread) (W.view w.old).core) (ops.Call op.now) (W.view w.old) done (W.view w.new)) }
     ensures works { OnOk result (NamesWorks (W.view w.old) (W.view w.new)) }
+    ensures err { OnErr result (W.view w.new ≡ W.view w.old) }
 {
     match op {
         CallOp::Call {

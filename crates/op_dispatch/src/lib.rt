@@ -12,5 +12,5 @@ mod threads;
 
 pub use done::Done;
 pub use exits::exit;
-pub use ops::do_op;
+pub use ops::{do_op, do_other_op};
 pub use scripts::{export_def, op_at, script_ops};

@@ -1,9 +1,9 @@
 //! An op of the running thread, by its group.
-ghost use Rattle.op_dispatch.specs.Fits.{HasInstances, op_fits};
+ghost use Rattle.op_dispatch.specs.Fits.{HasInstances, is_data_op, op_fits};
 ghost use Rattle.op_dispatch.specs.Goes.{GoesOn, given};
 ghost use Rattle.op_dispatch.specs.Polls.{Polls};
 ghost use Rattle.op_dispatch.specs.Runner.{Runner};
-ghost use Rattle.std.specs.Prelude.{◌≡◌, ◌<◌, ◌^◌, IfOk, is_some, length, true, OnOk};
+ghost use Rattle.std.specs.Prelude.{◌≡◌, ◌+◌, ◌<◌, ◌^◌, IfOk, OnErr, OnOk, false, is_some, length, true};
 ghost use Rattle.task_machine.specs.Labels.{choice_of};
 ghost use Rattle.task_machine.specs.Maps.{get};
 ghost use Rattle.task_machine.specs.Read.{how_far_of, instance_of, position_of};
@@ -23,6 +23,37 @@ use crate::threads::do_thread_op;
 use task_machine::{Component, NoMemory, Op};
 use task_ops::compute;
 use task_words::{ThreadId, Words};
+
+/// An op that isn't on registers and words is done by the running thread, whether or not it is the one at its place.
+/// Where memory is wanting, all is as before.
+pub fn do_other_op<W: Words>(
+    component: &Component,
+    w: &mut W,
+    thread: ThreadId,
+    op: &Op,
+) -> Result<Done, NoMemory>
+    requires runner { Runner thread (W.view w.old) }
+    requires other { is_data_op op.now ≡ false }
+    requires fits { op_fits component.now op.now ≡ true }
+    requires instances { HasInstances component.now (W.view w.old).core }
+    requires position { position_of (thread_of (W.view w.old) thread) (W.view w.old).core + 1 < 2 ^ 32 }
+    requires handles { is_some (get (W.view w.old).core.handles (instance_of (thread_of (W.view w.old) thread) (W.view w.old).core)) ≡ true }
+    requires few { given (W.view w.old).core < 2 ^ 61 }
+    ensures meets { IfOk result (λ done. Meets (op_row component.now (thread_of (W.view w.old) thread) (W.view w.old).core (choice_of (label_of (thread_of (W.view w.old) thread) done.came)) op.now) (W.view w.old).core done.came (W.view w.new).core) }
+    ensures goes { IfOk result (λ done. GoesOn done.came (W.view w.new)) }
+    ensures stays { IfOk result (λ done. StaysAfter done.came (W.view w.old) (W.view w.new)) }
+    ensures polls { IfOk result (λ done. Polls component.now (how_far_of (thread_of (W.view w.old) thread) (W.view w.old).core) op.now (W.view w.old) done (W.view w.new)) }
+    ensures works { OnOk result (NamesWorks (W.view w.old) (W.view w.new)) }
+    ensures err { OnErr result (W.view w.new ≡ W.view w.old) }
+{
+    match op {
+        Op::Data(_) => unreachable!(),
+        Op::Task(op) => Ok(plain(do_task_op(w, thread, *op))),
+        Op::Set(op) => Ok(plain(do_set_op(w, thread, *op)?)),
+        Op::Call(op) => do_call_op(component, w, thread, op),
+        Op::Thread(op) => Ok(plain(do_thread_op(component, w, thread, *op)?)),
+    }
+}
 
 /// An op of the thread's script, which ends at `end`, is done. Where memory is wanting, all is as before.
 pub fn do_op<W: Words>(
@@ -44,12 +75,10 @@ pub fn do_op<W: Words>(
     ensures stays { IfOk result (λ done. StaysAfter done.came (W.view w.old) (W.view w.new)) }
     ensures polls { IfOk result (λ done. Polls component.now (how_far_of (thread_of (W.view w.old) thread) (W.view w.old).core) op.now (W.view w.old) done (W.view w.new)) }
     ensures works { OnOk result (NamesWorks (W.view w.old) (W.view w.new)) }
+    ensures err { OnErr result (W.view w.new ≡ W.view w.old) }
 {
     match op {
         Op::Data(op) => Ok(plain(compute(w, thread, *op, end))),
-        Op::Task(op) => Ok(plain(do_task_op(w, thread, *op))),
-        Op::Set(op) => Ok(plain(do_set_op(w, thread, *op)?)),
-        Op::Call(op) => do_call_op(component, w, thread, op),
-        Op::Thread(op) => Ok(plain(do_thread_op(component, w, thread, *op)?)),
+        _ => do_other_op(component, w, thread, op),
     }
 }

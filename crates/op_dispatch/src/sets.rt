@@ -1,5 +1,5 @@
 //! The ops on waitable sets.
-ghost use Rattle.std.specs.Prelude.{◌≡◌, ◌+◌, ◌<◌, ◌≤◌, ◌^◌, IfOk, is_some, true, OnOk};
+ghost use Rattle.std.specs.Prelude.{◌≡◌, ◌+◌, ◌<◌, ◌≤◌, ◌^◌, IfOk, is_some, true, OnErr, OnOk};
 ghost use Rattle.task_machine.specs.Labels.{choice_of};
 ghost use Rattle.task_machine.specs.Maps.{get};
 ghost use Rattle.task_machine.specs.Read.{how_far_of, instance_of, position_of};
@@ -46,6 +46,7 @@ pub(crate) fn do_set_op<W: Words>(w: &mut W, thread: ThreadId, op: SetOp) -> Res
     ensures goes { IfOk result (λ came. GoesOn came (W.view w.new)) }
     ensures stays { IfOk result (λ came. StaysAfter came (W.view w.old) (W.view w.new)) }
     ensures works { OnOk result (KeepsWorks (W.view w.old) (W.view w.new)) }
+    ensures err { OnErr result (W.view w.new ≡ W.view w.old) }
 {
     match op {
         SetOp::New { to } => set_new(w, thread, to),

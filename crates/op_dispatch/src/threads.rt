@@ -1,5 +1,5 @@
 //! The ops on the task's own threads.
-ghost use Rattle.std.specs.Prelude.{◌≡◌, ◌+◌, ◌<◌, ◌^◌, IfOk, is_some, true, OnOk};
+ghost use Rattle.std.specs.Prelude.{◌≡◌, ◌+◌, ◌<◌, ◌^◌, IfOk, is_some, true, OnErr, OnOk};
 ghost use Rattle.task_machine.specs.Maps.{get};
 ghost use Rattle.task_machine.specs.declared.component.Component.{Component};
 ghost use Rattle.task_machine.specs.Read.{how_far_of, instance_of, position_of};
@@ -163,6 +163,7 @@ pub(crate) fn do_thread_op<W: Words>(
     ensures goes { IfOk result (λ came. GoesOn came (W.view w.new)) }
     ensures stays { IfOk result (λ came. StaysAfter came (W.view w.old) (W.view w.new)) }
     ensures works { OnOk result (KeepsWorks (W.view w.old) (W.view w.new)) }
+    ensures err { OnErr result (W.view w.new ≡ W.view w.old) }
 {
     match op {
         ThreadOp::New { to, slot, context } => {

@@ -5,12 +5,13 @@ use Rattle.task_records.proofs.KeptLemmas.{passing_seconds, records_seconds, sec
 use Rattle.place_words.proofs.AlikeLemmas.{found_alike, found_loose, number_alike, place_alike, stands_alike}
 use Rattle.place_words.proofs.PutLemmas.{sets_same}
 use Rattle.place_words.specs.Moved.{Alike, quiet_call, still_call, uncounted}
+use Rattle.table_order.specs.declared.seat_links.Seat.{Seat}
 
 quiet_instance : (o : Option Call) → (option_map_or (λ (c : Call). c.callee) (option_map quiet_call o) no_callee).instance ≡ (option_map_or (λ (c : Call). c.callee) o no_callee).instance
 quiet_instance None = refl
 quiet_instance (Some c) = refl
 
-module _ (p : Parts) (whole : IsWhole p) (calls : Table (Single GuestTask)) (alike : Alike still_call calls p.calls) (sets : Table (Single WaitSet)) (sets_alike : Alike uncounted sets p.sets) (ready : List (Spot ℕ)) where
+module _ (p : Parts) (whole : IsWhole p) (calls : Table (Single GuestTask)) (alike : Alike still_call calls p.calls) (sets : Table (Single WaitSet)) (sets_alike : Alike uncounted sets p.sets) (ready : List (Spot Seat)) where
   abbrev pub told : Parts
   told = record p { calls = calls; sets = sets; ready_calls = ready }
 

@@ -4,6 +4,8 @@ use Rattle.task_records.specs.declared.{parts.CoreParts.CoreParts, single.Single
 use Rattle.task_records.proofs.KindLemmas.{item_stands}
 use Rattle.task_records.proofs.StandLemmas.{number_here}
 use Rattle.queue_words.proofs.CallerLemmas.{apart_as}
+use Rattle.table_order.specs.declared.seat_links.Seat.{Seat}
+use Rattle.task_records.specs.Places.{thread_seat}
 
 module _ {T X Y : Type 0} (number : T → ℕ) (rec : T → X) (other : T → Y) (t : Table (Single T)) (made : ℕ) (sound : SoundTable (λ e. Some (number e.item, rec e.item)) t made) (rep serial : ℕ) (g : T) (is : Ok g ≡ item_at item_of t rep serial) where
   -- what is kept under the number of a record that is there
@@ -13,7 +15,7 @@ module _ {T X Y : Type 0} (number : T → ℕ) (rec : T → X) (other : T → Y)
       found_record_at (λ e. Some (number e.item, other e.item)) t.places rep (number g) (other g) (apart_as number rec other t.places sound.apart) (ap (key_in (λ e. Some (number e.item, other e.item))) one.1.0 ∙ ap (λ (e : Single T). Some (number e.item, other e.item)) one.1.1.1)
 
 -- the number at the place of a record that passes
-pub passes_number : {T X K : Type 0} (number : T → ℕ) (rec : T → X) (says : ℕ → ℕ → Single T → Option (Filing K ℕ)) (t : Table (Single T)) (test : ℕ × X → Bool) (v n : ℕ) (one : PassesAt says t (λ e. Some (number e.item, rec e.item)) test v) → one.place ≡ v → n ≡ number_in (record_at (λ e. Some (number e.item, rec e.item)) t.places v) → one.entry.0 ≡ n
+pub passes_number : {T X K : Type 0} (number : T → ℕ) (rec : T → X) (says : ℕ → ℕ → Single T → Option (Filing K Seat)) (t : Table (Single T)) (test : ℕ × X → Bool) (v : Seat) (n : ℕ) (one : PassesAt says t (λ e. Some (number e.item, rec e.item)) test v) → one.place ≡ v.place → n ≡ number_in (record_at (λ e. Some (number e.item, rec e.item)) t.places v.place) → one.entry.0 ≡ n
 passes_number number rec says t test v n one same at =
     sym one.is_named ∙ (number_here number rec t one.place one.placed.serial (sym (ap (option_map (λ p. p.serial)) one.stands))
     ∙ (ap (λ r. number_in (record_at (λ e. Some (number e.item, rec e.item)) t.places r)) same ∙ sym at))
@@ -32,6 +34,6 @@ module _ (a : CoreParts) (sound : IsSound a) where
 module _ (k : Where) (test : Place → Bool) (passes : (i : ℕ) (p : Place) → where_at i p ≡ Some k → test p ≡ true) (filed : (i : ℕ) (p : Place) → test p ≡ true → where_at i p ≡ Some k) where
   pub place_tests : Tests place_filing thread_key k (λ (e : ℕ × Thread). test e.1.place)
   place_tests = record {
-    passes = λ rep serial e f says is_k. ((e.item.number, e.item.thread), (refl, passes e.item.instance e.item.thread.place (ap (λ (g : Filing Where ℕ). g.key) (same_Some (record { node = e.item.node.index; key = where_at e.item.instance e.item.thread.place; value = rep }) f says) ∙ is_k)));
-    filed = λ rep serial e x says is. (record { node = e.item.node.index; key = where_at e.item.instance e.item.thread.place; value = rep }, (refl, filed e.item.instance e.item.thread.place (ap (λ (y : ℕ × Thread). test y.1.place) (same_Some (e.item.number, e.item.thread) x says) ∙ is)));
+    passes = λ rep serial e f says is_k. ((e.item.number, e.item.thread), (refl, passes e.item.instance e.item.thread.place (ap (λ (g : Filing Where Seat). g.key) (same_Some (record { node = e.item.node.index; key = where_at e.item.instance e.item.thread.place; value = thread_seat rep e.item }) f says) ∙ is_k)));
+    filed = λ rep serial e x says is. (record { node = e.item.node.index; key = where_at e.item.instance e.item.thread.place; value = thread_seat rep e.item }, (refl, filed e.item.instance e.item.thread.place (ap (λ (y : ℕ × Thread). test y.1.place) (same_Some (e.item.number, e.item.thread) x says) ∙ is)));
   }

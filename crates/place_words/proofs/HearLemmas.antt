@@ -12,6 +12,8 @@ use Rattle.place_words.proofs.PutLemmas.{sets_same}
 use Rattle.place_words.proofs.JoinLemmas.{in_is, members_kept, sets_alike, sets_now}
 use Rattle.place_words.specs.Moved.{Alike, joined_set, live_key, set_named, still_work, uncounted}
 use Rattle.queue_words.proofs.BareLemmas.{place_mapped}
+use Rattle.table_order.specs.declared.seat_links.Seat.{Seat}
+use Rattle.task_records.specs.Places.{member_seat}
 
 module _ (a : CoreParts) (sound : IsSound a) (id : TableId HostTaskKey) (g : HostWork) (is : Ok g ≡ item_at item_of a.works id.rep id.serial) where
   abbrev pub bared : Parts
@@ -77,7 +79,7 @@ module _ (a : CoreParts) (sound : IsSound a) (id : TableId HostTaskKey) (g : Hos
     pub works_alike : Alike still_work bare_now bared.works
     works_alike = ap (mapped (on_item still_work)) bare_put ∙ mapped-with_entry_same (on_item still_work) bared.works id.rep (entry_of (bare_work h)) bare_placed bare_stands (ap entry_of stays ∙ sym (ap (on_item still_work) bare_entry))
 
-    module _ (sets : Table (Single WaitSet)) (as_sets : Alike uncounted sets a.sets) (links : List (Spot ℕ)) (polled : List (Spot LiveWork)) (live moving : ℕ) where
+    module _ (sets : Table (Single WaitSet)) (as_sets : Alike uncounted sets a.sets) (links : List (Spot Seat)) (polled : List (Spot LiveWork)) (live moving : ℕ) where
       abbrev pub heard_after : CoreParts
       heard_after = record a { works = works_now; sets = sets; ready_works = links; polled = polled; kept = record a.kept { live = live; moving = moving } }
 
@@ -96,7 +98,7 @@ module _ (a : CoreParts) (sound : IsSound a) (id : TableId HostTaskKey) (g : Hos
       pub members_same : h.work.join ≡ g.work.join → (n : ℕ) → members_of n (core_of bared) ≡ members_of n (core_of after)
       members_same same n = let law = members_change n in let one : one_if_passes (λ (c : Work). is_in_set n c.join) (Some g.work) ≡ one_if_passes (λ (c : Work). is_in_set n c.join) (Some h.work) = ap (λ j. cond (is_in_set n j) 1 0) (sym same) in omega (arith, law, one)
 
-      module _ (at : AtPlace (parts_of a) h.joined (join_target h.work.join)) (sets_sound : SoundTable set_key sets a.made.sets) (kept : EachEntry (IsSetKept (core_of after)) sets) (live_is : live + one_if_passes is_live (Some g.work) ≡ a.kept.live + one_if_passes is_live (Some h.work)) (moving_is : moving + one_if_passes is_moving (Some g.work) ≡ a.kept.moving + one_if_passes is_moving (Some h.work)) (live_re : Refiles a.polled polled g.live.index (link_for (live_chain bared) (record { node = g.live.index; key = live_key h.work.stage; value = live_value id.rep h }))) (rises : Rises polled a.live) (re : Refiles a.ready_works links g.ready.index (link_for (ready_work_chain bared) (record { node = g.ready.index; key = ready_in h.work.event h.work.join; value = id.rep }))) where
+      module _ (at : AtPlace (parts_of a) h.joined (join_target h.work.join)) (sets_sound : SoundTable set_key sets a.made.sets) (kept : EachEntry (IsSetKept (core_of after)) sets) (live_is : live + one_if_passes is_live (Some g.work) ≡ a.kept.live + one_if_passes is_live (Some h.work)) (moving_is : moving + one_if_passes is_moving (Some g.work) ≡ a.kept.moving + one_if_passes is_moving (Some h.work)) (live_re : Refiles a.polled polled g.live.index (link_for (live_chain bared) (record { node = g.live.index; key = live_key h.work.stage; value = live_value id.rep h }))) (rises : Rises polled a.live) (re : Refiles a.ready_works links g.ready.index (link_for (ready_work_chain bared) (record { node = g.ready.index; key = ready_in h.work.event h.work.join; value = member_seat h.entry id.rep }))) where
         joins_now : EachEntry (λ (x : HostWork). AtPlace after x.joined (join_target x.work.join)) bare_now
         joins_now = subst (EachEntry (λ (x : HostWork). AtPlace after x.joined (join_target x.work.join))) (sym bare_put)
             (each_written bared.works id.rep bare_placed bare_stands (λ (x : HostWork). AtPlace after x.joined (join_target x.work.join)) (bare_work h)
@@ -106,10 +108,10 @@ module _ (a : CoreParts) (sound : IsSound a) (id : TableId HostTaskKey) (g : Hos
         index_now : IsIndex (ready_work_chain bared) links (filings ready_work bare_now)
         index_now = subst (λ (t : Table (Single HostWork)). IsIndex (ready_work_chain bared) links (filings ready_work t)) (sym bare_put)
             (IsIndex-with_entry ready_work (ready_work_chain bared) bared.works a.ready_works is_whole.chained.ready_works id.rep bare_placed bare_stands links (entry_of (bare_work h))
-            (record { node = bare_placed.entry.item.ready.index; key = ready_in bare_placed.entry.item.work.event bare_placed.entry.item.work.join; value = id.rep })
-            (record { node = h.ready.index; key = ready_in h.work.event h.work.join; value = id.rep })
+            (record { node = bare_placed.entry.item.ready.index; key = ready_in bare_placed.entry.item.work.event bare_placed.entry.item.work.join; value = member_seat bare_placed.entry.item.entry id.rep })
+            (record { node = h.ready.index; key = ready_in h.work.event h.work.join; value = member_seat h.entry id.rep })
             refl refl (ap (λ (x : HostWork). x.ready.index) stays ∙ sym (ap (λ (e : Single HostWork). e.item.ready.index) bare_entry))
-            (subst (λ n. Refiles a.ready_works links n (link_for (ready_work_chain bared) (record { node = h.ready.index; key = ready_in h.work.event h.work.join; value = id.rep }))) (sym (ap (λ (e : Single HostWork). e.item.ready.index) bare_entry)) re))
+            (subst (λ n. Refiles a.ready_works links n (link_for (ready_work_chain bared) (record { node = h.ready.index; key = ready_in h.work.event h.work.join; value = member_seat h.entry id.rep }))) (sym (ap (λ (e : Single HostWork). e.item.ready.index) bare_entry)) re))
 
         live_index : IsIndex (live_chain bared) polled (filings live_work bare_now)
         live_index = subst (λ (t : Table (Single HostWork)). IsIndex (live_chain bared) polled (filings live_work t)) (sym bare_put)
@@ -177,7 +179,7 @@ module _ (a : CoreParts) (sound : IsSound a) (id : TableId HostTaskKey) (g : Hos
           (tags_alike uncounted set_key (λ e. refl) sets a.sets as_sets)))
 
     -- the sets as they were count what they counted, where the work stays in its set
-    pub kept_same : h.work.join ≡ g.work.join → (links : List (Spot ℕ)) → (polled : List (Spot LiveWork)) (live moving : ℕ) → EachEntry (IsSetKept (core_of (after a.sets refl links polled live moving))) a.sets
+    pub kept_same : h.work.join ≡ g.work.join → (links : List (Spot Seat)) → (polled : List (Spot LiveWork)) (live moving : ℕ) → EachEntry (IsSetKept (core_of (after a.sets refl links polled live moving))) a.sets
     kept_same same links polled live moving r q at = let was = is_whole.counted.sets r q at in record { members = was.members ∙ members_same a.sets refl links polled live moving same q.entry.item.number; entries = was.entries }
 
     -- a work that stays as live as it was stays filed
@@ -205,7 +207,7 @@ module _ (a : CoreParts) (sound : IsSound a) (id : TableId HostTaskKey) (g : Hos
 
   module _ (h : HostWork) (stays : still_work (bare_work h) ≡ still_work (bare_work g)) where
     -- and where it goes from one set to another they count that
-    module _ (from to : TableId SetKey) (from_is : set_of (seen a) from ≡ set_named (joined_set g.work.join) (seen a).core) (to_is : set_of (seen a) to ≡ set_named (joined_set h.work.join) (seen a).core) (links : List (Spot ℕ)) where
+    module _ (from to : TableId SetKey) (from_is : set_of (seen a) from ≡ set_named (joined_set g.work.join) (seen a).core) (to_is : set_of (seen a) to ≡ set_named (joined_set h.work.join) (seen a).core) (links : List (Spot Seat)) where
       abbrev pub joined_now : Table (Single WaitSet)
       joined_now = sets_now a sound (joined_set g.work.join) (joined_set h.work.join) from to from_is to_is
 

@@ -1,5 +1,7 @@
 pub mod FiledLemmas
+pub mod FirstLemmas
 pub mod WaiterLemmas
+pub mod PickLemmas
 pub mod AlikeLemmas
 pub mod MovedLemmas
 pub mod EntryLemmas
@@ -10,6 +12,7 @@ pub mod TargetLemmas
 pub mod ThreadLemmas
 pub mod StepLemmas
 pub mod ReadyLemmas
+pub mod MemberPickLemmas
 pub mod CallMovedLemmas
 pub mod WorkMovedLemmas
 pub mod JoinLemmas

@@ -4,6 +4,7 @@ use Rattle.task_records.specs.declared.{calls.GuestTask.GuestTask, sets.WaitSet.
 use Rattle.place_words.proofs.AlikeLemmas.{found_alike, nodes_alike, place_alike, seated_alike, stands_alike}
 use Rattle.place_words.specs.Moved.{Alike, still, still_thread, uncounted}
 use Rattle.queue_words.proofs.ListLemmas.{Each-weaker}
+use Rattle.table_order.specs.declared.seat_links.Seat.{Seat}
 
 -- the same rows, by chains, lists and knowledge that say the same
 pub IsRows-alike : {K P : Type 0} (chain chain' : K → Option ℕ) (node : P → ℕ) (Known Known' : P → Type 0) (links : List (Spot P)) (list list' : K → List P) → IsRows chain node Known links list → ((k : K) → chain' k ≡ chain k) → ((x : P) → Known x → Known' x) → ((k : K) → list' k ≡ list k) → IsRows chain' node Known' links list'
@@ -15,7 +16,7 @@ IsRows-alike chain chain' node Known Known' links list list' rows chains knows l
   owner = λ n c v link. let one = rows.owner n c v link in (one.0, chains one.0 ∙ one.1);
 }
 
-module _ (p : Parts) (whole : IsWhole p) (threads : Table (Single GuestThread)) (alike : Alike still_thread threads p.threads) (sets : Table (Single WaitSet)) (sets_alike : Alike uncounted sets p.sets) (places : List (Spot ℕ)) where
+module _ (p : Parts) (whole : IsWhole p) (threads : Table (Single GuestThread)) (alike : Alike still_thread threads p.threads) (sets : Table (Single WaitSet)) (sets_alike : Alike uncounted sets p.sets) (places : List (Spot Seat)) where
   abbrev pub moved : Parts
   moved = record p { threads = threads; sets = sets; places = places }
 

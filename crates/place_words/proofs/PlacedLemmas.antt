@@ -13,6 +13,8 @@ use Rattle.place_words.proofs.MovedLemmas.{at_moved, home_moved, moved, moved_wh
 use Rattle.place_words.proofs.PutLemmas.{bare_records, calls_same, counted_there, entries_change, keeps, recount, set_is_the, sets_same, threads_size}
 use Rattle.place_words.specs.Moved.{Alike, entry_set, recounted, set_named, still_thread, uncounted}
 use Rattle.queue_words.proofs.BareLemmas.{number_positive, place_mapped}
+use Rattle.table_order.specs.declared.seat_links.Seat.{Seat}
+use Rattle.task_records.specs.Places.{thread_seat}
 
 module _ (a : CoreParts) (sound : IsSound a) (id : TableId ThreadKey) (g : GuestThread) (is : Ok g ≡ item_at item_of a.threads id.rep id.serial) (h : GuestThread) (stays : still_thread (bare_thread h) ≡ still_thread (bare_thread g)) (handle : h.thread.handle ≡ g.thread.handle) where
   abbrev pub bared : Parts
@@ -55,11 +57,12 @@ module _ (a : CoreParts) (sound : IsSound a) (id : TableId ThreadKey) (g : Guest
   node_made = subst (λ (e : Single GuestThread). is_made a.places e.item.node.index ≡ true) bare_entry (is_whole.chained.places.made id.rep _ (filings_at place_filing bared.threads id.rep (Some bare_placed) bare_stands))
 
   -- a thread that stays where it is stays filed
-  pub stays_filed : h.thread.place ≡ g.thread.place → Refiles a.places a.places g.node.index (link_for (place_chain bared) (record { node = g.node.index; key = where_at h.instance h.thread.place; value = id.rep }))
+  pub stays_filed : h.thread.place ≡ g.thread.place → Refiles a.places a.places g.node.index (link_for (place_chain bared) (record { node = g.node.index; key = where_at h.instance h.thread.place; value = thread_seat id.rep h }))
   stays_filed same = record {
-    here = subst (λ (e : Single GuestThread). link_of a.places e.item.node.index ≡ link_for (place_chain bared) (record { node = e.item.node.index; key = where_at e.item.instance e.item.thread.place; value = id.rep })) bare_entry
+    here = subst (λ (e : Single GuestThread). link_of a.places e.item.node.index ≡ link_for (place_chain bared) (record { node = e.item.node.index; key = where_at e.item.instance e.item.thread.place; value = thread_seat id.rep e.item })) bare_entry
         (is_whole.chained.places.has_link id.rep _ (filings_at place_filing bared.threads id.rep (Some bare_placed) bare_stands))
-        ∙ ap₂ (λ i p. link_for (place_chain bared) (record { node = g.node.index; key = where_at i p; value = id.rep })) (sym (ap (λ (x : GuestThread). x.instance) stays)) (sym same);
+        ∙ (ap₂ (λ i p. link_for (place_chain bared) (record { node = g.node.index; key = where_at i p; value = thread_seat id.rep g })) (sym (ap (λ (x : GuestThread). x.instance) stays)) (sym same)
+        ∙ ap (λ v. link_for (place_chain bared) (record { node = g.node.index; key = where_at h.instance h.thread.place; value = v })) (sym (ap (thread_seat id.rep) stays)));
     others = λ n other. refl;
     made = λ n made. made;
     live = λ c live. live;
@@ -95,7 +98,7 @@ module _ (a : CoreParts) (sound : IsSound a) (id : TableId ThreadKey) (g : Guest
     to_number : (n : ℕ) → 0 < n → IsSome (get (seen a).core.sets n) → (n == number_of set_key sets_less to.rep to.serial) ≡ is_the n (entry_set h.thread.place h.thread.how_far)
     to_number n positive there = ap (λ m. n == m) (number_of_alike uncounted set_key (λ e. refl) sets_less a.sets less_alike to.rep to.serial ∙ (sym (set_shown a to) ∙ to_is)) ∙ set_is_the (entry_set h.thread.place h.thread.how_far) (seen a).core n positive there
 
-    module _ (places : List (Spot ℕ)) where
+    module _ (places : List (Spot Seat)) where
       abbrev pub placed_after : CoreParts
       placed_after = record a { threads = threads_now; sets = sets_now; places = places }
 
@@ -164,14 +167,14 @@ module _ (a : CoreParts) (sound : IsSound a) (id : TableId ThreadKey) (g : Guest
             (each_written bared.threads id.rep bare_placed bare_stands (HasHome after) (bare_thread h) home_now
             (λ r q at. home_moved bared is_whole bare_now threads_alike sets_now sets_alike places q.entry.item (is_whole.named.threads r q at)))
 
-        module _ (re : Refiles a.places places g.node.index (link_for (place_chain bared) (record { node = g.node.index; key = where_at h.instance h.thread.place; value = id.rep }))) where
+        module _ (re : Refiles a.places places g.node.index (link_for (place_chain bared) (record { node = g.node.index; key = where_at h.instance h.thread.place; value = thread_seat id.rep h }))) where
           index_now : IsIndex (place_chain bared) places (filings place_filing bare_now)
           index_now = subst (λ (t : Table (Single GuestThread)). IsIndex (place_chain bared) places (filings place_filing t)) (sym bare_put)
               (IsIndex-with_entry place_filing (place_chain bared) bared.threads a.places is_whole.chained.places id.rep bare_placed bare_stands places (entry_of (bare_thread h))
-              (record { node = bare_placed.entry.item.node.index; key = where_at bare_placed.entry.item.instance bare_placed.entry.item.thread.place; value = id.rep })
-              (record { node = h.node.index; key = where_at h.instance h.thread.place; value = id.rep })
+              (record { node = bare_placed.entry.item.node.index; key = where_at bare_placed.entry.item.instance bare_placed.entry.item.thread.place; value = thread_seat id.rep bare_placed.entry.item })
+              (record { node = h.node.index; key = where_at h.instance h.thread.place; value = thread_seat id.rep h })
               refl refl (ap (λ (x : GuestThread). x.node.index) stays ∙ sym (ap (λ (e : Single GuestThread). e.item.node.index) bare_entry))
-              (subst (λ n. Refiles a.places places n (link_for (place_chain bared) (record { node = h.node.index; key = where_at h.instance h.thread.place; value = id.rep }))) (sym (ap (λ (e : Single GuestThread). e.item.node.index) bare_entry)) re))
+              (subst (λ n. Refiles a.places places n (link_for (place_chain bared) (record { node = h.node.index; key = where_at h.instance h.thread.place; value = thread_seat id.rep h }))) (sym (ap (λ (e : Single GuestThread). e.item.node.index) bare_entry)) re))
 
           whole_now : IsWhole after
           whole_now = moved_whole bared is_whole bare_now threads_alike sets_now sets_alike places homes_now index_now

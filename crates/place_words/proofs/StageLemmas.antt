@@ -6,6 +6,7 @@ use Rattle.task_records.proofs.KindLemmas.{passing_written}
 use Rattle.place_words.proofs.FitLemmas.{records_fit}
 use Rattle.place_words.proofs.HearLemmas.{bare_entry, bare_placed, bare_stands, bared, is_whole}
 use Rattle.place_words.specs.Moved.{live_key}
+use Rattle.task_records.specs.Places.{member_seat}
 
 -- a number as the code recounts it
 pub recounted_is : (kept now : ℕ) (was is b c : Bool) → b ≡ was → c ≡ is → now + cond b 1 0 ≡ kept + cond c 1 0 → now + cond was 1 0 ≡ kept + cond is 1 0
@@ -47,9 +48,9 @@ module _ (a : CoreParts) (sound : IsSound a) where
         by (Some k) (Some c) at = (is_whole a sound id g is).chained.polled.live k c at
 
     -- a work that keeps its event and its set stays filed as a ready member
-    pub stays_ready : Refiles a.ready_works a.ready_works g.ready.index (link_for (ready_work_chain (bared a sound id g is)) (record { node = g.ready.index; key = ready_in g.work.event g.work.join; value = id.rep }))
+    pub stays_ready : Refiles a.ready_works a.ready_works g.ready.index (link_for (ready_work_chain (bared a sound id g is)) (record { node = g.ready.index; key = ready_in g.work.event g.work.join; value = member_seat g.entry id.rep }))
     stays_ready = record {
-      here = subst (λ (e : Single HostWork). link_of a.ready_works e.item.ready.index ≡ link_for (ready_work_chain (bared a sound id g is)) (record { node = e.item.ready.index; key = ready_in e.item.work.event e.item.work.join; value = id.rep })) (bare_entry a sound id g is)
+      here = subst (λ (e : Single HostWork). link_of a.ready_works e.item.ready.index ≡ link_for (ready_work_chain (bared a sound id g is)) (record { node = e.item.ready.index; key = ready_in e.item.work.event e.item.work.join; value = member_seat e.item.entry id.rep })) (bare_entry a sound id g is)
           ((is_whole a sound id g is).chained.ready_works.has_link id.rep _ (filings_at ready_work (bared a sound id g is).works id.rep (Some (bare_placed a sound id g is)) (bare_stands a sound id g is)));
       others = λ n other. refl;
       made = λ n made. made;

@@ -12,6 +12,8 @@ use Rattle.place_words.proofs.PutLemmas.{sets_same}
 use Rattle.place_words.proofs.JoinLemmas.{in_is, members_kept, sets_alike, sets_now}
 use Rattle.place_words.specs.Moved.{Alike, joined_set, set_named, still_call, uncounted}
 use Rattle.queue_words.proofs.BareLemmas.{place_mapped}
+use Rattle.table_order.specs.declared.seat_links.Seat.{Seat}
+use Rattle.task_records.specs.Places.{member_seat}
 
 module _ (a : CoreParts) (sound : IsSound a) (id : TableId GuestTaskKey) (g : GuestTask) (is : Ok g ≡ item_at item_of a.calls id.rep id.serial) where
   abbrev pub bared : Parts
@@ -72,7 +74,7 @@ module _ (a : CoreParts) (sound : IsSound a) (id : TableId GuestTaskKey) (g : Gu
     pub calls_alike : Alike still_call bare_now bared.calls
     calls_alike = ap (mapped (on_item still_call)) bare_put ∙ mapped-with_entry_same (on_item still_call) bared.calls id.rep (entry_of (bare_call h)) bare_placed bare_stands (ap entry_of stays ∙ sym (ap (on_item still_call) bare_entry))
 
-    module _ (sets : Table (Single WaitSet)) (as_sets : Alike uncounted sets a.sets) (links : List (Spot ℕ)) where
+    module _ (sets : Table (Single WaitSet)) (as_sets : Alike uncounted sets a.sets) (links : List (Spot Seat)) where
       abbrev pub told_after : CoreParts
       told_after = record a { calls = calls_now; sets = sets; ready_calls = links }
 
@@ -91,7 +93,7 @@ module _ (a : CoreParts) (sound : IsSound a) (id : TableId GuestTaskKey) (g : Gu
       pub members_same : h.call.join ≡ g.call.join → (n : ℕ) → members_of n (core_of bared) ≡ members_of n (core_of after)
       members_same same n = let law = members_change n in let one : one_if_passes (λ (c : Call). is_in_set n c.join) (Some g.call) ≡ one_if_passes (λ (c : Call). is_in_set n c.join) (Some h.call) = ap (λ j. cond (is_in_set n j) 1 0) (sym same) in omega (arith, law, one)
 
-      module _ (at : AtPlace (parts_of a) h.joined (join_target h.call.join)) (sets_sound : SoundTable set_key sets a.made.sets) (kept : EachEntry (IsSetKept (core_of after)) sets) (interest : h.call.interesting ≡ g.call.interesting) (re : Refiles a.ready_calls links g.ready.index (link_for (ready_call_chain bared) (record { node = g.ready.index; key = ready_in h.call.event h.call.join; value = id.rep }))) where
+      module _ (at : AtPlace (parts_of a) h.joined (join_target h.call.join)) (sets_sound : SoundTable set_key sets a.made.sets) (kept : EachEntry (IsSetKept (core_of after)) sets) (interest : h.call.interesting ≡ g.call.interesting) (re : Refiles a.ready_calls links g.ready.index (link_for (ready_call_chain bared) (record { node = g.ready.index; key = ready_in h.call.event h.call.join; value = member_seat h.entry id.rep }))) where
         joins_now : EachEntry (λ (x : GuestTask). AtPlace after x.joined (join_target x.call.join)) bare_now
         joins_now = subst (EachEntry (λ (x : GuestTask). AtPlace after x.joined (join_target x.call.join))) (sym bare_put)
             (each_written bared.calls id.rep bare_placed bare_stands (λ (x : GuestTask). AtPlace after x.joined (join_target x.call.join)) (bare_call h)
@@ -101,10 +103,10 @@ module _ (a : CoreParts) (sound : IsSound a) (id : TableId GuestTaskKey) (g : Gu
         index_now : IsIndex (ready_call_chain bared) links (filings ready_call bare_now)
         index_now = subst (λ (t : Table (Single GuestTask)). IsIndex (ready_call_chain bared) links (filings ready_call t)) (sym bare_put)
             (IsIndex-with_entry ready_call (ready_call_chain bared) bared.calls a.ready_calls is_whole.chained.ready_calls id.rep bare_placed bare_stands links (entry_of (bare_call h))
-            (record { node = bare_placed.entry.item.ready.index; key = ready_in bare_placed.entry.item.call.event bare_placed.entry.item.call.join; value = id.rep })
-            (record { node = h.ready.index; key = ready_in h.call.event h.call.join; value = id.rep })
+            (record { node = bare_placed.entry.item.ready.index; key = ready_in bare_placed.entry.item.call.event bare_placed.entry.item.call.join; value = member_seat bare_placed.entry.item.entry id.rep })
+            (record { node = h.ready.index; key = ready_in h.call.event h.call.join; value = member_seat h.entry id.rep })
             refl refl (ap (λ (x : GuestTask). x.ready.index) stays ∙ sym (ap (λ (e : Single GuestTask). e.item.ready.index) bare_entry))
-            (subst (λ n. Refiles a.ready_calls links n (link_for (ready_call_chain bared) (record { node = h.ready.index; key = ready_in h.call.event h.call.join; value = id.rep }))) (sym (ap (λ (e : Single GuestTask). e.item.ready.index) bare_entry)) re))
+            (subst (λ n. Refiles a.ready_calls links n (link_for (ready_call_chain bared) (record { node = h.ready.index; key = ready_in h.call.event h.call.join; value = member_seat h.entry id.rep }))) (sym (ap (λ (e : Single GuestTask). e.item.ready.index) bare_entry)) re))
 
         held_now : (kind : HandleKind) (r : Rep) → IsHeldNamed (kinds bared) kind r → IsHeldNamed (kinds after) kind r
         held_now (HandleKind.Waitable WaitableKind.GuestSubtask) r at = at_told bared is_whole bare_now calls_alike sets as_sets links r.id (CallOf r.serial) at
@@ -154,7 +156,7 @@ module _ (a : CoreParts) (sound : IsSound a) (id : TableId GuestTaskKey) (g : Gu
           (tags_alike uncounted set_key (λ e. refl) sets a.sets as_sets)))
 
     -- the sets as they were count what they counted, where the call stays in its set
-    pub kept_same : h.call.join ≡ g.call.join → (links : List (Spot ℕ)) → EachEntry (IsSetKept (core_of (after a.sets refl links))) a.sets
+    pub kept_same : h.call.join ≡ g.call.join → (links : List (Spot Seat)) → EachEntry (IsSetKept (core_of (after a.sets refl links))) a.sets
     kept_same same links r q at = let was = is_whole.counted.sets r q at in record { members = was.members ∙ members_same a.sets refl links same q.entry.item.number; entries = was.entries }
 
     pub same_sets : SoundTable set_key a.sets a.made.sets
@@ -170,7 +172,7 @@ module _ (a : CoreParts) (sound : IsSound a) (id : TableId GuestTaskKey) (g : Gu
 
   module _ (h : GuestTask) (stays : still_call (bare_call h) ≡ still_call (bare_call g)) where
     -- and where it goes from one set to another they count that
-    module _ (from to : TableId SetKey) (from_is : set_of (seen a) from ≡ set_named (joined_set g.call.join) (seen a).core) (to_is : set_of (seen a) to ≡ set_named (joined_set h.call.join) (seen a).core) (links : List (Spot ℕ)) where
+    module _ (from to : TableId SetKey) (from_is : set_of (seen a) from ≡ set_named (joined_set g.call.join) (seen a).core) (to_is : set_of (seen a) to ≡ set_named (joined_set h.call.join) (seen a).core) (links : List (Spot Seat)) where
       abbrev pub joined_now : Table (Single WaitSet)
       joined_now = sets_now a sound (joined_set g.call.join) (joined_set h.call.join) from to from_is to_is
 

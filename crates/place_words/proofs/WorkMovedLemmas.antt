@@ -6,8 +6,9 @@ use Rattle.place_words.proofs.AlikeLemmas.{found_alike, nodes_alike, place_alike
 use Rattle.place_words.proofs.MovedLemmas.{IsRows-alike}
 use Rattle.place_words.proofs.PutLemmas.{sets_same}
 use Rattle.place_words.specs.Moved.{Alike, quiet_work, still_work, uncounted}
+use Rattle.table_order.specs.declared.seat_links.Seat.{Seat}
 
-module _ (p : Parts) (whole : IsWhole p) (works : Table (Single HostWork)) (alike : Alike still_work works p.works) (sets : Table (Single WaitSet)) (sets_alike : Alike uncounted sets p.sets) (ready : List (Spot ℕ)) (polled : List (Spot LiveWork)) (live : ℕ) where
+module _ (p : Parts) (whole : IsWhole p) (works : Table (Single HostWork)) (alike : Alike still_work works p.works) (sets : Table (Single WaitSet)) (sets_alike : Alike uncounted sets p.sets) (ready : List (Spot Seat)) (polled : List (Spot LiveWork)) (live : ℕ) where
   abbrev pub heard : Parts
   heard = record p { works = works; sets = sets; ready_works = ready; polled = polled; kept = record p.kept { live = live } }
 

@@ -9,7 +9,7 @@ ghost use Rattle.task_records.specs.Sound.{bare};
 ghost use Rattle.task_words.specs.Names.{subtask_in};
 ghost use Rattle.task_words.specs.StateView.{call_of, on_core, work_of};
 
-use crate::moves::refile;
+use crate::moves::{member_seat, refile};
 use task_machine::{Join, Status};
 use task_records::{CoreParts, named_set};
 use task_words::{CallId, SubtaskId, WorkId};
@@ -92,7 +92,12 @@ fn set_call_event(parts: &mut CoreParts, call: CallId, event: Option<Status>)
         let chain = call_chain(parts, old.joined, event, old.call.join);
         let mut new = old;
         new.call.event = event;
-        refile(&mut parts.ready_calls, old.ready, chain, call.rep());
+        refile(
+            &mut parts.ready_calls,
+            old.ready,
+            chain,
+            member_seat(old.entry, call.rep()),
+        );
         match parts.calls.get_mut(call) {
             Ok(entry) => {
                 *entry = new;
@@ -112,7 +117,12 @@ fn set_work_event(parts: &mut CoreParts, work: WorkId, event: Option<Status>)
         let chain = work_chain(parts, old.joined, event, old.work.join);
         let mut new = old;
         new.work.event = event;
-        refile(&mut parts.ready_works, old.ready, chain, work.rep());
+        refile(
+            &mut parts.ready_works,
+            old.ready,
+            chain,
+            member_seat(old.entry, work.rep()),
+        );
         match parts.works.get_mut(work) {
             Ok(entry) => {
                 *entry = new;

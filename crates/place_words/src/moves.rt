@@ -6,7 +6,7 @@ ghost use Rattle.task_links.specs.Links.{is_made, list_of, removed};
 ghost use Rattle.task_machine.specs.Write.{set_how_far, set_place};
 ghost use Rattle.task_records.specs.Kinds.{entry_of, item_of};
 ghost use Rattle.task_records.specs.Names.{AtPlace, how_far_target, place_target};
-ghost use Rattle.task_records.specs.Places.{place_chain, where_at};
+ghost use Rattle.task_records.specs.Places.{member_seat, place_chain, thread_seat, where_at};
 ghost use Rattle.task_records.specs.Seen.{IsSound, parts_of, seen};
 ghost use Rattle.task_records.specs.Sound.{bare};
 ghost use Rattle.task_records.specs.declared.threads.GuestThread.{GuestThread};
@@ -15,25 +15,46 @@ ghost use Rattle.task_table.specs.Changes.{with_entry};
 ghost use Rattle.task_words.specs.StateView.{on_core, thread_of};
 
 use crate::entries::{entry_set, one_less, one_more};
-use task_index::file;
-use task_links::Links;
+use table_order::{Seat, SeatLinks};
 use task_machine::{HowFar, Place};
-use task_records::{CoreParts, Node};
+use task_records::{CoreParts, GuestThread, Node};
 use task_words::ThreadId;
 
-// The node is in this chain alone, with the value, or in none.
-pub(crate) fn refile(links: &mut Links<u32>, node: Node, chain: Option<usize>, value: u32)
+// The node is in this chain alone, with the seat, or in none.
+pub(crate) fn refile(links: &mut SeatLinks, node: Node, chain: Option<usize>, seat: Seat)
     requires made { is_made links.old node.index ≡ true }
     requires live { IfSome chain (λ c. IsSome (list_of links.old c)) }
-    ensures links { Refiles links.old links.new node.index (option_map (λ c. (c, value)) chain) }
+    ensures links { Refiles links.old links.new node.index (option_map (λ c. (c, seat)) chain) }
     ensures left { chain ≡ None → links.new ≡ removed node.index links.old }
 {
     match chain {
-        Some(chain) => file(links, node, chain, value),
+        Some(chain) => links.file(node, chain, seat),
         None => {
             links.no_node_is_twice();
             links.remove(node);
         }
+    }
+}
+
+// The seat of a thread.
+fn thread_seat(place: u32, thread: &GuestThread) -> Seat
+    ensures { result ≡ thread_seat place thread.now }
+{
+    Seat {
+        task: thread.task_entry,
+        thread: thread.entry,
+        place,
+    }
+}
+
+/// The seat of a call or of a host work, by its places in the resource table and in the table of its kind.
+pub(crate) fn member_seat(entry: u32, place: u32) -> Seat
+    ensures { result ≡ member_seat entry place }
+{
+    Seat {
+        task: entry,
+        thread: 0,
+        place,
     }
 }
 
@@ -55,13 +76,13 @@ pub(crate) fn put(
     ensures left { (g : GuestThread) → Ok g ≡ item_at item_of parts.old.threads id.rep id.serial → chain ≡ None → parts.new.places ≡ removed g.node.index parts.old.places }
 {
     if let Some(found) = task_records::thread(parts, id) {
-        let node = found.node;
+        let (node, seat) = (found.node, thread_seat(id.rep(), found));
         let (how_far, awaited) = (&found.thread.how_far, found.awaited);
         let from = entry_set(parts, &found.thread.place, found.beside, how_far, awaited);
         let to = entry_set(parts, &place, beside, how_far, awaited);
         one_less(&mut parts.sets, from);
         one_more(&mut parts.sets, to);
-        refile(&mut parts.places, node, chain, id.rep());
+        refile(&mut parts.places, node, chain, seat);
         match parts.threads.get_mut(id) {
             Ok(entry) => {
                 entry.thread.place = place;

@@ -1,3 +1,4 @@
+ghost use Rattle.place_words.specs.Picks.{IsLeastMember, IsLeastWaiter};
 ghost use Rattle.std.specs.Prelude.{◌≡◌, ◌<◌, IfNone, IfSome, false, true};
 ghost use Rattle.task_machine.specs.Read.{has_member, has_ready_member, has_waiter, is_ready_member, is_waiter};
 ghost use Rattle.task_records.specs.Seen.{IsSound, seen};
@@ -7,35 +8,38 @@ ghost use Rattle.task_words.specs.StateView.{set_of, thread_of};
 use task_records::{CoreParts, call_at, thread_at, work_at};
 use task_words::{SetId, SubtaskId, ThreadId};
 
-/// The first waiter of a set, in the order of the set's chain.
+/// The first waiter of a set: the least by the places of its call and of itself in the resource table.
 pub fn first_waiter(parts: &CoreParts, set: SetId) -> Option<ThreadId>
     requires sound { IsSound parts.now }
     requires live { 0 < set_of (seen parts.now) set }
     ensures none { IfNone result (has_waiter (set_of (seen parts.now) set) (seen parts.now).core ≡ false) }
     ensures some { IfSome result (λ id. is_waiter (set_of (seen parts.now) set) (thread_of (seen parts.now) id) (seen parts.now).core ≡ true) }
     ensures live { IfSome result (λ id. 0 < thread_of (seen parts.now) id) }
+    ensures least { IfSome result (λ id. IsLeastWaiter parts.now (set_of (seen parts.now) set) id) }
 {
     match task_records::set(parts, set) {
-        Some(found) => match task_index::first(&parts.places, found.waiters) {
-            Some((_, place)) => Some(thread_at(parts, place)),
+        Some(found) => match parts.places.first(found.waiters) {
+            Some((_, seat)) => Some(thread_at(parts, seat.place)),
             None => None,
         },
         None => unreachable!(),
     }
 }
 
-/// The first ready member of a set, in the order of the set's chains: calls, then host works.
+/// The first ready member of a set, in the order of `Waitable`: host works, then calls, each by its place in the
+/// resource table.
 pub fn first_ready(parts: &CoreParts, set: SetId) -> Option<SubtaskId>
     requires sound { IsSound parts.now }
     requires live { 0 < set_of (seen parts.now) set }
     ensures none { IfNone result (has_ready_member (set_of (seen parts.now) set) (seen parts.now).core ≡ false) }
     ensures some { IfSome result (λ member. is_ready_member (set_of (seen parts.now) set) (subtask_in (seen parts.now).tags member) (seen parts.now).core ≡ true) }
+    ensures least { IfSome result (λ member. IsLeastMember parts.now (set_of (seen parts.now) set) member) }
 {
     match task_records::set(parts, set) {
-        Some(found) => match task_index::first(&parts.ready_calls, found.ready_calls) {
-            Some((_, place)) => Some(SubtaskId::Guest(call_at(parts, place))),
-            None => match task_index::first(&parts.ready_works, found.ready_works) {
-                Some((_, place)) => Some(SubtaskId::Host(work_at(parts, place))),
+        Some(found) => match parts.ready_works.first(found.ready_works) {
+            Some((_, seat)) => Some(SubtaskId::Host(work_at(parts, seat.place))),
+            None => match parts.ready_calls.first(found.ready_calls) {
+                Some((_, seat)) => Some(SubtaskId::Guest(call_at(parts, seat.place))),
                 None => None,
             },
         },

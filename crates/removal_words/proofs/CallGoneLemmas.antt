@@ -12,6 +12,8 @@ use Rattle.removal_words.specs.Chains.{Closes, Drops}
 use Rattle.removal_words.specs.Counted.{uncalled}
 use Rattle.task_records.proofs.KindLemmas.{absent, item_number, item_read, item_stands}
 use Rattle.task_records.proofs.MakeLemmas.{records_less, stands_less}
+use Rattle.table_order.specs.declared.seat_links.Seat.{Seat}
+use Rattle.task_records.specs.Places.{member_seat}
 
 abbrev number : GuestTask → ℕ
 number g = g.number
@@ -28,7 +30,7 @@ module _ (p : Parts) (whole : IsWhole p) (made : ℕ) (sound : SoundTable call_k
 
   -- ---- The parts without it, with one call less of its group
 
-  module _ (groups : Table (Single TaskGroup)) (alike : Alike uncalled groups p.groups) (places ready_calls : List (Spot ℕ)) (kept : Kept) where
+  module _ (groups : Table (Single TaskGroup)) (alike : Alike uncalled groups p.groups) (places ready_calls : List (Spot Seat)) (kept : Kept) where
     abbrev pub less : Parts
     less = record p { calls = deleted rep p.calls; groups = groups; places = places; ready_calls = ready_calls; kept = kept }
 
@@ -105,7 +107,7 @@ module _ (p : Parts) (whole : IsWhole p) (made : ℕ) (sound : SoundTable call_k
       chained_left : AreChained less
       chained_left = record {
         places = IsIndex-shut (place_chain p) (place_chain less) p.places places (BlockedOn (Subtask.Guest g.number)) g.blocked blocked_is (found_gone number machine p.calls made sound rep serial g is (λ (x : GuestTask). x.blocked)) place_else shut (filings place_filing p.threads) whole.chained.places;
-        ready_calls = IsIndex-gone ready_call (ready_call_chain less) p.calls rep stands.0 stands.1.0 (record { node = stands.0.entry.item.ready.index; key = ready_in stands.0.entry.item.call.event stands.0.entry.item.call.join; value = rep }) refl p.ready_calls ready_calls
+        ready_calls = IsIndex-gone ready_call (ready_call_chain less) p.calls rep stands.0 stands.1.0 (record { node = stands.0.entry.item.ready.index; key = ready_in stands.0.entry.item.call.event stands.0.entry.item.call.join; value = member_seat stands.0.entry.item.entry rep }) refl p.ready_calls ready_calls
             (subst (λ (e : Single GuestTask). Drops p.ready_calls ready_calls e.item.ready.index) (sym stands.1.1.1) ready_out) whole.chained.ready_calls;
         ready_works = whole.chained.ready_works;
         polled = whole.chained.polled;

@@ -17,6 +17,7 @@ use Rattle.task_records.proofs.HomeLemmas.{call_names}
 use Rattle.task_records.proofs.KindLemmas.{item_number, item_read, item_stands, table_written}
 use Rattle.task_records.proofs.MakeLemmas.{number_left, records_less, table_less}
 use Rattle.task_records.proofs.ReadLemmas.{call_named, call_read, call_shown}
+use Rattle.table_order.specs.declared.seat_links.Seat.{Seat}
 
 abbrev number : GuestTask → ℕ
 number g = g.number
@@ -131,7 +132,7 @@ module _ (a : CoreParts) (sound : IsSound a) (id : TableId GuestTaskKey) (g : Gu
           (read_at (λ (h : GuestThread). h.number) (λ (h : GuestThread). h.thread) a.threads a.made.threads sound.tables.threads r one.0 one.1.0)
           (eq-eqb one.0.entry.item.thread.call (call_of (seen a) id) (ap (λ (e : Single GuestThread). e.item.thread.call) one.1.1 ∙ (same ∙ named)))
 
-      module _ (places ready_calls : List (Spot ℕ)) (shut : Closes a.places places g.blocked) (ready_out : Drops a.ready_calls ready_calls g.ready.index) (interesting : ℕ) (still : interesting + cond g.call.interesting 1 0 ≡ a.kept.interesting) where
+      module _ (places ready_calls : List (Spot Seat)) (shut : Closes a.places places g.blocked) (ready_out : Drops a.ready_calls ready_calls g.ready.index) (interesting : ℕ) (still : interesting + cond g.call.interesting 1 0 ≡ a.kept.interesting) where
         abbrev pub call_removed : CoreParts
         call_removed = record a { calls = deleted id.rep a.calls; groups = groups_less; places = places; ready_calls = ready_calls; kept = record a.kept { used = a.kept.used - 1; interesting = interesting } }
 

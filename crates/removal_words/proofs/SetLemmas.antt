@@ -8,6 +8,7 @@ use Rattle.removal_words.specs.Chains.{Closes}
 use Rattle.place_words.proofs.FiledLemmas.{kept_under}
 use Rattle.task_records.proofs.MakeLemmas.{number_left, records_less, stands_less, table_less}
 use Rattle.task_records.proofs.ReadLemmas.{set_named, set_shown}
+use Rattle.table_order.specs.declared.seat_links.Seat.{Seat}
 
 module _ (a : CoreParts) (sound : IsSound a) (id : TableId SetKey) (g : WaitSet) (is : Ok g ≡ item_at item_of a.sets id.rep id.serial) where
   under_waiters : place_chain (bare (parts_of a)) (WaitsOn g.number) ≡ Some g.waiters
@@ -112,7 +113,7 @@ module _ (a : CoreParts) (sound : IsSound a) (id : TableId SetKey) (g : WaitSet)
   unfolding IsSound
   works_live = sound.whole.chained.ready_works.live g.number g.ready_works under_works
 
-  module _ (places ready_calls ready_works : List (Spot ℕ)) (waiters_shut : Closes a.places places g.waiters) (calls_shut : Closes a.ready_calls ready_calls g.ready_calls) (works_shut : Closes a.ready_works ready_works g.ready_works) where
+  module _ (places ready_calls ready_works : List (Spot Seat)) (waiters_shut : Closes a.places places g.waiters) (calls_shut : Closes a.ready_calls ready_calls g.ready_calls) (works_shut : Closes a.ready_works ready_works g.ready_works) where
     abbrev pub set_removed : CoreParts
     set_removed = record a { sets = deleted id.rep a.sets; places = places; ready_calls = ready_calls; ready_works = ready_works; kept = record a.kept { used = a.kept.used - 1 } }
 

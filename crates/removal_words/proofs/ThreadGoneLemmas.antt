@@ -14,6 +14,8 @@ use Rattle.removal_words.specs.Chains.{Closes, Drops}
 use Rattle.removal_words.specs.Counted.{unthreaded}
 use Rattle.task_records.proofs.KindLemmas.{item_number, item_read, item_stands}
 use Rattle.task_records.proofs.MakeLemmas.{records_less, stands_less}
+use Rattle.table_order.specs.declared.seat_links.Seat.{Seat}
+use Rattle.task_records.specs.Places.{thread_seat}
 
 abbrev number : GuestThread → ℕ
 number g = g.number
@@ -30,7 +32,7 @@ module _ (p : Parts) (whole : IsWhole p) (made : ℕ) (sound : SoundTable thread
 
   -- ---- The parts without it, with one thread less of its call
 
-  module _ (calls : Table (Single GuestTask)) (alike : Alike unthreaded calls p.calls) (places : List (Spot ℕ)) (marks shelves : List (Spot Queued)) (behind : List (Spot Follower)) (kept : Kept) where
+  module _ (calls : Table (Single GuestTask)) (alike : Alike unthreaded calls p.calls) (places : List (Spot Seat)) (marks shelves : List (Spot Queued)) (behind : List (Spot Follower)) (kept : Kept) where
     abbrev pub less : Parts
     less = record p { threads = deleted rep p.threads; calls = calls; places = places; marks = marks; shelves = shelves; behind = behind; kept = kept }
 
@@ -116,7 +118,7 @@ module _ (p : Parts) (whole : IsWhole p) (made : ℕ) (sound : SoundTable thread
     ]
 
     module _ (unqueued : (r : Row) → list_any (λ (q : Queued). is_entry_of g.number q.entry) (row p r) ≡ false) (not_behind : (n : ℕ) → list_any (λ (f : Follower). g.number == f.number) (callers_row p n) ≡ false) (not_switch : (f : Follower) → p.switch ≡ Some f → (g.number == f.number) ≡ false) (unkept : (x : ℕ) → keeps_set x g.thread g.thread.place ≡ false) where
-      module _ (middle : List (Spot ℕ)) (shut : Closes p.places middle g.under) (node_out : Drops middle places g.node.index) (mark_out : Renames p.marks marks g.mark.index FreeNode Unmade) (shelf_out : Renames p.shelves shelves g.shelf.index FreeNode Unmade) (middle_behind : List (Spot Follower)) (callers_shut : Closes p.behind middle_behind g.callers) (caller_out : Renames middle_behind behind g.caller.index FreeNode Unmade) where
+      module _ (middle : List (Spot Seat)) (shut : Closes p.places middle g.under) (node_out : Drops middle places g.node.index) (mark_out : Renames p.marks marks g.mark.index FreeNode Unmade) (shelf_out : Renames p.shelves shelves g.shelf.index FreeNode Unmade) (middle_behind : List (Spot Follower)) (callers_shut : Closes p.behind middle_behind g.callers) (caller_out : Renames middle_behind behind g.caller.index FreeNode Unmade) where
         marks_left : IsRows (row_chain p) (λ q. q.mark.index) (IsSeated less) marks (row p)
         marks_left =
             let rows = IsRows-dropped (row_chain p) (λ q. q.mark.index) (IsSeated p) p.marks (row p) whole.chained.marks marks g.mark.index mark_out in
@@ -147,7 +149,7 @@ module _ (p : Parts) (whole : IsWhole p) (made : ℕ) (sound : SoundTable thread
 
         chained_left : AreChained less
         chained_left = record {
-          places = IsIndex-gone place_filing (place_chain less) p.threads rep stands.0 stands.1.0 (record { node = stands.0.entry.item.node.index; key = where_at stands.0.entry.item.instance stands.0.entry.item.thread.place; value = rep }) refl middle places
+          places = IsIndex-gone place_filing (place_chain less) p.threads rep stands.0 stands.1.0 (record { node = stands.0.entry.item.node.index; key = where_at stands.0.entry.item.instance stands.0.entry.item.thread.place; value = thread_seat rep stands.0.entry.item }) refl middle places
               (subst (λ (e : Single GuestThread). Drops middle places e.item.node.index) (sym stands.1.1.1) node_out)
               (IsIndex-shut (place_chain p) (place_chain less) p.places middle (UnderOf g.number) g.under under_is (found_gone number machine p.threads made sound rep serial g is (λ (x : GuestThread). x.under)) place_else shut (filings place_filing p.threads) whole.chained.places);
           ready_calls = IsIndex-same (ready_call_chain p) p.ready_calls _ whole.chained.ready_calls (filings ready_call calls) (filings_alike unthreaded ready_call (λ r s x. refl) calls p.calls alike);

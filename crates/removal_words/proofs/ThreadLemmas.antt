@@ -21,6 +21,7 @@ use Rattle.task_records.proofs.MakeLemmas.{number_left, records_less, table_less
 use Rattle.task_records.proofs.ReadLemmas.{thread_named, thread_read, thread_shown, thread_unnamed}
 use Rattle.task_records.proofs.TableLemmas.{records_unseen}
 use Rattle.task_words.specs.StateView.{named as named_by_tag}
+use Rattle.table_order.specs.declared.seat_links.Seat.{Seat}
 
 abbrev number : GuestThread → ℕ
 number g = g.number
@@ -165,7 +166,7 @@ module _ (a : CoreParts) (sound : IsSound a) (id : TableId ThreadKey) (g : Guest
 
     -- ---- It is gone
 
-    module _ (middle places : List (Spot ℕ)) (shut : Closes a.places middle g.under) (node_out : Drops middle places g.node.index) (marks : List (Spot Queued)) (mark_out : Renames a.marks marks g.mark.index FreeNode Unmade) (shelves : List (Spot Queued)) (shelf_out : Renames a.shelves shelves g.shelf.index FreeNode Unmade) (middle_behind behind : List (Spot Follower)) (callers_shut : Closes a.behind middle_behind g.callers) (caller_out : Renames middle_behind behind g.caller.index FreeNode Unmade) where
+    module _ (middle places : List (Spot Seat)) (shut : Closes a.places middle g.under) (node_out : Drops middle places g.node.index) (marks : List (Spot Queued)) (mark_out : Renames a.marks marks g.mark.index FreeNode Unmade) (shelves : List (Spot Queued)) (shelf_out : Renames a.shelves shelves g.shelf.index FreeNode Unmade) (middle_behind behind : List (Spot Follower)) (callers_shut : Closes a.behind middle_behind g.callers) (caller_out : Renames middle_behind behind g.caller.index FreeNode Unmade) where
       abbrev pub thread_removed : CoreParts
       thread_removed = record a { threads = deleted id.rep a.threads; calls = calls_less; places = places; marks = marks; shelves = shelves; behind = behind; kept = record a.kept { used = a.kept.used - 2 } }
 

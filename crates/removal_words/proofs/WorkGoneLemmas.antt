@@ -16,6 +16,8 @@ use Rattle.removal_words.specs.Chains.{Closes, Drops}
 use Rattle.removal_words.specs.Counted.{uncalled}
 use Rattle.task_records.proofs.KindLemmas.{item_number, item_read, item_stands}
 use Rattle.task_records.proofs.MakeLemmas.{records_less, stands_less}
+use Rattle.table_order.specs.declared.seat_links.Seat.{Seat}
+use Rattle.task_records.specs.Places.{member_seat}
 
 abbrev number : HostWork → ℕ
 number w = w.number
@@ -32,7 +34,7 @@ module _ (p : Parts) (whole : IsWhole p) (made : ℕ) (sound : SoundTable work_k
 
   -- ---- The parts without it
 
-  module _ (groups : Table (Single TaskGroup)) (alike : Alike uncalled groups p.groups) (places ready_works : List (Spot ℕ)) (polled : List (Spot LiveWork)) (marks : List (Spot Queued)) (kept : Kept) where
+  module _ (groups : Table (Single TaskGroup)) (alike : Alike uncalled groups p.groups) (places ready_works : List (Spot Seat)) (polled : List (Spot LiveWork)) (marks : List (Spot Queued)) (kept : Kept) where
     abbrev pub less : Parts
     less = record p { works = deleted rep p.works; groups = groups; places = places; ready_works = ready_works; polled = polled; marks = marks; kept = kept }
 
@@ -117,7 +119,7 @@ module _ (p : Parts) (whole : IsWhole p) (made : ℕ) (sound : SoundTable work_k
       chained_left = record {
         places = IsIndex-shut (place_chain p) (place_chain less) p.places places (BlockedOn (Subtask.Host g.number)) g.blocked blocked_is (found_gone number machine p.works made sound rep serial g is (λ (x : HostWork). x.blocked)) place_else shut (filings place_filing p.threads) whole.chained.places;
         ready_calls = whole.chained.ready_calls;
-        ready_works = IsIndex-gone ready_work (ready_work_chain less) p.works rep stands.0 stands.1.0 (record { node = stands.0.entry.item.ready.index; key = ready_in stands.0.entry.item.work.event stands.0.entry.item.work.join; value = rep }) refl p.ready_works ready_works
+        ready_works = IsIndex-gone ready_work (ready_work_chain less) p.works rep stands.0 stands.1.0 (record { node = stands.0.entry.item.ready.index; key = ready_in stands.0.entry.item.work.event stands.0.entry.item.work.join; value = member_seat stands.0.entry.item.entry rep }) refl p.ready_works ready_works
             (subst (λ (e : Single HostWork). Drops p.ready_works ready_works e.item.ready.index) (sym stands.1.1.1) ready_out) whole.chained.ready_works;
         polled = IsIndex-gone live_work (live_chain less) p.works rep stands.0 stands.1.0 (record { node = stands.0.entry.item.live.index; key = cond (is_stage_live stands.0.entry.item.work.stage) (Some tt) None; value = live_value rep stands.0.entry.item }) refl p.polled polled
             (subst (λ (e : Single HostWork). Drops p.polled polled e.item.live.index) (sym stands.1.1.1) (Drops-renamed p.polled polled g.live.index live_out)) whole.chained.polled;

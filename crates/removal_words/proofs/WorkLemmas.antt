@@ -21,6 +21,7 @@ use Rattle.task_records.proofs.HomeLemmas.{work_names}
 use Rattle.task_records.proofs.KindLemmas.{item_number, item_read, item_stands, table_written}
 use Rattle.task_records.proofs.MakeLemmas.{number_left, records_less, table_less}
 use Rattle.task_records.proofs.ReadLemmas.{work_named, work_read, work_shown}
+use Rattle.table_order.specs.declared.seat_links.Seat.{Seat}
 
 abbrev number : HostWork → ℕ
 number w = w.number
@@ -158,7 +159,7 @@ module _ (a : CoreParts) (sound : IsSound a) (id : TableId HostTaskKey) (g : Hos
           by (Some n) None has l = absurd l
           by (Some n) (Some k) has l = (number_of_alike uncalled group_key (λ e. refl) groups a.groups alike k.rep k.serial ∙ (item_number group_number group_calls a.groups k.rep k.serial l.0 l.1.0 ∙ l.1.1.0), ((work_names a sound id g is).group n has).1)
 
-      module _ (places ready_works : List (Spot ℕ)) (polled : List (Spot LiveWork)) (shut : Closes a.places places g.blocked) (ready_out : Drops a.ready_works ready_works g.ready.index) (live_out : Renames a.polled polled g.live.index FreeNode Unmade) (marks : List (Spot Queued)) (mark_out : Renames a.marks marks g.mark.index FreeNode Unmade) (used : ℕ) (still : used + cond (is_host_call g.work) 1 0 ≡ a.kept.used) where
+      module _ (places ready_works : List (Spot Seat)) (polled : List (Spot LiveWork)) (shut : Closes a.places places g.blocked) (ready_out : Drops a.ready_works ready_works g.ready.index) (live_out : Renames a.polled polled g.live.index FreeNode Unmade) (marks : List (Spot Queued)) (mark_out : Renames a.marks marks g.mark.index FreeNode Unmade) (used : ℕ) (still : used + cond (is_host_call g.work) 1 0 ≡ a.kept.used) where
         abbrev pub work_removed : CoreParts
         work_removed = record a { works = deleted id.rep a.works; groups = groups; places = places; ready_works = ready_works; polled = polled; marks = marks; kept = record a.kept { used = used } }
 

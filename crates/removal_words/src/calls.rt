@@ -1,4 +1,5 @@
-ghost use Rattle.std.specs.Prelude.{◌≡◌, ◌<◌, None, false};
+ghost use Rattle.std.specs.Prelude.{◌≡◌, ◌<◌, None, Ok, false};
+ghost use Rattle.table_order.specs.Places.{given};
 ghost use Rattle.task_machine.specs.Maps.{get};
 ghost use Rattle.task_machine.specs.Moves.{group_settled};
 ghost use Rattle.task_machine.specs.Read.{call_group, has_thread, join_of};
@@ -6,11 +7,14 @@ ghost use Rattle.task_machine.specs.Write.{remove_call};
 ghost use Rattle.task_machine.specs.declared.records.Join.TheVariants as joins;
 ghost use Rattle.task_machine.specs.declared.records.Subtask.TheVariants as subtasks;
 ghost use Rattle.task_records.specs.Keys.{group_key};
+ghost use Rattle.task_records.specs.Kinds.{item_of};
 ghost use Rattle.task_records.specs.Seen.{IsSound, seen};
+ghost use Rattle.task_records.specs.declared.calls.GuestTask.{GuestTask};
+ghost use Rattle.task_table.specs.Answers.{item_at};
 ghost use Rattle.task_table.specs.Records.{number_of};
 ghost use Rattle.task_words.specs.StateView.{KeepsBut, call_of, lost_call};
 
-use crate::chains::{close, drop_node};
+use crate::chains::{close_seats, drop_seat};
 use crate::groups::{group_there, one_if, settle_group};
 use count_words::close_room;
 use place_words::set_join;
@@ -33,6 +37,7 @@ fn drop_call(parts: &mut CoreParts, call: CallId) -> TableId<GroupKey>
     ensures tags { KeepsBut (lost_call (call_of (seen parts.old) call)) (seen parts.old).tags (seen parts.new).tags }
     ensures group { number_of group_key parts.new.groups result.rep result.serial ≡ call_group (call_of (seen parts.old) call) (seen parts.old).core }
     ensures positive { 0 < call_group (call_of (seen parts.old) call) (seen parts.old).core }
+    ensures places { (g : GuestTask) → Ok g ≡ item_at item_of parts.old.calls call.rep call.serial → parts.new.table_places ≡ given g.entry parts.old.table_places }
 {
     let found = match task_records::call(parts, call) {
         Some(found) => *found,
@@ -40,8 +45,8 @@ fn drop_call(parts: &mut CoreParts, call: CallId) -> TableId<GroupKey>
     };
     let (group, mut counted) = group_there(&parts.groups, found.group);
     counted.calls -= 1;
-    close(&mut parts.places, found.blocked);
-    drop_node(&mut parts.ready_calls, found.ready);
+    close_seats(&mut parts.places, found.blocked);
+    drop_seat(&mut parts.ready_calls, found.ready);
     match parts.groups.get_mut(group) {
         Ok(entry) => {
             *entry = counted;
@@ -53,6 +58,7 @@ fn drop_call(parts: &mut CoreParts, call: CallId) -> TableId<GroupKey>
         Err(_) => unreachable!(),
     }
     parts.kept.used -= 1;
+    parts.table_places.give(found.entry);
     parts.kept.interesting -= one_if(found.call.interesting);
     group
 }

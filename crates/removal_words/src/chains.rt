@@ -3,7 +3,7 @@ ghost use Rattle.removal_words.specs.Chains.{Closes, Drops};
 ghost use Rattle.std.specs.Prelude.{◌≡◌, IsSome, true};
 ghost use Rattle.task_links.specs.Links.{is_made, list_of};
 
-use task_index::unfile;
+use table_order::SeatLinks;
 use task_links::{Links, Node};
 
 /// Takes every node out of a chain, and drops it.
@@ -17,11 +17,23 @@ pub(crate) fn close<P: Copy>(links: &mut Links<P>, chain: usize)
     links.drop_chain(chain);
 }
 
+/// Takes every node out of a chain that stands in the order of seats, and drops it.
+pub(crate) fn close_seats(links: &mut SeatLinks, chain: usize)
+    requires { IsSome (list_of links.old chain) }
+    ensures { Closes links.old links.new chain }
+{
+    while let Some((node, _)) = links.first(chain) {
+        links.remove(node);
+    }
+    links.drop_chain(chain);
+}
+
 /// Takes a node out of the chain that it is in, if it is in one, and drops it.
-pub(crate) fn drop_node<P: Copy>(links: &mut Links<P>, node: Node)
+pub(crate) fn drop_seat(links: &mut SeatLinks, node: Node)
     requires { is_made links.old node.index ≡ true }
     ensures { Drops links.old links.new node.index }
 {
-    unfile(links, node);
+    links.no_node_is_twice();
+    links.remove(node);
     links.drop_node(node);
 }

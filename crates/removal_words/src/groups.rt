@@ -11,6 +11,7 @@ ghost use Rattle.task_table.specs.Answers.{item_at};
 ghost use Rattle.task_table.specs.Records.{number_in, number_of, record_at};
 ghost use Rattle.task_words.specs.StateView.{on_core};
 
+use count_words::give_group;
 use task_records::{CoreParts, Single, TaskGroup};
 use task_table::{ResourceTable, TableId};
 use task_wait::GroupKey;
@@ -94,4 +95,9 @@ pub(crate) fn settle_group(parts: &mut CoreParts, group: TableId<GroupKey>)
         parts.kept.groups -= 1;
         parts.kept.used -= 1;
     }
+    give_group(
+        &mut parts.table_places,
+        &mut parts.group_entries,
+        found.number,
+    );
 }

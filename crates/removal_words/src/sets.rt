@@ -1,10 +1,14 @@
-ghost use Rattle.std.specs.Prelude.{◌≡◌, ◌<◌, IsSome};
+ghost use Rattle.std.specs.Prelude.{◌≡◌, ◌<◌, IsSome, Ok};
+ghost use Rattle.table_order.specs.Places.{given};
 ghost use Rattle.task_machine.specs.Read.{set_at};
 ghost use Rattle.task_machine.specs.Write.{free_handle, remove_set};
+ghost use Rattle.task_records.specs.Kinds.{item_of};
 ghost use Rattle.task_records.specs.Seen.{IsSound, seen};
+ghost use Rattle.task_records.specs.declared.sets.WaitSet.{WaitSet};
+ghost use Rattle.task_table.specs.Answers.{item_at};
 ghost use Rattle.task_words.specs.StateView.{KeepsBut, lost_set, on_core, set_of};
 
-use crate::chains::close;
+use crate::chains::close_seats;
 use task_records::CoreParts;
 use task_words::SetId;
 
@@ -16,19 +20,21 @@ fn remove_set(parts: &mut CoreParts, set: SetId)
     ensures core { (seen parts.new).core ≡ remove_set (set_of (seen parts.old) set) (seen parts.old).core }
     ensures current { (seen parts.new).current ≡ (seen parts.old).current }
     ensures tags { KeepsBut (lost_set (set_of (seen parts.old) set)) (seen parts.old).tags (seen parts.new).tags }
+    ensures places { (x : WaitSet) → Ok x ≡ item_at item_of parts.old.sets set.rep set.serial → parts.new.table_places ≡ given x.entry parts.old.table_places }
 {
     let found = match task_records::set(parts, set) {
         Some(found) => *found,
         None => unreachable!(),
     };
-    close(&mut parts.places, found.waiters);
-    close(&mut parts.ready_calls, found.ready_calls);
-    close(&mut parts.ready_works, found.ready_works);
+    close_seats(&mut parts.places, found.waiters);
+    close_seats(&mut parts.ready_calls, found.ready_calls);
+    close_seats(&mut parts.ready_works, found.ready_works);
     match parts.sets.delete(set) {
         Ok(_) => {}
         Err(_) => unreachable!(),
     }
     parts.kept.used -= 1;
+    parts.table_places.give(found.entry);
 }
 
 // Takes a handle of a set back.

@@ -6,11 +6,13 @@ ghost use Rattle.task_machine.specs.Write.{free_thread_handle, remove_thread};
 ghost use Rattle.task_machine.specs.declared.records.Place.TheVariants as places;
 ghost use Rattle.task_records.specs.Kinds.{item_of};
 ghost use Rattle.task_records.specs.Seen.{IsSound, seen};
+ghost use Rattle.table_order.specs.Places.{given};
+ghost use Rattle.task_records.specs.declared.threads.GuestThread.{GuestThread};
 ghost use Rattle.task_table.specs.Answers.{item_at};
 ghost use Rattle.task_words.specs.Apart.{IsApart};
 ghost use Rattle.task_words.specs.StateView.{KeepsBut, lost_thread, on_core, thread_of};
 
-use crate::chains::{close, drop_node};
+use crate::chains::{close, close_seats, drop_seat};
 use place_words::set_place;
 use task_records::{CoreParts, GuestTask, GuestThread, task_of};
 use task_words::{CallId, PlaceId, ThreadId};
@@ -44,11 +46,12 @@ fn drop_thread(parts: &mut CoreParts, thread: ThreadId)
     ensures core { (seen parts.new).core ≡ remove_thread (thread_of (seen parts.old) thread) (seen parts.old).core }
     ensures current { (seen parts.new).current ≡ (seen parts.old).current }
     ensures tags { KeepsBut (lost_thread (thread_of (seen parts.old) thread)) (seen parts.old).tags (seen parts.new).tags }
+    ensures places { (g : GuestThread) → Ok g ≡ item_at item_of parts.old.threads thread.rep thread.serial → parts.new.table_places ≡ given g.set_entry (given g.entry parts.old.table_places) }
 {
     let (found, task, mut call) = with_call(parts, thread);
     call.threads -= 1;
-    close(&mut parts.places, found.under);
-    drop_node(&mut parts.places, found.node);
+    close_seats(&mut parts.places, found.under);
+    drop_seat(&mut parts.places, found.node);
     parts.behind.no_node_is_twice();
     close(&mut parts.behind, found.callers);
     parts.behind.drop_node(found.caller);
@@ -67,6 +70,8 @@ fn drop_thread(parts: &mut CoreParts, thread: ThreadId)
         Err(_) => unreachable!(),
     }
     parts.kept.used -= 2;
+    parts.table_places.give(found.entry);
+    parts.table_places.give(found.set_entry);
 }
 
 /// A thread is gone, as it stands, and no thread is behind it any more.

@@ -1,23 +1,37 @@
 ghost use Rattle.removal_words.specs.Counted.{IsNamedBy};
-ghost use Rattle.std.specs.Prelude.{◌≡◌, ◌<◌};
-ghost use Rattle.task_machine.specs.Read.{join_of, stage_of};
+ghost use Rattle.std.specs.Prelude.{◌≡◌, ◌<◌, Ok, if◌then◌else◌};
+ghost use Rattle.table_order.specs.Places.{given};
+ghost use Rattle.task_machine.specs.Read.{is_host_call, join_of, stage_of};
 ghost use Rattle.task_machine.specs.Write.{remove_work};
 ghost use Rattle.task_machine.specs.declared.records.Join.TheVariants as joins;
 ghost use Rattle.task_machine.specs.declared.records.Stage.TheVariants as stages;
 ghost use Rattle.task_machine.specs.declared.records.Subtask.TheVariants as subtasks;
+ghost use Rattle.task_records.specs.Kinds.{item_of};
 ghost use Rattle.task_records.specs.Seen.{IsSound, seen};
+ghost use Rattle.task_records.specs.declared.works.HostWork.{HostWork};
 ghost use Rattle.task_rules.specs.Calls.{work_deleted, work_group};
+ghost use Rattle.task_table.specs.Answers.{item_at};
 ghost use Rattle.task_words.specs.Apart.{work_entries};
 ghost use Rattle.task_words.specs.StateView.{KeepsBut, lost_work, work_of};
 
-use crate::chains::{close, drop_node};
+use crate::chains::{close_seats, drop_seat};
 use crate::groups::{lower_group, one_if, settle_group};
 use place_words::{set_join, set_stage};
+use table_order::TablePlaces;
 use task_machine::Stage;
 use task_records::CoreParts;
 use task_table::TableId;
 use task_wait::GroupKey;
 use task_words::{JoinId, SubtaskId, WorkId};
+
+// The place in the resource table is free, where it was taken.
+fn give_if(places: &mut TablePlaces, was_taken: bool, entry: u32)
+    ensures { places.new ≡ (if was_taken then given entry places.old else places.old) }
+{
+    if was_taken {
+        places.give(entry);
+    }
+}
 
 // A work that has ended and is in no set is gone; its group, if it has one, may be finished.
 fn drop_work(parts: &mut CoreParts, work: WorkId) -> Option<TableId<GroupKey>>
@@ -31,14 +45,15 @@ fn drop_work(parts: &mut CoreParts, work: WorkId) -> Option<TableId<GroupKey>>
     ensures current { (seen parts.new).current ≡ (seen parts.old).current }
     ensures tags { KeepsBut (lost_work (work_of (seen parts.old) work)) (seen parts.old).tags (seen parts.new).tags }
     ensures group { IsNamedBy parts.new.groups (work_group (work_of (seen parts.old) work) (seen parts.old).core) result }
+    ensures places { (w : HostWork) → Ok w ≡ item_at item_of parts.old.works work.rep work.serial → parts.new.table_places ≡ (if is_host_call w.work then given w.entry parts.old.table_places else parts.old.table_places) }
 {
     let found = match task_records::work(parts, work) {
         Some(found) => *found,
         None => unreachable!(),
     };
     let group = lower_group(&mut parts.groups, found.group, found.work.group);
-    close(&mut parts.places, found.blocked);
-    drop_node(&mut parts.ready_works, found.ready);
+    close_seats(&mut parts.places, found.blocked);
+    drop_seat(&mut parts.ready_works, found.ready);
     parts.polled.drop_node(found.live);
     parts.marks.no_node_is_twice();
     parts.marks.drop_node(found.mark);
@@ -47,6 +62,7 @@ fn drop_work(parts: &mut CoreParts, work: WorkId) -> Option<TableId<GroupKey>>
         Err(_) => unreachable!(),
     }
     parts.kept.used -= one_if(found.work.group.is_some());
+    give_if(&mut parts.table_places, found.work.group.is_some(), found.entry);
     group
 }
 

@@ -4,8 +4,9 @@ ghost use Rattle.task_machine.specs.Core.{Main, Unscripted, fresh};
 ghost use Rattle.task_records.specs.Seen.{nothing};
 ghost use Rattle.task_rules.specs.Scripts.{export_at};
 ghost use Rattle.task_loop.specs.Calls.{callee_of};
-ghost use Rattle.task_turns.specs.Covered.{HasPlainExports, IsCovered, is_covered_op};
+ghost use Rattle.task_turns.specs.Covered.{HasPlainExports, is_covered_op};
 ghost use Rattle.task_turns.specs.Turn.{Sits, given, running_of};
+ghost use Rattle.task_turns.specs.WellFormed.{IsWellFormed};
 ghost use Rattle.task_words.specs.StateView.{with_core};
 
 use futures::task::Poll;
@@ -83,7 +84,7 @@ fn made_component(alloc: Global) -> Result<Component, AllocError>
 
 pub(crate) fn component(rt: &impl Abort, alloc: Global) -> Component
     ensures exports { HasPlainExports result }
-    ensures covered { IsCovered result }
+    ensures covered { IsWellFormed result }
     ensures there { IsSome (export_at result (callee_of CALLEE)) }
     ensures params { IfSome (export_at result (callee_of CALLEE)) (λ e. 1 ≡ e.params) }
     ensures one { length result.instances ≡ 1 }
@@ -123,7 +124,7 @@ pub(crate) fn called(
     component: &Component,
     store: &mut Store<(), ()>,
 ) -> FuncCallConcurrent
-    requires covered { IsCovered component.now }
+    requires covered { IsWellFormed component.now }
     requires there { IsSome (export_at component.now (callee_of CALLEE)) }
     requires params { IfSome (export_at component.now (callee_of CALLEE)) (λ e. 1 ≡ e.params) }
     requires order { Sits component.now Turn.Main store.old.state.core }

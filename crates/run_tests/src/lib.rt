@@ -6,6 +6,8 @@
 #[cfg(test)]
 mod drive;
 #[cfg(test)]
+mod instance_calls;
+#[cfg(test)]
 mod program;
 #[cfg(test)]
 mod report;

@@ -7,6 +7,7 @@ use Rattle.make_words.proofs.MoreLemmas.{index_more}
 use Rattle.strand_words.proofs.ThreadPushLemmas.{PlacesNamed, none_in_list}
 use Rattle.strand_words.specs.Loose.{AreCallLoose}
 use Rattle.strand_words.specs.declared.nodes.CallNodes.{CallNodes}
+use Rattle.task_records.specs.Places.{member_seat}
 
 abbrev guest_in : Where → ℕ
 guest_in (BlockedOn (Subtask.Guest k)) = k
@@ -50,7 +51,7 @@ module _ (p : Parts) (g : GuestTask) (table : IsTable p.calls) (apart : AreApart
   call_chained k later named unfiled was = record {
     places = IsIndex-opened (place_chain p) (place_chain with_call) p.places (BlockedOn (Subtask.Guest g.number)) (blocked_is g.number) place_others g.blocked has_blocked loose.blocked (filings place_filing p.threads) was.places
         (none_in_list k p.threads (BlockedOn (Subtask.Guest g.number)) named (λ rep at. let few = at.0 in omega arith));
-    ready_calls = index_more p.calls g table (λ h. h.ready.index) (λ h. ready_in h.call.event h.call.join) (λ r h. r) p.ready_calls loose.ready (ready_call_chain p) was.ready_calls unfiled;
+    ready_calls = index_more p.calls g table (λ h. h.ready.index) (λ h. ready_in h.call.event h.call.join) (λ r h. member_seat h.entry r) p.ready_calls loose.ready (ready_call_chain p) was.ready_calls unfiled;
     ready_works = was.ready_works;
     polled = was.polled;
     rising = was.rising;

@@ -7,6 +7,8 @@ use Rattle.make_words.proofs.MoreLemmas.{IsRows-known, index_more, new_or_old, n
 use Rattle.queue_words.proofs.CallerLemmas.{none_as}
 use Rattle.strand_words.specs.Loose.{AreThreadLoose}
 use Rattle.strand_words.specs.declared.nodes.ThreadNodes.{ThreadNodes}
+use Rattle.table_order.specs.declared.seat_links.Seat.{Seat}
+use Rattle.task_records.specs.Places.{thread_seat}
 
 -- ---- What a list is named by
 
@@ -32,7 +34,7 @@ abbrev pub PlacesNamed : Kinds → Table (Single GuestThread) → Type 0
 PlacesNamed k t = EachEntry (λ (g : GuestThread). IsNamedAt k g.beside (place_target g.thread.place)) t
 
 -- nobody is in the list of what was not made
-pub none_in_list : (k : Kinds) (t : Table (Single GuestThread)) (w : Where) → PlacesNamed k t → ((rep : ℕ) → IsNamedAt k rep (target_of w) → ⊥) → (rep : ℕ) (f : Filing Where ℕ) → filings place_filing t rep ≡ Some f → f.key ≡ Some w → ⊥
+pub none_in_list : (k : Kinds) (t : Table (Single GuestThread)) (w : Where) → PlacesNamed k t → ((rep : ℕ) → IsNamedAt k rep (target_of w) → ⊥) → (rep : ℕ) (f : Filing Where Seat) → filings place_filing t rep ≡ Some f → f.key ≡ Some w → ⊥
 unfolding filings
 none_in_list k t w named new rep f is key = by (place_at t rep) refl is
   where
@@ -40,7 +42,7 @@ none_in_list k t w named new rep f is key = by (place_at t rep) refl is
     by None at is = absurd (cc)
     by (Some q) at is =
         let g = q.entry.item in
-        new g.beside (names_list k g.beside g.instance g.thread.place w (named rep q at) (ap (λ (h : Filing Where ℕ). h.key) (same_Some _ f is) ∙ key))
+        new g.beside (names_list k g.beside g.instance g.thread.place w (named rep q at) (ap (λ (h : Filing Where Seat). h.key) (same_Some _ f is) ∙ key))
 
 abbrev under_in : Where → ℕ
 under_in (UnderOf n) = n
@@ -97,7 +99,7 @@ module _ (p : Parts) (g : GuestThread) (table : IsTable p.threads) (apart : AreA
 
   pub thread_chained : (k : Kinds) → k.made.threads < g.number → PlacesNamed k p.threads → where_at g.instance g.thread.place ≡ None → AreChained p → AreChained with_thread
   thread_chained k later named filed was = record {
-    places = index_more p.threads g table (λ h. h.node.index) (λ h. where_at h.instance h.thread.place) (λ r h. r) p.places loose.node (place_chain with_thread)
+    places = index_more p.threads g table (λ h. h.node.index) (λ h. where_at h.instance h.thread.place) thread_seat p.places loose.node (place_chain with_thread)
         (IsIndex-opened (place_chain p) (place_chain with_thread) p.places (UnderOf g.number) (under_is g.number) place_others g.under (has_chain (λ h. h.under)) loose.under (filings place_filing p.threads) was.places
         (none_in_list k p.threads (UnderOf g.number) named (λ rep at. let few = at.0 in omega arith)))
         filed;

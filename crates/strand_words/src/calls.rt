@@ -16,11 +16,12 @@ ghost use Rattle.task_rules.specs.Calls.{call_made, next_thread, with_thread_han
 ghost use Rattle.task_table.specs.Answers.{item_at};
 ghost use Rattle.task_words.specs.StateView.{Keeps, call_of, thread_of};
 
+use crate::entries::{Entries, give_strand, take_strand};
 use crate::groups::{drop_group, push_group};
 use crate::nodes::{CallNodes, ThreadNodes, new_strand_nodes};
 use crate::records::{Request, call_record, new_call, new_thread, thread_record};
 use crate::strands::{drop_strand, push_strand};
-use count_words::make_room;
+use count_words::{give_group, make_room, take_group};
 use handle_words::name_thread;
 use task_machine::{Callee, Caller, ExportKind, Goal, NoMemory, Script};
 use task_records::{CoreParts, TaskGroup};
@@ -58,9 +59,16 @@ pub fn add_strand(
 {
     let number = parts.made.threads + 1;
     let call = new_call(request, group.number);
-    let call = call_record(number, call, request.maker, id.rep(), nodes.0);
+    let call = call_record(number, call, request.maker, id.rep(), request.entries.task, nodes.0);
     let thread = new_thread(number, false, Script::Start, words);
-    let thread = thread_record(number, thread, 0, request.callee.instance, nodes.1);
+    let thread = thread_record(
+        number,
+        thread,
+        0,
+        request.callee.instance,
+        request.entries,
+        nodes.1,
+    );
     match push_strand(parts, id, group, call, thread) {
         Ok(ids) => Ok(ids),
         Err(why) => Err(why),
@@ -125,14 +133,14 @@ fn add_main_strand(
     }
 }
 
-/// Makes a group, a call by main in it, with room for a result that goes to main, and the call's
-/// first thread. Where memory is wanting, all is as before.
-pub fn make_call_by_main(
+// The same, with these places in the resource table.
+fn make_call_by_main_with(
     parts: &mut CoreParts,
     callee: Callee,
     kind: ExportKind,
     goal: Goal,
     words: &[u64],
+    entries: Entries,
 ) -> Result<(ThreadId, CallId), NoMemory>
     requires sound { IsSound parts.old }
     requires there { IsSome (get (seen parts.old).core.instances callee.instance) }
@@ -154,6 +162,7 @@ pub fn make_call_by_main(
         callee,
         kind,
         goal,
+        entries,
     };
     match prepare(parts, goal) {
         Ok(nodes) => match add_main_strand(parts, request, words, nodes) {
@@ -161,6 +170,48 @@ pub fn make_call_by_main(
             Err(why) => Err(why),
         },
         Err(why) => Err(why),
+    }
+}
+
+/// Makes a group, a call by main in it, with room for a result that goes to main, and the call's
+/// first thread. Where memory is wanting, all is as before.
+#[tactic(auto, unfolding(task_records::specs::Seen::seen, task_records::specs::Seen::IsSound))]
+pub fn make_call_by_main(
+    parts: &mut CoreParts,
+    callee: Callee,
+    kind: ExportKind,
+    goal: Goal,
+    words: &[u64],
+) -> Result<(ThreadId, CallId), NoMemory>
+    requires sound { IsSound parts.old }
+    requires there { IsSome (get (seen parts.old).core.instances callee.instance) }
+    requires words { length words.now ≤ 16 }
+    requires few { (seen parts.old).core.made.threads + 1 < 2 ^ 64 }
+    requires groups { (seen parts.old).core.made.groups + 1 < 2 ^ 64 }
+    requires room { fits 4 (seen parts.old).core ≡ true }
+    ensures sound { IsSound parts.new }
+    ensures thread { IfOk result (λ ids. thread_of (seen parts.new) ids.0 ≡ next_thread (seen parts.old).core) }
+    ensures call { IfOk result (λ ids. call_of (seen parts.new) ids.1 ≡ next_thread (seen parts.old).core) }
+    ensures core { OnOk result ((seen parts.new).core ≡ call_made callers.Main callee kind goal ((seen parts.old).core.made.groups + 1) words.now (add_group (seen parts.old).core)) }
+    ensures current { (seen parts.new).current ≡ (seen parts.old).current }
+    ensures tags { Keeps (seen parts.old).tags (seen parts.new).tags }
+    ensures err { OnErr result (seen parts.new ≡ seen parts.old) }
+{
+    let number = parts.made.groups + 1;
+    take_group(&mut parts.table_places, &mut parts.group_entries, number)?;
+    match take_strand(&mut parts.table_places) {
+        Ok(entries) => match make_call_by_main_with(parts, callee, kind, goal, words, entries) {
+            Ok(ids) => Ok(ids),
+            Err(why) => {
+                give_strand(&mut parts.table_places, entries);
+                give_group(&mut parts.table_places, &mut parts.group_entries, number);
+                Err(why)
+            }
+        },
+        Err(why) => {
+            give_group(&mut parts.table_places, &mut parts.group_entries, number);
+            Err(why)
+        }
     }
 }
 

@@ -3,6 +3,7 @@
 #![tactic(auto)]
 
 mod calls;
+mod entries;
 mod groups;
 mod members;
 mod nodes;

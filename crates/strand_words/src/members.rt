@@ -16,6 +16,7 @@ ghost use Rattle.task_table.specs.Changes.{deleted, with_entry};
 ghost use Rattle.task_table.specs.Table.{IsTable};
 ghost use Rattle.task_words.specs.StateView.{Keeps, call_of, thread_of};
 
+use crate::entries::{Entries, give_thread, take_thread};
 use crate::nodes::{ThreadNodes, new_thread_nodes};
 use crate::records::{new_thread, thread_record};
 use crate::strands::drop_thread;
@@ -116,6 +117,7 @@ fn add_member(
     task: CallId,
     slot: u8,
     words: &[u64],
+    entries: Entries,
     nodes: ThreadNodes,
 ) -> Result<ThreadId, NoMemory>
     requires sound { IsSound parts.old }
@@ -139,7 +141,7 @@ fn add_member(
     let number = parts.made.threads + 1;
     let thread = new_thread(call.number, true, Script::Slot { slot }, words);
     let instance = call.call.callee.instance;
-    let thread = thread_record(number, thread, task.rep(), instance, nodes);
+    let thread = thread_record(number, thread, task.rep(), instance, entries, nodes);
     match push_thread(parts, task, call, thread) {
         Ok(new) => match name_thread(parts, new) {
             Ok(_) => Ok(new),
@@ -152,8 +154,39 @@ fn add_member(
     }
 }
 
+// The same, with these places in the resource table.
+fn make_thread_with(
+    parts: &mut CoreParts,
+    task: CallId,
+    slot: u8,
+    words: &[u64],
+    entries: Entries,
+) -> Result<ThreadId, NoMemory>
+    requires sound { IsSound parts.old }
+    requires words { length words.now ≤ 16 }
+    requires task { 0 < call_of (seen parts.old) task }
+    requires there { is_some (get (seen parts.old).core.handles (call_instance (call_of (seen parts.old) task) (seen parts.old).core)) ≡ true }
+    requires few { (seen parts.old).core.made.threads + 1 < 2 ^ 64 }
+    requires room { fits 2 (seen parts.old).core ≡ true }
+    ensures sound { IsSound parts.new }
+    ensures thread { IfOk result (λ id. thread_of (seen parts.new) id ≡ next_thread (seen parts.old).core) }
+    ensures core { OnOk result ((i : ℕ) → i ≡ call_instance (call_of (seen parts.old) task) (seen parts.old).core → (seen parts.new).core ≡ with_thread_handle i (next_thread (seen parts.old).core) (add_thread (new_thread (call_of (seen parts.old) task) true (scripts.Slot slot) (registers_for words.now) None) (seen parts.old).core)) }
+    ensures current { (seen parts.new).current ≡ (seen parts.old).current }
+    ensures tags { Keeps (seen parts.old).tags (seen parts.new).tags }
+    ensures err { OnErr result (seen parts.new ≡ seen parts.old) }
+{
+    match new_thread_nodes(parts) {
+        Ok(nodes) => match add_member(parts, task, slot, words, entries, nodes) {
+            Ok(new) => Ok(new),
+            Err(why) => Err(why),
+        },
+        Err(why) => Err(why),
+    }
+}
+
 /// Makes a thread of a call that runs the script of a slot of the call's instance with these words,
 /// and gives it its handle. Where memory is wanting, all is as before.
+#[tactic(auto, unfolding(task_records::specs::Seen::seen, task_records::specs::Seen::IsSound))]
 pub fn make_thread(
     parts: &mut CoreParts,
     task: CallId,
@@ -173,11 +206,16 @@ pub fn make_thread(
     ensures tags { Keeps (seen parts.old).tags (seen parts.new).tags }
     ensures err { OnErr result (seen parts.new ≡ seen parts.old) }
 {
-    match new_thread_nodes(parts) {
-        Ok(nodes) => match add_member(parts, task, slot, words, nodes) {
-            Ok(new) => Ok(new),
-            Err(why) => Err(why),
-        },
-        Err(why) => Err(why),
+    let call = match task_records::call(parts, task) {
+        Some(found) => found.entry,
+        None => unreachable!(),
+    };
+    let entries = take_thread(&mut parts.table_places, call)?;
+    match make_thread_with(parts, task, slot, words, entries) {
+        Ok(new) => Ok(new),
+        Err(why) => {
+            give_thread(&mut parts.table_places, entries);
+            Err(why)
+        }
     }
 }

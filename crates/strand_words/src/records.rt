@@ -2,6 +2,7 @@ ghost use Rattle.std.specs.Prelude.{◌≡◌, ◌≤◌, None, length};
 ghost use Rattle.task_rules.specs.Calls.{new_call, new_thread};
 ghost use Rattle.task_rules.specs.Scripts.{registers_for};
 
+use crate::entries::Entries;
 use crate::nodes::{CallNodes, ThreadNodes};
 use task_machine::{Call, Callee, Caller, ExportKind, Goal, HowFar, Join, Place, Script, Thread};
 use task_records::{GuestTask, GuestThread};
@@ -14,6 +15,8 @@ pub struct Request {
     pub callee: Callee,
     pub kind: ExportKind,
     pub goal: Goal,
+    /// The places that are taken in the resource table.
+    pub entries: Entries,
 }
 
 // The registers of a thread that begins with these words.
@@ -71,8 +74,15 @@ pub fn new_thread(call: u64, explicit: bool, script: Script, words: &[u64]) -> T
 }
 
 // The record of a call, under its number, in the group at a place.
-pub fn call_record(number: u64, call: Call, maker: u32, group: u32, nodes: CallNodes) -> GuestTask
-    ensures { result ≡ record { number = number; call = call; maker = maker; first = 0; joined = 0; group = group; threads = 1; ready = nodes.ready; blocked = nodes.blocked } }
+pub fn call_record(
+    number: u64,
+    call: Call,
+    maker: u32,
+    group: u32,
+    entry: u32,
+    nodes: CallNodes,
+) -> GuestTask
+    ensures { result ≡ record { number = number; call = call; maker = maker; first = 0; joined = 0; group = group; entry = entry; threads = 1; ready = nodes.ready; blocked = nodes.blocked } }
 {
     GuestTask {
         number,
@@ -81,6 +91,7 @@ pub fn call_record(number: u64, call: Call, maker: u32, group: u32, nodes: CallN
         first: 0,
         joined: 0,
         group,
+        entry,
         threads: 1,
         ready: nodes.ready,
         blocked: nodes.blocked,
@@ -93,15 +104,19 @@ pub fn thread_record(
     thread: Thread,
     task: u32,
     instance: u32,
+    entries: Entries,
     nodes: ThreadNodes,
 ) -> GuestThread
-    ensures { result ≡ record { number = number; thread = thread; task = task; instance = instance; beside = 0; awaited = 0; node = nodes.node; mark = nodes.mark; shelf = nodes.shelf; caller = nodes.caller; callers = nodes.callers; under = nodes.under } }
+    ensures { result ≡ record { number = number; thread = thread; task = task; instance = instance; task_entry = entries.task; entry = entries.thread; set_entry = entries.set; beside = 0; awaited = 0; node = nodes.node; mark = nodes.mark; shelf = nodes.shelf; caller = nodes.caller; callers = nodes.callers; under = nodes.under } }
 {
     GuestThread {
         number,
         thread,
         task,
         instance,
+        task_entry: entries.task,
+        entry: entries.thread,
+        set_entry: entries.set,
         beside: 0,
         awaited: 0,
         node: nodes.node,

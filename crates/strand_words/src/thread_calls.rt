@@ -10,6 +10,7 @@ ghost use Rattle.task_table.specs.Answers.{item_at};
 ghost use Rattle.task_words.specs.StateView.{Keeps, call_of, thread_of};
 
 use crate::calls::{add_named_strand, add_strand, prepare};
+use crate::entries::{Entries, give_strand, take_strand};
 use crate::records::Request;
 use record_words::number;
 use task_machine::{Callee, Caller, ExportKind, Goal, NoMemory};
@@ -38,15 +39,15 @@ pub fn group_of(parts: &CoreParts, thread: ThreadId) -> (TableId<GroupKey>, Task
     }
 }
 
-/// Makes a call by a thread, in the thread's group, and the call's first thread. Where memory is
-/// wanting, all is as before.
-pub fn make_call(
+// The same, with these places in the resource table.
+fn make_call_with(
     parts: &mut CoreParts,
     thread: ThreadId,
     callee: Callee,
     kind: ExportKind,
     goal: Goal,
     words: &[u64],
+    entries: Entries,
 ) -> Result<(ThreadId, CallId), NoMemory>
     requires sound { IsSound parts.old }
     requires live { 0 < thread_of (seen parts.old) thread }
@@ -70,6 +71,7 @@ pub fn make_call(
         callee,
         kind,
         goal,
+        entries,
     };
     match prepare(parts, goal) {
         Ok(nodes) => {
@@ -83,14 +85,49 @@ pub fn make_call(
     }
 }
 
-/// Makes a direct call by a thread, in the thread's group, and gives the call's first thread its
-/// handle. Where memory is wanting, all is as before.
-pub fn make_direct_call(
+/// Makes a call by a thread, in the thread's group, and the call's first thread. Where memory is
+/// wanting, all is as before.
+#[tactic(auto, unfolding(task_records::specs::Seen::seen, task_records::specs::Seen::IsSound))]
+pub fn make_call(
+    parts: &mut CoreParts,
+    thread: ThreadId,
+    callee: Callee,
+    kind: ExportKind,
+    goal: Goal,
+    words: &[u64],
+) -> Result<(ThreadId, CallId), NoMemory>
+    requires sound { IsSound parts.old }
+    requires live { 0 < thread_of (seen parts.old) thread }
+    requires there { IsSome (get (seen parts.old).core.instances callee.instance) }
+    requires words { length words.now ≤ 16 }
+    requires few { (seen parts.old).core.made.threads + 1 < 2 ^ 64 }
+    requires room { fits 3 (seen parts.old).core ≡ true }
+    ensures sound { IsSound parts.new }
+    ensures thread { IfOk result (λ ids. thread_of (seen parts.new) ids.0 ≡ next_thread (seen parts.old).core) }
+    ensures call { IfOk result (λ ids. call_of (seen parts.new) ids.1 ≡ next_thread (seen parts.old).core) }
+    ensures core { OnOk result ((seen parts.new).core ≡ call_made (callers.Thread (thread_of (seen parts.old) thread)) callee kind goal (thread_group (thread_of (seen parts.old) thread) (seen parts.old).core) words.now (seen parts.old).core) }
+    ensures current { (seen parts.new).current ≡ (seen parts.old).current }
+    ensures tags { Keeps (seen parts.old).tags (seen parts.new).tags }
+    ensures err { OnErr result (seen parts.new ≡ seen parts.old) }
+{
+    let entries = take_strand(&mut parts.table_places)?;
+    match make_call_with(parts, thread, callee, kind, goal, words, entries) {
+        Ok(ids) => Ok(ids),
+        Err(why) => {
+            give_strand(&mut parts.table_places, entries);
+            Err(why)
+        }
+    }
+}
+
+// The same, with these places in the resource table.
+fn make_direct_call_with(
     parts: &mut CoreParts,
     thread: ThreadId,
     callee: Callee,
     kind: ExportKind,
     words: &[u64],
+    entries: Entries,
 ) -> Result<(ThreadId, CallId), NoMemory>
     requires sound { IsSound parts.old }
     requires live { 0 < thread_of (seen parts.old) thread }
@@ -114,6 +151,7 @@ pub fn make_direct_call(
         callee,
         kind,
         goal: Goal::Direct,
+        entries,
     };
     match prepare(parts, request.goal) {
         Ok(nodes) => {
@@ -124,5 +162,39 @@ pub fn make_direct_call(
             }
         }
         Err(why) => Err(why),
+    }
+}
+
+/// Makes a direct call by a thread, in the thread's group, and gives the call's first thread its
+/// handle. Where memory is wanting, all is as before.
+#[tactic(auto, unfolding(task_records::specs::Seen::seen, task_records::specs::Seen::IsSound))]
+pub fn make_direct_call(
+    parts: &mut CoreParts,
+    thread: ThreadId,
+    callee: Callee,
+    kind: ExportKind,
+    words: &[u64],
+) -> Result<(ThreadId, CallId), NoMemory>
+    requires sound { IsSound parts.old }
+    requires live { 0 < thread_of (seen parts.old) thread }
+    requires there { IsSome (get (seen parts.old).core.instances callee.instance) }
+    requires words { length words.now ≤ 16 }
+    requires few { (seen parts.old).core.made.threads + 1 < 2 ^ 64 }
+    requires room { fits 3 (seen parts.old).core ≡ true }
+    ensures sound { IsSound parts.new }
+    ensures thread { IfOk result (λ ids. thread_of (seen parts.new) ids.0 ≡ next_thread (seen parts.old).core) }
+    ensures call { IfOk result (λ ids. call_of (seen parts.new) ids.1 ≡ next_thread (seen parts.old).core) }
+    ensures core { OnOk result ((seen parts.new).core ≡ with_thread_handle callee.instance (next_thread (seen parts.old).core) (call_made (callers.Thread (thread_of (seen parts.old) thread)) callee kind goals.Direct (thread_group (thread_of (seen parts.old) thread) (seen parts.old).core) words.now (seen parts.old).core)) }
+    ensures current { (seen parts.new).current ≡ (seen parts.old).current }
+    ensures tags { Keeps (seen parts.old).tags (seen parts.new).tags }
+    ensures err { OnErr result (seen parts.new ≡ seen parts.old) }
+{
+    let entries = take_strand(&mut parts.table_places)?;
+    match make_direct_call_with(parts, thread, callee, kind, words, entries) {
+        Ok(ids) => Ok(ids),
+        Err(why) => {
+            give_strand(&mut parts.table_places, entries);
+            Err(why)
+        }
     }
 }

@@ -32,6 +32,7 @@ use Rattle.task_places.proofs.Entries.{added_stand}
 use Rattle.task_rules.proofs.MoveLemmas.{no_time, one_time}
 use Rattle.task_rules.proofs.StandLemmas.{Loose, by_number, eq_refl}
 use Rattle.task_rules.proofs.StopLemmas.{Untouched}
+use Rattle.subtask_ops.specs.Starts.{call_starts}
 use Rattle.task_rules.specs.Calls.{call_clears_flag, call_made, call_queues, new_call, new_thread, next_thread}
 use Rattle.task_rules.specs.Places.{HasPlace, is_at_high, is_at_low, is_at_switch, one_if, says, switch_entries}
 use Rattle.task_rules.specs.Scripts.{registers_for}
@@ -100,20 +101,23 @@ cleared_stand n j kind.Callback s st = quiet_stand n place.Running [] s _ (saved
 
 -- ---- In the words of what contracts see
 
+-- a call that begins leaves its thread behind nobody until it goes behind the callee's start
+pub cleared_behind : (n m : TableId ThreadKey) (x : ExportKind) (j : ℕ) (t u v : StateView) → IsRunning (thread_of t n) t.core → place_of (thread_of t m) t.core ≡ Some place.New → u ≡ on_core (put_switch (thread_of t m) why.Start) t → v ≡ on_core (call_clears_flag (thread_of u n) j x) u → IsBehindNobody (thread_of v n) v.core
+cleared_behind n m x j t u v runs new d c =
+    let a = stands_on n place.Running (put_switch (thread_of t m) why.Start) t u d (put_switch_good (thread_of t n) place.Running refl (thread_of t m) why.Start place.New t.core new refl runs) in
+    let b = stands_on n place.Running (call_clears_flag (thread_of u n) j x) u v c (cleared_stand (thread_of u n) j x u.core a) in
+    (own_apart (thread_of v n) place.Running v.core b).behind
+
+pub starts_is : (n m : TableId ThreadKey) (k : TableId GuestTaskKey) (j : ℕ) (x : ExportKind) (t u v y z : StateView) → u ≡ on_core (put_switch (thread_of t m) why.Start) t → v ≡ on_core (call_clears_flag (thread_of u n) j x) u → y ≡ on_core (behind_one (thread_of v m) (thread_of v n)) v → z ≡ on_core (set_how_far (thread_of y n) (how_far.Calls (subtask.Guest (call_of y k)))) y → z ≡ on_core (call_starts (thread_of t n) (thread_of t m) (call_of t k) j x) t
+starts_is n m k j x t u v y z pu pv py pz = rw (pz, py, pv, pu) refl
+
 module _ (n m : TableId ThreadKey) (f : Caller) (e : Callee) (x : ExportKind) (g : Goal) (group : ℕ) (words : List ℕ) (s t : StateView) (live : 0 < thread_of s n) (keeps : Keeps s.tags t.tags) (st : IsRunning (thread_of s n) s.core) (core : t.core ≡ call_made f e x g group words s.core) where
-  made_runs : IsRunning (thread_of t n) t.core
+  pub made_runs : IsRunning (thread_of t n) t.core
   made_runs = subst (λ (k : ℕ). IsRunning k t.core) (sym (keeps.threads n live)) (subst (IsRunning (thread_of s n)) (sym core) (made_stand f e x g group words (thread_of s n) s.core st))
 
-  pub made_switch : IsSwitchUnqueued t.core
-  made_switch = switch_unqueued (thread_of t n) place.Running t.core made_runs
+  pub made_new_in : thread_of t m ≡ next_thread s.core → place_of (thread_of t m) t.core ≡ Some place.New
+  made_new_in named = ap₂ (λ (k : ℕ) (y : Core). place_of k y) named core ∙ made_new f e x g group words s.core
 
-  pub made_behind : (j : ℕ) (u v : StateView) → thread_of t m ≡ next_thread s.core → u ≡ on_core (put_switch (thread_of t m) why.Start) t → v ≡ on_core (call_clears_flag (thread_of u n) j x) u → IsBehindNobody (thread_of v n) v.core
-  made_behind j u v named d c =
-      let at = ap₂ (λ (k : ℕ) (y : Core). place_of k y) named core ∙ made_new f e x g group words s.core in
-      let a = stands_on n place.Running (put_switch (thread_of t m) why.Start) t u d (put_switch_good (thread_of t n) place.Running refl (thread_of t m) why.Start place.New t.core at refl made_runs) in
-      let b = stands_on n place.Running (call_clears_flag (thread_of u n) j x) u v c (cleared_stand (thread_of u n) j x u.core a) in
-      (own_apart (thread_of v n) place.Running v.core b).behind
-
-pub queued_is : (n m : TableId ThreadKey) (k : TableId GuestTaskKey) (N : ℕ) (e : Callee) (x : ExportKind) (g : Goal) (words : List ℕ) (s : Core) (t u v y z : StateView) → thread_of t n ≡ N → thread_of t m ≡ next_thread s → call_of t k ≡ next_thread s → t.core ≡ call_made (caller.Thread N) e x g (thread_group N s) words s → u ≡ on_core (put_switch (thread_of t m) why.Start) t → v ≡ on_core (call_clears_flag (thread_of u n) e.instance x) u → y ≡ on_core (behind_one (thread_of v m) (thread_of v n)) v → z ≡ on_core (set_how_far (thread_of y n) (how_far.Calls (subtask.Guest (call_of y k)))) y → z.core ≡ call_queues N e x g words s
+pub queued_is : (n m : TableId ThreadKey) (k : TableId GuestTaskKey) (N : ℕ) (e : Callee) (x : ExportKind) (g : Goal) (words : List ℕ) (s : Core) (t z : StateView) → thread_of t n ≡ N → thread_of t m ≡ next_thread s → call_of t k ≡ next_thread s → t.core ≡ call_made (caller.Thread N) e x g (thread_group N s) words s → z ≡ on_core (call_starts (thread_of t n) (thread_of t m) (call_of t k) e.instance x) t → z.core ≡ call_queues N e x g words s
 unfolding call_queues
-queued_is n m k N e x g words s t u v y z pn pm pk pt pu pv py pz = rw (pz, py, pv, pu, pn, pm, pk, pt) refl
+queued_is n m k N e x g words s t z pn pm pk pt pz = rw (pz, pn, pm, pk, pt) refl

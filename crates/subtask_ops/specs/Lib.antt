@@ -1,3 +1,4 @@
 pub mod Queued
 pub mod Named
 pub mod Refused
+pub mod Starts

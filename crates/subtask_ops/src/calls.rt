@@ -1,19 +1,21 @@
 //! Calls of exports whose start is queued, as they begin.
-ghost use Rattle.std.specs.Prelude.{◌≡◌, ◌+◌, ◌<◌, ◌≤◌, ◌^◌, IfOk, IsSome, OnErr, OnOk, length, true};
+ghost use Rattle.std.specs.Prelude.{◌≡◌, ◌+◌, ◌<◌, ◌≤◌, ◌^◌, IfOk, IsSome, OnErr, OnOk, Some, length, true};
 ghost use Rattle.task_machine.specs.Maps.{get};
-ghost use Rattle.task_machine.specs.Read.{fits};
+ghost use Rattle.task_machine.specs.Read.{fits, place_of};
+ghost use Rattle.subtask_ops.specs.Starts.{call_starts};
 ghost use Rattle.task_machine.specs.declared.component.Component.{Component};
+ghost use Rattle.task_machine.specs.declared.records.Place.TheVariants as places;
 ghost use Rattle.task_ops.specs.Came.{IsCurrent, Meets};
 ghost use Rattle.task_ops.specs.Running.{IsRunning};
 ghost use Rattle.task_ops.specs.Stays.{StaysAfter};
 ghost use Rattle.task_rules.specs.Calls.{call_begins, call_clears_flag, call_queues, next_thread};
 ghost use Rattle.task_rules.specs.Scripts.{export_kind};
-ghost use Rattle.task_words.specs.StateView.{Keeps, on_core, thread_of};
+ghost use Rattle.task_words.specs.StateView.{Keeps, call_of, on_core, thread_of};
 
 use task_machine::{CallLabel, Callee, ExportKind, Goal, Label, Trap};
 use task_moves::{put_behind, put_switch};
 use task_ops::Came;
-use task_words::{HowFarId, NoMemory, SubtaskId, ThreadId, WhyId, Words};
+use task_words::{CallId, HowFarId, NoMemory, SubtaskId, ThreadId, WhyId, Words};
 
 // The flag of the callee's instance is saved and cleared.
 fn clear_flag<W: Words>(w: &mut W, thread: ThreadId, instance: u32, kind: ExportKind)
@@ -25,6 +27,27 @@ fn clear_flag<W: Words>(w: &mut W, thread: ThreadId, instance: u32, kind: Export
     let flag = w.may_not_suspend(instance);
     w.set_saved_callee(thread, Some(flag));
     w.set_do_not_suspend(instance, false);
+}
+
+/// The start of a call that was made becomes the switch entry, and the calling thread goes behind it.
+pub fn start_made<W: Words>(
+    w: &mut W,
+    thread: ThreadId,
+    other: ThreadId,
+    call: CallId,
+    instance: u32,
+    kind: ExportKind,
+)
+    requires live { 0 < thread_of (W.view w.old) thread }
+    requires running { IsRunning (thread_of (W.view w.old) thread) (W.view w.old).core }
+    requires other { 0 < thread_of (W.view w.old) other }
+    requires new { place_of (thread_of (W.view w.old) other) (W.view w.old).core ≡ Some places.New }
+    ensures { W.view w.new ≡ on_core (call_starts (thread_of (W.view w.old) thread) (thread_of (W.view w.old) other) (call_of (W.view w.old) call) instance kind) (W.view w.old) }
+{
+    put_switch(w, other, WhyId::Start);
+    clear_flag(w, thread, instance, kind);
+    put_behind(w, other, thread);
+    w.set_how_far(thread, HowFarId::Calls(SubtaskId::Guest(call)));
 }
 
 // The call is made, its start becomes the switch entry, and the calling thread goes behind it.
@@ -49,10 +72,7 @@ fn queue_start<W: Words>(
     ensures err { OnErr result (W.view w.new ≡ W.view w.old) }
 {
     let (other, call) = w.make_call(thread, callee, kind, goal, words)?;
-    put_switch(w, other, WhyId::Start);
-    clear_flag(w, thread, callee.instance, kind);
-    put_behind(w, other, thread);
-    w.set_how_far(thread, HowFarId::Calls(SubtaskId::Guest(call)));
+    start_made(w, thread, other, call, callee.instance, kind);
     Ok(other)
 }
 

@@ -17,7 +17,7 @@ mod returns;
 mod takes;
 mod withdrawals;
 
-pub use calls::begin_call;
+pub use calls::{begin_call, start_made};
 pub use cancels::cancel;
 pub use directs::{answer_call, begin_call_sync, enter};
 pub use drops::drop_subtask;

@@ -1,11 +1,23 @@
 //! The calls by which a host and a guest's task change a store, over the words of a core.
 #![tactic(auto)]
 
+mod answers;
+mod asks;
+mod directs;
 mod hosts;
+mod intrinsics;
 mod returns;
+mod starts;
 mod tasks;
 
+pub use answers::{Answer, Step};
+pub use asks::{
+    ask_event, ask_nothing, ask_number, begin_event, begin_nothing, begin_number, go_on,
+};
+pub use directs::{enter_call, exit_call};
 pub use hosts::{finish_call, start_call};
+pub use intrinsics::{SuspensionTarget, cancel_op, pressure_op, suspension_op};
 pub use returns::task_return;
+pub use starts::{prepare_call, start_prepared};
 pub use state_calls::{QualifiedThreadId, TaskError, is_live};
 pub use tasks::new_guest_task;

@@ -6,7 +6,7 @@ ghost use Rattle.task_rules.specs.MainOps.{start_refusal};
 ghost use Rattle.task_rules.specs.Scripts.{export_at};
 ghost use Rattle.task_machine.specs.declared.component.HostDef.{HostDef};
 ghost use Rattle.task_store.specs.Hosts.{HoldsHosts};
-ghost use Rattle.task_turns.specs.Covered.{IsCovered};
+ghost use Rattle.task_turns.specs.WellFormed.{IsWellFormed};
 ghost use Rattle.task_turns.specs.Turn.{Sits, given};
 
 use crate::instance::Instance;
@@ -39,7 +39,7 @@ impl FuncCallConcurrent {
 }
 
 impl Func {
-    fn callee(self) -> Callee
+    pub(crate) fn callee(self) -> Callee
         ensures { result ≡ callee_of self }
     {
         Callee {
@@ -69,7 +69,7 @@ impl Func {
         store: &mut Store<T, H>,
         params: &[u64],
     ) -> Result<FuncCallConcurrent, TaskError>
-        requires covered { IsCovered component.now }
+        requires covered { IsWellFormed component.now }
         requires there { IsSome (export_at component.now (callee_of self)) }
         requires params { IfSome (export_at component.now (callee_of self)) (λ e. length params.now ≡ e.params) }
         requires order { (p : Turn) × Sits component.now p store.old.state.core }

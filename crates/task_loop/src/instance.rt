@@ -1,11 +1,16 @@
 ghost use Rattle.std.specs.Prelude.{◌≡◌, IfSome, IsSome};
+ghost use Rattle.task_calls.specs.Answers.{at_once, nothing_in};
+ghost use Rattle.task_calls.specs.Asks.{Answers, CanAsk, IsAtPlace, IsRunningIn, row_of, turn_in};
 ghost use Rattle.task_calls.specs.Calls.{Returns, is_own_type};
+ghost use Rattle.task_calls.specs.Intrinsics.{pressure_op};
 ghost use Rattle.task_machine.specs.Read.{instance_of};
-ghost use Rattle.task_turns.specs.Covered.{IsCovered};
+ghost use Rattle.task_machine.specs.declared.op.Operand.{Operand};
+ghost use Rattle.task_rules.specs.Scripts.{op_of, value_of};
+ghost use Rattle.task_turns.specs.WellFormed.{IsWellFormed};
 ghost use Rattle.task_turns.specs.Turn.{Sits, running_of};
 
-use task_calls::{TaskError, task_return};
-use task_machine::{Component, Turn};
+use task_calls::{TaskError, ask_nothing, pressure_op, task_return};
+use task_machine::{Component, Op, TaskOp, Turn};
 use task_store::Store;
 use task_words::{ThreadWords, View};
 
@@ -29,11 +34,12 @@ impl Instance {
         memory: u32,
         value: u64,
     ) -> Result<(), TaskError>
-        requires covered { IsCovered component.now }
+        requires covered { IsWellFormed component.now }
         requires runs { IsSome (running_of store.old.state) }
         requires order { IfSome (running_of store.old.state) (λ n. Sits component.now (Turn.Run n) store.old.state.core) }
         requires instance { IfSome (running_of store.old.state) (λ n. instance_of n store.old.state.core ≡ self.index) }
         ensures returns { IfSome (running_of store.old.state) (λ n. Returns n value (is_own_type ty encoding memory) store.old.state result store.new.state) }
+        ensures order { IfSome (running_of store.old.state) (λ n. (x : Operand) → op_of component.now n store.old.state.core ≡ Op.Task (TaskOp.Ret x) → value_of n store.old.state.core x ≡ value → Sits component.now (Turn.Run n) store.new.state.core) }
         ensures rest { store.new ≡ record store.old { state = store.new.state } }
     {
         let Some(thread) = store.state.current() else {
@@ -49,5 +55,41 @@ impl Instance {
             memory,
             value,
         )
+    }
+
+    /// The task ends as cancelled, once a cancel request was delivered to it. Refused with trap 2 where none was,
+    /// and with trap 1 where the task has ended.
+    pub fn task_cancel<T, H>(
+        self,
+        component: &Component,
+        store: &mut Store<T, H>,
+    ) -> Result<(), TaskError>
+        requires running { IsRunningIn component.now store.old.state }
+        requires asks { CanAsk self.index store.old.state }
+        ensures answers { Answers (row_of component.now (Op.Task TaskOp.TaskCancel) store.old.state.core) nothing_in store.old.state (at_once result) store.new.state }
+        ensures order { IsAtPlace component.now (row_of component.now (Op.Task TaskOp.TaskCancel) store.old.state.core) store.old.state → Sits component.now (turn_in store.new.state) store.new.state.core }
+        ensures rest { store.new ≡ record store.old { state = store.new.state } }
+    {
+        ask_nothing(component, &mut store.state, Op::Task(TaskOp::TaskCancel))
+    }
+
+    /// The count of the instance's backpressure is raised or lowered; falling to 0 it releases the held threads
+    /// that are admitted then. Refused with trap 10 where it would leave 0 to 65535.
+    pub fn backpressure_modify<T, H>(
+        self,
+        component: &Component,
+        store: &mut Store<T, H>,
+        caller: u32,
+        up: bool,
+    ) -> Result<(), TaskError>
+        requires running { IsRunningIn component.now store.old.state }
+        requires asks { CanAsk self.index store.old.state }
+        requires caller { caller ≡ self.index }
+        ensures answers { Answers (row_of component.now (pressure_op up) store.old.state.core) nothing_in store.old.state (at_once result) store.new.state }
+        ensures order { IsAtPlace component.now (row_of component.now (pressure_op up) store.old.state.core) store.old.state → Sits component.now (turn_in store.new.state) store.new.state.core }
+        ensures rest { store.new ≡ record store.old { state = store.new.state } }
+    {
+        let _caller = caller;
+        ask_nothing(component, &mut store.state, pressure_op(up))
     }
 }

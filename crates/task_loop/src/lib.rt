@@ -5,12 +5,15 @@ mod call;
 mod instance;
 mod main_task;
 mod run;
+mod subtasks;
+mod threads;
+mod waitables;
 
 pub use call::{Func, FuncCallConcurrent};
 pub use instance::Instance;
 pub use main_task::MainTask;
 pub use run::{RunConcurrent, run_concurrent};
-pub use task_calls::TaskError;
+pub use task_calls::{Answer, QualifiedThreadId, Step, SuspensionTarget, TaskError};
 pub use task_machine::{
     Callee, Component, ExportDef, HostDef, InstanceDef, Label, NoMemory, Op, Operand, Outcome, Slot,
 };

@@ -3,7 +3,7 @@ ghost use Rattle.task_machine.specs.Core.{Main};
 ghost use Rattle.task_machine.specs.declared.component.Component.{Component};
 ghost use Rattle.task_machine.specs.declared.scenario.MainOpDef.{MainOpDef};
 ghost use Rattle.task_store.specs.Hosts.{HoldsHosts};
-ghost use Rattle.task_turns.specs.Covered.{IsCovered};
+ghost use Rattle.task_turns.specs.WellFormed.{IsWellFormed};
 ghost use Rattle.task_turns.specs.Later.{WorksLast};
 ghost use Rattle.task_turns.specs.Main.{Steps};
 ghost use Rattle.task_turns.specs.Turn.{Sits, given, running_of};
@@ -38,7 +38,7 @@ pub trait MainTask<T, H: HostWork> {
         access: &mut Access<'_, T, Whole, H>,
         component: &Component,
     ) -> Result<MainStep, TaskError>
-        requires covered { IsCovered component.now }
+        requires covered { IsWellFormed component.now }
         requires order { Sits component.now Turn.Main access.old.store.now.state.core }
         requires suits { suits self.old component.now }
         requires knows { knows self.old access.old.store.now.state }

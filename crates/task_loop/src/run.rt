@@ -1,7 +1,7 @@
 ghost use Rattle.std.specs.Prelude.{◌≡◌, ◌*◌, ◌+◌, ◌<◌, ◌≤◌, ◌^◌, IfErr, IfOk, None, OnErr, OnOk, false, true, Bool};
 ghost use Rattle.task_rules.specs.Outcome.{outcome_of_label};
 ghost use Rattle.task_store.specs.Hosts.{HoldsHosts};
-ghost use Rattle.task_turns.specs.Covered.{IsCovered};
+ghost use Rattle.task_turns.specs.WellFormed.{IsWellFormed};
 ghost use Rattle.task_turns.specs.Drive.{Drives, Drove};
 ghost use Rattle.task_turns.specs.Main.{Steps};
 ghost use Rattle.task_turns.specs.Turn.{IsAtTurn, IsSettled, PendsIn, Sits, Turned, Turns, given, goes_on, is_open, running_of, runs_in, setting_of, state_at};
@@ -65,7 +65,7 @@ fn ask_main<T, H: HostWork, M: MainTask<T, H>>(
     store: &mut Store<T, H>,
     main: &mut M,
 ) -> Result<MainStep, TaskError>
-    requires covered { IsCovered component.now }
+    requires covered { IsWellFormed component.now }
     requires order { Sits component.now Turn.Main store.old.state.core }
     requires suits { M.suits main.old component.now }
     requires knows { M.knows main.old store.old.state }
@@ -90,7 +90,7 @@ fn step_main<T, H: HostWork, M: MainTask<T, H>>(
     store: &mut Store<T, H>,
     main: &mut M,
 ) -> Result<Made, NoMemory>
-    requires covered { IsCovered component.now }
+    requires covered { IsWellFormed component.now }
     requires at { IsAtTurn component.now Turn.Main store.old.state }
     requires suits { M.suits main.old component.now }
     requires knows { M.knows main.old store.old.state }
@@ -128,7 +128,7 @@ impl RunConcurrent {
         steps: u32,
         trace: &mut Trace,
     ) -> Result<Outcome, NoMemory>
-        requires covered { IsCovered component.now }
+        requires covered { IsWellFormed component.now }
         requires order { Sits component.now self.old.turn store.old.state.core }
         requires suits { M.suits main.old component.now }
         requires knows { M.knows main.old store.old.state }
@@ -171,7 +171,7 @@ impl RunConcurrent {
         steps: u32,
         trace: &mut Trace,
     ) -> Result<Outcome, NoMemory>
-        requires covered { IsCovered component.now }
+        requires covered { IsWellFormed component.now }
         requires at { IsAtTurn component.now self.old.turn store.old.state }
         requires suits { M.suits main.old component.now }
         requires knows { M.knows main.old store.old.state }
@@ -220,7 +220,7 @@ impl RunConcurrent {
         store: &mut Store<T, H>,
         main: &mut M,
     ) -> Result<Option<Made>, NoMemory>
-        requires covered { IsCovered component.now }
+        requires covered { IsWellFormed component.now }
         requires at { IsAtTurn component.now self.now.turn store.old.state }
         requires suits { M.suits main.old component.now }
         requires knows { M.knows main.old store.old.state }

@@ -2,6 +2,7 @@
 use Rattle.task_records.proofs.SoundLemmas.{sound_of_whole}
 use Rattle.task_records.proofs.Core.{ap, AreChained, bare, filings, HasHome, IsAscending, IsCallNamed, IsIndex, IsIndex-made, IsSome, IsSound, IsWhole, IsWorkNamed, List, list_of, list_or_nil, live_chain, live_order, live_work, None, Option, Parts, parts_of, place_chain, place_filing, ready_call, ready_call_chain, ready_work, ready_work_chain, refl, Renames, Rises, Some, Spot, spot_link, spot_list, subst, sym, table_use, Unmade, ℕ, ◌∙◌, ◌≡◌}
 use Rattle.task_records.specs.declared.{calls.GuestTask.GuestTask, parts.CoreParts.CoreParts, threads.GuestThread.GuestThread, works.HostWork.HostWork, works.LiveWork.LiveWork}
+use Rattle.table_order.specs.declared.seat_links.Seat.{Seat}
 
 Rises-made : (links new : List (Spot LiveWork)) (n : ℕ) (is : Spot LiveWork) → Renames links new n Unmade is → (o : Option ℕ) → ((c : ℕ) → o ≡ Some c → IsSome (list_of links c)) → Rises links o → Rises new o
 Rises-made links new n is names None live rises = tt
@@ -10,7 +11,7 @@ Rises-made links new n is names (Some c) live rises = subst (IsAscending live_or
     not_new : c ≡ n → ⊥
     not_new same = absurd (let none : list_of links c ≡ None = ap (list_of links) same ∙ ap spot_list names.named in let two = subst IsSome none (live c refl) in cc)
 
-module _ (p : Parts) (places ready_calls ready_works : List (Spot ℕ)) (polled : List (Spot LiveWork)) where
+module _ (p : Parts) (places ready_calls ready_works : List (Spot Seat)) (polled : List (Spot LiveWork)) where
   abbrev pub indexed : Parts
   indexed = record p { places = places; ready_calls = ready_calls; ready_works = ready_works; polled = polled }
 
@@ -63,7 +64,7 @@ module _ (a : CoreParts) (sound : IsSound a) where
   abbrev bared : Parts
   bared = bare (parts_of a)
 
-  module _ (places ready_calls ready_works : List (Spot ℕ)) (polled : List (Spot LiveWork)) where
+  module _ (places ready_calls ready_works : List (Spot Seat)) (polled : List (Spot LiveWork)) where
     indexed_sound : IsIndex (place_chain bared) places (filings place_filing bared.threads) → IsIndex (ready_call_chain bared) ready_calls (filings ready_call bared.calls) → IsIndex (ready_work_chain bared) ready_works (filings ready_work bared.works) → IsIndex (live_chain bared) polled (filings live_work bared.works) → Rises polled a.live → IsSound (record a { places = places; ready_calls = ready_calls; ready_works = ready_works; polled = polled })
     unfolding IsSound
     indexed_sound in_places in_calls in_works in_polled rises = sound_of_whole a (record a { places = places; ready_calls = ready_calls; ready_works = ready_works; polled = polled }) refl sound (indexed_whole bared places ready_calls ready_works polled in_places in_calls in_works in_polled rises sound.whole)
@@ -73,7 +74,7 @@ module _ (a : CoreParts) (sound : IsSound a) where
   was = sound.whole.chained
 
   -- a node or a chain more: among the places, the ready members, and the live works
-  module _ (new : List (Spot ℕ)) (n : ℕ) (is : Spot ℕ) where
+  module _ (new : List (Spot Seat)) (n : ℕ) (is : Spot Seat) where
     pub place_made_sound : Renames a.places new n Unmade is → spot_link is ≡ None → IsSound (record a { places = new })
     place_made_sound names unlinked = indexed_sound new a.ready_calls a.ready_works a.polled (IsIndex-made (place_chain bared) a.places (filings place_filing bared.threads) was.places new n is names unlinked) was.ready_calls was.ready_works was.polled was.rising
 

@@ -4,6 +4,7 @@ use Rattle.std.specs.Map.{lookup}
 use Rattle.std.specs.Option.{option_map_or}
 use Rattle.std.specs.Ordering.{nat_cmp}
 use Rattle.std.specs.Prelude.{◌≡◌, false, true, ℕ, Bool, List, [], ◌∷◌, Option, Some, None, filter, map, nat_lt, option_map}
+use Rattle.table_order.specs.declared.seat_links.Seat.{Seat}
 use Rattle.task_handles.specs.Counter.{Counter}
 use Rattle.task_index.specs.Rows.{values}
 use Rattle.task_links.specs.Links.{Spot}
@@ -39,9 +40,9 @@ pub record Parts : Type 0 where
   pub groups : Table (Single TaskGroup)
   pub instances : List InstanceRecord
   pub counter : Counter
-  pub places : List (Spot ℕ)
-  pub ready_calls : List (Spot ℕ)
-  pub ready_works : List (Spot ℕ)
+  pub places : List (Spot Seat)
+  pub ready_calls : List (Spot Seat)
+  pub ready_works : List (Spot Seat)
   pub polled : List (Spot LiveWork)
   pub marks : List (Spot Queued)
   pub shelves : List (Spot Queued)

@@ -2,6 +2,7 @@
 use Rattle.std.specs.Ordering.{nat_cmp, ordering_then}
 use Rattle.std.specs.Prelude.{ℕ, List, Option, Some, None, slice_get, option_map, if◌then◌else◌}
 use Rattle.std.specs.declared.cmp.Ordering.{Ordering}
+use Rattle.table_order.specs.declared.seat_links.Seat.{Seat}
 use Rattle.task_index.specs.Index.{Filing}
 use Rattle.task_links.specs.Links.{Spot, entries}
 use Rattle.task_machine.specs.Read.{is_stage_live}
@@ -37,8 +38,15 @@ where_at i (place.Under n) = Some (UnderOf n)
 where_at i (place.Blocked sub) = Some (BlockedOn sub)
 where_at i _ = None
 
-abbrev pub place_filing : ℕ → ℕ → Single GuestThread → Option (Filing Where ℕ)
-place_filing rep serial g = Some (record { node = g.item.node.index; key = where_at g.item.instance g.item.thread.place; value = rep })
+-- the seats of a thread, and of a call or a host work, by their places in the resource table and in the table of their kind
+abbrev pub thread_seat : ℕ → GuestThread → Seat
+thread_seat rep g = record { task = g.task_entry; thread = g.entry; place = rep }
+
+abbrev pub member_seat : ℕ → ℕ → Seat
+member_seat entry rep = record { task = entry; thread = 0; place = rep }
+
+abbrev pub place_filing : ℕ → ℕ → Single GuestThread → Option (Filing Where Seat)
+place_filing rep serial g = Some (record { node = g.item.node.index; key = where_at g.item.instance g.item.thread.place; value = thread_seat rep g.item })
 
 abbrev pub place_chain : Parts → Where → Option ℕ
 place_chain p (WaitsOn x) = found_record waiters_key x p.sets.places
@@ -52,11 +60,11 @@ abbrev pub ready_in : Option Status → Join → Option ℕ
 ready_in (Some e) (join.Set x) = Some x
 ready_in _ _ = None
 
-abbrev pub ready_call : ℕ → ℕ → Single GuestTask → Option (Filing ℕ ℕ)
-ready_call rep serial g = Some (record { node = g.item.ready.index; key = ready_in g.item.call.event g.item.call.join; value = rep })
+abbrev pub ready_call : ℕ → ℕ → Single GuestTask → Option (Filing ℕ Seat)
+ready_call rep serial g = Some (record { node = g.item.ready.index; key = ready_in g.item.call.event g.item.call.join; value = member_seat g.item.entry rep })
 
-abbrev pub ready_work : ℕ → ℕ → Single HostWork → Option (Filing ℕ ℕ)
-ready_work rep serial w = Some (record { node = w.item.ready.index; key = ready_in w.item.work.event w.item.work.join; value = rep })
+abbrev pub ready_work : ℕ → ℕ → Single HostWork → Option (Filing ℕ Seat)
+ready_work rep serial w = Some (record { node = w.item.ready.index; key = ready_in w.item.work.event w.item.work.join; value = member_seat w.item.entry rep })
 
 abbrev pub ready_call_chain : Parts → ℕ → Option ℕ
 ready_call_chain p x = found_record ready_calls_key x p.sets.places

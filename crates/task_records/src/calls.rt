@@ -17,6 +17,8 @@ pub struct GuestTask {
     pub joined: u32,
     /// The place of its group.
     pub group: u32,
+    /// Its place in the resource table.
+    pub entry: u32,
     /// How many threads of it there are.
     pub threads: u64,
     /// Its node among the ready members of a set.

@@ -11,6 +11,7 @@ use crate::threads::{Follower, GuestThread, Queued};
 use crate::works::{HostWork, LiveWork};
 use std::alloc::Global;
 use std::collections::BTreeMap;
+use table_order::{SeatLinks, TablePlaces};
 use task_handles::HandleCounter;
 use task_links::{Links, Node};
 use task_machine::Made;
@@ -51,10 +52,10 @@ pub struct CoreParts {
     /// How many handles are live, over all instances, and how many may be.
     pub counter: HandleCounter,
     /// The threads that wait, are blocked or held, or are under a thread.
-    pub places: Links<u32>,
+    pub places: SeatLinks,
     /// The ready members of sets: calls, and host works.
-    pub ready_calls: Links<u32>,
-    pub ready_works: Links<u32>,
+    pub ready_calls: SeatLinks,
+    pub ready_works: SeatLinks,
     /// The live works, in order of number.
     pub polled: Links<LiveWork>,
     /// The node of the work that was polled last: where the search for the next one begins.
@@ -77,6 +78,9 @@ pub struct CoreParts {
     pub kept: Kept,
     /// The groups up to this number were finished by the trap of the store.
     pub finished: u64,
+    /// The places of the resource table, and those there that groups have which weren't finished, by the groups' numbers.
+    pub table_places: TablePlaces,
+    pub group_entries: BTreeMap<u64, u32>,
     /// How many entries the resource table has room for.
     pub capacity: usize,
     pub made: Made,
@@ -124,9 +128,9 @@ impl CoreParts {
             groups: records(alloc),
             instances: Vec::new(alloc),
             counter: HandleCounter::new(100_000),
-            places: Links::new(alloc),
-            ready_calls: Links::new(alloc),
-            ready_works: Links::new(alloc),
+            places: SeatLinks::new(alloc),
+            ready_calls: SeatLinks::new(alloc),
+            ready_works: SeatLinks::new(alloc),
             polled: Links::new(alloc),
             polled_last: None,
             marks: Links::new(alloc),
@@ -140,6 +144,8 @@ impl CoreParts {
             results: BTreeMap::new(alloc),
             kept: NOTHING_KEPT,
             finished: 0,
+            table_places: TablePlaces::new(alloc),
+            group_entries: BTreeMap::new(alloc),
             capacity: 1_000_000,
             made: NOTHING_MADE,
             trapped: false,

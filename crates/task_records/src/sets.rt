@@ -8,6 +8,8 @@ use task_wait::SetKey;
 pub struct WaitSet {
     pub number: u64,
     pub set: Set,
+    /// Its place in the resource table.
+    pub entry: u32,
     /// The chain of the threads that wait on it.
     pub waiters: usize,
     /// The chains of its ready members: calls, and host works.

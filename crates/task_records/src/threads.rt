@@ -13,6 +13,10 @@ pub struct GuestThread {
     pub task: u32,
     /// The instance of its call.
     pub instance: u32,
+    /// The places in the resource table of its call, of itself, and of its sync-call set.
+    pub task_entry: u32,
+    pub entry: u32,
+    pub set_entry: u32,
     /// The place of what `thread.place` names, if it names anything.
     pub beside: u32,
     /// The place of what `thread.how_far` names, if it names anything.

@@ -15,6 +15,8 @@ pub struct HostWork {
     pub joined: u32,
     /// The place of its group, if it has one.
     pub group: u32,
+    /// Its place in the resource table, if it is a host call.
+    pub entry: u32,
     /// Its nodes among the ready members of a set, and among the live works.
     pub ready: Node,
     pub live: Node,

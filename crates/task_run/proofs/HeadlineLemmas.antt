@@ -1,6 +1,6 @@
 -- A driven script is a run of its scenario.
 use Rattle.std.proofs.Common.{◌≡◌, ℕ, List, [], refl, sym, subst}
-use Rattle.std.specs.Prelude.{◌≤◌, codes, decimal, length, IfOk, Result, Ok, Err}
+use Rattle.std.specs.Prelude.{◌≤◌, length}
 use Rattle.task_machine.specs.declared.label.Label.{Label}
 use Rattle.task_machine.specs.declared.outcome.Outcome.{Outcome}
 use Rattle.task_machine.specs.declared.records.Turn.TheVariants as turn
@@ -13,9 +13,6 @@ use Rattle.task_turns.specs.Drive.{Drives}
 use Rattle.task_turns.specs.Turn.{state_at}
 use Rattle.task_run.specs.Runnable.{IsRunnable}
 use Rattle.task_scenario.specs.Lower.{Reads}
-use Rattle.task_run.specs.Tool.{IsRun}
-use Rattle.std.proofs.lemmas.Fmt.{decimal_injective}
-use Rattle.std.proofs.Common.{◌∷◌, ◌∙◌, arith}
 use Rattle.task_run.proofs.RunnableLemmas.{runnable_scenario}
 use Rattle.task_run.specs.Headline.{IsRunOf, machine_scenario}
 use Rattle.task_scenario.specs.declared.scenario.Scenario.{Scenario}
@@ -42,19 +39,3 @@ headline x y s t before after steps o core setting start none image drives =
 -- a run has what it needs of a scenario that a text stands for
 pub runnable_read : (text : List ℕ) (x : Scenario) → Reads text x → IsRunnable x
 runnable_read text x reads = subst (λ (x : Scenario). IsRunnable x) (sym reads.2) (runnable_scenario reads.0 reads.1.well_formed)
-
--- what holds of a value holds with what follows from it
-pub more_ok : {X E : Type 0} {P Q : X → Type 0} (r : Result X E) → ((x : X) → P x → Q x) → IfOk r P → IfOk r Q
-more_ok (Ok x) more holds = more x holds
-more_ok (Err e) more holds = holds
-
--- words say how many steps in one way
-pub same_steps : (words : List (List ℕ)) (n k : ℕ) → IsRun words n → IsRun words k → n ≡ k
-same_steps words n k one two =
-    let a = one.2 in
-    let b = two.2 in
-    let same : codes "run" ∷ decimal n ∷ [] ≡ codes "run" ∷ decimal k ∷ [] = sym one.0 ∙ two.0 in
-    decimal_injective n k (omega arith) (omega arith) (second (codes "run") (decimal n) (decimal k) same)
-  where
-    second : (w x y : List ℕ) → w ∷ x ∷ [] ≡ w ∷ y ∷ [] → x ≡ y
-    second w x y same = cc

@@ -6,3 +6,4 @@ pub mod RunnableLemmas
 pub mod HeadlineLemmas
 pub mod ToolLemmas
 pub mod SpawnLemmas
+pub mod WordLemmas

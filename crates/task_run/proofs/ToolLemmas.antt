@@ -1,5 +1,5 @@
 -- Which statuses are left, once the others are ruled out.
-use Rattle.std.proofs.Common.{◌≡◌, ◌≢◌, ◌⊎◌, ◌∙◌, ◌+◌, ◌<◌, ◌≤◌, ℕ, List, inl, inr, length, length-append, refl, ap, sym, subst, arith}
+use Rattle.std.proofs.Common.{◌≡◌, ◌≢◌, ◌⊎◌, ◌∙◌, ◌+◌, ◌<◌, ℕ, List, inl, inr, length, length-append, refl, ap, sym, subst, arith}
 use Rattle.std.specs.Prelude.{Option}
 use Rattle.task_run.specs.declared.program.End.{End}
 use Rattle.task_run.specs.declared.program.End.TheVariants as ends
@@ -35,14 +35,6 @@ only_long ends.ReadFailed words bad = inr (inr (inl refl))
 only_long ends.WriteFailed words bad = inr (inr (inr refl))
 only_long ends.TooLong words bad = inl refl
 
-pub at_most_six : (e : End) → status_of e ≤ 6
-at_most_six ends.NoMemory = omega arith
-at_most_six ends.WrongWords = omega arith
-at_most_six ends.BadScenario = omega arith
-at_most_six ends.ReadFailed = omega arith
-at_most_six ends.WriteFailed = omega arith
-at_most_six ends.TooLong = omega arith
-
 -- a scenario's text has no bad line
 pub not_bad : (all : List ℕ) (x : Scenario) (left old new : Option (List ℕ)) → Reads all x → SaysBadLine all left old new → ⊥
 not_bad all x left old new reads bad = bad.bad.past reads.0 reads.1
@@ -67,16 +59,7 @@ report_cut n read all left old new r same whole is front = record {
   written = front;
 }
 
--- each of these statuses has one cause
-
-pub was_wanting : (e : End) → status_of e ≡ 1 → e ≡ ends.NoMemory
-was_wanting ends.NoMemory is = refl
-was_wanting ends.WrongWords is = absurd (cc)
-was_wanting ends.BadScenario is = absurd (cc)
-was_wanting ends.ReadFailed is = absurd (cc)
-was_wanting ends.WriteFailed is = absurd (cc)
-was_wanting ends.TooLong is = absurd (cc)
-
+-- this status has one cause
 pub was_cut : (e : End) → status_of e ≡ 5 → e ≡ ends.WriteFailed
 was_cut ends.NoMemory is = absurd (cc)
 was_cut ends.WrongWords is = absurd (cc)

@@ -2,12 +2,12 @@
 use Rattle.std.specs.Prelude.{◌≤◌, length}
 use Rattle.task_scenario.specs.declared.scenario.Scenario.{Scenario}
 use Rattle.task_laws.specs.Settings.{CodesInCallbacks}
-use Rattle.task_turns.specs.Covered.{IsCovered}
+use Rattle.task_turns.specs.WellFormed.{IsWellFormed}
 use Rattle.task_run.specs.Script.{SuitsOps}
 
 pub record IsRunnable (x : Scenario) : Type 0 where
   pub handles : x.handles ≤ 268435455
   pub few : length x.component.instances ≤ 64
-  pub component : IsCovered x.component
+  pub component : IsWellFormed x.component
   pub codes : CodesInCallbacks x.component
   pub main : SuitsOps x.main x.component

@@ -1,11 +1,14 @@
 -- What a call of the program reads and writes, apart from what is run.
-use Rattle.std.specs.Prelude.{◌≡◌, ◌⊎◌, ℕ, ◌≤◌, List, [], ◌∷◌, ◌++◌, Option, codes, decimal}
+use Rattle.std.specs.Prelude.{◌≡◌, ◌⊎◌, ℕ, ◌≤◌, List, [], ◌∷◌, ◌++◌, Option, IsNone, MatchOption, codes, decimal}
+use Rattle.task_run.specs.declared.program.Form.{Form}
+use Rattle.task_run.specs.declared.program.Form.TheVariants as forms
 use Rattle.task_run.specs.declared.program.End.{End}
 use Rattle.task_run.specs.declared.program.End.TheVariants as ends
 use Rattle.scenario_text.specs.Grammar.{IsBadLine}
 use Rattle.task_machine.specs.declared.label.Label.{Label}
 use Rattle.task_machine.specs.declared.outcome.Outcome.{Outcome}
 use Rattle.task_rules.specs.Texts as texts
+use Rattle.task_run.specs.declared.program.ToolEnd.{ToolEnd}
 use Rattle.task_run.specs.declared.report.Report.{Report}
 use Rattle.task_scenario.specs.declared.scenario.Scenario.{Scenario}
 use Rattle.task_machine.specs.Core.{Core}
@@ -13,10 +16,28 @@ use Rattle.task_run.specs.Headline.{IsReportOf, IsRunOf, machine_scenario}
 use Rattle.task_scenario.specs.Lower.{Reads}
 use Rattle.byte_streams.specs.Outside.{Appends}
 use Rattle.byte_streams.specs.Pump.{IsFront, IsTooLong, IsWhole}
+use Rattle.generated_scenario.specs.Generated.{gen}
+use Rattle.generated_scenario.specs.Summary.{summary}
 
 -- the words are `run N`, N from 1 to 1,000,000 in decimal without leading zeros
 abbrev pub IsRun : List (List ℕ) → ℕ → Type 0
 IsRun words n = (words ≡ codes "run" ∷ decimal n ∷ []) × (1 ≤ n) × (n ≤ 1000000)
+
+-- `make N`, N from 1 to 256
+abbrev pub IsMake : List (List ℕ) → ℕ → Type 0
+IsMake words n = (words ≡ codes "make" ∷ decimal n ∷ []) × (1 ≤ n) × (n ≤ 256)
+
+-- `big N K`, N from 1 to 256, K from 1 to 1,000,000
+abbrev pub IsBig : List (List ℕ) → ℕ → ℕ → Type 0
+IsBig words n k = (words ≡ codes "big" ∷ decimal n ∷ decimal k ∷ []) × (1 ≤ n) × (n ≤ 256) × (1 ≤ k) × (k ≤ 1000000)
+
+abbrev pub IsForm : List (List ℕ) → Form → Type 0
+IsForm words (forms.Run n) = IsRun words n
+IsForm words (forms.Make n) = IsMake words n
+IsForm words (forms.Big n k) = IsBig words n k
+
+abbrev pub IsNoForm : List (List ℕ) → Type 0
+IsNoForm words = (form : Form) → IsForm words form → ⊥
 
 abbrev pub bad_line_text : ℕ → List ℕ
 bad_line_text n = codes "bad scenario line " ++ decimal n ++ codes "\n"
@@ -88,3 +109,26 @@ IsCut n all left old new = IsReportCut n all left old new ⊎ (IsBadLineCut all 
 -- memory was wanting, or the source or the sink failed
 abbrev pub IsHindered : ℕ → Type 0
 IsHindered status = (status ≡ 1) ⊎ ((status ≡ 4) ⊎ (status ≡ 5))
+
+-- The generated scenario with n requests is written. Else memory was wanting, or a front of it is written.
+abbrev pub IsMade : ℕ → ToolEnd → Option (List ℕ) → Option (List ℕ) → Type 0
+IsMade n end old new =
+    IsNone end.report
+    × (((end.status ≡ 0) × Appends old new (gen n)) ⊎ ((end.status ≡ 1) ⊎ ((end.status ≡ 5) × IsFront old new (gen n))))
+
+-- a front of the summary of a run of the generated scenario with n requests, with at most k steps, is written
+pub record IsSummaryCut (n k : ℕ) (old new : Option (List ℕ)) : Type 0 where
+  pub scenario : Scenario
+  pub trace : List Label
+  pub outcome : Outcome
+  pub core : Core
+  pub reads : Reads (gen n) scenario
+  pub run : IsRunOf (machine_scenario scenario) k trace outcome core
+  pub written : IsFront old new (summary trace outcome)
+
+-- The report is of a run of the generated scenario, and its summary is written. Else there is no report: memory was wanting, or
+-- a front of such a summary is written.
+abbrev pub IsSummed : ℕ → ℕ → ToolEnd → Option (List ℕ) → Option (List ℕ) → Type 0
+IsSummed n k end old new =
+    MatchOption end.report ((end.status ≡ 1) ⊎ ((end.status ≡ 5) × IsSummaryCut n k old new)) (λ r.
+    (end.status ≡ 0) × IsReportOf (gen n) k r × Appends old new (summary r.trace r.outcome))

@@ -8,6 +8,7 @@ mod report;
 pub use byte_streams::{
     MemorySink, MemorySource, Read, Sink, Source, StdSink, StdSource, SureSink, SureSource, Wrote,
 };
+pub use generated_scenario::make_scenario;
 pub use main_script::ScriptMain;
 pub use program::{ToolEnd, USAGE, tool};
 pub use report::{Report, print_report, run_scenario};

@@ -1,16 +1,21 @@
-ghost use Rattle.std.specs.Prelude.{◌≡◌, ◌≢◌, ◌⊎◌, ◌<◌, ◌≤◌, ℕ, List, Some, length, map, string_bytes, [], IfOk, IfErr, IfSome, IsErrOf, IsOk, OnOk, MatchOption};
+ghost use Rattle.std.specs.Prelude.{◌≡◌, ◌≢◌, ◌⊎◌, ◌<◌, ◌≤◌, ℕ, List, None, Some, decimal, length, map, string_bytes, [], ◌∷◌, IfOk, IfErr, IfSome, IsErrOf, IsOk, OnOk, MatchOption};
 ghost use Rattle.byte_streams.specs.Outside.{Appends, HasRisen};
 ghost use Rattle.byte_streams.specs.Pump.{IsFront, IsTooLong};
 ghost use Rattle.task_scenario.specs.Lower.{Reads};
 ghost use Rattle.task_rules.specs.Texts.{text};
-ghost use Rattle.task_run.specs.Tool.{IsCut, IsHindered, IsRun, IsScenario, Ran, SaysBadLine, SaysOrFails, bad_line_text, too_long_text, usage_text, status_of};
+ghost use Rattle.generated_scenario.specs.Generated.{gen};
+ghost use Rattle.task_run.specs.declared.program.Form.{Form};
+ghost use Rattle.task_run.specs.Headline.{IsReportOf};
+ghost use Rattle.task_run.specs.Tool.{IsBig, IsCut, IsForm, IsHindered, IsMade, IsMake, IsNoForm, IsRun, IsScenario, IsSummed, Ran, SaysBadLine, SaysOrFails, bad_line_text, too_long_text, usage_text, status_of};
 ghost use Rattle.task_scenario.specs.declared.scenario.Scenario.{Scenario};
 
 use crate::report::{Report, run_scenario};
 use byte_streams::{ReadFault, Sink, Source, read_all, write_all};
+use generated_scenario::{make_scenario, print_summary};
 use report_text::Page;
 use scenario_text::number_up_to;
 use std::alloc::{AllocError, Global};
+use task_machine::NoMemory;
 use task_scenario::RunError;
 
 /// What the program says of wrong words.
@@ -25,6 +30,17 @@ const TOO_LONG: &[u8] = b"text too long\n";
 pub struct ToolEnd {
     pub status: u8,
     pub report: Option<Report>,
+}
+
+/// What the words ask for.
+#[derive(Clone, Copy)]
+enum Form {
+    /// `run STEPS`
+    Run(u32),
+    /// `make NUMBER`
+    Make(u32),
+    /// `big NUMBER STEPS`
+    Big(u32, u32),
 }
 
 /// How a call ended, where it ran nothing.
@@ -77,15 +93,51 @@ fn say<K: Sink>(sink: &mut K, text: &[u8], end: End) -> End
     }
 }
 
-// The steps of `run STEPS`.
-fn steps_of(words: &[String]) -> Option<u32>
-    ensures { MatchOption result ((n : ℕ) → IsRun (map string_bytes words.now) n → ⊥) (λ n. IsRun (map string_bytes words.now) n) }
+// A number from 1 to a limit, in decimal without leading zeros.
+fn counted(word: &[u8], limit: u64) -> Option<u32>
+    requires { limit ≤ 1000000 }
+    ensures { MatchOption result ((n : ℕ) → 1 ≤ n → n ≤ limit → word.now ≢ decimal n) (λ n. (word.now ≡ decimal n) × (1 ≤ n) × (n ≤ limit)) }
 {
-    if words.len() != 2 || words[0].as_bytes() != b"run".as_slice() {
+    match number_up_to(word, limit) {
+        Some(number) if number > 0 => Some(number as u32),
+        _ => None,
+    }
+}
+
+fn form_of_two(word: &[u8], number: &[u8]) -> Option<Form>
+    ensures { MatchOption result (IsNoForm (word.now ∷ number.now ∷ [])) (λ form. IsForm (word.now ∷ number.now ∷ []) form) }
+{
+    if word == b"run".as_slice() {
+        Some(Form::Run(counted(number, 1_000_000)?))
+    } else if word == b"make".as_slice() {
+        Some(Form::Make(counted(number, 256)?))
+    } else {
+        None
+    }
+}
+
+fn form_of_three(word: &[u8], number: &[u8], steps: &[u8]) -> Option<Form>
+    ensures { MatchOption result (IsNoForm (word.now ∷ number.now ∷ steps.now ∷ [])) (λ form. IsForm (word.now ∷ number.now ∷ steps.now ∷ []) form) }
+{
+    if word != b"big".as_slice() {
         return None;
     }
-    match number_up_to(words[1].as_bytes(), 1_000_000) {
-        Some(steps) if steps > 0 => Some(steps as u32),
+    let number = counted(number, 256)?;
+    let steps = counted(steps, 1_000_000)?;
+    Some(Form::Big(number, steps))
+}
+
+// What the words ask for.
+fn form_of(words: &[String]) -> Option<Form>
+    ensures { MatchOption result (IsNoForm (map string_bytes words.now)) (λ form. IsForm (map string_bytes words.now) form) }
+{
+    match words {
+        [word, number] => form_of_two(word.as_bytes(), number.as_bytes()),
+        [word, number, steps] => form_of_three(
+            word.as_bytes(),
+            number.as_bytes(),
+            steps.as_bytes(),
+        ),
         _ => None,
     }
 }
@@ -176,71 +228,116 @@ fn run<S: Source, K: Sink>(
     }
 }
 
-// Runs a scenario, or says how the program is called.
-fn call<S: Source, K: Sink>(
-    alloc: Global,
-    words: &[String],
-    source: &mut S,
-    sink: &mut K,
-) -> Result<Report, End>
-    ensures untouched { ((n : ℕ) → IsRun (map string_bytes words.now) n → ⊥) → source.new ≡ source.old }
-    ensures usage { ((n : ℕ) → IsRun (map string_bytes words.now) n → ⊥) → IsErrOf result End.WrongWords ⊎ IsErrOf result End.WriteFailed }
-    ensures words { (n : ℕ) → IsRun (map string_bytes words.now) n → IfErr result (λ end. end ≢ End.WrongWords) }
-    ensures said { IsErrOf result End.WrongWords → Appends (K.held sink.old) (K.held sink.new) usage_text }
-    ensures read { IsErrOf result End.ReadFailed → HasRisen (S.faults source.old) (S.faults source.new) }
-    ensures write { IsErrOf result End.WriteFailed → HasRisen (K.faults sink.old) (K.faults sink.new) }
-    ensures unwritten { IsErrOf result End.ReadFailed → sink.new ≡ sink.old }
-    ensures written { IfOk result (λ r. Appends (K.held sink.old) (K.held sink.new) (text r.trace r.outcome)) }
-    ensures ran { (n : ℕ) (all : List ℕ) → IsRun (map string_bytes words.now) n → S.left source.old ≡ Some all → IfOk result (λ r. Ran all (S.left source.new) n r) }
-    ensures done { (all : List ℕ) → S.left source.old ≡ Some all → IsOk result → IsScenario all (S.left source.new) }
-    ensures bad { (all : List ℕ) → S.left source.old ≡ Some all → IsErrOf result End.BadScenario → SaysBadLine all (S.left source.new) (K.held sink.old) (K.held sink.new) }
-    ensures long { (all : List ℕ) → S.left source.old ≡ Some all → IsErrOf result End.TooLong → IsTooLong all (S.left source.new) }
-    ensures long_said { IsErrOf result End.TooLong → Appends (K.held sink.old) (K.held sink.new) too_long_text }
-    ensures wanting { IsErrOf result End.NoMemory → sink.new ≡ sink.old }
-    ensures cut { (n : ℕ) (all : List ℕ) → IsRun (map string_bytes words.now) n → S.left source.old ≡ Some all → IsErrOf result End.WriteFailed → IsCut n all (S.left source.new) (K.held sink.old) (K.held sink.new) }
-    ensures unsaid { ((n : ℕ) → IsRun (map string_bytes words.now) n → ⊥) → IsErrOf result End.WriteFailed → IsFront (K.held sink.old) (K.held sink.new) usage_text }
+// How the program ends where it has nothing to answer but a status.
+fn ended(end: End) -> ToolEnd
+    ensures status { result.status ≡ status_of end }
+    ensures report { result.report ≡ None }
 {
-    match steps_of(words) {
-        Some(steps) => run(alloc, steps, source, sink),
-        None => Err(say(sink, USAGE, End::WrongWords)),
+    ToolEnd {
+        status: end.status(),
+        report: None,
+    }
+}
+
+// Writes a text, and ends with this report where all of it was written.
+fn put<K: Sink>(sink: &mut K, text: &[u8], report: Option<Report>) -> ToolEnd
+    ensures written { result.status ≡ 0 → (result.report ≡ report) × Appends (K.held sink.old) (K.held sink.new) text.now }
+    ensures cut { result.status ≢ 0 → (result.report ≡ None) × (result.status ≡ 5) × IsFront (K.held sink.old) (K.held sink.new) text.now }
+    ensures cause { result.status ≡ 5 → HasRisen (K.faults sink.old) (K.faults sink.new) }
+{
+    if write_all(sink, text) {
+        ToolEnd { status: 0, report }
+    } else {
+        ended(End::WriteFailed)
+    }
+}
+
+// Writes the generated scenario.
+fn make<K: Sink>(alloc: Global, number: u32, sink: &mut K) -> ToolEnd
+    requires some { 1 ≤ number }
+    requires few { number ≤ 256 }
+    ensures made { IsMade number result (K.held sink.old) (K.held sink.new) }
+    ensures wanting { result.status ≡ 1 → sink.new ≡ sink.old }
+    ensures cause { result.status ≡ 5 → HasRisen (K.faults sink.old) (K.faults sink.new) }
+{
+    match make_scenario(alloc, number) {
+        Ok(text) => put(sink, text.as_slice(), None),
+        Err(_) => ended(End::NoMemory),
+    }
+}
+
+// Runs the generated scenario.
+fn run_generated(alloc: Global, number: u32, steps: u32) -> Result<Report, NoMemory>
+    requires some { 1 ≤ number }
+    requires few { number ≤ 256 }
+    requires one { 0 < steps }
+    requires limit { steps ≤ 1000000 }
+    ensures { IfOk result (λ r. IsReportOf (gen number) steps r) }
+{
+    let text = make_scenario(alloc, number)?;
+    match run_scenario(alloc, text.as_slice(), steps) {
+        Ok(report) => Ok(report),
+        Err(RunError::NoMemory) => Err(NoMemory),
+        Err(RunError::BadScenario(_)) => unreachable!(),
+    }
+}
+
+// Runs the generated scenario and writes the summary.
+fn big<K: Sink>(alloc: Global, number: u32, steps: u32, sink: &mut K) -> ToolEnd
+    requires some { 1 ≤ number }
+    requires few { number ≤ 256 }
+    requires one { 0 < steps }
+    requires limit { steps ≤ 1000000 }
+    ensures summed { IsSummed number steps result (K.held sink.old) (K.held sink.new) }
+    ensures wanting { result.status ≡ 1 → sink.new ≡ sink.old }
+    ensures cause { result.status ≡ 5 → HasRisen (K.faults sink.old) (K.faults sink.new) }
+{
+    let Ok(report) = run_generated(alloc, number, steps) else {
+        return ended(End::NoMemory);
+    };
+    match print_summary(alloc, report.trace.labels(), report.outcome) {
+        Ok(text) => put(sink, text.as_slice(), Some(report)),
+        Err(_) => ended(End::NoMemory),
     }
 }
 
 /// What the program does with its words, its input and its output. `run STEPS`, with 1 to 1,000,000
-/// steps, reads a scenario to the source's end, runs it and writes its report. The status is 0 where
-/// the report was written, 1 where memory was wanting, and then nothing was written, 2 where the words are none of the forms, which
-/// writes the usage line, 3 where the text is no scenario, which writes its first bad line, 4 where the
-/// source failed, 5 where the sink did, and 6 where the source gave more than 1,048,576 bytes, which
-/// writes a line that says so. Other words leave the source as it was.
+/// steps, reads a scenario to the source's end, runs it and writes its report. `make NUMBER`, with 1
+/// to 256 requests, writes the generated scenario, and `big NUMBER STEPS` runs it and writes the
+/// summary of that run. The status is 0 where all was written, 1 where memory was wanting, and then
+/// nothing was written, 2 where the words are none of the forms, which writes the usage line, 3 where
+/// the text is no scenario, which writes its first bad line, 4 where the source failed, 5 where the
+/// sink did, and 6 where the source gave more than 1,048,576 bytes, which writes a line that says so.
+/// All words but `run STEPS` leave the source as it was.
 pub fn tool<S: Source, K: Sink>(
     alloc: Global,
     words: &[String],
     source: &mut S,
     sink: &mut K,
 ) -> ToolEnd
-    // Words that are no form leave the source as it was, and give status 2 or, where the sink failed, 5.
+    // All words but `run` leave the source as it was. Words that are no form give status 2 or, where the sink failed, 5.
     ensures untouched { ((n : ℕ) → IsRun (map string_bytes words.now) n → ⊥) → source.new ≡ source.old }
-    ensures usage { ((n : ℕ) → IsRun (map string_bytes words.now) n → ⊥) → (result.status ≡ 2) ⊎ (result.status ≡ 5) }
-    ensures words { (n : ℕ) → IsRun (map string_bytes words.now) n → result.status ≢ 2 }
+    ensures usage { IsNoForm (map string_bytes words.now) → (result.status ≡ 2) ⊎ (result.status ≡ 5) }
+    ensures words { (form : Form) → IsForm (map string_bytes words.now) form → result.status ≢ 2 }
     ensures said { result.status ≡ 2 → Appends (K.held sink.old) (K.held sink.new) usage_text }
     ensures read { result.status ≡ 4 → HasRisen (S.faults source.old) (S.faults source.new) }
     ensures write { result.status ≡ 5 → HasRisen (K.faults sink.old) (K.faults sink.new) }
     ensures unwritten { result.status ≡ 4 → sink.new ≡ sink.old }
-    // No other statuses are there, and 0 comes with the report that was run, and with its text.
+    // No other statuses are there. Of words other than `make`, 0 comes with the report that was run, and of `run` with its text.
     ensures statuses { result.status ≤ 6 }
-    ensures report { MatchOption result.report (result.status ≢ 0) (λ r. result.status ≡ 0) }
-    ensures written { IfSome result.report (λ r. Appends (K.held sink.old) (K.held sink.new) (text r.trace r.outcome)) }
+    ensures report { ((n : ℕ) → ¬ IsMake (map string_bytes words.now) n) → MatchOption result.report (result.status ≢ 0) (λ r. result.status ≡ 0) }
+    ensures written { (n : ℕ) → IsRun (map string_bytes words.now) n → IfSome result.report (λ r. Appends (K.held sink.old) (K.held sink.new) (text r.trace r.outcome)) }
     // The report of status 0 is of a run of the scenario that was read.
     ensures ran { (n : ℕ) (all : List ℕ) → IsRun (map string_bytes words.now) n → S.left source.old ≡ Some all → IfSome result.report (λ r. Ran all (S.left source.new) n r) }
     // With status 0 the text was a scenario's, with 3 it was none, with 6 it was too long.
-    ensures done { (all : List ℕ) → S.left source.old ≡ Some all → result.status ≡ 0 → IsScenario all (S.left source.new) }
+    ensures done { (n : ℕ) (all : List ℕ) → IsRun (map string_bytes words.now) n → S.left source.old ≡ Some all → result.status ≡ 0 → IsScenario all (S.left source.new) }
     ensures bad { (all : List ℕ) → S.left source.old ≡ Some all → result.status ≡ 3 → SaysBadLine all (S.left source.new) (K.held sink.old) (K.held sink.new) }
     ensures long { (all : List ℕ) → S.left source.old ≡ Some all → result.status ≡ 6 → IsTooLong all (S.left source.new) }
     ensures long_said { result.status ≡ 6 → Appends (K.held sink.old) (K.held sink.new) too_long_text }
     // With status 1 nothing was written, with 5 a front of what was to be written.
     ensures wanting { result.status ≡ 1 → sink.new ≡ sink.old }
     ensures cut { (n : ℕ) (all : List ℕ) → IsRun (map string_bytes words.now) n → S.left source.old ≡ Some all → result.status ≡ 5 → IsCut n all (S.left source.new) (K.held sink.old) (K.held sink.new) }
-    ensures unsaid { ((n : ℕ) → IsRun (map string_bytes words.now) n → ⊥) → result.status ≡ 5 → IsFront (K.held sink.old) (K.held sink.new) usage_text }
+    ensures unsaid { IsNoForm (map string_bytes words.now) → result.status ≡ 5 → IsFront (K.held sink.old) (K.held sink.new) usage_text }
     // Only want of memory and a fault stand in the way of 0 for a scenario, of 3 for another text and of 6 for a longer one.
     ensures complete { (n : ℕ) (all : List ℕ) (x : Scenario) → IsRun (map string_bytes words.now) n → S.left source.old ≡ Some all →
         length all ≤ 1048576 → Reads all x → ¬ HasRisen (S.faults source.old) (S.faults source.new) → ¬ HasRisen (K.faults sink.old) (K.faults sink.new) →
@@ -248,15 +345,20 @@ pub fn tool<S: Source, K: Sink>(
     ensures refused { (n : ℕ) (all : List ℕ) → IsRun (map string_bytes words.now) n → S.left source.old ≡ Some all →
         length all ≤ 1048576 → ((x : Scenario) → ¬ Reads all x) → (result.status ≡ 3) ⊎ IsHindered result.status }
     ensures too_long { (n : ℕ) (all : List ℕ) → IsRun (map string_bytes words.now) n → S.left source.old ≡ Some all → 1048576 < length all → (result.status ≡ 6) ⊎ IsHindered result.status }
+    // Of `make` and `big` the status is 0, 1 or 5: with 0 the scenario is written, or the summary of the report, with 5 a front.
+    ensures made { (n : ℕ) → IsMake (map string_bytes words.now) n → IsMade n result (K.held sink.old) (K.held sink.new) }
+    ensures summed { (n k : ℕ) → IsBig (map string_bytes words.now) n k → IsSummed n k result (K.held sink.old) (K.held sink.new) }
 {
-    match call(alloc, words, source, sink) {
-        Ok(report) => ToolEnd {
-            status: 0,
-            report: Some(report),
+    match form_of(words) {
+        Some(Form::Run(steps)) => match run(alloc, steps, source, sink) {
+            Ok(report) => ToolEnd {
+                status: 0,
+                report: Some(report),
+            },
+            Err(end) => ended(end),
         },
-        Err(end) => ToolEnd {
-            status: end.status(),
-            report: None,
-        },
+        Some(Form::Make(number)) => make(alloc, number, sink),
+        Some(Form::Big(number, steps)) => big(alloc, number, steps, sink),
+        None => ended(say(sink, USAGE, End::WrongWords)),
     }
 }

@@ -8,10 +8,6 @@ use Rattle.task_machine.specs.declared.component.ExportKind.TheVariants as kind
 use Rattle.task_machine.specs.declared.op.Op.{Op}
 use Rattle.task_machine.specs.declared.op.Op.TheVariants as op
 use Rattle.task_rules.specs.Scripts.{export_at, slot_at, slot_script}
-use Rattle.task_turns.specs.WellFormed.{IsWellFormed}
-
-abbrev pub IsCovered : Component → Type 0
-IsCovered c = IsWellFormed c
 
 -- the ops on registers and words, and those of the task
 abbrev pub is_covered_op : Op → Bool

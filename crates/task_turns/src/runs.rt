@@ -2,7 +2,7 @@
 ghost use Rattle.op_dispatch.specs.Fits.{HasHandles, HasInstances};
 ghost use Rattle.op_dispatch.specs.Polls.{Polls};
 ghost use Rattle.op_dispatch.specs.Runner.{Runner};
-ghost use Rattle.std.specs.Prelude.{◌≡◌, ◌<◌, ◌^◌, IfOk, Some, OnOk};
+ghost use Rattle.std.specs.Prelude.{◌≡◌, ◌<◌, ◌^◌, IfOk, OnErr, OnOk, Some};
 ghost use Rattle.task_machine.specs.Labels.{choice_of};
 ghost use Rattle.task_machine.specs.Read.{how_far_of};
 ghost use Rattle.task_ops.specs.Came.{Meets};
@@ -21,8 +21,8 @@ use op_dispatch::{Done, do_op, exit, op_at, script_ops};
 use task_machine::{Component, NoMemory, Turn};
 use task_words::{ThreadId, Words};
 
-// The op at the running thread's place; it exits at its script's end.
-fn run_op<W: Words>(component: &Component, w: &mut W, thread: ThreadId) -> Result<Done, NoMemory>
+/// The running thread does the op at its place; it exits at its script's end. Where memory is wanting, all is as before.
+pub fn run_op<W: Words>(component: &Component, w: &mut W, thread: ThreadId) -> Result<Done, NoMemory>
     requires covered { IsWellFormed component.now }
     requires runner { Runner thread (W.view w.old) }
     requires instances { HasInstances component.now (W.view w.old).core }
@@ -33,6 +33,7 @@ fn run_op<W: Words>(component: &Component, w: &mut W, thread: ThreadId) -> Resul
     ensures stays { IfOk result (λ done. StaysAfter done.came (W.view w.old) (W.view w.new)) }
     ensures polls { IfOk result (λ done. Polls component.now (how_far_of (thread_of (W.view w.old) thread) (W.view w.old).core) (op_of component.now (thread_of (W.view w.old) thread) (W.view w.old).core) (W.view w.old) done (W.view w.new)) }
     ensures works { OnOk result (NamesWorks (W.view w.old) (W.view w.new)) }
+    ensures err { OnErr result (W.view w.new ≡ W.view w.old) }
 {
     let call = w.task_of(thread);
     let script = script_ops(component, w.callee(call), w.script(thread));

@@ -6,7 +6,9 @@ use Rattle.task_rules.proofs.StopLemmas.{find_passes}
 use Rattle.place_words.proofs.FiledLemmas.{place_tests, places_filed}
 use Rattle.walk_words.proofs.LeastLemmas.{least_at}
 use Rattle.walk_words.specs.Least.{least_of}
-use Rattle.walk_words.specs.Walks.{at_place, of_chain}
+use Rattle.walk_words.specs.Walks.{at_seat, of_chain}
+use Rattle.table_order.specs.declared.seat_links.Seat.{Seat}
+use Rattle.task_records.specs.Places.{thread_seat}
 
 -- ---- The chain of a list that a test of places finds
 
@@ -23,16 +25,16 @@ module _ (a : CoreParts) (sound : IsSound a) (k : Where) (c : ℕ) (chain : plac
         by None is = rw is refl
         by (Some t) is = rw is refl
 
-    reads : (r : ℕ) (p : Placed (Single GuestThread)) (f : Filing Where ℕ) (x : ℕ × Thread) → place_at a.threads r ≡ Some p → place_filing r p.serial p.entry ≡ Some f → thread_key p.entry ≡ Some x → at_place a f.value ≡ x.0
+    reads : (r : ℕ) (p : Placed (Single GuestThread)) (f : Filing Where Seat) (x : ℕ × Thread) → place_at a.threads r ≡ Some p → place_filing r p.serial p.entry ≡ Some f → thread_key p.entry ≡ Some x → at_seat a f.value ≡ x.0
     reads r p f x at says key =
-        ap (λ (g : Filing Where ℕ). at_place a g.value) (sym (same_Some (record { node = p.entry.item.node.index; key = where_at p.entry.item.instance p.entry.item.thread.place; value = r }) f says))
+        ap (λ (g : Filing Where Seat). at_seat a g.value) (sym (same_Some (record { node = p.entry.item.node.index; key = where_at p.entry.item.instance p.entry.item.thread.place; value = thread_seat r p.entry.item }) f says))
         ∙ (ap (λ o. number_in (key_in thread_key o)) at ∙ ap number_in key)
 
     -- has just those that pass
     pub chain_members : IsMembers (λ n. is_at n (seen a).core test) (of_chain a c)
     unfolding IsSound
     chain_members =
-        let walked = IsMembers-walked place_filing (place_chain (bare (parts_of a))) a.threads a.places (places_filed a sound) k c chain thread_key (λ (e : ℕ × Thread). test e.1.place) (place_tests k test passes filed) links sound.tables.threads.apart (at_place a) reads in
+        let walked = IsMembers-walked place_filing (place_chain (bare (parts_of a))) a.threads a.places (places_filed a sound) k c chain thread_key (λ (e : ℕ × Thread). test e.1.place) (place_tests k test passes filed) links sound.tables.threads.apart (at_seat a) reads in
         record { once = walked.once; are = λ n. walked.are n ∙ sym (tested n) }
 
     -- so the least of it is the machine's first

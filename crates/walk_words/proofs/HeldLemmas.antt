@@ -9,7 +9,9 @@ use Rattle.place_words.proofs.FiledLemmas.{places_filed}
 use Rattle.queue_words.proofs.BareLemmas.{place_mapped}
 use Rattle.queue_words.proofs.CallerLemmas.{apart_as, none_as}
 use Rattle.walk_words.specs.Held.{is_admitted}
-use Rattle.walk_words.specs.Walks.{at_place, of_chain}
+use Rattle.walk_words.specs.Walks.{at_seat, of_chain}
+use Rattle.table_order.specs.declared.seat_links.Seat.{Seat}
+use Rattle.task_records.specs.Places.{thread_seat}
 
 -- a thread with its instance
 abbrev pub held_key : Single GuestThread → Option (ℕ × (Thread × ℕ))
@@ -50,10 +52,10 @@ held_passes i j Place.Suspended is = absurd (cc)
 
 held_tests : (i : ℕ) → Tests place_filing held_key (HeldIn i) (holds_in i)
 held_tests i = record {
-  passes = λ rep serial e f says is_k. ((e.item.number, (e.item.thread, e.item.instance)), (refl, held_passes i e.item.instance e.item.thread.place (ap (λ (g : Filing Where ℕ). g.key) (same_Some (record { node = e.item.node.index; key = where_at e.item.instance e.item.thread.place; value = rep }) f says) ∙ is_k)));
+  passes = λ rep serial e f says is_k. ((e.item.number, (e.item.thread, e.item.instance)), (refl, held_passes i e.item.instance e.item.thread.place (ap (λ (g : Filing Where Seat). g.key) (same_Some (record { node = e.item.node.index; key = where_at e.item.instance e.item.thread.place; value = thread_seat rep e.item }) f says) ∙ is_k)));
   filed = λ rep serial e x says is.
       let one = both _ _ (ap (holds_in i) (same_Some (e.item.number, (e.item.thread, e.item.instance)) x says) ∙ is) in
-      (record { node = e.item.node.index; key = where_at e.item.instance e.item.thread.place; value = rep }, (refl, held_filed i e.item.instance e.item.thread.place one.0 one.1));
+      (record { node = e.item.node.index; key = where_at e.item.instance e.item.thread.place; value = thread_seat rep e.item }, (refl, held_filed i e.item.instance e.item.thread.place one.0 one.1));
 }
 
 none_in : (b : Bool) → (b && false) ≡ false
@@ -117,15 +119,15 @@ module _ (a : CoreParts) (sound : IsSound a) where
         sym (ap (λ o. (call_instance (option_map_or (λ (t : Thread). t.call) o 0) (seen a).core == i) && is_some (option_and_then held_why (option_map (λ (t : Thread). t.place) o))) none ∙ none_in _)
     held_is (Some (t, j)) is = let one = record_found held_key a.threads.places n (t, j) (sym (get-records held_key a.threads.places n) ∙ is) in sym (held_at one.0 t j (place_at a.threads one.0) refl one.1)
 
-  reads : (r : ℕ) (p : Placed (Single GuestThread)) (f : Filing Where ℕ) (x : ℕ × (Thread × ℕ)) → place_at a.threads r ≡ Some p → place_filing r p.serial p.entry ≡ Some f → held_key p.entry ≡ Some x → at_place a f.value ≡ x.0
+  reads : (r : ℕ) (p : Placed (Single GuestThread)) (f : Filing Where Seat) (x : ℕ × (Thread × ℕ)) → place_at a.threads r ≡ Some p → place_filing r p.serial p.entry ≡ Some f → held_key p.entry ≡ Some x → at_seat a f.value ≡ x.0
   reads r p f x at says key =
-      ap (λ (g : Filing Where ℕ). at_place a g.value) (sym (same_Some (record { node = p.entry.item.node.index; key = where_at p.entry.item.instance p.entry.item.thread.place; value = r }) f says))
+      ap (λ (g : Filing Where Seat). at_seat a g.value) (sym (same_Some (record { node = p.entry.item.node.index; key = where_at p.entry.item.instance p.entry.item.thread.place; value = thread_seat r p.entry.item }) f says))
       ∙ (ap (λ o. number_in (key_in thread_key o)) at ∙ ap number_in key)
 
   pub held_members : IsLinks a.places → (i c : ℕ) → place_chain (bare (parts_of a)) (HeldIn i) ≡ Some c → IsMembers (is_held_in i (seen a).core) (of_chain a c)
   unfolding IsSound
   held_members links i c chain =
-      let walked = IsMembers-walked place_filing (place_chain (bare (parts_of a))) a.threads a.places (places_filed a sound) (HeldIn i) c chain held_key (holds_in i) (held_tests i) links (apart_as (λ (g : GuestThread). g.number) (λ (g : GuestThread). g.thread) (λ (g : GuestThread). (g.thread, g.instance)) a.threads.places sound.tables.threads.apart) (at_place a) reads in
+      let walked = IsMembers-walked place_filing (place_chain (bare (parts_of a))) a.threads a.places (places_filed a sound) (HeldIn i) c chain held_key (holds_in i) (held_tests i) links (apart_as (λ (g : GuestThread). g.number) (λ (g : GuestThread). g.thread) (λ (g : GuestThread). (g.thread, g.instance)) a.threads.places sound.tables.threads.apart) (at_seat a) reads in
       record { once = walked.once; are = λ n. walked.are n ∙ held_is i n (get (records held_key a.threads.places) n) refl }
 
   -- ---- Whether some are admitted

@@ -4,3 +4,4 @@ pub mod ChainLemmas
 pub mod PollLemmas
 pub mod HeldLemmas
 pub mod ReleaseLemmas
+pub mod OrderLemmas

@@ -14,7 +14,7 @@ pub(crate) fn node_thread(parts: &CoreParts, node: Node) -> ThreadId
     ensures { thread_of (seen parts.now) result ≡ of_node parts.now node.index }
 {
     match parts.places.get(node) {
-        Some((_, place)) => thread_at(parts, place),
+        Some((_, seat)) => thread_at(parts, seat.place),
         None => unreachable!(),
     }
 }

@@ -14,6 +14,7 @@ ghost use Rattle.task_table.specs.Answers.{item_at};
 ghost use Rattle.task_words.specs.Apart.{IsUnqueued};
 ghost use Rattle.task_words.specs.StateView.{on_core, thread_of};
 ghost use Rattle.walk_words.specs.Held.{is_admitted};
+ghost use Rattle.walk_words.specs.Order.{AreInOrder};
 ghost use Rattle.walk_words.specs.Walks.{at_place, of_chain, of_node};
 
 use crate::admissions::is_admitted;
@@ -66,8 +67,10 @@ fn release_chain(parts: &mut CoreParts, instance: u32, chain: usize)
     requires chain { place_chain (bare (parts_of parts.old)) (HeldIn instance) ≡ Some chain }
     ensures sound { IsSound parts.new }
     ensures order { IsPermutation (admitted_held instance (seen parts.old).core) (filter (is_admitted instance (seen parts.old).core) (of_chain parts.old chain)) }
+    ensures picks { AreInOrder parts.old (filter (is_admitted instance (seen parts.old).core) (of_chain parts.old chain)) }
     ensures new { seen parts.new ≡ on_core (released (filter (is_admitted instance (seen parts.old).core) (of_chain parts.old chain))) (seen parts.old) }
 {
+    parts.places.chains_are_ordered();
     let mut next = parts.places.first(chain);
     while let Some(entry) = next {
         next = parts.places.next(entry.0);
@@ -75,13 +78,14 @@ fn release_chain(parts: &mut CoreParts, instance: u32, chain: usize)
     }
 }
 
-/// Puts the held threads of the instance that are admitted at high, in the order of their chain. It
-/// looks at all that are held.
+/// Puts the held threads of the instance that are admitted at high, in the order of the places of their calls and of
+/// themselves in the resource table. It looks at all that are held.
 pub fn release(parts: &mut CoreParts, instance: u32)
     requires sound { IsSound parts.old }
     requires placed { Placed (seen parts.old).core }
     ensures sound { IsSound parts.new }
     ensures new { (order : List ℕ) × (IsPermutation (admitted_held instance (seen parts.old).core) order × (seen parts.new ≡ on_core (released order) (seen parts.old))) }
+    ensures picks { (order : List ℕ) × (AreInOrder parts.old order × (IsPermutation (admitted_held instance (seen parts.old).core) order × (seen parts.new ≡ on_core (released order) (seen parts.old)))) }
 {
     if let Some(found) = task_records::instance(parts, instance) {
         let chain = found.held;

@@ -12,6 +12,7 @@ use Rattle.strand_words.proofs.ThreadPushLemmas.{none_in_list}
 use Rattle.task_records.proofs.MakeLemmas.{stands_more}
 use Rattle.work_makes.specs.Loose.{AreWorkLoose, nodes_of}
 use Rattle.work_makes.specs.Raised.{IsWorkNext}
+use Rattle.task_records.specs.Places.{member_seat}
 
 abbrev number : HostWork → ℕ
 number w = w.number
@@ -103,7 +104,7 @@ module _ (p : Parts) (whole : IsWhole p) (sound : SoundTable work_key p.works p.
     places = IsIndex-opened (place_chain p) (place_chain more) p.places (BlockedOn (Subtask.Host g.number)) (blocked_is g.number) place_others g.blocked has_blocked loose.blocked (filings place_filing p.threads) whole.chained.places
         (none_in_list (kinds p) p.threads (BlockedOn (Subtask.Host g.number)) (λ rep q at. (whole.named.threads rep q at).place) (λ rep at. let few = at.0 in let is = later in omega arith));
     ready_calls = whole.chained.ready_calls;
-    ready_works = index_more p.works g sound.table (λ h. h.ready.index) (λ h. ready_in h.work.event h.work.join) (λ r h. r) p.ready_works loose.ready (ready_work_chain p) whole.chained.ready_works (ap (λ (e : Option Status). ready_in e g.work.join) next.event);
+    ready_works = index_more p.works g sound.table (λ h. h.ready.index) (λ h. ready_in h.work.event h.work.join) (λ r h. member_seat h.entry r) p.ready_works loose.ready (ready_work_chain p) whole.chained.ready_works (ap (λ (e : Option Status). ready_in e g.work.join) next.event);
     polled = index_more p.works g sound.table (λ h. h.live.index) (λ h. cond (is_stage_live h.work.stage) (Some tt) None) live_value p.polled loose.live (live_chain p) whole.chained.polled (ap (λ b. cond b (Some tt) None) not_live);
     rising = whole.chained.rising;
     marks = IsRows-known (row_chain p) (λ q. q.mark.index) (IsSeated p) (IsSeated more) p.marks (row p) entry_more whole.chained.marks;

@@ -59,6 +59,7 @@ record_for number q group nodes = record {
   maker = q.maker;
   joined = 0;
   group = option_map_or (λ (g : TableId GroupKey × TaskGroup). g.0.rep) group 0;
+  entry = q.entry;
   ready = nodes.ready;
   live = nodes.live;
   mark = nodes.mark;

@@ -115,13 +115,13 @@ fn call_work(
     }
 }
 
-/// Makes the work of a thread's `call`, in the thread's group, with its push, and gives it a handle
-/// in the thread's instance. Where memory is wanting, all is as before.
-pub fn queue_call(
+// The same, with this place in the resource table.
+fn queue_call_at(
     parts: &mut CoreParts,
     thread: ThreadId,
     register: u8,
     host: HostDef,
+    entry: u32,
 ) -> Result<WorkId, NoMemory>
     requires sound { IsSound parts.old }
     requires live { 0 < thread_of (seen parts.old) thread }
@@ -143,6 +143,7 @@ pub fn queue_call(
         caller,
         maker: thread.rep(),
         host,
+        entry,
     };
     match new_work_nodes(parts) {
         Ok(nodes) => {
@@ -157,5 +158,36 @@ pub fn queue_call(
             }
         }
         Err(why) => Err(why),
+    }
+}
+
+/// Makes the work of a thread's `call`, in the thread's group, with its push, and gives it a handle
+/// in the thread's instance. Where memory is wanting, all is as before.
+#[tactic(auto, unfolding(task_records::specs::Seen::seen, task_records::specs::Seen::IsSound))]
+pub fn queue_call(
+    parts: &mut CoreParts,
+    thread: ThreadId,
+    register: u8,
+    host: HostDef,
+) -> Result<WorkId, NoMemory>
+    requires sound { IsSound parts.old }
+    requires live { 0 < thread_of (seen parts.old) thread }
+    requires few { (seen parts.old).core.made.works + 1 < 2 ^ 64 }
+    requires room { fits 1 (seen parts.old).core ≡ true }
+    ensures sound { IsSound parts.new }
+    ensures work { IfOk result (λ id. work_of (seen parts.new) id ≡ next_work (seen parts.old).core) }
+    ensures small { OnOk result (new_handle (instance_of (thread_of (seen parts.old) thread) (seen parts.old).core) (seen parts.old).core < 2 ^ 28) }
+    ensures core { OnOk result ((seen parts.new).core ≡ with_handle (instance_of (thread_of (seen parts.old) thread) (seen parts.old).core) (subtasks.Host (next_work (seen parts.old).core)) (work_queued (callers.Async (thread_of (seen parts.old) thread) register) host (Some (thread_group (thread_of (seen parts.old) thread) (seen parts.old).core)) (seen parts.old).core)) }
+    ensures current { (seen parts.new).current ≡ (seen parts.old).current }
+    ensures tags { Keeps (seen parts.old).tags (seen parts.new).tags }
+    ensures err { OnErr result (seen parts.new ≡ seen parts.old) }
+{
+    let entry = parts.table_places.take()?;
+    match queue_call_at(parts, thread, register, host, entry) {
+        Ok(id) => Ok(id),
+        Err(why) => {
+            parts.table_places.give(entry);
+            Err(why)
+        }
     }
 }

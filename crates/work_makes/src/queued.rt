@@ -70,6 +70,7 @@ pub fn queue_spawn(parts: &mut CoreParts, host: HostDef) -> Result<WorkId, NoMem
         caller: WorkCaller::Spawn,
         maker: 0,
         host,
+        entry: 0,
     };
     match new_work_nodes(parts) {
         Ok(nodes) => match queue_work(parts, request, None, nodes) {
@@ -80,12 +81,12 @@ pub fn queue_spawn(parts: &mut CoreParts, host: HostDef) -> Result<WorkId, NoMem
     }
 }
 
-/// Makes the work of a thread's `call_sync`, in the thread's group, and its push. Where memory is
-/// wanting, all is as before.
-pub fn queue_sync_call(
+// The same, with this place in the resource table.
+fn queue_sync_call_at(
     parts: &mut CoreParts,
     thread: ThreadId,
     host: HostDef,
+    entry: u32,
 ) -> Result<WorkId, NoMemory>
     requires sound { IsSound parts.old }
     requires live { 0 < thread_of (seen parts.old) thread }
@@ -105,6 +106,7 @@ pub fn queue_sync_call(
         caller,
         maker: thread.rep(),
         host,
+        entry,
     };
     match new_work_nodes(parts) {
         Ok(nodes) => {
@@ -115,5 +117,34 @@ pub fn queue_sync_call(
             }
         }
         Err(why) => Err(why),
+    }
+}
+
+/// Makes the work of a thread's `call_sync`, in the thread's group, and its push. Where memory is
+/// wanting, all is as before.
+#[tactic(auto, unfolding(task_records::specs::Seen::seen, task_records::specs::Seen::IsSound))]
+pub fn queue_sync_call(
+    parts: &mut CoreParts,
+    thread: ThreadId,
+    host: HostDef,
+) -> Result<WorkId, NoMemory>
+    requires sound { IsSound parts.old }
+    requires live { 0 < thread_of (seen parts.old) thread }
+    requires few { (seen parts.old).core.made.works + 1 < 2 ^ 64 }
+    requires room { fits 1 (seen parts.old).core ≡ true }
+    ensures sound { IsSound parts.new }
+    ensures work { IfOk result (λ id. work_of (seen parts.new) id ≡ next_work (seen parts.old).core) }
+    ensures core { OnOk result ((seen parts.new).core ≡ work_queued (callers.Sync (thread_of (seen parts.old) thread)) host (Some (thread_group (thread_of (seen parts.old) thread) (seen parts.old).core)) (seen parts.old).core) }
+    ensures current { (seen parts.new).current ≡ (seen parts.old).current }
+    ensures tags { Keeps (seen parts.old).tags (seen parts.new).tags }
+    ensures err { OnErr result (seen parts.new ≡ seen parts.old) }
+{
+    let entry = parts.table_places.take()?;
+    match queue_sync_call_at(parts, thread, host, entry) {
+        Ok(id) => Ok(id),
+        Err(why) => {
+            parts.table_places.give(entry);
+            Err(why)
+        }
     }
 }

@@ -14,6 +14,8 @@ pub struct WorkRequest {
     pub caller: WorkCaller,
     pub maker: u32,
     pub host: HostDef,
+    /// The place that is taken in the resource table, if it is a call.
+    pub entry: u32,
 }
 
 // A host work as it is made.
@@ -53,6 +55,7 @@ pub(crate) fn record_for(
         maker: request.maker,
         joined: 0,
         group: place,
+        entry: request.entry,
         ready: nodes.ready,
         live: nodes.live,
         mark: nodes.mark,

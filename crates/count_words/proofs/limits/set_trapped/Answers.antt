@@ -1,3 +1,4 @@
+use Rattle.task_records.proofs.Core.{IsSound, seen}
 use Rattle.count_words.proofs.TrapLemmas.{groups_within, trapped_seen, trapped_sound}
 use Rattle.count_words.proofs.limits.set_trapped.Goals as goal
 
@@ -5,7 +6,9 @@ pub overflow_sub-parts : goal.overflow_sub-parts
 overflow_sub-parts c = groups_within c.args.parts.now c.requires
 
 pub returns-clause-sound : goal.returns-clause-sound
+unfolding IsSound
 returns-clause-sound c = trapped_sound c.args.parts.now c.requires
 
 pub returns-clause-new : goal.returns-clause-new
+unfolding seen
 returns-clause-new c = trapped_seen c.args.parts.now c.requires

@@ -1,6 +1,7 @@
 use Rattle.node_words.proofs.indexes.make_ready_work_node.Goals as goal
 use Rattle.task_records.proofs.Core.{IsSound, List, refl, seen, Spot, subst, sym, ℕ}
 use Rattle.task_records.proofs.LinkLemmas.{ready_work_made_sound}
+use Rattle.table_order.specs.declared.seat_links.Seat.{Seat}
 
 pub returns-in-Ok-clause-sound : goal.returns-in-Ok-clause-sound
 returns-in-Ok-clause-sound c = ready_work_made_sound c.args.parts.now c.requires _ _ _ c.in-Ok.ensures.made refl
@@ -10,7 +11,7 @@ unfolding seen
 returns-in-Ok-clause-seen c = refl
 
 pub returns-in-Err-clause-sound : goal.returns-in-Err-clause-sound
-returns-in-Err-clause-sound c = subst (λ (l : List (Spot ℕ)). IsSound (record c.args.parts.now { ready_works = l })) (sym c.in-Err.ensures.err) c.requires
+returns-in-Err-clause-sound c = subst (λ (l : List (Spot Seat)). IsSound (record c.args.parts.now { ready_works = l })) (sym c.in-Err.ensures.err) c.requires
 
 pub returns-in-Err-clause-seen : goal.returns-in-Err-clause-seen
 unfolding seen

@@ -23,5 +23,6 @@ returns-in_default g c =
       meets = meets;
       goes = same_goes c.args.thread _ s t c.do_halting_op.result (thread_shows _ _ c.args.component.now c.args.op) meets c.requires.runner.current c.do_halting_op.ensures.tags c.do_halting_op.ensures.current;
       stays = same_stays _ s t c.do_halting_op.result meets c.do_halting_op.ensures.tags c.do_halting_op.ensures.current;
+      err = tt;
       works = c.do_halting_op.ensures.works;
     }

@@ -2,6 +2,8 @@ use Rattle.task_records.proofs.Core.{ap, Option, option_map, Refiles, refl, set_
 use Rattle.place_words.proofs.GoneLemmas.{call_gone}
 use Rattle.place_words.proofs.TellLemmas.{join_at, ready_live, ready_made, kept_same, same_sets, told_seen, told_sound}
 use Rattle.place_words.proofs.events.set_call_event.Goals as goal
+use Rattle.table_order.specs.declared.seat_links.Seat.{Seat}
+use Rattle.task_records.specs.Places.{member_seat}
 
 pub call_chain-chain-requires-clause-at : goal.call_chain-chain-requires-clause-at
 call_chain-chain-requires-clause-at c = join_at c.args.parts.now c.requires c.args.call c.in-Some.found.now c.in-Some.ensures.item
@@ -19,8 +21,8 @@ returns-in-Ok-clause-sound c =
     let h = record g { call = record g.call { event = c.args.event } } in
     told_sound a c.requires c.args.call g c.in-Some.ensures.item h refl a.sets refl c.refile.new.links (join_at a c.requires c.args.call g c.in-Some.ensures.item) (same_sets a c.requires c.args.call g c.in-Some.ensures.item h refl)
     (kept_same a c.requires c.args.call g c.in-Some.ensures.item h refl refl c.refile.new.links) refl
-    (subst (λ (l : Option (ℕ × ℕ)). Refiles a.ready_calls c.refile.new.links g.ready.index l)
-    (ap (λ r. option_map (λ k. (k, r)) c.call_chain-chain.result) c.rep.ensures ∙ ap (option_map (λ k. (k, c.args.call.rep))) (sym c.call_chain-chain.ensures)) c.refile.ensures.links)
+    (subst (λ (l : Option (ℕ × Seat)). Refiles a.ready_calls c.refile.new.links g.ready.index l)
+    (ap (λ r. option_map (λ k. (k, r)) c.call_chain-chain.result) (c.member_seat.ensures ∙ ap (member_seat g.entry) c.rep.ensures) ∙ ap (option_map (λ k. (k, member_seat g.entry c.args.call.rep))) (sym c.call_chain-chain.ensures)) c.refile.ensures.links)
 
 pub returns-in-Ok-clause-new : goal.returns-in-Ok-clause-new
 unfolding set_event

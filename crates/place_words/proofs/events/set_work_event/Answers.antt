@@ -2,6 +2,8 @@ use Rattle.task_records.proofs.Core.{ap, Option, option_map, Refiles, refl, set_
 use Rattle.place_words.proofs.GoneLemmas.{work_gone}
 use Rattle.place_words.proofs.HearLemmas.{is_whole, work_join_at, ready_live, ready_made, kept_same, same_sets, stays_live, heard_seen, heard_sound}
 use Rattle.place_words.proofs.events.set_work_event.Goals as goal
+use Rattle.table_order.specs.declared.seat_links.Seat.{Seat}
+use Rattle.task_records.specs.Places.{member_seat}
 
 pub work_chain-chain-requires-clause-at : goal.work_chain-chain-requires-clause-at
 work_chain-chain-requires-clause-at c = work_join_at c.args.parts.now c.requires c.args.work c.in-Some.found.now c.in-Some.ensures.item
@@ -19,8 +21,8 @@ returns-in-Ok-clause-sound c =
     let h = record g { work = record g.work { event = c.args.event } } in
     heard_sound a c.requires c.args.work g c.in-Some.ensures.item h refl a.sets refl c.refile.new.links a.polled a.kept.live a.kept.moving (work_join_at a c.requires c.args.work g c.in-Some.ensures.item) (same_sets a c.requires c.args.work g c.in-Some.ensures.item h refl)
     (kept_same a c.requires c.args.work g c.in-Some.ensures.item h refl refl c.refile.new.links a.polled a.kept.live a.kept.moving) refl refl (stays_live a c.requires c.args.work g c.in-Some.ensures.item h refl refl) (is_whole a c.requires c.args.work g c.in-Some.ensures.item).chained.rising
-    (subst (λ (l : Option (ℕ × ℕ)). Refiles a.ready_works c.refile.new.links g.ready.index l)
-    (ap (λ r. option_map (λ k. (k, r)) c.work_chain-chain.result) c.rep.ensures ∙ ap (option_map (λ k. (k, c.args.work.rep))) (sym c.work_chain-chain.ensures)) c.refile.ensures.links)
+    (subst (λ (l : Option (ℕ × Seat)). Refiles a.ready_works c.refile.new.links g.ready.index l)
+    (ap (λ r. option_map (λ k. (k, r)) c.work_chain-chain.result) (c.member_seat.ensures ∙ ap (member_seat g.entry) c.rep.ensures) ∙ ap (option_map (λ k. (k, member_seat g.entry c.args.work.rep))) (sym c.work_chain-chain.ensures)) c.refile.ensures.links)
 
 pub returns-in-Ok-clause-new : goal.returns-in-Ok-clause-new
 unfolding set_event

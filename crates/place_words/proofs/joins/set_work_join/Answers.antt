@@ -5,6 +5,8 @@ use Rattle.place_words.proofs.JoinLemmas.{in_is, less_fits, more_fits, sets_soun
 use Rattle.place_words.proofs.HearLemmas.{is_whole, heard_seen, heard_sound, joined_alike, joined_now, kept_joined, ready_live, ready_made, some_member, stays_live, work_join_at}
 use Rattle.place_words.proofs.joins.set_work_join.Goals as goal
 use Rattle.place_words.specs.Moved.{joined_set, rejoined}
+use Rattle.table_order.specs.declared.seat_links.Seat.{Seat}
+use Rattle.task_records.specs.Places.{member_seat}
 
 pub joined_set-from-requires-clause-at : goal.joined_set-from-requires-clause-at
 joined_set-from-requires-clause-at c = work_join_at c.args.parts.now c.requires c.args.work c.in-Some.found.now c.in-Some.ensures.item
@@ -32,8 +34,8 @@ returns-in-Ok-clause-sound c =
     let links = c.refile.new.links in
     subst (λ (t : Table (Single WaitSet)). IsSound (record a { works = with_entry c.args.work.rep (entry_of h) a.works; sets = t; ready_works = links })) (sym (c.enter.ensures ∙ ap (rejoined (λ n. n + 1) c.joined_set-to.result.rep c.joined_set-to.result.serial) c.leave.ensures))
     (heard_sound a c.requires c.args.work g c.in-Some.ensures.item h refl (joined_now a c.requires c.args.work g c.in-Some.ensures.item h refl c.joined_set-from.result c.joined_set-to.result c.joined_set-from.ensures c.joined_set-to.ensures links) (joined_alike a c.requires c.args.work g c.in-Some.ensures.item h refl c.joined_set-from.result c.joined_set-to.result c.joined_set-from.ensures c.joined_set-to.ensures links) links a.polled a.kept.live a.kept.moving c.named_join-named.ensures.at (sets_sound a c.requires (joined_set g.work.join) (joined_set c.named_join-named.result.0) c.joined_set-from.result c.joined_set-to.result c.joined_set-from.ensures c.joined_set-to.ensures) (kept_joined a c.requires c.args.work g c.in-Some.ensures.item h refl c.joined_set-from.result c.joined_set-to.result c.joined_set-from.ensures c.joined_set-to.ensures links) refl refl (stays_live a c.requires c.args.work g c.in-Some.ensures.item h refl refl) (is_whole a c.requires c.args.work g c.in-Some.ensures.item).chained.rising
-    (subst (λ (l : Option (ℕ × ℕ)). Refiles a.ready_works links g.ready.index l)
-    (ap (λ r. option_map (λ k. (k, r)) c.work_chain-chain.result) c.rep.ensures ∙ ap (option_map (λ k. (k, c.args.work.rep))) (sym c.work_chain-chain.ensures)) c.refile.ensures.links))
+    (subst (λ (l : Option (ℕ × Seat)). Refiles a.ready_works links g.ready.index l)
+    (ap (λ r. option_map (λ k. (k, r)) c.work_chain-chain.result) (c.member_seat.ensures ∙ ap (member_seat g.entry) c.rep.ensures) ∙ ap (option_map (λ k. (k, member_seat g.entry c.args.work.rep))) (sym c.work_chain-chain.ensures)) c.refile.ensures.links))
 
 pub returns-in-Ok-clause-new : goal.returns-in-Ok-clause-new
 unfolding set_join

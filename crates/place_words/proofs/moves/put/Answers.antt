@@ -8,6 +8,8 @@ use Rattle.place_words.specs.Moved.{placed, recounted}
 use Rattle.task_records.proofs.HomeLemmas.{place_bare, thread_home}
 use Rattle.task_records.proofs.KindLemmas.{absent}
 use Rattle.task_records.proofs.ReadLemmas.{thread_read}
+use Rattle.table_order.specs.declared.seat_links.Seat.{Seat}
+use Rattle.task_records.specs.Places.{thread_seat}
 
 pub entry_set-from-requires-clause-place : goal.entry_set-from-requires-clause-place
 entry_set-from-requires-clause-place c = place_bare c.args.parts.now _ _ (thread_home c.args.parts.now c.requires.sound c.args.id c.in-Some.found.now c.in-Some.ensures.item).place
@@ -35,12 +37,12 @@ returns-in-Ok-clause-sound c =
     let a = c.args.parts.now in
     let g = c.in-Some.found.now in
     let h = placed g c.args.place c.args.beside in
-    let links : option_map (λ k. (k, c.rep.result)) c.args.chain ≡ option_map (λ k. (k, c.args.id.rep)) (option_and_then (place_chain (bare (parts_of a))) (where_at g.instance c.args.place)) =
-    ap (λ r. option_map (λ k. (k, r)) c.args.chain) c.rep.ensures ∙ ap (option_map (λ k. (k, c.args.id.rep))) (sym (c.requires.chain g c.in-Some.ensures.item)) in
+    let links : option_map (λ k. (k, c.thread_seat-seat.result)) c.args.chain ≡ option_map (λ k. (k, thread_seat c.args.id.rep g)) (option_and_then (place_chain (bare (parts_of a))) (where_at g.instance c.args.place)) =
+    ap (λ r. option_map (λ k. (k, r)) c.args.chain) (c.thread_seat-seat.ensures ∙ ap (λ r. thread_seat r g) c.rep.ensures) ∙ ap (option_map (λ k. (k, thread_seat c.args.id.rep g))) (sym (c.requires.chain g c.in-Some.ensures.item)) in
     subst (λ (x : GuestThread). IsSound (record a { threads = with_entry c.args.id.rep (entry_of (placed x c.args.place c.args.beside)) a.threads; sets = c.one_more.new.sets; places = c.refile.new.links })) (same_item c.in-Some.ensures.item c.in-Ok.ensures.value)
     (subst (λ (t : Table (Single WaitSet)). IsSound (record a { threads = with_entry c.args.id.rep (entry_of h) a.threads; sets = t; places = c.refile.new.links })) (sym (c.one_more.ensures ∙ ap (recounted (λ n. n + 1) c.entry_set-to.result.rep c.entry_set-to.result.serial) c.one_less.ensures))
     (placed_sound a c.requires.sound c.args.id g c.in-Some.ensures.item h refl refl c.entry_set-from.result c.entry_set-to.result c.entry_set-from.ensures c.entry_set-to.ensures c.refile.new.links c.requires.place (how_far_at a c.requires.sound c.args.id g c.in-Some.ensures.item)
-    (subst (λ (l : Option (ℕ × ℕ)). Refiles a.places c.refile.new.links g.node.index l) links c.refile.ensures.links)))
+    (subst (λ (l : Option (ℕ × Seat)). Refiles a.places c.refile.new.links g.node.index l) links c.refile.ensures.links)))
 
 pub returns-in-Ok-clause-new : goal.returns-in-Ok-clause-new
 unfolding set_place

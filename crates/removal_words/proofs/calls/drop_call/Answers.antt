@@ -1,7 +1,10 @@
 use Rattle.removal_words.proofs.CallLemmas.{blocked_live, call_counted, call_deleted, group_counted, group_named, group_positive, interest_counted, ready_made, removed_core, removed_sound, removed_tags}
 use Rattle.removal_words.proofs.calls.drop_call.Goals as goal
-use Rattle.task_records.proofs.Core.{ap, arith, Call, cond, option_map_or, refl, seen, subst, sym, ℕ, ◌<◌, ◌∙◌, ◌≡◌, ◌≤◌}
+use Rattle.task_records.proofs.Core.{ap, arith, Call, cond, IsSound, option_map_or, refl, seen, subst, sym, ℕ, ◌<◌, ◌∙◌, ◌≡◌, ◌≤◌}
+use Rattle.task_records.specs.declared.{calls.GuestTask.GuestTask}
 use Rattle.task_records.proofs.HomeLemmas.{call_names}
+use Rattle.place_words.proofs.ThreadLemmas.{same_item}
+use Rattle.table_order.specs.Places.{given}
 
 pub group_there-requires : goal.group_there-requires
 group_there-requires c = subst (λ (n : ℕ). 0 < n) (sym (call_names c.args.parts.now c.requires.sound c.args.call c.in-Some.found.now c.in-Some.ensures.item).group) (call_names c.args.parts.now c.requires.sound c.args.call c.in-Some.found.now c.in-Some.ensures.item).positive
@@ -9,11 +12,11 @@ group_there-requires c = subst (λ (n : ℕ). 0 < n) (sym (call_names c.args.par
 pub overflow_sub-counted : goal.overflow_sub-counted
 overflow_sub-counted c = group_counted c.args.parts.now c.requires.sound c.args.call c.in-Some.found.now c.in-Some.ensures.item c.group_there.result.0 c.group_there.result.1 c.group_there.ensures.item (c.group_there.ensures.number ∙ (call_names c.args.parts.now c.requires.sound c.args.call c.in-Some.found.now c.in-Some.ensures.item).group)
 
-pub close-requires : goal.close-requires
-close-requires c = blocked_live c.args.parts.now c.requires.sound c.args.call c.in-Some.found.now c.in-Some.ensures.item
+pub close_seats-requires : goal.close_seats-requires
+close_seats-requires c = blocked_live c.args.parts.now c.requires.sound c.args.call c.in-Some.found.now c.in-Some.ensures.item
 
-pub drop_node-requires : goal.drop_node-requires
-drop_node-requires c = ready_made c.args.parts.now c.requires.sound c.args.call c.in-Some.found.now c.in-Some.ensures.item
+pub drop_seat-requires : goal.drop_seat-requires
+drop_seat-requires c = ready_made c.args.parts.now c.requires.sound c.args.call c.in-Some.found.now c.in-Some.ensures.item
 
 pub unreachable-requires-in-Err-delete : goal.unreachable-requires-in-Err-delete
 unreachable-requires-in-Err-delete c = call_deleted c.args.parts.now c.requires.sound c.args.call c.in-Some.found.now c.in-Some.ensures.item c.in-Err-delete.field-0 c.in-Err-delete.ensures.answer
@@ -25,15 +28,17 @@ pub overflow_sub-parts-2 : goal.overflow_sub-parts-2
 overflow_sub-parts-2 c = subst (λ (n : ℕ). n ≤ c.args.parts.now.kept.interesting) (sym c.one_if.ensures) (interest_counted c.args.parts.now c.requires.sound c.args.call c.in-Some.found.now c.in-Some.ensures.item)
 
 pub returns-clause-sound : goal.returns-clause-sound
+unfolding IsSound
 returns-clause-sound c =
     removed_sound c.args.parts.now c.requires.sound c.args.call c.in-Some.found.now c.in-Some.ensures.item c.group_there.result.0 c.group_there.result.1 c.group_there.ensures.item (c.group_there.ensures.number ∙ (call_names c.args.parts.now c.requires.sound c.args.call c.in-Some.found.now c.in-Some.ensures.item).group) c.requires.last c.requires.join
-    c.close.new.links c.drop_node.new.links c.close.ensures c.drop_node.ensures _ (let few = interest_counted c.args.parts.now c.requires.sound c.args.call c.in-Some.found.now c.in-Some.ensures.item in let one : c.one_if.result ≡ cond {A = ℕ} c.in-Some.found.now.call.interesting 1 0 = c.one_if.ensures in omega arith)
+    c.close_seats.new.links c.drop_seat.new.links c.close_seats.ensures c.drop_seat.ensures _ (let few = interest_counted c.args.parts.now c.requires.sound c.args.call c.in-Some.found.now c.in-Some.ensures.item in let one : c.one_if.result ≡ cond {A = ℕ} c.in-Some.found.now.call.interesting 1 0 = c.one_if.ensures in omega arith)
     c.delete.new.self c.in-Ok-delete.ensures.ok c.delete.ensures.sound
 
 pub returns-clause-core : goal.returns-clause-core
+unfolding seen
 returns-clause-core c =
     removed_core c.args.parts.now c.requires.sound c.args.call c.in-Some.found.now c.in-Some.ensures.item c.group_there.result.0 c.group_there.result.1 c.group_there.ensures.item (c.group_there.ensures.number ∙ (call_names c.args.parts.now c.requires.sound c.args.call c.in-Some.found.now c.in-Some.ensures.item).group) c.requires.last c.requires.join
-    c.close.new.links c.drop_node.new.links c.close.ensures c.drop_node.ensures _ (let few = interest_counted c.args.parts.now c.requires.sound c.args.call c.in-Some.found.now c.in-Some.ensures.item in let one : c.one_if.result ≡ cond {A = ℕ} c.in-Some.found.now.call.interesting 1 0 = c.one_if.ensures in omega arith)
+    c.close_seats.new.links c.drop_seat.new.links c.close_seats.ensures c.drop_seat.ensures _ (let few = interest_counted c.args.parts.now c.requires.sound c.args.call c.in-Some.found.now c.in-Some.ensures.item in let one : c.one_if.result ≡ cond {A = ℕ} c.in-Some.found.now.call.interesting 1 0 = c.one_if.ensures in omega arith)
     c.delete.new.self c.in-Ok-delete.ensures.ok
 
 pub returns-clause-current : goal.returns-clause-current
@@ -41,9 +46,10 @@ unfolding seen
 returns-clause-current c = refl
 
 pub returns-clause-tags : goal.returns-clause-tags
+unfolding seen
 returns-clause-tags c =
     removed_tags c.args.parts.now c.requires.sound c.args.call c.in-Some.found.now c.in-Some.ensures.item c.group_there.result.0 c.group_there.result.1 c.group_there.ensures.item (c.group_there.ensures.number ∙ (call_names c.args.parts.now c.requires.sound c.args.call c.in-Some.found.now c.in-Some.ensures.item).group) c.requires.last c.requires.join
-    c.close.new.links c.drop_node.new.links c.close.ensures c.drop_node.ensures _ (let few = interest_counted c.args.parts.now c.requires.sound c.args.call c.in-Some.found.now c.in-Some.ensures.item in let one : c.one_if.result ≡ cond {A = ℕ} c.in-Some.found.now.call.interesting 1 0 = c.one_if.ensures in omega arith)
+    c.close_seats.new.links c.drop_seat.new.links c.close_seats.ensures c.drop_seat.ensures _ (let few = interest_counted c.args.parts.now c.requires.sound c.args.call c.in-Some.found.now c.in-Some.ensures.item in let one : c.one_if.result ≡ cond {A = ℕ} c.in-Some.found.now.call.interesting 1 0 = c.one_if.ensures in omega arith)
     c.delete.new.self c.in-Ok-delete.ensures.ok
 
 pub returns-clause-group : goal.returns-clause-group
@@ -51,3 +57,6 @@ returns-clause-group c = group_named c.args.parts.now c.requires.sound c.args.ca
 
 pub returns-clause-positive : goal.returns-clause-positive
 returns-clause-positive c = subst (λ (n : ℕ). 0 < n) (ap (λ o. option_map_or (λ (x : Call). x.group) o 0) c.in-Some.ensures.is) (group_positive c.args.parts.now c.requires.sound c.args.call c.in-Some.found.now c.in-Some.ensures.item)
+
+pub returns-clause-places : goal.returns-clause-places
+returns-clause-places c g is = ap (λ (h : GuestTask). given h.entry c.args.parts.now.table_places) (same_item c.in-Some.ensures.item is)

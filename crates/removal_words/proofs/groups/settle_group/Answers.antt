@@ -1,6 +1,6 @@
 use Rattle.removal_words.proofs.SettleLemmas.{group_deleted, group_stays, groups_counted, none_above, one_above, settled_seen, settled_sound, use_counted}
 use Rattle.removal_words.proofs.groups.settle_group.Goals as goal
-use Rattle.task_records.proofs.Core.{arith, ◌-◌}
+use Rattle.task_records.proofs.Core.{arith, IsSound, seen, ◌-◌}
 use Rattle.task_records.specs.declared.{calls.TaskGroup.TaskGroup}
 use Rattle.task_records.proofs.KindLemmas.{refused_number}
 
@@ -23,6 +23,7 @@ pub overflow_sub-parts-then-found-parts : goal.overflow_sub-parts-then-found-par
 overflow_sub-parts-then-found-parts c = let few = use_counted c.args.parts.now c.requires.sound c.args.group c.in-Ok.found.now c.in-Ok.ensures (let none = c.if-found-gt0.false in omega arith) in let one = one_above c.args.parts.now.finished c.in-Ok.found.now.number c.if-found-parts.true in omega arith
 
 pub returns-then-found-parts-clause-sound : goal.returns-then-found-parts-clause-sound
+unfolding IsSound
 returns-then-found-parts-clause-sound c =
     settled_sound c.args.parts.now c.requires.sound c.args.group c.in-Ok.found.now c.in-Ok.ensures (let none = c.if-found-gt0.false in omega arith) (c.args.parts.now.kept.used - 1) (c.args.parts.now.kept.groups - 1)
     (let few = use_counted c.args.parts.now c.requires.sound c.args.group c.in-Ok.found.now c.in-Ok.ensures (let none = c.if-found-gt0.false in omega arith) in let one = one_above c.args.parts.now.finished c.in-Ok.found.now.number c.if-found-parts.true in omega arith)
@@ -30,6 +31,7 @@ returns-then-found-parts-clause-sound c =
     c.delete.new.self c.in-Ok-delete.ensures.ok c.delete.ensures.sound
 
 pub returns-then-found-parts-clause-new : goal.returns-then-found-parts-clause-new
+unfolding seen
 returns-then-found-parts-clause-new c =
     settled_seen c.args.parts.now c.requires.sound c.args.group c.in-Ok.found.now c.in-Ok.ensures (let none = c.if-found-gt0.false in omega arith) (c.args.parts.now.kept.used - 1) (c.args.parts.now.kept.groups - 1)
     (let few = use_counted c.args.parts.now c.requires.sound c.args.group c.in-Ok.found.now c.in-Ok.ensures (let none = c.if-found-gt0.false in omega arith) in let one = one_above c.args.parts.now.finished c.in-Ok.found.now.number c.if-found-parts.true in omega arith)
@@ -37,6 +39,7 @@ returns-then-found-parts-clause-new c =
     c.delete.new.self c.in-Ok-delete.ensures.ok
 
 pub returns-else-found-parts-clause-sound : goal.returns-else-found-parts-clause-sound
+unfolding IsSound
 returns-else-found-parts-clause-sound c =
     settled_sound c.args.parts.now c.requires.sound c.args.group c.in-Ok.found.now c.in-Ok.ensures (let none = c.if-found-gt0.false in omega arith) c.args.parts.now.kept.used c.args.parts.now.kept.groups
     (let none = none_above c.args.parts.now.finished c.in-Ok.found.now.number c.if-found-parts.false in omega arith)
@@ -44,6 +47,7 @@ returns-else-found-parts-clause-sound c =
     c.delete.new.self c.in-Ok-delete.ensures.ok c.delete.ensures.sound
 
 pub returns-else-found-parts-clause-new : goal.returns-else-found-parts-clause-new
+unfolding seen
 returns-else-found-parts-clause-new c =
     settled_seen c.args.parts.now c.requires.sound c.args.group c.in-Ok.found.now c.in-Ok.ensures (let none = c.if-found-gt0.false in omega arith) c.args.parts.now.kept.used c.args.parts.now.kept.groups
     (let none = none_above c.args.parts.now.finished c.in-Ok.found.now.number c.if-found-parts.false in omega arith)

@@ -1,15 +1,18 @@
 use Rattle.removal_words.proofs.SetLemmas.{calls_live, removed_core, removed_sound, removed_tags, set_counted, set_deleted, waiters_live, works_live}
 use Rattle.removal_words.proofs.sets.remove_set.Goals as goal
-use Rattle.task_records.proofs.Core.{refl, seen}
+use Rattle.task_records.proofs.Core.{ap, IsSound, refl, seen}
+use Rattle.task_records.specs.declared.{sets.WaitSet.WaitSet}
+use Rattle.place_words.proofs.ThreadLemmas.{same_item}
+use Rattle.table_order.specs.Places.{given}
 
-pub close-requires : goal.close-requires
-close-requires c = waiters_live c.args.parts.now c.requires.sound c.args.set c.in-Some.found.now c.in-Some.ensures.item
+pub close_seats-requires : goal.close_seats-requires
+close_seats-requires c = waiters_live c.args.parts.now c.requires.sound c.args.set c.in-Some.found.now c.in-Some.ensures.item
 
-pub close-requires-2 : goal.close-requires-2
-close-requires-2 c = calls_live c.args.parts.now c.requires.sound c.args.set c.in-Some.found.now c.in-Some.ensures.item
+pub close_seats-requires-2 : goal.close_seats-requires-2
+close_seats-requires-2 c = calls_live c.args.parts.now c.requires.sound c.args.set c.in-Some.found.now c.in-Some.ensures.item
 
-pub close-requires-3 : goal.close-requires-3
-close-requires-3 c = works_live c.args.parts.now c.requires.sound c.args.set c.in-Some.found.now c.in-Some.ensures.item
+pub close_seats-requires-3 : goal.close_seats-requires-3
+close_seats-requires-3 c = works_live c.args.parts.now c.requires.sound c.args.set c.in-Some.found.now c.in-Some.ensures.item
 
 pub unreachable-requires-in-Err : goal.unreachable-requires-in-Err
 unreachable-requires-in-Err c = set_deleted c.args.parts.now c.requires.sound c.args.set c.in-Some.found.now c.in-Some.ensures.item c.in-Err.field-0 c.in-Err.ensures.answer
@@ -18,14 +21,20 @@ pub overflow_sub-parts : goal.overflow_sub-parts
 overflow_sub-parts c = set_counted c.args.parts.now c.requires.sound c.args.set c.in-Some.found.now c.in-Some.ensures.item
 
 pub returns-clause-sound : goal.returns-clause-sound
-returns-clause-sound c = removed_sound c.args.parts.now c.requires.sound c.args.set c.in-Some.found.now c.in-Some.ensures.item _ _ _ c.close.ensures c.close-2.ensures c.close-3.ensures _ c.in-Ok.ensures.ok c.delete.ensures.sound
+unfolding IsSound
+returns-clause-sound c = removed_sound c.args.parts.now c.requires.sound c.args.set c.in-Some.found.now c.in-Some.ensures.item _ _ _ c.close_seats.ensures c.close_seats-2.ensures c.close_seats-3.ensures _ c.in-Ok.ensures.ok c.delete.ensures.sound
 
 pub returns-clause-core : goal.returns-clause-core
-returns-clause-core c = removed_core c.args.parts.now c.requires.sound c.args.set c.in-Some.found.now c.in-Some.ensures.item _ _ _ c.close.ensures c.close-2.ensures c.close-3.ensures _ c.in-Ok.ensures.ok
+unfolding seen
+returns-clause-core c = removed_core c.args.parts.now c.requires.sound c.args.set c.in-Some.found.now c.in-Some.ensures.item _ _ _ c.close_seats.ensures c.close_seats-2.ensures c.close_seats-3.ensures _ c.in-Ok.ensures.ok
 
 pub returns-clause-current : goal.returns-clause-current
 unfolding seen
 returns-clause-current c = refl
 
 pub returns-clause-tags : goal.returns-clause-tags
-returns-clause-tags c = removed_tags c.args.parts.now c.requires.sound c.args.set c.in-Some.found.now c.in-Some.ensures.item _ _ _ c.close.ensures c.close-2.ensures c.close-3.ensures _ c.in-Ok.ensures.ok
+unfolding seen
+returns-clause-tags c = removed_tags c.args.parts.now c.requires.sound c.args.set c.in-Some.found.now c.in-Some.ensures.item _ _ _ c.close_seats.ensures c.close_seats-2.ensures c.close_seats-3.ensures _ c.in-Ok.ensures.ok
+
+pub returns-clause-places : goal.returns-clause-places
+returns-clause-places c x is = ap (λ (y : WaitSet). given y.entry c.args.parts.now.table_places) (same_item c.in-Some.ensures.item is)

@@ -1,28 +1,31 @@
 use Rattle.removal_words.proofs.CloseLemmas.{closed_free}
 use Rattle.removal_words.proofs.ThreadLemmas.{call_counted, caller_unlinked, callers_live, mark_unlinked, node_made, removed_core, removed_sound, removed_tags, shelf_unlinked, thread_counted, thread_deleted, under_live}
 use Rattle.removal_words.proofs.threads.drop_thread.Goals as goal
-use Rattle.task_records.proofs.Core.{refl, seen}
+use Rattle.task_records.proofs.Core.{ap, IsSound, refl, seen}
+use Rattle.task_records.specs.declared.{threads.GuestThread.GuestThread}
+use Rattle.place_words.proofs.ThreadLemmas.{same_item}
+use Rattle.table_order.specs.Places.{given}
 
 pub overflow_sub-call : goal.overflow_sub-call
 overflow_sub-call c = call_counted c.args.parts.now c.requires.sound c.args.thread c.with_call.result.0 c.with_call.ensures.thread c.with_call.result.1 c.with_call.result.2 c.with_call.ensures.call c.with_call.ensures.of
 
+pub close_seats-requires : goal.close_seats-requires
+close_seats-requires c = under_live c.args.parts.now c.requires.sound c.args.thread c.with_call.result.0 c.with_call.ensures.thread c.with_call.result.1 c.with_call.result.2 c.with_call.ensures.call c.with_call.ensures.of c.requires.apart c.requires.place
+
+pub drop_seat-requires : goal.drop_seat-requires
+drop_seat-requires c = c.close_seats.ensures.made _ (node_made c.args.parts.now c.requires.sound c.args.thread c.with_call.result.0 c.with_call.ensures.thread c.with_call.result.1 c.with_call.result.2 c.with_call.ensures.call c.with_call.ensures.of c.requires.apart c.requires.place)
+
 pub close-requires : goal.close-requires
-close-requires c = under_live c.args.parts.now c.requires.sound c.args.thread c.with_call.result.0 c.with_call.ensures.thread c.with_call.result.1 c.with_call.result.2 c.with_call.ensures.call c.with_call.ensures.of c.requires.apart c.requires.place
+close-requires c = callers_live c.args.parts.now c.requires.sound c.args.thread c.with_call.result.0 c.with_call.ensures.thread c.with_call.result.1 c.with_call.result.2 c.with_call.ensures.call c.with_call.ensures.of c.requires.apart c.requires.place
 
 pub drop_node-requires : goal.drop_node-requires
-drop_node-requires c = c.close.ensures.made _ (node_made c.args.parts.now c.requires.sound c.args.thread c.with_call.result.0 c.with_call.ensures.thread c.with_call.result.1 c.with_call.result.2 c.with_call.ensures.call c.with_call.ensures.of c.requires.apart c.requires.place)
-
-pub close-requires-2 : goal.close-requires-2
-close-requires-2 c = callers_live c.args.parts.now c.requires.sound c.args.thread c.with_call.result.0 c.with_call.ensures.thread c.with_call.result.1 c.with_call.result.2 c.with_call.ensures.call c.with_call.ensures.of c.requires.apart c.requires.place
+drop_node-requires c = closed_free c.args.parts.now.behind c.close.new.links c.with_call.result.0.callers c.with_call.result.0.caller.index c.close.ensures (caller_unlinked c.args.parts.now c.requires.sound c.args.thread c.with_call.result.0 c.with_call.ensures.thread c.with_call.result.1 c.with_call.result.2 c.with_call.ensures.call c.with_call.ensures.of c.requires.apart c.requires.place c.no_node_is_twice.ensures)
 
 pub drop_node-requires-2 : goal.drop_node-requires-2
-drop_node-requires-2 c = closed_free c.args.parts.now.behind c.close-2.new.links c.with_call.result.0.callers c.with_call.result.0.caller.index c.close-2.ensures (caller_unlinked c.args.parts.now c.requires.sound c.args.thread c.with_call.result.0 c.with_call.ensures.thread c.with_call.result.1 c.with_call.result.2 c.with_call.ensures.call c.with_call.ensures.of c.requires.apart c.requires.place c.no_node_is_twice.ensures)
+drop_node-requires-2 c = mark_unlinked c.args.parts.now c.requires.sound c.args.thread c.with_call.result.0 c.with_call.ensures.thread c.with_call.result.1 c.with_call.result.2 c.with_call.ensures.call c.with_call.ensures.of c.requires.apart c.requires.place c.no_node_is_twice-2.ensures
 
 pub drop_node-requires-3 : goal.drop_node-requires-3
-drop_node-requires-3 c = mark_unlinked c.args.parts.now c.requires.sound c.args.thread c.with_call.result.0 c.with_call.ensures.thread c.with_call.result.1 c.with_call.result.2 c.with_call.ensures.call c.with_call.ensures.of c.requires.apart c.requires.place c.no_node_is_twice-2.ensures
-
-pub drop_node-requires-4 : goal.drop_node-requires-4
-drop_node-requires-4 c = shelf_unlinked c.args.parts.now c.requires.sound c.args.thread c.with_call.result.0 c.with_call.ensures.thread c.with_call.result.1 c.with_call.result.2 c.with_call.ensures.call c.with_call.ensures.of c.requires.apart c.requires.place c.no_node_is_twice-3.ensures
+drop_node-requires-3 c = shelf_unlinked c.args.parts.now c.requires.sound c.args.thread c.with_call.result.0 c.with_call.ensures.thread c.with_call.result.1 c.with_call.result.2 c.with_call.ensures.call c.with_call.ensures.of c.requires.apart c.requires.place c.no_node_is_twice-3.ensures
 
 pub unreachable-requires-in-Err-delete : goal.unreachable-requires-in-Err-delete
 unreachable-requires-in-Err-delete c = thread_deleted c.args.parts.now c.requires.sound c.args.thread c.with_call.result.0 c.with_call.ensures.thread c.with_call.result.1 c.with_call.result.2 c.with_call.ensures.call c.with_call.ensures.of c.in-Err-delete.field-0 c.in-Err-delete.ensures.answer
@@ -31,17 +34,23 @@ pub overflow_sub-parts : goal.overflow_sub-parts
 overflow_sub-parts c = thread_counted c.args.parts.now c.requires.sound c.args.thread c.with_call.result.0 c.with_call.ensures.thread c.with_call.result.1 c.with_call.result.2 c.with_call.ensures.call c.with_call.ensures.of
 
 pub returns-clause-sound : goal.returns-clause-sound
+unfolding IsSound
 returns-clause-sound c = removed_sound c.args.parts.now c.requires.sound c.args.thread c.with_call.result.0 c.with_call.ensures.thread c.with_call.result.1 c.with_call.result.2 c.with_call.ensures.call c.with_call.ensures.of c.requires.apart c.requires.place
-    c.close.new.links c.drop_node.new.links c.close.ensures c.drop_node.ensures c.drop_node-3.new.self c.drop_node-3.ensures c.drop_node-4.new.self c.drop_node-4.ensures c.close-2.new.links c.drop_node-2.new.self c.close-2.ensures c.drop_node-2.ensures c.delete.new.self c.in-Ok-delete.ensures.ok c.delete.ensures.sound
+    c.close_seats.new.links c.drop_seat.new.links c.close_seats.ensures c.drop_seat.ensures c.drop_node-2.new.self c.drop_node-2.ensures c.drop_node-3.new.self c.drop_node-3.ensures c.close.new.links c.drop_node.new.self c.close.ensures c.drop_node.ensures c.delete.new.self c.in-Ok-delete.ensures.ok c.delete.ensures.sound
 
 pub returns-clause-core : goal.returns-clause-core
+unfolding seen
 returns-clause-core c = removed_core c.args.parts.now c.requires.sound c.args.thread c.with_call.result.0 c.with_call.ensures.thread c.with_call.result.1 c.with_call.result.2 c.with_call.ensures.call c.with_call.ensures.of c.requires.apart c.requires.place
-    c.close.new.links c.drop_node.new.links c.close.ensures c.drop_node.ensures c.drop_node-3.new.self c.drop_node-3.ensures c.drop_node-4.new.self c.drop_node-4.ensures c.close-2.new.links c.drop_node-2.new.self c.close-2.ensures c.drop_node-2.ensures c.delete.new.self c.in-Ok-delete.ensures.ok
+    c.close_seats.new.links c.drop_seat.new.links c.close_seats.ensures c.drop_seat.ensures c.drop_node-2.new.self c.drop_node-2.ensures c.drop_node-3.new.self c.drop_node-3.ensures c.close.new.links c.drop_node.new.self c.close.ensures c.drop_node.ensures c.delete.new.self c.in-Ok-delete.ensures.ok
 
 pub returns-clause-current : goal.returns-clause-current
 unfolding seen
 returns-clause-current c = refl
 
 pub returns-clause-tags : goal.returns-clause-tags
+unfolding seen
 returns-clause-tags c = removed_tags c.args.parts.now c.requires.sound c.args.thread c.with_call.result.0 c.with_call.ensures.thread c.with_call.result.1 c.with_call.result.2 c.with_call.ensures.call c.with_call.ensures.of c.requires.apart c.requires.place
-    c.close.new.links c.drop_node.new.links c.close.ensures c.drop_node.ensures c.drop_node-3.new.self c.drop_node-3.ensures c.drop_node-4.new.self c.drop_node-4.ensures c.close-2.new.links c.drop_node-2.new.self c.close-2.ensures c.drop_node-2.ensures c.delete.new.self c.in-Ok-delete.ensures.ok
+    c.close_seats.new.links c.drop_seat.new.links c.close_seats.ensures c.drop_seat.ensures c.drop_node-2.new.self c.drop_node-2.ensures c.drop_node-3.new.self c.drop_node-3.ensures c.close.new.links c.drop_node.new.self c.close.ensures c.drop_node.ensures c.delete.new.self c.in-Ok-delete.ensures.ok
+
+pub returns-clause-places : goal.returns-clause-places
+returns-clause-places c g is = ap (λ (h : GuestThread). given h.set_entry (given h.entry c.args.parts.now.table_places)) (same_item c.with_call.ensures.thread is)

@@ -2,10 +2,11 @@ use Rattle.task_records.proofs.Core.{admitted_permute, ap, entries, HeldIn, is_s
 use Rattle.std.proofs.Common.{option_map}
 use Rattle.walk_words.proofs.ChainLemmas.{chain_live}
 use Rattle.walk_words.proofs.HeldLemmas.{held_members}
+use Rattle.walk_words.proofs.OrderLemmas.{chain_in_order, order_filter}
 use Rattle.walk_words.proofs.ReleaseLemmas.{next_unqueued, release_begins, release_ends, release_smaller, release_step}
 use Rattle.walk_words.proofs.WalkLemmas.{walk_begins, walk_ends, walk_good, walk_link}
 use Rattle.walk_words.proofs.releases.release_chain.Goals as goal
-use Rattle.walk_words.specs.Held.{Releases}
+use Rattle.walk_words.specs.Held.{Releases, is_admitted}
 use Rattle.walk_words.specs.Walks.{Walk, of_chain}
 
 pub first-next-requires : goal.first-next-requires
@@ -59,3 +60,8 @@ pub returns-clause-new : goal.returns-clause-new
 returns-clause-new c =
     let a = c.args.parts.now in
     release_ends c.args.instance (seen a) (of_chain a c.args.chain) c.loop-next.parts (walk_ends _ (entries c.loop-next.parts.places c.args.chain) _ c.loop-next.invariant.walk (ap (option_map (λ e. (e.0.index, e.1))) c.in_default.is))
+
+pub returns-clause-picks : goal.returns-clause-picks
+returns-clause-picks c =
+    let a = c.args.parts.now in
+    order_filter a (is_admitted c.args.instance (seen a).core) (of_chain a c.args.chain) (chain_in_order a c.requires.sound c.args.chain (entries a.places c.args.chain) c.first-next.ensures.linked (c.chains_are_ordered.ensures c.args.chain))

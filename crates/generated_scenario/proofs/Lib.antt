@@ -1,0 +1,5 @@
+pub mod Printed
+pub mod Tree
+pub mod Standing
+pub mod Spelled
+pub mod Sizes

@@ -1,0 +1,54 @@
+-- The summary of a run: how many labels of each kind it has, and its outcome.
+use Rattle.std.specs.Prelude.{ℕ, Bool, true, false, List, ◌++◌, codes, count_by, decimal, length}
+use Rattle.task_machine.specs.declared.label.CallLabel.TheVariants as call_label
+use Rattle.task_machine.specs.declared.label.Label.{Label}
+use Rattle.task_machine.specs.declared.label.Label.TheVariants as label
+use Rattle.task_machine.specs.declared.label.SetLabel.TheVariants as set_label
+use Rattle.task_machine.specs.declared.label.TakeLabel.TheVariants as take
+use Rattle.task_machine.specs.declared.label.TaskLabel.TheVariants as task_label
+use Rattle.task_machine.specs.declared.label.ThreadLabel.TheVariants as thread_label
+use Rattle.task_machine.specs.declared.outcome.Outcome.{Outcome}
+use Rattle.task_rules.specs.Texts.{line_text, outcome_text}
+
+-- its line begins with `take`
+abbrev pub takes : Label → Bool
+takes (label.Take l) = true
+takes _ = false
+
+-- its line has ` held`
+abbrev pub holds : Label → Bool
+holds (label.Take (take.Held m n)) = true
+holds (label.Take (take.HeldWakes m n w)) = true
+holds _ = false
+
+-- its line has ` wakes`
+abbrev pub wakes : Label → Bool
+wakes (label.Take (take.ThreadWakes m n w)) = true
+wakes (label.Take (take.HeldWakes m n w)) = true
+wakes (label.Take (take.EventWakes m e n w)) = true
+wakes (label.Take (take.HostWakes m i w)) = true
+wakes (label.Task (task_label.TaskCancelWakes n w)) = true
+wakes (label.Task (task_label.ExitWakes n w)) = true
+wakes (label.Set (set_label.WaitWakes e n w)) = true
+wakes (label.Set (set_label.JoinWakes n w)) = true
+wakes (label.RetWakes n v w) = true
+wakes _ = false
+
+-- its line ends with ` pauses`, or has ` pauses future`
+abbrev pub pauses : Label → Bool
+pauses (label.Thread (thread_label.Pauses n)) = true
+pauses (label.Call (call_label.PausesPolls n i)) = true
+pauses _ = false
+
+abbrev pub counted : List ℕ → ℕ → List ℕ
+counted what n = line_text (what ++ decimal n)
+
+-- how many labels there are, how many of each kind, and the outcome
+abbrev pub summary : List Label → Outcome → List ℕ
+summary labels o =
+    counted (codes "steps ") (length labels)
+    ++ counted (codes "takes ") (count_by takes labels)
+    ++ counted (codes "holds ") (count_by holds labels)
+    ++ counted (codes "wakes ") (count_by wakes labels)
+    ++ counted (codes "pauses ") (count_by pauses labels)
+    ++ line_text (outcome_text o)

@@ -1,0 +1,31 @@
+-- The places of the resource table, over all kinds of entries: which are free, and how many were ever given.
+use Rattle.std.specs.Prelude.{ℕ, ◌+◌, ◌<◌, List, [], ◌∷◌, drop, length, nat_lt, if◌then◌else◌}
+
+-- the free places, the one freed last first, and how many places were given at least once
+pub record Places : Type 0 where
+  pub free : List ℕ
+  pub made : ℕ
+
+-- no place was given yet
+abbrev pub no_places : Places
+no_places = record { free = []; made = 0 }
+
+-- the place freed last, else the first that was never given; places run from 0
+abbrev pub next_of : List ℕ → ℕ → ℕ
+next_of [] made = made
+next_of (place ∷ _) made = place
+
+abbrev pub made_of : List ℕ → ℕ → ℕ
+made_of [] made = made + 1
+made_of (_ ∷ _) made = made
+
+-- the place that is given next, and the places when it was
+abbrev pub next_place : Places → ℕ
+next_place p = next_of p.free p.made
+
+abbrev pub taken : Places → Places
+taken p = record { free = drop 1 p.free; made = made_of p.free p.made }
+
+-- the place is free again; where all places are free none was given
+abbrev pub given : ℕ → Places → Places
+given place p = if nat_lt (length p.free) p.made then record p { free = place ∷ p.free } else p

@@ -1,0 +1,8 @@
+//! The order of the resource table's places: which is given next, and lists that stand in that order.
+#![tactic(auto)]
+
+mod places;
+mod seat_links;
+
+pub use places::TablePlaces;
+pub use seat_links::{Seat, SeatLinks};

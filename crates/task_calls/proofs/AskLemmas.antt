@@ -1,0 +1,113 @@
+-- What an op leaves that a host had the running thread do.
+use Rattle.std.proofs.Common.{ap, refl, subst, sym, ◌∙◌}
+use Rattle.std.specs.Prelude.{IfSome, None, Option, Some, option_map, ℕ, ◌≡◌}
+use Rattle.op_dispatch.specs.Goes.{GoesOn, running_of}
+use Rattle.task_calls.specs.Asks.{Did, Does, IsAtPlace, after, runs_after, turn_for, turn_in}
+use Rattle.task_machine.specs.Core.{Core, Unscripted}
+use Rattle.task_machine.specs.Labels.{Choice, choice_of}
+use Rattle.task_machine.specs.declared.component.Component.{Component}
+use Rattle.task_machine.specs.declared.records.Turn.TheVariants as turn
+use Rattle.task_ops.proofs.MeetLemmas.{meeting_is_step}
+use Rattle.task_ops.specs.Came.{IsCurrent, Meets}
+use Rattle.task_ops.specs.Stays.{StaysAfter}
+use Rattle.task_ops.specs.Steps.{core_after, label_of, turn_after}
+use Rattle.task_ops.specs.Works.{NamesWorks}
+use Rattle.task_ops.specs.declared.came.Came.{Came}
+use Rattle.task_ops.specs.declared.came.Came.TheVariants as came
+use Rattle.task_rules.specs.Step.{Step, did}
+use Rattle.task_rules.specs.Turns.{at_turn, goes_to}
+use Rattle.task_rules.specs.Progress.{Progress}
+use Rattle.task_turns.proofs.RunLemmas.{settled}
+use Rattle.task_turns.proofs.KeptLemmas.{setting, sits_after}
+use Rattle.task_turns.specs.Turn.{Sits, state_at}
+use Rattle.task_words.specs.StateView.{StateView, thread_of}
+
+-- ---- Who runs
+
+-- the thread that goes on, if one does, runs
+abbrev pub Runs : Came → StateView → Type 0
+Runs (came.Goes l m) t = running_of t ≡ Some m
+Runs _ t = Unit {0}
+
+pub goes_runs : (r : Came) (t : StateView) → GoesOn r t → Runs r t
+goes_runs (came.Goes l m) t g = g.0
+goes_runs (came.Stops l) t g = tt
+goes_runs (came.Traps why) t g = tt
+goes_runs (came.Fails i) t g = tt
+
+pub current_runs : (r : Came) (t : StateView) → IsCurrent r t → Runs r t
+current_runs (came.Goes l m) t g = ap (option_map (λ id. thread_of t id)) g.1.0 ∙ ap (λ (k : ℕ). Some k) g.1.1
+current_runs (came.Stops l) t g = tt
+current_runs (came.Traps why) t g = tt
+current_runs (came.Fails i) t g = tt
+
+runs_then : (n : ℕ) (r : Came) (s t : StateView) → running_of s ≡ Some n → Runs r t → StaysAfter r s t → running_of (after r t) ≡ runs_after n r
+runs_then n (came.Goes l m) s t runs goes stays = goes
+runs_then n (came.Stops l) s t runs goes stays = refl
+runs_then n (came.Traps why) s t runs goes stays = ap running_of stays ∙ runs
+runs_then n (came.Fails i) s t runs goes stays = ap running_of stays ∙ runs
+
+stays_then : (r : Came) (s t : StateView) → StaysAfter r s t → StaysAfter r s (after r t)
+stays_then (came.Goes l m) s t stays = tt
+stays_then (came.Stops l) s t stays = tt
+stays_then (came.Traps why) s t stays = stays
+stays_then (came.Fails i) s t stays = stays
+
+core_then : (r : Came) (t : StateView) → (after r t).core ≡ t.core
+core_then (came.Goes l m) t = refl
+core_then (came.Stops l) t = refl
+core_then (came.Traps why) t = refl
+core_then (came.Fails i) t = refl
+
+works_then : (r : Came) (s t : StateView) → NamesWorks s t → NamesWorks s (after r t)
+works_then (came.Goes l m) s t h = h
+works_then (came.Stops l) s t h = h
+works_then (came.Traps why) s t h = h
+works_then (came.Fails i) s t h = h
+
+-- ---- Order
+
+-- the op at the thread's place keeps order
+in_order : (c : Component) (n : ℕ) (r : Came) (s t : StateView) → Sits c (turn.Run n) s.core → Meets (did c n s.core (choice_of (label_of n r))) s.core r t.core → StaysAfter r s t → Sits c (turn_for (runs_after n r)) t.core
+in_order c n (came.Goes l m) s t sits h stays =
+    let before = state_at s.core Unscripted (turn.Run n) in
+    sits_after (setting c) s.core t.core Unscripted Unscripted (turn.Run n) (turn.Run m) l sits
+    (subst (Step (setting c) before l) (settled (came.Goes l m) s.core Unscripted (turn.Run n) t.core) (meeting_is_step (setting c) before n (came.Goes l m) t.core refl h))
+in_order c n (came.Stops l) s t sits h stays =
+    let before = state_at s.core Unscripted (turn.Run n) in
+    sits_after (setting c) s.core t.core Unscripted Unscripted (turn.Run n) turn.Main l sits
+    (subst (Step (setting c) before l) (settled (came.Stops l) s.core Unscripted (turn.Run n) t.core) (meeting_is_step (setting c) before n (came.Stops l) t.core refl h))
+in_order c n (came.Traps why) s t sits h stays = subst (λ (v : StateView). Sits c (turn.Run n) v.core) (sym stays) sits
+in_order c n (came.Fails i) s t sits h stays = subst (λ (v : StateView). Sits c (turn.Run n) v.core) (sym stays) sits
+
+module _ (c : Component) (n : ℕ) (r : Came) (s t : StateView) (runs : running_of s ≡ Some n) (goes : Runs r t) (stays : StaysAfter r s t) where
+  if_running : (P : ℕ → Type 0) → P n → IfSome (running_of s) P
+  if_running P p = subst (λ (o : Option ℕ). IfSome o P) (sym runs) p
+
+  from_running : (P : ℕ → Type 0) → IfSome (running_of s) P → P n
+  from_running P p = subst (λ (o : Option ℕ). IfSome o P) runs p
+
+  -- the running thread did the row
+  pub did_row : (R : ℕ → Choice → Progress) → NamesWorks s t → Meets (R n (choice_of (label_of n r))) s.core r t.core → Did R s r (after r t)
+  did_row R works h = if_running (λ k. Does (R k) k s r (after r t)) (record {
+    meets = subst (λ (u : Core). Meets (R n (choice_of (label_of n r))) s.core r u) (sym (core_then r t)) h;
+    running = runs_then n r s t runs goes stays;
+    stays = stays_then r s t stays;
+    works = works_then r s t works;
+  })
+
+  pub order_at : Sits c (turn.Run n) s.core → Meets (did c n s.core (choice_of (label_of n r))) s.core r t.core → Sits c (turn_in (after r t)) (after r t).core
+  order_at sits h =
+      subst (λ (o : Option ℕ). Sits c (turn_for o) (after r t).core) (sym (runs_then n r s t runs goes stays))
+      (subst (Sits c (turn_for (runs_after n r))) (sym (core_then r t)) (in_order c n r s t sits h stays))
+
+  -- a row that the op at the thread's place has keeps order
+  pub order_then : (R : ℕ → Choice → Progress) → Sits c (turn.Run n) s.core → Meets (R n (choice_of (label_of n r))) s.core r t.core → IsAtPlace c R s → Sits c (turn_in (after r t)) (after r t).core
+  order_then R sits h same =
+      let at = from_running (λ k. (ch : Choice) → did c k s.core ch ≡ R k ch) same in
+      order_at sits (subst (λ (p : Progress). Meets p s.core r t.core) (sym (at (choice_of (label_of n r)))) h)
+
+-- where nothing is changed the state is in order as before
+pub order_still : (c : Component) (n : ℕ) (s t : StateView) → running_of s ≡ Some n → Sits c (turn.Run n) s.core → t ≡ s → Sits c (turn_in t) t.core
+order_still c n s t runs sits same =
+    subst (λ (v : StateView). Sits c (turn_in v) v.core) (sym same) (subst (λ (o : Option ℕ). Sits c (turn_for o) s.core) (sym runs) sits)

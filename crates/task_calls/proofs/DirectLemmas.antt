@@ -1,0 +1,130 @@
+-- What the halves of a direct call need of the running thread, and what they come to.
+use Rattle.std.proofs.Common.{ap, arith, refl, subst, sym, ◌∙◌}
+use Rattle.std.proofs.lemmas.Bool.Decides.{nat_tests}
+use Rattle.std.specs.Option.{option_map_or}
+use Rattle.std.specs.Prelude.{Bool, IfSome, IsSome, List, None, Option, Some, [], is_some, not, slice_index, slice_set, true, ℕ, ◌∷◌, ◌≡◌}
+use Rattle.task_calls.specs.Directs.{IsDirect}
+use Rattle.task_machine.proofs.CommuteLemmas.{change-change_same, insert-present}
+use Rattle.task_machine.specs.Core.{Core, Unscripted}
+use Rattle.task_machine.specs.Maps.{change, changed, get, insert}
+use Rattle.task_machine.specs.Read.{instance_of, is_under, kind_of, place_of, register_of, task_of, under_of}
+use Rattle.task_machine.specs.Labels.{exit_label}
+use Rattle.task_machine.specs.Moves.{checked, passes_check}
+use Rattle.task_machine.specs.Write.{on_thread, set_register}
+use Rattle.task_machine.specs.declared.component.Component.{Component}
+use Rattle.task_machine.specs.declared.component.ExportKind.{ExportKind}
+use Rattle.task_machine.specs.declared.component.ExportKind.TheVariants as kind
+use Rattle.task_machine.specs.declared.label.Label.{Label}
+use Rattle.task_machine.specs.declared.records.Place.TheVariants as place
+use Rattle.task_machine.specs.declared.records.Thread.{Thread}
+use Rattle.task_machine.specs.declared.records.Turn.TheVariants as turn
+use Rattle.task_machine.specs.declared.trap.Trap.{Trap}
+use Rattle.task_machine.specs.declared.trap.Trap.TheVariants as trap
+use Rattle.task_moves.proofs.UntouchedLemmas.{set_register_untouched}
+use Rattle.task_ops.proofs.BesideLemmas.{quiet_stand}
+use Rattle.task_ops.proofs.BlockLemmas.{first_found}
+use Rattle.task_ops.proofs.RunLemmas.{stands_on}
+use Rattle.task_ops.specs.Came.{Meets}
+use Rattle.task_ops.specs.Running.{IsRunning}
+use Rattle.task_ops.specs.declared.came.Came.{Came}
+use Rattle.task_ops.specs.declared.came.Came.TheVariants as came
+use Rattle.task_rules.specs.Ends.{direct_exit_row, direct_exit_to, direct_exits}
+use Rattle.task_rules.specs.Progress.{Fails, Goes, Never, Ordered, Progress, Stops, Traps, trap_if}
+use Rattle.task_table.specs.declared.id.TableId.{TableId}
+use Rattle.task_turns.specs.Turn.{Sits, running_of}
+use Rattle.task_wait.specs.declared.keys.ThreadKey.{ThreadKey}
+use Rattle.task_words.specs.StateView.{StateView, on_core, thread_of, with_core}
+
+-- ---- A register written and put back
+
+registers_back : (v : ℕ) (rs : List ℕ) → slice_set (slice_set rs 0 v) 0 (slice_index rs 0) ≡ rs
+registers_back v [] = refl
+registers_back v (r ∷ rs) = refl
+
+pub written_back : (n v : ℕ) (s : Core) → set_register n 0 (register_of n 0 s) (set_register n 0 v s) ≡ s
+unfolding set_register on_thread change
+written_back n v s = ap (λ ts. record s { threads = ts }) (change-change_same s.threads n put write ∙ back (get s.threads n) refl)
+  where
+    put : Thread → Thread
+    put t = record t { registers = slice_set t.registers 0 (register_of n 0 s) }
+
+    write : Thread → Thread
+    write t = record t { registers = slice_set t.registers 0 v }
+
+    same : (t : Thread) → get s.threads n ≡ Some t → put (write t) ≡ t
+    same t at =
+        let own : register_of n 0 s ≡ slice_index t.registers 0 = ap (λ (o : Option Thread). slice_index (option_map_or (λ (u : Thread). u.registers) o []) 0) at in
+        ap (λ rs. record t { registers = rs }) (ap (slice_set (slice_set t.registers 0 v) 0) own ∙ registers_back v t.registers)
+
+    back : (o : Option Thread) → get s.threads n ≡ o → change n (λ t. put (write t)) s.threads ≡ s.threads
+    back None at = ap (changed s.threads n (λ t. put (write t))) at
+    back (Some t) at = ap (changed s.threads n (λ t. put (write t))) at ∙ (ap (insert s.threads n) (same t at) ∙ insert-present s.threads n t at)
+
+-- ---- The thread that runs, with a register written
+
+module _ (id : TableId ThreadKey) (v : ℕ) (s t : StateView) (is : t ≡ on_core (set_register (thread_of s id) 0 v) s) where
+  pub written_runs : IsRunning (thread_of s id) s.core → IsRunning (thread_of t id) t.core
+  written_runs st = stands_on id place.Running (set_register (thread_of s id) 0 v) s t is (quiet_stand (thread_of s id) place.Running [] s.core _ (set_register_untouched (thread_of s id) 0 v s.core) st)
+
+  found : (n m : ℕ) (c : Core) → place_of m c ≡ Some (place.Under n) → IsSome (under_of n c)
+  unfolding under_of
+  found n m c at = first_found (is_under n) m c (grind (arith, nat_tests, at))
+
+  written_under : (m : ℕ) → place_of m s.core ≡ Some (place.Under (thread_of s id)) → IsSome (under_of (thread_of t id) t.core)
+  written_under m at = subst (λ (u : StateView). IsSome (under_of (thread_of u id) u.core)) (sym is) (found (thread_of s id) m (set_register (thread_of s id) 0 v s.core) ((set_register_untouched (thread_of s id) 0 v s.core).places m ∙ at))
+
+  pub direct_under : (c : Component) (n : ℕ) → Sits c (turn.Run n) s.core → running_of s ≡ Some n → thread_of s id ≡ n → IfSome (running_of s) (λ n. IsDirect n s.core) → IsSome (under_of (thread_of t id) t.core)
+  direct_under c n sits runs named direct =
+      let d = subst (λ (o : Option ℕ). IfSome o (λ k. IsDirect k s.core)) runs direct in
+      let order = sits.order Unscripted in
+      let here = ap is_some (order.in_place.runs n refl) in
+      let below = order.directs n here d.implicit d.direct in
+      written_under below.0 (below.1 ∙ ap (λ k. Some (place.Under k)) (sym named))
+
+-- ---- The row of the exit, with the register written before
+
+-- one that goes on hangs on no core before
+pub goes_base : (p : Progress) (s u t : Core) (l : Label) (m : ℕ) → Meets p u (came.Goes l m) t → Meets p s (came.Goes l m) t
+goes_base (Goes k new n) s u t l m h = h
+goes_base (Stops k new) s u t l m h = h
+goes_base (Traps why) s u t l m h = let e = h.0 in absurd (cc)
+goes_base (Fails i) s u t l m h = let e = h.0 in absurd (cc)
+goes_base Never s u t l m h = h
+goes_base (Ordered ns next) s u t l m h = (h.0, (h.1.0, goes_base (next h.0) s u t l m h.1.1))
+
+-- a trap leaves the core before
+pub traps_base : (p : Progress) (s u t : Core) (why : Trap) → Meets p u (came.Traps why) t → Meets p s (came.Traps why) s
+traps_base (Goes k new n) s u t why h = let e = h.0 in absurd (cc)
+traps_base (Stops k new) s u t why h = let e = h.0 in absurd (cc)
+traps_base (Traps w) s u t why h = (h.0, refl)
+traps_base (Fails i) s u t why h = let e = h.0 in absurd (cc)
+traps_base Never s u t why h = h
+traps_base (Ordered ns next) s u t why h = (h.0, (h.1.0, traps_base (next h.0) s u t why h.1.1))
+
+-- a direct exit goes on or traps
+abbrev goes_or_traps : Came → Type 0
+goes_or_traps (came.Stops l) = ⊥
+goes_or_traps (came.Fails i) = ⊥
+goes_or_traps _ = Unit {0}
+
+exit_to : (n : ℕ) (x : ExportKind) (s u t : Core) (o : Option ℕ) (r : Came) → Meets (direct_exit_to n x s o) u r t → goes_or_traps r
+exit_to n x s u t None r h = absurd h
+exit_to n kind.Sync s u t (Some m) r h = subst goes_or_traps (sym h.0) tt
+exit_to n kind.Blocking s u t (Some m) r h = checks (not (passes_check (instance_of n s) s)) h
+  where
+    checks : (b : Bool) → Meets (trap_if b trap.CannotBlockSyncTask (Goes (exit_label n None) (direct_exits n m (register_of n 0 s) (checked (instance_of n s) s)) m)) u r t → goes_or_traps r
+    checks true h = subst goes_or_traps (sym h.0) tt
+    checks false h = subst goes_or_traps (sym h.0) tt
+exit_to n kind.Stackful s u t (Some m) r h = checks (not (passes_check (instance_of n s) s)) h
+  where
+    checks : (b : Bool) → Meets (trap_if b trap.CannotBlockSyncTask (Goes (exit_label n None) (direct_exits n m (register_of n 0 s) (checked (instance_of n s) s)) m)) u r t → goes_or_traps r
+    checks true h = subst goes_or_traps (sym h.0) tt
+    checks false h = subst goes_or_traps (sym h.0) tt
+exit_to n kind.Callback s u t (Some m) r h = checks (not (passes_check (instance_of n s) s)) h
+  where
+    checks : (b : Bool) → Meets (trap_if b trap.CannotBlockSyncTask (Goes (exit_label n None) (direct_exits n m (register_of n 0 s) (checked (instance_of n s) s)) m)) u r t → goes_or_traps r
+    checks true h = subst goes_or_traps (sym h.0) tt
+    checks false h = subst goes_or_traps (sym h.0) tt
+
+pub exit_goes_on : (n : ℕ) (s t : Core) (r : Came) → Meets (direct_exit_row n s) s r t → goes_or_traps r
+exit_goes_on n s t r h = exit_to n (kind_of (task_of n s) s) s s t (under_of n s) r h

@@ -1,0 +1,114 @@
+-- What comes of an op that a host has the running thread do in place of the one at its place.
+use Rattle.std.specs.Prelude.{Bool, Err, IfSome, None, Ok, Option, Result, Some, false, length, true, ℕ, ◌<◌, ◌^◌, ◌≡◌, ◌≢◌}
+use Rattle.op_dispatch.specs.Goes.{given, running_of}
+use Rattle.state_calls.specs.declared.error.TaskError.{TaskError}
+use Rattle.state_calls.specs.declared.error.TaskError.TheVariants as task_error
+use Rattle.task_calls.specs.Answers.{answered}
+use Rattle.task_calls.specs.declared.answers.Step.{Step}
+use Rattle.task_machine.specs.Core.{Core}
+use Rattle.task_machine.specs.Labels.{Choice, choice_of}
+use Rattle.task_machine.specs.Read.{how_far_of, instance_of}
+use Rattle.task_machine.specs.declared.component.Component.{Component}
+use Rattle.task_machine.specs.declared.label.Label.{Label}
+use Rattle.task_machine.specs.declared.op.CallOp.TheVariants as call_op
+use Rattle.task_machine.specs.declared.op.Op.{Op}
+use Rattle.task_machine.specs.declared.op.Op.TheVariants as op
+use Rattle.task_machine.specs.declared.op.SetOp.TheVariants as set_op
+use Rattle.task_machine.specs.declared.op.TaskOp.TheVariants as task_op
+use Rattle.task_machine.specs.declared.op.ThreadOp.TheVariants as thread_op
+use Rattle.task_machine.specs.declared.records.HowFar.TheVariants as how_far
+use Rattle.task_machine.specs.declared.records.Turn.{Turn}
+use Rattle.task_machine.specs.declared.records.Turn.TheVariants as turn
+use Rattle.task_ops.specs.Came.{Meets}
+use Rattle.task_ops.specs.Stays.{StaysAfter}
+use Rattle.task_ops.specs.Steps.{label_of}
+use Rattle.task_ops.specs.Works.{NamesWorks}
+use Rattle.task_ops.specs.declared.came.Came.{Came}
+use Rattle.task_ops.specs.declared.came.Came.TheVariants as came
+use Rattle.task_rules.specs.Progress.{Progress}
+use Rattle.task_rules.specs.Step.{did, op_row}
+use Rattle.task_turns.specs.Turn.{Sits}
+use Rattle.task_turns.specs.WellFormed.{IsWellFormed}
+use Rattle.task_words.specs.StateView.{StateView, with_current}
+
+-- A thread of a well formed component runs, in one of its instances; the core is in order, and fewer than 2^61 numbers were given.
+pub record IsRunningIn (c : Component) (s : StateView) : Type 0 where
+  pub well_formed : IsWellFormed c
+  pub number : ℕ
+  pub runs : running_of s ≡ Some number
+  pub order : Sits c (turn.Run number) s.core
+  pub home : instance_of number s.core < length c.instances
+  pub few : given s.core < 2 ^ 61
+
+-- The thread is of this instance, and no op of it is under way.
+abbrev pub CanAsk : ℕ → StateView → Type 0
+CanAsk i s = IfSome (running_of s) (λ n. (instance_of n s.core ≡ i) × (how_far_of n s.core ≡ how_far.Fresh))
+
+-- The thread is of this instance, and an op of it is under way.
+abbrev pub HasPaused : ℕ → StateView → Type 0
+HasPaused i s = IfSome (running_of s) (λ n. (instance_of n s.core ≡ i) × (how_far_of n s.core ≢ how_far.Fresh))
+
+-- ---- What comes of an op
+
+-- who runs then
+abbrev pub runs_after : ℕ → Came → Option ℕ
+runs_after n (came.Goes l m) = Some m
+runs_after n (came.Stops l) = None
+runs_after n _ = Some n
+
+-- none runs where the strand has stopped
+abbrev pub after : Came → StateView → StateView
+after (came.Stops l) s = with_current None s
+after _ s = s
+
+-- The thread n did a row: t is what the row says, and the thread that goes on runs. Where it was refused, nothing is changed.
+pub record Does (row : Choice → Progress) (n : ℕ) (s : StateView) (r : Came) (t : StateView) : Type 0 where
+  pub meets : Meets (row (choice_of (label_of n r))) s.core r t.core
+  pub running : running_of t ≡ runs_after n r
+  pub stays : StaysAfter r s t
+  pub works : NamesWorks s t
+
+-- the row of an op, and that of the op at the thread's place
+abbrev pub row_of : Component → Op → Core → ℕ → Choice → Progress
+row_of c o s n ch = op_row c n s ch o
+
+abbrev pub row_at : Component → Core → ℕ → Choice → Progress
+row_at c s n ch = did c n s ch
+
+-- the running thread did its row
+abbrev pub Did : (ℕ → Choice → Progress) → StateView → Came → StateView → Type 0
+Did row s r t = IfSome (running_of s) (λ n. Does (row n) n s r t)
+
+-- It did its row, and what that came to is answered. Where memory is wanting, nothing is changed.
+abbrev pub Answers : {A : Type 0} → (ℕ → Choice → Progress) → (Label → A) → StateView → Result (Step A) TaskError → StateView → Type 0
+Answers row f s (Err task_error.NoMemory) t = t ≡ s
+Answers row f s a t = (r : Came) × (Did row s r t × (a ≡ answered f r))
+
+-- ---- Order
+
+-- the turn in which the thread runs, or that of main where none does
+abbrev pub turn_for : Option ℕ → Turn
+turn_for None = turn.Main
+turn_for (Some n) = turn.Run n
+
+abbrev pub turn_in : StateView → Turn
+turn_in s = turn_for (running_of s)
+
+-- the op at the running thread's place has this row
+abbrev pub IsAtPlace : Component → (ℕ → Choice → Progress) → StateView → Type 0
+IsAtPlace c row s = IfSome (running_of s) (λ n. (ch : Choice) → did c n s.core ch ≡ row n ch)
+
+-- ---- Ops that don't pause
+
+-- an op that is done at once, or refused
+abbrev pub is_at_once : Op → Bool
+is_at_once (op.Task task_op.TaskCancel) = true
+is_at_once (op.Task task_op.BpInc) = true
+is_at_once (op.Task task_op.BpDec) = true
+is_at_once (op.Set (set_op.Wait r x)) = false
+is_at_once (op.Set o) = true
+is_at_once (op.Call (call_op.Drop x)) = true
+is_at_once (op.Thread (thread_op.New r x v)) = true
+is_at_once (op.Thread (thread_op.Index r)) = true
+is_at_once (op.Thread (thread_op.ResumeLater x)) = true
+is_at_once _ = false

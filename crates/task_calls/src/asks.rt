@@ -1,0 +1,162 @@
+//! An op that a host has the running thread do, in place of the one at its place.
+ghost use Rattle.op_dispatch.specs.Fits.{is_data_op, op_fits};
+ghost use Rattle.std.specs.Prelude.{◌≡◌, IfErr, IfOk, OnErr, OnOk, false, true};
+ghost use Rattle.task_calls.specs.Answers.{answer_in, at_once, event_in, nothing_in, number_in};
+ghost use Rattle.task_calls.specs.Asks.{Answers, Did, IsAtPlace, IsRunningIn, is_at_once, row_at, row_of, after, turn_in};
+ghost use Rattle.task_turns.specs.Turn.{Sits};
+
+use crate::answers::{Answer, Step, answer_in, at_once, event_in, number_in, stepped};
+use op_dispatch::do_other_op;
+use state_calls::TaskError;
+use task_machine::{Component, Op};
+use task_ops::Came;
+use task_turns::run_op;
+use task_words::Words;
+
+// No thread runs once the strand has stopped.
+fn leave<W: Words>(w: &mut W, came: Came)
+    ensures { W.view w.new ≡ after came (W.view w.old) }
+{
+    if let Came::Stops(_) = came {
+        w.set_current(None);
+    }
+}
+
+// The running thread does the op, which isn't on registers and words, as if it stood at the thread's
+// place. The store stays in order where an op of that meaning does stand there. Where memory is
+// wanting, nothing is changed.
+fn ask<W: Words>(component: &Component, w: &mut W, op: Op) -> Result<Came, TaskError>
+    requires running { IsRunningIn component.now (W.view w.old) }
+    requires other { is_data_op op ≡ false }
+    requires fits { op_fits component.now op ≡ true }
+    ensures did { IfOk result (λ came. Did (row_of component.now op (W.view w.old).core) (W.view w.old) came (W.view w.new)) }
+    ensures order { IsAtPlace component.now (row_of component.now op (W.view w.old).core) (W.view w.old) → Sits component.now (turn_in (W.view w.new)) (W.view w.new).core }
+    ensures err { OnErr result (W.view w.new ≡ W.view w.old) }
+    ensures why { IfErr result (λ e. e ≡ TaskError.NoMemory) }
+{
+    w.none_is_zero();
+    let Some(thread) = w.current() else {
+        unreachable!()
+    };
+    let Ok(done) = do_other_op(component, w, thread, &op) else {
+        return Err(TaskError::NoMemory);
+    };
+    leave(w, done.came);
+    Ok(done.came)
+}
+
+/// An op that answers nothing, done at once by the running thread as if it stood at its place, or refused as
+/// its row says; then nothing is changed. Where a register is named for the answer, it is written, too.
+pub fn ask_nothing<W: Words>(component: &Component, w: &mut W, op: Op) -> Result<(), TaskError>
+    requires running { IsRunningIn component.now (W.view w.old) }
+    requires at_once { is_at_once op ≡ true }
+    requires fits { op_fits component.now op ≡ true }
+    ensures answers { Answers (row_of component.now op (W.view w.old).core) nothing_in (W.view w.old) (at_once result) (W.view w.new) }
+    ensures order { IsAtPlace component.now (row_of component.now op (W.view w.old).core) (W.view w.old) → Sits component.now (turn_in (W.view w.new)) (W.view w.new).core }
+{
+    at_once(ask(component, w, op)?)?;
+    Ok(())
+}
+
+/// An op that answers a handle, a packed status or an end, done at once by the running thread as if it stood at its place, or refused as
+/// its row says; then nothing is changed. Where a register is named for the answer, it is written, too.
+pub fn ask_number<W: Words>(component: &Component, w: &mut W, op: Op) -> Result<u32, TaskError>
+    requires running { IsRunningIn component.now (W.view w.old) }
+    requires at_once { is_at_once op ≡ true }
+    requires fits { op_fits component.now op ≡ true }
+    ensures answers { Answers (row_of component.now op (W.view w.old).core) number_in (W.view w.old) (at_once result) (W.view w.new) }
+    ensures order { IsAtPlace component.now (row_of component.now op (W.view w.old).core) (W.view w.old) → Sits component.now (turn_in (W.view w.new)) (W.view w.new).core }
+{
+    Ok(number_in(at_once(ask(component, w, op)?)?))
+}
+
+/// An op that answers an event: its code, handle and result, done at once by the running thread as if it stood at its place, or refused as
+/// its row says; then nothing is changed. Where a register is named for the answer, it is written, too.
+pub fn ask_event<W: Words>(
+    component: &Component,
+    w: &mut W,
+    op: Op,
+) -> Result<(u32, u32, u32), TaskError>
+    requires running { IsRunningIn component.now (W.view w.old) }
+    requires at_once { is_at_once op ≡ true }
+    requires fits { op_fits component.now op ≡ true }
+    ensures answers { Answers (row_of component.now op (W.view w.old).core) event_in (W.view w.old) (at_once result) (W.view w.new) }
+    ensures order { IsAtPlace component.now (row_of component.now op (W.view w.old).core) (W.view w.old) → Sits component.now (turn_in (W.view w.new)) (W.view w.new).core }
+{
+    Ok(event_in(at_once(ask(component, w, op)?)?))
+}
+
+/// The same for an op that may pause: then its strand has stopped, and no thread runs.
+pub fn begin_nothing<W: Words>(
+    component: &Component,
+    w: &mut W,
+    op: Op,
+) -> Result<Step<()>, TaskError>
+    requires running { IsRunningIn component.now (W.view w.old) }
+    requires other { is_data_op op ≡ false }
+    requires fits { op_fits component.now op ≡ true }
+    ensures answers { Answers (row_of component.now op (W.view w.old).core) nothing_in (W.view w.old) result (W.view w.new) }
+    ensures order { IsAtPlace component.now (row_of component.now op (W.view w.old).core) (W.view w.old) → Sits component.now (turn_in (W.view w.new)) (W.view w.new).core }
+{
+    match stepped(ask(component, w, op)?)? {
+        Step::Done(_) => Ok(Step::Done(())),
+        Step::Pause => Ok(Step::Pause),
+    }
+}
+
+/// The same for an op that may pause: then its strand has stopped, and no thread runs.
+pub fn begin_number<W: Words>(
+    component: &Component,
+    w: &mut W,
+    op: Op,
+) -> Result<Step<u32>, TaskError>
+    requires running { IsRunningIn component.now (W.view w.old) }
+    requires other { is_data_op op ≡ false }
+    requires fits { op_fits component.now op ≡ true }
+    ensures answers { Answers (row_of component.now op (W.view w.old).core) number_in (W.view w.old) result (W.view w.new) }
+    ensures order { IsAtPlace component.now (row_of component.now op (W.view w.old).core) (W.view w.old) → Sits component.now (turn_in (W.view w.new)) (W.view w.new).core }
+{
+    match stepped(ask(component, w, op)?)? {
+        Step::Done(label) => Ok(Step::Done(number_in(label))),
+        Step::Pause => Ok(Step::Pause),
+    }
+}
+
+/// The same for an op that may pause: then its strand has stopped, and no thread runs.
+pub fn begin_event<W: Words>(
+    component: &Component,
+    w: &mut W,
+    op: Op,
+) -> Result<Step<(u32, u32, u32)>, TaskError>
+    requires running { IsRunningIn component.now (W.view w.old) }
+    requires other { is_data_op op ≡ false }
+    requires fits { op_fits component.now op ≡ true }
+    ensures answers { Answers (row_of component.now op (W.view w.old).core) event_in (W.view w.old) result (W.view w.new) }
+    ensures order { IsAtPlace component.now (row_of component.now op (W.view w.old).core) (W.view w.old) → Sits component.now (turn_in (W.view w.new)) (W.view w.new).core }
+{
+    match stepped(ask(component, w, op)?)? {
+        Step::Done(label) => Ok(Step::Done(event_in(label))),
+        Step::Pause => Ok(Step::Pause),
+    }
+}
+
+/// The op at the running thread's place is taken further: one that paused goes on, and may pause again.
+/// Where memory is wanting, nothing is changed.
+pub fn go_on<W: Words>(component: &Component, w: &mut W) -> Result<Step<Answer>, TaskError>
+    requires running { IsRunningIn component.now (W.view w.old) }
+    ensures answers { Answers (row_at component.now (W.view w.old).core) answer_in (W.view w.old) result (W.view w.new) }
+    ensures order { Sits component.now (turn_in (W.view w.new)) (W.view w.new).core }
+{
+    w.none_is_zero();
+    let Some(thread) = w.current() else {
+        unreachable!()
+    };
+    let Ok(done) = run_op(component, w, thread) else {
+        return Err(TaskError::NoMemory);
+    };
+    leave(w, done.came);
+    match stepped(done.came)? {
+        Step::Done(label) => Ok(Step::Done(answer_in(label))),
+        Step::Pause => Ok(Step::Pause),
+    }
+}

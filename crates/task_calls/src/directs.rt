@@ -1,0 +1,83 @@
+//! The two halves of a direct call, of a sync or blocking export.
+ghost use Rattle.op_dispatch.specs.Fits.{HasInstances};
+ghost use Rattle.std.specs.Prelude.{◌≡◌, ◌≤◌, IfOk, IfSome, IsSome, false, length, true};
+ghost use Rattle.state_calls.specs.Named.{IsLive};
+ghost use Rattle.task_calls.specs.Answers.{at_once, nothing_in};
+ghost use Rattle.task_calls.specs.Asks.{Answers, IsAtPlace, IsRunningIn, turn_in};
+ghost use Rattle.task_calls.specs.Directs.{IsDirect, entered, enters_row, exits_row, thread_in};
+ghost use Rattle.task_machine.specs.Read.{is_async_lifted};
+ghost use Rattle.task_rules.specs.Scripts.{export_at, export_kind};
+ghost use Rattle.task_turns.specs.Turn.{Sits, running_of};
+ghost use Rattle.task_words.specs.StateView.{thread_of};
+
+use crate::answers::at_once;
+use op_dispatch::export_def;
+use state_calls::{QualifiedThreadId, TaskError};
+use subtask_ops::enter;
+use task_machine::{Callee, Component};
+use task_ops::{Came, exit_direct};
+use task_words::Words;
+
+/// The first half of a direct call: the callee is made with these words, 0 to 16, as many as it takes, and
+/// its thread, which is answered, runs on top of the calling one. Refused with trap 18 where its three
+/// entries don't fit into the table, and else with trap 17 where no handle may be given. Where it is
+/// refused, or memory is wanting, nothing is changed.
+pub fn enter_call<W: Words>(
+    component: &Component,
+    w: &mut W,
+    callee: Callee,
+    words: &[u64],
+) -> Result<QualifiedThreadId, TaskError>
+    requires running { IsRunningIn component.now (W.view w.old) }
+    requires there { IsSome (export_at component.now callee) }
+    requires words { IfSome (export_at component.now callee) (λ e. length words.now ≡ e.params) }
+    requires direct { is_async_lifted (export_kind component.now callee) ≡ false }
+    ensures answers { Answers (enters_row component.now callee words.now (W.view w.old).core) thread_in (W.view w.old) (at_once (entered (W.view w.new) result)) (W.view w.new) }
+    ensures order { IsAtPlace component.now (enters_row component.now callee words.now (W.view w.old).core) (W.view w.old) → Sits component.now (turn_in (W.view w.new)) (W.view w.new).core }
+    ensures live { IfOk result (λ id. IsLive (W.view w.new) id) }
+{
+    w.none_is_zero();
+    let Some(thread) = w.current() else {
+        unreachable!()
+    };
+    let Some(def) = export_def(component, callee) else {
+        unreachable!()
+    };
+    let Ok(came) = enter(w, thread, callee, def.kind, words) else {
+        return Err(TaskError::NoMemory);
+    };
+    at_once(came)?;
+    let Some(entered) = w.current() else {
+        unreachable!()
+    };
+    Ok(QualifiedThreadId {
+        task: w.task_of(entered),
+        thread: entered,
+    })
+}
+
+/// The second half of a direct call, by its first thread, which runs: its task ends as returned with the
+/// value, the thread ends, and the thread under it runs and answers the value when it goes on. Refused with
+/// trap 9 where the export is blocking and a check of its instance fails; nothing is changed then.
+pub fn exit_call<W: Words>(component: &Component, w: &mut W, value: u64) -> Result<(), TaskError>
+    requires running { IsRunningIn component.now (W.view w.old) }
+    requires direct { IfSome (running_of (W.view w.old)) (λ n. IsDirect n (W.view w.old).core) }
+    ensures answers { Answers (exits_row value (W.view w.old).core) nothing_in (W.view w.old) (at_once result) (W.view w.new) }
+    ensures order { IsAtPlace component.now (exits_row value (W.view w.old).core) (W.view w.old) → Sits component.now (turn_in (W.view w.new)) (W.view w.new).core }
+{
+    let _component = component;
+    w.none_is_zero();
+    let Some(thread) = w.current() else {
+        unreachable!()
+    };
+    let before = w.register(thread, 0);
+    w.set_register(thread, 0, value);
+    match exit_direct(w, thread) {
+        Came::Goes(_, _) => Ok(()),
+        Came::Traps(trap) => {
+            w.set_register(thread, 0, before);
+            Err(TaskError::Trap(trap))
+        }
+        _ => unreachable!(),
+    }
+}

@@ -1,0 +1,74 @@
+//! The ops for which the calls of an instance stand, where more than one does.
+ghost use Rattle.std.specs.Prelude.{◌≡◌};
+ghost use Rattle.task_calls.specs.Intrinsics.{cancel_op, pressure_op, suspension_op};
+
+use task_machine::{CallOp, Op, Operand, TaskOp, ThreadOp};
+
+/// Which thread goes on once another one has stopped, by its handle.
+#[derive(Clone, Copy)]
+pub enum SuspensionTarget {
+    /// A thread that is suspended or wasn't started: it goes on next.
+    Resume(u32),
+    /// A thread that has yielded: it goes on next.
+    Promote(u32),
+    None,
+}
+
+/// `cancel` or `cancel_sync` of the subtask with this handle.
+pub fn cancel_op(async_: bool, subtask: u32) -> Op
+    ensures { result ≡ cancel_op async_ subtask }
+{
+    let subtask = Operand::Number(u64::from(subtask));
+    if async_ {
+        return Op::Call(CallOp::Cancel { to: 0, subtask });
+    }
+    Op::Call(CallOp::CancelSync { to: 0, subtask })
+}
+
+/// `bp_inc` or `bp_dec`.
+pub fn pressure_op(up: bool) -> Op
+    ensures { result ≡ pressure_op up }
+{
+    if up {
+        return Op::Task(TaskOp::BpInc);
+    }
+    Op::Task(TaskOp::BpDec)
+}
+
+fn suspends(target: SuspensionTarget) -> ThreadOp
+    ensures { Op.Thread result ≡ suspension_op false target }
+{
+    match target {
+        SuspensionTarget::Resume(thread) => ThreadOp::SuspendThenResume {
+            thread: Operand::Number(u64::from(thread)),
+        },
+        SuspensionTarget::Promote(thread) => ThreadOp::SuspendThenPromote {
+            thread: Operand::Number(u64::from(thread)),
+        },
+        SuspensionTarget::None => ThreadOp::Suspend,
+    }
+}
+
+fn yields(target: SuspensionTarget) -> ThreadOp
+    ensures { Op.Thread result ≡ suspension_op true target }
+{
+    match target {
+        SuspensionTarget::Resume(thread) => ThreadOp::YieldThenResume {
+            thread: Operand::Number(u64::from(thread)),
+        },
+        SuspensionTarget::Promote(thread) => ThreadOp::YieldThenPromote {
+            thread: Operand::Number(u64::from(thread)),
+        },
+        SuspensionTarget::None => ThreadOp::Yield,
+    }
+}
+
+/// The op that suspends its thread or yields, with a thread that goes on next or none.
+pub fn suspension_op(yielding: bool, target: SuspensionTarget) -> Op
+    ensures { result ≡ suspension_op yielding target }
+{
+    if yielding {
+        return Op::Thread(yields(target));
+    }
+    Op::Thread(suspends(target))
+}

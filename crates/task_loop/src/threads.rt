@@ -1,0 +1,104 @@
+//! Threads, as an instance's calls make, suspend and resume them.
+ghost use Rattle.std.specs.Prelude.{◌≡◌, min};
+ghost use Rattle.task_calls.specs.Answers.{answer_in, at_once, nothing_in, number_in};
+ghost use Rattle.task_calls.specs.Asks.{Answers, CanAsk, HasPaused, IsAtPlace, IsRunningIn, row_at, row_of, turn_in};
+ghost use Rattle.task_calls.specs.Intrinsics.{suspension_op};
+ghost use Rattle.task_turns.specs.Turn.{Sits};
+
+use crate::instance::Instance;
+use task_calls::{
+    Answer, Step, SuspensionTarget, TaskError, ask_number, begin_nothing, go_on, suspension_op,
+};
+use task_machine::{Component, Op, Operand, ThreadOp};
+use task_store::Store;
+
+impl Instance {
+    /// The handle of the running thread.
+    pub fn thread_index<T, H>(
+        self,
+        component: &Component,
+        store: &mut Store<T, H>,
+    ) -> Result<u32, TaskError>
+        requires running { IsRunningIn component.now store.old.state }
+        requires asks { CanAsk self.index store.old.state }
+        ensures answers { Answers (row_of component.now (Op.Thread (ThreadOp.Index 0)) store.old.state.core) number_in store.old.state (at_once result) store.new.state }
+        ensures order { IsAtPlace component.now (row_of component.now (Op.Thread (ThreadOp.Index 0)) store.old.state.core) store.old.state → Sits component.now (turn_in store.new.state) store.new.state.core }
+        ensures rest { store.new ≡ record store.old { state = store.new.state } }
+    {
+        ask_number(
+            component,
+            &mut store.state,
+            Op::Thread(ThreadOp::Index { to: 0 }),
+        )
+    }
+
+    /// A thread more of the task, which isn't started, with the context in r0; answers its handle. Refused with
+    /// trap 13 where the slot has no line, with trap 14 where it is a bad one, with trap 18 where its two entries
+    /// don't fit into the table, and with trap 17 where no handle may be given, in this order. A slot above 255 is as 255.
+    pub fn thread_new_indirect<T, H>(
+        self,
+        component: &Component,
+        store: &mut Store<T, H>,
+        caller: u32,
+        slot: u32,
+        context: u64,
+    ) -> Result<u32, TaskError>
+        requires running { IsRunningIn component.now store.old.state }
+        requires asks { CanAsk self.index store.old.state }
+        requires caller { caller ≡ self.index }
+        ensures answers { Answers (row_of component.now (Op.Thread (ThreadOp.New 0 (min slot 255) (Operand.Number context))) store.old.state.core) number_in store.old.state (at_once result) store.new.state }
+        ensures order { IsAtPlace component.now (row_of component.now (Op.Thread (ThreadOp.New 0 (min slot 255) (Operand.Number context))) store.old.state.core) store.old.state → Sits component.now (turn_in store.new.state) store.new.state.core }
+        ensures rest { store.new ≡ record store.old { state = store.new.state } }
+    {
+        let _caller = caller;
+        ask_number(
+            component,
+            &mut store.state,
+            Op::Thread(ThreadOp::New {
+                to: 0,
+                slot: slot.min(255) as u8,
+                context: Operand::Number(context),
+            }),
+        )
+    }
+
+    /// The strand stops: its thread is suspended, or where it yields it has a low entry. A target that is to be
+    /// resumed becomes the switch entry; one to be promoted moves there, if it has yielded. Else a check comes
+    /// first, and where it fails a suspension is refused with trap 9 and a yield is done at once. Refused with
+    /// trap 16 where the target names no thread, and with trap 11 where it can't be resumed.
+    pub fn suspension_intrinsic<T, H>(
+        self,
+        component: &Component,
+        store: &mut Store<T, H>,
+        caller: u32,
+        yielding: bool,
+        target: SuspensionTarget,
+    ) -> Result<Step<()>, TaskError>
+        requires running { IsRunningIn component.now store.old.state }
+        requires asks { CanAsk self.index store.old.state }
+        requires caller { caller ≡ self.index }
+        ensures answers { Answers (row_of component.now (suspension_op yielding target) store.old.state.core) nothing_in store.old.state result store.new.state }
+        ensures order { IsAtPlace component.now (row_of component.now (suspension_op yielding target) store.old.state.core) store.old.state → Sits component.now (turn_in store.new.state) store.new.state.core }
+        ensures rest { store.new ≡ record store.old { state = store.new.state } }
+    {
+        let _caller = caller;
+        begin_nothing(component, &mut store.state, suspension_op(yielding, target))
+    }
+
+    /// The op of the current thread that has paused is taken further; it is the one at the thread's place. Its answer is
+    /// an event for a wait, nothing for a suspension, else one number; its registers are written as the op says.
+    /// Refused as its row says; nothing is changed then.
+    pub fn go_on<T, H>(
+        self,
+        component: &Component,
+        store: &mut Store<T, H>,
+    ) -> Result<Step<Answer>, TaskError>
+        requires running { IsRunningIn component.now store.old.state }
+        requires paused { HasPaused self.index store.old.state }
+        ensures answers { Answers (row_at component.now store.old.state.core) answer_in store.old.state result store.new.state }
+        ensures order { Sits component.now (turn_in store.new.state) store.new.state.core }
+        ensures rest { store.new ≡ record store.old { state = store.new.state } }
+    {
+        go_on(component, &mut store.state)
+    }
+}

@@ -1,0 +1,140 @@
+//! Waitable sets, as an instance's calls change them.
+ghost use Rattle.std.specs.Prelude.{◌≡◌};
+ghost use Rattle.task_calls.specs.Answers.{at_once, event_in, nothing_in, number_in};
+ghost use Rattle.task_calls.specs.Asks.{Answers, CanAsk, IsAtPlace, IsRunningIn, row_of, turn_in};
+ghost use Rattle.task_turns.specs.Turn.{Sits};
+
+use crate::instance::Instance;
+use task_calls::{Step, TaskError, ask_event, ask_nothing, ask_number, begin_event};
+use task_machine::{Component, Op, Operand, SetOp};
+use task_store::Store;
+
+impl Instance {
+    /// A new set of the instance; answers its handle. Refused with trap 18 where its entry doesn't fit into
+    /// the table, and else with trap 17 where no handle may be given.
+    pub fn waitable_set_new<T, H>(
+        self,
+        component: &Component,
+        store: &mut Store<T, H>,
+        caller: u32,
+    ) -> Result<u32, TaskError>
+        requires running { IsRunningIn component.now store.old.state }
+        requires asks { CanAsk self.index store.old.state }
+        requires caller { caller ≡ self.index }
+        ensures answers { Answers (row_of component.now (Op.Set (SetOp.New 0)) store.old.state.core) number_in store.old.state (at_once result) store.new.state }
+        ensures order { IsAtPlace component.now (row_of component.now (Op.Set (SetOp.New 0)) store.old.state.core) store.old.state → Sits component.now (turn_in store.new.state) store.new.state.core }
+        ensures rest { store.new ≡ record store.old { state = store.new.state } }
+    {
+        let _caller = caller;
+        ask_number(component, &mut store.state, Op::Set(SetOp::New { to: 0 }))
+    }
+
+    /// The set and its handle are gone. Refused with trap 16 where the handle names no set, with trap 8 where
+    /// a thread waits on it or has an entry for it, and with trap 25 where a member is left, in this order.
+    pub fn waitable_set_drop<T, H>(
+        self,
+        component: &Component,
+        store: &mut Store<T, H>,
+        caller: u32,
+        set: u32,
+    ) -> Result<(), TaskError>
+        requires running { IsRunningIn component.now store.old.state }
+        requires asks { CanAsk self.index store.old.state }
+        requires caller { caller ≡ self.index }
+        ensures answers { Answers (row_of component.now (Op.Set (SetOp.Drop (Operand.Number set))) store.old.state.core) nothing_in store.old.state (at_once result) store.new.state }
+        ensures order { IsAtPlace component.now (row_of component.now (Op.Set (SetOp.Drop (Operand.Number set))) store.old.state.core) store.old.state → Sits component.now (turn_in store.new.state) store.new.state.core }
+        ensures rest { store.new ≡ record store.old { state = store.new.state } }
+    {
+        let _caller = caller;
+        ask_nothing(
+            component,
+            &mut store.state,
+            Op::Set(SetOp::Drop {
+                set: Operand::Number(u64::from(set)),
+            }),
+        )
+    }
+
+    /// The task's own event, else that of the set's least ready member, is taken: its code, handle and result;
+    /// 0, 0, 0 where nothing is there. Refused with trap 16 where the handle names no set.
+    pub fn waitable_set_poll<T, H>(
+        self,
+        component: &Component,
+        store: &mut Store<T, H>,
+        caller: u32,
+        set: u32,
+    ) -> Result<(u32, u32, u32), TaskError>
+        requires running { IsRunningIn component.now store.old.state }
+        requires asks { CanAsk self.index store.old.state }
+        requires caller { caller ≡ self.index }
+        ensures answers { Answers (row_of component.now (Op.Set (SetOp.Poll 0 (Operand.Number set))) store.old.state.core) event_in store.old.state (at_once result) store.new.state }
+        ensures order { IsAtPlace component.now (row_of component.now (Op.Set (SetOp.Poll 0 (Operand.Number set))) store.old.state.core) store.old.state → Sits component.now (turn_in store.new.state) store.new.state.core }
+        ensures rest { store.new ≡ record store.old { state = store.new.state } }
+    {
+        let _caller = caller;
+        ask_event(
+            component,
+            &mut store.state,
+            Op::Set(SetOp::Poll {
+                to: 0,
+                set: Operand::Number(u64::from(set)),
+            }),
+        )
+    }
+
+    /// As `waitable_set_poll`, but where nothing is there the strand stops until an event comes; `go_on` takes
+    /// it further then. Refused with trap 16, and where the strand would have to stop and may not, with trap 9.
+    pub fn waitable_set_wait<T, H>(
+        self,
+        component: &Component,
+        store: &mut Store<T, H>,
+        caller: u32,
+        set: u32,
+    ) -> Result<Step<(u32, u32, u32)>, TaskError>
+        requires running { IsRunningIn component.now store.old.state }
+        requires asks { CanAsk self.index store.old.state }
+        requires caller { caller ≡ self.index }
+        ensures answers { Answers (row_of component.now (Op.Set (SetOp.Wait 0 (Operand.Number set))) store.old.state.core) event_in store.old.state result store.new.state }
+        ensures order { IsAtPlace component.now (row_of component.now (Op.Set (SetOp.Wait 0 (Operand.Number set))) store.old.state.core) store.old.state → Sits component.now (turn_in store.new.state) store.new.state.core }
+        ensures rest { store.new ≡ record store.old { state = store.new.state } }
+    {
+        let _caller = caller;
+        begin_event(
+            component,
+            &mut store.state,
+            Op::Set(SetOp::Wait {
+                to: 0,
+                set: Operand::Number(u64::from(set)),
+            }),
+        )
+    }
+
+    /// The waitable leaves its set and joins the other one, or none where that is 0; if it has an event, a
+    /// waiter of the new set is woken. Refused with trap 16 where one of the two names nothing, and with trap 7
+    /// where the waitable stands in the set of a sync call.
+    pub fn waitable_join<T, H>(
+        self,
+        component: &Component,
+        store: &mut Store<T, H>,
+        caller: u32,
+        waitable: u32,
+        set: u32,
+    ) -> Result<(), TaskError>
+        requires running { IsRunningIn component.now store.old.state }
+        requires asks { CanAsk self.index store.old.state }
+        requires caller { caller ≡ self.index }
+        ensures answers { Answers (row_of component.now (Op.Set (SetOp.Join (Operand.Number waitable) (Operand.Number set))) store.old.state.core) nothing_in store.old.state (at_once result) store.new.state }
+        ensures order { IsAtPlace component.now (row_of component.now (Op.Set (SetOp.Join (Operand.Number waitable) (Operand.Number set))) store.old.state.core) store.old.state → Sits component.now (turn_in store.new.state) store.new.state.core }
+        ensures rest { store.new ≡ record store.old { state = store.new.state } }
+    {
+        let _caller = caller;
+        ask_nothing(
+            component,
+            &mut store.state,
+            Op::Set(SetOp::Join {
+                waitable: Operand::Number(u64::from(waitable)),
+                set: Operand::Number(u64::from(set)),
+            }),
+        )
+    }
+}
