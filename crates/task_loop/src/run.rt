@@ -1,10 +1,11 @@
-ghost use Rattle.std.specs.Prelude.{◌≡◌, ◌*◌, ◌+◌, ◌<◌, ◌≤◌, ◌^◌, IfErr, IfOk, None, OnErr, OnOk, false, true, Bool};
+ghost use Rattle.std.specs.Prelude.{◌≡◌, ◌*◌, ◌+◌, ◌<◌, ◌≤◌, ◌^◌, IfErr, IfOk, None, OnErr, OnOk, Some, false, true, Bool};
+ghost use Rattle.task_ops.specs.Works.{NamesWorks};
 ghost use Rattle.task_rules.specs.Outcome.{outcome_of_label};
 ghost use Rattle.task_store.specs.Hosts.{HoldsHosts};
 ghost use Rattle.task_turns.specs.WellFormed.{IsWellFormed};
 ghost use Rattle.task_turns.specs.Drive.{Drives, Drove};
 ghost use Rattle.task_turns.specs.Main.{Steps};
-ghost use Rattle.task_turns.specs.Turn.{IsAtTurn, IsSettled, PendsIn, Sits, Turned, Turns, given, goes_on, is_open, running_of, runs_in, setting_of, state_at};
+ghost use Rattle.task_turns.specs.Turn.{IsAtTurn, IsFree, IsSettled, Makes, PendsIn, Sits, Turned, Turns, given, goes_on, is_open, running_of, runs_in, setting_of, state_at};
 
 use crate::main_task::MainTask;
 use task_calls::TaskError;
@@ -107,6 +108,29 @@ fn step_main<T, H: HostWork, M: MainTask<T, H>>(
         return Err(NoMemory);
     };
     Ok(made_by_main(&store.state, step))
+}
+
+// The running thread, which has this number, takes a step. A host that it calls is polled, and its
+// work is held.
+fn run_thread<T, H: AccessorTask<T> + FromHost>(
+    component: &Component,
+    store: &mut Store<T, H>,
+    thread: u64,
+) -> Result<Made, NoMemory>
+    requires covered { IsWellFormed component.now }
+    requires order { Sits component.now (Turn.Run thread) store.old.state.core }
+    requires current { running_of store.old.state ≡ Some thread }
+    requires given { given store.old.state.core + 4 < 2 ^ 61 }
+    requires hosts { HoldsHosts H.course store.old }
+    ensures stands { store.new.running ≡ store.old.running }
+    ensures makes { IfOk result (λ made. Makes component.now (Turn.Run thread) store.old.state made store.new.state) }
+    ensures free { IfOk result (λ made. IsFree made.turn) }
+    ensures works { OnOk result (NamesWorks store.old.state store.new.state) }
+    ensures hosts { OnOk result (HoldsHosts H.course store.new) }
+{
+    let ran = step_run(component, &mut store.state, thread)?;
+    store.call_host(ran.polled, ran.work)?;
+    Ok(ran.made)
 }
 
 impl RunConcurrent {
@@ -238,11 +262,7 @@ impl RunConcurrent {
             Turn::Main => Ok(Some(step_main(component, store, main)?)),
             Turn::Futures { polled } => Ok(Some(store.poll_next(polled))),
             Turn::Take { ended } => take(component, &mut store.state, ended, self.trap_on_idle),
-            Turn::Run { thread } => {
-                let ran = step_run(component, &mut store.state, thread)?;
-                store.call_host(ran.polled, ran.work)?;
-                Ok(Some(ran.made))
-            }
+            Turn::Run { thread } => Ok(Some(run_thread(component, store, thread)?)),
             Turn::Over => unreachable!(),
         }
     }
