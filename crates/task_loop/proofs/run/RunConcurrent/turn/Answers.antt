@@ -25,7 +25,7 @@ returns-in_ok-step_main-in-Main-clause-turned g c = rw c.in-Main.is (c.in_ok-ste
 pub returns-in_ok-run_thread-in-Run-clause-turned : goal.returns-in_ok-run_thread-in-Run-clause-turned
 returns-in_ok-run_thread-in-Run-clause-turned g c =
     let x = setting_of c.args.component.now (g.M.MainTask.script c.args.main.now) c.args.self.now.trap_on_idle in
-    let made = c.in_ok-run_thread-in-Run.value in
+    let made = c.in_ok-run_thread-in-Run.field-0 in
     rw c.in-Run.is (makes_turns x (turn.Run c.in-Run.thread) c.args.store.now.state made c.run_thread.new.store.state c.in_ok-run_thread-in-Run.ensures.makes (g.M.MainTask.part c.args.main.now) (c.in_ok-run_thread-in-Run.ensures.free x c.run_thread.new.store.state.core (g.M.MainTask.part c.args.main.now)))
 
 pub returns-in_ok-run_thread-in-Run-clause-knows : goal.returns-in_ok-run_thread-in-Run-clause-knows
@@ -34,7 +34,7 @@ returns-in_ok-run_thread-in-Run-clause-knows g c =
     let s = c.args.store.now.state in
     let t = c.run_thread.new.store.state in
     let x = setting_of c.args.component.now (g.M.MainTask.script main) c.args.self.now.trap_on_idle in
-    by_run (g.M.MainTask.knows main) s t (λ last. g.met.M.MainTask.stays main s t last c.requires.knows) x (g.M.MainTask.part main) c.in-Run.thread c.in_ok-run_thread-in-Run.value c.in_ok-run_thread-in-Run.ensures.makes c.in_ok-run_thread-in-Run.ensures.works
+    by_run (g.M.MainTask.knows main) s t (λ last. g.met.M.MainTask.stays main s t last c.requires.knows) x (g.M.MainTask.part main) c.in-Run.thread c.in_ok-run_thread-in-Run.field-0 c.in_ok-run_thread-in-Run.ensures.makes c.in_ok-run_thread-in-Run.ensures.works
 
 pub returns-in-Futures-clause-knows : goal.returns-in-Futures-clause-knows
 returns-in-Futures-clause-knows g c =
