@@ -61,22 +61,22 @@ def waiters(count):
 def pipeline():
     """16 callbacks call a callback of another instance, which calls a host, and start anew."""
     store = ("export get callback 1", "set r9 r0", "call r3 r8 disk", "set_new r4", "handle r5 r3", "join r5 r4", "cb_wait r4")
-    store += ("react", "add r8 r9", "drop r1", "set_drop r4", "ret r8", "exit")
-    call = ("call r3 r8 store.get r9", "handle r5 r3", "join r5 r4", "cb_wait r4", "exit")
-    logic = ("export do callback 1", "set r9 r0", "set_new r4", "cb_yield", "react", "skip_eq r0 1 5", *call)
-    logic += ("skip_eq r2 2 1", "cb_wait r4", "drop r1", "add r9 r8", "cb_yield")
+    db += ("react", "add r8 r9", "drop r1", "set_drop r4", "ret r8", "exit")
+    call = ("call r3 r8 db.get r9", "handle r5 r3", "join r5 r4", "cb_wait r4", "exit")
+    api = ("export do callback 1", "set r9 r0", "set_new r4", "cb_yield", "react", "skip_eq r0 1 5", *call)
+    api += ("skip_eq r2 2 1", "cb_wait r4", "drop r1", "add r9 r8", "cb_yield")
     starts = [f"start logic.do {k}" for k in range(16)]
     return text("host disk polls 3 value 100", "instance store", *store, "instance logic", *logic, *main(*starts))
 
 
 def requests(count):
-    """So many requests, each through three instances and a host."""
-    store = ("bp_inc", "set r9 r0", "call r3 r8 disk", "set_new r4", "handle r5 r3", "join r5 r4", "cb_wait r4")
-    store += ("react", "add r8 r9", "drop r1", "set_drop r4", "bp_dec", "ret r8", "exit")
-    logic = ("set r9 r0", "call r3 r8 store.get r9", "handle r5 r3", "set_new r4", "join r5 r4", "cb_wait r4")
-    logic += ("react", "skip_eq r2 2 1", "cb_wait r4", "drop r1", "set_drop r4", "add r8 1", "ret r8", "exit")
-    edge = ("instance edge", "export req stackful 1", "call_sync r3 logic.do r0", "ret r3", "exit")
-    exports = ("instance store", "export get callback 1", *store, "instance logic", "export do callback 1", *logic, *edge)
+    """What `make` writes for so many requests, each through three instances and a host."""
+    db = ("bp_inc", "set r9 r0", "call r3 r8 disk", "set_new r4", "handle r5 r3", "join r5 r4", "cb_wait r4")
+    db += ("react", "add r8 r9", "drop r1", "set_drop r4", "bp_dec", "ret r8", "exit")
+    api = ("set r9 r0", "call r3 r8 db.get r9", "handle r5 r3", "set_new r4", "join r5 r4", "cb_wait r4")
+    api += ("react", "skip_eq r2 2 1", "cb_wait r4", "drop r1", "set_drop r4", "add r8 1", "ret r8", "exit")
+    edge = ("instance edge", "export req stackful 1", "call_sync r3 api.do r0", "ret r3", "exit")
+    exports = ("instance db", "export get callback 1", *db, "instance api", "export do callback 1", *api, *edge)
     numbers = range(1, count + 1)
     ops = ("main", *(f"start edge.req {k}" for k in numbers), *(f"finish {k} r0" for k in numbers), "answer r0", "end")
     return text("host disk polls 9 value 100", *exports, *ops)
@@ -97,3 +97,4 @@ def all_texts():
     yield "a pipeline of calls", million, pipeline()
     yield "16 requests", million, requests(16)
     yield "256 requests", million, requests(256)
+    yield "256 requests, summed up", ["big", "256", "1000000"], ""

@@ -151,7 +151,7 @@ class Unproved(Script):
 
     def test_wrong_words_read_nothing(self):
         self.answers('usage\n', 2)
-        for words in ((), ('run',), ('make', '7'), ('-x',), ('run', '7', f'{SCRIPT}', '8')):
+        for words in ((), ('run',), ('make', 'x'), ('-x',), ('run', '7', f'{SCRIPT}', '8')):
             reader, writer = os.pipe()
             try:
                 self.is_tried(self.call(*words, input=None, stdin=reader), 2, 'usage\n')

@@ -1,4 +1,4 @@
-ghost use Rattle.std.specs.Prelude.{◌≡◌, IfOk, count_by};
+ghost use Rattle.std.specs.Prelude.{◌≡◌, IfOk, cond, count_by};
 ghost use Rattle.generated_scenario.specs.Summary.{holds, pauses, summary, takes, wakes};
 
 use report_text::Page;
@@ -16,49 +16,43 @@ struct Counts {
     pauses: usize,
 }
 
-fn takes(label: Label) -> bool
-    ensures { result ≡ takes label }
+// The kinds of one label. Most labels are of none, and one look at the label tells that.
+#[inline(always)]
+fn kinds(label: Label) -> Counts
+    ensures takes { result.takes ≡ cond (takes label) 1 0 }
+    ensures holds { result.holds ≡ cond (holds label) 1 0 }
+    ensures wakes { result.wakes ≡ cond (wakes label) 1 0 }
+    ensures pauses { result.pauses ≡ cond (pauses label) 1 0 }
 {
-    matches!(label, Label::Take(_))
-}
-
-fn holds(label: Label) -> bool
-    ensures { result ≡ holds label }
-{
-    matches!(
-        label,
-        Label::Take(TakeLabel::Held(..) | TakeLabel::HeldWakes(..))
-    )
-}
-
-fn wakes(label: Label) -> bool
-    ensures { result ≡ wakes label }
-{
+    let mut kinds = Counts {
+        takes: 0,
+        holds: 0,
+        wakes: 0,
+        pauses: 0,
+    };
     match label {
-        Label::Take(label) => matches!(
-            label,
-            TakeLabel::ThreadWakes(..)
-                | TakeLabel::HeldWakes(..)
-                | TakeLabel::EventWakes(..)
-                | TakeLabel::HostWakes(..)
-        ),
-        Label::Task(label) => matches!(
-            label,
-            TaskLabel::TaskCancelWakes(..) | TaskLabel::ExitWakes(..)
-        ),
-        Label::Set(label) => matches!(label, SetLabel::WaitWakes(..) | SetLabel::JoinWakes(..)),
-        Label::RetWakes(..) => true,
-        _ => false,
+        Label::Take(label) => {
+            kinds.takes = 1;
+            match label {
+                TakeLabel::Held(..) => kinds.holds = 1,
+                TakeLabel::HeldWakes(..) => {
+                    kinds.holds = 1;
+                    kinds.wakes = 1;
+                }
+                TakeLabel::ThreadWakes(..) | TakeLabel::EventWakes(..) | TakeLabel::HostWakes(..) =>
+                    kinds.wakes = 1,
+                _ => {}
+            }
+        }
+        Label::Task(TaskLabel::TaskCancelWakes(..) | TaskLabel::ExitWakes(..))
+        | Label::Set(SetLabel::WaitWakes(..) | SetLabel::JoinWakes(..))
+        | Label::RetWakes(..) => kinds.wakes = 1,
+        Label::Thread(ThreadLabel::Pauses(_)) | Label::Call(CallLabel::PausesPolls(..)) => {
+            kinds.pauses = 1;
+        }
+        _ => {}
     }
-}
-
-fn pauses(label: Label) -> bool
-    ensures { result ≡ pauses label }
-{
-    matches!(
-        label,
-        Label::Thread(ThreadLabel::Pauses(_)) | Label::Call(CallLabel::PausesPolls(..))
-    )
+    kinds
 }
 
 fn count(labels: &[Label]) -> Counts
@@ -74,10 +68,11 @@ fn count(labels: &[Label]) -> Counts
         pauses: 0,
     };
     for label in labels {
-        counts.takes += usize::from(takes(*label));
-        counts.holds += usize::from(holds(*label));
-        counts.wakes += usize::from(wakes(*label));
-        counts.pauses += usize::from(pauses(*label));
+        let kinds = kinds(*label);
+        counts.takes += kinds.takes;
+        counts.holds += kinds.holds;
+        counts.wakes += kinds.wakes;
+        counts.pauses += kinds.pauses;
     }
     counts
 }

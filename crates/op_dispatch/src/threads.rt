@@ -40,6 +40,7 @@ fn finish<W: Words>(w: &mut W, thread: ThreadId, label: ThreadLabel) -> Came
 }
 
 // `suspend` and `yield`
+#[inline(always)]
 fn halts<W: Words>(w: &mut W, thread: ThreadId, yielding: bool, label: ThreadLabel) -> Came
     requires runner { Runner thread (W.view w.old) }
     requires position { position_of (thread_of (W.view w.old) thread) (W.view w.old).core + 1 < 2 ^ 32 }

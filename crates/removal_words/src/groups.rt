@@ -91,13 +91,13 @@ pub(crate) fn settle_group(parts: &mut CoreParts, group: TableId<GroupKey>)
         Ok(_) => {}
         Err(_) => unreachable!(),
     }
-    if found.number > parts.finished {
-        parts.kept.groups -= 1;
-        parts.kept.used -= 1;
-    }
     give_group(
         &mut parts.table_places,
         &mut parts.group_entries,
         found.number,
     );
+    if found.number > parts.finished {
+        parts.kept.groups -= 1;
+        parts.kept.used -= 1;
+    }
 }

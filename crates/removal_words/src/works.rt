@@ -62,7 +62,11 @@ fn drop_work(parts: &mut CoreParts, work: WorkId) -> Option<TableId<GroupKey>>
         Err(_) => unreachable!(),
     }
     parts.kept.used -= one_if(found.work.group.is_some());
-    give_if(&mut parts.table_places, found.work.group.is_some(), found.entry);
+    give_if(
+        &mut parts.table_places,
+        found.work.group.is_some(),
+        found.entry,
+    );
     group
 }
 

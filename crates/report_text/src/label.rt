@@ -100,6 +100,7 @@ fn event_result(event: Given) -> u64
 }
 
 // ` C H V` of what was handed out.
+#[inline(always)]
 fn given(out: &mut [u8], at: usize, event: Given) -> usize
     requires { at + 63 ≤ length out.old }
     ensures end { result ≤ at + 63 }
@@ -163,6 +164,7 @@ fn main_label(out: &mut [u8], at: usize, label: MainLabel) -> usize
     }
 }
 
+#[inline(always)]
 fn polled(out: &mut [u8], at: usize, work: u64, what: &[u8]) -> usize
     requires { at + length what.now + 27 ≤ length out.old }
     ensures end { result ≤ at + length what.now + 27 }
@@ -194,6 +196,7 @@ fn loop_label(out: &mut [u8], at: usize, label: LoopLabel) -> usize
 }
 
 // `take M`, whose entry it is, and its number.
+#[inline(always)]
 fn takes(out: &mut [u8], at: usize, mark: Mark, what: &[u8], entry: u64) -> usize
     requires { at + length what.now + 31 ≤ length out.old }
     ensures end { result ≤ at + length what.now + 31 }

@@ -28,15 +28,15 @@ const A: Instance = Instance { index: 0 };
 
 const B: Instance = Instance { index: 1 };
 
-struct Running {
+struct Midway {
     scenario: Scenario,
     store: Store<(), ScriptedHost>,
 }
 
 // Stated, so that it is proved once and not at each place where a value is let go.
-impl Drop for Running {
+impl Drop for Midway {
     fn drop(self) {
-        let Running {
+        let Midway {
             scenario: _,
             store: _,
         } = self;
@@ -108,7 +108,7 @@ fn running(
     steps: u32,
     instance: Instance,
     paused: bool,
-) -> Running
+) -> Midway
     requires text { length text.now ≤ 1048576 }
     requires few { steps ≤ 100 }
     requires instance { instance.index < 2 }
@@ -123,7 +123,7 @@ fn running(
     let mut store = new_store(rt, alloc);
     drive(rt, alloc, &scenario, &mut store, steps);
     assert!(rt; is_asking(&store, instance, paused));
-    Running { scenario, store }
+    Midway { scenario, store }
 }
 
 fn makes_a_set(rt: &impl Abort, alloc: Global) -> bool {

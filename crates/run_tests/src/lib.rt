@@ -4,6 +4,8 @@
 #![tactic(auto)]
 
 #[cfg(test)]
+mod calls_of_states;
+#[cfg(test)]
 mod drive;
 #[cfg(test)]
 mod instance_calls;
@@ -15,7 +17,5 @@ mod report;
 mod scenario;
 #[cfg(test)]
 mod state;
-#[cfg(test)]
-mod state_calls;
 #[cfg(test)]
 mod store;

@@ -1,8 +1,10 @@
 use std::alloc::Global;
 use std::process::Abort;
+use task_loop::Outcome;
 use task_run::{
     MemorySink, MemorySource, Read, RunError, Sink, Source, StdSink, StdSource, SureSink,
-    SureSource, USAGE, Wrote, component_of, print_report, read_scenario, run_scenario, tool,
+    SureSource, USAGE, Wrote, component_of, make_scenario, print_report, read_scenario,
+    run_scenario, tool,
 };
 
 const ONE_CALL: &[u8] =
@@ -229,6 +231,44 @@ fn called_by<'a>(words: &'a [&'a str]) -> Call<'a> {
         bad_reads: &[],
         bad_writes: &[],
     }
+}
+
+#[test]
+fn the_generated_scenario_is_summed_up(rt: HostRuntime) {
+    ends(
+        &rt,
+        rt.alloc(),
+        called_by(&["big", "1", "100"]),
+        b"",
+        0,
+        b"steps 79\ntakes 10\nholds 0\nwakes 2\npauses 1\ndone 102\n",
+    );
+    ends(
+        &rt,
+        rt.alloc(),
+        called_by(&["big", "1", "78"]),
+        b"",
+        0,
+        b"steps 78\ntakes 10\nholds 0\nwakes 2\npauses 1\nout of steps\n",
+    );
+    ends(&rt, rt.alloc(), called_by(&["make", "257"]), b"", 2, USAGE);
+}
+
+#[test]
+fn what_make_writes_runs_to_its_end(rt: HostRuntime) {
+    let words = words(&rt, rt.alloc(), &["make", "1"]);
+    let mut source = source(&rt, rt.alloc(), b"", &[]);
+    let mut sink = sink(&rt, rt.alloc(), 4096, &[]);
+    let end = tool(rt.alloc(), words.as_slice(), &mut source, &mut sink);
+    assert!(rt; end.status == 0 && end.report.is_none());
+    let Ok(text) = make_scenario(rt.alloc(), 1) else {
+        panic!(rt; "no memory")
+    };
+    assert!(rt; sink.bytes() == text.as_slice());
+    let Ok(report) = run_scenario(rt.alloc(), text.as_slice(), 100) else {
+        panic!(rt; "a report")
+    };
+    assert!(rt; matches!(report.outcome, Outcome::Done(102)));
 }
 
 // A sure sink of this room keeps this of the report.

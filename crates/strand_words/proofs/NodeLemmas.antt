@@ -7,6 +7,7 @@ use Rattle.strand_words.specs.Extends.{Extends, Grown}
 use Rattle.strand_words.specs.Loose.{AreCallLoose, AreThreadLoose}
 use Rattle.strand_words.specs.declared.nodes.CallNodes.{CallNodes}
 use Rattle.strand_words.specs.declared.nodes.ThreadNodes.{ThreadNodes}
+use Rattle.task_records.specs.Places.{member_seat, thread_seat}
 
 -- ---- What is made leaves the rest
 
@@ -103,7 +104,7 @@ module _ (a b : CoreParts) (ext : Extends a b) where
     pub place_node_new : Renames a.places b.places n Unmade FreeNode → IsSpare (λ (g : GuestThread). g.node.index) (bare (parts_of b)).threads b.places n
     unfolding IsSound
     place_node_new names = subst (λ (y : CoreParts). IsSpare (λ (g : GuestThread). g.node.index) (bare (parts_of y)).threads b.places n) (sym ext.only)
-        (spare_made _ _ a.places b.places n (filed_made (λ (g : GuestThread). g.node.index) (λ g. where_at g.instance g.thread.place) (λ r g. r) (place_chain (bare (parts_of a))) (bare (parts_of a)).threads a.places sound.whole.chained.places) names)
+        (spare_made _ _ a.places b.places n (filed_made (λ (g : GuestThread). g.node.index) (λ g. where_at g.instance g.thread.place) thread_seat (place_chain (bare (parts_of a))) (bare (parts_of a)).threads a.places sound.whole.chained.places) names)
 
     pub place_chain_new : Renames a.places b.places n Unmade (ChainOf []) → IsLoose (place_chain (bare (parts_of b))) b.places n
     unfolding IsSound
@@ -113,7 +114,7 @@ module _ (a b : CoreParts) (ext : Extends a b) where
     pub ready_node_new : Renames a.ready_calls b.ready_calls n Unmade FreeNode → IsSpare (λ (g : GuestTask). g.ready.index) (bare (parts_of b)).calls b.ready_calls n
     unfolding IsSound
     ready_node_new names = subst (λ (y : CoreParts). IsSpare (λ (g : GuestTask). g.ready.index) (bare (parts_of y)).calls b.ready_calls n) (sym ext.only)
-        (spare_made _ _ a.ready_calls b.ready_calls n (filed_made (λ (g : GuestTask). g.ready.index) (λ g. ready_in g.call.event g.call.join) (λ r g. r) (ready_call_chain (bare (parts_of a))) (bare (parts_of a)).calls a.ready_calls sound.whole.chained.ready_calls) names)
+        (spare_made _ _ a.ready_calls b.ready_calls n (filed_made (λ (g : GuestTask). g.ready.index) (λ g. ready_in g.call.event g.call.join) (λ r g. member_seat g.entry r) (ready_call_chain (bare (parts_of a))) (bare (parts_of a)).calls a.ready_calls sound.whole.chained.ready_calls) names)
 
     pub mark_node_new : Renames a.marks b.marks n Unmade FreeNode → IsSpare (λ (g : GuestThread). g.mark.index) (bare (parts_of b)).threads b.marks n
     unfolding IsSound

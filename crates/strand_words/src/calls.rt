@@ -59,7 +59,14 @@ pub fn add_strand(
 {
     let number = parts.made.threads + 1;
     let call = new_call(request, group.number);
-    let call = call_record(number, call, request.maker, id.rep(), request.entries.task, nodes.0);
+    let call = call_record(
+        number,
+        call,
+        request.maker,
+        id.rep(),
+        request.entries.task,
+        nodes.0,
+    );
     let thread = new_thread(number, false, Script::Start, words);
     let thread = thread_record(
         number,

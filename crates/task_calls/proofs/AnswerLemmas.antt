@@ -1,9 +1,9 @@
 -- What is answered, by what the op came to.
 use Rattle.std.proofs.Common.{refl, subst, sym}
-use Rattle.std.specs.Prelude.{Err, Ok, Result, ℕ, ◌≡◌}
+use Rattle.std.specs.Prelude.{Err, Ok, false, Result, ℕ, ◌≡◌}
 use Rattle.state_calls.specs.declared.error.TaskError.{TaskError}
 use Rattle.state_calls.specs.declared.error.TaskError.TheVariants as task_error
-use Rattle.task_calls.specs.Answers.{answered}
+use Rattle.task_calls.specs.Answers.{answered, has_stopped}
 use Rattle.task_calls.specs.Asks.{Answers, Did}
 use Rattle.task_calls.specs.declared.answers.Step.{Step}
 use Rattle.task_calls.specs.declared.answers.Step.TheVariants as step
@@ -16,6 +16,13 @@ use Rattle.task_words.specs.StateView.{StateView}
 
 abbrev same : Label → Label
 same l = l
+
+-- what was done hasn't stopped
+pub done_goes_on : (r : Came) (l : Label) → Ok (step.Done l) ≡ answered same r → has_stopped r ≡ false
+done_goes_on (came.Goes k m) l e = refl
+done_goes_on (came.Stops k) l e = absurd (cc)
+done_goes_on (came.Traps why) l e = refl
+done_goes_on (came.Fails i) l e = refl
 
 module _ {A : Type 0} (f : Label → A) where
   -- the op is done

@@ -1,8 +1,11 @@
 -- What an op leaves that a host had the running thread do.
 use Rattle.std.proofs.Common.{ap, refl, subst, sym, ◌∙◌}
-use Rattle.std.specs.Prelude.{IfSome, None, Option, Some, option_map, ℕ, ◌≡◌}
+use Rattle.std.specs.Prelude.{IfSome, None, Option, Some, false, option_map, true, ℕ, ◌≡◌}
 use Rattle.op_dispatch.specs.Goes.{GoesOn, running_of}
-use Rattle.task_calls.specs.Asks.{Did, Does, IsAtPlace, after, runs_after, turn_for, turn_in}
+use Rattle.task_calls.proofs.AtOnceLemmas.{never_stops}
+use Rattle.task_calls.specs.Answers.{has_stopped}
+use Rattle.task_calls.specs.Asks.{Did, Does, IsAtPlace, after, is_at_once, row_of, runs_after, turn_for, turn_in}
+use Rattle.task_machine.specs.declared.op.Op.{Op}
 use Rattle.task_machine.specs.Core.{Core, Unscripted}
 use Rattle.task_machine.specs.Labels.{Choice, choice_of}
 use Rattle.task_machine.specs.declared.component.Component.{Component}
@@ -46,6 +49,12 @@ runs_then n (came.Goes l m) s t runs goes stays = goes
 runs_then n (came.Stops l) s t runs goes stays = refl
 runs_then n (came.Traps why) s t runs goes stays = ap running_of stays ∙ runs
 runs_then n (came.Fails i) s t runs goes stays = ap running_of stays ∙ runs
+
+pub not_stopped : (r : Came) (t : StateView) → has_stopped r ≡ false → after r t ≡ t
+not_stopped (came.Goes l m) t e = refl
+not_stopped (came.Stops l) t e = absurd (cc)
+not_stopped (came.Traps why) t e = refl
+not_stopped (came.Fails i) t e = refl
 
 stays_then : (r : Came) (s t : StateView) → StaysAfter r s t → StaysAfter r s (after r t)
 stays_then (came.Goes l m) s t stays = tt
@@ -111,3 +120,9 @@ module _ (c : Component) (n : ℕ) (r : Came) (s t : StateView) (runs : running_
 pub order_still : (c : Component) (n : ℕ) (s t : StateView) → running_of s ≡ Some n → Sits c (turn.Run n) s.core → t ≡ s → Sits c (turn_in t) t.core
 order_still c n s t runs sits same =
     subst (λ (v : StateView). Sits c (turn_in v) v.core) (sym same) (subst (λ (o : Option ℕ). Sits c (turn_for o) s.core) (sym runs) sits)
+
+-- an op that doesn't pause has gone on, or was refused
+pub went_on : (c : Component) (o : Op) (n : ℕ) (s t : StateView) (r : Came) → running_of s ≡ Some n → is_at_once o ≡ true → Did (row_of c o s.core) s r t → has_stopped r ≡ false
+went_on c o n s t r runs once did =
+    let does = subst (λ (m : Option ℕ). IfSome m (λ k. Does (row_of c o s.core k) k s r t)) runs did in
+    never_stops c n s.core (choice_of (label_of n r)) o once r t.core does.meets

@@ -2,7 +2,7 @@
 use Rattle.std.proofs.Common.{ap, arith, refl, subst, sym, ◌∙◌}
 use Rattle.std.proofs.lemmas.Bool.Decides.{nat_tests}
 use Rattle.std.specs.Option.{option_map_or}
-use Rattle.std.specs.Prelude.{Bool, IfSome, IsSome, List, None, Option, Some, [], is_some, not, slice_index, slice_set, true, ℕ, ◌∷◌, ◌≡◌}
+use Rattle.std.specs.Prelude.{Bool, IfSome, IsSome, List, None, Option, Some, [], false, is_some, not, slice_index, slice_set, true, ℕ, ◌∷◌, ◌≡◌}
 use Rattle.task_calls.specs.Directs.{IsDirect}
 use Rattle.task_machine.proofs.CommuteLemmas.{change-change_same, insert-present}
 use Rattle.task_machine.specs.Core.{Core, Unscripted}
@@ -128,3 +128,24 @@ exit_to n kind.Callback s u t (Some m) r h = checks (not (passes_check (instance
 
 pub exit_goes_on : (n : ℕ) (s t : Core) (r : Came) → Meets (direct_exit_row n s) s r t → goes_or_traps r
 exit_goes_on n s t r h = exit_to n (kind_of (task_of n s) s) s s t (under_of n s) r h
+
+module _ (id : TableId ThreadKey) (v : ℕ) (s u : StateView) (is : u ≡ on_core (set_register (thread_of s id) 0 v) s) (t : Core) where
+  pub exits_met : (l : Label) (m : ℕ) → Meets (direct_exit_row (thread_of u id) u.core) u.core (came.Goes l m) t → Meets (direct_exit_row (thread_of s id) (set_register (thread_of s id) 0 v s.core)) s.core (came.Goes l m) t
+  exits_met l m h =
+      let n = thread_of s id in
+      goes_base (direct_exit_row n (set_register n 0 v s.core)) s.core (set_register n 0 v s.core) t l m
+      (subst (λ (w : StateView). Meets (direct_exit_row (thread_of w id) w.core) w.core (came.Goes l m) t) is h)
+
+  pub exits_trapped : (why : Trap) → Meets (direct_exit_row (thread_of u id) u.core) u.core (came.Traps why) t → Meets (direct_exit_row (thread_of s id) (set_register (thread_of s id) 0 v s.core)) s.core (came.Traps why) s.core
+  exits_trapped why h =
+      let n = thread_of s id in
+      traps_base (direct_exit_row n (set_register n 0 v s.core)) s.core (set_register n 0 v s.core) t why
+      (subst (λ (w : StateView). Meets (direct_exit_row (thread_of w id) w.core) w.core (came.Traps why) t) is h)
+
+-- the register is put back
+pub all_back : (id : TableId ThreadKey) (v before : ℕ) (s u t w : StateView) → u ≡ on_core (set_register (thread_of s id) 0 v) s → before ≡ register_of (thread_of s id) 0 s.core → t ≡ u → w ≡ on_core (set_register (thread_of t id) 0 before) t → w ≡ s
+all_back id v before s u t w write own stays put =
+    put
+    ∙ (ap (λ (x : StateView). on_core (set_register (thread_of x id) 0 before) x) (stays ∙ write)
+    ∙ (ap (λ k. on_core (set_register (thread_of s id) 0 k) (on_core (set_register (thread_of s id) 0 v) s)) own
+    ∙ ap (λ (c : Core). with_core c s) (written_back (thread_of s id) v s.core)))

@@ -54,7 +54,8 @@ pub fn ask_nothing<W: Words>(component: &Component, w: &mut W, op: Op) -> Result
     ensures answers { Answers (row_of component.now op (W.view w.old).core) nothing_in (W.view w.old) (at_once result) (W.view w.new) }
     ensures order { IsAtPlace component.now (row_of component.now op (W.view w.old).core) (W.view w.old) → Sits component.now (turn_in (W.view w.new)) (W.view w.new).core }
 {
-    at_once(ask(component, w, op)?)?;
+    let came = ask(component, w, op)?;
+    let _label = at_once(came)?;
     Ok(())
 }
 
@@ -67,7 +68,9 @@ pub fn ask_number<W: Words>(component: &Component, w: &mut W, op: Op) -> Result<
     ensures answers { Answers (row_of component.now op (W.view w.old).core) number_in (W.view w.old) (at_once result) (W.view w.new) }
     ensures order { IsAtPlace component.now (row_of component.now op (W.view w.old).core) (W.view w.old) → Sits component.now (turn_in (W.view w.new)) (W.view w.new).core }
 {
-    Ok(number_in(at_once(ask(component, w, op)?)?))
+    let came = ask(component, w, op)?;
+    let label = at_once(came)?;
+    Ok(number_in(label))
 }
 
 /// An op that answers an event: its code, handle and result, done at once by the running thread as if it stood at its place, or refused as
@@ -83,7 +86,9 @@ pub fn ask_event<W: Words>(
     ensures answers { Answers (row_of component.now op (W.view w.old).core) event_in (W.view w.old) (at_once result) (W.view w.new) }
     ensures order { IsAtPlace component.now (row_of component.now op (W.view w.old).core) (W.view w.old) → Sits component.now (turn_in (W.view w.new)) (W.view w.new).core }
 {
-    Ok(event_in(at_once(ask(component, w, op)?)?))
+    let came = ask(component, w, op)?;
+    let label = at_once(came)?;
+    Ok(event_in(label))
 }
 
 /// The same for an op that may pause: then its strand has stopped, and no thread runs.
@@ -98,7 +103,8 @@ pub fn begin_nothing<W: Words>(
     ensures answers { Answers (row_of component.now op (W.view w.old).core) nothing_in (W.view w.old) result (W.view w.new) }
     ensures order { IsAtPlace component.now (row_of component.now op (W.view w.old).core) (W.view w.old) → Sits component.now (turn_in (W.view w.new)) (W.view w.new).core }
 {
-    match stepped(ask(component, w, op)?)? {
+    let came = ask(component, w, op)?;
+    match stepped(came)? {
         Step::Done(_) => Ok(Step::Done(())),
         Step::Pause => Ok(Step::Pause),
     }
@@ -116,7 +122,8 @@ pub fn begin_number<W: Words>(
     ensures answers { Answers (row_of component.now op (W.view w.old).core) number_in (W.view w.old) result (W.view w.new) }
     ensures order { IsAtPlace component.now (row_of component.now op (W.view w.old).core) (W.view w.old) → Sits component.now (turn_in (W.view w.new)) (W.view w.new).core }
 {
-    match stepped(ask(component, w, op)?)? {
+    let came = ask(component, w, op)?;
+    match stepped(came)? {
         Step::Done(label) => Ok(Step::Done(number_in(label))),
         Step::Pause => Ok(Step::Pause),
     }
@@ -134,18 +141,20 @@ pub fn begin_event<W: Words>(
     ensures answers { Answers (row_of component.now op (W.view w.old).core) event_in (W.view w.old) result (W.view w.new) }
     ensures order { IsAtPlace component.now (row_of component.now op (W.view w.old).core) (W.view w.old) → Sits component.now (turn_in (W.view w.new)) (W.view w.new).core }
 {
-    match stepped(ask(component, w, op)?)? {
+    let came = ask(component, w, op)?;
+    match stepped(came)? {
         Step::Done(label) => Ok(Step::Done(event_in(label))),
         Step::Pause => Ok(Step::Pause),
     }
 }
 
-/// The op at the running thread's place is taken further: one that paused goes on, and may pause again.
-/// Where memory is wanting, nothing is changed.
-pub fn go_on<W: Words>(component: &Component, w: &mut W) -> Result<Step<Answer>, TaskError>
+// The running thread does the op at its place. Where memory is wanting, nothing is changed.
+fn take_on<W: Words>(component: &Component, w: &mut W) -> Result<Came, TaskError>
     requires running { IsRunningIn component.now (W.view w.old) }
-    ensures answers { Answers (row_at component.now (W.view w.old).core) answer_in (W.view w.old) result (W.view w.new) }
+    ensures did { IfOk result (λ came. Did (row_at component.now (W.view w.old).core) (W.view w.old) came (W.view w.new)) }
     ensures order { Sits component.now (turn_in (W.view w.new)) (W.view w.new).core }
+    ensures err { OnErr result (W.view w.new ≡ W.view w.old) }
+    ensures why { IfErr result (λ e. e ≡ TaskError.NoMemory) }
 {
     w.none_is_zero();
     let Some(thread) = w.current() else {
@@ -155,7 +164,18 @@ pub fn go_on<W: Words>(component: &Component, w: &mut W) -> Result<Step<Answer>,
         return Err(TaskError::NoMemory);
     };
     leave(w, done.came);
-    match stepped(done.came)? {
+    Ok(done.came)
+}
+
+/// The op at the running thread's place is taken further: one that paused goes on, and may pause again.
+/// Where memory is wanting, nothing is changed.
+pub fn go_on<W: Words>(component: &Component, w: &mut W) -> Result<Step<Answer>, TaskError>
+    requires running { IsRunningIn component.now (W.view w.old) }
+    ensures answers { Answers (row_at component.now (W.view w.old).core) answer_in (W.view w.old) result (W.view w.new) }
+    ensures order { Sits component.now (turn_in (W.view w.new)) (W.view w.new).core }
+{
+    let came = take_on(component, w)?;
+    match stepped(came)? {
         Step::Done(label) => Ok(Step::Done(answer_in(label))),
         Step::Pause => Ok(Step::Pause),
     }

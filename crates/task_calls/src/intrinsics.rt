@@ -1,6 +1,9 @@
 //! The ops for which the calls of an instance stand, where more than one does.
-ghost use Rattle.std.specs.Prelude.{◌≡◌};
+ghost use Rattle.op_dispatch.specs.Fits.{is_data_op, op_fits};
+ghost use Rattle.std.specs.Prelude.{◌≡◌, false, true};
+ghost use Rattle.task_calls.specs.Asks.{is_at_once};
 ghost use Rattle.task_calls.specs.Intrinsics.{cancel_op, pressure_op, suspension_op};
+ghost use Rattle.task_machine.specs.declared.component.Component.{Component};
 
 use task_machine::{CallOp, Op, Operand, TaskOp, ThreadOp};
 
@@ -16,7 +19,9 @@ pub enum SuspensionTarget {
 
 /// `cancel` or `cancel_sync` of the subtask with this handle.
 pub fn cancel_op(async_: bool, subtask: u32) -> Op
-    ensures { result ≡ cancel_op async_ subtask }
+    ensures is { result ≡ cancel_op async_ subtask }
+    ensures other { is_data_op result ≡ false }
+    ensures fits { (c : Component) → op_fits c result ≡ true }
 {
     let subtask = Operand::Number(u64::from(subtask));
     if async_ {
@@ -27,7 +32,9 @@ pub fn cancel_op(async_: bool, subtask: u32) -> Op
 
 /// `bp_inc` or `bp_dec`.
 pub fn pressure_op(up: bool) -> Op
-    ensures { result ≡ pressure_op up }
+    ensures is { result ≡ pressure_op up }
+    ensures at_once { is_at_once result ≡ true }
+    ensures fits { (c : Component) → op_fits c result ≡ true }
 {
     if up {
         return Op::Task(TaskOp::BpInc);
@@ -65,7 +72,9 @@ fn yields(target: SuspensionTarget) -> ThreadOp
 
 /// The op that suspends its thread or yields, with a thread that goes on next or none.
 pub fn suspension_op(yielding: bool, target: SuspensionTarget) -> Op
-    ensures { result ≡ suspension_op yielding target }
+    ensures is { result ≡ suspension_op yielding target }
+    ensures other { is_data_op result ≡ false }
+    ensures fits { (c : Component) → op_fits c result ≡ true }
 {
     if yielding {
         return Op::Thread(yields(target));

@@ -7,7 +7,6 @@ mod directs;
 mod hosts;
 mod intrinsics;
 mod returns;
-mod starts;
 mod tasks;
 
 pub use answers::{Answer, Step};
@@ -18,6 +17,5 @@ pub use directs::{enter_call, exit_call};
 pub use hosts::{finish_call, start_call};
 pub use intrinsics::{SuspensionTarget, cancel_op, pressure_op, suspension_op};
 pub use returns::task_return;
-pub use starts::{prepare_call, start_prepared};
 pub use state_calls::{QualifiedThreadId, TaskError, is_live};
 pub use tasks::new_guest_task;

@@ -225,6 +225,7 @@ impl RunConcurrent {
             added = compute(
                 component,
                 &mut store.state,
+                &made.label,
                 self.turn,
                 trace,
                 added + 1,
@@ -237,7 +238,8 @@ impl RunConcurrent {
         Ok(Outcome::OutOfSteps)
     }
 
-    // Makes a step; none where nothing can go on and that is no deadlock.
+    // Makes a step; none where nothing can go on and that is no deadlock. It is inlined, so that what it made is not copied.
+    #[inline(always)]
     fn turn<T, H: AccessorTask<T> + FromHost, M: MainTask<T, H>>(
         &self,
         component: &Component,

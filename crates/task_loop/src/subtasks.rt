@@ -1,26 +1,19 @@
 //! Calls of other instances and their subtasks, as an instance's calls begin, cancel and drop them.
-ghost use Rattle.std.specs.Prelude.{◌≡◌, ◌<◌, IfOk, IfSome, IsSome, List, None, Ok, Some, false, length, true, ℕ};
+ghost use Rattle.std.specs.Prelude.{◌≡◌, ◌<◌, IfOk, IfSome, IsSome, false, length};
 ghost use Rattle.task_calls.specs.Answers.{at_once, nothing_in, number_in};
 ghost use Rattle.task_calls.specs.Asks.{Answers, CanAsk, IsAtPlace, IsRunningIn, row_of, turn_in};
 ghost use Rattle.state_calls.specs.Named.{IsLive};
 ghost use Rattle.task_calls.specs.Directs.{IsDirect, entered, enters_row, exits_row, thread_in};
 ghost use Rattle.task_calls.specs.Intrinsics.{cancel_op};
-ghost use Rattle.task_calls.specs.Prepared.{CanStart, Prepared, Prepares, goal_for, starts_in};
 ghost use Rattle.task_loop.specs.Calls.{callee_of};
-ghost use Rattle.task_machine.specs.Read.{fits, is_async_lifted};
-ghost use Rattle.task_machine.specs.declared.component.Callee.{Callee};
-ghost use Rattle.task_machine.specs.declared.component.Component.{Component};
-ghost use Rattle.task_machine.specs.declared.records.Goal.{Goal};
-ghost use Rattle.task_rules.specs.Calls.{call_queues};
+ghost use Rattle.task_machine.specs.Read.{is_async_lifted};
 ghost use Rattle.task_rules.specs.Scripts.{export_at, export_kind};
 ghost use Rattle.task_turns.specs.Turn.{Sits, running_of};
-ghost use Rattle.task_words.specs.StateView.{StateView, with_core, with_current};
 
 use crate::call::Func;
 use crate::instance::Instance;
 use task_calls::{
-    QualifiedThreadId, Step, TaskError, ask_nothing, begin_number, cancel_op, enter_call,
-    exit_call, prepare_call, start_prepared,
+    QualifiedThreadId, Step, TaskError, ask_nothing, begin_number, cancel_op, enter_call, exit_call,
 };
 use task_machine::{CallOp, Component, Op, Operand};
 use task_store::Store;
@@ -117,60 +110,5 @@ impl Instance {
         ensures rest { store.new ≡ record store.old { state = store.new.state } }
     {
         exit_call(component, &mut store.state, value)
-    }
-
-    /// A call's first half, of an export of an earlier instance: it is made with as many words as the callee takes, and
-    /// its first thread, which is New, is answered. The result of an async caller's call goes to the register, 0 to 15.
-    /// Refused with trap 18 exactly where its three entries don't fit into the table. Where it is refused, or memory is
-    /// wanting, nothing is changed.
-    pub fn prepare_call<T, H>(
-        self,
-        component: &Component,
-        store: &mut Store<T, H>,
-        callee: Func,
-        params: &[u64],
-        register: u8,
-        async_caller: bool,
-    ) -> Result<QualifiedThreadId, TaskError>
-        requires running { IsRunningIn component.now store.old.state }
-        requires asks { CanAsk self.index store.old.state }
-        requires earlier { callee.instance.index < self.index }
-        requires there { IsSome (export_at component.now (callee_of callee)) }
-        requires params { IfSome (export_at component.now (callee_of callee)) (λ e. length params.now ≡ e.params) }
-        requires register { register < 16 }
-        requires queued { async_caller ≡ false → is_async_lifted (export_kind component.now (callee_of callee)) ≡ true }
-        ensures prepares { IfSome (running_of store.old.state) (λ n. Prepares component.now n (callee_of callee) params.now (goal_for async_caller register) store.old.state (fits 3 store.old.state.core) result store.new.state) }
-        ensures rest { store.new ≡ record store.old { state = store.new.state } }
-    {
-        let callee = callee.callee();
-        prepare_call(
-            component,
-            &mut store.state,
-            callee,
-            params,
-            register,
-            async_caller,
-        )
-    }
-
-    /// A call's second half, of a call that the current thread has prepared: its start becomes the switch entry, and the
-    /// current thread goes behind the callee's, as `call` does where it begins. The strand has stopped, which is
-    /// answered; `go_on` takes the call further once the current thread is resumed.
-    pub fn start_call<T, H>(
-        self,
-        component: &Component,
-        store: &mut Store<T, H>,
-        callee: QualifiedThreadId,
-    ) -> Result<Step<u64>, TaskError>
-        requires asks { CanAsk self.index store.old.state }
-        requires runs { IsSome (running_of store.old.state) }
-        requires prepared { IfSome (running_of store.old.state) (λ n. CanStart n callee store.old.state) }
-        ensures answer { result ≡ Ok Step.Pause }
-        ensures starts { IfSome (running_of store.old.state) (λ n. store.new.state ≡ with_current None (with_core (starts_in n callee store.old.state) store.old.state)) }
-        ensures whole { (c : Component) (n : ℕ) (e : Callee) (words : List ℕ) (g : Goal) (s : StateView) → running_of store.old.state ≡ Some n → Prepared c n e words g s store.old.state callee → store.new.state.core ≡ call_queues n e (export_kind c e) g words s.core }
-        ensures rest { store.new ≡ record store.old { state = store.new.state } }
-    {
-        let _component = component;
-        start_prepared(&mut store.state, callee)
     }
 }

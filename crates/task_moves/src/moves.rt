@@ -22,6 +22,7 @@ pub fn put_high<W: Words>(w: &mut W, thread: ThreadId, why: WhyId)
 
 /// A thread without an entry gets one at low.
 #[tactic(auto, unfolding(task_machine::specs::Moves::put_low))]
+#[inline(always)]
 pub fn put_low<W: Words>(w: &mut W, thread: ThreadId, why: WhyId)
     requires live { 0 < thread_of (W.view w.old) thread }
     requires unqueued { IsUnqueued (thread_of (W.view w.old) thread) (W.view w.old).core }

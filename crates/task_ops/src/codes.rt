@@ -101,6 +101,7 @@ fn code_waits<W: Words>(w: &mut W, thread: ThreadId, label: Label, handle: u64) 
 }
 
 /// An activation ends with the code.
+#[inline(always)]
 pub fn end_activation<W: Words>(w: &mut W, thread: ThreadId, label: Label, code: u64) -> Came
     requires live { 0 < thread_of (W.view w.old) thread }
     requires running { IsRunning (thread_of (W.view w.old) thread) (W.view w.old).core }

@@ -32,6 +32,7 @@ fn hold<W: Words>(w: &mut W, thread: ThreadId)
 
 // What the gift hands out is in r0, r1 and r2, and the react script runs.
 #[tactic(auto, unfolding(task_rules::specs::Takes::activated))]
+#[inline(always)]
 fn activate<W: Words>(w: &mut W, thread: ThreadId, call: CallId, gift: Gift, given: Given)
     requires { call_of (W.view w.old) call ≡ task_of (thread_of (W.view w.old) thread) (W.view w.old).core }
     ensures { W.view w.new ≡ on_core (activated (thread_of (W.view w.old) thread) (gift_in (W.view w.old).tags gift) given) (W.view w.old) }
@@ -56,6 +57,7 @@ fn event_label(mark: Mark, thread: u64, given: Given, woken: Option<u64>) -> Lab
 }
 
 /// A delivery of a yield or of a cancel, which is admitted.
+#[inline(always)]
 pub fn deliver_own<W: Words>(w: &mut W, mark: Mark, thread: ThreadId) -> Came
     ensures meets { Meets (own_delivered mark (thread_of (W.view w.old) thread) (W.view w.old).core (own_gift_only (task_of (thread_of (W.view w.old) thread) (W.view w.old).core) (W.view w.old).core)) (W.view w.old).core result (W.view w.new).core }
     ensures tags { (W.view w.new).tags ≡ (W.view w.old).tags }

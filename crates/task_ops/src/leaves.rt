@@ -77,6 +77,7 @@ pub fn exit_sync<W: Words>(w: &mut W, thread: ThreadId) -> Came
 
 // A direct call's task returns the value, and the thread under it goes on.
 #[tactic(auto, unfolding(task_rules::specs::Ends::direct_exits))]
+#[inline(always)]
 fn leave_to<W: Words>(w: &mut W, thread: ThreadId, below: ThreadId, value: u64)
     requires live { 0 < thread_of (W.view w.old) thread }
     requires below { 0 < thread_of (W.view w.old) below }

@@ -90,14 +90,6 @@ finish_names k s t Pending h id live = ap (λ (u : StateView). work_of u id) h.1
 
 -- ---- A spawn
 
-made_by_spawn : (h : SpawnHandle) (s t : StateView) (host : HostDef) → h.number ≡ next_work s.core → t.core ≡ work_queued work_caller.Spawn host None s.core → work_of t h.work ≡ h.number → IsSpawnedIn h t
-unfolding next_work work_queued
-made_by_spawn h s t host number core named = record {
-  some = subst (λ (n : ℕ). 0 < n) (sym number) (omega arith);
-  made = subst (λ (n : ℕ). n ≤ t.core.made.works) (sym number) (subst (λ (u : Core). s.core.made.works + 1 ≤ u.made.works) (sym core) (le_refl _));
-  named = inl named;
-}
-
 one_more : (xs : List SpawnHandle) (h g : SpawnHandle) (k : ℕ) → slice_get (xs ++ h ∷ []) k ≡ Some g → (slice_get xs k ≡ Some g) ⊎ (h ≡ g)
 one_more [] h g zero at = inr (cc)
 one_more [] h g (suc k) at = absurd (cc)
@@ -105,9 +97,9 @@ one_more (x ∷ xs) h g zero at = inl at
 one_more (x ∷ xs) h g (suc k) at = one_more xs h g k at
 
 -- the work that was spawned is known, as the others are
-pub knows_more : (c : Component) (ops : List MainOpDef) (a b : Main) (l : Label) (m n : ScriptMain) (s t : StateView) (h : SpawnHandle) (host : HostDef) → n.spawns.items ≡ m.spawns.items ++ h ∷ [] →
-    h.number ≡ next_work s.core → t.core ≡ work_queued work_caller.Spawn host None s.core → work_of t h.work ≡ h.number → Steps c ops a s.core (step.Did l) b t.core → KeepsWorks s t → KnowsSpawns m s → KnowsSpawns n t
-knows_more c ops a b l m n s t h host grown number core named steps names knows k g at =
+pub knows_more : (c : Component) (ops : List MainOpDef) (a b : Main) (l : Label) (m n : ScriptMain) (s t : StateView) (h : SpawnHandle) → n.spawns.items ≡ m.spawns.items ++ h ∷ [] →
+    IsSpawnedIn h t → Steps c ops a s.core (step.Did l) b t.core → KeepsWorks s t → KnowsSpawns m s → KnowsSpawns n t
+knows_more c ops a b l m n s t h grown spawned steps names knows k g at =
     ⊎_elim (λ old. knows_later m s t (steps_last c ops a b s t (step.Did l) steps names) knows k g old)
-    (λ same. subst (λ (q : SpawnHandle). IsSpawnedIn q t) same (made_by_spawn h s t host number core named))
+    (λ same. subst (λ (q : SpawnHandle). IsSpawnedIn q t) same spawned)
     (one_more m.spawns.items h g k (sym (ap (λ (xs : List SpawnHandle). slice_get xs k) grown) ∙ at))

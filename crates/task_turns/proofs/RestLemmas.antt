@@ -1,6 +1,6 @@
 -- What comes where nothing stands.
-use Rattle.std.proofs.Common.{ap, refl, subst, sym, ◌∙◌}
-use Rattle.std.specs.Prelude.{None, Option, false, option_map, true, ◌≡◌}
+use Rattle.std.proofs.Common.{ap, ap₂, refl, subst, sym, ◌∙◌}
+use Rattle.std.specs.Prelude.{None, Option, false, option_map, true, ◌≡◌, ◌&&◌}
 use Rattle.task_machine.specs.Core.{Core, Main}
 use Rattle.task_machine.specs.Read.{next_entry}
 use Rattle.task_machine.specs.Write.{set_trapped}
@@ -20,6 +20,9 @@ use Rattle.task_turns.specs.declared.made.Made.{Made}
 use Rattle.task_words.specs.StateView.{StateView, on_core, thread_of}
 use Rattle.task_places.proofs.IdleLemmas.{stalled_as_idle}
 use Rattle.task_laws.specs.Order.{InOrder}
+use Rattle.std.specs.Prelude.{Bool, not}
+use Rattle.task_machine.specs.declared.scenario.IdleLine.{IdleLine}
+use Rattle.task_rules.specs.Stalled.{is_idle_trap}
 
 rest_step : (x : Setting) (s : Core) (m : Main) → next_entry s ≡ None → has_moving_work s ≡ true → Step x (state_at s m (turn.Take false)) (label.Loop loop_label.Rest) (state_at s m turn.Main)
 unfolding Step at_turn
@@ -43,7 +46,7 @@ may : (x : Setting) (s : Core) (m : Main) → InOrder x.component (state_at s m 
     may_deadlock x (state_at s m (turn.Take false)) ≡ true
 unfolding may_deadlock
 may x s m order none live rest idle pends =
-    rw live (rw idle (ap (λ v. v && true) (stalled_as_idle x (state_at s m (turn.Take false)) order ∙ is_idle_so x s m none rest pends)))
+    ap₂ (λ (a b : Bool). a && b) (stalled_as_idle x (state_at s m (turn.Take false)) order ∙ is_idle_so x s m none rest pends) (ap₂ (λ (y : IdleLine) (b : Bool). is_idle_trap y && not b) idle live)
 
 module _ (x : Setting) (s t : StateView) (m : Main) (current : s.current ≡ None) (none : next_entry s.core ≡ None) (moving : has_moving_work s.core ≡ false) (live : has_live_work s.core ≡ false) (rest : works_rest s.core ≡ true) (order : InOrder x.component (state_at s.core m (turn.Take false))) (idle : x.idle ≡ idle_line.Trap) (pends : main_pends x s.core m ≡ true) (new : t ≡ on_core set_trapped s) where
   deadlock_step : Step x (state_at s.core m (turn.Take false)) (label.Loop (loop_label.Deadlock (deadlock_trap s.core))) (state_at t.core m turn.Over)

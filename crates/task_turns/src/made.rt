@@ -45,6 +45,7 @@ fn fell<W: Words>(w: &mut W, thread: ThreadId, label: Label) -> Made
 }
 
 /// What an op that came to this shows. A strand that trapped is taken away.
+#[inline(always)]
 pub(crate) fn made_of<W: Words>(w: &mut W, thread: ThreadId, came: Came) -> Made
     requires strikes { CanStrike came (thread_of (W.view w.old) thread) (W.view w.old).core }
     requires goes { GoesOn came (W.view w.old) }
@@ -56,7 +57,6 @@ pub(crate) fn made_of<W: Words>(w: &mut W, thread: ThreadId, came: Came) -> Made
     ensures over { is_none (outcome_of_label result.label) ≡ is_open result.turn }
     ensures works { KeepsWorks (W.view w.old) (W.view w.new) }
 {
-    let number = w.number(thread);
     match came {
         Came::Goes(label, next) => Made {
             label,
@@ -69,7 +69,13 @@ pub(crate) fn made_of<W: Words>(w: &mut W, thread: ThreadId, came: Came) -> Made
                 turn: Turn::Main,
             }
         }
-        Came::Traps(trap) => fell(w, thread, Label::Loop(LoopLabel::Trap(trap, number))),
-        Came::Fails(work) => fell(w, thread, Label::Call(CallLabel::Fails(number, work))),
+        Came::Traps(trap) => {
+            let number = w.number(thread);
+            fell(w, thread, Label::Loop(LoopLabel::Trap(trap, number)))
+        }
+        Came::Fails(work) => {
+            let number = w.number(thread);
+            fell(w, thread, Label::Call(CallLabel::Fails(number, work)))
+        }
     }
 }

@@ -22,7 +22,11 @@ use task_machine::{Component, NoMemory, Turn};
 use task_words::{ThreadId, Words};
 
 /// The running thread does the op at its place; it exits at its script's end. Where memory is wanting, all is as before.
-pub fn run_op<W: Words>(component: &Component, w: &mut W, thread: ThreadId) -> Result<Done, NoMemory>
+pub fn run_op<W: Words>(
+    component: &Component,
+    w: &mut W,
+    thread: ThreadId,
+) -> Result<Done, NoMemory>
     requires covered { IsWellFormed component.now }
     requires runner { Runner thread (W.view w.old) }
     requires instances { HasInstances component.now (W.view w.old).core }

@@ -19,7 +19,7 @@ use crate::settles::nothing_stands;
 use crate::stretches::stretch;
 use crate::takes::step_take;
 use crate::trace::Trace;
-use task_machine::{Component, NoMemory, Turn};
+use task_machine::{Component, Label, NoMemory, Turn};
 use task_words::Words;
 
 /// The live work that is next is polled.
@@ -76,10 +76,12 @@ pub fn take<W: Words>(
     }
 }
 
-/// The ops on registers and words that come next, where a thread runs.
+/// The ops on registers and words that come next, where a thread runs. They are looked for only where such an op
+/// made the last label, since other ops mostly come alone.
 pub fn compute<W: Words>(
     component: &Component,
     w: &mut W,
+    last: &Label,
     turn: Turn,
     trace: &mut Trace,
     added: u32,
@@ -93,6 +95,9 @@ pub fn compute<W: Words>(
     ensures on { IfOk result (λ k. KeepsOn component.now turn (W.view w.old) trace.old added (W.view w.new) trace.new k) }
     ensures works { SameWorks (W.view w.old) (W.view w.new) }
 {
+    if !matches!(last, Label::Data(_)) {
+        return Ok(added);
+    }
     match turn {
         Turn::Run { thread } => stretch(component, w, thread, trace, added, steps),
         _ => Ok(added),

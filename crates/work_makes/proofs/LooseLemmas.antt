@@ -6,6 +6,7 @@ use Rattle.make_words.specs.Loose.{IsLoose, IsSpare}
 use Rattle.strand_words.proofs.NodeLemmas.{filed_made, spare_made}
 use Rattle.work_makes.specs.Loose.{AreWorkLoose}
 use Rattle.work_makes.specs.declared.nodes.WorkNodes.{WorkNodes}
+use Rattle.task_records.specs.Places.{member_seat}
 
 module _ (a b c d e : CoreParts) (n : WorkNodes) (sound_a : IsSound a) (sound_b : IsSound b) (sound_c : IsSound c) (sound_d : IsSound d)
     (only_b : b ≡ record a { places = b.places }) (only_c : c ≡ record b { ready_works = c.ready_works }) (only_d : d ≡ record c { polled = d.polled }) (only_e : e ≡ record d { marks = e.marks })
@@ -16,7 +17,7 @@ module _ (a b c d e : CoreParts) (n : WorkNodes) (sound_a : IsSound a) (sound_b 
 
   ready_new : IsSpare (λ (w : HostWork). w.ready.index) (bare (parts_of b)).works c.ready_works n.ready.index
   unfolding IsSound
-  ready_new = spare_made _ _ b.ready_works c.ready_works n.ready.index (filed_made (λ (w : HostWork). w.ready.index) (λ w. ready_in w.work.event w.work.join) (λ r w. r) (ready_work_chain (bare (parts_of b))) (bare (parts_of b)).works b.ready_works sound_b.whole.chained.ready_works) ready
+  ready_new = spare_made _ _ b.ready_works c.ready_works n.ready.index (filed_made (λ (w : HostWork). w.ready.index) (λ w. ready_in w.work.event w.work.join) (λ r w. member_seat w.entry r) (ready_work_chain (bare (parts_of b))) (bare (parts_of b)).works b.ready_works sound_b.whole.chained.ready_works) ready
 
   live_new : IsSpare (λ (w : HostWork). w.live.index) (bare (parts_of c)).works d.polled n.live.index
   unfolding IsSound

@@ -1,6 +1,6 @@
 use Rattle.removal_words.proofs.CallLemmas.{blocked_live, call_counted, call_deleted, group_counted, group_named, group_positive, interest_counted, ready_made, removed_core, removed_sound, removed_tags}
 use Rattle.removal_words.proofs.calls.drop_call.Goals as goal
-use Rattle.task_records.proofs.Core.{ap, arith, Call, cond, IsSound, option_map_or, refl, seen, subst, sym, ℕ, ◌<◌, ◌∙◌, ◌≡◌, ◌≤◌}
+use Rattle.task_records.proofs.Core.{ap, arith, Call, cond, IsSound, option_map_or, refl, seen, subst, sym, ℕ, ◌-◌, ◌<◌, ◌∙◌, ◌≡◌, ◌≤◌}
 use Rattle.task_records.specs.declared.{calls.GuestTask.GuestTask}
 use Rattle.task_records.proofs.HomeLemmas.{call_names}
 use Rattle.place_words.proofs.ThreadLemmas.{same_item}
@@ -31,14 +31,14 @@ pub returns-clause-sound : goal.returns-clause-sound
 unfolding IsSound
 returns-clause-sound c =
     removed_sound c.args.parts.now c.requires.sound c.args.call c.in-Some.found.now c.in-Some.ensures.item c.group_there.result.0 c.group_there.result.1 c.group_there.ensures.item (c.group_there.ensures.number ∙ (call_names c.args.parts.now c.requires.sound c.args.call c.in-Some.found.now c.in-Some.ensures.item).group) c.requires.last c.requires.join
-    c.close_seats.new.links c.drop_seat.new.links c.close_seats.ensures c.drop_seat.ensures _ (let few = interest_counted c.args.parts.now c.requires.sound c.args.call c.in-Some.found.now c.in-Some.ensures.item in let one : c.one_if.result ≡ cond {A = ℕ} c.in-Some.found.now.call.interesting 1 0 = c.one_if.ensures in omega arith)
+    c.close_seats.new.links c.drop_seat.new.links c.close_seats.ensures c.drop_seat.ensures (c.args.parts.now.kept.interesting - c.one_if.result) (let few = interest_counted c.args.parts.now c.requires.sound c.args.call c.in-Some.found.now c.in-Some.ensures.item in let one : c.one_if.result ≡ cond {A = ℕ} c.in-Some.found.now.call.interesting 1 0 = c.one_if.ensures in omega arith)
     c.delete.new.self c.in-Ok-delete.ensures.ok c.delete.ensures.sound
 
 pub returns-clause-core : goal.returns-clause-core
 unfolding seen
 returns-clause-core c =
     removed_core c.args.parts.now c.requires.sound c.args.call c.in-Some.found.now c.in-Some.ensures.item c.group_there.result.0 c.group_there.result.1 c.group_there.ensures.item (c.group_there.ensures.number ∙ (call_names c.args.parts.now c.requires.sound c.args.call c.in-Some.found.now c.in-Some.ensures.item).group) c.requires.last c.requires.join
-    c.close_seats.new.links c.drop_seat.new.links c.close_seats.ensures c.drop_seat.ensures _ (let few = interest_counted c.args.parts.now c.requires.sound c.args.call c.in-Some.found.now c.in-Some.ensures.item in let one : c.one_if.result ≡ cond {A = ℕ} c.in-Some.found.now.call.interesting 1 0 = c.one_if.ensures in omega arith)
+    c.close_seats.new.links c.drop_seat.new.links c.close_seats.ensures c.drop_seat.ensures (c.args.parts.now.kept.interesting - c.one_if.result) (let few = interest_counted c.args.parts.now c.requires.sound c.args.call c.in-Some.found.now c.in-Some.ensures.item in let one : c.one_if.result ≡ cond {A = ℕ} c.in-Some.found.now.call.interesting 1 0 = c.one_if.ensures in omega arith)
     c.delete.new.self c.in-Ok-delete.ensures.ok
 
 pub returns-clause-current : goal.returns-clause-current
@@ -49,7 +49,7 @@ pub returns-clause-tags : goal.returns-clause-tags
 unfolding seen
 returns-clause-tags c =
     removed_tags c.args.parts.now c.requires.sound c.args.call c.in-Some.found.now c.in-Some.ensures.item c.group_there.result.0 c.group_there.result.1 c.group_there.ensures.item (c.group_there.ensures.number ∙ (call_names c.args.parts.now c.requires.sound c.args.call c.in-Some.found.now c.in-Some.ensures.item).group) c.requires.last c.requires.join
-    c.close_seats.new.links c.drop_seat.new.links c.close_seats.ensures c.drop_seat.ensures _ (let few = interest_counted c.args.parts.now c.requires.sound c.args.call c.in-Some.found.now c.in-Some.ensures.item in let one : c.one_if.result ≡ cond {A = ℕ} c.in-Some.found.now.call.interesting 1 0 = c.one_if.ensures in omega arith)
+    c.close_seats.new.links c.drop_seat.new.links c.close_seats.ensures c.drop_seat.ensures (c.args.parts.now.kept.interesting - c.one_if.result) (let few = interest_counted c.args.parts.now c.requires.sound c.args.call c.in-Some.found.now c.in-Some.ensures.item in let one : c.one_if.result ≡ cond {A = ℕ} c.in-Some.found.now.call.interesting 1 0 = c.one_if.ensures in omega arith)
     c.delete.new.self c.in-Ok-delete.ensures.ok
 
 pub returns-clause-group : goal.returns-clause-group
@@ -59,4 +59,4 @@ pub returns-clause-positive : goal.returns-clause-positive
 returns-clause-positive c = subst (λ (n : ℕ). 0 < n) (ap (λ o. option_map_or (λ (x : Call). x.group) o 0) c.in-Some.ensures.is) (group_positive c.args.parts.now c.requires.sound c.args.call c.in-Some.found.now c.in-Some.ensures.item)
 
 pub returns-clause-places : goal.returns-clause-places
-returns-clause-places c g is = ap (λ (h : GuestTask). given h.entry c.args.parts.now.table_places) (same_item c.in-Some.ensures.item is)
+returns-clause-places c g is = c.give.ensures ∙ ap (λ (h : GuestTask). given h.entry c.args.parts.now.table_places) (same_item c.in-Some.ensures.item is)

@@ -1,6 +1,6 @@
 use Rattle.removal_words.proofs.SetLemmas.{calls_live, removed_core, removed_sound, removed_tags, set_counted, set_deleted, waiters_live, works_live}
 use Rattle.removal_words.proofs.sets.remove_set.Goals as goal
-use Rattle.task_records.proofs.Core.{ap, IsSound, refl, seen}
+use Rattle.task_records.proofs.Core.{ap, IsSound, refl, seen, ◌∙◌}
 use Rattle.task_records.specs.declared.{sets.WaitSet.WaitSet}
 use Rattle.place_words.proofs.ThreadLemmas.{same_item}
 use Rattle.table_order.specs.Places.{given}
@@ -37,4 +37,4 @@ unfolding seen
 returns-clause-tags c = removed_tags c.args.parts.now c.requires.sound c.args.set c.in-Some.found.now c.in-Some.ensures.item _ _ _ c.close_seats.ensures c.close_seats-2.ensures c.close_seats-3.ensures _ c.in-Ok.ensures.ok
 
 pub returns-clause-places : goal.returns-clause-places
-returns-clause-places c x is = ap (λ (y : WaitSet). given y.entry c.args.parts.now.table_places) (same_item c.in-Some.ensures.item is)
+returns-clause-places c x is = c.give.ensures ∙ ap (λ (y : WaitSet). given y.entry c.args.parts.now.table_places) (same_item c.in-Some.ensures.item is)

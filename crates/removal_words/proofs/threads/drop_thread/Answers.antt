@@ -1,7 +1,7 @@
 use Rattle.removal_words.proofs.CloseLemmas.{closed_free}
 use Rattle.removal_words.proofs.ThreadLemmas.{call_counted, caller_unlinked, callers_live, mark_unlinked, node_made, removed_core, removed_sound, removed_tags, shelf_unlinked, thread_counted, thread_deleted, under_live}
 use Rattle.removal_words.proofs.threads.drop_thread.Goals as goal
-use Rattle.task_records.proofs.Core.{ap, IsSound, refl, seen}
+use Rattle.task_records.proofs.Core.{ap, IsSound, refl, seen, ◌∙◌}
 use Rattle.task_records.specs.declared.{threads.GuestThread.GuestThread}
 use Rattle.place_words.proofs.ThreadLemmas.{same_item}
 use Rattle.table_order.specs.Places.{given}
@@ -53,4 +53,4 @@ returns-clause-tags c = removed_tags c.args.parts.now c.requires.sound c.args.th
     c.close_seats.new.links c.drop_seat.new.links c.close_seats.ensures c.drop_seat.ensures c.drop_node-2.new.self c.drop_node-2.ensures c.drop_node-3.new.self c.drop_node-3.ensures c.close.new.links c.drop_node.new.self c.close.ensures c.drop_node.ensures c.delete.new.self c.in-Ok-delete.ensures.ok
 
 pub returns-clause-places : goal.returns-clause-places
-returns-clause-places c g is = ap (λ (h : GuestThread). given h.set_entry (given h.entry c.args.parts.now.table_places)) (same_item c.with_call.ensures.thread is)
+returns-clause-places c g is = c.give-2.ensures ∙ (ap (given c.with_call.result.0.set_entry) c.give.ensures ∙ ap (λ (h : GuestThread). given h.set_entry (given h.entry c.args.parts.now.table_places)) (same_item c.with_call.ensures.thread is))

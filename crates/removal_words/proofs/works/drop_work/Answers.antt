@@ -1,6 +1,6 @@
 use Rattle.removal_words.proofs.WorkLemmas.{blocked_live, group_counted, group_named, live_free, mark_unlinked, ready_made, removed_core, removed_sound, removed_tags, use_counted, work_deleted}
 use Rattle.removal_words.proofs.works.drop_work.Goals as goal
-use Rattle.task_records.proofs.Core.{ap, arith, cond, is_host_call, IsSound, refl, seen, subst, sym, ℕ, ◌∙◌, ◌≡◌, ◌≤◌}
+use Rattle.task_records.proofs.Core.{ap, arith, cond, is_host_call, IsSound, refl, seen, subst, sym, ℕ, ◌-◌, ◌∙◌, ◌≡◌, ◌≤◌}
 use Rattle.task_records.specs.declared.{works.HostWork.HostWork}
 use Rattle.task_records.proofs.HomeLemmas.{work_names}
 use Rattle.place_words.proofs.ThreadLemmas.{same_item}
@@ -34,7 +34,7 @@ pub returns-clause-sound : goal.returns-clause-sound
 unfolding IsSound
 returns-clause-sound c =
     removed_sound c.args.parts.now c.requires.sound c.args.work c.in-Some.found.now c.in-Some.ensures.item c.requires.unqueued c.requires.join c.requires.stage c.lower_group-group.new.groups c.lower_group-group.result c.lower_group-group.ensures
-    c.close_seats.new.links c.drop_seat.new.links c.drop_node.new.self c.close_seats.ensures c.drop_seat.ensures c.drop_node.ensures c.drop_node-2.new.self c.drop_node-2.ensures _
+    c.close_seats.new.links c.drop_seat.new.links c.drop_node.new.self c.close_seats.ensures c.drop_seat.ensures c.drop_node.ensures c.drop_node-2.new.self c.drop_node-2.ensures (c.args.parts.now.kept.used - c.one_if.result)
     (let few = use_counted c.args.parts.now c.requires.sound c.args.work c.in-Some.found.now c.in-Some.ensures.item in let one : c.one_if.result ≡ cond {A = ℕ} (is_host_call c.in-Some.found.now.work) 1 0 = c.one_if.ensures ∙ ap (λ b. cond b 1 0) c.is_some.ensures in omega arith)
     c.delete.new.self c.in-Ok.ensures.ok c.delete.ensures.sound
 
@@ -42,7 +42,7 @@ pub returns-clause-core : goal.returns-clause-core
 unfolding seen
 returns-clause-core c =
     removed_core c.args.parts.now c.requires.sound c.args.work c.in-Some.found.now c.in-Some.ensures.item c.requires.unqueued c.requires.join c.requires.stage c.lower_group-group.new.groups c.lower_group-group.result c.lower_group-group.ensures
-    c.close_seats.new.links c.drop_seat.new.links c.drop_node.new.self c.close_seats.ensures c.drop_seat.ensures c.drop_node.ensures c.drop_node-2.new.self c.drop_node-2.ensures _
+    c.close_seats.new.links c.drop_seat.new.links c.drop_node.new.self c.close_seats.ensures c.drop_seat.ensures c.drop_node.ensures c.drop_node-2.new.self c.drop_node-2.ensures (c.args.parts.now.kept.used - c.one_if.result)
     (let few = use_counted c.args.parts.now c.requires.sound c.args.work c.in-Some.found.now c.in-Some.ensures.item in let one : c.one_if.result ≡ cond {A = ℕ} (is_host_call c.in-Some.found.now.work) 1 0 = c.one_if.ensures ∙ ap (λ b. cond b 1 0) c.is_some.ensures in omega arith)
     c.delete.new.self c.in-Ok.ensures.ok
 
@@ -54,7 +54,7 @@ pub returns-clause-tags : goal.returns-clause-tags
 unfolding seen
 returns-clause-tags c =
     removed_tags c.args.parts.now c.requires.sound c.args.work c.in-Some.found.now c.in-Some.ensures.item c.requires.unqueued c.requires.join c.requires.stage c.lower_group-group.new.groups c.lower_group-group.result c.lower_group-group.ensures
-    c.close_seats.new.links c.drop_seat.new.links c.drop_node.new.self c.close_seats.ensures c.drop_seat.ensures c.drop_node.ensures c.drop_node-2.new.self c.drop_node-2.ensures _
+    c.close_seats.new.links c.drop_seat.new.links c.drop_node.new.self c.close_seats.ensures c.drop_seat.ensures c.drop_node.ensures c.drop_node-2.new.self c.drop_node-2.ensures (c.args.parts.now.kept.used - c.one_if.result)
     (let few = use_counted c.args.parts.now c.requires.sound c.args.work c.in-Some.found.now c.in-Some.ensures.item in let one : c.one_if.result ≡ cond {A = ℕ} (is_host_call c.in-Some.found.now.work) 1 0 = c.one_if.ensures ∙ ap (λ b. cond b 1 0) c.is_some.ensures in omega arith)
     c.delete.new.self c.in-Ok.ensures.ok
 

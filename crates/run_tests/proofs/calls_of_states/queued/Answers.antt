@@ -1,5 +1,5 @@
 use Rattle.run_tests.proofs.StateLemmas.{sits_joins, sits_placed}
-use Rattle.run_tests.proofs.state_calls.queued.Goals as goal
+use Rattle.run_tests.proofs.calls_of_states.queued.Goals as goal
 use Rattle.task_loop.specs.Calls.{callee_of}
 use Rattle.task_machine.specs.declared.records.Turn.TheVariants as turn
 use Rattle.task_turns.proofs.CoveredLemmas.{home_there}

@@ -1,5 +1,5 @@
 use Rattle.run_tests.proofs.StateLemmas.{woken_live}
-use Rattle.run_tests.proofs.state_calls.an_event_is_set_and_taken.Goals as goal
+use Rattle.run_tests.proofs.calls_of_states.an_event_is_set_and_taken.Goals as goal
 use Rattle.state_calls.proofs.PlacedLemmas.{placed_idle}
 
 pub set_event-woken-requires-clause-idle : goal.set_event-woken-requires-clause-idle

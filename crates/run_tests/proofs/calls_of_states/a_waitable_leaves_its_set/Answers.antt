@@ -1,4 +1,4 @@
-use Rattle.run_tests.proofs.state_calls.a_waitable_leaves_its_set.Goals as goal
+use Rattle.run_tests.proofs.calls_of_states.a_waitable_leaves_its_set.Goals as goal
 use Rattle.state_calls.proofs.PlacedLemmas.{placed_idle}
 
 pub join-woken-requires-clause-idle : goal.join-woken-requires-clause-idle

@@ -1,5 +1,5 @@
 use Rattle.run_tests.proofs.StateLemmas.{event_idle, event_live, event_there}
-use Rattle.run_tests.proofs.state_calls.a_waitable_with_an_event_is_ready.Goals as goal
+use Rattle.run_tests.proofs.calls_of_states.a_waitable_with_an_event_is_ready.Goals as goal
 
 pub mark_ready-woken-requires-clause-live : goal.mark_ready-woken-requires-clause-live
 mark_ready-woken-requires-clause-live g c = event_live c.first_thread-id.result.task _ _ _ _ c.set_event.ensures c.first_thread-id.ensures.task

@@ -1,0 +1,68 @@
+use Rattle.std.proofs.Common.{inl, refl, subst, sym, ◌∙◌}
+use Rattle.task_calls.proofs.AskLemmas.{current_runs, did_row, order_still, order_then}
+use Rattle.task_calls.proofs.DirectLemmas.{all_back, direct_under, exits_met, exits_trapped, written_runs}
+use Rattle.task_calls.proofs.directs.exit_call.Goals as goal
+use Rattle.task_calls.specs.Asks.{Did}
+use Rattle.task_calls.specs.Directs.{exits_row}
+use Rattle.task_machine.specs.Write.{set_register}
+use Rattle.task_ops.specs.Came.{Meets}
+use Rattle.task_ops.specs.declared.came.Came.TheVariants as came
+use Rattle.task_rules.specs.Ends.{direct_exit_row}
+use Rattle.task_turns.proofs.OrderLemmas.{number_at, runner}
+
+pub exit_direct-requires-clause-running : goal.exit_direct-requires-clause-running
+exit_direct-requires-clause-running g c =
+    let v = g.W.View.view in
+    let q = c.requires.running in
+    let s = v c.args.w.now in
+    written_runs c.in-Some.thread c.args.value s (v c.set_register.new.self) c.set_register.ensures
+    (runner c.args.component.now q.number s q.order c.none_is_zero.ensures.threads q.runs c.in-Some.thread (sym c.current.ensures ∙ c.in-Some.is)).running
+
+pub exit_direct-requires-clause-under : goal.exit_direct-requires-clause-under
+exit_direct-requires-clause-under g c =
+    let v = g.W.View.view in
+    let q = c.requires.running in
+    let s = v c.args.w.now in
+    direct_under c.in-Some.thread c.args.value s (v c.set_register.new.self) c.set_register.ensures c.args.component.now q.number q.order q.runs
+    (number_at q.number s q.runs c.in-Some.thread (sym c.current.ensures ∙ c.in-Some.is)) c.requires.direct
+
+pub returns-in-Goes-clause-order : goal.returns-in-Goes-clause-order
+returns-in-Goes-clause-order g c at =
+    let v = g.W.View.view in
+    let q = c.requires.running in
+    let s = v c.args.w.now in
+    let t = v c.exit_direct.new.w in
+    let r = came.Goes c.in-Goes.field-0 c.in-Goes.field-1 in
+    let e = c.in-Goes.ensures in
+    let number = number_at q.number s q.runs c.in-Some.thread (sym c.current.ensures ∙ c.in-Some.is) in
+    order_then c.args.component.now q.number r s t q.runs (current_runs r t e.current) tt (exits_row c.args.value s.core) q.order
+    (subst (λ k. Meets (direct_exit_row k (set_register k 0 c.args.value s.core)) s.core r t.core) number
+    (exits_met c.in-Some.thread c.args.value s (v c.set_register.new.self) c.set_register.ensures t.core c.in-Goes.field-0 c.in-Goes.field-1 e.meets)) at
+
+pub returns-in-Traps-clause-answers : goal.returns-in-Traps-clause-answers
+returns-in-Traps-clause-answers g c =
+    let v = g.W.View.view in
+    let q = c.requires.running in
+    let s = v c.args.w.now in
+    let t = v c.exit_direct.new.w in
+    let r = came.Traps c.in-Traps.trap in
+    let e = c.in-Traps.ensures in
+    let number = number_at q.number s q.runs c.in-Some.thread (sym c.current.ensures ∙ c.in-Some.is) in
+    let back = all_back c.in-Some.thread c.args.value c.register-before.result s (v c.set_register.new.self) t (v c.set_register-in-Traps.new.self) c.set_register.ensures c.register-before.ensures e.stays c.set_register-in-Traps.ensures in (
+      r,
+      (
+        subst (Did (exits_row c.args.value s.core) s r) (sym back)
+            (did_row c.args.component.now q.number r s s q.runs tt refl (exits_row c.args.value s.core) (λ id live. inl refl)
+            (subst (λ k. Meets (direct_exit_row k (set_register k 0 c.args.value s.core)) s.core r s.core) number
+            (exits_trapped c.in-Some.thread c.args.value s (v c.set_register.new.self) c.set_register.ensures t.core c.in-Traps.trap e.meets))),
+        refl,
+      ),
+    )
+
+pub returns-in-Traps-clause-order : goal.returns-in-Traps-clause-order
+returns-in-Traps-clause-order g c at =
+    let v = g.W.View.view in
+    let q = c.requires.running in
+    let s = v c.args.w.now in
+    let back = all_back c.in-Some.thread c.args.value c.register-before.result s (v c.set_register.new.self) (v c.exit_direct.new.w) (v c.set_register-in-Traps.new.self) c.set_register.ensures c.register-before.ensures c.in-Traps.ensures.stays c.set_register-in-Traps.ensures in
+    order_still c.args.component.now q.number s (v c.set_register-in-Traps.new.self) q.runs q.order back
