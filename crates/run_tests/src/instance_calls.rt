@@ -1,5 +1,6 @@
 //! The calls of an instance, each by a thread of a scenario that was run so far.
 ghost use Rattle.std.specs.Prelude.{◌≡◌, ◌<◌, ◌≤◌, IfSome, IsSome, false, length, true};
+ghost use Rattle.host_works.specs.Kept.{HoldsNone};
 ghost use Rattle.task_calls.specs.Asks.{CanAsk, HasPaused, IsRunningIn};
 ghost use Rattle.task_machine.specs.Core.{fresh};
 ghost use Rattle.task_records.specs.Seen.{nothing};
@@ -45,7 +46,8 @@ impl Drop for Midway {
 
 // A store with two instances.
 fn new_store(rt: &impl Abort, alloc: Global) -> Store<(), ScriptedHost>
-    ensures { result.state ≡ with_core (fresh 2 100000 1000000) nothing }
+    ensures state { result.state ≡ with_core (fresh 2 100000 1000000) nothing }
+    ensures works { HoldsNone result.works }
 {
     let mut store = Store::new(alloc, (), true, 1);
     let Ok(_) = store.add_instance() else {
@@ -69,6 +71,7 @@ fn drive(
     requires two { length scenario.now.component.instances ≡ 2 }
     requires fresh { store.old.state ≡ with_core (fresh 2 100000 1000000) nothing }
     requires free { store.old.running ≡ false }
+    requires works { HoldsNone store.old.works }
     requires few { steps ≤ 100 }
     ensures order { IfSome (running_of store.new.state) (λ n. Sits scenario.now.component (Turn.Run n) store.new.state.core) }
     ensures given { given store.new.state.core ≤ 200 }

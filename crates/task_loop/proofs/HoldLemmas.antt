@@ -103,7 +103,7 @@ module _ (c : Component) (n : ℕ) (s t : StateView) (ran : Ran) (sits : Sits c 
       holds_made x before ran.made.label (state_at t.core Unscripted ran.made.turn) (makes.step x refl Unscripted) (λ k e. cc) (sits.order Unscripted).works.made left l right
       (subst (λ (k : ℕ). course_of k t.core ≡ courses.Goes l) number goes)
       (λ i. is i ∙ (ap (λ (o : Option HostDef). held_after_call (Some (work_of t id)) o left i) polled ∙ (ap (λ (k : ℕ). cond (k == i) (Some (one_fewer d)) (left i)) number
-          ∙ ap (λ (e : HostDef). cond (s.core.made.works + 1 == i) (Some e) (left i)) (first_left d l first))))
+      ∙ ap (λ (e : HostDef). cond (s.core.made.works + 1 == i) (Some e) (left i)) (first_left d l first))))
       h
 
   pub held_run : (right : ℕ → Option HostDef) → ((i : ℕ) → right i ≡ held_after_call (option_map (λ id. work_of t id) ran.work) ran.polled left i) → HoldsWorks right t.core

@@ -18,7 +18,7 @@ returns-in-Ok-queue_spawn-clause-hosts g c numbered h =
     let left = held_by g.H.HostWork.course store in
     let right = held g.H.HostWork.course c.keep.new.self in
     let is : (i : ℕ) → right i ≡ cond (s.made.works + 1 == i) (Some d) (left i) =
-        λ i. c.in-Ok.ensures.ok i ∙ ap₂ (λ k e. cond (k == i) (Some e) (left i)) (ap (λ (m : Made). m.works + 1) c.made-number.ensures) (sym c.left-left.ensures) in
+    λ i. c.in-Ok.ensures.ok i ∙ ap₂ (λ k e. cond (k == i) (Some e) (left i)) (ap (λ (m : Made). m.works + 1) c.made-number.ensures) (sym c.left-left.ensures) in
     subst (λ (u : Core). HoldsWorks right u) (sym c.in-Ok-queue_spawn.ensures.core) (holds_queued work_callers.Spawn d None s left right numbered is h)
 
 pub returns-in-Ok-queue_spawn-clause-spawned : goal.returns-in-Ok-queue_spawn-clause-spawned
