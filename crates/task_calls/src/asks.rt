@@ -14,7 +14,7 @@ use task_turns::run_op;
 use task_words::Words;
 
 // No thread runs once the strand has stopped.
-fn leave<W: Words>(w: &mut W, came: Came)
+pub(crate) fn leave<W: Words>(w: &mut W, came: Came)
     ensures { W.view w.new ≡ after came (W.view w.old) }
 {
     if let Came::Stops(_) = came {

@@ -2,6 +2,7 @@
 #![tactic(auto)]
 
 mod call;
+mod host_calls;
 mod instance;
 mod main_task;
 mod run;

@@ -1,7 +1,8 @@
 -- The host works that a store holds.
-use Rattle.host_works.specs.Course.{one_fewer}
+use Rattle.host_works.specs.Course.{left_after, one_fewer}
 use Rattle.host_works.specs.Kept.{held}
-use Rattle.std.specs.Prelude.{◌==◌, ◌≡◌, ◌≤◌, None, Option, Some, cond, is_some, true, ℕ}
+use Rattle.std.specs.Option.{option_and_then}
+use Rattle.std.specs.Prelude.{◌==◌, ◌≡◌, ◌≤◌, Bool, None, Option, Some, cond, false, is_some, true, ℕ}
 use Rattle.task_machine.specs.Core.{Core}
 use Rattle.task_machine.specs.Maps.{get}
 use Rattle.task_machine.specs.Read.{course_of}
@@ -33,3 +34,8 @@ abbrev pub held_after_call : Option ℕ → Option HostDef → (ℕ → Option H
 held_after_call None d left i = left i
 held_after_call (Some k) None left i = left i
 held_after_call (Some k) (Some d) left i = cond (k == i) (Some (one_fewer d)) (left i)
+
+-- what is held of a work once its call polled it first and was made, or was refused
+abbrev pub settled : Bool → Option HostDef → Option HostDef
+settled true o = option_and_then left_after o
+settled false o = None

@@ -1,5 +1,5 @@
 //! The host works of a store: those of guests' calls, and those that a host spawns.
-ghost use Rattle.std.specs.Prelude.{◌||◌, ◌≡◌, ◌<◌, ◌^◌, ℕ, IfErr, IfOk, None, OnErr, OnOk, Some, option_map};
+ghost use Rattle.std.specs.Prelude.{◌||◌, ◌==◌, ◌≡◌, ◌<◌, ◌^◌, ℕ, IfErr, IfOk, IsSome, None, OnErr, OnOk, Some, cond, option_map};
 ghost use Rattle.task_laws.specs.Order.{WorksQueued};
 ghost use Rattle.task_machine.specs.Core.{Main};
 ghost use Rattle.task_machine.specs.Read.{is_aborted};
@@ -10,7 +10,7 @@ ghost use Rattle.task_rules.specs.Calls.{next_work, work_queued};
 ghost use Rattle.task_rules.specs.Places.{Placed};
 ghost use Rattle.task_rules.specs.Stalled.{Setting};
 ghost use Rattle.task_rules.specs.Works.{has_end, next_polled};
-ghost use Rattle.task_store.specs.Hosts.{HoldsHosts, WorksNumbered, held_after_call, held_by};
+ghost use Rattle.task_store.specs.Hosts.{HoldsHosts, WorksNumbered, held_after_call, held_by, settled};
 ghost use Rattle.task_store.specs.Polled.{Tells};
 ghost use Rattle.task_store.specs.Spawned.{IsSpawnedIn};
 ghost use Rattle.task_turns.specs.Turn.{IsSettled, PendsIn, Turns, given};
@@ -97,6 +97,42 @@ impl<T, H: AccessorTask<T>> Store<T, H> {
     {
         self.tell(polled);
         poll(&mut self.state, polled)
+    }
+}
+
+impl<T, H: AccessorTask<T>> Store<T, H> {
+    /// Holds a work under the next number, for a guest's call that is to make it. Where memory is wanting, it isn't
+    /// held.
+    pub fn hold_next(&mut self, work: H) -> Result<u64, NoMemory>
+        requires given { given self.old.state.core < 2 ^ 61 }
+        ensures number { IfOk result (λ i. i ≡ next_work self.old.state.core) }
+        ensures ok { OnOk result ((i : ℕ) → held_by H.course self.new i ≡ cond (next_work self.old.state.core == i) (Some (H.course work)) (held_by H.course self.old i)) }
+        ensures err { OnErr result ((i : ℕ) → held_by H.course self.new i ≡ held_by H.course self.old i) }
+        ensures rest { self.new ≡ record self.old { works = self.new.works } }
+    {
+        let number = self.state.made().works + 1;
+        self.works.keep(number, work)?;
+        Ok(number)
+    }
+
+    /// Polls the work with this number, which is held. Where its call wasn't made, it is let go then.
+    pub fn poll_held(&mut self, number: u64, made: bool)
+        requires { IsSome (held_by H.course self.old number) }
+        ensures left { (i : ℕ) → held_by H.course self.new i ≡ cond (number == i) (settled made (held_by H.course self.old number)) (held_by H.course self.old i) }
+        ensures rest { self.new ≡ record self.old { value = self.new.value; works = self.new.works } }
+    {
+        let _answer = self.works.poll(number, &mut self.value);
+        if !made {
+            self.works.let_go(number);
+        }
+    }
+
+    /// Lets the work with this number go, if it is held.
+    pub fn let_go(&mut self, number: u64)
+        ensures left { (i : ℕ) → held_by H.course self.new i ≡ cond (number == i) None (held_by H.course self.old i) }
+        ensures rest { self.new ≡ record self.old { works = self.new.works } }
+    {
+        self.works.let_go(number);
     }
 }
 

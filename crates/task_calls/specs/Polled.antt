@@ -1,0 +1,22 @@
+-- The calls of a host by the running thread, of a work that does what its course says.
+use Rattle.std.specs.Prelude.{ℕ}
+use Rattle.task_machine.specs.Core.{Core}
+use Rattle.task_machine.specs.Labels.{Choice}
+use Rattle.task_machine.specs.declared.component.HostDef.{HostDef}
+use Rattle.task_machine.specs.declared.label.Label.{Label}
+use Rattle.task_machine.specs.declared.label.Label.TheVariants as label
+use Rattle.task_rules.specs.Calls.{call_host_polled, call_sync_host_polled, first_poll}
+use Rattle.task_rules.specs.Progress.{Progress}
+
+-- a call that goes on: the packed status goes to the first register, and the value, once there is one, to the register q
+abbrev pub polls_row : ℕ → HostDef → Core → ℕ → Choice → Progress
+polls_row q host s n ch = call_host_polled n 0 q s (first_poll host)
+
+-- a call that waits for the value
+abbrev pub blocks_row : HostDef → Core → ℕ → Choice → Progress
+blocks_row host s n ch = call_sync_host_polled n 0 s (first_poll host)
+
+-- the value that was there at once; default: 0
+abbrev pub value_in : Label → ℕ
+value_in (label.CallSyncPolls n v i) = v
+value_in _ = 0

@@ -1,0 +1,78 @@
+//! The calls of a host by the running thread, of a work that is polled first.
+ghost use Rattle.std.specs.Prelude.{◌≡◌};
+ghost use Rattle.task_calls.specs.Answers.{at_once, number_in};
+ghost use Rattle.task_calls.specs.Asks.{Answers, IsAtPlace, IsRunningIn, turn_in};
+ghost use Rattle.task_calls.specs.Polled.{blocks_row, polls_row, value_in};
+ghost use Rattle.task_turns.specs.Turn.{Sits};
+
+use crate::answers::{Step, at_once, number_in, stepped};
+use crate::asks::leave;
+use state_calls::TaskError;
+use subtask_ops::{call_host, call_sync_host};
+use task_machine::{Component, HostDef, Label};
+use task_words::Words;
+
+// The value that was there at once, which the label shows.
+fn value_in(label: Label) -> u64
+    ensures { result ≡ value_in label }
+{
+    match label {
+        Label::CallSyncPolls(_, value, _) => value,
+        _ => 0,
+    }
+}
+
+/// A call that goes on, of a host that does what `host` says and is polled once. The packed status is answered:
+/// Returned where the value was there at once, which goes to the register, from 0 to 15; else Started with the handle
+/// of the work that was made. Refused, and then nothing is changed: by the host's failure; with trap 18 where an
+/// entry more doesn't fit into the table; with trap 17 where no handle may be given. Where memory is wanting,
+/// nothing is changed, too.
+pub fn poll_host<W: Words>(
+    component: &Component,
+    w: &mut W,
+    host: HostDef,
+    register: u8,
+) -> Result<u32, TaskError>
+    requires running { IsRunningIn component.now (W.view w.old) }
+    ensures answers { Answers (polls_row register host (W.view w.old).core) number_in (W.view w.old) (at_once result) (W.view w.new) }
+    ensures order { IsAtPlace component.now (polls_row register host (W.view w.old).core) (W.view w.old) → Sits component.now (turn_in (W.view w.new)) (W.view w.new).core }
+{
+    let _component = component;
+    w.none_is_zero();
+    let Some(thread) = w.current() else {
+        unreachable!()
+    };
+    let Ok((came, _work)) = call_host(w, thread, 0, register, host) else {
+        return Err(TaskError::NoMemory);
+    };
+    let label = at_once(came)?;
+    Ok(number_in(label))
+}
+
+/// A call that waits for its value, of a host that does what `host` says and is polled once. The value is answered
+/// where it was there at once; else the work is made, and the strand stops until it has ended: then `go_on` answers
+/// the value. Refused, and then nothing is changed: by the host's failure; with trap 18 where an entry more doesn't
+/// fit into the table; with trap 9 where the thread may not block. Where memory is wanting, nothing is changed, too.
+pub fn block_on_host<W: Words>(
+    component: &Component,
+    w: &mut W,
+    host: HostDef,
+) -> Result<Step<u64>, TaskError>
+    requires running { IsRunningIn component.now (W.view w.old) }
+    ensures answers { Answers (blocks_row host (W.view w.old).core) value_in (W.view w.old) result (W.view w.new) }
+    ensures order { IsAtPlace component.now (blocks_row host (W.view w.old).core) (W.view w.old) → Sits component.now (turn_in (W.view w.new)) (W.view w.new).core }
+{
+    let _component = component;
+    w.none_is_zero();
+    let Some(thread) = w.current() else {
+        unreachable!()
+    };
+    let Ok((came, _work)) = call_sync_host(w, thread, 0, host) else {
+        return Err(TaskError::NoMemory);
+    };
+    leave(w, came);
+    match stepped(came)? {
+        Step::Done(label) => Ok(Step::Done(value_in(label))),
+        Step::Pause => Ok(Step::Pause),
+    }
+}

@@ -1,0 +1,89 @@
+//! Calls of hosts by an instance, of works that the host makes.
+ghost use Rattle.std.specs.Prelude.{◌==◌, ◌≡◌, ◌<◌, ℕ, IsSome, cond, is_ok};
+ghost use Rattle.task_calls.specs.Answers.{at_once, number_in};
+ghost use Rattle.task_calls.specs.Asks.{Answers, CanAsk, IsAtPlace, IsRunningIn, turn_in};
+ghost use Rattle.task_calls.specs.Polled.{blocks_row, polls_row, value_in};
+ghost use Rattle.task_store.specs.Hosts.{HoldsHosts, held_by, settled};
+ghost use Rattle.task_turns.specs.Turn.{Sits};
+
+use crate::instance::Instance;
+use task_calls::{Step, TaskError, block_on_host, poll_host};
+use task_machine::Component;
+use task_store::{AccessorTask, Store};
+
+// The work was polled where its call was made or refused, and is held where it was made and hasn't ended. Where memory was
+// wanting, it wasn't polled.
+fn settle<T, H: AccessorTask<T>, A>(
+    store: &mut Store<T, H>,
+    number: u64,
+    answer: &Result<A, TaskError>,
+)
+    requires { IsSome (held_by H.course store.old number) }
+    ensures left { (i : ℕ) → held_by H.course store.new i ≡ cond (number == i) (settled (is_ok answer.now) (held_by H.course store.old number)) (held_by H.course store.old i) }
+    ensures rest { store.new ≡ record store.old { value = store.new.value; works = store.new.works } }
+{
+    match answer {
+        Ok(_) => store.poll_held(number, true),
+        Err(TaskError::NoMemory) => store.let_go(number),
+        Err(_) => store.poll_held(number, false),
+    }
+}
+
+impl Instance {
+    /// Calls a host, whose work is polled once: the packed status is answered. It is Returned where the work has
+    /// ended, and its value goes to the register, from 0 to 15; else Started, with the handle of the subtask, and the
+    /// store holds the work and polls it until it ends. Refused, after the poll, by the work's failure; with trap 18
+    /// where an entry more doesn't fit into the table; and with trap 17 where no handle may be given. Where memory is
+    /// wanting, the work isn't polled.
+    pub fn first_poll<T, H: AccessorTask<T>>(
+        self,
+        component: &Component,
+        store: &mut Store<T, H>,
+        work: H,
+        register: u8,
+    ) -> Result<u32, TaskError>
+        requires running { IsRunningIn component.now store.old.state }
+        requires asks { CanAsk self.index store.old.state }
+        requires register { register < 16 }
+        requires hosts { HoldsHosts H.course store.old }
+        ensures answers { Answers (polls_row register (H.course work) store.old.state.core) number_in store.old.state (at_once result) store.new.state }
+        ensures order { IsAtPlace component.now (polls_row register (H.course work) store.old.state.core) store.old.state → Sits component.now (turn_in store.new.state) store.new.state.core }
+        ensures hosts { HoldsHosts H.course store.new }
+        ensures rest { store.new ≡ record store.old { value = store.new.value; state = store.new.state; works = store.new.works } }
+    {
+        let host = work.left();
+        let Ok(number) = store.hold_next(work) else {
+            return Err(TaskError::NoMemory);
+        };
+        let answer = poll_host(component, &mut store.state, host, register);
+        settle(store, number, &answer);
+        answer
+    }
+
+    /// Calls a host and waits for its value: the work is polled once, and the value is answered where it has ended.
+    /// Else the strand stops, and the store holds the work and polls it until it ends; then `go_on` answers the value.
+    /// Refused, after the poll, by the work's failure; with trap 18 where an entry more doesn't fit into the table;
+    /// and with trap 9 where the thread may not block. Where memory is wanting, the work isn't polled.
+    pub fn poll_and_block<T, H: AccessorTask<T>>(
+        self,
+        component: &Component,
+        store: &mut Store<T, H>,
+        work: H,
+    ) -> Result<Step<u64>, TaskError>
+        requires running { IsRunningIn component.now store.old.state }
+        requires asks { CanAsk self.index store.old.state }
+        requires hosts { HoldsHosts H.course store.old }
+        ensures answers { Answers (blocks_row (H.course work) store.old.state.core) value_in store.old.state result store.new.state }
+        ensures order { IsAtPlace component.now (blocks_row (H.course work) store.old.state.core) store.old.state → Sits component.now (turn_in store.new.state) store.new.state.core }
+        ensures hosts { HoldsHosts H.course store.new }
+        ensures rest { store.new ≡ record store.old { value = store.new.value; state = store.new.state; works = store.new.works } }
+    {
+        let host = work.left();
+        let Ok(number) = store.hold_next(work) else {
+            return Err(TaskError::NoMemory);
+        };
+        let answer = block_on_host(component, &mut store.state, host);
+        settle(store, number, &answer);
+        answer
+    }
+}
