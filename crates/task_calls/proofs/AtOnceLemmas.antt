@@ -43,12 +43,12 @@ use Rattle.task_rules.specs.Task.{dec_from, inc_raises, task_cancel_done, task_r
 use Rattle.task_rules.specs.Threads.{resume_later_found, resume_why, resumed_later, thread_made, thread_new_label, thread_new_row, thread_row}
 
 -- no strand stops
-abbrev IsFree : Progress → Type 0
+abbrev pub IsFree : Progress → Type 0
 IsFree (Stops l new) = ⊥
 IsFree (Ordered ns next) = (order : List ℕ) → IsFree (next order)
 IsFree p = Unit {0}
 
-goes_on : (p : Progress) (s : Core) (r : Came) (t : Core) → IsFree p → Meets p s r t → has_stopped r ≡ false
+pub goes_on : (p : Progress) (s : Core) (r : Came) (t : Core) → IsFree p → Meets p s r t → has_stopped r ≡ false
 goes_on (Goes l new m) s r t g h = ap has_stopped h.0
 goes_on (Stops l new) s r t g h = absurd g
 goes_on (Traps why) s r t g h = ap has_stopped h.0
@@ -61,7 +61,7 @@ if_traps true why p g = tt
 if_traps false why p g = g
 
 -- after two tests, and after two and a lawful choice
-two_traps : (a b : Bool) (x y : Trap) (p : Progress) → IsFree p → IsFree (trap_if a x (trap_if b y p))
+pub two_traps : (a b : Bool) (x y : Trap) (p : Progress) → IsFree p → IsFree (trap_if a x (trap_if b y p))
 two_traps true b x y p g = tt
 two_traps false true x y p g = tt
 two_traps false false x y p g = g

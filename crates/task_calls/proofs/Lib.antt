@@ -4,6 +4,7 @@ pub mod AskLemmas
 pub mod AtOnceLemmas
 pub mod CallLemmas
 pub mod DirectLemmas
+pub mod PollLemmas
 pub mod ReturnLemmas
 pub mod StartLemmas
 pub mod TaskLemmas
