@@ -1,5 +1,5 @@
 -- The places of the resource table, over all kinds of entries: which are free, and how many were ever given.
-use Rattle.std.specs.Prelude.{ℕ, ◌+◌, ◌<◌, List, [], ◌∷◌, drop, length, nat_lt, if◌then◌else◌}
+use Rattle.std.specs.Prelude.{ℕ, ◌+◌, List, [], ◌∷◌, drop, length, nat_lt, if◌then◌else◌}
 
 -- the free places, the one freed last first, and how many places were given at least once
 pub record Places : Type 0 where

@@ -1,10 +1,10 @@
 -- The order of seats, and links whose chains stand in it.
-use Rattle.std.specs.Ordering.{nat_cmp, ordering_then}
-use Rattle.std.specs.Prelude.{ℕ, List}
+use Rattle.std.specs.Ordering.{is_lt, nat_cmp, ordering_then}
+use Rattle.std.specs.Prelude.{ℕ, ◌∷◌, if◌then◌else◌, Bool, false, List, Option, Some, None}
 use Rattle.std.specs.declared.cmp.Ordering.{Ordering}
 use Rattle.table_order.specs.declared.seat_links.Seat.{Seat}
-use Rattle.task_links.specs.Links.{Spot, entries}
-use Rattle.task_wait.specs.Sets.{IsAscending}
+use Rattle.task_links.specs.Links.{Spot, entries, head_of}
+use Rattle.task_wait.specs.Sets.{IsAscending, placed}
 
 -- by the place of the task, then of the thread, then by the place in the table of their kind
 abbrev pub seat_order : Seat → Seat → Ordering
@@ -13,3 +13,13 @@ seat_order a b = ordering_then (nat_cmp a.task b.task) (ordering_then (nat_cmp a
 -- Each chain stands in that order.
 abbrev pub AreOrdered : List (Spot Seat) → Type 0
 AreOrdered links = (chain : ℕ) → IsAscending seat_order (entries links chain)
+
+module _ {P : Type 0} (cmp : P → P → Ordering) where
+  -- the value is less than that of the entry
+  abbrev pub comes_first : P → Option (ℕ × P) → Bool
+  comes_first value None = false
+  comes_first value (Some e) = is_lt (cmp value e.1)
+
+  -- the list with an entry at the front, where that is less than the first, else after the last one that is less
+  abbrev pub seated : ℕ × P → List (ℕ × P) → List (ℕ × P)
+  seated e list = if comes_first e.1 (head_of list) then e ∷ list else placed cmp e list

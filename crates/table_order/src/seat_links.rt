@@ -1,8 +1,8 @@
 ghost use Rattle.std.specs.Prelude.{◌≡◌, [], IfOk, IfSome, IsSome, None, OnErr, Some, option_map, true};
-ghost use Rattle.table_order.specs.Seats.{AreOrdered, seat_order};
+ghost use Rattle.table_order.specs.Seats.{AreOrdered, comes_first, seat_order, seated};
 ghost use Rattle.task_index.specs.Index.{Refiles};
-ghost use Rattle.task_links.specs.Links.{AreLinked, ChainOf, FreeNode, IsLinks, Renames, Unmade, entries, following, head_of, is_free, is_made, link_of, list_of, removed};
-ghost use Rattle.task_wait.specs.Sets.{IsLeast};
+ghost use Rattle.task_links.specs.Links.{AreLinked, ChainOf, FreeNode, IsLinks, Renames, Unmade, entries, following, head_of, is_free, is_made, link_of, linked, list_of, removed};
+ghost use Rattle.task_wait.specs.Sets.{IsAscending, IsLeast};
 
 use std::alloc::Global;
 use std::marker::Model;
@@ -20,6 +20,32 @@ pub struct Seat {
     pub thread: u32,
     /// The place in the table of their kind.
     pub place: u32,
+}
+
+// Whether a value is less than the first of a live chain.
+fn comes_first<P: Copy + Ord>(links: &Links<P>, chain: usize, value: P) -> bool
+    requires { IsSome (list_of links.now chain) }
+    ensures { result ≡ comes_first P.cmp value (head_of (entries links.now chain)) }
+{
+    match links.first(chain) {
+        Some((_, first)) => value.cmp(&first).is_lt(),
+        None => false,
+    }
+}
+
+// Puts a free node into a live chain, where its value belongs in ascending order: in constant time where it is the
+// least or the greatest, as that of a thread is that waits again.
+fn put<P: Copy + Ord>(links: &mut Links<P>, chain: usize, node: Node, value: P)
+    requires chain { IsSome (list_of links.old chain) }
+    requires free { is_free links.old node.index ≡ true }
+    ensures links { links.new ≡ linked chain node.index value (seated P.cmp (node.index, value) (entries links.old chain)) links.old }
+    ensures order { IsAscending P.cmp (entries links.old chain) → IsAscending P.cmp (entries links.new chain) }
+{
+    if comes_first(links, chain, value) {
+        links.push_front(chain, node, value);
+    } else {
+        put_in_order(links, chain, node, value);
+    }
 }
 
 /// Links whose chains stand in the order of seats.
@@ -107,7 +133,7 @@ impl SeatLinks {
     }
 
     /// Puts a node into a chain, where its seat belongs; it leaves the chain that it was in. Where its seat is the
-    /// greatest of the chain, that takes constant time.
+    /// least or the greatest of the chain, that takes constant time.
     pub fn file(&mut self, node: Node, chain: usize, seat: Seat)
         requires made { is_made self.old node.index ≡ true }
         requires live { IsSome (list_of self.old chain) }
@@ -115,7 +141,7 @@ impl SeatLinks {
     {
         self.links.no_node_is_twice();
         self.links.remove(node);
-        put_in_order(&mut self.links, chain, node, seat);
+        put(&mut self.links, chain, node, seat);
     }
 
     /// The first node of a live chain and its seat, which is the least. `None` where the chain is empty.
