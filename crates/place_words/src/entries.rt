@@ -55,6 +55,7 @@ fn resumed_set(parts: &CoreParts, place: u32, how_far: &HowFar) -> SetId
 
 /// The set for which a thread at this place that has come so far has an entry, or on which it waits; the id names none
 /// where there is none. The numbers are the places that are kept with what `place` and `how_far` name.
+#[inline(always)]
 pub(crate) fn entry_set(
     parts: &CoreParts,
     place: &Place,

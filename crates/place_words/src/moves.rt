@@ -21,6 +21,7 @@ use task_records::{CoreParts, GuestThread, Node};
 use task_words::ThreadId;
 
 // The node is in this chain alone, with the seat, or in none.
+#[inline(always)]
 pub(crate) fn refile(links: &mut SeatLinks, node: Node, chain: Option<usize>, seat: Seat)
     requires made { is_made links.old node.index ≡ true }
     requires live { IfSome chain (λ c. IsSome (list_of links.old c)) }
@@ -60,6 +61,7 @@ pub(crate) fn member_seat(entry: u32, place: u32) -> Seat
 
 /// The thread is at another place from now on, in the chain in which it is filed there. An id that names no thread
 /// changes nothing.
+#[inline(always)]
 pub(crate) fn put(
     parts: &mut CoreParts,
     id: ThreadId,
@@ -94,6 +96,7 @@ pub(crate) fn put(
 }
 
 /// The thread has come to another point of its op, where it is. An id that names no thread changes nothing.
+#[inline(always)]
 pub(crate) fn put_there(parts: &mut CoreParts, id: ThreadId, how_far: HowFar, awaited: u32)
     requires sound { IsSound parts.old }
     requires how_far { AtPlace (parts_of parts.old) awaited (how_far_target how_far) }

@@ -14,14 +14,14 @@ ghost use Rattle.task_records.specs.declared.threads.GuestThread.{GuestThread};
 ghost use Rattle.task_table.specs.Answers.{item_at};
 ghost use Rattle.task_table.specs.Records.{number_in, record_at};
 ghost use Rattle.task_words.specs.Live.{delivered_set, live_set};
-ghost use Rattle.task_words.specs.Names.{place_in};
+ghost use Rattle.task_words.specs.Names.{place_in, why_in};
 ghost use Rattle.task_words.specs.StateView.{on_core, set_of, thread_of};
 
 use crate::moves::put;
-use crate::targets::{chain_at, held_chain, named_place};
+use crate::targets::{chain_at, held_chain, named_place, named_why};
 use task_machine::{Delivery, Mark, Place, Why};
 use task_records::{CoreParts, named_set};
-use task_words::{PlaceId, SetId, ThreadId};
+use task_words::{PlaceId, SetId, ThreadId, WhyId};
 
 pub fn place(parts: &CoreParts, thread: ThreadId) -> Option<Place>
     requires { IsSound parts.now }
@@ -79,7 +79,33 @@ pub fn delivered_set(parts: &CoreParts, thread: ThreadId) -> Option<SetId>
     }
 }
 
-pub fn set_place(parts: &mut CoreParts, thread: ThreadId, place: PlaceId)
+// The thread runs from now on.
+fn run(parts: &mut CoreParts, thread: ThreadId)
+    requires { IsSound parts.old }
+    ensures sound { IsSound parts.new }
+    ensures new { seen parts.new ≡ on_core (set_place (thread_of (seen parts.old) thread) places.Running) (seen parts.old) }
+{
+    put(parts, thread, Place::Running, 0, None);
+}
+
+// The thread has an entry at the mark from now on.
+fn queue(parts: &mut CoreParts, thread: ThreadId, mark: Mark, why: WhyId)
+    requires { IsSound parts.old }
+    ensures sound { IsSound parts.new }
+    ensures new { seen parts.new ≡ on_core (set_place (thread_of (seen parts.old) thread) (places.Ready mark (why_in (seen parts.old).tags why))) (seen parts.old) }
+{
+    let (named, beside) = named_why(parts, why);
+    put(
+        parts,
+        thread,
+        Place::Ready { mark, why: named },
+        beside,
+        None,
+    );
+}
+
+// The thread is at any place from now on.
+fn put_at(parts: &mut CoreParts, thread: ThreadId, place: PlaceId)
     requires { IsSound parts.old }
     ensures sound { IsSound parts.new }
     ensures new { seen parts.new ≡ on_core (set_place (thread_of (seen parts.old) thread) (place_in (seen parts.old).tags place)) (seen parts.old) }
@@ -89,6 +115,19 @@ pub fn set_place(parts: &mut CoreParts, thread: ThreadId, place: PlaceId)
         let (named, beside) = named_place(parts, place);
         let chain = chain_at(parts, instance, place);
         put(parts, thread, named, beside, chain);
+    }
+}
+
+/// The thread is at this place from now on. Those that most threads go to stand apart, since less is to be done there.
+pub fn set_place(parts: &mut CoreParts, thread: ThreadId, place: PlaceId)
+    requires { IsSound parts.old }
+    ensures sound { IsSound parts.new }
+    ensures new { seen parts.new ≡ on_core (set_place (thread_of (seen parts.old) thread) (place_in (seen parts.old).tags place)) (seen parts.old) }
+{
+    match place {
+        PlaceId::Running => run(parts, thread),
+        PlaceId::Ready { mark, why } => queue(parts, thread, mark, why),
+        other => put_at(parts, thread, other),
     }
 }
 

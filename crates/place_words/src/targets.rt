@@ -31,7 +31,7 @@ pub(crate) fn named_subtask(parts: &CoreParts, subtask: SubtaskId) -> (Subtask, 
     }
 }
 
-fn named_why(parts: &CoreParts, why: WhyId) -> (Why, u32)
+pub(crate) fn named_why(parts: &CoreParts, why: WhyId) -> (Why, u32)
     requires { IsSound parts.now }
     ensures is { why_in (seen parts.now).tags why ≡ result.0 }
     ensures at { AtPlace (parts_of parts.now) result.1 (why_target result.0) }

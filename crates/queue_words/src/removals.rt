@@ -16,6 +16,7 @@ use task_records::{CoreParts, Queued};
 use task_words::ThreadId;
 
 // The entry's nodes leave the chains that they are in.
+#[inline(always)]
 fn leave(parts: &mut CoreParts, queued: Queued)
     requires sound { IsSound parts.old }
     requires seated { IsSeated (bare (parts_of parts.old)) queued }

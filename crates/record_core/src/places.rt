@@ -63,6 +63,7 @@ impl PlaceWords for TaskCore {
         walk_words::has_admitted(&self.parts, instance)
     }
 
+    #[inline(always)]
     fn release(&mut self, instance: u32) {
         walk_words::release(&mut self.parts, instance);
     }

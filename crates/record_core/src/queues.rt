@@ -11,10 +11,12 @@ impl QueueWords for TaskCore {
         queue_words::first_entry(&self.parts, instance)
     }
 
+    #[inline(always)]
     fn next_entry(&self) -> Option<(Mark, EntryId)> {
         queue_words::next_entry(&self.parts)
     }
 
+    #[inline(always)]
     fn pop(&mut self, mark: Mark) {
         queue_words::pop(&mut self.parts, mark);
     }

@@ -7,6 +7,7 @@ impl SubtaskWords for TaskCore {
         record_words::event(&self.parts, subtask)
     }
 
+    #[inline(always)]
     fn join(&self, subtask: SubtaskId) -> JoinId {
         record_words::join(&self.parts, subtask)
     }

@@ -35,6 +35,7 @@ impl ThreadWords for TaskCore {
         record_words::script(&self.parts, thread)
     }
 
+    #[inline(always)]
     fn how_far(&self, thread: ThreadId) -> HowFarId {
         record_words::how_far(&self.parts, thread)
     }
@@ -67,6 +68,7 @@ impl ThreadWords for TaskCore {
         record_words::set_position(&mut self.parts, thread, position);
     }
 
+    #[inline(always)]
     fn set_how_far(&mut self, thread: ThreadId, how_far: HowFarId) {
         place_words::set_how_far(&mut self.parts, thread, how_far);
     }

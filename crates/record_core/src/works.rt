@@ -31,6 +31,7 @@ impl WorkWords for TaskCore {
         record_words::was_cancelled(&self.parts, work)
     }
 
+    #[inline(always)]
     fn next_polled(&self, polled: u64) -> Option<WorkId> {
         walk_words::next_polled(&self.parts, polled)
     }

@@ -30,6 +30,7 @@ fn lesser(parts: &CoreParts, least: Option<ThreadId>, thread: ThreadId) -> Threa
     }
 }
 
+#[inline(always)]
 fn least(parts: &CoreParts, chain: usize) -> Option<ThreadId>
     requires sound { IsSound parts.now }
     requires live { IsSome (list_of parts.now.places chain) }

@@ -1,7 +1,7 @@
 use Rattle.task_records.proofs.Core.{ap, bare, on_core, option_and_then, parts_of, place_chain, seen, set_place, sym, thread_of, where_at, ◌∙◌}
 use Rattle.task_records.specs.declared.{threads.GuestThread.GuestThread}
 use Rattle.place_words.proofs.ThreadLemmas.{same_item, thread_gone}
-use Rattle.place_words.proofs.places.set_place.Goals as goal
+use Rattle.place_words.proofs.places.put_at.Goals as goal
 
 pub put-requires-clause-chain : goal.put-requires-clause-chain
 put-requires-clause-chain c g is =
