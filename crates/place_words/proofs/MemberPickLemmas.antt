@@ -75,6 +75,9 @@ module _ (a : CoreParts) (sound : IsSound a) (rep serial : ℕ) (x : WaitSet) (i
   pub no_work_ready : ((v : Seat) → Holds a.ready_works x.ready_works v → ⊥) → EachEntry (λ (u : HostWork). ready_in u.work.event u.work.join ≡ Some n → ⊥) a.works
   unfolding IsSound
   no_work_ready none r q there key =
-      none _ (q.entry.item.ready.index, member_link (λ (u : HostWork). u.number) (λ (u : HostWork). u.work) (λ (u : HostWork). u.ready.index) (λ (u : HostWork). ready_in u.work.event u.work.join) (λ (u : HostWork). u.entry) a.works a.made.works sound.tables.works
-      a.ready_works (ready_work_chain (bare (parts_of a))) (works_filed a sound) x.number x.ready_works (works_chain a sound rep serial x is) (λ (e : ℕ × Work). is_ready x.number e.1.join e.1.event) (work_tests x.number)
-      r q there (key ∙ ap (λ m. Some m) (sym same)))
+      none _ (
+        q.entry.item.ready.index,
+        member_link (λ (u : HostWork). u.number) (λ (u : HostWork). u.work) (λ (u : HostWork). u.ready.index) (λ (u : HostWork). ready_in u.work.event u.work.join) (λ (u : HostWork). u.entry) a.works a.made.works sound.tables.works
+            a.ready_works (ready_work_chain (bare (parts_of a))) (works_filed a sound) x.number x.ready_works (works_chain a sound rep serial x is) (λ (e : ℕ × Work). is_ready x.number e.1.join e.1.event) (work_tests x.number)
+            r q there (key ∙ ap (λ m. Some m) (sym same)),
+      )

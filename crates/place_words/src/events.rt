@@ -92,7 +92,12 @@ fn set_call_event(parts: &mut CoreParts, call: CallId, event: Option<Status>)
         let chain = call_chain(parts, old.joined, event, old.call.join);
         let mut new = old;
         new.call.event = event;
-        refile(&mut parts.ready_calls, old.ready, chain, member_seat(old.entry, call.rep()));
+        refile(
+            &mut parts.ready_calls,
+            old.ready,
+            chain,
+            member_seat(old.entry, call.rep()),
+        );
         match parts.calls.get_mut(call) {
             Ok(entry) => {
                 *entry = new;
@@ -112,7 +117,12 @@ fn set_work_event(parts: &mut CoreParts, work: WorkId, event: Option<Status>)
         let chain = work_chain(parts, old.joined, event, old.work.join);
         let mut new = old;
         new.work.event = event;
-        refile(&mut parts.ready_works, old.ready, chain, member_seat(old.entry, work.rep()));
+        refile(
+            &mut parts.ready_works,
+            old.ready,
+            chain,
+            member_seat(old.entry, work.rep()),
+        );
         match parts.works.get_mut(work) {
             Ok(entry) => {
                 *entry = new;

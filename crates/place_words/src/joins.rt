@@ -87,7 +87,12 @@ fn set_call_join(parts: &mut CoreParts, call: CallId, join: JoinId)
         new.joined = joined;
         leave(&mut parts.sets, from);
         enter(&mut parts.sets, to);
-        refile(&mut parts.ready_calls, old.ready, chain, member_seat(old.entry, call.rep()));
+        refile(
+            &mut parts.ready_calls,
+            old.ready,
+            chain,
+            member_seat(old.entry, call.rep()),
+        );
         match parts.calls.get_mut(call) {
             Ok(entry) => {
                 *entry = new;
@@ -113,7 +118,12 @@ fn set_work_join(parts: &mut CoreParts, work: WorkId, join: JoinId)
         new.joined = joined;
         leave(&mut parts.sets, from);
         enter(&mut parts.sets, to);
-        refile(&mut parts.ready_works, old.ready, chain, member_seat(old.entry, work.rep()));
+        refile(
+            &mut parts.ready_works,
+            old.ready,
+            chain,
+            member_seat(old.entry, work.rep()),
+        );
         match parts.works.get_mut(work) {
             Ok(entry) => {
                 *entry = new;

@@ -33,9 +33,8 @@ returns-in-Some-first-clause-least c w item =
 
 pub returns-in-Some-first-2-clause-least : goal.returns-in-Some-first-2-clause-least
 returns-in-Some-first-2-clause-least c =
-    let holds = first_held c.args.parts.now.ready_calls c.in-Some.found.now.ready_calls c.in-Some-first-2.field-0-0 c.in-Some-first-2.seat c.in-Some-first-2.ensures.linked c.in-Some-first-2.ensures.entry in
-    (
+    let holds = first_held c.args.parts.now.ready_calls c.in-Some.found.now.ready_calls c.in-Some-first-2.field-0-0 c.in-Some-first-2.seat c.in-Some-first-2.ensures.linked c.in-Some-first-2.ensures.entry in (
       no_work_ready c.args.parts.now c.requires.sound c.args.set.rep c.args.set.serial c.in-Some.found.now c.in-Some.ensures.item _ c.in-Some.ensures.number
-      (none_held c.args.parts.now.ready_works c.in-Some.found.now.ready_works c.in-None-first.ensures.sound c.in-None-first.ensures.entry),
+          (none_held c.args.parts.now.ready_works c.in-Some.found.now.ready_works c.in-None-first.ensures.sound c.in-None-first.ensures.entry),
       λ g item. least_call c.args.parts.now c.requires.sound c.args.set.rep c.args.set.serial c.in-Some.found.now c.in-Some.ensures.item _ c.in-Some.ensures.number c.in-Some-first-2.seat holds c.in-Some-first-2.ensures.sound c.in-Some-first-2.ensures.linked c.in-Some-first-2.ensures.least c.call_at.result c.call_at.ensures g item,
     )
