@@ -74,8 +74,8 @@ GiveKeeps = (g : Gift) (k : ℕ) (s : Core) → Keeps s (taken g k s)
 unfoldable pub StopKeeps : Type 0
 StopKeeps = (f : ℕ) (s : Core) → Keeps s (stopped f s)
 
--- The thread is there, stands at no mark and is behind nobody, and nobody is behind it or under it. It isn't woken: its item isn't in hand, and it isn't
--- inside a wait in which it was resumed.
+-- The thread is there, stands at no mark and is behind nobody, and nobody is behind it or under it. It isn't woken: its item isn't in hand,
+-- and it isn't inside a wait in which it was resumed.
 pub record MayLeave (n : ℕ) (s : Core) : Type 0 where
   pub there : is_there n s ≡ true
   pub switch : (m : ℕ) → s.queues.switch ≡ Some m → (m == n) ≡ false
