@@ -447,9 +447,10 @@ displaced_row x n s placed waits (Some m) is =
     let w = why_of m s in
     let there : is_some (place_of m s) ≡ true = ap (λ (o : Option Place). is_some o) at in
     let r = place_row x m (Place.Ready Mark.High w) Same Same s there (sym (woken_at x m s ∙ ap (λ (o : Option Place). woken_place x o (how_far_of m s)) at))
-        (sym (ap (λ (o : Option Place). option_map_or (is_waiting_on x) o false) at)) in
-    (record { members = r.members; threads = r.threads; waiters = r.waiters },
-    let apart = waiter_apart x n m s waits (ap (λ (o : Option Place). option_map_or (is_waiting_on x) o false) at) in grind (arith, nat_tests, get-change, apart))
+    (sym (ap (λ (o : Option Place). option_map_or (is_waiting_on x) o false) at)) in (
+      record { members = r.members; threads = r.threads; waiters = r.waiters },
+      let apart = waiter_apart x n m s waits (ap (λ (o : Option Place). option_map_or (is_waiting_on x) o false) at) in grind (arith, nat_tests, get-change, apart),
+    )
   where
     ready_there : (m : ℕ) (s : Core) → HasPlace m s → s.queues.switch ≡ Some m → place_of m s ≡ Some (Place.Ready Mark.Switch (why_of m s))
     ready_there m s h is = let at = h.switch in grind (arith, nat_tests, at, is)
@@ -462,7 +463,7 @@ cancel_takes x n s placed waits =
     let w : is_waiter x n t ≡ true = ap (λ (o : Option Place). option_map_or (is_waiting_on x) o false) d.1 ∙ waits in
     let at = waiting_of x (place_of n t) w in
     let r = place_row x n (Place.Ready Mark.Switch (Why.Delivery Delivery.Cancel)) Same Fewer t (ap (λ (o : Option Place). is_some o) at.1)
-        (sym (woken_at x n t ∙ ap (λ (o : Option Place). woken_place x o (how_far_of n t)) at.1)) (w, refl) in
+    (sym (woken_at x n t ∙ ap (λ (o : Option Place). woken_place x o (how_far_of n t)) at.1)) (w, refl) in
     let both = then_threads Same Same Fewer d.0 r in
     switched both
   where

@@ -73,18 +73,18 @@ joins_set x sub w s = wakes_joined (event_of sub s) (Some x) w (set_join sub (jo
 -- a member becomes ready, by an event or a join, and a waiter is there
 unfoldable pub ReadyAndWakes : Type 0
 ReadyAndWakes =
-    ((x m : ℕ) (sub : Subtask) (e : Status) (s : Core) → InsideOps s → is_member x sub s ≡ true → event_of sub s ≡ None → is_waiter x m s ≡ true →
-        Row x More More Fewer s (published sub e (Some m) s)) ×
-    ((x m : ℕ) (sub : Subtask) (s : Core) → InsideOps s → is_member x sub s ≡ false → is_some (event_of sub s) ≡ true → is_waiter x m s ≡ true →
-        Row x More More Fewer s (joins_set x sub (Some m) s))
+    ((x m : ℕ) (sub : Subtask) (e : Status) (s : Core) → InsideOps s → is_member x sub s ≡ true → event_of sub s ≡ None →
+    is_waiter x m s ≡ true → Row x More More Fewer s (published sub e (Some m) s)) ×
+    ((x m : ℕ) (sub : Subtask) (s : Core) → InsideOps s → is_member x sub s ≡ false → is_some (event_of sub s) ≡ true →
+    is_waiter x m s ≡ true → Row x More More Fewer s (joins_set x sub (Some m) s))
 
 -- a member becomes ready and no waiter is there
 unfoldable pub ReadyUnawaited : Type 0
 ReadyUnawaited =
     ((x : ℕ) (sub : Subtask) (e : Status) (s : Core) → InsideOps s → is_member x sub s ≡ true → event_of sub s ≡ None →
-        Row x More Same Same s (published sub e None s)) ×
+    Row x More Same Same s (published sub e None s)) ×
     ((x : ℕ) (sub : Subtask) (s : Core) → is_member x sub s ≡ false → is_some (event_of sub s) ≡ true →
-        Row x More Same Same s (joins_set x sub None s))
+    Row x More Same Same s (joins_set x sub None s))
 
 -- a ready member's event is replaced and a waiter is there
 unfoldable pub EventReplaced : Type 0
@@ -97,41 +97,45 @@ EventReplaced = (x m : ℕ) (sub : Subtask) (e : Status) (s : Core) → InsideOp
 unfoldable pub MemberLeaves : Type 0
 MemberLeaves =
     ((x n r : ℕ) (sub : Subtask) (v : Given) (s : Core) → is_ready_member x sub s ≡ true → place_of n s ≡ Some place.Running →
-        is_inside_wait x (how_far_of n s) ≡ false → Row x Fewer Same Same s (received n r (MemberGift sub) v s)) ×
+    is_inside_wait x (how_far_of n s) ≡ false → Row x Fewer Same Same s (received n r (MemberGift sub) v s)) ×
     ((x : ℕ) (sub : Subtask) (j : Join) (s : Core) → is_ready_member x sub s ≡ true → is_in_set x j ≡ false →
-        Row x Fewer Same Same s (set_join sub j s))
+    Row x Fewer Same Same s (set_join sub j s))
 
 -- a woken thread takes a member
 unfoldable pub WokenTakes : Type 0
 WokenTakes =
     ((x n r : ℕ) (sub : Subtask) (v : Given) (s : Core) → is_ready_member x sub s ≡ true → RunsInWait x n s →
-        Row x Fewer Fewer Same s (received n r (MemberGift sub) v s)) ×
+    Row x Fewer Fewer Same s (received n r (MemberGift sub) v s)) ×
     ((x n : ℕ) (sub : Subtask) (v : Given) (s : Core) → is_ready_member x sub s ≡ true → HasDelivery x n s →
-        Row x Fewer Fewer Same s (activated n (MemberGift sub) v s))
+    Row x Fewer Fewer Same s (activated n (MemberGift sub) v s))
 
 -- a woken thread takes its task's own event while a member is ready and a waiter is there
 unfoldable pub WokenHandsOn : Type 0
 WokenHandsOn =
-    ((x n m r : ℕ) (e : OwnEvent) (v : Given) (s : Core) → InsideOps s → has_ready_member x s ≡ true → is_waiter x m s ≡ true → RunsInWait x n s →
-        Row x Same Same Fewer s (received_woken n x r (Some m) (OwnGift e) v s)) ×
-    ((x n m : ℕ) (e : OwnEvent) (v : Given) (s : Core) → InsideOps s → has_ready_member x s ≡ true → is_waiter x m s ≡ true → HasDelivery x n s →
-        Row x Same Same Fewer s (activated_woken n x (Some m) (OwnGift e) v s))
+    ((x n m r : ℕ) (e : OwnEvent) (v : Given) (s : Core) → InsideOps s → has_ready_member x s ≡ true → is_waiter x m s ≡ true →
+    RunsInWait x n s → Row x Same Same Fewer s (received_woken n x r (Some m) (OwnGift e) v s)) ×
+    ((x n m : ℕ) (e : OwnEvent) (v : Given) (s : Core) → InsideOps s → has_ready_member x s ≡ true → is_waiter x m s ≡ true →
+    HasDelivery x n s → Row x Same Same Fewer s (activated_woken n x (Some m) (OwnGift e) v s))
 
 -- a woken thread takes its task's own event, and no member is ready or no waiter is there
 unfoldable pub WokenTakesOwn : Type 0
 WokenTakesOwn =
-    ((x n r : ℕ) (e : OwnEvent) (v : Given) (s : Core) → RunsInWait x n s → Row x Same Fewer Same s (received_woken n x r None (OwnGift e) v s)) ×
-    ((x n : ℕ) (e : OwnEvent) (v : Given) (s : Core) → HasDelivery x n s → Row x Same Fewer Same s (activated_woken n x None (OwnGift e) v s))
+    ((x n r : ℕ) (e : OwnEvent) (v : Given) (s : Core) → RunsInWait x n s →
+    Row x Same Fewer Same s (received_woken n x r None (OwnGift e) v s)) ×
+    ((x n : ℕ) (e : OwnEvent) (v : Given) (s : Core) → HasDelivery x n s →
+    Row x Same Fewer Same s (activated_woken n x None (OwnGift e) v s))
 
 -- ---- Threads wait
 
 -- a woken thread finds nothing, and waits again
 unfoldable pub WokenWaits : Type 0
-WokenWaits = (x n : ℕ) (by_callback : Bool) (s : Core) → is_woken x n s ≡ true → Row x Same Fewer More s (set_place n (place.Waiting x by_callback) s)
+WokenWaits = (x n : ℕ) (by_callback : Bool) (s : Core) → is_woken x n s ≡ true →
+    Row x Same Fewer More s (set_place n (place.Waiting x by_callback) s)
 
 -- a thread begins to wait
 unfoldable pub BeginsToWait : Type 0
-BeginsToWait = (x n : ℕ) (by_callback : Bool) (s : Core) → IsApartFrom x n s → Row x Same Same More s (set_place n (place.Waiting x by_callback) s)
+BeginsToWait = (x n : ℕ) (by_callback : Bool) (s : Core) → IsApartFrom x n s →
+    Row x Same Same More s (set_place n (place.Waiting x by_callback) s)
 
 -- a callback's wait finds an event and gets a delivery for the set
 unfoldable pub CallbackFinds : Type 0
@@ -139,12 +143,13 @@ CallbackFinds = (x n : ℕ) (s : Core) → IsApartFrom x n s → Row x Same More
 
 -- a cancel takes a waiter
 unfoldable pub CancelTakes : Type 0
-CancelTakes = (x n : ℕ) (s : Core) → Placed s → is_waiter x n s ≡ true → Row x Same Same Fewer s (put_switch n (why.Delivery delivery.Cancel) s)
+CancelTakes = (x n : ℕ) (s : Core) → Placed s → is_waiter x n s ≡ true →
+    Row x Same Same Fewer s (put_switch n (why.Delivery delivery.Cancel) s)
 
 -- a delivery is held or released
 unfoldable pub DeliveryHeld : Type 0
 DeliveryHeld =
     ((x n : ℕ) (m : Mark) (d : Delivery) (s : Core) → place_of n s ≡ Some (place.Ready m (why.Delivery d)) →
-        Row x Same Same Same s (set_place n (place.Held (why.Delivery d)) s)) ×
+    Row x Same Same Same s (set_place n (place.Held (why.Delivery d)) s)) ×
     ((x n : ℕ) (d : Delivery) (s : Core) → place_of n s ≡ Some (place.Held (why.Delivery d)) →
-        Row x Same Same Same s (put_high n (why.Delivery d) s))
+    Row x Same Same Same s (put_high n (why.Delivery d) s))

@@ -54,7 +54,7 @@ module _ {g : Bool} {c : Component} {s : State} (h : InOrderIf g c s) where
       by (Subtask.Host i) at too (inr far) (inl other) = host_apart m n i other far
 
 pub placed_behind : (s : Core) → Placed s → CallersBehind s
-placed_behind s placed n f = let at = (placed n).callers f in grind (arith, at)
+placed_behind s placed n f = (placed n).callers f
 
 pub placed_switch : (s : Core) → Placed s → SwitchReady s
 placed_switch s placed m is = let at = (placed m).switch in grind (arith, nat_tests, at, is)

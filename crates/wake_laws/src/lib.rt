@@ -5,4 +5,4 @@
 
 mod moves;
 
-pub use moves::order_stands;
+pub use moves::{events_keep, order_stands, threads_keep};
