@@ -15,6 +15,7 @@ impl PlaceWords for TaskCore {
         place_words::delivered_set(&self.parts, thread)
     }
 
+    #[inline(always)]
     fn set_place(&mut self, thread: ThreadId, place: PlaceId) {
         place_words::set_place(&mut self.parts, thread, place);
     }
