@@ -80,6 +80,7 @@ pub fn delivered_set(parts: &CoreParts, thread: ThreadId) -> Option<SetId>
 }
 
 // The thread runs from now on.
+#[inline(always)]
 fn run(parts: &mut CoreParts, thread: ThreadId)
     requires { IsSound parts.old }
     ensures sound { IsSound parts.new }

@@ -27,6 +27,7 @@ pub fn set_how_far(parts: &mut CoreParts, thread: ThreadId, how_far: HowFarId)
 }
 
 /// The thread goes on with the op at this position.
+#[inline(always)]
 pub fn move_to(parts: &mut CoreParts, thread: ThreadId, position: u32)
     requires { IsSound parts.old }
     ensures sound { IsSound parts.new }

@@ -1,16 +1,12 @@
-use Rattle.task_records.proofs.Core.{ap, arith, length, ◌-◌, ◌≤◌, bare, entry_of, IsSound, item_at, item_of, on_core, on_thread, Option, option_and_then, option_map, parts_of, place_chain, Refiles, refl, removed, seen, set_place, subst, sym, Table, Thread, thread_of, where_at, with_entry, ℕ, ◌+◌, ◌∙◌, ◌≡◌}
+use Rattle.task_records.proofs.Core.{ap, arith, length, ◌-◌, ◌≤◌, entry_of, IsSound, item_at, item_of, on_core, on_thread, refl, seen, subst, sym, Table, Thread, thread_of, with_entry, ◌+◌, ◌∙◌, ◌≡◌}
 use Rattle.task_records.specs.declared.{sets.WaitSet.WaitSet, single.Single.Single, threads.GuestThread.GuestThread}
 use Rattle.place_words.proofs.FitLemmas.{less_fits, more_fits}
 use Rattle.place_words.proofs.EntryLemmas.{places_few}
-use Rattle.place_words.proofs.PlacedLemmas.{chain_live, node_made, placed_seen, placed_sound}
-use Rattle.place_words.proofs.ThreadLemmas.{how_far_at, same_item, thread_gone}
+use Rattle.place_words.proofs.PlacedLemmas.{node_made, placed_seen, placed_sound}
+use Rattle.place_words.proofs.ThreadLemmas.{how_far_at, thread_gone}
 use Rattle.place_words.proofs.moves.put_begun.Goals as goal
 use Rattle.place_words.specs.Moved.{begun, recounted, to_begun}
 use Rattle.task_records.proofs.HomeLemmas.{place_bare, thread_home}
-use Rattle.task_records.proofs.KindLemmas.{absent}
-use Rattle.task_records.proofs.ReadLemmas.{thread_read}
-use Rattle.table_order.specs.declared.seat_links.Seat.{Seat}
-use Rattle.task_records.specs.Places.{thread_seat}
 
 pub entry_set-from-requires-clause-place : goal.entry_set-from-requires-clause-place
 entry_set-from-requires-clause-place c = place_bare c.args.parts.now _ _ (thread_home c.args.parts.now c.requires c.args.id c.in-Some.found.now c.in-Some.ensures.item).place

@@ -1,9 +1,9 @@
-use Rattle.task_records.proofs.Core.{ap, arith, length, ◌-◌, ◌≤◌, entry_of, IsSound, item_at, item_of, on_core, on_thread, refl, seen, set_how_far, subst, sym, Table, Thread, thread_of, with_entry, ◌+◌, ◌∙◌, ◌≡◌}
+use Rattle.task_records.proofs.Core.{ap, arith, length, ◌-◌, ◌≤◌, entry_of, IsSound, item_at, item_of, on_core, on_thread, refl, seen, subst, sym, Table, Thread, thread_of, with_entry, ◌+◌, ◌∙◌, ◌≡◌}
 use Rattle.task_records.specs.declared.{sets.WaitSet.WaitSet, single.Single.Single, threads.GuestThread.GuestThread}
 use Rattle.place_words.proofs.FitLemmas.{less_fits, more_fits}
 use Rattle.place_words.proofs.EntryLemmas.{places_few}
 use Rattle.place_words.proofs.PlacedLemmas.{placed_seen, placed_sound, stays_filed}
-use Rattle.place_words.proofs.ThreadLemmas.{how_far_at, same_item, thread_gone}
+use Rattle.place_words.proofs.ThreadLemmas.{how_far_at, thread_gone}
 use Rattle.place_words.proofs.moves.put_op.Goals as goal
 use Rattle.place_words.specs.Moved.{at_op, recounted, to_op}
 use Rattle.task_records.proofs.HomeLemmas.{place_bare, thread_home}

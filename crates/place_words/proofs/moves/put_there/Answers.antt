@@ -3,7 +3,7 @@ use Rattle.task_records.specs.declared.{sets.WaitSet.WaitSet, single.Single.Sing
 use Rattle.place_words.proofs.FitLemmas.{less_fits, more_fits}
 use Rattle.place_words.proofs.EntryLemmas.{places_few}
 use Rattle.place_words.proofs.PlacedLemmas.{placed_seen, placed_sound, stays_filed}
-use Rattle.place_words.proofs.ThreadLemmas.{how_far_at, same_item, thread_gone}
+use Rattle.place_words.proofs.ThreadLemmas.{how_far_at, thread_gone}
 use Rattle.place_words.proofs.moves.put_there.Goals as goal
 use Rattle.place_words.specs.Moved.{arrived, recounted}
 use Rattle.task_records.proofs.HomeLemmas.{place_bare, thread_home}

@@ -3,7 +3,7 @@ use Rattle.place_words.proofs.StepLemmas.{activation}
 use Rattle.place_words.proofs.steps.activate.Goals as goal
 use Rattle.place_words.specs.Moved.{to_begun}
 use Rattle.task_words.specs.Context.{activating}
-use Rattle.task_rules.specs.Sets.{given_code, given_handle, given_result}
+use Rattle.task_rules.specs.Sets.{given_code, given_handle}
 
 pub returns-clause-new : goal.returns-clause-new
 unfolding activating
