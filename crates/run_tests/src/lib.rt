@@ -4,7 +4,11 @@
 #![tactic(auto)]
 
 #[cfg(test)]
+mod calls_of_states;
+#[cfg(test)]
 mod drive;
+#[cfg(test)]
+mod instance_calls;
 #[cfg(test)]
 mod program;
 #[cfg(test)]
