@@ -1,6 +1,7 @@
 //! Another thread goes on, as the running one says.
 ghost use Rattle.std.specs.Prelude.{◌≡◌, Bool, Err, IfSome, Ok, Result, false, true};
-ghost use Rattle.task_calls.specs.Asks.{IsAtPlace, IsRunningIn, row_of, turn_in};
+ghost use Rattle.task_calls.specs.Asks.{IsRunningIn, row_of, turn_in};
+ghost use Rattle.task_calls.specs.Elsewhere.{KeepsFit};
 ghost use Rattle.task_calls.specs.Resumes.{Resumed, came_later, or_refused, resumed_by};
 ghost use Rattle.task_machine.specs.declared.component.Component.{Component};
 ghost use Rattle.task_turns.specs.Turn.{Sits, running_of};
@@ -43,7 +44,7 @@ pub fn resume_thread<W: Words>(
 ) -> Result<bool, TaskError>
     requires running { IsRunningIn component.now (W.view w.old) }
     ensures resumed { IfSome (running_of (W.view w.old)) (λ n. Resumed (resumed_by how n handle (W.view w.old).core) (W.view w.old) result (W.view w.new)) }
-    ensures order { how ≡ ResumeThread.ResumeLater → IsAtPlace component.now (row_of component.now (Op.Thread (ThreadOp.ResumeLater (Operand.Number handle))) (W.view w.old).core) (W.view w.old) → Sits component.now (turn_in (W.view w.new)) (W.view w.new).core }
+    ensures order { how ≡ ResumeThread.ResumeLater → KeepsFit component.now (Op.Thread (ThreadOp.ResumeLater (Operand.Number handle))) (W.view w.old) (W.view w.new) → Sits component.now (turn_in (W.view w.new)) (W.view w.new).core }
 {
     let _component = component;
     w.none_is_zero();

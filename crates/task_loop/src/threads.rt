@@ -1,7 +1,8 @@
 //! Threads, as an instance's calls make, suspend and resume them.
 ghost use Rattle.std.specs.Prelude.{◌≡◌, IfSome, min};
 ghost use Rattle.task_calls.specs.Answers.{answer_in, at_once, nothing_in, number_in};
-ghost use Rattle.task_calls.specs.Asks.{Answers, CanAsk, HasPaused, IsAtPlace, IsRunningIn, row_at, row_of, turn_in};
+ghost use Rattle.task_calls.specs.Asks.{Answers, CanAsk, HasPaused, IsRunningIn, row_at, row_of, turn_in};
+ghost use Rattle.task_calls.specs.Elsewhere.{KeepsFit};
 ghost use Rattle.task_calls.specs.Intrinsics.{suspension_op};
 ghost use Rattle.task_calls.specs.Resumes.{Resumed, resumed_by};
 ghost use Rattle.task_turns.specs.Turn.{Sits, running_of};
@@ -24,7 +25,7 @@ impl Instance {
         requires running { IsRunningIn component.now store.old.state }
         requires asks { CanAsk self.index store.old.state }
         ensures answers { Answers (row_of component.now (Op.Thread (ThreadOp.Index 0)) store.old.state.core) number_in store.old.state (at_once result) store.new.state }
-        ensures order { IsAtPlace component.now (row_of component.now (Op.Thread (ThreadOp.Index 0)) store.old.state.core) store.old.state → Sits component.now (turn_in store.new.state) store.new.state.core }
+        ensures order { KeepsFit component.now (Op.Thread (ThreadOp.Index 0)) store.old.state store.new.state → Sits component.now (turn_in store.new.state) store.new.state.core }
         ensures rest { store.new ≡ record store.old { state = store.new.state } }
     {
         ask_number(
@@ -49,7 +50,7 @@ impl Instance {
         requires asks { CanAsk self.index store.old.state }
         requires caller { caller ≡ self.index }
         ensures answers { Answers (row_of component.now (Op.Thread (ThreadOp.New 0 (min slot 255) (Operand.Number context))) store.old.state.core) number_in store.old.state (at_once result) store.new.state }
-        ensures order { IsAtPlace component.now (row_of component.now (Op.Thread (ThreadOp.New 0 (min slot 255) (Operand.Number context))) store.old.state.core) store.old.state → Sits component.now (turn_in store.new.state) store.new.state.core }
+        ensures order { KeepsFit component.now (Op.Thread (ThreadOp.New 0 (min slot 255) (Operand.Number context))) store.old.state store.new.state → Sits component.now (turn_in store.new.state) store.new.state.core }
         ensures rest { store.new ≡ record store.old { state = store.new.state } }
     {
         let _caller = caller;
@@ -80,7 +81,7 @@ impl Instance {
         requires asks { CanAsk self.index store.old.state }
         requires caller { caller ≡ self.index }
         ensures answers { Answers (row_of component.now (suspension_op yielding target) store.old.state.core) nothing_in store.old.state result store.new.state }
-        ensures order { IsAtPlace component.now (row_of component.now (suspension_op yielding target) store.old.state.core) store.old.state → Sits component.now (turn_in store.new.state) store.new.state.core }
+        ensures order { KeepsFit component.now (suspension_op yielding target) store.old.state store.new.state → Sits component.now (turn_in store.new.state) store.new.state.core }
         ensures rest { store.new ≡ record store.old { state = store.new.state } }
     {
         let _caller = caller;
@@ -104,7 +105,7 @@ impl Instance {
         requires asks { CanAsk self.index store.old.state }
         requires caller { caller ≡ self.index }
         ensures resumed { IfSome (running_of store.old.state) (λ n. Resumed (resumed_by how n thread store.old.state.core) store.old.state result store.new.state) }
-        ensures order { how ≡ ResumeThread.ResumeLater → IsAtPlace component.now (row_of component.now (Op.Thread (ThreadOp.ResumeLater (Operand.Number thread))) store.old.state.core) store.old.state → Sits component.now (turn_in store.new.state) store.new.state.core }
+        ensures order { how ≡ ResumeThread.ResumeLater → KeepsFit component.now (Op.Thread (ThreadOp.ResumeLater (Operand.Number thread))) store.old.state store.new.state → Sits component.now (turn_in store.new.state) store.new.state.core }
         ensures rest { store.new ≡ record store.old { state = store.new.state } }
     {
         let _caller = caller;

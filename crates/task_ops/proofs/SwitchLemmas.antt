@@ -24,7 +24,6 @@ use Rattle.task_machine.specs.declared.records.Why.{Why}
 use Rattle.task_machine.specs.declared.trap.Trap.{Trap}
 use Rattle.task_machine.specs.declared.trap.Trap.TheVariants as trap
 use Rattle.task_machine.specs.declared.words.Mark.{Mark}
-use Rattle.task_ops.proofs.RunLemmas.{stands_on}
 use Rattle.task_ops.specs.Came.{Meets}
 use Rattle.task_ops.specs.Halting.{ComesFirst, First, GoesFirst, Refused, StaysBehind, halts_then, or_refused, promoted_first, promoted_found, promoted_if, refused_if, resumed_first, resumed_found}
 use Rattle.task_ops.specs.Running.{IsRunning}
