@@ -51,10 +51,10 @@ fn an_event_is_set_and_taken(rt: HostRuntime) {
     let mut store = queued(&rt, rt.alloc());
     let id = first_thread(&rt, &store);
     assert!(rt; is_live(&store.state, id));
-    let call = Waitable::Guest(id.task);
-    let woken = set_event(&mut store.state, call, Event::Subtask(Status::Started));
+    let started = Event::Subtask(Status::Started);
+    let woken = set_event(&mut store.state, Waitable::Guest(id.task), started);
     assert!(rt; matches!(woken, Ok(None)));
-    let event = take_event(&mut store.state, call);
+    let event = take_event(&mut store.state, Waitable::Guest(id.task));
     assert!(rt; matches!(event, Some(Event::Subtask(Status::Started))));
 }
 

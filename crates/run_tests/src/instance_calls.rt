@@ -9,7 +9,9 @@ ghost use Rattle.task_words.specs.StateView.{with_core};
 
 use std::alloc::Global;
 use std::process::Abort;
-use task_loop::{Answer, Func, Instance, Outcome, Step, SuspensionTarget, Trace, run_concurrent};
+use task_loop::{
+    Answer, Func, Instance, Outcome, ResumeThread, Step, SuspensionTarget, Trace, run_concurrent,
+};
 use task_machine::Turn;
 use task_run::{Scenario, ScriptMain, ScriptedHost, read_scenario};
 use task_store::Store;
@@ -45,7 +47,8 @@ impl Drop for Midway {
 
 // A store with two instances.
 fn new_store(rt: &impl Abort, alloc: Global) -> Store<(), ScriptedHost>
-    ensures { result.state ≡ with_core (fresh 2 100000 1000000) nothing }
+    ensures state { result.state ≡ with_core (fresh 2 100000 1000000) nothing }
+    ensures free { result.running ≡ false }
 {
     let mut store = Store::new(alloc, (), true, 1);
     let Ok(_) = store.add_instance() else {
@@ -186,6 +189,38 @@ fn goes_on(rt: &impl Abort, alloc: Global) -> bool {
     let mut at = running(rt, alloc, CALLER, 16, B, true);
     let event = B.go_on(&at.scenario.component, &mut at.store);
     matches!(event, Ok(Step::Done(Answer::Three(1, 2, 4))))
+}
+
+fn resumes(rt: &impl Abort, alloc: Global) -> bool {
+    let mut at = running(rt, alloc, CALLER, 6, B, false);
+    let resumed =
+        B.resume_thread(&at.scenario.component, &mut at.store, 1, 2, ResumeThread::Resume);
+    matches!(resumed, Ok(true))
+}
+
+fn promotes(rt: &impl Abort, alloc: Global) -> bool {
+    let mut at = running(rt, alloc, CALLER, 6, B, false);
+    let promoted =
+        B.resume_thread(&at.scenario.component, &mut at.store, 1, 2, ResumeThread::Promote);
+    matches!(promoted, Ok(false))
+}
+
+fn resumes_later(rt: &impl Abort, alloc: Global) -> bool {
+    let mut at = running(rt, alloc, CALLER, 6, B, false);
+    let resumed = B.resume_thread(
+        &at.scenario.component,
+        &mut at.store,
+        1,
+        2,
+        ResumeThread::ResumeLater,
+    );
+    matches!(resumed, Ok(true))
+}
+
+#[test]
+fn a_thread_resumes_another(rt: HostRuntime) {
+    assert!(rt; resumes(&rt, rt.alloc()) && promotes(&rt, rt.alloc()));
+    assert!(rt; resumes_later(&rt, rt.alloc()));
 }
 
 #[test]
