@@ -10,7 +10,7 @@ ghost use Rattle.task_words.specs.StateView.{with_core};
 use std::alloc::Global;
 use std::process::Abort;
 use task_loop::{
-    Answer, Func, Instance, Outcome, ResumeThread, Step, SuspensionTarget, Trace, run_concurrent,
+    Answer, Instance, Outcome, ResumeThread, Step, SuspensionTarget, Trace, run_concurrent,
 };
 use task_machine::Turn;
 use task_run::{Scenario, ScriptMain, ScriptedHost, read_scenario};

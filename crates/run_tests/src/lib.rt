@@ -8,6 +8,8 @@ mod calls_of_states;
 #[cfg(test)]
 mod drive;
 #[cfg(test)]
+mod hosts;
+#[cfg(test)]
 mod instance_calls;
 #[cfg(test)]
 mod program;

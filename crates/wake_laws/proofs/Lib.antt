@@ -1,0 +1,5 @@
+pub mod GroundLemmas
+pub mod EaseLemmas
+pub mod MoveLemmas
+pub mod StopLemmas
+pub mod ThreadLemmas
