@@ -5,26 +5,29 @@ ghost use Rattle.task_machine.specs.Maps.{get};
 ghost use Rattle.task_machine.specs.declared.records.Subtask.TheVariants as subtasks;
 ghost use Rattle.task_moves.specs.Idle.{IsJoinThere};
 ghost use Rattle.task_rules.specs.Places.{Placed};
+ghost use Rattle.task_turns.specs.Turn.{given};
 ghost use Rattle.task_words.specs.StateView.{StateView, call_of};
 
 use crate::drive::{called, component, store};
 use state_calls::{
-    Item, QualifiedThreadId, get_event, is_live, join, mark_ready,
+    Item, QualifiedThreadId, get_event, instance, is_live, join, mark_ready,
     promote_instance_local_thread_work_item, promote_thread_work_item, set_event, stop, take_event,
     take_item,
 };
 use std::alloc::Global;
 use std::process::Abort;
-use task_machine::{Mark, Status};
-use task_store::Store;
+use task_calls::new_guest_task;
+use task_machine::{ExportKind, Mark, Status};
+use task_store::{ScriptedHost, Store};
 use task_wait::{Event, Waitable};
 use task_words::{PlaceWords, QueueWords, SubtaskId, SubtaskWords, ThreadWords};
 
 // A store with one instance, in which a call of it is queued.
-fn queued(rt: &impl Abort, alloc: Global) -> Store<(), ()>
+fn queued(rt: &impl Abort, alloc: Global) -> Store<(), ScriptedHost>
     ensures placed { Placed result.state.core }
     ensures joins { (k : ℕ) → IsJoinThere (subtasks.Guest k) result.state.core }
     ensures there { IsSome (get result.state.core.instances 0) }
+    ensures given { given result.state.core ≡ 2 }
 {
     let component = component(rt, alloc);
     let mut store = store(rt, alloc, &component);
@@ -33,7 +36,7 @@ fn queued(rt: &impl Abort, alloc: Global) -> Store<(), ()>
 }
 
 // The first thread of that call.
-fn first_thread(rt: &impl Abort, store: &Store<(), ()>) -> QualifiedThreadId
+fn first_thread(rt: &impl Abort, store: &Store<(), ScriptedHost>) -> QualifiedThreadId
     ensures live { IsLive store.now.state result }
     ensures task { 0 < call_of store.now.state result.task }
 {
@@ -110,7 +113,29 @@ fn an_instance_s_first_entry_moves_to_switch(rt: HostRuntime) {
 fn a_strand_without_callers_stops(rt: HostRuntime) {
     let mut store = queued(&rt, rt.alloc());
     let id = first_thread(&rt, &store);
-    assert!(rt; store.state.switch().is_none());
+    let None = store.state.switch() else {
+        panic!(rt; "nothing at switch")
+    };
     assert!(rt; stop(&mut store.state, id).is_ok());
     assert!(rt; store.state.switch().is_none());
+}
+
+#[test]
+fn an_instance_is_read(rt: HostRuntime) {
+    let store = queued(&rt, rt.alloc());
+    let Some(read) = instance(&store.state, 0) else {
+        panic!(rt; "an instance")
+    };
+    assert!(rt; read.pending_is_empty() && read.backpressure() == 0);
+    assert!(rt; !read.do_not_enter() && !read.do_not_suspend());
+    assert!(rt; instance(&store.state, 1).is_none());
+}
+
+#[test]
+fn a_task_begins(rt: HostRuntime) {
+    let mut store = queued(&rt, rt.alloc());
+    let Ok(id) = new_guest_task(&mut store.state, ExportKind::Callback, 0, None) else {
+        panic!(rt; "a task")
+    };
+    assert!(rt; is_live(&store.state, id));
 }

@@ -1,21 +1,28 @@
 //! The calls of an instance, each by a thread of a scenario that was run so far.
+ghost use Rattle.host_works.specs.Kept.{HoldsNone};
 ghost use Rattle.std.specs.Prelude.{◌≡◌, ◌<◌, ◌≤◌, IfSome, IsSome, false, length, true};
 ghost use Rattle.task_calls.specs.Asks.{CanAsk, HasPaused, IsRunningIn};
+ghost use Rattle.task_calls.specs.Directs.{IsDirect};
+ghost use Rattle.task_loop.specs.Calls.{callee_of};
+ghost use Rattle.task_machine.specs.Read.{is_async_lifted};
+ghost use Rattle.task_rules.specs.Scripts.{export_at, export_kind};
 ghost use Rattle.task_machine.specs.Core.{fresh};
 ghost use Rattle.task_records.specs.Seen.{nothing};
 ghost use Rattle.task_run.specs.Runnable.{IsRunnable};
 ghost use Rattle.task_turns.specs.Turn.{Sits, given, running_of};
 ghost use Rattle.task_words.specs.StateView.{with_core};
 
+use op_dispatch::export_def;
 use std::alloc::Global;
 use std::process::Abort;
 use task_loop::{
-    Answer, Instance, Outcome, ResumeThread, Step, SuspensionTarget, Trace, run_concurrent,
+    Answer, Component, Func, Instance, Outcome, ResumeThread, Step, SuspensionTarget, Trace,
+    run_concurrent,
 };
-use task_machine::Turn;
-use task_run::{Scenario, ScriptMain, ScriptedHost, read_scenario};
-use task_store::Store;
-use task_words::{HowFarId, ThreadWords, View};
+use task_machine::{Callee, ExportKind, Goal, Turn};
+use task_run::{Scenario, ScriptMain, read_scenario};
+use task_store::{ScriptedHost, Store};
+use task_words::{CallWords, HowFarId, ThreadWords, View};
 
 // A thread of b makes a set, calls a host that never answers, makes a thread, cancels the call, waits for its end, drops it,
 // and then calls and cancels a callback of a, which is told so.
@@ -29,6 +36,12 @@ const DIRECT: &[u8] =
 const A: Instance = Instance { index: 0 };
 
 const B: Instance = Instance { index: 1 };
+
+// The first export of a.
+const F: Func = Func {
+    instance: Instance { index: 0 },
+    export: 0,
+};
 
 struct Midway {
     scenario: Scenario,
@@ -49,6 +62,7 @@ impl Drop for Midway {
 fn new_store(rt: &impl Abort, alloc: Global) -> Store<(), ScriptedHost>
     ensures state { result.state ≡ with_core (fresh 2 100000 1000000) nothing }
     ensures free { result.running ≡ false }
+    ensures works { HoldsNone result.works }
 {
     let mut store = Store::new(alloc, (), true, 1);
     let Ok(_) = store.add_instance() else {
@@ -72,9 +86,11 @@ fn drive(
     requires two { length scenario.now.component.instances ≡ 2 }
     requires fresh { store.old.state ≡ with_core (fresh 2 100000 1000000) nothing }
     requires free { store.old.running ≡ false }
+    requires works { HoldsNone store.old.works }
     requires few { steps ≤ 100 }
     ensures order { IfSome (running_of store.new.state) (λ n. Sits scenario.now.component (Turn.Run n) store.new.state.core) }
     ensures given { given store.new.state.core ≤ 200 }
+    ensures two { length scenario.now.component.instances ≡ 2 }
 {
     let Ok(mut run) = run_concurrent(store, false) else {
         panic!(rt; "a run")
@@ -193,15 +209,25 @@ fn goes_on(rt: &impl Abort, alloc: Global) -> bool {
 
 fn resumes(rt: &impl Abort, alloc: Global) -> bool {
     let mut at = running(rt, alloc, CALLER, 6, B, false);
-    let resumed =
-        B.resume_thread(&at.scenario.component, &mut at.store, 1, 2, ResumeThread::Resume);
+    let resumed = B.resume_thread(
+        &at.scenario.component,
+        &mut at.store,
+        1,
+        2,
+        ResumeThread::Resume,
+    );
     matches!(resumed, Ok(true))
 }
 
 fn promotes(rt: &impl Abort, alloc: Global) -> bool {
     let mut at = running(rt, alloc, CALLER, 6, B, false);
-    let promoted =
-        B.resume_thread(&at.scenario.component, &mut at.store, 1, 2, ResumeThread::Promote);
+    let promoted = B.resume_thread(
+        &at.scenario.component,
+        &mut at.store,
+        1,
+        2,
+        ResumeThread::Promote,
+    );
     matches!(promoted, Ok(false))
 }
 
@@ -227,6 +253,66 @@ fn a_thread_resumes_another(rt: HostRuntime) {
 fn a_thread_makes_another_and_pauses(rt: HostRuntime) {
     assert!(rt; has_an_index(&rt, rt.alloc()) && makes_a_thread(&rt, rt.alloc()));
     assert!(rt; yields(&rt, rt.alloc()) && goes_on(&rt, rt.alloc()));
+}
+
+// The export is there, takes so many words and is sync or isn't.
+fn is_export(component: &Component, func: Func, words: u32, sync: bool) -> bool
+    ensures there { result ≡ true → IsSome (export_at component.now (callee_of func)) }
+    ensures words { result ≡ true → IfSome (export_at component.now (callee_of func)) (λ e. words ≡ e.params) }
+    ensures sync { result ≡ true → sync ≡ true → is_async_lifted (export_kind component.now (callee_of func)) ≡ false }
+{
+    let callee = Callee {
+        instance: func.instance.index,
+        export: func.export,
+    };
+    match export_def(component, callee) {
+        Some(def) => def.params == words && matches!(def.kind, ExportKind::Sync) == sync,
+        None => false,
+    }
+}
+
+fn starts(rt: &impl Abort, alloc: Global) -> bool {
+    let mut at = running(rt, alloc, CALLER, 3, B, false);
+    assert!(rt; is_export(&at.scenario.component, F, 0, false));
+    let prepared = B.prepare_call(&at.scenario.component, &mut at.store, F, &[], 3, true);
+    let Ok(id) = prepared else {
+        return false;
+    };
+    at.store.state.none_is_zero();
+    assert!(rt; is_asking(&at.store, B, false));
+    let step = B.start_call(&at.scenario.component, &mut at.store, id);
+    matches!(step, Ok(Step::Pause))
+}
+
+fn enters(rt: &impl Abort, alloc: Global) -> bool {
+    let mut at = running(rt, alloc, DIRECT, 3, B, false);
+    assert!(rt; is_export(&at.scenario.component, F, 1, true));
+    B.enter_guest_sync_call(&at.scenario.component, &mut at.store, F, &[7])
+        .is_ok()
+}
+
+// The thread that runs is the first one of a direct call.
+fn is_direct(store: &Store<(), ScriptedHost>) -> bool
+    ensures { result ≡ true → IfSome (running_of store.now.state) (λ n. IsDirect n store.now.state.core) }
+{
+    let Some(thread) = store.state.current() else {
+        return false;
+    };
+    let call = store.state.task_of(thread);
+    !store.state.is_explicit(thread) && matches!(store.state.goal(call), Goal::Direct)
+}
+
+fn leaves(rt: &impl Abort, alloc: Global) -> bool {
+    let mut at = running(rt, alloc, DIRECT, 4, A, false);
+    assert!(rt; is_direct(&at.store));
+    A.exit_guest_sync_call(&at.scenario.component, &mut at.store, 9)
+        .is_ok()
+}
+
+#[test]
+fn a_thread_calls_an_export(rt: HostRuntime) {
+    assert!(rt; starts(&rt, rt.alloc()));
+    assert!(rt; enters(&rt, rt.alloc()) && leaves(&rt, rt.alloc()));
 }
 
 fn cancels(rt: &impl Abort, alloc: Global) -> bool {

@@ -390,10 +390,13 @@ module _ (c : Component) (f : Callee) (w : Script) (p : ℕ) (o : Op) where
       where
         changed : IsScript f w h v → script_in with_op h v ≡ put_op p o (script_in c h v) → Ops h v q
         changed is e = by_number q p (Ops h v q)
-            (λ same. inr ((is, same), (
-              ap₂ (λ (ops : List Op) (x : ℕ). op_at_place ops x) (same_script h v is) same,
-              ap₂ (λ (ops : List Op) (x : ℕ). op_at_place ops x) (e ∙ ap (put_op p o) (same_script h v is)) same ∙ op_put p o (script_in c f w) below,
-            )))
+            (λ same. inr (
+              (is, same),
+              (
+                ap₂ (λ (ops : List Op) (x : ℕ). op_at_place ops x) (same_script h v is) same,
+                ap₂ (λ (ops : List Op) (x : ℕ). op_at_place ops x) (e ∙ ap (put_op p o) (same_script h v is)) same ∙ op_put p o (script_in c f w) below,
+              ),
+            ))
             (λ apart. inl (ap (λ (ops : List Op). op_at_place ops q) e ∙ op_other p q o (script_in c h v) apart))
 
     pub with_op_alike : AlikeBut f w p (op_at_place (script_in c f w) p) o c with_op
