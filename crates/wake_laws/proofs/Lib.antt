@@ -3,3 +3,4 @@ pub mod EaseLemmas
 pub mod MoveLemmas
 pub mod StopLemmas
 pub mod ThreadLemmas
+pub mod WaitLemmas

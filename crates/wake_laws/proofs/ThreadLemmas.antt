@@ -9,7 +9,7 @@ use Rattle.task_places.proofs.StrandFeet.{Down, down_further, Here, last_under, 
 use Rattle.task_rules.proofs.CallThreads.{no_thread_left}
 use Rattle.wake_laws.proofs.EaseLemmas.{callers_kept, is_still, Leaves, Moves, moves_keep, nobody, none_leaves}
 use Rattle.wake_laws.proofs.MoveLemmas.{member_as}
-use Rattle.wake_laws.specs.Stands.{CallersBehind, EndKeeps, MayLeave, NoWakeLost, RunKeeps, SuspendKeeps, SwitchReady}
+use Rattle.wake_laws.specs.Stands.{CallersBehind, EndKeeps, MayComeToRun, MayLeave, NoWakeLost, RunKeeps, SuspendKeeps, SwitchReady}
 
 not_behind : (g : ℕ) (o : Option Place) → ((f : ℕ) → o ≡ Some (Place.Behind f) → ⊥) → says (is_behind_of g) o ≡ 0
 not_behind g (Some (Place.Behind f)) none = absurd (none f refl)
@@ -319,3 +319,14 @@ suspend_keeps n s may h = moves_keep (placed_moves n Place.Suspended s refl ther
           (λ m. absurd (let under = m.1 in let runs = may.runs in by_number j n _ (λ e. absurd (grind (arith, under, runs, e)))
           (λ else_where. absurd (let same = other n Place.Suspended s refl there apart behind_none h j else_where in grind (arith, same, under, at))))) (last_under n j d);
     }
+
+-- who may come to run may do so once another one is suspended
+pub suspended_runs : (m n : ℕ) (s : Core) → (m == n) ≡ false → MayComeToRun n s → MayComeToRun n (set_place m Place.Suspended s)
+unfolding set_place on_thread
+suspended_runs m n s apart may = record {
+  there = let was = may.there in grind (arith, nat_tests, get-change, was, apart);
+  switch = may.switch;
+  behind = λ f at. may.behind f (grind (arith, nat_tests, get-change, at, apart));
+  inside = λ x on. let far : how_far_of n (set_place m Place.Suspended s) ≡ how_far_of n s = grind (arith, nat_tests, get-change) in
+      ap (is_inside_wait x) far ∙ may.inside x (grind (arith, nat_tests, get-change, on, apart));
+}

@@ -1,18 +1,21 @@
 -- No wake is lost in a core, and the moves that a host makes between the steps keep that.
-use Rattle.std.specs.Prelude.{None, Option, Some, [], false, if◌then◌else◌, true, ℕ, ◌==◌, ◌≡◌}
+use Rattle.std.specs.Prelude.{Bool, None, Option, Some, [], false, if◌then◌else◌, true, ℕ, ◌==◌, ◌≡◌, ◌⊎◌}
 use Rattle.task_laws.specs.Order.{InOrder, InsideOps, Strands, is_open}
 use Rattle.task_laws.specs.WakeTable.{is_woken}
 use Rattle.task_laws.specs.Wakes.{BehindFeet, CallersGoOn, NoneAdmitted, NoneBlockedOnEnd, WakesCounted}
 use Rattle.task_machine.specs.Core.{Core, State}
 use Rattle.task_machine.specs.Moves.{Gift, ended, may_publish, published, stopped, taken, wake_joined}
-use Rattle.task_machine.specs.Read.{callers_of, event_of, foot_of, how_far_of, is_at, is_inside_wait, join_of, place_of, under_of}
+use Rattle.task_machine.specs.Read.{callers_of, event_of, foot_of, has_ready_member, how_far_of, is_at, is_inside_wait, join_of, place_of, under_of}
 use Rattle.task_machine.specs.Write.{set_event, set_join, set_place}
 use Rattle.task_machine.specs.declared.component.Component.{Component}
+use Rattle.task_machine.specs.declared.label.Label.{Label}
 use Rattle.task_machine.specs.declared.records.Place.TheVariants as place
 use Rattle.task_machine.specs.declared.records.Subtask.{Subtask}
 use Rattle.task_machine.specs.declared.words.Status.{Status}
 use Rattle.task_rules.specs.Places.{is_at_switch, is_behind_of, is_there, says, times}
 use Rattle.task_rules.specs.Sets.{joins, may_wake_new, wakes_joined}
+use Rattle.task_rules.specs.Stalled.{Setting}
+use Rattle.task_rules.specs.Step.{Step}
 
 -- ---- A core in which no wake is lost
 
@@ -43,6 +46,14 @@ pub record NoWakeLost (s : Core) : Type 0 where
 -- in each state in order whose turns aren't over no wake is lost
 unfoldable pub OrderStands : Type 0
 OrderStands = (c : Component) (s : State) → InOrder c s → is_open s.turn ≡ true → NoWakeLost s.core
+
+-- ---- Steps
+
+-- who waits on a set after a step, and didn't before it, finds no ready member in it
+unfoldable pub WaitsFindNothing : Type 0
+WaitsFindNothing = (x : Setting) (s : State) (l : Label) (t : State) → InOrder x.component s → Step x s l t → is_open t.turn ≡ true →
+    (n y : ℕ) (by_callback : Bool) → place_of n t.core ≡ Some (place.Waiting y by_callback) →
+    (place_of n s.core ≡ Some (place.Waiting y by_callback)) ⊎ (has_ready_member y t.core ≡ false)
 
 -- ---- Moves
 
@@ -89,7 +100,7 @@ unfoldable pub EndKeeps : Type 0
 EndKeeps = (n : ℕ) (s : Core) → MayLeave n s → Keeps s (ended n s)
 
 -- The thread is there, stands at no mark and is behind nobody. Where it is woken for a set, it is inside a wait on that set.
-pub record MayRun (n : ℕ) (s : Core) : Type 0 where
+pub record MayComeToRun (n : ℕ) (s : Core) : Type 0 where
   pub there : is_there n s ≡ true
   pub switch : (m : ℕ) → s.queues.switch ≡ Some m → (m == n) ≡ false
   pub behind : (f : ℕ) → place_of n s ≡ Some (place.Behind f) → ⊥
@@ -97,7 +108,7 @@ pub record MayRun (n : ℕ) (s : Core) : Type 0 where
 
 -- a thread runs
 unfoldable pub RunKeeps : Type 0
-RunKeeps = (n : ℕ) (s : Core) → MayRun n s → Keeps s (set_place n place.Running s)
+RunKeeps = (n : ℕ) (s : Core) → MayComeToRun n s → Keeps s (set_place n place.Running s)
 
 -- The thread runs, outside of a wait. Nobody is behind the foot of its strand, where those who are under another rise in number, each under
 -- one alone, and nobody is under a thread that another one is behind.

@@ -5,4 +5,4 @@
 
 mod moves;
 
-pub use moves::{events_keep, order_stands, threads_keep};
+pub use moves::{events_keep, order_stands, threads_keep, waits_find_nothing};

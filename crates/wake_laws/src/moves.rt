@@ -1,9 +1,16 @@
-ghost use Rattle.wake_laws.specs.Stands.{EndKeeps, GiveKeeps, JoinKeeps, OrderStands, PublishKeeps, RunKeeps, StopKeeps, SuspendKeeps, TakeKeeps, WakeKeeps};
+ghost use Rattle.wake_laws.specs.Stands.{EndKeeps, GiveKeeps, JoinKeeps, OrderStands, PublishKeeps, RunKeeps, StopKeeps, SuspendKeeps, TakeKeeps, WaitsFindNothing, WakeKeeps};
 
 /// In a state in order, while its turns aren't over, no wake is lost.
 #[tactic(auto, using(crate::proofs::GroundLemmas::order_stands))]
 pub fn order_stands()
     ensures { OrderStands }
+{}
+
+/// In a step a thread comes to wait on a set only where no member of it is ready, as it begins to wait
+/// or waits again.
+#[tactic(auto, using(crate::proofs::WaitLemmas::waits_find_nothing))]
+pub fn waits_find_nothing()
+    ensures { WaitsFindNothing }
 {}
 
 /// Where no wake is lost, none is lost by a move that gives a subtask an event, wakes a waiter, joins
