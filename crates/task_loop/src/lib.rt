@@ -13,7 +13,7 @@ pub use call::{Func, FuncCallConcurrent};
 pub use instance::Instance;
 pub use main_task::MainTask;
 pub use run::{RunConcurrent, run_concurrent};
-pub use task_calls::{Answer, QualifiedThreadId, Step, SuspensionTarget, TaskError};
+pub use task_calls::{Answer, QualifiedThreadId, ResumeThread, Step, SuspensionTarget, TaskError};
 pub use task_machine::{
     Callee, Component, ExportDef, HostDef, InstanceDef, Label, NoMemory, Op, Operand, Outcome, Slot,
 };
