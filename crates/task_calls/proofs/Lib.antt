@@ -7,3 +7,4 @@ pub mod DirectLemmas
 pub mod ReturnLemmas
 pub mod StartLemmas
 pub mod TaskLemmas
+pub mod UntrappedLemmas
