@@ -6,6 +6,8 @@
 #[cfg(test)]
 mod drive;
 #[cfg(test)]
+mod hosts;
+#[cfg(test)]
 mod program;
 #[cfg(test)]
 mod report;

@@ -1,1 +1,4 @@
 pub mod Lending
+pub mod Polled
+pub mod Hosts
+pub mod Spawned

@@ -2,9 +2,13 @@
 #![tactic(auto)]
 
 mod access;
+mod hosts;
+mod spawn;
 mod store;
 
 pub use access::{Access, Project, Whole};
+pub use host_works::{AccessorTask, FromHost, HostPoll, HostWork, HostWorks, ScriptedHost};
 pub use record_core::TaskCore;
+pub use spawn::SpawnHandle;
 pub use store::{ComponentInstanceId, ConcurrentTable, StandingRun, Store};
 pub use task_machine::NoMemory;
