@@ -1,4 +1,6 @@
+pub mod Data
+pub mod Hosts
 pub mod Lending
 pub mod Polled
-pub mod Hosts
+pub mod Scopes
 pub mod Spawned
