@@ -17,3 +17,5 @@ mod scenario;
 mod state;
 #[cfg(test)]
 mod store;
+#[cfg(test)]
+mod typed;
