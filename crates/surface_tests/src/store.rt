@@ -1,7 +1,7 @@
 use std::alloc::Global;
 use task_store::{
-    CallContext, ComponentInstanceId, ComponentTasksNotConcurrent, ScriptedHost,
-    StoreComponentInstanceId, Store,
+    CallContext, ComponentInstanceId, ComponentTasksNotConcurrent, ScriptedHost, Store,
+    StoreComponentInstanceId, run_manual_drop_routines,
 };
 
 fn store(alloc: Global, concurrent: bool) -> Store<u8, ScriptedHost> {
@@ -52,4 +52,11 @@ fn scopes_stand_one_above_the_other(rt: HostRuntime) {
     assert!(rt; tasks.call_context(1).is_some_and(|x| x.borrows == 4));
     assert!(rt; tasks.call_context(2).is_none());
     assert!(rt; tasks.exit_call() && tasks.exit_call() && !tasks.exit_call());
+}
+
+#[test]
+fn a_store_lets_go_what_it_holds(rt: HostRuntime) {
+    let mut store = store(rt.alloc(), true);
+    run_manual_drop_routines(rt.alloc(), &mut store);
+    assert!(rt; store.trapped());
 }

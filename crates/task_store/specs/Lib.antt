@@ -1,4 +1,5 @@
 pub mod Data
+pub mod Drops
 pub mod Hosts
 pub mod Lending
 pub mod Polled

@@ -3,6 +3,7 @@
 
 mod access;
 mod data;
+mod drops;
 mod hosts;
 mod scopes;
 mod spawn;
@@ -10,6 +11,7 @@ mod store;
 
 pub use access::{Access, Project, Whole};
 pub use data::{RuntimeInstance, StoreComponentInstanceId};
+pub use drops::run_manual_drop_routines;
 pub use host_works::{AccessorTask, FromHost, HostPoll, HostWork, HostWorks, ScriptedHost};
 pub use record_core::{CallContext, Scope, TaskCore};
 pub use scopes::ComponentTasksNotConcurrent;
