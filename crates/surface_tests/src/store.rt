@@ -1,7 +1,8 @@
+use futures::task::Poll;
 use std::alloc::Global;
 use task_store::{
-    CallContext, ComponentInstanceId, ComponentTasksNotConcurrent, ScriptedHost, Store,
-    StoreComponentInstanceId, run_manual_drop_routines,
+    CallContext, ComponentInstanceId, ComponentTasksNotConcurrent, RuntimeInstance, ScriptedHost,
+    Store, StoreComponentInstanceId, run_manual_drop_routines,
 };
 
 fn store(alloc: Global, concurrent: bool) -> Store<u8, ScriptedHost> {
@@ -59,4 +60,20 @@ fn a_store_lets_go_what_it_holds(rt: HostRuntime) {
     let mut store = store(rt.alloc(), true);
     run_manual_drop_routines(rt.alloc(), &mut store);
     assert!(rt; store.trapped());
+}
+
+#[test]
+fn a_quiet_store_is_ready(rt: HostRuntime) {
+    let mut store: Store<u8, ScriptedHost> = Store::new(rt.alloc(), 5, true, 1);
+    let Ok(instance) = store.add_instance() else {
+        panic!(rt; "an instance")
+    };
+    let instance = RuntimeInstance { instance, index: 0 };
+    assert!(rt; matches!(store.poll_no_interesting_tasks(), Poll::Ready(())));
+    assert!(rt;
+        matches!(
+            store.poll_ready_for_concurrent_call(instance),
+            Poll::Ready(())
+        )
+    );
 }

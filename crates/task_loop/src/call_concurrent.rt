@@ -1,7 +1,8 @@
 //! A call by the host that is polled: it is started at the first poll, and then waited for.
 ghost use Rattle.std.specs.Prelude.{◌≡◌, ◌<◌, ◌^◌, IfOk, IfSome, IsSome, None, length};
 ghost use Rattle.task_loop.specs.Calls.{callee_of};
-ghost use Rattle.task_loop.specs.Polled.{Polls, thread_in};
+ghost use Rattle.task_loop.specs.Polled.{FinishesWith, Polls, thread_in};
+ghost use Rattle.task_machine.specs.declared.component.Component.{Component as Shape};
 ghost use Rattle.task_machine.specs.declared.records.Turn.{Turn};
 ghost use Rattle.task_rules.specs.Scripts.{export_at};
 ghost use Rattle.task_turns.specs.Turn.{Sits, given};
@@ -50,6 +51,23 @@ impl Func {
     }
 }
 
+// The result of a call that was started.
+fn finish<T, H>(
+    func: Func,
+    store: &mut Store<T, H>,
+    call: &mut FuncCallConcurrent,
+) -> Poll<Result<u64, TaskError>>
+    ensures finishes { FinishesWith call.old.thread store.old.state result store.new.state }
+    ensures call { call.new ≡ call.old }
+    ensures order { (c : Shape) → (p : Turn) → Sits c p store.old.state.core → Sits c p store.new.state.core }
+    ensures rest { store.new ≡ record store.old { state = store.new.state } }
+{
+    match func.finish_call_concurrent(store, call) {
+        Poll::Ready(value) => Poll::Ready(Ok(value)),
+        Poll::Pending => Poll::Pending,
+    }
+}
+
 impl CallConcurrent {
     /// Starts the call at the first poll, as `Func::start_call_concurrent` does, with its refusals, and
     /// then finishes it: ready with the result where it has returned, and else pending. It isn't polled
@@ -70,21 +88,19 @@ impl CallConcurrent {
         ensures order { (p : Turn) → Sits component.now p store.old.state.core → Sits component.now p store.new.state.core }
         ensures rest { store.new ≡ record store.old { state = store.new.state } }
     {
-        if self.call.is_none() {
-            match self
-                .func
-                .start_call_concurrent(component, store, self.params.as_slice())
-            {
-                Ok(call) => self.call = Some(call),
-                Err(e) => return Poll::Ready(Err(e)),
-            }
+        if let Some(call) = &mut self.call {
+            return finish(self.func, store, call);
         }
-        let Some(call) = &mut self.call else {
-            unreachable!()
-        };
-        match self.func.finish_call_concurrent(store, call) {
-            Poll::Ready(value) => Poll::Ready(Ok(value)),
-            Poll::Pending => Poll::Pending,
+        match self
+            .func
+            .start_call_concurrent(component, store, self.params.as_slice())
+        {
+            Ok(mut call) => {
+                let answer = finish(self.func, store, &mut call);
+                self.call = Some(call);
+                answer
+            }
+            Err(e) => Poll::Ready(Err(e)),
         }
     }
 }

@@ -3,7 +3,7 @@ ghost use Rattle.std.specs.Prelude.{◌≡◌, ◌+◌, ◌<◌, ◌≤◌, ◌^
 ghost use Rattle.task_calls.specs.Untrapped.{StartsUntrapped};
 ghost use Rattle.task_calls.specs.Calls.{Finishes};
 ghost use Rattle.task_loop.specs.Calls.{callee_of};
-ghost use Rattle.task_loop.specs.Typed.{IsResult, PollsTyped, number_of_typed, typed_in};
+ghost use Rattle.task_loop.specs.Typed.{FinishesTyped, IsResult, PollsTyped, number_of_typed, typed_in};
 ghost use Rattle.task_machine.specs.declared.component.Component.{Component as Shape};
 ghost use Rattle.task_machine.specs.declared.records.Turn.{Turn};
 ghost use Rattle.task_rules.specs.MainOps.{start_refusal};
@@ -197,6 +197,23 @@ pub struct TypedCallConcurrent<P, R> {
     call: Option<TypedFuncCallConcurrent<P, R>>,
 }
 
+// The result of a call that was started.
+fn finish<T, H, P: Words, R: FromWord>(
+    func: &TypedFunc<P, R>,
+    store: &mut Store<T, H>,
+    call: &mut TypedFuncCallConcurrent<P, R>,
+) -> Poll<Result<R, TaskError>>
+    ensures finishes { FinishesTyped R.from call.old.call.thread store.old.state result store.new.state }
+    ensures call { call.new ≡ call.old }
+    ensures order { (c : Shape) → (p : Turn) → Sits c p store.old.state.core → Sits c p store.new.state.core }
+    ensures rest { store.new ≡ record store.old { state = store.new.state } }
+{
+    match func.finish_call_concurrent(store, call) {
+        Poll::Ready(value) => Poll::Ready(Ok(value)),
+        Poll::Pending => Poll::Pending,
+    }
+}
+
 impl<P: Words, R: FromWord> TypedCallConcurrent<P, R> {
     /// Starts the call at the first poll, as `TypedFunc::start_call_concurrent` does, with its refusals,
     /// and then finishes it: ready with the result where it has returned, and else pending. It isn't
@@ -218,18 +235,16 @@ impl<P: Words, R: FromWord> TypedCallConcurrent<P, R> {
         ensures order { (p : Turn) → Sits component.now p store.old.state.core → Sits component.now p store.new.state.core }
         ensures rest { store.new ≡ record store.old { state = store.new.state } }
     {
-        if self.call.is_none() {
-            match self.func.start_with(component, store, &self.params) {
-                Ok(call) => self.call = Some(call),
-                Err(e) => return Poll::Ready(Err(e)),
-            }
+        if let Some(call) = &mut self.call {
+            return finish(&self.func, store, call);
         }
-        let Some(call) = &mut self.call else {
-            unreachable!()
-        };
-        match self.func.finish_call_concurrent(store, call) {
-            Poll::Ready(value) => Poll::Ready(Ok(value)),
-            Poll::Pending => Poll::Pending,
+        match self.func.start_with(component, store, &self.params) {
+            Ok(mut call) => {
+                let answer = finish(&self.func, store, &mut call);
+                self.call = Some(call);
+                answer
+            }
+            Err(e) => Poll::Ready(Err(e)),
         }
     }
 }

@@ -3,5 +3,6 @@ pub mod Drops
 pub mod Hosts
 pub mod Lending
 pub mod Polled
+pub mod Polls
 pub mod Scopes
 pub mod Spawned

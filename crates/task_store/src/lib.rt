@@ -5,6 +5,7 @@ mod access;
 mod data;
 mod drops;
 mod hosts;
+mod polls;
 mod scopes;
 mod spawn;
 mod store;
