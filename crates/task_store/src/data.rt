@@ -49,10 +49,10 @@ impl<T, H> Store<T, H> {
     /// Lowers a count of what an allocator has given out by the number of instances, which it isn't
     /// below.
     pub fn decrement_allocator_resources(&self, count: &mut u32)
-        requires { size self.now.state.core.instances ≤ count.old }
-        ensures { count.new ≡ count.old - size self.now.state.core.instances }
+        requires { min (size self.now.state.core.instances) 4294967295 ≤ count.old }
+        ensures { count.new ≡ count.old - min (size self.now.state.core.instances) 4294967295 }
     {
-        *count -= self.state.instances() as u32;
+        *count -= self.next_component_instance_id().0;
     }
 
     /// How much a call of a host may copy, in bytes: the last value set, and 134,217,728 in a new

@@ -1,4 +1,4 @@
-use Rattle.std.proofs.Common.{absurd, refl, sym, ◌≡◌, ◌∙◌}
+use Rattle.std.proofs.Common.{refl, sym, ◌≡◌, ◌∙◌}
 use Rattle.std.specs.Prelude.{None, Ok}
 use Rattle.task_machine.specs.Core.{Unscripted}
 use Rattle.task_calls.proofs.CallLemmas.{found_kind, found_words, in_order}
