@@ -21,3 +21,5 @@ mod scenario;
 mod state;
 #[cfg(test)]
 mod store;
+#[cfg(test)]
+mod typed;

@@ -9,3 +9,4 @@ pub mod ResumeLemmas
 pub mod ReturnLemmas
 pub mod StartLemmas
 pub mod TaskLemmas
+pub mod UntrappedLemmas

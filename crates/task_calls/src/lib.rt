@@ -10,6 +10,7 @@ mod resumes;
 mod returns;
 mod starts;
 mod tasks;
+mod untrapped;
 
 pub use answers::{Answer, Step};
 pub use asks::{
@@ -23,3 +24,4 @@ pub use returns::task_return;
 pub use starts::{prepare_call, start_prepared};
 pub use state_calls::{QualifiedThreadId, TaskError, is_live};
 pub use tasks::new_guest_task;
+pub use untrapped::start_untrapped;
