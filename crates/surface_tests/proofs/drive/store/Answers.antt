@@ -1,0 +1,12 @@
+-- The new store sits at main's turn.
+use Rattle.surface_tests.proofs.DriveLemmas.{opens, opens_current, opens_given}
+use Rattle.surface_tests.proofs.drive.store.Goals as goal
+
+pub returns-clause-order : goal.returns-clause-order
+returns-clause-order g c = opens c.args.component.now c.requires.exports c.requires.one c.new_store.result.state c.new_store.ensures
+
+pub returns-clause-given : goal.returns-clause-given
+returns-clause-given g c = opens_given c.new_store.result.state c.new_store.ensures
+
+pub returns-clause-current : goal.returns-clause-current
+returns-clause-current g c = opens_current c.new_store.result.state c.new_store.ensures
