@@ -152,8 +152,8 @@ pub(crate) fn called(
 
 // A main that answers this, or else waits.
 #[derive(Drop)]
-struct Host {
-    answer: Option<u64>,
+pub(crate) struct Host {
+    pub(crate) answer: Option<u64>,
 }
 
 impl<T, H: HostWork> MainTask<T, H> for Host {

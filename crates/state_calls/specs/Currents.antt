@@ -11,6 +11,7 @@ use Rattle.task_machine.specs.declared.records.Place.TheVariants as place
 use Rattle.task_table.specs.declared.id.TableId.{TableId}
 use Rattle.task_wait.specs.declared.keys.ThreadKey.{ThreadKey}
 use Rattle.task_words.specs.StateView.{StateView, call_of, on_core, thread_of, with_current}
+use Rattle.wake_laws.specs.Stands.{MayComeToRun, MaySuspend}
 
 -- the thread's id, if one is named
 abbrev pub thread_in : CurrentThread → Option (TableId ThreadKey)
@@ -72,3 +73,8 @@ entered (Some n) s = set_place n place.Running s
 -- the thread that is to run runs, and the one that ran is suspended
 abbrev pub now_runs : CurrentThread → StateView → StateView
 now_runs c s = with_current (thread_in c) (on_core (λ core. entered (number_in s c) (left_for (runner s) (number_in s c) core)) s)
+
+-- Who is suspended by this may be suspended, and who is to run may come to run, so that no wake is lost.
+pub record LosesNoWake (old new : Option ℕ) (s : Core) : Type 0 where
+  pub leaves : (n : ℕ) → old ≡ Some n → is_left n new s ≡ true → MaySuspend n s
+  pub runs : (n : ℕ) → new ≡ Some n → MayComeToRun n s
