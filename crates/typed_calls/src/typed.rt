@@ -3,7 +3,7 @@ ghost use Rattle.std.specs.Prelude.{◌≡◌, ◌+◌, ◌<◌, ◌≤◌, ◌^
 ghost use Rattle.task_calls.specs.Untrapped.{StartsUntrapped};
 ghost use Rattle.task_calls.specs.Calls.{Finishes};
 ghost use Rattle.task_loop.specs.Calls.{callee_of};
-ghost use Rattle.task_loop.specs.Typed.{FinishesTyped, IsResult, PollsTyped, number_of_typed, typed_in};
+ghost use Rattle.typed_calls.specs.Typed.{FinishesTyped, IsResult, PollsTyped, number_of_typed, typed_in};
 ghost use Rattle.task_machine.specs.declared.component.Component.{Component as Shape};
 ghost use Rattle.task_machine.specs.declared.records.Turn.{Turn};
 ghost use Rattle.task_rules.specs.MainOps.{start_refusal};
@@ -11,14 +11,11 @@ ghost use Rattle.task_rules.specs.Scripts.{export_at};
 ghost use Rattle.task_turns.specs.Turn.{Sits, given};
 ghost use Rattle.task_turns.specs.WellFormed.{IsWellFormed};
 
-use crate::call::{Func, FuncCallConcurrent};
 use futures::task::Poll;
 use std::marker::PhantomData;
-use task_calls::{TaskError, start_untrapped};
-use task_group::TaskGroupId;
+use task_loop::{Func, FuncCallConcurrent, TaskError, TaskGroupId};
 use task_machine::Component;
 use task_store::Store;
-use task_words::ResultWords;
 
 /// Parameters that are handed to a call as words of 64 bits.
 pub trait Words: Drop {
@@ -116,15 +113,9 @@ impl<P: Words, R: FromWord> TypedFunc<P, R> {
     {
         let words = words_of(params);
         let count = P::COUNT as usize;
-        let group = store.state.made().groups + 1;
-        match start_untrapped(
-            &mut store.state,
-            component,
-            self.func.callee(),
-            &words[..count],
-        ) {
-            Ok(thread) => Ok(TypedFuncCallConcurrent {
-                call: FuncCallConcurrent { thread, group },
+        match self.func.start_untrapped(component, store, &words[..count]) {
+            Ok(call) => Ok(TypedFuncCallConcurrent {
+                call,
                 params: PhantomData,
                 result: PhantomData,
             }),
