@@ -1,14 +1,33 @@
 //! A host's own type of works.
-ghost use Rattle.std.specs.Prelude.{◌≡◌, []};
-ghost use Rattle.task_machine.specs.Core.{Unscripted};
-ghost use Rattle.task_store.specs.Spawned.{IsSpawnedIn, spawned_later};
+ghost use Rattle.std.specs.Prelude.{◌≡◌, ◌≤◌, false, length};
+ghost use Rattle.host_works.specs.Kept.{HoldsNone};
+ghost use Rattle.task_machine.specs.Core.{fresh};
+ghost use Rattle.task_records.specs.Seen.{nothing};
+ghost use Rattle.task_run.specs.Runnable.{IsRunnable};
+ghost use Rattle.task_words.specs.StateView.{with_core};
 
-use futures::task::Poll;
 use std::alloc::Global;
 use std::process::Abort;
-use task_loop::{Component, MainStep, MainTask, Outcome, TaskError, Trace, run_concurrent};
-use task_machine::{HostDef, Seq};
-use task_store::{Access, AccessorTask, FromHost, HostPoll, HostWork, SpawnHandle, Store, Whole};
+use task_loop::{Outcome, Trace, run_concurrent};
+use task_machine::HostDef;
+use task_run::{Scenario, ScriptMain, read_scenario};
+use task_store::{AccessorTask, FromHost, HostPoll, HostWork, Store};
+
+// Main spawns a work and awaits it; an export calls the host and waits for it.
+const SPAWNED: &[u8] =
+    b"scenario 1\nhandles 100000\ntable 1000000\nidle trap\nhost h polls 2 value 7\ninstance a\nexport f stackful 0\ncall_sync r0 h\nret r0\nmain\nspawn h\nawait 1\nanswer 0\nend\n";
+
+// Main calls that export.
+const CALLED: &[u8] =
+    b"scenario 1\nhandles 100000\ntable 1000000\nidle trap\nhost h polls 2 value 7\ninstance a\nexport f stackful 0\ncall_sync r0 h\nret r0\nmain\nstart a.f\nfinish 1 r1\nanswer r1\nend\n";
+
+// The work fails.
+const FAILING: &[u8] =
+    b"scenario 1\nhandles 100000\ntable 1000000\nidle trap\nhost h polls 1 fail\ninstance a\nexport f callback 0\nexit\nmain\nspawn h\nawait 1\nanswer 0\nend\n";
+
+// It never ends, and main aborts it.
+const ABORTED: &[u8] =
+    b"scenario 1\nhandles 100000\ntable 1000000\nidle trap\nhost h never\ninstance a\nexport f callback 0\nexit\nmain\nspawn h\nabort 1\nawait 1\nanswer 0\nend\n";
 
 // A work that counts its polls in the host's value.
 #[derive(Drop)]
@@ -49,82 +68,74 @@ impl FromHost for Counting {
     }
 }
 
-// A main that waits for a work that it spawned.
-#[derive(Drop)]
-struct Waiting {
-    work: SpawnHandle,
-}
-
-impl MainTask<u64, Counting> for Waiting {
-    ghost part = { λ _. Unscripted };
-
-    ghost script = { λ _. [] };
-
-    ghost suits = { λ _ _. Unit {0} };
-
-    ghost knows = { λ main state. IsSpawnedIn main.work state };
-
-    ghost stays = { λ main before after last known. spawned_later main.work before after last known };
-
-    fn step(
-        &mut self,
-        access: &mut Access<'_, u64, Whole, Counting>,
-        _component: &Component,
-    ) -> Result<MainStep, TaskError> {
-        match self.work.poll(access.store) {
-            Poll::Ready(()) => Ok(MainStep::Answer(0)),
-            Poll::Pending => Ok(MainStep::Pends),
-        }
+// A new store with one instance, whose value counts.
+fn new_store(rt: &impl Abort, alloc: Global) -> Store<u64, Counting>
+    ensures state { result.state ≡ with_core (fresh 1 100000 1000000) nothing }
+    ensures works { HoldsNone result.works }
+    ensures running { result.running ≡ false }
+{
+    let mut store: Store<u64, Counting> = Store::new(alloc, 0, true, 1);
+    match store.add_instance() {
+        Ok(_) => store,
+        Err(_) => panic!(rt; "no memory"),
     }
 }
 
-// What a run comes to that waits for such a work, and how often the work was polled.
-fn ran(
+// What the scenario comes to in the store.
+fn drive(
     rt: &impl Abort,
     alloc: Global,
-    polls: Option<u32>,
-    value: Option<u64>,
-    aborts: bool,
-) -> (Outcome, u64) {
-    let component = Component {
-        instances: Seq::new(alloc),
-        hosts: Seq::new(alloc),
-    };
-    let mut store: Store<u64, Counting> = Store::new(alloc, 0, true, 1);
-    let host = Counting {
-        left: HostDef { polls, value },
-    };
-    let Ok(work) = store.spawn(host) else {
-        panic!(rt; "no memory")
-    };
-    if aborts {
-        let _phase = work.abort(&mut store);
-    }
-    let Ok(mut run) = run_concurrent(&mut store, true) else {
+    scenario: &Scenario,
+    store: &mut Store<u64, Counting>,
+) -> Outcome
+    requires runnable { IsRunnable scenario.now }
+    requires one { length scenario.now.component.instances ≡ 1 }
+    requires fresh { store.old.state ≡ with_core (fresh 1 100000 1000000) nothing }
+    requires works { HoldsNone store.old.works }
+    requires free { store.old.running ≡ false }
+{
+    let Ok(mut run) = run_concurrent(store, true) else {
         panic!(rt; "a run")
     };
-    let mut main = Waiting { work };
     let mut trace = Trace::new(alloc);
-    let Ok(outcome) = run.drive(&component, &mut store, &mut main, 30, &mut trace) else {
+    let mut main = ScriptMain::new(alloc, scenario.main.as_slice());
+    let driven = run.drive(&scenario.component, store, &mut main, 40, &mut trace);
+    let Ok(outcome) = driven else {
         panic!(rt; "no memory")
     };
+    run.end(store);
+    outcome
+}
+
+// What the text's scenario comes to, and how often its works were polled.
+fn ran(rt: &impl Abort, alloc: Global, text: &[u8]) -> (Outcome, u64)
+    requires { length text.now ≤ 1048576 }
+{
+    let Ok(scenario) = read_scenario(alloc, text) else {
+        panic!(rt; "a scenario")
+    };
+    assert!(rt; scenario.component.instances.len() == 1);
+    let mut store = new_store(rt, alloc);
+    let outcome = drive(rt, alloc, &scenario, &mut store);
     (outcome, *store.data())
 }
 
 #[test]
 fn a_work_is_polled_once_a_turn_until_it_ends(rt: HostRuntime) {
-    let (outcome, polls) = ran(&rt, rt.alloc(), Some(2), Some(7), false);
+    let (outcome, polls) = ran(&rt, rt.alloc(), SPAWNED);
     assert!(rt; matches!(outcome, Outcome::Done(0)) && polls == 3);
+    let (outcome, polls) = ran(&rt, rt.alloc(), CALLED);
+    assert!(rt; matches!(outcome, Outcome::Done(7)) && polls == 3);
 }
 
 #[test]
 fn a_work_that_fails_ends_the_run(rt: HostRuntime) {
-    let (outcome, polls) = ran(&rt, rt.alloc(), Some(1), None, false);
+    let (outcome, polls) = ran(&rt, rt.alloc(), FAILING);
     assert!(rt; matches!(outcome, Outcome::HostFailed(1)) && polls == 2);
 }
 
 #[test]
 fn a_work_that_is_aborted_is_not_polled(rt: HostRuntime) {
-    let (outcome, polls) = ran(&rt, rt.alloc(), None, None, true);
+    let (outcome, polls) = ran(&rt, rt.alloc(), ABORTED);
     assert!(rt; matches!(outcome, Outcome::Done(0)) && polls == 0);
 }

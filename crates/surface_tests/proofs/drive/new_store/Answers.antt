@@ -11,5 +11,5 @@ pub add_instance-requires : goal.add_instance-requires
 add_instance-requires g c =
     let none = ap (λ (s : StateView). size s.core.instances) c.new-store.ensures.state ∙ size_fresh 0 100000 1000000 in omega (arith, none)
 
-pub returns : goal.returns
-returns g c = rw (c.in-Ok.ensures.ok, c.new-store.ensures.state) (ap (λ (u : Core). with_core u nothing) (fresh_more 0 100000 1000000))
+pub returns-clause-state : goal.returns-clause-state
+returns-clause-state g c = rw (c.in-Ok.ensures.ok, c.new-store.ensures.state) (ap (λ (u : Core). with_core u nothing) (fresh_more 0 100000 1000000))
