@@ -12,15 +12,17 @@ use Rattle.task_machine.specs.Write.{set_event, set_join, set_place}
 use Rattle.task_machine.specs.declared.records.Join.{Join}
 use Rattle.task_machine.specs.declared.records.Place.TheVariants as place
 use Rattle.task_machine.specs.declared.records.Subtask.{Subtask}
+use Rattle.task_machine.specs.declared.words.Mark.{Mark}
 use Rattle.task_machine.specs.declared.words.OwnEvent.{OwnEvent}
 use Rattle.task_machine.specs.declared.words.Status.{Status}
 use Rattle.task_rules.specs.Sets.{joins, may_wake_new, wakes_joined}
+use Rattle.task_rules.specs.Takes.{popped}
 use Rattle.task_table.specs.declared.id.TableId.{TableId}
 use Rattle.task_wait.specs.declared.keys.SetKey.{SetKey}
 use Rattle.task_wait.specs.declared.keys.ThreadKey.{ThreadKey}
 use Rattle.task_words.specs.StateView.{StateView, on_core, set_of, thread_of}
-use Rattle.wake_laws.proofs.{MoveLemmas.give_keeps, MoveLemmas.join_keeps, MoveLemmas.publish_keeps, MoveLemmas.take_keeps, MoveLemmas.wake_keeps, StopLemmas.stop_keeps, ThreadLemmas.end_keeps, ThreadLemmas.run_keeps, ThreadLemmas.suspend_keeps, ThreadLemmas.suspended_runs}
-use Rattle.wake_laws.specs.Stands.{EndKeeps, GiveKeeps, JoinKeeps, MayComeToRun, MayLeave, NoWakeLost, PublishKeeps, RunKeeps, StopKeeps, SuspendKeeps, TakeKeeps, WakeKeeps}
+use Rattle.wake_laws.proofs.{MoveLemmas.give_keeps, MoveLemmas.join_keeps, MoveLemmas.publish_keeps, MoveLemmas.take_keeps, MoveLemmas.wake_keeps, PopLemmas.pop_keeps, StopLemmas.stop_keeps, ThreadLemmas.end_keeps, ThreadLemmas.run_keeps, ThreadLemmas.suspend_keeps, ThreadLemmas.suspended_runs}
+use Rattle.wake_laws.specs.Stands.{EndKeeps, GiveKeeps, JoinKeeps, MayComeToRun, MayLeave, NoWakeLost, PopKeeps, PublishKeeps, RunKeeps, StopKeeps, SuspendKeeps, TakeKeeps, WakeKeeps}
 
 core_kept : (f : Core → Core) (s t : StateView) → t ≡ on_core f s → (NoWakeLost s.core → NoWakeLost (f s.core)) → NoWakeLost s.core → NoWakeLost t.core
 core_kept f s t e keeps h = subst (λ (v : StateView). NoWakeLost v.core) (sym e) (keeps h)
@@ -52,6 +54,10 @@ stopped_kept f s t is = core_kept (stopped f) s t is (stop_keeps f s.core)
 pub ended_kept : (n : ℕ) (s t : Core) → t ≡ ended n s → MayLeave n s → NoWakeLost s → NoWakeLost t
 unfolding EndKeeps
 ended_kept n s t is may h = subst (λ (c : Core). NoWakeLost c) (sym is) (end_keeps n s may h)
+
+pub popped_kept : (m : Mark) (s t : StateView) → t ≡ on_core (popped m) s → NoWakeLost s.core → NoWakeLost t.core
+unfolding PopKeeps
+popped_kept m s t is = core_kept (popped m) s t is (pop_keeps m s.core)
 
 -- by the steps of a join
 pub joined_by : (sub : Subtask) (event : Option Status) (set : Option (TableId SetKey)) (waiter : Option (TableId ThreadKey)) (j : Join) (s u t : StateView) → event ≡ event_of sub s.core →

@@ -4,7 +4,10 @@ pub mod AskLemmas
 pub mod AtOnceLemmas
 pub mod CallLemmas
 pub mod DirectLemmas
+pub mod PlaceLemmas
 pub mod PollLemmas
+pub mod ResumeLemmas
 pub mod ReturnLemmas
 pub mod StartLemmas
 pub mod TaskLemmas
+pub mod UntrappedLemmas

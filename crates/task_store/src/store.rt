@@ -1,4 +1,4 @@
-ghost use Rattle.std.specs.Prelude.{◌≡◌, ◌+◌, ◌-◌, ◌<◌, ◌≤◌, ◌^◌, ◌↔◌, cond, false, min, true, IfErr, IfOk, IfSome, IsSome, OnErr, OnOk};
+ghost use Rattle.std.specs.Prelude.{[], ◌≡◌, ◌+◌, ◌-◌, ◌<◌, ◌≤◌, ◌^◌, ◌↔◌, cond, false, min, true, IfErr, IfOk, IfSome, IsSome, OnErr, OnOk};
 ghost use Rattle.host_works.specs.Kept.{HoldsNone};
 ghost use Rattle.make_words.specs.Instances.{with_instance};
 ghost use Rattle.count_words.specs.Limits.{with_capacity, with_handle_limit};
@@ -9,6 +9,7 @@ ghost use Rattle.task_records.specs.Seen.{nothing};
 ghost use Rattle.task_turns.specs.Turn.{given};
 ghost use Rattle.task_words.specs.StateView.{on_core};
 
+use crate::scopes::ComponentTasksNotConcurrent;
 use host_works::HostWorks;
 use record_core::TaskCore;
 use std::alloc::Global;
@@ -16,7 +17,7 @@ use task_machine::{NoMemory, Trap};
 use task_words::ResultWords;
 
 /// Names an instance by its number, from 0.
-#[derive(Clone, Copy)]
+#[derive(Clone, Copy, PartialEq, Eq)]
 pub struct ComponentInstanceId(pub u32);
 
 /// The table of a concurrent store, as it is told: how many entries stand in it, and for how many it
@@ -37,7 +38,10 @@ pub struct StandingRun {
 pub struct Store<T, H> {
     pub(crate) value: T,
     id: u64,
-    concurrent: bool,
+    pub(crate) concurrent: bool,
+    pub(crate) fuel: usize,
+    /// The scopes of borrows, of a store that isn't concurrent.
+    pub scopes: ComponentTasksNotConcurrent,
     /// The calls and threads of the store.
     pub state: TaskCore,
     // The host works that haven't ended.
@@ -53,6 +57,8 @@ impl<T: Drop, H: Drop> Drop for Store<T, H> {
             value: _,
             id: _,
             concurrent: _,
+            fuel: _,
+            scopes: _,
             state: _,
             works: _,
             running: _,
@@ -67,6 +73,8 @@ impl<T, H> Store<T, H> {
         ensures value { result.value ≡ value }
         ensures concurrent { result.concurrent ≡ concurrent }
         ensures id { result.id ≡ id }
+        ensures fuel { result.fuel ≡ 134217728 }
+        ensures scopes { result.scopes ≡ [] }
         ensures state { result.state ≡ nothing }
         ensures works { HoldsNone result.works }
         ensures running { result.running ≡ false }
@@ -75,6 +83,8 @@ impl<T, H> Store<T, H> {
             value,
             id,
             concurrent,
+            fuel: 134217728,
+            scopes: ComponentTasksNotConcurrent::new(alloc),
             state: TaskCore::new(alloc),
             works: HostWorks::new(alloc),
             running: false,

@@ -4,3 +4,4 @@ pub mod MoveLemmas
 pub mod StopLemmas
 pub mod ThreadLemmas
 pub mod WaitLemmas
+pub mod PopLemmas

@@ -11,11 +11,13 @@ use Rattle.task_machine.specs.declared.component.Component.{Component}
 use Rattle.task_machine.specs.declared.label.Label.{Label}
 use Rattle.task_machine.specs.declared.records.Place.TheVariants as place
 use Rattle.task_machine.specs.declared.records.Subtask.{Subtask}
+use Rattle.task_machine.specs.declared.words.Mark.{Mark}
 use Rattle.task_machine.specs.declared.words.Status.{Status}
 use Rattle.task_rules.specs.Places.{is_at_switch, is_behind_of, is_there, says, times}
 use Rattle.task_rules.specs.Sets.{joins, may_wake_new, wakes_joined}
 use Rattle.task_rules.specs.Stalled.{Setting}
 use Rattle.task_rules.specs.Step.{Step}
+use Rattle.task_rules.specs.Takes.{popped}
 
 -- ---- A core in which no wake is lost
 
@@ -80,6 +82,10 @@ TakeKeeps = (sub : Subtask) (s : Core) → Keeps s (set_event sub None s)
 -- what is given to a call is taken
 unfoldable pub GiveKeeps : Type 0
 GiveKeeps = (g : Gift) (k : ℕ) (s : Core) → Keeps s (taken g k s)
+
+-- the first entry of a mark is taken
+unfoldable pub PopKeeps : Type 0
+PopKeeps = (m : Mark) (s : Core) → Keeps s (popped m s)
 
 -- a strand stops
 unfoldable pub StopKeeps : Type 0

@@ -1,4 +1,4 @@
-ghost use Rattle.wake_laws.specs.Stands.{EndKeeps, GiveKeeps, JoinKeeps, OrderStands, PublishKeeps, RunKeeps, StopKeeps, SuspendKeeps, TakeKeeps, WaitsFindNothing, WakeKeeps};
+ghost use Rattle.wake_laws.specs.Stands.{EndKeeps, GiveKeeps, JoinKeeps, OrderStands, PopKeeps, PublishKeeps, RunKeeps, StopKeeps, SuspendKeeps, TakeKeeps, WaitsFindNothing, WakeKeeps};
 
 /// In a state in order, while its turns aren't over, no wake is lost.
 #[tactic(auto, using(crate::proofs::GroundLemmas::order_stands))]
@@ -24,10 +24,11 @@ pub fn events_keep()
     ensures give { GiveKeeps }
 {}
 
-/// Where no wake is lost, none is lost as a strand stops, and none as a thread ends, runs or is
-/// suspended, under what each asks of that thread: one clause a move.
-#[tactic(auto, using(crate::proofs::StopLemmas::stop_keeps, crate::proofs::ThreadLemmas::end_keeps, crate::proofs::ThreadLemmas::run_keeps, crate::proofs::ThreadLemmas::suspend_keeps))]
+/// Where no wake is lost, none is lost as an entry is taken or a strand stops, and none as a thread
+/// ends, runs or is suspended, under what each asks of that thread: one clause a move.
+#[tactic(auto, using(crate::proofs::PopLemmas::pop_keeps, crate::proofs::StopLemmas::stop_keeps, crate::proofs::ThreadLemmas::end_keeps, crate::proofs::ThreadLemmas::run_keeps, crate::proofs::ThreadLemmas::suspend_keeps))]
 pub fn threads_keep()
+    ensures pop { PopKeeps }
     ensures stop { StopKeeps }
     ensures ends { EndKeeps }
     ensures runs { RunKeeps }

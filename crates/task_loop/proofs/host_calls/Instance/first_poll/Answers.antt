@@ -1,6 +1,6 @@
 use Rattle.std.proofs.Common.{ap, refl, subst, sym, ◌∙◌}
 use Rattle.std.specs.Prelude.{Some, cond, is_ok, ℕ, ◌==◌, ◌≡◌}
-use Rattle.task_loop.proofs.PolledLemmas.{after_none, after_settled, polled_holds, is_held}
+use Rattle.task_loop.proofs.HostCallLemmas.{after_none, after_settled, polled_holds, is_held}
 use Rattle.task_loop.proofs.host_calls.Instance.first_poll.Goals as goal
 use Rattle.task_machine.specs.Core.{Unscripted}
 use Rattle.task_machine.specs.declared.component.HostDef.{HostDef}
