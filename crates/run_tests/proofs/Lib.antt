@@ -1,1 +1,3 @@
+pub mod AskLemmas
 pub mod DriveLemmas
+pub mod StateLemmas

@@ -1,6 +1,8 @@
 ghost use Rattle.std.specs.Prelude.{◌≡◌, ◌≤◌, [], true, IfOk, OnOk, None, length, IsSome, IfSome};
 ghost use Rattle.std.specs.List.{list_all};
+ghost use Rattle.host_works.specs.Kept.{HoldsNone};
 ghost use Rattle.task_machine.specs.Core.{Main, Unscripted, fresh};
+ghost use Rattle.task_store.specs.Hosts.{HoldsHosts};
 ghost use Rattle.task_records.specs.Seen.{nothing};
 ghost use Rattle.task_rules.specs.Scripts.{export_at};
 ghost use Rattle.task_loop.specs.Calls.{callee_of};
@@ -17,7 +19,7 @@ use task_loop::{
     MainTask, Op, Operand, Outcome, TaskError, Trace, run_concurrent,
 };
 use task_machine::{DataOp, ExportKind, LoopLabel, MainLabel, NoMemory, Seq, TaskOp, Trap, Turn};
-use task_store::{Access, Store, Whole};
+use task_store::{Access, HostWork, ScriptedHost, Store, Whole};
 use task_words::{ThreadWords, View};
 
 pub(crate) const CALLEE: Func = Func {
@@ -96,10 +98,11 @@ pub(crate) fn component(rt: &impl Abort, alloc: Global) -> Component
 }
 
 // A new store with one instance.
-fn new_store(rt: &impl Abort, alloc: Global) -> Store<(), ()>
-    ensures { result.state ≡ with_core (fresh 1 100000 1000000) nothing }
+fn new_store(rt: &impl Abort, alloc: Global) -> Store<(), ScriptedHost>
+    ensures state { result.state ≡ with_core (fresh 1 100000 1000000) nothing }
+    ensures works { HoldsNone result.works }
 {
-    let mut store: Store<(), ()> = Store::new(alloc, (), true, 1);
+    let mut store: Store<(), ScriptedHost> = Store::new(alloc, (), true, 1);
     match store.add_instance() {
         Ok(_) => store,
         Err(_) => panic!(rt; "no memory"),
@@ -107,12 +110,17 @@ fn new_store(rt: &impl Abort, alloc: Global) -> Store<(), ()>
 }
 
 // A store with that component's one instance.
-pub(crate) fn store(rt: &impl Abort, alloc: Global, component: &Component) -> Store<(), ()>
+pub(crate) fn store(
+    rt: &impl Abort,
+    alloc: Global,
+    component: &Component,
+) -> Store<(), ScriptedHost>
     requires exports { HasPlainExports component.now }
     requires one { length component.now.instances ≡ 1 }
     ensures order { Sits component.now Turn.Main result.state.core }
     ensures given { given result.state.core ≡ 0 }
     ensures current { running_of result.state ≡ None }
+    ensures hosts { HoldsHosts ScriptedHost.course result }
 {
     let _component = component;
     new_store(rt, alloc)
@@ -122,7 +130,7 @@ pub(crate) fn store(rt: &impl Abort, alloc: Global, component: &Component) -> St
 pub(crate) fn called(
     rt: &impl Abort,
     component: &Component,
-    store: &mut Store<(), ()>,
+    store: &mut Store<(), ScriptedHost>,
 ) -> FuncCallConcurrent
     requires covered { IsWellFormed component.now }
     requires there { IsSome (export_at component.now (callee_of CALLEE)) }
@@ -130,9 +138,11 @@ pub(crate) fn called(
     requires order { Sits component.now Turn.Main store.old.state.core }
     requires given { given store.old.state.core ≡ 0 }
     requires current { running_of store.old.state ≡ None }
+    requires hosts { HoldsHosts ScriptedHost.course store.old }
     ensures order { Sits component.now Turn.Main store.new.state.core }
     ensures given { given store.new.state.core ≡ 2 }
     ensures current { running_of store.new.state ≡ None }
+    ensures hosts { HoldsHosts ScriptedHost.course store.new }
 {
     match CALLEE.start_call_concurrent(component, store, &[7]) {
         Ok(call) => call,
@@ -142,11 +152,11 @@ pub(crate) fn called(
 
 // A main that answers this, or else waits.
 #[derive(Drop)]
-struct Host {
-    answer: Option<u64>,
+pub(crate) struct Host {
+    pub(crate) answer: Option<u64>,
 }
 
-impl<T, H> MainTask<T, H> for Host {
+impl<T, H: HostWork> MainTask<T, H> for Host {
     ghost part = { λ _. Unscripted };
 
     ghost script = { λ _. [] };
@@ -169,7 +179,7 @@ impl<T, H> MainTask<T, H> for Host {
     }
 }
 
-fn is_recursive(store: &mut Store<(), ()>) -> bool
+fn is_recursive(store: &mut Store<(), ScriptedHost>) -> bool
     requires { store.old.running ≡ true }
     ensures { store.new ≡ store.old }
 {

@@ -4,7 +4,13 @@
 #![tactic(auto)]
 
 #[cfg(test)]
+mod calls_of_states;
+#[cfg(test)]
 mod drive;
+#[cfg(test)]
+mod hosts;
+#[cfg(test)]
+mod instance_calls;
 #[cfg(test)]
 mod program;
 #[cfg(test)]
@@ -15,3 +21,5 @@ mod scenario;
 mod state;
 #[cfg(test)]
 mod store;
+#[cfg(test)]
+mod typed;

@@ -37,7 +37,9 @@ pub use pressure::{lower, raise};
 pub use sets::{set_drop, set_new};
 pub use starts::take_start;
 pub use strikes::strike;
-pub use switches::{halt_then_promote, halt_then_resume, thread_index, thread_new};
+pub use switches::{
+    halt_then_promote, halt_then_resume, promote_first, resume_first, thread_index, thread_new,
+};
 pub use tasks::{ret, ret_bad, task_cancel};
 pub use threads::{halt, resume_later};
 pub use waits::{begin_wait, go_on_waiting};
