@@ -7,6 +7,7 @@ use task_machine::NoMemory;
 use task_records::CoreParts;
 
 /// A new chain among the callers of threads, which hangs on nothing yet. Where memory is wanting, all is as before.
+#[inline(always)]
 pub fn make_caller_chain(parts: &mut CoreParts) -> Result<usize, NoMemory>
     requires { IsSound parts.old }
     ensures sound { IsSound parts.new }
@@ -22,6 +23,7 @@ pub fn make_caller_chain(parts: &mut CoreParts) -> Result<usize, NoMemory>
 }
 
 /// A new node among the callers of threads, which hangs on nothing yet. Where memory is wanting, all is as before.
+#[inline(always)]
 pub fn make_caller_node(parts: &mut CoreParts) -> Result<Node, NoMemory>
     requires { IsSound parts.old }
     ensures sound { IsSound parts.new }

@@ -7,6 +7,7 @@ use task_machine::NoMemory;
 use task_records::CoreParts;
 
 /// A new chain among the places of threads, which hangs on nothing yet. Where memory is wanting, all is as before.
+#[inline(always)]
 pub fn make_place_chain(parts: &mut CoreParts) -> Result<usize, NoMemory>
     requires { IsSound parts.old }
     ensures sound { IsSound parts.new }
@@ -22,6 +23,7 @@ pub fn make_place_chain(parts: &mut CoreParts) -> Result<usize, NoMemory>
 }
 
 /// A new node among the places of threads, which hangs on nothing yet. Where memory is wanting, all is as before.
+#[inline(always)]
 pub fn make_place_node(parts: &mut CoreParts) -> Result<Node, NoMemory>
     requires { IsSound parts.old }
     ensures sound { IsSound parts.new }
@@ -37,6 +39,7 @@ pub fn make_place_node(parts: &mut CoreParts) -> Result<Node, NoMemory>
 }
 
 /// A new chain among the ready calls of sets, which hangs on nothing yet. Where memory is wanting, all is as before.
+#[inline(always)]
 pub fn make_ready_call_chain(parts: &mut CoreParts) -> Result<usize, NoMemory>
     requires { IsSound parts.old }
     ensures sound { IsSound parts.new }
@@ -52,6 +55,7 @@ pub fn make_ready_call_chain(parts: &mut CoreParts) -> Result<usize, NoMemory>
 }
 
 /// A new node among the ready calls of sets, which hangs on nothing yet. Where memory is wanting, all is as before.
+#[inline(always)]
 pub fn make_ready_call_node(parts: &mut CoreParts) -> Result<Node, NoMemory>
     requires { IsSound parts.old }
     ensures sound { IsSound parts.new }
@@ -67,6 +71,7 @@ pub fn make_ready_call_node(parts: &mut CoreParts) -> Result<Node, NoMemory>
 }
 
 /// A new chain among the ready host works of sets, which hangs on nothing yet. Where memory is wanting, all is as before.
+#[inline(always)]
 pub fn make_ready_work_chain(parts: &mut CoreParts) -> Result<usize, NoMemory>
     requires { IsSound parts.old }
     ensures sound { IsSound parts.new }
@@ -82,6 +87,7 @@ pub fn make_ready_work_chain(parts: &mut CoreParts) -> Result<usize, NoMemory>
 }
 
 /// A new node among the ready host works of sets, which hangs on nothing yet. Where memory is wanting, all is as before.
+#[inline(always)]
 pub fn make_ready_work_node(parts: &mut CoreParts) -> Result<Node, NoMemory>
     requires { IsSound parts.old }
     ensures sound { IsSound parts.new }
@@ -97,6 +103,7 @@ pub fn make_ready_work_node(parts: &mut CoreParts) -> Result<Node, NoMemory>
 }
 
 /// A new chain among the host works that are polled, which hangs on nothing yet. Where memory is wanting, all is as before.
+#[inline(always)]
 pub fn make_live_chain(parts: &mut CoreParts) -> Result<usize, NoMemory>
     requires { IsSound parts.old }
     ensures sound { IsSound parts.new }
@@ -112,6 +119,7 @@ pub fn make_live_chain(parts: &mut CoreParts) -> Result<usize, NoMemory>
 }
 
 /// A new node among the host works that are polled, which hangs on nothing yet. Where memory is wanting, all is as before.
+#[inline(always)]
 pub fn make_live_node(parts: &mut CoreParts) -> Result<Node, NoMemory>
     requires { IsSound parts.old }
     ensures sound { IsSound parts.new }

@@ -7,6 +7,7 @@ use task_machine::NoMemory;
 use task_records::CoreParts;
 
 /// A new chain among the entries of marks, which hangs on nothing yet. Where memory is wanting, all is as before.
+#[inline(always)]
 pub fn make_mark_chain(parts: &mut CoreParts) -> Result<usize, NoMemory>
     requires { IsSound parts.old }
     ensures sound { IsSound parts.new }
@@ -22,6 +23,7 @@ pub fn make_mark_chain(parts: &mut CoreParts) -> Result<usize, NoMemory>
 }
 
 /// A new node among the entries of marks, which hangs on nothing yet. Where memory is wanting, all is as before.
+#[inline(always)]
 pub fn make_mark_node(parts: &mut CoreParts) -> Result<Node, NoMemory>
     requires { IsSound parts.old }
     ensures sound { IsSound parts.new }
@@ -37,6 +39,7 @@ pub fn make_mark_node(parts: &mut CoreParts) -> Result<Node, NoMemory>
 }
 
 /// A new chain among the entries of instances at a mark, which hangs on nothing yet. Where memory is wanting, all is as before.
+#[inline(always)]
 pub fn make_shelf_chain(parts: &mut CoreParts) -> Result<usize, NoMemory>
     requires { IsSound parts.old }
     ensures sound { IsSound parts.new }
@@ -52,6 +55,7 @@ pub fn make_shelf_chain(parts: &mut CoreParts) -> Result<usize, NoMemory>
 }
 
 /// A new node among the entries of instances at a mark, which hangs on nothing yet. Where memory is wanting, all is as before.
+#[inline(always)]
 pub fn make_shelf_node(parts: &mut CoreParts) -> Result<Node, NoMemory>
     requires { IsSound parts.old }
     ensures sound { IsSound parts.new }

@@ -2,6 +2,8 @@
 use Rattle.task_records.proofs.Core.{ap, Call, call_group, change, Core, get, get-change_same, group_key, group_settled, GroupKey, has_thread, Join, join_of, None, number_of, on_call, on_work, Option, option_and_then, option_map, option_map_or, Records, refl, remove-change_same, remove_call, remove_work, set_join, set_stage, settle_group_of, Some, Stage, stage_of, Subtask, sym, Table, TableId, Work, work_deleted, work_group, ℕ, ◌<◌, ◌∙◌, ◌≡◌}
 use Rattle.task_records.specs.declared.{calls.TaskGroup.TaskGroup, single.Single.Single}
 use Rattle.removal_words.specs.Counted.{IsNamedBy}
+use Rattle.task_machine.proofs.CommuteLemmas.{insert-present}
+use Rattle.task_machine.specs.Maps.{changed, insert}
 
 -- a field that a change leaves
 field_left : {X Y : Type 0} (f : X → X) (h : X → Y) (d : Y) → ((x : X) → h (f x) ≡ h x) → (o : Option X) → option_map_or h (option_map f o) d ≡ option_map_or h o d
@@ -29,6 +31,14 @@ module _ (k : ℕ) (j : Join) (s : Core) where
   pub call_removed : remove_call k (set_join (Subtask.Guest k) j s) ≡ remove_call k s
   unfolding set_join on_call remove_call
   call_removed = ap (λ (m : Records Call). record s { calls = m }) (remove-change_same s.calls k (λ c. record c { join = j }))
+
+  -- a call that is in no set, taken out of its set
+  pub call_stays : (c : Call) → get s.calls k ≡ Some c → c.join ≡ j → set_join (Subtask.Guest k) j s ≡ s
+  unfolding set_join on_call change
+  call_stays c found is =
+      ap (λ (m : Records Call). record s { calls = m })
+      (ap (changed s.calls k (λ (x : Call). record x { join = j })) found
+      ∙ (ap (λ (i : Join). insert s.calls k (record c { join = i })) (sym is) ∙ insert-present s.calls k c found))
 
 -- ---- A host work
 

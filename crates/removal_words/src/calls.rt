@@ -3,7 +3,7 @@ ghost use Rattle.table_order.specs.Places.{given};
 ghost use Rattle.task_machine.specs.Maps.{get};
 ghost use Rattle.task_machine.specs.Moves.{group_settled};
 ghost use Rattle.task_machine.specs.Read.{call_group, has_thread, join_of};
-ghost use Rattle.task_machine.specs.Write.{remove_call};
+ghost use Rattle.task_machine.specs.Write.{remove_call, set_join};
 ghost use Rattle.task_machine.specs.declared.records.Join.TheVariants as joins;
 ghost use Rattle.task_machine.specs.declared.records.Subtask.TheVariants as subtasks;
 ghost use Rattle.task_records.specs.Keys.{group_key};
@@ -12,14 +12,14 @@ ghost use Rattle.task_records.specs.Seen.{IsSound, seen};
 ghost use Rattle.task_records.specs.declared.calls.GuestTask.{GuestTask};
 ghost use Rattle.task_table.specs.Answers.{item_at};
 ghost use Rattle.task_table.specs.Records.{number_of};
-ghost use Rattle.task_words.specs.StateView.{KeepsBut, call_of, lost_call};
+ghost use Rattle.task_words.specs.StateView.{KeepsBut, call_of, lost_call, on_core};
 
 use crate::chains::{close_seats, drop_seat};
 use crate::groups::{group_there, one_if, settle_group};
 use count_words::close_room;
 use place_words::set_join;
 use record_words::{call_number, goal};
-use task_machine::Goal;
+use task_machine::{Goal, Join};
 use task_records::CoreParts;
 use task_table::TableId;
 use task_wait::GroupKey;
@@ -76,6 +76,25 @@ fn leave_room(parts: &mut CoreParts, call: u64, goal: Goal)
     }
 }
 
+// A call leaves the set that it is in, if it is in one.
+fn leave_set(parts: &mut CoreParts, call: CallId)
+    requires sound { IsSound parts.old }
+    requires live { 0 < call_of (seen parts.old) call }
+    ensures sound { IsSound parts.new }
+    ensures new { seen parts.new ≡ on_core (set_join (subtasks.Guest (call_of (seen parts.old) call)) joins.Nowhere) (seen parts.old) }
+{
+    let join = match task_records::call(parts, call) {
+        Some(found) => found.call.join,
+        None => unreachable!(),
+    };
+    match join {
+        Join::Nowhere => {}
+        Join::Set { .. } | Join::Watched { .. } => {
+            set_join(parts, SubtaskId::Guest(call), JoinId::Nowhere);
+        }
+    }
+}
+
 /// A call is gone, and its group is finished, if nothing of it is left.
 pub fn delete_call(parts: &mut CoreParts, call: CallId)
     requires sound { IsSound parts.old }
@@ -86,7 +105,7 @@ pub fn delete_call(parts: &mut CoreParts, call: CallId)
     ensures current { (seen parts.new).current ≡ (seen parts.old).current }
     ensures tags { KeepsBut (lost_call (call_of (seen parts.old) call)) (seen parts.old).tags (seen parts.new).tags }
 {
-    set_join(parts, SubtaskId::Guest(call), JoinId::Nowhere);
+    leave_set(parts, call);
     let number = call_number(parts, call);
     let goal = goal(parts, call);
     let group = drop_call(parts, call);

@@ -7,6 +7,7 @@ use table_order::SeatLinks;
 use task_links::{Links, Node};
 
 /// Takes every node out of a chain, and drops it.
+#[inline(always)]
 pub(crate) fn close<P: Copy>(links: &mut Links<P>, chain: usize)
     requires { IsSome (list_of links.old chain) }
     ensures { Closes links.old links.new chain }
@@ -18,6 +19,7 @@ pub(crate) fn close<P: Copy>(links: &mut Links<P>, chain: usize)
 }
 
 /// Takes every node out of a chain that stands in the order of seats, and drops it.
+#[inline(always)]
 pub(crate) fn close_seats(links: &mut SeatLinks, chain: usize)
     requires { IsSome (list_of links.old chain) }
     ensures { Closes links.old links.new chain }
@@ -29,6 +31,7 @@ pub(crate) fn close_seats(links: &mut SeatLinks, chain: usize)
 }
 
 /// Takes a node out of the chain that it is in, if it is in one, and drops it.
+#[inline(always)]
 pub(crate) fn drop_seat(links: &mut SeatLinks, node: Node)
     requires { is_made links.old node.index ≡ true }
     ensures { Drops links.old links.new node.index }

@@ -39,6 +39,7 @@ impl TablePlaces {
 
     /// Gives a place: the one freed last, else the first that was never given. Where memory is wanting, or where
     /// 4,294,967,295 places were given, all is as before.
+    #[inline(always)]
     pub fn take(&mut self) -> Result<u32, NoMemory>
         ensures place { IfOk result (λ place. place ≡ next_place self.old) }
         ensures taken { IfOk result (λ place. self.new ≡ taken self.old) }
@@ -57,6 +58,7 @@ impl TablePlaces {
 
     /// Takes a place back, which is given next then. Where every place is free already, none was given and all is as
     /// before. It takes no memory.
+    #[inline(always)]
     pub fn give(&mut self, place: u32)
         ensures { self.new ≡ given place self.old }
     {

@@ -78,6 +78,7 @@ impl SeatLinks {
     }
 
     /// A new empty chain. Where there is no memory for it, all is as before.
+    #[inline(always)]
     pub fn make_chain(&mut self) -> Result<usize, NoMemory>
         ensures made { IfOk result (λ chain. Renames self.old self.new chain Unmade (ChainOf [])) }
         ensures err { OnErr result (self.new ≡ self.old) }
@@ -86,6 +87,7 @@ impl SeatLinks {
     }
 
     /// A new node, which is free. Where there is no memory for it, all is as before.
+    #[inline(always)]
     pub fn make_node(&mut self) -> Result<Node, NoMemory>
         ensures made { IfOk result (λ node. Renames self.old self.new node.index Unmade FreeNode) }
         ensures err { OnErr result (self.new ≡ self.old) }
@@ -94,6 +96,7 @@ impl SeatLinks {
     }
 
     /// Drops a live chain that is empty.
+    #[inline(always)]
     pub fn drop_chain(&mut self, chain: usize)
         requires { list_of self.old chain ≡ Some [] }
         ensures { Renames self.old self.new chain (ChainOf []) Unmade }
@@ -102,6 +105,7 @@ impl SeatLinks {
     }
 
     /// Drops a free node.
+    #[inline(always)]
     pub fn drop_node(&mut self, node: Node)
         requires { is_free self.old node.index ≡ true }
         ensures { Renames self.old self.new node.index FreeNode Unmade }
@@ -124,6 +128,7 @@ impl SeatLinks {
     }
 
     /// Takes a node out of the chain that it is in, if it is in one. It is then free.
+    #[inline(always)]
     pub fn remove(&mut self, node: Node)
         requires { is_made self.old node.index ≡ true }
         ensures { self.new ≡ removed node.index self.old }

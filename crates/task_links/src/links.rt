@@ -131,6 +131,7 @@ fn is_node<P: Copy>(role: Role<P>) -> bool
 }
 
 // Makes room for one name more, and for giving it back, where no name is unused.
+#[inline(always)]
 fn reserve<P>(
     next: &mut Vec<usize>,
     previous: &mut Vec<usize>,
@@ -155,6 +156,7 @@ fn reserve<P>(
 }
 
 // Gives an unused name, else a new one, to a chain or a free node.
+#[inline(always)]
 fn name<P: Copy>(
     next: &mut Vec<usize>,
     previous: &mut Vec<usize>,
@@ -199,6 +201,7 @@ impl<P: Copy> Links<P> {
     }
 
     // A new name for a chain or a free node.
+    #[inline(always)]
     fn make(&mut self, role: Role<P>) -> Result<usize, NoMemory>
         requires { role_is_new role ≡ true }
         ensures made { IfOk result (λ index. Renames self.old self.new index Unmade (new_spot role)) }
@@ -232,6 +235,7 @@ impl<P: Copy> Links<P> {
     }
 
     /// A new empty chain. Where there is no memory for it, all is as before.
+    #[inline(always)]
     pub fn make_chain(&mut self) -> Result<usize, NoMemory>
         ensures made { IfOk result (λ chain. Renames self.old self.new chain Unmade (ChainOf [])) }
         ensures err { OnErr result (self.new ≡ self.old) }
@@ -248,6 +252,7 @@ impl<P: Copy> Links<P> {
     }
 
     /// A new node, which is free. Where there is no memory for it, all is as before.
+    #[inline(always)]
     pub fn make_node(&mut self) -> Result<Node, NoMemory>
         ensures made { IfOk result (λ node. Renames self.old self.new node.index Unmade FreeNode) }
         ensures err { OnErr result (self.new ≡ self.old) }

@@ -166,11 +166,9 @@ fn write_report<K: Sink>(alloc: Global, sink: &mut K, report: &Report) -> Result
     ensures wanting { IsErrOf result End.NoMemory → sink.new ≡ sink.old }
 {
     let mut page = Page::new(alloc)?;
-    for label in report.trace.labels() {
-        page.add_label(*label);
-        if !page.has_room() {
-            flush(sink, &mut page)?;
-        }
+    let mut labels = report.trace.labels();
+    'pages: while page.fill(&mut labels) {
+        flush(sink, &mut page)?;
     }
     page.add_outcome(report.outcome);
     flush(sink, &mut page)
@@ -292,7 +290,7 @@ fn big<K: Sink>(alloc: Global, number: u32, steps: u32, sink: &mut K) -> ToolEnd
     let Ok(report) = run_generated(alloc, number, steps) else {
         return ended(End::NoMemory);
     };
-    match print_summary(alloc, report.trace.labels(), report.outcome) {
+    match print_summary(alloc, &report.trace, report.outcome) {
         Ok(text) => put(sink, text.as_slice(), Some(report)),
         Err(_) => ended(End::NoMemory),
     }

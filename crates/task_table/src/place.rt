@@ -126,6 +126,7 @@ pub(crate) fn vacate<E>(places: &mut Vec<Place<E>>, rep: u32) -> Slot<E>
 }
 
 /// Makes room for one place more, and for freeing it, where no place is free.
+#[inline(always)]
 pub(crate) fn reserve<E>(places: &mut Vec<Place<E>>, free: &mut Vec<u32>) -> Result<(), AllocError>
     requires { length places.old.items < 2 ^ 32 }
     ensures places { places.new.items ≡ places.old.items }

@@ -199,6 +199,7 @@ impl<E> ResourceTable<E> {
     /// Puts an item into the table, at the place freed last, else at a new one, and under a serial that was never given.
     ///
     /// It is `Full` exactly where no place is free and the places made are at least the capacity, or where 2^64 - 1 serials were given. A refused item comes back.
+    #[inline(always)]
     pub fn push<K: Kind<E>>(&mut self, item: K::Item) -> Result<TableId<K>, PushError<K::Item>>
         ensures rep { IfOk result (λ id. id.rep ≡ next_place self.old) }
         ensures serial { IfOk result (λ id. id.serial ≡ self.old.given) }

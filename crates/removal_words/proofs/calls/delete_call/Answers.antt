@@ -4,13 +4,13 @@ use Rattle.task_records.proofs.Core.{ap, ap₂, call_group, call_of, Core, false
 use Rattle.task_records.specs.declared.{parts.CoreParts.CoreParts}
 
 pub drop_call-group-requires-clause-live : goal.drop_call-group-requires-clause-live
-drop_call-group-requires-clause-live c = subst (λ (v : StateView). 0 < call_of v c.args.call) (sym c.set_join.ensures.new) c.requires.live
+drop_call-group-requires-clause-live c = subst (λ (v : StateView). 0 < call_of v c.args.call) (sym c.leave_set.ensures.new) c.requires.live
 
 pub drop_call-group-requires-clause-last : goal.drop_call-group-requires-clause-last
-drop_call-group-requires-clause-last c = subst (λ (v : StateView). has_thread (call_of v c.args.call) v.core ≡ false) (sym c.set_join.ensures.new) (call_apart _ _ _ ∙ c.requires.last)
+drop_call-group-requires-clause-last c = subst (λ (v : StateView). has_thread (call_of v c.args.call) v.core ≡ false) (sym c.leave_set.ensures.new) (call_apart _ _ _ ∙ c.requires.last)
 
 pub drop_call-group-requires-clause-join : goal.drop_call-group-requires-clause-join
-drop_call-group-requires-clause-join c = subst (λ (v : StateView). join_of (Subtask.Guest (call_of v c.args.call)) v.core ≡ Join.Nowhere) (sym c.set_join.ensures.new) (call_joined _ _ _ refl)
+drop_call-group-requires-clause-join c = subst (λ (v : StateView). join_of (Subtask.Guest (call_of v c.args.call)) v.core ≡ Join.Nowhere) (sym c.leave_set.ensures.new) (call_joined _ _ _ refl)
 
 call_gone : (k : ℕ) (s : Core) → get (remove_call k s).calls k ≡ None
 unfolding remove_call
@@ -23,7 +23,7 @@ group_on a b only id = ap (λ (x : CoreParts). number_of group_key x.groups id.r
 pub leave_room-requires-clause-gone : goal.leave_room-requires-clause-gone
 leave_room-requires-clause-gone c =
     ap (λ (s : Core). get s.calls c.call_number-number.result) c.drop_call-group.ensures.core
-    ∙ (ap (get (remove_call (call_of (seen c.set_join.new.parts) c.args.call) (seen c.set_join.new.parts).core).calls) c.call_number-number.ensures ∙ call_gone _ _)
+    ∙ (ap (get (remove_call (call_of (seen c.leave_set.new.parts) c.args.call) (seen c.leave_set.new.parts).core).calls) c.call_number-number.ensures ∙ call_gone _ _)
 
 pub settle_group-requires-clause-live : goal.settle_group-requires-clause-live
 settle_group-requires-clause-live c = subst (λ (n : ℕ). 0 < n) (sym (group_on c.drop_call-group.new.parts c.leave_room.new.parts c.leave_room.ensures.only c.drop_call-group.result ∙ c.drop_call-group.ensures.group)) c.drop_call-group.ensures.positive
@@ -31,13 +31,13 @@ settle_group-requires-clause-live c = subst (λ (n : ℕ). 0 < n) (sym (group_on
 pub returns-clause-core : goal.returns-clause-core
 returns-clause-core c =
     ap (λ (v : StateView). v.core) c.settle_group.ensures.new
-    ∙ (ap₂ group_settled (group_on c.drop_call-group.new.parts c.leave_room.new.parts c.leave_room.ensures.only c.drop_call-group.result ∙ c.drop_call-group.ensures.group ∙ (ap (λ (v : StateView). call_group (call_of v c.args.call) v.core) c.set_join.ensures.new ∙ call_group_left _ _ _))
-    (ap (λ (v : StateView). v.core) c.leave_room.ensures.seen ∙ c.drop_call-group.ensures.core ∙ (ap (λ (v : StateView). remove_call (call_of v c.args.call) v.core) c.set_join.ensures.new ∙ call_removed _ _ _)))
+    ∙ (ap₂ group_settled (group_on c.drop_call-group.new.parts c.leave_room.new.parts c.leave_room.ensures.only c.drop_call-group.result ∙ c.drop_call-group.ensures.group ∙ (ap (λ (v : StateView). call_group (call_of v c.args.call) v.core) c.leave_set.ensures.new ∙ call_group_left _ _ _))
+    (ap (λ (v : StateView). v.core) c.leave_room.ensures.seen ∙ c.drop_call-group.ensures.core ∙ (ap (λ (v : StateView). remove_call (call_of v c.args.call) v.core) c.leave_set.ensures.new ∙ call_removed _ _ _)))
 
 pub returns-clause-current : goal.returns-clause-current
-returns-clause-current c = ap (λ (v : StateView). v.current) c.settle_group.ensures.new ∙ (ap (λ (v : StateView). v.current) c.leave_room.ensures.seen ∙ c.drop_call-group.ensures.current ∙ ap (λ (v : StateView). v.current) c.set_join.ensures.new)
+returns-clause-current c = ap (λ (v : StateView). v.current) c.settle_group.ensures.new ∙ (ap (λ (v : StateView). v.current) c.leave_room.ensures.seen ∙ c.drop_call-group.ensures.current ∙ ap (λ (v : StateView). v.current) c.leave_set.ensures.new)
 
 pub returns-clause-tags : goal.returns-clause-tags
 returns-clause-tags c =
     subst (λ (t : Tags). KeepsBut (lost_call (call_of (seen c.args.parts.now) c.args.call)) (seen c.args.parts.now).tags t) (sym (ap (λ (v : StateView). v.tags) c.settle_group.ensures.new ∙ ap (λ (v : StateView). v.tags) c.leave_room.ensures.seen))
-    (subst (λ (v : StateView). KeepsBut (lost_call (call_of v c.args.call)) v.tags (seen c.drop_call-group.new.parts).tags) c.set_join.ensures.new c.drop_call-group.ensures.tags)
+    (subst (λ (v : StateView). KeepsBut (lost_call (call_of v c.args.call)) v.tags (seen c.drop_call-group.new.parts).tags) c.leave_set.ensures.new c.drop_call-group.ensures.tags)
