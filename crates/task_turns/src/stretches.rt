@@ -10,7 +10,7 @@ ghost use Rattle.task_turns.specs.Turn.{Sits, running_of};
 ghost use Rattle.task_words.specs.StateView.{thread_of};
 
 use crate::context::{computes_in, context_of};
-use crate::trace::Trace;
+use label_trace::Trace;
 use op_dispatch::{op_at, script_ops};
 use task_machine::{Component, Label, NoMemory, Op, Turn};
 use task_words::{HowFarId, ThreadId, Words};
