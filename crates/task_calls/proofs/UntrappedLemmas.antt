@@ -1,7 +1,5 @@
 -- A start that traps nothing, once it wasn't refused.
-use Rattle.std.proofs.Common.{◌∙◌, refl, sym}
-use Rattle.std.specs.Prelude.{Err, List, None, Ok, Option, Some, ℕ, ◌≡◌}
-use Rattle.state_calls.specs.declared.error.TaskError.TheVariants as task_error
+use Rattle.std.specs.Prelude.{List, None, Ok, Option, Some, ℕ, ◌≡◌}
 use Rattle.task_calls.specs.Untrapped.{StartsUntrapped}
 use Rattle.task_machine.specs.declared.component.Callee.{Callee}
 use Rattle.task_machine.specs.declared.component.Component.{Component}
@@ -21,13 +19,3 @@ module _ (c : Component) (e : Callee) (words : List ℕ) (s t : StateView) (tags
       go : (r : Option Trap) → MainMeets (start_act c 1 e words s.core r) s.core a t.core → StartsUntrapped c e words s r (Ok n) t
       go None m = let same = m.0 in (cc, record { core = m.1; current = current; tags = tags })
       go (Some why) m = let same = m.0 in absurd (cc)
-
--- an act that isn't refused starts a call, and nothing else
-pub starts_only : (c : Component) (e : Callee) (words : List ℕ) (s : StateView) (r : Option Trap) (a : Acted) → r ≡ None → (t : StateView) → MainMeets (start_act c 1 e words s.core r) s.core a t.core → (l : ℕ) × ((n : ℕ) × (a ≡ acted.Does (main_label.Start l n)))
-starts_only c e words s None a free t m = (_, (_, m.0))
-starts_only c e words s (Some why) a free t m = absurd (cc)
-
--- memory is wanting
-pub wanting_untrapped : (c : Component) (e : Callee) (words : List ℕ) (s t : StateView) (r : Option Trap) → r ≡ None → t ≡ s → StartsUntrapped c e words s r (Err task_error.NoMemory) t
-wanting_untrapped c e words s t None free same = (refl, same)
-wanting_untrapped c e words s t (Some why) free same = absurd (cc)

@@ -5,9 +5,7 @@ use Rattle.state_calls.specs.declared.error.TaskError.{TaskError}
 use Rattle.std.proofs.Common.{inl, inr, refl, subst, sym}
 use Rattle.std.specs.Prelude.{Err, List, None, Ok, Option, Result, Some, ℕ, ◌≡◌}
 use Rattle.task_calls.specs.Calls.{Starts}
-use Rattle.task_calls.specs.Untrapped.{StartsUntrapped}
 use Rattle.task_loop.specs.Polled.{FinishesWith, Polls}
-use Rattle.task_loop.specs.Typed.{FinishesTyped, PollsTyped}
 use Rattle.task_machine.specs.declared.component.Callee.{Callee}
 use Rattle.task_machine.specs.declared.component.Component.{Component}
 use Rattle.task_rules.specs.MainOps.{start_refusal}
@@ -23,13 +21,3 @@ module _ (c : Component) (e : Callee) (words : List ℕ) (s t : StateView) (k : 
 
     pub poll_finishes : (n : ℕ) → k ≡ Some n → (o : Option ℕ) → o ≡ Some n → FinishesWith n s r t → Polls c e words k s r o t
     poll_finishes n began o same finishes = subst (λ q. Polls c e words q s r o t) (sym began) (same, finishes)
-
-  module _ {R : Type 0} (from : ℕ → R) (r : Poll (Result R TaskError)) where
-    pub typed_fails : k ≡ None → (why : TaskError) → r ≡ Ready (Err why) → StartsUntrapped c e words s (start_refusal s.core) (Err why) t → PollsTyped from c e words k s r None t
-    typed_fails fresh why shown starts = subst (λ o. PollsTyped from c e words o s r None t) (sym fresh) (inl (record { why = why; shown = shown; none = refl; starts = starts }))
-
-    pub typed_starts : k ≡ None → (n : ℕ) (mid : StateView) → StartsUntrapped c e words s (start_refusal s.core) (Ok n) mid → FinishesTyped from n mid r t → PollsTyped from c e words k s r (Some n) t
-    typed_starts fresh n mid starts finishes = subst (λ o. PollsTyped from c e words o s r (Some n) t) (sym fresh) (inr (record { thread = n; began = mid; some = refl; starts = starts; finishes = finishes }))
-
-    pub typed_finishes : (n : ℕ) → k ≡ Some n → (o : Option ℕ) → o ≡ Some n → FinishesTyped from n s r t → PollsTyped from c e words k s r o t
-    typed_finishes n began o same finishes = subst (λ q. PollsTyped from c e words q s r o t) (sym began) (same, finishes)

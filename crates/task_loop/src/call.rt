@@ -1,5 +1,6 @@
 ghost use Rattle.std.specs.Prelude.{◌≡◌, ◌+◌, ◌<◌, ◌^◌, IfOk, IfSome, IsSome, length};
 ghost use Rattle.task_calls.specs.Calls.{Finishes, Starts};
+ghost use Rattle.task_calls.specs.Untrapped.{StartsUntrapped};
 ghost use Rattle.task_loop.specs.Calls.{callee_of, number_of_start};
 ghost use Rattle.task_machine.specs.declared.records.Turn.{Turn};
 ghost use Rattle.task_rules.specs.MainOps.{start_refusal};
@@ -11,7 +12,7 @@ ghost use Rattle.task_turns.specs.Turn.{Sits, given};
 
 use crate::instance::Instance;
 use futures::task::Poll;
-use task_calls::{TaskError, finish_call, start_call};
+use task_calls::{TaskError, finish_call, start_call, start_untrapped};
 use task_group::TaskGroupId;
 use task_machine::{Callee, Component};
 use task_store::Store;
@@ -28,8 +29,8 @@ pub struct Func {
 /// A call by the host that was started. It can be finished once.
 #[derive(Drop)]
 pub struct FuncCallConcurrent {
-    pub(crate) thread: u64,
-    pub(crate) group: u64,
+    thread: u64,
+    group: u64,
 }
 
 impl FuncCallConcurrent {
@@ -92,6 +93,32 @@ impl Func {
     {
         let group = store.state.made().groups + 1;
         match start_call(&mut store.state, component, self.callee(), params) {
+            Ok(thread) => Ok(FuncCallConcurrent { thread, group }),
+            Err(e) => Err(e),
+        }
+    }
+
+    /// Starts a call by the host as `start_call_concurrent` does, but traps nothing: refused with trap 20
+    /// exactly where the store is trapped, and else with trap 18 exactly where its four entries don't
+    /// fit into the table. Where it is refused, or memory is wanting, all is as before.
+    pub fn start_untrapped<T, H>(
+        self,
+        component: &Component,
+        store: &mut Store<T, H>,
+        params: &[u64],
+    ) -> Result<FuncCallConcurrent, TaskError>
+        requires covered { IsWellFormed component.now }
+        requires there { IsSome (export_at component.now (callee_of self)) }
+        requires params { IfSome (export_at component.now (callee_of self)) (λ e. length params.now ≡ e.params) }
+        requires order { (p : Turn) × Sits component.now p store.old.state.core }
+        requires given { given store.old.state.core < 2 ^ 61 }
+        ensures starts { StartsUntrapped component.now (callee_of self) params.now store.old.state (start_refusal store.old.state.core) (number_of_start result) store.new.state }
+        ensures group { IfOk result (λ call. call.group ≡ store.old.state.core.made.groups + 1) }
+        ensures order { (p : Turn) → Sits component.now p store.old.state.core → Sits component.now p store.new.state.core }
+        ensures rest { store.new ≡ record store.old { state = store.new.state } }
+    {
+        let group = store.state.made().groups + 1;
+        match start_untrapped(&mut store.state, component, self.callee(), params) {
             Ok(thread) => Ok(FuncCallConcurrent { thread, group }),
             Err(e) => Err(e),
         }

@@ -8,7 +8,6 @@ mod main_task;
 mod run;
 mod subtasks;
 mod threads;
-mod typed;
 mod waitables;
 
 pub use call::{Func, FuncCallConcurrent};
@@ -22,4 +21,3 @@ pub use task_machine::{
     Callee, Component, ExportDef, HostDef, InstanceDef, Label, NoMemory, Op, Operand, Outcome, Slot,
 };
 pub use task_turns::{Made, MainStep, Trace, operand_value};
-pub use typed::{FromWord, TypedCallConcurrent, TypedFunc, TypedFuncCallConcurrent, Words};

@@ -45,20 +45,10 @@ pub use threads::{halt, resume_later};
 pub use waits::{begin_wait, go_on_waiting};
 pub use works::{Polled, poll_work, take_push};
 
-/// An op that meets its row is a step of the machine.
-#[tactic(auto, using(crate::proofs::MeetLemmas::meeting_is_step))]
-pub fn meeting_is_step()
-    ensures { MeetingIsStep }
-{}
-
-/// So is a taking.
-#[tactic(auto, using(crate::proofs::MeetLemmas::taking_is_step))]
-pub fn taking_is_step()
-    ensures { TakingIsStep }
-{}
-
-/// So is an op of main's script.
-#[tactic(auto, using(crate::proofs::MeetLemmas::acting_is_step))]
-pub fn acting_is_step()
-    ensures { ActingIsStep }
+/// An op that meets its row is a step of the machine; so is a taking, and an op of main's script.
+#[tactic(auto, using(crate::proofs::MeetLemmas::meeting_is_step, crate::proofs::MeetLemmas::taking_is_step, crate::proofs::MeetLemmas::acting_is_step))]
+pub fn ops_are_steps()
+    ensures meeting { MeetingIsStep }
+    ensures taking { TakingIsStep }
+    ensures acting { ActingIsStep }
 {}

@@ -42,9 +42,11 @@ pub returns-in-ResumeLater-clause-resumed : goal.returns-in-ResumeLater-clause-r
 returns-in-ResumeLater-clause-resumed g c =
     let v = g.W.View.view in
     let s = v c.args.w.now in
+    let t = v c.resume_later.new.w in
     let e = c.resume_later.ensures in
-    later_resumed (thread_of s c.in-Some.thread) c.args.handle c.args.how s (v c.resume_later.new.w) c.resume_later.result _
-    (ap (option_map (λ id. thread_of s id)) (sym c.current.ensures ∙ c.in-Some.is)) c.in-ResumeLater.is e.tags e.current e.meets
+    let meets = subst (λ h. Meets (resume_later_row (thread_of s c.in-Some.thread) h s.core) s.core c.resume_later.result t.core) c.from-handle.ensures e.meets in
+    later_resumed (thread_of s c.in-Some.thread) c.args.handle c.args.how s t c.resume_later.result _
+    (ap (option_map (λ id. thread_of s id)) (sym c.current.ensures ∙ c.in-Some.is)) c.in-ResumeLater.is e.tags e.current meets
     (c.or_refused-in-ResumeLater.ensures ∙ ap or_refused c.came_later.ensures)
 
 pub returns-in-ResumeLater-clause-order : goal.returns-in-ResumeLater-clause-order
@@ -56,4 +58,5 @@ returns-in-ResumeLater-clause-order g c later fit =
     let e = c.resume_later.ensures in
     let number = number_at q.number s q.runs c.in-Some.thread (sym c.current.ensures ∙ c.in-Some.is) in
     later_fits c.args.component.now q.number c.args.handle s t c.resume_later.result q.runs e.tags e.current q.order
-    (subst (λ k. Meets (resume_later_row k c.args.handle s.core) s.core c.resume_later.result t.core) number e.meets) fit
+    (subst (λ k. Meets (resume_later_row k c.args.handle s.core) s.core c.resume_later.result t.core) number
+    (subst (λ h. Meets (resume_later_row (thread_of s c.in-Some.thread) h s.core) s.core c.resume_later.result t.core) c.from-handle.ensures e.meets)) fit

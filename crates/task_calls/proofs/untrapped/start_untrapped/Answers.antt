@@ -1,8 +1,6 @@
-use Rattle.std.proofs.Common.{refl, sym, ◌≡◌, ◌∙◌}
-use Rattle.std.specs.Prelude.{None, Ok}
 use Rattle.task_machine.specs.Core.{Unscripted}
 use Rattle.task_calls.proofs.CallLemmas.{found_kind, found_words, in_order}
-use Rattle.task_calls.proofs.UntrappedLemmas.{starts_only, started_untrapped, wanting_untrapped}
+use Rattle.task_calls.proofs.UntrappedLemmas.{started_untrapped}
 use Rattle.task_turns.proofs.CoveredLemmas.{home_there}
 use Rattle.task_calls.proofs.untrapped.start_untrapped.Goals as goal
 

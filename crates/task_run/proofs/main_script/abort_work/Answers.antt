@@ -1,6 +1,6 @@
 use Rattle.std.proofs.Common.{◌∙◌, ap, sym}
 use Rattle.std.specs.Option.{option_map}
-use Rattle.std.specs.Prelude.{Bool, ℕ}
+use Rattle.std.specs.Prelude.{ℕ, ◌-◌}
 use Rattle.std.proofs.lemmas.Option.{slice_get-map}
 use Rattle.task_machine.specs.declared.label.MainLabel.TheVariants as main_label
 use Rattle.task_machine.specs.declared.scenario.MainOpDef.TheVariants as machine
@@ -16,8 +16,8 @@ use Rattle.task_run.proofs.main_script.abort_work.Goals as goal
 use Rattle.task_store.proofs.HostLemmas.{holds_aborted}
 use Rattle.task_store.specs.Hosts.{HoldsHosts, held_by}
 
-pub abort-requires : goal.abort-requires
-abort-requires g c = spawn_known c.args.main.now c.args.access.now.store.now.state (c.args.spawn - 1) c.spawned-work.result c.spawned-work.ensures.is c.requires.knows
+pub abort-phase-requires : goal.abort-phase-requires
+abort-phase-requires g c = spawn_known c.args.main.now c.args.access.now.store.now.state (c.args.spawn - 1) c.spawned-work.result c.spawned-work.ensures.is c.requires.knows
 
 pub returns-clause-ok : goal.returns-clause-ok
 returns-clause-ok g c =

@@ -26,7 +26,7 @@ returns-clause-ok g c =
     let number = c.number-future.ensures ∙ c.in-Ok.ensures.number in
     let core = c.in-Ok.ensures.core ∙ ap (λ (h : HostDef). work_queued work_caller.Spawn h None s) c.from_host.ensures in
     let row = ap (λ (k : ℕ). Does (main_label.Spawn k (next_work s)) (main_spawned d c.args.host s)) (ap (λ (k : ℕ). k + 1) (length-map c.args.main.now.spawns.items (λ (h : SpawnHandle). h.number)) ∙ sym c.in-Some.ensures) ∙ spawned_row d c.args.host c.in-Some-host_here.def s t c.in-Some.number c.number-future.result there core number in
-    rw (c.in_ok-keep_spawn.ensures.at, c.in_ok-keep_spawn.ensures.registers, c.in_ok-keep_spawn.ensures.starts, c.in_ok-keep_spawn.ensures.spawns, map_push)
+    rw (c.in_ok-keep_spawn.ensures.at, c.in_ok-keep_spawn.ensures.registers, c.in_ok-keep_spawn.ensures.starts, c.in_ok-keep_spawn.ensures.spawns, map_push, sym c.number-future.ensures)
     (did_by_row d (script_of c.args.main.now) (place_of c.args.main.now) s (machine.Spawn c.args.host) (slice_get-map machine_op c.args.main.now.ops.now c.args.main.now.at ∙ ap (option_map machine_op) c.requires.op) (main_label.Spawn c.in-Some.number c.number-future.result) t row tt)
 
 pub returns-clause-knows : goal.returns-clause-knows

@@ -28,7 +28,7 @@ drive-driven-requires-clause-knows c = c.new-main.ensures.knows c.run_concurrent
 
 pub drive-driven-requires-clause-hosts : goal.drive-driven-requires-clause-hosts
 drive-driven-requires-clause-hosts c =
-    new_holds _ c.run_concurrent.new.store _ c.args.scenario.now.handles c.args.scenario.now.table (rw c.run_concurrent.ensures.store c.in_ok-store.ensures.works) (rw (c.run_concurrent.ensures.store, c.in_ok-store.ensures.state) refl)
+    new_holds _ c.run_concurrent.new.store c.len.result c.args.scenario.now.handles c.args.scenario.now.table (rw c.run_concurrent.ensures.store c.in_ok-store.ensures.works) (rw (c.run_concurrent.ensures.store, c.in_ok-store.ensures.state) refl)
 
 pub returns : goal.returns
 returns c =

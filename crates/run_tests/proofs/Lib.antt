@@ -1,3 +1,0 @@
-pub mod AskLemmas
-pub mod DriveLemmas
-pub mod StateLemmas

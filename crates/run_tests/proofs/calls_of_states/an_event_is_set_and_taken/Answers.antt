@@ -1,9 +1,0 @@
-use Rattle.run_tests.proofs.StateLemmas.{woken_live}
-use Rattle.run_tests.proofs.calls_of_states.an_event_is_set_and_taken.Goals as goal
-use Rattle.state_calls.proofs.PlacedLemmas.{placed_idle}
-
-pub set_event-woken-requires-clause-idle : goal.set_event-woken-requires-clause-idle
-set_event-woken-requires-clause-idle g c = placed_idle _ c.queued-store.ensures.placed
-
-pub take_event-event-requires : goal.take_event-event-requires
-take_event-event-requires g c = ?

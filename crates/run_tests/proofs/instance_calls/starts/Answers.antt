@@ -1,6 +1,0 @@
--- The thread that prepared a call runs still.
-use Rattle.run_tests.proofs.AskLemmas.{can_start}
-use Rattle.run_tests.proofs.instance_calls.starts.Goals as goal
-
-pub start_call-step-requires-clause-prepared : goal.start_call-step-requires-clause-prepared
-start_call-step-requires-clause-prepared g c = ?
