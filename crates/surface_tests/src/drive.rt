@@ -120,7 +120,7 @@ pub(crate) fn store(
     ensures order { Sits component.now Turn.Main result.state.core }
     ensures given { given result.state.core ≡ 0 }
     ensures current { running_of result.state ≡ None }
-    ensures hosts { HoldsHosts ScriptedHost.course result }
+    ensures hosts { HoldsHosts ⟦<ScriptedHost as HostWork>⟧.course result }
 {
     let _component = component;
     new_store(rt, alloc)
@@ -138,11 +138,11 @@ pub(crate) fn called(
     requires order { Sits component.now Turn.Main store.old.state.core }
     requires given { given store.old.state.core ≡ 0 }
     requires current { running_of store.old.state ≡ None }
-    requires hosts { HoldsHosts ScriptedHost.course store.old }
+    requires hosts { HoldsHosts ⟦<ScriptedHost as HostWork>⟧.course store.old }
     ensures order { Sits component.now Turn.Main store.new.state.core }
     ensures given { given store.new.state.core ≡ 2 }
     ensures current { running_of store.new.state ≡ None }
-    ensures hosts { HoldsHosts ScriptedHost.course store.new }
+    ensures hosts { HoldsHosts ⟦<ScriptedHost as HostWork>⟧.course store.new }
 {
     match CALLEE.start_call_concurrent(component, store, &[7]) {
         Ok(call) => call,
@@ -201,7 +201,7 @@ fn a_call_runs_while_main_waits(rt: HostRuntime) {
     let mut trace = Trace::new(rt.alloc());
     let outcome = run.drive(&component, &mut store, &mut main, 16, &mut trace);
     assert!(rt; matches!(outcome, Ok(Outcome::Idle)));
-    assert!(rt; trace.labels().len() == 11);
+    assert!(rt; trace.len() == 11);
     let result = CALLEE.finish_call_concurrent(&mut store, &mut call);
     assert!(rt; matches!(result, Poll::Ready(9)));
     run.end(&mut store);
@@ -223,7 +223,7 @@ fn ran(
     let mut trace = Trace::new(alloc);
     let outcome = run.drive(&component, &mut store, &mut main, 9, &mut trace);
     assert!(rt; store.trapped() == answer.is_none());
-    (trace.labels().first().copied(), outcome)
+    (trace.labels().next(), outcome)
 }
 
 #[test]

@@ -121,12 +121,10 @@ fn text_of(alloc: Global, report: &Report) -> Result<Vec<u8>, AllocError>
 {
     let mut out = Vec::new(alloc);
     let mut page = Page::new(alloc)?;
-    for label in report.trace.labels() {
-        page.add_label(*label);
-        if !page.has_room() {
-            out.extend_from_slice(page.as_slice())?;
-            page.clear();
-        }
+    let mut labels = report.trace.labels();
+    'pages: while page.fill(&mut labels) {
+        out.extend_from_slice(page.as_slice())?;
+        page.clear();
     }
     page.add_outcome(report.outcome);
     out.extend_from_slice(page.as_slice())?;
