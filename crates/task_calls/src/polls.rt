@@ -1,7 +1,7 @@
 //! The calls of a host by the running thread, of a work that is polled first.
-ghost use Rattle.std.specs.Prelude.{◌≡◌};
-ghost use Rattle.task_calls.specs.Answers.{at_once, number_in};
-ghost use Rattle.task_calls.specs.Asks.{Answers, IsAtPlace, IsRunningIn, turn_in};
+ghost use Rattle.std.specs.Prelude.{◌≡◌, IfErr, IfOk, OnErr, false};
+ghost use Rattle.task_calls.specs.Answers.{at_once, has_stopped, number_in};
+ghost use Rattle.task_calls.specs.Asks.{Answers, Did, IsAtPlace, IsRunningIn, turn_in};
 ghost use Rattle.task_calls.specs.Polled.{blocks_row, polls_row, value_in};
 ghost use Rattle.task_turns.specs.Turn.{Sits};
 
@@ -10,6 +10,7 @@ use crate::asks::leave;
 use state_calls::TaskError;
 use subtask_ops::{call_host, call_sync_host};
 use task_machine::{Component, HostDef, Label};
+use task_ops::Came;
 use task_words::Words;
 
 // The value that was there at once, which the label shows.
@@ -20,6 +21,32 @@ fn value_in(label: Label) -> u64
         Label::CallSyncPolls(_, value, _) => value,
         _ => 0,
     }
+}
+
+// The running thread calls the host, which is polled once, and goes on. Where memory is wanting, nothing is changed.
+fn call_polled<W: Words>(
+    component: &Component,
+    w: &mut W,
+    host: HostDef,
+    register: u8,
+) -> Result<Came, TaskError>
+    requires running { IsRunningIn component.now (W.view w.old) }
+    ensures did { IfOk result (λ came. Did (polls_row register host (W.view w.old).core) (W.view w.old) came (W.view w.new)) }
+    ensures goes { IfOk result (λ came. has_stopped came ≡ false) }
+    ensures order { IsAtPlace component.now (polls_row register host (W.view w.old).core) (W.view w.old) → Sits component.now (turn_in (W.view w.new)) (W.view w.new).core }
+    ensures err { OnErr result (W.view w.new ≡ W.view w.old) }
+    ensures why { IfErr result (λ e. e ≡ TaskError.NoMemory) }
+{
+    let _component = component;
+    w.none_is_zero();
+    let Some(thread) = w.current() else {
+        unreachable!()
+    };
+    let Ok((came, _work)) = call_host(w, thread, 0, register, host) else {
+        return Err(TaskError::NoMemory);
+    };
+    leave(w, came);
+    Ok(came)
 }
 
 /// A call that goes on, of a host that does what `host` says and is polled once. The packed status is answered:
@@ -37,16 +64,34 @@ pub fn poll_host<W: Words>(
     ensures answers { Answers (polls_row register host (W.view w.old).core) number_in (W.view w.old) (at_once result) (W.view w.new) }
     ensures order { IsAtPlace component.now (polls_row register host (W.view w.old).core) (W.view w.old) → Sits component.now (turn_in (W.view w.new)) (W.view w.new).core }
 {
+    let came = call_polled(component, w, host, register)?;
+    let label = at_once(came)?;
+    Ok(number_in(label))
+}
+
+// The running thread calls the host, which is polled once, and waits for the value. Where memory is wanting, nothing is
+// changed.
+fn call_blocked<W: Words>(
+    component: &Component,
+    w: &mut W,
+    host: HostDef,
+) -> Result<Came, TaskError>
+    requires running { IsRunningIn component.now (W.view w.old) }
+    ensures did { IfOk result (λ came. Did (blocks_row host (W.view w.old).core) (W.view w.old) came (W.view w.new)) }
+    ensures order { IsAtPlace component.now (blocks_row host (W.view w.old).core) (W.view w.old) → Sits component.now (turn_in (W.view w.new)) (W.view w.new).core }
+    ensures err { OnErr result (W.view w.new ≡ W.view w.old) }
+    ensures why { IfErr result (λ e. e ≡ TaskError.NoMemory) }
+{
     let _component = component;
     w.none_is_zero();
     let Some(thread) = w.current() else {
         unreachable!()
     };
-    let Ok((came, _work)) = call_host(w, thread, 0, register, host) else {
+    let Ok((came, _work)) = call_sync_host(w, thread, 0, host) else {
         return Err(TaskError::NoMemory);
     };
-    let label = at_once(came)?;
-    Ok(number_in(label))
+    leave(w, came);
+    Ok(came)
 }
 
 /// A call that waits for its value, of a host that does what `host` says and is polled once. The value is answered
@@ -62,15 +107,7 @@ pub fn block_on_host<W: Words>(
     ensures answers { Answers (blocks_row host (W.view w.old).core) value_in (W.view w.old) result (W.view w.new) }
     ensures order { IsAtPlace component.now (blocks_row host (W.view w.old).core) (W.view w.old) → Sits component.now (turn_in (W.view w.new)) (W.view w.new).core }
 {
-    let _component = component;
-    w.none_is_zero();
-    let Some(thread) = w.current() else {
-        unreachable!()
-    };
-    let Ok((came, _work)) = call_sync_host(w, thread, 0, host) else {
-        return Err(TaskError::NoMemory);
-    };
-    leave(w, came);
+    let came = call_blocked(component, w, host)?;
     match stepped(came)? {
         Step::Done(label) => Ok(Step::Done(value_in(label))),
         Step::Pause => Ok(Step::Pause),

@@ -1,53 +1,20 @@
-use Rattle.op_dispatch.proofs.GoesLemmas.{row_goes}
-use Rattle.op_dispatch.proofs.SubtaskRows.{host_shows}
-use Rattle.std.proofs.Common.{arith, subst, sym, ◌∙◌}
-use Rattle.task_calls.proofs.AnswerLemmas.{done_goes_on}
-use Rattle.task_calls.proofs.AskLemmas.{goes_runs, not_stopped, order_then}
-use Rattle.task_calls.proofs.PollLemmas.{host_goes_on}
-use Rattle.task_calls.proofs.ReturnLemmas.{position_fits}
+use Rattle.std.proofs.Common.{rules, subst, sym}
+use Rattle.std.specs.Prelude.{Err, Result, ℕ, ◌≡◌}
+use Rattle.state_calls.specs.declared.error.TaskError.{TaskError}
+use Rattle.task_calls.proofs.AnswerLemmas.{answers_of, refused_as}
 use Rattle.task_calls.proofs.polls.poll_host.Goals as goal
-use Rattle.task_calls.specs.Asks.{turn_in}
+use Rattle.task_calls.specs.Answers.{answered, at_once, number_in}
+use Rattle.task_calls.specs.Asks.{Answers}
 use Rattle.task_calls.specs.Polled.{polls_row}
-use Rattle.task_ops.specs.Came.{Meets}
-use Rattle.task_rules.specs.Calls.{call_host_polled, first_poll}
-use Rattle.task_turns.proofs.OrderLemmas.{number_at, runner}
-use Rattle.task_turns.specs.Turn.{Sits}
-use Rattle.task_words.specs.StateView.{StateView, thread_of}
 
-pub call_host-requires-clause-live : goal.call_host-requires-clause-live
-call_host-requires-clause-live g c =
-    let q = c.requires.running in
-    (runner c.args.component.now q.number (g.W.View.view c.args.w.now) q.order c.none_is_zero.ensures.threads q.runs c.in-Some.thread (sym c.current.ensures ∙ c.in-Some.is)).live
-
-pub call_host-requires-clause-position : goal.call_host-requires-clause-position
-call_host-requires-clause-position g c =
-    let q = c.requires.running in
+pub returns-in_err-label-clause-answers : goal.returns-in_err-label-clause-answers
+returns-in_err-label-clause-answers g c =
     let s = g.W.View.view c.args.w.now in
-    position_fits c.args.component.now q.well_formed c.in-Some.thread q.number s q.order
-    (runner c.args.component.now q.number s q.order c.none_is_zero.ensures.threads q.runs c.in-Some.thread (sym c.current.ensures ∙ c.in-Some.is))
-
-pub call_host-requires-clause-few : goal.call_host-requires-clause-few
-call_host-requires-clause-few g c = let few = c.requires.running.few in grind (arith)
-
-pub at_once-requires : goal.at_once-requires
-at_once-requires g c =
-    let v = g.W.View.view in
-    let s = v c.args.w.now in
-    host_goes_on (thread_of s c.in-Some.thread) 0 c.args.register (first_poll c.args.host) s.core c.in_ok-came.came (v c.call_host.new.w).core c.in_ok-came.ensures.meets
-
-pub returns-clause-order : goal.returns-clause-order
-returns-clause-order g c at =
-    let v = g.W.View.view in
-    let q = c.requires.running in
-    let s = v c.args.w.now in
-    let t = v c.call_host.new.w in
-    let comp = c.args.component.now in
+    let t = g.W.View.view c.call_polled.new.w in
+    let row = polls_row c.args.register c.args.host s.core in
     let r = c.in_ok-came.came in
-    let e = c.in_ok-came.ensures in
-    let p = first_poll c.args.host in
-    let is = sym c.current.ensures ∙ c.in-Some.is in
-    let runs = runner comp q.number s q.order c.none_is_zero.ensures.threads q.runs c.in-Some.thread is in
-    let goes = row_goes c.in-Some.thread (call_host_polled (thread_of s c.in-Some.thread) 0 c.args.register s.core p) s t r (host_shows (thread_of s c.in-Some.thread) s.core 0 c.args.register p) e.meets is e.current (e.tags.threads c.in-Some.thread runs.live) in
-    subst (λ (u : StateView). Sits comp (turn_in u) u.core) (not_stopped r t (done_goes_on r c.in_ok-at_once.field-0 c.in_ok-at_once.ensures))
-    (order_then comp q.number r s t q.runs (goes_runs r t goes) e.stays (polls_row c.args.register c.args.host s.core) q.order
-    (subst (λ k. Meets (call_host_polled k 0 c.args.register s.core p) s.core r t.core) (number_at q.number s q.runs c.in-Some.thread is) e.meets) at)
+    let why = c.in_err-label.field-0.0 in
+    let refused : Err why ≡ answered (λ l. l) r = search rules in
+    let is : c.from_residual-in_err-label.result ≡ Err why = search rules in
+    subst (λ (a : Result ℕ TaskError). Answers row number_in s (at_once a) t) (sym is)
+    (answers_of number_in row s t r c.in_ok-came.ensures.did (Err why) (refused_as number_in r why refused))
