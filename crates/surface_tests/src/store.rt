@@ -65,6 +65,7 @@ fn a_store_lets_go_what_it_holds(rt: HostRuntime) {
 #[test]
 fn a_quiet_store_is_ready(rt: HostRuntime) {
     let mut store: Store<u8, ScriptedHost> = Store::new(rt.alloc(), 5, true, 1);
+    assert!(rt; store.next_component_instance_id() == ComponentInstanceId(0));
     assert!(rt; store.add_instance().is_ok());
     let instance = RuntimeInstance {
         instance: ComponentInstanceId(0),
