@@ -65,10 +65,12 @@ fn a_store_lets_go_what_it_holds(rt: HostRuntime) {
 #[test]
 fn a_quiet_store_is_ready(rt: HostRuntime) {
     let mut store: Store<u8, ScriptedHost> = Store::new(rt.alloc(), 5, true, 1);
-    let Ok(instance) = store.add_instance() else {
-        panic!(rt; "an instance")
+    assert!(rt; store.next_component_instance_id() == ComponentInstanceId(0));
+    assert!(rt; store.add_instance().is_ok());
+    let instance = RuntimeInstance {
+        instance: ComponentInstanceId(0),
+        index: 0,
     };
-    let instance = RuntimeInstance { instance, index: 0 };
     assert!(rt; matches!(store.poll_no_interesting_tasks(), Poll::Ready(())));
     assert!(rt;
         matches!(
