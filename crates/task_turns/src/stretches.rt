@@ -48,8 +48,8 @@ pub fn stretch<W: Words>(
     let Some(thread) = w.current() else {
         unreachable!()
     };
-    let call = w.task_of(thread);
-    let script = script_ops(component, w.callee(call), w.script(thread));
+    let point = w.at(thread);
+    let script = script_ops(component, point.callee, point.script);
     if !is_plain(w, thread, script) {
         return Ok(added);
     }
