@@ -65,6 +65,15 @@ def waiters(count):
     return text(*scripts, *makes, *ops, *main("start a.f"))
 
 
+def woken_pairs(count):
+    """So many threads wait on one set, and two are woken at a time, of which the second finds no event and waits again."""
+    scripts = ("host h polls 1 value 1", "instance a", "thread 0", *("wait r5 1",) * 2000)
+    makes = ("export f callback 0", "set_new r3", *("thread_new r4 0 0", "resume_later r4") * count, "cb_yield")
+    calls = ("call r5 r8 h", "call r7 r8 h", "handle r6 r5", "handle r9 r7", "join r6 1", "join r9 1")
+    ops = ("react", *calls, *("yield",) * 3, "join r6 0", "join r9 0", "drop r6", "drop r9", "cb_yield")
+    return text(*scripts, *makes, *ops, *main("start a.f"))
+
+
 def pipeline():
     """16 callbacks call a callback of another instance, which calls a host, and start anew."""
     db = ("export get callback 1", "set r9 r0", "call r3 r8 disk", "set_new r4", "handle r5 r3", "join r5 r4", "cb_wait r4")
@@ -108,6 +117,7 @@ def growing():
     """Name, a smaller and a larger text of each kind whose steps may cost more as it grows, and the labels that make them up."""
     yield "held calls, 16 and 256", held_calls(16), held_calls(256), 20_000
     yield "waiters, 100 and 2,000", waiters(100), waiters(2000), 20_000
+    yield "waiters of whom two are woken, 100 and 2,000", woken_pairs(100), woken_pairs(2000), 20_000
     yield "live handles, 64 and 4,000", handles(64), handles(4000), 20_000
     yield "spawned works, 16 and 256", host_works(16), host_works(256), 20_000
     yield "depth of a strand, 4 and 62", depth(4), depth(62), 20_000

@@ -12,7 +12,7 @@ use crate::parts::{DOUBLE, NEXT};
 use futures::task::Poll;
 use task_loop::{Component, Func, FuncCallConcurrent, Label, MainStep, MainTask, TaskError};
 use task_machine::{MainLabel, Turn};
-use task_store::{Access, ScriptedHost, Whole};
+use task_store::{Access, HostWork, ScriptedHost, Whole};
 
 /// Where main is.
 #[derive(Drop)]
@@ -45,12 +45,12 @@ fn start(
     requires covered { IsWellFormed component.now }
     requires order { Sits component.now Turn.Main access.old.store.now.state.core }
     requires takes { TakesOne component.now func }
-    requires hosts { HoldsHosts ScriptedHost.course access.old.store.now }
+    requires hosts { HoldsHosts ⟦<ScriptedHost as HostWork>⟧.course access.old.store.now }
     requires current { running_of access.old.store.now.state ≡ None }
     requires given { given access.old.store.now.state.core + 4 < 2 ^ 61 }
     ensures same { access.new.store.ghost_name ≡ access.old.store.ghost_name }
     ensures stands { access.new.store.now.running ≡ access.old.store.now.running }
-    ensures hosts { HoldsHosts ScriptedHost.course access.new.store.now }
+    ensures hosts { HoldsHosts ⟦<ScriptedHost as HostWork>⟧.course access.new.store.now }
     ensures current { OnOk result (running_of access.new.store.now.state ≡ running_of access.old.store.now.state) }
     ensures ok { IfOk result (λ step. Steps component.now [] Unscripted access.old.store.now.state.core step Unscripted access.new.store.now.state.core) }
     ensures err { IfErr result (λ e. e ≡ task_error.NoMemory) }

@@ -1,7 +1,6 @@
 -- A scenario that was run so far, and the thread that runs in it.
 use Rattle.std.proofs.Common.{ap, arith, refl, subst, sym, ◌∙◌}
-use Rattle.std.proofs.lemmas.Bool.Decides.{nat_tests}
-use Rattle.std.specs.Prelude.{Bool, IfSome, List, None, Ok, Option, Some, false, is_some, length, option_map, true, ℕ, ◌<◌, ◌^◌, ◌≡◌, ◌≢◌, ◌≤◌}
+use Rattle.std.specs.Prelude.{Bool, IfSome, List, None, Ok, Option, Some, false, is_some, length, option_map, true, ℕ, ◌<◌, ◌≡◌, ◌≢◌, ◌≤◌}
 use Rattle.state_calls.specs.declared.names.QualifiedThreadId.{QualifiedThreadId}
 use Rattle.task_calls.specs.Asks.{CanAsk, HasPaused, IsRunningIn}
 use Rattle.task_calls.specs.Prepared.{CanStart, Prepared, Prepares}

@@ -1,5 +1,5 @@
 -- What the calls of a state ask, in a store that sits.
-use Rattle.std.proofs.Common.{ap, arith, refl, subst, sym, ◌∙◌}
+use Rattle.std.proofs.Common.{arith, refl, subst, sym, ◌∙◌}
 use Rattle.std.proofs.lemmas.Bool.Decides.{nat_tests}
 use Rattle.std.specs.Prelude.{Bool, None, Option, Result, Some, is_none, is_some, option_map, true, ℕ, ◌<◌, ◌≡◌}
 use Rattle.state_calls.proofs.PlacedLemmas.{placed_idle, placed_may_stop}
@@ -9,10 +9,9 @@ use Rattle.state_calls.specs.declared.names.QualifiedThreadId.{QualifiedThreadId
 use Rattle.task_machine.proofs.CommuteLemmas.{get-change}
 use Rattle.task_machine.specs.Core.{Core, Unscripted}
 use Rattle.task_machine.specs.Maps.{get}
-use Rattle.task_machine.specs.Read.{blocked_on, join_of}
+use Rattle.task_machine.specs.Read.{blocked_on}
 use Rattle.task_machine.specs.Write.{on_call, on_work, set_event}
 use Rattle.task_machine.specs.declared.component.Component.{Component}
-use Rattle.task_machine.specs.declared.records.Join.TheVariants as join
 use Rattle.task_machine.specs.declared.records.Set.{Set}
 use Rattle.task_machine.specs.declared.records.Subtask.{Subtask}
 use Rattle.task_machine.specs.declared.records.Subtask.TheVariants as subtask

@@ -120,7 +120,7 @@ pub(crate) fn store(
     ensures order { Sits component.now Turn.Main result.state.core }
     ensures given { given result.state.core ≡ 0 }
     ensures current { running_of result.state ≡ None }
-    ensures hosts { HoldsHosts ScriptedHost.course result }
+    ensures hosts { HoldsHosts ⟦<ScriptedHost as HostWork>⟧.course result }
 {
     let _component = component;
     new_store(rt, alloc)
@@ -138,11 +138,11 @@ pub(crate) fn called(
     requires order { Sits component.now Turn.Main store.old.state.core }
     requires given { given store.old.state.core ≡ 0 }
     requires current { running_of store.old.state ≡ None }
-    requires hosts { HoldsHosts ScriptedHost.course store.old }
+    requires hosts { HoldsHosts ⟦<ScriptedHost as HostWork>⟧.course store.old }
     ensures order { Sits component.now Turn.Main store.new.state.core }
     ensures given { given store.new.state.core ≡ 2 }
     ensures current { running_of store.new.state ≡ None }
-    ensures hosts { HoldsHosts ScriptedHost.course store.new }
+    ensures hosts { HoldsHosts ⟦<ScriptedHost as HostWork>⟧.course store.new }
 {
     match CALLEE.start_call_concurrent(component, store, &[7]) {
         Ok(call) => call,

@@ -141,7 +141,9 @@ fn running(
     assert!(rt; scenario.component.instances.len() == 2);
     let mut store = new_store(rt, alloc);
     drive(rt, alloc, &scenario, &mut store, steps);
-    assert!(rt; is_asking(&store, instance, paused));
+    if !is_asking(&store, instance, paused) {
+        panic!(rt; "a thread of the instance")
+    }
     Midway { scenario, store }
 }
 

@@ -12,7 +12,7 @@ use futures::task::Poll;
 use std::process::Abort;
 use task_loop::{Component, Outcome, Trace, run_concurrent};
 use task_machine::Turn;
-use task_store::{ScriptedHost, Store};
+use task_store::{HostWork, ScriptedHost, Store};
 use typed_calls::{FromWord, TypedFunc, TypedFuncCallConcurrent, Words};
 
 // Drives the store until nothing goes on.
@@ -26,7 +26,7 @@ fn drive(
     requires order { Sits component.now Turn.Main store.old.state.core }
     requires given { given store.old.state.core ≡ 2 }
     requires current { running_of store.old.state ≡ None }
-    requires hosts { HoldsHosts ScriptedHost.course store.old }
+    requires hosts { HoldsHosts ⟦<ScriptedHost as HostWork>⟧.course store.old }
 {
     let Ok(mut run) = run_concurrent(store, false) else {
         panic!(rt; "a run")
@@ -52,11 +52,11 @@ fn called(
     requires order { Sits component.now Turn.Main store.old.state.core }
     requires given { given store.old.state.core ≡ 0 }
     requires current { running_of store.old.state ≡ None }
-    requires hosts { HoldsHosts ScriptedHost.course store.old }
+    requires hosts { HoldsHosts ⟦<ScriptedHost as HostWork>⟧.course store.old }
     ensures order { Sits component.now Turn.Main store.new.state.core }
     ensures given { given store.new.state.core ≡ 2 }
     ensures current { running_of store.new.state ≡ None }
-    ensures hosts { HoldsHosts ScriptedHost.course store.new }
+    ensures hosts { HoldsHosts ⟦<ScriptedHost as HostWork>⟧.course store.new }
 {
     match func.start_call_concurrent(component, store, 7) {
         Ok(call) => call,

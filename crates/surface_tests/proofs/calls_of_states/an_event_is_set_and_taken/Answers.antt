@@ -6,4 +6,4 @@ pub set_event-woken-requires-clause-idle : goal.set_event-woken-requires-clause-
 set_event-woken-requires-clause-idle g c = placed_idle _ c.queued-store.ensures.placed
 
 pub take_event-event-requires : goal.take_event-event-requires
-take_event-event-requires g c = ?
+take_event-event-requires g c = record { live = woken_live c.first_thread-id.result.task _ _ c.set_event-woken.ensures.woken c.first_thread-id.ensures.task }

@@ -1,6 +1,5 @@
 use Rattle.surface_tests.proofs.StateLemmas.{sits_joins, sits_placed}
 use Rattle.surface_tests.proofs.calls_of_states.queued.Goals as goal
-use Rattle.task_loop.specs.Calls.{callee_of}
 use Rattle.task_machine.specs.declared.records.Turn.TheVariants as turn
 use Rattle.task_turns.proofs.CoveredLemmas.{home_there}
 

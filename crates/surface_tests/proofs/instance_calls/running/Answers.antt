@@ -16,5 +16,6 @@ returns-clause-running g c =
     let s = c.drive.new.store.state in
     let two = c.drive.ensures.two in
     let below = c.requires.instance in
-    is_running_in c.in-Ok.scenario.component s c.args.instance.index x.component c.drive.ensures.order c.drive.ensures.given ?
-    (home_of c.args.instance.index s c.args.paused (c.is_asking.ensures.fresh ?) (c.is_asking.ensures.paused ?)) (omega (arith, two, below))
+    let asks = c.if-not-is_asking.false in
+    is_running_in c.in-Ok.scenario.component s c.args.instance.index x.component c.drive.ensures.order c.drive.ensures.given (c.is_asking.ensures.runs asks)
+    (home_of c.args.instance.index s c.args.paused (c.is_asking.ensures.fresh asks) (c.is_asking.ensures.paused asks)) (omega (arith, two, below))

@@ -1,6 +1,6 @@
 -- What came of a finish is an op of main, and main may answer.
 use Rattle.embed_example.proofs.HostLemmas.{answers_now, did_finish}
-use Rattle.embed_example.proofs.relay.RelayMainTaskUnitUnit.step.Goals as goal
+use Rattle.embed_example.proofs.relay.RelayMainTaskUnitScriptedHost.step.Goals as goal
 
 pub returns-in-Some-clause-ok : goal.returns-in-Some-clause-ok
 returns-in-Some-clause-ok c =
