@@ -32,7 +32,7 @@ outcome_after-requires g c =
     let part = g.M.MainTask.part in
     let script = g.M.MainTask.script in
     let turned = turned_same c.args.component.now (script c.turns.main) (script c.args.main.now) c.turns.self.trap_on_idle c.args.self.now.trap_on_idle c.turns.self.turn (part c.turns.main) c.turns.store.state (Some c.in-Some.made) (part c.turn.new.main) c.turn.new.store.state c.turns.invariant.script c.turns.invariant.idle (rw c.in-Some.is at c.in_ok-made.ensures.turned) in
-    turned.over
+    record { over = turned.over }
 
 pub compute-requires-clause-order : goal.compute-requires-clause-order
 compute-requires-clause-order g c =
