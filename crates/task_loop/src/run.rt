@@ -1,4 +1,4 @@
-ghost use Rattle.std.specs.Prelude.{◌≡◌, ◌*◌, ◌+◌, ◌<◌, ◌≤◌, ◌^◌, IfErr, IfOk, None, OnErr, OnOk, Some, false, true, Bool};
+ghost use Rattle.std.specs.Prelude.{◌≡◌, ◌*◌, ◌+◌, ◌<◌, ◌≤◌, ◌^◌, IfErr, IfOk, None, OnErr, OnOk, Some, false, is_none, true, Bool};
 ghost use Rattle.task_ops.specs.Works.{NamesWorks};
 ghost use Rattle.task_rules.specs.Outcome.{outcome_of_label};
 ghost use Rattle.task_store.specs.Hosts.{HoldsHosts};
@@ -57,6 +57,18 @@ fn outcome_of(label: Label) -> Option<Outcome>
         Label::Loop(LoopLabel::FutureFails(work)) => Some(Outcome::HostFailed(work)),
         Label::Call(CallLabel::Fails(_, work)) => Some(Outcome::HostFailed(work)),
         _ => None,
+    }
+}
+
+// The outcome of a run that has made this step. The label is looked at only where the run is over.
+#[inline(always)]
+fn outcome_after(made: &Made) -> Option<Outcome>
+    requires over { is_none (outcome_of_label made.now.label) ≡ is_open made.now.turn }
+    ensures { result ≡ outcome_of_label made.now.label }
+{
+    match made.turn {
+        Turn::Over => outcome_of(made.label),
+        Turn::Main | Turn::Futures { .. } | Turn::Take { .. } | Turn::Run { .. } => None,
     }
 }
 
@@ -219,7 +231,7 @@ impl RunConcurrent {
             let Ok(()) = trace.push(made.label) else {
                 return Err(NoMemory);
             };
-            if let Some(outcome) = outcome_of(made.label) {
+            if let Some(outcome) = outcome_after(&made) {
                 return Ok(outcome);
             }
             added = compute(

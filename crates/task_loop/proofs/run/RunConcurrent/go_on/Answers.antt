@@ -18,14 +18,21 @@ returns-in_default-clause-ok g c =
     let turned = turned_same c.args.component.now (script c.turns.main) (script c.args.main.now) c.turns.self.trap_on_idle c.args.self.now.trap_on_idle c.turns.self.turn (part c.turns.main) c.turns.store.state None (part c.turn.new.main) c.turn.new.store.state c.turns.invariant.script c.turns.invariant.idle (rw c.in_default.is at c.in_ok-made.ensures.turned) in
     on_turned_none x (state_at s.core (part c.args.main.now) c.args.self.now.turn) c.args.trace.now (given s.core) c.turns.self.turn (part c.turns.main) (part c.turn.new.main) c.turns.store.state c.turn.new.store.state c.turns.trace c.turns.added c.args.steps c.turns.invariant.on (omega arith) turned
 
-pub returns-in-Some-outcome_of-clause-ok : goal.returns-in-Some-outcome_of-clause-ok
-returns-in-Some-outcome_of-clause-ok g c =
+pub returns-in-Some-outcome_after-clause-ok : goal.returns-in-Some-outcome_after-clause-ok
+returns-in-Some-outcome_after-clause-ok g c =
     let s = c.args.store.now.state in
     let part = g.M.MainTask.part in
     let script = g.M.MainTask.script in
     let x = setting_of c.args.component.now (script c.args.main.now) c.args.self.now.trap_on_idle in
     let turned = turned_same c.args.component.now (script c.turns.main) (script c.args.main.now) c.turns.self.trap_on_idle c.args.self.now.trap_on_idle c.turns.self.turn (part c.turns.main) c.turns.store.state (Some c.in-Some.made) (part c.turn.new.main) c.turn.new.store.state c.turns.invariant.script c.turns.invariant.idle (rw c.in-Some.is at c.in_ok-made.ensures.turned) in
-    on_ends x (state_at s.core (part c.args.main.now) c.args.self.now.turn) c.args.trace.now (given s.core) c.turns.self.turn (part c.turns.main) c.turns.store.state c.turns.trace c.turns.added c.turns.invariant.on c.in-Some.made (part c.turn.new.main) c.turn.new.store.state turned c.push.new.self c.in-Ok.ensures.ok c.args.steps c.in-Some-outcome_of.outcome (omega arith) (sym c.in-Some-outcome_of.ensures)
+    on_ends x (state_at s.core (part c.args.main.now) c.args.self.now.turn) c.args.trace.now (given s.core) c.turns.self.turn (part c.turns.main) c.turns.store.state c.turns.trace c.turns.added c.turns.invariant.on c.in-Some.made (part c.turn.new.main) c.turn.new.store.state turned c.push.new.self c.in-Ok.ensures.ok c.args.steps c.in-Some-outcome_after.outcome (omega arith) (sym c.in-Some-outcome_after.ensures)
+
+pub outcome_after-requires : goal.outcome_after-requires
+outcome_after-requires g c =
+    let part = g.M.MainTask.part in
+    let script = g.M.MainTask.script in
+    let turned = turned_same c.args.component.now (script c.turns.main) (script c.args.main.now) c.turns.self.trap_on_idle c.args.self.now.trap_on_idle c.turns.self.turn (part c.turns.main) c.turns.store.state (Some c.in-Some.made) (part c.turn.new.main) c.turn.new.store.state c.turns.invariant.script c.turns.invariant.idle (rw c.in-Some.is at c.in_ok-made.ensures.turned) in
+    record { over = turned.over }
 
 pub compute-requires-clause-order : goal.compute-requires-clause-order
 compute-requires-clause-order g c =
@@ -34,7 +41,7 @@ compute-requires-clause-order g c =
     let script = g.M.MainTask.script in
     let x = setting_of c.args.component.now (script c.args.main.now) c.args.self.now.trap_on_idle in
     let turned = turned_same c.args.component.now (script c.turns.main) (script c.args.main.now) c.turns.self.trap_on_idle c.args.self.now.trap_on_idle c.turns.self.turn (part c.turns.main) c.turns.store.state (Some c.in-Some.made) (part c.turn.new.main) c.turn.new.store.state c.turns.invariant.script c.turns.invariant.idle (rw c.in-Some.is at c.in_ok-made.ensures.turned) in
-    (on_more x (state_at s.core (part c.args.main.now) c.args.self.now.turn) c.args.trace.now (given s.core) c.turns.self.turn (part c.turns.main) c.turns.store.state c.turns.trace c.turns.added c.turns.invariant.on c.in-Some.made (part c.turn.new.main) c.turn.new.store.state turned c.push.new.self c.in-Ok.ensures.ok (sym c.in_default-outcome_of.ensures)).at.order
+    (on_more x (state_at s.core (part c.args.main.now) c.args.self.now.turn) c.args.trace.now (given s.core) c.turns.self.turn (part c.turns.main) c.turns.store.state c.turns.trace c.turns.added c.turns.invariant.on c.in-Some.made (part c.turn.new.main) c.turn.new.store.state turned c.push.new.self c.in-Ok.ensures.ok (sym c.in_default-outcome_after.ensures)).at.order
 
 pub turns-preserved : goal.turns-preserved
 turns-preserved g c =
@@ -43,7 +50,7 @@ turns-preserved g c =
     let script = g.M.MainTask.script in
     let x = setting_of c.args.component.now (script c.args.main.now) c.args.self.now.trap_on_idle in
     let turned = turned_same c.args.component.now (script c.turns.main) (script c.args.main.now) c.turns.self.trap_on_idle c.args.self.now.trap_on_idle c.turns.self.turn (part c.turns.main) c.turns.store.state (Some c.in-Some.made) (part c.turn.new.main) c.turn.new.store.state c.turns.invariant.script c.turns.invariant.idle (rw c.in-Some.is at c.in_ok-made.ensures.turned) in
-    let on = on_more x (state_at s.core (part c.args.main.now) c.args.self.now.turn) c.args.trace.now (given s.core) c.turns.self.turn (part c.turns.main) c.turns.store.state c.turns.trace c.turns.added c.turns.invariant.on c.in-Some.made (part c.turn.new.main) c.turn.new.store.state turned c.push.new.self c.in-Ok.ensures.ok (sym c.in_default-outcome_of.ensures) in
+    let on = on_more x (state_at s.core (part c.args.main.now) c.args.self.now.turn) c.args.trace.now (given s.core) c.turns.self.turn (part c.turns.main) c.turns.store.state c.turns.trace c.turns.added c.turns.invariant.on c.in-Some.made (part c.turn.new.main) c.turn.new.store.state turned c.push.new.self c.in-Ok.ensures.ok (sym c.in_default-outcome_after.ensures) in
     record {
       script = c.in_ok-made.ensures.script ∙ c.turns.invariant.script;
       suits = c.in_ok-made.ensures.suits;
