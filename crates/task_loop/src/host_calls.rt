@@ -23,9 +23,9 @@ fn settle<T, H: AccessorTask<T>, A>(
     ensures rest { store.new ≡ record store.old { value = store.new.value; works = store.new.works } }
 {
     match answer {
-        Ok(_) => store.poll_held(number, true),
-        Err(TaskError::NoMemory) => store.let_go(number),
-        Err(_) => store.poll_held(number, false),
+        Ok(_) => store.settle_held(number, true, true),
+        Err(TaskError::NoMemory) => store.settle_held(number, false, false),
+        Err(_) => store.settle_held(number, true, false),
     }
 }
 

@@ -1,5 +1,5 @@
 //! The host works of a store: those of guests' calls, and those that a host spawns.
-ghost use Rattle.std.specs.Prelude.{◌||◌, ◌==◌, ◌≡◌, ◌<◌, ◌^◌, ℕ, IfErr, IfOk, IsSome, None, OnErr, OnOk, Some, cond, option_map};
+ghost use Rattle.std.specs.Prelude.{◌||◌, ◌==◌, ◌≡◌, ◌<◌, ◌^◌, ℕ, IfErr, IfOk, IsSome, None, OnErr, OnOk, Some, cond, option_map, true};
 ghost use Rattle.task_laws.specs.Order.{WorksQueued};
 ghost use Rattle.task_machine.specs.Core.{Main};
 ghost use Rattle.task_machine.specs.Read.{is_aborted};
@@ -115,24 +115,22 @@ impl<T, H: AccessorTask<T>> Store<T, H> {
         Ok(number)
     }
 
-    /// Polls the work with this number, which is held. Where its call wasn't made, it is let go then.
-    pub fn poll_held(&mut self, number: u64, made: bool)
-        requires { IsSome (held_by H.course self.old number) }
+    /// What becomes of the work with this number, which is held, once its call was made or refused: it is polled where
+    /// `polled` says so, and let go where the call wasn't made.
+    pub fn settle_held(&mut self, number: u64, polled: bool, made: bool)
+        requires there { IsSome (held_by H.course self.old number) }
+        requires polled { made ≡ true → polled ≡ true }
         ensures left { (i : ℕ) → held_by H.course self.new i ≡ cond (number == i) (settled made (held_by H.course self.old number)) (held_by H.course self.old i) }
         ensures rest { self.new ≡ record self.old { value = self.new.value; works = self.new.works } }
     {
-        let _answer = self.works.poll(number, &mut self.value);
-        if !made {
+        if polled {
+            let _answer = self.works.poll(number, &mut self.value);
+            if !made {
+                self.works.let_go(number);
+            }
+        } else {
             self.works.let_go(number);
         }
-    }
-
-    /// Lets the work with this number go, if it is held.
-    pub fn let_go(&mut self, number: u64)
-        ensures left { (i : ℕ) → held_by H.course self.new i ≡ cond (number == i) None (held_by H.course self.old i) }
-        ensures rest { self.new ≡ record self.old { works = self.new.works } }
-    {
-        self.works.let_go(number);
     }
 }
 
