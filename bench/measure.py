@@ -1,13 +1,15 @@
 #!/usr/bin/env python3
 """Measures this repository's program and a plain program of the same task side by side.
 
-    bench/measure.py PLAIN [--ours PROGRAM] [--runs N]
+    bench/measure.py PLAIN [--texts FOLDER] [--ours PROGRAM] [--runs N] [--own]
 
-Both programs get the same texts, one after the other in turns, N times each, and their reports are compared. For each
-case it prints the processor seconds of one run (the least of N), their ratio (ours to the plain one's; below 1 we are
-faster), the same with the time of an empty run taken off, and, where the trace is long enough to tell, the bytes of
-memory that a label takes and the run's own time: both programs print once the run is over, so that is the time to the
-first byte of the report, less the same of the empty run. Exit status 1 where a report differs.
+Both programs get the same texts, one after the other in turns, N times each, and their reports are compared: the empty one, a
+short one, the longest scripts, the longest text, what `make 256` writes, and each text of the folder, which run for a million
+steps; with `--own` those of texts.py too. For each it prints a row of a table: the processor seconds of one run (the least of
+N), their ratio (ours to the plain one's; below 1 we are faster) and the middle half of the ratios of the N turns; where a trace
+is long enough to tell, the ratio of the runs alone, that is of the times to the first byte of the report, less the same of the
+empty run, as both programs print once the run is over; and the bytes of memory that a label takes, by the pages that were
+touched. Exit status 1 where a report differs.
 """
 import argparse
 import os
@@ -22,19 +24,25 @@ TOP = os.path.dirname(os.path.dirname(os.path.abspath(__file__)))
 HEAD = "scenario 1\nhandles 100000\ntable 1000000\nidle trap\ninstance a\nexport f callback 1\n"
 TAIL = "main\nstart a.f 18446744073709551615\nfinish 1 r0\nanswer r0\nend\n"
 LEAST_LABELS = 100_000
+MILLION = ["run", "1000000"]
 
 
-def cases():
+def cases(options):
     """Name, words and text of each case; the first is the empty run."""
     yield "empty text", ["run", "1"], ""
-    yield "short text", ["run", "1000000"], HEAD + "ret r0\nexit\n" + TAIL
+    yield "short text", MILLION, HEAD + "ret r0\nexit\n" + TAIL
     ops = ["ret 18446744073709551615"] + ["exit"] * 4095
-    yield "longest script of short lines", ["run", "1000000"], HEAD + "\n".join(ops) + "\n" + TAIL
+    yield "longest script of short lines", MILLION, HEAD + "\n".join(ops) + "\n" + TAIL
     ops = ["ret 18446744073709551615"] * 4096
     yield "longest script of long lines", ["run", "2"], HEAD + "\n".join(ops) + "\n" + TAIL
-    yield "256 starts of plain ops", ["run", "1000000"], HEAD + script(4096) + starts(256)
     yield "longest text", ["run", "1"], longest(1_048_576)
-    yield from texts.all_texts()
+    yield "256 starts of plain ops", MILLION, HEAD + script(4096) + starts(256)
+    yield "make 256", MILLION, subprocess.run([options.plain, "make", "256"], capture_output=True, text=True, check=True).stdout
+    for name in sorted(os.listdir(options.texts)) if options.texts else []:
+        with open(os.path.join(options.texts, name)) as file:
+            yield os.path.splitext(name)[0], MILLION, file.read()
+    if options.own:
+        yield from texts.all_texts()
 
 
 def script(length):
@@ -85,20 +93,16 @@ def to_first_byte(program, words, path):
         return seconds
 
 
-def least(seconds, touched, run):
-    return min(seconds, run[0]), min(touched, run[1])
-
-
 def measure(programs, words, path, runs):
-    """The least seconds and bytes of each program, and what each wrote."""
-    best = [(float("inf"), float("inf"))] * 2
-    said = [None, None]
+    """The least seconds and bytes of each program, the ratio of each turn, and what each wrote."""
+    seconds, touched, said = ([], []), ([], []), [None, None]
     for _ in range(runs):
         for which, program in enumerate(programs):
-            run = once(program, words, path)
-            best[which] = least(*best[which], run)
-            said[which] = run[2]
-    return best, said
+            spent, pages, said[which] = once(program, words, path)
+            seconds[which].append(spent)
+            touched[which].append(pages)
+    ratios = sorted(ours / plain for ours, plain in zip(*seconds) if plain > 0)
+    return [min(it) for it in seconds], [min(it) for it in touched], ratios, said
 
 
 def run_alone(programs, words, path, runs):
@@ -114,41 +118,42 @@ def ratio(ours, plain):
     return f"{ours / plain:.2f}" if plain > 0 and ours > 0 else "-"
 
 
+def spread(ratios):
+    """The middle half of them."""
+    return f"{ratios[len(ratios) // 4]:.2f} to {ratios[len(ratios) * 3 // 4]:.2f}" if ratios else "-"
+
+
 def labels_of(said):
     return said[1].count(b"\n") - 1
 
 
 def bytes_a_label(touched, empty, said):
-    labels = labels_of(said)
-    return f"{(touched - empty) / labels:.0f}" if labels >= LEAST_LABELS else "-"
+    return f"{(touched - empty) / labels_of(said):.0f}"
 
 
 def main():
     parser = argparse.ArgumentParser()
     parser.add_argument("plain")
+    parser.add_argument("--texts")
     parser.add_argument("--ours", default=os.path.join(TOP, "crates/vatbramble/out/vatbramble"))
-    parser.add_argument("--runs", type=int, default=100)
+    parser.add_argument("--runs", type=int, default=30)
+    parser.add_argument("--own", action="store_true")
     options = parser.parse_args()
     programs = [options.ours, options.plain]
-    differs = False
-    empty = idle = None
-    print("case | ours s | plain s | ratio | ratio without the start | bytes a label, ours | plain | the run alone, ours s | plain s | ratio")
-    for name, words, text in cases():
+    differs, empty, idle = False, None, None
+    print("| Text | Ours, s | Plain, s | Ratio | Spread | The run alone | Bytes a label | Plain |\n|---|---|---|---|---|---|---|---|")
+    for name, words, text in cases(options):
         with tempfile.NamedTemporaryFile("w") as file:
             file.write(text)
             file.flush()
-            best, said = measure(programs, words, file.name, options.runs)
+            best, touched, ratios, said = measure(programs, words, file.name, options.runs)
             is_long = labels_of(said[1]) >= LEAST_LABELS
             alone = run_alone(programs, words, file.name, options.runs) if is_long or not idle else None
-        empty, idle = empty or best, idle or alone
-        net = [best[i][0] - empty[i][0] for i in range(2)]
+        empty, idle = empty or touched, idle or alone
         own = [alone[i] - idle[i] if is_long else 0 for i in range(2)]
-        seconds = [f"{it:.4f}" if is_long else "-" for it in own]
-        memory = [bytes_a_label(best[i][1], empty[i][1], said[i]) for i in range(2)]
-        print(
-            f"{name} | {best[0][0]:.6f} | {best[1][0]:.6f} | {ratio(best[0][0], best[1][0])} | {ratio(*net)}"
-            f" | {memory[0]} | {memory[1]} | {seconds[0]} | {seconds[1]} | {ratio(*own)}"
-        )
+        memory = [bytes_a_label(touched[i], empty[i], said[i]) if is_long else "" for i in range(2)]
+        cells = [f"{best[0]:.5f}", f"{best[1]:.5f}", ratio(*best), spread(ratios), ratio(*own) if is_long else "", *memory]
+        print(f"| {name} | " + " | ".join(cells) + " |", flush=True)
         if said[0] != said[1]:
             print(f"{name}: the programs answer differently")
             differs = True

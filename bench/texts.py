@@ -24,6 +24,13 @@ def plain_ops():
     return text("instance a", *FOREVER, *ops, "cb_yield", *main("start a.f"))
 
 
+def wide_ops():
+    """Plain ops whose numbers have 5 to 20 digits."""
+    numbers = [int("9876543210" * 2) % 10**digits + 10 ** (digits - 1) for digits in range(5, 20)]
+    ops = [op for number in numbers for op in (f"set r3 {number}", f"add r3 {number}", "store 2 r3", "load r5 2")]
+    return text("instance a", *FOREVER, *(ops * 60), "cb_yield", *main("start a.f"))
+
+
 def threads():
     """Two tasks make threads, which yield, suspend, and are resumed and promoted."""
     scripts = ("thread 0", *("yield",) * 4, "thread 1", "suspend", "yield")
@@ -32,9 +39,9 @@ def threads():
     return text("instance a", *scripts, *FOREVER, *ops, *main("start a.f", "start a.f"))
 
 
-def host_works():
-    """256 works of hosts pend, and the loop rests."""
-    ops = ("main", *("spawn h",) * 256, "await 1", "answer r0", "end")
+def host_works(count):
+    """So many works of hosts pend, and the loop rests."""
+    ops = ("main", *("spawn h",) * count, "await 1", "answer r0", "end")
     return text("host h polls 1000000 value 1", *ops)
 
 
@@ -58,15 +65,23 @@ def waiters(count):
     return text(*scripts, *makes, *ops, *main("start a.f"))
 
 
+def waiters_from_both_ends(count):
+    """So many threads come to wait on one set, in turns from the one and the other end of the order of their places."""
+    ends = [place for pair in zip(range(count - 1, -1, -1), range(count)) for place in pair][:count]
+    makes = (*("thread_new r4 0 0",) * count, *(f"resume_later {place + 2}" for place in ends))
+    ops = ("export f callback 0", "set_new r3", *makes, "cb_yield", "react", "cb_yield")
+    return text("instance a", "thread 0", "wait r5 1", *ops, *main("start a.f"))
+
+
 def pipeline():
     """16 callbacks call a callback of another instance, which calls a host, and start anew."""
-    store = ("export get callback 1", "set r9 r0", "call r3 r8 disk", "set_new r4", "handle r5 r3", "join r5 r4", "cb_wait r4")
+    db = ("export get callback 1", "set r9 r0", "call r3 r8 disk", "set_new r4", "handle r5 r3", "join r5 r4", "cb_wait r4")
     db += ("react", "add r8 r9", "drop r1", "set_drop r4", "ret r8", "exit")
     call = ("call r3 r8 db.get r9", "handle r5 r3", "join r5 r4", "cb_wait r4", "exit")
     api = ("export do callback 1", "set r9 r0", "set_new r4", "cb_yield", "react", "skip_eq r0 1 5", *call)
     api += ("skip_eq r2 2 1", "cb_wait r4", "drop r1", "add r9 r8", "cb_yield")
-    starts = [f"start logic.do {k}" for k in range(16)]
-    return text("host disk polls 3 value 100", "instance store", *store, "instance logic", *logic, *main(*starts))
+    starts = [f"start api.do {k}" for k in range(16)]
+    return text("host disk polls 3 value 100", "instance db", *db, "instance api", *api, *main(*starts))
 
 
 def requests(count):
@@ -82,13 +97,39 @@ def requests(count):
     return text("host disk polls 9 value 100", *exports, *ops)
 
 
+def handles(count):
+    """A set is made and dropped, again and again, beside so many that live."""
+    ops = ("react", "set_new r4", "set_drop r4", "cb_yield")
+    return text("instance a", "export f callback 0", *("set_new r3",) * count, "cb_yield", *ops, *main("start a.f"))
+
+
+def depth(count):
+    """Sync calls that go through so many instances, one inside the other."""
+    lines = ["instance a0", "export s sync 1", "add r0 1"]
+    for k in range(1, count):
+        lines += [f"instance a{k}", "export s sync 1", f"call_sync r0 a{k - 1}.s r0", "add r0 1"]
+    call = f"call_sync r4 a{count - 1}.s r4"
+    return text(*lines, "instance b", *FOREVER, call, "cb_yield", *main("start b.f"))
+
+
+def growing():
+    """Name, a smaller and a larger text of each kind whose steps may cost more as it grows, and the labels that make them up."""
+    yield "held calls, 16 and 256", held_calls(16), held_calls(256), 20_000
+    yield "waiters, 100 and 2,000", waiters(100), waiters(2000), 20_000
+    yield "waiters from both ends, 250 and 1,000", waiters_from_both_ends(250), waiters_from_both_ends(1000), 0
+    yield "live handles, 64 and 4,000", handles(64), handles(4000), 20_000
+    yield "spawned works, 16 and 256", host_works(16), host_works(256), 20_000
+    yield "depth of a strand, 4 and 62", depth(4), depth(62), 20_000
+
+
 def all_texts():
     """Name, words and text of each."""
     million = ["run", "1000000"]
     yield "two callbacks that yield", million, yields()
     yield "plain ops, one script", million, plain_ops()
+    yield "plain ops, long numbers", million, wide_ops()
     yield "threads", million, threads()
-    yield "256 works of hosts", million, host_works()
+    yield "256 works of hosts", million, host_works(256)
     yield "direct calls", million, direct_calls()
     yield "16 held calls", million, held_calls(16)
     yield "256 held calls", million, held_calls(256)

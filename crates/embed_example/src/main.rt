@@ -17,12 +17,10 @@ fn main(rt: HostRuntime) -> io::Result<()> {
     };
     let mut out = io::writer(&rt);
     let mut page = Page::new(rt.alloc())?;
-    for label in trace.labels() {
-        page.add_label(*label);
-        if !page.has_room() {
-            out.write_all(page.as_slice())?;
-            page.clear();
-        }
+    let mut labels = trace.labels();
+    'pages: while page.fill(&mut labels) {
+        out.write_all(page.as_slice())?;
+        page.clear();
     }
     page.add_outcome(outcome);
     out.write_all(page.as_slice())

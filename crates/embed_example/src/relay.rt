@@ -2,6 +2,7 @@
 ghost use Rattle.std.specs.Prelude.{◌≡◌, ◌+◌, ◌<◌, ◌^◌, [], IfErr, IfOk, None, OnOk};
 ghost use Rattle.task_machine.specs.Core.{Unscripted};
 ghost use Rattle.state_calls.specs.declared.error.TaskError.TheVariants as task_error;
+ghost use Rattle.task_store.specs.Hosts.{HoldsHosts};
 ghost use Rattle.task_turns.specs.WellFormed.{IsWellFormed};
 ghost use Rattle.task_turns.specs.Main.{Steps};
 ghost use Rattle.task_turns.specs.Turn.{Sits, given, running_of};
@@ -11,7 +12,7 @@ use crate::parts::{DOUBLE, NEXT};
 use futures::task::Poll;
 use task_loop::{Component, Func, FuncCallConcurrent, Label, MainStep, MainTask, TaskError};
 use task_machine::{MainLabel, Turn};
-use task_store::{Access, Whole};
+use task_store::{Access, HostWork, ScriptedHost, Whole};
 
 /// Where main is.
 #[derive(Drop)]
@@ -37,17 +38,19 @@ impl Relay {
 // Calls the export with main's word. Where the store refuses it, main has no further call.
 fn start(
     relay: &mut Relay,
-    access: &mut Access<'_, (), Whole, ()>,
+    access: &mut Access<'_, (), Whole, ScriptedHost>,
     component: &Component,
     func: Func,
 ) -> Result<MainStep, TaskError>
     requires covered { IsWellFormed component.now }
     requires order { Sits component.now Turn.Main access.old.store.now.state.core }
     requires takes { TakesOne component.now func }
+    requires hosts { HoldsHosts ⟦<ScriptedHost as HostWork>⟧.course access.old.store.now }
     requires current { running_of access.old.store.now.state ≡ None }
     requires given { given access.old.store.now.state.core + 4 < 2 ^ 61 }
     ensures same { access.new.store.ghost_name ≡ access.old.store.ghost_name }
     ensures stands { access.new.store.now.running ≡ access.old.store.now.running }
+    ensures hosts { HoldsHosts ⟦<ScriptedHost as HostWork>⟧.course access.new.store.now }
     ensures current { OnOk result (running_of access.new.store.now.state ≡ running_of access.old.store.now.state) }
     ensures ok { IfOk result (λ step. Steps component.now [] Unscripted access.old.store.now.state.core step Unscripted access.new.store.now.state.core) }
     ensures err { IfErr result (λ e. e ≡ task_error.NoMemory) }
@@ -68,7 +71,7 @@ fn start(
     }
 }
 
-impl MainTask<(), ()> for Relay {
+impl MainTask<(), ScriptedHost> for Relay {
     ghost use Rattle.embed_example.specs.declared.parts.TheConstants.{DOUBLE, NEXT};
 
     ghost part = { λ _. Unscripted };
@@ -83,7 +86,7 @@ impl MainTask<(), ()> for Relay {
 
     fn step(
         &mut self,
-        access: &mut Access<'_, (), Whole, ()>,
+        access: &mut Access<'_, (), Whole, ScriptedHost>,
         component: &Component,
     ) -> Result<MainStep, TaskError> {
         if let Some(call) = &mut self.call {

@@ -1,5 +1,6 @@
 //! The store and the run.
 ghost use Rattle.std.specs.Prelude.{◌≡◌, [], length, true, false, IfOk};
+ghost use Rattle.host_works.specs.Kept.{HoldsNone};
 ghost use Rattle.task_machine.specs.Core.{State, Unscripted, fresh};
 ghost use Rattle.task_machine.specs.declared.records.Turn.TheVariants as turn;
 ghost use Rattle.task_records.specs.Seen.{nothing};
@@ -13,15 +14,16 @@ use crate::parts::{DOUBLE, NEXT};
 use crate::relay::Relay;
 use std::alloc::Global;
 use task_loop::{Component, NoMemory, Outcome, Trace, run_concurrent};
-use task_store::Store;
+use task_store::{ScriptedHost, Store};
 
 // How many steps the run may take.
 const STEPS: u32 = 64;
 
 // A new store with two instances.
-fn store(alloc: Global) -> Result<Store<(), ()>, NoMemory>
+fn store(alloc: Global) -> Result<Store<(), ScriptedHost>, NoMemory>
     ensures state { IfOk result (λ s. s.state ≡ with_core (fresh 2 100000 1000000) nothing) }
     ensures free { IfOk result (λ s. s.running ≡ false) }
+    ensures works { IfOk result (λ s. HoldsNone s.works) }
 {
     let mut store = Store::new(alloc, (), true, 1);
     store.add_instance()?;

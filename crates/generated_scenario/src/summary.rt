@@ -1,6 +1,7 @@
 ghost use Rattle.std.specs.Prelude.{◌≡◌, IfOk, cond, count_by};
 ghost use Rattle.generated_scenario.specs.Summary.{holds, pauses, summary, takes, wakes};
 
+use label_trace::Trace;
 use report_text::Page;
 use std::alloc::Global;
 use task_machine::{
@@ -55,11 +56,11 @@ fn kinds(label: Label) -> Counts
     kinds
 }
 
-fn count(labels: &[Label]) -> Counts
-    ensures takes { result.takes ≡ count_by takes labels.now }
-    ensures holds { result.holds ≡ count_by holds labels.now }
-    ensures wakes { result.wakes ≡ count_by wakes labels.now }
-    ensures pauses { result.pauses ≡ count_by pauses labels.now }
+fn count(trace: &Trace) -> Counts
+    ensures takes { result.takes ≡ count_by takes trace.now }
+    ensures holds { result.holds ≡ count_by holds trace.now }
+    ensures wakes { result.wakes ≡ count_by wakes trace.now }
+    ensures pauses { result.pauses ≡ count_by pauses trace.now }
 {
     let mut counts = Counts {
         takes: 0,
@@ -67,8 +68,9 @@ fn count(labels: &[Label]) -> Counts
         wakes: 0,
         pauses: 0,
     };
-    for label in labels {
-        let kinds = kinds(*label);
+    let _total = trace.len();
+    for label in trace.labels() {
+        let kinds = kinds(label);
         counts.takes += kinds.takes;
         counts.holds += kinds.holds;
         counts.wakes += kinds.wakes;
@@ -80,13 +82,13 @@ fn count(labels: &[Label]) -> Counts
 /// The summary of a run that has these labels and has come to this outcome: a line each with the
 /// number of its labels, of its takings, of those that were held, of those that woke a waiter of a
 /// guest-made set, and of the ops that stopped their strand; and the outcome's line.
-pub fn print_summary(alloc: Global, labels: &[Label], outcome: Outcome) -> Result<Vec<u8>, NoMemory>
-    ensures { IfOk result (λ text. text.items ≡ summary labels.now outcome) }
+pub fn print_summary(alloc: Global, trace: &Trace, outcome: Outcome) -> Result<Vec<u8>, NoMemory>
+    ensures { IfOk result (λ text. text.items ≡ summary trace.now outcome) }
 {
-    let counts = count(labels);
+    let counts = count(trace);
     let lines = format!(in alloc;
         "steps {}\ntakes {}\nholds {}\nwakes {}\npauses {}\n",
-        labels.len(),
+        trace.len(),
         counts.takes,
         counts.holds,
         counts.wakes,

@@ -24,6 +24,7 @@ pub fn set_thread_handle(parts: &mut CoreParts, thread: ThreadId, handle: u32)
 }
 
 /// Gives a thread its handle in its instance. Where memory is wanting, all is as before.
+#[inline(always)]
 pub fn name_thread(parts: &mut CoreParts, thread: ThreadId) -> Result<u32, NoMemory>
     requires sound { IsSound parts.old }
     requires live { 0 < thread_of (seen parts.old) thread }

@@ -228,6 +228,7 @@ fn cancels<W: Words>(w: &mut W, thread: ThreadId, to: u8, handle: u64, sync: boo
 }
 
 /// An op on subtasks. Where memory is wanting, all is as before.
+#[inline(always)]
 pub(crate) fn do_call_op<W: Words>(
     component: &Component,
     w: &mut W,

@@ -16,6 +16,7 @@ use task_ops::{Came, end_activation, exit_blocking, exit_direct, exit_sync, exit
 use task_words::{ThreadId, Words};
 
 // The exit of the first thread of a call that isn't direct, by the kind of its export.
+#[inline(always)]
 fn exit_by_kind<W: Words>(w: &mut W, thread: ThreadId) -> Came
     requires { Runner thread (W.view w.old) }
     ensures meets { Meets (kind_exit_row (thread_of (W.view w.old) thread) (choice_of (label_of (thread_of (W.view w.old) thread) result)).woken (W.view w.old).core (kind_of (task_of (thread_of (W.view w.old) thread) (W.view w.old).core) (W.view w.old).core)) (W.view w.old).core result (W.view w.new).core }
@@ -35,6 +36,7 @@ fn exit_by_kind<W: Words>(w: &mut W, thread: ThreadId) -> Came
 }
 
 /// The thread exits.
+#[inline(always)]
 pub fn exit<W: Words>(w: &mut W, thread: ThreadId) -> Came
     requires { Runner thread (W.view w.old) }
     ensures meets { Meets (exit_row (thread_of (W.view w.old) thread) (choice_of (label_of (thread_of (W.view w.old) thread) result)).woken (W.view w.old).core) (W.view w.old).core result (W.view w.new).core }

@@ -19,6 +19,7 @@ use task_ops::{Came, end_activation, lower, raise, ret, ret_bad, task_cancel, va
 use task_words::{ThreadId, Words};
 
 // An activation ends with the code, and no thread goes on.
+#[inline(always)]
 fn ends<W: Words>(w: &mut W, thread: ThreadId, label: Label, code: u64) -> Came
     requires quiet { outcome_of_label label ≡ None }
     requires runner { Runner thread (W.view w.old) }

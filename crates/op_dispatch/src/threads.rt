@@ -77,6 +77,7 @@ fn resumes<W: Words>(
 }
 
 // `suspend_then_promote X` and `yield_then_promote X`
+#[inline(always)]
 fn promotes<W: Words>(
     w: &mut W,
     thread: ThreadId,

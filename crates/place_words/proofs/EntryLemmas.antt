@@ -1,14 +1,26 @@
 -- How many entries a set has, as the number that is kept.
-use Rattle.task_records.proofs.Core.{ap, arith, Bool, cases_eq, cond, Delivery, entry_of, entry_put, eq-eqb, Err, false, HowFar, inl, inr, is_inside_wait, IsSound, item_at, item_of, keeps_set, key_in, mapped-with_entry_same, ne_eqb, number_in, number_of, Ok, on_item, Option, option_map_or, Place, place_at, place_at-with_entry, Placed, record_at, refl, ResourceTableError, Result, same_Some, set_key, slice_get_past, Some, SoundTable, standing, sym, Table, Thread, true, Why, with_entry, ℕ, ◌==◌, ◌||◌, ◌∙◌, ◌≡◌, ◌⊎◌}
+use Rattle.task_records.proofs.Core.{ap, arith, Bool, cases_eq, cond, Delivery, entry_of, entry_put, eq-eqb, Err, false, HowFar, inl, inr, is_inside_wait, IsSound, item_at, item_in, None, length, ◌≤◌, item_of, keeps_set, mapped-with_entry_same, ne_eqb, number_of, Ok, on_item, Option, option_map_or, Place, place_at, place_at-with_entry, Placed, refl, ResourceTableError, Result, same_Some, set_key, slice_get_past, Some, SoundTable, standing, sym, Table, Thread, true, Why, with_entry, ℕ, ◌==◌, ◌||◌, ◌∙◌, ◌≡◌, ◌⊎◌}
+use Rattle.task_table.specs.Table.{found, of_serial}
 use Rattle.task_records.specs.declared.{parts.CoreParts.CoreParts, sets.WaitSet.WaitSet, single.Single.Single}
 use Rattle.task_records.proofs.KindLemmas.{item_number, item_stands, refused_number, table_written}
 use Rattle.place_words.specs.Moved.{Alike, entry_set, recounted, rejoined, resumed_set, rewritten, rewritten_by, uncounted}
 use Rattle.queue_words.proofs.BareLemmas.{number_positive, one_place}
 
--- no set stands past the end
-pub no_set_there : (a : CoreParts) → IsSound a → number_in (record_at set_key a.sets.places 4294967295) ≡ 0
+-- nothing stands past the end
+pub refused_past : (t : Table (Single WaitSet)) (rep serial : ℕ) → length t.places ≤ 4294967295 → 4294967295 ≤ rep → Err ResourceTableError.NotPresent ≡ item_at item_of t rep serial
+unfolding found
+refused_past t rep serial few past = ap (λ (o : Option (Placed (Single WaitSet))). item_in item_of (of_serial serial o)) (sym none)
+  where
+    none : place_at t rep ≡ None
+    none = ap (λ (o : Option (Option (Placed (Single WaitSet)))). standing o) (slice_get_past t.places rep (omega (arith, few, past)))
+
+pub no_set_there : (a : CoreParts) → IsSound a → (serial : ℕ) → number_of set_key a.sets 4294967295 serial ≡ 0
 unfolding IsSound
-no_set_there a sound = let few = sound.tables.sets.table.places_fit in ap (λ o. number_in (key_in set_key (standing o))) (slice_get_past a.sets.places 4294967295 few)
+no_set_there a sound serial = refused_number (λ (x : WaitSet). x.number) (λ (x : WaitSet). x.set) a.sets 4294967295 serial ResourceTableError.NotPresent (refused_past a.sets 4294967295 serial sound.tables.sets.table.places_fit (omega arith))
+
+-- an id past the end names no set, so that a write of its set leaves all as it is
+pub none_past : (f : ℕ → ℕ) (t : Table (Single WaitSet)) (rep serial : ℕ) → length t.places ≤ 4294967295 → 4294967295 ≤ rep → t ≡ recounted f rep serial t
+none_past f t rep serial few past = ap (λ (o : Result WaitSet ResourceTableError). rewritten_by (λ x. record x { entries = f x.entries }) rep o t) (refused_past t rep serial few past)
 
 -- the option is this number
 abbrev pub is_the : ℕ → Option ℕ → Bool
@@ -128,3 +140,8 @@ module _ (f : ℕ → ℕ) (t : Table (Single WaitSet)) (made : ℕ) (sound : So
       inside : (x : WaitSet) (b : Bool) → cond b (record x { members = f x.members }) x ≡ record x { members = cond b (f x.members) x.members }
       inside x true = refl
       inside x false = refl
+
+-- a write of a set leaves the table as long as it was
+pub places_few : (f : ℕ → ℕ) (a : CoreParts) → IsSound a → (rep serial : ℕ) → length (recounted f rep serial a.sets).places ≤ 4294967295
+unfolding IsSound
+places_few f a sound rep serial = (recounted_sound f a.sets a.made.sets sound.tables.sets rep serial).table.places_fit

@@ -1,5 +1,5 @@
 -- What the first entry of a chain says of all that the chain holds.
-use Rattle.task_records.proofs.Core.{[], ap, Bool, cond, false, head_of, inl, inr, IsSome, link_of, List, list_any, None, Option, option_map, refl, same_Some, Some, Spot, subst, sym, true, ℕ, ◌||◌, ◌∙◌, ◌≡◌, ◌∷◌}
+use Rattle.task_records.proofs.Core.{[], ap, Bool, false, head_of, inl, inr, link_of, List, list_any, None, refl, same_Some, Some, Spot, subst, sym, true, ℕ, ◌||◌, ◌∙◌, ◌≡◌, ◌∷◌}
 use Rattle.std.specs.Ordering.{is_lt, ordering_then}
 use Rattle.std.specs.declared.cmp.Ordering.{Ordering}
 use Rattle.std.specs.declared.cmp.Ordering.TheVariants.{Equal, Greater, Less}

@@ -1,5 +1,5 @@
 -- The first of a chain of ready members is the least of them.
-use Rattle.task_records.proofs.Core.{ap, bare, Bool, Call, call_key, call_of, EachEntry, false, Filing, filings, filings_at, GuestTaskKey, held_passes, Holds, HostTaskKey, IsIndex, IsLinks, IsSound, item_at, item_of, key_in, link_for, link_of, List, number_in, Ok, option_and_then, option_map, Option, parts_of, place_at, Placed, ready_call_chain, ready_in, ready_work_chain, record_at, refl, same_Some, seen, Some, SoundTable, Spot, subst, sym, Table, TableId, Tests, Work, work_key, work_of, ℕ, ◌∙◌, ◌≡◌}
+use Rattle.task_records.proofs.Core.{ap, bare, Bool, Call, call_key, call_of, EachEntry, false, Filing, filings, filings_at, GuestTaskKey, held_passes, Holds, HostTaskKey, IsIndex, IsLinks, IsSound, item_at, item_of, key_in, link_of, List, number_in, Ok, option_and_then, option_map, Option, parts_of, place_at, Placed, ready_call_chain, ready_in, ready_work_chain, record_at, refl, same_Some, seen, Some, SoundTable, Spot, subst, sym, Table, TableId, Tests, Work, work_key, work_of, ℕ, ◌∙◌, ◌≡◌}
 use Rattle.task_records.specs.declared.{calls.GuestTask.GuestTask, parts.CoreParts.CoreParts, sets.WaitSet.WaitSet, single.Single.Single, works.HostWork.HostWork}
 use Rattle.std.specs.Ordering.{is_lt, nat_cmp, ordering_then}
 use Rattle.std.specs.declared.cmp.Ordering.{Ordering}

@@ -1,11 +1,11 @@
 -- The first of the chain of a set's waiters is the least of them.
-use Rattle.task_records.proofs.Core.{ap, bare, filings, filings_at, Filing, held_passes, Holds, IsLinks, is_waiting_on, IsSome, IsSound, item_at, item_of, key_in, link_for, link_of, number_in, Ok, option_and_then, option_map, parts_of, place_at, place_chain, place_filing, Placed, record_at, same_Some, seen, Some, subst, sym, Thread, thread_key, thread_of, ThreadKey, TableId, true, WaitsOn, Where, where_at, ℕ, ◌∙◌, ◌≡◌, false}
+use Rattle.task_records.proofs.Core.{ap, bare, filings_at, Filing, held_passes, Holds, IsLinks, is_waiting_on, IsSound, item_at, item_of, key_in, link_of, number_in, Ok, option_and_then, option_map, parts_of, place_at, place_chain, place_filing, Placed, record_at, same_Some, seen, Some, subst, sym, Thread, thread_key, thread_of, ThreadKey, TableId, true, WaitsOn, Where, where_at, ℕ, ◌∙◌, ◌≡◌, false}
 use Rattle.task_records.specs.declared.{parts.CoreParts.CoreParts, sets.WaitSet.WaitSet, single.Single.Single, threads.GuestThread.GuestThread}
 use Rattle.std.specs.Ordering.{is_lt, nat_cmp}
-use Rattle.place_words.proofs.FiledLemmas.{passes_number, place_tests, places_filed}
+use Rattle.place_words.proofs.FiledLemmas.{place_tests, places_filed}
 use Rattle.place_words.proofs.FirstLemmas.{lt_front, none_less}
 use Rattle.place_words.proofs.WaiterLemmas.{waiters_chain, waits_filed, waits_passes}
-use Rattle.place_words.specs.Picks.{IsLeastWaiter, thread_order}
+use Rattle.place_words.specs.Picks.{IsLeastWaiter}
 use Rattle.queue_words.proofs.BareLemmas.{one_place}
 use Rattle.table_order.specs.Seats.{seat_order}
 use Rattle.table_order.specs.declared.seat_links.Seat.{Seat}

@@ -1,5 +1,9 @@
 -- A thread goes on.
-use Rattle.task_records.proofs.Core.{ap, Core, get, get-change_same, None, on_thread, Option, option_map, option_map_or, position_of, refl, set_register, slice_set, Some, Thread, ℕ, ◌∙◌, ◌≡◌}
+use Rattle.task_records.proofs.Core.{ap, change, change-change_same, Core, get, get-change_same, HowFar, moved_to, None, on_thread, Option, option_map, option_map_or, Place, position_of, refl, Script, set_do_not_enter, set_how_far, set_place, set_position, set_register, set_script, slice_set, Some, sym, Thread, true, ℕ, ◌∙◌, ◌≡◌}
+use Rattle.task_machine.specs.Write.{on_instance}
+use Rattle.task_machine.specs.declared.words.Given.{Given}
+use Rattle.task_rules.specs.Sets.{given_code, given_handle, given_result, set_given}
+use Rattle.place_words.specs.Moved.{to_begun}
 
 abbrev pub with_register : ℕ → ℕ → Thread → Thread
 with_register r v t = record t { registers = slice_set t.registers r v }
@@ -12,3 +16,38 @@ position_kept n r v s = ap (λ o. option_map_or (λ (x : Thread). x.position) o 
     by : (o : Option Thread) → option_map_or (λ (x : Thread). x.position) (option_map (with_register r v) o) 0 ≡ option_map_or (λ (x : Thread). x.position) o 0
     by None = refl
     by (Some t) = refl
+
+-- an activation as one write of the thread's record
+pub activation : (n i : ℕ) (v : Given) (s : Core) → on_thread n (to_begun (given_code v) (given_handle v) (given_result v)) (set_do_not_enter i true s) ≡ set_place n Place.Running (moved_to n 0 (set_script n Script.React (set_do_not_enter i true (set_given n 0 v s))))
+unfolding set_place moved_to set_how_far set_position set_script set_do_not_enter set_given set_register on_thread on_instance
+activation n i v s = ap (λ m. record (set_do_not_enter i true s) { threads = m }) (sym merged)
+  where
+    first : Thread → Thread
+    first = with_register 0 (given_code v)
+
+    second : Thread → Thread
+    second = with_register 1 (given_handle v)
+
+    third : Thread → Thread
+    third = with_register 2 (given_result v)
+
+    reacts : Thread → Thread
+    reacts t = record t { script = Script.React }
+
+    at_start : Thread → Thread
+    at_start t = record t { position = 0 }
+
+    fresh : Thread → Thread
+    fresh t = record t { how_far = HowFar.Fresh }
+
+    placed_running : Thread → Thread
+    placed_running t = record t { place = Place.Running }
+
+    merged : change n placed_running (change n fresh (change n at_start (change n reacts (change n third (change n second (change n first s.threads)))))) ≡ change n (λ t. placed_running (fresh (at_start (reacts (third (second (first t))))))) s.threads
+    merged =
+        ap (λ m. change n placed_running (change n fresh (change n at_start (change n reacts (change n third m))))) (change-change_same s.threads n second first)
+        ∙ (ap (λ m. change n placed_running (change n fresh (change n at_start (change n reacts m)))) (change-change_same s.threads n third (λ t. second (first t)))
+        ∙ (ap (λ m. change n placed_running (change n fresh (change n at_start m))) (change-change_same s.threads n reacts (λ t. third (second (first t))))
+        ∙ (ap (λ m. change n placed_running (change n fresh m)) (change-change_same s.threads n at_start (λ t. reacts (third (second (first t)))))
+        ∙ (ap (λ m. change n placed_running m) (change-change_same s.threads n fresh (λ t. at_start (reacts (third (second (first t))))))
+        ∙ change-change_same s.threads n placed_running (λ t. fresh (at_start (reacts (third (second (first t))))))))))

@@ -1,5 +1,5 @@
 -- What is written where a thread gets another place, or a subtask another event or set: the record but for these, and what a set counts.
-use Rattle.std.specs.Prelude.{◌≡◌, ℕ, if◌then◌else◌, List, Option, Some, None, Result, Ok, Err}
+use Rattle.std.specs.Prelude.{◌≡◌, ℕ, if◌then◌else◌, List, Option, Some, None, Result, Ok, Err, slice_set}
 use Rattle.task_machine.specs.Core.{Core}
 use Rattle.task_machine.specs.declared.records.Call.{Call}
 use Rattle.task_machine.specs.declared.records.Delivery.TheVariants as delivery
@@ -12,6 +12,7 @@ use Rattle.task_machine.specs.declared.records.Place.TheVariants as place
 use Rattle.task_machine.specs.Read.{is_stage_live}
 use Rattle.task_machine.specs.declared.records.Stage.{Stage}
 use Rattle.task_machine.specs.declared.records.Stage.TheVariants as stage
+use Rattle.task_machine.specs.declared.records.Script.TheVariants as script
 use Rattle.task_machine.specs.declared.records.Thread.{Thread}
 use Rattle.task_machine.specs.declared.records.Why.{Why}
 use Rattle.task_machine.specs.declared.records.Work.{Work}
@@ -112,6 +113,20 @@ placed g p beside = record g { thread = record g.thread { place = p }; beside = 
 abbrev pub arrived : GuestThread → HowFar → ℕ → GuestThread
 arrived g h awaited = record g { thread = record g.thread { how_far = h }; awaited = awaited }
 
--- a thread with this position and these registers
-abbrev pub at_context : (position : ℕ) → (registers : List ℕ) → Thread → Thread
-at_context p rs t = record t { position = p; registers = rs }
+-- a thread with these registers
+abbrev pub with_registers : (registers : List ℕ) → Thread → Thread
+with_registers rs t = record t { registers = rs }
+
+-- a thread that is about to begin the op at this position
+abbrev pub to_op : (position : ℕ) → Thread → Thread
+to_op p t = record t { position = p; how_far = how_far.Fresh }
+
+abbrev pub at_op : GuestThread → (position : ℕ) → GuestThread
+at_op g p = record g { thread = to_op p g.thread; awaited = 0 }
+
+-- a thread that begins an activation, with these words in r0, r1 and r2
+abbrev pub to_begun : (code : ℕ) → (handle : ℕ) → (status : ℕ) → Thread → Thread
+to_begun code handle status t = record t { registers = slice_set (slice_set (slice_set t.registers 0 code) 1 handle) 2 status; script = script.React; position = 0; how_far = how_far.Fresh; place = place.Running }
+
+abbrev pub begun : GuestThread → (code : ℕ) → (handle : ℕ) → (status : ℕ) → GuestThread
+begun g code handle status = record g { thread = to_begun code handle status g.thread; beside = 0; awaited = 0 }

@@ -1,6 +1,6 @@
 -- What is picked where the machine leaves a choice: the least by the places in the resource table.
 use Rattle.std.specs.Ordering.{is_lt, nat_cmp, ordering_then}
-use Rattle.std.specs.Prelude.{◌≡◌, ℕ, Bool, false, true, Ok, Some}
+use Rattle.std.specs.Prelude.{◌≡◌, ℕ, false, true, Ok, Some}
 use Rattle.std.specs.declared.cmp.Ordering.{Ordering}
 use Rattle.task_machine.specs.Read.{is_waiting_on}
 use Rattle.task_records.specs.Kinds.{item_of}

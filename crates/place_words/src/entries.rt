@@ -1,54 +1,76 @@
 //! How many threads wait on a set or have an entry for it.
-ghost use Rattle.std.specs.Prelude.{◌≡◌, ◌+◌, ◌<◌, ◌≤◌, ◌-◌, ◌^◌, Ok};
+ghost use Rattle.std.specs.Prelude.{◌≡◌, ◌+◌, ◌<◌, ◌≤◌, ◌-◌, ◌^◌, Ok, length};
 ghost use Rattle.place_words.specs.Moved.{entry_set, queued_set, recounted, resumed_set, set_named};
+ghost use Rattle.task_records.specs.Keys.{set_key};
 ghost use Rattle.task_records.specs.Kinds.{item_of};
-ghost use Rattle.task_records.specs.Names.{AtPlace, how_far_target, place_target, why_target};
+ghost use Rattle.task_records.specs.Names.{AtPlace, StandsAt, how_far_target, place_target, why_target};
 ghost use Rattle.task_records.specs.Seen.{IsSound, parts_of, seen};
 ghost use Rattle.task_records.specs.declared.sets.WaitSet.{WaitSet};
 ghost use Rattle.task_table.specs.Answers.{item_at};
-ghost use Rattle.task_words.specs.Live.{delivered_set};
+ghost use Rattle.task_words.specs.Live.{delivered_set, kept_in};
 ghost use Rattle.task_words.specs.StateView.{set_of};
 
 use task_machine::{Delivery, HowFar, Place, Why};
-use task_records::{CoreParts, Single, WaitSet, named_set, set_at};
-use task_table::ResourceTable;
+use task_records::{CoreParts, Single, WaitSet, named_set};
+use task_table::{ResourceTable, TableId};
 use task_words::SetId;
 
 /// One entry less of the set, if the id names one.
+#[inline(always)]
 pub(crate) fn one_less(sets: &mut ResourceTable<Single<WaitSet>>, id: SetId)
-    requires { (x : WaitSet) → Ok x ≡ item_at item_of sets.old id.rep id.serial → 1 ≤ x.entries }
+    requires few { length sets.old.places ≤ 4294967295 }
+    requires some { (x : WaitSet) → Ok x ≡ item_at item_of sets.old id.rep id.serial → 1 ≤ x.entries }
     ensures { sets.new ≡ recounted (λ n. n - 1) id.rep id.serial sets.old }
 {
-    if let Ok(found) = sets.get_mut(id) {
-        found.entries -= 1;
+    if id.rep() < u32::MAX {
+        if let Ok(found) = sets.get_mut(id) {
+            found.entries -= 1;
+        }
     }
 }
 
 /// One entry more of the set, if the id names one.
+#[inline(always)]
 pub(crate) fn one_more(sets: &mut ResourceTable<Single<WaitSet>>, id: SetId)
-    requires { (x : WaitSet) → Ok x ≡ item_at item_of sets.old id.rep id.serial → x.entries + 1 < 2 ^ 64 }
+    requires few { length sets.old.places ≤ 4294967295 }
+    requires room { (x : WaitSet) → Ok x ≡ item_at item_of sets.old id.rep id.serial → x.entries + 1 < 2 ^ 64 }
     ensures { sets.new ≡ recounted (λ n. n + 1) id.rep id.serial sets.old }
 {
-    if let Ok(found) = sets.get_mut(id) {
-        found.entries += 1;
+    if id.rep() < u32::MAX {
+        if let Ok(found) = sets.get_mut(id) {
+            found.entries += 1;
+        }
     }
 }
 
 /// An id that names no set: no table has this place.
+#[inline(always)]
 pub(crate) fn no_set(parts: &CoreParts) -> SetId
     requires { IsSound parts.now }
     ensures { set_of (seen parts.now) result ≡ 0 }
 {
-    set_at(parts, u32::MAX)
+    let _parts = parts;
+    TableId::new(u32::MAX, 0)
 }
 
+// The set of a number that was kept with a place, out of line, since most threads have no entry for a set.
+#[inline(never)]
+fn kept_set(parts: &CoreParts, place: u32, set: u64) -> SetId
+    requires sound { IsSound parts.now }
+    requires stands { StandsAt set_key parts.now.sets place set }
+    ensures { set_of (seen parts.now) result ≡ kept_in (seen parts.now).core.sets set }
+{
+    named_set(parts, place, set)
+}
+
+#[inline(always)]
 fn resumed_set(parts: &CoreParts, place: u32, how_far: &HowFar) -> SetId
     requires sound { IsSound parts.now }
     requires at { AtPlace (parts_of parts.now) place (how_far_target how_far.now) }
     ensures { set_of (seen parts.now) result ≡ set_named (resumed_set how_far.now) (seen parts.now).core }
 {
     match how_far {
-        HowFar::Waits { set } => named_set(parts, place, *set),
+        HowFar::Waits { set } => kept_set(parts, place, *set),
         _ => no_set(parts),
     }
 }
@@ -69,18 +91,18 @@ pub(crate) fn entry_set(
     ensures { set_of (seen parts.now) result ≡ set_named (entry_set place.now how_far.now) (seen parts.now).core }
 {
     match place {
-        Place::Waiting { set, .. } => named_set(parts, beside, *set),
+        Place::Waiting { set, .. } => kept_set(parts, beside, *set),
         Place::Ready {
             why: Why::Delivery {
                 delivery: Delivery::Set { set },
             },
             ..
-        } => named_set(parts, beside, *set),
+        } => kept_set(parts, beside, *set),
         Place::Held {
             why: Why::Delivery {
                 delivery: Delivery::Set { set },
             },
-        } => named_set(parts, beside, *set),
+        } => kept_set(parts, beside, *set),
         Place::Ready {
             why: Why::Resumption,
             ..

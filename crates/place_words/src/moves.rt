@@ -1,9 +1,9 @@
 //! A thread that is written with another place.
 ghost use Rattle.std.specs.Prelude.{◌≡◌, IfSome, IsSome, None, Ok, option_and_then, option_map, true};
-ghost use Rattle.place_words.specs.Moved.{placed};
+ghost use Rattle.place_words.specs.Moved.{arrived, at_op, begun, placed, to_begun, to_op};
 ghost use Rattle.task_index.specs.Index.{Refiles};
 ghost use Rattle.task_links.specs.Links.{is_made, list_of, removed};
-ghost use Rattle.task_machine.specs.Write.{set_how_far, set_place};
+ghost use Rattle.task_machine.specs.Write.{on_thread, set_how_far, set_place};
 ghost use Rattle.task_records.specs.Kinds.{entry_of, item_of};
 ghost use Rattle.task_records.specs.Names.{AtPlace, how_far_target, place_target};
 ghost use Rattle.task_records.specs.Places.{member_seat, place_chain, thread_seat, where_at};
@@ -14,10 +14,11 @@ ghost use Rattle.task_table.specs.Answers.{item_at};
 ghost use Rattle.task_table.specs.Changes.{with_entry};
 ghost use Rattle.task_words.specs.StateView.{on_core, thread_of};
 
-use crate::entries::{entry_set, one_less, one_more};
+use crate::entries::{entry_set, no_set, one_less, one_more};
 use table_order::{Seat, SeatLinks};
-use task_machine::{HowFar, Place};
-use task_records::{CoreParts, GuestThread, Node};
+use task_machine::{HowFar, Place, Script};
+use task_records::{CoreParts, GuestThread, Node, Single};
+use task_table::ResourceTable;
 use task_words::ThreadId;
 
 // The node is in this chain alone, with the seat, or in none.
@@ -38,6 +39,7 @@ pub(crate) fn refile(links: &mut SeatLinks, node: Node, chain: Option<usize>, se
 }
 
 // The seat of a thread.
+#[inline(always)]
 fn thread_seat(place: u32, thread: &GuestThread) -> Seat
     ensures { result ≡ thread_seat place thread.now }
 {
@@ -56,6 +58,70 @@ pub(crate) fn member_seat(entry: u32, place: u32) -> Seat
         task: entry,
         thread: 0,
         place,
+    }
+}
+
+// A record is written as soon as it was read, so that it is looked up once.
+#[inline(always)]
+fn write_place(
+    threads: &mut ResourceTable<Single<GuestThread>>,
+    id: ThreadId,
+    place: Place,
+    beside: u32,
+)
+    ensures { (g : GuestThread) → Ok g ≡ item_at item_of threads.old id.rep id.serial → threads.new ≡ with_entry id.rep (entry_of (placed g place beside)) threads.old }
+{
+    if let Ok(entry) = threads.get_mut(id) {
+        entry.thread.place = place;
+        entry.beside = beside;
+    }
+}
+
+#[inline(always)]
+fn write_point(
+    threads: &mut ResourceTable<Single<GuestThread>>,
+    id: ThreadId,
+    how_far: HowFar,
+    awaited: u32,
+)
+    ensures { (g : GuestThread) → Ok g ≡ item_at item_of threads.old id.rep id.serial → threads.new ≡ with_entry id.rep (entry_of (arrived g how_far awaited)) threads.old }
+{
+    if let Ok(entry) = threads.get_mut(id) {
+        entry.thread.how_far = how_far;
+        entry.awaited = awaited;
+    }
+}
+
+#[inline(always)]
+fn write_op(threads: &mut ResourceTable<Single<GuestThread>>, id: ThreadId, position: u32)
+    ensures { (g : GuestThread) → Ok g ≡ item_at item_of threads.old id.rep id.serial → threads.new ≡ with_entry id.rep (entry_of (at_op g position)) threads.old }
+{
+    if let Ok(entry) = threads.get_mut(id) {
+        entry.thread.position = position;
+        entry.thread.how_far = HowFar::Fresh;
+        entry.awaited = 0;
+    }
+}
+
+// The beginning of an activation, with these words in r0, r1 and r2.
+#[inline(always)]
+fn write_begun(
+    threads: &mut ResourceTable<Single<GuestThread>>,
+    id: ThreadId,
+    words: (u64, u64, u64),
+)
+    ensures { (g : GuestThread) → Ok g ≡ item_at item_of threads.old id.rep id.serial → threads.new ≡ with_entry id.rep (entry_of (begun g words.0 words.1 words.2)) threads.old }
+{
+    if let Ok(entry) = threads.get_mut(id) {
+        entry.thread.registers[0] = words.0;
+        entry.thread.registers[1] = words.1;
+        entry.thread.registers[2] = words.2;
+        entry.thread.script = Script::React;
+        entry.thread.position = 0;
+        entry.thread.how_far = HowFar::Fresh;
+        entry.awaited = 0;
+        entry.thread.place = Place::Running;
+        entry.beside = 0;
     }
 }
 
@@ -82,16 +148,10 @@ pub(crate) fn put(
         let (how_far, awaited) = (&found.thread.how_far, found.awaited);
         let from = entry_set(parts, &found.thread.place, found.beside, how_far, awaited);
         let to = entry_set(parts, &place, beside, how_far, awaited);
+        write_place(&mut parts.threads, id, place, beside);
         one_less(&mut parts.sets, from);
         one_more(&mut parts.sets, to);
         refile(&mut parts.places, node, chain, seat);
-        match parts.threads.get_mut(id) {
-            Ok(entry) => {
-                entry.thread.place = place;
-                entry.beside = beside;
-            }
-            Err(_) => unreachable!(),
-        }
     }
 }
 
@@ -107,14 +167,43 @@ pub(crate) fn put_there(parts: &mut CoreParts, id: ThreadId, how_far: HowFar, aw
         let (place, beside) = (&found.thread.place, found.beside);
         let from = entry_set(parts, place, beside, &found.thread.how_far, found.awaited);
         let to = entry_set(parts, place, beside, &how_far, awaited);
+        write_point(&mut parts.threads, id, how_far, awaited);
         one_less(&mut parts.sets, from);
         one_more(&mut parts.sets, to);
-        match parts.threads.get_mut(id) {
-            Ok(entry) => {
-                entry.thread.how_far = how_far;
-                entry.awaited = awaited;
-            }
-            Err(_) => unreachable!(),
-        }
+    }
+}
+
+/// The thread is about to begin the op at this position. An id that names no thread changes nothing.
+#[inline(always)]
+pub(crate) fn put_op(parts: &mut CoreParts, id: ThreadId, position: u32)
+    requires { IsSound parts.old }
+    ensures sound { IsSound parts.new }
+    ensures new { seen parts.new ≡ on_core (on_thread (thread_of (seen parts.old) id) (to_op position)) (seen parts.old) }
+{
+    if let Some(found) = task_records::thread(parts, id) {
+        let (place, beside) = (&found.thread.place, found.beside);
+        let from = entry_set(parts, place, beside, &found.thread.how_far, found.awaited);
+        let to = entry_set(parts, place, beside, &HowFar::Fresh, 0);
+        write_op(&mut parts.threads, id, position);
+        one_less(&mut parts.sets, from);
+        one_more(&mut parts.sets, to);
+    }
+}
+
+/// The thread begins an activation, with these words in r0, r1 and r2. An id that names no thread changes nothing.
+pub(crate) fn put_begun(parts: &mut CoreParts, id: ThreadId, words: (u64, u64, u64))
+    requires { IsSound parts.old }
+    ensures sound { IsSound parts.new }
+    ensures new { seen parts.new ≡ on_core (on_thread (thread_of (seen parts.old) id) (to_begun words.0 words.1 words.2)) (seen parts.old) }
+{
+    if let Some(found) = task_records::thread(parts, id) {
+        let (node, seat) = (found.node, thread_seat(id.rep(), found));
+        let (how_far, awaited) = (&found.thread.how_far, found.awaited);
+        let from = entry_set(parts, &found.thread.place, found.beside, how_far, awaited);
+        let to = no_set(parts);
+        write_begun(&mut parts.threads, id, words);
+        one_less(&mut parts.sets, from);
+        one_more(&mut parts.sets, to);
+        refile(&mut parts.places, node, None, seat);
     }
 }

@@ -80,6 +80,7 @@ pub fn delivered_set(parts: &CoreParts, thread: ThreadId) -> Option<SetId>
 }
 
 // The thread runs from now on.
+#[inline(always)]
 fn run(parts: &mut CoreParts, thread: ThreadId)
     requires { IsSound parts.old }
     ensures sound { IsSound parts.new }
@@ -89,6 +90,7 @@ fn run(parts: &mut CoreParts, thread: ThreadId)
 }
 
 // The thread has an entry at the mark from now on.
+#[inline(always)]
 fn queue(parts: &mut CoreParts, thread: ThreadId, mark: Mark, why: WhyId)
     requires { IsSound parts.old }
     ensures sound { IsSound parts.new }
@@ -105,6 +107,7 @@ fn queue(parts: &mut CoreParts, thread: ThreadId, mark: Mark, why: WhyId)
 }
 
 // The thread is at any place from now on.
+#[inline(never)]
 fn put_at(parts: &mut CoreParts, thread: ThreadId, place: PlaceId)
     requires { IsSound parts.old }
     ensures sound { IsSound parts.new }
@@ -119,6 +122,7 @@ fn put_at(parts: &mut CoreParts, thread: ThreadId, place: PlaceId)
 }
 
 /// The thread is at this place from now on. Those that most threads go to stand apart, since less is to be done there.
+#[inline(always)]
 pub fn set_place(parts: &mut CoreParts, thread: ThreadId, place: PlaceId)
     requires { IsSound parts.old }
     ensures sound { IsSound parts.new }

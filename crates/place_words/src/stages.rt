@@ -49,6 +49,7 @@ fn file_live(links: &mut Links<LiveWork>, node: Node, chain: Option<usize>, work
 
 /// Writes the stage of a work. A work that becomes live goes among the live ones by its number: in constant time where
 /// it is the greatest, as it is where works become live in the order in which they were made.
+#[inline(always)]
 pub fn set_stage(parts: &mut CoreParts, work: WorkId, stage: Stage)
     requires { IsSound parts.old }
     ensures sound { IsSound parts.new }

@@ -1,18 +1,19 @@
 //! How far threads have come.
 ghost use Rattle.std.specs.Prelude.{◌≡◌, ◌+◌, ◌<◌, ◌^◌};
 ghost use Rattle.task_machine.specs.Read.{position_of};
-ghost use Rattle.place_words.specs.Moved.{at_context};
+ghost use Rattle.place_words.specs.Moved.{with_registers};
 ghost use Rattle.task_machine.specs.Write.{on_thread, set_how_far};
 ghost use Rattle.task_records.specs.Seen.{IsSound, seen};
 ghost use Rattle.task_rules.specs.Data.{advanced, assigned, moved_to};
-ghost use Rattle.task_words.specs.Context.{with_context};
+ghost use Rattle.task_rules.specs.Sets.{given_code, given_handle, given_result};
+ghost use Rattle.task_words.specs.Context.{activating, with_context};
 ghost use Rattle.task_words.specs.Names.{how_far_in};
 ghost use Rattle.task_words.specs.StateView.{on_core, thread_of};
 
-use crate::moves::put_there;
+use crate::moves::{put_begun, put_op, put_there};
 use crate::targets::named_how_far;
-use record_words::{position, set_position, set_register};
-use task_machine::HowFar;
+use record_words::{position, set_do_not_enter, set_register};
+use task_machine::Given;
 use task_records::CoreParts;
 use task_words::{HowFarId, ThreadId};
 
@@ -26,23 +27,23 @@ pub fn set_how_far(parts: &mut CoreParts, thread: ThreadId, how_far: HowFarId)
 }
 
 /// The thread goes on with the op at this position.
+#[inline(always)]
 pub fn move_to(parts: &mut CoreParts, thread: ThreadId, position: u32)
     requires { IsSound parts.old }
     ensures sound { IsSound parts.new }
     ensures new { seen parts.new ≡ on_core (moved_to (thread_of (seen parts.old) thread) position) (seen parts.old) }
 {
-    set_position(parts, thread, position);
-    put_there(parts, thread, HowFar::Fresh, 0);
+    put_op(parts, thread, position);
 }
 
-// Writes the thread's position and registers.
-fn write_context(parts: &mut CoreParts, thread: ThreadId, position: u32, registers: &[u64; 16])
+// Writes the thread's registers.
+#[inline(always)]
+fn write_registers(parts: &mut CoreParts, thread: ThreadId, registers: &[u64; 16])
     requires { IsSound parts.old }
     ensures sound { IsSound parts.new }
-    ensures new { seen parts.new ≡ on_core (on_thread (thread_of (seen parts.old) thread) (at_context position registers.now)) (seen parts.old) }
+    ensures new { seen parts.new ≡ on_core (on_thread (thread_of (seen parts.old) thread) (with_registers registers.now)) (seen parts.old) }
 {
     if let Ok(entry) = parts.threads.get_mut(thread) {
-        entry.thread.position = position;
         entry.thread.registers = *registers;
     }
 }
@@ -53,8 +54,8 @@ pub fn set_context(parts: &mut CoreParts, thread: ThreadId, position: u32, regis
     ensures sound { IsSound parts.new }
     ensures new { seen parts.new ≡ on_core (with_context (thread_of (seen parts.old) thread) position registers.now) (seen parts.old) }
 {
-    write_context(parts, thread, position, registers);
-    put_there(parts, thread, HowFar::Fresh, 0);
+    write_registers(parts, thread, registers);
+    put_op(parts, thread, position);
 }
 
 /// The op is done.
@@ -77,4 +78,29 @@ pub fn assign(parts: &mut CoreParts, thread: ThreadId, register: u8, value: u64)
 {
     set_register(parts, thread, register, value);
     advance(parts, thread);
+}
+
+// The words that an activation is given: code, handle and result.
+#[inline(always)]
+fn words_of(given: Given) -> (u64, u64, u64)
+    ensures code { result.0 ≡ given_code given }
+    ensures handle { result.1 ≡ given_handle given }
+    ensures status { result.2 ≡ given_result given }
+{
+    match given {
+        Given::Nothing => (0, 0, 0),
+        Given::Cancelled => (6, 0, 0),
+        Given::Subtask { status, handle } => (1, u64::from(handle), u64::from(status.number())),
+    }
+}
+
+/// An activation begins: the thread is given what is there in r0, r1 and r2, its instance keeps other entries out, and
+/// it runs the react script from its start.
+pub fn activate(parts: &mut CoreParts, thread: ThreadId, instance: u32, given: Given)
+    requires { IsSound parts.old }
+    ensures sound { IsSound parts.new }
+    ensures new { seen parts.new ≡ on_core (activating (thread_of (seen parts.old) thread) instance given) (seen parts.old) }
+{
+    set_do_not_enter(parts, instance, true);
+    put_begun(parts, thread, words_of(given));
 }

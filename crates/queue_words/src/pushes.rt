@@ -31,6 +31,7 @@ pub fn set_switch(parts: &mut CoreParts, thread: Option<ThreadId>)
     }
 }
 
+#[inline(always)]
 pub fn push_high(parts: &mut CoreParts, thread: ThreadId)
     requires sound { IsSound parts.old }
     requires live { 0 < thread_of (seen parts.old) thread }
@@ -66,6 +67,7 @@ pub fn push_high_first(parts: &mut CoreParts, thread: ThreadId)
     parts.shelves.push_front(shelf, queued.shelf, queued);
 }
 
+#[inline(always)]
 pub fn push_low(parts: &mut CoreParts, thread: ThreadId)
     requires sound { IsSound parts.old }
     requires live { 0 < thread_of (seen parts.old) thread }

@@ -67,6 +67,7 @@ fn pop_low(parts: &mut CoreParts)
 }
 
 /// The first entry of the mark is gone.
+#[inline(always)]
 pub fn pop(parts: &mut CoreParts, mark: Mark)
     requires { IsSound parts.old }
     ensures sound { IsSound parts.new }

@@ -42,6 +42,7 @@ pub fn first_entry(parts: &CoreParts, instance: u32) -> Option<ThreadId>
 }
 
 /// What is taken next.
+#[inline(always)]
 pub fn next_entry(parts: &CoreParts) -> Option<(Mark, EntryId)>
     requires { IsSound parts.now }
     ensures { option_map (λ e. (e.0, entry_in (seen parts.now).tags e.1)) result ≡ next_entry (seen parts.now).core }

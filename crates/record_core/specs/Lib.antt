@@ -1,1 +1,2 @@
+pub mod Borrows
 pub mod Codes

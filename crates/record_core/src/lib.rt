@@ -2,7 +2,9 @@
 //! them, with every word of `task_words`.
 #![tactic(auto)]
 
+mod borrows;
 mod calls;
+mod counts;
 mod instances;
 mod limits;
 mod places;
@@ -15,4 +17,5 @@ mod task_core;
 mod threads;
 mod works;
 
+pub use crate::borrows::{CallContext, Scope};
 pub use crate::task_core::TaskCore;

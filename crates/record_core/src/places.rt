@@ -15,6 +15,7 @@ impl PlaceWords for TaskCore {
         place_words::delivered_set(&self.parts, thread)
     }
 
+    #[inline(always)]
     fn set_place(&mut self, thread: ThreadId, place: PlaceId) {
         place_words::set_place(&mut self.parts, thread, place);
     }
@@ -31,10 +32,12 @@ impl PlaceWords for TaskCore {
         count_words::threads(&self.parts)
     }
 
+    #[inline(always)]
     fn under(&self, thread: ThreadId) -> Option<ThreadId> {
         walk_words::under(&self.parts, thread)
     }
 
+    #[inline(always)]
     fn blocked_on(&self, subtask: SubtaskId) -> Option<ThreadId> {
         walk_words::blocked_on(&self.parts, subtask)
     }

@@ -33,6 +33,7 @@ impl QueueWords for TaskCore {
         queue_words::push_high_first(&mut self.parts, thread);
     }
 
+    #[inline(always)]
     fn push_low(&mut self, thread: ThreadId) {
         queue_words::push_low(&mut self.parts, thread);
     }

@@ -1,6 +1,6 @@
 use crate::task_core::TaskCore;
-use task_machine::{NoMemory, Script};
-use task_words::{CallId, HowFarId, ThreadId, ThreadWords};
+use task_machine::{Given, NoMemory, Script};
+use task_words::{CallId, HowFarId, ThreadAt, ThreadId, ThreadWords};
 
 impl ThreadWords for TaskCore {
     fn number(&self, thread: ThreadId) -> u64 {
@@ -33,6 +33,11 @@ impl ThreadWords for TaskCore {
 
     fn script(&self, thread: ThreadId) -> Script {
         record_words::script(&self.parts, thread)
+    }
+
+    #[inline(always)]
+    fn at(&self, thread: ThreadId) -> ThreadAt {
+        record_words::at(&self.parts, thread)
     }
 
     #[inline(always)]
@@ -99,6 +104,10 @@ impl ThreadWords for TaskCore {
 
     fn assign(&mut self, thread: ThreadId, register: u8, value: u64) {
         place_words::assign(&mut self.parts, thread, register, value);
+    }
+
+    fn activate(&mut self, thread: ThreadId, instance: u32, given: Given) {
+        place_words::activate(&mut self.parts, thread, instance, given);
     }
 
     fn make_thread(&mut self, task: CallId, slot: u8, words: &[u64]) -> Result<ThreadId, NoMemory> {

@@ -40,6 +40,7 @@ fn named_how_far(parts: &CoreParts, place: u32, how_far: HowFar) -> HowFarId
 }
 
 /// How far the op at a thread's position has come.
+#[inline(always)]
 pub fn how_far(parts: &CoreParts, thread: ThreadId) -> HowFarId
     requires { IsSound parts.now }
     ensures { how_far_in (seen parts.now).tags result ≡ live_how_far (how_far_of (thread_of (seen parts.now) thread) (seen parts.now).core) (seen parts.now).core }
@@ -131,6 +132,7 @@ fn work_join(parts: &CoreParts, work: WorkId) -> JoinId
 }
 
 /// In which set a subtask is.
+#[inline(always)]
 pub fn join(parts: &CoreParts, subtask: SubtaskId) -> JoinId
     requires { IsSound parts.now }
     ensures { join_in (seen parts.now).tags result ≡ live_join (join_of (subtask_in (seen parts.now).tags subtask) (seen parts.now).core) (seen parts.now).core }

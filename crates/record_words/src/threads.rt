@@ -1,15 +1,16 @@
 ghost use Rattle.std.specs.Prelude.{◌≡◌, ◌<◌, Some};
 ghost use Rattle.task_machine.specs.Maps.{get};
-ghost use Rattle.task_machine.specs.Read.{instance_of, is_explicit, position_of, register_of, registers_of, saved_callee_of, saved_own_of, thread_handle_of};
+ghost use Rattle.task_machine.specs.Read.{callee_of, instance_of, is_explicit, position_of, register_of, registers_of, saved_callee_of, saved_own_of, task_of, thread_handle_of};
 ghost use Rattle.task_machine.specs.Write.{set_position, set_register, set_saved_callee, set_saved_own, set_script};
 ghost use Rattle.task_machine.specs.declared.records.Thread.{Thread};
 ghost use Rattle.task_records.specs.Seen.{IsSound, seen};
 ghost use Rattle.task_words.specs.StateView.{on_core, thread_of};
 
+use crate::calls::callee;
 use crate::words::{put_word, word_in};
 use task_machine::Script;
-use task_records::CoreParts;
-use task_words::ThreadId;
+use task_records::{CoreParts, task_of};
+use task_words::{ThreadAt, ThreadId};
 
 /// The number of a thread; 0 where the id names none.
 pub fn number(parts: &CoreParts, thread: ThreadId) -> u64
@@ -72,6 +73,24 @@ pub fn script(parts: &CoreParts, thread: ThreadId) -> Script
 {
     match task_records::thread(parts, thread) {
         Some(entry) => entry.thread.script,
+        None => unreachable!(),
+    }
+}
+
+/// Where a thread is in its code.
+pub fn at(parts: &CoreParts, thread: ThreadId) -> ThreadAt
+    requires sound { IsSound parts.now }
+    requires live { 0 < thread_of (seen parts.now) thread }
+    ensures callee { result.callee ≡ callee_of (task_of (thread_of (seen parts.now) thread) (seen parts.now).core) (seen parts.now).core }
+    ensures script { (t : Thread) → get (seen parts.now).core.threads (thread_of (seen parts.now) thread) ≡ Some t → result.script ≡ t.script }
+    ensures position { result.position ≡ position_of (thread_of (seen parts.now) thread) (seen parts.now).core }
+{
+    match task_records::thread(parts, thread) {
+        Some(entry) => ThreadAt {
+            callee: callee(parts, task_of(parts, thread)),
+            script: entry.thread.script,
+            position: entry.thread.position,
+        },
         None => unreachable!(),
     }
 }

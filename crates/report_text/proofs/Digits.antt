@@ -1,9 +1,9 @@
 -- The digits of numbers, two at a time.
-use Rattle.std.proofs.Common.{◌<◌, ◌≤◌, ◌≡◌, ◌++◌, ◌+◌, ◌*◌, ◌%◌, ◌/◌, ◌-◌, ◌^◌, ◌&&◌, Bool, List, T, eqb, eqb→eq, eq-zero-or-pos, get_or, inl, inr, suc, true, zero, ℕ, append_assoc, arith, length}
+use Rattle.std.proofs.Common.{◌<◌, ◌≤◌, ◌≡◌, ◌++◌, ◌+◌, ◌*◌, ◌%◌, ◌/◌, ◌-◌, ◌^◌, ◌&&◌, Bool, List, T, eqb, eqb→eq, eq-zero-or-pos, get_or, inl, inr, refl, suc, true, zero, ℕ, append_assoc, arith, length}
 use Rattle.std.proofs.lemmas.Fmt.{decimal_digit, decimal_step, length-decimal-le}
 use Rattle.std.specs.Prelude.{decimal}
 use lib.Ieee.Fits.{and_l, and_r}
-use Rattle.report_text.specs.Pair.{pair_text}
+use Rattle.report_text.specs.Pair.{four_text, pair_text}
 use Rattle.report_text.specs.declared.piece.TheConstants.{PAIRS}
 
 abbrev are_pairs : ℕ → Bool
@@ -35,6 +35,18 @@ decimal_pair n from to =
 -- a number whose last two digits were written behind the others
 pub in_pairs : (n : ℕ) (old mid new : List ℕ) → 100 ≤ n → n < 2 ^ 64 → mid ≡ old ++ decimal (n / 100) → new ≡ mid ++ pair_text (n % 100) → new ≡ old ++ decimal n
 in_pairs n old mid new from to e f = rw (f, e, decimal_pair n from to) (append_assoc old (decimal (n / 100)) (pair_text (n % 100)))
+
+-- the last four digits behind the others
+pub decimal_four : (n : ℕ) → 10000 ≤ n → n < 2 ^ 64 → decimal n ≡ decimal (n / 10000) ++ four_text (n % 10000)
+decimal_four n from to =
+    let a : n / 100 / 100 ≡ n / 10000 = omega arith in
+    let b : n / 100 % 100 ≡ n % 10000 / 100 = omega arith in
+    let c : n % 100 ≡ n % 10000 % 100 = omega arith in
+    rw (decimal_pair n (omega arith) to, decimal_pair (n / 100) (omega arith) (omega arith), append_assoc, a, b, ← c) refl
+
+-- a number whose last four digits were written behind the others
+pub in_fours : (n m : ℕ) (old mid new : List ℕ) → 10000 ≤ n → n < 2 ^ 64 → m ≡ n / 10000 → mid ≡ old ++ decimal m → new ≡ mid ++ four_text (n % 10000) → new ≡ old ++ decimal n
+in_fours n m old mid new from to same e f = rw (f, e, same, decimal_four n from to) (append_assoc old (decimal (n / 10000)) (four_text (n % 10000)))
 
 pub decimal_at_most : (n : ℕ) → n < 2 ^ 64 → length (decimal n) ≤ 20
 decimal_at_most n le = length-decimal-le 20 n (omega arith) (omega (arith, le)) le

@@ -1,14 +1,17 @@
 //! What is printed of a label and of an outcome, each in one way. A line is written in place, and no
 //! label makes a string of its own.
 ghost use Rattle.std.specs.Prelude.{◌≡◌, ◌+◌, ◌≤◌, ◌<◌, ◌++◌, codes, decimal, length, take};
+ghost use Rattle.label_trace.specs.Labels.{label_of};
+ghost use Rattle.label_trace.specs.Opened.{call_of, data_of, handle_of, loop_of, main_of, own_of, set_of, take_of, task_of, thread_of};
 ghost use Rattle.task_rules.specs.Sets.{given_code, given_handle, given_result};
 ghost use Rattle.task_rules.specs.Texts.{mark_text, phase_text, given_text, own_given, wakes, polls, refused, main_text, future_text, loop_text, taken_text, event_text, take_text, op_text, answer_text, data_text, task_text, set_text, call_text, thread_text, label_text, line_text, outcome_text};
 
 use crate::piece::{answers, does, number, numbers, words};
-use task_machine::{
-    CallLabel, DataLabel, Given, Label, LoopLabel, MainLabel, Mark, Outcome, OwnEvent, Phase,
-    SetLabel, TakeLabel, TaskLabel, ThreadLabel, Trap,
+use label_trace::{
+    CallKind, DataKind, HandleKind, Head, Kind, LoopKind, MainKind, OwnKind, SetKind, TakeKind,
+    TaskKind, ThreadKind, first, later, listed,
 };
+use task_machine::{Given, Mark, Outcome, OwnEvent, Phase, Status, Trap};
 
 /// No line has more bytes than this.
 pub(crate) const LINE: usize = 160;
@@ -138,29 +141,23 @@ fn aborts(out: &mut [u8], at: usize, spawn: u32, phase: Phase) -> usize
     words(out, end, phase_word(phase))
 }
 
-fn main_label(out: &mut [u8], at: usize, label: MainLabel) -> usize
+fn main_label(out: &mut [u8], at: usize, kind: MainKind, small: u32, value: u64) -> usize
     requires { at + LINE ≤ length out.old }
     ensures end { result < at + LINE }
     ensures room { length out.new ≡ length out.old }
-    ensures text { take result out.new ≡ take at out.old ++ main_text label }
+    ensures text { take result out.new ≡ take at out.old ++ main_text (main_of kind small value) }
 {
-    match label {
-        MainLabel::Start(start, thread) => {
-            numbers(out, at, b"main start ", start.into(), b" thread ", thread)
-        }
-        MainLabel::StartRefused(trap, start) => refused(out, at, b"main start ", start, trap),
-        MainLabel::Finish(start, value) => {
-            numbers(out, at, b"main finish ", start.into(), b" = ", value)
-        }
-        MainLabel::FinishRefused(trap, start) => refused(out, at, b"main finish ", start, trap),
-        MainLabel::Spawn(spawn, work) => {
-            numbers(out, at, b"main spawn ", spawn.into(), b" future ", work)
-        }
-        MainLabel::Abort(phase, spawn) => aborts(out, at, spawn, phase),
-        MainLabel::Await(spawn) => number(out, at, b"main await ", spawn.into()),
-        MainLabel::Quiet => words(out, at, b"main quiet"),
-        MainLabel::Ready => words(out, at, b"main ready"),
-        MainLabel::Answer(value) => number(out, at, b"main answer ", value),
+    match kind {
+        MainKind::Start => numbers(out, at, b"main start ", small.into(), b" thread ", value),
+        MainKind::StartRefused(trap) => refused(out, at, b"main start ", small, trap),
+        MainKind::Finish => numbers(out, at, b"main finish ", small.into(), b" = ", value),
+        MainKind::FinishRefused(trap) => refused(out, at, b"main finish ", small, trap),
+        MainKind::Spawn => numbers(out, at, b"main spawn ", small.into(), b" future ", value),
+        MainKind::Abort(phase) => aborts(out, at, small, phase),
+        MainKind::Await => number(out, at, b"main await ", small.into()),
+        MainKind::Quiet => words(out, at, b"main quiet"),
+        MainKind::Ready => words(out, at, b"main ready"),
+        MainKind::Answer => number(out, at, b"main answer ", value),
     }
 }
 
@@ -175,22 +172,23 @@ fn polled(out: &mut [u8], at: usize, work: u64, what: &[u8]) -> usize
     words(out, end, what)
 }
 
-fn loop_label(out: &mut [u8], at: usize, label: LoopLabel) -> usize
+#[inline(always)]
+fn loop_label(out: &mut [u8], at: usize, kind: LoopKind, work: u64) -> usize
     requires { at + LINE ≤ length out.old }
     ensures end { result < at + LINE }
     ensures room { length out.new ≡ length out.old }
-    ensures text { take result out.new ≡ take at out.old ++ loop_text label }
+    ensures text { take result out.new ≡ take at out.old ++ loop_text (loop_of kind work) }
 {
-    match label {
-        LoopLabel::MainPends => words(out, at, b"main pends"),
-        LoopLabel::FuturePends(work) => polled(out, at, work, b" pends"),
-        LoopLabel::FutureEnds(work) => polled(out, at, work, b" ends"),
-        LoopLabel::FutureFails(work) => polled(out, at, work, b" fails"),
-        LoopLabel::FutureAborted(work) => polled(out, at, work, b" aborted"),
-        LoopLabel::Rest => words(out, at, b"rest"),
-        LoopLabel::Deadlock(trap) => number(out, at, b"deadlock ", trap.number().into()),
-        LoopLabel::Trap(trap, thread) => {
-            numbers(out, at, b"trap thread ", thread, b" ", trap.number().into())
+    match kind {
+        LoopKind::MainPends => words(out, at, b"main pends"),
+        LoopKind::FuturePends => polled(out, at, work, b" pends"),
+        LoopKind::FutureEnds => polled(out, at, work, b" ends"),
+        LoopKind::FutureFails => polled(out, at, work, b" fails"),
+        LoopKind::FutureAborted => polled(out, at, work, b" aborted"),
+        LoopKind::Rest => words(out, at, b"rest"),
+        LoopKind::Deadlock(trap) => number(out, at, b"deadlock ", trap.number().into()),
+        LoopKind::Trap(trap) => {
+            numbers(out, at, b"trap thread ", work, b" ", trap.number().into())
         }
     }
 }
@@ -209,6 +207,7 @@ fn takes(out: &mut [u8], at: usize, mark: Mark, what: &[u8], entry: u64) -> usiz
 }
 
 // The taken thread, and what came of it.
+#[inline(always)]
 fn takes_and(out: &mut [u8], at: usize, mark: Mark, thread: u64, then: &[u8]) -> usize
     requires { at + length then.now + 39 ≤ length out.old }
     ensures end { result ≤ at + length then.now + 39 }
@@ -219,6 +218,8 @@ fn takes_and(out: &mut [u8], at: usize, mark: Mark, thread: u64, then: &[u8]) ->
     words(out, end, then)
 }
 
+#[inline(always)]
+#[inline(always)]
 fn takes_event(out: &mut [u8], at: usize, mark: Mark, thread: u64, event: Given) -> usize
     requires { at + 108 ≤ length out.old }
     ensures end { result ≤ at + 108 }
@@ -229,77 +230,119 @@ fn takes_event(out: &mut [u8], at: usize, mark: Mark, thread: u64, event: Given)
     given(out, end, event)
 }
 
-fn take_label(out: &mut [u8], at: usize, label: TakeLabel) -> usize
+#[inline(always)]
+fn take_label(
+    out: &mut [u8],
+    at: usize,
+    mark: Mark,
+    kind: TakeKind,
+    entry: u64,
+    woken: u64,
+) -> usize
     requires { at + LINE ≤ length out.old }
     ensures end { result < at + LINE }
     ensures room { length out.new ≡ length out.old }
-    ensures text { take result out.new ≡ take at out.old ++ take_text label }
+    ensures text { take result out.new ≡ take at out.old ++ take_text (take_of mark kind entry woken) }
 {
-    match label {
-        TakeLabel::Thread(mark, thread) => takes(out, at, mark, b" thread ", thread),
-        TakeLabel::ThreadWakes(mark, thread, woken) => {
-            let end = takes(out, at, mark, b" thread ", thread);
+    match kind {
+        TakeKind::Thread => takes(out, at, mark, b" thread ", entry),
+        TakeKind::ThreadWakes => {
+            let end = takes(out, at, mark, b" thread ", entry);
             wakes(out, end, woken)
         }
-        TakeLabel::Held(mark, thread) => takes_and(out, at, mark, thread, b" held"),
-        TakeLabel::HeldWakes(mark, thread, woken) => {
-            let end = takes_and(out, at, mark, thread, b" held");
+        TakeKind::Held => takes_and(out, at, mark, entry, b" held"),
+        TakeKind::HeldWakes => {
+            let end = takes_and(out, at, mark, entry, b" held");
             wakes(out, end, woken)
         }
-        TakeLabel::Again(mark, thread) => takes_and(out, at, mark, thread, b" again"),
-        TakeLabel::Event(mark, event, thread) => takes_event(out, at, mark, thread, event),
-        TakeLabel::EventWakes(mark, event, thread, woken) => {
-            let end = takes_event(out, at, mark, thread, own(event));
-            wakes(out, end, woken)
-        }
-        TakeLabel::Push(mark, work) => takes(out, at, mark, b" push ", work),
-        TakeLabel::Host(mark, work) => takes(out, at, mark, b" host ", work),
-        TakeLabel::HostWakes(mark, work, woken) => {
-            let end = takes(out, at, mark, b" host ", work);
+        TakeKind::Again => takes_and(out, at, mark, entry, b" again"),
+        TakeKind::Push => takes(out, at, mark, b" push ", entry),
+        TakeKind::Host => takes(out, at, mark, b" host ", entry),
+        TakeKind::HostWakes => {
+            let end = takes(out, at, mark, b" host ", entry);
             wakes(out, end, woken)
         }
     }
 }
 
-fn data_label(out: &mut [u8], at: usize, label: DataLabel) -> usize
+#[inline(always)]
+fn own_label(out: &mut [u8], at: usize, mark: Mark, kind: OwnKind, thread: u64, woken: u64) -> usize
     requires { at + LINE ≤ length out.old }
     ensures end { result < at + LINE }
     ensures room { length out.new ≡ length out.old }
-    ensures text { take result out.new ≡ take at out.old ++ data_text label }
+    ensures text { take result out.new ≡ take at out.old ++ take_text (own_of mark kind thread woken) }
 {
-    match label {
-        DataLabel::Set(thread, value) => answers(out, at, thread, b" set ", value),
-        DataLabel::Add(thread, value) => answers(out, at, thread, b" add ", value),
-        DataLabel::Handle(thread, value) => answers(out, at, thread, b" handle ", value),
-        DataLabel::Load(thread, value) => answers(out, at, thread, b" load ", value),
-        DataLabel::Store(thread, value) => answers(out, at, thread, b" store ", value),
-        DataLabel::SkipEq(thread) => does(out, at, thread, b" skip_eq"),
+    match kind {
+        OwnKind::Nothing => takes_event(out, at, mark, thread, Given::Nothing),
+        OwnKind::Cancelled => takes_event(out, at, mark, thread, Given::Cancelled),
+        OwnKind::NothingWakes => {
+            let end = takes_event(out, at, mark, thread, Given::Nothing);
+            wakes(out, end, woken)
+        }
+        OwnKind::CancelledWakes => {
+            let end = takes_event(out, at, mark, thread, Given::Cancelled);
+            wakes(out, end, woken)
+        }
     }
 }
 
-fn task_label(out: &mut [u8], at: usize, label: TaskLabel) -> usize
+fn given_label(
+    out: &mut [u8],
+    at: usize,
+    mark: Mark,
+    status: Status,
+    handle: u32,
+    thread: u64,
+) -> usize
     requires { at + LINE ≤ length out.old }
     ensures end { result < at + LINE }
     ensures room { length out.new ≡ length out.old }
-    ensures text { take result out.new ≡ take at out.old ++ task_text label }
+    ensures text { take result out.new ≡ take at out.old ++ event_text mark thread (Given.Subtask status handle) }
 {
-    match label {
-        TaskLabel::Ret(thread, value) => answers(out, at, thread, b" ret ", value),
-        TaskLabel::TaskCancel(thread) => does(out, at, thread, b" task_cancel"),
-        TaskLabel::TaskCancelWakes(thread, woken) => {
+    takes_event(out, at, mark, thread, Given::Subtask { status, handle })
+}
+
+#[inline(always)]
+fn data_label(out: &mut [u8], at: usize, kind: DataKind, thread: u64, value: u64) -> usize
+    requires { at + LINE ≤ length out.old }
+    ensures end { result < at + LINE }
+    ensures room { length out.new ≡ length out.old }
+    ensures text { take result out.new ≡ take at out.old ++ data_text (data_of kind thread value) }
+{
+    match kind {
+        DataKind::Set => answers(out, at, thread, b" set ", value),
+        DataKind::Add => answers(out, at, thread, b" add ", value),
+        DataKind::Handle => answers(out, at, thread, b" handle ", value),
+        DataKind::Load => answers(out, at, thread, b" load ", value),
+        DataKind::Store => answers(out, at, thread, b" store ", value),
+        DataKind::SkipEq => does(out, at, thread, b" skip_eq"),
+    }
+}
+
+#[inline(always)]
+fn task_label(out: &mut [u8], at: usize, kind: TaskKind, thread: u64, second: u64) -> usize
+    requires { at + LINE ≤ length out.old }
+    ensures end { result < at + LINE }
+    ensures room { length out.new ≡ length out.old }
+    ensures text { take result out.new ≡ take at out.old ++ task_text (task_of kind thread second) }
+{
+    match kind {
+        TaskKind::Ret => answers(out, at, thread, b" ret ", second),
+        TaskKind::TaskCancel => does(out, at, thread, b" task_cancel"),
+        TaskKind::TaskCancelWakes => {
             let end = does(out, at, thread, b" task_cancel");
-            wakes(out, end, woken)
+            wakes(out, end, second)
         }
-        TaskLabel::Exit(thread) => does(out, at, thread, b" exit"),
-        TaskLabel::ExitWakes(thread, woken) => {
+        TaskKind::Exit => does(out, at, thread, b" exit"),
+        TaskKind::ExitWakes => {
             let end = does(out, at, thread, b" exit");
-            wakes(out, end, woken)
+            wakes(out, end, second)
         }
-        TaskLabel::CbYield(thread) => does(out, at, thread, b" cb_yield"),
-        TaskLabel::CbWait(thread) => does(out, at, thread, b" cb_wait"),
-        TaskLabel::Code(thread) => does(out, at, thread, b" code"),
-        TaskLabel::BpInc(thread) => does(out, at, thread, b" bp_inc"),
-        TaskLabel::BpDec(thread) => does(out, at, thread, b" bp_dec"),
+        TaskKind::CbYield => does(out, at, thread, b" cb_yield"),
+        TaskKind::CbWait => does(out, at, thread, b" cb_wait"),
+        TaskKind::Code => does(out, at, thread, b" code"),
+        TaskKind::BpInc => does(out, at, thread, b" bp_inc"),
+        TaskKind::BpDec => does(out, at, thread, b" bp_dec"),
     }
 }
 
@@ -314,120 +357,192 @@ fn gets(out: &mut [u8], at: usize, thread: u64, what: &[u8], event: Given) -> us
     given(out, end, event)
 }
 
-fn set_label(out: &mut [u8], at: usize, label: SetLabel) -> usize
+#[inline(always)]
+fn set_label(out: &mut [u8], at: usize, kind: SetKind, thread: u64, woken: u64) -> usize
     requires { at + LINE ≤ length out.old }
     ensures end { result < at + LINE }
     ensures room { length out.new ≡ length out.old }
-    ensures text { take result out.new ≡ take at out.old ++ set_text label }
+    ensures text { take result out.new ≡ take at out.old ++ set_text (set_of kind thread woken) }
 {
-    match label {
-        SetLabel::New(handle, thread) => answers(out, at, thread, b" set_new ", handle.into()),
-        SetLabel::Drop(thread) => does(out, at, thread, b" set_drop"),
-        SetLabel::Wait(event, thread) => gets(out, at, thread, b" wait", event),
-        SetLabel::WaitWakes(event, thread, woken) => {
+    match kind {
+        SetKind::Drop => does(out, at, thread, b" set_drop"),
+        SetKind::WaitNothing => gets(out, at, thread, b" wait", Given::Nothing),
+        SetKind::WaitCancelled => gets(out, at, thread, b" wait", Given::Cancelled),
+        SetKind::WaitWakes(event) => {
             let end = gets(out, at, thread, b" wait", own(event));
             wakes(out, end, woken)
         }
-        SetLabel::Poll(event, thread) => gets(out, at, thread, b" poll", event),
-        SetLabel::Join(thread) => does(out, at, thread, b" join"),
-        SetLabel::JoinWakes(thread, woken) => {
+        SetKind::PollNothing => gets(out, at, thread, b" poll", Given::Nothing),
+        SetKind::PollCancelled => gets(out, at, thread, b" poll", Given::Cancelled),
+        SetKind::Join => does(out, at, thread, b" join"),
+        SetKind::JoinWakes => {
             let end = does(out, at, thread, b" join");
             wakes(out, end, woken)
         }
     }
 }
 
-fn call_label(out: &mut [u8], at: usize, label: CallLabel) -> usize
-    requires { at + LINE ≤ length out.old }
-    ensures end { result < at + LINE }
-    ensures room { length out.new ≡ length out.old }
-    ensures text { take result out.new ≡ take at out.old ++ call_text label }
-{
-    match label {
-        CallLabel::Calls(thread, callee) => answers(out, at, thread, b" calls thread ", callee),
-        CallLabel::Enters(thread, callee) => answers(out, at, thread, b" enters thread ", callee),
-        CallLabel::Call(answer, thread) => answers(out, at, thread, b" call ", answer.into()),
-        CallLabel::CallPolls(answer, thread, work) => {
-            let end = answers(out, at, thread, b" call ", answer.into());
-            polls(out, end, work)
-        }
-        CallLabel::CallSync(thread, value) => answers(out, at, thread, b" call_sync ", value),
-        CallLabel::PausesPolls(thread, work) => {
-            let end = does(out, at, thread, b" pauses");
-            polls(out, end, work)
-        }
-        CallLabel::Fails(thread, work) => answers(out, at, thread, b" fails ", work),
-        CallLabel::Cancel(answer, thread) => answers(out, at, thread, b" cancel ", answer.into()),
-        CallLabel::CancelSync(answer, thread) => {
-            answers(out, at, thread, b" cancel_sync ", answer.into())
-        }
-        CallLabel::Drop(thread) => does(out, at, thread, b" drop"),
-    }
-}
-
-fn thread_label(out: &mut [u8], at: usize, label: ThreadLabel) -> usize
-    requires { at + LINE ≤ length out.old }
-    ensures end { result < at + LINE }
-    ensures room { length out.new ≡ length out.old }
-    ensures text { take result out.new ≡ take at out.old ++ thread_text label }
-{
-    match label {
-        ThreadLabel::Pauses(thread) => does(out, at, thread, b" pauses"),
-        ThreadLabel::New(handle, thread, made) => {
-            let end = answers(out, at, thread, b" thread_new ", handle.into());
-            number(out, end, b" thread ", made)
-        }
-        ThreadLabel::Index(handle, thread) => {
-            answers(out, at, thread, b" thread_index ", handle.into())
-        }
-        ThreadLabel::ResumeLater(thread) => does(out, at, thread, b" resume_later"),
-        ThreadLabel::Suspend(thread) => does(out, at, thread, b" suspend"),
-        ThreadLabel::Yield(thread) => does(out, at, thread, b" yield"),
-        ThreadLabel::SuspendThenResume(thread) => does(out, at, thread, b" suspend_then_resume"),
-        ThreadLabel::YieldThenResume(thread) => does(out, at, thread, b" yield_then_resume"),
-        ThreadLabel::SuspendThenPromote(thread) => does(out, at, thread, b" suspend_then_promote"),
-        ThreadLabel::YieldThenPromote(thread) => does(out, at, thread, b" yield_then_promote"),
-    }
-}
-
-// The text of a label, without a line feed. It is compiled into the loop that prints a report, so
-// that nothing is kept and handed over from line to line.
 #[inline(always)]
-fn any_label(out: &mut [u8], at: usize, label: Label) -> usize
+fn call_label(
+    out: &mut [u8],
+    at: usize,
+    kind: CallKind,
+    thread: u64,
+    second: u64,
+    third: u64,
+) -> usize
     requires { at + LINE ≤ length out.old }
     ensures end { result < at + LINE }
     ensures room { length out.new ≡ length out.old }
-    ensures text { take result out.new ≡ take at out.old ++ label_text label }
+    ensures text { take result out.new ≡ take at out.old ++ label_text (call_of kind thread second third) }
 {
-    match label {
-        Label::Main(label) => main_label(out, at, label),
-        Label::Loop(label) => loop_label(out, at, label),
-        Label::Take(label) => take_label(out, at, label),
-        Label::Data(label) => data_label(out, at, label),
-        Label::Task(label) => task_label(out, at, label),
-        Label::Set(label) => set_label(out, at, label),
-        Label::Call(label) => call_label(out, at, label),
-        Label::Thread(label) => thread_label(out, at, label),
-        Label::RetWakes(thread, value, woken) => {
-            let end = answers(out, at, thread, b" ret ", value);
-            wakes(out, end, woken)
+    match kind {
+        CallKind::Calls => answers(out, at, thread, b" calls thread ", second),
+        CallKind::Enters => answers(out, at, thread, b" enters thread ", second),
+        CallKind::CallSync => answers(out, at, thread, b" call_sync ", second),
+        CallKind::CallSyncPolls => {
+            let end = answers(out, at, thread, b" call_sync ", second);
+            polls(out, end, third)
         }
-        Label::CallSyncPolls(thread, value, work) => {
-            let end = answers(out, at, thread, b" call_sync ", value);
-            polls(out, end, work)
+        CallKind::PausesPolls => {
+            let end = does(out, at, thread, b" pauses");
+            polls(out, end, second)
         }
+        CallKind::Fails => answers(out, at, thread, b" fails ", second),
+        CallKind::Drop => does(out, at, thread, b" drop"),
+        CallKind::RetWakes => {
+            let end = answers(out, at, thread, b" ret ", second);
+            wakes(out, end, third)
+        }
+    }
+}
+
+#[inline(always)]
+fn thread_label(out: &mut [u8], at: usize, kind: ThreadKind, thread: u64) -> usize
+    requires { at + LINE ≤ length out.old }
+    ensures end { result < at + LINE }
+    ensures room { length out.new ≡ length out.old }
+    ensures text { take result out.new ≡ take at out.old ++ thread_text (thread_of kind thread) }
+{
+    match kind {
+        ThreadKind::Pauses => does(out, at, thread, b" pauses"),
+        ThreadKind::ResumeLater => does(out, at, thread, b" resume_later"),
+        ThreadKind::Suspend => does(out, at, thread, b" suspend"),
+        ThreadKind::Yield => does(out, at, thread, b" yield"),
+        ThreadKind::SuspendThenResume => does(out, at, thread, b" suspend_then_resume"),
+        ThreadKind::YieldThenResume => does(out, at, thread, b" yield_then_resume"),
+        ThreadKind::SuspendThenPromote => does(out, at, thread, b" suspend_then_promote"),
+        ThreadKind::YieldThenPromote => does(out, at, thread, b" yield_then_promote"),
+    }
+}
+
+#[inline(always)]
+fn handle_label(
+    out: &mut [u8],
+    at: usize,
+    kind: HandleKind,
+    small: u32,
+    thread: u64,
+    third: u64,
+) -> usize
+    requires { at + LINE ≤ length out.old }
+    ensures end { result < at + LINE }
+    ensures room { length out.new ≡ length out.old }
+    ensures text { take result out.new ≡ take at out.old ++ label_text (handle_of kind small thread third) }
+{
+    let shown = u64::from(small);
+    match kind {
+        HandleKind::SetNew => answers(out, at, thread, b" set_new ", shown),
+        HandleKind::Wait(status) => gets(
+            out,
+            at,
+            thread,
+            b" wait",
+            Given::Subtask {
+                status,
+                handle: small,
+            },
+        ),
+        HandleKind::Poll(status) => gets(
+            out,
+            at,
+            thread,
+            b" poll",
+            Given::Subtask {
+                status,
+                handle: small,
+            },
+        ),
+        HandleKind::Call => answers(out, at, thread, b" call ", shown),
+        HandleKind::CallPolls => {
+            let end = answers(out, at, thread, b" call ", shown);
+            polls(out, end, third)
+        }
+        HandleKind::Cancel => answers(out, at, thread, b" cancel ", shown),
+        HandleKind::CancelSync => answers(out, at, thread, b" cancel_sync ", shown),
+        HandleKind::ThreadNew => {
+            let end = answers(out, at, thread, b" thread_new ", shown);
+            number(out, end, b" thread ", third)
+        }
+        HandleKind::ThreadIndex => answers(out, at, thread, b" thread_index ", shown),
+    }
+}
+
+// The text of a label, without a line feed, from its head and its numbers in the list. It is compiled into the
+// loop that prints a report, so that nothing is kept and handed over from line to line.
+#[inline(always)]
+fn any_label(out: &mut [u8], at: usize, head: Head, xs: &[u64]) -> usize
+    requires { at + LINE ≤ length out.old }
+    ensures end { result < at + LINE }
+    ensures room { length out.new ≡ length out.old }
+    ensures text { take result out.new ≡ take at out.old ++ label_text (label_of head xs.now) }
+{
+    let small = head.small;
+    match head.kind {
+        Kind::Main(kind) => main_label(out, at, kind, small, listed(xs, 0)),
+        Kind::Loop(kind) => loop_label(out, at, kind, first(small, xs)),
+        Kind::Take(mark, kind) => take_label(
+            out,
+            at,
+            mark,
+            kind,
+            first(small, xs),
+            later(small, xs, 1),
+        ),
+        Kind::Own(mark, kind) => own_label(
+            out,
+            at,
+            mark,
+            kind,
+            first(small, xs),
+            later(small, xs, 1),
+        ),
+        Kind::Given(mark, status) => given_label(out, at, mark, status, small, listed(xs, 0)),
+        Kind::Data(kind) => data_label(out, at, kind, first(small, xs), later(small, xs, 1)),
+        Kind::Task(kind) => task_label(out, at, kind, first(small, xs), later(small, xs, 1)),
+        Kind::Set(kind) => set_label(out, at, kind, first(small, xs), later(small, xs, 1)),
+        Kind::Call(kind) => call_label(
+            out,
+            at,
+            kind,
+            first(small, xs),
+            later(small, xs, 1),
+            later(small, xs, 2),
+        ),
+        Kind::Thread(kind) => thread_label(out, at, kind, first(small, xs)),
+        Kind::Handle(kind) => handle_label(out, at, kind, small, listed(xs, 0), listed(xs, 1)),
     }
 }
 
 /// Writes the line of a label in place. The answer is the place behind it.
 #[inline(always)]
-pub(crate) fn label_line(out: &mut [u8], at: usize, label: Label) -> usize
+pub(crate) fn label_line(out: &mut [u8], at: usize, head: Head, xs: &[u64]) -> usize
     requires { at + LINE ≤ length out.old }
     ensures end { result ≤ at + LINE }
     ensures room { length out.new ≡ length out.old }
-    ensures text { take result out.new ≡ take at out.old ++ line_text (label_text label) }
+    ensures text { take result out.new ≡ take at out.old ++ line_text (label_text (label_of head xs.now)) }
 {
-    let end = any_label(out, at, label);
+    let end = any_label(out, at, head, xs);
     words(out, end, b"\n")
 }
 

@@ -1,10 +1,12 @@
-ghost use Rattle.std.specs.Prelude.{◌≡◌, ◌≤◌, ◌++◌, [], IfOk, leb, length};
-ghost use Rattle.task_rules.specs.Texts.{label_text, line_text, outcome_text};
+ghost use Rattle.std.specs.Prelude.{◌≡◌, ◌<◌, ◌≤◌, ◌++◌, [], true, false, IfOk, length};
+ghost use Rattle.report_text.specs.Lines.{lines_of};
+ghost use Rattle.task_rules.specs.Texts.{line_text, outcome_text};
 
 use crate::label::{LINE, label_line, outcome_line};
+use label_trace::Labels;
 use std::alloc::{AllocError, Global};
 use std::marker::Model;
-use task_machine::{Label, Outcome};
+use task_machine::Outcome;
 
 /// A page has room for a line as long as it has no more bytes than this.
 pub const PAGE: usize = 65_536;
@@ -38,20 +40,25 @@ impl Page {
         Ok(Page { bytes, used: 0 })
     }
 
-    /// Whether one more line is sure to fit.
-    pub fn has_room(&self) -> bool
-        ensures { result ≡ leb (length self.now) PAGE }
+    /// Adds lines of the labels that are left, up to a full page, and takes these labels away. Answers whether the
+    /// page is full; else no labels are left.
+    pub fn fill(&mut self, labels: &mut Labels<'_>) -> bool
+        ensures lines { self.new ++ lines_of labels.new ≡ self.old ++ lines_of labels.old }
+        ensures full { result ≡ true → PAGE < length self.new }
+        ensures done { result ≡ false → (labels.new ≡ []) × (length self.new ≤ PAGE) }
+        ensures fewer { result ≡ true → length self.old ≤ PAGE → length labels.new < length labels.old }
     {
-        self.used <= PAGE
-    }
-
-    /// Adds the line of a label.
-    #[inline(always)]
-    pub fn add_label(&mut self, label: Label)
-        requires { length self.old ≤ PAGE }
-        ensures { self.new ≡ self.old ++ line_text (label_text label) }
-    {
-        self.used = label_line(self.bytes.as_mut_slice(), self.used, label);
+        let out = self.bytes.as_mut_slice();
+        let mut at = self.used;
+        'lines: while at <= PAGE {
+            let Some((head, numbers)) = labels.take() else {
+                self.used = at;
+                return false;
+            };
+            at = label_line(out, at, head, numbers);
+        }
+        self.used = at;
+        true
     }
 
     /// Adds the line of an outcome.

@@ -1,10 +1,8 @@
 //! The pieces of a line, each written in place: into room that is there, behind what was written
 //! before. The answer is the place behind the piece.
 ghost use Rattle.std.specs.Prelude.{◌≡◌, ◌+◌, ◌≤◌, ◌<◌, ◌++◌, codes, decimal, length, take};
-ghost use Rattle.report_text.specs.Pair.{pair_text};
+ghost use Rattle.report_text.specs.Pair.{four_text, pair_text};
 ghost use Rattle.task_rules.specs.Texts.{op_text, answer_text};
-
-use itoa::Buffer;
 
 // The two digits of each number below 100.
 static PAIRS: [u8; 200] =
@@ -50,25 +48,26 @@ fn pair(out: &mut [u8], at: usize, number: u64) -> usize
     words(out, at, &[PAIRS[from], PAIRS[from + 1]])
 }
 
-// A long number is rare: its digits stand apart from the lines.
-#[inline(never)]
-#[tactic(auto, using(crate::proofs::Digits::decimal_at_most))]
-fn many_digits(out: &mut [u8], at: usize, number: u64) -> usize
-    requires { at + 20 ≤ length out.old }
-    ensures end { result ≤ at + 20 }
+// Four digits, of which the first ones may be 0.
+#[inline(always)]
+fn four(out: &mut [u8], at: usize, number: u64) -> usize
+    requires small { number < 10000 }
+    requires room { at + 4 ≤ length out.old }
+    ensures end { result ≡ at + 4 }
     ensures room { length out.new ≡ length out.old }
-    ensures text { take result out.new ≡ take at out.old ++ decimal number }
+    ensures text { take result out.new ≡ take at out.old ++ four_text number }
 {
-    let mut buffer = Buffer::new();
-    words(out, at, buffer.format(number).as_bytes())
+    let end = pair(out, at, number / 100);
+    pair(out, end, number % 100)
 }
 
-// A number. Most are short: their digits are written one or two at a time, from the front.
+// A number below 10,000. Most are: their digits are written one or two at a time, from the front.
 #[inline(always)]
 #[tactic(auto, using(crate::proofs::Digits::decimal_two))]
-fn digits(out: &mut [u8], at: usize, number: u64) -> usize
-    requires { at + 20 ≤ length out.old }
-    ensures end { result ≤ at + 20 }
+fn few_digits(out: &mut [u8], at: usize, number: u64) -> usize
+    requires small { number < 10000 }
+    requires room { at + 4 ≤ length out.old }
+    ensures end { result ≤ at + 4 }
     ensures room { length out.new ≡ length out.old }
     ensures text { take result out.new ≡ take at out.old ++ decimal number }
 {
@@ -79,9 +78,70 @@ fn digits(out: &mut [u8], at: usize, number: u64) -> usize
     } else if number < 1_000 {
         let end = one_digit(out, at, number / 100);
         pair(out, end, number % 100)
-    } else if number < 10_000 {
+    } else {
         let end = pair(out, at, number / 100);
         pair(out, end, number % 100)
+    }
+}
+
+// A number below 10^8.
+#[inline(always)]
+fn eight_digits(out: &mut [u8], at: usize, number: u64) -> usize
+    requires small { number < 100000000 }
+    requires room { at + 8 ≤ length out.old }
+    ensures end { result ≤ at + 8 }
+    ensures room { length out.new ≡ length out.old }
+    ensures text { take result out.new ≡ take at out.old ++ decimal number }
+{
+    if number < 10_000 {
+        return few_digits(out, at, number);
+    }
+    let end = few_digits(out, at, number / 10_000);
+    four(out, end, number % 10_000)
+}
+
+// A number below 10^12.
+#[inline(always)]
+fn twelve_digits(out: &mut [u8], at: usize, number: u64) -> usize
+    requires small { number < 1000000000000 }
+    requires room { at + 12 ≤ length out.old }
+    ensures end { result ≤ at + 12 }
+    ensures room { length out.new ≡ length out.old }
+    ensures text { take result out.new ≡ take at out.old ++ decimal number }
+{
+    if number < 100_000_000 {
+        return eight_digits(out, at, number);
+    }
+    let end = eight_digits(out, at, number / 10_000);
+    four(out, end, number % 10_000)
+}
+
+// A long number is rare: its digits stand apart from the lines. They are written in place, four at a time.
+#[inline(never)]
+fn many_digits(out: &mut [u8], at: usize, number: u64) -> usize
+    requires { at + 20 ≤ length out.old }
+    ensures end { result ≤ at + 20 }
+    ensures room { length out.new ≡ length out.old }
+    ensures text { take result out.new ≡ take at out.old ++ decimal number }
+{
+    if number < 100_000_000 {
+        return eight_digits(out, at, number);
+    }
+    let end = twelve_digits(out, at, number / 100_000_000);
+    let end = four(out, end, number / 10_000 % 10_000);
+    four(out, end, number % 10_000)
+}
+
+// A number.
+#[inline(always)]
+fn digits(out: &mut [u8], at: usize, number: u64) -> usize
+    requires { at + 20 ≤ length out.old }
+    ensures end { result ≤ at + 20 }
+    ensures room { length out.new ≡ length out.old }
+    ensures text { take result out.new ≡ take at out.old ++ decimal number }
+{
+    if number < 10_000 {
+        few_digits(out, at, number)
     } else {
         many_digits(out, at, number)
     }

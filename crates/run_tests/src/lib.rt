@@ -1,10 +1,8 @@
-//! Tests of scenarios and of what runs them: the state of a store, the loop, the texts and the program's top call.
+//! Tests of scenarios and of what runs them: the texts and the program's top call.
 //!
 //! They stand apart, so that those crates are proved without them.
 #![tactic(auto)]
 
-#[cfg(test)]
-mod drive;
 #[cfg(test)]
 mod program;
 #[cfg(test)]

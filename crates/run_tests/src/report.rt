@@ -1,3 +1,4 @@
+use label_trace::Trace;
 use report_text::Page;
 use std::alloc::Global;
 use std::process::Abort;
@@ -7,9 +8,12 @@ use task_machine::{
 };
 
 // The label's line is this.
-fn prints(rt: &impl Abort, page: &mut Page, label: Label, text: &[u8]) {
-    page.clear();
-    page.add_label(label);
+fn prints(rt: &impl Abort, alloc: Global, label: Label, text: &[u8]) {
+    let mut page = page(rt, alloc);
+    let mut trace = Trace::new(alloc);
+    assert!(rt; trace.push(label).is_ok());
+    let mut labels = trace.labels();
+    assert!(rt; !page.fill(&mut labels));
     assert!(rt; page.as_slice() == text);
 }
 
@@ -22,35 +26,42 @@ fn page(rt: &impl Abort, alloc: Global) -> Page {
 
 #[test]
 fn prints_labels(rt: HostRuntime) {
-    let mut page = page(&rt, rt.alloc());
     let abort = Label::Main(MainLabel::Abort(Phase::AbortRequested, 1));
-    prints(&rt, &mut page, abort, b"main abort 1 requested\n");
+    prints(&rt, rt.alloc(), abort, b"main abort 1 requested\n");
     let refused = Label::Main(MainLabel::StartRefused(Trap::TableFull, 2));
-    prints(&rt, &mut page, refused, b"main start 2 refused 18\n");
+    prints(&rt, rt.alloc(), refused, b"main start 2 refused 18\n");
     let ends = Label::Loop(LoopLabel::FutureEnds(4));
-    prints(&rt, &mut page, ends, b"future 4 ends\n");
+    prints(&rt, rt.alloc(), ends, b"future 4 ends\n");
     let joins = Label::Set(SetLabel::JoinWakes(2, 3));
-    prints(&rt, &mut page, joins, b"thread 2 join wakes 3\n");
+    prints(&rt, rt.alloc(), joins, b"thread 2 join wakes 3\n");
     let calls = Label::Call(CallLabel::CallPolls(33, 2, 4));
-    prints(&rt, &mut page, calls, b"thread 2 call 33 future 4\n");
+    prints(&rt, rt.alloc(), calls, b"thread 2 call 33 future 4\n");
 }
 
 #[test]
 fn prints_labels_of_threads(rt: HostRuntime) {
-    let mut page = page(&rt, rt.alloc());
     let subtask = Given::Subtask {
         status: Status::Returned,
         handle: 5,
     };
     let event = Label::Take(TakeLabel::Event(Mark::Switch, subtask, 2));
-    prints(&rt, &mut page, event, b"take switch thread 2 event 1 5 2\n");
+    prints(
+        &rt,
+        rt.alloc(),
+        event,
+        b"take switch thread 2 event 1 5 2\n",
+    );
     let cancelled = TakeLabel::EventWakes(Mark::Switch, OwnEvent::Cancelled, 2, 3);
     let text = b"take switch thread 2 event 6 0 0 wakes 3\n";
-    prints(&rt, &mut page, Label::Take(cancelled), text);
+    prints(&rt, rt.alloc(), Label::Take(cancelled), text);
     let new = Label::Thread(ThreadLabel::New(2, 2, 6));
-    prints(&rt, &mut page, new, b"thread 2 thread_new 2 thread 6\n");
+    prints(&rt, rt.alloc(), new, b"thread 2 thread_new 2 thread 6\n");
     let wakes = Label::RetWakes(2, 7, 3);
-    prints(&rt, &mut page, wakes, b"thread 2 ret 7 wakes 3\n");
+    prints(&rt, rt.alloc(), wakes, b"thread 2 ret 7 wakes 3\n");
+    // Numbers that fit no head of a label.
+    let large = Label::RetWakes(4_294_967_295, 18_446_744_073_709_551_615, 4_294_967_296);
+    let text = b"thread 4294967295 ret 18446744073709551615 wakes 4294967296\n";
+    prints(&rt, rt.alloc(), large, text);
 }
 
 // The outcome's line is this.

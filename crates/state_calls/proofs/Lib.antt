@@ -2,3 +2,4 @@ pub mod WakeLemmas
 pub mod GiveLemmas
 pub mod TakeLemmas
 pub mod PlacedLemmas
+pub mod KeepLemmas

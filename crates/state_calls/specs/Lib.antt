@@ -1,3 +1,4 @@
+pub mod Currents
 pub mod Ends
 pub mod Gives
 pub mod Instances

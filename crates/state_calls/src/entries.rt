@@ -8,6 +8,7 @@ ghost use Rattle.task_machine.specs.declared.records.Why.TheVariants as whys;
 ghost use Rattle.task_rules.specs.Places.{Placed};
 ghost use Rattle.task_words.specs.Names.{delivery_in, why_in};
 ghost use Rattle.task_words.specs.StateView.{on_core, thread_of};
+ghost use Rattle.wake_laws.specs.Stands.{NoWakeLost};
 
 use crate::error::TaskError;
 use crate::names::{QualifiedThreadId, qualified};
@@ -108,10 +109,12 @@ fn item_of<W: Words>(w: &W, thread: ThreadId) -> Item
 }
 
 /// Takes the item that stands at switch, else the first at high, else the first at low; none exactly
-/// where nothing stands. No item that was taken before is still in hand: each thread has its place.
+/// where nothing stands. No item that was taken before is still in hand: each thread has its place. A
+/// thread whose item is in hand counts as ready, and so no wake is lost by it.
 pub fn take_item<W: Words>(w: &mut W) -> Option<(Mark, Item)>
     requires { Placed (W.view w.old).core }
-    ensures { Takes (W.view w.old) (next_entry (W.view w.old).core) result (W.view w.new) }
+    ensures taken { Takes (W.view w.old) (next_entry (W.view w.old).core) result (W.view w.new) }
+    ensures wakes { NoWakeLost (W.view w.old).core → NoWakeLost (W.view w.new).core }
 {
     w.none_is_zero();
     let Some((mark, entry)) = w.next_entry() else {

@@ -8,6 +8,7 @@ ghost use Rattle.task_machine.specs.Write.{set_event};
 ghost use Rattle.task_moves.specs.Idle.{AreIdleUnqueued, IsJoinThere};
 ghost use Rattle.task_wait.specs.declared.codes.Event.TheVariants as events;
 ghost use Rattle.task_words.specs.StateView.{on_core};
+ghost use Rattle.wake_laws.specs.Stands.{NoWakeLost};
 
 use crate::error::TaskError;
 use crate::joins::wake_member;
@@ -18,7 +19,8 @@ use task_words::Words;
 
 /// Gives a waitable an event, in place of one that wasn't handed out yet, and answers the waiter of
 /// its set that is woken, if one waits. Who is blocked on the waitable goes on too. The event of a
-/// call, of a guest or a host, is a status. It is the machine's Publish, and is never refused.
+/// call, of a guest or a host, is a status. It is the machine's Publish, and is never refused. Where no
+/// wake is lost, none is lost by it.
 pub fn set_event<W: Words>(
     w: &mut W,
     waitable: Waitable,
@@ -28,7 +30,8 @@ pub fn set_event<W: Words>(
     requires status { IsSome (status_in event) }
     requires idle { AreIdleUnqueued (W.view w.old).core }
     requires there { IsJoinThere (waitable_in (W.view w.old).tags waitable) (W.view w.old).core }
-    ensures { Wakes (may_publish (waitable_in (W.view w.old).tags waitable)) (event_set (waitable_in (W.view w.old).tags waitable) event) (W.view w.old) result (W.view w.new) }
+    ensures woken { Wakes (may_publish (waitable_in (W.view w.old).tags waitable)) (event_set (waitable_in (W.view w.old).tags waitable) event) (W.view w.old) result (W.view w.new) }
+    ensures wakes { NoWakeLost (W.view w.old).core → NoWakeLost (W.view w.new).core }
 {
     let Event::Subtask(status) = event else {
         unreachable!()
@@ -40,11 +43,13 @@ pub fn set_event<W: Words>(
     Ok(woken)
 }
 
-/// The event of a waitable, which is gone then; none exactly where there was none.
+/// The event of a waitable, which is gone then; none exactly where there was none. No wake is lost by
+/// it.
 pub fn take_event<W: Words>(w: &mut W, waitable: Waitable) -> Option<Event>
     requires live { IsLiveWaitable (W.view w.old) waitable }
     ensures event { result ≡ option_map events.Subtask (event_of (waitable_in (W.view w.old).tags waitable) (W.view w.old).core) }
     ensures gone { W.view w.new ≡ on_core (set_event (waitable_in (W.view w.old).tags waitable) None) (W.view w.old) }
+    ensures wakes { NoWakeLost (W.view w.old).core → NoWakeLost (W.view w.new).core }
 {
     let subtask = subtask_of(w, waitable);
     let event = w.event(subtask);
@@ -56,7 +61,7 @@ pub fn take_event<W: Words>(w: &mut W, waitable: Waitable) -> Option<Event>
 }
 
 /// A waitable that has an event is ready, and a waiter of its set, if there is one, is woken and
-/// answered. It is the machine's Wake, and is never refused.
+/// answered. It is the machine's Wake, and is never refused. No wake is lost by it.
 pub fn mark_ready<W: Words>(
     w: &mut W,
     waitable: Waitable,
@@ -65,7 +70,8 @@ pub fn mark_ready<W: Words>(
     requires event { IsSome (event_of (waitable_in (W.view w.old).tags waitable) (W.view w.old).core) }
     requires idle { AreIdleUnqueued (W.view w.old).core }
     requires there { IsJoinThere (waitable_in (W.view w.old).tags waitable) (W.view w.old).core }
-    ensures { Wakes (may_publish (waitable_in (W.view w.old).tags waitable)) (member_woken (waitable_in (W.view w.old).tags waitable)) (W.view w.old) result (W.view w.new) }
+    ensures woken { Wakes (may_publish (waitable_in (W.view w.old).tags waitable)) (member_woken (waitable_in (W.view w.old).tags waitable)) (W.view w.old) result (W.view w.new) }
+    ensures wakes { NoWakeLost (W.view w.old).core → NoWakeLost (W.view w.new).core }
 {
     let subtask = subtask_of(w, waitable);
     let waiter = publish_waiter(w, subtask);

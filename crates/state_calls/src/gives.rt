@@ -5,6 +5,7 @@ ghost use Rattle.task_machine.specs.Moves.{own_gift_of, taken_own};
 ghost use Rattle.task_machine.specs.Write.{set_event};
 ghost use Rattle.task_words.specs.Names.{subtask_in};
 ghost use Rattle.task_words.specs.StateView.{call_of, on_core, set_of};
+ghost use Rattle.wake_laws.specs.Stands.{NoWakeLost};
 
 use task_machine::{OwnEvent, Status};
 use task_wait::Event;
@@ -67,7 +68,7 @@ fn take_member<W: Words>(w: &mut W, member: SubtaskId) -> (Event, u32)
 /// Gives a task its own event, and else that of the first ready member of the set, with the member's
 /// handle. Its own event is that it was cancelled only where it may be told so, and comes with 0. The
 /// event is gone then. None exactly where neither is there. The set is one that a guest made. It is the
-/// machine's Give.
+/// machine's Give, and no wake is lost by it.
 pub fn get_event<W: Words>(
     w: &mut W,
     task: CallId,
@@ -76,7 +77,8 @@ pub fn get_event<W: Words>(
 ) -> Option<(Event, u32)>
     requires task { 0 < call_of (W.view w.old) task }
     requires set { IfSome set (λ id. 0 < set_of (W.view w.old) id) }
-    ensures { Gives cancellable (call_of (W.view w.old) task) (option_map (λ id. set_of (W.view w.old) id) set) (W.view w.old) result (W.view w.new) }
+    ensures given { Gives cancellable (call_of (W.view w.old) task) (option_map (λ id. set_of (W.view w.old) id) set) (W.view w.old) result (W.view w.new) }
+    ensures wakes { NoWakeLost (W.view w.old).core → NoWakeLost (W.view w.new).core }
 {
     if let Some(event) = own_event(w, task, cancellable) {
         take_own(w, task, event);

@@ -8,6 +8,7 @@ ghost use Rattle.task_rules.specs.Sets.{joins, may_wake_new, wakes_joined};
 ghost use Rattle.task_words.specs.Apart.{IsUnqueued};
 ghost use Rattle.task_words.specs.Names.{join_in, subtask_in};
 ghost use Rattle.task_words.specs.StateView.{on_core, set_of, thread_of};
+ghost use Rattle.wake_laws.specs.Stands.{NoWakeLost};
 
 use crate::error::TaskError;
 use crate::names::{QualifiedThreadId, qualified_waiter, subtask_of};
@@ -71,7 +72,8 @@ fn joins<W: Words>(w: &W, set: Option<SetId>) -> JoinId
 
 /// A waitable on which no thread is blocked leaves its set and joins this one, if one is given: a set
 /// that a guest made, whose members have handles. Where it has an event it is ready there, and a
-/// waiter of the set, if there is one, is woken and answered. It is never refused.
+/// waiter of the set, if there is one, is woken and answered. It is never refused, and no wake is lost
+/// by it.
 pub fn join<W: Words>(
     w: &mut W,
     waitable: Waitable,
@@ -82,7 +84,8 @@ pub fn join<W: Words>(
     requires unblocked { blocked_on (waitable_in (W.view w.old).tags waitable) (W.view w.old).core ≡ None }
     requires handle { IfSome set (λ id. IsSome (subtask_handle (waitable_in (W.view w.old).tags waitable) (W.view w.old).core)) }
     requires idle { AreIdleUnqueued (W.view w.old).core }
-    ensures { Wakes (may_wake_new (event_of (waitable_in (W.view w.old).tags waitable) (W.view w.old).core) (option_map (λ id. set_of (W.view w.old) id) set)) (set_joined (waitable_in (W.view w.old).tags waitable) (option_map (λ id. set_of (W.view w.old) id) set)) (W.view w.old) result (W.view w.new) }
+    ensures woken { Wakes (may_wake_new (event_of (waitable_in (W.view w.old).tags waitable) (W.view w.old).core) (option_map (λ id. set_of (W.view w.old) id) set)) (set_joined (waitable_in (W.view w.old).tags waitable) (option_map (λ id. set_of (W.view w.old) id) set)) (W.view w.old) result (W.view w.new) }
+    ensures wakes { NoWakeLost (W.view w.old).core → NoWakeLost (W.view w.new).core }
 {
     let subtask = subtask_of(w, waitable);
     let event = w.event(subtask);

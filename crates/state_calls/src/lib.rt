@@ -3,6 +3,7 @@
 //! an instance. Each makes one move of the machine, and nothing else.
 #![tactic(auto)]
 
+mod currents;
 mod ends;
 mod entries;
 mod error;
@@ -14,6 +15,7 @@ mod names;
 mod promotions;
 mod stops;
 
+pub use currents::{CurrentThread, set_thread};
 pub use ends::cleanup_thread;
 pub use entries::{Item, push_work_item, take_item};
 pub use error::TaskError;

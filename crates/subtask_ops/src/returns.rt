@@ -62,6 +62,7 @@ pub(crate) fn answer<W: Words>(w: &mut W, thread: ThreadId, to: u8, value: u64)
 
 // The strand stops, and its top is blocked on the subtask of its call.
 #[tactic(auto, unfolding(task_rules::specs::Calls::call_stops))]
+#[inline(always)]
 pub(crate) fn stop_blocked<W: Words>(w: &mut W, thread: ThreadId, subtask: SubtaskId)
     requires live { 0 < thread_of (W.view w.old) thread }
     requires running { IsRunning (thread_of (W.view w.old) thread) (W.view w.old).core }

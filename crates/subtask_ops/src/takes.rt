@@ -58,6 +58,7 @@ fn give_value<W: Words>(w: &mut W, caller: WorkCallerId, value: Option<u64>)
 
 // The subtask is done, its end is published, and the value goes to the calling thread.
 #[tactic(auto, unfolding(task_rules::specs::Takes::host_done))]
+#[inline(always)]
 fn end_host<W: Words>(w: &mut W, work: WorkId, waiter: Option<ThreadId>)
     requires { CanPublish (subtasks.Host (work_of (W.view w.old) work)) waiter (W.view w.old) }
     ensures { W.view w.new ≡ on_core (host_done (work_of (W.view w.old) work) (option_map (λ id. thread_of (W.view w.old) id) waiter)) (W.view w.old) }

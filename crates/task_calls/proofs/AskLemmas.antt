@@ -1,11 +1,20 @@
 -- What an op leaves that a host had the running thread do.
-use Rattle.std.proofs.Common.{ap, refl, subst, sym, ◌∙◌}
-use Rattle.std.specs.Prelude.{IfSome, None, Option, Some, false, option_map, true, ℕ, ◌≡◌}
+use Rattle.std.proofs.Common.{ap, inl, inr, refl, subst, sym, ⊎_elim, ◌∙◌}
+use Rattle.std.specs.Prelude.{IfSome, None, Option, Some, false, length, option_map, true, ℕ, ◌<◌, ◌≡◌, ◌⊎◌}
 use Rattle.op_dispatch.specs.Goes.{GoesOn, running_of}
 use Rattle.task_calls.proofs.AtOnceLemmas.{never_stops}
+use Rattle.task_calls.proofs.PlaceLemmas.{AlikeBut, alike_back, did_other, like_back, order_alike, with_op, with_op_alike, with_op_codes, with_op_instances}
 use Rattle.task_calls.specs.Answers.{has_stopped}
 use Rattle.task_calls.specs.Asks.{Did, Does, IsAtPlace, after, is_at_once, row_of, runs_after, turn_for, turn_in}
+use Rattle.task_calls.specs.Elsewhere.{IsClear, IsDoneThere, IsLike, KeepsFit, is_apart}
+use Rattle.task_laws.specs.Settings.{CodesInCallbacks}
+use Rattle.task_machine.specs.Read.{callee_of}
+use Rattle.task_machine.specs.declared.component.Callee.{Callee}
 use Rattle.task_machine.specs.declared.op.Op.{Op}
+use Rattle.task_machine.specs.declared.records.Script.{Script}
+use Rattle.task_machine.specs.declared.records.Turn.{Turn}
+use Rattle.task_rules.specs.OpParts.{ends_activation}
+use Rattle.task_rules.specs.Scripts.{op_of_thread}
 use Rattle.task_machine.specs.Core.{Core, Unscripted}
 use Rattle.task_machine.specs.Labels.{Choice, choice_of}
 use Rattle.task_machine.specs.declared.component.Component.{Component}
@@ -115,6 +124,46 @@ module _ (c : Component) (n : ℕ) (r : Came) (s t : StateView) (runs : running_
   order_then R sits h same =
       let at = from_running (λ k. (ch : Choice) → did c k s.core ch ≡ R k ch) same in
       order_at sits (subst (λ (p : Progress). Meets p s.core r t.core) (sym (at (choice_of (label_of n r)))) h)
+
+-- what is so of the running thread is so of it
+module _ (s : StateView) (n : ℕ) (runs : running_of s ≡ Some n) where
+  pub if_running_is : (P : ℕ → Type 0) → P n → IfSome (running_of s) P
+  if_running_is P p = subst (λ (o : Option ℕ). IfSome o P) (sym runs) p
+
+  pub running_is : (P : ℕ → Type 0) → IfSome (running_of s) P → P n
+  running_is P p = subst (λ (o : Option ℕ). IfSome o P) runs p
+
+-- order for a component is order for one that differs in the op at a place, where that is as before or nobody is inside an op there
+sits_alike : (f : Callee) (w : Script) (p : ℕ) (k o : Op) (c d : Component) → AlikeBut f w p k o c d → CodesInCallbacks d → length d.instances ≡ length c.instances → (u : Turn) (s : Core) → IsClear f w p s ⊎ IsLike k o → Sits c u s → Sits d u s
+sits_alike f w p k o c d a codes same u s may sits = record {
+  order = λ m. order_alike f w p k o c d a codes (state_at s m u) may (sits.order m);
+  there = λ i below. sits.there i (subst (λ l. i < l) same below);
+  handles = λ i below. sits.handles i (subst (λ l. i < l) same below);
+}
+
+-- an op that was done in place of the one at the thread's place keeps order
+pub order_there : (c : Component) (o : Op) (n : ℕ) (r : Came) (s t : StateView) → running_of s ≡ Some n → Runs r t → StaysAfter r s t → Sits c (turn.Run n) s.core →
+    Meets (row_of c o s.core n (choice_of (label_of n r))) s.core r t.core → is_apart o ≡ true → ends_activation o ≡ false → IsDoneThere c o n s.core (after r t).core →
+    Sits c (turn_in (after r t)) (after r t).core
+order_there c o n r s t runs goes stays sits h apart plain is =
+    let f = callee_of is.thread.call s.core in
+    let w = is.thread.script in
+    let p = is.thread.position in
+    let k = op_of_thread c s.core is.thread in
+    let d = with_op c f w p o in
+    let a = with_op_alike c f w p o is.within in
+    let codes = (sits.order Unscripted).codes in
+    let same = with_op_instances c f w p o in
+    let before = sits_alike f w p k o c d a (with_op_codes c f w p o plain codes) same (turn.Run n) s.core is.before sits in
+    let row = λ (ch : Choice). did_other c o n s.core is.thread is.here is.within apart ch in
+    let then = order_then d n r s t runs goes stays (row_of c o s.core) before h (if_running_is s n runs (λ j. (ch : Choice) → did d j s.core ch ≡ row_of c o s.core j ch) row) in
+    sits_alike f w p o k d c (alike_back f w p k o c d a) codes (sym same) (turn_in (after r t)) (after r t).core (⊎_elim inl (λ l. inr (like_back k o l)) is.after) then
+
+pub order_fit : (c : Component) (o : Op) (n : ℕ) (r : Came) (s t : StateView) → running_of s ≡ Some n → Runs r t → StaysAfter r s t → Sits c (turn.Run n) s.core →
+    Meets (row_of c o s.core n (choice_of (label_of n r))) s.core r t.core → KeepsFit c o s (after r t) → Sits c (turn_in (after r t)) (after r t).core
+order_fit c o n r s t runs goes stays sits h = ⊎_elim
+    (λ at. order_then c n r s t runs goes stays (row_of c o s.core) sits h at)
+    (λ k. order_there c o n r s t runs goes stays sits h k.0 k.1.0 (running_is s n runs (λ j. IsDoneThere c o j s.core (after r t).core) k.1.1))
 
 -- where nothing is changed the state is in order as before
 pub order_still : (c : Component) (n : ℕ) (s t : StateView) → running_of s ≡ Some n → Sits c (turn.Run n) s.core → t ≡ s → Sits c (turn_in t) t.core

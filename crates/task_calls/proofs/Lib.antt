@@ -4,6 +4,9 @@ pub mod AskLemmas
 pub mod AtOnceLemmas
 pub mod CallLemmas
 pub mod DirectLemmas
+pub mod PlaceLemmas
+pub mod ResumeLemmas
 pub mod ReturnLemmas
 pub mod StartLemmas
 pub mod TaskLemmas
+pub mod UntrappedLemmas

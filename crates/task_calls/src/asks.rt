@@ -2,7 +2,8 @@
 ghost use Rattle.op_dispatch.specs.Fits.{is_data_op, op_fits};
 ghost use Rattle.std.specs.Prelude.{◌≡◌, IfErr, IfOk, OnErr, OnOk, false, true};
 ghost use Rattle.task_calls.specs.Answers.{answer_in, at_once, event_in, nothing_in, number_in};
-ghost use Rattle.task_calls.specs.Asks.{Answers, Did, IsAtPlace, IsRunningIn, is_at_once, row_at, row_of, after, turn_in};
+ghost use Rattle.task_calls.specs.Asks.{Answers, Did, IsRunningIn, is_at_once, row_at, row_of, after, turn_in};
+ghost use Rattle.task_calls.specs.Elsewhere.{KeepsFit};
 ghost use Rattle.task_turns.specs.Turn.{Sits};
 
 use crate::answers::{Answer, Step, answer_in, at_once, event_in, number_in, stepped};
@@ -23,14 +24,14 @@ fn leave<W: Words>(w: &mut W, came: Came)
 }
 
 // The running thread does the op, which isn't on registers and words, as if it stood at the thread's
-// place. The store stays in order where an op of that meaning does stand there. Where memory is
-// wanting, nothing is changed.
+// place. The store stays in order where an op of that meaning does stand there, and where no op is
+// under way there, before and after. Where memory is wanting, nothing is changed.
 fn ask<W: Words>(component: &Component, w: &mut W, op: Op) -> Result<Came, TaskError>
     requires running { IsRunningIn component.now (W.view w.old) }
     requires other { is_data_op op ≡ false }
     requires fits { op_fits component.now op ≡ true }
     ensures did { IfOk result (λ came. Did (row_of component.now op (W.view w.old).core) (W.view w.old) came (W.view w.new)) }
-    ensures order { IsAtPlace component.now (row_of component.now op (W.view w.old).core) (W.view w.old) → Sits component.now (turn_in (W.view w.new)) (W.view w.new).core }
+    ensures order { KeepsFit component.now op (W.view w.old) (W.view w.new) → Sits component.now (turn_in (W.view w.new)) (W.view w.new).core }
     ensures err { OnErr result (W.view w.new ≡ W.view w.old) }
     ensures why { IfErr result (λ e. e ≡ TaskError.NoMemory) }
 {
@@ -52,7 +53,7 @@ pub fn ask_nothing<W: Words>(component: &Component, w: &mut W, op: Op) -> Result
     requires at_once { is_at_once op ≡ true }
     requires fits { op_fits component.now op ≡ true }
     ensures answers { Answers (row_of component.now op (W.view w.old).core) nothing_in (W.view w.old) (at_once result) (W.view w.new) }
-    ensures order { IsAtPlace component.now (row_of component.now op (W.view w.old).core) (W.view w.old) → Sits component.now (turn_in (W.view w.new)) (W.view w.new).core }
+    ensures order { KeepsFit component.now op (W.view w.old) (W.view w.new) → Sits component.now (turn_in (W.view w.new)) (W.view w.new).core }
 {
     let came = ask(component, w, op)?;
     let _label = at_once(came)?;
@@ -66,7 +67,7 @@ pub fn ask_number<W: Words>(component: &Component, w: &mut W, op: Op) -> Result<
     requires at_once { is_at_once op ≡ true }
     requires fits { op_fits component.now op ≡ true }
     ensures answers { Answers (row_of component.now op (W.view w.old).core) number_in (W.view w.old) (at_once result) (W.view w.new) }
-    ensures order { IsAtPlace component.now (row_of component.now op (W.view w.old).core) (W.view w.old) → Sits component.now (turn_in (W.view w.new)) (W.view w.new).core }
+    ensures order { KeepsFit component.now op (W.view w.old) (W.view w.new) → Sits component.now (turn_in (W.view w.new)) (W.view w.new).core }
 {
     let came = ask(component, w, op)?;
     let label = at_once(came)?;
@@ -84,7 +85,7 @@ pub fn ask_event<W: Words>(
     requires at_once { is_at_once op ≡ true }
     requires fits { op_fits component.now op ≡ true }
     ensures answers { Answers (row_of component.now op (W.view w.old).core) event_in (W.view w.old) (at_once result) (W.view w.new) }
-    ensures order { IsAtPlace component.now (row_of component.now op (W.view w.old).core) (W.view w.old) → Sits component.now (turn_in (W.view w.new)) (W.view w.new).core }
+    ensures order { KeepsFit component.now op (W.view w.old) (W.view w.new) → Sits component.now (turn_in (W.view w.new)) (W.view w.new).core }
 {
     let came = ask(component, w, op)?;
     let label = at_once(came)?;
@@ -101,7 +102,7 @@ pub fn begin_nothing<W: Words>(
     requires other { is_data_op op ≡ false }
     requires fits { op_fits component.now op ≡ true }
     ensures answers { Answers (row_of component.now op (W.view w.old).core) nothing_in (W.view w.old) result (W.view w.new) }
-    ensures order { IsAtPlace component.now (row_of component.now op (W.view w.old).core) (W.view w.old) → Sits component.now (turn_in (W.view w.new)) (W.view w.new).core }
+    ensures order { KeepsFit component.now op (W.view w.old) (W.view w.new) → Sits component.now (turn_in (W.view w.new)) (W.view w.new).core }
 {
     let came = ask(component, w, op)?;
     match stepped(came)? {
@@ -120,7 +121,7 @@ pub fn begin_number<W: Words>(
     requires other { is_data_op op ≡ false }
     requires fits { op_fits component.now op ≡ true }
     ensures answers { Answers (row_of component.now op (W.view w.old).core) number_in (W.view w.old) result (W.view w.new) }
-    ensures order { IsAtPlace component.now (row_of component.now op (W.view w.old).core) (W.view w.old) → Sits component.now (turn_in (W.view w.new)) (W.view w.new).core }
+    ensures order { KeepsFit component.now op (W.view w.old) (W.view w.new) → Sits component.now (turn_in (W.view w.new)) (W.view w.new).core }
 {
     let came = ask(component, w, op)?;
     match stepped(came)? {
@@ -139,7 +140,7 @@ pub fn begin_event<W: Words>(
     requires other { is_data_op op ≡ false }
     requires fits { op_fits component.now op ≡ true }
     ensures answers { Answers (row_of component.now op (W.view w.old).core) event_in (W.view w.old) result (W.view w.new) }
-    ensures order { IsAtPlace component.now (row_of component.now op (W.view w.old).core) (W.view w.old) → Sits component.now (turn_in (W.view w.new)) (W.view w.new).core }
+    ensures order { KeepsFit component.now op (W.view w.old) (W.view w.new) → Sits component.now (turn_in (W.view w.new)) (W.view w.new).core }
 {
     let came = ask(component, w, op)?;
     match stepped(came)? {

@@ -17,6 +17,17 @@ pub enum SuspensionTarget {
     None,
 }
 
+/// How a thread that isn't running is to go on, by its handle.
+#[derive(Clone, Copy)]
+pub enum ResumeThread {
+    /// One that has yielded goes on next.
+    Promote,
+    /// One that is suspended or wasn't started goes on next.
+    Resume,
+    /// One that is suspended or wasn't started goes on once the entries before it are taken.
+    ResumeLater,
+}
+
 /// `cancel` or `cancel_sync` of the subtask with this handle.
 pub fn cancel_op(async_: bool, subtask: u32) -> Op
     ensures is { result ≡ cancel_op async_ subtask }

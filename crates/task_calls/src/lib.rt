@@ -6,9 +6,11 @@ mod asks;
 mod directs;
 mod hosts;
 mod intrinsics;
+mod resumes;
 mod returns;
 mod starts;
 mod tasks;
+mod untrapped;
 
 pub use answers::{Answer, Step};
 pub use asks::{
@@ -16,8 +18,10 @@ pub use asks::{
 };
 pub use directs::{enter_call, exit_call};
 pub use hosts::{finish_call, start_call};
-pub use intrinsics::{SuspensionTarget, cancel_op, pressure_op, suspension_op};
+pub use intrinsics::{ResumeThread, SuspensionTarget, cancel_op, pressure_op, suspension_op};
+pub use resumes::resume_thread;
 pub use returns::task_return;
 pub use starts::{prepare_call, start_prepared};
 pub use state_calls::{QualifiedThreadId, TaskError, is_live};
 pub use tasks::new_guest_task;
+pub use untrapped::start_untrapped;

@@ -16,6 +16,8 @@ pub mod HandleTables
 pub mod Joins
 pub mod CountLemmas
 pub mod Counts
+pub mod WakeCounts
+pub mod WakeTableLemmas
 pub mod CallsCame
 pub mod CallsLaw
 pub mod CallsSteps

@@ -35,10 +35,10 @@ both_mass None = refl
 both_mass (Some (Subtask.Guest q)) = refl
 both_mass (Some (Subtask.Host i)) = refl
 
-call_ready : (x k : ℕ) (s : Core) → at_number (λ (c : Call). is_ready_in x c.join c.event) s.calls k ≡ is_ready_member x (Subtask.Guest k) s
+pub call_ready : (x k : ℕ) (s : Core) → at_number (λ (c : Call). is_ready_in x c.join c.event) s.calls k ≡ is_ready_member x (Subtask.Guest k) s
 call_ready x k s = grind arith
 
-work_ready : (x i : ℕ) (s : Core) → at_number (λ (w : Work). is_ready_in x w.join w.event) s.works i ≡ is_ready_member x (Subtask.Host i) s
+pub work_ready : (x i : ℕ) (s : Core) → at_number (λ (w : Work). is_ready_in x w.join w.event) s.works i ≡ is_ready_member x (Subtask.Host i) s
 work_ready x i s = grind arith
 
 -- e counts more at t, d at s

@@ -8,3 +8,4 @@ pub mod Ends
 pub mod Exports
 pub mod Wakes
 pub mod Courses
+pub mod WakeTable

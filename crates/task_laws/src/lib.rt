@@ -9,6 +9,7 @@ mod exports;
 mod handles;
 mod holders;
 mod rises;
+mod table;
 mod written;
 
 pub use courses::{courses_stay, works_are_called};

@@ -1,13 +1,23 @@
--- A start leaves no thread that runs, where there was none.
-use Rattle.std.proofs.Common.{refl}
+-- A start leaves no thread that runs, where there was none; calls of a host change no host work.
+use Rattle.futures.specs.declared.task.Poll.{Poll}
+use Rattle.futures.specs.declared.task.Poll.TheVariants.{Pending, Ready}
+use Rattle.std.proofs.Common.{ap, refl, ◌∙◌}
 use Rattle.std.specs.Prelude.{Err, List, None, Ok, Option, Result, Some, option_map, ℕ, ◌≡◌}
-use Rattle.task_calls.specs.Calls.{Starts}
+use Rattle.task_calls.specs.Calls.{Finishes, Starts}
 use Rattle.state_calls.specs.declared.error.TaskError.{TaskError}
+use Rattle.task_machine.specs.Core.{Core}
+use Rattle.task_machine.specs.Moves.{put_high}
+use Rattle.task_machine.specs.Write.{add_call, add_group, add_thread, on_thread, push_high, set_place, set_trapped, take_result}
 use Rattle.task_machine.specs.declared.component.Callee.{Callee}
 use Rattle.task_machine.specs.declared.component.Component.{Component}
+use Rattle.task_machine.specs.declared.component.HostDef.{HostDef}
 use Rattle.task_machine.specs.declared.trap.Trap.{Trap}
+use Rattle.task_rules.specs.Calls.{call_made}
+use Rattle.task_rules.specs.MainOps.{main_started}
+use Rattle.task_store.proofs.HostLemmas.{holds_same}
+use Rattle.task_store.specs.Hosts.{HoldsWorks}
 use Rattle.task_turns.specs.Turn.{running_of}
-use Rattle.task_words.specs.StateView.{StateView, thread_of}
+use Rattle.task_words.specs.StateView.{StateView, on_core, thread_of}
 
 none_still : {X : Type 0} (f g : X → ℕ) (a b : Option X) → b ≡ a → option_map f a ≡ None → option_map g b ≡ None
 none_still f g None None e none = refl
@@ -21,3 +31,27 @@ pub start_current : (c : Component) (e : Callee) (words : List ℕ) (s t : State
 start_current c e words s t (Some why) r none k = current_still s t k.1.current none
 start_current c e words s t None (Ok n) none k = current_still s t k.1.current none
 start_current c e words s t None (Err why) none k = current_still s t k.1.current none
+
+-- ---- What a store holds of host works
+
+module _ (left : ℕ → Option HostDef) where
+  start_works : (c : Component) (e : Callee) (words : List ℕ) (s : Core) → (main_started c e words s).works ≡ s.works
+  unfolding main_started put_high push_high set_place on_thread call_made add_call add_thread add_group
+  start_works c e words s = refl
+
+  trap_works : (s : Core) → (set_trapped s).works ≡ s.works
+  unfolding set_trapped
+  trap_works s = refl
+
+  pub start_holds : (c : Component) (e : Callee) (words : List ℕ) (s t : StateView) (o : Option Trap) (r : Result ℕ TaskError) → Starts c e words s o r t → HoldsWorks left s.core → HoldsWorks left t.core
+  start_holds c e words s t (Some why) r k h = holds_same s.core t.core left (ap (λ (u : Core). u.works) k.1.core ∙ trap_works s.core) h
+  start_holds c e words s t None (Ok n) k h = holds_same s.core t.core left (ap (λ (u : Core). u.works) k.1.core ∙ start_works c e words s.core) h
+  start_holds c e words s t None (Err why) k h = holds_same s.core t.core left (ap (λ (u : Core). u.works) k.1.core ∙ trap_works s.core) h
+
+  result_works : (k : ℕ) (s : StateView) → (on_core (take_result k) s).core.works ≡ s.core.works
+  unfolding take_result
+  result_works k s = refl
+
+  pub finish_holds : (k : ℕ) (s t : StateView) (r : Poll ℕ) → Finishes k s r t → HoldsWorks left s.core → HoldsWorks left t.core
+  finish_holds k s t (Ready v) f h = holds_same s.core t.core left (ap (λ (u : StateView). u.core.works) f.1 ∙ result_works k s) h
+  finish_holds k s t Pending f h = holds_same s.core t.core left (ap (λ (u : StateView). u.core.works) f.1) h

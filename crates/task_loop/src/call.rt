@@ -1,18 +1,23 @@
-ghost use Rattle.std.specs.Prelude.{◌≡◌, ◌<◌, ◌^◌, IfSome, IsSome, length};
+ghost use Rattle.std.specs.Prelude.{◌≡◌, ◌+◌, ◌<◌, ◌^◌, IfOk, IfSome, IsSome, length};
 ghost use Rattle.task_calls.specs.Calls.{Finishes, Starts};
+ghost use Rattle.task_calls.specs.Untrapped.{StartsUntrapped};
 ghost use Rattle.task_loop.specs.Calls.{callee_of, number_of_start};
 ghost use Rattle.task_machine.specs.declared.records.Turn.{Turn};
 ghost use Rattle.task_rules.specs.MainOps.{start_refusal};
 ghost use Rattle.task_rules.specs.Scripts.{export_at};
+ghost use Rattle.task_machine.specs.declared.component.HostDef.{HostDef};
+ghost use Rattle.task_store.specs.Hosts.{HoldsHosts};
 ghost use Rattle.task_turns.specs.WellFormed.{IsWellFormed};
 ghost use Rattle.task_turns.specs.Turn.{Sits, given};
 
 use crate::instance::Instance;
 use futures::task::Poll;
-use task_calls::{TaskError, finish_call, start_call};
+use task_calls::{TaskError, finish_call, start_call, start_untrapped};
+use task_group::TaskGroupId;
 use task_machine::{Callee, Component};
 use task_store::Store;
 use task_turns::export_def;
+use task_words::ResultWords;
 
 /// Names an export by its instance and its place there, from 0.
 #[derive(Clone, Copy)]
@@ -25,6 +30,7 @@ pub struct Func {
 #[derive(Drop)]
 pub struct FuncCallConcurrent {
     thread: u64,
+    group: u64,
 }
 
 impl FuncCallConcurrent {
@@ -33,6 +39,13 @@ impl FuncCallConcurrent {
         ensures { result ≡ self.now.thread }
     {
         self.thread
+    }
+
+    /// The group of the call, which hooks on groups are told.
+    pub fn group(&self) -> TaskGroupId
+        ensures { result.number ≡ self.now.group }
+    {
+        TaskGroupId { number: self.group }
     }
 }
 
@@ -73,11 +86,40 @@ impl Func {
         requires order { (p : Turn) × Sits component.now p store.old.state.core }
         requires given { given store.old.state.core < 2 ^ 61 }
         ensures starts { Starts component.now (callee_of self) params.now store.old.state (start_refusal store.old.state.core) (number_of_start result) store.new.state }
+        ensures group { IfOk result (λ call. call.group ≡ store.old.state.core.made.groups + 1) }
+        ensures order { (p : Turn) → Sits component.now p store.old.state.core → Sits component.now p store.new.state.core }
+        ensures hosts { (course : H → HostDef) → HoldsHosts course store.old → HoldsHosts course store.new }
+        ensures rest { store.new ≡ record store.old { state = store.new.state } }
+    {
+        let group = store.state.made().groups + 1;
+        match start_call(&mut store.state, component, self.callee(), params) {
+            Ok(thread) => Ok(FuncCallConcurrent { thread, group }),
+            Err(e) => Err(e),
+        }
+    }
+
+    /// Starts a call by the host as `start_call_concurrent` does, but traps nothing: refused with trap 20
+    /// exactly where the store is trapped, and else with trap 18 exactly where its four entries don't
+    /// fit into the table. Where it is refused, or memory is wanting, all is as before.
+    pub fn start_untrapped<T, H>(
+        self,
+        component: &Component,
+        store: &mut Store<T, H>,
+        params: &[u64],
+    ) -> Result<FuncCallConcurrent, TaskError>
+        requires covered { IsWellFormed component.now }
+        requires there { IsSome (export_at component.now (callee_of self)) }
+        requires params { IfSome (export_at component.now (callee_of self)) (λ e. length params.now ≡ e.params) }
+        requires order { (p : Turn) × Sits component.now p store.old.state.core }
+        requires given { given store.old.state.core < 2 ^ 61 }
+        ensures starts { StartsUntrapped component.now (callee_of self) params.now store.old.state (start_refusal store.old.state.core) (number_of_start result) store.new.state }
+        ensures group { IfOk result (λ call. call.group ≡ store.old.state.core.made.groups + 1) }
         ensures order { (p : Turn) → Sits component.now p store.old.state.core → Sits component.now p store.new.state.core }
         ensures rest { store.new ≡ record store.old { state = store.new.state } }
     {
-        match start_call(&mut store.state, component, self.callee(), params) {
-            Ok(thread) => Ok(FuncCallConcurrent { thread }),
+        let group = store.state.made().groups + 1;
+        match start_untrapped(&mut store.state, component, self.callee(), params) {
+            Ok(thread) => Ok(FuncCallConcurrent { thread, group }),
             Err(e) => Err(e),
         }
     }
@@ -92,6 +134,7 @@ impl Func {
         ensures finishes { Finishes call.old.thread store.old.state result store.new.state }
         ensures call { call.new ≡ call.old }
         ensures order { (c : Component) → (p : Turn) → Sits c p store.old.state.core → Sits c p store.new.state.core }
+        ensures hosts { (course : H → HostDef) → HoldsHosts course store.old → HoldsHosts course store.new }
         ensures rest { store.new ≡ record store.old { state = store.new.state } }
     {
         finish_call(&mut store.state, call.thread)

@@ -1,6 +1,7 @@
 ghost use Rattle.std.specs.Prelude.{◌≡◌, IfSome, IsSome};
 ghost use Rattle.task_calls.specs.Answers.{at_once, nothing_in};
-ghost use Rattle.task_calls.specs.Asks.{Answers, CanAsk, IsAtPlace, IsRunningIn, row_of, turn_in};
+ghost use Rattle.task_calls.specs.Asks.{Answers, CanAsk, IsRunningIn, row_of, turn_in};
+ghost use Rattle.task_calls.specs.Elsewhere.{KeepsFit};
 ghost use Rattle.task_calls.specs.Calls.{Returns, is_own_type};
 ghost use Rattle.task_calls.specs.Intrinsics.{pressure_op};
 ghost use Rattle.task_machine.specs.Read.{instance_of};
@@ -67,7 +68,7 @@ impl Instance {
         requires running { IsRunningIn component.now store.old.state }
         requires asks { CanAsk self.index store.old.state }
         ensures answers { Answers (row_of component.now (Op.Task TaskOp.TaskCancel) store.old.state.core) nothing_in store.old.state (at_once result) store.new.state }
-        ensures order { IsAtPlace component.now (row_of component.now (Op.Task TaskOp.TaskCancel) store.old.state.core) store.old.state → Sits component.now (turn_in store.new.state) store.new.state.core }
+        ensures order { KeepsFit component.now (Op.Task TaskOp.TaskCancel) store.old.state store.new.state → Sits component.now (turn_in store.new.state) store.new.state.core }
         ensures rest { store.new ≡ record store.old { state = store.new.state } }
     {
         ask_nothing(component, &mut store.state, Op::Task(TaskOp::TaskCancel))
@@ -86,7 +87,7 @@ impl Instance {
         requires asks { CanAsk self.index store.old.state }
         requires caller { caller ≡ self.index }
         ensures answers { Answers (row_of component.now (pressure_op up) store.old.state.core) nothing_in store.old.state (at_once result) store.new.state }
-        ensures order { IsAtPlace component.now (row_of component.now (pressure_op up) store.old.state.core) store.old.state → Sits component.now (turn_in store.new.state) store.new.state.core }
+        ensures order { KeepsFit component.now (pressure_op up) store.old.state store.new.state → Sits component.now (turn_in store.new.state) store.new.state.core }
         ensures rest { store.new ≡ record store.old { state = store.new.state } }
     {
         let _caller = caller;

@@ -2,6 +2,7 @@
 #![tactic(auto)]
 
 mod call;
+mod call_concurrent;
 mod instance;
 mod main_task;
 mod run;
@@ -10,10 +11,12 @@ mod threads;
 mod waitables;
 
 pub use call::{Func, FuncCallConcurrent};
+pub use call_concurrent::CallConcurrent;
 pub use instance::Instance;
 pub use main_task::MainTask;
 pub use run::{RunConcurrent, run_concurrent};
-pub use task_calls::{Answer, QualifiedThreadId, Step, SuspensionTarget, TaskError};
+pub use task_calls::{Answer, QualifiedThreadId, ResumeThread, Step, SuspensionTarget, TaskError};
+pub use task_group::TaskGroupId;
 pub use task_machine::{
     Callee, Component, ExportDef, HostDef, InstanceDef, Label, NoMemory, Op, Operand, Outcome, Slot,
 };

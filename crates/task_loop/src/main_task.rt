@@ -2,6 +2,7 @@ ghost use Rattle.std.specs.Prelude.{◌≡◌, ◌+◌, ◌<◌, ◌^◌, IfErr,
 ghost use Rattle.task_machine.specs.Core.{Main};
 ghost use Rattle.task_machine.specs.declared.component.Component.{Component};
 ghost use Rattle.task_machine.specs.declared.scenario.MainOpDef.{MainOpDef};
+ghost use Rattle.task_store.specs.Hosts.{HoldsHosts};
 ghost use Rattle.task_turns.specs.WellFormed.{IsWellFormed};
 ghost use Rattle.task_turns.specs.Later.{WorksLast};
 ghost use Rattle.task_turns.specs.Main.{Steps};
@@ -10,12 +11,12 @@ ghost use Rattle.task_words.specs.StateView.{StateView};
 
 use task_calls::TaskError;
 use task_machine::{Component, Turn};
-use task_store::{Access, Whole};
+use task_store::{Access, HostWork, Whole};
 use task_turns::MainStep;
 
 /// The host's own task, which starts calls and waits for them. It is a script, or any other
 /// program: then its part says so, and its labels need only be lawful in the store.
-pub trait MainTask<T, H> {
+pub trait MainTask<T, H: HostWork> {
     // Main's part of the machine's state.
     ghost part: { Self → Main };
 
@@ -41,6 +42,7 @@ pub trait MainTask<T, H> {
         requires order { Sits component.now Turn.Main access.old.store.now.state.core }
         requires suits { suits self.old component.now }
         requires knows { knows self.old access.old.store.now.state }
+        requires hosts { HoldsHosts H.course access.old.store.now }
         requires current { running_of access.old.store.now.state ≡ None }
         requires given { given access.old.store.now.state.core + 4 < 2 ^ 61 }
         ensures same { access.new.store.ghost_name ≡ access.old.store.ghost_name }
@@ -48,6 +50,7 @@ pub trait MainTask<T, H> {
         ensures script { script self.new ≡ script self.old }
         ensures suits { OnOk result (suits self.new component.now) }
         ensures knows { OnOk result (knows self.new access.new.store.now.state) }
+        ensures hosts { OnOk result (HoldsHosts H.course access.new.store.now) }
         ensures current { OnOk result (running_of access.new.store.now.state ≡ running_of access.old.store.now.state) }
         ensures ok { IfOk result (λ step. Steps component.now (script self.old) (part self.old) access.old.store.now.state.core step (part self.new) access.new.store.now.state.core) }
         ensures err { IfErr result (λ e. e ≡ TaskError.NoMemory) };

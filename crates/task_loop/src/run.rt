@@ -1,17 +1,19 @@
-ghost use Rattle.std.specs.Prelude.{◌≡◌, ◌*◌, ◌+◌, ◌<◌, ◌≤◌, ◌^◌, IfErr, IfOk, None, OnErr, OnOk, false, true, Bool};
+ghost use Rattle.std.specs.Prelude.{◌≡◌, ◌*◌, ◌+◌, ◌<◌, ◌≤◌, ◌^◌, IfErr, IfOk, None, OnErr, OnOk, Some, false, true, Bool};
+ghost use Rattle.task_ops.specs.Works.{NamesWorks};
 ghost use Rattle.task_rules.specs.Outcome.{outcome_of_label};
+ghost use Rattle.task_store.specs.Hosts.{HoldsHosts};
 ghost use Rattle.task_turns.specs.WellFormed.{IsWellFormed};
 ghost use Rattle.task_turns.specs.Drive.{Drives, Drove};
 ghost use Rattle.task_turns.specs.Main.{Steps};
-ghost use Rattle.task_turns.specs.Turn.{IsAtTurn, IsSettled, PendsIn, Sits, Turned, Turns, given, goes_on, is_open, running_of, runs_in, setting_of, state_at};
+ghost use Rattle.task_turns.specs.Turn.{IsAtTurn, IsFree, IsSettled, Makes, PendsIn, Sits, Turned, Turns, given, goes_on, is_open, running_of, runs_in, setting_of, state_at};
 
 use crate::main_task::MainTask;
 use task_calls::TaskError;
 use task_machine::{
     CallLabel, Component, Label, LoopLabel, MainLabel, NoMemory, Outcome, Trap, Turn,
 };
-use task_store::{Access, StandingRun, Store};
-use task_turns::{Made, MainStep, Trace, compute, is_idle, made_by_main, poll, step_run, take};
+use task_store::{Access, AccessorTask, FromHost, HostWork, StandingRun, Store};
+use task_turns::{Made, MainStep, Trace, compute, is_idle, made_by_main, step_run, take};
 
 /// A run of the event loop on a store.
 #[derive(Drop)]
@@ -59,7 +61,7 @@ fn outcome_of(label: Label) -> Option<Outcome>
 }
 
 // Lends the store to main for an op.
-fn ask_main<T, H, M: MainTask<T, H>>(
+fn ask_main<T, H: HostWork, M: MainTask<T, H>>(
     component: &Component,
     store: &mut Store<T, H>,
     main: &mut M,
@@ -68,12 +70,14 @@ fn ask_main<T, H, M: MainTask<T, H>>(
     requires order { Sits component.now Turn.Main store.old.state.core }
     requires suits { M.suits main.old component.now }
     requires knows { M.knows main.old store.old.state }
+    requires hosts { HoldsHosts H.course store.old }
     requires current { running_of store.old.state ≡ None }
     requires given { given store.old.state.core + 4 < 2 ^ 61 }
     ensures stands { store.new.running ≡ store.old.running }
     ensures script { M.script main.new ≡ M.script main.old }
     ensures suits { OnOk result (M.suits main.new component.now) }
     ensures knows { OnOk result (M.knows main.new store.new.state) }
+    ensures hosts { OnOk result (HoldsHosts H.course store.new) }
     ensures current { OnOk result (running_of store.new.state ≡ running_of store.old.state) }
     ensures ok { IfOk result (λ step. Steps component.now (M.script main.old) (M.part main.old) store.old.state.core step (M.part main.new) store.new.state.core) }
 {
@@ -82,7 +86,7 @@ fn ask_main<T, H, M: MainTask<T, H>>(
 }
 
 // Takes an op of main.
-fn step_main<T, H, M: MainTask<T, H>>(
+fn step_main<T, H: HostWork, M: MainTask<T, H>>(
     component: &Component,
     store: &mut Store<T, H>,
     main: &mut M,
@@ -91,17 +95,42 @@ fn step_main<T, H, M: MainTask<T, H>>(
     requires at { IsAtTurn component.now Turn.Main store.old.state }
     requires suits { M.suits main.old component.now }
     requires knows { M.knows main.old store.old.state }
+    requires hosts { HoldsHosts H.course store.old }
     requires given { given store.old.state.core + 4 < 2 ^ 61 }
     ensures stands { store.new.running ≡ store.old.running }
     ensures script { M.script main.new ≡ M.script main.old }
     ensures suits { OnOk result (M.suits main.new component.now) }
     ensures knows { OnOk result (M.knows main.new store.new.state) }
+    ensures hosts { OnOk result (HoldsHosts H.course store.new) }
     ensures turns { IfOk result (λ made. (trap_on_idle : Bool) → Turns (setting_of component.now (M.script main.old) trap_on_idle) Turn.Main (M.part main.old) store.old.state made (M.part main.new) store.new.state) }
 {
     let Ok(step) = ask_main(component, store, main) else {
         return Err(NoMemory);
     };
     Ok(made_by_main(&store.state, step))
+}
+
+// The running thread, which has this number, takes a step. A host that it calls is polled, and its
+// work is held.
+fn run_thread<T, H: AccessorTask<T> + FromHost>(
+    component: &Component,
+    store: &mut Store<T, H>,
+    thread: u64,
+) -> Result<Made, NoMemory>
+    requires covered { IsWellFormed component.now }
+    requires order { Sits component.now (Turn.Run thread) store.old.state.core }
+    requires current { running_of store.old.state ≡ Some thread }
+    requires given { given store.old.state.core + 4 < 2 ^ 61 }
+    requires hosts { HoldsHosts H.course store.old }
+    ensures stands { store.new.running ≡ store.old.running }
+    ensures makes { IfOk result (λ made. Makes component.now (Turn.Run thread) store.old.state made store.new.state) }
+    ensures free { IfOk result (λ made. IsFree made.turn) }
+    ensures works { OnOk result (NamesWorks store.old.state store.new.state) }
+    ensures hosts { OnOk result (HoldsHosts H.course store.new) }
+{
+    let ran = step_run(component, &mut store.state, thread)?;
+    store.call_host(ran.polled, ran.work)?;
+    Ok(ran.made)
 }
 
 impl RunConcurrent {
@@ -115,7 +144,7 @@ impl RunConcurrent {
     /// left; at the first call none runs. The run isn't over. Where main pended in the last call,
     /// its op pends still, which is so of each main that is no script. Where live works were polled,
     /// one is left to be polled, and where one ended, an entry stands.
-    pub fn drive<T, H, M: MainTask<T, H>>(
+    pub fn drive<T, H: AccessorTask<T> + FromHost, M: MainTask<T, H>>(
         &mut self,
         component: &Component,
         store: &mut Store<T, H>,
@@ -127,6 +156,7 @@ impl RunConcurrent {
         requires order { Sits component.now self.old.turn store.old.state.core }
         requires suits { M.suits main.old component.now }
         requires knows { M.knows main.old store.old.state }
+        requires hosts { HoldsHosts H.course store.old }
         requires given { given store.old.state.core ≤ 2 ^ 60 }
         requires current { running_of store.old.state ≡ runs_in self.old.turn }
         requires unfinished { is_open self.old.turn ≡ true }
@@ -135,6 +165,7 @@ impl RunConcurrent {
         ensures script { M.script main.new ≡ M.script main.old }
         ensures suits { OnOk result (M.suits main.new component.now) }
         ensures knows { OnOk result (M.knows main.new store.new.state) }
+        ensures hosts { OnOk result (HoldsHosts H.course store.new) }
         ensures idle { self.new.trap_on_idle ≡ self.old.trap_on_idle }
         ensures stands { store.new.running ≡ store.old.running }
         ensures ok { IfOk result (λ outcome. Drives (setting_of component.now (M.script main.old) self.old.trap_on_idle) (state_at store.old.state.core (M.part main.old) self.old.turn) trace.old (state_at store.new.state.core (M.part main.new) self.new.turn) trace.new steps outcome) }
@@ -156,7 +187,7 @@ impl RunConcurrent {
     }
 
     // Takes the turns.
-    fn go_on<T, H, M: MainTask<T, H>>(
+    fn go_on<T, H: AccessorTask<T> + FromHost, M: MainTask<T, H>>(
         &mut self,
         component: &Component,
         store: &mut Store<T, H>,
@@ -168,11 +199,13 @@ impl RunConcurrent {
         requires at { IsAtTurn component.now self.old.turn store.old.state }
         requires suits { M.suits main.old component.now }
         requires knows { M.knows main.old store.old.state }
+        requires hosts { HoldsHosts H.course store.old }
         requires given { given store.old.state.core ≤ 2 ^ 60 }
         requires pends { PendsIn (setting_of component.now (M.script main.old) self.old.trap_on_idle) store.old.state.core (M.part main.old) self.old.turn }
         ensures script { M.script main.new ≡ M.script main.old }
         ensures suits { OnOk result (M.suits main.new component.now) }
         ensures knows { OnOk result (M.knows main.new store.new.state) }
+        ensures hosts { OnOk result (HoldsHosts H.course store.new) }
         ensures idle { self.new.trap_on_idle ≡ self.old.trap_on_idle }
         ensures stands { store.new.running ≡ store.old.running }
         ensures ok { IfOk result (λ outcome. Drove (setting_of component.now (M.script main.old) self.old.trap_on_idle) (state_at store.old.state.core (M.part main.old) self.old.turn) trace.old (given store.old.state.core) self.new.turn (M.part main.new) store.new.state trace.new steps outcome) }
@@ -207,7 +240,7 @@ impl RunConcurrent {
 
     // Makes a step; none where nothing can go on and that is no deadlock. It is inlined, so that what it made is not copied.
     #[inline(always)]
-    fn turn<T, H, M: MainTask<T, H>>(
+    fn turn<T, H: AccessorTask<T> + FromHost, M: MainTask<T, H>>(
         &self,
         component: &Component,
         store: &mut Store<T, H>,
@@ -217,22 +250,21 @@ impl RunConcurrent {
         requires at { IsAtTurn component.now self.now.turn store.old.state }
         requires suits { M.suits main.old component.now }
         requires knows { M.knows main.old store.old.state }
+        requires hosts { HoldsHosts H.course store.old }
         requires given { given store.old.state.core + 4 < 2 ^ 61 }
         requires pends { PendsIn (setting_of component.now (M.script main.old) self.now.trap_on_idle) store.old.state.core (M.part main.old) self.now.turn }
         ensures script { M.script main.new ≡ M.script main.old }
         ensures suits { OnOk result (M.suits main.new component.now) }
         ensures knows { OnOk result (M.knows main.new store.new.state) }
+        ensures hosts { OnOk result (HoldsHosts H.course store.new) }
         ensures stands { store.new.running ≡ store.old.running }
         ensures turned { IfOk result (λ made. Turned (setting_of component.now (M.script main.old) self.now.trap_on_idle) self.now.turn (M.part main.old) store.old.state made (M.part main.new) store.new.state) }
     {
         match self.turn {
             Turn::Main => Ok(Some(step_main(component, store, main)?)),
-            Turn::Futures { polled } => Ok(Some(poll(&mut store.state, polled))),
+            Turn::Futures { polled } => Ok(Some(store.poll_next(polled))),
             Turn::Take { ended } => take(component, &mut store.state, ended, self.trap_on_idle),
-            Turn::Run { thread } => {
-                let ran = step_run(component, &mut store.state, thread)?;
-                Ok(Some(ran.made))
-            }
+            Turn::Run { thread } => Ok(Some(run_thread(component, store, thread)?)),
             Turn::Over => unreachable!(),
         }
     }

@@ -1,13 +1,16 @@
 //! Threads, as an instance's calls make, suspend and resume them.
-ghost use Rattle.std.specs.Prelude.{◌≡◌, min};
+ghost use Rattle.std.specs.Prelude.{◌≡◌, IfSome, min};
 ghost use Rattle.task_calls.specs.Answers.{answer_in, at_once, nothing_in, number_in};
-ghost use Rattle.task_calls.specs.Asks.{Answers, CanAsk, HasPaused, IsAtPlace, IsRunningIn, row_at, row_of, turn_in};
+ghost use Rattle.task_calls.specs.Asks.{Answers, CanAsk, HasPaused, IsRunningIn, row_at, row_of, turn_in};
+ghost use Rattle.task_calls.specs.Elsewhere.{KeepsFit};
 ghost use Rattle.task_calls.specs.Intrinsics.{suspension_op};
-ghost use Rattle.task_turns.specs.Turn.{Sits};
+ghost use Rattle.task_calls.specs.Resumes.{Resumed, resumed_by};
+ghost use Rattle.task_turns.specs.Turn.{Sits, running_of};
 
 use crate::instance::Instance;
 use task_calls::{
-    Answer, Step, SuspensionTarget, TaskError, ask_number, begin_nothing, go_on, suspension_op,
+    Answer, ResumeThread, Step, SuspensionTarget, TaskError, ask_number, begin_nothing, go_on,
+    resume_thread, suspension_op,
 };
 use task_machine::{Component, Op, Operand, ThreadOp};
 use task_store::Store;
@@ -22,7 +25,7 @@ impl Instance {
         requires running { IsRunningIn component.now store.old.state }
         requires asks { CanAsk self.index store.old.state }
         ensures answers { Answers (row_of component.now (Op.Thread (ThreadOp.Index 0)) store.old.state.core) number_in store.old.state (at_once result) store.new.state }
-        ensures order { IsAtPlace component.now (row_of component.now (Op.Thread (ThreadOp.Index 0)) store.old.state.core) store.old.state → Sits component.now (turn_in store.new.state) store.new.state.core }
+        ensures order { KeepsFit component.now (Op.Thread (ThreadOp.Index 0)) store.old.state store.new.state → Sits component.now (turn_in store.new.state) store.new.state.core }
         ensures rest { store.new ≡ record store.old { state = store.new.state } }
     {
         ask_number(
@@ -47,7 +50,7 @@ impl Instance {
         requires asks { CanAsk self.index store.old.state }
         requires caller { caller ≡ self.index }
         ensures answers { Answers (row_of component.now (Op.Thread (ThreadOp.New 0 (min slot 255) (Operand.Number context))) store.old.state.core) number_in store.old.state (at_once result) store.new.state }
-        ensures order { IsAtPlace component.now (row_of component.now (Op.Thread (ThreadOp.New 0 (min slot 255) (Operand.Number context))) store.old.state.core) store.old.state → Sits component.now (turn_in store.new.state) store.new.state.core }
+        ensures order { KeepsFit component.now (Op.Thread (ThreadOp.New 0 (min slot 255) (Operand.Number context))) store.old.state store.new.state → Sits component.now (turn_in store.new.state) store.new.state.core }
         ensures rest { store.new ≡ record store.old { state = store.new.state } }
     {
         let _caller = caller;
@@ -78,11 +81,35 @@ impl Instance {
         requires asks { CanAsk self.index store.old.state }
         requires caller { caller ≡ self.index }
         ensures answers { Answers (row_of component.now (suspension_op yielding target) store.old.state.core) nothing_in store.old.state result store.new.state }
-        ensures order { IsAtPlace component.now (row_of component.now (suspension_op yielding target) store.old.state.core) store.old.state → Sits component.now (turn_in store.new.state) store.new.state.core }
+        ensures order { KeepsFit component.now (suspension_op yielding target) store.old.state store.new.state → Sits component.now (turn_in store.new.state) store.new.state.core }
         ensures rest { store.new ≡ record store.old { state = store.new.state } }
     {
         let _caller = caller;
         begin_nothing(component, &mut store.state, suspension_op(yielding, target))
+    }
+
+    /// The thread of this instance that the handle names goes on: next, where it has yielded and is to be promoted, or where it is
+    /// suspended or wasn't started; or later, as `resume_later` has it, and then that op is done. Else the current thread
+    /// goes on where it is, and may suspend or yield next. Answers false exactly where a thread that is to be promoted hasn't
+    /// yielded, and nothing is changed then. Refused with trap 16 where the handle names no thread, and with trap 11 where that
+    /// is the current one, or one that isn't to be promoted and is neither suspended nor unstarted; nothing is changed then.
+    pub fn resume_thread<T, H>(
+        self,
+        component: &Component,
+        store: &mut Store<T, H>,
+        caller: u32,
+        thread: u32,
+        how: ResumeThread,
+    ) -> Result<bool, TaskError>
+        requires running { IsRunningIn component.now store.old.state }
+        requires asks { CanAsk self.index store.old.state }
+        requires caller { caller ≡ self.index }
+        ensures resumed { IfSome (running_of store.old.state) (λ n. Resumed (resumed_by how n thread store.old.state.core) store.old.state result store.new.state) }
+        ensures order { how ≡ ResumeThread.ResumeLater → KeepsFit component.now (Op.Thread (ThreadOp.ResumeLater (Operand.Number thread))) store.old.state store.new.state → Sits component.now (turn_in store.new.state) store.new.state.core }
+        ensures rest { store.new ≡ record store.old { state = store.new.state } }
+    {
+        let _caller = caller;
+        resume_thread(component, &mut store.state, thread, how)
     }
 
     /// The op of the current thread that has paused is taken further; it is the one at the thread's place. Its answer is

@@ -1,7 +1,8 @@
 //! Waitable sets, as an instance's calls change them.
 ghost use Rattle.std.specs.Prelude.{◌≡◌};
 ghost use Rattle.task_calls.specs.Answers.{at_once, event_in, nothing_in, number_in};
-ghost use Rattle.task_calls.specs.Asks.{Answers, CanAsk, IsAtPlace, IsRunningIn, row_of, turn_in};
+ghost use Rattle.task_calls.specs.Asks.{Answers, CanAsk, IsRunningIn, row_of, turn_in};
+ghost use Rattle.task_calls.specs.Elsewhere.{KeepsFit};
 ghost use Rattle.task_turns.specs.Turn.{Sits};
 
 use crate::instance::Instance;
@@ -22,7 +23,7 @@ impl Instance {
         requires asks { CanAsk self.index store.old.state }
         requires caller { caller ≡ self.index }
         ensures answers { Answers (row_of component.now (Op.Set (SetOp.New 0)) store.old.state.core) number_in store.old.state (at_once result) store.new.state }
-        ensures order { IsAtPlace component.now (row_of component.now (Op.Set (SetOp.New 0)) store.old.state.core) store.old.state → Sits component.now (turn_in store.new.state) store.new.state.core }
+        ensures order { KeepsFit component.now (Op.Set (SetOp.New 0)) store.old.state store.new.state → Sits component.now (turn_in store.new.state) store.new.state.core }
         ensures rest { store.new ≡ record store.old { state = store.new.state } }
     {
         let _caller = caller;
@@ -42,7 +43,7 @@ impl Instance {
         requires asks { CanAsk self.index store.old.state }
         requires caller { caller ≡ self.index }
         ensures answers { Answers (row_of component.now (Op.Set (SetOp.Drop (Operand.Number set))) store.old.state.core) nothing_in store.old.state (at_once result) store.new.state }
-        ensures order { IsAtPlace component.now (row_of component.now (Op.Set (SetOp.Drop (Operand.Number set))) store.old.state.core) store.old.state → Sits component.now (turn_in store.new.state) store.new.state.core }
+        ensures order { KeepsFit component.now (Op.Set (SetOp.Drop (Operand.Number set))) store.old.state store.new.state → Sits component.now (turn_in store.new.state) store.new.state.core }
         ensures rest { store.new ≡ record store.old { state = store.new.state } }
     {
         let _caller = caller;
@@ -68,7 +69,7 @@ impl Instance {
         requires asks { CanAsk self.index store.old.state }
         requires caller { caller ≡ self.index }
         ensures answers { Answers (row_of component.now (Op.Set (SetOp.Poll 0 (Operand.Number set))) store.old.state.core) event_in store.old.state (at_once result) store.new.state }
-        ensures order { IsAtPlace component.now (row_of component.now (Op.Set (SetOp.Poll 0 (Operand.Number set))) store.old.state.core) store.old.state → Sits component.now (turn_in store.new.state) store.new.state.core }
+        ensures order { KeepsFit component.now (Op.Set (SetOp.Poll 0 (Operand.Number set))) store.old.state store.new.state → Sits component.now (turn_in store.new.state) store.new.state.core }
         ensures rest { store.new ≡ record store.old { state = store.new.state } }
     {
         let _caller = caller;
@@ -95,7 +96,7 @@ impl Instance {
         requires asks { CanAsk self.index store.old.state }
         requires caller { caller ≡ self.index }
         ensures answers { Answers (row_of component.now (Op.Set (SetOp.Wait 0 (Operand.Number set))) store.old.state.core) event_in store.old.state result store.new.state }
-        ensures order { IsAtPlace component.now (row_of component.now (Op.Set (SetOp.Wait 0 (Operand.Number set))) store.old.state.core) store.old.state → Sits component.now (turn_in store.new.state) store.new.state.core }
+        ensures order { KeepsFit component.now (Op.Set (SetOp.Wait 0 (Operand.Number set))) store.old.state store.new.state → Sits component.now (turn_in store.new.state) store.new.state.core }
         ensures rest { store.new ≡ record store.old { state = store.new.state } }
     {
         let _caller = caller;
@@ -124,7 +125,7 @@ impl Instance {
         requires asks { CanAsk self.index store.old.state }
         requires caller { caller ≡ self.index }
         ensures answers { Answers (row_of component.now (Op.Set (SetOp.Join (Operand.Number waitable) (Operand.Number set))) store.old.state.core) nothing_in store.old.state (at_once result) store.new.state }
-        ensures order { IsAtPlace component.now (row_of component.now (Op.Set (SetOp.Join (Operand.Number waitable) (Operand.Number set))) store.old.state.core) store.old.state → Sits component.now (turn_in store.new.state) store.new.state.core }
+        ensures order { KeepsFit component.now (Op.Set (SetOp.Join (Operand.Number waitable) (Operand.Number set))) store.old.state store.new.state → Sits component.now (turn_in store.new.state) store.new.state.core }
         ensures rest { store.new ≡ record store.old { state = store.new.state } }
     {
         let _caller = caller;

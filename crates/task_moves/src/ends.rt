@@ -19,6 +19,7 @@ fn exit_task<W: Words>(w: &mut W, thread: ThreadId, call: CallId)
 }
 
 /// The thread gives back its handle and is gone, and what that settles is done.
+#[inline(always)]
 pub fn end_thread<W: Words>(w: &mut W, thread: ThreadId)
     requires live { 0 < thread_of (W.view w.old) thread }
     requires apart { IsApart (thread_of (W.view w.old) thread) (W.view w.old).core }

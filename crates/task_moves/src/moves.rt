@@ -46,6 +46,7 @@ fn displace<W: Words>(w: &mut W)
 
 /// A thread without an entry gets the one at switch.
 #[tactic(auto, unfolding(task_machine::specs::Moves::put_switch))]
+#[inline(always)]
 pub fn put_switch<W: Words>(w: &mut W, thread: ThreadId, why: WhyId)
     requires live { 0 < thread_of (W.view w.old) thread }
     requires switch { IsSwitchUnqueued (W.view w.old).core }
@@ -59,6 +60,7 @@ pub fn put_switch<W: Words>(w: &mut W, thread: ThreadId, why: WhyId)
 
 /// The entry of a thread moves to switch, where none stands.
 #[tactic(auto, using(crate::proofs::MoveLemmas::promoted_is))]
+#[inline(always)]
 pub fn promote<W: Words>(w: &mut W, thread: ThreadId)
     requires { 0 < thread_of (W.view w.old) thread }
     ensures { W.view w.new ≡ on_core (promoted (thread_of (W.view w.old) thread)) (W.view w.old) }
@@ -89,6 +91,7 @@ pub fn passes_check<W: Words>(w: &W, instance: u32) -> bool
 
 /// A check that passes: where the instance may not block, its first entry moves to switch.
 #[tactic(auto, unfolding(task_machine::specs::Moves::checked))]
+#[inline(always)]
 pub fn check<W: Words>(w: &mut W, instance: u32)
     ensures { W.view w.new ≡ on_core (checked instance) (W.view w.old) }
 {

@@ -17,6 +17,7 @@ pub fn settle_interest<W: Words>(w: &mut W, call: CallId)
 
 /// The call is deleted, if nothing keeps it.
 #[tactic(auto, using(crate::proofs::MoveLemmas::no_thread_left, crate::proofs::MoveLemmas::keeps_all), unfolding(task_machine::specs::Moves::call_settled))]
+#[inline(always)]
 pub fn settle_call<W: Words>(w: &mut W, call: CallId)
     requires { 0 < call_of (W.view w.old) call }
     ensures core { (W.view w.new).core ≡ call_settled (call_of (W.view w.old) call) (W.view w.old).core }

@@ -33,6 +33,7 @@ fn pass_callers<W: Words>(w: &mut W, foot: ThreadId, other: ThreadId)
 }
 
 /// The strand with this foot stops.
+#[inline(always)]
 pub fn stop<W: Words>(w: &mut W, foot: ThreadId)
     requires live { 0 < thread_of (W.view w.old) foot }
     requires may { MayStop (thread_of (W.view w.old) foot) (W.view w.old).core }

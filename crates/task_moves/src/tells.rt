@@ -24,6 +24,7 @@ pub fn is_told<W: Words>(w: &W, call: CallId) -> bool
 
 /// The waiter that is woken where a status of the call is told now.
 #[tactic(auto, unfolding(task_rules::specs::Ends::may_tell))]
+#[inline(always)]
 pub fn tell_waiter<W: Words>(w: &W, call: CallId) -> Option<ThreadId>
     requires { IsJoinThere (subtasks.Guest (call_of (W.view w.now) call)) (W.view w.now).core }
     ensures choice { may_tell (call_of (W.view w.now) call) (option_map (λ id. thread_of (W.view w.now) id) result) (W.view w.now).core ≡ true }
@@ -65,6 +66,7 @@ fn give_result<W: Words>(w: &mut W, goal: Goal, caller: CallerId, call: CallId, 
 
 /// The task ends as Returned with the value.
 #[tactic(auto, unfolding(task_rules::specs::Ends::returned))]
+#[inline(always)]
 pub fn return_value<W: Words>(w: &mut W, call: CallId, value: u64, waiter: Option<ThreadId>)
     requires { CanPublish (subtasks.Guest (call_of (W.view w.old) call)) waiter (W.view w.old) }
     ensures { W.view w.new ≡ on_core (returned (call_of (W.view w.old) call) value (option_map (λ id. thread_of (W.view w.old) id) waiter)) (W.view w.old) }

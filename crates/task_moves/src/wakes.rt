@@ -41,6 +41,7 @@ fn is_callback_waiter<W: Words>(w: &W, thread: ThreadId) -> bool
 
 /// The chosen waiter of the set is woken.
 #[tactic(auto, unfolding(task_machine::specs::Moves::wake))]
+#[inline(always)]
 pub fn wake_chosen<W: Words>(w: &mut W, set: SetId, waiter: Option<ThreadId>)
     requires live { IfSome waiter (λ id. 0 < thread_of (W.view w.old) id) }
     requires unqueued { IfSome waiter (λ id. IsUnqueued (thread_of (W.view w.old) id) (W.view w.old).core) }

@@ -1,7 +1,7 @@
 -- Threads that are let run first, and threads made.
 use Rattle.std.proofs.Common.{T, ap, ap₂, arith, cond, refl, subst, sym, ◌∙◌}
 use Rattle.std.specs.Option.{option_map_or}
-use Rattle.std.specs.Prelude.{Bool, None, Option, Some, [], false, if◌then◌else◌, is_some, not, option_and_then, option_map, true, ℕ, ◌&&◌, ◌+◌, ◌<◌, ◌==◌, ◌∷◌, ◌≡◌}
+use Rattle.std.specs.Prelude.{Bool, Err, None, Ok, Option, Result, Some, [], false, if◌then◌else◌, is_some, not, option_and_then, option_map, true, ℕ, ◌&&◌, ◌+◌, ◌<◌, ◌==◌, ◌∷◌, ◌≡◌}
 use Rattle.task_table.specs.declared.id.TableId.{TableId}
 use Rattle.task_wait.specs.declared.keys.ThreadKey.{ThreadKey}
 use Rattle.task_machine.specs.Core.{Core}
@@ -21,10 +21,11 @@ use Rattle.task_machine.specs.declared.records.Place.{Place}
 use Rattle.task_machine.specs.declared.records.Place.TheVariants as place
 use Rattle.task_machine.specs.declared.records.Thread.{Thread}
 use Rattle.task_machine.specs.declared.records.Why.{Why}
+use Rattle.task_machine.specs.declared.trap.Trap.{Trap}
 use Rattle.task_machine.specs.declared.trap.Trap.TheVariants as trap
 use Rattle.task_machine.specs.declared.words.Mark.{Mark}
-use Rattle.task_ops.proofs.RunLemmas.{stands_on}
 use Rattle.task_ops.specs.Came.{Meets}
+use Rattle.task_ops.specs.Halting.{ComesFirst, First, GoesFirst, Refused, StaysBehind, halts_then, or_refused, promoted_first, promoted_found, promoted_if, refused_if, resumed_first, resumed_found}
 use Rattle.task_ops.specs.Running.{IsRunning}
 use Rattle.task_ops.specs.declared.came.Came.{Came}
 use Rattle.task_ops.specs.declared.came.Came.TheVariants as came
@@ -35,8 +36,9 @@ use Rattle.task_rules.specs.Scripts.{registers_for}
 use Rattle.task_ops.proofs.BesideLemmas.{promoted_unless_stand, put_switch_good}
 use Rattle.task_rules.proofs.MoveLemmas.{is_parked}
 use Rattle.task_rules.proofs.StandLemmas.{by_number}
-use Rattle.task_rules.specs.Progress.{Goes, Progress, or_trap, trap_if}
-use Rattle.task_rules.specs.Threads.{Halt, halted, halted_promoting, has_yielded, resume_at, resume_why, then_promote, then_promote_found, then_promote_row, thread_made, thread_new_label, thread_new_row}
+use Rattle.task_rules.specs.Cancels.{pauses}
+use Rattle.task_rules.specs.Progress.{Goes, Progress, Stops, or_trap, trap_if}
+use Rattle.task_rules.specs.Threads.{Halt, halt_row, halted, halted_promoting, halted_resuming, has_yielded, resume_at, resume_why, then_promote, then_promote_found, then_promote_row, then_resume_found, then_resume_row, thread_made, thread_new_label, thread_new_row}
 use Rattle.task_words.specs.Live.{kept_in, live_thread}
 use Rattle.task_words.specs.StateView.{Keeps, StateView, on_core, thread_of}
 
@@ -54,11 +56,6 @@ resumable b p w e = grind arith
 resumable_at : (b : Bool) (o : Option Place) (w : Why) → option_and_then (resume_at b) o ≡ Some w → (p : Place) × ((o ≡ Some p) × (is_parked p ≡ true))
 resumable_at b None w e = none_is_some e
 resumable_at b (Some p) w e = (p, (refl, resumable b p w e))
-
-pub switched_runs : (n m : TableId ThreadKey) (w : Why) (s t : StateView) → IsRunning (thread_of s n) s.core → Some w ≡ resume_why (thread_of s m) s.core → t ≡ on_core (put_switch (thread_of s m) w) s → IsRunning (thread_of t n) t.core
-switched_runs n m w s t st e d =
-    let r = resumable_at (is_explicit (thread_of s m) s.core) (place_of (thread_of s m) s.core) w (sym e) in
-    stands_on n place.Running (put_switch (thread_of s m) w) s t d (put_switch_good (thread_of s n) place.Running refl (thread_of s m) w r.0 s.core r.1.0 r.1.1 st)
 
 -- ---- A thread that has yielded has its entry
 
@@ -84,9 +81,6 @@ promoted_stands n m s st e =
     both : {x : Mark} {w : Why} → Some place.Running ≡ Some (place.Ready x w) → ⊥
     both e = cc
 
-pub promoted_runs : (n m : TableId ThreadKey) (s t : StateView) → IsRunning (thread_of s n) s.core → has_yielded (thread_of s m) s.core ≡ true → t ≡ on_core (promoted_unless (thread_of s m)) s → IsRunning (thread_of t n) t.core
-promoted_runs n m s t st e d = stands_on n place.Running (promoted_unless (thread_of s m)) s t d (promoted_stands (thread_of s n) (thread_of s m) s.core st e)
-
 -- ---- Which thread a handle names, where that may be gone
 
 gone_yields : (m : ℕ) (s : Core) → get s.threads m ≡ None → has_yielded m s ≡ false
@@ -105,8 +99,8 @@ yielded_live m s zero e = by_number m 0 (0 < m) (λ same. absurd (both (sym e �
         by_cases : (k : ℕ) → (k == 0) ≡ false → 0 < k
         by_cases k d = grind (arith, d)
 
-found_is : (x : Halt) (l : Label) (n m k : ℕ) (s : Core) → get s.threads 0 ≡ None → (r : Thread) → get s.threads n ≡ Some r → k ≡ kept_in s.threads m → (k ≡ n → ⊥) → then_promote_found x n l s m ≡ then_promote x n l s k (has_yielded k s)
-found_is x l n m k s zero r at kept other = go (get s.threads m) refl
+found_is : (n m k : ℕ) (s : Core) → get s.threads 0 ≡ None → (r : Thread) → get s.threads n ≡ Some r → k ≡ kept_in s.threads m → (k ≡ n → ⊥) → promoted_found n s m ≡ promoted_if (has_yielded k s) k s
+found_is n m k s zero r at kept other = go (get s.threads m) refl
   where
     apart : (j : ℕ) → (j ≡ n → ⊥) → (j == n) ≡ false
     apart j h = by_number j n ((j == n) ≡ false) (λ e. absurd (h e)) (λ e. e)
@@ -117,14 +111,14 @@ found_is x l n m k s zero r at kept other = go (get s.threads m) refl
         no_both : None ≡ Some r → ⊥
         no_both e = cc
 
-    passes : (m == n) ≡ false → has_yielded m s ≡ has_yielded k s → (has_yielded k s ≡ true → m ≡ k) → then_promote_found x n l s m ≡ then_promote x n l s k (has_yielded k s)
-    passes d same number = ap (λ b. trap_if b trap.CannotResumeThread (then_promote x n l s m (has_yielded m s))) d ∙ (ap (then_promote x n l s m) same ∙ by_yield (has_yielded k s) number)
+    passes : (m == n) ≡ false → has_yielded m s ≡ has_yielded k s → (has_yielded k s ≡ true → m ≡ k) → promoted_found n s m ≡ promoted_if (has_yielded k s) k s
+    passes d same number = ap (λ b. refused_if b trap.CannotResumeThread (promoted_if (has_yielded m s) m s)) d ∙ (ap (λ b. promoted_if b m s) same ∙ by_yield (has_yielded k s) number)
       where
-        by_yield : (b : Bool) → (b ≡ true → m ≡ k) → then_promote x n l s m b ≡ then_promote x n l s k b
-        by_yield true h = ap (λ (j : ℕ). then_promote x n l s j true) (h refl)
+        by_yield : (b : Bool) → (b ≡ true → m ≡ k) → promoted_if b m s ≡ promoted_if b k s
+        by_yield true h = ap (λ (j : ℕ). promoted_if true j s) (h refl)
         by_yield false h = refl
 
-    go : (o : Option Thread) → get s.threads m ≡ o → then_promote_found x n l s m ≡ then_promote x n l s k (has_yielded k s)
+    go : (o : Option Thread) → get s.threads m ≡ o → promoted_found n s m ≡ promoted_if (has_yielded k s) k s
     go None gone =
         let nought : k ≡ 0 = kept ∙ ap (λ (o : Option Thread). if is_some o then m else 0) gone in
         let none : has_yielded k s ≡ false = ap (λ (j : ℕ). has_yielded j s) nought ∙ gone_yields 0 s zero in
@@ -146,27 +140,182 @@ at_thread n p s e = go (get s.threads n) refl e
         no_both e = cc
     go (Some r) at h = (r, at)
 
-pub promote_row_is : (x : Halt) (l : Label) (n i h k : ℕ) (s : Core) → get s.threads 0 ≡ None → IsRunning n s → i ≡ instance_of n s → Some k ≡ option_map (λ m. live_thread m s) (thread_at i h s) → (k ≡ n → ⊥) → then_promote_row x n h l s ≡ then_promote x n l s k (has_yielded k s)
-promote_row_is x l n i h k s zero st at named other = go (thread_at (instance_of n s) h s) refl (named ∙ ap (λ (j : ℕ). option_map (λ m. live_thread m s) (thread_at j h s)) at)
+first_is : (n i h k : ℕ) (s : Core) → get s.threads 0 ≡ None → IsRunning n s → i ≡ instance_of n s → Some k ≡ option_map (λ m. live_thread m s) (thread_at i h s) → (k ≡ n → ⊥) → promoted_first n h s ≡ promoted_if (has_yielded k s) k s
+first_is n i h k s zero st at named other = go (thread_at (instance_of n s) h s) refl (named ∙ ap (λ (j : ℕ). option_map (λ m. live_thread m s) (thread_at j h s)) at)
   where
-    go : (o : Option ℕ) → thread_at (instance_of n s) h s ≡ o → Some k ≡ option_map (λ m. live_thread m s) o → or_trap o trap.BadHandle (then_promote_found x n l s) ≡ then_promote x n l s k (has_yielded k s)
+    go : (o : Option ℕ) → thread_at (instance_of n s) h s ≡ o → Some k ≡ option_map (λ m. live_thread m s) o → or_refused o trap.BadHandle (promoted_found n s) ≡ promoted_if (has_yielded k s) k s
     go None e d = absurd (no_both d)
       where
         no_both : Some k ≡ None → ⊥
         no_both e = cc
-    go (Some m) e d = let r = at_thread n place.Running s st.here in found_is x l n m k s zero r.0 r.1 (same_some k (live_thread m s) d) other
+    go (Some m) e d = let r = at_thread n place.Running s st.here in found_is n m k s zero r.0 r.1 (same_some k (live_thread m s) d) other
       where
         same_some : (a b : ℕ) → Some a ≡ Some b → a ≡ b
         same_some a b e = cc
 
-pub promote_meets : (x : Halt) (l : Label) (n i h k : ℕ) (b : Bool) (s t : Core) (r : Came) → get s.threads 0 ≡ None → IsRunning n s → i ≡ instance_of n s → Some k ≡ option_map (λ m. live_thread m s) (thread_at i h s) → (k ≡ n → ⊥) → b ≡ has_yielded k s → Meets (then_promote x n l s k b) s r t → Meets (then_promote_row x n h l s) s r t
-promote_meets x l n i h k b s t r zero st at named other is meets =
-    subst (λ (p : Progress). Meets p s r t) (sym (promote_row_is x l n i h k s zero st at named other)) (subst (λ (c : Bool). Meets (then_promote x n l s k c) s r t) is meets)
+-- what becomes of a thread by its id is so of the one that the handle names
+pub comes_by_id : (n i h k : ℕ) (b : Bool) (s t : StateView) (r : Result Bool Trap) → get s.core.threads 0 ≡ None → IsRunning n s.core → i ≡ instance_of n s.core → Some k ≡ option_map (λ m. live_thread m s.core) (thread_at i h s.core) → (k ≡ n → ⊥) → b ≡ has_yielded k s.core → ComesFirst (promoted_if b k s.core) s r t → ComesFirst (promoted_first n h s.core) s r t
+comes_by_id n i h k b s t r zero st at named other is comes =
+    subst (λ (f : First). ComesFirst f s r t) (sym (first_is n i h k s.core zero st at named other)) (subst (λ (c : Bool). ComesFirst (promoted_if c k s.core) s r t) is comes)
 
-pub promoted_meets : (x : Halt) (l : Label) (n m : TableId ThreadKey) (k : ℕ) (s t u : StateView) → k ≡ thread_of s n → t ≡ on_core (promoted_unless (thread_of s m)) s → u ≡ on_core (halted x (thread_of t n)) t → Meets (then_promote x (thread_of s n) l s.core (thread_of s m) true) s.core (came.Stops (label.Thread (thread_label.Pauses k))) u.core
+-- ---- The strand stops then
+
+-- a thread that lets another one go first runs still
+resumed_still : (n h : ℕ) (s : Core) → IsRunning n s → (new : Core) → resumed_first n h s ≡ GoesFirst new → IsRunning n new
+resumed_still n h s st new is = at (thread_at (instance_of n s) h s) is
+  where
+    why : (m : ℕ) (o : Option Why) → resume_why m s ≡ o → or_refused o trap.CannotResumeThread (λ w. GoesFirst (put_switch m w s)) ≡ GoesFirst new → IsRunning n new
+    why m None is e = absurd (cc)
+    why m (Some w) is e =
+        let r = resumable_at (is_explicit m s) (place_of m s) w is in
+        let at : put_switch m w s ≡ new = cc in
+        subst (IsRunning n) at (put_switch_good n place.Running refl m w r.0 s r.1.0 r.1.1 st)
+
+    own : (m : ℕ) (b : Bool) → refused_if b trap.CannotResumeThread (or_refused (resume_why m s) trap.CannotResumeThread (λ w. GoesFirst (put_switch m w s))) ≡ GoesFirst new → IsRunning n new
+    own m true e = absurd (cc)
+    own m false e = why m (resume_why m s) refl e
+
+    at : (o : Option ℕ) → or_refused o trap.BadHandle (resumed_found n s) ≡ GoesFirst new → IsRunning n new
+    at None e = absurd (cc)
+    at (Some m) e = own m (m == n) e
+
+promoted_still : (n h : ℕ) (s : Core) → IsRunning n s → (new : Core) → promoted_first n h s ≡ GoesFirst new → IsRunning n new
+promoted_still n h s st new is = at (thread_at (instance_of n s) h s) is
+  where
+    by : (m : ℕ) (b : Bool) → has_yielded m s ≡ b → promoted_if b m s ≡ GoesFirst new → IsRunning n new
+    by m true yields e = let at : promoted_unless m s ≡ new = cc in subst (IsRunning n) at (promoted_stands n m s st yields)
+    by m false yields e = absurd (cc)
+
+    own : (m : ℕ) (b : Bool) → refused_if b trap.CannotResumeThread (promoted_if (has_yielded m s) m s) ≡ GoesFirst new → IsRunning n new
+    own m true e = absurd (cc)
+    own m false e = by m (has_yielded m s) refl e
+
+    at : (o : Option ℕ) → or_refused o trap.BadHandle (promoted_found n s) ≡ GoesFirst new → IsRunning n new
+    at None e = absurd (cc)
+    at (Some m) e = own m (m == n) e
+
+comes_still : (id : TableId ThreadKey) (f : First) (s t : StateView) (r : Result Bool Trap) → ((new : Core) → f ≡ GoesFirst new → IsRunning (thread_of s id) new) → IsRunning (thread_of s id) s.core → ComesFirst f s r t → IsRunning (thread_of t id) t.core
+comes_still id (GoesFirst new) s t r still st h = subst (λ (v : StateView). IsRunning (thread_of v id) v.core) (sym h.1) (still new refl)
+comes_still id StaysBehind s t r still st h = subst (λ (v : StateView). IsRunning (thread_of v id) v.core) (sym h.1) st
+comes_still id (Refused why) s t r still st h = subst (λ (v : StateView). IsRunning (thread_of v id) v.core) (sym h.1) st
+
+pub resumed_runs : (id : TableId ThreadKey) (h : ℕ) (s t : StateView) (r : Result Bool Trap) → IsRunning (thread_of s id) s.core → ComesFirst (resumed_first (thread_of s id) h s.core) s r t → IsRunning (thread_of t id) t.core
+resumed_runs id h s t r st comes = comes_still id (resumed_first (thread_of s id) h s.core) s t r (resumed_still (thread_of s id) h s.core st) st comes
+
+pub promoted_runs : (id : TableId ThreadKey) (h : ℕ) (s t : StateView) (r : Result Bool Trap) → IsRunning (thread_of s id) s.core → ComesFirst (promoted_first (thread_of s id) h s.core) s r t → IsRunning (thread_of t id) t.core
+promoted_runs id h s t r st comes = comes_still id (promoted_first (thread_of s id) h s.core) s t r (promoted_still (thread_of s id) h s.core st) st comes
+
+-- the ids name what they named, and the same thread is current
+pub comes_same : (f : First) (s t : StateView) (r : Result Bool Trap) → ComesFirst f s r t → (t.tags ≡ s.tags) × (t.current ≡ s.current)
+comes_same (GoesFirst new) s t r h = (ap (λ (v : StateView). v.tags) h.1, ap (λ (v : StateView). v.current) h.1)
+comes_same StaysBehind s t r h = (ap (λ (v : StateView). v.tags) h.1, ap (λ (v : StateView). v.current) h.1)
+comes_same (Refused why) s t r h = (ap (λ (v : StateView). v.tags) h.1, ap (λ (v : StateView). v.current) h.1)
+
+-- the rows of the ops that let another thread go first
+resume_halts : (x : Halt) (n h : ℕ) (l : Label) (s : Core) → then_resume_row x n h s ≡ halts_then x n l s (resumed_first n h s)
+unfolding halted_resuming
+resume_halts x n h l s = at (thread_at (instance_of n s) h s)
+  where
+    why : (m : ℕ) (o : Option Why) → or_trap o trap.CannotResumeThread (λ w. Stops (pauses n) (halted_resuming x n m w s)) ≡ halts_then x n l s (or_refused o trap.CannotResumeThread (λ w. GoesFirst (put_switch m w s)))
+    why m None = refl
+    why m (Some w) = refl
+
+    own : (m : ℕ) (b : Bool) → trap_if b trap.CannotResumeThread (or_trap (resume_why m s) trap.CannotResumeThread (λ w. Stops (pauses n) (halted_resuming x n m w s))) ≡ halts_then x n l s (refused_if b trap.CannotResumeThread (or_refused (resume_why m s) trap.CannotResumeThread (λ w. GoesFirst (put_switch m w s))))
+    own m true = refl
+    own m false = why m (resume_why m s)
+
+    at : (o : Option ℕ) → or_trap o trap.BadHandle (then_resume_found x n s) ≡ halts_then x n l s (or_refused o trap.BadHandle (resumed_found n s))
+    at None = refl
+    at (Some m) = own m (m == n)
+
+promote_halts : (x : Halt) (n h : ℕ) (l : Label) (s : Core) → then_promote_row x n h l s ≡ halts_then x n l s (promoted_first n h s)
 unfolding halted_promoting
-promoted_meets x l n m k s t u is e d =
-    (ap (λ (j : ℕ). came.Stops (label.Thread (thread_label.Pauses j))) is, ap (λ (v : StateView). v.core) d ∙ ap (λ (v : StateView). halted x (thread_of v n) v.core) e)
+promote_halts x n h l s = at (thread_at (instance_of n s) h s)
+  where
+    by : (m : ℕ) (b : Bool) → then_promote x n l s m b ≡ halts_then x n l s (promoted_if b m s)
+    by m true = refl
+    by m false = refl
+
+    own : (m : ℕ) (b : Bool) → trap_if b trap.CannotResumeThread (then_promote x n l s m (has_yielded m s)) ≡ halts_then x n l s (refused_if b trap.CannotResumeThread (promoted_if (has_yielded m s) m s))
+    own m true = refl
+    own m false = by m (has_yielded m s)
+
+    at : (o : Option ℕ) → or_trap o trap.BadHandle (then_promote_found x n l s) ≡ halts_then x n l s (or_refused o trap.BadHandle (promoted_found n s))
+    at None = refl
+    at (Some m) = own m (m == n)
+
+-- an op that lets another thread go first, by what became of that
+module _ (x : Halt) (l : Label) (id : TableId ThreadKey) (f : First) (s t u : StateView) where
+  refused_is : (why : Trap) → ComesFirst f s (Err why) t → Meets (halts_then x (thread_of s id) l s.core f) s.core (came.Traps why) t.core
+  refused_is why h = by f h
+    where
+      by : (f : First) → ComesFirst f s (Err why) t → Meets (halts_then x (thread_of s id) l s.core f) s.core (came.Traps why) t.core
+      by (GoesFirst new) h = absurd (let e = h.0 in cc)
+      by StaysBehind h = absurd (let e = h.0 in cc)
+      by (Refused t) h = let e = h.0 in (cc, ap (λ (v : StateView). v.core) h.1)
+
+  stops_is : (k : ℕ) → k ≡ thread_of s id → ComesFirst f s (Ok true) t → u ≡ on_core (halted x (thread_of t id)) t → Meets (halts_then x (thread_of s id) l s.core f) s.core (came.Stops (label.Thread (thread_label.Pauses k))) u.core
+  stops_is k number h e = by f h
+    where
+      by : (f : First) → ComesFirst f s (Ok true) t → Meets (halts_then x (thread_of s id) l s.core f) s.core (came.Stops (label.Thread (thread_label.Pauses k))) u.core
+      by (GoesFirst new) h = (
+        ap (λ (j : ℕ). came.Stops (label.Thread (thread_label.Pauses j))) number,
+        ap (λ (v : StateView). v.core) e ∙ ap (λ (v : StateView). halted x (thread_of v id) v.core) h.1,
+      )
+      by StaysBehind h = absurd (let e = h.0 in cc)
+      by (Refused t) h = absurd (let e = h.0 in cc)
+
+  plain_is : (r : Came) → ComesFirst f s (Ok false) t → Meets (halt_row x (thread_of t id) l t.core) t.core r u.core → Meets (halts_then x (thread_of s id) l s.core f) s.core r u.core
+  plain_is r h m = by f h
+    where
+      by : (f : First) → ComesFirst f s (Ok false) t → Meets (halts_then x (thread_of s id) l s.core f) s.core r u.core
+      by (GoesFirst new) h = absurd (let e = h.0 in cc)
+      by StaysBehind h = subst (λ (v : StateView). Meets (halt_row x (thread_of v id) l v.core) v.core r u.core) h.1 m
+      by (Refused t) h = absurd (let e = h.0 in cc)
+
+-- one that is resumed goes first, or that is refused
+resumed_is : (n h : ℕ) (s t : StateView) (b : Bool) → ComesFirst (resumed_first n h s.core) s (Ok b) t → b ≡ true
+resumed_is n h s t b comes = at (thread_at (instance_of n s.core) h s.core) comes
+  where
+    why : (m : ℕ) (o : Option Why) → ComesFirst (or_refused o trap.CannotResumeThread (λ w. GoesFirst (put_switch m w s.core))) s (Ok b) t → b ≡ true
+    why m None h = absurd (let e = h.0 in cc)
+    why m (Some w) h = let e = h.0 in cc
+
+    own : (m : ℕ) (a : Bool) → ComesFirst (refused_if a trap.CannotResumeThread (or_refused (resume_why m s.core) trap.CannotResumeThread (λ w. GoesFirst (put_switch m w s.core)))) s (Ok b) t → b ≡ true
+    own m true h = absurd (let e = h.0 in cc)
+    own m false h = why m (resume_why m s.core) h
+
+    at : (o : Option ℕ) → ComesFirst (or_refused o trap.BadHandle (resumed_found n s.core)) s (Ok b) t → b ≡ true
+    at None h = absurd (let e = h.0 in cc)
+    at (Some m) h = own m (m == n) h
+
+module _ (x : Halt) (l : Label) (id : TableId ThreadKey) (h : ℕ) (s t u : StateView) where
+  pub resume_refused : (why : Trap) → ComesFirst (resumed_first (thread_of s id) h s.core) s (Err why) t → Meets (then_resume_row x (thread_of s id) h s.core) s.core (came.Traps why) t.core
+  resume_refused why comes =
+      let n = thread_of s id in
+      subst (λ (p : Progress). Meets p s.core (came.Traps why) t.core) (sym (resume_halts x n h l s.core)) (refused_is x l id (resumed_first n h s.core) s t u why comes)
+
+  pub resume_stops : (k : ℕ) (b : Bool) → k ≡ thread_of s id → ComesFirst (resumed_first (thread_of s id) h s.core) s (Ok b) t → u ≡ on_core (halted x (thread_of t id)) t → Meets (then_resume_row x (thread_of s id) h s.core) s.core (came.Stops (label.Thread (thread_label.Pauses k))) u.core
+  resume_stops k b number comes e =
+      let n = thread_of s id in
+      let f = resumed_first n h s.core in
+      let goes = subst (λ (a : Bool). ComesFirst f s (Ok a) t) (resumed_is n h s t b comes) comes in
+      subst (λ (p : Progress). Meets p s.core (came.Stops (label.Thread (thread_label.Pauses k))) u.core) (sym (resume_halts x n h l s.core)) (stops_is x l id f s t u k number goes e)
+
+  pub promote_refused : (why : Trap) → ComesFirst (promoted_first (thread_of s id) h s.core) s (Err why) t → Meets (then_promote_row x (thread_of s id) h l s.core) s.core (came.Traps why) t.core
+  promote_refused why comes =
+      let n = thread_of s id in
+      subst (λ (p : Progress). Meets p s.core (came.Traps why) t.core) (sym (promote_halts x n h l s.core)) (refused_is x l id (promoted_first n h s.core) s t u why comes)
+
+  pub promote_stops : (k : ℕ) → k ≡ thread_of s id → ComesFirst (promoted_first (thread_of s id) h s.core) s (Ok true) t → u ≡ on_core (halted x (thread_of t id)) t → Meets (then_promote_row x (thread_of s id) h l s.core) s.core (came.Stops (label.Thread (thread_label.Pauses k))) u.core
+  promote_stops k number comes e =
+      let n = thread_of s id in
+      subst (λ (p : Progress). Meets p s.core (came.Stops (label.Thread (thread_label.Pauses k))) u.core) (sym (promote_halts x n h l s.core)) (stops_is x l id (promoted_first n h s.core) s t u k number comes e)
+
+  pub promote_plain : (r : Came) → ComesFirst (promoted_first (thread_of s id) h s.core) s (Ok false) t → Meets (halt_row x (thread_of t id) l t.core) t.core r u.core → Meets (then_promote_row x (thread_of s id) h l s.core) s.core r u.core
+  promote_plain r comes m =
+      let n = thread_of s id in
+      subst (λ (p : Progress). Meets p s.core r u.core) (sym (promote_halts x n h l s.core)) (plain_is x l id (promoted_first n h s.core) s t u r comes m)
 
 -- ---- A thread more
 

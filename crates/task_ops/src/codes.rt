@@ -2,6 +2,7 @@
 ghost use Rattle.std.specs.Prelude.{◌≡◌, ◌<◌, ◌/◌, Some, is_some, suc, true, zero, ℕ};
 ghost use Rattle.task_machine.specs.Maps.{get};
 ghost use Rattle.task_machine.specs.Read.{instance_of, set_at};
+ghost use Rattle.task_machine.specs.declared.label.Label.{Label};
 ghost use Rattle.task_ops.specs.Came.{Meets};
 ghost use Rattle.task_ops.specs.Stays.{StaysAfter};
 ghost use Rattle.task_ops.specs.Running.{IsRunning, SetsThere};
@@ -50,11 +51,11 @@ fn own_or_none(event: Option<OwnEvent>) -> Option<OwnEvent>
 }
 
 // Code 1: the thread's turn comes again.
-fn code_yields<W: Words>(w: &mut W, thread: ThreadId, label: Label) -> Came
+#[inline(always)]
+fn code_yields<W: Words>(w: &mut W, thread: ThreadId)
     requires live { 0 < thread_of (W.view w.old) thread }
     requires running { IsRunning (thread_of (W.view w.old) thread) (W.view w.old).core }
-    ensures meets { (rest : ℕ) → Meets (code_kind_row label (thread_of (W.view w.old) thread) (held_by_flag (instance_of (thread_of (W.view w.old) thread) (W.view w.old).core) (W.view w.old).core) (W.view w.old).core (suc zero) rest) (W.view w.old).core result (W.view w.new).core }
-    ensures stays { StaysAfter result (W.view w.old) (W.view w.new) }
+    ensures meets { (label : Label) → (rest : ℕ) → Meets (code_kind_row label (thread_of (W.view w.old) thread) (held_by_flag (instance_of (thread_of (W.view w.old) thread) (W.view w.old).core) (W.view w.old).core) (W.view w.old).core (suc zero) rest) (W.view w.old).core (Came.Stops label) (W.view w.new).core }
     ensures current { (W.view w.new).current ≡ (W.view w.old).current }
     ensures works { KeepsWorks (W.view w.old) (W.view w.new) }
 {
@@ -63,7 +64,6 @@ fn code_yields<W: Words>(w: &mut W, thread: ThreadId, label: Label) -> Came
     stop_reopened(w, thread);
     w.set_own_event(call, event);
     put_low(w, thread, WhyId::Delivery(DeliveryId::Yield));
-    Came::Stops(label)
 }
 
 // The task's own event, or a ready member of the set, is there.
@@ -116,7 +116,10 @@ pub fn end_activation<W: Words>(w: &mut W, thread: ThreadId, label: Label, code:
     }
     match code % 16 {
         0 => code_exits(w, thread, label),
-        1 => code_yields(w, thread, label),
+        1 => {
+            code_yields(w, thread);
+            Came::Stops(label)
+        }
         2 => code_waits(w, thread, label, code / 16),
         _ => Came::Traps(Trap::UnsupportedCallbackCode),
     }

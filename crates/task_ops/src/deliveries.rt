@@ -13,9 +13,9 @@ ghost use Rattle.task_words.specs.Apart.{AreWaitersUnqueued};
 ghost use Rattle.task_words.specs.StateView.{call_of, on_core, set_of, thread_of};
 
 use crate::came::Came;
-use crate::gifts::{Gift, gift_for, given, own_gift_only, take, write_given};
+use crate::gifts::{Gift, gift_for, given, own_gift_only, take};
 use crate::waits::{hand_on, own_given};
-use task_machine::{Given, Label, Mark, Script, TakeLabel};
+use task_machine::{Given, Label, Mark, TakeLabel};
 use task_moves::{foot_of, stop};
 use task_words::{CallId, PlaceId, SetId, ThreadId, Words};
 
@@ -31,7 +31,7 @@ fn hold<W: Words>(w: &mut W, thread: ThreadId)
 }
 
 // What the gift hands out is in r0, r1 and r2, and the react script runs.
-#[tactic(auto, unfolding(task_rules::specs::Takes::activated))]
+#[tactic(auto, unfolding(task_rules::specs::Takes::activated, task_words::specs::Context::activating))]
 #[inline(always)]
 fn activate<W: Words>(w: &mut W, thread: ThreadId, call: CallId, gift: Gift, given: Given)
     requires { call_of (W.view w.old) call ≡ task_of (thread_of (W.view w.old) thread) (W.view w.old).core }
@@ -39,11 +39,7 @@ fn activate<W: Words>(w: &mut W, thread: ThreadId, call: CallId, gift: Gift, giv
 {
     let instance = w.instance_of(thread);
     take(w, gift, call);
-    write_given(w, thread, 0, given);
-    w.set_do_not_enter(instance, true);
-    w.set_script(thread, Script::React);
-    w.move_to(thread, 0);
-    w.set_place(thread, PlaceId::Running);
+    w.activate(thread, instance, given);
 }
 
 // What an activation shows.

@@ -39,6 +39,7 @@ pub(crate) fn stop_and_end<W: Words>(w: &mut W, thread: ThreadId)
 }
 
 /// The exit of an explicit thread, or of a stackful export.
+#[inline(always)]
 pub fn exit_thread<W: Words>(w: &mut W, thread: ThreadId) -> Came
     requires live { 0 < thread_of (W.view w.old) thread }
     requires running { IsRunning (thread_of (W.view w.old) thread) (W.view w.old).core }
@@ -91,6 +92,7 @@ pub(crate) fn reopen<W: Words>(w: &mut W, instance: u32, thread: ThreadId)
 }
 
 // The instance lets entries in, and the strand stops.
+#[inline(always)]
 pub(crate) fn stop_reopened<W: Words>(w: &mut W, thread: ThreadId)
     requires live { 0 < thread_of (W.view w.old) thread }
     requires running { IsRunning (thread_of (W.view w.old) thread) (W.view w.old).core }

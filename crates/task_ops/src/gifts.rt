@@ -30,6 +30,7 @@ pub(crate) fn own_gift<W: Words>(w: &W, by_callback: bool, call: CallId) -> Opti
 
 /// The own event, else that of the first ready member of the set, which the handle names in the instance, else nothing.
 #[tactic(auto, unfolding(task_machine::specs::Moves::gift))]
+#[inline(always)]
 pub(crate) fn gift_for<W: Words>(
     w: &W,
     by_callback: bool,

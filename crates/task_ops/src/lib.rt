@@ -37,26 +37,18 @@ pub use pressure::{lower, raise};
 pub use sets::{set_drop, set_new};
 pub use starts::take_start;
 pub use strikes::strike;
-pub use switches::{halt_then_promote, halt_then_resume, thread_index, thread_new};
+pub use switches::{
+    halt_then_promote, halt_then_resume, promote_first, resume_first, thread_index, thread_new,
+};
 pub use tasks::{ret, ret_bad, task_cancel};
 pub use threads::{halt, resume_later};
 pub use waits::{begin_wait, go_on_waiting};
 pub use works::{Polled, poll_work, take_push};
 
-/// An op that meets its row is a step of the machine.
-#[tactic(auto, using(crate::proofs::MeetLemmas::meeting_is_step))]
-pub fn meeting_is_step()
-    ensures { MeetingIsStep }
-{}
-
-/// So is a taking.
-#[tactic(auto, using(crate::proofs::MeetLemmas::taking_is_step))]
-pub fn taking_is_step()
-    ensures { TakingIsStep }
-{}
-
-/// So is an op of main's script.
-#[tactic(auto, using(crate::proofs::MeetLemmas::acting_is_step))]
-pub fn acting_is_step()
-    ensures { ActingIsStep }
+/// An op that meets its row is a step of the machine; so is a taking, and an op of main's script.
+#[tactic(auto, using(crate::proofs::MeetLemmas::meeting_is_step, crate::proofs::MeetLemmas::taking_is_step, crate::proofs::MeetLemmas::acting_is_step))]
+pub fn ops_are_steps()
+    ensures meeting { MeetingIsStep }
+    ensures taking { TakingIsStep }
+    ensures acting { ActingIsStep }
 {}

@@ -4,7 +4,7 @@ ghost use Rattle.task_machine.specs.Maps.{get};
 ghost use Rattle.task_machine.specs.Read.{instance_of, position_of};
 ghost use Rattle.task_machine.specs.declared.component.Slot.TheVariants as slots;
 ghost use Rattle.task_ops.specs.Came.{Meets};
-ghost use Rattle.task_ops.specs.Halting.{halt_of};
+ghost use Rattle.task_ops.specs.Halting.{ComesFirst, halt_of, promoted_first, resumed_first};
 ghost use Rattle.task_ops.specs.Running.{IsRunning};
 ghost use Rattle.task_ops.specs.Stays.{StaysAfter};
 ghost use Rattle.task_rules.specs.Threads.{has_yielded, then_promote_row, then_resume_row, thread_index_row, thread_new_row};
@@ -16,8 +16,31 @@ use task_machine::{Label, Place, Slot, ThreadLabel, Trap, Why};
 use task_moves::{promote_unless, put_switch};
 use task_words::{HowFarId, NoMemory, ThreadId, Words};
 
+/// The thread that the handle names gets the switch entry: what `suspend_then_resume X` does before its strand stops.
+/// Answers true. Refused with trap 16 where the handle names no thread of the instance, and with trap 11 where that is
+/// this thread, or neither one that wasn't started nor suspended; nothing is changed then.
+#[inline(always)]
+pub fn resume_first<W: Words>(w: &mut W, thread: ThreadId, handle: u64) -> Result<bool, Trap>
+    requires { IsRunning (thread_of (W.view w.old) thread) (W.view w.old).core }
+    ensures { ComesFirst (resumed_first (thread_of (W.view w.old) thread) handle (W.view w.old).core) (W.view w.old) result (W.view w.new) }
+{
+    w.none_is_zero();
+    let number = w.number(thread);
+    let instance = w.instance_of(thread);
+    let Some(other) = w.thread_at(instance, handle) else {
+        return Err(Trap::BadHandle);
+    };
+    if w.number(other) == number {
+        return Err(Trap::CannotResumeThread);
+    }
+    let Some(why) = resume_why(w, other) else {
+        return Err(Trap::CannotResumeThread);
+    };
+    put_switch(w, other, why);
+    Ok(true)
+}
+
 /// `suspend_then_resume X` and `yield_then_resume X`, as they begin
-#[tactic(auto, unfolding(task_rules::specs::Threads::halted_resuming))]
 pub fn halt_then_resume<W: Words>(w: &mut W, thread: ThreadId, handle: u64, yielding: bool) -> Came
     requires live { 0 < thread_of (W.view w.old) thread }
     requires running { IsRunning (thread_of (W.view w.old) thread) (W.view w.old).core }
@@ -25,19 +48,10 @@ pub fn halt_then_resume<W: Words>(w: &mut W, thread: ThreadId, handle: u64, yiel
     ensures tags { (W.view w.new).tags ≡ (W.view w.old).tags }
     ensures current { (W.view w.new).current ≡ (W.view w.old).current }
 {
-    w.none_is_zero();
     let number = w.number(thread);
-    let instance = w.instance_of(thread);
-    let Some(other) = w.thread_at(instance, handle) else {
-        return Came::Traps(Trap::BadHandle);
-    };
-    if w.number(other) == number {
-        return Came::Traps(Trap::CannotResumeThread);
+    if let Err(trap) = resume_first(w, thread, handle) {
+        return Came::Traps(trap);
     }
-    let Some(why) = resume_why(w, other) else {
-        return Came::Traps(Trap::CannotResumeThread);
-    };
-    put_switch(w, other, why);
     stop_top(w, thread, yielding);
     Came::Stops(Label::Thread(ThreadLabel::Pauses(number)))
 }
@@ -58,8 +72,31 @@ fn has_yielded<W: Words>(w: &W, thread: ThreadId) -> bool
     }
 }
 
+/// The thread that the handle names goes on first where it has yielded: its entry moves to switch, unless one stands
+/// there. Whether it has yielded, and its entry is queued. Refused with trap 16 where the handle names no thread of the
+/// instance, and with trap 11 where that is this thread; nothing is changed then, nor where it hasn't yielded.
+#[inline(always)]
+pub fn promote_first<W: Words>(w: &mut W, thread: ThreadId, handle: u64) -> Result<bool, Trap>
+    requires { IsRunning (thread_of (W.view w.old) thread) (W.view w.old).core }
+    ensures { ComesFirst (promoted_first (thread_of (W.view w.old) thread) handle (W.view w.old).core) (W.view w.old) result (W.view w.new) }
+{
+    w.none_is_zero();
+    let number = w.number(thread);
+    let instance = w.instance_of(thread);
+    let Some(other) = w.thread_at(instance, handle) else {
+        return Err(Trap::BadHandle);
+    };
+    if w.number(other) == number {
+        return Err(Trap::CannotResumeThread);
+    }
+    if !has_yielded(w, other) {
+        return Ok(false);
+    }
+    promote_unless(w, other);
+    Ok(true)
+}
+
 /// `suspend_then_promote X` and `yield_then_promote X`, as they begin
-#[tactic(auto, unfolding(task_rules::specs::Threads::halted_promoting))]
 pub fn halt_then_promote<W: Words>(
     w: &mut W,
     thread: ThreadId,
@@ -74,21 +111,15 @@ pub fn halt_then_promote<W: Words>(
     ensures tags { (W.view w.new).tags ≡ (W.view w.old).tags }
     ensures current { (W.view w.new).current ≡ (W.view w.old).current }
 {
-    w.none_is_zero();
     let number = w.number(thread);
-    let instance = w.instance_of(thread);
-    let Some(other) = w.thread_at(instance, handle) else {
-        return Came::Traps(Trap::BadHandle);
-    };
-    if w.number(other) == number {
-        return Came::Traps(Trap::CannotResumeThread);
+    match promote_first(w, thread, handle) {
+        Ok(true) => {
+            stop_top(w, thread, yielding);
+            Came::Stops(Label::Thread(ThreadLabel::Pauses(number)))
+        }
+        Ok(false) => halt(w, thread, yielding, label),
+        Err(trap) => Came::Traps(trap),
     }
-    if !has_yielded(w, other) {
-        return halt(w, thread, yielding, label);
-    }
-    promote_unless(w, other);
-    stop_top(w, thread, yielding);
-    Came::Stops(Label::Thread(ThreadLabel::Pauses(number)))
 }
 
 /// `thread_index R`

@@ -15,6 +15,7 @@ use task_words::{HowFarId, PlaceId, ThreadId, WhyId, Words};
 
 // The strand stops; its top is suspended, or gets a low entry.
 #[tactic(auto, unfolding(task_rules::specs::Threads::halted))]
+#[inline(always)]
 pub(crate) fn stop_top<W: Words>(w: &mut W, thread: ThreadId, yielding: bool)
     requires live { 0 < thread_of (W.view w.old) thread }
     requires running { IsRunning (thread_of (W.view w.old) thread) (W.view w.old).core }

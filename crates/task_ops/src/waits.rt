@@ -22,6 +22,7 @@ use task_words::{HowFarId, PlaceId, SetId, ThreadId, Words};
 
 // A thread that takes the own event while a member is ready wakes another waiter.
 #[tactic(auto, unfolding(task_machine::specs::Moves::may_hand_on, task_machine::specs::Moves::handed_on))]
+#[inline(always)]
 pub(crate) fn hand_on<W: Words>(w: &mut W, set: SetId, gift: Gift) -> Option<ThreadId>
     requires live { 0 < set_of (W.view w.old) set }
     requires unqueued { AreWaitersUnqueued (set_of (W.view w.old) set) (W.view w.old).core }

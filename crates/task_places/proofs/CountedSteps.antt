@@ -1,5 +1,8 @@
 -- Wakes are counted: each step keeps it.
-use Rattle.task_places.proofs.Laws.{admits, along, and_parts, any_at, any_found, ap, arith, at_turn, AwaitsEvent, base_at, Blocks, Bool, by_number, Call, Came, came_word, Choice, choice_of, chosen, Comes, Component, Core, Delivery, delivery_row, did, EndTells, EndTold, EndWords, Entry, event_of, false, Frees, Gains, get, get-change, gift, goes_to, has_ready_member, has_waiter, Holds, host_taken, HostTold, how_far_of, HowFar, in_set_is, inl, InOrderIf, inr, is_callback_waiter, is_delivery_for, is_for_start, is_in_set, is_inside_wait, is_join, is_open, is_ready_member, is_resumption, is_some, is_wait, is_waiter, is_waiting_on, is_woken_at, is_woken_for, IsRunner, Join, join_of, join_row, JoinsSet, keep_stay, Label, Mark, MayMove, MayPut, MayStand, member_same, nat_tests, next_entry, None, none_ready, now_joined, on_thread, one, Op, op_in, op_of, op_row, Operand, Option, option_and_then, option_map, option_map_or, or_never, Place, place_of, plain, plain_scene, popped, popped_is, popped_threads, Progress, Progresses, Queues, ready_members, ready_same, ready_weighs, Records, refl, runner_at, running, Runs, RunsAlone, said_plain, same_subtask, Scene, scene_of, script_of, set_place, SetOp, Setting, shift_keeps, shifted_calls, shifted_works, Shifts, shifts_shifted, Some, some_ready, start_row, StartTold, State, Status, status_of_end, Stay, Step, subst, Subtask, SubtaskEnd, suc, Suspends, sym, take_label, TakeStep, task_of, TellsLater, TellsNever, TellsNone, TellsNow, Thread, thread_of_entry, thread_taken, thread_taken_for, true, Turn, Turned, Turns, TurnStep, Uncovers, unwrap_or, value_of, wait_goes_on, wait_row, Waits, WaitsAgain, wake_why, WakesCounted, WakesOne, Walk, Walked, WasReady, weaken, Why, woken, woken_weighs, Word, written_at, written_by, zero, ℕ, ⊎_elim, ◌&&◌, ◌+◌, ◌==◌, ◌||◌, ◌∙◌, ◌≡◌, ◌≤◌, ◌⊎◌}
+use Rattle.task_laws.proofs.WakeCounts.{woken_at, woken_place}
+use Rattle.task_laws.proofs.WakeTableLemmas.{waiting_of}
+use Rattle.task_places.proofs.Balance.{Balance, balanced, Bare, bare_le, Gained, Passed, Quiet, ready_le, same_is, same_self, Took, woken_le}
+use Rattle.task_places.proofs.Laws.{admits, along, and_parts, any_at, any_found, ap, arith, at_turn, AwaitsEvent, base_at, Blocks, Bool, by_number, Call, Came, came_word, Choice, choice_of, chosen, Comes, Component, Core, Delivery, delivery_row, did, EndTells, EndTold, EndWords, Entry, event_of, false, Frees, Gains, get, get-change, gift, goes_to, has_ready_member, has_waiter, Holds, host_taken, HostTold, how_far_of, HowFar, in_set_is, inl, InOrderIf, inr, is_callback_waiter, is_delivery_for, is_for_start, is_in_set, is_inside_wait, is_join, is_open, is_ready_member, is_some, is_wait, is_waiter, is_waiting_on, is_woken_at, is_woken_for, IsRunner, Join, join_of, join_row, JoinsSet, keep_stay, Label, Mark, MayMove, MayPut, MayStand, member_same, nat_tests, next_entry, None, none_ready, now_joined, on_thread, one, Op, op_in, op_of, op_row, Operand, Option, option_and_then, option_map, option_map_or, or_never, Place, place_of, plain, plain_scene, popped, popped_is, popped_threads, Progress, Progresses, Queues, ready_same, Records, refl, runner_at, running, Runs, RunsAlone, said_plain, same_subtask, Scene, scene_of, script_of, set_place, SetOp, Setting, shift_keeps, shifted_calls, shifted_works, Shifts, shifts_shifted, Some, start_row, StartTold, State, Status, status_of_end, Step, subst, Subtask, SubtaskEnd, Suspends, sym, take_label, TakeStep, task_of, TellsLater, TellsNever, TellsNone, TellsNow, Thread, thread_of_entry, thread_taken, thread_taken_for, true, Turn, Turned, Turns, TurnStep, Uncovers, unwrap_or, value_of, wait_goes_on, wait_row, Waits, WaitsAgain, wake_why, WakesCounted, WakesOne, Walk, Walked, WasReady, weaken, Why, woken, written_at, written_by, ℕ, ⊎_elim, ◌==◌, ◌∙◌, ◌≡◌, ◌⊎◌}
 use Rattle.task_places.proofs.{Entries.next_first, Entries.popped_cleared, PlaceLaw.ReadyAt, PlaceLaw.entry_ready, PlaceLaw.yield_leaves, PlaceSteps.Withdrawable, PlaceSteps.step_by, RestLemmas.ComesTo, RestLemmas.Rests, RestLemmas.is_rest, RestLemmas.rests_stay, RestLemmas.rests_walk, RestLemmas.runs_free, RestLemmas.trip_rests, WaitsKept.wait_op, WakeRows.HandedOn, WakeRows.IsSilent, WakeRows.NobodyWaits, WakeRows.NoneReady, WakeRows.Spends, WakeRows.StartTells, WakeRows.StaysWoken, WakeRows.TookMember, WakeRows.WokeOne, WakeRows.WokeThis, WakeRows.delivery_spends, WakeRows.is_past, WakeRows.join_row_tells, WakeRows.moved_past, WakeRows.start_tells, WakeRows.wait_spends, WakeRows.woken_is_past, WokenTrips.ReadyFor, WokenTrips.Wends, WokenTrips.is_wending, WokenTrips.trip_on}
 
 -- ---- Walks
@@ -45,32 +48,8 @@ join_same (Subtask.Host i) s t calls works = grind (arith, works)
 
 -- ---- Places of waiters and woken threads
 
-waiting_of : (y : ℕ) (o : Option Place) → option_map_or (is_waiting_on y) o false ≡ true → (c : Bool) × (o ≡ Some (Place.Waiting y c))
-waiting_of y (Some (Place.Waiting z c)) h = (c, let same : y ≡ z = grind (arith, nat_tests) in ap (λ (i : ℕ). Some (Place.Waiting i c)) (sym same))
-waiting_of y None h = absurd (grind arith)
-waiting_of y (Some p) h = absurd (grind arith)
-
 waits_at : (y : ℕ) (c : Bool) (o : Option Place) → o ≡ Some (Place.Waiting y c) → option_map_or (is_waiting_on y) o false ≡ true
 waits_at y c o at = grind (arith, nat_tests)
-
-abbrev woken_place : ℕ → Option Place → HowFar → Bool
-woken_place y (Some (Place.Ready m w)) far = is_delivery_for y w || (is_resumption w && is_inside_wait y far)
-woken_place y (Some (Place.Held w)) far = is_delivery_for y w
-woken_place y (Some Place.Running) far = is_inside_wait y far
-woken_place y _ far = false
-
-of_place : (y : ℕ) (r : Thread) (p : Place) → is_woken_for y r p ≡ woken_place y (Some p) r.how_far
-of_place y r (Place.Ready m w) = refl
-of_place y r (Place.Held w) = refl
-of_place y r Place.Running = refl
-of_place y r p = refl
-
-woken_at : (y m : ℕ) (u : Core) → is_woken_at y m u ≡ woken_place y (place_of m u) (how_far_of m u)
-woken_at y m u = by (get u.threads m)
-  where
-    by : (o : Option Thread) → option_map_or (λ (r : Thread). is_woken_for y r r.place) o false ≡ woken_place y (option_map (λ (r : Thread). r.place) o) (option_map_or (λ (r : Thread). r.how_far) o HowFar.Fresh)
-    by None = refl
-    by (Some r) = of_place y r r.place
 
 inside_is : (y : ℕ) (far : HowFar) → is_inside_wait y far ≡ true → far ≡ HowFar.Waits y
 inside_is y far h = grind (arith, nat_tests)
@@ -91,112 +70,6 @@ held_on y w p f g (inr r) on = let at = r.1 in grind (arith, at, on)
 woke_on : (y : ℕ) (c : Bool) (p : Option Place) (f g : HowFar) → ReadyFor (wake_why y c) p → g ≡ f → (c ≡ false → is_inside_wait y f ≡ true) → woken_place y p g ≡ true
 woke_on y true p f g r far inside = let at = r.1 in grind (arith, nat_tests, at)
 woke_on y false p f g r far inside = let at = r.1 in let in_wait = inside refl in grind (arith, nat_tests, at, far, in_wait)
-
-same_is : (d e : Subtask) → same_subtask d e ≡ true → d ≡ e
-same_is (Subtask.Guest k) (Subtask.Guest q) h = ap (λ (i : ℕ). Subtask.Guest i) (grind (arith, nat_tests))
-same_is (Subtask.Host k) (Subtask.Host q) h = ap (λ (i : ℕ). Subtask.Host i) (grind (arith, nat_tests))
-same_is (Subtask.Guest k) (Subtask.Host q) h = absurd (grind arith)
-same_is (Subtask.Host k) (Subtask.Guest q) h = absurd (grind arith)
-
-same_self : (d : Subtask) → same_subtask d d ≡ true
-same_self (Subtask.Guest k) = grind (arith, nat_tests)
-same_self (Subtask.Host i) = grind (arith, nat_tests)
-
--- ---- The balance of a step
-
--- How the ready members of the set and its woken threads change from s to t.
-data Balance (y : ℕ) (s t : Core) : Type 0 where
-  -- no member is ready that wasn't, and who was woken still is
-  Quiet : ((sub : Subtask) → is_ready_member y sub t ≡ true → is_ready_member y sub s ≡ true) →
-      ((n : ℕ) → is_woken_at y n s ≡ true → is_woken_at y n t ≡ true) → Balance y s t
-  -- a member becomes ready, and a thread is woken
-  Gained : (d : Subtask) (m : ℕ) → ((sub : Subtask) → same_subtask sub d ≡ false → is_ready_member y sub t ≡ true → is_ready_member y sub s ≡ true) →
-      ((n : ℕ) → is_woken_at y n s ≡ true → is_woken_at y n t ≡ true) → is_woken_at y m s ≡ false → is_woken_at y m t ≡ true → Balance y s t
-  -- a woken thread takes a member
-  Took : (n : ℕ) (d : Subtask) → ((sub : Subtask) → is_ready_member y sub t ≡ true → is_ready_member y sub s ≡ true) → is_ready_member y d s ≡ true →
-      is_ready_member y d t ≡ false → ((m : ℕ) → (m == n) ≡ false → is_woken_at y m s ≡ true → is_woken_at y m t ≡ true) → Balance y s t
-  -- a woken thread hands its wake on
-  Passed : (n m : ℕ) → ((sub : Subtask) → is_ready_member y sub t ≡ true → is_ready_member y sub s ≡ true) →
-      ((i : ℕ) → (i == n) ≡ false → is_woken_at y i s ≡ true → is_woken_at y i t ≡ true) → is_woken_at y m s ≡ false → is_woken_at y m t ≡ true → Balance y s t
-  -- no member is ready
-  Bare : ((sub : Subtask) → is_ready_member y sub t ≡ false) → Balance y s t
-
-one_le : (b c : Bool) → (b ≡ true → c ≡ true) → one b ≤ one c
-one_le true c h = let e = ap one (h refl) in omega (arith, e)
-one_le false c h = omega arith
-
-one_most : (b : Bool) → one b ≤ 1
-one_most true = omega arith
-one_most false = omega arith
-
-module _ (y : ℕ) (s t : Core) where
-  ready_le : ((sub : Subtask) → is_ready_member y sub t ≡ true → is_ready_member y sub s ≡ true) → ready_members y t + 0 ≤ ready_members y s + 0
-  ready_le r = ready_weighs y s t None None (λ sub. let here = one_le (is_ready_member y sub t) (is_ready_member y sub s) (r sub) in omega (arith, here))
-
-  woken_le : ((n : ℕ) → is_woken_at y n s ≡ true → is_woken_at y n t ≡ true) → woken y s + 0 ≤ woken y t + 0
-  woken_le k = woken_weighs y s t None None (λ n. let here = one_le (is_woken_at y n s) (is_woken_at y n t) (k n) in omega (arith, here))
-
-  ready_but : (d : Subtask) → ((sub : Subtask) → same_subtask sub d ≡ false → is_ready_member y sub t ≡ true → is_ready_member y sub s ≡ true) →
-      ready_members y t + 0 ≤ ready_members y s + 1
-  ready_but d r = ready_weighs y s t None (Some d) (λ sub. by sub (same_subtask sub d) refl)
-    where
-      by : (sub : Subtask) (b : Bool) → same_subtask sub d ≡ b → one (is_ready_member y sub t) + 0 ≤ one (is_ready_member y sub s) + one (same_subtask sub d)
-      by sub true is = let most = one_most (is_ready_member y sub t) in let e = ap one is in omega (arith, most, e)
-      by sub false is = let here = one_le (is_ready_member y sub t) (is_ready_member y sub s) (r sub is) in omega (arith, here)
-
-  ready_less : (d : Subtask) → ((sub : Subtask) → is_ready_member y sub t ≡ true → is_ready_member y sub s ≡ true) → is_ready_member y d s ≡ true → is_ready_member y d t ≡ false →
-      ready_members y t + 1 ≤ ready_members y s + 0
-  ready_less d r on off = ready_weighs y s t (Some d) None (λ sub. by sub (same_subtask sub d) refl)
-    where
-      by : (sub : Subtask) (b : Bool) → same_subtask sub d ≡ b → one (is_ready_member y sub t) + one (same_subtask sub d) ≤ one (is_ready_member y sub s) + 0
-      by sub true is =
-          let same = same_is sub d is in
-          let was = ap one (ap (λ (e : Subtask). is_ready_member y e s) same ∙ on) in let now = ap one (ap (λ (e : Subtask). is_ready_member y e t) same ∙ off) in
-          let e = ap one is in omega (arith, was, now, e)
-      by sub false is = let here = one_le (is_ready_member y sub t) (is_ready_member y sub s) (r sub) in let e = ap one is in omega (arith, here, e)
-
-  woken_but : (n : ℕ) → ((m : ℕ) → (m == n) ≡ false → is_woken_at y m s ≡ true → is_woken_at y m t ≡ true) → woken y s + 0 ≤ woken y t + 1
-  woken_but n k = woken_weighs y s t None (Some n) (λ m. by m (m == n) refl)
-    where
-      by : (m : ℕ) (b : Bool) → (m == n) ≡ b → one (is_woken_at y m s) + 0 ≤ one (is_woken_at y m t) + one (m == n)
-      by m true is = let most = one_most (is_woken_at y m s) in let e = ap one is in omega (arith, most, e)
-      by m false is = let here = one_le (is_woken_at y m s) (is_woken_at y m t) (k m is) in omega (arith, here)
-
-  woken_more : (m : ℕ) → ((n : ℕ) → is_woken_at y n s ≡ true → is_woken_at y n t ≡ true) → is_woken_at y m s ≡ false → is_woken_at y m t ≡ true → woken y s + 1 ≤ woken y t + 0
-  woken_more m k off is_on = woken_weighs y s t (Some m) None (λ i. by i (i == m) refl)
-    where
-      by : (i : ℕ) (b : Bool) → (i == m) ≡ b → one (is_woken_at y i s) + one (i == m) ≤ one (is_woken_at y i t) + 0
-      by i true is =
-          let same : i ≡ m = grind (arith, nat_tests) in
-          let was = ap one (ap (λ (j : ℕ). is_woken_at y j s) same ∙ off) in let now = ap one (ap (λ (j : ℕ). is_woken_at y j t) same ∙ is_on) in
-          let e = ap one is in omega (arith, was, now, e)
-      by i false is = let here = one_le (is_woken_at y i s) (is_woken_at y i t) (k i) in let e = ap one is in omega (arith, here, e)
-
-  woken_passed : (n m : ℕ) → ((i : ℕ) → (i == n) ≡ false → is_woken_at y i s ≡ true → is_woken_at y i t ≡ true) → is_woken_at y m s ≡ false → is_woken_at y m t ≡ true →
-      woken y s + 1 ≤ woken y t + 1
-  woken_passed n m k off is_on = woken_weighs y s t (Some m) (Some n) (λ i. by i (i == m) refl (i == n) refl)
-    where
-      by : (i : ℕ) (b : Bool) → (i == m) ≡ b → (c : Bool) → (i == n) ≡ c → one (is_woken_at y i s) + one (i == m) ≤ one (is_woken_at y i t) + one (i == n)
-      by i true is c at =
-          let same : i ≡ m = grind (arith, nat_tests) in
-          let was = ap one (ap (λ (j : ℕ). is_woken_at y j s) same ∙ off) in let now = ap one (ap (λ (j : ℕ). is_woken_at y j t) same ∙ is_on) in
-          let e = ap one is in omega (arith, was, now, e)
-      by i false is true at = let most = one_most (is_woken_at y i s) in let e = ap one is in let f = ap one at in omega (arith, most, e, f)
-      by i false is false at = let here = one_le (is_woken_at y i s) (is_woken_at y i t) (k i at) in let e = ap one is in omega (arith, here, e)
-
-  bare_le : ((sub : Subtask) → is_ready_member y sub t ≡ false) → ready_members y t ≤ woken y t
-  bare_le r = by (ready_members y t) refl
-    where
-      by : (n : ℕ) → ready_members y t ≡ n → ready_members y t ≤ woken y t
-      by zero is = omega (arith, is)
-      by (suc n) is = absurd (let some = some_ready y t (omega (arith, is)) in let none_is = r some.0 in let one_is = some.1 in grind arith)
-
-  balanced : Balance y s t → ready_members y s ≤ woken y s → ready_members y t ≤ woken y t
-  balanced (Quiet r k) h = let a = ready_le r in let b = woken_le k in omega (arith, a, b, h)
-  balanced (Gained d m r k off is_on) h = let a = ready_but d r in let b = woken_more m k off is_on in omega (arith, a, b, h)
-  balanced (Took n d r on off k) h = let a = ready_less d r on off in let b = woken_but n k in omega (arith, a, b, h)
-  balanced (Passed n m r k off is_on) h = let a = ready_le r in let b = woken_passed n m k off is_on in omega (arith, a, b, h)
-  balanced (Bare r) h = bare_le r
 
 -- ---- A step
 

@@ -15,6 +15,7 @@ pub mod WakeLines
 pub mod IdleLemmas
 pub mod RestLemmas
 pub mod WakeRows
+pub mod Balance
 pub mod CountedSteps
 pub mod BlockedLemmas
 pub mod StrandFeet

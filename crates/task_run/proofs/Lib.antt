@@ -1,5 +1,4 @@
 pub mod Fronts
-pub mod Says
 pub mod ScriptLemmas
 pub mod LoweredLemmas
 pub mod RunnableLemmas
@@ -7,4 +6,3 @@ pub mod HeadlineLemmas
 pub mod OnceLemmas
 pub mod ToolLemmas
 pub mod SpawnLemmas
-pub mod WordLemmas

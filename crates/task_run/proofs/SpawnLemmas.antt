@@ -1,8 +1,8 @@
--- Aborts and awaits of spawns, by the rows of main's ops; what main knows of its spawns stays.
+-- What main knows of its spawns stays.
 use Rattle.std.proofs.Common.{IfNone, IfSome, ap, ap₂, arith, inl, inr, le_refl, refl, subst, sym, ⊎_elim, ◌∙◌}
 use Rattle.std.proofs.lemmas.Bool.Decides.{nat_tests}
-use Rattle.std.specs.Option.{option_map_or}
-use Rattle.std.specs.Prelude.{[], Err, List, None, Ok, OnOk, IfOk, Option, Result, Some, slice_get, suc, zero, ℕ, ◌+◌, ◌++◌, ◌∷◌, ◌<◌, ◌≡◌, ◌≤◌, ◌⊎◌}
+use Rattle.std.specs.Option.{unwrap_or}
+use Rattle.std.specs.Prelude.{[], Err, List, None, Ok, OnOk, IfOk, Option, Result, Some, map, slice_get, suc, zero, ℕ, ◌+◌, ◌++◌, ◌∷◌, ◌<◌, ◌≡◌, ◌≤◌, ◌⊎◌}
 use Rattle.task_calls.specs.Calls.{Finishes, Starts}
 use Rattle.state_calls.specs.declared.error.TaskError.{TaskError}
 use Rattle.futures.specs.declared.task.Poll.{Poll}
@@ -11,7 +11,7 @@ use Rattle.task_machine.proofs.CommuteLemmas.{get-change}
 use Rattle.task_machine.specs.Core.{Core, Main}
 use Rattle.task_machine.specs.Maps.{Records, change, get, same_map}
 use Rattle.task_machine.specs.Read.{phase_of}
-use Rattle.task_machine.specs.Write.{add_work, count_work, on_work, push_high, set_phase}
+use Rattle.task_machine.specs.Write.{on_work, set_phase}
 use Rattle.task_machine.specs.declared.component.Callee.{Callee}
 use Rattle.task_machine.specs.declared.component.Component.{Component}
 use Rattle.task_machine.specs.declared.component.HostDef.{HostDef}
@@ -31,9 +31,10 @@ use Rattle.task_rules.specs.MainOps.{Does, is_complete, main_aborted, unless_pen
 use Rattle.task_rules.specs.Step.{Step}
 use Rattle.task_run.specs.Knows.{knows_later}
 use Rattle.task_run.specs.Script.{part_of, script_of}
-use Rattle.task_run.specs.Spawns.{IsMadeIn, KnowsSpawns, abort_in, phase_in}
+use Rattle.task_run.specs.Spawns.{KnowsSpawns, number_in}
+use Rattle.task_store.specs.Spawned.{IsSpawnedIn}
 use Rattle.task_run.specs.declared.main_script.ScriptMain.{ScriptMain}
-use Rattle.task_run.specs.declared.main_script.Spawned.{Spawned}
+use Rattle.task_store.specs.declared.spawn.SpawnHandle.{SpawnHandle}
 use Rattle.task_table.specs.declared.id.TableId.{TableId}
 use Rattle.task_turns.proofs.LaterLemmas.{last_by_core, last_by_step}
 use Rattle.task_turns.specs.Later.{WorksLast}
@@ -45,25 +46,20 @@ use Rattle.task_words.specs.StateView.{StateView, Tags, work_number, work_of}
 
 -- ---- Rows
 
--- a write of what isn't there changes nothing
-absent : {X : Type 0} (m : Records X) (i : ℕ) (f : X → X) → get m i ≡ None → change i f m ≡ m
-absent m i f none = same_map (change i f m) m (λ q. grind (arith, nat_tests, get-change, none))
+-- the number of a spawn's work in main's place
+pub spawn_number : (hs : List SpawnHandle) (k : ℕ) → unwrap_or (slice_get (map (λ (h : SpawnHandle). h.number) hs) k) 0 ≡ number_in (slice_get hs k)
+spawn_number [] k = refl
+spawn_number (h ∷ hs) zero = refl
+spawn_number (h ∷ hs) (suc k) = spawn_number hs k
 
-module _ (s : StateView) (i : ℕ) where
-  -- the phase that is found, where the id names the work, or the work is gone
-  pub phase_found : (w : Option (TableId HostTaskKey)) → IfSome w (λ id. work_of s id ≡ i) → IfNone w (get s.core.works i ≡ None) → phase_of i s.core ≡ phase_in s w
-  phase_found (Some id) some none = ap (λ n. phase_of n s.core) (sym some)
-  phase_found None some none = ap (λ (o : Option Work). option_map_or (λ w. w.phase) o phases.Complete) none
+-- the phase that an abort found, and the core that it left
+pub aborted_row : (s : Core) (i j k : ℕ) (p : Phase) (t : Core) → i ≡ j → p ≡ phase_of j s → t ≡ main_aborted j s →
+    Does (main_label.Abort (phase_of i s) k) (main_aborted i s) ≡ Does (main_label.Abort p k) t
+aborted_row s i j k p t same phase core = ap (λ (n : ℕ). Does (main_label.Abort (phase_of n s) k) (main_aborted n s)) same ∙ ap₂ (λ q new. Does (main_label.Abort q k) new) (sym phase) (sym core)
 
-  core_aborted : (w : Option (TableId HostTaskKey)) → IfSome w (λ id. work_of s id ≡ i) → IfNone w (get s.core.works i ≡ None) → main_aborted i s.core ≡ (abort_in s w).core
-  unfolding main_aborted set_phase on_work
-  core_aborted (Some id) some none = ap (λ n. main_aborted n s.core) (sym some)
-  core_aborted None some none = ap (λ (ws : Records Work). record s.core { works = ws }) (absent s.core.works i (λ w. record w { phase = aborted_phase (phase_of i s.core) }) none)
-
-  pub aborted_row : (w : Option (TableId HostTaskKey)) (k : ℕ) (p : Phase) (t : StateView) → IfSome w (λ id. work_of s id ≡ i) → IfNone w (get s.core.works i ≡ None) → p ≡ phase_in s w → t ≡ abort_in s w →
-      Does (main_label.Abort (phase_of i s.core) k) (main_aborted i s.core) ≡ Does (main_label.Abort p k) t.core
-  aborted_row w k p t some none phase state =
-      ap₂ (λ q new. Does (main_label.Abort q k) new) (phase_found w some none ∙ sym phase) (core_aborted w some none ∙ ap (λ (v : StateView). v.core) (sym state))
+pub spawn_known : (m : ScriptMain) (s : StateView) (k : ℕ) (o : Option SpawnHandle) → o ≡ slice_get m.spawns.items k → KnowsSpawns m s → IfSome o (λ h. IsSpawnedIn h s)
+spawn_known m s k None is knows = tt
+spawn_known m s k (Some h) is knows = knows k h (sym is)
 
 -- ---- What main knows
 
@@ -94,24 +90,16 @@ finish_names k s t Pending h id live = ap (λ (u : StateView). work_of u id) h.1
 
 -- ---- A spawn
 
-made_by_spawn : (h : Spawned) (s t : StateView) (host : HostDef) → h.number ≡ next_work s.core → t.core ≡ work_queued work_caller.Spawn host None s.core → work_of t h.work ≡ h.number → IsMadeIn h t
-unfolding work_queued push_high add_work count_work
-made_by_spawn h s t host number core named = record {
-  some = subst (λ (n : ℕ). 0 < n) (sym number) (omega arith);
-  made = subst (λ (n : ℕ). n ≤ t.core.made.works) (sym number) (subst (λ (u : Core). s.core.made.works + 1 ≤ u.made.works) (sym core) (le_refl _));
-  named = inl named;
-}
-
-one_more : (xs : List Spawned) (h g : Spawned) (k : ℕ) → slice_get (xs ++ h ∷ []) k ≡ Some g → (slice_get xs k ≡ Some g) ⊎ (h ≡ g)
+one_more : (xs : List SpawnHandle) (h g : SpawnHandle) (k : ℕ) → slice_get (xs ++ h ∷ []) k ≡ Some g → (slice_get xs k ≡ Some g) ⊎ (h ≡ g)
 one_more [] h g zero at = inr (cc)
 one_more [] h g (suc k) at = absurd (cc)
 one_more (x ∷ xs) h g zero at = inl at
 one_more (x ∷ xs) h g (suc k) at = one_more xs h g k at
 
 -- the work that was spawned is known, as the others are
-pub knows_more : (c : Component) (ops : List MainOpDef) (a b : Main) (l : Label) (m n : ScriptMain) (s t : StateView) (h : Spawned) (host : HostDef) → n.spawns.items ≡ m.spawns.items ++ h ∷ [] →
-    h.number ≡ next_work s.core → t.core ≡ work_queued work_caller.Spawn host None s.core → work_of t h.work ≡ h.number → Steps c ops a s.core (step.Did l) b t.core → KeepsWorks s t → KnowsSpawns m s → KnowsSpawns n t
-knows_more c ops a b l m n s t h host grown number core named steps names knows k g at =
+pub knows_more : (c : Component) (ops : List MainOpDef) (a b : Main) (l : Label) (m n : ScriptMain) (s t : StateView) (h : SpawnHandle) → n.spawns.items ≡ m.spawns.items ++ h ∷ [] →
+    IsSpawnedIn h t → Steps c ops a s.core (step.Did l) b t.core → KeepsWorks s t → KnowsSpawns m s → KnowsSpawns n t
+knows_more c ops a b l m n s t h grown spawned steps names knows k g at =
     ⊎_elim (λ old. knows_later m s t (steps_last c ops a b s t (step.Did l) steps names) knows k g old)
-    (λ same. subst (λ (q : Spawned). IsMadeIn q t) same (made_by_spawn h s t host number core named))
-    (one_more m.spawns.items h g k (sym (ap (λ (xs : List Spawned). slice_get xs k) grown) ∙ at))
+    (λ same. subst (λ (q : SpawnHandle). IsSpawnedIn q t) same spawned)
+    (one_more m.spawns.items h g k (sym (ap (λ (xs : List SpawnHandle). slice_get xs k) grown) ∙ at))

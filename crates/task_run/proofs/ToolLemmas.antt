@@ -1,7 +1,7 @@
--- Which statuses are left, once the others are ruled out.
-use Rattle.std.proofs.Common.{◌≡◌, ◌≢◌, ◌⊎◌, ◌∙◌, ◌+◌, ◌<◌, ℕ, List, inl, inr, length, length-append, refl, ap, sym, subst, arith}
-use Rattle.std.proofs.Common.{zero, suc, Some, None}
-use Rattle.std.specs.Prelude.{MatchOption, Option}
+-- How the parts of a call of the program end.
+use Rattle.std.proofs.Common.{◌≡◌, ◌≢◌, ◌⊎◌, ◌∙◌, ◌+◌, ◌<◌, ◌≤◌, ℕ, List, inl, inr, length, length-append, refl, ap, sym, subst, arith}
+use Rattle.std.proofs.Common.{Some, None}
+use Rattle.std.specs.Prelude.{Option, IsNone}
 use Rattle.task_run.specs.declared.program.End.{End}
 use Rattle.task_run.specs.declared.program.End.TheVariants as ends
 use Rattle.task_scenario.specs.declared.scenario.Scenario.{Scenario}
@@ -10,93 +10,97 @@ use Rattle.task_rules.specs.Texts.{text}
 use Rattle.task_run.specs.declared.program.ToolEnd.{ToolEnd}
 use Rattle.task_run.specs.declared.report.Report.{Report}
 use Rattle.task_run.specs.Headline.{IsReportOf}
+use Rattle.scenario_text.specs.Grammar.{IsBadLine}
 use Rattle.byte_streams.specs.Outside.{Appends}
 use Rattle.byte_streams.specs.Pump.{IsFront, IsTooLong, IsWhole}
 use Rattle.generated_scenario.specs.Generated.{gen}
 use Rattle.generated_scenario.specs.Summary.{summary}
-use Rattle.task_run.specs.Tool.{IsHindered, IsReportCut, IsSummaryCut, IsSummed, SaysBadLine, status_of}
+use Rattle.task_run.specs.Tool.{BadLineCut, Generated, GeneratedCut, NoneReported, ReadWhole, ReportCut, Reported, SaidBadLine, SaidTooLong, SaidUsage, Summed, SummaryCut, TooLongCut, Unread, UsageCut, BigEnded, Ended, EndsAt, IsAllOf, IsDue, IsNoForm, IsUnhindered, MakeEnded, RunEnded, SaysOrFails, TextEnded, bad_line_text, status_of, too_long_text, usage_text}
 
-pub only_done : (e : End) → e ≢ ends.WrongWords → e ≢ ends.BadScenario → e ≢ ends.ReadFailed → e ≢ ends.WriteFailed → e ≢ ends.TooLong → (status_of e ≡ 0) ⊎ (status_of e ≡ 1)
-only_done ends.NoMemory words bad read write long = inr refl
-only_done ends.WrongWords words bad read write long = absurd (words refl)
-only_done ends.BadScenario words bad read write long = absurd (bad refl)
-only_done ends.ReadFailed words bad read write long = absurd (read refl)
-only_done ends.WriteFailed words bad read write long = absurd (write refl)
-only_done ends.TooLong words bad read write long = absurd (long refl)
+-- all was said, or a front of it
 
-pub only_bad : (e : End) → e ≢ ends.WrongWords → e ≢ ends.TooLong → (status_of e ≡ 3) ⊎ IsHindered (status_of e)
-only_bad ends.NoMemory words long = inr (inl refl)
-only_bad ends.WrongWords words long = absurd (words refl)
-only_bad ends.BadScenario words long = inl refl
-only_bad ends.ReadFailed words long = inr (inr (inl refl))
-only_bad ends.WriteFailed words long = inr (inr (inr refl))
-only_bad ends.TooLong words long = absurd (long refl)
+abbrev Held : Type 0
+Held = Option (List ℕ)
 
-pub only_long : (e : End) → e ≢ ends.WrongWords → e ≢ ends.BadScenario → (status_of e ≡ 6) ⊎ IsHindered (status_of e)
-only_long ends.NoMemory words bad = inr (inl refl)
-only_long ends.WrongWords words bad = absurd (words refl)
-only_long ends.BadScenario words bad = absurd (bad refl)
-only_long ends.ReadFailed words bad = inr (inr (inl refl))
-only_long ends.WriteFailed words bad = inr (inr (inr refl))
-only_long ends.TooLong words bad = inl refl
+at : (end : ToolEnd) (e f : End) → e ≡ f → EndsAt end (status_of e) → EndsAt end (status_of f)
+at end e f same is = subst (λ (x : End). EndsAt end (status_of x)) same is
 
--- a scenario's text has no bad line
-pub not_bad : (all : List ℕ) (x : Scenario) (left old new : Option (List ℕ)) → Reads all x → SaysBadLine all left old new → ⊥
-not_bad all x left old new reads bad = bad.bad.past reads.0 reads.1
+pub said_usage : (words : List (List ℕ)) (before after old new : Held) (e : End) (end : ToolEnd) → IsNoForm words → EndsAt end (status_of e) → SaysOrFails old new usage_text ends.WrongWords e → Ended words before after old new end
+said_usage words before after old new e end none is (inl p) = SaidUsage none (at end e ends.WrongWords p.0 is) p.1
+said_usage words before after old new e end none is (inr p) = UsageCut none (at end e ends.WriteFailed p.0 is) p.1
+
+pub said_too_long : (n : ℕ) (before after old new : Held) (e : End) (end : ToolEnd) → ((all : List ℕ) → before ≡ Some all → IsTooLong all after) → EndsAt end (status_of e) → SaysOrFails old new too_long_text ends.TooLong e → RunEnded n before after old new end
+said_too_long n before after old new e end long is (inl p) = SaidTooLong (at end e ends.TooLong p.0 is) long p.1
+said_too_long n before after old new e end long is (inr p) = TooLongCut (at end e ends.WriteFailed p.0 is) long p.1
+
+pub said_bad_line : (n : ℕ) (all : List ℕ) (old new : Held) (e : End) (end : ToolEnd) (line : ℕ) → IsBadLine all line → EndsAt end (status_of e) → (e ≡ ends.NoMemory) ⊎ SaysOrFails old new (bad_line_text line) ends.BadScenario e → TextEnded n all old new end
+said_bad_line n all old new e end line bad is (inl none) = NoneReported (at end e ends.NoMemory none is)
+said_bad_line n all old new e end line bad is (inr (inl p)) = SaidBadLine (at end e ends.BadScenario p.0 is) line bad p.1
+said_bad_line n all old new e end line bad is (inr (inr p)) = BadLineCut (at end e ends.WriteFailed p.0 is) line bad p.1
+
+-- a report was begun
+pub cut_report : (n : ℕ) (all : List ℕ) (old new : Held) (e : End) (end : ToolEnd) (r : Report) → IsReportOf all n r → EndsAt end (status_of e) → (e ≡ ends.NoMemory) ⊎ (e ≡ ends.WriteFailed) → IsFront old new (text r.trace r.outcome) → TextEnded n all old new end
+cut_report n all old new e end r of is (inl none) front = NoneReported (at end e ends.NoMemory none is)
+cut_report n all old new e end r of is (inr fails) front = ReportCut (at end e ends.WriteFailed fails is) r of front
+
+-- what `put` says, of the generated scenario and of a summary
+
+abbrev Put : ToolEnd → Option Report → Held → Held → List ℕ → Type 0
+Put end report old new bytes = ((end.status ≡ 0) × (end.report ≡ report) × Appends old new bytes) ⊎ (EndsAt end 5 × IsFront old new bytes)
+
+pub made : (n : ℕ) (old new : Held) (end : ToolEnd) (bytes : List ℕ) → bytes ≡ gen n → Put end None old new bytes → MakeEnded n old new end
+made n old new end bytes same (inl p) = Generated (p.0, rw p.1 refl) (subst (λ (bs : List ℕ). Appends old new bs) same p.2)
+made n old new end bytes same (inr p) = GeneratedCut p.0 (subst (λ (bs : List ℕ). IsFront old new bs) same p.1)
+
+pub summed : (n k : ℕ) (old new : Held) (end : ToolEnd) (r : Report) (bytes : List ℕ) → bytes ≡ summary r.trace r.outcome → IsReportOf (gen n) k r → Put end (Some r) old new bytes → BigEnded n k old new end
+summed n k old new end r bytes same of (inl p) = Summed r p.0 p.1 of (subst (λ (bs : List ℕ). Appends old new bs) same p.2)
+summed n k old new end r bytes same of (inr p) = SummaryCut p.0 r of (subst (λ (bs : List ℕ). IsFront old new bs) same p.1)
+
+-- which status the input calls for
 
 -- a text of which too much was read is too long
-pub longer : (all : List ℕ) (left : Option (List ℕ)) → IsTooLong all left → 1048576 < length all
+longer : (all : List ℕ) (left : Held) → IsTooLong all left → 1048576 < length all
 longer all left long =
     let parts : length long.taken + length long.read.rest ≡ length all = sym (length-append long.taken long.read.rest) ∙ ap (λ (bs : List ℕ). length bs) long.read.parts in
     let many : length long.taken ≡ 1048577 = long.long in
     omega arith
 
--- a report of all that was read was begun
-pub report_cut : (n : ℕ) (read all : List ℕ) (left old new : Option (List ℕ)) (r : Report) → read ≡ all → IsWhole all left → IsReportOf read n r → IsFront old new (text r.trace r.outcome) → IsReportCut n all left old new
-report_cut n read all left old new r same whole is front = record {
-  scenario = is.scenario;
-  trace = r.trace;
-  outcome = r.outcome;
-  core = r.store.state.core;
-  whole = whole;
-  reads = subst (λ (bs : List ℕ). Reads bs is.scenario) same is.reads;
-  run = is.run;
-  written = front;
+hindered : (all : List ℕ) (status : ℕ) → (status ≡ 1) ⊎ ((status ≡ 4) ⊎ (status ≡ 5)) → IsDue all status
+hindered all status is = record {
+  scenario = λ x short reads. inr is;
+  other = λ short none. inr is;
+  longer = λ long. inr is;
 }
 
--- this status has one cause
-pub was_cut : (e : End) → status_of e ≡ 5 → e ≡ ends.WriteFailed
-was_cut ends.NoMemory is = absurd (cc)
-was_cut ends.WrongWords is = absurd (cc)
-was_cut ends.BadScenario is = absurd (cc)
-was_cut ends.ReadFailed is = absurd (cc)
-was_cut ends.WriteFailed is = refl
-was_cut ends.TooLong is = absurd (cc)
+too_long : (all : List ℕ) (after : Held) (status : ℕ) → IsTooLong all after → (status ≡ 6) → IsDue all status
+too_long all after status long is =
+    let many : 1048576 < length all = longer all after long in
+    record {
+      scenario = λ x short reads. absurd (omega (arith, short, many));
+      other = λ short none. absurd (omega (arith, short, many));
+      longer = λ long. inl is;
+    }
 
--- what is said of the report that is answered, where there is one
-abbrev Sums : ℕ → ℕ → ℕ → Option (List ℕ) → Option (List ℕ) → Option Report → Type 0
-Sums n k status old new o =
-    MatchOption o ((status ≡ 1) ⊎ ((status ≡ 5) × IsSummaryCut n k old new)) (λ (q : Report). (status ≡ 0) × IsReportOf (gen n) k q × Appends old new (summary q.trace q.outcome))
+of_text : (n : ℕ) (all : List ℕ) (old new : Held) (end : ToolEnd) → length all ≤ 1048576 → TextEnded n all old new end → IsDue all end.status
+of_text n all old new end short (Reported r status report of written) = record {
+  scenario = λ x short reads. inl status;
+  other = λ short none. absurd (none of.scenario of.reads);
+  longer = λ long. absurd (omega (arith, short, long));
+}
+of_text n all old new end short (NoneReported is) = hindered all end.status (inl is.0)
+of_text n all old new end short (SaidBadLine is line bad written) = record {
+  scenario = λ x short reads. absurd (bad.past reads.0 reads.1);
+  other = λ short none. inl is.0;
+  longer = λ long. absurd (omega (arith, short, long));
+}
+of_text n all old new end short (ReportCut is r of front) = hindered all end.status (inr (inr is.0))
+of_text n all old new end short (BadLineCut is line bad front) = hindered all end.status (inr (inr is.0))
 
--- the summary of the report that is answered was written, or a front of it, and then there is no report
-pub summed : (n k : ℕ) (end : ToolEnd) (r : Report) (old new : Option (List ℕ)) (bytes : List ℕ) → bytes ≡ summary r.trace r.outcome → IsReportOf (gen n) k r → (end.status ≡ 0 → (end.report ≡ Some r) × Appends old new bytes) → (end.status ≢ 0 → (end.report ≡ None) × (end.status ≡ 5) × IsFront old new bytes) → IsSummed n k end old new
-summed n k end r old new bytes text is written cut = by_status end.status refl
-  where
-    by_status : (s : ℕ) → end.status ≡ s → Sums n k end.status old new end.report
-    by_status zero e =
-        let whole = written e in
-        subst (λ (o : Option Report). Sums n k end.status old new o) (sym whole.0) (e, is, subst (λ (bs : List ℕ). Appends old new bs) text whole.1)
-    by_status (suc m) e =
-        let part = cut (λ none. absurd (omega (arith, none, e))) in
-        subst (λ (o : Option Report). Sums n k end.status old new o) (sym part.0) (inr (
-          part.1,
-          record {
-            scenario = is.scenario;
-            trace = r.trace;
-            outcome = r.outcome;
-            core = r.store.state.core;
-            reads = is.reads;
-            run = is.run;
-            written = subst (λ (bs : List ℕ). IsFront old new bs) text part.2;
-          },
-        ))
+pub is_due : (n : ℕ) (all : List ℕ) (before after old new : Held) (end : ToolEnd) → before ≡ Some all → RunEnded n before after old new end → IsDue all end.status
+is_due n all before after old new end told (ReadWhole bytes of ended) =
+    let whole = of all told in
+    of_text n all old new end whole.1.short (subst (λ (bs : List ℕ). TextEnded n bs old new end) whole.0 ended)
+is_due n all before after old new end told (SaidTooLong is long written) = too_long all after end.status (long all told) is.0
+is_due n all before after old new end told (TooLongCut is long front) = hindered all end.status (inr (inr is.0))
+is_due n all before after old new end told (Unread (inl is) part) = hindered all end.status (inl is.0)
+is_due n all before after old new end told (Unread (inr is) part) = hindered all end.status (inr (inl is.0))

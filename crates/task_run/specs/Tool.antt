@@ -1,5 +1,5 @@
 -- What a call of the program reads and writes, apart from what is run.
-use Rattle.std.specs.Prelude.{◌≡◌, ◌⊎◌, ℕ, ◌≤◌, List, [], ◌∷◌, ◌++◌, Option, IsNone, MatchOption, codes, decimal}
+use Rattle.std.specs.Prelude.{◌≡◌, ◌≢◌, ◌⊎◌, ◌<◌, ◌≤◌, ℕ, Some, length, List, [], ◌∷◌, ◌++◌, Option, IsNone, MatchOption, codes, decimal}
 use Rattle.task_run.specs.declared.program.Form.{Form}
 use Rattle.task_run.specs.declared.program.Form.TheVariants as forms
 use Rattle.task_run.specs.declared.program.End.{End}
@@ -15,7 +15,7 @@ use Rattle.task_machine.specs.Core.{Core}
 use Rattle.task_run.specs.Headline.{IsReportOf, IsRunOf, machine_scenario}
 use Rattle.task_scenario.specs.Lower.{Reads}
 use Rattle.byte_streams.specs.Outside.{Appends}
-use Rattle.byte_streams.specs.Pump.{IsFront, IsTooLong, IsWhole}
+use Rattle.byte_streams.specs.Pump.{IsFront, IsTaken, IsTooLong, IsWhole}
 use Rattle.generated_scenario.specs.Generated.{gen}
 use Rattle.generated_scenario.specs.Summary.{summary}
 
@@ -61,74 +61,63 @@ status_of ends.TooLong = 6
 abbrev pub SaysOrFails : Option (List ℕ) → Option (List ℕ) → List ℕ → End → End → Type 0
 SaysOrFails old new text end result = ((result ≡ end) × Appends old new text) ⊎ ((result ≡ ends.WriteFailed) × IsFront old new text)
 
--- All was read, and the report is of a run of the scenario that it stands for, with at most n steps.
-pub record Ran (all : List ℕ) (left : Option (List ℕ)) (n : ℕ) (r : Report) : Type 0 where
-  pub whole : IsWhole all left
-  pub report : IsReportOf all n r
+-- a call that ended with this status, and without a report
+abbrev pub EndsAt : ToolEnd → ℕ → Type 0
+EndsAt end status = (end.status ≡ status) × IsNone end.report
 
--- all was read and stands for a scenario
-pub record IsScenario (all : List ℕ) (left : Option (List ℕ)) : Type 0 where
-  pub scenario : Scenario
-  pub whole : IsWhole all left
-  pub reads : Reads all scenario
+-- How `run n` ended of a text that was read whole, one line a status: `old` and `new` are what the sink holds.
+pub data TextEnded (n : ℕ) (all : List ℕ) (old new : Option (List ℕ)) (end : ToolEnd) : Type 0 where
+  -- 0: the report of a run of the scenario that the text stands for is written
+  Reported : (r : Report) → end.status ≡ 0 → end.report ≡ Some r → IsReportOf all n r → Appends old new (texts.text r.trace r.outcome) → TextEnded n all old new end
+  -- 1: memory was wanting
+  NoneReported : EndsAt end 1 → TextEnded n all old new end
+  -- 3: the text is outside the grammar, and its bad line is written
+  SaidBadLine : EndsAt end 3 → (line : ℕ) → IsBadLine all line → Appends old new (bad_line_text line) → TextEnded n all old new end
+  -- 5: a front of the one or the other is written
+  ReportCut : EndsAt end 5 → (r : Report) → IsReportOf all n r → IsFront old new (texts.text r.trace r.outcome) → TextEnded n all old new end
+  BadLineCut : EndsAt end 5 → (line : ℕ) → IsBadLine all line → IsFront old new (bad_line_text line) → TextEnded n all old new end
 
--- all was read and is outside the grammar, and its bad line is written
-pub record SaysBadLine (all : List ℕ) (left old new : Option (List ℕ)) : Type 0 where
-  pub line : ℕ
-  pub whole : IsWhole all left
-  pub bad : IsBadLine all line
-  pub written : Appends old new (bad_line_text line)
+-- The text is all that the source gave, where it tells that, and is no longer than a text may be.
+abbrev pub IsAllOf : Option (List ℕ) → Option (List ℕ) → List ℕ → Type 0
+IsAllOf before after text = (all : List ℕ) → before ≡ Some all → (text ≡ all) × IsWhole all after
 
--- all was read and stands for a scenario, and a front of the text of a run of it with at most n steps is written
-pub record IsReportCut (n : ℕ) (all : List ℕ) (left old new : Option (List ℕ)) : Type 0 where
-  pub scenario : Scenario
-  pub trace : List Label
-  pub outcome : Outcome
-  pub core : Core
-  pub whole : IsWhole all left
-  pub reads : Reads all scenario
-  pub run : IsRunOf (machine_scenario scenario) n trace outcome core
-  pub written : IsFront old new (texts.text trace outcome)
+-- How `run n` ended: `before` and `after` are what the source gives.
+pub data RunEnded (n : ℕ) (before after old new : Option (List ℕ)) (end : ToolEnd) : Type 0 where
+  -- 0, 1, 3 or 5 of all that there was to read
+  ReadWhole : (text : List ℕ) → IsAllOf before after text → TextEnded n text old new end → RunEnded n before after old new end
+  -- 6: more was read than a text may have, and the line that says so is written
+  SaidTooLong : EndsAt end 6 → ((all : List ℕ) → before ≡ Some all → IsTooLong all after) → Appends old new too_long_text → RunEnded n before after old new end
+  -- 5: a front of that line is written
+  TooLongCut : EndsAt end 5 → ((all : List ℕ) → before ≡ Some all → IsTooLong all after) → IsFront old new too_long_text → RunEnded n before after old new end
+  -- 1 or 4: memory was wanting, or the source failed, after some bytes were read
+  Unread : EndsAt end 1 ⊎ EndsAt end 4 → ((all : List ℕ) → before ≡ Some all → (taken : List ℕ) × IsTaken all taken after) → RunEnded n before after old new end
 
--- all was read and is outside the grammar, and a front of its bad line is written
-pub record IsBadLineCut (all : List ℕ) (left old new : Option (List ℕ)) : Type 0 where
-  pub line : ℕ
-  pub whole : IsWhole all left
-  pub bad : IsBadLine all line
-  pub written : IsFront old new (bad_line_text line)
+-- How `make n` ended.
+pub data MakeEnded (n : ℕ) (old new : Option (List ℕ)) (end : ToolEnd) : Type 0 where
+  Generated : EndsAt end 0 → Appends old new (gen n) → MakeEnded n old new end
+  NoneGenerated : EndsAt end 1 → MakeEnded n old new end
+  GeneratedCut : EndsAt end 5 → IsFront old new (gen n) → MakeEnded n old new end
 
--- more was read than a text may have, and a front of the line that says so is written
-pub record IsTooLongCut (all : List ℕ) (left old new : Option (List ℕ)) : Type 0 where
-  pub long : IsTooLong all left
-  pub written : IsFront old new too_long_text
+-- How `big n k` ended: the report is of a run of the generated scenario.
+pub data BigEnded (n k : ℕ) (old new : Option (List ℕ)) (end : ToolEnd) : Type 0 where
+  Summed : (r : Report) → end.status ≡ 0 → end.report ≡ Some r → IsReportOf (gen n) k r → Appends old new (summary r.trace r.outcome) → BigEnded n k old new end
+  NoneSummed : EndsAt end 1 → BigEnded n k old new end
+  SummaryCut : EndsAt end 5 → (r : Report) → IsReportOf (gen n) k r → IsFront old new (summary r.trace r.outcome) → BigEnded n k old new end
 
--- a front of what was to be written after reading
-abbrev pub IsCut : ℕ → List ℕ → Option (List ℕ) → Option (List ℕ) → Option (List ℕ) → Type 0
-IsCut n all left old new = IsReportCut n all left old new ⊎ (IsBadLineCut all left old new ⊎ IsTooLongCut all left old new)
+-- How a call ended, by its words.
+pub data Ended (words : List (List ℕ)) (before after old new : Option (List ℕ)) (end : ToolEnd) : Type 0 where
+  RunsText : (n : ℕ) → IsRun words n → RunEnded n before after old new end → Ended words before after old new end
+  Makes : (n : ℕ) → IsMake words n → MakeEnded n old new end → Ended words before after old new end
+  RunsGenerated : (n k : ℕ) → IsBig words n k → BigEnded n k old new end → Ended words before after old new end
+  SaidUsage : IsNoForm words → EndsAt end 2 → Appends old new usage_text → Ended words before after old new end
+  UsageCut : IsNoForm words → EndsAt end 5 → IsFront old new usage_text → Ended words before after old new end
 
--- memory was wanting, or the source or the sink failed
-abbrev pub IsHindered : ℕ → Type 0
-IsHindered status = (status ≡ 1) ⊎ ((status ≡ 4) ⊎ (status ≡ 5))
+-- this status, unless memory was wanting, or the source or the sink failed
+abbrev pub IsUnhindered : ℕ → ℕ → Type 0
+IsUnhindered due status = (status ≡ due) ⊎ ((status ≡ 1) ⊎ ((status ≡ 4) ⊎ (status ≡ 5)))
 
--- The generated scenario with n requests is written. Else memory was wanting, or a front of it is written.
-abbrev pub IsMade : ℕ → ToolEnd → Option (List ℕ) → Option (List ℕ) → Type 0
-IsMade n end old new =
-    IsNone end.report
-    × (((end.status ≡ 0) × Appends old new (gen n)) ⊎ ((end.status ≡ 1) ⊎ ((end.status ≡ 5) × IsFront old new (gen n))))
-
--- a front of the summary of a run of the generated scenario with n requests, with at most k steps, is written
-pub record IsSummaryCut (n k : ℕ) (old new : Option (List ℕ)) : Type 0 where
-  pub scenario : Scenario
-  pub trace : List Label
-  pub outcome : Outcome
-  pub core : Core
-  pub reads : Reads (gen n) scenario
-  pub run : IsRunOf (machine_scenario scenario) k trace outcome core
-  pub written : IsFront old new (summary trace outcome)
-
--- The report is of a run of the generated scenario, and its summary is written. Else there is no report: memory was wanting, or
--- a front of such a summary is written.
-abbrev pub IsSummed : ℕ → ℕ → ToolEnd → Option (List ℕ) → Option (List ℕ) → Type 0
-IsSummed n k end old new =
-    MatchOption end.report ((end.status ≡ 1) ⊎ ((end.status ≡ 5) × IsSummaryCut n k old new)) (λ r.
-    (end.status ≡ 0) × IsReportOf (gen n) k r × Appends old new (summary r.trace r.outcome))
+-- Which status of `run` the input calls for, where all that the source gives is told.
+pub record IsDue (all : List ℕ) (status : ℕ) : Type 0 where
+  pub scenario : (x : Scenario) → length all ≤ 1048576 → Reads all x → IsUnhindered 0 status
+  pub other : length all ≤ 1048576 → ((x : Scenario) → ¬ Reads all x) → IsUnhindered 3 status
+  pub longer : 1048576 < length all → IsUnhindered 6 status

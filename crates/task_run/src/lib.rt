@@ -11,6 +11,7 @@ pub use byte_streams::{
 pub use generated_scenario::make_scenario;
 pub use main_script::ScriptMain;
 pub use program::{ToolEnd, USAGE, tool};
-pub use report::{Report, ScriptedHost, print_report, run_scenario};
+pub use report::{Report, print_report, run_scenario};
 pub use task_machine::{IdleLine, NoMemory, Operand, Seq};
 pub use task_scenario::{InstanceNames, MainOp, RunError, Scenario, component_of, read_scenario};
+pub use task_store::ScriptedHost;

@@ -1,6 +1,6 @@
-ghost use Rattle.std.specs.Prelude.{◌≡◌, ◌+◌, ◌<◌, ◌^◌, ◌-◌, ◌++◌, ◌∷◌, [], length, option_copied, IfOk, IfErr, IfNone, IfSome, IsSome, None, OnOk, OnErr, Some, slice_get, slice_set};
+ghost use Rattle.std.specs.Prelude.{◌≡◌, ◌+◌, ◌<◌, ◌^◌, ◌-◌, ◌++◌, ◌∷◌, [], length, option_copied, IfOk, IfErr, IfSome, IsSome, None, OnOk, OnErr, Some, slice_get, slice_set};
 ghost use Rattle.task_machine.specs.declared.component.ExportDef.{ExportDef};
-ghost use Rattle.task_rules.specs.MainOps.{is_complete, is_ready_for_call, spawned_at, started_at};
+ghost use Rattle.task_rules.specs.MainOps.{is_complete, is_ready_for_call, main_aborted, spawned_at, started_at};
 ghost use Rattle.task_rules.specs.Run.{main_opening};
 ghost use Rattle.task_rules.specs.Scripts.{export_at, values_in};
 ghost use Rattle.state_calls.specs.declared.error.TaskError.TheVariants as task_error;
@@ -11,11 +11,12 @@ ghost use Rattle.task_turns.specs.Main.{Steps};
 ghost use Rattle.task_turns.specs.Turn.{Sits, given, running_of};
 ghost use Rattle.task_run.specs.Knows.{knows_later};
 ghost use Rattle.task_run.specs.Script.{Suits, part_of, place_of, script_of, started};
-ghost use Rattle.task_run.specs.Spawns.{KnowsSpawns, abort_in, phase_in};
-ghost use Rattle.task_machine.specs.Maps.{get};
+ghost use Rattle.task_run.specs.Spawns.{KnowsSpawns, number_in};
+ghost use Rattle.task_store.specs.Hosts.{HoldsHosts};
+ghost use Rattle.task_store.specs.Spawned.{IsSpawnedIn};
+ghost use Rattle.task_machine.specs.Read.{phase_of};
 ghost use Rattle.task_ops.specs.Works.{KeepsWorks};
-ghost use Rattle.task_rules.specs.Cancels.{aborted_phase};
-ghost use Rattle.task_words.specs.StateView.{StateView, work_of};
+ghost use Rattle.task_words.specs.StateView.{StateView, on_core};
 
 use futures::task::Poll;
 use std::alloc::{AllocError, Global};
@@ -23,21 +24,14 @@ use task_calls::finish_call as take_result;
 use task_loop::{Func, MainStep, MainTask, TaskError, operand_value};
 use task_machine::{Component, HostDef, Label, MainLabel, Operand, Phase, Trap, Turn};
 use task_scenario::MainOp;
-use task_store::{Access, Whole};
-use task_words::{InstanceWords, ResultWords, View, WorkId, WorkWords};
+use task_store::{Access, AccessorTask, FromHost, HostWork, SpawnHandle, Whole};
+use task_words::{InstanceWords, ResultWords, View};
 
 // A start by main: the number of its call, or why it was refused.
 #[derive(Clone, Copy)]
 pub enum Start {
     Called(u64),
     Refused(Trap),
-}
-
-// A work that was spawned: its id, and the number by which labels name it.
-#[derive(Clone, Copy)]
-pub struct Spawned {
-    work: WorkId,
-    number: u64,
 }
 
 /// Main as a script: it takes its ops one by one.
@@ -49,7 +43,7 @@ pub struct ScriptMain<'a> {
     registers: [u64; 16],
     starts: Vec<Start>,
     // The works that it spawned.
-    spawns: Vec<Spawned>,
+    spawns: Vec<SpawnHandle>,
 }
 
 // The values of these operands.
@@ -125,7 +119,7 @@ impl<'a> ScriptMain<'a> {
     }
 
     // The op is done, and spawned this work.
-    fn keep_spawn(&mut self, work: Spawned) -> Result<(), AllocError>
+    fn keep_spawn(&mut self, work: SpawnHandle) -> Result<(), AllocError>
         requires { self.old.at < length self.old.ops.now }
         ensures ops { self.new.ops ≡ self.old.ops }
         ensures registers { self.new.registers ≡ self.old.registers }
@@ -152,8 +146,9 @@ impl<'a> ScriptMain<'a> {
     }
 
     // The work of a spawn, if the spawn is there.
-    fn spawned(&self, spawn: u32) -> Option<Spawned>
-        ensures { result ≡ slice_get self.now.spawns.items (spawn - 1) }
+    fn spawned(&self, spawn: u32) -> Option<SpawnHandle>
+        ensures is { result ≡ slice_get self.now.spawns.items (spawn - 1) }
+        ensures number { spawned_at (place_of self.now) spawn ≡ number_in result }
     {
         self.spawns.get((spawn as usize).saturating_sub(1)).copied()
     }
@@ -171,7 +166,7 @@ impl<'a> ScriptMain<'a> {
 
 // Main calls the export.
 #[tactic(auto, using(std::proofs::lemmas::Option::slice_get_within))]
-fn make_start<T, H>(
+fn make_start<T, H: HostWork>(
     main: &mut ScriptMain<'_>,
     access: &mut Access<'_, T, Whole, H>,
     component: &Component,
@@ -182,6 +177,7 @@ fn make_start<T, H>(
     requires order { Sits component.now Turn.Main access.old.store.now.state.core }
     requires current { running_of access.old.store.now.state ≡ None }
     requires given { given access.old.store.now.state.core + 4 < 2 ^ 61 }
+    requires hosts { HoldsHosts H.course access.old.store.now }
     requires op { slice_get main.old.ops.now main.old.at ≡ Some (main_op.Start func params.now) }
     requires there { (e : ExportDef) × ((export_at component.now (callee_of func) ≡ Some e) × (length params.now ≡ e.params)) }
     ensures same { access.new.store.ghost_name ≡ access.old.store.ghost_name }
@@ -189,6 +185,7 @@ fn make_start<T, H>(
     ensures ops { main.new.ops ≡ main.old.ops }
     ensures spawns { main.new.spawns ≡ main.old.spawns }
     ensures current { OnOk result (running_of access.new.store.now.state ≡ running_of access.old.store.now.state) }
+    ensures hosts { OnOk result (HoldsHosts H.course access.new.store.now) }
     ensures names { KeepsWorks access.old.store.now.state access.new.store.now.state }
     ensures ok { IfOk result (λ step. Steps component.now (script_of main.old) (part_of main.old) access.old.store.now.state.core step (part_of main.new) access.new.store.now.state.core) }
     ensures err { IfErr result (λ e. e ≡ task_error.NoMemory) }
@@ -213,7 +210,7 @@ fn make_start<T, H>(
 
 // Main finishes the call that came of a start.
 #[tactic(auto, using(std::proofs::lemmas::Option::slice_get_within))]
-fn finish_call<T, H>(
+fn finish_call<T, H: HostWork>(
     main: &mut ScriptMain<'_>,
     access: &mut Access<'_, T, Whole, H>,
     component: &Component,
@@ -221,12 +218,14 @@ fn finish_call<T, H>(
     register: u8,
 ) -> Result<MainStep, TaskError>
     requires order { Sits component.now Turn.Main access.old.store.now.state.core }
+    requires hosts { HoldsHosts H.course access.old.store.now }
     requires op { slice_get main.old.ops.now main.old.at ≡ Some (main_op.Finish start register) }
     ensures same { access.new.store.ghost_name ≡ access.old.store.ghost_name }
     ensures stands { access.new.store.now.running ≡ access.old.store.now.running }
     ensures ops { main.new.ops ≡ main.old.ops }
     ensures spawns { main.new.spawns ≡ main.old.spawns }
     ensures current { OnOk result (running_of access.new.store.now.state ≡ running_of access.old.store.now.state) }
+    ensures hosts { OnOk result (HoldsHosts H.course access.new.store.now) }
     ensures names { KeepsWorks access.old.store.now.state access.new.store.now.state }
     ensures ok { IfOk result (λ step. Steps component.now (script_of main.old) (part_of main.old) access.old.store.now.state.core step (part_of main.new) access.new.store.now.state.core) }
     ensures err { IfErr result (λ e. e ≡ task_error.NoMemory) }
@@ -258,7 +257,7 @@ fn host_here(hosts: &[HostDef], at: u32) -> Option<HostDef>
 
 // Main spawns a work of the host at this place of the component.
 #[tactic(auto, using(std::proofs::lemmas::Option::slice_get_within))]
-fn spawn_work<T, H>(
+fn spawn_work<T, H: AccessorTask<T> + FromHost>(
     main: &mut ScriptMain<'_>,
     access: &mut Access<'_, T, Whole, H>,
     component: &Component,
@@ -266,6 +265,8 @@ fn spawn_work<T, H>(
 ) -> Result<MainStep, TaskError>
     requires given { given access.old.store.now.state.core + 4 < 2 ^ 61 }
     requires knows { KnowsSpawns main.old access.old.store.now.state }
+    requires order { Sits component.now Turn.Main access.old.store.now.state.core }
+    requires hosts { HoldsHosts H.course access.old.store.now }
     requires op { slice_get main.old.ops.now main.old.at ≡ Some (main_op.Spawn host) }
     requires there { IsSome (slice_get component.now.hosts host) }
     ensures same { access.new.store.ghost_name ≡ access.old.store.ghost_name }
@@ -273,6 +274,7 @@ fn spawn_work<T, H>(
     ensures ops { main.new.ops ≡ main.old.ops }
     ensures current { OnOk result (access.new.store.now.state.current ≡ access.old.store.now.state.current) }
     ensures knows { OnOk result (KnowsSpawns main.new access.new.store.now.state) }
+    ensures hosts { OnOk result (HoldsHosts H.course access.new.store.now) }
     ensures ok { IfOk result (λ step. Steps component.now (script_of main.old) (part_of main.old) access.old.store.now.state.core step (part_of main.new) access.new.store.now.state.core) }
     ensures err { IfErr result (λ e. e ≡ task_error.NoMemory) }
 {
@@ -282,69 +284,37 @@ fn spawn_work<T, H>(
     let Some(def) = host_here(component.hosts.as_slice(), host) else {
         unreachable!()
     };
-    let Ok(work) = access.store.state.queue_spawn(def) else {
+    let Ok(work) = access.store.spawn(H::from_host(def)) else {
         return Err(TaskError::NoMemory);
     };
-    let future = access.store.state.work_number(work);
-    main.keep_spawn(Spawned {
-        work,
-        number: future,
-    })?;
+    let future = work.number();
+    main.keep_spawn(work)?;
     Ok(MainStep::Did(Label::Main(MainLabel::Spawn(number, future))))
 }
 
-// The id of a spawn's work, if the spawn and its work are there.
-fn work_of<T, H>(
-    main: &ScriptMain<'_>,
-    access: &Access<'_, T, Whole, H>,
-    spawn: u32,
-) -> Option<WorkId>
-    requires { KnowsSpawns main.now access.now.store.now.state }
-    ensures some { IfSome result (λ id. work_of access.now.store.now.state id ≡ spawned_at (place_of main.now) spawn) }
-    ensures none { IfNone result (get access.now.store.now.state.core.works (spawned_at (place_of main.now) spawn) ≡ None) }
+// The phase of the work, which an abort is asked for; it is complete where there is no such spawn.
+fn abort<T, H>(access: &mut Access<'_, T, Whole, H>, work: Option<SpawnHandle>) -> Phase
+    requires { IfSome work (λ h. IsSpawnedIn h access.old.store.now.state) }
+    ensures same { access.new.store.ghost_name ≡ access.old.store.ghost_name }
+    ensures phase { result ≡ phase_of (number_in work) access.old.store.now.state.core }
+    ensures store { access.new.store.now ≡ record access.old.store.now { state = on_core (main_aborted (number_in work)) access.old.store.now.state } }
 {
     access.store.state.none_is_zero();
-    let spawned = main.spawned(spawn)?;
-    if access.store.state.work_number(spawned.work) == spawned.number {
-        Some(spawned.work)
-    } else {
-        None
+    match work {
+        Some(work) => work.abort(access.store),
+        None => Phase::Complete,
     }
-}
-
-// The phase after an abort.
-fn after_abort(phase: Phase) -> Phase
-    ensures { result ≡ aborted_phase phase }
-{
-    match phase {
-        Phase::Running => Phase::AbortRequested,
-        phase => phase,
-    }
-}
-
-// The phase of the work, which an abort is asked for; it is complete where the work isn't there.
-fn abort<T, H>(access: &mut Access<'_, T, Whole, H>, work: Option<WorkId>) -> Phase
-    ensures same { access.new.store.ghost_name ≡ access.old.store.ghost_name }
-    ensures stands { access.new.store.now.running ≡ access.old.store.now.running }
-    ensures phase { result ≡ phase_in access.old.store.now.state work }
-    ensures state { access.new.store.now.state ≡ abort_in access.old.store.now.state work }
-{
-    let Some(work) = work else {
-        return Phase::Complete;
-    };
-    let phase = access.store.state.phase(work);
-    access.store.state.set_phase(work, after_abort(phase));
-    phase
 }
 
 // Main aborts the work of a spawn.
 #[tactic(auto, using(std::proofs::lemmas::Option::slice_get_within))]
-fn abort_work<T, H>(
+fn abort_work<T, H: HostWork>(
     main: &mut ScriptMain<'_>,
     access: &mut Access<'_, T, Whole, H>,
     component: &Component,
     spawn: u32,
 ) -> MainStep
+    requires hosts { HoldsHosts H.course access.old.store.now }
     requires op { slice_get main.old.ops.now main.old.at ≡ Some (main_op.Abort spawn) }
     requires knows { KnowsSpawns main.old access.old.store.now.state }
     ensures same { access.new.store.ghost_name ≡ access.old.store.ghost_name }
@@ -352,25 +322,28 @@ fn abort_work<T, H>(
     ensures ops { main.new.ops ≡ main.old.ops }
     ensures spawns { main.new.spawns ≡ main.old.spawns }
     ensures current { running_of access.new.store.now.state ≡ running_of access.old.store.now.state }
+    ensures hosts { HoldsHosts H.course access.new.store.now }
     ensures names { KeepsWorks access.old.store.now.state access.new.store.now.state }
     ensures ok { Steps component.now (script_of main.old) (part_of main.old) access.old.store.now.state.core result (part_of main.new) access.new.store.now.state.core }
 {
     let _component = component;
     let at = main.next_place();
-    let work = work_of(main, access, spawn);
+    let work = main.spawned(spawn);
     let phase = abort(access, work);
     main.at = at;
     MainStep::Did(Label::Main(MainLabel::Abort(phase, spawn)))
 }
 
-// Whether the work has ended, or isn't there.
-fn is_complete<T, H>(access: &Access<'_, T, Whole, H>, work: Option<WorkId>) -> bool
-    ensures { result ≡ is_complete (phase_in access.now.store.now.state work) }
+// Whether the work has ended; it has where there is no such spawn.
+fn is_complete<T, H>(access: &Access<'_, T, Whole, H>, work: Option<SpawnHandle>) -> bool
+    requires { IfSome work (λ h. IsSpawnedIn h access.now.store.now.state) }
+    ensures { result ≡ is_complete (phase_of (number_in work) access.now.store.now.state.core) }
 {
-    let Some(work) = work else {
-        return true;
-    };
-    matches!(access.store.state.phase(work), Phase::Complete)
+    access.store.state.none_is_zero();
+    match work {
+        Some(work) => matches!(work.poll(access.store), Poll::Ready(())),
+        None => true,
+    }
 }
 
 // Main waits until the work of a spawn has ended.
@@ -389,7 +362,7 @@ fn await_work<T, H>(
 {
     let _component = component;
     let at = main.next_place();
-    let work = work_of(main, access, spawn);
+    let work = main.spawned(spawn);
     if !is_complete(access, work) {
         return MainStep::Pends;
     }
@@ -455,7 +428,7 @@ fn op_here(ops: &[MainOp], at: usize) -> Option<&MainOp>
     ops.get(at)
 }
 
-impl<T, H> MainTask<T, H> for ScriptMain<'_> {
+impl<T, H: AccessorTask<T> + FromHost> MainTask<T, H> for ScriptMain<'_> {
     ghost part = { part_of };
 
     ghost script = { script_of };

@@ -6,7 +6,7 @@ ghost use Rattle.task_rules.specs.Texts.{text};
 ghost use Rattle.generated_scenario.specs.Generated.{gen};
 ghost use Rattle.task_run.specs.declared.program.Form.{Form};
 ghost use Rattle.task_run.specs.Headline.{IsReportOf};
-ghost use Rattle.task_run.specs.Tool.{IsBig, IsCut, IsForm, IsHindered, IsMade, IsMake, IsNoForm, IsRun, IsScenario, IsSummed, Ran, SaysBadLine, SaysOrFails, bad_line_text, too_long_text, usage_text, status_of};
+ghost use Rattle.task_run.specs.Tool.{BigEnded, Ended, EndsAt, IsDue, IsForm, IsNoForm, IsRun, MakeEnded, RunEnded, SaysOrFails, TextEnded, bad_line_text, status_of};
 ghost use Rattle.task_scenario.specs.declared.scenario.Scenario.{Scenario};
 
 use crate::report::{Report, run_scenario};
@@ -82,7 +82,6 @@ impl From<AllocError> for End {
 // Writes a text, and ends so where all of it was written.
 fn say<K: Sink>(sink: &mut K, text: &[u8], end: End) -> End
     requires { end ≢ End.WriteFailed }
-    ensures answer { (result ≡ end) ⊎ (result ≡ End.WriteFailed) }
     ensures cause { result ≡ End.WriteFailed → HasRisen (K.faults sink.old) (K.faults sink.new) }
     ensures told { SaysOrFails (K.held sink.old) (K.held sink.new) text.now end result }
 {
@@ -167,21 +166,17 @@ fn write_report<K: Sink>(alloc: Global, sink: &mut K, report: &Report) -> Result
     ensures wanting { IsErrOf result End.NoMemory → sink.new ≡ sink.old }
 {
     let mut page = Page::new(alloc)?;
-    for label in report.trace.labels() {
-        page.add_label(*label);
-        if !page.has_room() {
-            flush(sink, &mut page)?;
-        }
+    let mut labels = report.trace.labels();
+    'pages: while page.fill(&mut labels) {
+        flush(sink, &mut page)?;
     }
     page.add_outcome(report.outcome);
     flush(sink, &mut page)
 }
 
 fn say_bad_line<K: Sink>(alloc: Global, sink: &mut K, line: u32) -> End
-    ensures answer { (result ≡ End.NoMemory) ⊎ ((result ≡ End.BadScenario) ⊎ (result ≡ End.WriteFailed)) }
+    ensures told { (result ≡ End.NoMemory) ⊎ SaysOrFails (K.held sink.old) (K.held sink.new) (bad_line_text line) End.BadScenario result }
     ensures cause { result ≡ End.WriteFailed → HasRisen (K.faults sink.old) (K.faults sink.new) }
-    ensures told { result ≡ End.BadScenario → Appends (K.held sink.old) (K.held sink.new) (bad_line_text line) }
-    ensures front { result ≡ End.WriteFailed → IsFront (K.held sink.old) (K.held sink.new) (bad_line_text line) }
     ensures wanting { result ≡ End.NoMemory → sink.new ≡ sink.old }
 {
     match format!(in alloc; "bad scenario line {line}\n") {
@@ -190,48 +185,9 @@ fn say_bad_line<K: Sink>(alloc: Global, sink: &mut K, line: u32) -> End
     }
 }
 
-// Reads a scenario, runs it and writes the report.
-fn run<S: Source, K: Sink>(
-    alloc: Global,
-    steps: u32,
-    source: &mut S,
-    sink: &mut K,
-) -> Result<Report, End>
-    requires some { 0 < steps }
-    requires few { steps ≤ 1000000 }
-    ensures words { IfErr result (λ end. end ≢ End.WrongWords) }
-    ensures read { IsErrOf result End.ReadFailed → HasRisen (S.faults source.old) (S.faults source.new) }
-    ensures write { IsErrOf result End.WriteFailed → HasRisen (K.faults sink.old) (K.faults sink.new) }
-    ensures unwritten { IsErrOf result End.ReadFailed → sink.new ≡ sink.old }
-    ensures written { IfOk result (λ r. Appends (K.held sink.old) (K.held sink.new) (text r.trace r.outcome)) }
-    ensures ran { (all : List ℕ) → S.left source.old ≡ Some all → IfOk result (λ r. Ran all (S.left source.new) steps r) }
-    ensures done { (all : List ℕ) → S.left source.old ≡ Some all → IsOk result → IsScenario all (S.left source.new) }
-    ensures bad { (all : List ℕ) → S.left source.old ≡ Some all → IsErrOf result End.BadScenario → SaysBadLine all (S.left source.new) (K.held sink.old) (K.held sink.new) }
-    ensures long { (all : List ℕ) → S.left source.old ≡ Some all → IsErrOf result End.TooLong → IsTooLong all (S.left source.new) }
-    ensures long_said { IsErrOf result End.TooLong → Appends (K.held sink.old) (K.held sink.new) too_long_text }
-    ensures wanting { IsErrOf result End.NoMemory → sink.new ≡ sink.old }
-    ensures cut { (all : List ℕ) → S.left source.old ≡ Some all → IsErrOf result End.WriteFailed → IsCut steps all (S.left source.new) (K.held sink.old) (K.held sink.new) }
-{
-    let text = match read_all(alloc, source) {
-        Ok(text) => text,
-        Err(ReadFault::NoMemory) => return Err(End::NoMemory),
-        Err(ReadFault::Failed) => return Err(End::ReadFailed),
-        Err(ReadFault::TooLong) => return Err(say(sink, TOO_LONG, End::TooLong)),
-    };
-    match run_scenario(alloc, text.as_slice(), steps) {
-        Ok(report) => {
-            write_report(alloc, sink, &report)?;
-            Ok(report)
-        }
-        Err(RunError::NoMemory) => Err(End::NoMemory),
-        Err(RunError::BadScenario(line)) => Err(say_bad_line(alloc, sink, line)),
-    }
-}
-
 // How the program ends where it has nothing to answer but a status.
 fn ended(end: End) -> ToolEnd
-    ensures status { result.status ≡ status_of end }
-    ensures report { result.report ≡ None }
+    ensures { EndsAt result (status_of end) }
 {
     ToolEnd {
         status: end.status(),
@@ -239,10 +195,49 @@ fn ended(end: End) -> ToolEnd
     }
 }
 
+// Runs the scenario that was read and writes the report, or its bad line.
+fn report_on<K: Sink>(alloc: Global, steps: u32, text: &[u8], sink: &mut K) -> ToolEnd
+    requires text { length text.now ≤ 1048576 }
+    requires some { 0 < steps }
+    requires few { steps ≤ 1000000 }
+    ensures ended { TextEnded steps text.now (K.held sink.old) (K.held sink.new) result }
+    ensures unwritten { result.status ≡ 1 → sink.new ≡ sink.old }
+    ensures write { result.status ≡ 5 → HasRisen (K.faults sink.old) (K.faults sink.new) }
+{
+    match run_scenario(alloc, text, steps) {
+        Ok(report) => match write_report(alloc, sink, &report) {
+            Ok(()) => ToolEnd {
+                status: 0,
+                report: Some(report),
+            },
+            Err(end) => ended(end),
+        },
+        Err(RunError::NoMemory) => ended(End::NoMemory),
+        Err(RunError::BadScenario(line)) => ended(say_bad_line(alloc, sink, line)),
+    }
+}
+
+// Reads a scenario, runs it and writes the report.
+fn run<S: Source, K: Sink>(alloc: Global, steps: u32, source: &mut S, sink: &mut K) -> ToolEnd
+    requires some { 0 < steps }
+    requires few { steps ≤ 1000000 }
+    ensures ended { RunEnded steps (S.left source.old) (S.left source.new) (K.held sink.old) (K.held sink.new) result }
+    ensures unwritten { (result.status ≡ 1) ⊎ (result.status ≡ 4) → sink.new ≡ sink.old }
+    ensures read { result.status ≡ 4 → HasRisen (S.faults source.old) (S.faults source.new) }
+    ensures write { result.status ≡ 5 → HasRisen (K.faults sink.old) (K.faults sink.new) }
+{
+    match read_all(alloc, source) {
+        Ok(text) => report_on(alloc, steps, text.as_slice(), sink),
+        Err(ReadFault::NoMemory) => ended(End::NoMemory),
+        Err(ReadFault::Failed) => ended(End::ReadFailed),
+        Err(ReadFault::TooLong) => ended(say(sink, TOO_LONG, End::TooLong)),
+    }
+}
+
 // Writes a text, and ends with this report where all of it was written.
 fn put<K: Sink>(sink: &mut K, text: &[u8], report: Option<Report>) -> ToolEnd
-    ensures written { result.status ≡ 0 → (result.report ≡ report) × Appends (K.held sink.old) (K.held sink.new) text.now }
-    ensures cut { result.status ≢ 0 → (result.report ≡ None) × (result.status ≡ 5) × IsFront (K.held sink.old) (K.held sink.new) text.now }
+    ensures told { ((result.status ≡ 0) × (result.report ≡ report) × Appends (K.held sink.old) (K.held sink.new) text.now)
+        ⊎ (EndsAt result 5 × IsFront (K.held sink.old) (K.held sink.new) text.now) }
     ensures cause { result.status ≡ 5 → HasRisen (K.faults sink.old) (K.faults sink.new) }
 {
     if write_all(sink, text) {
@@ -256,7 +251,7 @@ fn put<K: Sink>(sink: &mut K, text: &[u8], report: Option<Report>) -> ToolEnd
 fn make<K: Sink>(alloc: Global, number: u32, sink: &mut K) -> ToolEnd
     requires some { 1 ≤ number }
     requires few { number ≤ 256 }
-    ensures made { IsMade number result (K.held sink.old) (K.held sink.new) }
+    ensures ended { MakeEnded number (K.held sink.old) (K.held sink.new) result }
     ensures wanting { result.status ≡ 1 → sink.new ≡ sink.old }
     ensures cause { result.status ≡ 5 → HasRisen (K.faults sink.old) (K.faults sink.new) }
 {
@@ -288,14 +283,14 @@ fn big<K: Sink>(alloc: Global, number: u32, steps: u32, sink: &mut K) -> ToolEnd
     requires few { number ≤ 256 }
     requires one { 0 < steps }
     requires limit { steps ≤ 1000000 }
-    ensures summed { IsSummed number steps result (K.held sink.old) (K.held sink.new) }
+    ensures ended { BigEnded number steps (K.held sink.old) (K.held sink.new) result }
     ensures wanting { result.status ≡ 1 → sink.new ≡ sink.old }
     ensures cause { result.status ≡ 5 → HasRisen (K.faults sink.old) (K.faults sink.new) }
 {
     let Ok(report) = run_generated(alloc, number, steps) else {
         return ended(End::NoMemory);
     };
-    match print_summary(alloc, report.trace.labels(), report.outcome) {
+    match print_summary(alloc, &report.trace, report.outcome) {
         Ok(text) => put(sink, text.as_slice(), Some(report)),
         Err(_) => ended(End::NoMemory),
     }
@@ -315,48 +310,18 @@ pub fn tool<S: Source, K: Sink>(
     source: &mut S,
     sink: &mut K,
 ) -> ToolEnd
-    // All words but `run` leave the source as it was. Words that are no form give status 2 or, where the sink failed, 5.
+    // All words but `run` leave the source as it was.
     ensures untouched { ((n : ℕ) → IsRun (map string_bytes words.now) n → ⊥) → source.new ≡ source.old }
-    ensures usage { IsNoForm (map string_bytes words.now) → (result.status ≡ 2) ⊎ (result.status ≡ 5) }
-    ensures words { (form : Form) → IsForm (map string_bytes words.now) form → result.status ≢ 2 }
-    ensures said { result.status ≡ 2 → Appends (K.held sink.old) (K.held sink.new) usage_text }
+    // What stands after each status.
+    ensures ended { Ended (map string_bytes words.now) (S.left source.old) (S.left source.new) (K.held sink.old) (K.held sink.new) result }
+    // Only want of memory and a fault stand in the way of 0 for a scenario, of 3 for another text and of 6 for a longer one.
+    ensures due { (n : ℕ) (all : List ℕ) → IsRun (map string_bytes words.now) n → S.left source.old ≡ Some all → IsDue all result.status }
+    ensures unwritten { (result.status ≡ 1) ⊎ (result.status ≡ 4) → sink.new ≡ sink.old }
     ensures read { result.status ≡ 4 → HasRisen (S.faults source.old) (S.faults source.new) }
     ensures write { result.status ≡ 5 → HasRisen (K.faults sink.old) (K.faults sink.new) }
-    ensures unwritten { result.status ≡ 4 → sink.new ≡ sink.old }
-    // No other statuses are there. Of words other than `make`, 0 comes with the report that was run, and of `run` with its text.
-    ensures statuses { result.status ≤ 6 }
-    ensures report { ((n : ℕ) → ¬ IsMake (map string_bytes words.now) n) → MatchOption result.report (result.status ≢ 0) (λ r. result.status ≡ 0) }
-    ensures written { (n : ℕ) → IsRun (map string_bytes words.now) n → IfSome result.report (λ r. Appends (K.held sink.old) (K.held sink.new) (text r.trace r.outcome)) }
-    // The report of status 0 is of a run of the scenario that was read.
-    ensures ran { (n : ℕ) (all : List ℕ) → IsRun (map string_bytes words.now) n → S.left source.old ≡ Some all → IfSome result.report (λ r. Ran all (S.left source.new) n r) }
-    // With status 0 the text was a scenario's, with 3 it was none, with 6 it was too long.
-    ensures done { (n : ℕ) (all : List ℕ) → IsRun (map string_bytes words.now) n → S.left source.old ≡ Some all → result.status ≡ 0 → IsScenario all (S.left source.new) }
-    ensures bad { (all : List ℕ) → S.left source.old ≡ Some all → result.status ≡ 3 → SaysBadLine all (S.left source.new) (K.held sink.old) (K.held sink.new) }
-    ensures long { (all : List ℕ) → S.left source.old ≡ Some all → result.status ≡ 6 → IsTooLong all (S.left source.new) }
-    ensures long_said { result.status ≡ 6 → Appends (K.held sink.old) (K.held sink.new) too_long_text }
-    // With status 1 nothing was written, with 5 a front of what was to be written.
-    ensures wanting { result.status ≡ 1 → sink.new ≡ sink.old }
-    ensures cut { (n : ℕ) (all : List ℕ) → IsRun (map string_bytes words.now) n → S.left source.old ≡ Some all → result.status ≡ 5 → IsCut n all (S.left source.new) (K.held sink.old) (K.held sink.new) }
-    ensures unsaid { IsNoForm (map string_bytes words.now) → result.status ≡ 5 → IsFront (K.held sink.old) (K.held sink.new) usage_text }
-    // Only want of memory and a fault stand in the way of 0 for a scenario, of 3 for another text and of 6 for a longer one.
-    ensures complete { (n : ℕ) (all : List ℕ) (x : Scenario) → IsRun (map string_bytes words.now) n → S.left source.old ≡ Some all →
-        length all ≤ 1048576 → Reads all x → ¬ HasRisen (S.faults source.old) (S.faults source.new) → ¬ HasRisen (K.faults sink.old) (K.faults sink.new) →
-        (result.status ≡ 0) ⊎ (result.status ≡ 1) }
-    ensures refused { (n : ℕ) (all : List ℕ) → IsRun (map string_bytes words.now) n → S.left source.old ≡ Some all →
-        length all ≤ 1048576 → ((x : Scenario) → ¬ Reads all x) → (result.status ≡ 3) ⊎ IsHindered result.status }
-    ensures too_long { (n : ℕ) (all : List ℕ) → IsRun (map string_bytes words.now) n → S.left source.old ≡ Some all → 1048576 < length all → (result.status ≡ 6) ⊎ IsHindered result.status }
-    // Of `make` and `big` the status is 0, 1 or 5: with 0 the scenario is written, or the summary of the report, with 5 a front.
-    ensures made { (n : ℕ) → IsMake (map string_bytes words.now) n → IsMade n result (K.held sink.old) (K.held sink.new) }
-    ensures summed { (n k : ℕ) → IsBig (map string_bytes words.now) n k → IsSummed n k result (K.held sink.old) (K.held sink.new) }
 {
     match form_of(words) {
-        Some(Form::Run(steps)) => match run(alloc, steps, source, sink) {
-            Ok(report) => ToolEnd {
-                status: 0,
-                report: Some(report),
-            },
-            Err(end) => ended(end),
-        },
+        Some(Form::Run(steps)) => run(alloc, steps, source, sink),
         Some(Form::Make(number)) => make(alloc, number, sink),
         Some(Form::Big(number, steps)) => big(alloc, number, steps, sink),
         None => ended(say(sink, USAGE, End::WrongWords)),

@@ -1,4 +1,5 @@
 ghost use Rattle.std.specs.Prelude.{◌≡◌, ◌<◌, ◌≤◌, ◌++◌, ℕ, false, length, IfOk, IsOk, IsErrOf, IsOkUnless, OnOk};
+ghost use Rattle.host_works.specs.Kept.{HoldsNone};
 ghost use Rattle.scenario_text.specs.Grammar.{IsBadLine};
 ghost use Rattle.task_machine.specs.Core.{fresh};
 ghost use Rattle.task_records.specs.Seen.{nothing};
@@ -16,16 +17,7 @@ use std::alloc::{AllocError, Global};
 use task_loop::{Outcome, Trace, run_concurrent};
 use task_machine::{IdleLine, NoMemory};
 use task_scenario::{RunError, Scenario, read_scenario};
-use task_store::Store;
-
-/// The host works of a scenario.
-pub struct ScriptedHost;
-
-impl Drop for ScriptedHost {
-    fn drop(self) {
-        let ScriptedHost = self;
-    }
-}
+use task_store::{ScriptedHost, Store};
 
 /// What a run came to: its steps, its end, and the store that it left.
 #[derive(Drop)]
@@ -46,6 +38,7 @@ fn new_store(
     requires handles { handles ≤ 268435455 }
     ensures state { IfOk result (λ s. s.state ≡ with_core (fresh instances handles table) nothing) }
     ensures free { IfOk result (λ s. s.running ≡ false) }
+    ensures works { IfOk result (λ s. HoldsNone s.works) }
 {
     let mut store = Store::new(alloc, (), true, 1);
     store.set_table_capacity(table as usize);
@@ -128,12 +121,10 @@ fn text_of(alloc: Global, report: &Report) -> Result<Vec<u8>, AllocError>
 {
     let mut out = Vec::new(alloc);
     let mut page = Page::new(alloc)?;
-    for label in report.trace.labels() {
-        page.add_label(*label);
-        if !page.has_room() {
-            out.extend_from_slice(page.as_slice())?;
-            page.clear();
-        }
+    let mut labels = report.trace.labels();
+    'pages: while page.fill(&mut labels) {
+        out.extend_from_slice(page.as_slice())?;
+        page.clear();
     }
     page.add_outcome(report.outcome);
     out.extend_from_slice(page.as_slice())?;

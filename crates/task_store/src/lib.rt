@@ -2,9 +2,20 @@
 #![tactic(auto)]
 
 mod access;
+mod data;
+mod drops;
+mod hosts;
+mod polls;
+mod scopes;
+mod spawn;
 mod store;
 
 pub use access::{Access, Project, Whole};
-pub use record_core::TaskCore;
+pub use data::{RuntimeInstance, StoreComponentInstanceId};
+pub use drops::run_manual_drop_routines;
+pub use host_works::{AccessorTask, FromHost, HostPoll, HostWork, HostWorks, ScriptedHost};
+pub use record_core::{CallContext, Scope, TaskCore};
+pub use scopes::ComponentTasksNotConcurrent;
+pub use spawn::SpawnHandle;
 pub use store::{ComponentInstanceId, ConcurrentTable, StandingRun, Store};
 pub use task_machine::NoMemory;

@@ -1,4 +1,5 @@
-ghost use Rattle.std.specs.Prelude.{◌≡◌, ◌+◌, ◌-◌, ◌<◌, ◌≤◌, ◌^◌, ◌↔◌, cond, false, min, true, IfErr, IfOk, IfSome, IsSome, OnErr, OnOk};
+ghost use Rattle.std.specs.Prelude.{[], ◌≡◌, ◌+◌, ◌-◌, ◌<◌, ◌≤◌, ◌^◌, ◌↔◌, cond, false, min, true, IfErr, IfOk, IfSome, IsSome, OnErr, OnOk};
+ghost use Rattle.host_works.specs.Kept.{HoldsNone};
 ghost use Rattle.make_words.specs.Instances.{with_instance};
 ghost use Rattle.count_words.specs.Limits.{with_capacity, with_handle_limit};
 ghost use Rattle.task_machine.specs.Maps.{size};
@@ -8,13 +9,15 @@ ghost use Rattle.task_records.specs.Seen.{nothing};
 ghost use Rattle.task_turns.specs.Turn.{given};
 ghost use Rattle.task_words.specs.StateView.{on_core};
 
+use crate::scopes::ComponentTasksNotConcurrent;
+use host_works::HostWorks;
 use record_core::TaskCore;
 use std::alloc::Global;
 use task_machine::{NoMemory, Trap};
 use task_words::ResultWords;
 
 /// Names an instance by its number, from 0.
-#[derive(Clone, Copy)]
+#[derive(Clone, Copy, PartialEq, Eq)]
 pub struct ComponentInstanceId(pub u32);
 
 /// The table of a concurrent store, as it is told: how many entries stand in it, and for how many it
@@ -33,13 +36,16 @@ pub struct StandingRun {
 
 /// A store of a host's value `T` and host works of the type `H`.
 pub struct Store<T, H> {
-    value: T,
+    pub(crate) value: T,
     id: u64,
-    concurrent: bool,
+    pub(crate) concurrent: bool,
+    pub(crate) fuel: usize,
+    /// The scopes of borrows, of a store that isn't concurrent.
+    pub scopes: ComponentTasksNotConcurrent,
     /// The calls and threads of the store.
     pub state: TaskCore,
-    // The host's own works: a scenario's are scripted, and are kept by the state alone.
-    works: Vec<H>,
+    // The host works that haven't ended.
+    pub(crate) works: HostWorks<H>,
     // Whether a run stands on the store.
     running: bool,
 }
@@ -51,6 +57,8 @@ impl<T: Drop, H: Drop> Drop for Store<T, H> {
             value: _,
             id: _,
             concurrent: _,
+            fuel: _,
+            scopes: _,
             state: _,
             works: _,
             running: _,
@@ -65,17 +73,29 @@ impl<T, H> Store<T, H> {
         ensures value { result.value ≡ value }
         ensures concurrent { result.concurrent ≡ concurrent }
         ensures id { result.id ≡ id }
+        ensures fuel { result.fuel ≡ 134217728 }
+        ensures scopes { result.scopes ≡ [] }
         ensures state { result.state ≡ nothing }
+        ensures works { HoldsNone result.works }
         ensures running { result.running ≡ false }
     {
         Store {
             value,
             id,
             concurrent,
+            fuel: 134217728,
+            scopes: ComponentTasksNotConcurrent::new(alloc),
             state: TaskCore::new(alloc),
-            works: Vec::new(alloc),
+            works: HostWorks::new(alloc),
             running: false,
         }
+    }
+
+    /// The host's value.
+    pub fn data(&self) -> &T
+        ensures { result.now ≡ self.now.value }
+    {
+        &self.value
     }
 
     /// Makes an instance and answers its number, from 0. Where memory is wanting, the store is as

@@ -39,9 +39,9 @@ pub fn run_op<W: Words>(
     ensures works { OnOk result (NamesWorks (W.view w.old) (W.view w.new)) }
     ensures err { OnErr result (W.view w.new ≡ W.view w.old) }
 {
-    let call = w.task_of(thread);
-    let script = script_ops(component, w.callee(call), w.script(thread));
-    match op_at(script, w.position(thread)) {
+    let point = w.at(thread);
+    let script = script_ops(component, point.callee, point.script);
+    match op_at(script, point.position) {
         Some(op) => do_op(component, w, thread, op, script.len() as u32),
         None => Ok(Done {
             came: exit(w, thread),

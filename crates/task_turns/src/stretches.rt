@@ -10,7 +10,7 @@ ghost use Rattle.task_turns.specs.Turn.{Sits, running_of};
 ghost use Rattle.task_words.specs.StateView.{thread_of};
 
 use crate::context::{computes_in, context_of};
-use crate::trace::Trace;
+use label_trace::Trace;
 use op_dispatch::{op_at, script_ops};
 use task_machine::{Component, Label, NoMemory, Op, Turn};
 use task_words::{HowFarId, ThreadId, Words};
@@ -48,8 +48,8 @@ pub fn stretch<W: Words>(
     let Some(thread) = w.current() else {
         unreachable!()
     };
-    let call = w.task_of(thread);
-    let script = script_ops(component, w.callee(call), w.script(thread));
+    let point = w.at(thread);
+    let script = script_ops(component, point.callee, point.script);
     if !is_plain(w, thread, script) {
         return Ok(added);
     }

@@ -18,7 +18,7 @@ use crate::rests::{step_deadlock, step_rest};
 use crate::settles::nothing_stands;
 use crate::stretches::stretch;
 use crate::takes::step_take;
-use crate::trace::Trace;
+use label_trace::Trace;
 use task_machine::{Component, Label, NoMemory, Turn};
 use task_words::Words;
 

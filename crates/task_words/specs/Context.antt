@@ -1,9 +1,18 @@
--- A thread's context: its place in its script and its registers.
-use Rattle.std.specs.Prelude.{ℕ, List}
+-- A thread's context, its place in its script and its registers, and the beginning of an activation.
+use Rattle.std.specs.Prelude.{ℕ, List, true}
 use Rattle.task_machine.specs.Core.{Core}
-use Rattle.task_machine.specs.Write.{on_thread}
+use Rattle.task_machine.specs.Write.{on_thread, set_do_not_enter, set_place, set_script}
 use Rattle.task_machine.specs.declared.records.HowFar.TheVariants as how_far
+use Rattle.task_machine.specs.declared.records.Place.TheVariants as place
+use Rattle.task_machine.specs.declared.records.Script.TheVariants as script
+use Rattle.task_machine.specs.declared.words.Given.{Given}
+use Rattle.task_rules.specs.Data.{moved_to}
+use Rattle.task_rules.specs.Sets.{set_given}
 
 -- the thread n is about to begin the op at this place of its script, with these registers
 unfoldable pub with_context : ℕ → (position : ℕ) → (registers : List ℕ) → Core → Core
 with_context n p rs = on_thread n (λ t. record t { position = p; registers = rs; how_far = how_far.Fresh })
+
+-- the thread n of the instance is given v in r0, r1 and r2, and runs the react script from its start
+unfoldable pub activating : ℕ → (instance : ℕ) → Given → Core → Core
+activating n i v s = set_place n place.Running (moved_to n 0 (set_script n script.React (set_do_not_enter i true (set_given n 0 v s))))

@@ -20,8 +20,8 @@ mod works;
 pub use calls::CallWords;
 pub use instances::InstanceWords;
 pub use names::{
-    CallId, CallerId, DeliveryId, EntryId, HowFarId, JoinId, PlaceId, SetId, SubtaskId, ThreadId,
-    WhyId, WorkCallerId, WorkId,
+    CallId, CallerId, DeliveryId, EntryId, HowFarId, JoinId, PlaceId, SetId, SubtaskId, ThreadAt,
+    ThreadId, WhyId, WorkCallerId, WorkId,
 };
 pub use places::PlaceWords;
 pub use queues::QueueWords;

@@ -1,5 +1,5 @@
 //! The machine's records that name others, with ids in the place of numbers.
-use task_machine::Mark;
+use task_machine::{Callee, Mark, Script};
 use task_table::TableId;
 use task_wait::{GuestTaskKey, HostTaskKey, SetKey, ThreadKey};
 
@@ -90,4 +90,14 @@ pub enum EntryId {
     Thread(ThreadId),
     Push(WorkId),
     Host(WorkId),
+}
+
+/// Where a thread is in its code.
+#[derive(Clone, Copy)]
+pub struct ThreadAt {
+    /// The export that its call is of.
+    pub callee: Callee,
+    /// The script that it runs, and the op there, from 0.
+    pub script: Script,
+    pub position: u32,
 }

@@ -1,7 +1,7 @@
 ghost use Rattle.std.specs.Prelude.{◌≡◌, ◌+◌, ◌<◌, ◌≤◌, ◌^◌, IfOk, None, OnErr, OnOk, Some, false, is_some, length, true, ℕ};
 ghost use Rattle.task_machine.specs.Maps.{get};
 ghost use Rattle.task_machine.specs.Moves.{freed_thread_handle};
-ghost use Rattle.task_machine.specs.Read.{at_handle_limit, call_instance, fits, how_far_of, instance_of, is_explicit, is_last_thread, position_of, register_of, registers_of, saved_callee_of, saved_own_of, task_of, thread_group, thread_handle_of};
+ghost use Rattle.task_machine.specs.Read.{at_handle_limit, call_instance, callee_of, fits, how_far_of, instance_of, is_explicit, is_last_thread, position_of, register_of, registers_of, saved_callee_of, saved_own_of, task_of, thread_group, thread_handle_of};
 ghost use Rattle.task_machine.specs.Write.{add_thread, remove_thread, set_how_far, set_position, set_register, set_saved_callee, set_saved_own, set_script};
 ghost use Rattle.task_machine.specs.declared.records.Script.TheVariants as scripts;
 ghost use Rattle.task_machine.specs.declared.records.Thread.{Thread};
@@ -9,14 +9,14 @@ ghost use Rattle.task_rules.specs.Calls.{new_thread, next_thread, with_thread_ha
 ghost use Rattle.task_rules.specs.Data.{advanced, assigned, moved_to};
 ghost use Rattle.task_rules.specs.Scripts.{registers_for};
 ghost use Rattle.task_words.specs.Apart.{IsApart};
-ghost use Rattle.task_words.specs.Context.{with_context};
+ghost use Rattle.task_words.specs.Context.{activating, with_context};
 ghost use Rattle.task_words.specs.Live.{live_how_far};
 ghost use Rattle.task_words.specs.Names.{how_far_in};
 ghost use Rattle.task_words.specs.StateView.{Keeps, KeepsBut, call_of, lost_thread, on_core, thread_of};
 
-use crate::names::{CallId, HowFarId, ThreadId};
+use crate::names::{CallId, HowFarId, ThreadAt, ThreadId};
 use crate::view::View;
-use task_machine::{NoMemory, Script};
+use task_machine::{Given, NoMemory, Script};
 
 /// The records of threads.
 pub trait ThreadWords: View {
@@ -51,6 +51,13 @@ pub trait ThreadWords: View {
     fn script(&self, thread: ThreadId) -> Script
         requires { 0 < thread_of (Self.view self.now) thread }
         ensures { (t : Thread) → get (Self.view self.now).core.threads (thread_of (Self.view self.now) thread) ≡ Some t → result ≡ t.script };
+
+    /// Where a thread is in its code.
+    fn at(&self, thread: ThreadId) -> ThreadAt
+        requires { 0 < thread_of (Self.view self.now) thread }
+        ensures callee { result.callee ≡ callee_of (task_of (thread_of (Self.view self.now) thread) (Self.view self.now).core) (Self.view self.now).core }
+        ensures script { (t : Thread) → get (Self.view self.now).core.threads (thread_of (Self.view self.now) thread) ≡ Some t → result.script ≡ t.script }
+        ensures position { result.position ≡ position_of (thread_of (Self.view self.now) thread) (Self.view self.now).core };
 
     fn how_far(&self, thread: ThreadId) -> HowFarId
         ensures { how_far_in (Self.view self.now).tags result ≡ live_how_far (how_far_of (thread_of (Self.view self.now) thread) (Self.view self.now).core) (Self.view self.now).core };
@@ -106,6 +113,11 @@ pub trait ThreadWords: View {
     fn assign(&mut self, thread: ThreadId, register: u8, value: u64)
         requires { position_of (thread_of (Self.view self.old) thread) (Self.view self.old).core + 1 < 2 ^ 32 }
         ensures { Self.view self.new ≡ on_core (assigned (thread_of (Self.view self.old) thread) register value) (Self.view self.old) };
+
+    /// An activation begins: the thread is given what is there in r0, r1 and r2, its instance keeps
+    /// other entries out, and it runs the react script from its start.
+    fn activate(&mut self, thread: ThreadId, instance: u32, given: Given)
+        ensures { Self.view self.new ≡ on_core (activating (thread_of (Self.view self.old) thread) instance given) (Self.view self.old) };
 
     /// Makes an explicit thread of a call with these words, and gives it its handle. Where memory is
     /// wanting, all is as before.

@@ -43,6 +43,7 @@ fn admits(parts: &CoreParts, thread: ThreadId, why: Why) -> bool
 }
 
 /// Whether the thread is held in the instance and is admitted now.
+#[inline(always)]
 pub(crate) fn is_admitted(parts: &CoreParts, instance: u32, thread: ThreadId) -> bool
     requires { IsSound parts.now }
     ensures { result ≡ is_held_admitted instance (seen parts.now).core (thread_of (seen parts.now) thread) (held_why_of (thread_of (seen parts.now) thread) (seen parts.now).core) }

@@ -48,6 +48,7 @@ fn least(parts: &CoreParts, chain: usize) -> Option<ThreadId>
 
 /// The thread that waits under this one for its direct callee: of those in the chain that of the least number. Where the
 /// machine has come there itself one thread at most is under another, so that takes constant time.
+#[inline(always)]
 pub fn under(parts: &CoreParts, thread: ThreadId) -> Option<ThreadId>
     requires sound { IsSound parts.now }
     requires live { 0 < thread_of (seen parts.now) thread }

@@ -8,6 +8,7 @@ use Rattle.task_turns.proofs.FreshLemmas.{given_fresh, sits_fresh}
 use Rattle.task_turns.specs.Turn.{setting_of, state_at}
 use Rattle.embed_example.proofs.HostLemmas.{driven}
 use Rattle.embed_example.proofs.run.relayed.Goals as goal
+use Rattle.task_store.proofs.HostLemmas.{new_holds}
 
 pub drive-requires-clause-covered : goal.drive-requires-clause-covered
 drive-requires-clause-covered c = covered_of c.args.component.now c.requires.exports
@@ -19,6 +20,10 @@ drive-requires-clause-order c =
 
 pub drive-requires-clause-given : goal.drive-requires-clause-given
 drive-requires-clause-given c = rw (c.run_concurrent.ensures.store, c.in_ok-store.ensures.state, given_fresh) (omega arith)
+
+pub drive-requires-clause-hosts : goal.drive-requires-clause-hosts
+drive-requires-clause-hosts c =
+    new_holds _ c.run_concurrent.new.store 2 100000 1000000 (rw c.run_concurrent.ensures.store c.in_ok-store.ensures.works) (rw (c.run_concurrent.ensures.store, c.in_ok-store.ensures.state) refl)
 
 pub returns : goal.returns
 returns c = (

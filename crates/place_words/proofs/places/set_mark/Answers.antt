@@ -1,5 +1,5 @@
 use Rattle.task_records.proofs.Core.{ap, on_core, Place, seen, set_place, sym, thread_of, Why, ◌∙◌}
-use Rattle.place_words.proofs.ThreadLemmas.{same_item, thread_gone, why_at, why_is}
+use Rattle.place_words.proofs.ThreadLemmas.{thread_gone, why_at, why_is}
 use Rattle.place_words.proofs.places.set_mark.Goals as goal
 
 pub put-requires-clause-place : goal.put-requires-clause-place

@@ -1,4 +1,4 @@
-use Rattle.task_records.proofs.Core.{advanced, ap, assigned, on_core, position_of, seen, set_register, StateView, subst, sym, thread_of, ◌+◌, ◌<◌, ◌∙◌}
+use Rattle.task_records.proofs.Core.{advanced, ap, assigned, on_core, position_of, seen, StateView, subst, sym, thread_of, ◌+◌, ◌<◌, ◌∙◌}
 use Rattle.place_words.proofs.StepLemmas.{position_kept}
 use Rattle.place_words.proofs.steps.assign.Goals as goal
 

@@ -1,6 +1,10 @@
-use Rattle.task_records.proofs.Core.{ap, HowFar, moved_to, on_core, set_how_far, StateView, thread_of, ◌∙◌}
+use Rattle.task_records.proofs.Core.{ap, change-change_same, HowFar, moved_to, on_thread, seen, set_how_far, set_position, sym, Thread, thread_of, ◌∙◌}
 use Rattle.place_words.proofs.steps.move_to.Goals as goal
 
 pub returns-clause-new : goal.returns-clause-new
-unfolding moved_to
-returns-clause-new c = c.put_there.ensures.new ∙ ap (λ (s : StateView). on_core (set_how_far (thread_of s c.args.thread) HowFar.Fresh) s) c.set_position.ensures.new
+unfolding moved_to set_how_far set_position on_thread
+returns-clause-new c =
+    let s = seen c.args.parts.now in
+    let n = thread_of s c.args.thread in
+    c.put_op.ensures.new
+    ∙ sym (ap (λ m. record s { core = record s.core { threads = m } }) (change-change_same s.core.threads n (λ (t : Thread). record t { how_far = HowFar.Fresh }) (λ (t : Thread). record t { position = c.args.position })))

@@ -6,3 +6,6 @@ step-requires-clause-order g c = rw c.new-access.ensures c.requires.order
 
 pub step-requires-clause-current : goal.step-requires-clause-current
 step-requires-clause-current g c = rw c.new-access.ensures c.requires.current
+
+pub step-requires-clause-hosts : goal.step-requires-clause-hosts
+step-requires-clause-hosts g c = rw c.new-access.ensures c.requires.hosts

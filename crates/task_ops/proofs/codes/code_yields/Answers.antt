@@ -9,6 +9,6 @@ put_low-requires-clause-unqueued g c =
     owned_unqueued c.args.thread _ _ (v c.args.w.now) (v c.stop_reopened.new.w) _ c.requires.running c.stop_reopened.ensures c.set_own_event.ensures
 
 pub returns-clause-meets : goal.returns-clause-meets
-returns-clause-meets g c =
+returns-clause-meets g c = λ label.
     let v = g.W.View.view in
-    code_yields_meets c.args.thread c.task_of-call.result _ c.args.label (v c.args.w.now) (v c.stop_reopened.new.w) (v c.set_own_event.new.self) (v c.put_low.new.w) c.task_of-call.ensures.is (c.own_or_none-event.ensures ∙ ap own_or_none c.own_event.ensures) c.stop_reopened.ensures c.set_own_event.ensures c.put_low.ensures
+    code_yields_meets c.args.thread c.task_of-call.result _ label (v c.args.w.now) (v c.stop_reopened.new.w) (v c.set_own_event.new.self) (v c.put_low.new.w) c.task_of-call.ensures.is (c.own_or_none-event.ensures ∙ ap own_or_none c.own_event.ensures) c.stop_reopened.ensures c.set_own_event.ensures c.put_low.ensures

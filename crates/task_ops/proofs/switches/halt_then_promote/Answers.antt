@@ -1,23 +1,43 @@
-use Rattle.task_ops.specs.Halting.{halt_of}
-use Rattle.task_words.specs.StateView.{thread_of}
-use Rattle.std.proofs.Common.{sym, ◌∙◌, true, false}
-use Rattle.task_ops.proofs.SwitchLemmas.{promote_meets, promoted_meets, promoted_runs, yielded_live}
+-- The thread goes first, and then the strand stops; or the plain op follows.
+use Rattle.std.proofs.Common.{ap, subst, ◌∙◌}
+use Rattle.std.specs.Prelude.{Bool, Ok, Result}
+use Rattle.task_machine.specs.declared.trap.Trap.{Trap}
+use Rattle.task_ops.proofs.SwitchLemmas.{comes_same, promote_plain, promote_refused, promote_stops, promoted_runs}
 use Rattle.task_ops.proofs.switches.halt_then_promote.Goals as goal
-
-pub promote_unless-requires : goal.promote_unless-requires
-promote_unless-requires g c = yielded_live _ (g.W.View.view c.args.w.now).core c.none_is_zero.ensures.threads (sym c.has_yielded.ensures ∙ c.if-not-has_yielded.false)
+use Rattle.task_ops.specs.Halting.{ComesFirst, halt_of, promoted_first}
+use Rattle.task_words.specs.StateView.{thread_of}
 
 pub stop_top-requires-clause-running : goal.stop_top-requires-clause-running
-stop_top-requires-clause-running g c = promoted_runs c.args.thread c.in-Some.other (g.W.View.view c.args.w.now) _ c.requires.running (sym c.has_yielded.ensures ∙ c.if-not-has_yielded.false) c.promote_unless.ensures
+stop_top-requires-clause-running g c = promoted_runs c.args.thread c.args.handle (g.W.View.view c.args.w.now) _ _ c.requires.running c.promote_first.ensures
 
-pub returns-then-not-has_yielded-clause-meets : goal.returns-then-not-has_yielded-clause-meets
-returns-then-not-has_yielded-clause-meets g c =
+pub halt-requires-clause-running : goal.halt-requires-clause-running
+halt-requires-clause-running g c = promoted_runs c.args.thread c.args.handle (g.W.View.view c.args.w.now) _ _ c.requires.running c.promote_first.ensures
+
+pub returns-in-Err-clause-meets : goal.returns-in-Err-clause-meets
+returns-in-Err-clause-meets g c =
     let s = g.W.View.view c.args.w.now in
-    promote_meets (halt_of c.args.yielding) c.args.label (thread_of s c.args.thread) _ c.args.handle (thread_of s c.in-Some.other) false s.core _ _ c.none_is_zero.ensures.threads c.requires.running c.instance_of-instance.ensures c.in-Some.ensures (λ e. c.if-number.false (c.number.ensures ∙ (e ∙ sym c.number-number.ensures))) (sym c.if-not-has_yielded.true ∙ c.has_yielded.ensures) c.halt.ensures.meets
+    let t = g.W.View.view c.promote_first.new.w in
+    let f = promoted_first (thread_of s c.args.thread) c.args.handle s.core in
+    promote_refused (halt_of c.args.yielding) c.args.label c.args.thread c.args.handle s t t c.in-Err.trap
+    (subst (λ (r : Result Bool Trap). ComesFirst f s r t) c.in-Err.is c.promote_first.ensures)
 
-pub returns-clause-meets : goal.returns-clause-meets
-returns-clause-meets g c =
-    let v = g.W.View.view in
-    let s = v c.args.w.now in
-    promote_meets (halt_of c.args.yielding) c.args.label (thread_of s c.args.thread) _ c.args.handle (thread_of s c.in-Some.other) true s.core _ _ c.none_is_zero.ensures.threads c.requires.running c.instance_of-instance.ensures c.in-Some.ensures (λ e. c.if-number.false (c.number.ensures ∙ (e ∙ sym c.number-number.ensures))) (sym c.if-not-has_yielded.false ∙ c.has_yielded.ensures)
-    (promoted_meets (halt_of c.args.yielding) c.args.label c.args.thread c.in-Some.other _ s (v c.promote_unless.new.w) (v c.stop_top.new.w) c.number-number.ensures c.promote_unless.ensures c.stop_top.ensures)
+pub returns-in-Err-clause-current : goal.returns-in-Err-clause-current
+returns-in-Err-clause-current g c = (comes_same _ (g.W.View.view c.args.w.now) _ _ c.promote_first.ensures).1
+
+pub returns-in-Ok-true-clause-meets : goal.returns-in-Ok-true-clause-meets
+returns-in-Ok-true-clause-meets g c =
+    let s = g.W.View.view c.args.w.now in
+    let t = g.W.View.view c.promote_first.new.w in
+    let u = g.W.View.view c.stop_top.new.w in
+    let f = promoted_first (thread_of s c.args.thread) c.args.handle s.core in
+    promote_stops (halt_of c.args.yielding) c.args.label c.args.thread c.args.handle s t u _ c.number-number.ensures
+    (subst (λ (r : Result Bool Trap). ComesFirst f s r t) (c.in-Ok-true.is ∙ ap (λ (b : Bool). Ok b) c.in-Ok-true.field-0-test) c.promote_first.ensures) c.stop_top.ensures
+
+pub returns-in-Ok-false-clause-meets : goal.returns-in-Ok-false-clause-meets
+returns-in-Ok-false-clause-meets g c =
+    let s = g.W.View.view c.args.w.now in
+    let t = g.W.View.view c.promote_first.new.w in
+    let u = g.W.View.view c.halt.new.w in
+    let f = promoted_first (thread_of s c.args.thread) c.args.handle s.core in
+    promote_plain (halt_of c.args.yielding) c.args.label c.args.thread c.args.handle s t u _
+    (subst (λ (r : Result Bool Trap). ComesFirst f s r t) (c.in-Ok-false.is ∙ ap (λ (b : Bool). Ok b) c.in-Ok-false.field-0-test) c.promote_first.ensures) c.halt.ensures.meets

@@ -1,4 +1,5 @@
 use Rattle.std.proofs.Common.{◌≡◌, false}
+use Rattle.host_works.specs.Kept.{HoldsNone}
 use Rattle.task_machine.specs.Core.{fresh}
 use Rattle.task_records.specs.Seen.{nothing}
 use Rattle.task_words.specs.StateView.{with_core}
@@ -8,4 +9,5 @@ abbrev pub invariant-loop-made : goal.invariant-loop-made
 invariant-loop-made l = record {
   state : l.store.state ≡ with_core (fresh l._made l.handles l.table) nothing;
   free : l.store.running ≡ false;
+  works : HoldsNone l.store.works;
 }

@@ -14,6 +14,7 @@ use Rattle.task_run.proofs.HeadlineLemmas.{headline, opens_is}
 use Rattle.task_run.proofs.OnceLemmas.{scenario_keeps}
 use Rattle.task_turns.proofs.FreshLemmas.{given_fresh, sits_fresh}
 use Rattle.task_run.proofs.report.run.Goals as goal
+use Rattle.task_store.proofs.HostLemmas.{new_holds}
 
 pub drive-driven-requires-clause-order : goal.drive-driven-requires-clause-order
 drive-driven-requires-clause-order c =
@@ -24,6 +25,10 @@ drive-driven-requires-clause-given c = rw (c.run_concurrent.ensures.store, c.in_
 
 pub drive-driven-requires-clause-knows : goal.drive-driven-requires-clause-knows
 drive-driven-requires-clause-knows c = c.new-main.ensures.knows c.run_concurrent.new.store.state
+
+pub drive-driven-requires-clause-hosts : goal.drive-driven-requires-clause-hosts
+drive-driven-requires-clause-hosts c =
+    new_holds _ c.run_concurrent.new.store c.len.result c.args.scenario.now.handles c.args.scenario.now.table (rw c.run_concurrent.ensures.store c.in_ok-store.ensures.works) (rw (c.run_concurrent.ensures.store, c.in_ok-store.ensures.state) refl)
 
 pub returns : goal.returns
 returns c =

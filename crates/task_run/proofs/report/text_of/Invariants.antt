@@ -1,10 +1,12 @@
-use Rattle.std.proofs.Common.{◌≡◌, ◌≤◌, ◌++◌, length, take}
-use Rattle.std.specs.List.{flat_map}
-use Rattle.task_rules.specs.Texts.{label_text, line_text}
+use Rattle.std.proofs.Common.{◌≡◌, ◌≤◌, ◌++◌, length}
+use Rattle.report_text.specs.Lines.{lines_of}
 use Rattle.task_run.proofs.report.text_of.Given as goal
 
-abbrev pub invariant-loop-label : goal.invariant-loop-label
-invariant-loop-label l = record {
+abbrev pub invariant-pages : goal.invariant-pages
+invariant-pages l = record {
   fits : length l.page ≤ 65536;
-  text : l.out.items ++ l.page ≡ flat_map (λ x. line_text (label_text x)) (take l.label-index l.label-items);
+  text : l.out.items ++ (l.page ++ lines_of l.labels) ≡ lines_of l.initial.labels;
 }
+
+abbrev pub decreases-pages : goal.decreases-pages
+decreases-pages l = length l.labels

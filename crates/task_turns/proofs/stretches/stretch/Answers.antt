@@ -3,7 +3,7 @@ use Rattle.std.proofs.Common.{ap, arith, length, refl, subst, sym, ◌+◌, ◌�
 use Rattle.std.proofs.lemmas.Option.{slice_get_within}
 use Rattle.std.specs.Prelude.{List, Some, option_copied, slice_get}
 use Rattle.task_machine.specs.Core.{Core}
-use Rattle.task_machine.specs.Read.{how_far_of, position_of, registers_of}
+use Rattle.task_machine.specs.Read.{how_far_of, position_of, registers_of, task_of}
 use Rattle.task_machine.specs.declared.label.Label.{Label}
 use Rattle.task_machine.specs.declared.op.Op.{Op}
 use Rattle.task_machine.specs.declared.op.Op.TheVariants as op
@@ -14,10 +14,10 @@ use Rattle.task_turns.proofs.StretchLemmas.{begins, begun, beside_both, beside_s
 use Rattle.task_turns.proofs.stretches.stretch.Goals as goal
 use Rattle.task_turns.specs.Context.{state_in}
 use Rattle.task_turns.specs.Drive.{KeepsOn}
-use Rattle.task_words.specs.StateView.{StateView, call_of, with_core}
+use Rattle.task_words.specs.StateView.{StateView, thread_of, with_core}
 
-pub script-requires : goal.script-requires
-script-requires g c =
+pub at-point-requires : goal.at-point-requires
+at-point-requires g c =
     (runner c.args.component.now c.args.number (g.W.View.view c.args.w.now) c.requires.order c.none_is_zero.ensures.threads c.requires.runs c.in-Some.thread (sym c.current.ensures ∙ c.in-Some.is)).live
 
 pub context_of-context-requires : goal.context_of-context-requires
@@ -28,7 +28,7 @@ pub ops-init : goal.ops-init
 ops-init g c =
     let s = g.W.View.view c.args.w.now in
     let current = sym c.current.ensures ∙ c.in-Some.is in
-    let q = begun c.args.component.now c.args.number s c.requires.order c.none_is_zero.ensures.threads c.requires.runs c.in-Some.thread current c.callee.result (call_of s c.task_of-call.result) c.script.result c.script_ops-script.result.now c.callee.ensures c.task_of-call.ensures.is c.script.ensures c.script_ops-script.ensures in
+    let q = begun c.args.component.now c.args.number s c.requires.order c.none_is_zero.ensures.threads c.requires.runs c.in-Some.thread current c.at-point.result.callee (task_of (thread_of s c.in-Some.thread) s.core) c.at-point.result.script c.script_ops-script.result.now c.at-point.ensures.callee refl c.at-point.ensures.script c.script_ops-script.ensures in
     let number = number_at c.args.number s c.requires.runs c.in-Some.thread current in
     let x = c.context_of-context.result in
     let fresh = subst (λ k. how_far_of k s.core ≡ how_far.Fresh) number (c.if-not-is_plain.ensures.fresh refl) in
@@ -50,7 +50,7 @@ returns-in_default-op_at-clause-on g c =
 pub computes_in-label-requires-clause-there : goal.computes_in-label-requires-clause-there
 computes_in-label-requires-clause-there g c =
     let s = g.W.View.view c.args.w.now in
-    let q = begun c.args.component.now c.args.number s c.requires.order c.none_is_zero.ensures.threads c.requires.runs c.in-Some.thread (sym c.current.ensures ∙ c.in-Some.is) c.callee.result (call_of s c.task_of-call.result) c.script.result c.script_ops-script.result.now c.callee.ensures c.task_of-call.ensures.is c.script.ensures c.script_ops-script.ensures in
+    let q = begun c.args.component.now c.args.number s c.requires.order c.none_is_zero.ensures.threads c.requires.runs c.in-Some.thread (sym c.current.ensures ∙ c.in-Some.is) c.at-point.result.callee (task_of (thread_of s c.in-Some.thread) s.core) c.at-point.result.script c.script_ops-script.result.now c.at-point.ensures.callee refl c.at-point.ensures.script c.script_ops-script.ensures in
     (q.0, beside_there c.args.number s (g.W.View.view c.ops.w) c.ops.invariant.beside q.0 q.1.0)
 
 pub computes_in-label-requires-clause-before : goal.computes_in-label-requires-clause-before
@@ -66,7 +66,7 @@ ops-preserved g c =
     let n = c.args.number in
     let ops = c.script_ops-script.result.now in
     let beside = c.ops.invariant.beside in
-    let q = begun d n s c.requires.order c.none_is_zero.ensures.threads c.requires.runs c.in-Some.thread (sym c.current.ensures ∙ c.in-Some.is) c.callee.result (call_of s c.task_of-call.result) c.script.result ops c.callee.ensures c.task_of-call.ensures.is c.script.ensures c.script_ops-script.ensures in
+    let q = begun d n s c.requires.order c.none_is_zero.ensures.threads c.requires.runs c.in-Some.thread (sym c.current.ensures ∙ c.in-Some.is) c.at-point.result.callee (task_of (thread_of s c.in-Some.thread) s.core) c.at-point.result.script ops c.at-point.ensures.callee refl c.at-point.ensures.script c.script_ops-script.ensures in
     let found = beside_there n s t beside q.0 q.1.0 in
     let runs = runs_still s t beside.tags beside.current ∙ c.requires.runs in
     let script = beside_script d n s t beside ∙ q.1.1 in

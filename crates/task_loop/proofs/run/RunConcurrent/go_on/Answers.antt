@@ -2,6 +2,8 @@
 use Rattle.std.proofs.Common.{arith, refl, ap, sym, ◌∙◌}
 use Rattle.std.specs.Prelude.{None, Some}
 use Rattle.task_turns.proofs.DriveLemmas.{on_ends, on_more, on_out_at, on_rests, on_turned_none, turned_same}
+use Rattle.task_store.proofs.HostLemmas.{holds_same}
+use Rattle.task_store.specs.Hosts.{held_by}
 use Rattle.task_turns.proofs.LaterLemmas.{last_by_works}
 use Rattle.task_turns.specs.Turn.{given, idle_line_of, setting_of, state_at}
 use Rattle.task_machine.specs.Core.{Unscripted}
@@ -46,6 +48,7 @@ turns-preserved g c =
       script = c.in_ok-made.ensures.script ∙ c.turns.invariant.script;
       suits = c.in_ok-made.ensures.suits;
       knows = g.met.M.MainTask.stays c.turn.new.main c.turn.new.store.state c.compute.new.w (last_by_works c.turn.new.store.state c.compute.new.w c.in_ok-added.ensures.works) c.in_ok-made.ensures.knows;
+      hosts = holds_same c.turn.new.store.state.core c.compute.new.w.core (held_by g.H.HostWork.course c.turn.new.store) c.in_ok-added.ensures.works.works c.in_ok-made.ensures.hosts;
       idle = c.turns.invariant.idle;
       stands = c.in_ok-made.ensures.stands ∙ c.turns.invariant.stands;
       on = c.in_ok-added.ensures.on x refl (state_at s.core (part c.args.main.now) c.args.self.now.turn) c.args.trace.now (given s.core) (part c.turn.new.main) on;

@@ -1,46 +1,49 @@
 -- Each turn is one of this run.
 use Rattle.std.proofs.Common.{refl, subst}
+use Rattle.task_loop.proofs.HoldLemmas.{held_taken}
 use Rattle.task_loop.proofs.KnowsLemmas.{by_poll, by_run, by_take}
 use Rattle.task_loop.proofs.run.RunConcurrent.turn.Goals as goal
 use Rattle.task_machine.specs.Core.{Unscripted}
 use Rattle.task_machine.specs.declared.records.Turn.{Turn}
 use Rattle.task_machine.specs.declared.records.Turn.TheVariants as turn
+use Rattle.task_store.specs.Hosts.{held_by}
 use Rattle.task_turns.proofs.IdleLemmas.{makes_turns}
 use Rattle.task_turns.specs.Turn.{Sits, setting_of}
 
-pub poll-requires-clause-placed : goal.poll-requires-clause-placed
-poll-requires-clause-placed g c = (c.requires.at.order.order Unscripted).in_place.placed
+pub poll_next-requires-clause-placed : goal.poll_next-requires-clause-placed
+poll_next-requires-clause-placed g c = (c.requires.at.order.order Unscripted).in_place.placed
 
-pub poll-requires-clause-works : goal.poll-requires-clause-works
-poll-requires-clause-works g c = (c.requires.at.order.order Unscripted).works
+pub poll_next-requires-clause-works : goal.poll_next-requires-clause-works
+poll_next-requires-clause-works g c = (c.requires.at.order.order Unscripted).works
 
-pub step_run-requires-clause-order : goal.step_run-requires-clause-order
-step_run-requires-clause-order g c = subst (λ (p : Turn). Sits c.args.component.now p c.args.store.now.state.core) c.in-Run.is c.requires.at.order
+pub run_thread-requires-clause-order : goal.run_thread-requires-clause-order
+run_thread-requires-clause-order g c = subst (λ (p : Turn). Sits c.args.component.now p c.args.store.now.state.core) c.in-Run.is c.requires.at.order
 
 pub returns-in_ok-step_main-in-Main-clause-turned : goal.returns-in_ok-step_main-in-Main-clause-turned
 returns-in_ok-step_main-in-Main-clause-turned g c = rw c.in-Main.is (c.in_ok-step_main-in-Main.ensures.turns c.args.self.now.trap_on_idle)
 
-pub returns-in_ok-ran-in-Run-clause-turned : goal.returns-in_ok-ran-in-Run-clause-turned
-returns-in_ok-ran-in-Run-clause-turned g c =
+pub returns-in_ok-run_thread-in-Run-clause-turned : goal.returns-in_ok-run_thread-in-Run-clause-turned
+returns-in_ok-run_thread-in-Run-clause-turned g c =
     let x = setting_of c.args.component.now (g.M.MainTask.script c.args.main.now) c.args.self.now.trap_on_idle in
-    rw c.in-Run.is (makes_turns x (turn.Run c.in-Run.thread) c.args.store.now.state c.in_ok-ran-in-Run.ran.made c.step_run.new.w c.in_ok-ran-in-Run.ensures.makes (g.M.MainTask.part c.args.main.now) (c.in_ok-ran-in-Run.ensures.free x c.step_run.new.w.core (g.M.MainTask.part c.args.main.now)))
+    let made = c.in_ok-run_thread-in-Run.field-0 in
+    rw c.in-Run.is (makes_turns x (turn.Run c.in-Run.thread) c.args.store.now.state made c.run_thread.new.store.state c.in_ok-run_thread-in-Run.ensures.makes (g.M.MainTask.part c.args.main.now) (c.in_ok-run_thread-in-Run.ensures.free x c.run_thread.new.store.state.core (g.M.MainTask.part c.args.main.now)))
 
-pub returns-in_ok-ran-in-Run-clause-knows : goal.returns-in_ok-ran-in-Run-clause-knows
-returns-in_ok-ran-in-Run-clause-knows g c =
+pub returns-in_ok-run_thread-in-Run-clause-knows : goal.returns-in_ok-run_thread-in-Run-clause-knows
+returns-in_ok-run_thread-in-Run-clause-knows g c =
     let main = c.args.main.now in
     let s = c.args.store.now.state in
-    let t = c.step_run.new.w in
+    let t = c.run_thread.new.store.state in
     let x = setting_of c.args.component.now (g.M.MainTask.script main) c.args.self.now.trap_on_idle in
-    by_run (g.M.MainTask.knows main) s t (λ last. g.met.M.MainTask.stays main s t last c.requires.knows) x (g.M.MainTask.part main) c.in-Run.thread c.in_ok-ran-in-Run.ran.made c.in_ok-ran-in-Run.ensures.makes c.in_ok-ran-in-Run.ensures.works
+    by_run (g.M.MainTask.knows main) s t (λ last. g.met.M.MainTask.stays main s t last c.requires.knows) x (g.M.MainTask.part main) c.in-Run.thread c.in_ok-run_thread-in-Run.field-0 c.in_ok-run_thread-in-Run.ensures.makes c.in_ok-run_thread-in-Run.ensures.works
 
 pub returns-in-Futures-clause-knows : goal.returns-in-Futures-clause-knows
 returns-in-Futures-clause-knows g c =
     let main = c.args.main.now in
     let part = g.M.MainTask.part main in
     let s = c.args.store.now.state in
-    let t = c.poll.new.w in
+    let t = c.poll_next.new.self.state in
     let x = setting_of c.args.component.now (g.M.MainTask.script main) c.args.self.now.trap_on_idle in
-    by_poll (g.M.MainTask.knows main) s t (λ last. g.met.M.MainTask.stays main s t last c.requires.knows) x part c.in-Futures.polled c.poll.result (c.poll.ensures.turns x part (rw c.in-Futures.is at c.requires.pends)) c.poll.ensures.works
+    by_poll (g.M.MainTask.knows main) s t (λ last. g.met.M.MainTask.stays main s t last c.requires.knows) x part c.in-Futures.polled c.poll_next.result (c.poll_next.ensures.turns x part (rw c.in-Futures.is at c.requires.pends)) c.poll_next.ensures.works
 
 pub returns-in-Take-clause-knows : goal.returns-in-Take-clause-knows
 returns-in-Take-clause-knows g c =
@@ -49,3 +52,11 @@ returns-in-Take-clause-knows g c =
     let t = c.take.new.w in
     let x = setting_of c.args.component.now (g.M.MainTask.script main) c.args.self.now.trap_on_idle in
     by_take (g.M.MainTask.knows main) s t (λ last. g.met.M.MainTask.stays main s t last c.requires.knows) x c.args.self.now.trap_on_idle c.in-Take.ended (g.M.MainTask.part main) c.take.result refl (rw c.in-Take.is at c.requires.pends) c.take.ensures.turned c.take.ensures.works
+
+pub returns-in-Take-clause-hosts : goal.returns-in-Take-clause-hosts
+returns-in-Take-clause-hosts g c =
+    let main = c.args.main.now in
+    let store = c.args.store.now in
+    let x = setting_of c.args.component.now (g.M.MainTask.script main) c.args.self.now.trap_on_idle in
+    held_taken x c.args.self.now.trap_on_idle c.in-Take.ended (g.M.MainTask.part main) store.state c.take.new.w (held_by g.H.HostWork.course store) c.take.result
+    (subst (λ (p : Turn). Sits c.args.component.now p store.state.core) c.in-Take.is c.requires.at.order) refl (rw c.in-Take.is at c.requires.pends) c.take.ensures.turned c.requires.hosts

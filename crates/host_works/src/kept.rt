@@ -1,0 +1,66 @@
+//! The works that a store keeps.
+ghost use Rattle.std.specs.Prelude.{◌≡◌, ◌==◌, ℕ, IfOk, IsSome, None, OnErr, OnOk, Some, cond, option_map, option_and_then};
+ghost use Rattle.host_works.specs.Course.{left_after, told};
+ghost use Rattle.host_works.specs.Kept.{HoldsNone, held};
+
+use crate::work::{AccessorTask, HostPoll, HostWork};
+use std::alloc::Global;
+use std::collections::HashMap;
+use task_machine::NoMemory;
+
+/// The host works that haven't ended, by the numbers that labels have for them. A call costs the
+/// same however many there are.
+#[derive(Drop)]
+pub struct HostWorks<H> {
+    works: HashMap<u64, H>,
+}
+
+impl<H> HostWorks<H> {
+    /// No works.
+    pub fn new(alloc: Global) -> Self
+        ensures { HoldsNone result }
+    {
+        HostWorks {
+            works: HashMap::new(alloc),
+        }
+    }
+}
+
+impl<H: HostWork> HostWorks<H> {
+    /// Keeps a work under its number. Where memory is wanting, the works are as before.
+    pub fn keep(&mut self, number: u64, work: H) -> Result<(), NoMemory>
+        ensures ok { OnOk result ((i : ℕ) → held H.course self.new i ≡ cond (number == i) (Some (H.course work)) (held H.course self.old i)) }
+        ensures err { OnErr result ((i : ℕ) → held H.course self.new i ≡ held H.course self.old i) }
+    {
+        match self.works.insert(number, work) {
+            Ok(_) => Ok(()),
+            Err(_) => Err(NoMemory),
+        }
+    }
+
+    /// Lets a work go, if it is there.
+    pub fn let_go(&mut self, number: u64)
+        ensures { (i : ℕ) → held H.course self.new i ≡ cond (number == i) None (held H.course self.old i) }
+    {
+        let _gone = self.works.remove(&number);
+    }
+
+    /// Polls the work with this number, which is there, and lets it go where it has ended with
+    /// a value.
+    pub fn poll<T>(&mut self, number: u64, host: &mut T) -> HostPoll
+    where
+        H: AccessorTask<T>,
+        requires there { IsSome (held H.course self.old number) }
+        ensures answer { option_map told (held H.course self.old number) ≡ Some result }
+        ensures left { (i : ℕ) → held H.course self.new i ≡ cond (number == i) (option_and_then left_after (held H.course self.old number)) (held H.course self.old i) }
+    {
+        let answer = match self.works.get_mut(&number) {
+            Some(work) => work.poll(host),
+            None => unreachable!(),
+        };
+        if matches!(answer, HostPoll::Value(_)) {
+            self.let_go(number);
+        }
+        answer
+    }
+}

@@ -1,0 +1,14 @@
+//! The trace of a run: its labels in little room. A label takes 8 bytes, and 8 for each number after its first one.
+#![tactic(auto)]
+
+mod kinds;
+mod open;
+mod pack;
+mod trace;
+
+pub use kinds::{
+    CallKind, DataKind, HandleKind, Head, Kind, LARGE, LoopKind, MainKind, OwnKind, SetKind,
+    TakeKind, TaskKind, ThreadKind,
+};
+pub use open::{Labels, first, later, listed};
+pub use trace::Trace;

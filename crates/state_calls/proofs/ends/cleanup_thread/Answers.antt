@@ -1,0 +1,5 @@
+use Rattle.state_calls.proofs.KeepLemmas.{ended_kept}
+use Rattle.state_calls.proofs.ends.cleanup_thread.Goals as goal
+
+pub returns-clause-wakes : goal.returns-clause-wakes
+returns-clause-wakes g c = ended_kept _ (g.W.View.view c.args.w.now).core _ c.end_thread.ensures.core

@@ -1,0 +1,5 @@
+use Rattle.state_calls.proofs.KeepLemmas.{published_kept}
+use Rattle.state_calls.proofs.events.set_event.Goals as goal
+
+pub returns-clause-wakes : goal.returns-clause-wakes
+returns-clause-wakes g c = published_kept _ _ _ (g.W.View.view c.args.w.now) _ c.publish_waiter-waiter.ensures.choice c.publish.ensures

@@ -1,0 +1,78 @@
+-- What the calls of a state ask, in a store that sits.
+use Rattle.std.proofs.Common.{ap, arith, refl, subst, sym, ◌∙◌}
+use Rattle.std.proofs.lemmas.Bool.Decides.{nat_tests}
+use Rattle.std.specs.Prelude.{Bool, None, Option, Result, Some, is_none, is_some, option_map, true, ℕ, ◌<◌, ◌≡◌}
+use Rattle.state_calls.proofs.PlacedLemmas.{placed_idle, placed_may_stop}
+use Rattle.state_calls.specs.Woken.{Wakes}
+use Rattle.state_calls.specs.declared.error.TaskError.{TaskError}
+use Rattle.state_calls.specs.declared.names.QualifiedThreadId.{QualifiedThreadId}
+use Rattle.task_machine.proofs.CommuteLemmas.{get-change}
+use Rattle.task_machine.specs.Core.{Core, Unscripted}
+use Rattle.task_machine.specs.Maps.{get}
+use Rattle.task_machine.specs.Read.{blocked_on, join_of}
+use Rattle.task_machine.specs.Write.{on_call, on_work, set_event}
+use Rattle.task_machine.specs.declared.component.Component.{Component}
+use Rattle.task_machine.specs.declared.records.Join.TheVariants as join
+use Rattle.task_machine.specs.declared.records.Set.{Set}
+use Rattle.task_machine.specs.declared.records.Subtask.{Subtask}
+use Rattle.task_machine.specs.declared.records.Subtask.TheVariants as subtask
+use Rattle.task_machine.specs.declared.records.Turn.{Turn}
+use Rattle.task_machine.specs.declared.words.Status.{Status}
+use Rattle.task_moves.specs.Idle.{AreIdleUnqueued, IsJoinThere}
+use Rattle.task_moves.specs.Stops.{MayStop}
+use Rattle.task_rules.specs.Places.{Placed}
+use Rattle.task_table.specs.declared.id.TableId.{TableId}
+use Rattle.task_turns.specs.Turn.{Sits}
+use Rattle.task_wait.specs.declared.keys.GuestTaskKey.{GuestTaskKey}
+use Rattle.task_wait.specs.declared.keys.ThreadKey.{ThreadKey}
+use Rattle.task_words.specs.StateView.{StateView, call_of, on_core, thread_of}
+
+pub sits_placed : (c : Component) (p : Turn) (s : Core) → Sits c p s → Placed s
+sits_placed c p s sits = (sits.order Unscripted).in_place.placed
+
+instance_there : (i : ℕ) (o : Option Set) → option_map (λ (r : Set). r.instance) o ≡ Some i → is_some o ≡ true
+instance_there i (Some r) e = refl
+instance_there i None e = absurd (cc)
+
+pub sits_joins : (c : Component) (p : Turn) (s : Core) → Sits c p s → (k : ℕ) → IsJoinThere (subtask.Guest k) s
+sits_joins c p s sits k x at = let n = (sits.order Unscripted).joins_named.joins (subtask.Guest k) x at in instance_there n.instance (get s.sets x) n.home
+
+-- ---- After an event
+
+module _ (id : TableId GuestTaskKey) (s t : StateView) where
+  pub woken_live : {may : Option ℕ → Core → Bool} {move : Option ℕ → Core → Core} {r : Result (Option QualifiedThreadId) TaskError} → Wakes may move s r t → 0 < call_of s id → 0 < call_of t id
+  woken_live w live = subst (λ (v : StateView). 0 < call_of v id) (sym w.core) live
+
+  pub event_live : (sub : Subtask) (e : Option Status) → t ≡ on_core (set_event sub e) s → 0 < call_of s id → 0 < call_of t id
+  event_live sub e is live = subst (λ (v : StateView). 0 < call_of v id) (sym is) live
+
+idle_event : (sub : Subtask) (e : Option Status) (s : Core) → AreIdleUnqueued s → AreIdleUnqueued (set_event sub e s)
+unfolding set_event on_call on_work
+idle_event (subtask.Guest k) e s idle = record {
+  waiters = λ x n h. let u = idle.waiters x n h in record { high = u.high; low = u.low };
+  blocked = λ on n h. let u = idle.blocked on n h in record { high = u.high; low = u.low };
+}
+idle_event (subtask.Host i) e s idle = record {
+  waiters = λ x n h. let u = idle.waiters x n h in record { high = u.high; low = u.low };
+  blocked = λ on n h. let u = idle.blocked on n h in record { high = u.high; low = u.low };
+}
+
+pub event_idle : (sub : Subtask) (e : Option Status) (s t : StateView) → t ≡ on_core (set_event sub e) s → Placed s.core → AreIdleUnqueued t.core
+event_idle sub e s t is placed = subst (λ (v : StateView). AreIdleUnqueued v.core) (sym is) (idle_event sub e s.core (placed_idle s.core placed))
+
+there_event : (k j : ℕ) (e : Option Status) (s : Core) → IsJoinThere (subtask.Guest k) s → IsJoinThere (subtask.Guest k) (set_event (subtask.Guest j) e s)
+unfolding set_event on_call
+there_event k j e s there x at = there x (grind (arith, nat_tests, get-change, at))
+
+pub event_there : (id other : TableId GuestTaskKey) (e : Option Status) (s t : StateView) → t ≡ on_core (set_event (subtask.Guest (call_of s other)) e) s → ((k : ℕ) → IsJoinThere (subtask.Guest k) s.core) → IsJoinThere (subtask.Guest (call_of t id)) t.core
+event_there id other e s t is there = subst (λ (v : StateView). IsJoinThere (subtask.Guest (call_of v id)) v.core) (sym is) (there_event (call_of s id) (call_of s other) e s.core (there (call_of s id)))
+
+-- nothing stands at switch
+pub stops_freely : (f : ℕ) (r : Option (TableId ThreadKey)) (s : StateView) → option_map (λ id. thread_of s id) r ≡ s.core.queues.switch → is_none r ≡ true → Placed s.core → MayStop f s.core
+stops_freely f None s is none placed = placed_may_stop f s.core placed (λ m at. absurd (let e = is ∙ at in cc))
+stops_freely f (Some id) s is none placed = absurd (cc)
+
+-- nobody is blocked
+pub none_blocked : (sub : Subtask) (r : Option (TableId ThreadKey)) (s : StateView) → option_map (λ id. thread_of s id) r ≡ blocked_on sub s.core → is_none r ≡ true → blocked_on sub s.core ≡ None
+none_blocked sub None s is none = sym is
+none_blocked sub (Some id) s is none = absurd (cc)

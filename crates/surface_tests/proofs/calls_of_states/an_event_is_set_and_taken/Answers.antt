@@ -1,0 +1,9 @@
+use Rattle.surface_tests.proofs.StateLemmas.{woken_live}
+use Rattle.surface_tests.proofs.calls_of_states.an_event_is_set_and_taken.Goals as goal
+use Rattle.state_calls.proofs.PlacedLemmas.{placed_idle}
+
+pub set_event-woken-requires-clause-idle : goal.set_event-woken-requires-clause-idle
+set_event-woken-requires-clause-idle g c = placed_idle _ c.queued-store.ensures.placed
+
+pub take_event-event-requires : goal.take_event-event-requires
+take_event-event-requires g c = record { live = woken_live c.first_thread-id.result.task _ _ c.set_event-woken.ensures.woken c.first_thread-id.ensures.task }

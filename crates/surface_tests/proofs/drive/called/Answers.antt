@@ -1,0 +1,18 @@
+-- A start gives two numbers, and no thread runs by it.
+use Rattle.std.proofs.Common.{arith}
+use Rattle.task_machine.specs.declared.records.Turn.TheVariants as turn
+use Rattle.task_loop.proofs.StartLemmas.{start_current}
+use Rattle.surface_tests.proofs.DriveLemmas.{begun_given}
+use Rattle.surface_tests.proofs.drive.called.Goals as goal
+
+pub start_call_concurrent-requires-clause-order : goal.start_call_concurrent-requires-clause-order
+start_call_concurrent-requires-clause-order g c = (turn.Main, c.requires.order)
+
+pub returns-clause-order : goal.returns-clause-order
+returns-clause-order g c = c.start_call_concurrent.ensures.order turn.Main c.requires.order
+
+pub returns-clause-given : goal.returns-clause-given
+returns-clause-given g c = let more = begun_given _ _ _ _ _ _ _ c.in-Ok.ensures.starts in let none = c.requires.given in omega (arith, more, none)
+
+pub returns-clause-current : goal.returns-clause-current
+returns-clause-current g c = start_current _ _ _ _ _ _ _ c.requires.current c.in-Ok.ensures.starts

@@ -1,0 +1,15 @@
+-- One instance was made.
+use Rattle.std.proofs.Common.{ap, arith, ◌∙◌}
+use Rattle.task_machine.specs.Core.{Core}
+use Rattle.task_machine.specs.Maps.{size}
+use Rattle.task_records.specs.Seen.{nothing}
+use Rattle.task_store.proofs.FreshLemmas.{fresh_more, size_fresh}
+use Rattle.task_words.specs.StateView.{StateView, with_core}
+use Rattle.surface_tests.proofs.drive.new_store.Goals as goal
+
+pub add_instance-requires : goal.add_instance-requires
+add_instance-requires g c =
+    let none = ap (λ (s : StateView). size s.core.instances) c.new-store.ensures.state ∙ size_fresh 0 100000 1000000 in omega (arith, none)
+
+pub returns-clause-state : goal.returns-clause-state
+returns-clause-state g c = rw (c.in-Ok.ensures.ok, c.new-store.ensures.state) (ap (λ (u : Core). with_core u nothing) (fresh_more 0 100000 1000000))

@@ -1,0 +1,347 @@
+//! The calls of an instance, each by a thread of a scenario that was run so far.
+ghost use Rattle.host_works.specs.Kept.{HoldsNone};
+ghost use Rattle.std.specs.Prelude.{◌≡◌, ◌<◌, ◌≤◌, IfSome, IsSome, false, length, true};
+ghost use Rattle.task_calls.specs.Asks.{CanAsk, HasPaused, IsRunningIn};
+ghost use Rattle.task_calls.specs.Directs.{IsDirect};
+ghost use Rattle.task_loop.specs.Calls.{callee_of};
+ghost use Rattle.task_machine.specs.Read.{is_async_lifted};
+ghost use Rattle.task_rules.specs.Scripts.{export_at, export_kind};
+ghost use Rattle.task_machine.specs.Core.{fresh};
+ghost use Rattle.task_records.specs.Seen.{nothing};
+ghost use Rattle.task_run.specs.Runnable.{IsRunnable};
+ghost use Rattle.task_turns.specs.Turn.{Sits, given, running_of};
+ghost use Rattle.task_words.specs.StateView.{with_core};
+
+use op_dispatch::export_def;
+use std::alloc::Global;
+use std::process::Abort;
+use task_loop::{
+    Answer, Component, Func, Instance, Outcome, ResumeThread, Step, SuspensionTarget, Trace,
+    run_concurrent,
+};
+use task_machine::{Callee, ExportKind, Goal, Turn};
+use task_run::{Scenario, ScriptMain, read_scenario};
+use task_store::{ScriptedHost, Store};
+use task_words::{CallWords, HowFarId, ThreadWords, View};
+
+// A thread of b makes a set, calls a host that never answers, makes a thread, cancels the call, waits for its end, drops it,
+// and then calls and cancels a callback of a, which is told so.
+const CALLER: &[u8] =
+    b"scenario 1\nhandles 100000\ntable 1000000\nidle wait\nhost dead never\ninstance a\nexport f callback 0\nset_new r3\ncb_wait r3\nreact\nexit\nexport g sync 1\nexit\ninstance b\nthread 0\nsuspend\nexport h stackful 0\nset_new r1\ncall r4 r5 dead\nthread_new r2 0 5\ncancel r6 2\njoin 2 1\nwait r7 1\ndrop 2\ncall r4 r5 a.f\ncancel r6 2\ncall_sync r8 a.g 7\nmain\nstart b.h\nfinish 1 r0\nanswer r0\nend\n";
+
+// A thread of b calls a sync export of a.
+const DIRECT: &[u8] =
+    b"scenario 1\nhandles 100000\ntable 1000000\nidle wait\ninstance a\nexport g sync 1\ninstance b\nexport h stackful 0\ncall_sync r8 a.g 7\nmain\nstart b.h\nfinish 1 r0\nanswer r0\nend\n";
+
+const A: Instance = Instance { index: 0 };
+
+const B: Instance = Instance { index: 1 };
+
+// The first export of a.
+const F: Func = Func {
+    instance: Instance { index: 0 },
+    export: 0,
+};
+
+struct Midway {
+    scenario: Scenario,
+    store: Store<(), ScriptedHost>,
+}
+
+// Stated, so that it is proved once and not at each place where a value is let go.
+impl Drop for Midway {
+    fn drop(self) {
+        let Midway {
+            scenario: _,
+            store: _,
+        } = self;
+    }
+}
+
+// A store with two instances.
+fn new_store(rt: &impl Abort, alloc: Global) -> Store<(), ScriptedHost>
+    ensures state { result.state ≡ with_core (fresh 2 100000 1000000) nothing }
+    ensures free { result.running ≡ false }
+    ensures works { HoldsNone result.works }
+{
+    let mut store = Store::new(alloc, (), true, 1);
+    let Ok(_) = store.add_instance() else {
+        panic!(rt; "no memory")
+    };
+    let Ok(_) = store.add_instance() else {
+        panic!(rt; "no memory")
+    };
+    store
+}
+
+// The scenario is run in the store for so many labels.
+fn drive(
+    rt: &impl Abort,
+    alloc: Global,
+    scenario: &Scenario,
+    store: &mut Store<(), ScriptedHost>,
+    steps: u32,
+)
+    requires runnable { IsRunnable scenario.now }
+    requires two { length scenario.now.component.instances ≡ 2 }
+    requires fresh { store.old.state ≡ with_core (fresh 2 100000 1000000) nothing }
+    requires free { store.old.running ≡ false }
+    requires works { HoldsNone store.old.works }
+    requires few { steps ≤ 100 }
+    ensures order { IfSome (running_of store.new.state) (λ n. Sits scenario.now.component (Turn.Run n) store.new.state.core) }
+    ensures given { given store.new.state.core ≤ 200 }
+    ensures two { length scenario.now.component.instances ≡ 2 }
+{
+    let Ok(mut run) = run_concurrent(store, false) else {
+        panic!(rt; "a run")
+    };
+    let mut trace = Trace::new(alloc);
+    let mut main = ScriptMain::new(alloc, scenario.main.as_slice());
+    let driven = run.drive(&scenario.component, store, &mut main, steps, &mut trace);
+    let Ok(Outcome::OutOfSteps) = driven else {
+        panic!(rt; "a thread that runs")
+    };
+    run.end(store);
+}
+
+// The thread that runs is of the instance, and an op of it is under way or none is.
+fn is_asking(store: &Store<(), ScriptedHost>, instance: Instance, paused: bool) -> bool
+    ensures runs { result ≡ true → IsSome (running_of store.now.state) }
+    ensures fresh { result ≡ true → paused ≡ false → CanAsk instance.index store.now.state }
+    ensures paused { result ≡ true → paused ≡ true → HasPaused instance.index store.now.state }
+{
+    let Some(thread) = store.state.current() else {
+        return false;
+    };
+    if store.state.instance_of(thread) != instance.index {
+        return false;
+    }
+    matches!(store.state.how_far(thread), HowFarId::Fresh) != paused
+}
+
+// What the text's scenario leaves after so many labels, with a thread of the instance running.
+fn running(
+    rt: &impl Abort,
+    alloc: Global,
+    text: &[u8],
+    steps: u32,
+    instance: Instance,
+    paused: bool,
+) -> Midway
+    requires text { length text.now ≤ 1048576 }
+    requires few { steps ≤ 100 }
+    requires instance { instance.index < 2 }
+    ensures running { IsRunningIn result.scenario.component result.store.state }
+    ensures fresh { paused ≡ false → CanAsk instance.index result.store.state }
+    ensures paused { paused ≡ true → HasPaused instance.index result.store.state }
+{
+    let Ok(scenario) = read_scenario(alloc, text) else {
+        panic!(rt; "a scenario")
+    };
+    assert!(rt; scenario.component.instances.len() == 2);
+    let mut store = new_store(rt, alloc);
+    drive(rt, alloc, &scenario, &mut store, steps);
+    if !is_asking(&store, instance, paused) {
+        panic!(rt; "a thread of the instance")
+    }
+    Midway { scenario, store }
+}
+
+fn makes_a_set(rt: &impl Abort, alloc: Global) -> bool {
+    let mut at = running(rt, alloc, CALLER, 3, B, false);
+    matches!(
+        B.waitable_set_new(&at.scenario.component, &mut at.store, 1),
+        Ok(1)
+    )
+}
+
+fn drops_a_set(rt: &impl Abort, alloc: Global) -> bool {
+    let mut at = running(rt, alloc, CALLER, 4, B, false);
+    B.waitable_set_drop(&at.scenario.component, &mut at.store, 1, 1)
+        .is_ok()
+}
+
+fn polls_a_set(rt: &impl Abort, alloc: Global) -> bool {
+    let mut at = running(rt, alloc, CALLER, 4, B, false);
+    let event = B.waitable_set_poll(&at.scenario.component, &mut at.store, 1, 1);
+    matches!(event, Ok((0, 0, 0)))
+}
+
+fn waits(rt: &impl Abort, alloc: Global) -> bool {
+    let mut at = running(rt, alloc, CALLER, 4, B, false);
+    let event = B.waitable_set_wait(&at.scenario.component, &mut at.store, 1, 1);
+    matches!(event, Ok(Step::Pause))
+}
+
+fn joins(rt: &impl Abort, alloc: Global) -> bool {
+    let mut at = running(rt, alloc, CALLER, 6, B, false);
+    B.waitable_join(&at.scenario.component, &mut at.store, 1, 2, 1)
+        .is_ok()
+}
+
+#[test]
+fn a_thread_makes_and_uses_a_set(rt: HostRuntime) {
+    assert!(rt; makes_a_set(&rt, rt.alloc()) && drops_a_set(&rt, rt.alloc()));
+    assert!(rt; polls_a_set(&rt, rt.alloc()) && waits(&rt, rt.alloc()) && joins(&rt, rt.alloc()));
+}
+
+fn has_an_index(rt: &impl Abort, alloc: Global) -> bool {
+    let mut at = running(rt, alloc, CALLER, 3, B, false);
+    matches!(B.thread_index(&at.scenario.component, &mut at.store), Ok(1))
+}
+
+fn makes_a_thread(rt: &impl Abort, alloc: Global) -> bool {
+    let mut at = running(rt, alloc, CALLER, 3, B, false);
+    let thread = B.thread_new_indirect(&at.scenario.component, &mut at.store, 1, 0, 5);
+    matches!(thread, Ok(2))
+}
+
+fn yields(rt: &impl Abort, alloc: Global) -> bool {
+    let mut at = running(rt, alloc, CALLER, 6, B, false);
+    let target = SuspensionTarget::Resume(2);
+    let step = B.suspension_intrinsic(&at.scenario.component, &mut at.store, 1, true, target);
+    matches!(step, Ok(Step::Pause))
+}
+
+fn goes_on(rt: &impl Abort, alloc: Global) -> bool {
+    let mut at = running(rt, alloc, CALLER, 16, B, true);
+    let event = B.go_on(&at.scenario.component, &mut at.store);
+    matches!(event, Ok(Step::Done(Answer::Three(1, 2, 4))))
+}
+
+fn resumes(rt: &impl Abort, alloc: Global) -> bool {
+    let mut at = running(rt, alloc, CALLER, 6, B, false);
+    let resumed = B.resume_thread(
+        &at.scenario.component,
+        &mut at.store,
+        1,
+        2,
+        ResumeThread::Resume,
+    );
+    matches!(resumed, Ok(true))
+}
+
+fn promotes(rt: &impl Abort, alloc: Global) -> bool {
+    let mut at = running(rt, alloc, CALLER, 6, B, false);
+    let promoted = B.resume_thread(
+        &at.scenario.component,
+        &mut at.store,
+        1,
+        2,
+        ResumeThread::Promote,
+    );
+    matches!(promoted, Ok(false))
+}
+
+fn resumes_later(rt: &impl Abort, alloc: Global) -> bool {
+    let mut at = running(rt, alloc, CALLER, 6, B, false);
+    let resumed = B.resume_thread(
+        &at.scenario.component,
+        &mut at.store,
+        1,
+        2,
+        ResumeThread::ResumeLater,
+    );
+    matches!(resumed, Ok(true))
+}
+
+#[test]
+fn a_thread_resumes_another(rt: HostRuntime) {
+    assert!(rt; resumes(&rt, rt.alloc()) && promotes(&rt, rt.alloc()));
+    assert!(rt; resumes_later(&rt, rt.alloc()));
+}
+
+#[test]
+fn a_thread_makes_another_and_pauses(rt: HostRuntime) {
+    assert!(rt; has_an_index(&rt, rt.alloc()) && makes_a_thread(&rt, rt.alloc()));
+    assert!(rt; yields(&rt, rt.alloc()) && goes_on(&rt, rt.alloc()));
+}
+
+// The export is there, takes so many words and is sync or isn't.
+fn is_export(component: &Component, func: Func, words: u32, sync: bool) -> bool
+    ensures there { result ≡ true → IsSome (export_at component.now (callee_of func)) }
+    ensures words { result ≡ true → IfSome (export_at component.now (callee_of func)) (λ e. words ≡ e.params) }
+    ensures sync { result ≡ true → sync ≡ true → is_async_lifted (export_kind component.now (callee_of func)) ≡ false }
+{
+    let callee = Callee {
+        instance: func.instance.index,
+        export: func.export,
+    };
+    match export_def(component, callee) {
+        Some(def) => def.params == words && matches!(def.kind, ExportKind::Sync) == sync,
+        None => false,
+    }
+}
+
+fn starts(rt: &impl Abort, alloc: Global) -> bool {
+    let mut at = running(rt, alloc, CALLER, 3, B, false);
+    assert!(rt; is_export(&at.scenario.component, F, 0, false));
+    let prepared = B.prepare_call(&at.scenario.component, &mut at.store, F, &[], 3, true);
+    let Ok(id) = prepared else {
+        return false;
+    };
+    at.store.state.none_is_zero();
+    assert!(rt; is_asking(&at.store, B, false));
+    let step = B.start_call(&at.scenario.component, &mut at.store, id);
+    matches!(step, Ok(Step::Pause))
+}
+
+fn enters(rt: &impl Abort, alloc: Global) -> bool {
+    let mut at = running(rt, alloc, DIRECT, 3, B, false);
+    assert!(rt; is_export(&at.scenario.component, F, 1, true));
+    B.enter_guest_sync_call(&at.scenario.component, &mut at.store, F, &[7])
+        .is_ok()
+}
+
+// The thread that runs is the first one of a direct call.
+fn is_direct(store: &Store<(), ScriptedHost>) -> bool
+    ensures { result ≡ true → IfSome (running_of store.now.state) (λ n. IsDirect n store.now.state.core) }
+{
+    let Some(thread) = store.state.current() else {
+        return false;
+    };
+    let call = store.state.task_of(thread);
+    !store.state.is_explicit(thread) && matches!(store.state.goal(call), Goal::Direct)
+}
+
+fn leaves(rt: &impl Abort, alloc: Global) -> bool {
+    let mut at = running(rt, alloc, DIRECT, 4, A, false);
+    assert!(rt; is_direct(&at.store));
+    A.exit_guest_sync_call(&at.scenario.component, &mut at.store, 9)
+        .is_ok()
+}
+
+#[test]
+fn a_thread_calls_an_export(rt: HostRuntime) {
+    assert!(rt; starts(&rt, rt.alloc()));
+    assert!(rt; enters(&rt, rt.alloc()) && leaves(&rt, rt.alloc()));
+}
+
+fn cancels(rt: &impl Abort, alloc: Global) -> bool {
+    let mut at = running(rt, alloc, CALLER, 5, B, false);
+    let end = B.subtask_cancel(&at.scenario.component, &mut at.store, 1, true, 2);
+    matches!(end, Ok(Step::Done(4_294_967_295)))
+}
+
+fn drops(rt: &impl Abort, alloc: Global) -> bool {
+    let mut at = running(rt, alloc, CALLER, 17, B, false);
+    B.subtask_drop(&at.scenario.component, &mut at.store, 1, 2)
+        .is_ok()
+}
+
+fn ends_as_cancelled(rt: &impl Abort, alloc: Global) -> bool {
+    let mut at = running(rt, alloc, CALLER, 29, A, false);
+    A.task_cancel(&at.scenario.component, &mut at.store).is_ok()
+}
+
+fn raises_backpressure(rt: &impl Abort, alloc: Global) -> bool {
+    let mut at = running(rt, alloc, CALLER, 3, B, false);
+    B.backpressure_modify(&at.scenario.component, &mut at.store, 1, true)
+        .is_ok()
+}
+
+#[test]
+fn a_thread_cancels_and_is_cancelled(rt: HostRuntime) {
+    assert!(rt; cancels(&rt, rt.alloc()) && drops(&rt, rt.alloc()));
+    assert!(rt; ends_as_cancelled(&rt, rt.alloc()) && raises_backpressure(&rt, rt.alloc()));
+}

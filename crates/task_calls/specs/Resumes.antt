@@ -1,0 +1,42 @@
+-- What comes of another thread that the running one resumes by its handle.
+use Rattle.std.specs.Prelude.{Bool, Err, Ok, Result, false, true, ℕ, ◌≡◌}
+use Rattle.state_calls.specs.declared.error.TaskError.{TaskError}
+use Rattle.state_calls.specs.declared.error.TaskError.TheVariants as task_error
+use Rattle.task_calls.specs.declared.intrinsics.ResumeThread.{ResumeThread}
+use Rattle.task_calls.specs.declared.intrinsics.ResumeThread.TheVariants as resume
+use Rattle.task_machine.specs.Core.{Core}
+use Rattle.task_machine.specs.declared.trap.Trap.{Trap}
+use Rattle.task_ops.specs.declared.came.Came.{Came}
+use Rattle.task_ops.specs.declared.came.Came.TheVariants as came
+use Rattle.task_ops.specs.Halting.{First, GoesFirst, Refused, StaysBehind, promoted_first, resumed_first}
+use Rattle.task_rules.specs.Progress.{Goes, Progress, Traps}
+use Rattle.task_rules.specs.Threads.{resume_later_row}
+use Rattle.task_words.specs.StateView.{StateView, with_core}
+
+-- a row that goes on or is refused
+abbrev pub first_in : Progress → First
+first_in (Goes l new m) = GoesFirst new
+first_in (Traps why) = Refused why
+first_in _ = StaysBehind
+
+-- At once it goes first, as a thread has it that suspends or yields then; later it gets a low entry, as `resume_later` has it.
+abbrev pub resumed_by : ResumeThread → ℕ → ℕ → Core → First
+resumed_by resume.Promote n h s = promoted_first n h s
+resumed_by resume.Resume n h s = resumed_first n h s
+resumed_by resume.ResumeLater n h s = first_in (resume_later_row n h s)
+
+-- It came to this, and nothing else is changed.
+abbrev pub Resumed : First → StateView → Result Bool TaskError → StateView → Type 0
+Resumed (GoesFirst new) s r t = (r ≡ Ok true) × (t ≡ with_core new s)
+Resumed StaysBehind s r t = (r ≡ Ok false) × (t ≡ s)
+Resumed (Refused why) s r t = (r ≡ Err (task_error.Trap why)) × (t ≡ s)
+
+-- ---- As the code says it
+
+abbrev pub came_later : Came → Result Bool Trap
+came_later (came.Traps why) = Err why
+came_later _ = Ok true
+
+abbrev pub or_refused : Result Bool Trap → Result Bool TaskError
+or_refused (Ok b) = Ok b
+or_refused (Err why) = Err (task_error.Trap why)

@@ -1,0 +1,18 @@
+-- A start by the host that traps nothing.
+use Rattle.std.specs.Prelude.{Err, List, None, Ok, Option, Result, Some, ℕ, ◌≡◌}
+use Rattle.state_calls.specs.declared.error.TaskError.{TaskError}
+use Rattle.state_calls.specs.declared.error.TaskError.TheVariants as task_error
+use Rattle.task_calls.specs.Calls.{Becomes}
+use Rattle.task_machine.specs.declared.component.Callee.{Callee}
+use Rattle.task_machine.specs.declared.component.Component.{Component}
+use Rattle.task_machine.specs.declared.trap.Trap.{Trap}
+use Rattle.task_rules.specs.Calls.{next_thread}
+use Rattle.task_rules.specs.MainOps.{main_started}
+use Rattle.task_words.specs.StateView.{StateView}
+
+-- A start with these words: refused for this cause, or memory is wanting, and then nothing is changed; else the call is made, and its
+-- thread has the next number.
+abbrev pub StartsUntrapped : Component → Callee → List ℕ → StateView → Option Trap → Result ℕ TaskError → StateView → Type 0
+StartsUntrapped c e words s (Some why) r t = (r ≡ Err (task_error.Trap why)) × (t ≡ s)
+StartsUntrapped c e words s None (Ok n) t = (n ≡ next_thread s.core) × Becomes (main_started c e words s.core) s t
+StartsUntrapped c e words s None (Err why) t = (why ≡ task_error.NoMemory) × (t ≡ s)

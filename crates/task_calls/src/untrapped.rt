@@ -1,0 +1,58 @@
+//! A start by the host that leaves the store untrapped where it is refused.
+ghost use Rattle.std.specs.Prelude.{◌≡◌, ◌<◌, ◌≤◌, ◌^◌, IfSome, IsSome, length};
+ghost use Rattle.task_calls.specs.Untrapped.{StartsUntrapped};
+ghost use Rattle.task_machine.specs.declared.records.Turn.{Turn};
+ghost use Rattle.task_rules.specs.MainOps.{start_refusal};
+ghost use Rattle.task_rules.specs.Scripts.{export_at};
+ghost use Rattle.task_turns.specs.Turn.{Sits, given};
+
+use state_calls::TaskError;
+use task_machine::{Callee, Component, MainLabel, Trap};
+use task_ops::{Acted, start};
+use task_turns::export_def;
+use task_words::Words;
+
+// Why a start is refused.
+#[tactic(auto, unfolding(task_rules::specs::MainOps::start_refusal))]
+fn refusal<W: Words>(w: &W) -> Option<Trap>
+    ensures { result ≡ start_refusal (W.view w.now).core }
+{
+    if w.trapped() {
+        return Some(Trap::CannotEnterComponent);
+    }
+    if w.fits(4) {
+        return None;
+    }
+    Some(Trap::TableFull)
+}
+
+/// Starts a call by the host with as many words as the export takes, 0 to 16, and answers the number of
+/// its thread. Refused with trap 20 exactly where the store is trapped, and else with trap 18 exactly
+/// where its four entries don't fit into the table. Where it is refused, or memory is wanting, all is as
+/// before: the store isn't trapped by that.
+pub fn start_untrapped<W: Words>(
+    w: &mut W,
+    component: &Component,
+    callee: Callee,
+    words: &[u64],
+) -> Result<u64, TaskError>
+    requires there { IsSome (export_at component.now callee) }
+    requires words { IfSome (export_at component.now callee) (λ e. length words.now ≡ e.params) }
+    requires few_words { length words.now ≤ 16 }
+    requires order { (p : Turn) × Sits component.now p (W.view w.old).core }
+    requires given { given (W.view w.old).core < 2 ^ 61 }
+    ensures starts { StartsUntrapped component.now callee words.now (W.view w.old) (start_refusal (W.view w.old).core) result (W.view w.new) }
+    ensures order { (p : Turn) → Sits component.now p (W.view w.old).core → Sits component.now p (W.view w.new).core }
+{
+    let Some(def) = export_def(component, callee) else {
+        unreachable!()
+    };
+    if let Some(trap) = refusal(w) {
+        return Err(TaskError::Trap(trap));
+    }
+    match start(w, 1, callee, def.kind, words) {
+        Ok(Acted::Does(MainLabel::Start(_, thread))) => Ok(thread),
+        Ok(_) => unreachable!(),
+        Err(_) => Err(TaskError::NoMemory),
+    }
+}

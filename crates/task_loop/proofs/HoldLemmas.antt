@@ -1,0 +1,116 @@
+-- What the store holds of host works stays over turns in which it polls none.
+use Rattle.std.proofs.Common.{ap, arith, inl, inr, refl, subst, sym, ◌∙◌}
+use Rattle.host_works.specs.Course.{one_fewer}
+use Rattle.op_dispatch.specs.Polls.{polled_host}
+use Rattle.std.specs.Option.{option_map}
+use Rattle.std.specs.Prelude.{[], Bool, Err, IfOk, None, Ok, OnOk, Option, Result, Some, cond, suc, true, zero, ℕ, ◌+◌, ◌==◌, ◌≡◌, ◌-◌}
+use Rattle.task_machine.specs.Core.{Core, Main, State, Unscripted}
+use Rattle.task_machine.specs.Maps.{get}
+use Rattle.task_machine.specs.Read.{course_of, how_far_of}
+use Rattle.task_machine.specs.declared.component.Component.{Component}
+use Rattle.task_machine.specs.declared.component.HostDef.{HostDef}
+use Rattle.task_machine.specs.declared.memory.NoMemory.{NoMemory}
+use Rattle.task_machine.specs.declared.op.CallOp.TheVariants as call_op
+use Rattle.task_machine.specs.declared.op.Op.{Op}
+use Rattle.task_machine.specs.declared.op.Op.TheVariants as op
+use Rattle.task_machine.specs.declared.records.Course.TheVariants as courses
+use Rattle.task_machine.specs.declared.records.HowFar.{HowFar}
+use Rattle.task_machine.specs.declared.records.HowFar.TheVariants as how_far
+use Rattle.task_machine.specs.declared.records.Subtask.TheVariants as subtask
+use Rattle.task_machine.specs.declared.records.Turn.{Turn}
+use Rattle.task_machine.specs.declared.records.Turn.TheVariants as turn
+use Rattle.task_machine.specs.declared.scenario.IdleLine.TheVariants as idle_line
+use Rattle.task_laws.specs.Courses.{CallsHost, MakesWork, Spawns}
+use Rattle.task_rules.specs.Calls.{FirstPoll, Later, first_poll}
+use Rattle.task_rules.specs.OpParts.{queues_work}
+use Rattle.task_rules.specs.Scripts.{op_of}
+use Rattle.task_rules.specs.Stalled.{Setting}
+use Rattle.task_store.proofs.HostLemmas.{holds_as, holds_made, holds_quiet, holds_unmade}
+use Rattle.task_store.specs.Hosts.{HoldsWorks, held_after_call}
+use Rattle.task_table.specs.declared.id.TableId.{TableId}
+use Rattle.task_turns.specs.Ran.{RanPolls, WorkMade}
+use Rattle.task_turns.specs.Turn.{Makes, PendsIn, Sits, Turned, TurnedBeside, idle_line_of, state_at}
+use Rattle.task_turns.specs.declared.made.Made.{Made}
+use Rattle.task_turns.specs.declared.made.Ran.{Ran}
+use Rattle.task_wait.specs.declared.keys.HostTaskKey.{HostTaskKey}
+use Rattle.task_words.specs.StateView.{StateView, work_of}
+
+-- ---- Takings
+
+taking_makes_none : (x : Setting) (s : State) (ended : Bool) → s.turn ≡ turn.Take ended → MakesWork x s → ⊥
+taking_makes_none x s ended is (Spawns main) = cc
+taking_makes_none x s ended is (CallsHost n runs queues) = cc
+
+pub held_taken : (x : Setting) (b ended : Bool) (m : Main) (s t : StateView) (left : ℕ → Option HostDef) (r : Result (Option Made) NoMemory) → Sits x.component (turn.Take ended) s.core →
+    x.idle ≡ idle_line_of b → PendsIn x s.core m (turn.Take ended) → IfOk r (λ o. TurnedBeside x.component b (turn.Take ended) s o t) → HoldsWorks left s.core → OnOk r (HoldsWorks left t.core)
+held_taken x b ended m s t left (Err e) sits idle pends turned h = tt
+held_taken x b ended m s t left (Ok o) sits idle pends turned h = by o (turned x refl idle m pends)
+  where
+    by : (o : Option Made) → Turned x (turn.Take ended) m s o m t → HoldsWorks left t.core
+    by None k = subst (λ (v : StateView). HoldsWorks left v.core) (sym k.1.1) h
+    by (Some made) k =
+        holds_quiet x (state_at s.core m (turn.Take ended)) made.label (state_at t.core m made.turn) k.step (λ n e. cc) (sits.order m).works.made left
+        (taking_makes_none x (state_at s.core m (turn.Take ended)) ended refl) h
+
+-- ---- Ops of the running thread
+
+-- an op that may make a work polls a host first
+polls_first : (c : Component) (f : HowFar) (o : Op) → queues_work f o ≡ true → polled_host c f o ≡ None → ⊥
+polls_first c (how_far.Calls (subtask.Host i)) (op.Call (call_op.CallHost r q h)) queues none = cc
+polls_first c f (op.Call (call_op.CallHost r q h)) queues none = grind (arith, none)
+polls_first c f (op.Call (call_op.CallSyncHost r h)) queues none = grind (arith, none, queues)
+polls_first c f o queues none = grind (arith, queues)
+
+same_left : (d l : HostDef) → Later d ≡ Later l → d ≡ l
+same_left d l h = cc
+
+first_left : (d l : HostDef) → first_poll d ≡ Later l → one_fewer d ≡ l
+first_left d l first = by d.polls d.value first
+  where
+    by : (polls value : Option ℕ) → (let e : HostDef = record { polls = polls; value = value } in first_poll e ≡ Later l) → (let e : HostDef = record { polls = polls; value = value } in one_fewer e ≡ l)
+    by None v h = cc
+    by (Some zero) None h = absurd (cc)
+    by (Some zero) (Some v) h = absurd (cc)
+    by (Some (suc n)) v h =
+        let down : suc n - 1 ≡ n = omega arith in
+        let rest : HostDef = record { polls = Some n; value = v } in
+        ap (λ (k : ℕ). let e : HostDef = record { polls = Some k; value = v } in e) down ∙ same_left rest l h
+
+module _ (c : Component) (n : ℕ) (s t : StateView) (ran : Ran) (sits : Sits c (turn.Run n) s.core) (makes : Makes c (turn.Run n) s ran.made t) (polls : RanPolls c n s ran t)
+    (left : ℕ → Option HostDef) (h : HoldsWorks left s.core) where
+  x : Setting
+  x = record { component = c; script = []; idle = idle_line.Wait }
+
+  before : State
+  before = state_at s.core Unscripted (turn.Run n)
+
+  makes_none : ran.polled ≡ None → MakesWork x before → ⊥
+  unfolding x before
+  makes_none none (Spawns main) = cc
+  makes_none none (CallsHost k runs queues) =
+      let same : n ≡ k = cc in
+      polls_first c (how_far_of k s.core) (op_of c k s.core) queues (subst (λ (i : ℕ). polled_host c (how_far_of i s.core) (op_of c i s.core) ≡ None) same (sym polls.polled ∙ none))
+
+  unmade : WorkMade ran.polled None s t → HoldsWorks left t.core
+  unfolding x before
+  unmade (inl none) = holds_quiet x before ran.made.label (state_at t.core Unscripted ran.made.turn) (makes.step x refl Unscripted) (λ k e. cc) (sits.order Unscripted).works.made left (makes_none none) h
+  unmade (inr gone) = holds_unmade x before ran.made.label (state_at t.core Unscripted ran.made.turn) (makes.step x refl Unscripted) (λ k e. cc) (sits.order Unscripted).works.made left gone h
+
+  made_held : (id : TableId HostTaskKey) (right : ℕ → Option HostDef) → WorkMade ran.polled (Some id) s t → ((i : ℕ) → right i ≡ held_after_call (Some (work_of t id)) ran.polled left i) → HoldsWorks right t.core
+  unfolding x before
+  made_held id right m is =
+      let d = m.0 in let l = m.1.0 in let polled = m.1.1.0 in let first = m.1.1.1.0 in let number = m.1.1.1.1.0 in let goes = m.1.1.1.1.1 in
+      holds_made x before ran.made.label (state_at t.core Unscripted ran.made.turn) (makes.step x refl Unscripted) (λ k e. cc) (sits.order Unscripted).works.made left l right
+      (subst (λ (k : ℕ). course_of k t.core ≡ courses.Goes l) number goes)
+      (λ i. is i ∙ (ap (λ (o : Option HostDef). held_after_call (Some (work_of t id)) o left i) polled ∙ (ap (λ (k : ℕ). cond (k == i) (Some (one_fewer d)) (left i)) number
+      ∙ ap (λ (e : HostDef). cond (s.core.made.works + 1 == i) (Some e) (left i)) (first_left d l first))))
+      h
+
+  pub held_run : (right : ℕ → Option HostDef) → ((i : ℕ) → right i ≡ held_after_call (option_map (λ id. work_of t id) ran.work) ran.polled left i) → HoldsWorks right t.core
+  held_run right is = by ran.work refl
+    where
+      by : (w : Option (TableId HostTaskKey)) → ran.work ≡ w → HoldsWorks right t.core
+      by None e = holds_as t.core left right (λ i. is i ∙ ap (λ (o : Option (TableId HostTaskKey)). held_after_call (option_map (λ id. work_of t id) o) ran.polled left i) e)
+          (unmade (subst (λ (o : Option (TableId HostTaskKey)). WorkMade ran.polled o s t) e polls.work))
+      by (Some id) e = made_held id right (subst (λ (o : Option (TableId HostTaskKey)). WorkMade ran.polled o s t) e polls.work)
+          (λ i. is i ∙ ap (λ (o : Option (TableId HostTaskKey)). held_after_call (option_map (λ id. work_of t id) o) ran.polled left i) e)

@@ -1,0 +1,28 @@
+-- A poll starts the call, or finishes it.
+use Rattle.std.proofs.Common.{ap, subst, sym}
+use Rattle.std.specs.Prelude.{List, Ok, Some, option_map, ℕ}
+use Rattle.task_calls.specs.Calls.{Starts}
+use Rattle.task_loop.proofs.PolledLemmas.{poll_starts}
+use Rattle.task_loop.proofs.call_concurrent.CallConcurrent.poll.Goals as goal
+use Rattle.task_loop.specs.Calls.{callee_of}
+use Rattle.task_loop.specs.Polled.{Polls, thread_in}
+use Rattle.task_loop.specs.declared.call.FuncCallConcurrent.{FuncCallConcurrent}
+use Rattle.task_rules.specs.MainOps.{start_refusal}
+
+pub returns-in-Some-clause-order : goal.returns-in-Some-clause-order
+returns-in-Some-clause-order g c = c.finish.ensures.order c.args.component.now
+
+pub returns-in-Ok-clause-polls : goal.returns-in-Ok-clause-polls
+returns-in-Ok-clause-polls g c =
+    let x = c.args.component.now in
+    let e = callee_of c.args.self.now.func in
+    let s = c.args.store.now.state in
+    let mid = c.start_call_concurrent.new.store.state in
+    let t = c.finish-answer.new.store.state in
+    let starts = subst (λ (ws : List ℕ). Starts x e ws s (start_refusal s.core) (Ok c.in-Ok.call.thread) mid) c.as_slice.ensures.value c.in-Ok.ensures.starts in
+    subst (λ (n : ℕ). Polls x e c.args.self.now.params.items (thread_in c.args.self.now) s c.finish-answer.result (Some n) t)
+    (sym (ap (λ (call : FuncCallConcurrent). call.thread) c.finish-answer.ensures.call))
+    (poll_starts x e c.args.self.now.params.items s t (thread_in c.args.self.now) c.finish-answer.result (ap (option_map (λ (call : FuncCallConcurrent). call.thread)) c.in_default.is) c.in-Ok.call.thread mid starts c.finish-answer.ensures.finishes)
+
+pub returns-in-Ok-clause-order : goal.returns-in-Ok-clause-order
+returns-in-Ok-clause-order g c = λ p sits. c.finish-answer.ensures.order c.args.component.now p (c.in-Ok.ensures.order p sits)

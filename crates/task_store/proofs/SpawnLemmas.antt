@@ -1,0 +1,40 @@
+-- Spawned works that are gone.
+use Rattle.std.proofs.Common.{ap, arith, inl, le_refl, subst, sym}
+use Rattle.std.proofs.lemmas.Bool.Decides.{nat_tests}
+use Rattle.std.specs.Option.{option_map_or}
+use Rattle.std.specs.Prelude.{None, Option, ℕ, ◌+◌, ◌<◌, ◌≡◌, ◌≤◌}
+use Rattle.task_machine.proofs.CommuteLemmas.{get-change}
+use Rattle.task_machine.specs.Core.{Core}
+use Rattle.task_machine.specs.Maps.{Records, change, get, same_map}
+use Rattle.task_machine.specs.Read.{phase_of}
+use Rattle.task_machine.specs.Write.{add_work, count_work, on_work, push_high, set_phase}
+use Rattle.task_machine.specs.declared.component.HostDef.{HostDef}
+use Rattle.task_machine.specs.declared.records.Work.{Work}
+use Rattle.task_machine.specs.declared.records.WorkCaller.TheVariants as callers
+use Rattle.task_machine.specs.declared.words.Phase.TheVariants as phases
+use Rattle.task_rules.specs.Calls.{next_work, work_queued}
+use Rattle.task_rules.specs.Cancels.{aborted_phase}
+use Rattle.task_rules.specs.MainOps.{main_aborted}
+use Rattle.task_store.specs.Spawned.{IsSpawnedIn}
+use Rattle.task_store.specs.declared.spawn.SpawnHandle.{SpawnHandle}
+use Rattle.task_words.specs.StateView.{StateView, work_of}
+
+-- a write of what isn't there changes nothing
+absent : {X : Type 0} (m : Records X) (i : ℕ) (f : X → X) → get m i ≡ None → change i f m ≡ m
+absent m i f none = same_map (change i f m) m (λ q. grind (arith, nat_tests, get-change, none))
+
+pub gone_aborted : (i : ℕ) (s : Core) → get s.works i ≡ None → main_aborted i s ≡ s
+unfolding main_aborted set_phase on_work
+gone_aborted i s none = ap (λ (ws : Records Work). record s { works = ws }) (absent s.works i (λ w. record w { phase = aborted_phase (phase_of i s) }) none)
+
+pub gone_complete : (i : ℕ) (s : Core) → get s.works i ≡ None → phase_of i s ≡ phases.Complete
+gone_complete i s none = ap (λ (o : Option Work). option_map_or (λ (w : Work). w.phase) o phases.Complete) none
+
+-- a work that was just queued is spawned
+pub spawned_in : (h : SpawnHandle) (s : Core) (d : HostDef) (t : StateView) → h.number ≡ next_work s → work_of t h.work ≡ h.number → t.core ≡ work_queued callers.Spawn d None s → IsSpawnedIn h t
+unfolding work_queued push_high add_work count_work
+spawned_in h s d t number named core = record {
+  some = subst (λ (n : ℕ). 0 < n) (sym number) (omega arith);
+  made = subst (λ (n : ℕ). n ≤ t.core.made.works) (sym number) (subst (λ (u : Core). s.made.works + 1 ≤ u.made.works) (sym core) (le_refl _));
+  named = inl named;
+}

@@ -1,0 +1,29 @@
+use Rattle.std.proofs.Common.{IfNone, ap, subst, sym, ◌∙◌}
+use Rattle.std.specs.Prelude.{None, Option, ◌≡◌}
+use Rattle.task_machine.specs.Core.{Core}
+use Rattle.task_machine.specs.Maps.{get}
+use Rattle.task_machine.specs.Read.{phase_of}
+use Rattle.task_machine.specs.Write.{set_phase}
+use Rattle.task_machine.specs.declared.words.Phase.{Phase}
+use Rattle.task_rules.specs.Cancels.{aborted_phase}
+use Rattle.task_rules.specs.MainOps.{main_aborted}
+use Rattle.task_store.proofs.SpawnLemmas.{gone_aborted}
+use Rattle.task_store.proofs.spawn.SpawnHandle.abort.Goals as goal
+use Rattle.task_store.specs.declared.store.Store.{Store}
+use Rattle.task_words.specs.StateView.{StateView, on_core, with_core, work_of}
+
+pub returns-in_default-clause-state : goal.returns-in_default-clause-state
+returns-in_default-clause-state g c =
+    let store = c.args.store.now in
+    let none = c.in_default.ensures.none in
+    ap (λ (d : Core). record store { state = with_core d store.state }) (sym (gone_aborted c.args.self.now.number store.state.core none))
+
+pub returns-clause-state : goal.returns-clause-state
+unfolding main_aborted
+returns-clause-state g c =
+    let store = c.args.store.now in
+    let s = store.state in
+    let number = c.in-Some.ensures.some in
+    let phase = c.after_abort.ensures ∙ ap aborted_phase c.phase-phase.ensures in
+    let state = c.set_phase.ensures ∙ ap (λ (p : Phase). on_core (set_phase (work_of s c.in-Some.work) p) s) phase ∙ ap (λ n. on_core (set_phase n (aborted_phase (phase_of n s.core))) s) number in
+    ap (λ (v : StateView). record store { state = v }) state

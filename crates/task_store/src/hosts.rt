@@ -1,0 +1,125 @@
+//! The host works of a store: those of guests' calls, and those that a host spawns.
+ghost use Rattle.std.specs.Prelude.{◌||◌, ◌≡◌, ◌<◌, ◌^◌, ℕ, IfErr, IfOk, None, OnErr, OnOk, Some, option_map};
+ghost use Rattle.task_laws.specs.Order.{WorksQueued};
+ghost use Rattle.task_machine.specs.Core.{Main};
+ghost use Rattle.task_machine.specs.Read.{is_aborted};
+ghost use Rattle.task_machine.specs.declared.records.Turn.{Turn};
+ghost use Rattle.task_machine.specs.declared.records.WorkCaller.TheVariants as work_callers;
+ghost use Rattle.task_ops.specs.Works.{KeepsWorks};
+ghost use Rattle.task_rules.specs.Calls.{next_work, work_queued};
+ghost use Rattle.task_rules.specs.Places.{Placed};
+ghost use Rattle.task_rules.specs.Stalled.{Setting};
+ghost use Rattle.task_rules.specs.Works.{has_end, next_polled};
+ghost use Rattle.task_store.specs.Hosts.{HoldsHosts, WorksNumbered, held_after_call, held_by};
+ghost use Rattle.task_store.specs.Polled.{Tells};
+ghost use Rattle.task_store.specs.Spawned.{IsSpawnedIn};
+ghost use Rattle.task_turns.specs.Turn.{IsSettled, PendsIn, Turns, given};
+ghost use Rattle.task_words.specs.StateView.{Keeps, work_of};
+
+use crate::spawn::SpawnHandle;
+use crate::store::Store;
+use host_works::{AccessorTask, FromHost};
+use state_calls::TaskError;
+use task_machine::{Course, HostDef, NoMemory, Phase};
+use task_turns::{Made, poll};
+use task_words::{ResultWords, WorkId, WorkWords};
+
+// Whether a work isn't polled: it was aborted, or has ended.
+fn is_over(phase: Phase, course: Course) -> bool
+    ensures { result ≡ (is_aborted phase || has_end course) }
+{
+    match (phase, course) {
+        (Phase::AbortRequested, _) => true,
+        (_, Course::Goes { host: _ }) => false,
+        _ => true,
+    }
+}
+
+impl<T, H: AccessorTask<T>> Store<T, H> {
+    /// Spawns a work beside the calls of the store. It is queued, becomes live when a run takes it,
+    /// and is polled from then on, once a turn, until it ends. Where memory is wanting, no work is
+    /// made.
+    pub fn spawn(&mut self, work: H) -> Result<SpawnHandle, TaskError>
+        requires given { given self.old.state.core < 2 ^ 61 }
+        ensures number { IfOk result (λ h. h.number ≡ next_work self.old.state.core) }
+        ensures named { IfOk result (λ h. work_of self.new.state h.work ≡ h.number) }
+        ensures spawned { IfOk result (λ h. IsSpawnedIn h self.new.state) }
+        ensures core { OnOk result (self.new.state.core ≡ work_queued work_callers.Spawn (H.course work) None self.old.state.core) }
+        ensures current { self.new.state.current ≡ self.old.state.current }
+        ensures tags { Keeps self.old.state.tags self.new.state.tags }
+        ensures hosts { WorksNumbered self.old.state.core → HoldsHosts H.course self.old → HoldsHosts H.course self.new }
+        ensures rest { self.new ≡ record self.old { state = self.new.state; works = self.new.works } }
+        ensures wanting { IfErr result (λ e. e ≡ TaskError.NoMemory) }
+        ensures err { OnErr result (self.new.state ≡ self.old.state) }
+    {
+        let number = self.state.made().works + 1;
+        let left = work.left();
+        let Ok(()) = self.works.keep(number, work) else {
+            return Err(TaskError::NoMemory);
+        };
+        match self.state.queue_spawn(left) {
+            Ok(work) => Ok(SpawnHandle { work, number }),
+            Err(_) => {
+                self.works.let_go(number);
+                Err(TaskError::NoMemory)
+            }
+        }
+    }
+
+    // Polls the work that is next. One that was aborted is let go, and isn't polled.
+    fn tell(&mut self, polled: u64)
+        requires { HoldsHosts H.course self.old }
+        ensures told { (i : ℕ) → next_polled polled self.old.state.core ≡ Some i → Tells i self.old.state.core (held_by H.course self.old) (held_by H.course self.new) }
+        ensures rest { self.new ≡ record self.old { value = self.new.value; works = self.new.works } }
+    {
+        let Some(work) = self.state.next_polled(polled) else {
+            return;
+        };
+        let number = self.state.work_number(work);
+        if is_over(self.state.phase(work), self.state.course(work)) {
+            self.works.let_go(number);
+            return;
+        }
+        let _answer = self.works.poll(number, &mut self.value);
+    }
+
+    /// Polls the live work that is next, past those with numbers up to `polled`.
+    pub fn poll_next(&mut self, polled: u64) -> Made
+        requires placed { Placed self.old.state.core }
+        requires works { WorksQueued self.old.state.core }
+        requires current { self.old.state.current ≡ None }
+        requires settled { IsSettled self.old.state.core (Turn.Futures polled) }
+        requires hosts { HoldsHosts H.course self.old }
+        ensures turns { (x : Setting) → (m : Main) → PendsIn x self.old.state.core m (Turn.Futures polled) → Turns x (Turn.Futures polled) m self.old.state result m self.new.state }
+        ensures works { KeepsWorks self.old.state self.new.state }
+        ensures hosts { HoldsHosts H.course self.new }
+        ensures rest { self.new ≡ record self.old { value = self.new.value; state = self.new.state; works = self.new.works } }
+    {
+        self.tell(polled);
+        poll(&mut self.state, polled)
+    }
+}
+
+impl<T, H: AccessorTask<T> + FromHost> Store<T, H> {
+    /// A guest's call has polled this host first, and its work, if one was made, goes on with what
+    /// that poll has left. The host's own work is made and polled so, and held from then on. Where
+    /// memory is wanting, it isn't.
+    pub fn call_host(
+        &mut self,
+        polled: Option<HostDef>,
+        work: Option<WorkId>,
+    ) -> Result<(), NoMemory>
+        ensures held { OnOk result ((i : ℕ) → held_by H.course self.new i ≡ held_after_call (option_map (λ id. work_of self.old.state id) work) polled (held_by H.course self.old) i) }
+        ensures rest { self.new ≡ record self.old { value = self.new.value; works = self.new.works } }
+    {
+        let Some(def) = polled else {
+            return Ok(());
+        };
+        let mut host = H::from_host(def);
+        let _answer = host.poll(&mut self.value);
+        let Some(work) = work else {
+            return Ok(());
+        };
+        self.works.keep(self.state.work_number(work), host)
+    }
+}

@@ -1,0 +1,82 @@
+//! Works that a host spawns: they run beside its calls, and can be aborted and waited for.
+ghost use Rattle.std.specs.Prelude.{◌≡◌, IfNone, IfSome, None};
+ghost use Rattle.task_machine.specs.Maps.{get};
+ghost use Rattle.task_machine.specs.Read.{phase_of};
+ghost use Rattle.task_rules.specs.Cancels.{aborted_phase};
+ghost use Rattle.task_rules.specs.MainOps.{main_aborted};
+ghost use Rattle.task_store.specs.Spawned.{IsSpawnedIn, poll_of_phase};
+ghost use Rattle.task_words.specs.StateView.{on_core, work_of};
+
+use crate::store::Store;
+use futures::task::Poll;
+use task_machine::Phase;
+use task_words::{WorkId, WorkWords};
+
+/// A work that was spawned in a store.
+#[derive(Clone, Copy)]
+pub struct SpawnHandle {
+    pub(crate) work: WorkId,
+    pub(crate) number: u64,
+}
+
+// The phase after an abort.
+fn after_abort(phase: Phase) -> Phase
+    ensures { result ≡ aborted_phase phase }
+{
+    match phase {
+        Phase::Running => Phase::AbortRequested,
+        phase => phase,
+    }
+}
+
+impl SpawnHandle {
+    /// The number of the work, by which labels name it.
+    pub fn number(&self) -> u64
+        ensures { result ≡ self.now.number }
+    {
+        self.number
+    }
+
+    // The id of the work, none where it is gone.
+    fn work<T, H>(&self, store: &Store<T, H>) -> Option<WorkId>
+        requires { IsSpawnedIn self.now store.now.state }
+        ensures some { IfSome result (λ id. work_of store.now.state id ≡ self.now.number) }
+        ensures none { IfNone result (get store.now.state.core.works self.now.number ≡ None) }
+    {
+        if store.state.work_number(self.work) == self.number {
+            Some(self.work)
+        } else {
+            None
+        }
+    }
+
+    /// Asks that the work end, and answers the phase that it found: `Running` becomes
+    /// `AbortRequested`, and the others stay. The work ends when its next poll is due, without a
+    /// value, and isn't polled again.
+    pub fn abort<T, H>(&self, store: &mut Store<T, H>) -> Phase
+        requires { IsSpawnedIn self.now store.old.state }
+        ensures phase { result ≡ phase_of self.now.number store.old.state.core }
+        ensures state { store.new ≡ record store.old { state = on_core (main_aborted self.now.number) store.old.state } }
+    {
+        let Some(work) = self.work(store) else {
+            return Phase::Complete;
+        };
+        let phase = store.state.phase(work);
+        store.state.set_phase(work, after_abort(phase));
+        phase
+    }
+
+    /// Ready exactly where the work has ended.
+    pub fn poll<T, H>(&self, store: &Store<T, H>) -> Poll<()>
+        requires { IsSpawnedIn self.now store.now.state }
+        ensures { result ≡ poll_of_phase (phase_of self.now.number store.now.state.core) }
+    {
+        let Some(work) = self.work(store) else {
+            return Poll::Ready(());
+        };
+        match store.state.phase(work) {
+            Phase::Complete => Poll::Ready(()),
+            _ => Poll::Pending,
+        }
+    }
+}
