@@ -1,8 +1,9 @@
 //! Guides: from where a seat's place is looked for in a long chain.
 //!
-//! One node in sixteen has a stop in a lane over all chains, one in 256 also in a second lane, one in 4,096 in a third, and each lane stands in the
-//! order of chains and seats. So a place is found past some fifty stops and nodes, however many stand in its chain. Nothing rests on the guides: who
-//! asks them tests the answer, and where memory is wanting a node has no stop. The first 64 names have none, as short chains need no guide.
+//! One node in sixteen has a stop in a lane over all chains, one in 256 also in a second lane, one in 4,096 in a third,
+//! and each lane stands in the order of chains and seats. So a place is found past some fifty stops and nodes, however
+//! many stand in its chain. Nothing rests on the guides: who asks them tests the answer, and where memory is wanting a
+//! node has no stop. The first 64 names have none, as short chains need no guide.
 ghost use Rattle.std.specs.Prelude.{IfSome, IsSome};
 ghost use Rattle.task_links.specs.Links.{link_of};
 
