@@ -74,6 +74,14 @@ def woken_pairs(count):
     return text(*scripts, *makes, *ops, *main("start a.f"))
 
 
+def waiters_from_both_ends(count):
+    """So many threads come to wait on one set, in turns from the one and the other end of the order of their places."""
+    ends = [place for pair in zip(range(count - 1, -1, -1), range(count)) for place in pair][:count]
+    makes = (*("thread_new r4 0 0",) * count, *(f"resume_later {place + 2}" for place in ends))
+    ops = ("export f callback 0", "set_new r3", *makes, "cb_yield", "react", "cb_yield")
+    return text("instance a", "thread 0", "wait r5 1", *ops, *main("start a.f"))
+
+
 def pipeline():
     """16 callbacks call a callback of another instance, which calls a host, and start anew."""
     db = ("export get callback 1", "set r9 r0", "call r3 r8 disk", "set_new r4", "handle r5 r3", "join r5 r4", "cb_wait r4")
@@ -118,6 +126,7 @@ def growing():
     yield "held calls, 16 and 256", held_calls(16), held_calls(256), 20_000
     yield "waiters, 100 and 2,000", waiters(100), waiters(2000), 20_000
     yield "waiters of whom two are woken, 100 and 2,000", woken_pairs(100), woken_pairs(2000), 20_000
+    yield "waiters from both ends, 250 and 1,000", waiters_from_both_ends(250), waiters_from_both_ends(1000), 0
     yield "live handles, 64 and 4,000", handles(64), handles(4000), 20_000
     yield "spawned works, 16 and 256", host_works(16), host_works(256), 20_000
     yield "depth of a strand, 4 and 62", depth(4), depth(62), 20_000

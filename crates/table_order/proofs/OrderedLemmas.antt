@@ -1,16 +1,19 @@
 -- Chains that stand in the order of seats stay so where a node goes, or where one comes to its place.
-use Rattle.std.proofs.Common.{inl, inr, ◌≡◌, ℕ, ◌||◌, Bool, true, false, List, [], ◌∷◌, Option, Some, None, IsSome, refl, sym, ap, subst, ◌∙◌}
+use Rattle.std.proofs.Common.{inl, inr, ◌≡◌, ℕ, ◌||◌, Bool, true, false, List, [], ◌∷◌, ◌++◌, Option, Some, None, IsSome, refl, sym, ap, subst, ◌∙◌}
 use Rattle.std.proofs.lemmas.Bool.{cases_eq}
 use Rattle.std.specs.Cmp.{IsTotalOrder}
-use Rattle.std.specs.Ordering.{is_lt}
+use Rattle.std.proofs.lemmas.Option.{same_Some}
+use Rattle.std.specs.Ordering.{is_lt, ordering_reverse}
 use Rattle.std.specs.declared.cmp.Ordering.{Ordering}
 use Rattle.std.specs.declared.cmp.Ordering.TheVariants.{Less, Equal, Greater}
 use Rattle.table_order.specs.Seats.{AreOrdered, comes_first, seat_order}
 use Rattle.table_order.specs.declared.seat_links.Seat.{Seat}
 use Rattle.task_links.proofs.ReadLemmas.{entries-linked_other, entries-unlinked_other, entries-unlinked_same}
-use Rattle.task_links.specs.Links.{IsLinks, Spot, entries, head_of, is_made, link_of, linked, list_of, removed, removed_by, unlinked, without}
+use Rattle.task_links.proofs.Paths.{before-at, split}
+use Rattle.task_links.specs.Links.{Apart, AreLinked, before, in_list, preceding, IsLinks, Spot, entries, head_of, is_made, link_of, linked, list_of, removed, removed_by, unlinked, without}
 use Rattle.task_wait.proofs.OrderLemmas.{IsAscending-without, IsLeast-first}
 use Rattle.task_wait.specs.Sets.{IsAscending, IsLeast}
+use Rattle.task_wait.specs.Walks.{IsWalk}
 
 module _ (links new : List (Spot Seat)) (n : ℕ) where
   pub AreOrdered-removed : IsLinks links → is_made links n ≡ true → new ≡ removed n links → AreOrdered links → AreOrdered new
@@ -60,3 +63,41 @@ module _ {P : Type 0} (cmp : P → P → Ordering) (order : IsTotalOrder cmp) wh
   pub IsAscending-front : (e : ℕ × P) (l : List (ℕ × P)) → comes_first cmp e.1 (head_of l) ≡ true → IsAscending cmp l → IsAscending cmp (e ∷ l)
   IsAscending-front e [] first up = absurd (cc)
   IsAscending-front e (f ∷ fs) first up = (none_below e.1 f.1 first (f ∷ fs) (IsLeast-first cmp order (f ∷ fs) up), up)
+
+  -- what isn't below a value that isn't below another isn't below that other
+  not_below : (k e v : P) → is_lt (cmp k e) ≡ false → is_lt (cmp e v) ≡ false → is_lt (cmp k v) ≡ false
+  not_below k e v up above = by (cmp e v) refl
+    where
+      by : (o : Ordering) → cmp e v ≡ o → is_lt (cmp k v) ≡ false
+      by Less is = absurd (let both = sym above ∙ ap is_lt is in cc)
+      by Equal is = ap is_lt (order.antisymm k v ∙ (ap ordering_reverse (sym (order.congr e v k is)) ∙ sym (order.antisymm k e))) ∙ up
+      by Greater is = lower k e v (ap is_lt (order.antisymm v e ∙ ap ordering_reverse is)) up
+
+  least_below : (e v : P) → is_lt (cmp e v) ≡ false → (l : List (ℕ × P)) → IsLeast cmp e l → IsLeast cmp v l
+  least_below e v above [] least = refl
+  least_below e v above (k ∷ ks) least =
+      let parts = or_falses (is_lt (cmp k.1 e)) _ least in
+      or_false (is_lt (cmp k.1 v)) _ (not_below k.1 e v parts.0 above) (least_below e v above ks parts.1)
+
+  least_after : (a b : List (ℕ × P)) (x : ℕ × P) → IsAscending cmp (a ++ x ∷ b) → IsLeast cmp x.1 b
+  least_after [] b x up = up.0
+  least_after (y ∷ ys) b x up = least_after ys b x up.1
+
+  -- a walk from a node of an ascending chain that isn't less
+  pub Walk-from : (links : List (Spot P)) (c n : ℕ) (e v : P) → IsLinks links → AreLinked links c (entries links c) → link_of links n ≡ Some (c, e) → IsAscending cmp (entries links c) → is_lt (cmp e v) ≡ false → (next : Option (ℕ × P)) → next ≡ preceding n links → IsWalk (λ o. is_lt (cmp o v)) (entries links c) next (Some n)
+  Walk-from links c n e v sound values at up above next is =
+      let s = split n (entries links c) (sound.listed n c e at).1 in
+      let same : s.1.1.0 ≡ e = ap (λ (p : ℕ × P). p.1) (same_Some (c, s.1.1.0) (c, e) (sym (linked_at links c n s.1.1.0 s.0 s.1.0 (subst (AreLinked links c) s.1.1.1 values)) ∙ at)) in
+      let whole : entries links c ≡ s.0 ++ (n, e) ∷ s.1.0 = s.1.1.1 ∙ ap (λ w. s.0 ++ (n, w) ∷ s.1.0) same in
+      record {
+        front = s.0;
+        back = (n, e) ∷ s.1.0;
+        parts = whole;
+        last_is = is ∙ (ap (λ o. in_list (before n) o links) at ∙ (ap (before n) whole ∙ before-at None n e s.0 s.1.0 (subst Apart whole (sound.once c))));
+        place_is = refl;
+        above = or_false (is_lt (cmp e v)) _ above (least_below e v above s.1.0 (least_after s.0 s.1.0 (n, e) (subst (IsAscending cmp) whole up)));
+      }
+    where
+      linked_at : (ls : List (Spot P)) (d m : ℕ) (w : P) (a b : List (ℕ × P)) → AreLinked ls d (a ++ (m, w) ∷ b) → link_of ls m ≡ Some (d, w)
+      linked_at ls d m w [] b l = l.0
+      linked_at ls d m w (y ∷ ys) b l = linked_at ls d m w ys b l.1

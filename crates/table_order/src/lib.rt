@@ -1,6 +1,7 @@
 //! The order of the resource table's places: which is given next, and lists that stand in that order.
 #![tactic(auto)]
 
+mod guides;
 mod places;
 mod seat_links;
 

@@ -1,14 +1,16 @@
-ghost use Rattle.std.specs.Prelude.{◌≡◌, [], IfOk, IfSome, IsSome, None, OnErr, Some, option_map, true};
+ghost use Rattle.std.specs.Ordering.{is_lt};
+ghost use Rattle.std.specs.Prelude.{◌≡◌, [], if◌then◌else◌, false, IfOk, IfSome, IsSome, None, OnErr, Some, option_map, true};
 ghost use Rattle.table_order.specs.Seats.{AreOrdered, comes_first, seat_order, seated};
 ghost use Rattle.task_index.specs.Index.{Refiles};
 ghost use Rattle.task_links.specs.Links.{AreLinked, ChainOf, FreeNode, IsLinks, Renames, Unmade, entries, following, head_of, is_free, is_made, link_of, linked, list_of, removed};
-ghost use Rattle.task_wait.specs.Sets.{IsAscending, IsLeast};
+ghost use Rattle.task_wait.specs.Sets.{IsAscending, IsLeast, place_of, placed};
+ghost use Rattle.task_wait.specs.Walks.{IsWalk};
 
+use crate::guides::Guides;
 use std::alloc::Global;
 use std::marker::Model;
 use task_links::{Links, Node};
 use task_machine::NoMemory;
-use task_wait::put_in_order;
 
 /// Where a thread or a subtask comes in the order of the resource table's places. Seats are ordered by the place of the
 /// task, then of the thread, then by the place in the table of their kind.
@@ -33,18 +35,145 @@ fn comes_first<P: Copy + Ord>(links: &Links<P>, chain: usize, value: P) -> bool
     }
 }
 
-// Puts a free node into a live chain, where its value belongs in ascending order: in constant time where it is the
-// least or the greatest, as that of a thread is that waits again.
-fn put<P: Copy + Ord>(links: &mut Links<P>, chain: usize, node: Node, value: P)
+// Whether one value is less than another.
+fn is_less<P: Copy + Ord>(value: P, other: P) -> bool
+    ensures { result ≡ is_lt (P.cmp value other) }
+{
+    value.cmp(&other).is_lt()
+}
+
+// Whether a value is greater than the last of a live chain.
+fn comes_last<P: Copy + Ord>(links: &Links<P>, chain: usize, value: P) -> bool
+    requires { IsSome (list_of links.now chain) }
+    ensures last { result ≡ true → place_of (λ other. is_lt (P.cmp other value)) (entries links.now chain) ≡ None }
+    ensures sound { IsLinks links.now }
+{
+    match links.last(chain) {
+        Some(entry) => is_less(entry.1, value),
+        None => true,
+    }
+}
+
+// From where a value's place is looked for: the next node to be looked at, and the last that was found not to be less.
+// It is the end of the chain, unless a node of the chain is given that isn't less.
+fn begin<P: Copy + Ord>(
+    links: &Links<P>,
+    chain: usize,
+    from: Option<Node>,
+    value: P,
+) -> (Option<(Node, P)>, Option<Node>)
+    requires chain { IsSome (list_of links.now chain) }
+    requires order { IsAscending P.cmp (entries links.now chain) }
+    ensures walk { IsWalk (λ other. is_lt (P.cmp other value)) (entries links.now chain) (option_map (λ e. (e.0.index, e.1)) result.0) (option_map (λ node. node.index) result.1) }
+    ensures sound { IsLinks links.now }
+{
+    if let Some(node) = from {
+        if links.is_made(node) {
+            links.nodes_have_values(chain);
+            if let Some(link) = links.get(node) {
+                let there = link.0;
+                if there == chain {
+                    if is_less(link.1, value) {
+                        return (links.last(chain), None);
+                    }
+                    let before = links.previous(node);
+                    return (before, Some(node));
+                }
+            }
+        }
+    }
+    (links.last(chain), None)
+}
+
+// The node before which a value is put: the first after which, itself among them, none is less.
+fn place<P: Copy + Ord>(
+    links: &Links<P>,
+    chain: usize,
+    from: Option<Node>,
+    value: P,
+) -> Option<Node>
+    requires chain { IsSome (list_of links.now chain) }
+    requires order { IsAscending P.cmp (entries links.now chain) }
+    ensures place { option_map (λ node. node.index) result ≡ place_of (λ other. is_lt (P.cmp other value)) (entries links.now chain) }
+    ensures sound { IsLinks links.now }
+{
+    let begun = begin(links, chain, from, value);
+    let mut last = begun.0;
+    let mut place = begun.1;
+    while let Some(entry) = last {
+        if is_less(entry.1, value) {
+            return place;
+        }
+        place = Some(entry.0);
+        last = links.previous(entry.0);
+    }
+    place
+}
+
+// Puts a free node into a live chain, where its value belongs, which is looked for from a node on that isn't less, or
+// from the end.
+fn put_between<P: Copy + Ord>(
+    links: &mut Links<P>,
+    chain: usize,
+    from: Option<Node>,
+    node: Node,
+    value: P,
+)
     requires chain { IsSome (list_of links.old chain) }
     requires free { is_free links.old node.index ≡ true }
-    ensures links { links.new ≡ linked chain node.index value (seated P.cmp (node.index, value) (entries links.old chain)) links.old }
-    ensures order { IsAscending P.cmp (entries links.old chain) → IsAscending P.cmp (entries links.new chain) }
+    requires order { IsAscending P.cmp (entries links.old chain) }
+    ensures links { links.new ≡ linked chain node.index value (placed P.cmp (node.index, value) (entries links.old chain)) links.old }
+    ensures order { IsAscending P.cmp (entries links.new chain) }
+{
+    match place(links, chain, from, value) {
+        Some(at) => links.insert_before(at, node, value),
+        None => links.push_back(chain, node, value),
+    }
+}
+
+// Takes a node out of the chain that it is in, if it is in one.
+#[inline(always)]
+fn take_out(links: &mut Links<Seat>, guides: &mut Guides, node: Node)
+    requires { is_made links.old node.index ≡ true }
+    ensures { links.new ≡ removed node.index links.old }
+{
+    if links.remove(node).is_some() {
+        guides.leave(node);
+    }
+}
+
+// Puts a free node into a live chain, if its value belongs at one of the ends, as that of a thread does that waits again.
+#[inline(always)]
+fn put_at_end<P: Copy + Ord>(links: &mut Links<P>, chain: usize, node: Node, value: P) -> bool
+    requires chain { IsSome (list_of links.old chain) }
+    requires free { is_free links.old node.index ≡ true }
+    requires order { IsAscending P.cmp (entries links.old chain) }
+    ensures links { links.new ≡ (if result then linked chain node.index value (seated P.cmp (node.index, value) (entries links.old chain)) links.old else links.old) }
+    ensures order { IsAscending P.cmp (entries links.new chain) }
+    ensures between { result ≡ false → comes_first P.cmp value (head_of (entries links.old chain)) ≡ false }
 {
     if comes_first(links, chain, value) {
         links.push_front(chain, node, value);
-    } else {
-        put_in_order(links, chain, node, value);
+        return true;
+    }
+    if comes_last(links, chain, value) {
+        links.push_back(chain, node, value);
+        return true;
+    }
+    false
+}
+
+// Puts a free node into a live chain, where its seat belongs.
+#[inline(always)]
+fn put(links: &mut Links<Seat>, guides: &Guides, chain: usize, node: Node, seat: Seat)
+    requires chain { IsSome (list_of links.old chain) }
+    requires free { is_free links.old node.index ≡ true }
+    requires order { IsAscending seat_order (entries links.old chain) }
+    ensures links { links.new ≡ linked chain node.index seat (seated seat_order (node.index, seat) (entries links.old chain)) links.old }
+    ensures order { IsAscending seat_order (entries links.new chain) }
+{
+    if !put_at_end(links, chain, node, seat) {
+        put_between(links, chain, guides.near(chain, seat), node, seat);
     }
 }
 
@@ -52,6 +181,7 @@ fn put<P: Copy + Ord>(links: &mut Links<P>, chain: usize, node: Node, value: P)
 #[derive(Drop)]
 pub struct SeatLinks {
     links: Links<Seat>,
+    guides: Guides,
 }
 
 impl Model for SeatLinks {
@@ -74,6 +204,7 @@ impl SeatLinks {
     {
         SeatLinks {
             links: Links::new(alloc),
+            guides: Guides::new(alloc),
         }
     }
 
@@ -92,7 +223,13 @@ impl SeatLinks {
         ensures made { IfOk result (λ node. Renames self.old self.new node.index Unmade FreeNode) }
         ensures err { OnErr result (self.new ≡ self.old) }
     {
-        self.links.make_node()
+        match self.links.make_node() {
+            Ok(node) => {
+                self.guides.add(node);
+                Ok(node)
+            }
+            Err(why) => Err(why),
+        }
     }
 
     /// Drops a live chain that is empty.
@@ -110,6 +247,7 @@ impl SeatLinks {
         requires { is_free self.old node.index ≡ true }
         ensures { Renames self.old self.new node.index FreeNode Unmade }
     {
+        self.guides.forget(node);
         self.links.drop_node(node);
     }
 
@@ -134,19 +272,20 @@ impl SeatLinks {
         ensures { self.new ≡ removed node.index self.old }
     {
         self.links.no_node_is_twice();
-        self.links.remove(node);
+        take_out(&mut self.links, &mut self.guides, node);
     }
 
     /// Puts a node into a chain, where its seat belongs; it leaves the chain that it was in. Where its seat is the
-    /// least or the greatest of the chain, that takes constant time.
+    /// least or the greatest of the chain, that takes constant time, else logarithmic time.
     pub fn file(&mut self, node: Node, chain: usize, seat: Seat)
         requires made { is_made self.old node.index ≡ true }
         requires live { IsSome (list_of self.old chain) }
         ensures { Refiles self.old self.new node.index (Some (chain, seat)) }
     {
         self.links.no_node_is_twice();
-        self.links.remove(node);
-        put(&mut self.links, chain, node, seat);
+        take_out(&mut self.links, &mut self.guides, node);
+        put(&mut self.links, &self.guides, chain, node, seat);
+        self.guides.enter(node, chain, seat);
     }
 
     /// The first node of a live chain and its seat, which is the least. `None` where the chain is empty.

@@ -7,20 +7,24 @@ use Rattle.task_links.specs.Links.{is_made, list_of}
 
 pub put-requires-clause-chain : goal.put-requires-clause-chain
 put-requires-clause-chain c =
-    (Refiles-removed c.self.inside.links c.remove.new.self c.args.node.index c.no_node_is_twice.ensures (subst (λ l. is_made l c.args.node.index ≡ true) (sym c.self.view_is) c.requires.made) c.remove.ensures.links).live c.args.chain (subst (λ l. IsSome (list_of l c.args.chain)) (sym c.self.view_is) c.requires.live)
+    (Refiles-removed c.self.inside.links c.take_out.new.links c.args.node.index c.no_node_is_twice.ensures (subst (λ l. is_made l c.args.node.index ≡ true) (sym c.self.view_is) c.requires.made) c.take_out.ensures).live c.args.chain (subst (λ l. IsSome (list_of l c.args.chain)) (sym c.self.view_is) c.requires.live)
 
 pub put-requires-clause-free : goal.put-requires-clause-free
 put-requires-clause-free c =
-    refiled_free c.self.inside.links c.remove.new.self c.args.node.index (subst (λ l. is_made l c.args.node.index ≡ true) (sym c.self.view_is) c.requires.made) (Refiles-removed c.self.inside.links c.remove.new.self c.args.node.index c.no_node_is_twice.ensures (subst (λ l. is_made l c.args.node.index ≡ true) (sym c.self.view_is) c.requires.made) c.remove.ensures.links)
+    refiled_free c.self.inside.links c.take_out.new.links c.args.node.index (subst (λ l. is_made l c.args.node.index ≡ true) (sym c.self.view_is) c.requires.made) (Refiles-removed c.self.inside.links c.take_out.new.links c.args.node.index c.no_node_is_twice.ensures (subst (λ l. is_made l c.args.node.index ≡ true) (sym c.self.view_is) c.requires.made) c.take_out.ensures)
+
+pub put-requires-clause-order : goal.put-requires-clause-order
+put-requires-clause-order c =
+    AreOrdered-removed c.self.inside.links c.take_out.new.links c.args.node.index c.no_node_is_twice.ensures (subst (λ l. is_made l c.args.node.index ≡ true) (sym c.self.view_is) c.requires.made) c.take_out.ensures c.self.invariant c.args.chain
 
 pub invariant_of-self : goal.invariant_of-self
 invariant_of-self c =
-    let out = Refiles-removed c.self.inside.links c.remove.new.self c.args.node.index c.no_node_is_twice.ensures (subst (λ l. is_made l c.args.node.index ≡ true) (sym c.self.view_is) c.requires.made) c.remove.ensures.links in
-    AreOrdered-linked c.remove.new.self c.put.new.links c.args.node.index c.args.chain c.args.seat _ (out.live c.args.chain (subst (λ l. IsSome (list_of l c.args.chain)) (sym c.self.view_is) c.requires.live)) (out.made c.args.node.index (subst (λ l. is_made l c.args.node.index ≡ true) (sym c.self.view_is) c.requires.made)) c.put.ensures.links c.put.ensures.order
-    (AreOrdered-removed c.self.inside.links c.remove.new.self c.args.node.index c.no_node_is_twice.ensures (subst (λ l. is_made l c.args.node.index ≡ true) (sym c.self.view_is) c.requires.made) c.remove.ensures.links c.self.invariant)
+    let out = Refiles-removed c.self.inside.links c.take_out.new.links c.args.node.index c.no_node_is_twice.ensures (subst (λ l. is_made l c.args.node.index ≡ true) (sym c.self.view_is) c.requires.made) c.take_out.ensures in
+    AreOrdered-linked c.take_out.new.links c.put.new.links c.args.node.index c.args.chain c.args.seat _ (out.live c.args.chain (subst (λ l. IsSome (list_of l c.args.chain)) (sym c.self.view_is) c.requires.live)) (out.made c.args.node.index (subst (λ l. is_made l c.args.node.index ≡ true) (sym c.self.view_is) c.requires.made)) c.put.ensures.links (λ _. c.put.ensures.order)
+    (AreOrdered-removed c.self.inside.links c.take_out.new.links c.args.node.index c.no_node_is_twice.ensures (subst (λ l. is_made l c.args.node.index ≡ true) (sym c.self.view_is) c.requires.made) c.take_out.ensures c.self.invariant)
 
 pub returns : goal.returns
 returns c =
-    let out = Refiles-removed c.self.inside.links c.remove.new.self c.args.node.index c.no_node_is_twice.ensures (subst (λ l. is_made l c.args.node.index ≡ true) (sym c.self.view_is) c.requires.made) c.remove.ensures.links in
-    subst (λ l. Refiles l c.put.new.links c.args.node.index (Some (c.args.chain, c.args.seat))) c.self.view_is (Refiles-twice c.self.inside.links c.remove.new.self c.put.new.links c.args.node.index None (Some (c.args.chain, c.args.seat)) out
-    (Refiles-linked c.remove.new.self c.put.new.links c.args.chain c.args.node.index c.args.seat _ (out.live c.args.chain (subst (λ l. IsSome (list_of l c.args.chain)) (sym c.self.view_is) c.requires.live)) (out.made c.args.node.index (subst (λ l. is_made l c.args.node.index ≡ true) (sym c.self.view_is) c.requires.made)) c.put.ensures.links))
+    let out = Refiles-removed c.self.inside.links c.take_out.new.links c.args.node.index c.no_node_is_twice.ensures (subst (λ l. is_made l c.args.node.index ≡ true) (sym c.self.view_is) c.requires.made) c.take_out.ensures in
+    subst (λ l. Refiles l c.put.new.links c.args.node.index (Some (c.args.chain, c.args.seat))) c.self.view_is (Refiles-twice c.self.inside.links c.take_out.new.links c.put.new.links c.args.node.index None (Some (c.args.chain, c.args.seat)) out
+    (Refiles-linked c.take_out.new.links c.put.new.links c.args.chain c.args.node.index c.args.seat _ (out.live c.args.chain (subst (λ l. IsSome (list_of l c.args.chain)) (sym c.self.view_is) c.requires.live)) (out.made c.args.node.index (subst (λ l. is_made l c.args.node.index ≡ true) (sym c.self.view_is) c.requires.made)) c.put.ensures.links))

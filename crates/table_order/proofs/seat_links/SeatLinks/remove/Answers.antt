@@ -4,4 +4,4 @@ use Rattle.table_order.proofs.OrderedLemmas.{AreOrdered-removed}
 use Rattle.table_order.proofs.seat_links.SeatLinks.remove.Goals as goal
 
 pub invariant_of-self : goal.invariant_of-self
-invariant_of-self c = AreOrdered-removed c.self.inside.links c.remove.new.self c.args.node.index c.no_node_is_twice.ensures (subst (λ l. is_made l c.args.node.index ≡ true) (sym c.self.view_is) c.requires) c.remove.ensures.links c.self.invariant
+invariant_of-self c = AreOrdered-removed c.self.inside.links c.take_out.new.links c.args.node.index c.no_node_is_twice.ensures (subst (λ l. is_made l c.args.node.index ≡ true) (sym c.self.view_is) c.requires) c.take_out.ensures c.self.invariant
