@@ -1,5 +1,5 @@
 //! Labels into their kinds and numbers.
-ghost use Rattle.std.specs.Prelude.{◌≡◌, ◌≤◌, true, [], ◌∷◌, ◌++◌, OnOk, OnErr, length};
+ghost use Rattle.std.specs.Prelude.{◌≡◌, ◌<◌, ◌≤◌, true, [], ◌∷◌, ◌++◌, OnOk, OnErr, length, vec_capacity, vec_len};
 ghost use Rattle.label_trace.specs.Opened.{all, has_first, opened};
 
 use crate::kinds::{
@@ -12,6 +12,18 @@ use task_machine::{
     CallLabel, DataLabel, Given, Label, LoopLabel, MainLabel, Mark, OwnEvent, SetLabel, TakeLabel,
     TaskLabel, ThreadLabel,
 };
+
+// Makes room for one head more. Mostly it is there.
+#[inline(always)]
+fn make_room(heads: &mut Vec<Head>) -> Result<(), AllocError>
+    ensures items { heads.new.items ≡ heads.old.items }
+    ensures room { OnOk result (vec_len heads.new < vec_capacity heads.new) }
+{
+    if heads.len() < heads.capacity() {
+        return Ok(());
+    }
+    heads.reserve(1)
+}
 
 // Adds a few numbers, one by one.
 #[inline(always)]
@@ -34,7 +46,7 @@ impl Trace {
         ensures ok { OnOk result (self.new ≡ self.old ++ opened kind small numbers.now (all small numbers.now) ∷ []) }
         ensures err { OnErr result (self.new ≡ self.old) }
     {
-        self.heads.reserve(1)?;
+        make_room(&mut self.heads)?;
         add(&mut self.numbers, numbers)?;
         self.heads.push_reserved(Head {
             kind,
@@ -222,6 +234,7 @@ impl Trace {
         }
     }
 
+    #[inline(always)]
     pub(crate) fn push_data(&mut self, label: DataLabel) -> Result<(), AllocError>
         ensures ok { OnOk result (self.new ≡ self.old ++ Label.Data label ∷ []) }
         ensures err { OnErr result (self.new ≡ self.old) }

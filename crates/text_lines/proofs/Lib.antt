@@ -7,3 +7,4 @@ pub mod LineForms
 pub mod OpLaws
 pub mod CallLaws
 pub mod LineLaws
+mod TenPowers

@@ -85,6 +85,12 @@ digits_read word i v le lt h e =
     let below : ltb (digits_value 10 word) (2 ^ 64) ≡ true = lt-ltb _ _ (omega (arith, lt, value)) in
     rw (digits, below) (ap (λ n. Some n) value)
 
+pub digits_told : (word : List ℕ) (v : ℕ) → digits_at word ≡ Some v → (list_all is_ascii_digit word ≡ true) × (digits_value 10 word ≡ v)
+unfolding digits_at
+digits_told word v e =
+    let g = guarded (list_all is_ascii_digit word && ltb (digits_value 10 word) (2 ^ 64)) (digits_value 10 word) v e in
+    ((and_parts (list_all is_ascii_digit word) _ g.0).0, g.1)
+
 pub number_takes : (word : List ℕ) (n : ℕ) → number_at word ≡ Some n → (word ≡ decimal n) × (n < 2 ^ 64)
 unfolding number_at
 number_takes word n e =

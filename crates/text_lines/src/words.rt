@@ -1,5 +1,5 @@
 //! The words of a line, one by one.
-ghost use Rattle.std.specs.Prelude.{◌≡◌, ◌≢◌, ◌≤◌, ℕ, decimal, IfSome, MatchOption};
+ghost use Rattle.std.specs.Prelude.{◌≡◌, ◌≢◌, ◌≤◌, ℕ, decimal, length, IfSome, MatchOption};
 ghost use Rattle.std.specs.Char.{is_ascii_digit};
 ghost use Rattle.std.specs.List.{list_all};
 ghost use Rattle.text_lines.specs.Words.{digits_at, number_at, bounded_at, register_up_to, register_at, operand_at, idle_at, kind_at, is_name_byte, is_name};
@@ -9,9 +9,27 @@ use task_machine::{ExportKind, IdleLine, Operand, Seq};
 /// A name: 1 to 16 of `a` to `z`, `0` to `9` and `_`, a letter first.
 pub type Name = Seq<u8>;
 
-// The number that digits write, where it is below 2^64.
+// The number that at most 19 digits write: it is below 10^19, and so is what is read on the way.
+#[inline(always)]
 #[tactic(auto, unfolding(crate::specs::Words::digits_at))]
-fn digits(word: &[u8]) -> Option<u64>
+fn short_digits(word: &[u8]) -> Option<u64>
+    requires { length word.now ≤ 19 }
+    ensures { result ≡ digits_at word.now }
+{
+    let mut value: u64 = 0;
+    for b in word {
+        if !b.is_ascii_digit() {
+            return None;
+        }
+        value = value * 10 + u64::from(*b - b'0');
+    }
+    Some(value)
+}
+
+// The number that digits write, where it is below 2^64, by tests at each digit.
+#[inline(never)]
+#[tactic(auto, unfolding(crate::specs::Words::digits_at))]
+fn long_digits(word: &[u8]) -> Option<u64>
     ensures { result ≡ digits_at word.now }
 {
     let mut value: u64 = 0;
@@ -21,6 +39,30 @@ fn digits(word: &[u8]) -> Option<u64>
         }
         value = value.checked_mul(10)?.checked_add(u64::from(*b - b'0'))?;
     }
+    Some(value)
+}
+
+// The number that digits write, where it is below 2^64. Most have at most 20 digits: only the last of so many is tested.
+#[inline(always)]
+#[tactic(auto, unfolding(crate::specs::Words::digits_at))]
+fn digits(word: &[u8]) -> Option<u64>
+    ensures { result ≡ digits_at word.now }
+{
+    if word.len() < 20 {
+        return short_digits(word);
+    }
+    if word.len() > 20 || !word[19].is_ascii_digit() {
+        return long_digits(word);
+    }
+    let Some(front) = short_digits(&word[..19]) else {
+        return long_digits(word);
+    };
+    let Some(tens) = front.checked_mul(10) else {
+        return long_digits(word);
+    };
+    let Some(value) = tens.checked_add(u64::from(word[19] - b'0')) else {
+        return long_digits(word);
+    };
     Some(value)
 }
 
