@@ -4,4 +4,4 @@
 
 mod laws;
 
-pub use laws::{main_at_its_turns, takings_at_their_turns};
+pub use laws::{main_at_its_turns, takings_show_marks};
