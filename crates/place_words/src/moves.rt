@@ -174,9 +174,9 @@ pub(crate) fn put(
     }
 }
 
-/// The thread has come to another point of its op, where it is. An id that names no thread changes nothing.
-#[inline(always)]
-pub(crate) fn put_there(parts: &mut CoreParts, id: ThreadId, how_far: HowFar, awaited: u32)
+// The thread has come to another point of its op, where it is, which may be where a set counts it.
+#[inline(never)]
+fn put_there_counted(parts: &mut CoreParts, id: ThreadId, how_far: HowFar, awaited: u32)
     requires sound { IsSound parts.old }
     requires how_far { AtPlace (parts_of parts.old) awaited (how_far_target how_far) }
     ensures sound { IsSound parts.new }
@@ -189,6 +189,29 @@ pub(crate) fn put_there(parts: &mut CoreParts, id: ThreadId, how_far: HowFar, aw
         write_point(&mut parts.threads, id, how_far, awaited);
         one_less(&mut parts.sets, from);
         one_more(&mut parts.sets, to);
+    }
+}
+
+/// The thread has come to another point of its op, where it is: no set counts a thread that runs. An id that names no
+/// thread changes nothing.
+#[inline(always)]
+pub(crate) fn put_there(parts: &mut CoreParts, id: ThreadId, how_far: HowFar, awaited: u32)
+    requires sound { IsSound parts.old }
+    requires how_far { AtPlace (parts_of parts.old) awaited (how_far_target how_far) }
+    ensures sound { IsSound parts.new }
+    ensures new { seen parts.new ≡ on_core (set_how_far (thread_of (seen parts.old) id) how_far) (seen parts.old) }
+{
+    if let Some(found) = task_records::thread(parts, id) {
+        match found.thread.place {
+            Place::Running => {
+                let from = no_set(parts);
+                let to = no_set(parts);
+                write_point(&mut parts.threads, id, how_far, awaited);
+                one_less(&mut parts.sets, from);
+                one_more(&mut parts.sets, to);
+            }
+            _ => put_there_counted(parts, id, how_far, awaited),
+        }
     }
 }
 
@@ -228,9 +251,9 @@ pub(crate) fn put_stand(
     }
 }
 
-/// The thread is about to begin the op at this position. An id that names no thread changes nothing.
-#[inline(always)]
-pub(crate) fn put_op(parts: &mut CoreParts, id: ThreadId, position: u32)
+// The thread is about to begin the op at this position, and may be where a set counts it.
+#[inline(never)]
+fn put_op_counted(parts: &mut CoreParts, id: ThreadId, position: u32)
     requires { IsSound parts.old }
     ensures sound { IsSound parts.new }
     ensures new { seen parts.new ≡ on_core (on_thread (thread_of (seen parts.old) id) (to_op position)) (seen parts.old) }
@@ -242,6 +265,28 @@ pub(crate) fn put_op(parts: &mut CoreParts, id: ThreadId, position: u32)
         write_op(&mut parts.threads, id, position);
         one_less(&mut parts.sets, from);
         one_more(&mut parts.sets, to);
+    }
+}
+
+/// The thread is about to begin the op at this position: no set counts a thread that runs. An id that names no thread
+/// changes nothing.
+#[inline(always)]
+pub(crate) fn put_op(parts: &mut CoreParts, id: ThreadId, position: u32)
+    requires { IsSound parts.old }
+    ensures sound { IsSound parts.new }
+    ensures new { seen parts.new ≡ on_core (on_thread (thread_of (seen parts.old) id) (to_op position)) (seen parts.old) }
+{
+    if let Some(found) = task_records::thread(parts, id) {
+        match found.thread.place {
+            Place::Running => {
+                let from = no_set(parts);
+                let to = no_set(parts);
+                write_op(&mut parts.threads, id, position);
+                one_less(&mut parts.sets, from);
+                one_more(&mut parts.sets, to);
+            }
+            _ => put_op_counted(parts, id, position),
+        }
     }
 }
 

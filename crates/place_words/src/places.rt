@@ -109,20 +109,6 @@ fn queue(parts: &mut CoreParts, thread: ThreadId, mark: Mark, why: WhyId)
     );
 }
 
-// The thread is under the other one from now on.
-#[inline(never)]
-fn go_under(parts: &mut CoreParts, thread: ThreadId, callee: ThreadId)
-    requires { IsSound parts.old }
-    ensures sound { IsSound parts.new }
-    ensures new { seen parts.new ≡ on_core (set_place (thread_of (seen parts.old) thread) (places.Under (thread_of (seen parts.old) callee))) (seen parts.old) }
-{
-    let named = Place::Under {
-        callee: number(parts, callee),
-    };
-    let chain = under_chain(parts, callee);
-    put(parts, thread, named, callee.rep(), chain);
-}
-
 /// The thread is suspended from now on.
 #[inline(always)]
 pub fn suspend(parts: &mut CoreParts, thread: ThreadId)
@@ -158,7 +144,6 @@ pub fn set_place(parts: &mut CoreParts, thread: ThreadId, place: PlaceId)
     match place {
         PlaceId::Running => run(parts, thread),
         PlaceId::Ready { mark, why } => queue(parts, thread, mark, why),
-        PlaceId::Under(callee) => go_under(parts, thread, callee),
         other => put_at(parts, thread, other),
     }
 }
@@ -177,6 +162,20 @@ fn stand_anywhere(parts: &mut CoreParts, thread: ThreadId, place: PlaceId, how_f
         let chain = chain_at(parts, instance, place);
         put_stand(parts, thread, named, beside, point, awaited, chain);
     }
+}
+
+// The thread is under the other one, and at any point of its op, from now on.
+#[inline(never)]
+fn stand_under(parts: &mut CoreParts, thread: ThreadId, callee: ThreadId, how_far: HowFarId)
+    requires { IsSound parts.old }
+    ensures sound { IsSound parts.new }
+    ensures new { seen parts.new ≡ on_core (on_thread (thread_of (seen parts.old) thread) (to_stand (places.Under (thread_of (seen parts.old) callee)) (how_far_in (seen parts.old).tags how_far))) (seen parts.old) }
+{
+    let called = number(parts, callee);
+    let chain = under_chain(parts, callee);
+    let (point, awaited) = named_how_far(parts, how_far);
+    let place = Place::Under { callee: called };
+    put_stand(parts, thread, place, callee.rep(), point, awaited, chain);
 }
 
 // The thread is at a place where it is in no chain, and at any point of its op, from now on.
@@ -211,6 +210,7 @@ pub fn stand_at(parts: &mut CoreParts, thread: ThreadId, place: PlaceId, how_far
             let (why, beside) = named_why(parts, why);
             stand_unchained(parts, thread, Place::Ready { mark, why }, beside, how_far);
         }
+        PlaceId::Under(callee) => stand_under(parts, thread, callee, how_far),
         other => stand_anywhere(parts, thread, other, how_far),
     }
 }
