@@ -113,6 +113,13 @@ placed g p beside = record g { thread = record g.thread { place = p }; beside = 
 abbrev pub arrived : GuestThread → HowFar → ℕ → GuestThread
 arrived g h awaited = record g { thread = record g.thread { how_far = h }; awaited = awaited }
 
+-- a thread at another place, that has come to another point of its op
+abbrev pub to_stand : Place → HowFar → Thread → Thread
+to_stand p h t = record t { place = p; how_far = h }
+
+abbrev pub standing : GuestThread → Place → (beside : ℕ) → HowFar → (awaited : ℕ) → GuestThread
+standing g p beside h awaited = record g { thread = to_stand p h g.thread; beside = beside; awaited = awaited }
+
 -- a thread with these registers
 abbrev pub with_registers : (registers : List ℕ) → Thread → Thread
 with_registers rs t = record t { registers = rs }
