@@ -1,5 +1,5 @@
 //! The turns of a run in which main has no part.
-ghost use Rattle.std.specs.Prelude.{◌≡◌, ◌≤◌, IfOk, None, Some, false, OnOk};
+ghost use Rattle.std.specs.Prelude.{◌≡◌, ◌≤◌, IfOk, None, Some, false, OnErr, OnOk};
 ghost use Rattle.task_laws.specs.Order.{WorksQueued};
 ghost use Rattle.task_machine.specs.Core.{Main};
 ghost use Rattle.task_machine.specs.Read.{next_entry};
@@ -10,7 +10,7 @@ ghost use Rattle.task_rules.specs.Stalled.{Setting, is_unended_take};
 ghost use Rattle.task_rules.specs.Works.{next_polled};
 ghost use Rattle.task_turns.specs.Later.{SameWorks};
 ghost use Rattle.task_turns.specs.WellFormed.{IsWellFormed};
-ghost use Rattle.task_turns.specs.Drive.{KeepsOn};
+ghost use Rattle.task_turns.specs.Drive.{Computes, KeepsOn, StopsShort};
 ghost use Rattle.task_turns.specs.Turn.{IsAtTurn, PendsIn, Sits, TurnedBeside, Turns, idle_line_of, running_of, runs_in, state_at};
 ghost use Rattle.task_words.specs.StateView.{work_of};
 
@@ -92,6 +92,8 @@ pub fn compute<W: Words>(
     requires few { added ≤ steps }
     ensures few { IfOk result (λ k. (added ≤ k) × (k ≤ steps)) }
     ensures on { IfOk result (λ k. KeepsOn component.now turn (W.view w.old) trace.old added (W.view w.new) trace.new k) }
+    ensures computes { IfOk result (λ k. Computes component.now turn (W.view w.old) trace.old added (W.view w.new) trace.new k) }
+    ensures err { OnErr result (StopsShort component.now turn (W.view w.old) trace.old added trace.new steps) }
     ensures works { SameWorks (W.view w.old) (W.view w.new) }
 {
     if !matches!(last, Label::Data(_)) {
