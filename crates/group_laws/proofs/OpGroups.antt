@@ -2,27 +2,11 @@
 use Rattle.group_laws.proofs.CallGroups.{calls_quiet}
 use Rattle.group_laws.proofs.EndGroups.{ends_less}
 use Rattle.group_laws.proofs.MoveGroups.{Mild, mild_call, mild_cancel, mild_check, mild_end, mild_flag, mild_instance, mild_place, mild_put_high, mild_put_low, mild_release, mild_return, mild_same, mild_shut, mild_stop, mild_then}
-use Rattle.group_laws.proofs.RowParts.{advanced_groups, assigned_groups, quiet_may, quiet_or_trap, quiet_trap_if}
+use Rattle.group_laws.proofs.RowParts.{advanced_groups, quiet_may, quiet_or_trap, quiet_trap_if}
 use Rattle.group_laws.proofs.SetGroups.{set_quiet, thread_quiet}
-use Rattle.group_laws.specs.Groups.{OneLess, Spares, is_silent, stake, stake_of}
-use Rattle.task_rules.proofs.Machine.{Bool, Call, CallEnd, Choice, Component, Core, DataOp, ExportKind, Label, List, None, Op, Option, Set, Some, Sync, TaskLabel, TaskOp, Thread, backpressure_of, blocking_exit_row, blocking_exits, cancel_was_delivered, cancelled, checked, code_exits, code_finds, code_kind_row, code_row, code_stops, code_wait_row, code_waits, code_yields, data_row, did, direct_exit_to, direct_exits, end_reopens, exit_label, exit_restores, exit_row_for, exit_stops, false, foot_of, goal_of, has_ended, has_event_for, held_by_flag, implicit_exit_row, inl, instance_of, is_async_lifted, is_direct, is_explicit, kind_exit_row, kind_of, leaves_no_result, may_tell, moved_to, nat_le, nat_lt, not, on_instance, on_thread, op_of, op_row, passes_after_return, passes_after_stop, passes_check, refl, register_of, returned, set_at, set_backpressure, set_do_not_enter, set_how_far, set_own_event, set_place, set_position, set_word, skip_row, skipped, stored, suc, sync_exit_row, sync_exits, task_of, thread_exit_row, thread_group, true, under_of, value_of, woken, zero, ℕ, ◌%◌, ◌*◌, ◌+◌, ◌/◌, ◌==◌, ◌∙◌, ◌≡◌}
+use Rattle.group_laws.specs.Groups.{OneLess, Spares, is_silent, stake_of}
+use Rattle.task_rules.proofs.Machine.{Bool, Call, CallEnd, Choice, Component, Core, ExportKind, Label, List, None, Op, Option, Set, Some, Sync, TaskLabel, TaskOp, Thread, backpressure_of, blocking_exit_row, blocking_exits, cancel_was_delivered, cancelled, checked, code_exits, code_finds, code_kind_row, code_row, code_stops, code_wait_row, code_waits, code_yields, direct_exit_to, direct_exits, end_reopens, exit_label, exit_restores, exit_row_for, exit_stops, false, foot_of, goal_of, has_ended, has_event_for, held_by_flag, implicit_exit_row, inl, instance_of, is_async_lifted, is_direct, is_explicit, kind_exit_row, kind_of, leaves_no_result, may_tell, nat_le, nat_lt, not, on_thread, op_row, passes_after_return, passes_after_stop, passes_check, refl, register_of, returned, set_at, set_backpressure, set_do_not_enter, set_how_far, set_own_event, set_place, suc, sync_exit_row, sync_exits, task_of, thread_exit_row, thread_group, true, under_of, value_of, woken, zero, ℕ, ◌%◌, ◌*◌, ◌+◌, ◌/◌, ◌∙◌, ◌≡◌}
 use Rattle.task_rules.specs.Task.{dec_from, dec_lowers, dec_opens, inc_raises, inc_row, ret_done, ret_row, task_cancel_done, task_cancel_row, task_row}
-
--- ---- Registers and words
-
-skip_quiet : (g : ℕ) (c : Component) (n k : ℕ) (s : Core) (b : Bool) → Spares g s.groups (skip_row c n k s b)
-unfolding skipped moved_to set_how_far set_position on_thread
-skip_quiet g c n k s true = (refl, inl refl)
-skip_quiet g c n k s false = (refl, inl (advanced_groups n s))
-
-data_quiet : (g : ℕ) (c : Component) (n : ℕ) (s : Core) (o : DataOp) → Spares g s.groups (data_row c n s o)
-unfolding stored set_word on_instance
-data_quiet g c n s (DataOp.Set r x) = (refl, inl (assigned_groups n r _ s))
-data_quiet g c n s (DataOp.Add r x) = (refl, inl (assigned_groups n r _ s))
-data_quiet g c n s (DataOp.Handle r x) = (refl, inl (assigned_groups n r _ s))
-data_quiet g c n s (DataOp.Load r w) = (refl, inl (assigned_groups n r _ s))
-data_quiet g c n s (DataOp.Store w x) = (refl, inl (advanced_groups n _))
-data_quiet g c n s (DataOp.SkipEq x y k) = skip_quiet g c n k s (value_of n s x == value_of n s y)
 
 -- ---- Ends
 
@@ -182,14 +166,14 @@ task_quiet n s ch TaskOp.BpDec = dec_quiet (thread_group n s) n s (backpressure_
 
 -- ---- Each op
 
-op_quiet : (c : Component) (n : ℕ) (s : Core) (ch : Choice) (o : Op) → Spares (stake_of n s o) s.groups (op_row c n s ch o)
-op_quiet c n s ch (Op.Data o) = data_quiet (thread_group n s) c n s o
-op_quiet c n s ch (Op.Task o) = task_quiet n s ch o
-op_quiet c n s ch (Op.Set o) = set_quiet (thread_group n s) n s ch o
-op_quiet c n s ch (Op.Call o) = calls_quiet c n s o
-op_quiet c n s ch (Op.Thread o) = thread_quiet (thread_group n s) c n s o
+-- the op is on registers and words
+abbrev pub is_plain : Op → Bool
+is_plain (Op.Data o) = true
+is_plain _ = false
 
--- what the running thread does next finishes the group at stake or none, and its label tells groups nothing
-pub did_quiet : (c : Component) (n : ℕ) (s : Core) (ch : Choice) → Spares (stake c n s) s.groups (did c n s ch)
-unfolding did stake
-did_quiet c n s ch = op_quiet c n s ch (op_of c n s)
+pub op_quiet : (c : Component) (n : ℕ) (s : Core) (ch : Choice) (o : Op) → is_plain o ≡ false → Spares (stake_of n s o) s.groups (op_row c n s ch o)
+op_quiet c n s ch (Op.Data o) other = absurd (cc)
+op_quiet c n s ch (Op.Task o) other = task_quiet n s ch o
+op_quiet c n s ch (Op.Set o) other = set_quiet (thread_group n s) n s ch o
+op_quiet c n s ch (Op.Call o) other = calls_quiet c n s o
+op_quiet c n s ch (Op.Thread o) other = thread_quiet (thread_group n s) c n s o

@@ -1,11 +1,12 @@
 -- What each step tells the groups.
-use Rattle.group_laws.proofs.MoveGroups.{mild_shifted}
-use Rattle.group_laws.proofs.OpGroups.{did_quiet}
+use Rattle.group_laws.proofs.DataGroups.{Plain, data_plain}
+use Rattle.group_laws.proofs.MoveGroups.{Mild, mild_shifted}
+use Rattle.group_laws.proofs.OpGroups.{op_quiet}
 use Rattle.group_laws.proofs.TakeGroups.{Still, ends_groups, host_groups, pushed_groups, thread_still}
-use Rattle.group_laws.specs.Groups.{OneLess, Spares, is_silent, is_silent_take, stake}
-use Rattle.group_laws.specs.Tells.{IsTold, NoticesTold, StepsTell, entry_group, is_main_turn, staked, worked_group}
+use Rattle.group_laws.specs.Groups.{OneLess, Spares, is_silent, is_silent_take, stake, stake_of}
+use Rattle.group_laws.specs.Tells.{IsTold, NoticesTold, StepsTell, entry_group, is_data, is_main_turn, staked, worked_group}
 use Rattle.task_machine.specs.declared.records.Notice.{Notice}
-use Rattle.task_rules.proofs.Machine.{Bool, Call, CallLabel, Component, Core, DeadlockStep, EmptyFor, Ends, Entry, Fails, FailsNow, FuturesStep, Goes, Label, List, Main, Mark, Never, None, Option, Ordered, Poll, Polled, Progress, Progresses, RestStep, Run, Setting, Some, State, Step, StillPends, Stops, Subtask, TakeLabel, TakeStep, Thread, Trap, Traps, Turn, TurnStep, [], ap, ap₂, at_turn, choice_of, did, entry_number, false, goes_to, has_moving_work, host_done, host_label, inl, inr, is_unended_take, may, may_deadlock, may_publish, next_entry, next_polled, on_work, option_and_then, place_of, poll_ends, poll_of, poll_pends, popped, refl, set_course, set_phase, set_trapped, struck, subst, sym, take_row, thread_taken, trap_label, true, woken, work_group, ℕ, ◌++◌, ◌∙◌, ◌≡◌, ◌⊎◌}
+use Rattle.task_rules.proofs.Machine.{Bool, Call, CallLabel, Component, Core, DeadlockStep, EmptyFor, Ends, Entry, Fails, FailsNow, FuturesStep, Goes, Label, List, Main, Mark, Never, None, Op, Option, Ordered, Poll, Polled, Progress, Progresses, RestStep, Run, Set, Setting, Some, State, Step, StillPends, Stops, Subtask, TakeLabel, TakeStep, Thread, Trap, Traps, Turn, TurnStep, [], ap, ap₂, at_turn, choice_of, data_row, did, entry_number, false, goes_to, has_moving_work, host_done, host_label, inl, inr, is_unended_take, may, may_deadlock, may_publish, next_entry, next_polled, on_work, op_of, op_row, option_and_then, place_of, poll_ends, poll_of, poll_pends, popped, refl, set_course, set_phase, set_trapped, struck, subst, sym, take_row, thread_group, thread_taken, trap_label, true, woken, work_group, ℕ, ◌++◌, ◌∙◌, ◌≡◌, ◌⊎◌}
 use Rattle.task_rules.proofs.PlacingLemmas.{popped_shifted}
 use Rattle.task_rules.specs.Notices.{around, finish_notices, of_live, running_group, start_notices, switch_notices, work_notices}
 use Rattle.task_rules.specs.Step.{RunStep}
@@ -13,6 +14,7 @@ use Rattle.task_rules.specs.Step.{RunStep}
 -- ---- Labels that tell groups nothing
 
 silent_starts : (l : Label) (c : Core) → is_silent l ≡ true → start_notices l c ≡ []
+silent_starts (Label.Data l) c e = refl
 silent_starts (Label.Main l) c e = absurd (cc)
 silent_starts (Label.Loop l) c e = absurd (cc)
 silent_starts _ c e = refl
@@ -23,6 +25,7 @@ take_works (TakeLabel.HostWakes m i w) c e = absurd (cc)
 take_works _ c e = refl
 
 silent_works : (l : Label) (c : Core) → is_silent l ≡ true → work_notices l c ≡ []
+silent_works (Label.Data l) c e = refl
 silent_works (Label.Main l) c e = absurd (cc)
 silent_works (Label.Loop l) c e = absurd (cc)
 silent_works (Label.Take l) c e = take_works l c e
@@ -75,6 +78,48 @@ progress_tells s base n g gs (Fails i) l t h q =
 progress_tells s base n g gs Never l t h q = absurd h
 progress_tells s base n g gs (Ordered held next) l t h q = progress_tells s base n g gs (next h.0) l t h.1.1 (q h.0)
 
+-- ---- An op on registers and words
+
+pub data_starts : (l : Label) (c : Core) → is_data l ≡ true → start_notices l c ≡ []
+data_starts (Label.Data l) c e = refl
+data_starts (Label.Main l) c e = absurd (cc)
+data_starts _ c e = refl
+
+pub data_works : (l : Label) (c : Core) → is_data l ≡ true → work_notices l c ≡ []
+data_works (Label.Data l) c e = refl
+data_works (Label.Loop l) c e = absurd (cc)
+data_works (Label.Take l) c e = absurd (cc)
+data_works _ c e = refl
+
+-- The thread runs on, and the groups stay.
+pub record RunsOn (s : State) (n : ℕ) (l : Label) (t : State) : Type 0 where
+  pub data_label : is_data l ≡ true
+  pub runs : t.turn ≡ Turn.Run n
+  pub mild : Mild s.core t.core
+
+turn_at : (s : State) (new : Core) (n : ℕ) → (goes_to s new (Turn.Run n)).turn ≡ Turn.Run n
+unfolding at_turn
+turn_at s new n = refl
+
+pub plain_runs_on : (s : State) (n : ℕ) (p : Progress) (l : Label) (t : State) → Plain n s.core p → Progresses s s.core n p l t → RunsOn s n l t
+plain_runs_on s n (Goes k new m) l t q h = record {
+  data_label = ap is_data h.0 ∙ q.0;
+  runs = ap (λ (u : State). u.turn) h.1 ∙ (ap (λ j. (goes_to s new (Turn.Run j)).turn) q.1.0 ∙ turn_at s new n);
+  mild = subst (λ (c : Core). Mild s.core c) (sym (ap (λ (u : State). u.core) h.1 ∙ core_at s new s.main (Turn.Run m))) q.1.1;
+}
+plain_runs_on s n (Stops k new) l t q h = absurd q
+plain_runs_on s n (Traps why) l t q h = absurd q
+plain_runs_on s n (Fails i) l t q h = absurd q
+plain_runs_on s n Never l t q h = absurd q
+plain_runs_on s n (Ordered held next) l t q h = absurd q
+
+runs_silently : (s : State) (n g : ℕ) (l : Label) (t : State) → RunsOn s n l t → Silently s g s.core.groups l t
+runs_silently s n g l t r = record {
+  starts = data_starts l t.core r.data_label;
+  works = data_works l s.core r.data_label;
+  groups = inr (inl r.mild.groups);
+}
+
 -- ---- The turns
 
 still_spares : (g : ℕ) (gs : List ℕ) (p : Progress) → Still gs p → Spares g gs p
@@ -94,10 +139,17 @@ module _ (c : Component) (s : State) (l : Label) (t : State) where
   }
 
   -- the running thread does its op
+  op_tells : (n : ℕ) (o : Op) → Progresses s s.core n (op_row c n s.core (choice_of l) o) l t → Silently s (stake_of n s.core o) s.core.groups l t
+  op_tells n (Op.Data o) h =
+      runs_silently s n (thread_group n s.core) l t (plain_runs_on s n (data_row c n s.core o) l t (data_plain c n s.core o) h)
+  op_tells n (Op.Task o) h = progress_tells s s.core n _ s.core.groups _ l t h (op_quiet c n s.core (choice_of l) (Op.Task o) refl)
+  op_tells n (Op.Set o) h = progress_tells s s.core n _ s.core.groups _ l t h (op_quiet c n s.core (choice_of l) (Op.Set o) refl)
+  op_tells n (Op.Call o) h = progress_tells s s.core n _ s.core.groups _ l t h (op_quiet c n s.core (choice_of l) (Op.Call o) refl)
+  op_tells n (Op.Thread o) h = progress_tells s s.core n _ s.core.groups _ l t h (op_quiet c n s.core (choice_of l) (Op.Thread o) refl)
+
   run_tells : (n : ℕ) → s.turn ≡ Turn.Run n → RunStep c s n l t → IsTold c s l t
-  run_tells n at h =
-      loud (Turn.Run n) (stake c n s.core) at refl refl
-      (progress_tells s s.core n (stake c n s.core) s.core.groups (did c n s.core (choice_of l)) l t h (did_quiet c n s.core (choice_of l)))
+  unfolding did stake
+  run_tells n at h = loud (Turn.Run n) (stake c n s.core) at refl refl (op_tells n (op_of c n s.core) h)
 
   -- a work is polled
   polled_tells : (n i : ℕ) → s.turn ≡ Turn.Futures n → next_polled n s.core ≡ Some i → (p : Poll) → Polled s i p l t → IsTold c s l t

@@ -68,14 +68,15 @@ is_silent_take (take.Host m i) = false
 is_silent_take (take.HostWakes m i w) = false
 is_silent_take _ = true
 
--- the label is no start by main, no poll of a work and no taking of a host entry
+-- the label is none of main or of the loop, no taking of a host entry, and none of an op on registers and words
 abbrev pub is_silent : Label → Bool
+is_silent (label.Data l) = false
 is_silent (label.Main l) = false
 is_silent (label.Loop l) = false
 is_silent (label.Take l) = is_silent_take l
 is_silent _ = true
 
--- What it comes to, where it goes on or stops, is told to no group by its label, and finishes this group or none.
+-- What it comes to, where it goes on or stops, shows such a label, and finishes this group or none.
 abbrev pub Spares : ℕ → List ℕ → Progress → Type 0
 Spares g gs (Goes l new m) = (is_silent l ≡ true) × OneLess g gs new.groups
 Spares g gs (Stops l new) = (is_silent l ≡ true) × OneLess g gs new.groups

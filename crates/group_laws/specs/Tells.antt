@@ -1,10 +1,12 @@
 -- What a step tells the groups, by what is asked in the turn before it.
 use Rattle.group_laws.specs.Groups.{OneLess, stake}
+use Rattle.std.specs.List.{list_all}
 use Rattle.std.specs.Prelude.{Bool, List, None, Option, Some, [], false, option_and_then, true, ℕ, ◌++◌, ◌≡◌, ◌⊎◌}
 use Rattle.task_machine.specs.Core.{Core, State}
 use Rattle.task_machine.specs.Read.{next_entry}
 use Rattle.task_machine.specs.declared.component.Component.{Component}
 use Rattle.task_machine.specs.declared.label.Label.{Label}
+use Rattle.task_machine.specs.declared.label.Label.TheVariants as label
 use Rattle.task_machine.specs.declared.records.Entry.{Entry}
 use Rattle.task_machine.specs.declared.records.Entry.TheVariants as entry
 use Rattle.task_machine.specs.declared.records.Notice.{Notice}
@@ -12,8 +14,9 @@ use Rattle.task_machine.specs.declared.records.Turn.{Turn}
 use Rattle.task_machine.specs.declared.records.Turn.TheVariants as turn
 use Rattle.task_machine.specs.declared.words.Mark.{Mark}
 use Rattle.task_rules.specs.Calls.{work_group}
-use Rattle.task_rules.specs.History.{Moment}
-use Rattle.task_rules.specs.Notices.{around, finish_notices, moment_notices, of_live, running_group, start_notices, switch_notices, work_notices}
+use Rattle.task_rules.specs.History.{Moment, history}
+use Rattle.task_rules.specs.Notices.{around, finish_notices, moment_notices, notices, of_live, running_group, start_notices, switch_notices, work_notices}
+use Rattle.task_rules.specs.Run.{Run}
 use Rattle.task_rules.specs.Stalled.{Setting}
 use Rattle.task_rules.specs.Step.{Step}
 use Rattle.task_rules.specs.Works.{next_polled}
@@ -34,11 +37,17 @@ abbrev pub staked : Component → Core → Turn → ℕ
 staked c s (turn.Run n) = stake c n s
 staked c s _ = 0
 
+-- of an op on registers and words
+abbrev pub is_data : Label → Bool
+is_data (label.Data l) = true
+is_data _ = false
+
 abbrev pub is_main_turn : Turn → Bool
 is_main_turn turn.Main = true
 is_main_turn _ = false
 
--- No group is made. What is told of a work is told of the one that the turn works on. All groups are finished, or the one at stake, or none.
+-- No group is made. What is told of a work is told of the one that the turn works on. All groups are finished, or the one at stake, or
+-- none.
 pub record IsTold (c : Component) (s : State) (l : Label) (t : State) : Type 0 where
   pub starts : start_notices l t.core ≡ []
   pub works : work_notices l s.core ≡ around (worked_group s.core s.turn)
@@ -47,6 +56,24 @@ pub record IsTold (c : Component) (s : State) (l : Label) (t : State) : Type 0 w
 -- so it is in each turn but main's
 abbrev pub StepsTell : Type 0
 StepsTell = (x : Setting) (s : State) (l : Label) (t : State) → Step x s l t → is_main_turn s.turn ≡ false → IsTold x.component s l t
+
+-- a step with such a label tells nothing, and the thread runs on
+abbrev pub DataTellsNothing : Type 0
+DataTellsNothing =
+    (x : Setting) (s : State) (l : Label) (t : State) (n : ℕ) → Step x s l t → s.turn ≡ turn.Run n → is_data l ≡ true →
+    (t.turn ≡ turn.Run n) × (moment_notices (record { before = s; label = l; after = t }) ≡ [])
+
+-- a run of such labels from a thread's turn tells nothing
+abbrev pub DataRunsTellNothing : Type 0
+DataRunsTellNothing =
+    (x : Setting) (s : State) (ls : List Label) (t : State) (n : ℕ) (run : Run x s ls t) → s.turn ≡ turn.Run n →
+    list_all is_data ls ≡ true → notices (history x s ls t run) ≡ []
+
+-- one more step, and one more run: what is told is told one after another
+abbrev pub RunsTellOn : Type 0
+RunsTellOn =
+    (x : Setting) (s : State) (ls : List Label) (m : State) (ks : List Label) (t : State) (run : Run x s ls m) (more : Run x m ks t) →
+    (both : Run x s (ls ++ ks) t) × (notices (history x s (ls ++ ks) t both) ≡ notices (history x s ls m run) ++ notices (history x m ks t more))
 
 -- the notices of such a step
 abbrev pub NoticesTold : Type 0
