@@ -113,6 +113,13 @@ placed g p beside = record g { thread = record g.thread { place = p }; beside = 
 abbrev pub arrived : GuestThread → HowFar → ℕ → GuestThread
 arrived g h awaited = record g { thread = record g.thread { how_far = h }; awaited = awaited }
 
+-- a thread at another place, that has come to another point of its op
+abbrev pub to_stand : Place → HowFar → Thread → Thread
+to_stand p h t = record t { place = p; how_far = h }
+
+abbrev pub standing : GuestThread → Place → (beside : ℕ) → HowFar → (awaited : ℕ) → GuestThread
+standing g p beside h awaited = record g { thread = to_stand p h g.thread; beside = beside; awaited = awaited }
+
 -- a thread with these registers
 abbrev pub with_registers : (registers : List ℕ) → Thread → Thread
 with_registers rs t = record t { registers = rs }
@@ -126,7 +133,14 @@ at_op g p = record g { thread = to_op p g.thread; awaited = 0 }
 
 -- a thread that begins an activation, with these words in r0, r1 and r2
 abbrev pub to_begun : (code : ℕ) → (handle : ℕ) → (status : ℕ) → Thread → Thread
-to_begun code handle status t = record t { registers = slice_set (slice_set (slice_set t.registers 0 code) 1 handle) 2 status; script = script.React; position = 0; how_far = how_far.Fresh; place = place.Running }
+to_begun code handle status t =
+  record t {
+    registers = slice_set (slice_set (slice_set t.registers 0 code) 1 handle) 2 status;
+    script = script.React;
+    position = 0;
+    how_far = how_far.Fresh;
+    place = place.Running
+  }
 
 abbrev pub begun : GuestThread → (code : ℕ) → (handle : ℕ) → (status : ℕ) → GuestThread
 begun g code handle status = record g { thread = to_begun code handle status g.thread; beside = 0; awaited = 0 }

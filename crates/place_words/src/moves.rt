@@ -1,6 +1,6 @@
 //! A thread that is written with another place.
 ghost use Rattle.std.specs.Prelude.{◌≡◌, IfSome, IsSome, None, Ok, option_and_then, option_map, true};
-ghost use Rattle.place_words.specs.Moved.{arrived, at_op, begun, placed, to_begun, to_op};
+ghost use Rattle.place_words.specs.Moved.{arrived, at_op, begun, placed, standing, to_begun, to_op, to_stand};
 ghost use Rattle.task_index.specs.Index.{Refiles};
 ghost use Rattle.task_links.specs.Links.{is_made, list_of, removed};
 ghost use Rattle.task_machine.specs.Write.{on_thread, set_how_far, set_place};
@@ -93,6 +93,25 @@ fn write_point(
 }
 
 #[inline(always)]
+fn write_stand(
+    threads: &mut ResourceTable<Single<GuestThread>>,
+    id: ThreadId,
+    place: Place,
+    beside: u32,
+    how_far: HowFar,
+    awaited: u32,
+)
+    ensures { (g : GuestThread) → Ok g ≡ item_at item_of threads.old id.rep id.serial → threads.new ≡ with_entry id.rep (entry_of (standing g place beside how_far awaited)) threads.old }
+{
+    if let Ok(entry) = threads.get_mut(id) {
+        entry.thread.place = place;
+        entry.beside = beside;
+        entry.thread.how_far = how_far;
+        entry.awaited = awaited;
+    }
+}
+
+#[inline(always)]
 fn write_op(threads: &mut ResourceTable<Single<GuestThread>>, id: ThreadId, position: u32)
     ensures { (g : GuestThread) → Ok g ≡ item_at item_of threads.old id.rep id.serial → threads.new ≡ with_entry id.rep (entry_of (at_op g position)) threads.old }
 {
@@ -155,9 +174,9 @@ pub(crate) fn put(
     }
 }
 
-/// The thread has come to another point of its op, where it is. An id that names no thread changes nothing.
-#[inline(always)]
-pub(crate) fn put_there(parts: &mut CoreParts, id: ThreadId, how_far: HowFar, awaited: u32)
+// The thread has come to another point of its op, where it is, which may be where a set counts it.
+#[inline(never)]
+fn put_there_counted(parts: &mut CoreParts, id: ThreadId, how_far: HowFar, awaited: u32)
     requires sound { IsSound parts.old }
     requires how_far { AtPlace (parts_of parts.old) awaited (how_far_target how_far) }
     ensures sound { IsSound parts.new }
@@ -173,9 +192,68 @@ pub(crate) fn put_there(parts: &mut CoreParts, id: ThreadId, how_far: HowFar, aw
     }
 }
 
-/// The thread is about to begin the op at this position. An id that names no thread changes nothing.
+/// The thread has come to another point of its op, where it is: no set counts a thread that runs. An id that names no
+/// thread changes nothing.
 #[inline(always)]
-pub(crate) fn put_op(parts: &mut CoreParts, id: ThreadId, position: u32)
+pub(crate) fn put_there(parts: &mut CoreParts, id: ThreadId, how_far: HowFar, awaited: u32)
+    requires sound { IsSound parts.old }
+    requires how_far { AtPlace (parts_of parts.old) awaited (how_far_target how_far) }
+    ensures sound { IsSound parts.new }
+    ensures new { seen parts.new ≡ on_core (set_how_far (thread_of (seen parts.old) id) how_far) (seen parts.old) }
+{
+    if let Some(found) = task_records::thread(parts, id) {
+        match found.thread.place {
+            Place::Running => {
+                let from = no_set(parts);
+                let to = no_set(parts);
+                write_point(&mut parts.threads, id, how_far, awaited);
+                one_less(&mut parts.sets, from);
+                one_more(&mut parts.sets, to);
+            }
+            _ => put_there_counted(parts, id, how_far, awaited),
+        }
+    }
+}
+
+/// The thread is at another place and at another point of its op from now on, in the chain in which it is filed there. An
+/// id that names no thread changes nothing.
+#[inline(always)]
+pub(crate) fn put_stand(
+    parts: &mut CoreParts,
+    id: ThreadId,
+    place: Place,
+    beside: u32,
+    how_far: HowFar,
+    awaited: u32,
+    chain: Option<usize>,
+)
+    requires sound { IsSound parts.old }
+    requires place { AtPlace (parts_of parts.old) beside (place_target place) }
+    requires how_far { AtPlace (parts_of parts.old) awaited (how_far_target how_far) }
+    requires chain { (g : GuestThread) → Ok g ≡ item_at item_of parts.old.threads id.rep id.serial → option_and_then (place_chain (bare (parts_of parts.old))) (where_at g.instance place) ≡ chain }
+    ensures sound { IsSound parts.new }
+    ensures new { seen parts.new ≡ on_core (on_thread (thread_of (seen parts.old) id) (to_stand place how_far)) (seen parts.old) }
+{
+    if let Some(found) = task_records::thread(parts, id) {
+        let (node, seat) = (found.node, thread_seat(id.rep(), found));
+        let from = entry_set(
+            parts,
+            &found.thread.place,
+            found.beside,
+            &found.thread.how_far,
+            found.awaited,
+        );
+        let to = entry_set(parts, &place, beside, &how_far, awaited);
+        write_stand(&mut parts.threads, id, place, beside, how_far, awaited);
+        one_less(&mut parts.sets, from);
+        one_more(&mut parts.sets, to);
+        refile(&mut parts.places, node, chain, seat);
+    }
+}
+
+// The thread is about to begin the op at this position, and may be where a set counts it.
+#[inline(never)]
+fn put_op_counted(parts: &mut CoreParts, id: ThreadId, position: u32)
     requires { IsSound parts.old }
     ensures sound { IsSound parts.new }
     ensures new { seen parts.new ≡ on_core (on_thread (thread_of (seen parts.old) id) (to_op position)) (seen parts.old) }
@@ -187,6 +265,28 @@ pub(crate) fn put_op(parts: &mut CoreParts, id: ThreadId, position: u32)
         write_op(&mut parts.threads, id, position);
         one_less(&mut parts.sets, from);
         one_more(&mut parts.sets, to);
+    }
+}
+
+/// The thread is about to begin the op at this position: no set counts a thread that runs. An id that names no thread
+/// changes nothing.
+#[inline(always)]
+pub(crate) fn put_op(parts: &mut CoreParts, id: ThreadId, position: u32)
+    requires { IsSound parts.old }
+    ensures sound { IsSound parts.new }
+    ensures new { seen parts.new ≡ on_core (on_thread (thread_of (seen parts.old) id) (to_op position)) (seen parts.old) }
+{
+    if let Some(found) = task_records::thread(parts, id) {
+        match found.thread.place {
+            Place::Running => {
+                let from = no_set(parts);
+                let to = no_set(parts);
+                write_op(&mut parts.threads, id, position);
+                one_less(&mut parts.sets, from);
+                one_more(&mut parts.sets, to);
+            }
+            _ => put_op_counted(parts, id, position),
+        }
     }
 }
 

@@ -1,7 +1,6 @@
-use Rattle.op_dispatch.proofs.CallLemmas.{awaits_at, behind_at, cancel_fresh}
-use Rattle.op_dispatch.proofs.GoesLemmas.{row_goes, same_goes}
-use Rattle.op_dispatch.proofs.SubtaskRows.{cancel_shows}
-use Rattle.op_dispatch.proofs.calls.cancels.Goals as goal
+use Rattle.cancel_ops.proofs.CancelLemmas.{awaits_at, behind_at, cancel_fresh, cancel_shows}
+use Rattle.cancel_ops.proofs.GoesLemmas.{row_goes, same_goes}
+use Rattle.cancel_ops.proofs.by_progress.cancels.Goals as goal
 use Rattle.std.proofs.Common.{subst, sym}
 use Rattle.subtask_ops.specs.Refused.{mode_of}
 use Rattle.task_machine.specs.Read.{how_far_of}

@@ -5,7 +5,7 @@ use Rattle.task_abort.specs.Cells.{view_of}
 use Rattle.task_abort.specs.PhaseLog.{first_view, split_left, split_right}
 use Rattle.task_abort.specs.Rule.{HasMet}
 use Rattle.task_abort.proofs.UseLemmas.{met_one_more}
-use Rattle.structure_tests.proofs.abort.a_pass_that_met_all_knows_all_callers.Goals as goal
+use Rattle.run_tests.proofs.abort.a_pass_that_met_all_knows_all_callers.Goals as goal
 
 pub known_callers-requires : goal.known_callers-requires
 known_callers-requires g c =
