@@ -30,4 +30,4 @@ module _ {T P H F R : Type 0} (g : Once F (MutBor (Access T P H) × Unit {0}) (R
     pub shows : shown.now.store.now ≡ s
     pub left : MutBor (Access T P H)
     pub called : g.post f (shown, tt) (r, (left, tt))
-    pub leaves : left.now.store.ghost_name ≡ shown.now.store.ghost_name → left.now.store.now ≡ t
+    pub leaves : shown.now.store.ghost_name ≡ left.now.store.ghost_name → t ≡ left.now.store.now

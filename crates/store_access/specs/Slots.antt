@@ -1,5 +1,5 @@
 -- What a slot holds, and what it gives.
-use Rattle.std.specs.Borrow.{MutBor}
+use Rattle.std.specs.Borrow.{GName, MutBor}
 use Rattle.std.specs.Prelude.{Err, None, Ok, Option, Result, Some, ⊤, ◌≡◌}
 use Rattle.store_access.specs.declared.slot.Held.{Held}
 use Rattle.store_access.specs.declared.slot.Held.TheVariants as helds
@@ -59,15 +59,15 @@ module _ {T H : Type 0} where
   MayTry helds.Taken P = P founds.Taken taken
   MayTry (helds.Store store) P = (shown : MutBor (Store T H)) → shown.now ≡ store.now → P (founds.Some shown) taken
 
-  -- the store that is left is what was left behind the reference that was found, if that is still there
-  abbrev pub Leaves : MutBor (Store T H) → TryGet T H → Store T H → Type 0
-  Leaves shown founds.None s = ⊤
-  Leaves shown founds.Taken s = ⊤
-  Leaves shown (founds.Some left) s = left.ghost_name ≡ shown.ghost_name → left.now ≡ s
+  -- the store that is left is what was left behind the reference of this name that was found, if that is still there
+  abbrev pub Leaves : GName → TryGet T H → Store T H → Type 0
+  Leaves name founds.None s = ⊤
+  Leaves name founds.Taken s = ⊤
+  Leaves name (founds.Some left) s = name ≡ left.ghost_name → s ≡ left.now
 
   -- the slot has what it had, and P holds of what was found, of the slot meanwhile, and of what was left of what was found
   abbrev pub Tries : Held T H → Held T H → (TryGet T H → StoreSlot T H → TryGet T H → Type 0) → Type 0
   Tries helds.Absent new P = (new ≡ helds.Absent) × (z : TryGet T H) × P founds.None absent z
   Tries helds.Taken new P = (new ≡ helds.Taken) × (z : TryGet T H) × P founds.Taken taken z
   Tries (helds.Store store) new P =
-      (shown : MutBor (Store T H)) × (z : TryGet T H) × (shown.now ≡ store.now) × P (founds.Some shown) taken z × Stays store new (λ left. Leaves shown z left.now)
+      (shown : MutBor (Store T H)) × (z : TryGet T H) × (shown.now ≡ store.now) × P (founds.Some shown) taken z × Stays store new (λ left. Leaves shown.ghost_name z left.now)

@@ -17,6 +17,11 @@ use Rattle.task_store.specs.declared.spawn.SpawnHandle.{SpawnHandle}
 use Rattle.task_store.specs.declared.store.Store.{Store}
 use Rattle.task_words.specs.StateView.{Keeps, work_of}
 
+-- what a slot's spawn answers, where the store's answers this
+abbrev pub of_task : {H : Type 0} → Result SpawnHandle TaskError → Result SpawnHandle (SpawnError H)
+of_task (Ok h) = Ok h
+of_task (Err e) = Err (refusals.Task e)
+
 module _ {T H : Type 0} (course : H → HostDef) (work : H) where
   -- the work is queued in the store as the machine's work, and held; or memory is wanting, and no work is made
   pub record Spawns (result : Result SpawnHandle TaskError) (s t : Store T H) : Type 0 where
@@ -30,10 +35,6 @@ module _ {T H : Type 0} (course : H → HostDef) (work : H) where
     pub rest : t ≡ record s { state = t.state; works = t.works }
     pub wanting : IfErr result (λ e. e ≡ faults.NoMemory)
     pub err : OnErr result (t.state ≡ s.state)
-
-  abbrev pub of_task : Result SpawnHandle TaskError → Result SpawnHandle (SpawnError H)
-  of_task (Ok h) = Ok h
-  of_task (Err e) = Err (refusals.Task e)
 
   -- the same in the store of a slot; where that has none, or it is taken, the work comes back
   abbrev pub SpawnsIn : Held T H → Result SpawnHandle (SpawnError H) → Held T H → Type 0

@@ -12,6 +12,7 @@ use crate::slot::{Held, SlotError, StoreSlot};
 use futures::task::Poll;
 use state_calls::TaskError;
 use std::marker::PhantomData;
+use std::mem;
 use task_store::{AccessorTask, RuntimeInstance, SpawnHandle};
 
 /// Reaches the store that a slot has, and the part `P` of its host's value.
@@ -64,12 +65,17 @@ impl<T, P> Accessor<T, P> {
         requires callable { OnStore slot.old.held (λ a. TakesAccess F.FnOnce f a.now) }
         ensures { Gets slot.old.held result slot.new.held (λ a r b. CalledAtAccess F.FnOnce f a.now r b.now) }
     {
-        match &mut slot.held {
-            Held::Absent => Err(SlotError::Absent),
+        match mem::replace(&mut slot.held, Held::Taken) {
+            Held::Absent => {
+                slot.held = Held::Absent;
+                Err(SlotError::Absent)
+            }
             Held::Taken => Err(SlotError::Taken),
             Held::Store(store) => {
                 let mut access = Access::new(store);
-                Ok(f(&mut access))
+                let result = f(&mut access);
+                slot.held = Held::Store(store);
+                Ok(result)
             }
         }
     }
@@ -103,10 +109,17 @@ impl<T, P> Accessor<T, P> {
         ensures answer { result ≡ told_by slot.old.held (λ s. ready_if (not (has_interesting s.state.core))) }
         ensures slot { slot.new ≡ slot.old }
     {
-        match &slot.held {
-            Held::Absent => Err(SlotError::Absent),
+        match mem::replace(&mut slot.held, Held::Taken) {
+            Held::Absent => {
+                slot.held = Held::Absent;
+                Err(SlotError::Absent)
+            }
             Held::Taken => Err(SlotError::Taken),
-            Held::Store(store) => Ok(store.poll_no_interesting_tasks()),
+            Held::Store(store) => {
+                let answer = store.poll_no_interesting_tasks();
+                slot.held = Held::Store(store);
+                Ok(answer)
+            }
         }
     }
 
@@ -120,10 +133,17 @@ impl<T, P> Accessor<T, P> {
         ensures answer { result ≡ told_by slot.old.held (λ s. ready_if (is_ready_for_call instance.instance.0 s.state.core)) }
         ensures slot { slot.new ≡ slot.old }
     {
-        match &slot.held {
-            Held::Absent => Err(SlotError::Absent),
+        match mem::replace(&mut slot.held, Held::Taken) {
+            Held::Absent => {
+                slot.held = Held::Absent;
+                Err(SlotError::Absent)
+            }
             Held::Taken => Err(SlotError::Taken),
-            Held::Store(store) => Ok(store.poll_ready_for_concurrent_call(instance)),
+            Held::Store(store) => {
+                let answer = store.poll_ready_for_concurrent_call(instance);
+                slot.held = Held::Store(store);
+                Ok(answer)
+            }
         }
     }
 }

@@ -117,6 +117,8 @@ impl<'a, T, H> StoreSlot<'a, T, H> {
             Held::Store(store) => {
                 let mut some = TryGet::Some(store);
                 let result = f(&mut some, self);
+                // Taken apart, so that it is known what was left in the store.
+                if let TryGet::Some(_left) = some {}
                 self.held = Held::Store(store);
                 result
             }

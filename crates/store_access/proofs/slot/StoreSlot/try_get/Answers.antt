@@ -1,5 +1,7 @@
 use Rattle.std.proofs.Common.{ap, refl, rules}
+use Rattle.store_access.proofs.SlotLemmas.{leaves_none, leaves_some}
 use Rattle.store_access.proofs.slot.StoreSlot.try_get.Goals as goal
+use Rattle.store_access.proofs.slot.StoreSlot.try_get.Goals.{in-Some, in_default}
 
 pub returns-in-Absent : goal.returns-in-Absent
 returns-in-Absent g c =
@@ -21,8 +23,8 @@ returns-in-Taken g c =
       },
     )
 
-pub returns-in-Store : goal.returns-in-Store
-returns-in-Store g c =
+pub returns-after-some : goal.returns-after-some
+returns-after-some g c =
     rw (← c.in-Store.ensures.value) (
       _,
       _,
@@ -35,5 +37,13 @@ returns-in-Store g c =
         called = c.f-result-in-Store.ensures;
         leaves = refl;
       },
-      record { left = _; held = refl; same = refl; holds = ? },
+      record {
+        left = _;
+        held = refl;
+        same = refl;
+        holds = elim c.match-some.branch [
+          | in-Some w ↦ leaves_some _ _ _ _ _ w.in-Some.is w.store-is (λ e. search (rules, e))
+          | in_default w ↦ leaves_none _ _ _ w.in_default.not-Some
+        ];
+      },
     )
