@@ -42,6 +42,18 @@ class Timeline(unittest.TestCase):
             self.assertLessEqual(call, thread)
             self.assertIn(name, exports)
 
+    def test_columns_stand_by_instance_and_call(self):
+        for found in timeline.groups(self.columns):
+            names = [key for key, _, _, _ in found]
+            self.assertEqual(len(names), len(set(names)))
+            self.assertEqual(sum(many for _, _, _, many in found), len(self.columns))
+
+    def test_an_end_is_told_once_and_nothing_follows(self):
+        ends = dict(self.run_drawn.ends)
+        self.assertEqual(len(ends), len(self.run_drawn.ends))
+        for thread, _, _, until in self.run_drawn.bars:
+            self.assertLessEqual(until, ends.get(thread, len(self.run_drawn.labels)) + 1)
+
     def test_the_picture_is_whole(self):
         root = xml.fromstring(timeline.picture(self.run_drawn, self.columns))
         texts = [''.join(text.itertext()) for text in root.iter('{http://www.w3.org/2000/svg}text')]
@@ -62,6 +74,8 @@ class Timeline(unittest.TestCase):
             seen = subprocess.run([BROWSER, '--headless', '--no-sandbox', '--disable-gpu', '--dump-dom', f'file://{file}'],
                                   capture_output=True, text=True, timeout=120, check=True).stdout
         self.assertIn('>done 1<', seen)
+        for _, title, _, _ in timeline.groups(self.columns)[1]:
+            self.assertIn(f'rotate(-90)">{title}</text>', seen)
         self.assertIn(f'{self.run_drawn.labels[0]}</text>', seen)
         self.assertLess(seen.count('<text'), 1000)
 

@@ -7,9 +7,11 @@ REPORT is what `run` printed. The page is HTML with nothing beside it: it draws 
 labels scroll as ten do, and shows the threads that its filter names. The picture is an SVG of the whole run, for short ones. Without
 a file the page goes to standard output.
 
-A column is grouped with those of its call. With --text, the scenario that was run, a group bears the export's name: the tool then
-follows each thread through its script, by the answers in the labels. Grey is an entry at a mark, blue runs, white is stopped (it
-waits, is suspended, blocked or behind another), yellow is held; an arrow goes to a thread that is made, or that is woken.
+A column is grouped with those of its call and its instance. With --text, the scenario that was run, a group bears the names of both:
+the tool then follows each thread through its script, by the answers in the labels. Grey is an entry at a mark, blue runs, white is
+stopped (it waits, is suspended, blocked or behind another), yellow is held; an arrow goes to a thread that is made, or that is woken;
+a bar across a column's end is where its thread has ended. The page keeps labels and names in sight, and shows of many threads those
+alone that are alive in the rows in sight.
 """
 import argparse
 import html
@@ -17,8 +19,8 @@ import json
 import re
 import sys
 
-TALL, WIDE, TOP, LEFT = 18, 26, 46, 330
-LETTER = 6.2
+TALL, WIDE, LEFT = 18, 26, 330
+LETTER = 6.7
 COLOURS = {'queued': '#b8bcc4', 'runs': '#3b76c4', 'stopped': '#ffffff', 'held': '#f0c648'}
 MADE = re.compile(r'^main start \d+ thread (\d+)$')
 TAKEN = re.compile(r'^take (?:switch|high|low) thread (\d+)(.*)$')
@@ -35,8 +37,8 @@ class Run:
     def __init__(self, lines):
         *self.labels, self.outcome = lines
         self.call = {}
-        self.bars, self.arrows = [], []
-        self.open = {}
+        self.bars, self.arrows, self.ends = [], [], []
+        self.open, self.stop = {}, {}
         for row, label in enumerate(self.labels):
             self.read(row, label)
         for thread in list(self.open):
@@ -46,6 +48,8 @@ class Run:
         state, since = self.open.pop(thread, (None, row))
         if state and row > since:
             self.bars.append([thread, state, since, row])
+            if state == 'stopped':
+                self.stop[thread] = self.bars[-1]
 
     def turn(self, thread, state, row):
         """The thread is in this state from the row on."""
@@ -54,6 +58,15 @@ class Run:
         self.close(thread, row)
         if state:
             self.open[thread] = (state, row)
+
+    def end(self, thread, row):
+        self.turn(thread, None, row + 1)
+        self.ends.append([thread, row])
+
+    def was_queued(self, thread):
+        """What the thread has just gone on from was an entry, as its op now tells."""
+        if thread in self.stop:
+            self.stop.pop(thread)[1] = 'queued'
 
     def make(self, thread, call, state, row):
         self.call[thread] = call
@@ -73,7 +86,7 @@ class Run:
             self.turn(caller, 'stopped', row + 1)
             self.arrows.append([row, caller, callee])
         elif label.startswith('trap thread '):
-            self.turn(int(label.split()[2]), None, row + 1)
+            self.end(int(label.split()[2]), row)
         elif own := OWN.match(label):
             self.read_own(row, int(own[1]), own[2].split())
         if woken:
@@ -86,21 +99,41 @@ class Run:
         """A label of a thread: its op is done, it has stopped, or it has ended."""
         self.call.setdefault(thread, thread)
         self.turn(thread, 'runs', row)
+        if words[0].startswith('yield'):
+            self.was_queued(thread)
         if words[0] in ('pauses', 'cb_wait', 'code', 'fails'):
             self.turn(thread, 'stopped', row + 1)
         elif words[0] == 'cb_yield':
             self.turn(thread, 'queued', row + 1)
         elif words[0] == 'exit':
-            self.turn(thread, None, row + 1)
+            self.end(thread, row)
         elif words[0] == 'thread_new' and 'thread' in words:
             made = int(words[words.index('thread') + 1])
             self.make(made, self.call[thread], 'stopped', row)
             self.arrows.append([row, thread, made])
 
     def columns(self, names):
-        """The threads, those of a call beside each other, with the name of each group."""
-        order = sorted(self.call, key=lambda thread: (names.get(self.call[thread], ''), self.call[thread], thread))
+        """The threads, those of an instance and of a call beside each other, with the export's name."""
+        order = sorted(self.call, key=lambda thread: (names.get(self.call[thread], '').split('.')[0], self.call[thread], thread))
         return [[thread, self.call[thread], names.get(self.call[thread], '')] for thread in order]
+
+
+def groups(columns):
+    """Neighbours of one instance, and of one call: the name of each group, its first column and how many they are."""
+    instances, calls = [], []
+    for place, (_, call, name) in enumerate(columns):
+        instance, _, export = name.partition('.')
+        for found, key, title in ((instances, instance, instance), (calls, call, export or f'call {call}')):
+            if found and found[-1][0] == key:
+                found[-1][3] += 1
+            else:
+                found.append([key, title, place, 1])
+    return instances, calls
+
+
+def height_of_heads(columns):
+    """Room for the instances' line, the exports' names upright and the threads' numbers."""
+    return round(44 + LETTER * max((len(title) for _, title, _, _ in groups(columns)[1]), default=0))
 
 
 def read_scripts(text):
@@ -221,29 +254,43 @@ class Follower:
             self.write(thread, op[1], numbers[0])
 
 
+def heads(columns, top):
+    """The lines over the columns as pieces of an SVG."""
+    instances, calls = groups(columns)
+    for _, title, place, many in instances:
+        if title:
+            x = LEFT + WIDE * place - 10
+            yield f'<rect x="{x}" y="4" width="{WIDE * many - 6}" height="15" fill="#eef1f5"/>'
+            yield f'<text x="{x + 3}" y="15" font-weight="bold">{html.escape(title)}</text>'
+    for _, title, place, many in calls:
+        x = LEFT + WIDE * place
+        yield f'<text transform="translate({x + 4} {top - 22}) rotate(-90)">{html.escape(title)}</text>'
+        if many > 1:
+            yield f'<line x1="{x - 8}" y1="{top - 18}" x2="{x + WIDE * (many - 1) + 8}" y2="{top - 18}" stroke="#9aa0aa"/>'
+    for place, (thread, _, _) in enumerate(columns):
+        yield f'<text x="{LEFT + WIDE * place}" y="{top - 6}" text-anchor="middle" fill="#666">{thread}</text>'
+
+
 def picture(run, columns):
     """The whole run as an SVG."""
     at = {column[0]: LEFT + WIDE * place for place, column in enumerate(columns)}
-    tall, wide = TOP + TALL * (len(run.labels) + 2), LEFT + WIDE * len(columns) + 120
+    top = height_of_heads(columns)
+    tall, wide = top + TALL * (len(run.labels) + 2), LEFT + WIDE * len(columns) + 40
     parts = [f'<svg xmlns="http://www.w3.org/2000/svg" width="{wide}" height="{tall}" font-family="monospace" font-size="11">',
-             '<rect width="100%" height="100%" fill="white"/>', ARROW]
-    last = None
-    for thread, call, name in columns:
-        if call != last:
-            title = html.escape(name or f'call {call}')
-            parts.append(f'<text x="{at[thread] - 8}" y="16" transform="rotate(-12 {at[thread]} 16)">{title}</text>')
-            last = call
-        parts.append(f'<text x="{at[thread] - 4}" y="40" fill="#666">{thread}</text>')
+             '<rect width="100%" height="100%" fill="white"/>', ARROW, *heads(columns, top)]
     for thread, state, since, until in run.bars:
-        parts.append(f'<rect x="{at[thread] - 6}" y="{TOP + TALL * since}" width="12" height="{TALL * (until - since)}" '
+        parts.append(f'<rect x="{at[thread] - 6}" y="{top + TALL * since}" width="12" height="{TALL * (until - since)}" '
                      f'fill="{COLOURS[state]}" stroke="#9aa0aa"/>')
+    for thread, row in run.ends:
+        if thread in at:
+            parts.append(f'<rect x="{at[thread] - 9}" y="{top + TALL * (row + 1) - 1}" width="18" height="3" fill="#333"/>')
     for row, label in enumerate(run.labels):
-        parts.append(f'<text x="8" y="{TOP + TALL * row + 13}"><tspan fill="#999">{row + 1}</tspan> {html.escape(label)}</text>')
+        parts.append(f'<text x="8" y="{top + TALL * row + 13}"><tspan fill="#999">{row + 1}</tspan> {html.escape(label)}</text>')
     for row, source, target in run.arrows:
         if source in at and target in at:
-            y = TOP + TALL * row + TALL // 2
+            y = top + TALL * row + TALL // 2
             parts.append(f'<line x1="{at[source]}" y1="{y}" x2="{at[target]}" y2="{y}" stroke="#333" marker-end="url(#tip)"/>')
-    parts.append(f'<text x="8" y="{TOP + TALL * len(run.labels) + 15}" font-weight="bold">{html.escape(run.outcome)}</text></svg>')
+    parts.append(f'<text x="8" y="{top + TALL * len(run.labels) + 15}" font-weight="bold">{html.escape(run.outcome)}</text></svg>')
     return '\n'.join(parts) + '\n'
 
 
@@ -253,59 +300,106 @@ ARROW = ('<defs><marker id="tip" markerWidth="7" markerHeight="7" refX="6" refY=
 PAGE = '''<!doctype html>
 <html lang="en"><head><meta charset="utf-8"><title>A run</title><style>
 body { margin: 0; font: 13px sans-serif; display: flex; flex-direction: column; height: 100vh }
-header { padding: 6px 10px; border-bottom: 1px solid #ccc }
-#heads, #rows { font: 11px monospace } #view { overflow: auto; flex: 1 } .key { padding: 1px 6px; margin-left: 8px; border: 1px solid #9aa0aa }
+header { padding: 6px 10px; border-bottom: 1px solid #ccc } svg { font: 11px monospace; display: block } #view { overflow: auto; flex: 1 }
+#heads { position: sticky; top: 0; background: white; z-index: 2; border-bottom: 1px solid #ddd }
+.key { padding: 1px 6px; margin-left: 8px; border: 1px solid #9aa0aa }
 </style></head><body>
-<header><b id="outcome"></b> <span id="size"></span> &nbsp; threads: <input id="filter" placeholder="all, or 1 4-7"> KEYS</header>
+<header><b id="outcome"></b> <span id="size"></span> &nbsp; threads: <input id="filter" placeholder="all, or 1 4-7">
+<label><input id="near" type="checkbox">only those alive in sight</label> KEYS</header>
 <div id="view"><svg id="heads"></svg><div id="space" style="position:relative"><svg id="rows" style="position:absolute;left:0"></svg></div></div>
 <script>
-const run = DATA, TALL = SIZE_TALL, WIDE = SIZE_WIDE, LEFT = SIZE_LEFT, colours = COLOURS_HERE;
+const run = DATA, TALL = SIZE_TALL, WIDE = SIZE_WIDE, LEFT = SIZE_LEFT, LETTER = SIZE_LETTER, colours = COLOURS_HERE;
 const view = document.getElementById('view'), rows = document.getElementById('rows'), heads = document.getElementById('heads');
 const plain = text => text.replace(/&/g, '&amp;').replace(/</g, '&lt;');
-let at = new Map(), shown = [];
+const ends = new Map(run.ends.map(([thread, row]) => [row, thread]));
+let at = new Map(), kept = [], shown = [], top_ = 0;
 function wanted(words) {
   const spans = words.split(/[ ,]+/).filter(word => /^\\d+(-\\d+)?$/.test(word)).map(word => word.split('-').map(Number));
   return thread => !spans.length || spans.some(([from, to]) => to === undefined ? thread === from : from <= thread && thread <= to);
 }
+function groups(columns, key, title) {
+  const found = [];
+  columns.forEach((column, place) => {
+    const last = found[found.length - 1];
+    if (last && last.key === key(column)) last.many += 1;
+    else found.push({ key: key(column), title: title(column), place, many: 1 });
+  });
+  return found;
+}
+function names(columns) {
+  const instance = column => column[2].split('.')[0], call = column => column[2].split('.')[1] || 'call ' + column[1];
+  const calls = groups(columns, column => column[1], call);
+  top_ = Math.round(44 + LETTER * Math.max(0, ...calls.map(group => group.title.length)));
+  let drawn = '';
+  for (const group of groups(columns, instance, instance)) if (group.title) {
+    const x = LEFT + WIDE * group.place - 10;
+    drawn += `<rect x="${x}" y="4" width="${WIDE * group.many - 6}" height="15" fill="#eef1f5"/>` +
+      `<text x="${Math.max(x + 3, view.scrollLeft + LEFT - 8)}" y="15" font-weight="bold">${plain(group.title)}</text>`;
+  }
+  for (const group of calls) {
+    const x = LEFT + WIDE * group.place;
+    drawn += `<text transform="translate(${x + 4} ${top_ - 22}) rotate(-90)">${plain(group.title)}</text>`;
+    if (group.many > 1)
+      drawn += `<line x1="${x - 8}" y1="${top_ - 18}" x2="${x + WIDE * (group.many - 1) + 8}" y2="${top_ - 18}" stroke="#9aa0aa"/>`;
+  }
+  columns.forEach((column, place) => {
+    drawn += `<text x="${LEFT + WIDE * place}" y="${top_ - 6}" text-anchor="middle" fill="#666">${column[0]}</text>`;
+  });
+  return drawn;
+}
 function choose() {
   const keeps = wanted(document.getElementById('filter').value);
-  const columns = run.columns.filter(column => keeps(column[0]));
-  at = new Map(columns.map((column, place) => [column[0], LEFT + WIDE * place]));
-  const all = columns.length === run.columns.length;
+  kept = run.columns.filter(column => keeps(column[0]));
+  const names_kept = new Set(kept.map(column => column[0])), all = kept.length === run.columns.length;
   shown = run.labels.map((label, row) => row).filter(row => all || (run.labels[row].match(/(?:thread|wakes) \\d+/g) || [])
-    .some(word => at.has(Number(word.split(' ')[1]))));
-  const wide = LEFT + WIDE * columns.length + 140;
-  heads.setAttribute('width', wide); heads.setAttribute('height', 46); rows.setAttribute('width', wide);
-  let drawn = '', last = null;
-  for (const [thread, call, name] of columns) {
-    const x = at.get(thread);
-    if (call !== last) drawn += `<text x="${x - 8}" y="16" transform="rotate(-12 ${x} 16)">${plain(name || 'call ' + call)}</text>`;
-    drawn += `<text x="${x - 4}" y="40" fill="#666">${thread}</text>`; last = call;
-  }
-  heads.innerHTML = drawn;
+    .some(word => names_kept.has(Number(word.split(' ')[1]))));
   document.getElementById('space').style.height = TALL * (shown.length + 1) + 'px';
-  document.getElementById('size').textContent = `${shown.length} of ${run.labels.length} labels, ${columns.length} of ${run.columns.length} threads`;
+  document.getElementById('size').textContent =
+    `${shown.length} of ${run.labels.length} labels, ${kept.length} of ${run.columns.length} threads`;
   draw();
 }
+function place_columns(first, last) {
+  let columns = kept;
+  if (document.getElementById('near').checked) {
+    const alive = new Set();
+    for (const [thread, state, since, until] of run.bars) if (since <= last && first < until) alive.add(thread);
+    columns = kept.filter(column => alive.has(column[0]));
+  }
+  at = new Map(columns.map((column, place) => [column[0], LEFT + WIDE * place]));
+  for (const drawn of [heads, rows]) drawn.setAttribute('width', LEFT + WIDE * columns.length + 40);
+  const over = names(columns), left = view.scrollLeft;
+  heads.setAttribute('height', top_);
+  heads.innerHTML = over + `<rect x="${left}" width="${LEFT - 14}" height="${top_}" fill="white"/>`;
+}
 function draw() {
-  const first = Math.max(0, Math.floor((view.scrollTop - 46) / TALL) - 5), many = Math.ceil(view.clientHeight / TALL) + 60;
-  const part = shown.slice(first, first + many);
-  rows.style.top = first * TALL + 'px'; rows.setAttribute('height', part.length * TALL + 10);
+  const first = Math.max(0, Math.floor((view.scrollTop - top_) / TALL) - 5), many = Math.ceil(view.clientHeight / TALL) + 60;
+  const part = shown.slice(first, first + many), left = view.scrollLeft, tall = part.length * TALL + 10;
+  const sight = shown.slice(Math.floor(view.scrollTop / TALL), Math.ceil((view.scrollTop + view.clientHeight) / TALL));
+  if (sight.length) place_columns(sight[0], sight[sight.length - 1]);
+  const seen = x => left + LEFT - WIDE < x && x < left + view.clientWidth + WIDE;
+  rows.style.top = first * TALL + 'px'; rows.setAttribute('height', tall);
   let drawn = 'ARROW_HERE';
   const place = new Map(part.map((row, index) => [row, index * TALL]));
   for (const [thread, state, since, until] of run.bars) {
-    if (!at.has(thread) || !part.length || until <= part[0] || since > part[part.length - 1]) continue;
+    if (!at.has(thread) || !seen(at.get(thread)) || !part.length || until <= part[0] || since > part[part.length - 1]) continue;
     const inside = part.filter(row => since <= row && row < until);
     if (inside.length) drawn += `<rect x="${at.get(thread) - 6}" y="${place.get(inside[0])}" width="12" ` +
-      `height="${inside.length * TALL}" fill="${colours[state]}" stroke="#9aa0aa"/>`;
+      `height="${inside.length * TALL}" fill="${colours[state]}" stroke="#9aa0aa">` +
+      `<title>thread ${thread} ${state}, ${since + 1} to ${until}</title></rect>`;
   }
-  for (const row of part) drawn += `<text x="8" y="${place.get(row) + 13}"><tspan fill="#999">${row + 1}</tspan> ${plain(run.labels[row])}</text>`;
+  for (const row of part) if (ends.has(row) && at.has(ends.get(row)))
+    drawn += `<rect x="${at.get(ends.get(row)) - 9}" y="${place.get(row) + TALL - 1}" width="18" height="3" fill="#333"/>`;
   for (const [row, source, target] of run.arrows) if (place.has(row) && at.has(source) && at.has(target)) {
     const y = place.get(row) + TALL / 2;
     drawn += `<line x1="${at.get(source)}" y1="${y}" x2="${at.get(target)}" y2="${y}" stroke="#333" marker-end="url(#tip)"/>`;
   }
+  drawn += `<rect x="${left}" width="${LEFT - 14}" height="${tall}" fill="white"/>`;
+  for (const row of part)
+    drawn += `<text x="${left + 8}" y="${place.get(row) + 13}"><tspan fill="#999">${row + 1}</tspan> ${plain(run.labels[row])}</text>`;
   rows.innerHTML = drawn;
 }
+document.getElementById('near').checked = run.columns.length > 40;
+document.getElementById('near').addEventListener('change', draw);
 document.getElementById('outcome').textContent = run.outcome;
 document.getElementById('filter').addEventListener('input', choose);
 view.addEventListener('scroll', draw); window.addEventListener('resize', draw); choose();
@@ -315,9 +409,11 @@ view.addEventListener('scroll', draw); window.addEventListener('resize', draw); 
 
 def page(run, columns):
     """The run as one HTML page."""
-    data = json.dumps({'labels': run.labels, 'outcome': run.outcome, 'columns': columns, 'bars': run.bars, 'arrows': run.arrows})
+    data = json.dumps({'labels': run.labels, 'outcome': run.outcome, 'columns': columns, 'bars': run.bars, 'arrows': run.arrows,
+                       'ends': run.ends})
     keys = ''.join(f'<span class="key" style="background:{colour}">{state}</span>' for state, colour in COLOURS.items())
     written = PAGE.replace('KEYS', keys).replace('SIZE_TALL', str(TALL)).replace('SIZE_WIDE', str(WIDE)).replace('SIZE_LEFT', str(LEFT))
+    written = written.replace('SIZE_LETTER', str(LETTER))
     written = written.replace('COLOURS_HERE', json.dumps(COLOURS)).replace('ARROW_HERE', ARROW)
     return written.replace('DATA', data.replace('</', '<\\/'))
 

@@ -1,5 +1,5 @@
 //! Labels into their kinds and numbers.
-ghost use Rattle.std.specs.Prelude.{◌≡◌, ◌<◌, ◌≤◌, true, [], ◌∷◌, ◌++◌, OnOk, OnErr, length, vec_capacity, vec_len};
+ghost use Rattle.std.specs.Prelude.{◌≡◌, ◌+◌, ◌<◌, ◌≤◌, true, [], ◌∷◌, ◌++◌, OnOk, OnErr, length, vec_capacity, vec_len};
 ghost use Rattle.label_trace.specs.Opened.{all, has_first, opened};
 
 use crate::kinds::{
@@ -25,13 +25,25 @@ fn make_room(heads: &mut Vec<Head>) -> Result<(), AllocError>
     heads.reserve(1)
 }
 
+// Makes room for so many numbers more. Mostly it is there.
+#[inline(always)]
+fn make_place(list: &mut Vec<u64>, count: usize) -> Result<(), AllocError>
+    ensures items { list.new.items ≡ list.old.items }
+    ensures room { OnOk result (vec_len list.new + count ≤ vec_capacity list.new) }
+{
+    if count <= list.capacity().saturating_sub(list.len()) {
+        return Ok(());
+    }
+    list.reserve(count)
+}
+
 // Adds a few numbers, one by one.
 #[inline(always)]
 fn add(list: &mut Vec<u64>, numbers: &[u64]) -> Result<(), AllocError>
     ensures ok { OnOk result (list.new.items ≡ list.old.items ++ numbers.now) }
     ensures err { OnErr result (list.new.items ≡ list.old.items) }
 {
-    list.reserve(numbers.len())?;
+    make_place(list, numbers.len())?;
     for number in numbers {
         list.push_reserved(*number);
     }
@@ -110,6 +122,7 @@ impl Trace {
         }
     }
 
+    #[inline(always)]
     pub(crate) fn push_main(&mut self, label: MainLabel) -> Result<(), AllocError>
         ensures ok { OnOk result (self.new ≡ self.old ++ Label.Main label ∷ []) }
         ensures err { OnErr result (self.new ≡ self.old) }
@@ -148,6 +161,7 @@ impl Trace {
         }
     }
 
+    #[inline(always)]
     pub(crate) fn push_loop(&mut self, label: LoopLabel) -> Result<(), AllocError>
         ensures ok { OnOk result (self.new ≡ self.old ++ Label.Loop label ∷ []) }
         ensures err { OnErr result (self.new ≡ self.old) }
@@ -164,6 +178,7 @@ impl Trace {
         }
     }
 
+    #[inline(always)]
     pub(crate) fn push_take(&mut self, label: TakeLabel) -> Result<(), AllocError>
         ensures ok { OnOk result (self.new ≡ self.old ++ Label.Take label ∷ []) }
         ensures err { OnErr result (self.new ≡ self.old) }
@@ -214,6 +229,7 @@ impl Trace {
     }
 
     // A taking that hands out the task's own event, and a wake on.
+    #[inline(always)]
     fn push_own_wakes(
         &mut self,
         mark: Mark,
@@ -253,6 +269,7 @@ impl Trace {
         }
     }
 
+    #[inline(always)]
     pub(crate) fn push_task(&mut self, label: TaskLabel) -> Result<(), AllocError>
         ensures ok { OnOk result (self.new ≡ self.old ++ Label.Task label ∷ []) }
         ensures err { OnErr result (self.new ≡ self.old) }
@@ -279,6 +296,7 @@ impl Trace {
         }
     }
 
+    #[inline(always)]
     pub(crate) fn push_set(&mut self, label: SetLabel) -> Result<(), AllocError>
         ensures ok { OnOk result (self.new ≡ self.old ++ Label.Set label ∷ []) }
         ensures err { OnErr result (self.new ≡ self.old) }
@@ -306,6 +324,7 @@ impl Trace {
         }
     }
 
+    #[inline(always)]
     fn push_wait(&mut self, given: Given, thread: u64) -> Result<(), AllocError>
         ensures ok { OnOk result (self.new ≡ self.old ++ Label.Set (SetLabel.Wait given thread) ∷ []) }
         ensures err { OnErr result (self.new ≡ self.old) }
@@ -321,6 +340,7 @@ impl Trace {
         }
     }
 
+    #[inline(always)]
     fn push_poll(&mut self, given: Given, thread: u64) -> Result<(), AllocError>
         ensures ok { OnOk result (self.new ≡ self.old ++ Label.Set (SetLabel.Poll given thread) ∷ []) }
         ensures err { OnErr result (self.new ≡ self.old) }
@@ -336,6 +356,7 @@ impl Trace {
         }
     }
 
+    #[inline(always)]
     pub(crate) fn push_call(&mut self, label: CallLabel) -> Result<(), AllocError>
         ensures ok { OnOk result (self.new ≡ self.old ++ Label.Call label ∷ []) }
         ensures err { OnErr result (self.new ≡ self.old) }
@@ -386,6 +407,7 @@ impl Trace {
         }
     }
 
+    #[inline(always)]
     pub(crate) fn push_thread(&mut self, label: ThreadLabel) -> Result<(), AllocError>
         ensures ok { OnOk result (self.new ≡ self.old ++ Label.Thread label ∷ []) }
         ensures err { OnErr result (self.new ≡ self.old) }
@@ -427,6 +449,7 @@ impl Trace {
         }
     }
 
+    #[inline(always)]
     pub(crate) fn push_ret_wakes(
         &mut self,
         thread: u64,
@@ -439,6 +462,7 @@ impl Trace {
         self.three(Kind::Call(CallKind::RetWakes), thread, value, woken)
     }
 
+    #[inline(always)]
     pub(crate) fn push_sync_polls(
         &mut self,
         thread: u64,

@@ -3,7 +3,7 @@ use Rattle.std.proofs.Common.{ap, refl, subst, sym, ◌∙◌}
 use Rattle.std.specs.Prelude.{Bool, IfOk, List, None, Result, Some, false, not, true, ℕ, ◌≡◌}
 use Rattle.op_dispatch.proofs.StayLemmas.{ok_then}
 use Rattle.op_dispatch.specs.Polls.{polled_host}
-use Rattle.op_dispatch.specs.Runner.{awaits_end, called_call, called_work, given_answer, waits_behind}
+use Rattle.op_dispatch.specs.Runner.{called_call, called_work, given_answer}
 use Rattle.subtask_ops.specs.Queued.{queued_work}
 use Rattle.task_machine.specs.Core.{Core}
 use Rattle.task_machine.specs.Moves.{passes_check}
@@ -21,7 +21,6 @@ use Rattle.task_machine.specs.declared.op.Op.TheVariants as op
 use Rattle.task_machine.specs.declared.records.Goal.TheVariants as goal
 use Rattle.task_machine.specs.declared.records.HowFar.{HowFar}
 use Rattle.task_machine.specs.declared.records.HowFar.TheVariants as how_far
-use Rattle.task_machine.specs.declared.records.Subtask.{Subtask}
 use Rattle.task_machine.specs.declared.records.Subtask.TheVariants as subtask
 use Rattle.task_machine.specs.declared.trap.Trap.{Trap}
 use Rattle.task_machine.specs.declared.trap.Trap.TheVariants as trap
@@ -29,7 +28,6 @@ use Rattle.task_machine.specs.declared.words.Status.TheVariants as status
 use Rattle.task_ops.specs.Came.{Meets}
 use Rattle.task_ops.specs.declared.came.Came.{Came}
 use Rattle.task_rules.specs.Calls.{AtOnce, Failing, FirstPoll, Later, call_begins, call_host_polled, call_row, call_sync_begins, call_sync_host_polled, call_sync_host_row, call_sync_host_stops, call_sync_row, first_poll, host_answered, host_pending, host_ready, next_work}
-use Rattle.task_rules.specs.Cancels.{Mode, cancel_row}
 use Rattle.task_rules.specs.Data.{advanced, assigned, moved_to}
 use Rattle.task_rules.specs.Progress.{Goes, Progress, Stops, trap_if}
 use Rattle.task_rules.specs.Scripts.{export_kind, host_at}
@@ -133,26 +131,6 @@ module _ (c : Component) (n r : ℕ) (s : Core) where
   polled_fresh i (how_far.AwaitsEnd sub) none = refl
   polled_fresh i how_far.Suspends none = refl
   polled_fresh i how_far.Yields none = refl
-
--- ---- Cancels
-
-pub behind_at : (h : HowFar) (sub : Subtask) → waits_behind h ≡ Some sub → h ≡ how_far.Cancels sub
-behind_at (how_far.Cancels other) sub e = cc
-behind_at h sub e = absurd (cc)
-
-pub awaits_at : (h : HowFar) (sub : Subtask) → awaits_end h ≡ Some sub → h ≡ how_far.AwaitsEnd sub
-awaits_at (how_far.AwaitsEnd other) sub e = cc
-awaits_at h sub e = absurd (cc)
-
-pub cancel_fresh : (mode : Mode) (n r h : ℕ) (s : Core) (f : HowFar) → waits_behind f ≡ None → awaits_end f ≡ None → cancel_row mode n r h s f ≡ cancel_row mode n r h s how_far.Fresh
-cancel_fresh mode n r h s (how_far.Cancels sub) a b = absurd (cc)
-cancel_fresh mode n r h s (how_far.AwaitsEnd sub) a b = absurd (cc)
-cancel_fresh mode n r h s how_far.Fresh a b = refl
-cancel_fresh mode n r h s (how_far.Waits x) a b = refl
-cancel_fresh mode n r h s (how_far.Calls sub) a b = refl
-cancel_fresh mode n r h s (how_far.Answered v) a b = refl
-cancel_fresh mode n r h s how_far.Suspends a b = refl
-cancel_fresh mode n r h s how_far.Yields a b = refl
 
 -- ---- A sync call of an export begins
 

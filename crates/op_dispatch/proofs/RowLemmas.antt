@@ -1,5 +1,5 @@
 -- What the row of an op shows: the thread goes on or none does, and the label gives no outcome.
-use Rattle.std.proofs.Common.{refl, subst, sym}
+use Rattle.std.proofs.Common.{refl}
 use Rattle.std.specs.Prelude.{Bool, List, None, Option, Some, false, nat_le, nat_lt, not, suc, true, zero, ℕ, ◌%◌, ◌/◌, ◌==◌, ◌≡◌}
 use Rattle.task_machine.specs.Core.{Core}
 use Rattle.task_machine.specs.Labels.{Choice, exit_label, ret_label, task_cancel_label, wait_label}
@@ -21,75 +21,18 @@ use Rattle.task_machine.specs.declared.op.ThreadOp.TheVariants as thread_op
 use Rattle.task_machine.specs.declared.records.HowFar.{HowFar}
 use Rattle.task_machine.specs.declared.records.HowFar.TheVariants as how_far
 use Rattle.task_machine.specs.declared.records.Why.{Why}
-use Rattle.task_machine.specs.declared.trap.Trap.{Trap}
 use Rattle.task_machine.specs.declared.trap.Trap.TheVariants as trap
 use Rattle.task_machine.specs.declared.words.Given.{Given}
-use Rattle.task_ops.specs.Came.{Meets}
-use Rattle.task_ops.specs.declared.came.Came.{Came}
 use Rattle.task_rules.specs.Cancels.{pauses}
 use Rattle.task_rules.specs.Data.{data_row, skip_row}
 use Rattle.task_rules.specs.Ends.{blocking_exit_row, blocking_exits, code_exits, code_kind_row, code_row, code_wait_row, exit_stops, has_event_for, held_by_flag, leaves_no_result, may_tell, passes_after_return, passes_after_stop, sync_exit_row, sync_exits, thread_exit_row}
 use Rattle.task_rules.specs.Outcome.{outcome_of_label}
-use Rattle.task_rules.specs.Progress.{Fails, Goes, Never, Ordered, Progress, Stops, Traps, may, or_never, or_trap, trap_if}
+use Rattle.task_rules.specs.Progress.{Goes, Ordered, Progress, Stops, Traps, may, or_never, or_trap}
 use Rattle.task_rules.specs.Scripts.{slot_at, value_of}
 use Rattle.task_rules.specs.Sets.{chosen, finds_nothing, handed_out, poll_row, poll_takes, received_woken, set_drop_found, set_drop_row, set_dropped, set_made, set_new_row, wait_begins, wait_goes_on, wait_row, wait_stops_checked, wait_takes}
 use Rattle.task_rules.specs.Task.{dec_from, dec_row, inc_raises, inc_row, ret_bad_row, ret_done, ret_row, task_cancel_done, task_cancel_row}
 use Rattle.task_rules.specs.Threads.{Halt, Suspension, Yielding, by_how_far, halt_row, halted_resuming, halting, halts, has_yielded, resume_later_found, resume_later_row, resume_why, resumed_later, then_promote, then_promote_found, then_promote_row, then_resume_found, then_resume_row, thread_made, thread_new_label, thread_new_row, thread_row}
-use Rattle.op_dispatch.specs.Goes.{GoesOn, Shows}
-use Rattle.task_words.specs.StateView.{StateView}
-
--- who goes on is so, and the label gives no outcome
-abbrev pub ShowsFor : (ℕ → Type 0) → Progress → Type 0
-ShowsFor P (Goes l new m) = P m × (outcome_of_label l ≡ None)
-ShowsFor P (Stops l new) = outcome_of_label l ≡ None
-ShowsFor P (Ordered ns next) = (order : List ℕ) → ShowsFor P (next order)
-ShowsFor P _ = Unit {0}
-
--- this thread goes on, if one does
-abbrev pub here : ℕ → ℕ → Type 0
-here n m = m ≡ n
-
-abbrev pub ShowsAs : ℕ → Progress → Type 0
-ShowsAs n p = ShowsFor (here n) p
-
--- no thread goes on
-abbrev pub nobody : ℕ → Type 0
-nobody m = ⊥
-
-abbrev pub StopsAs : Progress → Type 0
-StopsAs p = ShowsFor nobody p
-
-pub shows_of : (n : ℕ) (p : Progress) (s : Core) (r : Came) (t : Core) → ShowsAs n p → Meets p s r t → Shows n r
-shows_of n (Goes l new m) s r t g h = subst (Shows n) (sym h.0) g
-shows_of n (Stops l new) s r t g h = subst (Shows n) (sym h.0) g
-shows_of n (Traps why) s r t g h = subst (Shows n) (sym h.0) tt
-shows_of n (Fails i) s r t g h = subst (Shows n) (sym h.0) tt
-shows_of n Never s r t g h = absurd h
-shows_of n (Ordered ns next) s r t g h = shows_of n (next h.0) s r t (g h.0) h.1.1
-
-pub stops_goes : (v : StateView) (p : Progress) (s : Core) (r : Came) (t : Core) → StopsAs p → Meets p s r t → GoesOn r v
-stops_goes v (Goes l new m) s r t g h = absurd g.0
-stops_goes v (Stops l new) s r t g h = subst (λ (q : Came). GoesOn q v) (sym h.0) g
-stops_goes v (Traps why) s r t g h = subst (λ (q : Came). GoesOn q v) (sym h.0) tt
-stops_goes v (Fails i) s r t g h = subst (λ (q : Came). GoesOn q v) (sym h.0) tt
-stops_goes v Never s r t g h = absurd h
-stops_goes v (Ordered ns next) s r t g h = stops_goes v (next h.0) s r t (g h.0) h.1.1
-
-pub if_traps : (P : ℕ → Type 0) (b : Bool) (why : Trap) (p : Progress) → ShowsFor P p → ShowsFor P (trap_if b why p)
-if_traps P true why p g = tt
-if_traps P false why p g = g
-
-pub if_lawful : (P : ℕ → Type 0) (b : Bool) (p : Progress) → ShowsFor P p → ShowsFor P (may b p)
-if_lawful P true p g = g
-if_lawful P false p g = tt
-
-pub if_found : {X : Type 0} (P : ℕ → Type 0) (o : Option X) (why : Trap) (next : X → Progress) → ((x : X) → ShowsFor P (next x)) → ShowsFor P (or_trap o why next)
-if_found P None why next g = tt
-if_found P (Some x) why next g = g x
-
-pub if_given : {X : Type 0} (P : ℕ → Type 0) (o : Option X) (next : X → Progress) → ((x : X) → ShowsFor P (next x)) → ShowsFor P (or_never o next)
-if_given P None next g = tt
-if_given P (Some x) next g = g x
+pub use Rattle.cancel_ops.proofs.Shows.{ShowsFor, here, ShowsAs, nobody, StopsAs, shows_of, stops_goes, if_traps, if_lawful, if_found, if_given, two_traps}
 
 -- ---- Ops on registers and words
 
@@ -104,10 +47,6 @@ data_shows c n s (data_op.Handle q x) = (refl, refl)
 data_shows c n s (data_op.Load q w) = (refl, refl)
 data_shows c n s (data_op.Store w x) = (refl, refl)
 data_shows c n s (data_op.SkipEq x y ops) = skip_shows c n ops s (value_of n s x == value_of n s y)
-
--- after two tests
-pub two_traps : (P : ℕ → Type 0) (a b : Bool) (x y : Trap) (p : Progress) → ShowsFor P p → ShowsFor P (trap_if a x (trap_if b y p))
-two_traps P a b x y p g = if_traps P a x (trap_if b y p) (if_traps P b y p g)
 
 -- ---- The end of an activation
 

@@ -5,9 +5,8 @@ use Rattle.op_dispatch.proofs.RowLemmas.{ShowsAs, ShowsFor, here, if_found, if_l
 use Rattle.task_machine.specs.Core.{Core}
 use Rattle.task_machine.specs.Labels.{join_label}
 use Rattle.task_machine.specs.Moves.{passes_check}
-use Rattle.task_machine.specs.Read.{at_handle_limit, event_of, fits, instance_of, is_joined, is_watched, join_of, new_handle, set_at, subtask_at, subtask_ended, undelivered_end, was_cancelled}
+use Rattle.task_machine.specs.Read.{at_handle_limit, event_of, fits, instance_of, is_watched, join_of, new_handle, set_at, subtask_at, subtask_ended}
 use Rattle.task_machine.specs.Statuses.{packed}
-use Rattle.task_machine.specs.Write.{set_join}
 use Rattle.task_machine.specs.declared.component.Callee.{Callee}
 use Rattle.task_machine.specs.declared.component.Component.{Component}
 use Rattle.task_machine.specs.declared.component.ExportKind.{ExportKind}
@@ -16,17 +15,12 @@ use Rattle.task_machine.specs.declared.label.Label.TheVariants as label
 use Rattle.task_machine.specs.declared.label.ThreadLabel.TheVariants as thread_label
 use Rattle.task_machine.specs.declared.records.Goal.{Goal}
 use Rattle.task_machine.specs.declared.records.Goal.TheVariants as goal
-use Rattle.task_machine.specs.declared.records.HowFar.{HowFar}
-use Rattle.task_machine.specs.declared.records.HowFar.TheVariants as how_far
-use Rattle.task_machine.specs.declared.records.Join.TheVariants as join
 use Rattle.task_machine.specs.declared.records.Subtask.{Subtask}
-use Rattle.task_machine.specs.declared.records.Subtask.TheVariants as subtask
 use Rattle.task_machine.specs.declared.trap.Trap.TheVariants as trap
 use Rattle.task_machine.specs.declared.words.Status.{Status}
 use Rattle.task_machine.specs.declared.words.Status.TheVariants as status
 use Rattle.task_rules.specs.Calls.{AtOnce, Failing, FirstPoll, Later, call_begins, call_host_polled, call_pending, call_queues, call_resumes, call_status, call_sync_begins, call_sync_host_polled, call_sync_host_stops, call_sync_status, call_sync_stops, enter_row, enter_runs, host_pending, next_thread, next_work}
-use Rattle.task_rules.specs.Cancels as cancels
-use Rattle.task_rules.specs.Cancels.{CancelCase, Mode, after_cancel, cancel_aborts_host, cancel_asks, cancel_by_end, cancel_case, cancel_ended_row, cancel_found, cancel_guest, cancel_host, cancel_resumed, cancel_row, cancel_stops, cancel_subtask, cancel_unended_row, drop_found, drop_row, dropped, pauses}
+use Rattle.task_rules.specs.Cancels.{drop_found, drop_row, dropped}
 use Rattle.task_rules.specs.Outcome.{outcome_of_label}
 use Rattle.task_rules.specs.Progress.{Goes, Progress, Stops, may, trap_if}
 use Rattle.task_rules.specs.Scripts.{export_kind}
@@ -114,49 +108,3 @@ module _ (n : ℕ) (s : Core) where
   sync_host_shows r Failing = tt
   sync_host_shows r (Later host) =
       two_traps (here n) (not (fits 1 s)) (not (passes_check (instance_of n s) s)) trap.TableFull trap.CannotBlockSyncTask (Stops (label.Call (call_label.PausesPolls n (next_work s))) (call_sync_host_stops n host s)) refl
-
--- ---- Cancels
-
-ended_shows : (mode : Mode) (n r : ℕ) (sub : Subtask) (s : Core) (o : Option Status) → ShowsAs n (cancel_ended_row mode n r sub s o)
-ended_shows mode n r sub s None = tt
-ended_shows cancels.Async n r sub s (Some e) = (refl, refl)
-ended_shows cancels.Sync n r sub s (Some e) = (refl, refl)
-
-unended_shows : (mode : Mode) (n r : ℕ) (sub : Subtask) (s : Core) → ShowsAs n (cancel_unended_row mode n r sub s)
-unended_shows cancels.Async n r sub s = (refl, refl)
-unended_shows cancels.Sync n r sub s = if_traps (here n) (not (passes_check (instance_of n s) s)) trap.CannotBlockSyncTask (Stops (pauses n) (cancel_stops n sub s)) refl
-
-by_end_shows : (mode : Mode) (n r : ℕ) (sub : Subtask) (s : Core) (b : Bool) → ShowsAs n (cancel_by_end mode n r sub s b)
-by_end_shows mode n r sub s true = ended_shows mode n r sub s (undelivered_end (event_of sub s))
-by_end_shows mode n r sub s false = unended_shows mode n r sub s
-
-guest_shows : (mode : Mode) (n r k : ℕ) (s : Core) (x : CancelCase) → ShowsAs n (cancel_guest mode n r k s x)
-guest_shows mode n r k s cancels.AlreadyEnded = ended_shows mode n r (subtask.Guest k) s (undelivered_end (event_of (subtask.Guest k) s))
-guest_shows cancels.Async n r k s cancels.StartNotRun = (refl, refl)
-guest_shows cancels.Sync n r k s cancels.StartNotRun = (refl, refl)
-guest_shows mode n r k s cancels.CallbackWaits = refl
-guest_shows mode n r k s cancels.CallbackYields = refl
-guest_shows mode n r k s cancels.OtherwiseRuns = by_end_shows mode n r (subtask.Guest k) (cancel_asks k s) (subtask_ended (subtask.Guest k) (cancel_asks k s))
-
-subtask_shows : (mode : Mode) (n r : ℕ) (s : Core) (sub : Subtask) → ShowsAs n (cancel_subtask mode n r s sub)
-subtask_shows mode n r s (subtask.Guest k) = guest_shows mode n r k s (cancel_case k s)
-subtask_shows mode n r s (subtask.Host i) =
-    if_traps (here n) (was_cancelled i s) trap.SubtaskCancelAfterTerminal (after_cancel mode n r (subtask.Host i) (cancel_aborts_host i s))
-    (by_end_shows mode n r (subtask.Host i) (cancel_aborts_host i s) (subtask_ended (subtask.Host i) (cancel_aborts_host i s)))
-
-module _ (mode : Mode) (n r h : ℕ) (s : Core) where
-  fresh_cancels : ShowsAs n (cancel_row mode n r h s how_far.Fresh)
-  fresh_cancels = if_found (here n) (subtask_at (instance_of n s) h s) trap.BadHandle (cancel_found mode n r s)
-      (λ sub. if_traps (here n) (is_joined (join_of sub s)) trap.WaitableSyncAndAsync (cancel_subtask mode n r s sub) (subtask_shows mode n r s sub))
-
-  pub cancel_shows : (f : HowFar) → ShowsAs n (cancel_row mode n r h s f)
-  cancel_shows (how_far.Cancels sub) = by_end_shows mode n r sub (cancel_resumed n sub s) (subtask_ended sub (cancel_resumed n sub s))
-  cancel_shows (how_far.AwaitsEnd sub) =
-      let t = set_join sub join.Nowhere s in
-      ended_shows mode n r sub t (undelivered_end (event_of sub t))
-  cancel_shows how_far.Fresh = fresh_cancels
-  cancel_shows (how_far.Waits x) = fresh_cancels
-  cancel_shows (how_far.Calls sub) = fresh_cancels
-  cancel_shows (how_far.Answered v) = fresh_cancels
-  cancel_shows how_far.Suspends = fresh_cancels
-  cancel_shows how_far.Yields = fresh_cancels

@@ -2,30 +2,26 @@
 ghost use Rattle.op_dispatch.specs.Fits.{HasInstances, call_op_fits};
 ghost use Rattle.op_dispatch.specs.Goes.{GoesOn, given};
 ghost use Rattle.op_dispatch.specs.Polls.{Polls};
-ghost use Rattle.op_dispatch.specs.Runner.{Runner, UnderWay, awaits_end, called_call, called_work, given_answer, waits_behind};
+ghost use Rattle.op_dispatch.specs.Runner.{Runner, UnderWay, called_call, called_work, given_answer};
 ghost use Rattle.std.specs.Prelude.{◌≡◌, ◌+◌, ◌<◌, ◌≤◌, ◌^◌, IfOk, IfSome, IsSome, OnErr, OnOk, is_some, length, option_map, true};
-ghost use Rattle.subtask_ops.specs.Refused.{mode_of};
-ghost use Rattle.task_machine.specs.Labels.{choice_of};
 ghost use Rattle.task_machine.specs.Maps.{get};
 ghost use Rattle.task_machine.specs.Read.{how_far_of, instance_of, position_of, registers_of};
 ghost use Rattle.task_machine.specs.declared.op.CallOp.{CallOp};
 ghost use Rattle.task_machine.specs.declared.op.Op.TheVariants as ops;
 ghost use Rattle.task_ops.specs.Came.{Meets};
 ghost use Rattle.task_ops.specs.Stays.{StaysAfter};
-ghost use Rattle.task_ops.specs.Steps.{label_of};
 ghost use Rattle.task_ops.specs.Works.{KeepsWorks, NamesWorks};
 ghost use Rattle.task_rules.specs.Calls.{call_host_row, call_row, call_sync_host_row, call_sync_row};
-ghost use Rattle.task_rules.specs.Cancels.{cancel_row, subtask_row};
+ghost use Rattle.task_rules.specs.Cancels.{subtask_row};
 ghost use Rattle.task_rules.specs.Scripts.{values_in};
-ghost use Rattle.task_words.specs.Names.{subtask_in};
 ghost use Rattle.task_words.specs.StateView.{call_of, thread_of, work_of};
 
 use crate::done::{Done, plain};
 use crate::scripts::{export_kind, host_def};
+use cancel_ops::cancels;
 use subtask_ops::{
-    answer_call, begin_call, begin_call_sync, call_host, call_sync_host, cancel, drop_subtask,
-    go_on_awaiting, go_on_calling, go_on_calling_host, go_on_calling_sync, go_on_cancelling,
-    operand_values,
+    answer_call, begin_call, begin_call_sync, call_host, call_sync_host, drop_subtask,
+    go_on_calling, go_on_calling_host, go_on_calling_sync, operand_values,
 };
 use task_machine::{CallOp, Callee, Component, Goal, NoMemory, Operand};
 use task_ops::{Came, value_of};
@@ -63,28 +59,6 @@ fn answered<W: Words>(w: &W, thread: ThreadId) -> Option<u64>
 {
     match w.how_far(thread) {
         HowFarId::Answered(value) => Some(value),
-        _ => None,
-    }
-}
-
-// The subtask behind whose callee the cancel waits.
-fn cancelling<W: Words>(w: &W, thread: ThreadId) -> Option<SubtaskId>
-    requires { UnderWay (thread_of (W.view w.now) thread) (W.view w.now).core }
-    ensures { option_map (subtask_in (W.view w.now).tags) result ≡ waits_behind (how_far_of (thread_of (W.view w.now) thread) (W.view w.now).core) }
-{
-    match w.how_far(thread) {
-        HowFarId::Cancels(subtask) => Some(subtask),
-        _ => None,
-    }
-}
-
-// The subtask whose end the cancel awaits.
-fn awaiting<W: Words>(w: &W, thread: ThreadId) -> Option<SubtaskId>
-    requires { UnderWay (thread_of (W.view w.now) thread) (W.view w.now).core }
-    ensures { option_map (subtask_in (W.view w.now).tags) result ≡ awaits_end (how_far_of (thread_of (W.view w.now) thread) (W.view w.now).core) }
-{
-    match w.how_far(thread) {
-        HowFarId::AwaitsEnd(subtask) => Some(subtask),
         _ => None,
     }
 }
@@ -207,24 +181,6 @@ fn call_sync_of_host<W: Words>(
         polled: Some(host),
         work,
     })
-}
-
-// `cancel R X` and `cancel_sync R X`
-fn cancels<W: Words>(w: &mut W, thread: ThreadId, to: u8, handle: u64, sync: bool) -> Came
-    requires runner { Runner thread (W.view w.old) }
-    requires position { position_of (thread_of (W.view w.old) thread) (W.view w.old).core + 1 < 2 ^ 32 }
-    ensures meets { Meets (cancel_row (mode_of sync) (thread_of (W.view w.old) thread) to handle (W.view w.old).core (how_far_of (thread_of (W.view w.old) thread) (W.view w.old).core)) (W.view w.old).core result (W.view w.new).core }
-    ensures goes { GoesOn result (W.view w.new) }
-    ensures stays { StaysAfter result (W.view w.old) (W.view w.new) }
-    ensures works { KeepsWorks (W.view w.old) (W.view w.new) }
-{
-    if let Some(subtask) = cancelling(w, thread) {
-        return go_on_cancelling(w, thread, to, sync, subtask);
-    }
-    if let Some(subtask) = awaiting(w, thread) {
-        return go_on_awaiting(w, thread, to, sync, subtask);
-    }
-    cancel(w, thread, to, handle, sync)
 }
 
 /// An op on subtasks. Where memory is wanting, all is as before.

@@ -3,7 +3,7 @@ use Rattle.task_records.proofs.Core.{ap, change, change-change_same, Core, get, 
 use Rattle.task_machine.specs.Write.{on_instance}
 use Rattle.task_machine.specs.declared.words.Given.{Given}
 use Rattle.task_rules.specs.Sets.{given_code, given_handle, given_result, set_given}
-use Rattle.place_words.specs.Moved.{to_begun}
+use Rattle.place_words.specs.Moved.{to_begun, to_stand}
 
 abbrev pub with_register : ℕ → ℕ → Thread → Thread
 with_register r v t = record t { registers = slice_set t.registers r v }
@@ -16,6 +16,11 @@ position_kept n r v s = ap (λ o. option_map_or (λ (x : Thread). x.position) o 
     by : (o : Option Thread) → option_map_or (λ (x : Thread). x.position) (option_map (with_register r v) o) 0 ≡ option_map_or (λ (x : Thread). x.position) o 0
     by None = refl
     by (Some t) = refl
+
+-- another place and another point of an op as one write of the thread's record
+pub stood : (n : ℕ) (p : Place) (h : HowFar) (s : Core) → on_thread n (to_stand p h) s ≡ set_how_far n h (set_place n p s)
+unfolding set_place set_how_far on_thread
+stood n p h s = ap (λ m. record s { threads = m }) (sym (change-change_same s.threads n (λ (t : Thread). record t { how_far = h }) (λ (t : Thread). record t { place = p })))
 
 -- an activation as one write of the thread's record
 pub activation : (n i : ℕ) (v : Given) (s : Core) → on_thread n (to_begun (given_code v) (given_handle v) (given_result v)) (set_do_not_enter i true s) ≡ set_place n Place.Running (moved_to n 0 (set_script n Script.React (set_do_not_enter i true (set_given n 0 v s))))

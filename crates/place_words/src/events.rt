@@ -90,8 +90,6 @@ fn set_call_event(parts: &mut CoreParts, call: CallId, event: Option<Status>)
     if let Some(found) = task_records::call(parts, call) {
         let old = *found;
         let chain = call_chain(parts, old.joined, event, old.call.join);
-        let mut new = old;
-        new.call.event = event;
         refile(
             &mut parts.ready_calls,
             old.ready,
@@ -100,7 +98,7 @@ fn set_call_event(parts: &mut CoreParts, call: CallId, event: Option<Status>)
         );
         match parts.calls.get_mut(call) {
             Ok(entry) => {
-                *entry = new;
+                entry.call.event = event;
             }
             Err(_) => unreachable!(),
         }
@@ -115,8 +113,6 @@ fn set_work_event(parts: &mut CoreParts, work: WorkId, event: Option<Status>)
     if let Some(found) = task_records::work(parts, work) {
         let old = *found;
         let chain = work_chain(parts, old.joined, event, old.work.join);
-        let mut new = old;
-        new.work.event = event;
         refile(
             &mut parts.ready_works,
             old.ready,
@@ -125,7 +121,7 @@ fn set_work_event(parts: &mut CoreParts, work: WorkId, event: Option<Status>)
         );
         match parts.works.get_mut(work) {
             Ok(entry) => {
-                *entry = new;
+                entry.work.event = event;
             }
             Err(_) => unreachable!(),
         }

@@ -82,9 +82,6 @@ fn set_call_join(parts: &mut CoreParts, call: CallId, join: JoinId)
         let from = joined_set(parts, old.joined, old.call.join);
         let to = joined_set(parts, joined, named);
         let chain = call_chain(parts, joined, old.call.event, named);
-        let mut new = old;
-        new.call.join = named;
-        new.joined = joined;
         leave(&mut parts.sets, from);
         enter(&mut parts.sets, to);
         refile(
@@ -95,7 +92,8 @@ fn set_call_join(parts: &mut CoreParts, call: CallId, join: JoinId)
         );
         match parts.calls.get_mut(call) {
             Ok(entry) => {
-                *entry = new;
+                entry.call.join = named;
+                entry.joined = joined;
             }
             Err(_) => unreachable!(),
         }
@@ -113,9 +111,6 @@ fn set_work_join(parts: &mut CoreParts, work: WorkId, join: JoinId)
         let from = joined_set(parts, old.joined, old.work.join);
         let to = joined_set(parts, joined, named);
         let chain = work_chain(parts, joined, old.work.event, named);
-        let mut new = old;
-        new.work.join = named;
-        new.joined = joined;
         leave(&mut parts.sets, from);
         enter(&mut parts.sets, to);
         refile(
@@ -126,7 +121,8 @@ fn set_work_join(parts: &mut CoreParts, work: WorkId, join: JoinId)
         );
         match parts.works.get_mut(work) {
             Ok(entry) => {
-                *entry = new;
+                entry.work.join = named;
+                entry.joined = joined;
             }
             Err(_) => unreachable!(),
         }

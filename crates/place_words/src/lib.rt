@@ -16,7 +16,7 @@ mod targets;
 
 pub use events::set_event;
 pub use joins::set_join;
-pub use places::{delivered_set, hold, place, set_mark, set_place, unhold, why};
+pub use places::{delivered_set, hold, place, set_mark, set_place, stand_at, suspend, unhold, why};
 pub use sets::{first_ready, first_waiter, has_ready_member};
 pub use stages::set_stage;
 pub use steps::{activate, advance, assign, move_to, set_context, set_how_far};

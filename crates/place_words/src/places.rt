@@ -1,27 +1,30 @@
-ghost use Rattle.std.specs.Prelude.{◌≡◌, IsSome, Ok, Some, option_map, ℕ};
+ghost use Rattle.std.specs.Prelude.{◌≡◌, IsSome, None, Ok, Some, option_map, ℕ};
 ghost use Rattle.task_links.specs.Links.{removed};
 ghost use Rattle.task_machine.specs.Moves.{held_why_of, ready_why, stand, why_of};
 ghost use Rattle.task_machine.specs.Read.{place_of};
-ghost use Rattle.task_machine.specs.Write.{set_place};
+ghost use Rattle.task_machine.specs.Write.{on_thread, set_how_far, set_place};
+ghost use Rattle.place_words.specs.Moved.{to_stand};
 ghost use Rattle.task_machine.specs.declared.records.Place.TheVariants as places;
 ghost use Rattle.task_machine.specs.declared.records.Why.{Why};
 ghost use Rattle.task_machine.specs.declared.words.Mark.TheVariants as marks;
 ghost use Rattle.task_records.specs.Keys.{thread_key};
 ghost use Rattle.task_records.specs.Kinds.{item_of};
-ghost use Rattle.task_records.specs.Names.{AtPlace, why_target};
+ghost use Rattle.task_records.specs.Names.{AtPlace, place_target, why_target};
+ghost use Rattle.task_records.specs.Places.{where_at};
 ghost use Rattle.task_records.specs.Seen.{IsSound, parts_of, seen};
 ghost use Rattle.task_records.specs.declared.threads.GuestThread.{GuestThread};
 ghost use Rattle.task_table.specs.Answers.{item_at};
 ghost use Rattle.task_table.specs.Records.{number_in, record_at};
 ghost use Rattle.task_words.specs.Live.{delivered_set, live_set};
-ghost use Rattle.task_words.specs.Names.{place_in, why_in};
+ghost use Rattle.task_words.specs.Names.{how_far_in, place_in, why_in};
 ghost use Rattle.task_words.specs.StateView.{on_core, set_of, thread_of};
 
-use crate::moves::put;
-use crate::targets::{chain_at, held_chain, named_place, named_why};
+use crate::moves::{put, put_counted, put_stand, put_stand_counted};
+use crate::targets::{chain_at, held_chain, named_how_far, named_place, named_why, under_chain};
+use record_words::number;
 use task_machine::{Delivery, Mark, Place, Why};
 use task_records::{CoreParts, named_set};
-use task_words::{PlaceId, SetId, ThreadId, WhyId};
+use task_words::{HowFarId, PlaceId, SetId, ThreadId, WhyId};
 
 pub fn place(parts: &CoreParts, thread: ThreadId) -> Option<Place>
     requires { IsSound parts.now }
@@ -106,6 +109,16 @@ fn queue(parts: &mut CoreParts, thread: ThreadId, mark: Mark, why: WhyId)
     );
 }
 
+/// The thread is suspended from now on.
+#[inline(always)]
+pub fn suspend(parts: &mut CoreParts, thread: ThreadId)
+    requires { IsSound parts.old }
+    ensures sound { IsSound parts.new }
+    ensures new { seen parts.new ≡ on_core (set_place (thread_of (seen parts.old) thread) places.Suspended) (seen parts.old) }
+{
+    put(parts, thread, Place::Suspended, 0, None);
+}
+
 // The thread is at any place from now on.
 #[inline(never)]
 fn put_at(parts: &mut CoreParts, thread: ThreadId, place: PlaceId)
@@ -117,7 +130,7 @@ fn put_at(parts: &mut CoreParts, thread: ThreadId, place: PlaceId)
         let instance = found.instance;
         let (named, beside) = named_place(parts, place);
         let chain = chain_at(parts, instance, place);
-        put(parts, thread, named, beside, chain);
+        put_counted(parts, thread, named, beside, chain);
     }
 }
 
@@ -132,6 +145,76 @@ pub fn set_place(parts: &mut CoreParts, thread: ThreadId, place: PlaceId)
         PlaceId::Running => run(parts, thread),
         PlaceId::Ready { mark, why } => queue(parts, thread, mark, why),
         other => put_at(parts, thread, other),
+    }
+}
+
+// The thread is at any place and at any point of its op from now on.
+#[inline(never)]
+fn stand_anywhere(parts: &mut CoreParts, thread: ThreadId, place: PlaceId, how_far: HowFarId)
+    requires { IsSound parts.old }
+    ensures sound { IsSound parts.new }
+    ensures new { seen parts.new ≡ on_core (on_thread (thread_of (seen parts.old) thread) (to_stand (place_in (seen parts.old).tags place) (how_far_in (seen parts.old).tags how_far))) (seen parts.old) }
+{
+    if let Some(found) = task_records::thread(parts, thread) {
+        let instance = found.instance;
+        let (named, beside) = named_place(parts, place);
+        let (point, awaited) = named_how_far(parts, how_far);
+        let chain = chain_at(parts, instance, place);
+        put_stand_counted(parts, thread, named, beside, point, awaited, chain);
+    }
+}
+
+// The thread is under the other one, and at any point of its op, from now on.
+#[inline(never)]
+fn stand_under(parts: &mut CoreParts, thread: ThreadId, callee: ThreadId, how_far: HowFarId)
+    requires { IsSound parts.old }
+    ensures sound { IsSound parts.new }
+    ensures new { seen parts.new ≡ on_core (on_thread (thread_of (seen parts.old) thread) (to_stand (places.Under (thread_of (seen parts.old) callee)) (how_far_in (seen parts.old).tags how_far))) (seen parts.old) }
+{
+    let called = number(parts, callee);
+    let chain = under_chain(parts, callee);
+    let (point, awaited) = named_how_far(parts, how_far);
+    let place = Place::Under { callee: called };
+    put_stand(parts, thread, place, callee.rep(), point, awaited, chain);
+}
+
+// The thread is at a place where it is in no chain, and at any point of its op, from now on.
+#[inline(always)]
+fn stand_unchained(
+    parts: &mut CoreParts,
+    thread: ThreadId,
+    place: Place,
+    beside: u32,
+    how_far: HowFarId,
+)
+    requires sound { IsSound parts.old }
+    requires at { AtPlace (parts_of parts.old) beside (place_target place) }
+    requires unchained { (i : ℕ) → where_at i place ≡ None }
+    ensures sound { IsSound parts.new }
+    ensures new { seen parts.new ≡ on_core (on_thread (thread_of (seen parts.old) thread) (to_stand place (how_far_in (seen parts.old).tags how_far))) (seen parts.old) }
+{
+    let (point, awaited) = named_how_far(parts, how_far);
+    put_stand(parts, thread, place, beside, point, awaited, None);
+}
+
+/// The thread is at this place from now on, and has come so far in its op: the two words in one look-up.
+#[inline(always)]
+pub fn stand_at(parts: &mut CoreParts, thread: ThreadId, place: PlaceId, how_far: HowFarId)
+    requires { IsSound parts.old }
+    ensures sound { IsSound parts.new }
+    ensures new { seen parts.new ≡ on_core (λ s. set_how_far (thread_of (seen parts.old) thread) (how_far_in (seen parts.old).tags how_far) (set_place (thread_of (seen parts.old) thread) (place_in (seen parts.old).tags place) s)) (seen parts.old) }
+{
+    match place {
+        PlaceId::Running => {
+            let (point, awaited) = named_how_far(parts, how_far);
+            put_stand_counted(parts, thread, Place::Running, 0, point, awaited, None);
+        }
+        PlaceId::Ready { mark, why } => {
+            let (why, beside) = named_why(parts, why);
+            stand_unchained(parts, thread, Place::Ready { mark, why }, beside, how_far);
+        }
+        PlaceId::Under(callee) => stand_under(parts, thread, callee, how_far),
+        other => stand_anywhere(parts, thread, other, how_far),
     }
 }
 

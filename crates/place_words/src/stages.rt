@@ -73,7 +73,7 @@ pub fn set_stage(parts: &mut CoreParts, work: WorkId, stage: Stage)
         );
         match parts.works.get_mut(work) {
             Ok(entry) => {
-                *entry = new;
+                entry.work.stage = stage;
             }
             Err(_) => unreachable!(),
         }

@@ -17,6 +17,7 @@ use task_machine::Given;
 use task_records::CoreParts;
 use task_words::{HowFarId, ThreadId};
 
+#[inline(always)]
 pub fn set_how_far(parts: &mut CoreParts, thread: ThreadId, how_far: HowFarId)
     requires { IsSound parts.old }
     ensures sound { IsSound parts.new }
@@ -59,6 +60,7 @@ pub fn set_context(parts: &mut CoreParts, thread: ThreadId, position: u32, regis
 }
 
 /// The op is done.
+#[inline(always)]
 pub fn advance(parts: &mut CoreParts, thread: ThreadId)
     requires sound { IsSound parts.old }
     requires few { position_of (thread_of (seen parts.old) thread) (seen parts.old).core + 1 < 2 ^ 32 }

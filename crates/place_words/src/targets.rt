@@ -94,6 +94,7 @@ pub(crate) fn named_place(parts: &CoreParts, place: PlaceId) -> (Place, u32)
     }
 }
 
+#[inline(always)]
 pub(crate) fn named_how_far(parts: &CoreParts, how_far: HowFarId) -> (HowFar, u32)
     requires { IsSound parts.now }
     ensures is { how_far_in (seen parts.now).tags how_far ≡ result.0 }
@@ -159,7 +160,7 @@ fn waiters_chain(parts: &CoreParts, set: SetId) -> Option<usize>
     }
 }
 
-fn under_chain(parts: &CoreParts, thread: ThreadId) -> Option<usize>
+pub(crate) fn under_chain(parts: &CoreParts, thread: ThreadId) -> Option<usize>
     requires { IsSound parts.now }
     ensures { place_chain (bare (parts_of parts.now)) (UnderOf (thread_of (seen parts.now) thread)) ≡ result }
 {

@@ -1,6 +1,6 @@
 use crate::task_core::TaskCore;
 use task_machine::{Mark, Place, Why};
-use task_words::{PlaceId, PlaceWords, SetId, SubtaskId, ThreadId};
+use task_words::{HowFarId, PlaceId, PlaceWords, SetId, SubtaskId, ThreadId};
 
 impl PlaceWords for TaskCore {
     fn place(&self, thread: ThreadId) -> Option<Place> {
@@ -18,6 +18,11 @@ impl PlaceWords for TaskCore {
     #[inline(always)]
     fn set_place(&mut self, thread: ThreadId, place: PlaceId) {
         place_words::set_place(&mut self.parts, thread, place);
+    }
+
+    #[inline(always)]
+    fn stand_at(&mut self, thread: ThreadId, place: PlaceId, how_far: HowFarId) {
+        place_words::stand_at(&mut self.parts, thread, place, how_far);
     }
 
     fn set_mark(&mut self, thread: ThreadId, mark: Mark) {

@@ -22,6 +22,7 @@ fn named_subtask(parts: &CoreParts, place: u32, subtask: Subtask) -> SubtaskId
     }
 }
 
+#[inline(always)]
 fn named_how_far(parts: &CoreParts, place: u32, how_far: HowFar) -> HowFarId
     requires sound { IsSound parts.now }
     requires at { AtPlace (parts_of parts.now) place (how_far_target how_far) }

@@ -25,7 +25,8 @@ abbrev pub Lowers : Table (Single TaskGroup) → Table (Single TaskGroup) → Op
 Lowers old new None None = new ≡ old
 Lowers old new None (Some id) = ⊥
 Lowers old new (Some n) None = ⊥
-Lowers old new (Some n) (Some id) = (r : TaskGroup) × ((Ok r ≡ item_at item_of old id.rep id.serial) × ((r.number ≡ n) × (new ≡ with_entry id.rep (entry_of (record r { calls = r.calls - 1 })) old)))
+Lowers old new (Some n) (Some id) = (r : TaskGroup) × ((Ok r ≡ item_at item_of old id.rep id.serial) × ((r.number ≡ n) ×
+    (new ≡ with_entry id.rep (entry_of (record r { calls = r.calls - 1 })) old)))
 
 -- The group stands in the table.
 abbrev pub IsIn : TaskGroup → Table (Single TaskGroup) → Type 0

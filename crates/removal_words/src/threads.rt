@@ -13,9 +13,9 @@ ghost use Rattle.task_words.specs.Apart.{IsApart};
 ghost use Rattle.task_words.specs.StateView.{KeepsBut, lost_thread, on_core, thread_of};
 
 use crate::chains::{close, close_seats, drop_seat};
-use place_words::set_place;
+use place_words::suspend;
 use task_records::{CoreParts, GuestTask, GuestThread, task_of};
-use task_words::{CallId, PlaceId, ThreadId};
+use task_words::{CallId, ThreadId};
 
 // The record of a thread that is there, and that of its call.
 fn with_call(parts: &CoreParts, thread: ThreadId) -> (GuestThread, CallId, GuestTask)
@@ -48,8 +48,8 @@ fn drop_thread(parts: &mut CoreParts, thread: ThreadId)
     ensures tags { KeepsBut (lost_thread (thread_of (seen parts.old) thread)) (seen parts.old).tags (seen parts.new).tags }
     ensures places { (g : GuestThread) → Ok g ≡ item_at item_of parts.old.threads thread.rep thread.serial → parts.new.table_places ≡ given g.set_entry (given g.entry parts.old.table_places) }
 {
-    let (found, task, mut call) = with_call(parts, thread);
-    call.threads -= 1;
+    let (found, task, call) = with_call(parts, thread);
+    let threads = call.threads - 1;
     close_seats(&mut parts.places, found.under);
     drop_seat(&mut parts.places, found.node);
     parts.behind.no_node_is_twice();
@@ -61,7 +61,7 @@ fn drop_thread(parts: &mut CoreParts, thread: ThreadId)
     parts.shelves.drop_node(found.shelf);
     match parts.calls.get_mut(task) {
         Ok(entry) => {
-            *entry = call;
+            entry.threads = threads;
         }
         Err(_) => unreachable!(),
     }
@@ -84,7 +84,7 @@ pub fn remove_thread(parts: &mut CoreParts, thread: ThreadId)
     ensures current { (seen parts.new).current ≡ (seen parts.old).current }
     ensures tags { KeepsBut (lost_thread (thread_of (seen parts.old) thread)) (seen parts.old).tags (seen parts.new).tags }
 {
-    set_place(parts, thread, PlaceId::Suspended);
+    suspend(parts, thread);
     drop_thread(parts, thread);
 }
 

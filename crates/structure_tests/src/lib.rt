@@ -1,10 +1,9 @@
-//! Tests of the plain data and of the structures that the component's state is made of: tables, links, handles, strands, groups and join handles.
+//! Tests of the plain data and of the structures that the component's state is made of: tables, links, handles, strands
+//! and groups.
 //!
 //! They stand apart, so that those crates are proved without them.
 #![tactic(auto)]
 
-#[cfg(test)]
-mod abort;
 #[cfg(test)]
 mod group;
 #[cfg(test)]

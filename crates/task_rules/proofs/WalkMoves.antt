@@ -247,7 +247,7 @@ told_shifts k e w s to = by (is_told k s) refl
     by false is = NoWord
 
 module _ {a : Scene} {b : Core} where
-  pub told_walks : (k : ℕ) (e : Status) (w : Option ℕ) {s : Core} → (is_told k s ≡ true → Tells e k s) → IsStarting a k s → ToldTo k w s → Keep a b s → Keep a b (told k e w s)
+  pub told_walks : (k : ℕ) (e : Status) (w : Option ℕ) {s : Core} → (is_told k s ≡ true → Tells e k a.base s) → IsStarting a k s → ToldTo k w s → Keep a b s → Keep a b (told k e w s)
   told_walks k e w {s = s} tells starts to c =
       shifted (told_shifts k e w s to) (chain_if (is_told k s) (set_event (Subtask.Guest k) (Some e) s) s (λ is. word (SetCallEvent k (Some e)) (is, (tells is, starts)) c) (λ is. c))
 

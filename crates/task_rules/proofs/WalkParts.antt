@@ -302,7 +302,7 @@ module _ {a : Scene} (n : ℕ) (is : IsRunner a n) where
       let u = sync_sets_flag m e.instance k (set_started m (with_thread_handle e.instance m t)) in
       let new = entered n e k words (thread_group n s) s in
       let h : Born m Goal.Direct u = new.1.0 in
-      let c : Keep a s u = sync_sets_flag_walks n is m e.instance k (word (SetStarted m) (inr (refl, new.0)) (word (NameThread e.instance m) tt (word (MakeCall (Caller.Thread n) e k Goal.Direct (thread_group n s) words) ok NoWord))) in
+      let c : Keep a s u = sync_sets_flag_walks n is m e.instance k (word (SetStarted m) (inr ((refl, new.0), to)) (word (NameThread e.instance m) tt (word (MakeCall (Caller.Thread n) e k Goal.Direct (thread_group n s) words) ok NoWord))) in
       lands_at (Enter n m) n (HowFar.Calls (Subtask.Guest m)) refl (is, (to, (refl, (h.place, (ap (λ (y : Goal). is_direct y) h.goal, (runs, (new.1.1.0, (keep_still n runs c, sync)))))))) (is, inr (shifted_new a m u _ refl (placing_shifted (Enter n m) u) (h.made, h.explicit), called_as n m u (after_placing (Enter n m) u) (shifted_calls (placing_shifted (Enter n m) u)) new.1.1.1)) (keep_still n runs c) can tt c
 
 pub enter_gives : (n : ℕ) (e : Callee) (k : ExportKind) (words : List ℕ) (s : Core) → (next_thread s == n) ≡ false → option_map_or is_running (place_of (next_thread s) (enter_runs n e k words s)) true ≡ true

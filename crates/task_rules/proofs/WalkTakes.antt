@@ -52,6 +52,10 @@ published_to : (k : ℕ) (w : Option ℕ) (s : Core) → ToldTo k w s → ToldTo
 unfolding set_starting_published on_call
 published_to k w s to told y is = to (grind (arith, nat_tests, get-change, told)) y (grind (arith, nat_tests, get-change, is))
 
+starting_now : (k : ℕ) (s : Core) → is_told k (set_starting_published k s) ≡ true → starting_is_published k (set_starting_published k s) ≡ true
+unfolding set_starting_published on_call
+starting_now k s told = grind (arith, nat_tests, get-change)
+
 -- ---- The thread that is taken
 
 module _ (x : Setting) (main : Main) (ended : Bool) (s : Core) (n : ℕ) (l : Label) (next : Turn) where
@@ -104,12 +108,12 @@ module _ (x : Setting) (main : Main) (ended : Bool) (s : Core) (n : ℕ) (l : La
   not_start : (y : Mark) (v : Why) → place_of n s ≡ Some (Place.Ready y v) → WasReady taking_scene n Why.Start → {A : Type 0} → is_start (Place.Ready y v) ≡ false → A
   not_start y v at ready none = absurd (subst T (ap (λ (o : Option Place). option_map_or is_start o false) (sym ready.1 ∙ at) ∙ none) tt)
 
-  starts_walks : (w : Option ℕ) → WasReady taking_scene n Why.Start → is_explicit n s ≡ false → may_tell (task_of n s) w s ≡ true → Keep taking_scene s (told_start w)
+  starts_walks : next ≡ Turn.Run n → (w : Option ℕ) → WasReady taking_scene n Why.Start → is_explicit n s ≡ false → may_tell (task_of n s) w s ≡ true → Keep taking_scene s (told_start w)
   unfolding begun_at
-  starts_walks w ready implicit may =
+  starts_walks runs w ready implicit may =
       let k = task_of n s in
       told_walks k Status.Started w (begun_keeps n s).1.1 (n, (refl, (ready, (implicit, (refl, (begun_keeps n s).1.0))))) (begun_to n w s (told_to k w s may))
-      (word (SetStarted k) (inl (n, (refl, (ready, refl)))) (word (NameThread (instance_of n s) n) tt NoWord))
+      (word (SetStarted k) (inl (n, (refl, (ready, (implicit, (refl, runs)))))) (word (NameThread (instance_of n s) n) tt NoWord))
 
   barred_leads : (m : Mark) (w : Option ℕ) → WasReady taking_scene n Why.Start → is_explicit n s ≡ false → admits n s Why.Start ≡ true → may_tell (task_of n s) w s ≡ true → (q : ExportKind) → kind_of (task_of n s) s ≡ q → is_holding q ≡ true → Leads taking_scene s (Goes (take_label m n w) (set_place n Place.Running (set_do_not_enter (instance_of n (told_start w)) true (told_start w))) n)
   unfolding set_place on_thread set_do_not_enter on_instance
@@ -121,12 +125,12 @@ module _ (x : Setting) (main : Main) (ended : Bool) (s : Core) (n : ℕ) (l : La
         subst (λ (j : ℕ). may_not_enter j s ≡ false) same open_at,
         subst (λ (j : ℕ). is_some (get (set_place n Place.Running (set_do_not_enter (instance_of n (told_start w)) true (told_start w))).instances j) ≡ true → may_not_enter j (set_place n Place.Running (set_do_not_enter (instance_of n (told_start w)) true (told_start w))) ≡ true) (home ∙ same) (shut_here (instance_of n (told_start w)) (told_start w)),
       ))
-      (λ to. word (SetDoNotEnter (instance_of n (told_start w)) true) (ap (λ (j : ℕ). may_not_enter j s) home ∙ open_at, tt) (starts_walks w ready implicit may))
+      (λ to. word (SetDoNotEnter (instance_of n (told_start w)) true) (ap (λ (j : ℕ). may_not_enter j s) home ∙ open_at, tt) (starts_walks to w ready implicit may))
 
   begins_leads : (m : Mark) (w : Option ℕ) → WasReady taking_scene n Why.Start → is_explicit n s ≡ false → admits n s Why.Start ≡ true → may_tell (task_of n s) w s ≡ true → (q : ExportKind) → kind_of (task_of n s) s ≡ q → Leads taking_scene s (Goes (take_label m n w) (set_place n Place.Running (start_sets_flags n q (told_start w))) n)
   unfolding set_do_not_suspend on_instance set_saved_own on_thread
-  begins_leads m w ready implicit admitted may ExportKind.Sync at = runs_taken (take_label m n w) _ (λ i r. start_begun w may) (take_is taking_scene s m n w).0 (λ at. mute_words taking_scene _ at (take_is taking_scene _ m n w).1.1) (λ i begun. none_holds m w ExportKind.Sync at refl i begun) (λ to. sync_sets_flag_walks n refl n (instance_of n (told_start w)) ExportKind.Sync (starts_walks w ready implicit may))
-  begins_leads m w ready implicit admitted may ExportKind.Stackful at = runs_taken (take_label m n w) _ (λ i r. start_begun w may) (take_is taking_scene s m n w).0 (λ at. mute_words taking_scene _ at (take_is taking_scene _ m n w).1.1) (λ i begun. none_holds m w ExportKind.Stackful at refl i begun) (λ to. starts_walks w ready implicit may)
+  begins_leads m w ready implicit admitted may ExportKind.Sync at = runs_taken (take_label m n w) _ (λ i r. start_begun w may) (take_is taking_scene s m n w).0 (λ at. mute_words taking_scene _ at (take_is taking_scene _ m n w).1.1) (λ i begun. none_holds m w ExportKind.Sync at refl i begun) (λ to. sync_sets_flag_walks n refl n (instance_of n (told_start w)) ExportKind.Sync (starts_walks to w ready implicit may))
+  begins_leads m w ready implicit admitted may ExportKind.Stackful at = runs_taken (take_label m n w) _ (λ i r. start_begun w may) (take_is taking_scene s m n w).0 (λ at. mute_words taking_scene _ at (take_is taking_scene _ m n w).1.1) (λ i begun. none_holds m w ExportKind.Stackful at refl i begun) (λ to. starts_walks to w ready implicit may)
   begins_leads m w ready implicit admitted may ExportKind.Blocking at = barred_leads m w ready implicit admitted may ExportKind.Blocking at refl
   begins_leads m w ready implicit admitted may ExportKind.Callback at = barred_leads m w ready implicit admitted may ExportKind.Callback at refl
 
@@ -148,7 +152,7 @@ module _ (x : Setting) (main : Main) (ended : Bool) (s : Core) (n : ℕ) (l : La
   starting_walks w ready implicit may =
       let k = task_of n s in
       chain_if (starting_is_published k s) s (told k Status.Starting w (set_starting_published k s)) (λ e. NoWord) (λ e.
-      told_walks k Status.Starting w (λ told. tt) (n, (refl, (ready, (implicit, (refl, grind (arith, nat_tests, get-change)))))) (published_to k w s (told_to k w s (sym (ap (λ c. cond c (is_none w) (may_tell k w s)) e) ∙ may)))
+      told_walks k Status.Starting w (λ told. (e, starting_now k s told)) (n, (refl, (ready, (implicit, (refl, grind (arith, nat_tests, get-change)))))) (published_to k w s (told_to k w s (sym (ap (λ c. cond c (is_none w) (may_tell k w s)) e) ∙ may)))
       (word (SetStartingPublished k) tt NoWord))
 
   -- whether Starting was told or not, who is admitted

@@ -36,6 +36,7 @@ use Rattle.task_rules.specs.Places.{is_at_wait}
 use Rattle.task_rules.specs.Scenes.{Scene, component_of, op_in}
 use Rattle.task_rules.specs.Scripts.{export_kind, is_script, registers_for, script_of, slot_at}
 use Rattle.task_rules.specs.Threads.{resume_why}
+use Rattle.task_rules.specs.Takes.{starting_is_published}
 use Rattle.task_rules.specs.Words.{AddGroup, Advance, Restart, CloseSet, CountWork, EndWork, Enter, FinishWork, GoBehind, MakeCall, MakeThread, Move, NameCall, NameWork, OpenSet, Pend, Places, Placing, Pop, Promote, Put, QueueWork, RemoveCall, RemoveGroup, RemoveThread, RemoveWork, SetCallEvent, SetCallJoin, SetCancelDelivered, SetCancelled, SetBackpressure, SetDoNotEnter, EndCall, SetHowFar, SetOwnEvent, SetPhase, SetStarted, TakeWorkEvent, SetWorkJoin, Stop, TakeHost, TakePush, UnnameCall, UnnameWork, Withdraw, Word, status_of_end, GiveResult, SetUninteresting, SetTrapped}
 use Rattle.task_rules.specs.Works.{next_polled, has_end}
 use Rattle.task_rules.specs.SubtaskEnds.{end_for, written_by}
@@ -344,9 +345,11 @@ MayMakeCall a f e x g group s = MayCall a f e group s × ((s.made.threads ≡ a.
     ((is_direct g ≡ true → (is_async_lifted x ≡ false) × (a.next ≡ turn.Run (next_thread a.base))) ×
     ((is_for_main g ≡ not (is_guest_call f)) × ((s.made.works ≡ a.base.made.works) × (s.made.sets ≡ a.base.made.sets))))))
 
--- the call of the thread that was taken to start, or a new direct one
+-- the call of the thread that was taken to start, or a new direct one, whose first thread runs next
 abbrev pub MayStart : Scene → ℕ → Core → Type 0
-MayStart a k s = ((n : ℕ) × (IsRunner a n × (WasReady a n why.Start × (k ≡ task_of n a.base)))) ⊎ IsNew a (subtask.Guest k) s
+MayStart a k s =
+    ((n : ℕ) × (IsRunner a n × (WasReady a n why.Start × ((is_explicit n a.base ≡ false) × ((k ≡ task_of n a.base) × (a.next ≡ turn.Run n))))))
+    ⊎ (IsNew a (subtask.Guest k) s × (a.next ≡ turn.Run k))
 
 -- Why the call comes to the end.
 pub data MayEnd (a : Scene) (k : ℕ) (e : CallEnd) (s : Core) : Type 0 where
@@ -366,11 +369,11 @@ pub data MayEnd (a : Scene) (k : ℕ) (e : CallEnd) (s : Core) : Type 0 where
 abbrev pub SaysEnd : Scene → ℕ → Status → Type 0
 SaysEnd a k e = written_by (component_of a) a.base a.label a.base ≡ Some (end_for e (subtask.Guest k))
 
--- the call has come to where this status says, which is none of an end: those are told as they come
-abbrev pub Tells : Status → ℕ → Core → Type 0
-Tells status.Starting k s = Unit {0}
-Tells status.Started k s = was_started k s ≡ true
-Tells _ k s = ⊥
+-- from b to s the call has come to where this status says, which is none of an end: those are told as they come
+abbrev pub Tells : Status → ℕ → Core → Core → Type 0
+Tells status.Starting k b s = (starting_is_published k b ≡ false) × (starting_is_published k s ≡ true)
+Tells status.Started k b s = was_started k s ≡ true
+Tells _ k b s = ⊥
 
 -- the call of the first thread that was taken to start, which hasn't come to an end since
 abbrev pub IsStarting : Scene → ℕ → Core → Type 0
@@ -393,7 +396,7 @@ pub data MayTakeEvent (a : Scene) (k : ℕ) (s : Core) : Type 0 where
 
 -- how far its start has come is told to the calling thread, or the running thread takes the event
 abbrev pub MayTell : Scene → ℕ → Option Status → Core → Type 0
-MayTell a k (Some e) s = (is_told k s ≡ true) × (Tells e k s × IsStarting a k s)
+MayTell a k (Some e) s = (is_told k s ≡ true) × (Tells e k a.base s × IsStarting a k s)
 MayTell a k None s = MayTakeEvent a k s
 
 -- Cancelled comes to a task that a handle names, and that is started and hasn't ended; to one that yields comes what it has, or None; what is

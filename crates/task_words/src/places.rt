@@ -2,16 +2,16 @@ ghost use Rattle.std.specs.Prelude.{◌≡◌, ◌++◌, ◌<◌, ◌∷◌, [],
 ghost use Rattle.task_machine.specs.Maps.{size};
 ghost use Rattle.task_machine.specs.Moves.{released, stand, why_of};
 ghost use Rattle.task_machine.specs.Read.{admitted_held, blocked_on, callers_of, has_waiter, is_nil, is_waiter, place_of, under_of};
-ghost use Rattle.task_machine.specs.Write.{set_callers, set_place};
+ghost use Rattle.task_machine.specs.Write.{set_callers, set_how_far, set_place};
 ghost use Rattle.task_machine.specs.declared.records.Place.TheVariants as place_of_thread;
 ghost use Rattle.task_rules.specs.Places.{Placed};
 ghost use Rattle.task_rules.specs.Works.{first_number};
 ghost use Rattle.task_words.specs.Apart.{IsBehindNobody, later_of, newest_of, older_of};
 ghost use Rattle.task_words.specs.Live.{delivered_set, live_set};
-ghost use Rattle.task_words.specs.Names.{number_in, place_in, subtask_in};
+ghost use Rattle.task_words.specs.Names.{how_far_in, number_in, place_in, subtask_in};
 ghost use Rattle.task_words.specs.StateView.{on_core, set_of, thread_of};
 
-use crate::names::{PlaceId, SetId, SubtaskId, ThreadId};
+use crate::names::{HowFarId, PlaceId, SetId, SubtaskId, ThreadId};
 use crate::view::View;
 use task_machine::{Mark, Place, Why};
 
@@ -30,6 +30,10 @@ pub trait PlaceWords: View {
 
     fn set_place(&mut self, thread: ThreadId, place: PlaceId)
         ensures { Self.view self.new ≡ on_core (set_place (thread_of (Self.view self.old) thread) (place_in (Self.view self.old).tags place)) (Self.view self.old) };
+
+    /// The thread is at this place from now on, and has come so far in its op.
+    fn stand_at(&mut self, thread: ThreadId, place: PlaceId, how_far: HowFarId)
+        ensures { Self.view self.new ≡ on_core (λ s. set_how_far (thread_of (Self.view self.old) thread) (how_far_in (Self.view self.old).tags how_far) (set_place (thread_of (Self.view self.old) thread) (place_in (Self.view self.old).tags place) s)) (Self.view self.old) };
 
     /// The thread's entry is at this mark from now on, for the same reason.
     fn set_mark(&mut self, thread: ThreadId, mark: Mark)

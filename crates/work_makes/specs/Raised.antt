@@ -34,7 +34,8 @@ abbrev pub Raises : Table (Single TaskGroup) → Table (Single TaskGroup) → Op
 Raises old new None None = new ≡ old
 Raises old new None (Some id) = ⊥
 Raises old new (Some n) None = ⊥
-Raises old new (Some n) (Some id) = (r : TaskGroup) × ((Ok r ≡ item_at item_of old id.rep id.serial) × ((r.number ≡ n) × (new ≡ with_entry id.rep (entry_of (record r { calls = r.calls + 1 })) old)))
+Raises old new (Some n) (Some id) = (r : TaskGroup) × ((Ok r ≡ item_at item_of old id.rep id.serial) × ((r.number ≡ n) ×
+    (new ≡ with_entry id.rep (entry_of (record r { calls = r.calls + 1 })) old)))
 
 -- The group of a host call, and how many calls are of it; a spawned work has none.
 abbrev pub GroupHere : Type 0
@@ -70,4 +71,10 @@ record_for number q group nodes = record {
 pub record PushesWork (a b : CoreParts) (w : HostWork) (group : GroupHere) (id : ℕ) (used : ℕ) : Type 0 where
   pub works : b.works ≡ pushed (entry_of w) a.works
   pub at : id ≡ next_place a.works
-  pub only : b ≡ record a { works = b.works; groups = raised a.groups group; made = record a.made { works = a.made.works + 1 }; kept = record a.kept { used = a.kept.used + used } }
+  pub only :
+      b ≡ record a {
+        works = b.works;
+        groups = raised a.groups group;
+        made = record a.made { works = a.made.works + 1 };
+        kept = record a.kept { used = a.kept.used + used };
+      }

@@ -1,5 +1,7 @@
-use Rattle.task_records.proofs.Core.{ap, Option, option_map, Refiles, refl, set_event, subst, sym, ℕ, ◌∙◌}
+use Rattle.task_records.proofs.Core.{ap, entry_of, IsSound, Option, option_map, Refiles, refl, seen, set_event, subst, sym, with_entry, ℕ, ◌∙◌}
+use Rattle.task_records.specs.declared.{calls.GuestTask.GuestTask}
 use Rattle.place_words.proofs.GoneLemmas.{call_gone}
+use Rattle.place_words.proofs.ThreadLemmas.{same_item}
 use Rattle.place_words.proofs.TellLemmas.{join_at, ready_live, ready_made, kept_same, same_sets, told_seen, told_sound}
 use Rattle.place_words.proofs.events.set_call_event.Goals as goal
 use Rattle.table_order.specs.declared.seat_links.Seat.{Seat}
@@ -19,17 +21,19 @@ returns-in-Ok-clause-sound c =
     let a = c.args.parts.now in
     let g = c.in-Some.found.now in
     let h = record g { call = record g.call { event = c.args.event } } in
-    told_sound a c.requires c.args.call g c.in-Some.ensures.item h refl a.sets refl c.refile.new.links (join_at a c.requires c.args.call g c.in-Some.ensures.item) (same_sets a c.requires c.args.call g c.in-Some.ensures.item h refl)
+    subst (λ (x : GuestTask). IsSound (record a { calls = with_entry c.args.call.rep (entry_of (record x { call = record x.call { event = c.args.event } })) a.calls; ready_calls = c.refile.new.links })) (same_item c.in-Some.ensures.item c.in-Ok.ensures.value)
+    (told_sound a c.requires c.args.call g c.in-Some.ensures.item h refl a.sets refl c.refile.new.links (join_at a c.requires c.args.call g c.in-Some.ensures.item) (same_sets a c.requires c.args.call g c.in-Some.ensures.item h refl)
     (kept_same a c.requires c.args.call g c.in-Some.ensures.item h refl refl c.refile.new.links) refl
     (subst (λ (l : Option (ℕ × Seat)). Refiles a.ready_calls c.refile.new.links g.ready.index l)
-    (ap (λ r. option_map (λ k. (k, r)) c.call_chain-chain.result) (c.member_seat.ensures ∙ ap (member_seat g.entry) c.rep.ensures) ∙ ap (option_map (λ k. (k, member_seat g.entry c.args.call.rep))) (sym c.call_chain-chain.ensures)) c.refile.ensures.links)
+    (ap (λ r. option_map (λ k. (k, r)) c.call_chain-chain.result) (c.member_seat.ensures ∙ ap (member_seat g.entry) c.rep.ensures) ∙ ap (option_map (λ k. (k, member_seat g.entry c.args.call.rep))) (sym c.call_chain-chain.ensures)) c.refile.ensures.links))
 
 pub returns-in-Ok-clause-new : goal.returns-in-Ok-clause-new
 unfolding set_event
 returns-in-Ok-clause-new c =
     let a = c.args.parts.now in
     let g = c.in-Some.found.now in
-    told_seen a c.requires c.args.call g c.in-Some.ensures.item (record g { call = record g.call { event = c.args.event } }) refl a.sets refl c.refile.new.links _ refl
+    ap (λ (x : GuestTask). seen (record a { calls = with_entry c.args.call.rep (entry_of (record x { call = record x.call { event = c.args.event } })) a.calls; ready_calls = c.refile.new.links })) (sym (same_item c.in-Some.ensures.item c.in-Ok.ensures.value))
+    ∙ told_seen a c.requires c.args.call g c.in-Some.ensures.item (record g { call = record g.call { event = c.args.event } }) refl a.sets refl c.refile.new.links _ refl
 
 pub returns-in_default-clause-new : goal.returns-in_default-clause-new
 unfolding set_event

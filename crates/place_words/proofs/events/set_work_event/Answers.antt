@@ -1,5 +1,7 @@
-use Rattle.task_records.proofs.Core.{ap, Option, option_map, Refiles, refl, set_event, subst, sym, ℕ, ◌∙◌}
+use Rattle.task_records.proofs.Core.{ap, entry_of, IsSound, Option, option_map, Refiles, refl, seen, set_event, subst, sym, with_entry, ℕ, ◌∙◌}
+use Rattle.task_records.specs.declared.{works.HostWork.HostWork}
 use Rattle.place_words.proofs.GoneLemmas.{work_gone}
+use Rattle.place_words.proofs.ThreadLemmas.{same_item}
 use Rattle.place_words.proofs.HearLemmas.{is_whole, work_join_at, ready_live, ready_made, kept_same, same_sets, stays_live, heard_seen, heard_sound}
 use Rattle.place_words.proofs.events.set_work_event.Goals as goal
 use Rattle.table_order.specs.declared.seat_links.Seat.{Seat}
@@ -19,17 +21,19 @@ returns-in-Ok-clause-sound c =
     let a = c.args.parts.now in
     let g = c.in-Some.found.now in
     let h = record g { work = record g.work { event = c.args.event } } in
-    heard_sound a c.requires c.args.work g c.in-Some.ensures.item h refl a.sets refl c.refile.new.links a.polled a.kept.live a.kept.moving (work_join_at a c.requires c.args.work g c.in-Some.ensures.item) (same_sets a c.requires c.args.work g c.in-Some.ensures.item h refl)
+    subst (λ (x : HostWork). IsSound (record a { works = with_entry c.args.work.rep (entry_of (record x { work = record x.work { event = c.args.event } })) a.works; ready_works = c.refile.new.links })) (same_item c.in-Some.ensures.item c.in-Ok.ensures.value)
+    (heard_sound a c.requires c.args.work g c.in-Some.ensures.item h refl a.sets refl c.refile.new.links a.polled a.kept.live a.kept.moving (work_join_at a c.requires c.args.work g c.in-Some.ensures.item) (same_sets a c.requires c.args.work g c.in-Some.ensures.item h refl)
     (kept_same a c.requires c.args.work g c.in-Some.ensures.item h refl refl c.refile.new.links a.polled a.kept.live a.kept.moving) refl refl (stays_live a c.requires c.args.work g c.in-Some.ensures.item h refl refl) (is_whole a c.requires c.args.work g c.in-Some.ensures.item).chained.rising
     (subst (λ (l : Option (ℕ × Seat)). Refiles a.ready_works c.refile.new.links g.ready.index l)
-    (ap (λ r. option_map (λ k. (k, r)) c.work_chain-chain.result) (c.member_seat.ensures ∙ ap (member_seat g.entry) c.rep.ensures) ∙ ap (option_map (λ k. (k, member_seat g.entry c.args.work.rep))) (sym c.work_chain-chain.ensures)) c.refile.ensures.links)
+    (ap (λ r. option_map (λ k. (k, r)) c.work_chain-chain.result) (c.member_seat.ensures ∙ ap (member_seat g.entry) c.rep.ensures) ∙ ap (option_map (λ k. (k, member_seat g.entry c.args.work.rep))) (sym c.work_chain-chain.ensures)) c.refile.ensures.links))
 
 pub returns-in-Ok-clause-new : goal.returns-in-Ok-clause-new
 unfolding set_event
 returns-in-Ok-clause-new c =
     let a = c.args.parts.now in
     let g = c.in-Some.found.now in
-    heard_seen a c.requires c.args.work g c.in-Some.ensures.item (record g { work = record g.work { event = c.args.event } }) refl a.sets refl c.refile.new.links a.polled a.kept.live a.kept.moving _ refl
+    ap (λ (x : HostWork). seen (record a { works = with_entry c.args.work.rep (entry_of (record x { work = record x.work { event = c.args.event } })) a.works; ready_works = c.refile.new.links })) (sym (same_item c.in-Some.ensures.item c.in-Ok.ensures.value))
+    ∙ heard_seen a c.requires c.args.work g c.in-Some.ensures.item (record g { work = record g.work { event = c.args.event } }) refl a.sets refl c.refile.new.links a.polled a.kept.live a.kept.moving _ refl
 
 pub returns-in_default-clause-new : goal.returns-in_default-clause-new
 unfolding set_event

@@ -1,5 +1,6 @@
 use Rattle.task_records.proofs.Core.{ap, Call, call_of, entry_of, IsSound, item_at, item_of, Join, on_call, on_core, Option, option_map, Refiles, refl, seen, set_join, subst, sym, Table, with_entry, ℕ, ◌+◌, ◌∙◌, ◌≡◌}
-use Rattle.task_records.specs.declared.{sets.WaitSet.WaitSet, single.Single.Single}
+use Rattle.task_records.specs.declared.{calls.GuestTask.GuestTask, sets.WaitSet.WaitSet, single.Single.Single}
+use Rattle.place_words.proofs.ThreadLemmas.{same_item}
 use Rattle.place_words.proofs.GoneLemmas.{call_gone}
 use Rattle.place_words.proofs.JoinLemmas.{in_is, less_fits, more_fits, sets_sound}
 use Rattle.place_words.proofs.TellLemmas.{join_at, joined_alike, joined_now, kept_joined, ready_live, ready_made, some_member, told_seen, told_sound}
@@ -32,10 +33,11 @@ returns-in-Ok-clause-sound c =
     let g = c.in-Some.found.now in
     let h = record g { call = record g.call { join = c.named_join-named.result.0 }; joined = c.named_join-named.result.1 } in
     let links = c.refile.new.links in
-    subst (λ (t : Table (Single WaitSet)). IsSound (record a { calls = with_entry c.args.call.rep (entry_of h) a.calls; sets = t; ready_calls = links })) (sym (c.enter.ensures ∙ ap (rejoined (λ n. n + 1) c.joined_set-to.result.rep c.joined_set-to.result.serial) c.leave.ensures))
+    subst (λ (x : GuestTask). IsSound (record a { calls = with_entry c.args.call.rep (entry_of (record x { call = record x.call { join = c.named_join-named.result.0 }; joined = c.named_join-named.result.1 })) a.calls; sets = c.enter.new.sets; ready_calls = links })) (same_item c.in-Some.ensures.item c.in-Ok.ensures.value)
+    (subst (λ (t : Table (Single WaitSet)). IsSound (record a { calls = with_entry c.args.call.rep (entry_of h) a.calls; sets = t; ready_calls = links })) (sym (c.enter.ensures ∙ ap (rejoined (λ n. n + 1) c.joined_set-to.result.rep c.joined_set-to.result.serial) c.leave.ensures))
     (told_sound a c.requires c.args.call g c.in-Some.ensures.item h refl (joined_now a c.requires c.args.call g c.in-Some.ensures.item h refl c.joined_set-from.result c.joined_set-to.result c.joined_set-from.ensures c.joined_set-to.ensures links) (joined_alike a c.requires c.args.call g c.in-Some.ensures.item h refl c.joined_set-from.result c.joined_set-to.result c.joined_set-from.ensures c.joined_set-to.ensures links) links c.named_join-named.ensures.at (sets_sound a c.requires (joined_set g.call.join) (joined_set c.named_join-named.result.0) c.joined_set-from.result c.joined_set-to.result c.joined_set-from.ensures c.joined_set-to.ensures) (kept_joined a c.requires c.args.call g c.in-Some.ensures.item h refl c.joined_set-from.result c.joined_set-to.result c.joined_set-from.ensures c.joined_set-to.ensures links) refl
     (subst (λ (l : Option (ℕ × Seat)). Refiles a.ready_calls links g.ready.index l)
-    (ap (λ r. option_map (λ k. (k, r)) c.call_chain-chain.result) (c.member_seat.ensures ∙ ap (member_seat g.entry) c.rep.ensures) ∙ ap (option_map (λ k. (k, member_seat g.entry c.args.call.rep))) (sym c.call_chain-chain.ensures)) c.refile.ensures.links))
+    (ap (λ r. option_map (λ k. (k, r)) c.call_chain-chain.result) (c.member_seat.ensures ∙ ap (member_seat g.entry) c.rep.ensures) ∙ ap (option_map (λ k. (k, member_seat g.entry c.args.call.rep))) (sym c.call_chain-chain.ensures)) c.refile.ensures.links)))
 
 pub returns-in-Ok-clause-new : goal.returns-in-Ok-clause-new
 unfolding set_join
@@ -44,9 +46,10 @@ returns-in-Ok-clause-new c =
     let g = c.in-Some.found.now in
     let h = record g { call = record g.call { join = c.named_join-named.result.0 }; joined = c.named_join-named.result.1 } in
     let links = c.refile.new.links in
-    subst (λ (t : Table (Single WaitSet)). seen (record a { calls = with_entry c.args.call.rep (entry_of h) a.calls; sets = t; ready_calls = links }) ≡ on_core (on_call (call_of (seen a) c.args.call) (λ (x : Call). record x { join = c.named_join-named.result.0 })) (seen a)) (sym (c.enter.ensures ∙ ap (rejoined (λ n. n + 1) c.joined_set-to.result.rep c.joined_set-to.result.serial) c.leave.ensures))
+    ap (λ (x : GuestTask). seen (record a { calls = with_entry c.args.call.rep (entry_of (record x { call = record x.call { join = c.named_join-named.result.0 }; joined = c.named_join-named.result.1 })) a.calls; sets = c.enter.new.sets; ready_calls = links })) (sym (same_item c.in-Some.ensures.item c.in-Ok.ensures.value))
+    ∙ (subst (λ (t : Table (Single WaitSet)). seen (record a { calls = with_entry c.args.call.rep (entry_of h) a.calls; sets = t; ready_calls = links }) ≡ on_core (on_call (call_of (seen a) c.args.call) (λ (x : Call). record x { join = c.named_join-named.result.0 })) (seen a)) (sym (c.enter.ensures ∙ ap (rejoined (λ n. n + 1) c.joined_set-to.result.rep c.joined_set-to.result.serial) c.leave.ensures))
     (told_seen a c.requires c.args.call g c.in-Some.ensures.item h refl (joined_now a c.requires c.args.call g c.in-Some.ensures.item h refl c.joined_set-from.result c.joined_set-to.result c.joined_set-from.ensures c.joined_set-to.ensures links) (joined_alike a c.requires c.args.call g c.in-Some.ensures.item h refl c.joined_set-from.result c.joined_set-to.result c.joined_set-from.ensures c.joined_set-to.ensures links) links (λ (x : Call). record x { join = c.named_join-named.result.0 }) refl)
-    ∙ ap (λ (j : Join). on_core (on_call (call_of (seen a) c.args.call) (λ (x : Call). record x { join = j })) (seen a)) (sym c.named_join-named.ensures.is)
+    ∙ ap (λ (j : Join). on_core (on_call (call_of (seen a) c.args.call) (λ (x : Call). record x { join = j })) (seen a)) (sym c.named_join-named.ensures.is))
 
 pub returns-in_default-clause-new : goal.returns-in_default-clause-new
 unfolding set_join

@@ -1,5 +1,6 @@
-use Rattle.task_records.proofs.Core.{ap, Bool, cond, live_value, Option, option_map, Refiles, refl, set_stage, subst, sym, ℕ, ◌+◌, ◌∙◌, ◌≤◌}
-use Rattle.task_records.specs.declared.{works.LiveWork.LiveWork}
+use Rattle.task_records.proofs.Core.{ap, Bool, cond, entry_of, IsSound, live_value, Option, option_map, Refiles, refl, seen, set_stage, subst, sym, with_entry, ℕ, ◌+◌, ◌∙◌, ◌≤◌}
+use Rattle.task_records.specs.declared.{works.HostWork.HostWork, works.LiveWork.LiveWork}
+use Rattle.place_words.proofs.ThreadLemmas.{same_item}
 use Rattle.place_words.proofs.GoneLemmas.{work_gone}
 use Rattle.place_words.proofs.HearLemmas.{is_whole, heard_seen, heard_sound, kept_same, live_made, same_sets, work_join_at}
 use Rattle.place_words.proofs.StageLemmas.{live_few, live_some, moving_some, recounted_is, stage_live, stays_ready}
@@ -36,20 +37,22 @@ returns-in-Ok-clause-sound c =
     let g = c.in-Some.found.now in
     let h = record g { work = record g.work { stage = c.args.stage } } in
     let links = c.file_live.new.links in
-    heard_sound a c.requires c.args.work g c.in-Some.ensures.item h refl a.sets refl a.ready_works links c.recounted-parts.result c.recounted-parts-in-Some.result (work_join_at a c.requires c.args.work g c.in-Some.ensures.item) (same_sets a c.requires c.args.work g c.in-Some.ensures.item h refl)
+    subst (λ (x : HostWork). IsSound (record a { works = with_entry c.args.work.rep (entry_of (record x { work = record x.work { stage = c.args.stage } })) a.works; polled = c.file_live.new.links; kept = record a.kept { live = c.recounted-parts.result; moving = c.recounted-parts-in-Some.result } })) (same_item c.in-Some.ensures.item c.in-Ok.ensures.value)
+    (heard_sound a c.requires c.args.work g c.in-Some.ensures.item h refl a.sets refl a.ready_works links c.recounted-parts.result c.recounted-parts-in-Some.result (work_join_at a c.requires c.args.work g c.in-Some.ensures.item) (same_sets a c.requires c.args.work g c.in-Some.ensures.item h refl)
     (kept_same a c.requires c.args.work g c.in-Some.ensures.item h refl refl a.ready_works links c.recounted-parts.result c.recounted-parts-in-Some.result)
     (recounted_is a.kept.live c.recounted-parts.result _ _ _ _ c.is_live.ensures c.is_live-in-Some.ensures c.recounted-parts.ensures)
     (recounted_is a.kept.moving c.recounted-parts-in-Some.result _ _ _ _ c.is_moving.ensures c.is_moving-in-Some.ensures c.recounted-parts-in-Some.ensures)
     (subst (λ (l : Option (ℕ × LiveWork)). Refiles a.polled links g.live.index l) (ap (λ r. option_map (λ k. (k, live_value r g)) c.stage_chain-chain.result) c.rep.ensures ∙ ap (option_map (λ k. (k, live_value c.args.work.rep g))) (sym c.stage_chain-chain.ensures)) c.file_live.ensures.links)
     (c.file_live.ensures.rising a.live (is_whole a c.requires c.args.work g c.in-Some.ensures.item).chained.rising)
-    (stays_ready a c.requires c.args.work g c.in-Some.ensures.item)
+    (stays_ready a c.requires c.args.work g c.in-Some.ensures.item))
 
 pub returns-in-Ok-clause-new : goal.returns-in-Ok-clause-new
 unfolding set_stage
 returns-in-Ok-clause-new c =
     let a = c.args.parts.now in
     let g = c.in-Some.found.now in
-    heard_seen a c.requires c.args.work g c.in-Some.ensures.item (record g { work = record g.work { stage = c.args.stage } }) refl a.sets refl a.ready_works c.file_live.new.links c.recounted-parts.result c.recounted-parts-in-Some.result _ refl
+    ap (λ (x : HostWork). seen (record a { works = with_entry c.args.work.rep (entry_of (record x { work = record x.work { stage = c.args.stage } })) a.works; polled = c.file_live.new.links; kept = record a.kept { live = c.recounted-parts.result; moving = c.recounted-parts-in-Some.result } })) (sym (same_item c.in-Some.ensures.item c.in-Ok.ensures.value))
+    ∙ heard_seen a c.requires c.args.work g c.in-Some.ensures.item (record g { work = record g.work { stage = c.args.stage } }) refl a.sets refl a.ready_works c.file_live.new.links c.recounted-parts.result c.recounted-parts-in-Some.result _ refl
 
 pub returns-in_default-clause-new : goal.returns-in_default-clause-new
 unfolding set_stage

@@ -1,0 +1,4 @@
+pub mod ShowLemmas
+pub mod OwnLemmas
+pub mod TakingLemmas
+pub mod TurnLemmas

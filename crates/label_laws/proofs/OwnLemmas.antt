@@ -1,0 +1,422 @@
+-- The op of a running thread shows a label of its own.
+use Rattle.label_laws.proofs.ShowLemmas.{may_shows, or_never_shows, or_trap_shows, trap_if_shows}
+use Rattle.label_laws.specs.Own.{Shows, is_own}
+use Rattle.std.proofs.Common.{refl, suc, zero}
+use Rattle.std.specs.Prelude.{Bool, List, None, Option, Some, false, is_some, nat_le, nat_lt, not, true, ℕ, ◌%◌, ◌*◌, ◌+◌, ◌/◌, ◌==◌, ◌≡◌}
+use Rattle.task_machine.specs.Core.{Core}
+use Rattle.task_machine.specs.Labels.{Choice, exit_label, join_label, ret_label, task_cancel_label, wait_label}
+use Rattle.task_machine.specs.Moves.{Gift, MemberGift, NoGift, OwnGift, gift, may_hand_on, passes_check}
+use Rattle.task_machine.specs.Read.{at_handle_limit, backpressure_of, cancel_was_delivered, event_of, fits, foot_of, goal_of, has_ended, has_member, has_waiters, how_far_of, instance_of, is_async_lifted, is_direct, is_explicit, is_joined, is_watched, join_of, kind_of, registers_of, set_at, subtask_at, subtask_ended, task_of, thread_at, undelivered_end, under_of, was_cancelled}
+use Rattle.task_machine.specs.Statuses.{status_code}
+use Rattle.task_machine.specs.Write.{set_join}
+use Rattle.task_machine.specs.declared.component.Callee.{Callee}
+use Rattle.task_machine.specs.declared.component.Component.{Component}
+use Rattle.task_machine.specs.declared.component.ExportKind.TheVariants as kind
+use Rattle.task_machine.specs.declared.component.ExportKind.{ExportKind}
+use Rattle.task_machine.specs.declared.component.Slot.TheVariants as slot
+use Rattle.task_machine.specs.declared.component.Slot.{Slot}
+use Rattle.task_machine.specs.declared.label.Label.TheVariants as label
+use Rattle.task_machine.specs.declared.label.Label.{Label}
+use Rattle.task_machine.specs.declared.label.TaskLabel.TheVariants as task_label
+use Rattle.task_machine.specs.declared.label.ThreadLabel.TheVariants as thread_label
+use Rattle.task_machine.specs.declared.label.ThreadLabel.{ThreadLabel}
+use Rattle.task_machine.specs.declared.op.CallOp.TheVariants as call_op
+use Rattle.task_machine.specs.declared.op.CallOp.{CallOp}
+use Rattle.task_machine.specs.declared.op.DataOp.TheVariants as data_op
+use Rattle.task_machine.specs.declared.op.DataOp.{DataOp}
+use Rattle.task_machine.specs.declared.op.Op.TheVariants as op
+use Rattle.task_machine.specs.declared.op.Op.{Op}
+use Rattle.task_machine.specs.declared.op.SetOp.TheVariants as set_op
+use Rattle.task_machine.specs.declared.op.SetOp.{SetOp}
+use Rattle.task_machine.specs.declared.op.TaskOp.TheVariants as task_op
+use Rattle.task_machine.specs.declared.op.TaskOp.{TaskOp}
+use Rattle.task_machine.specs.declared.op.ThreadOp.TheVariants as thread_op
+use Rattle.task_machine.specs.declared.op.ThreadOp.{ThreadOp}
+use Rattle.task_machine.specs.declared.records.Goal.TheVariants as goal
+use Rattle.task_machine.specs.declared.records.Goal.{Goal}
+use Rattle.task_machine.specs.declared.records.HowFar.TheVariants as how_far
+use Rattle.task_machine.specs.declared.records.HowFar.{HowFar}
+use Rattle.task_machine.specs.declared.records.Join.TheVariants as join
+use Rattle.task_machine.specs.declared.records.Subtask.TheVariants as subtask
+use Rattle.task_machine.specs.declared.records.Subtask.{Subtask}
+use Rattle.task_machine.specs.declared.trap.Trap.TheVariants as trap
+use Rattle.task_machine.specs.declared.words.Given.{Given}
+use Rattle.task_machine.specs.declared.words.Status.TheVariants as status
+use Rattle.task_machine.specs.declared.words.Status.{Status}
+use Rattle.task_rules.specs.Calls.{AtOnce, Failing, FirstPoll, Later, call_begins, call_host_polled, call_resumes, call_row, call_status, call_sync_begins, call_sync_host_polled, call_sync_host_row, call_sync_row, call_sync_status, enter_row, first_poll, status_found}
+use Rattle.task_rules.specs.Cancels.{AlreadyEnded, Async, CallbackWaits, CallbackYields, CancelCase, Mode, OtherwiseRuns, StartNotRun, Sync, after_cancel, cancel_aborts_host, cancel_asks, cancel_by_end, cancel_case, cancel_ended_row, cancel_found, cancel_guest, cancel_label, cancel_resumed, cancel_row, cancel_subtask, cancel_unended_row, drop_found, subtask_row}
+use Rattle.task_rules.specs.Data.{data_row, skip_row}
+use Rattle.task_rules.specs.Ends.{blocking_exit_row, code_kind_row, code_row, code_wait_row, direct_exit_to, exit_row_for, has_event_for, held_by_flag, implicit_exit_row, kind_exit_row, leaves_no_result, may_tell, passes_after_return, passes_after_stop, sync_exit_row, thread_exit_row}
+use Rattle.task_rules.specs.Progress.{Progress, or_trap}
+use Rattle.task_rules.specs.Scripts.{export_kind, host_at, op_of, slot_at, value_of, values_in}
+use Rattle.task_rules.specs.Sets.{chosen, finds_nothing, handed_out, join_done, join_to, may_wake_new, set_drop_found, set_new_row, set_row, wait_begins, wait_goes_on, wait_row}
+use Rattle.task_rules.specs.Step.{did, op_row}
+use Rattle.task_rules.specs.Task.{dec_from, inc_row, ret_bad_row, ret_row, task_cancel_row, task_row}
+use Rattle.task_rules.specs.Threads.{Halt, Suspension, Yielding, by_how_far, halt_row, halting, halts, has_yielded, resume_later_found, resume_why, then_promote, then_promote_found, then_promote_row, then_resume_found, then_resume_row, thread_new_row, thread_row}
+
+abbrev pub IsOwn : Label → Type 0
+IsOwn l = is_own l ≡ true
+
+abbrev Own : Progress → Type 0
+Own p = Shows IsOwn p
+
+module _ (n : ℕ) where
+  own_ret : (v : ℕ) (w : Option ℕ) → is_own (ret_label n v w) ≡ true
+  own_ret v None = refl
+  own_ret v (Some w) = refl
+
+  own_cancel : (w : Option ℕ) → is_own (task_cancel_label n w) ≡ true
+  own_cancel None = refl
+  own_cancel (Some w) = refl
+
+  own_exit : (w : Option ℕ) → is_own (exit_label n w) ≡ true
+  own_exit None = refl
+  own_exit (Some w) = refl
+
+  own_wait : (v : Given) (w : Option ℕ) → is_own (wait_label n v w) ≡ true
+  own_wait v None = refl
+  own_wait v (Some w) = refl
+
+  own_join : (w : Option ℕ) → is_own (join_label n w) ≡ true
+  own_join None = refl
+  own_join (Some w) = refl
+
+own_subtask_cancel : (mode : Mode) (n v : ℕ) → is_own (cancel_label mode n v) ≡ true
+own_subtask_cancel Async n v = refl
+own_subtask_cancel Sync n v = refl
+
+-- ---- Registers and words
+
+skip_own : (c : Component) (n k : ℕ) (s : Core) (b : Bool) → Own (skip_row c n k s b)
+skip_own c n k s true = refl
+skip_own c n k s false = refl
+
+data_own : (c : Component) (n : ℕ) (s : Core) (o : DataOp) → Own (data_row c n s o)
+data_own c n s (data_op.Set r x) = refl
+data_own c n s (data_op.Add r x) = refl
+data_own c n s (data_op.Handle r x) = refl
+data_own c n s (data_op.Load r w) = refl
+data_own c n s (data_op.Store w x) = refl
+data_own c n s (data_op.SkipEq x y k) = skip_own c n k s (value_of n s x == value_of n s y)
+
+-- ---- Ends
+
+module _ (n : ℕ) (s : Core) where
+  abbrev fails_check : Bool
+  fails_check = not (passes_check (instance_of n s) s)
+
+  thread_exit_own : Own (thread_exit_row n s)
+  thread_exit_own = trap_if_shows IsOwn fails_check _ _ (trap_if_shows IsOwn (leaves_no_result n s) _ _ refl)
+
+  sync_exit_own : (w : Option ℕ) → Own (sync_exit_row n w s)
+  sync_exit_own w = may_shows IsOwn (may_tell (task_of n s) w s) _ (own_exit n w)
+
+  blocking_exit_own : (w : Option ℕ) → Own (blocking_exit_row n w s)
+  blocking_exit_own w =
+      trap_if_shows IsOwn (not (passes_after_return n w s)) _ _ (
+      may_shows IsOwn (may_tell (task_of n s) w s) _ (λ order. own_exit n w))
+
+  direct_exit_own : (x : ExportKind) (m : Option ℕ) → Own (direct_exit_to n x s m)
+  direct_exit_own x None = tt
+  direct_exit_own kind.Sync (Some m) = refl
+  direct_exit_own kind.Blocking (Some m) = trap_if_shows IsOwn fails_check _ _ refl
+  direct_exit_own kind.Stackful (Some m) = trap_if_shows IsOwn fails_check _ _ refl
+  direct_exit_own kind.Callback (Some m) = trap_if_shows IsOwn fails_check _ _ refl
+
+  module _ (l : Label) (own : is_own l ≡ true) where
+    code_wait_own : (x : ℕ) (held : List ℕ) (b : Bool) → Own (code_wait_row l n x held s b)
+    code_wait_own x held true = λ order. own
+    code_wait_own x held false = λ order. own
+
+    code_kind_own : (held : List ℕ) (k rest : ℕ) → Own (code_kind_row l n held s k rest)
+    code_kind_own held zero rest =
+        trap_if_shows IsOwn (not (passes_after_stop (instance_of n s) (foot_of n s) held s)) _ _ (
+        trap_if_shows IsOwn (leaves_no_result n s) _ _ (λ order. own))
+    code_kind_own held (suc zero) rest = λ order. own
+    code_kind_own held (suc (suc zero)) rest =
+        or_trap_shows IsOwn (set_at (instance_of n s) rest s) _ _ (λ x. code_wait_own x held (has_event_for (task_of n s) x s))
+    code_kind_own held (suc (suc (suc k))) rest = tt
+
+    code_own : (code : ℕ) → Own (code_row l n s code)
+    code_own code =
+        trap_if_shows IsOwn (nat_lt 4294967295 code) _ _ (code_kind_own (held_by_flag (instance_of n s) s) (code % 16) (code / 16))
+
+  kind_exit_own : (w : Option ℕ) (x : ExportKind) → Own (kind_exit_row n w s x)
+  kind_exit_own w kind.Sync = sync_exit_own w
+  kind_exit_own w kind.Blocking = blocking_exit_own w
+  kind_exit_own w kind.Stackful = thread_exit_own
+  kind_exit_own w kind.Callback = code_own (exit_label n None) refl 0
+
+  implicit_exit_own : (w : Option ℕ) (b : Bool) → Own (implicit_exit_row n w s b)
+  implicit_exit_own w true = direct_exit_own (kind_of (task_of n s) s) (under_of n s)
+  implicit_exit_own w false = kind_exit_own w (kind_of (task_of n s) s)
+
+  exit_for_own : (w : Option ℕ) (b : Bool) → Own (exit_row_for n w s b)
+  exit_for_own w true = thread_exit_own
+  exit_for_own w false = implicit_exit_own w (is_direct (goal_of (task_of n s) s))
+
+  -- ---- Tasks
+
+  ret_own : (v : ℕ) (w : Option ℕ) → Own (ret_row n v w s)
+  ret_own v w =
+      trap_if_shows IsOwn (has_ended (task_of n s) s) _ _ (
+      trap_if_shows IsOwn (not (is_async_lifted (kind_of (task_of n s) s))) _ _ (
+      may_shows IsOwn (may_tell (task_of n s) w s) _ (own_ret n v w)))
+
+  ret_bad_own : Own (ret_bad_row n s)
+  ret_bad_own = trap_if_shows IsOwn (has_ended (task_of n s) s) _ _ tt
+
+  task_cancel_own : (w : Option ℕ) → Own (task_cancel_row n w s)
+  task_cancel_own w =
+      trap_if_shows IsOwn (not (cancel_was_delivered (task_of n s) s)) _ _ (
+      trap_if_shows IsOwn (has_ended (task_of n s) s) _ _ (
+      may_shows IsOwn (may_tell (task_of n s) w s) _ (own_cancel n w)))
+
+  inc_own : Own (inc_row n s)
+  inc_own = trap_if_shows IsOwn (nat_le 65535 (backpressure_of (instance_of n s) s)) _ _ refl
+
+  dec_own : (k : ℕ) → Own (dec_from n s k)
+  dec_own zero = tt
+  dec_own (suc zero) = λ order. refl
+  dec_own (suc (suc k)) = refl
+
+  task_own : (ch : Choice) (o : TaskOp) → Own (task_row n s ch o)
+  task_own ch (task_op.Ret x) = ret_own (value_of n s x) ch.woken
+  task_own ch (task_op.RetBad x) = ret_bad_own
+  task_own ch task_op.TaskCancel = task_cancel_own ch.woken
+  task_own ch task_op.Exit = exit_for_own ch.woken (is_explicit n s)
+  task_own ch task_op.CbYield = code_own (label.Task (task_label.CbYield n)) refl 1
+  task_own ch (task_op.CbWait x) = code_own (label.Task (task_label.CbWait n)) refl (16 * value_of n s x + 2)
+  task_own ch (task_op.Code x) = code_own (label.Task (task_label.Code n)) refl (value_of n s x)
+  task_own ch task_op.BpInc = inc_own
+  task_own ch task_op.BpDec = dec_own (backpressure_of (instance_of n s) s)
+
+  -- ---- Sets
+
+  wait_on_own : (x r : ℕ) (ch : Choice) (g : Gift) → Own (wait_goes_on n x r ch s g)
+  wait_on_own x r ch NoGift = refl
+  wait_on_own x r ch (OwnGift e) =
+      may_shows IsOwn (may_hand_on x (OwnGift e) ch.woken s) _ (own_wait n (handed_out ch s (OwnGift e)) ch.woken)
+  wait_on_own x r ch (MemberGift sub) =
+      may_shows IsOwn (may_hand_on x (MemberGift sub) ch.woken s) _ (own_wait n (handed_out ch s (MemberGift sub)) ch.woken)
+
+  abbrev gift_here : Choice → ℕ → Option Gift
+  gift_here ch x = gift false (task_of n s) x (chosen n ch s) s
+
+  wait_begins_own : (r : ℕ) (ch : Choice) (x : ℕ) (b : Bool) → Own (wait_begins n r ch s x b)
+  wait_begins_own r ch x true = trap_if_shows IsOwn fails_check _ _ refl
+  wait_begins_own r ch x false = or_never_shows IsOwn (gift_here ch x) _ (λ g. refl)
+
+  wait_found_own : (r h : ℕ) (ch : Choice) → Own (or_trap (set_at (instance_of n s) h s) trap.BadHandle (λ x. wait_begins n r ch s x (finds_nothing n x s)))
+  wait_found_own r h ch = or_trap_shows IsOwn (set_at (instance_of n s) h s) _ _ (λ x. wait_begins_own r ch x (finds_nothing n x s))
+
+  wait_own : (r h : ℕ) (ch : Choice) (far : HowFar) → Own (wait_row n r h ch s far)
+  wait_own r h ch (how_far.Waits x) = or_never_shows IsOwn (gift_here ch x) _ (λ g. wait_on_own x r ch g)
+  wait_own r h ch _ = wait_found_own r h ch
+
+  join_done_own : (sub : Subtask) (w : Option ℕ) (x : Option ℕ) → Own (join_done n sub w s x)
+  join_done_own sub w x =
+      trap_if_shows IsOwn (is_watched (join_of sub s)) _ _ (
+      may_shows IsOwn (may_wake_new (event_of sub s) x w s) _ (own_join n w))
+
+  join_to_own : (h : ℕ) (w : Option ℕ) (sub : Subtask) → Own (join_to n h w s sub)
+  join_to_own zero w sub = join_done_own sub w None
+  join_to_own (suc h) w sub = or_trap_shows IsOwn (set_at (instance_of n s) (suc h) s) _ _ (λ x. join_done_own sub w (Some x))
+
+  set_new_own : (r : ℕ) → Own (set_new_row n r s)
+  set_new_own r = trap_if_shows IsOwn (not (fits 1 s)) _ _ (trap_if_shows IsOwn (at_handle_limit s) _ _ refl)
+
+  set_drop_own : (h x : ℕ) → Own (set_drop_found n h s x)
+  set_drop_own h x = trap_if_shows IsOwn (has_waiters x s) _ _ (trap_if_shows IsOwn (has_member x s) _ _ refl)
+
+  set_own : (ch : Choice) (o : SetOp) → Own (set_row n s ch o)
+  set_own ch (set_op.New r) = set_new_own r
+  set_own ch (set_op.Drop x) = or_trap_shows IsOwn (set_at (instance_of n s) (value_of n s x) s) _ _ (λ y. set_drop_own (value_of n s x) y)
+  set_own ch (set_op.Wait r x) = wait_own r (value_of n s x) ch (how_far_of n s)
+  set_own ch (set_op.Poll r x) =
+      or_trap_shows IsOwn (set_at (instance_of n s) (value_of n s x) s) _ _ (λ y. or_never_shows IsOwn (gift_here ch y) _ (λ g. refl))
+  set_own ch (set_op.Join x y) =
+      or_trap_shows IsOwn (subtask_at (instance_of n s) (value_of n s x) s) _ _ (λ sub. join_to_own (value_of n s y) ch.woken sub)
+
+  -- ---- Calls
+
+  call_begins_own : (c : Component) (e : Callee) (g : Goal) (words : List ℕ) → Own (call_begins c n e g words s)
+  call_begins_own c e g words = trap_if_shows IsOwn (not (fits 3 s)) _ _ refl
+
+  call_status_own : (r k : ℕ) (x : Status) → Own (call_status n r k s x)
+  call_status_own r k status.Returned = refl
+  call_status_own r k status.Starting = trap_if_shows IsOwn (at_handle_limit s) _ _ refl
+  call_status_own r k status.Started = trap_if_shows IsOwn (at_handle_limit s) _ _ refl
+  call_status_own r k status.StartCancelled = trap_if_shows IsOwn (at_handle_limit s) _ _ refl
+  call_status_own r k status.ReturnCancelled = trap_if_shows IsOwn (at_handle_limit s) _ _ refl
+
+  call_own : (c : Component) (r q : ℕ) (e : Callee) (words : List ℕ) (far : HowFar) → Own (call_row c n r q e words s far)
+  call_own c r q e words (how_far.Calls (subtask.Guest k)) = call_status_own r k (status_found k s)
+  call_own c r q e words _ = call_begins_own c e (goal.Register q) words
+
+  sync_status_own : (r k : ℕ) (x : Status) → Own (call_sync_status n r k s x)
+  sync_status_own r k status.Returned = refl
+  sync_status_own r k status.Starting = trap_if_shows IsOwn (not (passes_check (instance_of n s) (call_resumes n k s))) _ _ refl
+  sync_status_own r k status.Started = trap_if_shows IsOwn (not (passes_check (instance_of n s) (call_resumes n k s))) _ _ refl
+  sync_status_own r k status.StartCancelled = trap_if_shows IsOwn (not (passes_check (instance_of n s) (call_resumes n k s))) _ _ refl
+  sync_status_own r k status.ReturnCancelled = trap_if_shows IsOwn (not (passes_check (instance_of n s) (call_resumes n k s))) _ _ refl
+
+  enter_own : (e : Callee) (x : ExportKind) (words : List ℕ) → Own (enter_row n e x words s)
+  enter_own e x words = trap_if_shows IsOwn (not (fits 3 s)) _ _ (trap_if_shows IsOwn (at_handle_limit s) _ _ refl)
+
+  sync_begins_own : (c : Component) (e : Callee) (words : List ℕ) (b : Bool) → Own (call_sync_begins c n e words s b)
+  sync_begins_own c e words true = call_begins_own c e goal.Answer words
+  sync_begins_own c e words false = enter_own e (export_kind c e) words
+
+  sync_own : (c : Component) (r : ℕ) (e : Callee) (words : List ℕ) (far : HowFar) → Own (call_sync_row c n r e words s far)
+  sync_own c r e words (how_far.Answered v) = refl
+  sync_own c r e words (how_far.Calls (subtask.Guest k)) = sync_status_own r k (status_found k s)
+  sync_own c r e words _ = sync_begins_own c e words (is_async_lifted (export_kind c e))
+
+  host_own : (r q : ℕ) (x : FirstPoll) → Own (call_host_polled n r q s x)
+  host_own r q (AtOnce v) = refl
+  host_own r q Failing = tt
+  host_own r q (Later host) = trap_if_shows IsOwn (not (fits 1 s)) _ _ (trap_if_shows IsOwn (at_handle_limit s) _ _ refl)
+
+  sync_host_polled_own : (r : ℕ) (x : FirstPoll) → Own (call_sync_host_polled n r s x)
+  sync_host_polled_own r (AtOnce v) = refl
+  sync_host_polled_own r Failing = tt
+  sync_host_polled_own r (Later host) = trap_if_shows IsOwn (not (fits 1 s)) _ _ (trap_if_shows IsOwn fails_check _ _ refl)
+
+  sync_host_own : (c : Component) (r h : ℕ) (far : HowFar) → Own (call_sync_host_row c n r h s far)
+  sync_host_own c r h (how_far.Calls (subtask.Host i)) = refl
+  sync_host_own c r h _ = sync_host_polled_own r (first_poll (host_at c h))
+
+-- ---- Cancels and drops
+
+module _ (mode : Mode) (n r : ℕ) where
+  ended_own : (sub : Subtask) (s : Core) (e : Option Status) → Own (cancel_ended_row mode n r sub s e)
+  ended_own sub s None = tt
+  ended_own sub s (Some e) = own_subtask_cancel mode n (status_code e)
+
+  unended_own : (sub : Subtask) (s : Core) (m : Mode) → Own (cancel_unended_row m n r sub s)
+  unended_own sub s Async = refl
+  unended_own sub s Sync = trap_if_shows IsOwn (not (passes_check (instance_of n s) s)) _ _ refl
+
+  by_end_own : (sub : Subtask) (s : Core) (b : Bool) → Own (cancel_by_end mode n r sub s b)
+  by_end_own sub s true = ended_own sub s (undelivered_end (event_of sub s))
+  by_end_own sub s false = unended_own sub s mode
+
+  after_own : (sub : Subtask) (s : Core) → Own (after_cancel mode n r sub s)
+  after_own sub s = by_end_own sub s (subtask_ended sub s)
+
+  guest_own : (k : ℕ) (s : Core) (x : CancelCase) → Own (cancel_guest mode n r k s x)
+  guest_own k s AlreadyEnded = ended_own (subtask.Guest k) s (undelivered_end (event_of (subtask.Guest k) s))
+  guest_own k s StartNotRun = own_subtask_cancel mode n 3
+  guest_own k s CallbackWaits = refl
+  guest_own k s CallbackYields = refl
+  guest_own k s OtherwiseRuns = after_own (subtask.Guest k) (cancel_asks k s)
+
+  subtask_own : (s : Core) (sub : Subtask) → Own (cancel_subtask mode n r s sub)
+  subtask_own s (subtask.Guest k) = guest_own k s (cancel_case k s)
+  subtask_own s (subtask.Host i) = trap_if_shows IsOwn (was_cancelled i s) _ _ (after_own (subtask.Host i) (cancel_aborts_host i s))
+
+  found_own : (s : Core) (sub : Subtask) → Own (cancel_found mode n r s sub)
+  found_own s sub = trap_if_shows IsOwn (is_joined (join_of sub s)) _ _ (subtask_own s sub)
+
+  named_own : (h : ℕ) (s : Core) → Own (or_trap (subtask_at (instance_of n s) h s) trap.BadHandle (cancel_found mode n r s))
+  named_own h s = or_trap_shows IsOwn (subtask_at (instance_of n s) h s) _ _ (λ sub. found_own s sub)
+
+  cancel_own : (h : ℕ) (s : Core) (far : HowFar) → Own (cancel_row mode n r h s far)
+  cancel_own h s (how_far.Cancels sub) = after_own sub (cancel_resumed n sub s)
+  cancel_own h s (how_far.AwaitsEnd sub) =
+      let t = set_join sub join.Nowhere s in ended_own sub t (undelivered_end (event_of sub t))
+  cancel_own h s _ = named_own h s
+
+drop_own : (n h : ℕ) (s : Core) (sub : Subtask) → Own (drop_found n h s sub)
+drop_own n h s sub =
+    trap_if_shows IsOwn (is_watched (join_of sub s)) _ _ (
+    trap_if_shows IsOwn (not (subtask_ended sub s)) _ _ (
+    trap_if_shows IsOwn (is_some (event_of sub s)) _ _ refl))
+
+calls_own : (c : Component) (n : ℕ) (s : Core) (o : CallOp) → Own (subtask_row c n s o)
+calls_own c n s (call_op.Call r q e xs) = call_own n s c r q e (values_in (registers_of n s) xs) (how_far_of n s)
+calls_own c n s (call_op.CallSync r e xs) = sync_own n s c r e (values_in (registers_of n s) xs) (how_far_of n s)
+calls_own c n s (call_op.CallHost r q h) = host_own n s r q (first_poll (host_at c h))
+calls_own c n s (call_op.CallSyncHost r h) = sync_host_own n s c r h (how_far_of n s)
+calls_own c n s (call_op.Cancel r x) = cancel_own Async n r (value_of n s x) s (how_far_of n s)
+calls_own c n s (call_op.CancelSync r x) = cancel_own Sync n r (value_of n s x) s (how_far_of n s)
+calls_own c n s (call_op.Drop x) =
+    or_trap_shows IsOwn (subtask_at (instance_of n s) (value_of n s x) s) _ _ (λ sub. drop_own n (value_of n s x) s sub)
+
+-- ---- Threads
+
+new_own : (n r x v : ℕ) (s : Core) (y : Slot) → Own (thread_new_row n r x v s y)
+new_own n r x v s slot.Empty = tt
+new_own n r x v s slot.Bad = tt
+new_own n r x v s (slot.Script ops) = trap_if_shows IsOwn (not (fits 2 s)) _ _ (trap_if_shows IsOwn (at_handle_limit s) _ _ refl)
+
+later_own : (n : ℕ) (s : Core) (m : ℕ) → Own (resume_later_found n s m)
+later_own n s m = trap_if_shows IsOwn (m == n) _ _ (or_trap_shows IsOwn (resume_why m s) _ _ (λ w. refl))
+
+then_resume_own : (x : Halt) (n : ℕ) (s : Core) (m : ℕ) → Own (then_resume_found x n s m)
+then_resume_own x n s m = trap_if_shows IsOwn (m == n) _ _ (or_trap_shows IsOwn (resume_why m s) _ _ (λ w. refl))
+
+module _ (n : ℕ) (l : Label) (own : is_own l ≡ true) (s : Core) where
+  halts_own : (x : Halt) (b : Bool) → Own (halts x n l s b)
+  halts_own x true = refl
+  halts_own Suspension false = tt
+  halts_own Yielding false = own
+
+  halt_own : (x : Halt) → Own (halt_row x n l s)
+  halt_own x = halts_own x (passes_check (instance_of n s) s)
+
+  promote_own : (x : Halt) (m : ℕ) (b : Bool) → Own (then_promote x n l s m b)
+  promote_own x m true = refl
+  promote_own x m false = halt_own x
+
+  promote_found_own : (x : Halt) (m : ℕ) → Own (then_promote_found x n l s m)
+  promote_found_own x m = trap_if_shows IsOwn (m == n) _ _ (promote_own x m (has_yielded m s))
+
+  then_promote_own : (x : Halt) (h : ℕ) → Own (then_promote_row x n h l s)
+  then_promote_own x h = or_trap_shows IsOwn (thread_at (instance_of n s) h s) _ _ (λ m. promote_found_own x m)
+
+  by_own : (far : HowFar) (p : Progress) → Own p → Own (by_how_far far n l s p)
+  by_own how_far.Suspends p h = own
+  by_own how_far.Yields p h = own
+  by_own _ p h = h
+
+module _ (n : ℕ) (s : Core) where
+  resume_row_own : (x : Halt) (h : ℕ) → Own (then_resume_row x n h s)
+  resume_row_own x h = or_trap_shows IsOwn (thread_at (instance_of n s) h s) _ _ (λ m. then_resume_own x n s m)
+
+  halting_own : (l : ThreadLabel) (row : Label → Progress) → Own (row (label.Thread l)) → Own (halting n s l row)
+  halting_own l row h = by_own n (label.Thread l) refl s (how_far_of n s) (row (label.Thread l)) h
+
+  thread_own : (c : Component) (o : ThreadOp) → Own (thread_row c n s o)
+  thread_own c (thread_op.New r x v) = new_own n r x (value_of n s v) s (slot_at c (instance_of n s) x)
+  thread_own c (thread_op.Index r) = refl
+  thread_own c (thread_op.ResumeLater x) = or_trap_shows IsOwn (thread_at (instance_of n s) (value_of n s x) s) _ _ (λ m. later_own n s m)
+  thread_own c thread_op.Suspend =
+      let l = thread_label.Suspend n in halting_own l (λ l. halt_row Suspension n l s) (halt_own n (label.Thread l) refl s Suspension)
+  thread_own c thread_op.Yield =
+      let l = thread_label.Yield n in halting_own l (λ l. halt_row Yielding n l s) (halt_own n (label.Thread l) refl s Yielding)
+  thread_own c (thread_op.SuspendThenResume x) =
+      halting_own (thread_label.SuspendThenResume n) (λ l. then_resume_row Suspension n (value_of n s x) s) (resume_row_own Suspension (value_of n s x))
+  thread_own c (thread_op.YieldThenResume x) =
+      halting_own (thread_label.YieldThenResume n) (λ l. then_resume_row Yielding n (value_of n s x) s) (resume_row_own Yielding (value_of n s x))
+  thread_own c (thread_op.SuspendThenPromote x) =
+      let l = thread_label.SuspendThenPromote n in
+      halting_own l (λ l. then_promote_row Suspension n (value_of n s x) l s) (then_promote_own n (label.Thread l) refl s Suspension (value_of n s x))
+  thread_own c (thread_op.YieldThenPromote x) =
+      let l = thread_label.YieldThenPromote n in
+      halting_own l (λ l. then_promote_row Yielding n (value_of n s x) l s) (then_promote_own n (label.Thread l) refl s Yielding (value_of n s x))
+
+-- ---- Each op
+
+op_own : (c : Component) (n : ℕ) (s : Core) (ch : Choice) (o : Op) → Own (op_row c n s ch o)
+op_own c n s ch (op.Data o) = data_own c n s o
+op_own c n s ch (op.Task o) = task_own n s ch o
+op_own c n s ch (op.Set o) = set_own n s ch o
+op_own c n s ch (op.Call o) = calls_own c n s o
+op_own c n s ch (op.Thread o) = thread_own n s c o
+
+-- what the running thread does next shows a label of its own
+pub did_own : (c : Component) (n : ℕ) (s : Core) (ch : Choice) → Shows IsOwn (did c n s ch)
+unfolding did
+did_own c n s ch = op_own c n s ch (op_of c n s)

@@ -1,0 +1,88 @@
+-- A taking shows that it is one.
+use Rattle.label_laws.proofs.ShowLemmas.{may_shows, or_never_shows, trap_if_shows}
+use Rattle.label_laws.specs.Own.{Shows, mark_taken}
+use Rattle.std.proofs.Common.{refl}
+use Rattle.std.specs.Prelude.{Bool, None, Option, Some, false, true, ℕ, ◌≡◌}
+use Rattle.task_machine.specs.Core.{Core}
+use Rattle.task_machine.specs.Labels.{Choice, event_label, held_label, host_label, take_label}
+use Rattle.task_machine.specs.Moves.{Gift, MemberGift, NoGift, OwnGift, gift, may_hand_on, may_publish}
+use Rattle.task_machine.specs.Read.{admits, at_handle_limit, is_explicit, place_of, task_of}
+use Rattle.task_machine.specs.declared.records.Delivery.{Delivery}
+use Rattle.task_machine.specs.declared.records.Delivery.TheVariants as delivery
+use Rattle.task_machine.specs.declared.records.Entry.{Entry}
+use Rattle.task_machine.specs.declared.records.Entry.TheVariants as entry
+use Rattle.task_machine.specs.declared.records.Place.{Place}
+use Rattle.task_machine.specs.declared.records.Place.TheVariants as place
+use Rattle.task_machine.specs.declared.records.Why.{Why}
+use Rattle.task_machine.specs.declared.records.Why.TheVariants as why
+use Rattle.task_machine.specs.declared.records.Subtask.TheVariants as subtask
+use Rattle.task_machine.specs.declared.words.Given.{Given}
+use Rattle.task_machine.specs.declared.label.Label.{Label}
+use Rattle.task_machine.specs.declared.words.Mark.{Mark}
+use Rattle.task_rules.specs.Ends.{may_tell}
+use Rattle.task_rules.specs.Sets.{chosen, handed_out}
+use Rattle.task_rules.specs.Takes.{delivered, delivery_row, host_row, may_tell_starting, set_delivered, start_admitted, start_row, take_row, thread_taken, thread_taken_for}
+
+abbrev pub IsTaken : Mark → Label → Type 0
+IsTaken m l = mark_taken l ≡ Some m
+
+module _ (m : Mark) (n : ℕ) where
+  abbrev Taken : Label → Type 0
+  Taken l = IsTaken m l
+
+  taken_label : (w : Option ℕ) → Taken (take_label m n w)
+  taken_label None = refl
+  taken_label (Some w) = refl
+
+  taken_held : (w : Option ℕ) → Taken (held_label m n w)
+  taken_held None = refl
+  taken_held (Some w) = refl
+
+  taken_event : (v : Given) (w : Option ℕ) → Taken (event_label m n v w)
+  taken_event v None = refl
+  taken_event v (Some w) = refl
+
+  taken_host : (w : Option ℕ) → Taken (host_label m n w)
+  taken_host None = refl
+  taken_host (Some w) = refl
+
+  host_shows : (w : Option ℕ) (s : Core) → Shows Taken (host_row m n w s)
+  host_shows w s = may_shows Taken (may_publish (subtask.Host n) w s) _ (taken_host w)
+
+  admitted_shows : (w : Option ℕ) (s : Core) (b : Bool) → Shows Taken (start_admitted m n w s b)
+  admitted_shows w s true = refl
+  admitted_shows w s false = trap_if_shows Taken (at_handle_limit s) _ _ (may_shows Taken (may_tell (task_of n s) w s) _ (taken_label w))
+
+  start_shows : (w : Option ℕ) (s : Core) (b : Bool) → Shows Taken (start_row m n w s b)
+  start_shows w s true = admitted_shows w s (is_explicit n s)
+  start_shows w s false = may_shows Taken (may_tell_starting (task_of n s) w s) _ (taken_held w)
+
+  set_shows : (x : ℕ) (ch : Choice) (s : Core) (g : Gift) → Shows Taken (set_delivered m n x ch s g)
+  set_shows x ch s NoGift = refl
+  set_shows x ch s (OwnGift e) = may_shows Taken (may_hand_on x (OwnGift e) ch.woken s) _ (taken_event (handed_out ch s (OwnGift e)) ch.woken)
+  set_shows x ch s (MemberGift sub) = may_shows Taken (may_hand_on x (MemberGift sub) ch.woken s) _ (taken_event (handed_out ch s (MemberGift sub)) ch.woken)
+
+  delivered_shows : (ch : Choice) (s : Core) (d : Delivery) → Shows Taken (delivered m n ch s d)
+  delivered_shows ch s (delivery.Set x) = or_never_shows Taken (gift true (task_of n s) x (chosen n ch s) s) _ (λ g. set_shows x ch s g)
+  delivered_shows ch s delivery.Yield = refl
+  delivered_shows ch s delivery.Cancel = refl
+
+  delivery_shows : (ch : Choice) (s : Core) (d : Delivery) (b : Bool) → Shows Taken (delivery_row m n ch s d b)
+  delivery_shows ch s d true = delivered_shows ch s d
+  delivery_shows ch s d false = refl
+
+  for_shows : (ch : Choice) (s : Core) (w : Why) → Shows Taken (thread_taken_for m n ch s w)
+  for_shows ch s why.Start = start_shows ch.woken s (admits n s why.Start)
+  for_shows ch s (why.Delivery d) = delivery_shows ch s d (admits n s (why.Delivery d))
+  for_shows ch s why.Resumption = refl
+
+  thread_shows : (ch : Choice) (s : Core) (p : Option Place) → Shows Taken (thread_taken m n ch s p)
+  thread_shows ch s None = tt
+  thread_shows ch s (Some (place.Ready x w)) = for_shows ch s w
+  thread_shows ch s (Some _) = tt
+
+-- what a taking comes to shows that it is one
+pub take_shows : (m : Mark) (ch : Choice) (s : Core) (e : Entry) → Shows (IsTaken m) (take_row m ch s e)
+take_shows m ch s (entry.Thread n) = thread_shows m n ch s (place_of n s)
+take_shows m ch s (entry.Push i) = refl
+take_shows m ch s (entry.Host i) = host_shows m i ch.woken s

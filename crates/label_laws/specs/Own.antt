@@ -1,0 +1,75 @@
+-- Whose a label is.
+use Rattle.std.specs.Prelude.{Bool, List, None, Option, Some, false, true, ℕ, ◌≡◌}
+use Rattle.task_machine.specs.Core.{Core, State}
+use Rattle.task_machine.specs.Read.{next_entry}
+use Rattle.task_machine.specs.declared.label.Label.{Label}
+use Rattle.task_machine.specs.declared.label.Label.TheVariants as label
+use Rattle.task_machine.specs.declared.label.LoopLabel.TheVariants as loop_label
+use Rattle.task_machine.specs.declared.label.TakeLabel.{TakeLabel}
+use Rattle.task_machine.specs.declared.label.TakeLabel.TheVariants as take
+use Rattle.task_machine.specs.declared.records.Entry.{Entry}
+use Rattle.task_machine.specs.declared.records.Turn.{Turn}
+use Rattle.task_machine.specs.declared.records.Turn.TheVariants as turn
+use Rattle.task_machine.specs.declared.words.Mark.{Mark}
+use Rattle.task_rules.specs.Progress.{Fails, Goes, Never, Ordered, Progress, Stops, Traps}
+use Rattle.task_rules.specs.Stalled.{Setting}
+use Rattle.task_rules.specs.Step.{Step}
+
+-- a label of the running thread's op
+abbrev pub is_own : Label → Bool
+is_own (label.Main l) = false
+is_own (label.Loop l) = false
+is_own (label.Take l) = false
+is_own _ = true
+
+-- the mark at which the entry stood that a taking shows
+abbrev pub mark_of : TakeLabel → Mark
+mark_of (take.Thread m n) = m
+mark_of (take.ThreadWakes m n w) = m
+mark_of (take.Held m n) = m
+mark_of (take.HeldWakes m n w) = m
+mark_of (take.Again m n) = m
+mark_of (take.Event m g n) = m
+mark_of (take.EventWakes m e n w) = m
+mark_of (take.Push m i) = m
+mark_of (take.Host m i) = m
+mark_of (take.HostWakes m i w) = m
+
+-- none where it is no label of a taking
+abbrev pub mark_taken : Label → Option Mark
+mark_taken (label.Take l) = Some (mark_of l)
+mark_taken _ = None
+
+-- a label of main: it did an op, answered, or waits
+abbrev pub is_of_main : Label → Bool
+is_of_main (label.Main l) = true
+is_of_main (label.Loop loop_label.MainPends) = true
+is_of_main _ = false
+
+-- What it shows, where it goes on or stops, is such a label.
+abbrev pub Shows : (Label → Type 0) → Progress → Type 0
+Shows P (Goes l new m) = P l
+Shows P (Stops l new) = P l
+Shows P (Ordered held next) = (order : List ℕ) → Shows P (next order)
+Shows P (Traps t) = Unit {0}
+Shows P (Fails i) = Unit {0}
+Shows P Never = Unit {0}
+
+-- ---- What is so of each step
+
+abbrev pub is_main_turn : Turn → Bool
+is_main_turn turn.Main = true
+is_main_turn _ = false
+
+-- main's labels are those of its turns
+abbrev pub MainAtItsTurns : Type 0
+MainAtItsTurns = (x : Setting) (s : State) (l : Label) (t : State) → Step x s l t → is_of_main l ≡ is_main_turn s.turn
+
+-- Of an entry that is taken at this turn: it is the next one.
+abbrev pub TakesNext : Turn → Core → Mark → Type 0
+TakesNext (turn.Take ended) s m = (e : Entry) × (next_entry s ≡ Some (m, e))
+TakesNext _ s m = ⊥
+
+-- a label of a taking stands at a turn of takings, and shows the mark of the entry that was next
+abbrev pub TakingsShowMarks : Type 0
+TakingsShowMarks = (x : Setting) (s : State) (l : Label) (t : State) → Step x s l t → (m : Mark) → mark_taken l ≡ Some m → TakesNext s.turn s.core m
