@@ -10,9 +10,10 @@ ghost use Rattle.embed_example.specs.Host.{TakesOne};
 
 use crate::parts::{DOUBLE, NEXT};
 use futures::task::Poll;
+use store_access::{Access, Whole};
 use task_loop::{Component, Func, FuncCallConcurrent, Label, MainStep, MainTask, TaskError};
 use task_machine::{MainLabel, Turn};
-use task_store::{Access, HostWork, ScriptedHost, Whole};
+use task_store::{HostWork, ScriptedHost};
 
 /// Where main is.
 #[derive(Drop)]

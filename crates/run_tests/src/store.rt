@@ -1,5 +1,6 @@
 use std::alloc::Global;
-use task_store::{Access, Project, Store, Whole};
+use store_access::{Access, Project, Whole};
+use task_store::Store;
 
 fn store(alloc: Global, concurrent: bool) -> Store<u8, u8> {
     Store::new(alloc, 5, concurrent, 1)

@@ -1,7 +1,6 @@
 //! A store: the host's value, and the calls and threads in it.
 #![tactic(auto)]
 
-mod access;
 mod data;
 mod drops;
 mod hosts;
@@ -10,7 +9,6 @@ mod scopes;
 mod spawn;
 mod store;
 
-pub use access::{Access, Project, Whole};
 pub use data::{RuntimeInstance, StoreComponentInstanceId};
 pub use drops::run_manual_drop_routines;
 pub use host_works::{AccessorTask, FromHost, HostPoll, HostWork, HostWorks, ScriptedHost};

@@ -1,4 +1,5 @@
 ghost use Rattle.std.specs.Prelude.{[], ◌≡◌, ◌+◌, ◌-◌, ◌<◌, ◌≤◌, ◌^◌, ◌↔◌, cond, false, min, true, IfErr, IfOk, IfSome, IsSome, OnErr, OnOk};
+ghost use Rattle.std.specs.Borrow.{sem};
 ghost use Rattle.host_works.specs.Kept.{HoldsNone};
 ghost use Rattle.make_words.specs.Instances.{with_instance};
 ghost use Rattle.count_words.specs.Limits.{with_capacity, with_handle_limit};
@@ -6,6 +7,7 @@ ghost use Rattle.task_machine.specs.Maps.{size};
 ghost use Rattle.task_machine.specs.Read.{table_use};
 ghost use Rattle.task_machine.specs.Write.{set_trapped};
 ghost use Rattle.task_records.specs.Seen.{nothing};
+ghost use Rattle.task_store.specs.Lending.{LendsValue};
 ghost use Rattle.task_turns.specs.Turn.{given};
 ghost use Rattle.task_words.specs.StateView.{on_core};
 
@@ -96,6 +98,14 @@ impl<T, H> Store<T, H> {
         ensures { result.now ≡ self.now.value }
     {
         &self.value
+    }
+
+    /// The host's value, for writing.
+    pub fn data_mut(&mut self) -> &mut T
+        ensures* writes_back { sem 𝓛 (LendsValue T.row H.row self.entry result) }
+        ensures value { result.now ≡ self.old.value }
+    {
+        &mut self.value
     }
 
     /// Makes an instance and answers its number, from 0. Where memory is wanting, the store is as

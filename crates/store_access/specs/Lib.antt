@@ -1,0 +1,4 @@
+pub mod Called
+pub mod Lending
+pub mod Slots
+pub mod Spawns
