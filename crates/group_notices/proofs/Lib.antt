@@ -1,2 +1,3 @@
 pub mod MirrorLemmas
 pub mod TellLemmas
+pub mod RunLemmas

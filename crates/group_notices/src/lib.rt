@@ -1,6 +1,8 @@
 //! The notices of groups that the steps of a run give, told to the groups of a store.
 #![tactic(auto)]
 
+mod runs;
 mod tells;
 
+pub use runs::{asked_is_told, data_is_told, main_is_told, nothing_is_told, steps_are_told};
 pub use tells::{Asked, tell_step};

@@ -11,6 +11,8 @@ mod handles;
 #[cfg(test)]
 mod machine;
 #[cfg(test)]
+mod notices;
+#[cfg(test)]
 mod strand;
 #[cfg(test)]
 mod table;
