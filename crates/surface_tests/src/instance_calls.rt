@@ -9,6 +9,7 @@ ghost use Rattle.task_rules.specs.Scripts.{export_at, export_kind};
 ghost use Rattle.task_machine.specs.Core.{fresh};
 ghost use Rattle.task_records.specs.Seen.{nothing};
 ghost use Rattle.task_run.specs.Runnable.{IsRunnable};
+ghost use Rattle.task_store.specs.Hosts.{HoldsHosts};
 ghost use Rattle.task_turns.specs.Turn.{Sits, given, running_of};
 ghost use Rattle.task_words.specs.StateView.{with_core};
 
@@ -19,9 +20,9 @@ use task_loop::{
     Answer, Component, Func, Instance, Outcome, ResumeThread, Step, SuspensionTarget, Trace,
     run_concurrent,
 };
-use task_machine::{Callee, ExportKind, Goal, Turn};
+use task_machine::{Callee, ExportKind, Goal, HostDef, Turn};
 use task_run::{Scenario, ScriptMain, read_scenario};
-use task_store::{ScriptedHost, Store};
+use task_store::{FromHost, HostWork, ScriptedHost, Store};
 use task_words::{CallWords, HowFarId, ThreadWords, View};
 
 // A thread of b makes a set, calls a host that never answers, makes a thread, cancels the call, waits for its end, drops it,
@@ -90,6 +91,7 @@ fn drive(
     requires few { steps ≤ 100 }
     ensures order { IfSome (running_of store.new.state) (λ n. Sits scenario.now.component (Turn.Run n) store.new.state.core) }
     ensures given { given store.new.state.core ≤ 200 }
+    ensures hosts { HoldsHosts ⟦<ScriptedHost as HostWork>⟧.course store.new }
     ensures two { length scenario.now.component.instances ≡ 2 }
 {
     let Ok(mut run) = run_concurrent(store, false) else {
@@ -132,6 +134,7 @@ fn running(
     requires few { steps ≤ 100 }
     requires instance { instance.index < 2 }
     ensures running { IsRunningIn result.scenario.component result.store.state }
+    ensures hosts { HoldsHosts ⟦<ScriptedHost as HostWork>⟧.course result.store }
     ensures fresh { paused ≡ false → CanAsk instance.index result.store.state }
     ensures paused { paused ≡ true → HasPaused instance.index result.store.state }
 {
@@ -344,4 +347,36 @@ fn raises_backpressure(rt: &impl Abort, alloc: Global) -> bool {
 fn a_thread_cancels_and_is_cancelled(rt: HostRuntime) {
     assert!(rt; cancels(&rt, rt.alloc()) && drops(&rt, rt.alloc()));
     assert!(rt; ends_as_cancelled(&rt, rt.alloc()) && raises_backpressure(&rt, rt.alloc()));
+}
+
+fn first_poll(rt: &impl Abort, alloc: Global, polls: Option<u32>) -> Option<u32> {
+    let mut at = running(rt, alloc, CALLER, 4, B, false);
+    let work = ScriptedHost::from_host(HostDef {
+        polls,
+        value: Some(9),
+    });
+    B.first_poll(&at.scenario.component, &mut at.store, work, 5)
+        .ok()
+}
+
+fn poll_and_block(rt: &impl Abort, alloc: Global, polls: Option<u32>) -> Option<Step<u64>> {
+    let mut at = running(rt, alloc, CALLER, 4, B, false);
+    let work = ScriptedHost::from_host(HostDef {
+        polls,
+        value: Some(9),
+    });
+    B.poll_and_block(&at.scenario.component, &mut at.store, work)
+        .ok()
+}
+
+#[test]
+fn a_thread_calls_hosts_of_the_embedder(rt: HostRuntime) {
+    let pending = first_poll(&rt, rt.alloc(), None);
+    assert!(rt; matches!(pending, Some(33)));
+    let ready = first_poll(&rt, rt.alloc(), Some(0));
+    assert!(rt; matches!(ready, Some(2)));
+    let pause = poll_and_block(&rt, rt.alloc(), Some(1));
+    assert!(rt; matches!(pause, Some(Step::Pause)));
+    let value = poll_and_block(&rt, rt.alloc(), Some(0));
+    assert!(rt; matches!(value, Some(Step::Done(9))));
 }
