@@ -17,10 +17,10 @@ use op_dispatch::export_def;
 use std::alloc::Global;
 use std::process::Abort;
 use task_loop::{
-    Answer, Component, Func, Instance, Outcome, ResumeThread, Step, SuspensionTarget, Trace,
-    run_concurrent,
+    Answer, Component, Func, Instance, Outcome, ResumeThread, Step, SuspensionTarget, TaskError,
+    Trace, run_concurrent,
 };
-use task_machine::{Callee, ExportKind, Goal, HostDef, Turn};
+use task_machine::{Callee, ExportKind, Goal, HostDef, Trap, Turn};
 use task_run::{Scenario, ScriptMain, read_scenario};
 use task_store::{FromHost, HostWork, ScriptedHost, Store};
 use task_words::{CallWords, HowFarId, ThreadWords, View};
@@ -33,6 +33,10 @@ const CALLER: &[u8] =
 // A thread of b calls a sync export of a.
 const DIRECT: &[u8] =
     b"scenario 1\nhandles 100000\ntable 1000000\nidle wait\ninstance a\nexport g sync 1\ninstance b\nexport h stackful 0\ncall_sync r8 a.g 7\nmain\nstart b.h\nfinish 1 r0\nanswer r0\nend\n";
+
+// A thread of b calls two hosts, of which it cancels the second one. Both end while it yields; then it cancels the first one.
+const HOSTS: &[u8] =
+    b"scenario 1\nhandles 100000\ntable 1000000\nidle wait\nhost dead never\nhost soon polls 1 value 9\ninstance a\nexport f callback 0\nret 0\nexit\ninstance b\nexport h stackful 0\ncall r4 r5 soon\ncall r4 r5 dead\ncancel r6 2\nyield\nyield\nyield\ncancel r6 1\nyield\nmain\nstart b.h\nfinish 1 r0\nanswer r0\nend\n";
 
 const A: Instance = Instance { index: 0 };
 
@@ -379,4 +383,68 @@ fn a_thread_calls_hosts_of_the_embedder(rt: HostRuntime) {
     assert!(rt; matches!(pause, Some(Step::Pause)));
     let value = poll_and_block(&rt, rt.alloc(), Some(0));
     assert!(rt; matches!(value, Some(Step::Done(9))));
+}
+
+fn cancels_a_host(
+    rt: &impl Abort,
+    alloc: Global,
+    steps: u32,
+    async_: bool,
+    subtask: u32,
+) -> Result<Step<u32>, TaskError>
+    requires few { steps ≤ 100 }
+{
+    let mut at = running(rt, alloc, HOSTS, steps, B, false);
+    B.subtask_cancel(&at.scenario.component, &mut at.store, 1, async_, subtask)
+}
+
+fn drops_a_host(rt: &impl Abort, alloc: Global, steps: u32, subtask: u32) -> Result<(), TaskError>
+    requires few { steps ≤ 100 }
+{
+    let mut at = running(rt, alloc, HOSTS, steps, B, false);
+    B.subtask_drop(&at.scenario.component, &mut at.store, 1, subtask)
+}
+
+#[test]
+fn a_host_subtask_that_runs_is_cancelled_once(rt: HostRuntime) {
+    let cancelled = cancels_a_host(&rt, rt.alloc(), 5, true, 2);
+    assert!(rt; matches!(cancelled, Ok(Step::Done(4_294_967_295))));
+    let again = cancels_a_host(&rt, rt.alloc(), 6, true, 2);
+    assert!(rt;
+        matches!(
+            again,
+            Err(TaskError::Trap(Trap::SubtaskCancelAfterTerminal))
+        )
+    );
+    let again = cancels_a_host(&rt, rt.alloc(), 6, false, 2);
+    assert!(rt;
+        matches!(
+            again,
+            Err(TaskError::Trap(Trap::SubtaskCancelAfterTerminal))
+        )
+    );
+    let dropped = drops_a_host(&rt, rt.alloc(), 5, 2);
+    assert!(rt; matches!(dropped, Err(TaskError::Trap(Trap::SubtaskDropNotResolved))));
+}
+
+#[test]
+fn a_host_subtask_that_has_ended_tells_its_end(rt: HostRuntime) {
+    let cancelled = cancels_a_host(&rt, rt.alloc(), 20, true, 1);
+    assert!(rt; matches!(cancelled, Ok(Step::Done(2))));
+    let again = cancels_a_host(&rt, rt.alloc(), 29, true, 1);
+    assert!(rt;
+        matches!(
+            again,
+            Err(TaskError::Trap(Trap::SubtaskCancelAfterTerminal))
+        )
+    );
+    let returned = drops_a_host(&rt, rt.alloc(), 29, 1);
+    assert!(rt; returned.is_ok());
+    let undelivered = drops_a_host(&rt, rt.alloc(), 20, 2);
+    assert!(rt;
+        matches!(
+            undelivered,
+            Err(TaskError::Trap(Trap::SubtaskDropNotResolved))
+        )
+    );
 }
