@@ -1,4 +1,5 @@
 -- What a store holds of host works stays over an op that an instance has its running thread do.
+use Rattle.std.proofs.lemmas.Bool.Decides.{nat_tests}
 use Rattle.std.proofs.Common.{ap, arith, inl, inr, refl, subst, sym, ⊎_elim, ◌∙◌}
 use Rattle.std.specs.Option.{option_map_or}
 use Rattle.std.specs.Prelude.{Bool, Err, IfSome, List, None, Ok, Option, Result, Some, [], false, if◌then◌else◌, is_some, not, option_and_then, option_map, slice_get, suc, true, unwrap_or, zero, ℕ, ◌<◌, ◌==◌, ◌≡◌, ◌≤◌, ◌∷◌, ◌⊎◌}
@@ -7,7 +8,9 @@ use Rattle.state_calls.specs.declared.error.TaskError.TheVariants as task_error
 use Rattle.state_calls.specs.declared.names.QualifiedThreadId.{QualifiedThreadId}
 use Rattle.subtask_ops.specs.Starts.{call_starts}
 use Rattle.task_calls.specs.Asks.{Answers, Did, Does, HasPaused, IsRunningIn, row_at, row_of}
+use Rattle.task_calls.proofs.DirectLemmas.{goes_base}
 use Rattle.task_calls.specs.Calls.{Returned, Returns}
+use Rattle.task_calls.specs.Directs.{IsDirect, exits_row}
 use Rattle.task_calls.specs.Elsewhere.{is_apart}
 use Rattle.task_calls.specs.Intrinsics.{cancel_op, pressure_op, suspension_op}
 use Rattle.task_calls.specs.Prepared.{Prepares, starts_in}
@@ -18,11 +21,12 @@ use Rattle.task_calls.specs.declared.answers.Step.{Step as Answer}
 use Rattle.task_calls.specs.declared.intrinsics.SuspensionTarget.{SuspensionTarget}
 use Rattle.task_calls.specs.declared.intrinsics.SuspensionTarget.TheVariants as target
 use Rattle.task_laws.proofs.FitLemmas.{op_there}
+use Rattle.task_machine.proofs.CommuteLemmas.{get-change}
 use Rattle.task_machine.specs.Core.{Core, State, Unscripted}
 use Rattle.task_machine.specs.Labels.{Choice, choice_of, ret_label}
-use Rattle.task_machine.specs.Maps.{get}
+use Rattle.task_machine.specs.Maps.{Records, get}
 use Rattle.task_machine.specs.Moves.{behind_one, promoted, promoted_unless, put_switch}
-use Rattle.task_machine.specs.Read.{at_handle_limit, callee_of, fits, has_ended, how_far_of, instance_of, is_async_lifted, kind_of, place_of, task_of, thread_at, thread_group}
+use Rattle.task_machine.specs.Read.{at_handle_limit, callee_of, fits, goal_of, has_ended, how_far_of, instance_of, is_async_lifted, is_direct, is_explicit, kind_of, place_of, task_of, thread_at, thread_group}
 use Rattle.task_machine.specs.Write.{add_call, add_thread, give_thread_handle, on_call, on_instance, on_thread, set_callers, set_do_not_suspend, set_how_far, set_place, set_position, set_register, set_saved_callee, set_saved_own, set_started, set_thread_handle}
 use Rattle.task_machine.specs.declared.component.Callee.{Callee}
 use Rattle.task_machine.specs.declared.component.Component.{Component}
@@ -46,6 +50,7 @@ use Rattle.task_machine.specs.declared.op.ThreadOp.TheVariants as thread_op
 use Rattle.task_machine.specs.declared.records.Caller.{Caller}
 use Rattle.task_machine.specs.declared.records.Caller.TheVariants as caller
 use Rattle.task_machine.specs.declared.records.Goal.{Goal}
+use Rattle.task_machine.specs.declared.records.Made.{Made}
 use Rattle.task_machine.specs.declared.records.HowFar.{HowFar}
 use Rattle.task_machine.specs.declared.records.HowFar.TheVariants as how_far
 use Rattle.task_machine.specs.declared.records.Place.{Place}
@@ -56,11 +61,13 @@ use Rattle.task_machine.specs.declared.records.Subtask.TheVariants as subtask
 use Rattle.task_machine.specs.declared.records.Thread.{Thread}
 use Rattle.task_machine.specs.declared.records.Turn.{Turn}
 use Rattle.task_machine.specs.declared.records.Turn.TheVariants as turn
+use Rattle.task_machine.specs.declared.records.Work.{Work}
 use Rattle.task_machine.specs.declared.records.Why.{Why}
 use Rattle.task_machine.specs.declared.records.Why.TheVariants as whys
 use Rattle.task_machine.specs.declared.trap.Trap.{Trap}
 use Rattle.task_machine.specs.declared.trap.Trap.TheVariants as trap
 use Rattle.task_machine.specs.declared.words.Mark.TheVariants as mark
+use Rattle.task_moves.proofs.UntouchedLemmas.{set_register_untouched}
 use Rattle.task_ops.proofs.MeetLemmas.{meeting_is_step}
 use Rattle.task_ops.specs.Came.{Meets}
 use Rattle.task_ops.specs.Halting.{First, GoesFirst, Refused, StaysBehind, or_refused, promoted_found, promoted_if, refused_if, resumed_found}
@@ -73,8 +80,8 @@ use Rattle.task_rules.proofs.PlacingLemmas.{placing_shifted, shifted_works}
 use Rattle.task_rules.specs.Calls.{call_made, enter_row, enter_runs, next_thread, with_thread_handle}
 use Rattle.task_rules.specs.Data.{advanced, assigned, moved_to}
 use Rattle.task_rules.specs.OpParts.{can_come, queues_work}
-use Rattle.task_rules.specs.Ends.{may_tell}
-use Rattle.task_rules.specs.Progress.{Goes, Progress, Traps, may, or_trap, trap_if}
+use Rattle.task_rules.specs.Ends.{direct_exit_row, exit_row, exit_row_for, implicit_exit_row, may_tell}
+use Rattle.task_rules.specs.Progress.{Fails, Goes, Never, Ordered, Progress, Stops, Traps, may, or_trap, trap_if}
 use Rattle.task_rules.specs.Scripts.{export_kind, op_at_place, op_of, op_of_thread, script_in, slot_at}
 use Rattle.task_rules.specs.Step.{Step, did, op_row}
 use Rattle.task_rules.specs.Task.{ret_done, ret_row}
@@ -445,3 +452,59 @@ module _ (left : ℕ → Option HostDef) (s t : StateView) (h : HoldsWorks left 
         by : (a : Bool) → Returned (trap_if a trap.TaskCancelOrReturnTwice (Traps trap.TaskReturnInvalid)) s r t → HoldsWorks left t.core
         by true q = by_same q.1
         by false q = by_same q.1
+
+-- ---- A direct call that is left
+
+-- one that stops hangs on no core before
+stops_base : (p : Progress) (s u t : Core) (l : Label) → Meets p u (came.Stops l) t → Meets p s (came.Stops l) t
+stops_base (Goes k new n) s u t l h = h
+stops_base (Stops k new) s u t l h = h
+stops_base (Traps why) s u t l h = let e = h.0 in absurd (cc)
+stops_base (Fails i) s u t l h = let e = h.0 in absurd (cc)
+stops_base Never s u t l h = h
+stops_base (Ordered ns next) s u t l h = (h.0, (h.1.0, stops_base (next h.0) s u t l h.1.1))
+
+module _ (n v : ℕ) (s : Core) where
+  abbrev written : Core
+  written = set_register n 0 v s
+
+  written_works : written.works ≡ s.works
+  unfolding set_register on_thread
+  written_works = refl
+
+  written_made : written.made ≡ s.made
+  unfolding set_register on_thread
+  written_made = refl
+
+  written_explicit : is_explicit n written ≡ is_explicit n s
+  unfolding set_register on_thread
+  written_explicit = grind (arith, nat_tests, get-change)
+
+  written_goal : goal_of (task_of n written) written ≡ goal_of (task_of n s) s
+  unfolding set_register on_thread
+  written_goal = grind (arith, nat_tests, get-change)
+
+  written_numbered : WorksNumbered s → WorksNumbered written
+  written_numbered numbered i there = subst (λ (m : Made). i ≤ m.works) (sym written_made) (numbered i (subst (λ (m : Records Work). is_some (get m i) ≡ true) written_works there))
+
+  exit_is : (w : Option ℕ) → IsDirect n s → exit_row n w written ≡ direct_exit_row n written
+  exit_is w direct = ap (exit_row_for n w written) (written_explicit ∙ direct.implicit) ∙ ap (implicit_exit_row n w written) (ap is_direct written_goal ∙ direct.direct)
+
+module _ (left : ℕ → Option HostDef) (s t : StateView) (h : HoldsWorks left s.core) (c : Component) (running : IsRunningIn c s) (v : ℕ) (direct : IsDirect running.number s.core) where
+  moved : StateView
+  moved = with_core (written running.number v s.core) s
+
+  left_by : (r : Came) → Meets (direct_exit_row running.number (written running.number v s.core)) (written running.number v s.core) r t.core → StaysAfter r moved t → HoldsWorks left t.core
+  unfolding moved
+  left_by r met stays =
+      let n = running.number in
+      let u = written n v s.core in
+      let there = runs_there n u ((set_register_untouched n 0 v s.core).places n ∙ (running.order.order Unscripted).in_place.runs n refl) in
+      did_apart left moved t n (written_numbered n v s.core (running.order.order Unscripted).works.made) (holds_same s.core u left (written_works n v s.core) h) there.0 there.1 c (op.Task task_op.Exit) r refl
+      (subst (λ (p : Progress). Meets p u r t.core) (sym (exit_is n v s.core (choice_of (label_of n r)).woken direct)) met) stays
+
+  pub exited_holds : (r : Came) → Meets (exits_row v s.core running.number (choice_of (label_of running.number r))) s.core r t.core → StaysAfter r s t → HoldsWorks left t.core
+  exited_holds (came.Goes l m) met stays = let n = running.number in left_by (came.Goes l m) (goes_base (direct_exit_row n (written n v s.core)) (written n v s.core) s.core t.core l m met) tt
+  exited_holds (came.Stops l) met stays = let n = running.number in left_by (came.Stops l) (stops_base (direct_exit_row n (written n v s.core)) (written n v s.core) s.core t.core l met) tt
+  exited_holds (came.Traps why) met stays = subst (λ (w : StateView). HoldsWorks left w.core) (sym stays) h
+  exited_holds (came.Fails i) met stays = subst (λ (w : StateView). HoldsWorks left w.core) (sym stays) h

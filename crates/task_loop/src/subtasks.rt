@@ -120,6 +120,7 @@ impl Instance {
         requires direct { IfSome (running_of store.old.state) (λ n. IsDirect n store.old.state.core) }
         ensures answers { Answers (exits_row value store.old.state.core) nothing_in store.old.state (at_once result) store.new.state }
         ensures order { IsAtPlace component.now (exits_row value store.old.state.core) store.old.state → Sits component.now (turn_in store.new.state) store.new.state.core }
+        ensures hosts { (course : H → HostDef) → HoldsHosts course store.old → HoldsHosts course store.new }
         ensures rest { store.new ≡ record store.old { state = store.new.state } }
     {
         exit_call(component, &mut store.state, value)
