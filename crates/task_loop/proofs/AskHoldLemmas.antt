@@ -82,7 +82,7 @@ use Rattle.task_rules.specs.Data.{advanced, assigned, moved_to}
 use Rattle.task_rules.specs.OpParts.{can_come, queues_work}
 use Rattle.task_rules.specs.Ends.{direct_exit_row, exit_row, exit_row_for, implicit_exit_row, may_tell}
 use Rattle.task_rules.specs.Progress.{Fails, Goes, Never, Ordered, Progress, Stops, Traps, may, or_trap, trap_if}
-use Rattle.task_rules.specs.Scripts.{export_kind, op_at_place, op_of, op_of_thread, script_in, slot_at}
+use Rattle.task_rules.specs.Scripts.{export_kind, op_at_place, op_of, op_of_thread, script_in, slot_at, slot_script}
 use Rattle.task_rules.specs.Step.{Step, did, op_row}
 use Rattle.task_rules.specs.Task.{ret_done, ret_row}
 use Rattle.task_rules.specs.Threads.{has_yielded, resume_later_found, resume_later_row, resume_why, resumed_later, thread_made, thread_new_label, thread_new_row}
@@ -135,12 +135,8 @@ module _ (o : Op) (f : Callee) (w : Script) (p : ℕ) where
       ∙ ap (λ (e : Option ExportDef). option_map_or (λ (e : ExportDef). e.react) e []) (many_at f.export export_def)
   script_everywhere (script.Slot x) same =
       let at : slice_get instance_def.slots x ≡ Some (slot.Script ops) = ap (λ (v : Script). slice_get instance_def.slots (slot_of v)) same ∙ many_at (slot_of w) (slot.Script ops) in
-      ap (λ (d : Option InstanceDef). slot_ops (unwrap_or (option_and_then (λ (d : InstanceDef). slice_get d.slots x) d) slot.Empty)) (many_at f.instance instance_def)
-      ∙ ap (λ (l : Option Slot). slot_ops (unwrap_or l slot.Empty)) at
-    where
-      abbrev slot_ops : Slot → List Op
-      slot_ops (slot.Script xs) = xs
-      slot_ops k = []
+      ap (λ (d : Option InstanceDef). slot_script (unwrap_or (option_and_then (λ (d : InstanceDef). slice_get d.slots x) d) slot.Empty)) (many_at f.instance instance_def)
+      ∙ ap (λ (l : Option Slot). slot_script (unwrap_or l slot.Empty)) at
 
   op_everywhere : op_in (script_in everywhere f w) ≡ o
   op_everywhere = ap op_in (script_everywhere w refl) ∙ ap (λ (x : Option Op). unwrap_or x (op.Task task_op.Exit)) (many_at p o)
@@ -194,7 +190,7 @@ paused_none k (how_far.AwaitsEnd sub) can paused = grind (arith, can)
 paused_none k how_far.Suspends can paused = grind (arith, can)
 paused_none k how_far.Yields can paused = grind (arith, can)
 
-runs_there : (n : ℕ) (s : Core) → place_of n s ≡ Some place.Running → (r : Thread) × (get s.threads n ≡ Some r)
+pub runs_there : (n : ℕ) (s : Core) → place_of n s ≡ Some place.Running → (r : Thread) × (get s.threads n ≡ Some r)
 runs_there n s running = by (get s.threads n) refl running
   where
     by : (o : Option Thread) → get s.threads n ≡ o → option_map (λ (r : Thread). r.place) o ≡ Some place.Running → (r : Thread) × (get s.threads n ≡ Some r)
@@ -202,7 +198,7 @@ runs_there n s running = by (get s.threads n) refl running
     by (Some r) at e = (r, at)
 
 made_works : (n r x v : ℕ) (s : Core) → (thread_made n r x v s).works ≡ s.works
-unfolding thread_made assigned advanced moved_to set_position on_thread set_register with_thread_handle add_thread set_thread_handle give_thread_handle
+unfolding thread_made assigned advanced moved_to set_position on_thread set_register set_how_far with_thread_handle add_thread set_thread_handle give_thread_handle
 made_works n r x v s = refl
 
 module _ (left : ℕ → Option HostDef) (s t : StateView) (n : ℕ) (numbered : WorksNumbered s.core) (h : HoldsWorks left s.core) where
@@ -277,10 +273,10 @@ module _ (left : ℕ → Option HostDef) (s t : StateView) (h : HoldsWorks left 
   -- nothing is changed, or it was done
   pub by_answers : {A : Type 0} (row : ℕ → Choice → Progress) (f : Label → A) (a : Result (Answer A) TaskError) (n : ℕ) → running_of s ≡ Some n → ((r : Came) → Does (row n) n s r t → HoldsWorks left t.core) →
       Answers row f s a t → HoldsWorks left t.core
-  by_answers row f (Err task_error.NoMemory) n runs then answers = still answers
-  by_answers row f (Ok a) n runs then answers = then answers.0 (subst (λ (o : Option ℕ). IfSome o (λ k. Does (row k) k s answers.0 t)) runs answers.1.0)
-  by_answers row f (Err (task_error.Trap w)) n runs then answers = then answers.0 (subst (λ (o : Option ℕ). IfSome o (λ k. Does (row k) k s answers.0 t)) runs answers.1.0)
-  by_answers row f (Err (task_error.HostFailed i)) n runs then answers = then answers.0 (subst (λ (o : Option ℕ). IfSome o (λ k. Does (row k) k s answers.0 t)) runs answers.1.0)
+  by_answers row f (Err task_error.NoMemory) n runs by_row answers = still answers
+  by_answers row f (Ok a) n runs by_row answers = by_row answers.0 (subst (λ (o : Option ℕ). IfSome o (λ k. Does (row k) k s answers.0 t)) runs answers.1.0)
+  by_answers row f (Err (task_error.Trap w)) n runs by_row answers = by_row answers.0 (subst (λ (o : Option ℕ). IfSome o (λ k. Does (row k) k s answers.0 t)) runs answers.1.0)
+  by_answers row f (Err (task_error.HostFailed i)) n runs by_row answers = by_row answers.0 (subst (λ (o : Option ℕ). IfSome o (λ k. Does (row k) k s answers.0 t)) runs answers.1.0)
 
   module _ (c : Component) (running : IsRunningIn c s) where
     numbered : WorksNumbered s.core
@@ -444,9 +440,9 @@ module _ (left : ℕ → Option HostDef) (s t : StateView) (h : HoldsWorks left 
     pub returned_holds : (b : Bool) (r : Result (Unit {0}) TaskError) → Returns n v b s r t → HoldsWorks left t.core
     returned_holds true r q = ⊎_elim by_same
         (λ met. did_apart left s t n numbered h there at c (op.Task (task_op.Ret (operand.Number v))) (came.Goes (ret_label n v q.0) n) refl
-            (subst (λ (w : Option ℕ). Meets (ret_row n v w s.core) s.core (came.Goes (ret_label n v q.0) n) t.core) (sym (shown n v q.0)) met) tt)
+        (subst (λ (w : Option ℕ). Meets (ret_row n v w s.core) s.core (came.Goes (ret_label n v q.0) n) t.core) (sym (shown n v q.0)) met) tt)
         (went (has_ended (task_of n s.core) s.core) (not (is_async_lifted (kind_of (task_of n s.core) s.core))) (may_tell (task_of n s.core) q.0 s.core)
-            trap.TaskCancelOrReturnTwice trap.TaskReturnInvalid (ret_label n v q.0) (ret_done n v q.0 s.core) n r q.1)
+        trap.TaskCancelOrReturnTwice trap.TaskReturnInvalid (ret_label n v q.0) (ret_done n v q.0 s.core) n r q.1)
     returned_holds false r q = by (has_ended (task_of n s.core) s.core) q
       where
         by : (a : Bool) → Returned (trap_if a trap.TaskCancelOrReturnTwice (Traps trap.TaskReturnInvalid)) s r t → HoldsWorks left t.core

@@ -12,7 +12,7 @@ returns-clause-hosts g c course h =
     let s = store.state in
     let t = c.enter_call.new.w in
     let q = c.requires.running in
-    let e = c.callee.result in
+    let e = c.callee-callee.result in
     let left = held_by course store in
     by_answers left s t h (enters_row c.args.component.now e c.args.params.now s.core) thread_in (at_once (entered t c.enter_call.result)) q.number q.runs
     (λ r d. entered_holds left s t h q.number e (export_kind c.args.component.now e) c.args.params.now r d.meets) c.enter_call.ensures.answers

@@ -13,7 +13,7 @@ returns-clause-hosts g c course h =
     let s = store.state in
     let t = c.prepare_call.new.w in
     let q = c.requires.running in
-    let e = c.callee.result in
+    let e = c.callee-callee.result in
     let aim = goal_for c.args.async_caller c.args.register in
     prepared_holds (held_by course store) s t h c.args.component.now q.number e c.args.params.now aim (fits 3 s.core) c.prepare_call.result
     (subst (λ (o : Option ℕ). IfSome o (λ n. Prepares c.args.component.now n e c.args.params.now aim s (fits 3 s.core) c.prepare_call.result t)) q.runs c.prepare_call.ensures)
