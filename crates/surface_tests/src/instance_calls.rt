@@ -9,6 +9,7 @@ ghost use Rattle.task_rules.specs.Scripts.{export_at, export_kind};
 ghost use Rattle.task_machine.specs.Core.{fresh};
 ghost use Rattle.task_records.specs.Seen.{nothing};
 ghost use Rattle.task_run.specs.Runnable.{IsRunnable};
+ghost use Rattle.task_store.specs.Hosts.{HoldsHosts};
 ghost use Rattle.task_turns.specs.Turn.{Sits, given, running_of};
 ghost use Rattle.task_words.specs.StateView.{with_core};
 
@@ -16,12 +17,12 @@ use op_dispatch::export_def;
 use std::alloc::Global;
 use std::process::Abort;
 use task_loop::{
-    Answer, Component, Func, Instance, Outcome, ResumeThread, Step, SuspensionTarget, Trace,
-    run_concurrent,
+    Answer, Component, Func, Instance, Outcome, ResumeThread, Step, SuspensionTarget, TaskError,
+    Trace, run_concurrent,
 };
-use task_machine::{Callee, ExportKind, Goal, Turn};
+use task_machine::{Callee, ExportKind, Goal, HostDef, Trap, Turn};
 use task_run::{Scenario, ScriptMain, read_scenario};
-use task_store::{ScriptedHost, Store};
+use task_store::{FromHost, HostWork, ScriptedHost, Store};
 use task_words::{CallWords, HowFarId, ThreadWords, View};
 
 // A thread of b makes a set, calls a host that never answers, makes a thread, cancels the call, waits for its end, drops it,
@@ -32,6 +33,10 @@ const CALLER: &[u8] =
 // A thread of b calls a sync export of a.
 const DIRECT: &[u8] =
     b"scenario 1\nhandles 100000\ntable 1000000\nidle wait\ninstance a\nexport g sync 1\ninstance b\nexport h stackful 0\ncall_sync r8 a.g 7\nmain\nstart b.h\nfinish 1 r0\nanswer r0\nend\n";
+
+// A thread of b calls two hosts, of which it cancels the second one. Both end while it yields; then it cancels the first one.
+const HOSTS: &[u8] =
+    b"scenario 1\nhandles 100000\ntable 1000000\nidle wait\nhost dead never\nhost soon polls 1 value 9\ninstance a\nexport f callback 0\nret 0\nexit\ninstance b\nexport h stackful 0\ncall r4 r5 soon\ncall r4 r5 dead\ncancel r6 2\nyield\nyield\nyield\ncancel r6 1\nyield\nmain\nstart b.h\nfinish 1 r0\nanswer r0\nend\n";
 
 const A: Instance = Instance { index: 0 };
 
@@ -90,6 +95,7 @@ fn drive(
     requires few { steps ≤ 100 }
     ensures order { IfSome (running_of store.new.state) (λ n. Sits scenario.now.component (Turn.Run n) store.new.state.core) }
     ensures given { given store.new.state.core ≤ 200 }
+    ensures hosts { HoldsHosts ⟦<ScriptedHost as HostWork>⟧.course store.new }
     ensures two { length scenario.now.component.instances ≡ 2 }
 {
     let Ok(mut run) = run_concurrent(store, false) else {
@@ -132,6 +138,7 @@ fn running(
     requires few { steps ≤ 100 }
     requires instance { instance.index < 2 }
     ensures running { IsRunningIn result.scenario.component result.store.state }
+    ensures hosts { HoldsHosts ⟦<ScriptedHost as HostWork>⟧.course result.store }
     ensures fresh { paused ≡ false → CanAsk instance.index result.store.state }
     ensures paused { paused ≡ true → HasPaused instance.index result.store.state }
 {
@@ -344,4 +351,100 @@ fn raises_backpressure(rt: &impl Abort, alloc: Global) -> bool {
 fn a_thread_cancels_and_is_cancelled(rt: HostRuntime) {
     assert!(rt; cancels(&rt, rt.alloc()) && drops(&rt, rt.alloc()));
     assert!(rt; ends_as_cancelled(&rt, rt.alloc()) && raises_backpressure(&rt, rt.alloc()));
+}
+
+fn first_poll(rt: &impl Abort, alloc: Global, polls: Option<u32>) -> Option<u32> {
+    let mut at = running(rt, alloc, CALLER, 4, B, false);
+    let work = ScriptedHost::from_host(HostDef {
+        polls,
+        value: Some(9),
+    });
+    B.first_poll(&at.scenario.component, &mut at.store, work, 5)
+        .ok()
+}
+
+fn poll_and_block(rt: &impl Abort, alloc: Global, polls: Option<u32>) -> Option<Step<u64>> {
+    let mut at = running(rt, alloc, CALLER, 4, B, false);
+    let work = ScriptedHost::from_host(HostDef {
+        polls,
+        value: Some(9),
+    });
+    B.poll_and_block(&at.scenario.component, &mut at.store, work)
+        .ok()
+}
+
+#[test]
+fn a_thread_calls_hosts_of_the_embedder(rt: HostRuntime) {
+    let pending = first_poll(&rt, rt.alloc(), None);
+    assert!(rt; matches!(pending, Some(33)));
+    let ready = first_poll(&rt, rt.alloc(), Some(0));
+    assert!(rt; matches!(ready, Some(2)));
+    let pause = poll_and_block(&rt, rt.alloc(), Some(1));
+    assert!(rt; matches!(pause, Some(Step::Pause)));
+    let value = poll_and_block(&rt, rt.alloc(), Some(0));
+    assert!(rt; matches!(value, Some(Step::Done(9))));
+}
+
+fn cancels_a_host(
+    rt: &impl Abort,
+    alloc: Global,
+    steps: u32,
+    async_: bool,
+    subtask: u32,
+) -> Result<Step<u32>, TaskError>
+    requires few { steps ≤ 100 }
+{
+    let mut at = running(rt, alloc, HOSTS, steps, B, false);
+    B.subtask_cancel(&at.scenario.component, &mut at.store, 1, async_, subtask)
+}
+
+fn drops_a_host(rt: &impl Abort, alloc: Global, steps: u32, subtask: u32) -> Result<(), TaskError>
+    requires few { steps ≤ 100 }
+{
+    let mut at = running(rt, alloc, HOSTS, steps, B, false);
+    B.subtask_drop(&at.scenario.component, &mut at.store, 1, subtask)
+}
+
+#[test]
+fn a_host_subtask_that_runs_is_cancelled_once(rt: HostRuntime) {
+    let cancelled = cancels_a_host(&rt, rt.alloc(), 5, true, 2);
+    assert!(rt; matches!(cancelled, Ok(Step::Done(4_294_967_295))));
+    let again = cancels_a_host(&rt, rt.alloc(), 6, true, 2);
+    assert!(rt;
+        matches!(
+            again,
+            Err(TaskError::Trap(Trap::SubtaskCancelAfterTerminal))
+        )
+    );
+    let again = cancels_a_host(&rt, rt.alloc(), 6, false, 2);
+    assert!(rt;
+        matches!(
+            again,
+            Err(TaskError::Trap(Trap::SubtaskCancelAfterTerminal))
+        )
+    );
+    let dropped = drops_a_host(&rt, rt.alloc(), 5, 2);
+    assert!(rt; matches!(dropped, Err(TaskError::Trap(Trap::SubtaskDropNotResolved))));
+}
+
+#[test]
+fn a_host_subtask_that_has_ended_tells_its_end(rt: HostRuntime) {
+    let cancelled = cancels_a_host(&rt, rt.alloc(), 20, true, 1);
+    assert!(rt; matches!(cancelled, Ok(Step::Done(2))));
+    let again = cancels_a_host(&rt, rt.alloc(), 29, true, 1);
+    assert!(rt;
+        matches!(
+            again,
+            Err(TaskError::Trap(Trap::SubtaskCancelAfterTerminal))
+        )
+    );
+    let returned = drops_a_host(&rt, rt.alloc(), 29, 1);
+    assert!(rt; returned.is_ok());
+    let undelivered = drops_a_host(&rt, rt.alloc(), 20, 2);
+    assert!(rt;
+        matches!(
+            undelivered,
+            Err(TaskError::Trap(Trap::SubtaskDropNotResolved))
+        )
+    );
 }

@@ -4,6 +4,7 @@ use Rattle.futures.specs.declared.task.Poll.TheVariants.{Pending, Ready}
 use Rattle.std.proofs.Common.{ap, refl, ◌∙◌}
 use Rattle.std.specs.Prelude.{Err, List, None, Ok, Option, Result, Some, option_map, ℕ, ◌≡◌}
 use Rattle.task_calls.specs.Calls.{Finishes, Starts}
+use Rattle.task_calls.specs.Untrapped.{StartsUntrapped}
 use Rattle.state_calls.specs.declared.error.TaskError.{TaskError}
 use Rattle.task_machine.specs.Core.{Core}
 use Rattle.task_machine.specs.Moves.{put_high}
@@ -47,6 +48,11 @@ module _ (left : ℕ → Option HostDef) where
   start_holds c e words s t (Some why) r k h = holds_same s.core t.core left (ap (λ (u : Core). u.works) k.1.core ∙ trap_works s.core) h
   start_holds c e words s t None (Ok n) k h = holds_same s.core t.core left (ap (λ (u : Core). u.works) k.1.core ∙ start_works c e words s.core) h
   start_holds c e words s t None (Err why) k h = holds_same s.core t.core left (ap (λ (u : Core). u.works) k.1.core ∙ trap_works s.core) h
+
+  pub untrapped_holds : (c : Component) (e : Callee) (words : List ℕ) (s t : StateView) (o : Option Trap) (r : Result ℕ TaskError) → StartsUntrapped c e words s o r t → HoldsWorks left s.core → HoldsWorks left t.core
+  untrapped_holds c e words s t (Some why) r k h = holds_same s.core t.core left (ap (λ (u : StateView). u.core.works) k.1) h
+  untrapped_holds c e words s t None (Ok n) k h = holds_same s.core t.core left (ap (λ (u : Core). u.works) k.1.core ∙ start_works c e words s.core) h
+  untrapped_holds c e words s t None (Err why) k h = holds_same s.core t.core left (ap (λ (u : StateView). u.core.works) k.1) h
 
   result_works : (k : ℕ) (s : StateView) → (on_core (take_result k) s).core.works ≡ s.core.works
   unfolding take_result

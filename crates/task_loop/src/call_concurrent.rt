@@ -3,7 +3,9 @@ ghost use Rattle.std.specs.Prelude.{◌≡◌, ◌<◌, ◌^◌, IfOk, IfSome, I
 ghost use Rattle.task_loop.specs.Calls.{callee_of};
 ghost use Rattle.task_loop.specs.Polled.{FinishesWith, Polls, thread_in};
 ghost use Rattle.task_machine.specs.declared.component.Component.{Component as Shape};
+ghost use Rattle.task_machine.specs.declared.component.HostDef.{HostDef};
 ghost use Rattle.task_machine.specs.declared.records.Turn.{Turn};
+ghost use Rattle.task_store.specs.Hosts.{HoldsHosts};
 ghost use Rattle.task_rules.specs.Scripts.{export_at};
 ghost use Rattle.task_turns.specs.Turn.{Sits, given};
 ghost use Rattle.task_turns.specs.WellFormed.{IsWellFormed};
@@ -60,6 +62,7 @@ fn finish<T, H>(
     ensures finishes { FinishesWith call.old.thread store.old.state result store.new.state }
     ensures call { call.new ≡ call.old }
     ensures order { (c : Shape) → (p : Turn) → Sits c p store.old.state.core → Sits c p store.new.state.core }
+    ensures hosts { (course : H → HostDef) → HoldsHosts course store.old → HoldsHosts course store.new }
     ensures rest { store.new ≡ record store.old { state = store.new.state } }
 {
     match func.finish_call_concurrent(store, call) {
@@ -86,6 +89,7 @@ impl CallConcurrent {
         ensures func { self.new.func ≡ self.old.func }
         ensures words { self.new.params ≡ self.old.params }
         ensures order { (p : Turn) → Sits component.now p store.old.state.core → Sits component.now p store.new.state.core }
+        ensures hosts { (course : H → HostDef) → HoldsHosts course store.old → HoldsHosts course store.new }
         ensures rest { store.new ≡ record store.old { state = store.new.state } }
     {
         if let Some(call) = &mut self.call {

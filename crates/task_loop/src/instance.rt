@@ -8,6 +8,8 @@ ghost use Rattle.task_machine.specs.Read.{instance_of};
 ghost use Rattle.task_machine.specs.declared.op.Operand.{Operand};
 ghost use Rattle.task_rules.specs.Scripts.{op_of, value_of};
 ghost use Rattle.task_turns.specs.WellFormed.{IsWellFormed};
+ghost use Rattle.task_machine.specs.declared.component.HostDef.{HostDef};
+ghost use Rattle.task_store.specs.Hosts.{HoldsHosts};
 ghost use Rattle.task_turns.specs.Turn.{Sits, running_of};
 
 use task_calls::{TaskError, ask_nothing, pressure_op, task_return};
@@ -41,6 +43,7 @@ impl Instance {
         requires instance { IfSome (running_of store.old.state) (λ n. instance_of n store.old.state.core ≡ self.index) }
         ensures returns { IfSome (running_of store.old.state) (λ n. Returns n value (is_own_type ty encoding memory) store.old.state result store.new.state) }
         ensures order { IfSome (running_of store.old.state) (λ n. (x : Operand) → op_of component.now n store.old.state.core ≡ Op.Task (TaskOp.Ret x) → value_of n store.old.state.core x ≡ value → Sits component.now (Turn.Run n) store.new.state.core) }
+        ensures hosts { (course : H → HostDef) → HoldsHosts course store.old → HoldsHosts course store.new }
         ensures rest { store.new ≡ record store.old { state = store.new.state } }
     {
         let Some(thread) = store.state.current() else {
@@ -69,6 +72,7 @@ impl Instance {
         requires asks { CanAsk self.index store.old.state }
         ensures answers { Answers (row_of component.now (Op.Task TaskOp.TaskCancel) store.old.state.core) nothing_in store.old.state (at_once result) store.new.state }
         ensures order { KeepsFit component.now (Op.Task TaskOp.TaskCancel) store.old.state store.new.state → Sits component.now (turn_in store.new.state) store.new.state.core }
+        ensures hosts { (course : H → HostDef) → HoldsHosts course store.old → HoldsHosts course store.new }
         ensures rest { store.new ≡ record store.old { state = store.new.state } }
     {
         ask_nothing(component, &mut store.state, Op::Task(TaskOp::TaskCancel))
@@ -88,6 +92,7 @@ impl Instance {
         requires caller { caller ≡ self.index }
         ensures answers { Answers (row_of component.now (pressure_op up) store.old.state.core) nothing_in store.old.state (at_once result) store.new.state }
         ensures order { KeepsFit component.now (pressure_op up) store.old.state store.new.state → Sits component.now (turn_in store.new.state) store.new.state.core }
+        ensures hosts { (course : H → HostDef) → HoldsHosts course store.old → HoldsHosts course store.new }
         ensures rest { store.new ≡ record store.old { state = store.new.state } }
     {
         let _caller = caller;

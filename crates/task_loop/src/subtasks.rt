@@ -14,6 +14,8 @@ ghost use Rattle.task_machine.specs.declared.component.Component.{Component};
 ghost use Rattle.task_machine.specs.declared.records.Goal.{Goal};
 ghost use Rattle.task_rules.specs.Calls.{call_queues};
 ghost use Rattle.task_rules.specs.Scripts.{export_at, export_kind};
+ghost use Rattle.task_machine.specs.declared.component.HostDef.{HostDef};
+ghost use Rattle.task_store.specs.Hosts.{HoldsHosts};
 ghost use Rattle.task_turns.specs.Turn.{Sits, running_of};
 ghost use Rattle.task_words.specs.StateView.{StateView, with_core, with_current};
 
@@ -43,6 +45,7 @@ impl Instance {
         requires caller { caller ≡ self.index }
         ensures answers { Answers (row_of component.now (cancel_op async_ subtask) store.old.state.core) number_in store.old.state result store.new.state }
         ensures order { KeepsFit component.now (cancel_op async_ subtask) store.old.state store.new.state → Sits component.now (turn_in store.new.state) store.new.state.core }
+        ensures hosts { (course : H → HostDef) → HoldsHosts course store.old → HoldsHosts course store.new }
         ensures rest { store.new ≡ record store.old { state = store.new.state } }
     {
         let _caller = caller;
@@ -64,6 +67,7 @@ impl Instance {
         requires caller { caller ≡ self.index }
         ensures answers { Answers (row_of component.now (Op.Call (CallOp.Drop (Operand.Number subtask))) store.old.state.core) nothing_in store.old.state (at_once result) store.new.state }
         ensures order { KeepsFit component.now (Op.Call (CallOp.Drop (Operand.Number subtask))) store.old.state store.new.state → Sits component.now (turn_in store.new.state) store.new.state.core }
+        ensures hosts { (course : H → HostDef) → HoldsHosts course store.old → HoldsHosts course store.new }
         ensures rest { store.new ≡ record store.old { state = store.new.state } }
     {
         let _caller = caller;
@@ -95,6 +99,7 @@ impl Instance {
         ensures answers { Answers (enters_row component.now (callee_of callee) params.now store.old.state.core) thread_in store.old.state (at_once (entered store.new.state result)) store.new.state }
         ensures live { IfOk result (λ id. IsLive store.new.state id) }
         ensures order { IsAtPlace component.now (enters_row component.now (callee_of callee) params.now store.old.state.core) store.old.state → Sits component.now (turn_in store.new.state) store.new.state.core }
+        ensures hosts { (course : H → HostDef) → HoldsHosts course store.old → HoldsHosts course store.new }
         ensures rest { store.new ≡ record store.old { state = store.new.state } }
     {
         let callee = callee.callee();
@@ -115,6 +120,7 @@ impl Instance {
         requires direct { IfSome (running_of store.old.state) (λ n. IsDirect n store.old.state.core) }
         ensures answers { Answers (exits_row value store.old.state.core) nothing_in store.old.state (at_once result) store.new.state }
         ensures order { IsAtPlace component.now (exits_row value store.old.state.core) store.old.state → Sits component.now (turn_in store.new.state) store.new.state.core }
+        ensures hosts { (course : H → HostDef) → HoldsHosts course store.old → HoldsHosts course store.new }
         ensures rest { store.new ≡ record store.old { state = store.new.state } }
     {
         exit_call(component, &mut store.state, value)
@@ -141,6 +147,7 @@ impl Instance {
         requires register { register < 16 }
         requires queued { async_caller ≡ false → is_async_lifted (export_kind component.now (callee_of callee)) ≡ true }
         ensures prepares { IfSome (running_of store.old.state) (λ n. Prepares component.now n (callee_of callee) params.now (goal_for async_caller register) store.old.state (fits 3 store.old.state.core) result store.new.state) }
+        ensures hosts { (course : H → HostDef) → HoldsHosts course store.old → HoldsHosts course store.new }
         ensures rest { store.new ≡ record store.old { state = store.new.state } }
     {
         let callee = callee.callee();
@@ -169,6 +176,7 @@ impl Instance {
         ensures answer { result ≡ Ok Step.Pause }
         ensures starts { IfSome (running_of store.old.state) (λ n. store.new.state ≡ with_current None (with_core (starts_in n callee store.old.state) store.old.state)) }
         ensures whole { (c : Component) (n : ℕ) (e : Callee) (words : List ℕ) (g : Goal) (s : StateView) → running_of store.old.state ≡ Some n → Prepared c n e words g s store.old.state callee → store.new.state.core ≡ call_queues n e (export_kind c e) g words s.core }
+        ensures hosts { (course : H → HostDef) → HoldsHosts course store.old → HoldsHosts course store.new }
         ensures rest { store.new ≡ record store.old { state = store.new.state } }
     {
         let _component = component;

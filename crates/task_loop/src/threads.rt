@@ -5,6 +5,8 @@ ghost use Rattle.task_calls.specs.Asks.{Answers, CanAsk, HasPaused, IsRunningIn,
 ghost use Rattle.task_calls.specs.Elsewhere.{KeepsFit};
 ghost use Rattle.task_calls.specs.Intrinsics.{suspension_op};
 ghost use Rattle.task_calls.specs.Resumes.{Resumed, resumed_by};
+ghost use Rattle.task_machine.specs.declared.component.HostDef.{HostDef};
+ghost use Rattle.task_store.specs.Hosts.{HoldsHosts};
 ghost use Rattle.task_turns.specs.Turn.{Sits, running_of};
 
 use crate::instance::Instance;
@@ -26,6 +28,7 @@ impl Instance {
         requires asks { CanAsk self.index store.old.state }
         ensures answers { Answers (row_of component.now (Op.Thread (ThreadOp.Index 0)) store.old.state.core) number_in store.old.state (at_once result) store.new.state }
         ensures order { KeepsFit component.now (Op.Thread (ThreadOp.Index 0)) store.old.state store.new.state → Sits component.now (turn_in store.new.state) store.new.state.core }
+        ensures hosts { (course : H → HostDef) → HoldsHosts course store.old → HoldsHosts course store.new }
         ensures rest { store.new ≡ record store.old { state = store.new.state } }
     {
         ask_number(
@@ -51,6 +54,7 @@ impl Instance {
         requires caller { caller ≡ self.index }
         ensures answers { Answers (row_of component.now (Op.Thread (ThreadOp.New 0 (min slot 255) (Operand.Number context))) store.old.state.core) number_in store.old.state (at_once result) store.new.state }
         ensures order { KeepsFit component.now (Op.Thread (ThreadOp.New 0 (min slot 255) (Operand.Number context))) store.old.state store.new.state → Sits component.now (turn_in store.new.state) store.new.state.core }
+        ensures hosts { (course : H → HostDef) → HoldsHosts course store.old → HoldsHosts course store.new }
         ensures rest { store.new ≡ record store.old { state = store.new.state } }
     {
         let _caller = caller;
@@ -82,6 +86,7 @@ impl Instance {
         requires caller { caller ≡ self.index }
         ensures answers { Answers (row_of component.now (suspension_op yielding target) store.old.state.core) nothing_in store.old.state result store.new.state }
         ensures order { KeepsFit component.now (suspension_op yielding target) store.old.state store.new.state → Sits component.now (turn_in store.new.state) store.new.state.core }
+        ensures hosts { (course : H → HostDef) → HoldsHosts course store.old → HoldsHosts course store.new }
         ensures rest { store.new ≡ record store.old { state = store.new.state } }
     {
         let _caller = caller;
@@ -106,6 +111,7 @@ impl Instance {
         requires caller { caller ≡ self.index }
         ensures resumed { IfSome (running_of store.old.state) (λ n. Resumed (resumed_by how n thread store.old.state.core) store.old.state result store.new.state) }
         ensures order { how ≡ ResumeThread.ResumeLater → KeepsFit component.now (Op.Thread (ThreadOp.ResumeLater (Operand.Number thread))) store.old.state store.new.state → Sits component.now (turn_in store.new.state) store.new.state.core }
+        ensures hosts { (course : H → HostDef) → HoldsHosts course store.old → HoldsHosts course store.new }
         ensures rest { store.new ≡ record store.old { state = store.new.state } }
     {
         let _caller = caller;
@@ -124,6 +130,7 @@ impl Instance {
         requires paused { HasPaused self.index store.old.state }
         ensures answers { Answers (row_at component.now store.old.state.core) answer_in store.old.state result store.new.state }
         ensures order { Sits component.now (turn_in store.new.state) store.new.state.core }
+        ensures hosts { (course : H → HostDef) → HoldsHosts course store.old → HoldsHosts course store.new }
         ensures rest { store.new ≡ record store.old { state = store.new.state } }
     {
         go_on(component, &mut store.state)

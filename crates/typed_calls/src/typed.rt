@@ -5,9 +5,11 @@ ghost use Rattle.task_calls.specs.Calls.{Finishes};
 ghost use Rattle.task_loop.specs.Calls.{callee_of};
 ghost use Rattle.typed_calls.specs.Typed.{FinishesTyped, IsResult, PollsTyped, number_of_typed, typed_in};
 ghost use Rattle.task_machine.specs.declared.component.Component.{Component as Shape};
+ghost use Rattle.task_machine.specs.declared.component.HostDef.{HostDef};
 ghost use Rattle.task_machine.specs.declared.records.Turn.{Turn};
 ghost use Rattle.task_rules.specs.MainOps.{start_refusal};
 ghost use Rattle.task_rules.specs.Scripts.{export_at};
+ghost use Rattle.task_store.specs.Hosts.{HoldsHosts};
 ghost use Rattle.task_turns.specs.Turn.{Sits, given};
 ghost use Rattle.task_turns.specs.WellFormed.{IsWellFormed};
 
@@ -109,6 +111,7 @@ impl<P: Words, R: FromWord> TypedFunc<P, R> {
         ensures starts { StartsUntrapped component.now (callee_of self.now.func) (P.words params.now) store.old.state (start_refusal store.old.state.core) (number_of_typed result) store.new.state }
         ensures group { IfOk result (λ call. call.call.group ≡ store.old.state.core.made.groups + 1) }
         ensures order { (p : Turn) → Sits component.now p store.old.state.core → Sits component.now p store.new.state.core }
+        ensures hosts { (course : H → HostDef) → HoldsHosts course store.old → HoldsHosts course store.new }
         ensures rest { store.new ≡ record store.old { state = store.new.state } }
     {
         let words = words_of(params);
@@ -142,6 +145,7 @@ impl<P: Words, R: FromWord> TypedFunc<P, R> {
         ensures starts { StartsUntrapped component.now (callee_of self.now.func) (P.words params) store.old.state (start_refusal store.old.state.core) (number_of_typed result) store.new.state }
         ensures group { IfOk result (λ call. call.call.group ≡ store.old.state.core.made.groups + 1) }
         ensures order { (p : Turn) → Sits component.now p store.old.state.core → Sits component.now p store.new.state.core }
+        ensures hosts { (course : H → HostDef) → HoldsHosts course store.old → HoldsHosts course store.new }
         ensures rest { store.new ≡ record store.old { state = store.new.state } }
     {
         self.start_with(component, store, &params)
@@ -157,6 +161,7 @@ impl<P: Words, R: FromWord> TypedFunc<P, R> {
         ensures finishes { (answer : Poll ℕ) × (IsResult R.from answer result × Finishes call.old.call.thread store.old.state answer store.new.state) }
         ensures call { call.new ≡ call.old }
         ensures order { (c : Shape) → (p : Turn) → Sits c p store.old.state.core → Sits c p store.new.state.core }
+        ensures hosts { (course : H → HostDef) → HoldsHosts course store.old → HoldsHosts course store.new }
         ensures rest { store.new ≡ record store.old { state = store.new.state } }
     {
         match self.func.finish_call_concurrent(store, &mut call.call) {
@@ -197,6 +202,7 @@ fn finish<T, H, P: Words, R: FromWord>(
     ensures finishes { FinishesTyped R.from call.old.call.thread store.old.state result store.new.state }
     ensures call { call.new ≡ call.old }
     ensures order { (c : Shape) → (p : Turn) → Sits c p store.old.state.core → Sits c p store.new.state.core }
+    ensures hosts { (course : H → HostDef) → HoldsHosts course store.old → HoldsHosts course store.new }
     ensures rest { store.new ≡ record store.old { state = store.new.state } }
 {
     match func.finish_call_concurrent(store, call) {
@@ -224,6 +230,7 @@ impl<P: Words, R: FromWord> TypedCallConcurrent<P, R> {
         ensures func { self.new.func ≡ self.old.func }
         ensures params { self.new.params ≡ self.old.params }
         ensures order { (p : Turn) → Sits component.now p store.old.state.core → Sits component.now p store.new.state.core }
+        ensures hosts { (course : H → HostDef) → HoldsHosts course store.old → HoldsHosts course store.new }
         ensures rest { store.new ≡ record store.old { state = store.new.state } }
     {
         if let Some(call) = &mut self.call {

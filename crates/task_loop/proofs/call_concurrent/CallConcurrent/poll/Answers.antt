@@ -26,3 +26,6 @@ returns-in-Ok-clause-polls g c =
 
 pub returns-in-Ok-clause-order : goal.returns-in-Ok-clause-order
 returns-in-Ok-clause-order g c = λ p sits. c.finish-answer.ensures.order c.args.component.now p (c.in-Ok.ensures.order p sits)
+
+pub returns-in-Ok-clause-hosts : goal.returns-in-Ok-clause-hosts
+returns-in-Ok-clause-hosts g c = λ course h. c.finish-answer.ensures.hosts course (c.in-Ok.ensures.hosts course h)

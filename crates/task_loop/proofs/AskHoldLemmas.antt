@@ -1,0 +1,506 @@
+-- What a store holds of host works stays over an op that an instance has its running thread do.
+use Rattle.std.proofs.lemmas.Bool.Decides.{nat_tests}
+use Rattle.std.proofs.Common.{ap, arith, inl, inr, refl, subst, sym, ⊎_elim, ◌∙◌}
+use Rattle.std.specs.Option.{option_map_or}
+use Rattle.std.specs.Prelude.{Bool, Err, IfSome, List, None, Ok, Option, Result, Some, [], false, if◌then◌else◌, is_some, not, option_and_then, option_map, slice_get, suc, true, unwrap_or, zero, ℕ, ◌<◌, ◌==◌, ◌≡◌, ◌≤◌, ◌∷◌, ◌⊎◌}
+use Rattle.state_calls.specs.declared.error.TaskError.{TaskError}
+use Rattle.state_calls.specs.declared.error.TaskError.TheVariants as task_error
+use Rattle.state_calls.specs.declared.names.QualifiedThreadId.{QualifiedThreadId}
+use Rattle.subtask_ops.specs.Starts.{call_starts}
+use Rattle.task_calls.specs.Asks.{Answers, Did, Does, HasPaused, IsRunningIn, row_at, row_of}
+use Rattle.task_calls.proofs.DirectLemmas.{goes_base}
+use Rattle.task_calls.specs.Calls.{Returned, Returns}
+use Rattle.task_calls.specs.Directs.{IsDirect, exits_row}
+use Rattle.task_calls.specs.Elsewhere.{is_apart}
+use Rattle.task_calls.specs.Intrinsics.{cancel_op, pressure_op, suspension_op}
+use Rattle.task_calls.specs.Prepared.{Prepares, starts_in}
+use Rattle.task_calls.specs.Resumes.{Resumed, first_in, resumed_by}
+use Rattle.task_calls.specs.declared.intrinsics.ResumeThread.{ResumeThread}
+use Rattle.task_calls.specs.declared.intrinsics.ResumeThread.TheVariants as resume
+use Rattle.task_calls.specs.declared.answers.Step.{Step as Answer}
+use Rattle.task_calls.specs.declared.intrinsics.SuspensionTarget.{SuspensionTarget}
+use Rattle.task_calls.specs.declared.intrinsics.SuspensionTarget.TheVariants as target
+use Rattle.task_laws.proofs.FitLemmas.{op_there}
+use Rattle.task_machine.proofs.CommuteLemmas.{get-change}
+use Rattle.task_machine.specs.Core.{Core, State, Unscripted}
+use Rattle.task_machine.specs.Labels.{Choice, choice_of, ret_label}
+use Rattle.task_machine.specs.Maps.{Records, get}
+use Rattle.task_machine.specs.Moves.{behind_one, promoted, promoted_unless, put_switch}
+use Rattle.task_machine.specs.Read.{at_handle_limit, callee_of, fits, goal_of, has_ended, how_far_of, instance_of, is_async_lifted, is_direct, is_explicit, kind_of, place_of, task_of, thread_at, thread_group}
+use Rattle.task_machine.specs.Write.{add_call, add_thread, give_thread_handle, on_call, on_instance, on_thread, set_callers, set_do_not_suspend, set_how_far, set_place, set_position, set_register, set_saved_callee, set_saved_own, set_started, set_thread_handle}
+use Rattle.task_machine.specs.declared.component.Callee.{Callee}
+use Rattle.task_machine.specs.declared.component.Component.{Component}
+use Rattle.task_machine.specs.declared.component.ExportDef.{ExportDef}
+use Rattle.task_machine.specs.declared.component.ExportKind.{ExportKind}
+use Rattle.task_machine.specs.declared.component.ExportKind.TheVariants as kind
+use Rattle.task_machine.specs.declared.component.HostDef.{HostDef}
+use Rattle.task_machine.specs.declared.component.InstanceDef.{InstanceDef}
+use Rattle.task_machine.specs.declared.component.Slot.{Slot}
+use Rattle.task_machine.specs.declared.component.Slot.TheVariants as slot
+use Rattle.task_machine.specs.declared.label.Label.{Label}
+use Rattle.task_machine.specs.declared.label.CallLabel.TheVariants as call_label
+use Rattle.task_machine.specs.declared.label.Label.TheVariants as label
+use Rattle.task_machine.specs.declared.label.ThreadLabel.TheVariants as thread_label
+use Rattle.task_machine.specs.declared.op.CallOp.TheVariants as call_op
+use Rattle.task_machine.specs.declared.op.Op.{Op}
+use Rattle.task_machine.specs.declared.op.Op.TheVariants as op
+use Rattle.task_machine.specs.declared.op.Operand.TheVariants as operand
+use Rattle.task_machine.specs.declared.op.TaskOp.TheVariants as task_op
+use Rattle.task_machine.specs.declared.op.ThreadOp.TheVariants as thread_op
+use Rattle.task_machine.specs.declared.records.Caller.{Caller}
+use Rattle.task_machine.specs.declared.records.Caller.TheVariants as caller
+use Rattle.task_machine.specs.declared.records.Goal.{Goal}
+use Rattle.task_machine.specs.declared.records.Made.{Made}
+use Rattle.task_machine.specs.declared.records.HowFar.{HowFar}
+use Rattle.task_machine.specs.declared.records.HowFar.TheVariants as how_far
+use Rattle.task_machine.specs.declared.records.Place.{Place}
+use Rattle.task_machine.specs.declared.records.Place.TheVariants as place
+use Rattle.task_machine.specs.declared.records.Script.{Script}
+use Rattle.task_machine.specs.declared.records.Script.TheVariants as script
+use Rattle.task_machine.specs.declared.records.Subtask.TheVariants as subtask
+use Rattle.task_machine.specs.declared.records.Thread.{Thread}
+use Rattle.task_machine.specs.declared.records.Turn.{Turn}
+use Rattle.task_machine.specs.declared.records.Turn.TheVariants as turn
+use Rattle.task_machine.specs.declared.records.Work.{Work}
+use Rattle.task_machine.specs.declared.records.Why.{Why}
+use Rattle.task_machine.specs.declared.records.Why.TheVariants as whys
+use Rattle.task_machine.specs.declared.trap.Trap.{Trap}
+use Rattle.task_machine.specs.declared.trap.Trap.TheVariants as trap
+use Rattle.task_machine.specs.declared.words.Mark.TheVariants as mark
+use Rattle.task_moves.proofs.UntouchedLemmas.{set_register_untouched}
+use Rattle.task_ops.proofs.MeetLemmas.{meeting_is_step}
+use Rattle.task_ops.specs.Came.{Meets}
+use Rattle.task_ops.specs.Halting.{First, GoesFirst, Refused, StaysBehind, or_refused, promoted_found, promoted_if, refused_if, resumed_found}
+use Rattle.task_ops.specs.Stays.{StaysAfter}
+use Rattle.task_ops.specs.Steps.{label_of}
+use Rattle.task_ops.specs.declared.came.Came.{Came}
+use Rattle.task_ops.specs.declared.came.Came.TheVariants as came
+use Rattle.task_laws.specs.Courses.{CallsHost, MakesWork, Spawns}
+use Rattle.task_rules.proofs.PlacingLemmas.{placing_shifted, shifted_works}
+use Rattle.task_rules.specs.Calls.{call_made, enter_row, enter_runs, next_thread, with_thread_handle}
+use Rattle.task_rules.specs.Data.{advanced, assigned, moved_to}
+use Rattle.task_rules.specs.OpParts.{can_come, queues_work}
+use Rattle.task_rules.specs.Ends.{direct_exit_row, exit_row, exit_row_for, implicit_exit_row, may_tell}
+use Rattle.task_rules.specs.Progress.{Fails, Goes, Never, Ordered, Progress, Stops, Traps, may, or_trap, trap_if}
+use Rattle.task_rules.specs.Scripts.{export_kind, op_at_place, op_of, op_of_thread, script_in, slot_at, slot_script}
+use Rattle.task_rules.specs.Step.{Step, did, op_row}
+use Rattle.task_rules.specs.Task.{ret_done, ret_row}
+use Rattle.task_rules.specs.Threads.{has_yielded, resume_later_found, resume_later_row, resume_why, resumed_later, thread_made, thread_new_label, thread_new_row}
+use Rattle.task_rules.specs.Turns.{goes_to}
+use Rattle.task_rules.specs.Words.{Promote, Put}
+use Rattle.task_store.proofs.HostLemmas.{holds_quiet, holds_same}
+use Rattle.task_store.specs.Hosts.{HoldsWorks, WorksNumbered}
+use Rattle.task_turns.proofs.KeptLemmas.{setting}
+use Rattle.task_turns.proofs.RunLemmas.{settled}
+use Rattle.task_turns.specs.Turn.{Sits, running_of, state_at}
+use Rattle.task_words.specs.StateView.{StateView, with_core, with_current}
+
+-- ---- A component in which each script up to some names has this op at each place up to one
+
+many : {X : Type 0} → ℕ → X → List X
+many zero x = x ∷ []
+many (suc n) x = x ∷ many n x
+
+many_at : {X : Type 0} (n : ℕ) (x : X) → slice_get (many n x) n ≡ Some x
+unfolding many
+many_at zero x = refl
+many_at (suc n) x = many_at n x
+
+abbrev slot_of : Script → ℕ
+slot_of (script.Slot x) = x
+slot_of w = 0
+
+module _ (o : Op) (f : Callee) (w : Script) (p : ℕ) where
+  abbrev ops : List Op
+  ops = many p o
+
+  abbrev export_def : ExportDef
+  export_def = record { kind = kind.Callback; params = 0; start = ops; react = ops }
+
+  abbrev instance_def : InstanceDef
+  instance_def = record { exports = many f.export export_def; slots = many (slot_of w) (slot.Script ops) }
+
+  abbrev everywhere : Component
+  everywhere = record { instances = many f.instance instance_def; hosts = [] }
+
+  abbrev op_in : (List Op) → Op
+  op_in xs = op_at_place xs p
+
+  script_everywhere : (v : Script) → v ≡ w → script_in everywhere f v ≡ ops
+  script_everywhere script.Start same =
+      ap (λ (d : Option InstanceDef). option_map_or (λ (e : ExportDef). e.start) (option_and_then (λ (d : InstanceDef). slice_get d.exports f.export) d) []) (many_at f.instance instance_def)
+      ∙ ap (λ (e : Option ExportDef). option_map_or (λ (e : ExportDef). e.start) e []) (many_at f.export export_def)
+  script_everywhere script.React same =
+      ap (λ (d : Option InstanceDef). option_map_or (λ (e : ExportDef). e.react) (option_and_then (λ (d : InstanceDef). slice_get d.exports f.export) d) []) (many_at f.instance instance_def)
+      ∙ ap (λ (e : Option ExportDef). option_map_or (λ (e : ExportDef). e.react) e []) (many_at f.export export_def)
+  script_everywhere (script.Slot x) same =
+      let at : slice_get instance_def.slots x ≡ Some (slot.Script ops) = ap (λ (v : Script). slice_get instance_def.slots (slot_of v)) same ∙ many_at (slot_of w) (slot.Script ops) in
+      ap (λ (d : Option InstanceDef). slot_script (unwrap_or (option_and_then (λ (d : InstanceDef). slice_get d.slots x) d) slot.Empty)) (many_at f.instance instance_def)
+      ∙ ap (λ (l : Option Slot). slot_script (unwrap_or l slot.Empty)) at
+
+  op_everywhere : op_in (script_in everywhere f w) ≡ o
+  op_everywhere = ap op_in (script_everywhere w refl) ∙ ap (λ (x : Option Op). unwrap_or x (op.Task task_op.Exit)) (many_at p o)
+
+-- ---- The rows that read no component
+
+abbrev is_new : Op → Bool
+is_new (op.Thread (thread_op.New r x v)) = true
+is_new o = false
+
+row_same : (c d : Component) (n : ℕ) (s : Core) (ch : Choice) (k : Op) → is_apart k ≡ true → is_new k ≡ false → op_row d n s ch k ≡ op_row c n s ch k
+row_same c d n s ch (op.Data k) e new = absurd (cc)
+row_same c d n s ch (op.Task k) e new = refl
+row_same c d n s ch (op.Set k) e new = refl
+row_same c d n s ch (op.Call (call_op.Call r q g xs)) e new = absurd (cc)
+row_same c d n s ch (op.Call (call_op.CallSync r g xs)) e new = absurd (cc)
+row_same c d n s ch (op.Call (call_op.CallHost r q h)) e new = absurd (cc)
+row_same c d n s ch (op.Call (call_op.CallSyncHost r h)) e new = absurd (cc)
+row_same c d n s ch (op.Call (call_op.Cancel r x)) e new = refl
+row_same c d n s ch (op.Call (call_op.CancelSync r x)) e new = refl
+row_same c d n s ch (op.Call (call_op.Drop x)) e new = refl
+row_same c d n s ch (op.Thread (thread_op.New r x v)) e new = absurd (cc)
+row_same c d n s ch (op.Thread (thread_op.Index r)) e new = refl
+row_same c d n s ch (op.Thread (thread_op.ResumeLater x)) e new = refl
+row_same c d n s ch (op.Thread thread_op.Suspend) e new = refl
+row_same c d n s ch (op.Thread thread_op.Yield) e new = refl
+row_same c d n s ch (op.Thread (thread_op.SuspendThenResume x)) e new = refl
+row_same c d n s ch (op.Thread (thread_op.YieldThenResume x)) e new = refl
+row_same c d n s ch (op.Thread (thread_op.SuspendThenPromote x)) e new = refl
+row_same c d n s ch (op.Thread (thread_op.YieldThenPromote x)) e new = refl
+
+-- such an op calls no host
+calls_none : (k : Op) (h : HowFar) → is_apart k ≡ true → queues_work h k ≡ false
+calls_none (op.Data k) h e = absurd (cc)
+calls_none (op.Call (call_op.Call r q g xs)) h e = absurd (cc)
+calls_none (op.Call (call_op.CallSync r g xs)) h e = absurd (cc)
+calls_none (op.Call (call_op.CallHost r q f)) h e = absurd (cc)
+calls_none (op.Call (call_op.CallSyncHost r f)) h e = absurd (cc)
+calls_none k h e = grind (arith, e)
+
+-- an op that has paused makes no work, since a call of a host that has paused has made its own
+paused_none : (k : Op) (h : HowFar) → can_come k h ≡ true → (h ≡ how_far.Fresh → ⊥) → queues_work h k ≡ false
+paused_none k how_far.Fresh can paused = absurd (paused refl)
+paused_none k (how_far.Waits x) can paused = grind (arith, can)
+paused_none k (how_far.Calls (subtask.Guest j)) can paused = grind (arith, can)
+paused_none k (how_far.Calls (subtask.Host i)) can paused = grind (arith, can)
+paused_none k (how_far.Answered v) can paused = grind (arith, can)
+paused_none k (how_far.Cancels (subtask.Guest j)) can paused = grind (arith, can)
+paused_none k (how_far.Cancels (subtask.Host i)) can paused = absurd (cc)
+paused_none k (how_far.AwaitsEnd sub) can paused = grind (arith, can)
+paused_none k how_far.Suspends can paused = grind (arith, can)
+paused_none k how_far.Yields can paused = grind (arith, can)
+
+pub runs_there : (n : ℕ) (s : Core) → place_of n s ≡ Some place.Running → (r : Thread) × (get s.threads n ≡ Some r)
+runs_there n s running = by (get s.threads n) refl running
+  where
+    by : (o : Option Thread) → get s.threads n ≡ o → option_map (λ (r : Thread). r.place) o ≡ Some place.Running → (r : Thread) × (get s.threads n ≡ Some r)
+    by None at e = absurd (cc)
+    by (Some r) at e = (r, at)
+
+made_works : (n r x v : ℕ) (s : Core) → (thread_made n r x v s).works ≡ s.works
+unfolding thread_made assigned advanced moved_to set_position on_thread set_register set_how_far with_thread_handle add_thread set_thread_handle give_thread_handle
+made_works n r x v s = refl
+
+module _ (left : ℕ → Option HostDef) (s t : StateView) (n : ℕ) (numbered : WorksNumbered s.core) (h : HoldsWorks left s.core) where
+  abbrev before : State
+  before = state_at s.core Unscripted (turn.Run n)
+
+  none_made : (d : Component) → queues_work (how_far_of n s.core) (op_of d n s.core) ≡ false → MakesWork (setting d) before → ⊥
+  none_made d quiet (Spawns main) = cc
+  none_made d quiet (CallsHost k runs queues) =
+      let same : n ≡ k = cc in
+      let is : queues_work (how_far_of n s.core) (op_of d n s.core) ≡ true = subst (λ (i : ℕ). queues_work (how_far_of i s.core) (op_of d i s.core) ≡ true) (sym same) queues in
+      cc
+
+  stepped : (d : Component) (r : Came) (l : Label) (p : Turn) → queues_work (how_far_of n s.core) (op_of d n s.core) ≡ false → Step (setting d) before l (state_at t.core Unscripted p) → HoldsWorks left t.core
+  stepped d r l p quiet step = holds_quiet (setting d) before l (state_at t.core Unscripted p) step (λ k e. cc) numbered left (none_made d quiet) h
+
+  -- the op at the place of a component
+  pub at_place : (d : Component) (r : Came) → queues_work (how_far_of n s.core) (op_of d n s.core) ≡ false → Meets (did d n s.core (choice_of (label_of n r))) s.core r t.core → StaysAfter r s t → HoldsWorks left t.core
+  at_place d (came.Goes l m) quiet met stays = stepped d (came.Goes l m) l (turn.Run m) quiet
+      (subst (Step (setting d) before l) (settled (came.Goes l m) s.core Unscripted (turn.Run n) t.core) (meeting_is_step (setting d) before n (came.Goes l m) t.core refl met))
+  at_place d (came.Stops l) quiet met stays = stepped d (came.Stops l) l turn.Main quiet
+      (subst (Step (setting d) before l) (settled (came.Stops l) s.core Unscripted (turn.Run n) t.core) (meeting_is_step (setting d) before n (came.Stops l) t.core refl met))
+  at_place d (came.Traps why) quiet met stays = subst (λ (v : StateView). HoldsWorks left v.core) (sym stays) h
+  at_place d (came.Fails i) quiet met stays = subst (λ (v : StateView). HoldsWorks left v.core) (sym stays) h
+
+  new_there : (c : Component) (r : Came) (q x v : ℕ) (k : Slot) → Meets (thread_new_row n q x v s.core k) s.core r t.core → HoldsWorks left t.core
+  new_there c r q x v slot.Empty met = subst (HoldsWorks left) (sym met.1) h
+  new_there c r q x v slot.Bad met = subst (HoldsWorks left) (sym met.1) h
+  new_there c r q x v (slot.Script xs) met = by (not (fits 2 s.core)) (at_handle_limit s.core) met
+    where
+      by : (a b : Bool) → Meets (trap_if a trap.TableFull (trap_if b trap.HandleLimit (Goes (thread_new_label n s.core) (thread_made n q x v s.core) n))) s.core r t.core → HoldsWorks left t.core
+      by true b m = subst (HoldsWorks left) (sym m.1) h
+      by false true m = subst (HoldsWorks left) (sym m.1) h
+      by false false m = holds_same s.core t.core left (ap (λ (u : Core). u.works) m.1 ∙ made_works n q x v s.core) h
+
+  module _ (there : Thread) (at : get s.core.threads n ≡ Some there) where
+    did_everywhere : (c : Component) (o : Op) (ch : Choice) → is_apart o ≡ true → is_new o ≡ false →
+        let d = everywhere o (callee_of there.call s.core) there.script there.position in did d n s.core ch ≡ op_row c n s.core ch o
+    unfolding did
+    did_everywhere c o ch apart new =
+        let d = everywhere o (callee_of there.call s.core) there.script there.position in
+        ap (op_row d n s.core ch) (op_there d s.core n there at ∙ op_everywhere o (callee_of there.call s.core) there.script there.position) ∙ row_same c d n s.core ch o apart new
+
+    elsewhere : (c : Component) (o : Op) (r : Came) → is_apart o ≡ true → is_new o ≡ false → Meets (row_of c o s.core n (choice_of (label_of n r))) s.core r t.core → StaysAfter r s t → HoldsWorks left t.core
+    elsewhere c o r apart new met stays =
+        let d = everywhere o (callee_of there.call s.core) there.script there.position in
+        let is = op_there d s.core n there at ∙ op_everywhere o (callee_of there.call s.core) there.script there.position in
+        at_place d r (ap (queues_work (how_far_of n s.core)) is ∙ calls_none o (how_far_of n s.core) apart)
+        (subst (λ (p : Progress). Meets p s.core r t.core) (sym (did_everywhere c o (choice_of (label_of n r)) apart new)) met) stays
+
+    pub did_apart : (c : Component) (o : Op) (r : Came) → is_apart o ≡ true → Meets (row_of c o s.core n (choice_of (label_of n r))) s.core r t.core → StaysAfter r s t → HoldsWorks left t.core
+    did_apart c (op.Thread (thread_op.New q x v)) r apart met stays = new_there c r q x _ (slot_at c (instance_of n s.core) x) met
+    did_apart c (op.Thread (thread_op.Index q)) r apart met stays = elsewhere c (op.Thread (thread_op.Index q)) r apart refl met stays
+    did_apart c (op.Thread (thread_op.ResumeLater x)) r apart met stays = elsewhere c (op.Thread (thread_op.ResumeLater x)) r apart refl met stays
+    did_apart c (op.Thread thread_op.Suspend) r apart met stays = elsewhere c (op.Thread thread_op.Suspend) r apart refl met stays
+    did_apart c (op.Thread thread_op.Yield) r apart met stays = elsewhere c (op.Thread thread_op.Yield) r apart refl met stays
+    did_apart c (op.Thread (thread_op.SuspendThenResume x)) r apart met stays = elsewhere c (op.Thread (thread_op.SuspendThenResume x)) r apart refl met stays
+    did_apart c (op.Thread (thread_op.YieldThenResume x)) r apart met stays = elsewhere c (op.Thread (thread_op.YieldThenResume x)) r apart refl met stays
+    did_apart c (op.Thread (thread_op.SuspendThenPromote x)) r apart met stays = elsewhere c (op.Thread (thread_op.SuspendThenPromote x)) r apart refl met stays
+    did_apart c (op.Thread (thread_op.YieldThenPromote x)) r apart met stays = elsewhere c (op.Thread (thread_op.YieldThenPromote x)) r apart refl met stays
+    did_apart c (op.Data k) r apart met stays = absurd (cc)
+    did_apart c (op.Task k) r apart met stays = elsewhere c (op.Task k) r apart refl met stays
+    did_apart c (op.Set k) r apart met stays = elsewhere c (op.Set k) r apart refl met stays
+    did_apart c (op.Call k) r apart met stays = elsewhere c (op.Call k) r apart refl met stays
+
+-- ---- By what was answered
+
+module _ (left : ℕ → Option HostDef) (s t : StateView) (h : HoldsWorks left s.core) where
+  still : t ≡ s → HoldsWorks left t.core
+  still same = subst (λ (v : StateView). HoldsWorks left v.core) (sym same) h
+
+  -- nothing is changed, or it was done
+  pub by_answers : {A : Type 0} (row : ℕ → Choice → Progress) (f : Label → A) (a : Result (Answer A) TaskError) (n : ℕ) → running_of s ≡ Some n → ((r : Came) → Does (row n) n s r t → HoldsWorks left t.core) →
+      Answers row f s a t → HoldsWorks left t.core
+  by_answers row f (Err task_error.NoMemory) n runs by_row answers = still answers
+  by_answers row f (Ok a) n runs by_row answers = by_row answers.0 (subst (λ (o : Option ℕ). IfSome o (λ k. Does (row k) k s answers.0 t)) runs answers.1.0)
+  by_answers row f (Err (task_error.Trap w)) n runs by_row answers = by_row answers.0 (subst (λ (o : Option ℕ). IfSome o (λ k. Does (row k) k s answers.0 t)) runs answers.1.0)
+  by_answers row f (Err (task_error.HostFailed i)) n runs by_row answers = by_row answers.0 (subst (λ (o : Option ℕ). IfSome o (λ k. Does (row k) k s answers.0 t)) runs answers.1.0)
+
+  module _ (c : Component) (running : IsRunningIn c s) where
+    numbered : WorksNumbered s.core
+    numbered = (running.order.order Unscripted).works.made
+
+    thread : (r : Thread) × (get s.core.threads running.number ≡ Some r)
+    thread = runs_there running.number s.core ((running.order.order Unscripted).in_place.runs running.number refl)
+
+    -- an op that names neither an export nor a host
+    pub asked_holds : {A : Type 0} (o : Op) (f : Label → A) (a : Result (Answer A) TaskError) → is_apart o ≡ true → Answers (row_of c o s.core) f s a t → HoldsWorks left t.core
+    asked_holds o f a apart answers =
+        by_answers (row_of c o s.core) f a running.number running.runs (λ r d. did_apart left s t running.number numbered h thread.0 thread.1 c o r apart d.meets d.stays) answers
+
+    -- the op at the place, that has paused
+    pub gone_on_holds : {A : Type 0} (f : Label → A) (a : Result (Answer A) TaskError) (i : ℕ) → HasPaused i s → Answers (row_at c s.core) f s a t → HoldsWorks left t.core
+    gone_on_holds f a i paused answers =
+        let n = running.number in
+        let far = (subst (λ (o : Option ℕ). IfSome o (λ k. (instance_of k s.core ≡ i) × (how_far_of k s.core ≡ how_far.Fresh → ⊥))) running.runs paused).1 in
+        let fits = (running.order.order Unscripted).fits n thread.0 thread.1 in
+        let can : can_come (op_of c n s.core) (how_far_of n s.core) ≡ true = let e = op_there c s.core n thread.0 thread.1 in let op = fits.op in let at = thread.1 in grind (arith) in
+        by_answers (row_at c s.core) f a n running.runs (λ r d. at_place left s t n numbered h c r (paused_none (op_of c n s.core) (how_far_of n s.core) can far) d.meets d.stays) answers
+
+pub apart_pressure : (up : Bool) → is_apart (pressure_op up) ≡ true
+apart_pressure true = refl
+apart_pressure false = refl
+
+pub apart_cancel : (b : Bool) (x : ℕ) → is_apart (cancel_op b x) ≡ true
+apart_cancel true x = refl
+apart_cancel false x = refl
+
+pub apart_suspension : (b : Bool) (t : SuspensionTarget) → is_apart (suspension_op b t) ≡ true
+apart_suspension true target.None = refl
+apart_suspension true (target.Resume x) = refl
+apart_suspension true (target.Promote x) = refl
+apart_suspension false target.None = refl
+apart_suspension false (target.Resume x) = refl
+apart_suspension false (target.Promote x) = refl
+
+-- ---- The calls that stand for no one op
+
+module _ (left : ℕ → Option HostDef) (s t : StateView) (h : HoldsWorks left s.core) where
+  by_works : (u : Core) → t.core ≡ u → u.works ≡ s.core.works → HoldsWorks left t.core
+  by_works u is works = holds_same s.core t.core left (ap (λ (c : Core). c.works) is ∙ works) h
+
+  by_same : t ≡ s → HoldsWorks left t.core
+  by_same is = by_works s.core (ap (λ (v : StateView). v.core) is) refl
+
+  call_works : (f : Caller) (e : Callee) (x : ExportKind) (g : Goal) (group : ℕ) (words : List ℕ) (u : Core) → (call_made f e x g group words u).works ≡ u.works
+  unfolding call_made add_call add_thread
+  call_works f e x g group words u = refl
+
+  -- a call is prepared
+  pub prepared_holds : (c : Component) (n : ℕ) (e : Callee) (words : List ℕ) (g : Goal) (room : Bool) (r : Result QualifiedThreadId TaskError) → Prepares c n e words g s room r t → HoldsWorks left t.core
+  prepared_holds c n e words g false r q = by_same q.1
+  prepared_holds c n e words g true (Ok id) q = by_works _ q.becomes.core (call_works (caller.Thread n) e (export_kind c e) g (thread_group n s.core) words s.core)
+  prepared_holds c n e words g true (Err why) q = by_same q.1
+
+  -- and begun
+  starts_works : (n m k j : ℕ) (x : ExportKind) (u : Core) → (call_starts n m k j x u).works ≡ u.works
+  unfolding behind_one set_place on_thread set_callers set_how_far set_do_not_suspend on_instance set_saved_callee
+  starts_works n m k j kind.Sync u = shifted_works (placing_shifted (Put mark.Switch m whys.Start) u)
+  starts_works n m k j kind.Blocking u = shifted_works (placing_shifted (Put mark.Switch m whys.Start) u)
+  starts_works n m k j kind.Stackful u = shifted_works (placing_shifted (Put mark.Switch m whys.Start) u)
+  starts_works n m k j kind.Callback u = shifted_works (placing_shifted (Put mark.Switch m whys.Start) u)
+
+  pub started_holds : (n : ℕ) (id : QualifiedThreadId) → t ≡ with_current None (with_core (starts_in n id s) s) → HoldsWorks left t.core
+  started_holds n id is = by_works (starts_in n id s) (ap (λ (v : StateView). v.core) is) (starts_works n _ _ _ _ s.core)
+
+  -- a direct call is entered
+  enters_works : (n : ℕ) (e : Callee) (x : ExportKind) (words : List ℕ) (u : Core) → (enter_runs n e x words u).works ≡ u.works
+  unfolding enter_runs call_made add_call add_thread with_thread_handle set_thread_handle give_thread_handle set_started set_place on_thread on_call on_instance set_how_far set_do_not_suspend set_saved_own
+  enters_works n e kind.Sync words u = refl
+  enters_works n e kind.Blocking words u = refl
+  enters_works n e kind.Stackful words u = refl
+  enters_works n e kind.Callback words u = refl
+
+  pub entered_holds : (n : ℕ) (e : Callee) (x : ExportKind) (words : List ℕ) (r : Came) → Meets (enter_row n e x words s.core) s.core r t.core → HoldsWorks left t.core
+  entered_holds n e x words r met = by (not (fits 3 s.core)) (at_handle_limit s.core) met
+    where
+      by : (a b : Bool) → Meets (trap_if a trap.TableFull (trap_if b trap.HandleLimit (Goes (label.Call (call_label.Enters n (next_thread s.core))) (enter_runs n e x words s.core) (next_thread s.core)))) s.core r t.core → HoldsWorks left t.core
+      by true b m = by_works s.core m.1 refl
+      by false true m = by_works s.core m.1 refl
+      by false false m = by_works (enter_runs n e x words s.core) m.1 (enters_works n e x words s.core)
+
+  -- ---- A thread that is resumed
+
+  Stays : First → Type 0
+  Stays f = (u : Core) → f ≡ GoesFirst u → u.works ≡ s.core.works
+
+  stays_refused : (why : Trap) → Stays (Refused why)
+  unfolding Stays
+  stays_refused why u e = absurd (cc)
+
+  stays_going : (new : Core) → new.works ≡ s.core.works → Stays (GoesFirst new)
+  unfolding Stays
+  stays_going new same u e = let is : new ≡ u = cc in ap (λ (c : Core). c.works) (sym is) ∙ same
+
+  stays_if : (b : Bool) (why : Trap) (f : First) → Stays f → Stays (refused_if b why f)
+  stays_if true why f k = stays_refused why
+  stays_if false why f k = k
+
+  stays_or : {X : Type 0} (o : Option X) (why : Trap) (f : X → First) → ((x : X) → Stays (f x)) → Stays (or_refused o why f)
+  stays_or None why f k = stays_refused why
+  stays_or (Some x) why f k = k x
+
+  stays_promoted : (b : Bool) (m : ℕ) → Stays (promoted_if b m s.core)
+  unfolding promoted_unless Stays
+  stays_promoted true m = stays_going (promoted_unless m s.core) (by (is_some s.core.queues.switch))
+    where
+      by : (b : Bool) → (if b then s.core else promoted m s.core).works ≡ s.core.works
+      by true = refl
+      by false = shifted_works (placing_shifted (Promote m) s.core)
+  stays_promoted false m = λ u e. absurd (cc)
+
+  later_works : (n m : ℕ) (w : Why) → (resumed_later n m w s.core).works ≡ s.core.works
+  unfolding resumed_later advanced moved_to set_how_far set_position on_thread
+  later_works n m w = shifted_works (placing_shifted (Put mark.Low m w) s.core)
+
+  stays_later : (n h : ℕ) → Stays (first_in (resume_later_row n h s.core))
+  stays_later n h = by (thread_at (instance_of n s.core) h s.core)
+    where
+      found : (m : ℕ) (b : Bool) (o : Option Why) → Stays (first_in (trap_if b trap.CannotResumeThread (or_trap o trap.CannotResumeThread (λ w. Goes (label.Thread (thread_label.ResumeLater n)) (resumed_later n m w s.core) n))))
+      found m true o = stays_refused trap.CannotResumeThread
+      found m false None = stays_refused trap.CannotResumeThread
+      found m false (Some w) = stays_going (resumed_later n m w s.core) (later_works n m w)
+
+      by : (o : Option ℕ) → Stays (first_in (or_trap o trap.BadHandle (resume_later_found n s.core)))
+      by None = stays_refused trap.BadHandle
+      by (Some m) = found m (m == n) (resume_why m s.core)
+
+  stays_resumed : (how : ResumeThread) (n h : ℕ) → Stays (resumed_by how n h s.core)
+  stays_resumed resume.Promote n h = stays_or (thread_at (instance_of n s.core) h s.core) trap.BadHandle (promoted_found n s.core) (λ m. stays_if (m == n) trap.CannotResumeThread (promoted_if (has_yielded m s.core) m s.core) (stays_promoted (has_yielded m s.core) m))
+  stays_resumed resume.Resume n h = stays_or (thread_at (instance_of n s.core) h s.core) trap.BadHandle (resumed_found n s.core) (λ m.
+      stays_if (m == n) trap.CannotResumeThread _ (stays_or (resume_why m s.core) trap.CannotResumeThread (λ w. GoesFirst (put_switch m w s.core)) (λ w.
+      stays_going (put_switch m w s.core) (shifted_works (placing_shifted (Put mark.Switch m w) s.core)))))
+  stays_resumed resume.ResumeLater n h = stays_later n h
+
+  pub resumed_holds : (how : ResumeThread) (n h : ℕ) (r : Result Bool TaskError) → Resumed (resumed_by how n h s.core) s r t → HoldsWorks left t.core
+  unfolding Stays
+  resumed_holds how n handle r q = by (resumed_by how n handle s.core) (stays_resumed how n handle) q
+    where
+      by : (f : First) → Stays f → Resumed f s r t → HoldsWorks left t.core
+      by (GoesFirst new) k q = by_works new (ap (λ (v : StateView). v.core) q.1) (k new refl)
+      by StaysBehind k q = by_same q.1
+      by (Refused why) k q = by_same q.1
+
+  -- ---- A task that returns
+
+  went : (a b d : Bool) (x y : Trap) (l : Label) (new : Core) (m : ℕ) (r : Result (Unit {0}) TaskError) → Returned (trap_if a x (trap_if b y (may d (Goes l new m)))) s r t →
+      (t ≡ s) ⊎ Meets (trap_if a x (trap_if b y (may d (Goes l new m)))) s.core (came.Goes l m) t.core
+  went true b d x y l new m r q = inl q.1
+  went false true d x y l new m r q = inl q.1
+  went false false true x y l new m r q = inr (refl, ap (λ (v : StateView). v.core) q.1)
+  went false false false x y l new m r q = absurd q
+
+  shown : (n v : ℕ) (w : Option ℕ) → (choice_of (ret_label n v w)).woken ≡ w
+  shown n v None = refl
+  shown n v (Some k) = refl
+
+  module _ (c : Component) (n v : ℕ) (there : Thread) (at : get s.core.threads n ≡ Some there) (numbered : WorksNumbered s.core) where
+    pub returned_holds : (b : Bool) (r : Result (Unit {0}) TaskError) → Returns n v b s r t → HoldsWorks left t.core
+    returned_holds true r q = ⊎_elim by_same
+        (λ met. did_apart left s t n numbered h there at c (op.Task (task_op.Ret (operand.Number v))) (came.Goes (ret_label n v q.0) n) refl
+        (subst (λ (w : Option ℕ). Meets (ret_row n v w s.core) s.core (came.Goes (ret_label n v q.0) n) t.core) (sym (shown n v q.0)) met) tt)
+        (went (has_ended (task_of n s.core) s.core) (not (is_async_lifted (kind_of (task_of n s.core) s.core))) (may_tell (task_of n s.core) q.0 s.core)
+        trap.TaskCancelOrReturnTwice trap.TaskReturnInvalid (ret_label n v q.0) (ret_done n v q.0 s.core) n r q.1)
+    returned_holds false r q = by (has_ended (task_of n s.core) s.core) q
+      where
+        by : (a : Bool) → Returned (trap_if a trap.TaskCancelOrReturnTwice (Traps trap.TaskReturnInvalid)) s r t → HoldsWorks left t.core
+        by true q = by_same q.1
+        by false q = by_same q.1
+
+-- ---- A direct call that is left
+
+-- one that stops hangs on no core before
+stops_base : (p : Progress) (s u t : Core) (l : Label) → Meets p u (came.Stops l) t → Meets p s (came.Stops l) t
+stops_base (Goes k new n) s u t l h = h
+stops_base (Stops k new) s u t l h = h
+stops_base (Traps why) s u t l h = let e = h.0 in absurd (cc)
+stops_base (Fails i) s u t l h = let e = h.0 in absurd (cc)
+stops_base Never s u t l h = h
+stops_base (Ordered ns next) s u t l h = (h.0, (h.1.0, stops_base (next h.0) s u t l h.1.1))
+
+module _ (n v : ℕ) (s : Core) where
+  abbrev written : Core
+  written = set_register n 0 v s
+
+  written_works : written.works ≡ s.works
+  unfolding set_register on_thread
+  written_works = refl
+
+  written_made : written.made ≡ s.made
+  unfolding set_register on_thread
+  written_made = refl
+
+  written_explicit : is_explicit n written ≡ is_explicit n s
+  unfolding set_register on_thread
+  written_explicit = grind (arith, nat_tests, get-change)
+
+  written_goal : goal_of (task_of n written) written ≡ goal_of (task_of n s) s
+  unfolding set_register on_thread
+  written_goal = grind (arith, nat_tests, get-change)
+
+  written_numbered : WorksNumbered s → WorksNumbered written
+  written_numbered numbered i there = subst (λ (m : Made). i ≤ m.works) (sym written_made) (numbered i (subst (λ (m : Records Work). is_some (get m i) ≡ true) written_works there))
+
+  exit_is : (w : Option ℕ) → IsDirect n s → exit_row n w written ≡ direct_exit_row n written
+  exit_is w direct = ap (exit_row_for n w written) (written_explicit ∙ direct.implicit) ∙ ap (implicit_exit_row n w written) (ap is_direct written_goal ∙ direct.direct)
+
+module _ (left : ℕ → Option HostDef) (s t : StateView) (h : HoldsWorks left s.core) (c : Component) (running : IsRunningIn c s) (v : ℕ) (direct : IsDirect running.number s.core) where
+  moved : StateView
+  moved = with_core (written running.number v s.core) s
+
+  left_by : (r : Came) → Meets (direct_exit_row running.number (written running.number v s.core)) (written running.number v s.core) r t.core → StaysAfter r moved t → HoldsWorks left t.core
+  unfolding moved
+  left_by r met stays =
+      let n = running.number in
+      let u = written n v s.core in
+      let there = runs_there n u ((set_register_untouched n 0 v s.core).places n ∙ (running.order.order Unscripted).in_place.runs n refl) in
+      did_apart left moved t n (written_numbered n v s.core (running.order.order Unscripted).works.made) (holds_same s.core u left (written_works n v s.core) h) there.0 there.1 c (op.Task task_op.Exit) r refl
+      (subst (λ (p : Progress). Meets p u r t.core) (sym (exit_is n v s.core (choice_of (label_of n r)).woken direct)) met) stays
+
+  pub exited_holds : (r : Came) → Meets (exits_row v s.core running.number (choice_of (label_of running.number r))) s.core r t.core → StaysAfter r s t → HoldsWorks left t.core
+  exited_holds (came.Goes l m) met stays = let n = running.number in left_by (came.Goes l m) (goes_base (direct_exit_row n (written n v s.core)) (written n v s.core) s.core t.core l m met) tt
+  exited_holds (came.Stops l) met stays = let n = running.number in left_by (came.Stops l) (stops_base (direct_exit_row n (written n v s.core)) (written n v s.core) s.core t.core l met) tt
+  exited_holds (came.Traps why) met stays = subst (λ (w : StateView). HoldsWorks left w.core) (sym stays) h
+  exited_holds (came.Fails i) met stays = subst (λ (w : StateView). HoldsWorks left w.core) (sym stays) h

@@ -1,0 +1,18 @@
+-- The host works stay where a direct call is entered.
+use Rattle.task_calls.specs.Answers.{at_once}
+use Rattle.task_calls.specs.Directs.{entered, enters_row, thread_in}
+use Rattle.task_loop.proofs.AskHoldLemmas.{by_answers, entered_holds}
+use Rattle.task_loop.proofs.instance.Instance.enter_guest_sync_call.Goals as goal
+use Rattle.task_rules.specs.Scripts.{export_kind}
+use Rattle.task_store.specs.Hosts.{held_by}
+
+pub returns-clause-hosts : goal.returns-clause-hosts
+returns-clause-hosts g c course h =
+    let store = c.args.store.now in
+    let s = store.state in
+    let t = c.enter_call.new.w in
+    let q = c.requires.running in
+    let e = c.callee-callee.result in
+    let left = held_by course store in
+    by_answers left s t h (enters_row c.args.component.now e c.args.params.now s.core) thread_in (at_once (entered t c.enter_call.result)) q.number q.runs
+    (λ r d. entered_holds left s t h q.number e (export_kind c.args.component.now e) c.args.params.now r d.meets) c.enter_call.ensures.answers

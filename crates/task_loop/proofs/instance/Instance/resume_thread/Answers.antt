@@ -1,0 +1,16 @@
+-- The host works stay where another thread is resumed.
+use Rattle.std.proofs.Common.{subst}
+use Rattle.std.specs.Prelude.{IfSome, Option, ℕ}
+use Rattle.task_calls.specs.Resumes.{Resumed, resumed_by}
+use Rattle.task_loop.proofs.AskHoldLemmas.{resumed_holds}
+use Rattle.task_loop.proofs.instance.Instance.resume_thread.Goals as goal
+use Rattle.task_store.specs.Hosts.{held_by}
+
+pub returns-clause-hosts : goal.returns-clause-hosts
+returns-clause-hosts g c course h =
+    let store = c.args.store.now in
+    let s = store.state in
+    let t = c.resume_thread.new.w in
+    let q = c.requires.running in
+    resumed_holds (held_by course store) s t h c.args.how q.number c.args.thread c.resume_thread.result
+    (subst (λ (o : Option ℕ). IfSome o (λ n. Resumed (resumed_by c.args.how n c.args.thread s.core) s c.resume_thread.result t)) q.runs c.resume_thread.ensures.resumed)

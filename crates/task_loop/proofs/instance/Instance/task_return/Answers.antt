@@ -1,0 +1,23 @@
+-- The host works stay over a return.
+use Rattle.std.proofs.Common.{ap, refl, subst, sym, ◌∙◌}
+use Rattle.std.specs.Option.{option_map}
+use Rattle.std.specs.Prelude.{IfSome, Option, Some, ℕ, ◌≡◌}
+use Rattle.task_calls.specs.Calls.{is_own_type}
+use Rattle.task_loop.proofs.AskHoldLemmas.{returned_holds, runs_there}
+use Rattle.task_loop.proofs.instance.Instance.task_return.Goals as goal
+use Rattle.task_machine.specs.Core.{Unscripted}
+use Rattle.task_machine.specs.declared.records.Turn.TheVariants as turn
+use Rattle.task_store.specs.Hosts.{held_by}
+use Rattle.task_turns.specs.Turn.{Sits, running_of}
+use Rattle.task_words.specs.StateView.{thread_of}
+
+pub returns-clause-hosts : goal.returns-clause-hosts
+returns-clause-hosts g c course h =
+    let store = c.args.store.now in
+    let s = store.state in
+    let n = c.number-number.result in
+    let runs : running_of s ≡ Some n = ap (option_map (λ id. thread_of s id)) (sym c.current.ensures ∙ c.in-Some.is) ∙ ap (λ (k : ℕ). Some k) (sym c.number-number.ensures) in
+    let sits : Sits c.args.component.now (turn.Run n) s.core = subst (λ (o : Option ℕ). IfSome o (λ k. Sits c.args.component.now (turn.Run k) s.core)) runs c.requires.order in
+    let order = sits.order Unscripted in
+    let there = runs_there n s.core (order.in_place.runs n refl) in
+    returned_holds (held_by course store) s c.task_return.new.w h c.args.component.now n c.args.value there.0 there.1 order.works.made (is_own_type c.args.ty c.args.encoding c.args.memory) c.task_return.result c.task_return.ensures.returns

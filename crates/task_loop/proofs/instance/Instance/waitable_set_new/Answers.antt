@@ -1,0 +1,12 @@
+use Rattle.std.proofs.Common.{refl}
+use Rattle.task_calls.specs.Answers.{at_once, number_in}
+use Rattle.task_loop.proofs.AskHoldLemmas.{asked_holds}
+use Rattle.task_loop.proofs.instance.Instance.waitable_set_new.Goals as goal
+use Rattle.task_machine.specs.declared.op.Op.TheVariants as op
+use Rattle.task_machine.specs.declared.op.SetOp.TheVariants as set_op
+use Rattle.task_store.specs.Hosts.{held_by}
+
+pub returns-clause-hosts : goal.returns-clause-hosts
+returns-clause-hosts g c course h =
+    let store = c.args.store.now in
+    asked_holds (held_by course store) store.state c.ask_number.new.w h c.args.component.now c.requires.running (op.Set (set_op.New 0)) number_in (at_once c.ask_number.result) refl c.ask_number.ensures.answers
