@@ -7,24 +7,22 @@ use Rattle.task_words.specs.Names.{how_far_in, place_in, why_in}
 pub stand_unchained-requires-clause-unchained : goal.stand_unchained-requires-clause-unchained
 stand_unchained-requires-clause-unchained c i = refl
 
-pub stand_unchained-requires-in-Ready-clause-unchained : goal.stand_unchained-requires-in-Ready-clause-unchained
-stand_unchained-requires-in-Ready-clause-unchained c i = refl
-
 pub returns-in-Running-clause-new : goal.returns-in-Running-clause-new
 returns-in-Running-clause-new c =
     let s = seen c.args.parts.now in
     let n = thread_of s c.args.thread in
     let h = how_far_in s.tags c.args.how_far in
-    c.stand_unchained.ensures.new
+    c.put_stand_counted.ensures.new
+    ∙ (ap (λ g. on_core (on_thread n (to_stand Place.Running g)) s) (sym c.named_how_far-point.ensures.is)
     ∙ (ap (λ x. record s { core = x }) (stood n Place.Running h s.core)
-    ∙ ap (λ p. on_core (λ x. set_how_far n h (set_place n (place_in s.tags p) x)) s) (sym c.in-Running.is))
+    ∙ ap (λ p. on_core (λ x. set_how_far n h (set_place n (place_in s.tags p) x)) s) (sym c.in-Running.is)))
 
 pub returns-in-Ready-clause-new : goal.returns-in-Ready-clause-new
 returns-in-Ready-clause-new c =
     let s = seen c.args.parts.now in
     let n = thread_of s c.args.thread in
     let h = how_far_in s.tags c.args.how_far in
-    c.stand_unchained-in-Ready.ensures.new
+    c.stand_unchained.ensures.new
     ∙ (ap (λ w. on_core (on_thread n (to_stand (Place.Ready c.in-Ready.mark w) h)) s) (sym c.named_why-why.ensures.is)
     ∙ (ap (λ x. record s { core = x }) (stood n (Place.Ready c.in-Ready.mark (why_in s.tags c.in-Ready.why)) h s.core)
     ∙ ap (λ p. on_core (λ x. set_how_far n h (set_place n (place_in s.tags p) x)) s) (sym c.in-Ready.is)))
