@@ -2,11 +2,13 @@
 ghost use Rattle.std.specs.Prelude.{◌≡◌, ◌+◌, ◌<◌, ◌^◌, [], IfErr, IfOk, None, OnOk};
 ghost use Rattle.task_machine.specs.Core.{Unscripted};
 ghost use Rattle.state_calls.specs.declared.error.TaskError.TheVariants as task_error;
+ghost use Rattle.task_loop.specs.Standing.{standing};
 ghost use Rattle.task_store.specs.Hosts.{HoldsHosts};
 ghost use Rattle.task_turns.specs.WellFormed.{IsWellFormed};
 ghost use Rattle.task_turns.specs.Main.{Steps};
 ghost use Rattle.task_turns.specs.Turn.{Sits, given, running_of};
 ghost use Rattle.embed_example.specs.Host.{TakesOne};
+ghost use Rattle.embed_example.specs.Relays.{Relays};
 
 use crate::parts::{DOUBLE, NEXT};
 use futures::task::Poll;
@@ -27,7 +29,9 @@ pub struct Relay {
 
 impl Relay {
     /// Main with a word, before its first call.
-    pub fn new(word: u64) -> Self {
+    pub fn new(word: u64) -> Self
+        ensures { result.word ≡ word }
+    {
         Relay {
             word,
             started: 0,
@@ -50,10 +54,11 @@ fn start(
     requires current { running_of access.old.store.now.state ≡ None }
     requires given { given access.old.store.now.state.core + 4 < 2 ^ 61 }
     ensures same { access.new.store.ghost_name ≡ access.old.store.ghost_name }
-    ensures stands { access.new.store.now.running ≡ access.old.store.now.running }
+    ensures stands { standing access.new.store.now ≡ standing access.old.store.now }
     ensures hosts { HoldsHosts ⟦<ScriptedHost as HostWork>⟧.course access.new.store.now }
     ensures current { OnOk result (running_of access.new.store.now.state ≡ running_of access.old.store.now.state) }
     ensures ok { IfOk result (λ step. Steps component.now [] Unscripted access.old.store.now.state.core step Unscripted access.new.store.now.state.core) }
+    ensures does { IfOk result (λ step. Relays relay.old step relay.new) }
     ensures err { IfErr result (λ e. e ≡ task_error.NoMemory) }
 {
     let number = relay.started.saturating_add(1);
@@ -84,6 +89,8 @@ impl MainTask<(), ScriptedHost> for Relay {
     ghost knows = { λ _ _. Unit {0} };
 
     ghost stays = { λ main before after last known. tt };
+
+    ghost does = { Relays };
 
     fn step(
         &mut self,

@@ -1,5 +1,5 @@
 //! The store and the run.
-ghost use Rattle.std.specs.Prelude.{◌≡◌, [], length, true, false, IfOk};
+ghost use Rattle.std.specs.Prelude.{◌≡◌, ℕ, [], length, true, false, IfOk};
 ghost use Rattle.host_works.specs.Kept.{HoldsNone};
 ghost use Rattle.task_machine.specs.Core.{State, Unscripted, fresh};
 ghost use Rattle.task_machine.specs.declared.records.Turn.TheVariants as turn;
@@ -9,6 +9,7 @@ ghost use Rattle.task_turns.specs.Drive.{Drives};
 ghost use Rattle.task_turns.specs.Turn.{setting_of, state_at};
 ghost use Rattle.task_words.specs.StateView.{with_core};
 ghost use Rattle.embed_example.specs.Host.{TakesOne};
+ghost use Rattle.embed_example.specs.Relays.{last_word};
 
 use crate::parts::{DOUBLE, NEXT};
 use crate::relay::Relay;
@@ -32,7 +33,8 @@ fn store(alloc: Global) -> Result<Store<(), ScriptedHost>, NoMemory>
 }
 
 /// Drives a `Relay` with this word: what was added to an empty trace is a run of the component
-/// machine from a new store with two instances, and the outcome is what it has come to.
+/// machine from a new store with two instances, and the outcome is what it has come to. What the relay has answered is
+/// what the last call that was finished has returned, as the run's labels show it.
 pub fn relayed(
     alloc: Global,
     component: &Component,
@@ -42,7 +44,8 @@ pub fn relayed(
     requires double { TakesOne component.now DOUBLE }
     requires next { TakesOne component.now NEXT }
     requires two { length component.now.instances ≡ 2 }
-    ensures { IfOk result (λ r. (t : State) × Drives (setting_of component.now [] true) (state_at (fresh 2 100000 1000000) Unscripted turn.Main) [] t r.0 STEPS r.1) }
+    ensures answers { IfOk result (λ r. (v : ℕ) → r.1 ≡ Outcome.Done v → v ≡ last_word word r.0) }
+    ensures ran { IfOk result (λ r. (t : State) × Drives (setting_of component.now [] true) (state_at (fresh 2 100000 1000000) Unscripted turn.Main) [] t r.0 STEPS r.1) }
 {
     let mut store = store(alloc)?;
     let Ok(mut run) = run_concurrent(&mut store, true) else {

@@ -168,6 +168,8 @@ impl<T, H: HostWork> MainTask<T, H> for Host {
 
     ghost stays = { λ main before after last known. tt };
 
+    ghost does = { λ main step after. after ≡ main };
+
     fn step(
         &mut self,
         _access: &mut Access<'_, T, Whole, H>,

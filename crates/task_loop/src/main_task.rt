@@ -2,8 +2,10 @@ ghost use Rattle.std.specs.Prelude.{◌≡◌, ◌+◌, ◌<◌, ◌^◌, IfErr,
 ghost use Rattle.task_machine.specs.Core.{Main};
 ghost use Rattle.task_machine.specs.declared.component.Component.{Component};
 ghost use Rattle.task_machine.specs.declared.scenario.MainOpDef.{MainOpDef};
+ghost use Rattle.task_loop.specs.Standing.{standing};
 ghost use Rattle.task_store.specs.Hosts.{HoldsHosts};
 ghost use Rattle.task_turns.specs.WellFormed.{IsWellFormed};
+ghost use Rattle.task_turns.specs.declared.mains.MainStep.{MainStep};
 ghost use Rattle.task_turns.specs.Later.{WorksLast};
 ghost use Rattle.task_turns.specs.Main.{Steps};
 ghost use Rattle.task_turns.specs.Turn.{Sits, given, running_of};
@@ -30,10 +32,13 @@ pub trait MainTask<T, H: HostWork> {
     // What main knows of the store, as that the works that it spawned were made there.
     ghost knows: { Self → StateView → Type 0 };
 
+    // What main says of itself before and after a step that came to this. Of a whole run of steps it is said by `drive`.
+    ghost does: { Self → MainStep → Self → Type 0 };
+
     /// Takes the next op, in a store in order, of a component that suits main, in which no thread runs and
     /// fewer than 2^61 - 4 numbers were given. The label of an op that is done is lawful, and store and main are as it
-    /// leaves them; else they are as before. A run stands on the store as before. It answers no error
-    /// but want of memory, after which nothing else is said of either.
+    /// leaves them; else they are as before. Whether a run stands on the store, whether it is concurrent and
+    /// its number stay. It answers no error but want of memory, after which nothing else is said of either.
     fn step(
         &mut self,
         access: &mut Access<'_, T, Whole, H>,
@@ -47,13 +52,14 @@ pub trait MainTask<T, H: HostWork> {
         requires current { running_of access.old.store.now.state ≡ None }
         requires given { given access.old.store.now.state.core + 4 < 2 ^ 61 }
         ensures same { access.new.store.ghost_name ≡ access.old.store.ghost_name }
-        ensures stands { access.new.store.now.running ≡ access.old.store.now.running }
+        ensures stands { standing access.new.store.now ≡ standing access.old.store.now }
         ensures script { script self.new ≡ script self.old }
         ensures suits { OnOk result (suits self.new component.now) }
         ensures knows { OnOk result (knows self.new access.new.store.now.state) }
         ensures hosts { OnOk result (HoldsHosts H.course access.new.store.now) }
         ensures current { OnOk result (running_of access.new.store.now.state ≡ running_of access.old.store.now.state) }
         ensures ok { IfOk result (λ step. Steps component.now (script self.old) (part self.old) access.old.store.now.state.core step (part self.new) access.new.store.now.state.core) }
+        ensures does { IfOk result (λ step. does self.old step self.new) }
         ensures err { IfErr result (λ e. e ≡ TaskError.NoMemory) };
 
     // That is so whatever steps are made in the meantime.

@@ -1,9 +1,11 @@
 ghost use Rattle.std.specs.Prelude.{◌≡◌, ◌*◌, ◌+◌, ◌<◌, ◌≤◌, ◌^◌, IfErr, IfOk, None, OnErr, OnOk, Some, false, is_none, true, Bool};
 ghost use Rattle.task_ops.specs.Works.{NamesWorks};
 ghost use Rattle.task_rules.specs.Outcome.{outcome_of_label};
+ghost use Rattle.task_loop.specs.Standing.{standing};
 ghost use Rattle.task_store.specs.Hosts.{HoldsHosts};
 ghost use Rattle.task_turns.specs.WellFormed.{IsWellFormed};
-ghost use Rattle.task_turns.specs.Drive.{Drives, Drove};
+ghost use Rattle.task_turns.specs.Does.{DoesAdded, DoesStep, step_of, step_shown};
+ghost use Rattle.task_turns.specs.Drive.{Drives, Drove, WasGoing};
 ghost use Rattle.task_turns.specs.Main.{Steps};
 ghost use Rattle.task_turns.specs.Turn.{IsAtTurn, IsFree, IsSettled, Makes, PendsIn, Sits, Turned, Turns, given, goes_on, is_open, running_of, runs_in, setting_of, state_at};
 
@@ -86,12 +88,13 @@ fn ask_main<T, H: HostWork, M: MainTask<T, H>>(
     requires hosts { HoldsHosts H.course store.old }
     requires current { running_of store.old.state ≡ None }
     requires given { given store.old.state.core + 4 < 2 ^ 61 }
-    ensures stands { store.new.running ≡ store.old.running }
+    ensures stands { standing store.new ≡ standing store.old }
     ensures script { M.script main.new ≡ M.script main.old }
     ensures suits { OnOk result (M.suits main.new component.now) }
     ensures knows { OnOk result (M.knows main.new store.new.state) }
     ensures hosts { OnOk result (HoldsHosts H.course store.new) }
     ensures current { OnOk result (running_of store.new.state ≡ running_of store.old.state) }
+    ensures does { IfOk result (λ step. M.does main.old step main.new) }
     ensures ok { IfOk result (λ step. Steps component.now (M.script main.old) (M.part main.old) store.old.state.core step (M.part main.new) store.new.state.core) }
 {
     let mut access = Access::new(store);
@@ -110,11 +113,12 @@ fn step_main<T, H: HostWork, M: MainTask<T, H>>(
     requires knows { M.knows main.old store.old.state }
     requires hosts { HoldsHosts H.course store.old }
     requires given { given store.old.state.core + 4 < 2 ^ 61 }
-    ensures stands { store.new.running ≡ store.old.running }
+    ensures stands { standing store.new ≡ standing store.old }
     ensures script { M.script main.new ≡ M.script main.old }
     ensures suits { OnOk result (M.suits main.new component.now) }
     ensures knows { OnOk result (M.knows main.new store.new.state) }
     ensures hosts { OnOk result (HoldsHosts H.course store.new) }
+    ensures does { IfOk result (λ made. DoesStep M.does main.old (step_shown made.label) main.new) }
     ensures turns { IfOk result (λ made. (trap_on_idle : Bool) → Turns (setting_of component.now (M.script main.old) trap_on_idle) Turn.Main (M.part main.old) store.old.state made (M.part main.new) store.new.state) }
 {
     let Ok(step) = ask_main(component, store, main) else {
@@ -135,7 +139,7 @@ fn run_thread<T, H: AccessorTask<T> + FromHost>(
     requires current { running_of store.old.state ≡ Some thread }
     requires given { given store.old.state.core + 4 < 2 ^ 61 }
     requires hosts { HoldsHosts H.course store.old }
-    ensures stands { store.new.running ≡ store.old.running }
+    ensures stands { standing store.new ≡ standing store.old }
     ensures makes { IfOk result (λ made. Makes component.now (Turn.Run thread) store.old.state made store.new.state) }
     ensures free { IfOk result (λ made. IsFree made.turn) }
     ensures works { OnOk result (NamesWorks store.old.state store.new.state) }
@@ -150,7 +154,9 @@ impl RunConcurrent {
     /// Goes on with the run until it is over, until it has added `steps` labels to the trace, or
     /// until nothing can go on and that is no deadlock. The labels that it adds are those of a run
     /// of the component machine from the store before to the store after, and the outcome is what
-    /// that run has come to. Where memory is wanting, the store is trapped.
+    /// that run has come to. The labels of main among them are those of the steps that main did, in their order. Where
+    /// memory is wanting, the store is trapped, and the labels that were added are those of such a run to a state that is
+    /// lost. Whether a run stands on the store, whether it is concurrent and its number stay.
     ///
     /// At most 2^60 numbers were given in the store, which is in order, as the component suits
     /// main. The thread that runs in the store is the one that the last call on this run
@@ -180,7 +186,7 @@ impl RunConcurrent {
         ensures knows { OnOk result (M.knows main.new store.new.state) }
         ensures hosts { OnOk result (HoldsHosts H.course store.new) }
         ensures idle { self.new.trap_on_idle ≡ self.old.trap_on_idle }
-        ensures stands { store.new.running ≡ store.old.running }
+        ensures stands { standing store.new ≡ standing store.old }
         ensures ok { IfOk result (λ outcome. Drives (setting_of component.now (M.script main.old) self.old.trap_on_idle) (state_at store.old.state.core (M.part main.old) self.old.turn) trace.old (state_at store.new.state.core (M.part main.new) self.new.turn) trace.new steps outcome) }
         ensures unfinished { IfOk result (λ outcome. is_open self.new.turn ≡ goes_on outcome) }
         ensures order { OnOk result (Sits component.now self.new.turn store.new.state.core) }
@@ -188,7 +194,9 @@ impl RunConcurrent {
         ensures given { OnOk result (given store.new.state.core ≤ given store.old.state.core + 2 * steps) }
         ensures current { OnOk result (running_of store.new.state ≡ runs_in self.new.turn) }
         ensures pends { OnOk result (PendsIn (setting_of component.now (M.script main.old) self.old.trap_on_idle) store.new.state.core (M.part main.new) self.new.turn) }
+        ensures does { OnOk result (DoesAdded M.does main.old trace.old main.new trace.new) }
         ensures err { OnErr result (store.new.state.core.trapped ≡ true) }
+        ensures added { OnErr result (WasGoing (setting_of component.now (M.script main.old) self.old.trap_on_idle) (state_at store.old.state.core (M.part main.old) self.old.turn) trace.old trace.new steps) }
     {
         match self.go_on(component, store, main, steps, trace) {
             Ok(outcome) => Ok(outcome),
@@ -220,7 +228,9 @@ impl RunConcurrent {
         ensures knows { OnOk result (M.knows main.new store.new.state) }
         ensures hosts { OnOk result (HoldsHosts H.course store.new) }
         ensures idle { self.new.trap_on_idle ≡ self.old.trap_on_idle }
-        ensures stands { store.new.running ≡ store.old.running }
+        ensures stands { standing store.new ≡ standing store.old }
+        ensures does { OnOk result (DoesAdded M.does main.old trace.old main.new trace.new) }
+        ensures err { OnErr result (WasGoing (setting_of component.now (M.script main.old) self.old.trap_on_idle) (state_at store.old.state.core (M.part main.old) self.old.turn) trace.old trace.new steps) }
         ensures ok { IfOk result (λ outcome. Drove (setting_of component.now (M.script main.old) self.old.trap_on_idle) (state_at store.old.state.core (M.part main.old) self.old.turn) trace.old (given store.old.state.core) self.new.turn (M.part main.new) store.new.state trace.new steps outcome) }
     {
         let mut added = 0;
@@ -270,7 +280,8 @@ impl RunConcurrent {
         ensures suits { OnOk result (M.suits main.new component.now) }
         ensures knows { OnOk result (M.knows main.new store.new.state) }
         ensures hosts { OnOk result (HoldsHosts H.course store.new) }
-        ensures stands { store.new.running ≡ store.old.running }
+        ensures stands { standing store.new ≡ standing store.old }
+        ensures does { IfOk result (λ made. DoesStep M.does main.old (step_of made) main.new) }
         ensures turned { IfOk result (λ made. Turned (setting_of component.now (M.script main.old) self.now.trap_on_idle) self.now.turn (M.part main.old) store.old.state made (M.part main.new) store.new.state) }
     {
         match self.turn {

@@ -6,6 +6,7 @@ ghost use Rattle.task_rules.specs.Scripts.{export_at, values_in};
 ghost use Rattle.state_calls.specs.declared.error.TaskError.TheVariants as task_error;
 ghost use Rattle.task_scenario.specs.declared.scenario.MainOp.TheVariants as main_op;
 ghost use Rattle.task_loop.specs.Calls.{callee_of};
+ghost use Rattle.task_loop.specs.Standing.{standing};
 ghost use Rattle.task_turns.specs.WellFormed.{IsWellFormed};
 ghost use Rattle.task_turns.specs.Main.{Steps};
 ghost use Rattle.task_turns.specs.Turn.{Sits, given, running_of};
@@ -182,7 +183,7 @@ fn make_start<T, H: HostWork>(
     requires op { slice_get main.old.ops.now main.old.at ≡ Some (main_op.Start func params.now) }
     requires there { (e : ExportDef) × ((export_at component.now (callee_of func) ≡ Some e) × (length params.now ≡ e.params)) }
     ensures same { access.new.store.ghost_name ≡ access.old.store.ghost_name }
-    ensures stands { access.new.store.now.running ≡ access.old.store.now.running }
+    ensures stands { standing access.new.store.now ≡ standing access.old.store.now }
     ensures ops { main.new.ops ≡ main.old.ops }
     ensures spawns { main.new.spawns ≡ main.old.spawns }
     ensures current { OnOk result (running_of access.new.store.now.state ≡ running_of access.old.store.now.state) }
@@ -222,7 +223,7 @@ fn finish_call<T, H: HostWork>(
     requires hosts { HoldsHosts H.course access.old.store.now }
     requires op { slice_get main.old.ops.now main.old.at ≡ Some (main_op.Finish start register) }
     ensures same { access.new.store.ghost_name ≡ access.old.store.ghost_name }
-    ensures stands { access.new.store.now.running ≡ access.old.store.now.running }
+    ensures stands { standing access.new.store.now ≡ standing access.old.store.now }
     ensures ops { main.new.ops ≡ main.old.ops }
     ensures spawns { main.new.spawns ≡ main.old.spawns }
     ensures current { OnOk result (running_of access.new.store.now.state ≡ running_of access.old.store.now.state) }
@@ -271,7 +272,7 @@ fn spawn_work<T, H: AccessorTask<T> + FromHost>(
     requires op { slice_get main.old.ops.now main.old.at ≡ Some (main_op.Spawn host) }
     requires there { IsSome (slice_get component.now.hosts host) }
     ensures same { access.new.store.ghost_name ≡ access.old.store.ghost_name }
-    ensures stands { access.new.store.now.running ≡ access.old.store.now.running }
+    ensures stands { standing access.new.store.now ≡ standing access.old.store.now }
     ensures ops { main.new.ops ≡ main.old.ops }
     ensures current { OnOk result (access.new.store.now.state.current ≡ access.old.store.now.state.current) }
     ensures knows { OnOk result (KnowsSpawns main.new access.new.store.now.state) }
@@ -319,7 +320,7 @@ fn abort_work<T, H: HostWork>(
     requires op { slice_get main.old.ops.now main.old.at ≡ Some (main_op.Abort spawn) }
     requires knows { KnowsSpawns main.old access.old.store.now.state }
     ensures same { access.new.store.ghost_name ≡ access.old.store.ghost_name }
-    ensures stands { access.new.store.now.running ≡ access.old.store.now.running }
+    ensures stands { standing access.new.store.now ≡ standing access.old.store.now }
     ensures ops { main.new.ops ≡ main.old.ops }
     ensures spawns { main.new.spawns ≡ main.old.spawns }
     ensures current { running_of access.new.store.now.state ≡ running_of access.old.store.now.state }
@@ -439,6 +440,9 @@ impl<T, H: AccessorTask<T> + FromHost> MainTask<T, H> for ScriptMain<'_> {
     ghost knows = { KnowsSpawns };
 
     ghost stays = { knows_later };
+
+    // Its part says what it did.
+    ghost does = { λ _ _ _. Unit {0} };
 
     fn step(
         &mut self,

@@ -25,8 +25,17 @@ pub drive-requires-clause-hosts : goal.drive-requires-clause-hosts
 drive-requires-clause-hosts c =
     new_holds _ c.run_concurrent.new.store 2 100000 1000000 (rw c.run_concurrent.ensures.store c.in_ok-store.ensures.works) (rw (c.run_concurrent.ensures.store, c.in_ok-store.ensures.state) refl)
 
-pub returns : goal.returns
-returns c = (
+pub returns-clause-answers : goal.returns-clause-answers
+returns-clause-answers c v done =
+    let did = c.in_ok-outcome.ensures.does in
+    let drives = c.in_ok-outcome.ensures.ok in
+    let all = (sym drives.trace ∙ did.trace) in
+    let same = append_cancel_left c.new-trace.result drives.added did.added all in
+    let answered = relay_answers c.new-main.result c.drive.new.main _ _ did.added STEPS v did.steps (subst (λ (ls : List Label). IsOutcome _ _ ls STEPS (outcome.Done v)) same (rw done at drives.ends)) in
+    answered ∙ (ap (λ (w : ℕ). last_word w did.added) c.new-main.ensures ∙ ap (λ (ls : List Label). last_word c.args.word ls) (sym (did.trace ∙ ap (λ (ls : List Label). ls ++ did.added) c.new-trace.ensures)))
+
+pub returns-clause-ran : goal.returns-clause-ran
+returns-clause-ran c = (
   _,
   driven _ _ _ _ _ _ _ _ _
       (ap (λ (b : Bool). setting_of c.args.component.now [] b) c.in-Ok.ensures.idle)

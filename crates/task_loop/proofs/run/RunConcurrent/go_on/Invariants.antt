@@ -1,6 +1,8 @@
 -- So far a run was made, and it can go on.
 use Rattle.std.proofs.Common.{◌≡◌, ◌≤◌, ◌-◌}
+use Rattle.task_loop.specs.Standing.{standing}
 use Rattle.task_store.specs.Hosts.{HoldsHosts}
+use Rattle.task_turns.specs.Does.{DoesAdded}
 use Rattle.task_turns.specs.Drive.{IsOn}
 use Rattle.task_turns.specs.Turn.{given, setting_of, state_at}
 use Rattle.task_loop.proofs.run.RunConcurrent.go_on.Given as goal
@@ -12,8 +14,9 @@ invariant-turns g l = record {
   knows : g.M.MainTask.knows l.main l.store.state;
   hosts : HoldsHosts g.H.HostWork.course l.store;
   idle : l.self.trap_on_idle ≡ l.initial.self.trap_on_idle;
-  stands : l.store.running ≡ l.initial.store.running;
+  stands : standing l.store ≡ standing l.initial.store;
   on : IsOn (setting_of l.component (g.M.MainTask.script l.initial.main) l.initial.self.trap_on_idle) (state_at l.initial.store.state.core (g.M.MainTask.part l.initial.main) l.initial.self.turn) l.initial.trace (given l.initial.store.state.core) l.self.turn (g.M.MainTask.part l.main) l.store.state l.trace l.added;
+  does : DoesAdded g.M.MainTask.does l.initial.main l.initial.trace l.main l.trace;
   few : l.added ≤ l.steps;
 }
 

@@ -1,5 +1,6 @@
 -- Each turn is one of this run.
 use Rattle.std.proofs.Common.{refl, subst}
+use Rattle.task_loop.proofs.DoesLemmas.{still, still_run, still_taken}
 use Rattle.task_loop.proofs.HoldLemmas.{held_taken}
 use Rattle.task_loop.proofs.KnowsLemmas.{by_poll, by_run, by_take}
 use Rattle.task_loop.proofs.run.RunConcurrent.turn.Goals as goal
@@ -60,3 +61,23 @@ returns-in-Take-clause-hosts g c =
     let x = setting_of c.args.component.now (g.M.MainTask.script main) c.args.self.now.trap_on_idle in
     held_taken x c.args.self.now.trap_on_idle c.in-Take.ended (g.M.MainTask.part main) store.state c.take.new.w (held_by g.H.HostWork.course store) c.take.result
     (subst (λ (p : Turn). Sits c.args.component.now p store.state.core) c.in-Take.is c.requires.at.order) refl (rw c.in-Take.is at c.requires.pends) c.take.ensures.turned c.requires.hosts
+
+pub returns-in-Futures-clause-does : goal.returns-in-Futures-clause-does
+returns-in-Futures-clause-does g c =
+    let main = c.args.main.now in
+    let part = g.M.MainTask.part main in
+    let x = setting_of c.args.component.now (g.M.MainTask.script main) c.args.self.now.trap_on_idle in
+    still g.M.MainTask.does main x part c.args.store.now.state c.poll_next.new.self.state (turn.Futures c.in-Futures.polled) refl c.poll_next.result
+    (c.poll_next.ensures.turns x part (rw c.in-Futures.is at c.requires.pends))
+
+pub returns-in-Take-clause-does : goal.returns-in-Take-clause-does
+returns-in-Take-clause-does g c =
+    let main = c.args.main.now in
+    let x = setting_of c.args.component.now (g.M.MainTask.script main) c.args.self.now.trap_on_idle in
+    still_taken g.M.MainTask.does main x (g.M.MainTask.part main) c.args.store.now.state c.take.new.w c.args.self.now.trap_on_idle c.in-Take.ended c.take.result refl (rw c.in-Take.is at c.requires.pends) c.take.ensures.turned
+
+pub returns-in_ok-run_thread-in-Run-clause-does : goal.returns-in_ok-run_thread-in-Run-clause-does
+returns-in_ok-run_thread-in-Run-clause-does g c =
+    let main = c.args.main.now in
+    let x = setting_of c.args.component.now (g.M.MainTask.script main) c.args.self.now.trap_on_idle in
+    still_run g.M.MainTask.does main x (g.M.MainTask.part main) c.args.store.now.state c.run_thread.new.store.state c.in-Run.thread c.in_ok-run_thread-in-Run.field-0 c.in_ok-run_thread-in-Run.ensures.makes

@@ -1,0 +1,20 @@
+-- What the relay does, and what its run tells of that.
+use Rattle.embed_example.specs.declared.relay.Relay.{Relay}
+use Rattle.std.specs.Prelude.{List, [], ℕ, ◌∷◌, ◌≡◌}
+use Rattle.task_machine.specs.declared.label.Label.{Label}
+use Rattle.task_machine.specs.declared.label.Label.TheVariants as label
+use Rattle.task_machine.specs.declared.label.MainLabel.TheVariants as main_label
+use Rattle.task_turns.specs.declared.mains.MainStep.{MainStep}
+use Rattle.task_turns.specs.declared.mains.MainStep.TheVariants as step
+
+-- its word becomes what a call has returned; it answers its word
+abbrev pub Relays : Relay → MainStep → Relay → Type 0
+Relays m (step.Did (label.Main (main_label.Finish k v))) n = n.word ≡ v
+Relays m (step.Answer v) n = (v ≡ m.word) × (n.word ≡ m.word)
+Relays m _ n = n.word ≡ m.word
+
+-- what the last call that was finished has returned, where the word was this before
+abbrev pub last_word : ℕ → List Label → ℕ
+last_word w [] = w
+last_word w (label.Main (main_label.Finish k v) ∷ ls) = last_word v ls
+last_word w (l ∷ ls) = last_word w ls

@@ -1,0 +1,49 @@
+-- At another turn than its own main did nothing.
+use Rattle.label_laws.proofs.TurnLemmas.{main_at_its_turns}
+use Rattle.label_laws.specs.Own.{is_main_turn, is_of_main}
+use Rattle.std.proofs.Common.{refl, subst, ◌∙◌}
+use Rattle.std.specs.Prelude.{Bool, Err, IfOk, None, Ok, OnErr, Option, Result, Some, false, ℕ, ◌≡◌}
+use Rattle.task_machine.specs.Core.{Main}
+use Rattle.task_machine.specs.declared.label.Label.{Label}
+use Rattle.task_machine.specs.declared.label.Label.TheVariants as label
+use Rattle.task_machine.specs.declared.label.LoopLabel.TheVariants as loop_label
+use Rattle.task_machine.specs.declared.memory.NoMemory.{NoMemory}
+use Rattle.task_machine.specs.declared.records.Turn.{Turn}
+use Rattle.task_machine.specs.declared.records.Turn.TheVariants as turn
+use Rattle.task_rules.specs.Stalled.{Setting}
+use Rattle.task_turns.specs.Does.{DoesStep, step_of, step_shown}
+use Rattle.task_turns.specs.Turn.{Makes, PendsIn, Turned, TurnedBeside, Turns, idle_line_of, state_at}
+use Rattle.task_turns.specs.declared.made.Made.{Made}
+use Rattle.task_turns.specs.declared.mains.MainStep.{MainStep}
+use Rattle.task_words.specs.StateView.{StateView}
+
+others_show_none : (l : Label) → is_of_main l ≡ false → None ≡ step_shown l
+others_show_none (label.Main l) h = absurd (cc)
+others_show_none (label.Loop loop_label.MainPends) h = absurd (cc)
+others_show_none (label.Loop _) h = refl
+others_show_none _ h = refl
+
+module _ {M : Type 0} (does : M → MainStep → M → Type 0) (m : M) (x : Setting) (k : Main) (s t : StateView) where
+  pub still : (p : Turn) → is_main_turn p ≡ false → (made : Made) → Turns x p k s made k t → DoesStep does m (step_shown made.label) m
+  still p other made turns =
+      let shows = main_at_its_turns x (state_at s.core k p) made.label (state_at t.core k made.turn) turns.step ∙ other in
+      subst (λ (o : Option MainStep). DoesStep does m o m) (others_show_none made.label shows) refl
+
+  pub still_run : (n : ℕ) (made : Made) → Makes x.component (turn.Run n) s made t → DoesStep does m (step_shown made.label) m
+  still_run n made makes =
+      let shows = main_at_its_turns x (state_at s.core k (turn.Run n)) made.label (state_at t.core k made.turn) (makes.step x refl k) in
+      subst (λ (o : Option MainStep). DoesStep does m o m) (others_show_none made.label shows) refl
+
+  still_turned : (ended : Bool) (o : Option Made) → Turned x (turn.Take ended) k s o k t → DoesStep does m (step_of o) m
+  still_turned ended None h = refl
+  still_turned ended (Some made) h = still (turn.Take ended) refl made h
+
+  pub still_taken : (b ended : Bool) (r : Result (Option Made) NoMemory) → x.idle ≡ idle_line_of b → PendsIn x s.core k (turn.Take ended)
+      → IfOk r (λ o. TurnedBeside x.component b (turn.Take ended) s o t) → IfOk r (λ o. DoesStep does m (step_of o) m)
+  still_taken b ended (Ok o) idle pends turned = still_turned ended o (turned x refl idle k pends)
+  still_taken b ended (Err e) idle pends turned = tt
+
+-- what is so anyhow is so after an error
+pub on_err : {A E : Type 0} (r : Result A E) (P : Type 0) → P → OnErr r P
+on_err (Ok v) P h = tt
+on_err (Err e) P h = h

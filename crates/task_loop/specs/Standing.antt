@@ -1,0 +1,7 @@
+-- What of a store no step of a run changes.
+use Rattle.std.specs.Prelude.{Bool, ℕ}
+use Rattle.task_store.specs.declared.store.Store.{Store}
+
+-- whether a run stands on it, whether its calls may run beside one another, and its number
+abbrev pub standing : {T H : Type 0} → Store T H → Bool × (Bool × ℕ)
+standing store = (store.running, (store.concurrent, store.id))
