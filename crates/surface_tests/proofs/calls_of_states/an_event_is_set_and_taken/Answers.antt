@@ -7,3 +7,6 @@ set_event-woken-requires-clause-idle g c = placed_idle _ c.queued-store.ensures.
 
 pub take_event-event-requires : goal.take_event-event-requires
 take_event-event-requires g c = record { live = woken_live c.first_thread-id.result.task _ _ c.set_event-woken.ensures.woken c.first_thread-id.ensures.task }
+
+pub set_event-woken-requires-clause-there : goal.set_event-woken-requires-clause-there
+set_event-woken-requires-clause-there g c = c.queued-store.ensures.joins _
