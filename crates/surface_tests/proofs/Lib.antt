@@ -1,3 +1,4 @@
+mod AccessLemmas
 pub mod AskLemmas
 pub mod DriveLemmas
 pub mod StateLemmas

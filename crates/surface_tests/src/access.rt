@@ -110,7 +110,7 @@ fn a_host_spawns_works_and_changes_its_value_by_an_accessor(rt: HostRuntime) {
     let mut store = new_store(rt.alloc());
     let accessor = Accessor::new(PhantomData::<Spawned>);
     let mut slot = StoreSlot::set(&mut store);
-    let first = accessor.with(&mut slot, |access| spawn(access));
+    let first = accessor.with(&mut slot, spawn);
     assert!(rt; matches!(first, Ok(Some(_))));
     let Some(store) = slot.into_store() else {
         panic!(rt; "the store")
