@@ -1,8 +1,9 @@
 -- The relay answers what its last call has returned.
 use Rattle.embed_example.specs.Relays.{Relays, last_word}
 use Rattle.embed_example.specs.declared.relay.Relay.{Relay}
-use Rattle.std.proofs.Common.{ap, refl, subst, sym, ◌∙◌}
-use Rattle.std.specs.Prelude.{List, Option, Some, [], ℕ, ◌∷◌, ◌≡◌}
+use Rattle.std.proofs.Common.{ap, arith, refl, subst, sym, ◌∙◌}
+use Rattle.std.proofs.lemmas.List.{append_cancel_left}
+use Rattle.std.specs.Prelude.{List, Option, Some, [], ℕ, ◌++◌, ◌∷◌, ◌≡◌}
 use Rattle.task_machine.specs.Core.{State}
 use Rattle.task_machine.specs.declared.label.CallLabel.{CallLabel}
 use Rattle.task_machine.specs.declared.label.Label.{Label}
@@ -15,7 +16,8 @@ use Rattle.task_machine.specs.declared.outcome.Outcome.{Outcome}
 use Rattle.task_machine.specs.declared.outcome.Outcome.TheVariants as outcome
 use Rattle.task_rules.specs.Outcome.{IsOutcome, is_at_rest, last_outcome, open_outcome, or_open, outcome_of, outcome_of_label}
 use Rattle.task_rules.specs.Stalled.{Setting}
-use Rattle.task_turns.specs.Does.{DoesShown, DoesStep, step_shown}
+use Rattle.task_turns.specs.Does.{DoesAdded, DoesShown, DoesStep, step_shown}
+use Rattle.task_turns.specs.Drive.{Drives}
 
 -- the word after a label
 main_on : (l : MainLabel) (m n : Relay) → DoesStep Relays m (step_shown (label.Main l)) n → (ls : List Label) → last_word m.word (label.Main l ∷ ls) ≡ last_word n.word ls
@@ -59,5 +61,15 @@ done_last : (x : Setting) (t : State) (ls : List Label) (steps v : ℕ) → IsOu
 unfolding outcome_of
 done_last x t ls steps v is = grind (arith, is)
 
-pub relay_answers : (m n : Relay) (x : Setting) (t : State) (ls : List Label) (steps v : ℕ) → DoesShown Relays m ls n → IsOutcome x t ls steps (outcome.Done v) → v ≡ last_word m.word ls
+relay_answers : (m n : Relay) (x : Setting) (t : State) (ls : List Label) (steps v : ℕ) → DoesShown Relays m ls n → IsOutcome x t ls steps (outcome.Done v) → v ≡ last_word m.word ls
 relay_answers m n x t ls steps v h is = word_answered ls m n h v (done_last x t ls steps v is)
+
+-- what was driven from an empty trace tells it
+pub answered : (w : ℕ) (m n : Relay) (x : Setting) (s t : State) (before after : List Label) (steps : ℕ) (o : Outcome) (v : ℕ) → m.word ≡ w → before ≡ [] → DoesAdded Relays m before n after → Drives x s before t after steps o
+    → o ≡ outcome.Done v → v ≡ last_word w after
+answered w m n x s t before after steps o v word none did drives done =
+    let same = append_cancel_left before drives.added did.added (sym drives.trace ∙ did.trace) in
+    let ends = subst (λ (ls : List Label). IsOutcome x t ls steps o) same drives.ends in
+    let here = relay_answers m n x t did.added steps v did.steps (subst (λ (p : Outcome). IsOutcome x t did.added steps p) done ends) in
+    let all : after ≡ did.added = did.trace ∙ ap (λ (ls : List Label). ls ++ did.added) none in
+    here ∙ (ap (λ (k : ℕ). last_word k did.added) word ∙ ap (λ (ls : List Label). last_word w ls) (sym all))

@@ -7,6 +7,7 @@ use Rattle.task_turns.proofs.CoveredLemmas.{codes_of, covered_of}
 use Rattle.task_turns.proofs.FreshLemmas.{given_fresh, sits_fresh}
 use Rattle.task_turns.specs.Turn.{setting_of, state_at}
 use Rattle.embed_example.proofs.HostLemmas.{driven}
+use Rattle.embed_example.proofs.RelayLemmas.{answered}
 use Rattle.embed_example.proofs.run.relayed.Goals as goal
 use Rattle.task_store.proofs.HostLemmas.{new_holds}
 
@@ -27,12 +28,7 @@ drive-requires-clause-hosts c =
 
 pub returns-clause-answers : goal.returns-clause-answers
 returns-clause-answers c v done =
-    let did = c.in_ok-outcome.ensures.does in
-    let drives = c.in_ok-outcome.ensures.ok in
-    let all = (sym drives.trace ∙ did.trace) in
-    let same = append_cancel_left c.new-trace.result drives.added did.added all in
-    let answered = relay_answers c.new-main.result c.drive.new.main _ _ did.added STEPS v did.steps (subst (λ (ls : List Label). IsOutcome _ _ ls STEPS (outcome.Done v)) same (rw done at drives.ends)) in
-    answered ∙ (ap (λ (w : ℕ). last_word w did.added) c.new-main.ensures ∙ ap (λ (ls : List Label). last_word c.args.word ls) (sym (did.trace ∙ ap (λ (ls : List Label). ls ++ did.added) c.new-trace.ensures)))
+    answered c.args.word _ _ _ _ _ _ _ _ _ v c.new-main.ensures c.new-trace.ensures c.in_ok-outcome.ensures.does c.in_ok-outcome.ensures.ok done
 
 pub returns-clause-ran : goal.returns-clause-ran
 returns-clause-ran c = (
