@@ -31,7 +31,7 @@ def of_a_label(program, made, text):
     with tempfile.NamedTemporaryFile("w") as file:
         file.write(text)
         file.flush()
-        few, many = (instructions(program, steps, file.name) for steps in (made, made + LABELS))
+        few, many = (instructions(program, steps, file.name) for steps in (max(made, 1), made + LABELS))
     return (many - few) / LABELS
 
 
