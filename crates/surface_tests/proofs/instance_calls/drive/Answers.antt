@@ -5,7 +5,6 @@ use Rattle.surface_tests.proofs.instance_calls.drive.Goals as goal
 use Rattle.task_machine.specs.declared.memory.NoMemory.{NoMemory}
 use Rattle.task_machine.specs.declared.outcome.Outcome.{Outcome}
 use Rattle.task_store.proofs.HostLemmas.{new_holds}
-use Rattle.task_store.specs.Hosts.{HoldsHosts}
 use Rattle.task_turns.specs.Turn.{given}
 use Rattle.task_turns.proofs.FreshLemmas.{given_fresh, sits_fresh}
 
@@ -33,6 +32,4 @@ returns-clause-given g c =
     rw c.end.ensures (omega (arith, few, none, steps))
 
 pub returns-clause-hosts : goal.returns-clause-hosts
-returns-clause-hosts g c =
-    let held = λ (r : Result Outcome NoMemory). OnOk r (HoldsHosts _ c.drive-driven.new.store) in
-    rw c.end.ensures (subst held c.in-Ok-OutOfSteps.is c.drive-driven.ensures.hosts)
+returns-clause-hosts g c = rw c.end.ensures (rw c.in-Ok-OutOfSteps.is at c.drive-driven.ensures.hosts)
