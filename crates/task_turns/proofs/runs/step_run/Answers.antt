@@ -1,49 +1,22 @@
+use Rattle.op_dispatch.proofs.RowLemmas.{plain_polls}
+use Rattle.op_dispatch.proofs.StayLemmas.{ok_then}
+use Rattle.op_dispatch.specs.Fits.{calls_host}
 use Rattle.op_dispatch.specs.Polls.{polled_host}
-use Rattle.std.proofs.Common.{subst, sym, ◌≡◌, ◌∙◌}
+use Rattle.std.proofs.Common.{ap, length, refl, subst, sym, ◌<◌, ◌≡◌, ◌∙◌}
+use Rattle.std.proofs.lemmas.Option.{slice_get_within}
+use Rattle.std.specs.Prelude.{None, Some, false, option_copied, slice_get}
 use Rattle.task_machine.specs.Core.{Unscripted}
-use Rattle.task_machine.specs.Read.{how_far_of}
+use Rattle.task_machine.specs.Labels.{choice_of}
+use Rattle.task_machine.specs.Read.{callee_of, how_far_of, instance_of, task_of}
+use Rattle.task_machine.specs.declared.component.Callee.{Callee}
+use Rattle.task_machine.specs.declared.op.Op.{Op}
+use Rattle.task_machine.specs.declared.op.Op.TheVariants as op
+use Rattle.task_ops.specs.Steps.{label_of}
 use Rattle.task_rules.specs.Scripts.{op_of}
-use Rattle.task_turns.proofs.IdleLemmas.{after_free, free_at}
-use Rattle.task_turns.proofs.OrderLemmas.{number_at, runner, strikes}
-use Rattle.task_turns.proofs.RanLemmas.{ran_work}
-use Rattle.task_turns.proofs.RunLemmas.{ran_at}
+use Rattle.task_rules.specs.Step.{did, op_row}
+use Rattle.task_turns.proofs.CoveredLemmas.{home_below}
+use Rattle.task_turns.proofs.OrderLemmas.{number_at, runner}
+use Rattle.task_turns.proofs.RunLemmas.{op_is, row_at, script_is}
+use Rattle.task_turns.proofs.SteppedLemmas.{ran_made, row_as, row_ran_as, run_added, unpolled}
 use Rattle.task_turns.proofs.runs.step_run.Goals as goal
-
-pub run_op-requires-clause-runner : goal.run_op-requires-clause-runner
-run_op-requires-clause-runner g c =
-    let s = g.W.View.view c.args.w.now in
-    runner c.args.component.now c.args.number s c.requires.order c.none_is_zero.ensures.threads c.requires.runs c.in-Some.thread (sym c.current.ensures ∙ c.in-Some.is)
-
-pub made_of-requires-clause-strikes : goal.made_of-requires-clause-strikes
-made_of-requires-clause-strikes g c =
-    let v = g.W.View.view in
-    let s = v c.args.w.now in
-    strikes c.in_ok-done.done.came c.in-Some.thread s (v c.run_op.new.w) (runner c.args.component.now c.args.number s c.requires.order c.none_is_zero.ensures.threads c.requires.runs c.in-Some.thread (sym c.current.ensures ∙ c.in-Some.is)) c.in_ok-done.ensures.stays
-
-pub returns-clause-polls : goal.returns-clause-polls
-returns-clause-polls g c =
-    let v = g.W.View.view in
-    let s = v c.args.w.now in
-    let d = c.in_ok-done.done in
-    let comp = c.args.component.now in
-    let number = number_at c.args.number s c.requires.runs c.in-Some.thread (sym c.current.ensures ∙ c.in-Some.is) in
-    let polls = c.in_ok-done.ensures.polls in
-    record {
-      polled = subst (λ k. d.polled ≡ polled_host comp (how_far_of k s.core) (op_of comp k s.core)) number polls.polled;
-      work = ran_work comp _ _ d _ s (v c.run_op.new.w) (v c.made_of.new.w) (c.requires.order.order Unscripted).works polls c.made_of.ensures.core c.made_of.ensures.tags;
-    }
-
-pub returns-clause-free : goal.returns-clause-free
-returns-clause-free g c = free_at _ _ c.made_of.ensures.turn (after_free c.in_ok-done.done.came)
-
-pub returns-clause-makes : goal.returns-clause-makes
-returns-clause-makes g c =
-    let v = g.W.View.view in
-    let s = v c.args.w.now in
-    let number = number_at c.args.number s c.requires.runs c.in-Some.thread (sym c.current.ensures ∙ c.in-Some.is) in
-    let made = c.made_of.result in
-    record {
-      step = ran_at c.in-Some.thread c.args.number s (v c.run_op.new.w) number c.args.component.now c.in_ok-done.done.came made.label made.turn (v c.made_of.new.w).core c.in_ok-done.ensures.meets c.in_ok-done.ensures.stays c.made_of.ensures.label c.made_of.ensures.turn c.made_of.ensures.core;
-      running = c.made_of.ensures.running;
-      over = c.made_of.ensures.over;
-    }
+use Rattle.task_words.specs.StateView.{thread_of}
