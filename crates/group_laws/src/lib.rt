@@ -1,0 +1,30 @@
+//! Laws of groups: which group a step may finish, and what it tells the groups. Each function here is the
+//! statement of a law, about the steps of `task_rules`.
+#![tactic(auto)]
+
+ghost use Rattle.group_laws.specs.Tells.{DataRunsTellNothing, NoticesTold, RunsTellOn, StepsTell};
+
+/// In each turn but main's no group is made. A step finishes all groups, or the one at stake, or none; and what it tells of a
+/// work is told of the one that the turn polls or whose entry it takes.
+#[tactic(auto, using(crate::proofs::StepTells::steps_tell))]
+pub fn steps_tell()
+    ensures { StepsTell }
+{}
+
+/// So the notices of a step are known from what is asked in the turn before it, and from the groups after it.
+#[tactic(auto, using(crate::proofs::StepTells::notices_told))]
+pub fn notices_are_told()
+    ensures { NoticesTold }
+{}
+
+/// An op on registers and words tells groups nothing, and so does a run of such ops.
+#[tactic(auto, using(crate::proofs::RunTells::data_runs_tell_nothing))]
+pub fn data_tells_nothing()
+    ensures { DataRunsTellNothing }
+{}
+
+/// What a run tells and then what a run from its last state tells is told by a run of both.
+#[tactic(auto, using(crate::proofs::RunTells::runs_tell_on))]
+pub fn runs_tell_on()
+    ensures { RunsTellOn }
+{}

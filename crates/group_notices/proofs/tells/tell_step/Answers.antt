@@ -1,0 +1,26 @@
+use Rattle.std.proofs.lemmas.Result.{on_ok_weaker}
+use Rattle.std.specs.Prelude.{Err, List, Ok, OnOk, Result, ℕ}
+use Rattle.group_notices.proofs.MirrorLemmas.{mirror_same}
+use Rattle.group_notices.proofs.TellLemmas.{step_told}
+use Rattle.group_notices.specs.Mirror.{Mirrors}
+use Rattle.group_notices.proofs.tells.tell_step.Goals as goal
+
+pub returns-clause-told : goal.returns-clause-told
+returns-clause-told g c =
+    let one : (gs : List ℕ) → Mirrors gs c.args.groups.now → Mirrors gs c.switch.new.groups = λ gs m. mirror_same gs c.args.groups.now c.switch.new.groups c.switch.ensures.live.0 m in
+    let two : (gs : List ℕ) → Mirrors gs c.args.groups.now → Mirrors gs c.work.new.groups = λ gs m. mirror_same gs c.switch.new.groups c.work.new.groups c.work.ensures.live.0 (one gs m) in
+    on_ok_weaker c.finish.result
+    (λ last gs hs m q. step_told c.args.asked c.args.running gs hs c.args.groups.now.listeners c.switch.new.groups.listeners c.work.new.groups.listeners c.finish.new.groups.listeners
+    (c.in_ok-switch.ensures.told gs m) (c.in_ok-work.ensures.told gs (one gs m)) (last gs hs (two gs m) q))
+    c.finish.ensures.told
+
+pub returns-clause-mirrors : goal.returns-clause-mirrors
+returns-clause-mirrors g c =
+    let two : (gs : List ℕ) → Mirrors gs c.args.groups.now → Mirrors gs c.work.new.groups = λ gs m.
+    mirror_same gs c.switch.new.groups c.work.new.groups c.work.ensures.live.0
+    (mirror_same gs c.args.groups.now c.switch.new.groups c.switch.ensures.live.0 m) in
+    by c.finish.result (λ gs hs m q. c.finish.ensures.mirrors gs hs (two gs m) q)
+  where
+    by : {T E P : Type 0} (r : Result T E) → P → OnOk r P
+    by (Ok x) p = p
+    by (Err e) p = tt
