@@ -101,6 +101,7 @@ fn step_main<T, H: HostWork, M: MainTask<T, H>>(
 
 // The running thread, which has this number, takes a step. A host that it calls is polled, and its
 // work is held.
+#[inline(always)]
 fn run_thread<T, H: AccessorTask<T> + FromHost>(
     component: &Component,
     store: &mut Store<T, H>,

@@ -201,6 +201,7 @@ pub(crate) fn show<W: Words>(
                 computed,
             })
         }
-        Came::Traps(_) | Came::Fails(_) => show_fall(w, thread, trace, came),
+        Came::Traps(trap) => show_fall(w, thread, trace, Came::Traps(trap)),
+        Came::Fails(work) => show_fall(w, thread, trace, Came::Fails(work)),
     }
 }
