@@ -69,7 +69,14 @@ module _ (id : TableId ThreadKey) (s t : StateView) (stepped : Stepped) (before 
       } in
       (made, (h.shown.stands, (makes, after_free h.came)))
 
-  -- the same of one whose label is still to be added
+  -- an op that polled no host
+  pub unpolled : (c : Component) (n : ℕ) (P : Made → Type 0) → polled_host c (how_far_of n s.core) (op_of c n s.core) ≡ None → Added P stepped before after
+      → Added (λ made. P made × RanPolls c n s (record { made = made; polled = None; work = None }) t) stepped before after
+  unpolled c n P none = added_as P (λ made. P made × RanPolls c n s (record { made = made; polled = None; work = None }) t) stepped before after
+      (λ made h. (h, record { polled = sym none; work = inl refl }))
+
+module _ (id : TableId ThreadKey) (s t : StateView) where
+  -- an op that met its row made a step, whose label is still to be added
   pub ran_made : (c : Component) (n : ℕ) → thread_of s id ≡ n → (made : Made) → RowRan (λ r. did c (thread_of s id) s.core (choice_of (label_of (thread_of s id) r))) id s made t
       → Makes c (turn.Run n) s made t × IsFree made.turn
   ran_made c n number made h =
@@ -83,12 +90,6 @@ module _ (id : TableId ThreadKey) (s t : StateView) (stepped : Stepped) (before 
   pub row_ran_as : (P Q : Came → Progress) (made : Made) → ((r : Came) (u : Core) → Meets (P r) s.core r u → Meets (Q r) s.core r u) → RowRan P id s made t → RowRan Q id s made t
   row_ran_as P Q made same h =
       record { came = h.came; left = h.left; meets = same h.came h.left.core h.meets; stays = h.stays; label = h.label; turn = h.turn; core = h.core; running = h.running; over = h.over }
-
-  -- an op that polled no host
-  pub unpolled : (c : Component) (n : ℕ) (P : Made → Type 0) → polled_host c (how_far_of n s.core) (op_of c n s.core) ≡ None → Added P stepped before after
-      → Added (λ made. P made × RanPolls c n s (record { made = made; polled = None; work = None }) t) stepped before after
-  unpolled c n P none = added_as P (λ made. P made × RanPolls c n s (record { made = made; polled = None; work = None }) t) stepped before after
-      (λ made h. (h, record { polled = sym none; work = inl refl }))
 
 -- a taking that met its row made a step
 pub take_added : (c : Component) (ended : Bool) (mark : Mark) (id : TableId ThreadKey) (n : ℕ) (s u v t : StateView) (r : Came) (stepped : Stepped) (before after : List Label) → thread_of u id ≡ n → u.core ≡ popped mark s.core

@@ -1,8 +1,8 @@
 //! The step of the running thread: its op is done by its row.
-ghost use Rattle.op_dispatch.specs.Fits.{HasHandles, HasInstances, calls_host, is_host_call, op_fits};
+ghost use Rattle.op_dispatch.specs.Fits.{HasHandles, HasInstances, calls_host, is_data_op, is_host_call, op_fits};
 ghost use Rattle.op_dispatch.specs.Polls.{Polls, polled_host};
 ghost use Rattle.op_dispatch.specs.Runner.{Runner};
-ghost use Rattle.std.specs.Prelude.{◌≡◌, ◌+◌, ◌<◌, ◌^◌, IfOk, OnErr, OnOk, Some, false, is_some, length, true};
+ghost use Rattle.std.specs.Prelude.{◌≡◌, ◌+◌, ◌<◌, ◌^◌, IfOk, None, OnErr, OnOk, Some, false, is_some, length, true};
 ghost use Rattle.task_machine.specs.Labels.{choice_of};
 ghost use Rattle.task_machine.specs.Maps.{get};
 ghost use Rattle.task_machine.specs.Read.{how_far_of, instance_of, position_of};
@@ -24,7 +24,7 @@ ghost use Rattle.task_words.specs.StateView.{thread_of};
 use crate::made::{Ran, RunStep, Stepped, made_of, show};
 use label_trace::Trace;
 use op_dispatch::{Done, do_host_call, do_op, do_plain_op, exit, is_host_call, op_at, script_ops};
-use task_machine::{CallOp, Component, NoMemory, Op, Turn};
+use task_machine::{CallOp, Component, DataOp, NoMemory, Op, Turn};
 use task_ops::compute;
 use task_words::{ThreadId, Words};
 
@@ -58,38 +58,52 @@ pub fn run_op<W: Words>(
     }
 }
 
-// An op of the thread's script that calls no host is done. It is out of line, so that its ops are there once.
+// An op of the thread's script on registers and words is done; others may follow.
+#[inline(never)]
+fn run_data<W: Words>(
+    component: &Component,
+    w: &mut W,
+    thread: ThreadId,
+    op: DataOp,
+    end: u32,
+    trace: &mut Trace,
+) -> Result<Stepped, NoMemory>
+    requires runner { Runner thread (W.view w.old) }
+    requires within { position_of (thread_of (W.view w.old) thread) (W.view w.old).core < end }
+    requires ends { length (script_of component.now (thread_of (W.view w.old) thread) (W.view w.old).core) ≡ end }
+    ensures shown { IfOk result (λ stepped. RowShown (λ came. op_row component.now (thread_of (W.view w.old) thread) (W.view w.old).core (choice_of (label_of (thread_of (W.view w.old) thread) came)) (ops.Data op)) thread (W.view w.old) trace.old stepped (W.view w.new) trace.new) }
+    ensures works { OnOk result (KeepsWorks (W.view w.old) (W.view w.new)) }
+    ensures err { OnErr result (trace.new ≡ trace.old) }
+{
+    let _component = component;
+    let came = compute(w, thread, op, end);
+    show(w, thread, trace, came, true)
+}
+
+// Another op of the thread's script that calls no host is done. It is out of line, so that its ops are there once.
 #[inline(never)]
 fn run_plain<W: Words>(
     component: &Component,
     w: &mut W,
     thread: ThreadId,
     op: &Op,
-    end: u32,
     trace: &mut Trace,
 ) -> Result<Stepped, NoMemory>
     requires runner { Runner thread (W.view w.old) }
+    requires other { is_data_op op.now ≡ false }
     requires plain { calls_host op.now ≡ false }
     requires fits { op_fits component.now op.now ≡ true }
     requires instances { HasInstances component.now (W.view w.old).core }
-    requires within { position_of (thread_of (W.view w.old) thread) (W.view w.old).core < end }
-    requires ends { length (script_of component.now (thread_of (W.view w.old) thread) (W.view w.old).core) ≡ end }
+    requires position { position_of (thread_of (W.view w.old) thread) (W.view w.old).core + 1 < 2 ^ 32 }
     requires handles { is_some (get (W.view w.old).core.handles (instance_of (thread_of (W.view w.old) thread) (W.view w.old).core)) ≡ true }
     requires few { given (W.view w.old).core < 2 ^ 61 }
     ensures shown { IfOk result (λ stepped. RowShown (λ came. op_row component.now (thread_of (W.view w.old) thread) (W.view w.old).core (choice_of (label_of (thread_of (W.view w.old) thread) came)) op.now) thread (W.view w.old) trace.old stepped (W.view w.new) trace.new) }
+    ensures unpolled { polled_host component.now (how_far_of (thread_of (W.view w.old) thread) (W.view w.old).core) op.now ≡ None }
     ensures works { OnOk result (NamesWorks (W.view w.old) (W.view w.new)) }
     ensures err { OnErr result (trace.new ≡ trace.old) }
 {
-    match op {
-        Op::Data(op) => {
-            let came = compute(w, thread, *op, end);
-            show(w, thread, trace, came, true)
-        }
-        _ => {
-            let came = do_plain_op(component, w, thread, op)?;
-            show(w, thread, trace, came, false)
-        }
-    }
+    let came = do_plain_op(component, w, thread, op)?;
+    show(w, thread, trace, came, false)
 }
 
 // The thread exits at its script's end.
@@ -158,8 +172,12 @@ pub fn step_run<W: Words>(
             let ran = run_host(component, w, thread, op)?;
             Ok(RunStep::Called(ran))
         }
+        Some(Op::Data(op)) => {
+            let stepped = run_data(component, w, thread, *op, script.len() as u32, trace)?;
+            Ok(RunStep::Shown(stepped))
+        }
         Some(op) => {
-            let stepped = run_plain(component, w, thread, op, script.len() as u32, trace)?;
+            let stepped = run_plain(component, w, thread, op, trace)?;
             Ok(RunStep::Shown(stepped))
         }
         None => {
