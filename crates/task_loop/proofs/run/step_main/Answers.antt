@@ -10,7 +10,7 @@ use Rattle.task_turns.specs.declared.made.Stepped.{Stepped}
 
 pub put-requires : goal.put-requires
 put-requires g c =
-    let made = c.made_by_main.ensures (setting_of c.args.component.now (g.M.MainTask.script c.args.main.now) true) (g.M.MainTask.part c.args.main.now) (g.M.MainTask.part c.ask_main.new.main) c.args.store.now.state c.in-Ok.ensures.ok in
+    let made = c.made_by_main.ensures.turns (setting_of c.args.component.now (g.M.MainTask.script c.args.main.now) true) (g.M.MainTask.part c.args.main.now) (g.M.MainTask.part c.ask_main.new.main) c.args.store.now.state c.in-Ok.ensures.ok in
     made.over
 
 pub returns-clause-turns : goal.returns-clause-turns
@@ -24,4 +24,4 @@ returns-clause-turns g c =
     let after = c.put.new.trace in
     let made = c.made_by_main.result in
     ok_then (λ (q : Stepped). Stands q before made after) (λ (q : Stepped). Added (λ (k : Made). (b : Bool) → Turns (x b) turn.Main m s k m' t) q before after) c.put.result
-    (λ q h. (made, (h, λ b. c.made_by_main.ensures (x b) m m' s c.in-Ok.ensures.ok))) c.put.ensures.stands
+    (λ q h. (made, (h, λ b. c.made_by_main.ensures.turns (x b) m m' s c.in-Ok.ensures.ok))) c.put.ensures.stands
