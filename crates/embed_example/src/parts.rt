@@ -24,20 +24,21 @@ pub const NEXT: Func = Func {
 fn adder(alloc: Global, more: Operand) -> Result<InstanceDef, AllocError>
     ensures { IfOk result HasOneExport }
 {
-    let mut start = Seq::new(alloc);
-    start.push(Op::Data(DataOp::Add { to: 0, value: more }))?;
-    let value = Operand::Register(0);
-    start.push(Op::Task(TaskOp::Ret { value }))?;
-    start.push(Op::Task(TaskOp::Exit))?;
-    let mut exports = Seq::new(alloc);
-    exports.push(ExportDef {
+    let start = [
+        Op::Data(DataOp::Add { to: 0, value: more }),
+        Op::Task(TaskOp::Ret {
+            value: Operand::Register(0),
+        }),
+        Op::Task(TaskOp::Exit),
+    ];
+    let export = ExportDef {
         kind: ExportKind::Callback,
         params: 1,
-        start,
+        start: Seq::from_vec(Vec::from_array(alloc, start)?),
         react: Seq::new(alloc),
-    })?;
+    };
     Ok(InstanceDef {
-        exports,
+        exports: Seq::from_vec(Vec::from_array(alloc, [export])?),
         slots: Seq::new(alloc),
     })
 }
@@ -49,11 +50,10 @@ pub fn component(alloc: Global) -> Result<Component, AllocError>
     ensures next { IfOk result (λ c. TakesOne c NEXT) }
     ensures two { IfOk result (λ c. length c.instances ≡ 2) }
 {
-    let mut instances = Seq::new(alloc);
-    instances.push(adder(alloc, Operand::Register(0))?)?;
-    instances.push(adder(alloc, Operand::Number(1))?)?;
+    let double = adder(alloc, Operand::Register(0))?;
+    let next = adder(alloc, Operand::Number(1))?;
     Ok(Component {
-        instances,
+        instances: Seq::from_vec(Vec::from_array(alloc, [double, next])?),
         hosts: Seq::new(alloc),
     })
 }

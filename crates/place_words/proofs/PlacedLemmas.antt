@@ -56,6 +56,13 @@ module _ (a : CoreParts) (sound : IsSound a) (id : TableId ThreadKey) (g : Guest
   pub node_made : is_made a.places g.node.index ≡ true
   node_made = subst (λ (e : Single GuestThread). is_made a.places e.item.node.index ≡ true) bare_entry (is_whole.chained.places.made id.rep _ (filings_at place_filing bared.threads id.rep (Some bare_placed) bare_stands))
 
+  -- the node of a thread that is in no chain has no link
+  pub node_unlinked : ((i : ℕ) → where_at i g.thread.place ≡ None) → link_of a.places g.node.index ≡ None
+  node_unlinked apart =
+      subst (λ (e : Single GuestThread). link_of a.places e.item.node.index ≡ link_for (place_chain bared) (record { node = e.item.node.index; key = where_at e.item.instance e.item.thread.place; value = thread_seat id.rep e.item })) bare_entry
+      (is_whole.chained.places.has_link id.rep _ (filings_at place_filing bared.threads id.rep (Some bare_placed) bare_stands))
+      ∙ ap (λ k. link_for (place_chain bared) (record { node = g.node.index; key = k; value = thread_seat id.rep g })) (apart g.instance)
+
   -- a thread that stays where it is stays filed
   pub stays_filed : h.thread.place ≡ g.thread.place → Refiles a.places a.places g.node.index (link_for (place_chain bared) (record { node = g.node.index; key = where_at h.instance h.thread.place; value = thread_seat id.rep h }))
   stays_filed same = record {

@@ -4,7 +4,7 @@ use Rattle.task_records.specs.declared.{parts.CoreParts.CoreParts, threads.Guest
 use Rattle.task_records.proofs.HomeLemmas.{place_bare, thread_home}
 use Rattle.task_records.proofs.KindLemmas.{item_stands}
 use Rattle.place_words.proofs.AlikeLemmas.{number_alike}
-use Rattle.place_words.specs.Moved.{entry_set, set_named, still, still_thread}
+use Rattle.place_words.specs.Moved.{StandsAlone, entry_set, set_named, still, still_thread}
 use Rattle.place_words.proofs.WaiterLemmas.{delivery_at}
 
 -- a write of a thread that isn't there changes nothing
@@ -19,6 +19,10 @@ same_item one two = let both = one ∙ sym two in cc
 -- why the entry of a thread is queued, as its record says
 pub why_is : (s : StateView) (n : ℕ) (t : Thread) → Some t ≡ get s.core.threads n → (w : Why) → w ≡ ready_why t.place → why_of n s.core ≡ w
 why_is s n t is w reason = sym (ap (λ o. option_map_or ready_why (option_map (λ (t : Thread). t.place) o) Why.Resumption) is) ∙ sym reason
+
+-- no set counts a thread that stands alone
+pub alone_unset : (a : CoreParts) (o : TableId SetKey) (p : Place) (h : HowFar) → set_of (seen a) o ≡ 0 → StandsAlone p → set_of (seen a) o ≡ set_named (entry_set p h) (seen a).core
+alone_unset a o p h none alone = none ∙ sym (ap (λ x. set_named x (seen a).core) (alone.0 h))
 
 -- no set counts a thread that runs
 pub runs_unset : (a : CoreParts) (o : TableId SetKey) (p : Place) (h : HowFar) → set_of (seen a) o ≡ 0 → p ≡ Place.Running → set_of (seen a) o ≡ set_named (entry_set p h) (seen a).core

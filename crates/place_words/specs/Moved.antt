@@ -18,6 +18,7 @@ use Rattle.task_machine.specs.declared.records.Why.{Why}
 use Rattle.task_machine.specs.declared.records.Work.{Work}
 use Rattle.task_machine.specs.declared.records.Why.TheVariants as why
 use Rattle.task_records.specs.Kinds.{entry_of, item_of, on_item}
+use Rattle.task_records.specs.Places.{where_at}
 use Rattle.task_records.specs.declared.calls.GuestTask.{GuestTask}
 use Rattle.task_records.specs.declared.sets.WaitSet.{WaitSet}
 use Rattle.task_records.specs.declared.single.Single.{Single}
@@ -60,6 +61,10 @@ entry_set (place.Waiting x by_callback) h = Some x
 entry_set (place.Ready m w) h = queued_set w h
 entry_set (place.Held w) h = delivered_set w
 entry_set _ h = None
+
+-- a thread at this place is in no chain, and no set counts it however far it has come
+abbrev pub StandsAlone : Place → Type 0
+StandsAlone p = ((h : HowFar) → entry_set p h ≡ None) × ((i : ℕ) → where_at i p ≡ None)
 
 abbrev pub rewritten_by : (WaitSet → WaitSet) → ℕ → Result WaitSet ResourceTableError → Table (Single WaitSet) → Table (Single WaitSet)
 rewritten_by f rep (Ok x) t = with_entry rep (entry_of (f x)) t
@@ -134,13 +139,13 @@ at_op g p = record g { thread = to_op p g.thread; awaited = 0 }
 -- a thread that begins an activation, with these words in r0, r1 and r2
 abbrev pub to_begun : (code : ℕ) → (handle : ℕ) → (status : ℕ) → Thread → Thread
 to_begun code handle status t =
-  record t {
-    registers = slice_set (slice_set (slice_set t.registers 0 code) 1 handle) 2 status;
-    script = script.React;
-    position = 0;
-    how_far = how_far.Fresh;
-    place = place.Running
-  }
+    record t {
+      registers = slice_set (slice_set (slice_set t.registers 0 code) 1 handle) 2 status;
+      script = script.React;
+      position = 0;
+      how_far = how_far.Fresh;
+      place = place.Running;
+    }
 
 abbrev pub begun : GuestThread → (code : ℕ) → (handle : ℕ) → (status : ℕ) → GuestThread
 begun g code handle status = record g { thread = to_begun code handle status g.thread; beside = 0; awaited = 0 }

@@ -1,8 +1,9 @@
 //! A thread that is written with another place.
 ghost use Rattle.std.specs.Prelude.{◌≡◌, IfSome, IsSome, None, Ok, option_and_then, option_map, true};
-ghost use Rattle.place_words.specs.Moved.{arrived, at_op, begun, placed, standing, to_begun, to_op, to_stand};
+ghost use Rattle.place_words.specs.Moved.{StandsAlone, arrived, at_op, begun, placed, queued_set, standing, to_begun, to_op, to_stand};
 ghost use Rattle.task_index.specs.Index.{Refiles};
-ghost use Rattle.task_links.specs.Links.{is_made, list_of, removed};
+ghost use Rattle.task_links.specs.Links.{is_made, link_of, list_of, removed};
+ghost use Rattle.task_machine.specs.declared.records.HowFar.{HowFar};
 ghost use Rattle.task_machine.specs.Write.{on_thread, set_how_far, set_place};
 ghost use Rattle.task_records.specs.Kinds.{entry_of, item_of};
 ghost use Rattle.task_records.specs.Names.{AtPlace, how_far_target, place_target};
@@ -16,7 +17,7 @@ ghost use Rattle.task_words.specs.StateView.{on_core, thread_of};
 
 use crate::entries::{entry_set, no_set, one_less, one_more};
 use table_order::{Seat, SeatLinks};
-use task_machine::{HowFar, Place, Script};
+use task_machine::{Delivery, HowFar, Place, Script, Why};
 use task_records::{CoreParts, GuestThread, Node, Single};
 use task_table::ResourceTable;
 use task_words::ThreadId;
@@ -144,10 +145,51 @@ fn write_begun(
     }
 }
 
-/// The thread is at another place from now on, in the chain in which it is filed there. An id that names no thread
-/// changes nothing.
+// Whether no set counts an entry that is queued for this, however far its thread has come.
 #[inline(always)]
-pub(crate) fn put(
+fn is_for_no_set(why: &Why) -> bool
+    ensures { result ≡ true → (h : HowFar) → queued_set why.now h ≡ None }
+{
+    match why {
+        Why::Start => true,
+        Why::Delivery { delivery } => match delivery {
+            Delivery::Yield | Delivery::Cancel => true,
+            Delivery::Set { .. } => false,
+        },
+        Why::Resumption => false,
+    }
+}
+
+// Whether a thread at this place is in no chain, and no set counts it.
+#[inline(always)]
+fn stands_alone(place: &Place) -> bool
+    ensures { result ≡ true → StandsAlone place.now }
+{
+    match place {
+        Place::Running => true,
+        Place::Ready { why, .. } => is_for_no_set(why),
+        _ => false,
+    }
+}
+
+// The node, which is in no chain, is in this chain from now on, with the seat, if there is one.
+#[inline(always)]
+fn file_in(links: &mut SeatLinks, node: Node, chain: Option<usize>, seat: Seat)
+    requires made { is_made links.old node.index ≡ true }
+    requires live { IfSome chain (λ c. IsSome (list_of links.old c)) }
+    requires unlinked { link_of links.old node.index ≡ None }
+    ensures links { Refiles links.old links.new node.index (option_map (λ c. (c, seat)) chain) }
+    ensures left { chain ≡ None → links.new ≡ removed node.index links.old }
+{
+    match chain {
+        Some(chain) => links.file(node, chain, seat),
+        None => {}
+    }
+}
+
+// The same as `put`, wherever the thread was.
+#[inline(always)]
+pub(crate) fn put_counted(
     parts: &mut CoreParts,
     id: ThreadId,
     place: Place,
@@ -171,6 +213,39 @@ pub(crate) fn put(
         one_less(&mut parts.sets, from);
         one_more(&mut parts.sets, to);
         refile(&mut parts.places, node, chain, seat);
+    }
+}
+
+/// The thread is at another place from now on, in the chain in which it is filed there. An id that names no thread
+/// changes nothing.
+#[inline(always)]
+pub(crate) fn put(
+    parts: &mut CoreParts,
+    id: ThreadId,
+    place: Place,
+    beside: u32,
+    chain: Option<usize>,
+)
+    requires sound { IsSound parts.old }
+    requires place { AtPlace (parts_of parts.old) beside (place_target place) }
+    requires chain { (g : GuestThread) → Ok g ≡ item_at item_of parts.old.threads id.rep id.serial → option_and_then (place_chain (bare (parts_of parts.old))) (where_at g.instance place) ≡ chain }
+    ensures sound { IsSound parts.new }
+    ensures new { seen parts.new ≡ on_core (set_place (thread_of (seen parts.old) id) place) (seen parts.old) }
+    ensures threads { (g : GuestThread) → Ok g ≡ item_at item_of parts.old.threads id.rep id.serial → parts.new.threads ≡ with_entry id.rep (entry_of (placed g place beside)) parts.old.threads }
+    ensures left { (g : GuestThread) → Ok g ≡ item_at item_of parts.old.threads id.rep id.serial → chain ≡ None → parts.new.places ≡ removed g.node.index parts.old.places }
+{
+    if let Some(found) = task_records::thread(parts, id) {
+        if stands_alone(&found.thread.place) {
+            let (node, seat) = (found.node, thread_seat(id.rep(), found));
+            let from = no_set(parts);
+            let to = entry_set(parts, &place, beside, &found.thread.how_far, found.awaited);
+            write_place(&mut parts.threads, id, place, beside);
+            one_less(&mut parts.sets, from);
+            one_more(&mut parts.sets, to);
+            file_in(&mut parts.places, node, chain, seat);
+        } else {
+            put_counted(parts, id, place, beside, chain);
+        }
     }
 }
 
@@ -215,10 +290,9 @@ pub(crate) fn put_there(parts: &mut CoreParts, id: ThreadId, how_far: HowFar, aw
     }
 }
 
-/// The thread is at another place and at another point of its op from now on, in the chain in which it is filed there. An
-/// id that names no thread changes nothing.
+// The same as `put_stand`, wherever the thread was.
 #[inline(always)]
-pub(crate) fn put_stand(
+pub(crate) fn put_stand_counted(
     parts: &mut CoreParts,
     id: ThreadId,
     place: Place,
@@ -248,6 +322,61 @@ pub(crate) fn put_stand(
         one_less(&mut parts.sets, from);
         one_more(&mut parts.sets, to);
         refile(&mut parts.places, node, chain, seat);
+    }
+}
+
+// The same, out of line.
+#[inline(never)]
+fn put_stand_away(
+    parts: &mut CoreParts,
+    id: ThreadId,
+    place: Place,
+    beside: u32,
+    how_far: HowFar,
+    awaited: u32,
+    chain: Option<usize>,
+)
+    requires sound { IsSound parts.old }
+    requires place { AtPlace (parts_of parts.old) beside (place_target place) }
+    requires how_far { AtPlace (parts_of parts.old) awaited (how_far_target how_far) }
+    requires chain { (g : GuestThread) → Ok g ≡ item_at item_of parts.old.threads id.rep id.serial → option_and_then (place_chain (bare (parts_of parts.old))) (where_at g.instance place) ≡ chain }
+    ensures sound { IsSound parts.new }
+    ensures new { seen parts.new ≡ on_core (on_thread (thread_of (seen parts.old) id) (to_stand place how_far)) (seen parts.old) }
+{
+    put_stand_counted(parts, id, place, beside, how_far, awaited, chain);
+}
+
+/// The thread is at another place and at another point of its op from now on, in the chain in which it is filed there. An
+/// id that names no thread changes nothing.
+#[inline(always)]
+pub(crate) fn put_stand(
+    parts: &mut CoreParts,
+    id: ThreadId,
+    place: Place,
+    beside: u32,
+    how_far: HowFar,
+    awaited: u32,
+    chain: Option<usize>,
+)
+    requires sound { IsSound parts.old }
+    requires place { AtPlace (parts_of parts.old) beside (place_target place) }
+    requires how_far { AtPlace (parts_of parts.old) awaited (how_far_target how_far) }
+    requires chain { (g : GuestThread) → Ok g ≡ item_at item_of parts.old.threads id.rep id.serial → option_and_then (place_chain (bare (parts_of parts.old))) (where_at g.instance place) ≡ chain }
+    ensures sound { IsSound parts.new }
+    ensures new { seen parts.new ≡ on_core (on_thread (thread_of (seen parts.old) id) (to_stand place how_far)) (seen parts.old) }
+{
+    if let Some(found) = task_records::thread(parts, id) {
+        if stands_alone(&found.thread.place) {
+            let (node, seat) = (found.node, thread_seat(id.rep(), found));
+            let from = no_set(parts);
+            let to = entry_set(parts, &place, beside, &how_far, awaited);
+            write_stand(&mut parts.threads, id, place, beside, how_far, awaited);
+            one_less(&mut parts.sets, from);
+            one_more(&mut parts.sets, to);
+            file_in(&mut parts.places, node, chain, seat);
+        } else {
+            put_stand_away(parts, id, place, beside, how_far, awaited, chain);
+        }
     }
 }
 
@@ -290,8 +419,9 @@ pub(crate) fn put_op(parts: &mut CoreParts, id: ThreadId, position: u32)
     }
 }
 
-/// The thread begins an activation, with these words in r0, r1 and r2. An id that names no thread changes nothing.
-pub(crate) fn put_begun(parts: &mut CoreParts, id: ThreadId, words: (u64, u64, u64))
+// The same as `put_begun`, wherever the thread was.
+#[inline(never)]
+fn put_begun_counted(parts: &mut CoreParts, id: ThreadId, words: (u64, u64, u64))
     requires { IsSound parts.old }
     ensures sound { IsSound parts.new }
     ensures new { seen parts.new ≡ on_core (on_thread (thread_of (seen parts.old) id) (to_begun words.0 words.1 words.2)) (seen parts.old) }
@@ -305,5 +435,27 @@ pub(crate) fn put_begun(parts: &mut CoreParts, id: ThreadId, words: (u64, u64, u
         one_less(&mut parts.sets, from);
         one_more(&mut parts.sets, to);
         refile(&mut parts.places, node, None, seat);
+    }
+}
+
+/// The thread begins an activation, with these words in r0, r1 and r2. An id that names no thread changes nothing.
+#[inline(always)]
+pub(crate) fn put_begun(parts: &mut CoreParts, id: ThreadId, words: (u64, u64, u64))
+    requires { IsSound parts.old }
+    ensures sound { IsSound parts.new }
+    ensures new { seen parts.new ≡ on_core (on_thread (thread_of (seen parts.old) id) (to_begun words.0 words.1 words.2)) (seen parts.old) }
+{
+    if let Some(found) = task_records::thread(parts, id) {
+        if stands_alone(&found.thread.place) {
+            let (node, seat) = (found.node, thread_seat(id.rep(), found));
+            let from = no_set(parts);
+            let to = no_set(parts);
+            write_begun(&mut parts.threads, id, words);
+            one_less(&mut parts.sets, from);
+            one_more(&mut parts.sets, to);
+            file_in(&mut parts.places, node, None, seat);
+        } else {
+            put_begun_counted(parts, id, words);
+        }
     }
 }

@@ -19,7 +19,7 @@ ghost use Rattle.task_words.specs.Live.{delivered_set, live_set};
 ghost use Rattle.task_words.specs.Names.{how_far_in, place_in, why_in};
 ghost use Rattle.task_words.specs.StateView.{on_core, set_of, thread_of};
 
-use crate::moves::{put, put_stand};
+use crate::moves::{put, put_counted, put_stand, put_stand_counted};
 use crate::targets::{chain_at, held_chain, named_how_far, named_place, named_why, under_chain};
 use record_words::number;
 use task_machine::{Delivery, Mark, Place, Why};
@@ -130,7 +130,7 @@ fn put_at(parts: &mut CoreParts, thread: ThreadId, place: PlaceId)
         let instance = found.instance;
         let (named, beside) = named_place(parts, place);
         let chain = chain_at(parts, instance, place);
-        put(parts, thread, named, beside, chain);
+        put_counted(parts, thread, named, beside, chain);
     }
 }
 
@@ -160,7 +160,7 @@ fn stand_anywhere(parts: &mut CoreParts, thread: ThreadId, place: PlaceId, how_f
         let (named, beside) = named_place(parts, place);
         let (point, awaited) = named_how_far(parts, how_far);
         let chain = chain_at(parts, instance, place);
-        put_stand(parts, thread, named, beside, point, awaited, chain);
+        put_stand_counted(parts, thread, named, beside, point, awaited, chain);
     }
 }
 
@@ -205,7 +205,10 @@ pub fn stand_at(parts: &mut CoreParts, thread: ThreadId, place: PlaceId, how_far
     ensures new { seen parts.new ≡ on_core (λ s. set_how_far (thread_of (seen parts.old) thread) (how_far_in (seen parts.old).tags how_far) (set_place (thread_of (seen parts.old) thread) (place_in (seen parts.old).tags place) s)) (seen parts.old) }
 {
     match place {
-        PlaceId::Running => stand_unchained(parts, thread, Place::Running, 0, how_far),
+        PlaceId::Running => {
+            let (point, awaited) = named_how_far(parts, how_far);
+            put_stand_counted(parts, thread, Place::Running, 0, point, awaited, None);
+        }
         PlaceId::Ready { mark, why } => {
             let (why, beside) = named_why(parts, why);
             stand_unchained(parts, thread, Place::Ready { mark, why }, beside, how_far);

@@ -32,30 +32,30 @@ fn script(alloc: Global) -> Result<Seq<Op>, AllocError>
     ensures plain { IfOk result (λ ops. list_all is_covered_op ops ≡ true) }
     ensures short { IfOk result (λ ops. length ops ≤ 4096) }
 {
-    let value = Operand::Register(2);
-    let mut ops = Seq::new(alloc);
-    ops.push(Op::Data(DataOp::Set {
-        to: 2,
-        value: Operand::Number(33),
-    }))?;
-    ops.push(Op::Data(DataOp::Handle { to: 2, value }))?;
-    ops.push(Op::Data(DataOp::Add { to: 0, value }))?;
     let left = Operand::Register(0);
     let right = Operand::Register(1);
-    ops.push(Op::Data(DataOp::Store {
-        word: 3,
-        value: left,
-    }))?;
-    ops.push(Op::Data(DataOp::Load { to: 1, word: 3 }))?;
-    let ops_over = 1;
-    ops.push(Op::Data(DataOp::SkipEq {
-        left,
-        right,
-        ops: ops_over,
-    }))?;
-    ops.push(Op::Task(TaskOp::RetBad { value }))?;
-    ops.push(Op::Task(TaskOp::Ret { value: right }))?;
-    Ok(ops)
+    let value = Operand::Register(2);
+    let ops = [
+        Op::Data(DataOp::Set {
+            to: 2,
+            value: Operand::Number(33),
+        }),
+        Op::Data(DataOp::Handle { to: 2, value }),
+        Op::Data(DataOp::Add { to: 0, value }),
+        Op::Data(DataOp::Store {
+            word: 3,
+            value: left,
+        }),
+        Op::Data(DataOp::Load { to: 1, word: 3 }),
+        Op::Data(DataOp::SkipEq {
+            left,
+            right,
+            ops: 1,
+        }),
+        Op::Task(TaskOp::RetBad { value }),
+        Op::Task(TaskOp::Ret { value: right }),
+    ];
+    Ok(Seq::from_vec(Vec::from_array(alloc, ops)?))
 }
 
 // A component with one callback export, which has that script.

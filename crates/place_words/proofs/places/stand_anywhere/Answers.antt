@@ -5,8 +5,8 @@ use Rattle.place_words.proofs.places.stand_anywhere.Goals as goal
 use Rattle.place_words.specs.Moved.{to_stand}
 use Rattle.task_words.specs.Names.{place_in}
 
-pub put_stand-requires-clause-chain : goal.put_stand-requires-clause-chain
-put_stand-requires-clause-chain c g is =
+pub put_stand_counted-requires-clause-chain : goal.put_stand_counted-requires-clause-chain
+put_stand_counted-requires-clause-chain c g is =
     let a = c.args.parts.now in
     ap (λ (x : GuestThread). option_and_then (place_chain (bare (parts_of a))) (where_at x.instance c.named_place-named.result.0)) (same_item is c.in-Some.ensures.item)
     ∙ (ap (λ p. option_and_then (place_chain (bare (parts_of a))) (where_at c.in-Some.found.now.instance p)) (sym c.named_place-named.ensures.is) ∙ c.chain_at-chain.ensures)
@@ -14,7 +14,7 @@ put_stand-requires-clause-chain c g is =
 pub returns-in-Some-clause-new : goal.returns-in-Some-clause-new
 returns-in-Some-clause-new c =
     let s = seen c.args.parts.now in
-    c.put_stand.ensures.new
+    c.put_stand_counted.ensures.new
     ∙ (ap (λ p. on_core (on_thread (thread_of s c.args.thread) (to_stand p c.named_how_far-point.result.0)) s) (sym c.named_place-named.ensures.is)
     ∙ ap (λ h. on_core (on_thread (thread_of s c.args.thread) (to_stand (place_in s.tags c.args.place) h)) s) (sym c.named_how_far-point.ensures.is))
 

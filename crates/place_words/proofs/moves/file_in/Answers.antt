@@ -1,0 +1,11 @@
+use Rattle.task_records.proofs.Core.{ap, Option, option_map, Refiles, refl, subst, sym, ℕ}
+use Rattle.place_words.proofs.moves.file_in.Goals as goal
+use Rattle.task_links.specs.Links.{removed_by}
+
+pub returns-in-None-clause-links : goal.returns-in-None-clause-links
+returns-in-None-clause-links c =
+    subst (λ (o : Option ℕ). Refiles c.args.links.now c.args.links.now c.args.node.index (option_map (λ k. (k, c.args.seat)) o)) (sym c.in-None.is)
+    (record { here = c.requires.unlinked; others = λ n other. refl; made = λ n made. made; live = λ k live. live })
+
+pub returns-in-None-clause-left : goal.returns-in-None-clause-left
+returns-in-None-clause-left c none = ap (λ o. removed_by c.args.node.index o c.args.links.now) (sym c.requires.unlinked)
