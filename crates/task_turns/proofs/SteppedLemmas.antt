@@ -1,12 +1,14 @@
 -- Steps whose labels are in the trace.
 use Rattle.op_dispatch.specs.Polls.{polled_host}
-use Rattle.std.proofs.Common.{inl, refl, subst, sym}
-use Rattle.std.specs.Prelude.{Bool, List, None, Option, Some, false, true, ℕ, ◌+◌, ◌<◌, ◌≡◌, ◌≤◌}
+use Rattle.std.proofs.Common.{inl, refl, subst, sym, ◌∙◌}
+use Rattle.std.specs.Prelude.{Bool, Err, IfOk, List, None, Ok, Option, Result, Some, false, true, ℕ, ◌+◌, ◌<◌, ◌≡◌, ◌≤◌}
 use Rattle.task_machine.specs.Core.{Core, Main, State}
 use Rattle.task_machine.specs.Labels.{choice_of}
 use Rattle.task_machine.specs.Read.{how_far_of, next_entry, place_of}
 use Rattle.task_machine.specs.declared.component.Component.{Component}
 use Rattle.task_machine.specs.declared.label.Label.{Label}
+use Rattle.task_machine.specs.declared.memory.NoMemory.{NoMemory}
+use Rattle.task_machine.specs.declared.op.Op.{Op}
 use Rattle.task_machine.specs.declared.outcome.Outcome.{Outcome}
 use Rattle.task_machine.specs.declared.outcome.Outcome.TheVariants as outcome
 use Rattle.task_machine.specs.declared.records.Entry.TheVariants as entry
@@ -20,7 +22,7 @@ use Rattle.task_ops.specs.declared.came.Came.{Came}
 use Rattle.task_rules.specs.Progress.{Progress}
 use Rattle.task_rules.specs.Scripts.{op_of}
 use Rattle.task_rules.specs.Stalled.{Setting}
-use Rattle.task_rules.specs.Step.{did}
+use Rattle.task_rules.specs.Step.{did, op_row}
 use Rattle.task_rules.specs.Takes.{popped, thread_taken}
 use Rattle.task_table.specs.declared.id.TableId.{TableId}
 use Rattle.task_turns.proofs.DriveLemmas.{on_ends, on_more, on_turned_none}
@@ -28,9 +30,11 @@ use Rattle.task_turns.proofs.IdleLemmas.{after_free, free_at}
 use Rattle.task_turns.proofs.RunLemmas.{ran_at, took}
 use Rattle.task_turns.specs.Drive.{Drove, IsOn}
 use Rattle.task_turns.specs.Ran.{RanPolls}
-use Rattle.task_turns.specs.Stepped.{Added, AddedOrNone, RowRan, RowShown, Shown, made_by}
+use Rattle.task_turns.specs.Stepped.{Added, AddedOrNone, RowRan, RowShown, RowStep, RunAdded, Shown, StepPolls, made_by}
 use Rattle.task_turns.specs.Turn.{IsFree, Makes, Turned, Turns, is_open}
 use Rattle.task_turns.specs.declared.made.Made.{Made}
+use Rattle.task_turns.specs.declared.made.RunStep.{RunStep}
+use Rattle.task_turns.specs.declared.made.RunStep.TheVariants as run_step
 use Rattle.task_turns.specs.declared.made.Stepped.{Stepped}
 use Rattle.task_turns.specs.declared.made.Stepped.TheVariants as stepped
 use Rattle.task_wait.specs.declared.keys.ThreadKey.{ThreadKey}
@@ -90,6 +94,23 @@ module _ (id : TableId ThreadKey) (s t : StateView) where
   pub row_ran_as : (P Q : Came → Progress) (made : Made) → ((r : Came) (u : Core) → Meets (P r) s.core r u → Meets (Q r) s.core r u) → RowRan P id s made t → RowRan Q id s made t
   row_ran_as P Q made same h =
       record { came = h.came; left = h.left; meets = same h.came h.left.core h.meets; stays = h.stays; label = h.label; turn = h.turn; core = h.core; running = h.running; over = h.over }
+
+-- what an op by its row came to is a step of the running thread
+pub run_steps : (c : Component) (id : TableId ThreadKey) (n : ℕ) (s t : StateView) → thread_of s id ≡ n → (before after : List Label) (r : Result RunStep NoMemory) (o : Op)
+    → polled_host c (how_far_of (thread_of s id) s.core) (op_of c (thread_of s id) s.core) ≡ polled_host c (how_far_of (thread_of s id) s.core) o
+    → ((came : Came) (u : Core) → Meets (op_row c (thread_of s id) s.core (choice_of (label_of (thread_of s id) came)) o) s.core came u → Meets (did c (thread_of s id) s.core (choice_of (label_of (thread_of s id) came))) s.core came u)
+    → IfOk r (λ step. RowStep (λ came. op_row c (thread_of s id) s.core (choice_of (label_of (thread_of s id) came)) o) id s before step t after)
+    → IfOk r (λ step. StepPolls (polled_host c (how_far_of (thread_of s id) s.core) o) s step t)
+    → IfOk r (λ step. RunAdded (λ ran. (Makes c (turn.Run n) s ran.made t × IsFree ran.made.turn) × RanPolls c n s ran t) step before after)
+run_steps c id n s t number before after (Err e) o is same step polls = tt
+run_steps c id n s t number before after (Ok (run_step.Shown q)) o is same step polls =
+    unpolled id s t q before after c n (λ made. Makes c (turn.Run n) s made t × IsFree made.turn)
+    (subst (λ k. polled_host c (how_far_of k s.core) (op_of c k s.core) ≡ None) number (is ∙ polls))
+    (run_added id s t q before after c n number (row_as id s t q before after (λ came. op_row c (thread_of s id) s.core (choice_of (label_of (thread_of s id) came)) o) (λ came. did c (thread_of s id) s.core (choice_of (label_of (thread_of s id) came))) same step))
+run_steps c id n s t number before after (Ok (run_step.Called ran)) o is same step polls =
+    let did_it = row_ran_as id s t (λ came. op_row c (thread_of s id) s.core (choice_of (label_of (thread_of s id) came)) o) (λ came. did c (thread_of s id) s.core (choice_of (label_of (thread_of s id) came))) ran.made same step.0 in
+    let polled : RanPolls c n s ran t = record { polled = subst (λ k. ran.polled ≡ polled_host c (how_far_of k s.core) (op_of c k s.core)) number (polls.0 ∙ sym is); work = polls.1 } in
+    ((ran_made id s t c n number ran.made did_it, polled), step.1)
 
 -- a taking that met its row made a step
 pub take_added : (c : Component) (ended : Bool) (mark : Mark) (id : TableId ThreadKey) (n : ℕ) (s u v t : StateView) (r : Came) (stepped : Stepped) (before after : List Label) → thread_of u id ≡ n → u.core ≡ popped mark s.core

@@ -1,6 +1,7 @@
 -- A step whose label is in the trace.
 use Rattle.std.specs.Prelude.{List, None, Option, Some, [], is_none, true, ℕ, ◌++◌, ◌≡◌, ◌∷◌}
 use Rattle.task_machine.specs.Core.{Core}
+use Rattle.task_machine.specs.declared.component.HostDef.{HostDef}
 use Rattle.task_machine.specs.declared.label.Label.{Label}
 use Rattle.task_machine.specs.declared.records.Turn.TheVariants as turn
 use Rattle.task_ops.specs.Came.{Meets}
@@ -10,6 +11,7 @@ use Rattle.task_ops.specs.declared.came.Came.{Came}
 use Rattle.task_rules.specs.Outcome.{outcome_of_label}
 use Rattle.task_rules.specs.Progress.{Progress}
 use Rattle.task_table.specs.declared.id.TableId.{TableId}
+use Rattle.task_turns.specs.Ran.{WorkMade}
 use Rattle.task_turns.specs.Turn.{is_going, is_open, running_of, runs_in}
 use Rattle.task_turns.specs.declared.made.Made.{Made}
 use Rattle.task_turns.specs.declared.made.Ran.{Ran}
@@ -70,3 +72,13 @@ pub record RowRan (row : Came → Progress) (id : TableId ThreadKey) (s : StateV
 abbrev pub RunAdded : (Ran → Type 0) → RunStep → List Label → List Label → Type 0
 RunAdded P (run_step.Shown stepped) before after = Added (λ made. P (record { made = made; polled = None; work = None })) stepped before after
 RunAdded P (run_step.Called ran) before after = P ran × (after ≡ before)
+
+-- either of these
+abbrev pub RowStep : (Came → Progress) → TableId ThreadKey → StateView → List Label → RunStep → StateView → List Label → Type 0
+RowStep row id s before (run_step.Shown stepped) t after = RowShown row id s before stepped t after
+RowStep row id s before (run_step.Called ran) t after = RowRan row id s ran.made t × (after ≡ before)
+
+-- A step that polled this host first says so, and which work was made.
+abbrev pub StepPolls : Option HostDef → StateView → RunStep → StateView → Type 0
+StepPolls host s (run_step.Shown stepped) t = host ≡ None
+StepPolls host s (run_step.Called ran) t = (ran.polled ≡ host) × WorkMade ran.polled ran.work s t

@@ -16,7 +16,7 @@ ghost use Rattle.task_ops.specs.Works.{KeepsWorks, NamesWorks};
 ghost use Rattle.task_rules.specs.Scripts.{op_of, script_of};
 ghost use Rattle.task_rules.specs.Step.{did, op_row};
 ghost use Rattle.task_turns.specs.Ran.{RanPolls, WorkMade};
-ghost use Rattle.task_turns.specs.Stepped.{RowRan, RowShown, RunAdded};
+ghost use Rattle.task_turns.specs.Stepped.{RowRan, RowShown, RowStep, RunAdded, StepPolls};
 ghost use Rattle.task_turns.specs.Turn.{GoesOn, IsFree, Makes, Sits, given, running_of};
 ghost use Rattle.task_turns.specs.WellFormed.{IsWellFormed};
 ghost use Rattle.task_words.specs.StateView.{thread_of};
@@ -143,6 +143,44 @@ fn run_host<W: Words>(
     })
 }
 
+// An op of the thread's script, which ends at `end`, is done. It is inlined, so that a step that calls no host is not copied.
+#[inline(always)]
+fn run_by<W: Words>(
+    component: &Component,
+    w: &mut W,
+    thread: ThreadId,
+    op: &Op,
+    end: u32,
+    trace: &mut Trace,
+) -> Result<RunStep, NoMemory>
+    requires runner { Runner thread (W.view w.old) }
+    requires fits { op_fits component.now op.now ≡ true }
+    requires instances { HasInstances component.now (W.view w.old).core }
+    requires within { position_of (thread_of (W.view w.old) thread) (W.view w.old).core < end }
+    requires ends { length (script_of component.now (thread_of (W.view w.old) thread) (W.view w.old).core) ≡ end }
+    requires handles { is_some (get (W.view w.old).core.handles (instance_of (thread_of (W.view w.old) thread) (W.view w.old).core)) ≡ true }
+    requires few { given (W.view w.old).core < 2 ^ 61 }
+    ensures step { IfOk result (λ step. RowStep (λ came. op_row component.now (thread_of (W.view w.old) thread) (W.view w.old).core (choice_of (label_of (thread_of (W.view w.old) thread) came)) op.now) thread (W.view w.old) trace.old step (W.view w.new) trace.new) }
+    ensures polls { IfOk result (λ step. StepPolls (polled_host component.now (how_far_of (thread_of (W.view w.old) thread) (W.view w.old).core) op.now) (W.view w.old) step (W.view w.new)) }
+    ensures works { OnOk result (NamesWorks (W.view w.old) (W.view w.new)) }
+    ensures err { OnErr result (trace.new ≡ trace.old) }
+{
+    match op {
+        Op::Call(call) if is_host_call(call) => {
+            let ran = run_host(component, w, thread, call)?;
+            Ok(RunStep::Called(ran))
+        }
+        Op::Data(data) => {
+            let stepped = run_data(component, w, thread, *data, end, trace)?;
+            Ok(RunStep::Shown(stepped))
+        }
+        _ => {
+            let stepped = run_plain(component, w, thread, op, trace)?;
+            Ok(RunStep::Shown(stepped))
+        }
+    }
+}
+
 /// The running thread, which has this number, does its op. What that shows is added to the trace, but where the op
 /// calls a host: then the step, the host that was polled first, and the work that was made are answered. Where memory
 /// is wanting, nothing is added, and nothing is said of the state.
@@ -168,18 +206,7 @@ pub fn step_run<W: Words>(
     let point = w.at(thread);
     let script = script_ops(component, point.callee, point.script);
     match op_at(script, point.position) {
-        Some(Op::Call(op)) if is_host_call(op) => {
-            let ran = run_host(component, w, thread, op)?;
-            Ok(RunStep::Called(ran))
-        }
-        Some(Op::Data(op)) => {
-            let stepped = run_data(component, w, thread, *op, script.len() as u32, trace)?;
-            Ok(RunStep::Shown(stepped))
-        }
-        Some(op) => {
-            let stepped = run_plain(component, w, thread, op, trace)?;
-            Ok(RunStep::Shown(stepped))
-        }
+        Some(op) => run_by(component, w, thread, op, script.len() as u32, trace),
         None => {
             let stepped = run_exit(w, thread, trace)?;
             Ok(RunStep::Shown(stepped))

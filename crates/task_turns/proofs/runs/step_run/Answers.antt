@@ -1,11 +1,10 @@
 use Rattle.op_dispatch.specs.Polls.{polled_host}
-use Rattle.std.proofs.Common.{ap, arith, length, refl, subst, sym, ◌<◌, ◌≡◌, ◌≤◌, ◌∙◌}
+use Rattle.std.proofs.Common.{ap, length, refl, subst, sym, ◌<◌, ◌≡◌, ◌∙◌}
 use Rattle.std.proofs.lemmas.Option.{slice_get_within}
-use Rattle.std.specs.Prelude.{List, None, Some, option_copied, slice_get}
+use Rattle.std.specs.Prelude.{None, Some, option_copied, slice_get}
 use Rattle.task_machine.specs.Labels.{choice_of}
 use Rattle.task_machine.specs.Read.{callee_of, how_far_of, instance_of, task_of}
 use Rattle.task_machine.specs.declared.component.Callee.{Callee}
-use Rattle.task_machine.specs.declared.op.Op.{Op}
 use Rattle.task_machine.specs.declared.op.Op.TheVariants as op
 use Rattle.task_machine.specs.declared.op.TaskOp.TheVariants as task
 use Rattle.task_machine.specs.declared.records.Turn.TheVariants as turn
@@ -15,7 +14,7 @@ use Rattle.task_rules.specs.Step.{did, op_row}
 use Rattle.task_turns.proofs.CoveredLemmas.{home_below}
 use Rattle.task_turns.proofs.OrderLemmas.{number_at, runner}
 use Rattle.task_turns.proofs.RunLemmas.{op_is, row_at, script_is}
-use Rattle.task_turns.proofs.SteppedLemmas.{ran_made, row_as, row_ran_as, run_added, unpolled}
+use Rattle.task_turns.proofs.SteppedLemmas.{row_as, run_added, run_steps, unpolled}
 use Rattle.task_turns.proofs.runs.step_run.Goals as goal
 use Rattle.task_turns.specs.Turn.{IsFree, Makes}
 use Rattle.task_turns.specs.declared.made.Made.{Made}
@@ -26,18 +25,8 @@ at-point-requires g c =
     let s = g.W.View.view c.args.w.now in
     (runner c.args.component.now c.args.number s c.requires.order c.none_is_zero.ensures.threads c.requires.runs c.in-Some.thread (sym c.current.ensures ∙ c.in-Some.is)).live
 
-pub run_host-requires-clause-runner : goal.run_host-requires-clause-runner
-run_host-requires-clause-runner g c =
-    let s = g.W.View.view c.args.w.now in
-    runner c.args.component.now c.args.number s c.requires.order c.none_is_zero.ensures.threads c.requires.runs c.in-Some.thread (sym c.current.ensures ∙ c.in-Some.is)
-
-pub run_data-requires-clause-runner : goal.run_data-requires-clause-runner
-run_data-requires-clause-runner g c =
-    let s = g.W.View.view c.args.w.now in
-    runner c.args.component.now c.args.number s c.requires.order c.none_is_zero.ensures.threads c.requires.runs c.in-Some.thread (sym c.current.ensures ∙ c.in-Some.is)
-
-pub run_plain-requires-clause-runner : goal.run_plain-requires-clause-runner
-run_plain-requires-clause-runner g c =
+pub run_by-requires-clause-runner : goal.run_by-requires-clause-runner
+run_by-requires-clause-runner g c =
     let s = g.W.View.view c.args.w.now in
     runner c.args.component.now c.args.number s c.requires.order c.none_is_zero.ensures.threads c.requires.runs c.in-Some.thread (sym c.current.ensures ∙ c.in-Some.is)
 
@@ -46,74 +35,42 @@ run_exit-requires g c =
     let s = g.W.View.view c.args.w.now in
     record { runner = runner c.args.component.now c.args.number s c.requires.order c.none_is_zero.ensures.threads c.requires.runs c.in-Some.thread (sym c.current.ensures ∙ c.in-Some.is) }
 
-pub run_data-requires-clause-within : goal.run_data-requires-clause-within
-run_data-requires-clause-within g c =
-    subst (λ k. k < length c.script_ops-script.result.now) c.at-point.ensures.position (slice_get_within c.script_ops-script.result.now c.at-point.result.position (op.Data c.in-Some-Data.op) (sym (sym (ap option_copied c.in-Some-Data.is) ∙ c.op_at.ensures)))
+pub run_by-requires-clause-fits : goal.run_by-requires-clause-fits
+run_by-requires-clause-fits g c =
+    c.requires.covered.ops c.at-point.result.callee c.at-point.result.script c.at-point.result.position c.in-Some-op_at.op.now (subst (λ os. slice_get os c.at-point.result.position ≡ Some c.in-Some-op_at.op.now) c.script_ops-script.ensures (sym (sym (ap option_copied c.in-Some-op_at.is) ∙ c.op_at.ensures)))
 
-pub run_data-requires-clause-ends : goal.run_data-requires-clause-ends
-run_data-requires-clause-ends g c =
+pub run_by-requires-clause-within : goal.run_by-requires-clause-within
+run_by-requires-clause-within g c =
+    subst (λ k. k < length c.script_ops-script.result.now) c.at-point.ensures.position (slice_get_within c.script_ops-script.result.now c.at-point.result.position c.in-Some-op_at.op.now (sym (sym (ap option_copied c.in-Some-op_at.is) ∙ c.op_at.ensures)))
+
+pub run_by-requires-clause-ends : goal.run_by-requires-clause-ends
+run_by-requires-clause-ends g c =
     let s = g.W.View.view c.args.w.now in
     let n = thread_of s c.in-Some.thread in
     let q = runner c.args.component.now c.args.number s c.requires.order c.none_is_zero.ensures.threads c.requires.runs c.in-Some.thread (sym c.current.ensures ∙ c.in-Some.is) in
     ap length (script_is c.args.component.now n s.core q.thread q.here c.script_ops-script.result.now c.at-point.result.callee (task_of n s.core) c.at-point.result.position c.at-point.result.script c.at-point.ensures.callee refl (c.at-point.ensures.script q.thread q.here) c.script_ops-script.ensures c.at-point.ensures.position)
 
-pub run_plain-requires-clause-handles : goal.run_plain-requires-clause-handles
-run_plain-requires-clause-handles g c =
+pub run_by-requires-clause-handles : goal.run_by-requires-clause-handles
+run_by-requires-clause-handles g c =
     let s = g.W.View.view c.args.w.now in
     let n = thread_of s c.in-Some.thread in
     let own : c.at-point.result.callee ≡ callee_of (task_of n s.core) s.core = c.at-point.ensures.callee in
     c.requires.order.handles (instance_of n s.core) (subst (λ (f : Callee). f.instance < length c.args.component.now.instances) own
     (home_below c.args.component.now c.at-point.result.callee c.at-point.result.script c.at-point.result.position c.in-Some-op_at.op.now (subst (λ os. slice_get os c.at-point.result.position ≡ Some c.in-Some-op_at.op.now) c.script_ops-script.ensures (sym (sym (ap option_copied c.in-Some-op_at.is) ∙ c.op_at.ensures)))))
 
-pub run_host-requires-clause-position : goal.run_host-requires-clause-position
-run_host-requires-clause-position g c =
-    let below = subst (λ k. k < length c.script_ops-script.result.now) c.at-point.ensures.position (slice_get_within c.script_ops-script.result.now c.at-point.result.position (op.Call c.in-Some-Call.op) (sym (sym (ap option_copied c.in-Some-Call.is) ∙ c.op_at.ensures))) in
-    let short = subst (λ (os : List Op). length os ≤ 4096) (sym c.script_ops-script.ensures) (c.requires.covered.short c.at-point.result.callee c.at-point.result.script) in
-    omega arith
-
-pub run_plain-requires-clause-position : goal.run_plain-requires-clause-position
-run_plain-requires-clause-position g c =
-    let below = subst (λ k. k < length c.script_ops-script.result.now) c.at-point.ensures.position (slice_get_within c.script_ops-script.result.now c.at-point.result.position c.in-Some-op_at.op.now (sym (sym (ap option_copied c.in-Some-op_at.is) ∙ c.op_at.ensures))) in
-    let short = subst (λ (os : List Op). length os ≤ 4096) (sym c.script_ops-script.ensures) (c.requires.covered.short c.at-point.result.callee c.at-point.result.script) in
-    omega arith
-
-pub returns-in_ok-stepped-in-Some-Data-clause-ran : goal.returns-in_ok-stepped-in-Some-Data-clause-ran
-returns-in_ok-stepped-in-Some-Data-clause-ran g c =
+pub returns-in-Some-op_at-clause-ran : goal.returns-in-Some-op_at-clause-ran
+returns-in-Some-op_at-clause-ran g c =
     let s = g.W.View.view c.args.w.now in
     let n = thread_of s c.in-Some.thread in
     let q = runner c.args.component.now c.args.number s c.requires.order c.none_is_zero.ensures.threads c.requires.runs c.in-Some.thread (sym c.current.ensures ∙ c.in-Some.is) in
-    let t = g.W.View.view c.run_data.new.w in
-    let comp = c.args.component.now in
-    let number = number_at c.args.number s c.requires.runs c.in-Some.thread (sym c.current.ensures ∙ c.in-Some.is) in
-    let o = (op.Data c.in-Some-Data.op) in
-    let e = sym (ap option_copied c.in-Some-Data.is) ∙ c.op_at.ensures in
-    let is = op_is c.args.component.now n s.core q.thread q.here c.script_ops-script.result.now c.at-point.result.callee (task_of n s.core) c.at-point.result.position c.at-point.result.script c.at-point.ensures.callee refl (c.at-point.ensures.script q.thread q.here) c.script_ops-script.ensures c.at-point.ensures.position (Some o) e in
-    let before = c.args.trace.now in
-    let after = c.run_data.new.trace in
-    let did_it = row_as c.in-Some.thread s t c.in_ok-stepped-in-Some-Data.stepped before after (λ r. op_row comp n s.core (choice_of (label_of n r)) o) (λ r. did comp n s.core (choice_of (label_of n r)))
-    (λ r u h. row_at c.args.component.now n s.core q.thread q.here c.script_ops-script.result.now c.at-point.result.callee (task_of n s.core) c.at-point.result.position c.at-point.result.script c.at-point.ensures.callee refl (c.at-point.ensures.script q.thread q.here) c.script_ops-script.ensures c.at-point.ensures.position (Some o) e r u h) c.in_ok-stepped-in-Some-Data.ensures.shown in
-    unpolled c.in-Some.thread s t c.in_ok-stepped-in-Some-Data.stepped before after comp c.args.number (λ (made : Made). Makes comp (turn.Run c.args.number) s made t × IsFree made.turn)
-    (subst (λ k. polled_host comp (how_far_of k s.core) (op_of comp k s.core) ≡ None) number (ap (polled_host comp (how_far_of n s.core)) is))
-    (run_added c.in-Some.thread s t c.in_ok-stepped-in-Some-Data.stepped before after comp c.args.number number did_it)
-
-pub returns-in_ok-stepped-in-Some-op_at-clause-ran : goal.returns-in_ok-stepped-in-Some-op_at-clause-ran
-returns-in_ok-stepped-in-Some-op_at-clause-ran g c =
-    let s = g.W.View.view c.args.w.now in
-    let n = thread_of s c.in-Some.thread in
-    let q = runner c.args.component.now c.args.number s c.requires.order c.none_is_zero.ensures.threads c.requires.runs c.in-Some.thread (sym c.current.ensures ∙ c.in-Some.is) in
-    let t = g.W.View.view c.run_plain.new.w in
+    let t = g.W.View.view c.run_by.new.w in
     let comp = c.args.component.now in
     let number = number_at c.args.number s c.requires.runs c.in-Some.thread (sym c.current.ensures ∙ c.in-Some.is) in
     let o = c.in-Some-op_at.op.now in
     let e = sym (ap option_copied c.in-Some-op_at.is) ∙ c.op_at.ensures in
-    let is = op_is c.args.component.now n s.core q.thread q.here c.script_ops-script.result.now c.at-point.result.callee (task_of n s.core) c.at-point.result.position c.at-point.result.script c.at-point.ensures.callee refl (c.at-point.ensures.script q.thread q.here) c.script_ops-script.ensures c.at-point.ensures.position (Some o) e in
-    let before = c.args.trace.now in
-    let after = c.run_plain.new.trace in
-    let did_it = row_as c.in-Some.thread s t c.in_ok-stepped-in-Some-op_at.stepped before after (λ r. op_row comp n s.core (choice_of (label_of n r)) o) (λ r. did comp n s.core (choice_of (label_of n r)))
-    (λ r u h. row_at c.args.component.now n s.core q.thread q.here c.script_ops-script.result.now c.at-point.result.callee (task_of n s.core) c.at-point.result.position c.at-point.result.script c.at-point.ensures.callee refl (c.at-point.ensures.script q.thread q.here) c.script_ops-script.ensures c.at-point.ensures.position (Some o) e r u h) c.in_ok-stepped-in-Some-op_at.ensures.shown in
-    unpolled c.in-Some.thread s t c.in_ok-stepped-in-Some-op_at.stepped before after comp c.args.number (λ (made : Made). Makes comp (turn.Run c.args.number) s made t × IsFree made.turn)
-    (subst (λ k. polled_host comp (how_far_of k s.core) (op_of comp k s.core) ≡ None) number (ap (polled_host comp (how_far_of n s.core)) is ∙ c.run_plain.ensures.unpolled))
-    (run_added c.in-Some.thread s t c.in_ok-stepped-in-Some-op_at.stepped before after comp c.args.number number did_it)
+    let is = ap (polled_host comp (how_far_of n s.core)) (op_is c.args.component.now n s.core q.thread q.here c.script_ops-script.result.now c.at-point.result.callee (task_of n s.core) c.at-point.result.position c.at-point.result.script c.at-point.ensures.callee refl (c.at-point.ensures.script q.thread q.here) c.script_ops-script.ensures c.at-point.ensures.position (Some o) e) in
+    run_steps comp c.in-Some.thread c.args.number s t number c.args.trace.now c.run_by.new.trace c.run_by.result o is
+    (λ r u h. row_at c.args.component.now n s.core q.thread q.here c.script_ops-script.result.now c.at-point.result.callee (task_of n s.core) c.at-point.result.position c.at-point.result.script c.at-point.ensures.callee refl (c.at-point.ensures.script q.thread q.here) c.script_ops-script.ensures c.at-point.ensures.position (Some o) e r u h) c.run_by.ensures.step c.run_by.ensures.polls
 
 pub returns-in_ok-stepped-in-None-clause-ran : goal.returns-in_ok-stepped-in-None-clause-ran
 returns-in_ok-stepped-in-None-clause-ran g c =
@@ -132,27 +89,3 @@ returns-in_ok-stepped-in-None-clause-ran g c =
     unpolled c.in-Some.thread s t c.in_ok-stepped-in-None.stepped before after comp c.args.number (λ (made : Made). Makes comp (turn.Run c.args.number) s made t × IsFree made.turn)
     (subst (λ k. polled_host comp (how_far_of k s.core) (op_of comp k s.core) ≡ None) number (ap (polled_host comp (how_far_of n s.core)) is))
     (run_added c.in-Some.thread s t c.in_ok-stepped-in-None.stepped before after comp c.args.number number did_it)
-
-pub returns-in_ok-ran-in-Some-Call-clause-ran : goal.returns-in_ok-ran-in-Some-Call-clause-ran
-returns-in_ok-ran-in-Some-Call-clause-ran g c =
-    let s = g.W.View.view c.args.w.now in
-    let n = thread_of s c.in-Some.thread in
-    let q = runner c.args.component.now c.args.number s c.requires.order c.none_is_zero.ensures.threads c.requires.runs c.in-Some.thread (sym c.current.ensures ∙ c.in-Some.is) in
-    let t = g.W.View.view c.run_host.new.w in
-    let comp = c.args.component.now in
-    let number = number_at c.args.number s c.requires.runs c.in-Some.thread (sym c.current.ensures ∙ c.in-Some.is) in
-    let o = (op.Call c.in-Some-Call.op) in
-    let e = sym (ap option_copied c.in-Some-Call.is) ∙ c.op_at.ensures in
-    let is = op_is c.args.component.now n s.core q.thread q.here c.script_ops-script.result.now c.at-point.result.callee (task_of n s.core) c.at-point.result.position c.at-point.result.script c.at-point.ensures.callee refl (c.at-point.ensures.script q.thread q.here) c.script_ops-script.ensures c.at-point.ensures.position (Some o) e in
-    let ran = c.in_ok-ran-in-Some-Call.ran in
-    let did_it = row_ran_as c.in-Some.thread s t (λ r. op_row comp n s.core (choice_of (label_of n r)) o) (λ r. did comp n s.core (choice_of (label_of n r))) ran.made
-    (λ r u h. row_at c.args.component.now n s.core q.thread q.here c.script_ops-script.result.now c.at-point.result.callee (task_of n s.core) c.at-point.result.position c.at-point.result.script c.at-point.ensures.callee refl (c.at-point.ensures.script q.thread q.here) c.script_ops-script.ensures c.at-point.ensures.position (Some o) e r u h) c.in_ok-ran-in-Some-Call.ensures.ran in (
-      (
-        ran_made c.in-Some.thread s t comp c.args.number number ran.made did_it,
-        record {
-          polled = subst (λ k. ran.polled ≡ polled_host comp (how_far_of k s.core) (op_of comp k s.core)) number (c.in_ok-ran-in-Some-Call.ensures.polled ∙ sym (ap (polled_host comp (how_far_of n s.core)) is));
-          work = c.in_ok-ran-in-Some-Call.ensures.work;
-        },
-      ),
-      refl,
-    )
