@@ -1,7 +1,9 @@
 -- Each turn adds to the run, until it is over.
 use Rattle.std.proofs.Common.{arith, refl, ap, subst, sym, ◌∙◌}
-use Rattle.std.specs.Prelude.{None, Option, Some}
-use Rattle.task_turns.proofs.DriveLemmas.{on_out_at, on_rests, turned_same}
+use Rattle.std.specs.Prelude.{None, Option, Some, ◌+◌}
+use Rattle.task_loop.proofs.DoesLemmas.{on_err}
+use Rattle.task_turns.proofs.DoesLemmas.{does_added, does_computed, does_still}
+use Rattle.task_turns.proofs.DriveLemmas.{on_out_at, on_rests, turned_same, was_on, was_on_short}
 use Rattle.task_turns.proofs.SteppedLemmas.{added_ends, added_more, added_none, none_as}
 use Rattle.task_store.proofs.HostLemmas.{holds_same}
 use Rattle.task_store.specs.Hosts.{held_by}
@@ -88,6 +90,9 @@ turns-preserved g c =
       idle = c.turns.invariant.idle;
       stands = c.in_ok-turn.ensures.stands ∙ c.turns.invariant.stands;
       on = c.in_ok-added.ensures.on x refl (state_at s.core (part c.args.main.now) c.args.self.now.turn) c.args.trace.now (given s.core) m' on;
+      does = does_computed g.M.MainTask.does c.args.main.now c.args.trace.now c.turn.new.main after c.args.component.now c.in-Goes.turn t (c.turns.added + 1) c.compute.new.w c.compute.new.trace c.in_ok-added.added
+          (does_added g.M.MainTask.does c.args.main.now c.args.trace.now c.turns.main mid (stepped.Goes c.in-Goes.turn c.in-Goes.computed) c.turn.new.main after c.turns.invariant.does (rw c.in-Goes.is at c.in_ok-turn.ensures.does))
+          c.in_ok-added.ensures.computes;
       few = c.in_ok-added.ensures.few.1;
     }
 
@@ -108,3 +113,37 @@ returns-clause-ok g c =
     let on = c.turns.invariant.on in
     let moves = c.is_idle.ensures x c.turns.invariant.on.at.order (ap idle_line_of (sym c.turns.invariant.idle)) (part c.turns.main) on.pends ∙ c.if-is_idle.false in
     on_out_at x (state_at s.core (part c.args.main.now) c.args.self.now.turn) c.args.trace.now (given s.core) c.turns.self.turn (part c.turns.main) c.turns.store.state c.turns.trace c.turns.added c.args.steps on (omega arith) moves
+
+pub returns-in-None-clause-does : goal.returns-in-None-clause-does
+returns-in-None-clause-does g c =
+    does_still g.M.MainTask.does c.args.main.now c.args.trace.now c.turns.main c.turns.trace c.turn.new.main c.turn.new.trace c.turns.invariant.does (rw c.in-None.is at c.in_ok-turn.ensures.does)
+
+pub returns-in-Some-Over-clause-does : goal.returns-in-Some-Over-clause-does
+returns-in-Some-Over-clause-does g c =
+    does_added g.M.MainTask.does c.args.main.now c.args.trace.now c.turns.main c.turns.trace (stepped.Over c.in-Over.outcome) c.turn.new.main c.turn.new.trace c.turns.invariant.does (rw c.in-Over.is at c.in_ok-turn.ensures.does)
+
+pub returns-in_err-turn-clause-err : goal.returns-in_err-turn-clause-err
+returns-in_err-turn-clause-err g c =
+    let s = c.args.store.now.state in
+    let part = g.M.MainTask.part in
+    let script = g.M.MainTask.script in
+    let x = setting_of c.args.component.now (script c.args.main.now) c.args.self.now.trap_on_idle in
+    on_err c.from_residual.result _ (was_on x (state_at s.core (part c.args.main.now) c.args.self.now.turn) c.args.trace.now (given s.core) c.turns.self.turn (part c.turns.main) c.turns.store.state c.turns.trace c.turn.new.trace c.turns.added c.args.steps c.turns.invariant.on c.turns.invariant.few c.in_err-turn.ensures.err)
+
+pub returns-in_err-added-clause-err : goal.returns-in_err-added-clause-err
+returns-in_err-added-clause-err g c =
+    let s = c.args.store.now.state in
+    let part = g.M.MainTask.part in
+    let script = g.M.MainTask.script in
+    let x = setting_of c.args.component.now (script c.args.main.now) c.args.self.now.trap_on_idle in
+    let u = c.turns.store.state in
+    let t = c.turn.new.store.state in
+    let m = part c.turns.main in
+    let m' = part c.turn.new.main in
+    let mid = c.turns.trace in
+    let after = c.turn.new.trace in
+    let turned = none_as (λ (made : Option Made). Turned (setting_of c.args.component.now (script c.turns.main) c.turns.self.trap_on_idle) c.turns.self.turn m u made m' t) (λ (made : Option Made). Turned x c.turns.self.turn m u made m' t) (Some (stepped.Goes c.in-Goes.turn c.in-Goes.computed)) mid after
+    (λ made. turned_same c.args.component.now (script c.turns.main) (script c.args.main.now) c.turns.self.trap_on_idle c.args.self.now.trap_on_idle c.turns.self.turn m u made m' t c.turns.invariant.script c.turns.invariant.idle)
+    (rw c.in-Goes.is at c.in_ok-turn.ensures.turned) in
+    let on = added_more x (state_at s.core (part c.args.main.now) c.args.self.now.turn) c.args.trace.now (given s.core) c.turns.self.turn m u mid c.turns.added c.turns.invariant.on m' t after c.in-Goes.turn c.in-Goes.computed turned in
+    on_err c.from_residual-in_err-added.result _ (was_on_short x (state_at s.core (part c.args.main.now) c.args.self.now.turn) c.args.trace.now (given s.core) c.in-Goes.turn m' t after c.compute.new.trace (c.turns.added + 1) c.args.steps on c.in_err-added.ensures.err)

@@ -2,6 +2,7 @@
 use Rattle.op_dispatch.proofs.StayLemmas.{ok_then}
 use Rattle.std.proofs.Common.{refl, subst}
 use Rattle.std.specs.Prelude.{Bool, Option, Some}
+use Rattle.task_loop.proofs.DoesLemmas.{still, still_run, still_taken}
 use Rattle.task_loop.proofs.HoldLemmas.{held_taken}
 use Rattle.task_loop.proofs.KnowsLemmas.{by_poll, by_run, by_take}
 use Rattle.task_loop.proofs.run.RunConcurrent.turn.Goals as goal
@@ -11,6 +12,7 @@ use Rattle.task_machine.specs.declared.records.Turn.TheVariants as turn
 use Rattle.task_store.specs.Hosts.{held_by}
 use Rattle.task_turns.proofs.IdleLemmas.{makes_turns}
 use Rattle.task_turns.proofs.SteppedLemmas.{added_as, none_as}
+use Rattle.task_turns.specs.Does.{DoesStep, step_shown}
 use Rattle.task_turns.specs.Stepped.{AddedOrNone}
 use Rattle.task_turns.specs.Turn.{IsFree, Makes, Sits, Turned, TurnedBeside, Turns, setting_of}
 use Rattle.task_turns.specs.declared.made.Made.{Made}
@@ -105,3 +107,28 @@ returns-in-Take-clause-hosts g c =
     let x = setting_of c.args.component.now (g.M.MainTask.script main) c.args.self.now.trap_on_idle in
     held_taken x c.args.self.now.trap_on_idle c.in-Take.ended (g.M.MainTask.part main) store.state c.take.new.w (held_by g.H.HostWork.course store) c.take.result c.args.trace.now c.take.new.trace
     (subst (λ (p : Turn). Sits c.args.component.now p store.state.core) c.in-Take.is c.requires.at.order) refl (rw c.in-Take.is at c.requires.pends) c.take.ensures.turned c.requires.hosts
+
+pub returns-in_ok-put-in-Futures-clause-does : goal.returns-in_ok-put-in-Futures-clause-does
+returns-in_ok-put-in-Futures-clause-does g c =
+    let main = c.args.main.now in
+    let part = g.M.MainTask.part main in
+    let x = setting_of c.args.component.now (g.M.MainTask.script main) c.args.self.now.trap_on_idle in
+    (c.poll_next.result, (c.in_ok-put-in-Futures.ensures.stands, still g.M.MainTask.does main x part c.args.store.now.state c.poll_next.new.self.state (turn.Futures c.in-Futures.polled) refl c.poll_next.result
+    (c.poll_next.ensures.turns x part (rw c.in-Futures.is at c.requires.pends))))
+
+pub returns-in-Take-clause-does : goal.returns-in-Take-clause-does
+returns-in-Take-clause-does g c =
+    let main = c.args.main.now in
+    let x = setting_of c.args.component.now (g.M.MainTask.script main) c.args.self.now.trap_on_idle in
+    still_taken g.M.MainTask.does main x (g.M.MainTask.part main) c.args.store.now.state c.take.new.w c.args.self.now.trap_on_idle c.in-Take.ended c.take.result c.args.trace.now c.take.new.trace refl (rw c.in-Take.is at c.requires.pends) c.take.ensures.turned
+
+pub returns-in_ok-run_thread-in-Run-clause-does : goal.returns-in_ok-run_thread-in-Run-clause-does
+returns-in_ok-run_thread-in-Run-clause-does g c =
+    let main = c.args.main.now in
+    let does = g.M.MainTask.does in
+    let x = setting_of c.args.component.now (g.M.MainTask.script main) c.args.self.now.trap_on_idle in
+    let n = c.in-Run.thread in
+    let s = c.args.store.now.state in
+    let t = c.run_thread.new.store.state in
+    added_as (λ (made : Made). Makes c.args.component.now (turn.Run n) s made t × IsFree made.turn) (λ (made : Made). DoesStep does main (step_shown made.label) main) c.in_ok-run_thread-in-Run.field-0 c.args.trace.now c.run_thread.new.trace
+    (λ made h. still_run does main x (g.M.MainTask.part main) s t n made h.0) c.in_ok-run_thread-in-Run.ensures.makes
