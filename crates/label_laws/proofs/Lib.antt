@@ -2,3 +2,4 @@ pub mod ShowLemmas
 pub mod OwnLemmas
 pub mod TakingLemmas
 pub mod TurnLemmas
+pub mod GoingLemmas

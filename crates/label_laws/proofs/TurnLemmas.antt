@@ -27,11 +27,11 @@ use Rattle.task_rules.specs.Works.{Ends, FailsNow, Poll, StillPends, has_moving_
 -- ---- The steps of threads
 
 -- a label of another one than main
-abbrev IsOthers : Label → Type 0
+abbrev pub IsOthers : Label → Type 0
 IsOthers l = is_of_main l ≡ false
 
 -- no label of a taking
-abbrev IsKept : Label → Type 0
+abbrev pub IsKept : Label → Type 0
 IsKept l = mark_taken l ≡ None
 
 own_others : (l : Label) → IsOwn l → IsOthers l
@@ -40,7 +40,7 @@ own_others (label.Loop l) h = absurd (cc)
 own_others (label.Take l) h = refl
 own_others _ h = refl
 
-own_kept : (l : Label) → IsOwn l → IsKept l
+pub own_kept : (l : Label) → IsOwn l → IsKept l
 own_kept (label.Take l) h = absurd (cc)
 own_kept _ h = refl
 
@@ -51,7 +51,7 @@ taken_others m (label.Loop l) h = absurd (cc)
 taken_others m _ h = refl
 
 -- what shows one kind of label shows a wider one
-wider : (P Q : Label → Type 0) → ((l : Label) → P l → Q l) → (p : Progress) → Shows P p → Shows Q p
+pub wider : (P Q : Label → Type 0) → ((l : Label) → P l → Q l) → (p : Progress) → Shows P p → Shows Q p
 wider P Q leads (Goes l new m) h = leads l h
 wider P Q leads (Stops l new) h = leads l h
 wider P Q leads (Ordered held next) h = λ order. wider P Q leads (next order) (h order)
@@ -60,7 +60,7 @@ wider P Q leads (Fails i) h = tt
 wider P Q leads Never h = tt
 
 module _ (P : Label → Type 0) (s : State) (base : Core) (n : ℕ) (traps : (t : Trap) → P (trap_label n t)) (fails : (i : ℕ) → P (label.Call (call_label.Fails n i))) where
-  shown : (p : Progress) → Shows P p → (l : Label) (t : State) → Progresses s base n p l t → P l
+  pub shown : (p : Progress) → Shows P p → (l : Label) (t : State) → Progresses s base n p l t → P l
   shown (Goes k new m) h l t is = subst P (sym is.0) h
   shown (Stops k new) h l t is = subst P (sym is.0) h
   shown (Ordered held next) h l t is = shown (next is.0) (h is.0) l t is.1.1
@@ -69,7 +69,7 @@ module _ (P : Label → Type 0) (s : State) (base : Core) (n : ℕ) (traps : (t 
   shown Never h l t is = absurd is
 
 -- the label of a running thread is no label of main, nor of a taking
-run_shows : (P : Label → Type 0) → ((l : Label) → IsOwn l → P l) → ((n : ℕ) (t : Trap) → P (trap_label n t)) → ((n i : ℕ) → P (label.Call (call_label.Fails n i)))
+pub run_shows : (P : Label → Type 0) → ((l : Label) → IsOwn l → P l) → ((n : ℕ) (t : Trap) → P (trap_label n t)) → ((n i : ℕ) → P (label.Call (call_label.Fails n i)))
     → (x : Setting) (s : State) (n : ℕ) (l : Label) (t : State) → Progresses s s.core n (did x.component n s.core (choice_of l)) l t → P l
 run_shows P leads traps fails x s n l t is =
     let p = did x.component n s.core (choice_of l) in
@@ -116,12 +116,12 @@ take_next x s (Some e) l t is m at = (e.1, ap (λ (k : Mark). Some (k, e.1)) (sy
 
 -- ---- The polls
 
-poll_others : (s : State) (i : ℕ) (p : Poll) (l : Label) (t : State) → Polled s i p l t → IsOthers l × IsKept l
+pub poll_others : (s : State) (i : ℕ) (p : Poll) (l : Label) (t : State) → Polled s i p l t → IsOthers l × IsKept l
 poll_others s i (StillPends host) l t is = (ap is_of_main is.0, ap mark_taken is.0)
 poll_others s i (Ends v) l t is = (ap is_of_main is.0, ap mark_taken is.0)
 poll_others s i FailsNow l t is = (ap is_of_main is.0, ap mark_taken is.0)
 
-futures_others : (s : State) (o : Option ℕ) (l : Label) (t : State) → FuturesStep s o l t → IsOthers l × IsKept l
+pub futures_others : (s : State) (o : Option ℕ) (l : Label) (t : State) → FuturesStep s o l t → IsOthers l × IsKept l
 futures_others s None l t is = absurd is
 futures_others s (Some i) l t is = poll_others s i (poll_of i s.core) l t is
 
@@ -141,7 +141,7 @@ open_shows s (Does k new) l t is = ap is_of_main is.0
 open_shows s Pends l t is = absurd is
 open_shows s (Answers v) l t is = ap is_of_main is.0
 
-main_shows : (x : Setting) (s : State) (m : Main) (l : Label) (t : State) → MainStep x s m l t → is_of_main l ≡ true
+pub main_shows : (x : Setting) (s : State) (m : Main) (l : Label) (t : State) → MainStep x s m l t → is_of_main l ≡ true
 main_shows x s (Scripted p) l t is = script_shows x s p (op_at x.script p) l t is
 main_shows x s Unscripted (label.Loop loop_label.MainPends) t is = refl
 main_shows x s Unscripted l t is = open_shows s (main_row x.component is.0 s.core is.1.0) l t is.1.1.1
@@ -159,7 +159,7 @@ pub main_at_its_turns : MainAtItsTurns
 unfolding Step
 main_at_its_turns x s l t is = turn_shows x s s.turn l t is
 
-main_kept : (l : Label) → is_of_main l ≡ true → IsKept l
+pub main_kept : (l : Label) → is_of_main l ≡ true → IsKept l
 main_kept (label.Take l) h = absurd (cc)
 main_kept _ h = refl
 

@@ -1,5 +1,5 @@
 -- Whose a label is.
-use Rattle.std.specs.Prelude.{Bool, List, None, Option, Some, false, true, ℕ, ◌≡◌}
+use Rattle.std.specs.Prelude.{Bool, List, None, Option, Some, false, option_map, true, ℕ, ◌≡◌}
 use Rattle.task_machine.specs.Core.{Core, State}
 use Rattle.task_machine.specs.Read.{next_entry}
 use Rattle.task_machine.specs.declared.label.Label.{Label}
@@ -7,10 +7,12 @@ use Rattle.task_machine.specs.declared.label.Label.TheVariants as label
 use Rattle.task_machine.specs.declared.label.LoopLabel.TheVariants as loop_label
 use Rattle.task_machine.specs.declared.label.TakeLabel.{TakeLabel}
 use Rattle.task_machine.specs.declared.label.TakeLabel.TheVariants as take
+use Rattle.task_machine.specs.declared.outcome.Outcome.{Outcome}
 use Rattle.task_machine.specs.declared.records.Entry.{Entry}
 use Rattle.task_machine.specs.declared.records.Turn.{Turn}
 use Rattle.task_machine.specs.declared.records.Turn.TheVariants as turn
 use Rattle.task_machine.specs.declared.words.Mark.{Mark}
+use Rattle.task_rules.specs.Outcome.{outcome_of_label}
 use Rattle.task_rules.specs.Progress.{Fails, Goes, Never, Ordered, Progress, Stops, Traps}
 use Rattle.task_rules.specs.Stalled.{Setting}
 use Rattle.task_rules.specs.Step.{Step}
@@ -73,3 +75,28 @@ TakesNext _ s m = ⊥
 -- a label of a taking stands at a turn of takings, and shows the mark of the entry that was next
 abbrev pub TakingsShowMarks : Type 0
 TakingsShowMarks = (x : Setting) (s : State) (l : Label) (t : State) → Step x s l t → (m : Mark) → mark_taken l ≡ Some m → TakesNext s.turn s.core m
+
+-- ---- What a step shows of the entry that is next
+
+abbrev pub is_rest : Label → Bool
+is_rest (label.Loop loop_label.Rest) = true
+is_rest _ = false
+
+-- the mark of the entry that is next in the turn
+abbrev pub next_mark : Turn → Core → Option Mark
+next_mark (turn.Take ended) s = option_map (λ e. e.0) (next_entry s)
+next_mark _ s = None
+
+-- a turn of takings without an entry rests
+abbrev pub rests_by : Turn → Option Mark → Bool
+rests_by (turn.Take ended) None = true
+rests_by _ _ = false
+
+-- a step that gives no outcome takes the entry that is next in its turn, and rests just where none is in a turn of takings
+abbrev pub GoingsShowNext : Type 0
+GoingsShowNext = (x : Setting) (s : State) (l : Label) (t : State) → Step x s l t → outcome_of_label l ≡ None →
+    (mark_taken l ≡ next_mark s.turn s.core) × (is_rest l ≡ rests_by s.turn (next_mark s.turn s.core))
+
+-- a label that gives an outcome shows no taking
+abbrev pub EndsTakeNone : Type 0
+EndsTakeNone = (l : Label) (o : Outcome) → outcome_of_label l ≡ Some o → mark_taken l ≡ None

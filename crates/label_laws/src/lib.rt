@@ -1,7 +1,7 @@
 //! What the label of a step tells of who made it: a running thread's is its own, a taking's shows that it is one, and main's
-//! stand at main's turns alone.
+//! stand at main's turns alone. And what it shows of the entry that was next.
 #![tactic(auto)]
 
 mod laws;
 
-pub use laws::{main_at_its_turns, takings_show_marks};
+pub use laws::{ends_take_none, goings_show_next, main_at_its_turns, takings_show_marks};

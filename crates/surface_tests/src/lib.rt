@@ -14,6 +14,8 @@ mod hosts;
 #[cfg(test)]
 mod instance_calls;
 #[cfg(test)]
+mod polls;
+#[cfg(test)]
 mod store;
 #[cfg(test)]
 mod typed;

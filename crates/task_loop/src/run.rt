@@ -10,6 +10,7 @@ ghost use Rattle.task_turns.specs.Stepped.{Added, AddedOrNone};
 ghost use Rattle.task_turns.specs.Turn.{IsAtTurn, IsFree, IsSettled, Makes, PendsIn, Sits, Turned, Turns, given, goes_on, is_open, running_of, runs_in, setting_of, state_at};
 
 use crate::main_task::MainTask;
+use run_pace::Pace;
 use store_access::Access;
 use task_calls::TaskError;
 use task_machine::{Component, NoMemory, Outcome, Trap, Turn};
@@ -21,9 +22,10 @@ use task_turns::{
 /// A run of the event loop on a store.
 #[derive(Drop)]
 pub struct RunConcurrent {
-    turn: Turn,
-    trap_on_idle: bool,
+    pub(crate) turn: Turn,
+    pub(crate) trap_on_idle: bool,
     standing: StandingRun,
+    pub(crate) pace: Pace,
 }
 
 /// Begins a run on a store, with main. `trap_on_idle` says that the run ends as a deadlock where
@@ -44,6 +46,7 @@ pub fn run_concurrent<T, H>(
             turn: Turn::Main,
             trap_on_idle,
             standing,
+            pace: Pace::new(),
         }),
         Err(trap) => Err(trap),
     }
@@ -181,7 +184,9 @@ impl RunConcurrent {
         ensures err { OnErr result (store.new.state.core.trapped ≡ true) }
         ensures added { OnErr result (WasGoing (setting_of component.now (M.script main.old) self.old.trap_on_idle) (state_at store.old.state.core (M.part main.old) self.old.turn) trace.old trace.new steps) }
     {
-        match self.go_on(component, store, main, steps, trace) {
+        let driven = self.go_on(component, store, main, steps, trace);
+        self.pace = Pace::new();
+        match driven {
             Ok(outcome) => Ok(outcome),
             Err(_) => {
                 store.set_trapped();
@@ -248,7 +253,7 @@ impl RunConcurrent {
 
     // Makes a step, and adds its label to the trace; none where nothing can go on and that is no deadlock.
     #[inline(always)]
-    fn turn<T, H: AccessorTask<T> + FromHost, M: MainTask<T, H>>(
+    pub(crate) fn turn<T, H: AccessorTask<T> + FromHost, M: MainTask<T, H>>(
         &self,
         component: &Component,
         store: &mut Store<T, H>,

@@ -1,0 +1,69 @@
+ghost use Rattle.std.specs.Prelude.{◌≡◌, ◌≤◌, false, true};
+ghost use Rattle.run_pace.specs.Pace.{counted, yields_before};
+
+use task_machine::Mark;
+
+/// How far a run has come since it last yielded.
+#[derive(Clone, Copy)]
+pub struct Pace {
+    // How many entries its polls have taken since then.
+    since: u32,
+    // Whether the next step takes whichever entry is there.
+    passes: bool,
+    ghost few: { since ≤ 128 },
+    ghost fresh: { passes ≡ true → since ≡ 0 },
+}
+
+impl Pace {
+    /// That of a run that begins.
+    pub fn new() -> Self
+        ensures since { result.since ≡ 0 }
+        ensures passes { result.passes ≡ false }
+    {
+        Pace {
+            since: 0,
+            passes: false,
+        }
+    }
+
+    /// That of a run that has yielded: before an entry, which is then taken, or else as its steps were used up.
+    pub fn yielded(before: bool) -> Self
+        ensures since { result.since ≡ 0 }
+        ensures passes { result.passes ≡ before }
+    {
+        Pace {
+            since: 0,
+            passes: before,
+        }
+    }
+
+    /// Whether the run yields before an entry of this mark; before none it doesn't.
+    pub fn yields(self, mark: Option<Mark>) -> bool
+        ensures { result ≡ yields_before self.passes self.since mark }
+    {
+        if self.passes {
+            return false;
+        }
+        match mark {
+            Some(Mark::Low) => true,
+            Some(_) => self.since >= 128,
+            None => false,
+        }
+    }
+
+    /// That after a step that took an entry of this mark, or none. The run didn't yield before it.
+    pub fn after(self, mark: Option<Mark>) -> Self
+        requires { yields_before self.passes self.since mark ≡ false }
+        ensures since { result.since ≡ counted self.since mark }
+        ensures passes { result.passes ≡ false }
+    {
+        let since = match mark {
+            Some(_) => self.since + 1,
+            None => self.since,
+        };
+        Pace {
+            since,
+            passes: false,
+        }
+    }
+}

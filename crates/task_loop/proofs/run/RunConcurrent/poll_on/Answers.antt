@@ -1,0 +1,300 @@
+-- Each turn adds to the run, until the poll stops.
+use Rattle.std.proofs.Common.{arith, refl, ap, subst, sym, ◌∙◌}
+use Rattle.std.specs.Prelude.{None, Option, Some, false, true, ◌+◌, ◌≡◌}
+use Rattle.label_laws.specs.Own.{next_mark, rests_by}
+use Rattle.run_pace.specs.Pace.{counted, yields_before}
+use Rattle.task_loop.proofs.DoesLemmas.{on_err}
+use Rattle.task_loop.proofs.PausedLemmas.{idle_turned, idles, paced_data, paced_none, poll_ends, poll_goes, poll_rests, used_up, yields_now}
+use Rattle.task_loop.proofs.RunPollLemmas.{outcome_there}
+use Rattle.task_machine.specs.declared.words.Mark.{Mark}
+use Rattle.task_store.proofs.HostLemmas.{holds_same}
+use Rattle.task_store.specs.Hosts.{held_by}
+use Rattle.task_turns.proofs.DoesLemmas.{does_added, does_computed, does_none, does_still}
+use Rattle.task_turns.proofs.DriveLemmas.{on_begins, turned_same, was_on, was_on_short}
+use Rattle.task_turns.proofs.LaterLemmas.{last_by_works}
+use Rattle.task_turns.proofs.SteppedLemmas.{added_more, none_as}
+use Rattle.task_turns.specs.Stepped.{AddedOrNone}
+use Rattle.task_turns.specs.Turn.{Turned, given, idle_line_of, setting_of, state_at}
+use Rattle.task_turns.specs.declared.made.Made.{Made}
+use Rattle.task_turns.specs.declared.made.Stepped.{Stepped}
+use Rattle.task_turns.specs.declared.made.Stepped.TheVariants as stepped
+use Rattle.task_loop.proofs.run.RunConcurrent.poll_on.Goals as goal
+
+pub turns-init : goal.turns-init
+turns-init g c =
+    let s = c.args.store.now.state in
+    let part = g.M.MainTask.part in
+    let script = g.M.MainTask.script in
+    let x = setting_of c.args.component.now (script c.args.main.now) c.args.self.now.trap_on_idle in
+    let from = state_at s.core (part c.args.main.now) c.args.self.now.turn in
+    let before = c.args.trace.now in
+    let pace = c.args.self.now.pace in
+    record {
+      script = refl;
+      suits = c.requires.suits;
+      knows = c.requires.knows;
+      hosts = c.requires.hosts;
+      idle = refl;
+      stands = refl;
+      on = on_begins x before c.args.self.now.turn (part c.args.main.now) s c.requires.at c.requires.pends;
+      does = does_none g.M.MainTask.does c.args.main.now before;
+      paced = paced_none pace.passes pace.since before;
+      few = omega arith;
+    }
+
+pub returns-then-yields-clause-ok : goal.returns-then-yields-clause-ok
+returns-then-yields-clause-ok g c =
+    let s = c.args.store.now.state in
+    let part = g.M.MainTask.part in
+    let script = g.M.MainTask.script in
+    let x = setting_of c.args.component.now (script c.args.main.now) c.args.self.now.trap_on_idle in
+    let from = state_at s.core (part c.args.main.now) c.args.self.now.turn in
+    let before = c.args.trace.now in
+    let pace = c.args.self.now.pace in
+    let p = c.turns.self.turn in
+    let m = part c.turns.main in
+    let u = c.turns.store.state in
+    let mid = c.turns.trace in
+    let b = c.turns.self.pace.passes in
+    let k = c.turns.self.pace.since in
+    yields_now x from before (given s.core) pace c.args.steps p m u mid c.turns.added b k c.turns.invariant.on c.turns.invariant.paced c.yielded-self.result (omega arith)
+    (subst (λ (o : Option Mark). yields_before b k o ≡ true) c.next_mark-next.ensures (sym c.yields.ensures ∙ c.if-yields.true)) c.yielded-self.ensures.since c.yielded-self.ensures.passes
+
+pub returns-in-None-clause-ok : goal.returns-in-None-clause-ok
+returns-in-None-clause-ok g c =
+    let s = c.args.store.now.state in
+    let part = g.M.MainTask.part in
+    let script = g.M.MainTask.script in
+    let x = setting_of c.args.component.now (script c.args.main.now) c.args.self.now.trap_on_idle in
+    let from = state_at s.core (part c.args.main.now) c.args.self.now.turn in
+    let before = c.args.trace.now in
+    let pace = c.args.self.now.pace in
+    let p = c.turns.self.turn in
+    let m = part c.turns.main in
+    let u = c.turns.store.state in
+    let mid = c.turns.trace in
+    let b = c.turns.self.pace.passes in
+    let k = c.turns.self.pace.since in
+    let t = c.turn.new.store.state in
+    let m' = part c.turn.new.main in
+    let after = c.turn.new.trace in
+    let turned = none_as (λ (made : Option Made). Turned (setting_of c.args.component.now (script c.turns.main) c.turns.self.trap_on_idle) p m u made m' t) (λ (made : Option Made). Turned x p m u made m' t) None mid after
+    (λ made. turned_same c.args.component.now (script c.turns.main) (script c.args.main.now) c.turns.self.trap_on_idle c.args.self.now.trap_on_idle p m u made m' t c.turns.invariant.script c.turns.invariant.idle)
+    (rw c.in-None.is at c.in_ok-turn.ensures.turned) in
+    idle_turned x from before (given s.core) pace c.args.steps p m u mid c.turns.added b k c.turns.invariant.on c.turns.invariant.paced m' t after c.after-self.result (omega arith) turned c.after-self.ensures.since c.after-self.ensures.passes
+
+pub returns-in-None-clause-does : goal.returns-in-None-clause-does
+returns-in-None-clause-does g c =
+    does_still g.M.MainTask.does c.args.main.now c.args.trace.now c.turns.main c.turns.trace c.turn.new.main c.turn.new.trace c.turns.invariant.does (rw c.in-None.is at c.in_ok-turn.ensures.does)
+
+pub returns-in-Some-Over-clause-ok : goal.returns-in-Some-Over-clause-ok
+returns-in-Some-Over-clause-ok g c =
+    let s = c.args.store.now.state in
+    let part = g.M.MainTask.part in
+    let script = g.M.MainTask.script in
+    let x = setting_of c.args.component.now (script c.args.main.now) c.args.self.now.trap_on_idle in
+    let from = state_at s.core (part c.args.main.now) c.args.self.now.turn in
+    let before = c.args.trace.now in
+    let pace = c.args.self.now.pace in
+    let p = c.turns.self.turn in
+    let m = part c.turns.main in
+    let u = c.turns.store.state in
+    let mid = c.turns.trace in
+    let b = c.turns.self.pace.passes in
+    let k = c.turns.self.pace.since in
+    let t = c.turn.new.store.state in
+    let m' = part c.turn.new.main in
+    let after = c.turn.new.trace in
+    let turned = none_as (λ (made : Option Made). Turned (setting_of c.args.component.now (script c.turns.main) c.turns.self.trap_on_idle) p m u made m' t) (λ (made : Option Made). Turned x p m u made m' t) (Some (stepped.Over c.in-Over.outcome)) mid after
+    (λ made. turned_same c.args.component.now (script c.turns.main) (script c.args.main.now) c.turns.self.trap_on_idle c.args.self.now.trap_on_idle p m u made m' t c.turns.invariant.script c.turns.invariant.idle)
+    (rw c.in-Over.is at c.in_ok-turn.ensures.turned) in
+    rw c.answer_of.ensures
+    (poll_ends x from before (given s.core) pace c.args.steps p m u mid c.turns.added b k c.turns.invariant.on c.turns.invariant.paced m' t after c.after-self-in-Some-Over.result c.in-Over.outcome (omega arith) turned c.after-self-in-Some-Over.ensures.since c.after-self-in-Some-Over.ensures.passes)
+
+pub returns-in-Some-Over-clause-wanting : goal.returns-in-Some-Over-clause-wanting
+returns-in-Some-Over-clause-wanting g c =
+    rw c.answer_of.ensures (outcome_there c.in-Over.outcome)
+
+pub returns-in-Some-Over-clause-does : goal.returns-in-Some-Over-clause-does
+returns-in-Some-Over-clause-does g c =
+    does_added g.M.MainTask.does c.args.main.now c.args.trace.now c.turns.main c.turns.trace (stepped.Over c.in-Over.outcome) c.turn.new.main c.turn.new.trace c.turns.invariant.does (rw c.in-Over.is at c.in_ok-turn.ensures.does)
+
+pub after-self-in-Some-Goes-requires : goal.after-self-in-Some-Goes-requires
+after-self-in-Some-Goes-requires g c =
+    let stays = subst (λ (o : Option Mark). yields_before c.turns.self.pace.passes c.turns.self.pace.since o ≡ false) c.next_mark-next.ensures (sym c.yields.ensures ∙ c.if-yields.false) in
+    subst (λ (o : Option Mark). yields_before c.turns.self.pace.passes c.turns.self.pace.since o ≡ false) (sym c.next_mark-next.ensures) stays
+
+pub returns-in-Some-Goes-then-rests-clause-ok : goal.returns-in-Some-Goes-then-rests-clause-ok
+returns-in-Some-Goes-then-rests-clause-ok g c =
+    let s = c.args.store.now.state in
+    let part = g.M.MainTask.part in
+    let script = g.M.MainTask.script in
+    let x = setting_of c.args.component.now (script c.args.main.now) c.args.self.now.trap_on_idle in
+    let from = state_at s.core (part c.args.main.now) c.args.self.now.turn in
+    let before = c.args.trace.now in
+    let pace = c.args.self.now.pace in
+    let p = c.turns.self.turn in
+    let m = part c.turns.main in
+    let u = c.turns.store.state in
+    let mid = c.turns.trace in
+    let b = c.turns.self.pace.passes in
+    let k = c.turns.self.pace.since in
+    let t = c.turn.new.store.state in
+    let m' = part c.turn.new.main in
+    let after = c.turn.new.trace in
+    let turned = none_as (λ (made : Option Made). Turned (setting_of c.args.component.now (script c.turns.main) c.turns.self.trap_on_idle) p m u made m' t) (λ (made : Option Made). Turned x p m u made m' t) (Some (stepped.Goes c.in-Goes.turn c.in-Goes.computed)) mid after
+    (λ made. turned_same c.args.component.now (script c.turns.main) (script c.args.main.now) c.turns.self.trap_on_idle c.args.self.now.trap_on_idle p m u made m' t c.turns.invariant.script c.turns.invariant.idle)
+    (rw c.in-Goes.is at c.in_ok-turn.ensures.turned) in
+    let stays = subst (λ (o : Option Mark). yields_before b k o ≡ false) c.next_mark-next.ensures (sym c.yields.ensures ∙ c.if-yields.false) in
+    let rests = subst (λ (o : Option Mark). rests_by p o ≡ true) c.next_mark-next.ensures (sym c.rests-rests.ensures ∙ c.if-rests.true) in
+    let since = c.after-self-in-Some-Goes.ensures.since ∙ ap (λ (o : Option Mark). counted k o) c.next_mark-next.ensures in
+    poll_rests x from before (given s.core) pace c.args.steps p m u mid c.turns.added b k c.turns.invariant.on c.turns.invariant.paced m' t after c.in-Goes.turn c.in-Goes.computed turned stays c.after-self-in-Some-Goes.result (omega arith) rests since c.after-self-in-Some-Goes.ensures.passes
+
+pub returns-in-Some-Goes-then-rests-clause-does : goal.returns-in-Some-Goes-then-rests-clause-does
+returns-in-Some-Goes-then-rests-clause-does g c =
+    does_added g.M.MainTask.does c.args.main.now c.args.trace.now c.turns.main c.turns.trace (stepped.Goes c.in-Goes.turn c.in-Goes.computed) c.turn.new.main c.turn.new.trace c.turns.invariant.does (rw c.in-Goes.is at c.in_ok-turn.ensures.does)
+
+pub compute-requires-clause-order : goal.compute-requires-clause-order
+compute-requires-clause-order g c =
+    let s = c.args.store.now.state in
+    let part = g.M.MainTask.part in
+    let script = g.M.MainTask.script in
+    let x = setting_of c.args.component.now (script c.args.main.now) c.args.self.now.trap_on_idle in
+    let from = state_at s.core (part c.args.main.now) c.args.self.now.turn in
+    let before = c.args.trace.now in
+    let pace = c.args.self.now.pace in
+    let p = c.turns.self.turn in
+    let m = part c.turns.main in
+    let u = c.turns.store.state in
+    let mid = c.turns.trace in
+    let b = c.turns.self.pace.passes in
+    let k = c.turns.self.pace.since in
+    let t = c.turn.new.store.state in
+    let m' = part c.turn.new.main in
+    let after = c.turn.new.trace in
+    let turned = none_as (λ (made : Option Made). Turned (setting_of c.args.component.now (script c.turns.main) c.turns.self.trap_on_idle) p m u made m' t) (λ (made : Option Made). Turned x p m u made m' t) (Some (stepped.Goes c.in-Goes.turn c.in-Goes.computed)) mid after
+    (λ made. turned_same c.args.component.now (script c.turns.main) (script c.args.main.now) c.turns.self.trap_on_idle c.args.self.now.trap_on_idle p m u made m' t c.turns.invariant.script c.turns.invariant.idle)
+    (rw c.in-Goes.is at c.in_ok-turn.ensures.turned) in
+    let on = added_more x from before (given s.core) p m u mid c.turns.added c.turns.invariant.on m' t after c.in-Goes.turn c.in-Goes.computed turned in
+    on.at.order
+
+pub turns-preserved : goal.turns-preserved
+turns-preserved g c =
+    let s = c.args.store.now.state in
+    let part = g.M.MainTask.part in
+    let script = g.M.MainTask.script in
+    let x = setting_of c.args.component.now (script c.args.main.now) c.args.self.now.trap_on_idle in
+    let from = state_at s.core (part c.args.main.now) c.args.self.now.turn in
+    let before = c.args.trace.now in
+    let pace = c.args.self.now.pace in
+    let p = c.turns.self.turn in
+    let m = part c.turns.main in
+    let u = c.turns.store.state in
+    let mid = c.turns.trace in
+    let b = c.turns.self.pace.passes in
+    let k = c.turns.self.pace.since in
+    let t = c.turn.new.store.state in
+    let m' = part c.turn.new.main in
+    let after = c.turn.new.trace in
+    let turned = none_as (λ (made : Option Made). Turned (setting_of c.args.component.now (script c.turns.main) c.turns.self.trap_on_idle) p m u made m' t) (λ (made : Option Made). Turned x p m u made m' t) (Some (stepped.Goes c.in-Goes.turn c.in-Goes.computed)) mid after
+    (λ made. turned_same c.args.component.now (script c.turns.main) (script c.args.main.now) c.turns.self.trap_on_idle c.args.self.now.trap_on_idle p m u made m' t c.turns.invariant.script c.turns.invariant.idle)
+    (rw c.in-Goes.is at c.in_ok-turn.ensures.turned) in
+    let stays = subst (λ (o : Option Mark). yields_before b k o ≡ false) c.next_mark-next.ensures (sym c.yields.ensures ∙ c.if-yields.false) in
+    let rests = subst (λ (o : Option Mark). rests_by p o ≡ false) c.next_mark-next.ensures (sym c.rests-rests.ensures ∙ c.if-rests.false) in
+    let since = c.after-self-in-Some-Goes.ensures.since ∙ ap (λ (o : Option Mark). counted k o) c.next_mark-next.ensures in
+    let on = added_more x from before (given s.core) p m u mid c.turns.added c.turns.invariant.on m' t after c.in-Goes.turn c.in-Goes.computed turned in
+    let more = poll_goes x from before (given s.core) pace c.args.steps p m u mid c.turns.added b k c.turns.invariant.on c.turns.invariant.paced m' t after c.in-Goes.turn c.in-Goes.computed turned stays c.after-self-in-Some-Goes.result.passes c.after-self-in-Some-Goes.result.since rests since c.after-self-in-Some-Goes.ensures.passes in
+    let computed = c.in_ok-added.ensures.computes in
+    record {
+      script = c.in_ok-turn.ensures.script ∙ c.turns.invariant.script;
+      suits = c.in_ok-turn.ensures.suits;
+      knows = g.met.M.MainTask.stays c.turn.new.main t c.compute.new.w (last_by_works t c.compute.new.w c.in_ok-added.ensures.works) c.in_ok-turn.ensures.knows;
+      hosts = holds_same t.core c.compute.new.w.core (held_by g.H.HostWork.course c.turn.new.store) c.in_ok-added.ensures.works.works c.in_ok-turn.ensures.hosts;
+      idle = c.turns.invariant.idle;
+      stands = c.in_ok-turn.ensures.stands ∙ c.turns.invariant.stands;
+      on = c.in_ok-added.ensures.on x refl from before (given s.core) m' on;
+      does = does_computed g.M.MainTask.does c.args.main.now before c.turn.new.main after c.args.component.now c.in-Goes.turn t (c.turns.added + 1) c.compute.new.w c.compute.new.trace c.in_ok-added.added
+          (does_added g.M.MainTask.does c.args.main.now before c.turns.main mid (stepped.Goes c.in-Goes.turn c.in-Goes.computed) c.turn.new.main after c.turns.invariant.does (rw c.in-Goes.is at c.in_ok-turn.ensures.does))
+          computed;
+      paced = paced_data pace.passes pace.since before after c.after-self-in-Some-Goes.result.passes c.after-self-in-Some-Goes.result.since more computed.labels c.compute.new.trace computed.computing computed.trace c.after-self-in-Some-Goes.ensures.passes;
+      few = c.in_ok-added.ensures.few.1;
+    }
+
+pub returns-in_err-turn-clause-err : goal.returns-in_err-turn-clause-err
+returns-in_err-turn-clause-err g c =
+    let s = c.args.store.now.state in
+    let part = g.M.MainTask.part in
+    let script = g.M.MainTask.script in
+    let x = setting_of c.args.component.now (script c.args.main.now) c.args.self.now.trap_on_idle in
+    let from = state_at s.core (part c.args.main.now) c.args.self.now.turn in
+    let before = c.args.trace.now in
+    let pace = c.args.self.now.pace in
+    let p = c.turns.self.turn in
+    let m = part c.turns.main in
+    let u = c.turns.store.state in
+    let mid = c.turns.trace in
+    let b = c.turns.self.pace.passes in
+    let k = c.turns.self.pace.since in
+    on_err c.from_residual.result _ (was_on x from before (given s.core) p m u mid c.turn.new.trace c.turns.added c.args.steps c.turns.invariant.on c.turns.invariant.few c.in_err-turn.ensures.err)
+
+pub returns-in_err-added-clause-err : goal.returns-in_err-added-clause-err
+returns-in_err-added-clause-err g c =
+    let s = c.args.store.now.state in
+    let part = g.M.MainTask.part in
+    let script = g.M.MainTask.script in
+    let x = setting_of c.args.component.now (script c.args.main.now) c.args.self.now.trap_on_idle in
+    let from = state_at s.core (part c.args.main.now) c.args.self.now.turn in
+    let before = c.args.trace.now in
+    let pace = c.args.self.now.pace in
+    let p = c.turns.self.turn in
+    let m = part c.turns.main in
+    let u = c.turns.store.state in
+    let mid = c.turns.trace in
+    let b = c.turns.self.pace.passes in
+    let k = c.turns.self.pace.since in
+    let t = c.turn.new.store.state in
+    let m' = part c.turn.new.main in
+    let after = c.turn.new.trace in
+    let turned = none_as (λ (made : Option Made). Turned (setting_of c.args.component.now (script c.turns.main) c.turns.self.trap_on_idle) p m u made m' t) (λ (made : Option Made). Turned x p m u made m' t) (Some (stepped.Goes c.in-Goes.turn c.in-Goes.computed)) mid after
+    (λ made. turned_same c.args.component.now (script c.turns.main) (script c.args.main.now) c.turns.self.trap_on_idle c.args.self.now.trap_on_idle p m u made m' t c.turns.invariant.script c.turns.invariant.idle)
+    (rw c.in-Goes.is at c.in_ok-turn.ensures.turned) in
+    let on = added_more x from before (given s.core) p m u mid c.turns.added c.turns.invariant.on m' t after c.in-Goes.turn c.in-Goes.computed turned in
+    on_err c.from_residual-in_err-added.result _ (was_on_short x from before (given s.core) c.in-Goes.turn m' t after c.compute.new.trace (c.turns.added + 1) c.args.steps on c.in_err-added.ensures.err)
+
+pub returns-then-is_idle-clause-ok : goal.returns-then-is_idle-clause-ok
+returns-then-is_idle-clause-ok g c =
+    let s = c.args.store.now.state in
+    let part = g.M.MainTask.part in
+    let script = g.M.MainTask.script in
+    let x = setting_of c.args.component.now (script c.args.main.now) c.args.self.now.trap_on_idle in
+    let from = state_at s.core (part c.args.main.now) c.args.self.now.turn in
+    let before = c.args.trace.now in
+    let pace = c.args.self.now.pace in
+    let p = c.turns.self.turn in
+    let m = part c.turns.main in
+    let u = c.turns.store.state in
+    let mid = c.turns.trace in
+    let b = c.turns.self.pace.passes in
+    let k = c.turns.self.pace.since in
+    let on = c.turns.invariant.on in
+    let rests = c.is_idle.ensures x on.at.order (ap idle_line_of (sym c.turns.invariant.idle)) m on.pends ∙ c.if-is_idle.true in
+    idles x from before (given s.core) pace c.args.steps p m u mid c.turns.added b k c.turns.invariant.on c.turns.invariant.paced c.after-self-then-is_idle.result (omega arith) rests c.after-self-then-is_idle.ensures.since c.after-self-then-is_idle.ensures.passes
+
+pub returns-clause-ok : goal.returns-clause-ok
+returns-clause-ok g c =
+    let s = c.args.store.now.state in
+    let part = g.M.MainTask.part in
+    let script = g.M.MainTask.script in
+    let x = setting_of c.args.component.now (script c.args.main.now) c.args.self.now.trap_on_idle in
+    let from = state_at s.core (part c.args.main.now) c.args.self.now.turn in
+    let before = c.args.trace.now in
+    let pace = c.args.self.now.pace in
+    let p = c.turns.self.turn in
+    let m = part c.turns.main in
+    let u = c.turns.store.state in
+    let mid = c.turns.trace in
+    let b = c.turns.self.pace.passes in
+    let k = c.turns.self.pace.since in
+    let on = c.turns.invariant.on in
+    let moves = c.is_idle.ensures x on.at.order (ap idle_line_of (sym c.turns.invariant.idle)) m on.pends ∙ c.if-is_idle.false in
+    used_up x from before (given s.core) pace c.args.steps p m u mid c.turns.added b k c.turns.invariant.on c.turns.invariant.paced c.yielded-self-2.result (omega arith) moves c.yielded-self-2.ensures.since c.yielded-self-2.ensures.passes

@@ -1,0 +1,26 @@
+-- So far a run was made, and it can go on.
+use Rattle.std.proofs.Common.{◌≡◌, ◌≤◌, ◌-◌}
+use Rattle.task_loop.specs.Standing.{standing}
+use Rattle.task_loop.proofs.PausedLemmas.{Paced}
+use Rattle.task_store.specs.Hosts.{HoldsHosts}
+use Rattle.task_turns.specs.Does.{DoesAdded}
+use Rattle.task_turns.specs.Drive.{IsOn}
+use Rattle.task_turns.specs.Turn.{given, setting_of, state_at}
+use Rattle.task_loop.proofs.run.RunConcurrent.poll_on.Given as goal
+
+abbrev pub invariant-turns : goal.invariant-turns
+invariant-turns g l = record {
+  script : g.M.MainTask.script l.main ≡ g.M.MainTask.script l.initial.main;
+  suits : g.M.MainTask.suits l.main l.component;
+  knows : g.M.MainTask.knows l.main l.store.state;
+  hosts : HoldsHosts g.H.HostWork.course l.store;
+  idle : l.self.trap_on_idle ≡ l.initial.self.trap_on_idle;
+  stands : standing l.store ≡ standing l.initial.store;
+  on : IsOn (setting_of l.component (g.M.MainTask.script l.initial.main) l.initial.self.trap_on_idle) (state_at l.initial.store.state.core (g.M.MainTask.part l.initial.main) l.initial.self.turn) l.initial.trace (given l.initial.store.state.core) l.self.turn (g.M.MainTask.part l.main) l.store.state l.trace l.added;
+  does : DoesAdded g.M.MainTask.does l.initial.main l.initial.trace l.main l.trace;
+  paced : Paced l.initial.self.pace.passes l.initial.self.pace.since l.initial.trace l.trace l.self.pace.passes l.self.pace.since;
+  few : l.added ≤ l.steps;
+}
+
+abbrev pub decreases-turns : goal.decreases-turns
+decreases-turns g l = l.steps - l.added

@@ -1,0 +1,187 @@
+//! Polls of a run: it goes on until it yields, so that a host can do other things in between.
+ghost use Rattle.std.specs.Prelude.{◌≡◌, ◌≤◌, ◌^◌, Err, false, IfOk, OnErr, OnOk, true};
+ghost use Rattle.label_laws.specs.Own.{next_mark, rests_by};
+ghost use Rattle.task_loop.specs.RunPolls.{Answered, Paused, run_answer};
+ghost use Rattle.task_loop.specs.Standing.{standing};
+ghost use Rattle.task_store.specs.Hosts.{HoldsHosts};
+ghost use Rattle.task_turns.specs.Does.{DoesAdded};
+ghost use Rattle.task_turns.specs.Drive.{WasGoing};
+ghost use Rattle.task_turns.specs.Turn.{IsAtTurn, IsSettled, PendsIn, Sits, given, is_open, running_of, runs_in, setting_of, state_at};
+ghost use Rattle.task_turns.specs.WellFormed.{IsWellFormed};
+
+use crate::main_task::MainTask;
+use crate::run::RunConcurrent;
+use run_pace::Pace;
+use task_calls::TaskError;
+use task_machine::{Component, Mark, NoMemory, Outcome, Turn};
+use task_store::{AccessorTask, FromHost, Store};
+use task_turns::{Stepped, Trace, compute, is_idle};
+use task_words::QueueWords;
+
+/// What a poll of a run has come to, where the run has neither trapped nor failed.
+#[derive(Clone, Copy)]
+pub enum RunPoll {
+    /// Main has answered this.
+    Done(u64),
+    /// The run goes on at the next poll.
+    Yielded,
+    /// A turn has ended in which live works were polled, and nothing was queued.
+    Rest,
+    /// Nothing can go on, and that is no deadlock.
+    Idle,
+}
+
+// The mark of the entry that is taken next in this turn.
+fn next_mark<T, H>(store: &Store<T, H>, turn: Turn) -> Option<Mark>
+    ensures { result ≡ next_mark turn store.now.state.core }
+{
+    match turn {
+        Turn::Take { ended: _ } => match store.state.next_entry() {
+            Some((mark, _)) => Some(mark),
+            None => None,
+        },
+        _ => None,
+    }
+}
+
+// What a poll answers where a run has come to this.
+fn answer_of(outcome: Outcome) -> Result<RunPoll, TaskError>
+    ensures { result ≡ run_answer outcome }
+{
+    match outcome {
+        Outcome::Done(value) => Ok(RunPoll::Done(value)),
+        Outcome::Trap(trap) => Err(TaskError::Trap(trap)),
+        Outcome::Deadlock(trap) => Err(TaskError::Trap(trap)),
+        Outcome::HostFailed(work) => Err(TaskError::HostFailed(work)),
+        Outcome::Idle => Ok(RunPoll::Idle),
+        Outcome::OutOfSteps => Ok(RunPoll::Yielded),
+    }
+}
+
+// Whether a turn rests before which such an entry is next.
+fn rests(turn: Turn, next: Option<Mark>) -> bool
+    ensures { result ≡ rests_by turn next }
+{
+    match turn {
+        Turn::Take { ended: _ } => next.is_none(),
+        _ => false,
+    }
+}
+
+impl RunConcurrent {
+    /// Goes on with the run as `drive` does, up to the first of these places: where main has answered, the answer; after a turn
+    /// that rests; where nothing can go on, and that is no deadlock; where the run has trapped, is a deadlock or a host has failed,
+    /// as an error; and where it yields: before a low entry is taken, before an entry is taken where 128 were since it last
+    /// yielded, and where it has added `steps` labels. After the first two of these the next poll begins with the entry that is next
+    /// then. `drive` begins that count anew.
+    ///
+    /// What is asked of the store and of main is as for `drive`; and so is what is said where memory is wanting.
+    pub fn poll<T, H: AccessorTask<T> + FromHost, M: MainTask<T, H>>(
+        &mut self,
+        component: &Component,
+        store: &mut Store<T, H>,
+        main: &mut M,
+        steps: u32,
+        trace: &mut Trace,
+    ) -> Result<RunPoll, TaskError>
+        requires covered { IsWellFormed component.now }
+        requires order { Sits component.now self.old.turn store.old.state.core }
+        requires suits { M.suits main.old component.now }
+        requires knows { M.knows main.old store.old.state }
+        requires hosts { HoldsHosts H.course store.old }
+        requires given { given store.old.state.core ≤ 2 ^ 60 }
+        requires current { running_of store.old.state ≡ runs_in self.old.turn }
+        requires unfinished { is_open self.old.turn ≡ true }
+        requires settled { IsSettled store.old.state.core self.old.turn }
+        requires pends { PendsIn (setting_of component.now (M.script main.old) self.old.trap_on_idle) store.old.state.core (M.part main.old) self.old.turn }
+        ensures script { M.script main.new ≡ M.script main.old }
+        ensures suits { Answered result (M.suits main.new component.now) }
+        ensures knows { Answered result (M.knows main.new store.new.state) }
+        ensures hosts { Answered result (HoldsHosts H.course store.new) }
+        ensures idle { self.new.trap_on_idle ≡ self.old.trap_on_idle }
+        ensures stands { standing store.new ≡ standing store.old }
+        ensures does { Answered result (DoesAdded M.does main.old trace.old main.new trace.new) }
+        ensures polled { Answered result (Paused (setting_of component.now (M.script main.old) self.old.trap_on_idle) (state_at store.old.state.core (M.part main.old) self.old.turn) trace.old (given store.old.state.core) self.old.pace steps result self.new.turn (M.part main.new) store.new.state trace.new self.new.pace) }
+        ensures err { result ≡ Err TaskError.NoMemory → store.new.state.core.trapped ≡ true }
+        ensures added { result ≡ Err TaskError.NoMemory → WasGoing (setting_of component.now (M.script main.old) self.old.trap_on_idle) (state_at store.old.state.core (M.part main.old) self.old.turn) trace.old trace.new steps }
+    {
+        match self.poll_on(component, store, main, steps, trace) {
+            Ok(answer) => answer,
+            Err(_) => {
+                store.set_trapped();
+                Err(TaskError::NoMemory)
+            }
+        }
+    }
+
+    // Takes the turns.
+    fn poll_on<T, H: AccessorTask<T> + FromHost, M: MainTask<T, H>>(
+        &mut self,
+        component: &Component,
+        store: &mut Store<T, H>,
+        main: &mut M,
+        steps: u32,
+        trace: &mut Trace,
+    ) -> Result<Result<RunPoll, TaskError>, NoMemory>
+        requires covered { IsWellFormed component.now }
+        requires at { IsAtTurn component.now self.old.turn store.old.state }
+        requires suits { M.suits main.old component.now }
+        requires knows { M.knows main.old store.old.state }
+        requires hosts { HoldsHosts H.course store.old }
+        requires given { given store.old.state.core ≤ 2 ^ 60 }
+        requires pends { PendsIn (setting_of component.now (M.script main.old) self.old.trap_on_idle) store.old.state.core (M.part main.old) self.old.turn }
+        ensures script { M.script main.new ≡ M.script main.old }
+        ensures suits { OnOk result (M.suits main.new component.now) }
+        ensures knows { OnOk result (M.knows main.new store.new.state) }
+        ensures hosts { OnOk result (HoldsHosts H.course store.new) }
+        ensures idle { self.new.trap_on_idle ≡ self.old.trap_on_idle }
+        ensures stands { standing store.new ≡ standing store.old }
+        ensures does { OnOk result (DoesAdded M.does main.old trace.old main.new trace.new) }
+        ensures err { OnErr result (WasGoing (setting_of component.now (M.script main.old) self.old.trap_on_idle) (state_at store.old.state.core (M.part main.old) self.old.turn) trace.old trace.new steps) }
+        ensures wanting { IfOk result (λ r. r ≡ Err TaskError.NoMemory → ⊥) }
+        ensures ok { IfOk result (λ r. Paused (setting_of component.now (M.script main.old) self.old.trap_on_idle) (state_at store.old.state.core (M.part main.old) self.old.turn) trace.old (given store.old.state.core) self.old.pace steps r self.new.turn (M.part main.new) store.new.state trace.new self.new.pace) }
+    {
+        let mut added = 0;
+        'turns: while added < steps {
+            let next = next_mark(store, self.turn);
+            if self.pace.yields(next) {
+                self.pace = Pace::yielded(true);
+                return Ok(Ok(RunPoll::Yielded));
+            }
+            let rests = rests(self.turn, next);
+            match self.turn(component, store, main, trace)? {
+                None => {
+                    self.pace = self.pace.after(None);
+                    return Ok(Ok(RunPoll::Idle));
+                }
+                Some(Stepped::Over(outcome)) => {
+                    self.turn = Turn::Over;
+                    self.pace = self.pace.after(None);
+                    return Ok(answer_of(outcome));
+                }
+                Some(Stepped::Goes { turn, computed }) => {
+                    self.turn = turn;
+                    self.pace = self.pace.after(next);
+                    if rests {
+                        return Ok(Ok(RunPoll::Rest));
+                    }
+                    added = compute(
+                        component,
+                        &mut store.state,
+                        computed,
+                        turn,
+                        trace,
+                        added + 1,
+                        steps,
+                    )?;
+                }
+            }
+        }
+        if is_idle(&store.state, self.turn, self.trap_on_idle) {
+            self.pace = self.pace.after(None);
+            return Ok(Ok(RunPoll::Idle));
+        }
+        self.pace = Pace::yielded(false);
+        Ok(Ok(RunPoll::Yielded))
+    }
+}
