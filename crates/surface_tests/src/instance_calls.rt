@@ -318,6 +318,19 @@ fn leaves(rt: &impl Abort, alloc: Global) -> bool {
         .is_ok()
 }
 
+// Whether its thread's task is left while it lends something, and still is once it lends nothing.
+fn leaves_lending(rt: &impl Abort, alloc: Global) -> bool {
+    let mut at = running(rt, alloc, DIRECT, 4, A, false);
+    let state = &mut at.store.state;
+    let Some(thread) = state.current() else {
+        return false;
+    };
+    let scope = Scope::Id(state.task_of(thread));
+    let before = exit_lends(state, thread);
+    let set = state.set_call_context(scope, CallContext { borrows: 2 });
+    set && !before && exit_lends(state, thread)
+}
+
 #[test]
 fn a_thread_calls_an_export(rt: HostRuntime) {
     assert!(rt; starts(&rt, rt.alloc()));
