@@ -53,7 +53,7 @@ impl Instance {
         let Some(thread) = store.state.current() else {
             unreachable!()
         };
-        let own_type = ty == 0 && encoding == 0 && memory == 0;
+        let own_type = ty == 0 && (encoding == 0 && memory == 0);
         if return_lends(&store.state, thread, own_type) {
             return Err(TaskError::Trap(Trap::ScopeExit));
         }
