@@ -1,4 +1,5 @@
 mod AccessLemmas
 pub mod AskLemmas
 pub mod DriveLemmas
+pub mod LendLemmas
 pub mod StateLemmas

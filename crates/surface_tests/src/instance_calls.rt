@@ -5,6 +5,7 @@ ghost use Rattle.task_calls.specs.Asks.{CanAsk, HasPaused, IsRunningIn};
 ghost use Rattle.task_calls.specs.Directs.{IsDirect};
 ghost use Rattle.task_loop.specs.Calls.{callee_of};
 ghost use Rattle.task_machine.specs.Read.{is_async_lifted};
+ghost use Rattle.task_machine.specs.declared.component.Component.{Component};
 ghost use Rattle.task_rules.specs.Scripts.{export_at, export_kind};
 ghost use Rattle.task_machine.specs.Core.{fresh};
 ghost use Rattle.task_records.specs.Seen.{nothing};
@@ -14,6 +15,7 @@ ghost use Rattle.task_turns.specs.Turn.{Sits, given, running_of};
 ghost use Rattle.task_words.specs.StateView.{with_core};
 
 use op_dispatch::export_def;
+use record_core::{CallContext, Scope};
 use std::alloc::Global;
 use std::process::Abort;
 use task_loop::{
@@ -339,6 +341,34 @@ fn drops(rt: &impl Abort, alloc: Global) -> bool {
 fn ends_as_cancelled(rt: &impl Abort, alloc: Global) -> bool {
     let mut at = running(rt, alloc, CALLER, 29, A, false);
     A.task_cancel(&at.scenario.component, &mut at.store).is_ok()
+}
+
+// The running thread's task lends so many things.
+fn lend(store: &mut Store<(), ScriptedHost>, borrows: u32) -> bool
+    ensures running { (c : Component) → IsRunningIn c store.old.state → IsRunningIn c store.new.state }
+{
+    let Some(thread) = store.state.current() else {
+        return false;
+    };
+    let scope = Scope::Id(store.state.task_of(thread));
+    store.state.set_call_context(scope, CallContext { borrows })
+}
+
+#[test]
+fn a_task_that_lends_is_not_ended(rt: HostRuntime) {
+    let mut at = running(&rt, rt.alloc(), DIRECT, 4, A, false);
+    assert!(rt; lend(&mut at.store, 2));
+    assert!(rt; is_direct(&at.store) && is_asking(&at.store, A, false));
+    let left = A.exit_guest_sync_call(&at.scenario.component, &mut at.store, 9);
+    assert!(rt; matches!(left, Err(TaskError::Trap(Trap::ScopeExit))));
+    let mut at = running(&rt, rt.alloc(), CALLER, 29, A, false);
+    assert!(rt; lend(&mut at.store, 1) && is_asking(&at.store, A, false));
+    let cancelled = A.task_cancel(&at.scenario.component, &mut at.store);
+    assert!(rt; matches!(cancelled, Err(TaskError::Trap(Trap::ScopeExit))));
+    let mut at = running(&rt, rt.alloc(), CALLER, 29, A, false);
+    assert!(rt; lend(&mut at.store, 1) && is_asking(&at.store, A, false));
+    let returned = A.task_return(&at.scenario.component, &mut at.store, 0, 0, 0, 7);
+    assert!(rt; matches!(returned, Err(TaskError::Trap(Trap::ScopeExit))));
 }
 
 fn raises_backpressure(rt: &impl Abort, alloc: Global) -> bool {

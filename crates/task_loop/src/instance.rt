@@ -4,6 +4,8 @@ ghost use Rattle.task_calls.specs.Asks.{Answers, CanAsk, IsRunningIn, row_of, tu
 ghost use Rattle.task_calls.specs.Elsewhere.{KeepsFit};
 ghost use Rattle.task_calls.specs.Calls.{Returns, is_own_type};
 ghost use Rattle.task_calls.specs.Intrinsics.{pressure_op};
+ghost use Rattle.task_lends.specs.Lends.{UnlessLent, cancel_lends, return_lends};
+ghost use Rattle.task_loop.specs.Lent.{RowAnswers};
 ghost use Rattle.task_machine.specs.Read.{instance_of};
 ghost use Rattle.task_machine.specs.declared.op.Operand.{Operand};
 ghost use Rattle.task_rules.specs.Scripts.{op_of, value_of};
@@ -13,7 +15,8 @@ ghost use Rattle.task_store.specs.Hosts.{HoldsHosts};
 ghost use Rattle.task_turns.specs.Turn.{Sits, running_of};
 
 use task_calls::{TaskError, ask_nothing, pressure_op, task_return};
-use task_machine::{Component, Op, TaskOp, Turn};
+use task_lends::{cancel_lends, return_lends};
+use task_machine::{Component, Op, TaskOp, Trap, Turn};
 use task_store::Store;
 use task_words::{ThreadWords, View};
 
@@ -27,7 +30,8 @@ impl Instance {
     /// `task.return`: the task of the current thread, which is of this instance, ends as returned
     /// with the value, and the thread goes on after its op. The type, the encoding and the memory
     /// are those of the lifted function where all three are 0. Refused with trap 1 exactly where the
-    /// task has ended, and else with trap 3 where they aren't 0. Nothing is changed then.
+    /// task has ended, and else with trap 3 where they aren't 0 or the function isn't async-lifted, and else with
+    /// trap 19 where the task still lends something (`call_context` of the state). Nothing is changed then.
     pub fn task_return<T, H>(
         self,
         component: &Component,
@@ -41,7 +45,7 @@ impl Instance {
         requires runs { IsSome (running_of store.old.state) }
         requires order { IfSome (running_of store.old.state) (λ n. Sits component.now (Turn.Run n) store.old.state.core) }
         requires instance { IfSome (running_of store.old.state) (λ n. instance_of n store.old.state.core ≡ self.index) }
-        ensures returns { IfSome (running_of store.old.state) (λ n. Returns n value (is_own_type ty encoding memory) store.old.state result store.new.state) }
+        ensures returns { IfSome (running_of store.old.state) (λ n. UnlessLent (return_lends n (is_own_type ty encoding memory) store.old.state.core) (Returns n value (is_own_type ty encoding memory)) store.old.state result store.new.state) }
         ensures order { IfSome (running_of store.old.state) (λ n. (x : Operand) → op_of component.now n store.old.state.core ≡ Op.Task (TaskOp.Ret x) → value_of n store.old.state.core x ≡ value → Sits component.now (Turn.Run n) store.new.state.core) }
         ensures hosts { (course : H → HostDef) → HoldsHosts course store.old → HoldsHosts course store.new }
         ensures rest { store.new ≡ record store.old { state = store.new.state } }
@@ -49,6 +53,10 @@ impl Instance {
         let Some(thread) = store.state.current() else {
             unreachable!()
         };
+        let own_type = ty == 0 && (encoding == 0 && memory == 0);
+        if return_lends(&store.state, thread, own_type) {
+            return Err(TaskError::Trap(Trap::ScopeExit));
+        }
         let number = store.state.number(thread);
         task_return(
             &mut store.state,
@@ -61,8 +69,8 @@ impl Instance {
         )
     }
 
-    /// The task ends as cancelled, once a cancel request was delivered to it. Refused with trap 2 where none was,
-    /// and with trap 1 where the task has ended.
+    /// The task ends as cancelled, once a cancel request was delivered to it. Refused with trap 2 where none was, else
+    /// with trap 1 where the task has ended, and else with trap 19 where it still lends something. Nothing is changed then.
     pub fn task_cancel<T, H>(
         self,
         component: &Component,
@@ -70,11 +78,17 @@ impl Instance {
     ) -> Result<(), TaskError>
         requires running { IsRunningIn component.now store.old.state }
         requires asks { CanAsk self.index store.old.state }
-        ensures answers { Answers (row_of component.now (Op.Task TaskOp.TaskCancel) store.old.state.core) nothing_in store.old.state (at_once result) store.new.state }
+        ensures answers { IfSome (running_of store.old.state) (λ n. UnlessLent (cancel_lends n store.old.state.core) (RowAnswers (row_of component.now (Op.Task TaskOp.TaskCancel) store.old.state.core)) store.old.state result store.new.state) }
         ensures order { KeepsFit component.now (Op.Task TaskOp.TaskCancel) store.old.state store.new.state → Sits component.now (turn_in store.new.state) store.new.state.core }
         ensures hosts { (course : H → HostDef) → HoldsHosts course store.old → HoldsHosts course store.new }
         ensures rest { store.new ≡ record store.old { state = store.new.state } }
     {
+        let Some(thread) = store.state.current() else {
+            unreachable!()
+        };
+        if cancel_lends(&store.state, thread) {
+            return Err(TaskError::Trap(Trap::ScopeExit));
+        }
         ask_nothing(component, &mut store.state, Op::Task(TaskOp::TaskCancel))
     }
 

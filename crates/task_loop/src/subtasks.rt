@@ -7,7 +7,9 @@ ghost use Rattle.state_calls.specs.Named.{IsLive};
 ghost use Rattle.task_calls.specs.Directs.{IsDirect, entered, enters_row, exits_row, thread_in};
 ghost use Rattle.task_calls.specs.Intrinsics.{cancel_op};
 ghost use Rattle.task_calls.specs.Prepared.{CanStart, Prepared, Prepares, goal_for, starts_in};
+ghost use Rattle.task_lends.specs.Lends.{UnlessLent, exit_lends};
 ghost use Rattle.task_loop.specs.Calls.{callee_of};
+ghost use Rattle.task_loop.specs.Lent.{RowAnswers};
 ghost use Rattle.task_machine.specs.Read.{fits, is_async_lifted};
 ghost use Rattle.task_machine.specs.declared.component.Callee.{Callee};
 ghost use Rattle.task_machine.specs.declared.component.Component.{Component};
@@ -25,8 +27,10 @@ use task_calls::{
     QualifiedThreadId, Step, TaskError, ask_nothing, begin_number, cancel_op, enter_call,
     exit_call, prepare_call, start_prepared,
 };
-use task_machine::{CallOp, Component, Op, Operand};
+use task_lends::exit_lends;
+use task_machine::{CallOp, Component, Op, Operand, Trap};
 use task_store::Store;
+use task_words::View;
 
 impl Instance {
     /// Asks a subtask to end, and answers its end: 2 or 4, 3 for a call whose start was withdrawn, or 4294967295
@@ -108,7 +112,8 @@ impl Instance {
 
     /// A direct call's second half, by its first thread: its task ends as returned with the value, the thread ends, and
     /// the one under it runs; the caller's op is under way, and `go_on` takes it to its answer. Refused with trap 9
-    /// where the export is blocking and a check of its instance fails.
+    /// where the export is blocking and a check of its instance fails, and else with trap 19 where the task still lends
+    /// something (`call_context` of the state). Nothing is changed then.
     pub fn exit_guest_sync_call<T, H>(
         self,
         component: &Component,
@@ -118,11 +123,17 @@ impl Instance {
         requires running { IsRunningIn component.now store.old.state }
         requires asks { CanAsk self.index store.old.state }
         requires direct { IfSome (running_of store.old.state) (λ n. IsDirect n store.old.state.core) }
-        ensures answers { Answers (exits_row value store.old.state.core) nothing_in store.old.state (at_once result) store.new.state }
+        ensures answers { IfSome (running_of store.old.state) (λ n. UnlessLent (exit_lends n store.old.state.core) (RowAnswers (exits_row value store.old.state.core)) store.old.state result store.new.state) }
         ensures order { IsAtPlace component.now (exits_row value store.old.state.core) store.old.state → Sits component.now (turn_in store.new.state) store.new.state.core }
         ensures hosts { (course : H → HostDef) → HoldsHosts course store.old → HoldsHosts course store.new }
         ensures rest { store.new ≡ record store.old { state = store.new.state } }
     {
+        let Some(thread) = store.state.current() else {
+            unreachable!()
+        };
+        if exit_lends(&store.state, thread) {
+            return Err(TaskError::Trap(Trap::ScopeExit));
+        }
         exit_call(component, &mut store.state, value)
     }
 

@@ -6,6 +6,10 @@ use Rattle.task_calls.specs.Directs.{IsDirect, exits_row}
 use Rattle.task_loop.proofs.AskHoldLemmas.{by_answers, exited_holds}
 use Rattle.task_loop.proofs.instance.Instance.exit_guest_sync_call.Goals as goal
 use Rattle.task_store.specs.Hosts.{held_by}
+use Rattle.task_lends.specs.Lends.{exit_lends}
+use Rattle.task_loop.proofs.LentLemmas.{ended_unlent, refused_lent, sits_still}
+use Rattle.task_loop.specs.Lent.{RowAnswers}
+use Rattle.std.proofs.Common.{sym, ◌∙◌}
 
 pub returns-clause-hosts : goal.returns-clause-hosts
 returns-clause-hosts g c course h =
@@ -18,3 +22,16 @@ returns-clause-hosts g c course h =
     let direct = subst (λ (o : Option ℕ). IfSome o (λ n. IsDirect n s.core)) q.runs c.requires.direct in
     by_answers left s t h (exits_row v s.core) nothing_in (at_once c.exit_call.result) q.number q.runs
     (λ r d. exited_holds left s t h c.args.component.now q v direct r d.meets d.stays) c.exit_call.ensures.answers
+
+pub returns-then-exit_lends-clause-answers : goal.returns-then-exit_lends-clause-answers
+returns-then-exit_lends-clause-answers g c =
+    let s = c.args.store.now.state in
+    refused_lent s c.in-Some.thread c.current.result c.current.ensures c.in-Some.is (λ n. exit_lends n s.core) (λ n. RowAnswers (exits_row c.args.value s.core)) (sym c.exit_lends.ensures ∙ c.if-exit_lends.true)
+
+pub returns-then-exit_lends-clause-order : goal.returns-then-exit_lends-clause-order
+returns-then-exit_lends-clause-order g c there = sits_still c.args.component.now c.args.store.now.state c.requires.running
+
+pub returns-clause-answers : goal.returns-clause-answers
+returns-clause-answers g c =
+    let s = c.args.store.now.state in
+    ended_unlent s c.in-Some.thread c.current.result c.current.ensures c.in-Some.is (λ n. exit_lends n s.core) (λ n. RowAnswers (exits_row c.args.value s.core)) c.exit_call.result c.exit_call.new.w (sym c.exit_lends.ensures ∙ c.if-exit_lends.false) c.exit_call.ensures.answers

@@ -5,8 +5,26 @@ use Rattle.task_loop.proofs.instance.Instance.task_cancel.Goals as goal
 use Rattle.task_machine.specs.declared.op.Op.TheVariants as op
 use Rattle.task_machine.specs.declared.op.TaskOp.TheVariants as task_op
 use Rattle.task_store.specs.Hosts.{held_by}
+use Rattle.task_lends.specs.Lends.{cancel_lends}
+use Rattle.task_loop.proofs.LentLemmas.{ended_unlent, refused_lent, sits_still}
+use Rattle.task_loop.specs.Lent.{RowAnswers}
+use Rattle.task_calls.specs.Asks.{row_of}
+use Rattle.std.proofs.Common.{sym, ◌∙◌}
 
 pub returns-clause-hosts : goal.returns-clause-hosts
 returns-clause-hosts g c course h =
     let store = c.args.store.now in
     asked_holds (held_by course store) store.state c.ask_nothing.new.w h c.args.component.now c.requires.running (op.Task task_op.TaskCancel) nothing_in (at_once c.ask_nothing.result) refl c.ask_nothing.ensures.answers
+
+pub returns-then-cancel_lends-clause-answers : goal.returns-then-cancel_lends-clause-answers
+returns-then-cancel_lends-clause-answers g c =
+    let s = c.args.store.now.state in
+    refused_lent s c.in-Some.thread c.current.result c.current.ensures c.in-Some.is (λ n. cancel_lends n s.core) (λ n. RowAnswers (row_of c.args.component.now (op.Task task_op.TaskCancel) s.core)) (sym c.cancel_lends.ensures ∙ c.if-cancel_lends.true)
+
+pub returns-then-cancel_lends-clause-order : goal.returns-then-cancel_lends-clause-order
+returns-then-cancel_lends-clause-order g c fits = sits_still c.args.component.now c.args.store.now.state c.requires.running
+
+pub returns-clause-answers : goal.returns-clause-answers
+returns-clause-answers g c =
+    let s = c.args.store.now.state in
+    ended_unlent s c.in-Some.thread c.current.result c.current.ensures c.in-Some.is (λ n. cancel_lends n s.core) (λ n. RowAnswers (row_of c.args.component.now (op.Task task_op.TaskCancel) s.core)) c.ask_nothing.result c.ask_nothing.new.w (sym c.cancel_lends.ensures ∙ c.if-cancel_lends.false) c.ask_nothing.ensures.answers

@@ -10,6 +10,9 @@ use Rattle.task_machine.specs.declared.records.Turn.TheVariants as turn
 use Rattle.task_store.specs.Hosts.{held_by}
 use Rattle.task_turns.specs.Turn.{Sits, running_of}
 use Rattle.task_words.specs.StateView.{thread_of}
+use Rattle.task_lends.specs.Lends.{return_lends}
+use Rattle.task_loop.proofs.LentLemmas.{ended_unlent, refused_lent, runs_on}
+use Rattle.task_calls.specs.Calls.{Returns}
 
 pub returns-clause-hosts : goal.returns-clause-hosts
 returns-clause-hosts g c course h =
@@ -21,3 +24,19 @@ returns-clause-hosts g c course h =
     let order = sits.order Unscripted in
     let there = runs_there n s.core (order.in_place.runs n refl) in
     returned_holds (held_by course store) s c.task_return.new.w h c.args.component.now n c.args.value there.0 there.1 order.works.made (is_own_type c.args.ty c.args.encoding c.args.memory) c.task_return.result c.task_return.ensures.returns
+
+pub returns-then-return_lends-clause-returns : goal.returns-then-return_lends-clause-returns
+returns-then-return_lends-clause-returns g c =
+    let s = c.args.store.now.state in
+    let own = is_own_type c.args.ty c.args.encoding c.args.memory in
+    refused_lent s c.in-Some.thread c.current.result c.current.ensures c.in-Some.is (λ n. return_lends n own s.core) (λ n. Returns n c.args.value own) (sym c.return_lends.ensures ∙ c.if-return_lends.true)
+
+pub returns-then-return_lends-clause-order : goal.returns-then-return_lends-clause-order
+returns-then-return_lends-clause-order g c = runs_on _ _ _ (λ n sits x is value. sits) c.requires.order
+
+pub returns-clause-returns : goal.returns-clause-returns
+returns-clause-returns g c =
+    let s = c.args.store.now.state in
+    let own = is_own_type c.args.ty c.args.encoding c.args.memory in
+    ended_unlent s c.in-Some.thread c.current.result c.current.ensures c.in-Some.is (λ n. return_lends n own s.core) (λ n. Returns n c.args.value own) c.task_return.result c.task_return.new.w (sym c.return_lends.ensures ∙ c.if-return_lends.false)
+    (subst (λ (k : ℕ). Returns k c.args.value own s c.task_return.result c.task_return.new.w) c.number-number.ensures c.task_return.ensures.returns)

@@ -1,0 +1,27 @@
+-- A thread runs on where its task lends something.
+use Rattle.lend_laws.proofs.OrderLemmas.{borrows_keep_order}
+use Rattle.lend_laws.proofs.ReadLemmas.{instances}
+use Rattle.lend_laws.specs.Borrows.{BorrowsKeepOrder, borrowing}
+use Rattle.std.proofs.Common.{subst, sym}
+use Rattle.std.specs.Prelude.{length, ℕ, ◌<◌}
+use Rattle.task_calls.specs.Asks.{IsRunningIn}
+use Rattle.task_machine.specs.Write.{on_call}
+use Rattle.task_machine.specs.declared.component.Component.{Component}
+use Rattle.task_machine.specs.declared.records.Turn.TheVariants as turn
+use Rattle.task_turns.specs.Turn.{state_at}
+use Rattle.task_words.specs.StateView.{StateView, on_core}
+
+pub runs_lending : (c : Component) (s : StateView) (k b : ℕ) → IsRunningIn c s → IsRunningIn c (on_core (borrowing k b) s)
+unfolding BorrowsKeepOrder on_call
+runs_lending c s k b q = record {
+  well_formed = q.well_formed;
+  number = q.number;
+  runs = q.runs;
+  order = record {
+    order = λ m. borrows_keep_order c (state_at s.core m (turn.Run q.number)) k b (q.order.order m);
+    there = q.order.there;
+    handles = q.order.handles;
+  };
+  home = subst (λ (i : ℕ). i < length c.instances) (sym (instances k b s.core q.number)) q.home;
+  few = q.few;
+}
