@@ -1,4 +1,4 @@
-use Rattle.std.proofs.Common.{arith, ap, sym, ◌∙◌, ◌≡◌, true, ◌-◌}
+use Rattle.std.proofs.Common.{arith, ap, sym, ◌∙◌, ◌≡◌, true}
 use Rattle.result_rooms.proofs.CountLemmas.{count_inserted, one_of}
 use Rattle.result_rooms.specs.Rooms.{count_given, given_in}
 use Rattle.std.specs.BTreeMap.{insert_entry}

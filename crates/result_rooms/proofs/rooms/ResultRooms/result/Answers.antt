@@ -1,4 +1,4 @@
-use Rattle.std.proofs.Common.{subst, sym, ◌∙◌, ◌≡◌, None, true, ◌-◌}
+use Rattle.std.proofs.Common.{subst, sym, ◌∙◌, ◌≡◌, None, true}
 use Rattle.result_rooms.proofs.CountLemmas.{none_given}
 use Rattle.result_rooms.specs.Rooms.{given_in}
 use Rattle.std.specs.BTreeMap.{is_at}
