@@ -1,6 +1,6 @@
 use Rattle.std.proofs.Common.{arith, ap, sym, ◌∙◌, ◌≡◌, true}
 use Rattle.result_rooms.proofs.CountLemmas.{count_inserted, one_of}
-use Rattle.result_rooms.specs.Rooms.{count_given, given_in}
+use Rattle.result_rooms.specs.Rooms.{count_given}
 use Rattle.std.specs.BTreeMap.{insert_entry}
 use Rattle.std.specs.Ordering.{nat_cmp}
 use Rattle.result_rooms.proofs.rooms.ResultRooms.make.Goals as goal
