@@ -1,7 +1,7 @@
 ghost use Rattle.std.specs.Prelude.{◌≡◌, ◌⊎◌, ◌<◌, ◌≤◌, ◌++◌, ◌∷◌, [], ◌↔◌, true, Some, slice_set, length, IsSome, is_some, IfOk, OnOk, OnErr, vec_capacity};
 ghost use Rattle.std.specs.Option.{option_map};
 ghost use Rattle.task_links.specs.Links.{spot_at, Unmade, ChainOf, FreeNode, Renames, AreLinked, IsLinks, entries, is_free, is_made, link_of, list_of, linked, removed, inserted, head_of, following, last_of, preceding};
-ghost use Rattle.task_links.specs.Rings.{HasRoom, IsSound, entry_at, shown, new_spot, role_at, role_is_chain, role_is_free, role_is_new, role_is_node};
+ghost use Rattle.task_links.specs.Rings.{HasRoom, IsSound, entry_at, shown, role_at, role_is_chain, role_is_free, role_is_node};
 
 use std::alloc::{AllocError, Global};
 use std::marker::Model;
@@ -155,33 +155,59 @@ fn reserve<P>(
     Ok(())
 }
 
-// Gives an unused name, else a new one, to a chain or a free node.
+// Gives an unused name, else a new one, to a chain.
 #[inline(always)]
-fn name<P: Copy>(
+fn name_chain<P: Copy>(
     next: &mut Vec<usize>,
     previous: &mut Vec<usize>,
     roles: &mut Vec<Role<P>>,
     unused: &mut Vec<usize>,
-    role: Role<P>,
 ) -> usize
     requires sound { IsSound next.old.items previous.old.items roles.old.items unused.old.items (vec_capacity unused.old) }
     requires room { HasRoom next.old previous.old roles.old unused.old }
-    requires role { role_is_new role ≡ true }
     ensures sound { IsSound next.new.items previous.new.items roles.new.items unused.new.items (vec_capacity unused.new) }
-    ensures named { Renames (shown next.old.items roles.old.items) (shown next.new.items roles.new.items) result Unmade (new_spot role) }
+    ensures named { Renames (shown next.old.items roles.old.items) (shown next.new.items roles.new.items) result Unmade (ChainOf []) }
 {
     match unused.pop() {
         Some(index) => {
             next[index] = index;
             previous[index] = index;
-            roles[index] = role;
+            roles[index] = Role::Chain;
             index
         }
         None => {
             let index = roles.len();
             next.push_reserved(index);
             previous.push_reserved(index);
-            roles.push_reserved(role);
+            roles.push_reserved(Role::Chain);
+            index
+        }
+    }
+}
+
+// Gives an unused name, else a new one, to a free node. What comes after and before a free node says nothing.
+#[inline(always)]
+fn name_node<P: Copy>(
+    next: &mut Vec<usize>,
+    previous: &mut Vec<usize>,
+    roles: &mut Vec<Role<P>>,
+    unused: &mut Vec<usize>,
+) -> usize
+    requires sound { IsSound next.old.items previous.old.items roles.old.items unused.old.items (vec_capacity unused.old) }
+    requires room { HasRoom next.old previous.old roles.old unused.old }
+    ensures sound { IsSound next.new.items previous.new.items roles.new.items unused.new.items (vec_capacity unused.new) }
+    ensures named { Renames (shown next.old.items roles.old.items) (shown next.new.items roles.new.items) result Unmade FreeNode }
+{
+    match unused.pop() {
+        Some(index) => {
+            roles[index] = Role::Free;
+            index
+        }
+        None => {
+            let index = roles.len();
+            next.push_reserved(index);
+            previous.push_reserved(index);
+            roles.push_reserved(Role::Free);
             index
         }
     }
@@ -200,31 +226,6 @@ impl<P: Copy> Links<P> {
         }
     }
 
-    // A new name for a chain or a free node.
-    #[inline(always)]
-    fn make(&mut self, role: Role<P>) -> Result<usize, NoMemory>
-        requires { role_is_new role ≡ true }
-        ensures made { IfOk result (λ index. Renames self.old self.new index Unmade (new_spot role)) }
-        ensures err { OnErr result (self.new ≡ self.old) }
-    {
-        let room = reserve(
-            &mut self.next,
-            &mut self.previous,
-            &mut self.roles,
-            &mut self.unused,
-        );
-        if room.is_err() {
-            return Err(NoMemory);
-        }
-        Ok(name(
-            &mut self.next,
-            &mut self.previous,
-            &mut self.roles,
-            &mut self.unused,
-            role,
-        ))
-    }
-
     // Gives back the name of an empty chain or a free node.
     fn drop_name(&mut self, index: usize)
         requires { (spot_at self.old index ≡ ChainOf []) ⊎ (spot_at self.old index ≡ FreeNode) }
@@ -240,7 +241,21 @@ impl<P: Copy> Links<P> {
         ensures made { IfOk result (λ chain. Renames self.old self.new chain Unmade (ChainOf [])) }
         ensures err { OnErr result (self.new ≡ self.old) }
     {
-        self.make(Role::Chain)
+        let room = reserve(
+            &mut self.next,
+            &mut self.previous,
+            &mut self.roles,
+            &mut self.unused,
+        );
+        if room.is_err() {
+            return Err(NoMemory);
+        }
+        Ok(name_chain(
+            &mut self.next,
+            &mut self.previous,
+            &mut self.roles,
+            &mut self.unused,
+        ))
     }
 
     /// Drops a live chain that is empty.
@@ -257,10 +272,22 @@ impl<P: Copy> Links<P> {
         ensures made { IfOk result (λ node. Renames self.old self.new node.index Unmade FreeNode) }
         ensures err { OnErr result (self.new ≡ self.old) }
     {
-        match self.make(Role::Free) {
-            Ok(index) => Ok(Node { index }),
-            Err(why) => Err(why),
+        let room = reserve(
+            &mut self.next,
+            &mut self.previous,
+            &mut self.roles,
+            &mut self.unused,
+        );
+        if room.is_err() {
+            return Err(NoMemory);
         }
+        let index = name_node(
+            &mut self.next,
+            &mut self.previous,
+            &mut self.roles,
+            &mut self.unused,
+        );
+        Ok(Node { index })
     }
 
     /// Drops a free node.
