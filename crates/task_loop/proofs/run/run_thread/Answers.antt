@@ -1,7 +1,7 @@
 -- A host that the thread called is held.
 use Rattle.host_works.specs.Kept.{held}
 use Rattle.op_dispatch.proofs.StayLemmas.{ok_then}
-use Rattle.std.proofs.Common.{refl, subst, ◌≡◌}
+use Rattle.std.proofs.Common.{refl, subst}
 use Rattle.std.specs.Prelude.{None}
 use Rattle.task_loop.proofs.DoesLemmas.{on_ok}
 use Rattle.task_loop.proofs.HoldLemmas.{held_run}
@@ -15,7 +15,6 @@ use Rattle.task_turns.specs.Turn.{IsFree, Makes}
 use Rattle.task_turns.specs.declared.made.Made.{Made}
 use Rattle.task_turns.specs.declared.made.Ran.{Ran}
 use Rattle.task_turns.specs.declared.made.RunStep.{RunStep}
-use Rattle.task_turns.specs.declared.made.RunStep.TheVariants as run_step
 use Rattle.task_turns.specs.declared.made.Stepped.{Stepped}
 
 pub returns-in-Shown-clause-makes : goal.returns-in-Shown-clause-makes
