@@ -8,7 +8,7 @@ use Rattle.task_machine.specs.declared.component.Callee.{Callee}
 use Rattle.task_machine.specs.declared.component.Component.{Component}
 use Rattle.task_rules.specs.MainOps.{start_refusal}
 use Rattle.task_words.specs.StateView.{StateView}
-use Rattle.typed_calls.specs.Typed.{FinishesTyped, PollsTyped}
+use Rattle.task_loop.specs.Typed.{FinishesTyped, PollsTyped}
 
 module _ (c : Component) (e : Callee) (words : List ℕ) (s t : StateView) (k : Option ℕ) {R : Type 0} (from : ℕ → R) (r : Poll (Result R TaskError)) where
   pub typed_starts : k ≡ None → (n : ℕ) (mid : StateView) → StartsUntrapped c e words s (start_refusal s.core) (Ok n) mid → FinishesTyped from n mid r t → PollsTyped from c e words k s r (Some n) t

@@ -2,9 +2,9 @@
 use Rattle.std.proofs.Common.{refl, subst, sym, ◌≡◌}
 use Rattle.std.specs.Prelude.{None, Some, ℕ}
 use Rattle.task_loop.specs.Calls.{callee_of}
-use Rattle.typed_calls.proofs.TypedLemmas.{typed_starts}
-use Rattle.typed_calls.proofs.typed.TypedCallConcurrent.poll.Goals as goal
-use Rattle.typed_calls.specs.Typed.{PollsTyped, typed_in}
+use Rattle.task_loop.proofs.TypedLemmas.{typed_starts}
+use Rattle.task_loop.proofs.typed.TypedCallConcurrent.poll.Goals as goal
+use Rattle.task_loop.specs.Typed.{PollsTyped, typed_in}
 
 pub returns-in-Some-clause-order : goal.returns-in-Some-clause-order
 returns-in-Some-clause-order g c = c.finish.ensures.order c.args.component.now

@@ -5,8 +5,8 @@ use Rattle.state_calls.specs.declared.error.TaskError.{TaskError}
 use Rattle.std.specs.Prelude.{Err, List, None, Ok, Option, Result, Some, option_map, ℕ, ◌≡◌, ◌⊎◌}
 use Rattle.task_calls.specs.Calls.{Finishes}
 use Rattle.task_calls.specs.Untrapped.{StartsUntrapped}
-use Rattle.typed_calls.specs.declared.typed.TypedCallConcurrent.{TypedCallConcurrent}
-use Rattle.typed_calls.specs.declared.typed.TypedFuncCallConcurrent.{TypedFuncCallConcurrent}
+use Rattle.task_loop.specs.declared.typed.TypedCallConcurrent.{TypedCallConcurrent}
+use Rattle.task_loop.specs.declared.typed.TypedFuncCallConcurrent.{TypedFuncCallConcurrent}
 use Rattle.task_machine.specs.declared.component.Callee.{Callee}
 use Rattle.task_machine.specs.declared.component.Component.{Component}
 use Rattle.task_rules.specs.MainOps.{start_refusal}

@@ -3,7 +3,7 @@ ghost use Rattle.std.specs.Prelude.{◌≡◌, ◌+◌, ◌<◌, ◌≤◌, ◌^
 ghost use Rattle.task_calls.specs.Untrapped.{StartsUntrapped};
 ghost use Rattle.task_calls.specs.Calls.{Finishes};
 ghost use Rattle.task_loop.specs.Calls.{callee_of};
-ghost use Rattle.typed_calls.specs.Typed.{FinishesTyped, IsResult, PollsTyped, number_of_typed, typed_in};
+ghost use Rattle.task_loop.specs.Typed.{FinishesTyped, IsResult, PollsTyped, number_of_typed, typed_in};
 ghost use Rattle.task_machine.specs.declared.component.Component.{Component as Shape};
 ghost use Rattle.task_machine.specs.declared.component.HostDef.{HostDef};
 ghost use Rattle.task_machine.specs.declared.records.Turn.{Turn};
@@ -13,9 +13,11 @@ ghost use Rattle.task_store.specs.Hosts.{HoldsHosts};
 ghost use Rattle.task_turns.specs.Turn.{Sits, given};
 ghost use Rattle.task_turns.specs.WellFormed.{IsWellFormed};
 
+use crate::call::{Func, FuncCallConcurrent};
 use futures::task::Poll;
 use std::marker::PhantomData;
-use task_loop::{Func, FuncCallConcurrent, TaskError, TaskGroupId};
+use task_calls::TaskError;
+use task_group::TaskGroupId;
 use task_machine::Component;
 use task_store::Store;
 

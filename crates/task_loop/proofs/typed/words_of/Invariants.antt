@@ -1,6 +1,6 @@
 -- The words of the parameters so far.
 use Rattle.std.proofs.Common.{length, take, ◌≡◌}
-use Rattle.typed_calls.proofs.typed.words_of.Given as goal
+use Rattle.task_loop.proofs.typed.words_of.Given as goal
 
 abbrev pub invariant-fill : goal.invariant-fill
 invariant-fill g l = record {
