@@ -9,6 +9,7 @@ mod main_task;
 mod run;
 mod subtasks;
 mod threads;
+mod typed;
 mod waitables;
 
 pub use call::{Func, FuncCallConcurrent};
@@ -22,3 +23,4 @@ pub use task_machine::{
     Callee, Component, ExportDef, HostDef, InstanceDef, Label, NoMemory, Op, Operand, Outcome, Slot,
 };
 pub use task_turns::{Made, MainStep, Trace, operand_value};
+pub use typed::{FromWord, TypedCallConcurrent, TypedFunc, TypedFuncCallConcurrent, Words};
