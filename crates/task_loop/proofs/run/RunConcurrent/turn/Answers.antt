@@ -1,7 +1,7 @@
 -- Each turn is one of this run.
 use Rattle.op_dispatch.proofs.StayLemmas.{ok_then}
 use Rattle.std.proofs.Common.{refl, subst}
-use Rattle.std.specs.Prelude.{Bool, Option, Some}
+use Rattle.std.specs.Prelude.{Bool, Option}
 use Rattle.task_loop.proofs.DoesLemmas.{still, still_run, still_taken}
 use Rattle.task_loop.proofs.HoldLemmas.{held_taken}
 use Rattle.task_loop.proofs.KnowsLemmas.{by_poll, by_run, by_take}
