@@ -8,6 +8,7 @@ use Rattle.task_turns.proofs.SteppedLemmas.{added_ends, added_more, added_none, 
 use Rattle.task_store.proofs.HostLemmas.{holds_same}
 use Rattle.task_store.specs.Hosts.{held_by}
 use Rattle.task_turns.proofs.LaterLemmas.{last_by_works}
+use Rattle.task_turns.specs.Does.{DoesStep, step_of}
 use Rattle.task_turns.specs.Stepped.{AddedOrNone}
 use Rattle.task_turns.specs.Turn.{Turned, given, idle_line_of, setting_of, state_at}
 use Rattle.task_turns.specs.declared.made.Made.{Made}
@@ -44,10 +45,10 @@ returns-in-Some-Over-clause-ok g c =
     let m' = part c.turn.new.main in
     let mid = c.turns.trace in
     let after = c.turn.new.trace in
-    let turned = none_as (λ (made : Option Made). Turned (setting_of c.args.component.now (script c.turns.main) c.turns.self.trap_on_idle) c.turns.self.turn m u made m' t) (λ (made : Option Made). Turned x c.turns.self.turn m u made m' t) (Some (stepped.Over c.in-Over.outcome)) mid after
+    let turned = none_as (λ (made : Option Made). Turned (setting_of c.args.component.now (script c.turns.main) c.turns.self.trap_on_idle) c.turns.self.turn m u made m' t) (λ (made : Option Made). Turned x c.turns.self.turn m u made m' t) (Some (stepped.Over c.in-Some-Over.outcome)) mid after
     (λ made. turned_same c.args.component.now (script c.turns.main) (script c.args.main.now) c.turns.self.trap_on_idle c.args.self.now.trap_on_idle c.turns.self.turn m u made m' t c.turns.invariant.script c.turns.invariant.idle)
-    (rw c.in-Over.is at c.in_ok-turn.ensures.turned) in
-    added_ends x (state_at s.core (part c.args.main.now) c.args.self.now.turn) c.args.trace.now (given s.core) c.turns.self.turn m u mid c.turns.added c.turns.invariant.on m' t after c.in-Over.outcome c.args.steps (omega arith) turned
+    (subst (λ (o : Option Stepped). AddedOrNone (λ (made : Option Made). Turned (setting_of c.args.component.now (script c.turns.main) c.turns.self.trap_on_idle) c.turns.self.turn m u made m' t) o mid after) (c.in-Some-Over.is ∙ ap (λ (q : Stepped). Some q) c.in-Some-Over.field-0-is) c.in_ok-turn.ensures.turned) in
+    added_ends x (state_at s.core (part c.args.main.now) c.args.self.now.turn) c.args.trace.now (given s.core) c.turns.self.turn m u mid c.turns.added c.turns.invariant.on m' t after c.in-Some-Over.outcome c.args.steps (omega arith) turned
 
 pub compute-requires-clause-order : goal.compute-requires-clause-order
 compute-requires-clause-order g c =
@@ -61,10 +62,10 @@ compute-requires-clause-order g c =
     let m' = part c.turn.new.main in
     let mid = c.turns.trace in
     let after = c.turn.new.trace in
-    let turned = none_as (λ (made : Option Made). Turned (setting_of c.args.component.now (script c.turns.main) c.turns.self.trap_on_idle) c.turns.self.turn m u made m' t) (λ (made : Option Made). Turned x c.turns.self.turn m u made m' t) (Some (stepped.Goes c.in-Goes.turn c.in-Goes.computed)) mid after
+    let turned = none_as (λ (made : Option Made). Turned (setting_of c.args.component.now (script c.turns.main) c.turns.self.trap_on_idle) c.turns.self.turn m u made m' t) (λ (made : Option Made). Turned x c.turns.self.turn m u made m' t) (Some (stepped.Goes c.in-Some-Goes.turn c.in-Some-Goes.computed)) mid after
     (λ made. turned_same c.args.component.now (script c.turns.main) (script c.args.main.now) c.turns.self.trap_on_idle c.args.self.now.trap_on_idle c.turns.self.turn m u made m' t c.turns.invariant.script c.turns.invariant.idle)
-    (rw c.in-Goes.is at c.in_ok-turn.ensures.turned) in
-    (added_more x (state_at s.core (part c.args.main.now) c.args.self.now.turn) c.args.trace.now (given s.core) c.turns.self.turn m u mid c.turns.added c.turns.invariant.on m' t after c.in-Goes.turn c.in-Goes.computed turned).at.order
+    (subst (λ (o : Option Stepped). AddedOrNone (λ (made : Option Made). Turned (setting_of c.args.component.now (script c.turns.main) c.turns.self.trap_on_idle) c.turns.self.turn m u made m' t) o mid after) (c.in-Some-Goes.is ∙ ap (λ (q : Stepped). Some q) c.in-Some-Goes.field-0-is) c.in_ok-turn.ensures.turned) in
+    (added_more x (state_at s.core (part c.args.main.now) c.args.self.now.turn) c.args.trace.now (given s.core) c.turns.self.turn m u mid c.turns.added c.turns.invariant.on m' t after c.in-Some-Goes.turn c.in-Some-Goes.computed turned).at.order
 
 pub turns-preserved : goal.turns-preserved
 turns-preserved g c =
@@ -78,22 +79,22 @@ turns-preserved g c =
     let m' = part c.turn.new.main in
     let mid = c.turns.trace in
     let after = c.turn.new.trace in
-    let turned = none_as (λ (made : Option Made). Turned (setting_of c.args.component.now (script c.turns.main) c.turns.self.trap_on_idle) c.turns.self.turn m u made m' t) (λ (made : Option Made). Turned x c.turns.self.turn m u made m' t) (Some (stepped.Goes c.in-Goes.turn c.in-Goes.computed)) mid after
+    let turned = none_as (λ (made : Option Made). Turned (setting_of c.args.component.now (script c.turns.main) c.turns.self.trap_on_idle) c.turns.self.turn m u made m' t) (λ (made : Option Made). Turned x c.turns.self.turn m u made m' t) (Some (stepped.Goes c.in-Some-Goes.turn c.in-Some-Goes.computed)) mid after
     (λ made. turned_same c.args.component.now (script c.turns.main) (script c.args.main.now) c.turns.self.trap_on_idle c.args.self.now.trap_on_idle c.turns.self.turn m u made m' t c.turns.invariant.script c.turns.invariant.idle)
-    (rw c.in-Goes.is at c.in_ok-turn.ensures.turned) in
-    let on = added_more x (state_at s.core (part c.args.main.now) c.args.self.now.turn) c.args.trace.now (given s.core) c.turns.self.turn m u mid c.turns.added c.turns.invariant.on m' t after c.in-Goes.turn c.in-Goes.computed turned in
+    (subst (λ (o : Option Stepped). AddedOrNone (λ (made : Option Made). Turned (setting_of c.args.component.now (script c.turns.main) c.turns.self.trap_on_idle) c.turns.self.turn m u made m' t) o mid after) (c.in-Some-Goes.is ∙ ap (λ (q : Stepped). Some q) c.in-Some-Goes.field-0-is) c.in_ok-turn.ensures.turned) in
+    let on = added_more x (state_at s.core (part c.args.main.now) c.args.self.now.turn) c.args.trace.now (given s.core) c.turns.self.turn m u mid c.turns.added c.turns.invariant.on m' t after c.in-Some-Goes.turn c.in-Some-Goes.computed turned in
     record {
       script = c.in_ok-turn.ensures.script ∙ c.turns.invariant.script;
       suits = c.in_ok-turn.ensures.suits;
-      knows = g.met.M.MainTask.stays c.turn.new.main t c.compute.new.w (last_by_works t c.compute.new.w c.in_ok-added.ensures.works) c.in_ok-turn.ensures.knows;
-      hosts = holds_same t.core c.compute.new.w.core (held_by g.H.HostWork.course c.turn.new.store) c.in_ok-added.ensures.works.works c.in_ok-turn.ensures.hosts;
+      knows = g.met.M.MainTask.stays c.turn.new.main t c.compute.new.w (last_by_works t c.compute.new.w c.in_ok-added-in-Some-Goes.ensures.works) c.in_ok-turn.ensures.knows;
+      hosts = holds_same t.core c.compute.new.w.core (held_by g.H.HostWork.course c.turn.new.store) c.in_ok-added-in-Some-Goes.ensures.works.works c.in_ok-turn.ensures.hosts;
       idle = c.turns.invariant.idle;
       stands = c.in_ok-turn.ensures.stands ∙ c.turns.invariant.stands;
-      on = c.in_ok-added.ensures.on x refl (state_at s.core (part c.args.main.now) c.args.self.now.turn) c.args.trace.now (given s.core) m' on;
-      does = does_computed g.M.MainTask.does c.args.main.now c.args.trace.now c.turn.new.main after c.args.component.now c.in-Goes.turn t (c.turns.added + 1) c.compute.new.w c.compute.new.trace c.in_ok-added.added
-          (does_added g.M.MainTask.does c.args.main.now c.args.trace.now c.turns.main mid (stepped.Goes c.in-Goes.turn c.in-Goes.computed) c.turn.new.main after c.turns.invariant.does (rw c.in-Goes.is at c.in_ok-turn.ensures.does))
-          c.in_ok-added.ensures.computes;
-      few = c.in_ok-added.ensures.few.1;
+      on = c.in_ok-added-in-Some-Goes.ensures.on x refl (state_at s.core (part c.args.main.now) c.args.self.now.turn) c.args.trace.now (given s.core) m' on;
+      does = does_computed g.M.MainTask.does c.args.main.now c.args.trace.now c.turn.new.main after c.args.component.now c.in-Some-Goes.turn t (c.turns.added + 1) c.compute.new.w c.compute.new.trace c.in_ok-added-in-Some-Goes.added
+          (does_added g.M.MainTask.does c.args.main.now c.args.trace.now c.turns.main mid (stepped.Goes c.in-Some-Goes.turn c.in-Some-Goes.computed) c.turn.new.main after c.turns.invariant.does (subst (λ (o : Option Stepped). AddedOrNone (λ (made : Option Made). DoesStep g.M.MainTask.does c.turns.main (step_of made) c.turn.new.main) o c.turns.trace c.turn.new.trace) (c.in-Some-Goes.is ∙ ap (λ (q : Stepped). Some q) c.in-Some-Goes.field-0-is) c.in_ok-turn.ensures.does))
+          c.in_ok-added-in-Some-Goes.ensures.computes;
+      few = c.in_ok-added-in-Some-Goes.ensures.few.1;
     }
 
 pub returns-then-is_idle-clause-ok : goal.returns-then-is_idle-clause-ok
@@ -120,7 +121,7 @@ returns-in-None-clause-does g c =
 
 pub returns-in-Some-Over-clause-does : goal.returns-in-Some-Over-clause-does
 returns-in-Some-Over-clause-does g c =
-    does_added g.M.MainTask.does c.args.main.now c.args.trace.now c.turns.main c.turns.trace (stepped.Over c.in-Over.outcome) c.turn.new.main c.turn.new.trace c.turns.invariant.does (rw c.in-Over.is at c.in_ok-turn.ensures.does)
+    does_added g.M.MainTask.does c.args.main.now c.args.trace.now c.turns.main c.turns.trace (stepped.Over c.in-Some-Over.outcome) c.turn.new.main c.turn.new.trace c.turns.invariant.does (subst (λ (o : Option Stepped). AddedOrNone (λ (made : Option Made). DoesStep g.M.MainTask.does c.turns.main (step_of made) c.turn.new.main) o c.turns.trace c.turn.new.trace) (c.in-Some-Over.is ∙ ap (λ (q : Stepped). Some q) c.in-Some-Over.field-0-is) c.in_ok-turn.ensures.does)
 
 pub returns-in_err-turn-clause-err : goal.returns-in_err-turn-clause-err
 returns-in_err-turn-clause-err g c =
@@ -130,8 +131,8 @@ returns-in_err-turn-clause-err g c =
     let x = setting_of c.args.component.now (script c.args.main.now) c.args.self.now.trap_on_idle in
     on_err c.from_residual.result _ (was_on x (state_at s.core (part c.args.main.now) c.args.self.now.turn) c.args.trace.now (given s.core) c.turns.self.turn (part c.turns.main) c.turns.store.state c.turns.trace c.turn.new.trace c.turns.added c.args.steps c.turns.invariant.on c.turns.invariant.few c.in_err-turn.ensures.err)
 
-pub returns-in_err-added-clause-err : goal.returns-in_err-added-clause-err
-returns-in_err-added-clause-err g c =
+pub returns-in_err-added-in-Some-Goes-clause-err : goal.returns-in_err-added-in-Some-Goes-clause-err
+returns-in_err-added-in-Some-Goes-clause-err g c =
     let s = c.args.store.now.state in
     let part = g.M.MainTask.part in
     let script = g.M.MainTask.script in
@@ -142,8 +143,8 @@ returns-in_err-added-clause-err g c =
     let m' = part c.turn.new.main in
     let mid = c.turns.trace in
     let after = c.turn.new.trace in
-    let turned = none_as (λ (made : Option Made). Turned (setting_of c.args.component.now (script c.turns.main) c.turns.self.trap_on_idle) c.turns.self.turn m u made m' t) (λ (made : Option Made). Turned x c.turns.self.turn m u made m' t) (Some (stepped.Goes c.in-Goes.turn c.in-Goes.computed)) mid after
+    let turned = none_as (λ (made : Option Made). Turned (setting_of c.args.component.now (script c.turns.main) c.turns.self.trap_on_idle) c.turns.self.turn m u made m' t) (λ (made : Option Made). Turned x c.turns.self.turn m u made m' t) (Some (stepped.Goes c.in-Some-Goes.turn c.in-Some-Goes.computed)) mid after
     (λ made. turned_same c.args.component.now (script c.turns.main) (script c.args.main.now) c.turns.self.trap_on_idle c.args.self.now.trap_on_idle c.turns.self.turn m u made m' t c.turns.invariant.script c.turns.invariant.idle)
-    (rw c.in-Goes.is at c.in_ok-turn.ensures.turned) in
-    let on = added_more x (state_at s.core (part c.args.main.now) c.args.self.now.turn) c.args.trace.now (given s.core) c.turns.self.turn m u mid c.turns.added c.turns.invariant.on m' t after c.in-Goes.turn c.in-Goes.computed turned in
-    on_err c.from_residual-in_err-added.result _ (was_on_short x (state_at s.core (part c.args.main.now) c.args.self.now.turn) c.args.trace.now (given s.core) c.in-Goes.turn m' t after c.compute.new.trace (c.turns.added + 1) c.args.steps on c.in_err-added.ensures.err)
+    (subst (λ (o : Option Stepped). AddedOrNone (λ (made : Option Made). Turned (setting_of c.args.component.now (script c.turns.main) c.turns.self.trap_on_idle) c.turns.self.turn m u made m' t) o mid after) (c.in-Some-Goes.is ∙ ap (λ (q : Stepped). Some q) c.in-Some-Goes.field-0-is) c.in_ok-turn.ensures.turned) in
+    let on = added_more x (state_at s.core (part c.args.main.now) c.args.self.now.turn) c.args.trace.now (given s.core) c.turns.self.turn m u mid c.turns.added c.turns.invariant.on m' t after c.in-Some-Goes.turn c.in-Some-Goes.computed turned in
+    on_err c.from_residual-in_err-added-in-Some-Goes.result _ (was_on_short x (state_at s.core (part c.args.main.now) c.args.self.now.turn) c.args.trace.now (given s.core) c.in-Some-Goes.turn m' t after c.compute.new.trace (c.turns.added + 1) c.args.steps on c.in_err-added-in-Some-Goes.ensures.err)
