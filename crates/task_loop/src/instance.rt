@@ -26,6 +26,19 @@ pub struct Instance {
     pub index: u32,
 }
 
+// Whether these are the type, the encoding and the memory of the lifted function.
+fn is_own_type(ty: u32, encoding: u32, memory: u32) -> bool
+    ensures { result ≡ is_own_type ty encoding memory }
+{
+    if ty != 0 {
+        return false;
+    }
+    if encoding != 0 {
+        return false;
+    }
+    memory == 0
+}
+
 impl Instance {
     /// `task.return`: the task of the current thread, which is of this instance, ends as returned
     /// with the value, and the thread goes on after its op. The type, the encoding and the memory
@@ -53,7 +66,7 @@ impl Instance {
         let Some(thread) = store.state.current() else {
             unreachable!()
         };
-        let own_type = ty == 0 && (encoding == 0 && memory == 0);
+        let own_type = is_own_type(ty, encoding, memory);
         if return_lends(&store.state, thread, own_type) {
             return Err(TaskError::Trap(Trap::ScopeExit));
         }

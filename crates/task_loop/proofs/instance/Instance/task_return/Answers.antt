@@ -1,12 +1,16 @@
 -- The host works stay over a return.
 use Rattle.std.proofs.Common.{ap, refl, subst, sym, ◌∙◌}
 use Rattle.std.specs.Option.{option_map}
-use Rattle.std.specs.Prelude.{IfSome, Option, Some, ℕ, ◌≡◌}
+use Rattle.std.specs.Prelude.{Bool, IfSome, Option, Some, false, true, ℕ, ◌≡◌}
 use Rattle.task_calls.specs.Calls.{is_own_type}
 use Rattle.task_loop.proofs.AskHoldLemmas.{returned_holds, runs_there}
 use Rattle.task_loop.proofs.instance.Instance.task_return.Goals as goal
 use Rattle.task_machine.specs.Core.{Unscripted}
+use Rattle.task_machine.specs.declared.op.Op.TheVariants as op
+use Rattle.task_machine.specs.declared.op.Operand.{Operand}
+use Rattle.task_machine.specs.declared.op.TaskOp.TheVariants as task_op
 use Rattle.task_machine.specs.declared.records.Turn.TheVariants as turn
+use Rattle.task_rules.specs.Scripts.{op_of, value_of}
 use Rattle.task_store.specs.Hosts.{held_by}
 use Rattle.task_turns.specs.Turn.{Sits, running_of}
 use Rattle.task_words.specs.StateView.{thread_of}
@@ -29,14 +33,20 @@ pub returns-then-return_lends-clause-returns : goal.returns-then-return_lends-cl
 returns-then-return_lends-clause-returns g c =
     let s = c.args.store.now.state in
     let own = is_own_type c.args.ty c.args.encoding c.args.memory in
-    refused_lent s c.in-Some.thread c.current.result c.current.ensures c.in-Some.is (λ n. return_lends n own s.core) (λ n. Returns n c.args.value own) (sym c.return_lends.ensures ∙ c.if-return_lends.true)
+    let lends = subst (λ (b : Bool). return_lends (thread_of s c.in-Some.thread) b s.core ≡ true) c.is_own_type-own_type.ensures (sym c.return_lends.ensures ∙ c.if-return_lends.true) in
+    refused_lent s c.in-Some.thread c.current.result c.current.ensures c.in-Some.is (λ n. return_lends n own s.core) (λ n. Returns n c.args.value own) lends
 
 pub returns-then-return_lends-clause-order : goal.returns-then-return_lends-clause-order
-returns-then-return_lends-clause-order g c = runs_on _ _ _ (λ n sits x is value. sits) c.requires.order
+returns-then-return_lends-clause-order g c =
+    let s = c.args.store.now.state in
+    let d = c.args.component.now in
+    runs_on (running_of s) (λ (n : ℕ). Sits d (turn.Run n) s.core)
+    (λ (n : ℕ). (x : Operand) → op_of d n s.core ≡ op.Task (task_op.Ret x) → value_of n s.core x ≡ c.args.value → Sits d (turn.Run n) s.core) (λ n sits x is value. sits) c.requires.order
 
 pub returns-clause-returns : goal.returns-clause-returns
 returns-clause-returns g c =
     let s = c.args.store.now.state in
     let own = is_own_type c.args.ty c.args.encoding c.args.memory in
-    ended_unlent s c.in-Some.thread c.current.result c.current.ensures c.in-Some.is (λ n. return_lends n own s.core) (λ n. Returns n c.args.value own) c.task_return.result c.task_return.new.w (sym c.return_lends.ensures ∙ c.if-return_lends.false)
+    let lends = subst (λ (b : Bool). return_lends (thread_of s c.in-Some.thread) b s.core ≡ false) c.is_own_type-own_type.ensures (sym c.return_lends.ensures ∙ c.if-return_lends.false) in
+    ended_unlent s c.in-Some.thread c.current.result c.current.ensures c.in-Some.is (λ n. return_lends n own s.core) (λ n. Returns n c.args.value own) c.task_return.result c.task_return.new.w lends
     (subst (λ (k : ℕ). Returns k c.args.value own s c.task_return.result c.task_return.new.w) c.number-number.ensures c.task_return.ensures.returns)

@@ -105,27 +105,27 @@ returns-in-Some-Over-clause-ok g c =
     let t = c.turn.new.store.state in
     let m' = part c.turn.new.main in
     let after = c.turn.new.trace in
-    let turned = none_as (λ (made : Option Made). Turned (setting_of c.args.component.now (script c.turns.main) c.turns.self.trap_on_idle) p m u made m' t) (λ (made : Option Made). Turned x p m u made m' t) (Some (stepped.Over c.in-Over.outcome)) mid after
+    let turned = none_as (λ (made : Option Made). Turned (setting_of c.args.component.now (script c.turns.main) c.turns.self.trap_on_idle) p m u made m' t) (λ (made : Option Made). Turned x p m u made m' t) (Some (stepped.Over c.in-Some-Over.outcome)) mid after
     (λ made. turned_same c.args.component.now (script c.turns.main) (script c.args.main.now) c.turns.self.trap_on_idle c.args.self.now.trap_on_idle p m u made m' t c.turns.invariant.script c.turns.invariant.idle)
-    (rw c.in-Over.is at c.in_ok-turn.ensures.turned) in
+    (rw c.in-Some-Over.is at c.in_ok-turn.ensures.turned) in
     rw c.answer_of.ensures
-    (poll_ends x from before (given s.core) pace c.args.steps p m u mid c.turns.added b k c.turns.invariant.on c.turns.invariant.paced m' t after c.after-self-in-Some-Over.result c.in-Over.outcome (omega arith) turned c.after-self-in-Some-Over.ensures.since c.after-self-in-Some-Over.ensures.passes)
+    (poll_ends x from before (given s.core) pace c.args.steps p m u mid c.turns.added b k c.turns.invariant.on c.turns.invariant.paced m' t after c.after-self-in-Some-Over.result c.in-Some-Over.outcome (omega arith) turned c.after-self-in-Some-Over.ensures.since c.after-self-in-Some-Over.ensures.passes)
 
 pub returns-in-Some-Over-clause-wanting : goal.returns-in-Some-Over-clause-wanting
 returns-in-Some-Over-clause-wanting g c =
-    rw c.answer_of.ensures (outcome_there c.in-Over.outcome)
+    rw c.answer_of.ensures (outcome_there c.in-Some-Over.outcome)
 
 pub returns-in-Some-Over-clause-does : goal.returns-in-Some-Over-clause-does
 returns-in-Some-Over-clause-does g c =
-    does_added g.M.MainTask.does c.args.main.now c.args.trace.now c.turns.main c.turns.trace (stepped.Over c.in-Over.outcome) c.turn.new.main c.turn.new.trace c.turns.invariant.does (rw c.in-Over.is at c.in_ok-turn.ensures.does)
+    does_added g.M.MainTask.does c.args.main.now c.args.trace.now c.turns.main c.turns.trace (stepped.Over c.in-Some-Over.outcome) c.turn.new.main c.turn.new.trace c.turns.invariant.does (rw c.in-Some-Over.is at c.in_ok-turn.ensures.does)
 
-pub after-self-in-Some-Goes-requires : goal.after-self-in-Some-Goes-requires
-after-self-in-Some-Goes-requires g c =
+pub after-self-requires-in-Some-Goes : goal.after-self-requires-in-Some-Goes
+after-self-requires-in-Some-Goes g c =
     let stays = subst (λ (o : Option Mark). yields_before c.turns.self.pace.passes c.turns.self.pace.since o ≡ false) c.next_mark-next.ensures (sym c.yields.ensures ∙ c.if-yields.false) in
     subst (λ (o : Option Mark). yields_before c.turns.self.pace.passes c.turns.self.pace.since o ≡ false) (sym c.next_mark-next.ensures) stays
 
-pub returns-in-Some-Goes-then-rests-clause-ok : goal.returns-in-Some-Goes-then-rests-clause-ok
-returns-in-Some-Goes-then-rests-clause-ok g c =
+pub returns-then-rests-clause-ok : goal.returns-then-rests-clause-ok
+returns-then-rests-clause-ok g c =
     let s = c.args.store.now.state in
     let part = g.M.MainTask.part in
     let script = g.M.MainTask.script in
@@ -142,17 +142,17 @@ returns-in-Some-Goes-then-rests-clause-ok g c =
     let t = c.turn.new.store.state in
     let m' = part c.turn.new.main in
     let after = c.turn.new.trace in
-    let turned = none_as (λ (made : Option Made). Turned (setting_of c.args.component.now (script c.turns.main) c.turns.self.trap_on_idle) p m u made m' t) (λ (made : Option Made). Turned x p m u made m' t) (Some (stepped.Goes c.in-Goes.turn c.in-Goes.computed)) mid after
+    let turned = none_as (λ (made : Option Made). Turned (setting_of c.args.component.now (script c.turns.main) c.turns.self.trap_on_idle) p m u made m' t) (λ (made : Option Made). Turned x p m u made m' t) (Some (stepped.Goes c.in-Some-Goes.turn c.in-Some-Goes.computed)) mid after
     (λ made. turned_same c.args.component.now (script c.turns.main) (script c.args.main.now) c.turns.self.trap_on_idle c.args.self.now.trap_on_idle p m u made m' t c.turns.invariant.script c.turns.invariant.idle)
-    (rw c.in-Goes.is at c.in_ok-turn.ensures.turned) in
+    (rw c.in-Some-Goes.is at c.in_ok-turn.ensures.turned) in
     let stays = subst (λ (o : Option Mark). yields_before b k o ≡ false) c.next_mark-next.ensures (sym c.yields.ensures ∙ c.if-yields.false) in
     let rests = subst (λ (o : Option Mark). rests_by p o ≡ true) c.next_mark-next.ensures (sym c.rests-rests.ensures ∙ c.if-rests.true) in
     let since = c.after-self-in-Some-Goes.ensures.since ∙ ap (λ (o : Option Mark). counted k o) c.next_mark-next.ensures in
-    poll_rests x from before (given s.core) pace c.args.steps p m u mid c.turns.added b k c.turns.invariant.on c.turns.invariant.paced m' t after c.in-Goes.turn c.in-Goes.computed turned stays c.after-self-in-Some-Goes.result (omega arith) rests since c.after-self-in-Some-Goes.ensures.passes
+    poll_rests x from before (given s.core) pace c.args.steps p m u mid c.turns.added b k c.turns.invariant.on c.turns.invariant.paced m' t after c.in-Some-Goes.turn c.in-Some-Goes.computed turned stays c.after-self-in-Some-Goes.result (omega arith) rests since c.after-self-in-Some-Goes.ensures.passes
 
-pub returns-in-Some-Goes-then-rests-clause-does : goal.returns-in-Some-Goes-then-rests-clause-does
-returns-in-Some-Goes-then-rests-clause-does g c =
-    does_added g.M.MainTask.does c.args.main.now c.args.trace.now c.turns.main c.turns.trace (stepped.Goes c.in-Goes.turn c.in-Goes.computed) c.turn.new.main c.turn.new.trace c.turns.invariant.does (rw c.in-Goes.is at c.in_ok-turn.ensures.does)
+pub returns-then-rests-clause-does : goal.returns-then-rests-clause-does
+returns-then-rests-clause-does g c =
+    does_added g.M.MainTask.does c.args.main.now c.args.trace.now c.turns.main c.turns.trace (stepped.Goes c.in-Some-Goes.turn c.in-Some-Goes.computed) c.turn.new.main c.turn.new.trace c.turns.invariant.does (rw c.in-Some-Goes.is at c.in_ok-turn.ensures.does)
 
 pub compute-requires-clause-order : goal.compute-requires-clause-order
 compute-requires-clause-order g c =
@@ -172,10 +172,10 @@ compute-requires-clause-order g c =
     let t = c.turn.new.store.state in
     let m' = part c.turn.new.main in
     let after = c.turn.new.trace in
-    let turned = none_as (λ (made : Option Made). Turned (setting_of c.args.component.now (script c.turns.main) c.turns.self.trap_on_idle) p m u made m' t) (λ (made : Option Made). Turned x p m u made m' t) (Some (stepped.Goes c.in-Goes.turn c.in-Goes.computed)) mid after
+    let turned = none_as (λ (made : Option Made). Turned (setting_of c.args.component.now (script c.turns.main) c.turns.self.trap_on_idle) p m u made m' t) (λ (made : Option Made). Turned x p m u made m' t) (Some (stepped.Goes c.in-Some-Goes.turn c.in-Some-Goes.computed)) mid after
     (λ made. turned_same c.args.component.now (script c.turns.main) (script c.args.main.now) c.turns.self.trap_on_idle c.args.self.now.trap_on_idle p m u made m' t c.turns.invariant.script c.turns.invariant.idle)
-    (rw c.in-Goes.is at c.in_ok-turn.ensures.turned) in
-    let on = added_more x from before (given s.core) p m u mid c.turns.added c.turns.invariant.on m' t after c.in-Goes.turn c.in-Goes.computed turned in
+    (rw c.in-Some-Goes.is at c.in_ok-turn.ensures.turned) in
+    let on = added_more x from before (given s.core) p m u mid c.turns.added c.turns.invariant.on m' t after c.in-Some-Goes.turn c.in-Some-Goes.computed turned in
     on.at.order
 
 pub turns-preserved : goal.turns-preserved
@@ -196,28 +196,28 @@ turns-preserved g c =
     let t = c.turn.new.store.state in
     let m' = part c.turn.new.main in
     let after = c.turn.new.trace in
-    let turned = none_as (λ (made : Option Made). Turned (setting_of c.args.component.now (script c.turns.main) c.turns.self.trap_on_idle) p m u made m' t) (λ (made : Option Made). Turned x p m u made m' t) (Some (stepped.Goes c.in-Goes.turn c.in-Goes.computed)) mid after
+    let turned = none_as (λ (made : Option Made). Turned (setting_of c.args.component.now (script c.turns.main) c.turns.self.trap_on_idle) p m u made m' t) (λ (made : Option Made). Turned x p m u made m' t) (Some (stepped.Goes c.in-Some-Goes.turn c.in-Some-Goes.computed)) mid after
     (λ made. turned_same c.args.component.now (script c.turns.main) (script c.args.main.now) c.turns.self.trap_on_idle c.args.self.now.trap_on_idle p m u made m' t c.turns.invariant.script c.turns.invariant.idle)
-    (rw c.in-Goes.is at c.in_ok-turn.ensures.turned) in
+    (rw c.in-Some-Goes.is at c.in_ok-turn.ensures.turned) in
     let stays = subst (λ (o : Option Mark). yields_before b k o ≡ false) c.next_mark-next.ensures (sym c.yields.ensures ∙ c.if-yields.false) in
     let rests = subst (λ (o : Option Mark). rests_by p o ≡ false) c.next_mark-next.ensures (sym c.rests-rests.ensures ∙ c.if-rests.false) in
     let since = c.after-self-in-Some-Goes.ensures.since ∙ ap (λ (o : Option Mark). counted k o) c.next_mark-next.ensures in
-    let on = added_more x from before (given s.core) p m u mid c.turns.added c.turns.invariant.on m' t after c.in-Goes.turn c.in-Goes.computed turned in
-    let more = poll_goes x from before (given s.core) pace c.args.steps p m u mid c.turns.added b k c.turns.invariant.on c.turns.invariant.paced m' t after c.in-Goes.turn c.in-Goes.computed turned stays c.after-self-in-Some-Goes.result.passes c.after-self-in-Some-Goes.result.since rests since c.after-self-in-Some-Goes.ensures.passes in
-    let computed = c.in_ok-added.ensures.computes in
+    let on = added_more x from before (given s.core) p m u mid c.turns.added c.turns.invariant.on m' t after c.in-Some-Goes.turn c.in-Some-Goes.computed turned in
+    let more = poll_goes x from before (given s.core) pace c.args.steps p m u mid c.turns.added b k c.turns.invariant.on c.turns.invariant.paced m' t after c.in-Some-Goes.turn c.in-Some-Goes.computed turned stays c.after-self-in-Some-Goes.result.passes c.after-self-in-Some-Goes.result.since rests since c.after-self-in-Some-Goes.ensures.passes in
+    let computed = c.in_ok-added-in-Some-Goes.ensures.computes in
     record {
       script = c.in_ok-turn.ensures.script ∙ c.turns.invariant.script;
       suits = c.in_ok-turn.ensures.suits;
-      knows = g.met.M.MainTask.stays c.turn.new.main t c.compute.new.w (last_by_works t c.compute.new.w c.in_ok-added.ensures.works) c.in_ok-turn.ensures.knows;
-      hosts = holds_same t.core c.compute.new.w.core (held_by g.H.HostWork.course c.turn.new.store) c.in_ok-added.ensures.works.works c.in_ok-turn.ensures.hosts;
+      knows = g.met.M.MainTask.stays c.turn.new.main t c.compute.new.w (last_by_works t c.compute.new.w c.in_ok-added-in-Some-Goes.ensures.works) c.in_ok-turn.ensures.knows;
+      hosts = holds_same t.core c.compute.new.w.core (held_by g.H.HostWork.course c.turn.new.store) c.in_ok-added-in-Some-Goes.ensures.works.works c.in_ok-turn.ensures.hosts;
       idle = c.turns.invariant.idle;
       stands = c.in_ok-turn.ensures.stands ∙ c.turns.invariant.stands;
-      on = c.in_ok-added.ensures.on x refl from before (given s.core) m' on;
-      does = does_computed g.M.MainTask.does c.args.main.now before c.turn.new.main after c.args.component.now c.in-Goes.turn t (c.turns.added + 1) c.compute.new.w c.compute.new.trace c.in_ok-added.added
-          (does_added g.M.MainTask.does c.args.main.now before c.turns.main mid (stepped.Goes c.in-Goes.turn c.in-Goes.computed) c.turn.new.main after c.turns.invariant.does (rw c.in-Goes.is at c.in_ok-turn.ensures.does))
+      on = c.in_ok-added-in-Some-Goes.ensures.on x refl from before (given s.core) m' on;
+      does = does_computed g.M.MainTask.does c.args.main.now before c.turn.new.main after c.args.component.now c.in-Some-Goes.turn t (c.turns.added + 1) c.compute.new.w c.compute.new.trace c.in_ok-added-in-Some-Goes.added
+          (does_added g.M.MainTask.does c.args.main.now before c.turns.main mid (stepped.Goes c.in-Some-Goes.turn c.in-Some-Goes.computed) c.turn.new.main after c.turns.invariant.does (rw c.in-Some-Goes.is at c.in_ok-turn.ensures.does))
           computed;
       paced = paced_data pace.passes pace.since before after c.after-self-in-Some-Goes.result.passes c.after-self-in-Some-Goes.result.since more computed.labels c.compute.new.trace computed.computing computed.trace c.after-self-in-Some-Goes.ensures.passes;
-      few = c.in_ok-added.ensures.few.1;
+      few = c.in_ok-added-in-Some-Goes.ensures.few.1;
     }
 
 pub returns-in_err-turn-clause-err : goal.returns-in_err-turn-clause-err
@@ -237,8 +237,8 @@ returns-in_err-turn-clause-err g c =
     let k = c.turns.self.pace.since in
     on_err c.from_residual.result _ (was_on x from before (given s.core) p m u mid c.turn.new.trace c.turns.added c.args.steps c.turns.invariant.on c.turns.invariant.few c.in_err-turn.ensures.err)
 
-pub returns-in_err-added-clause-err : goal.returns-in_err-added-clause-err
-returns-in_err-added-clause-err g c =
+pub returns-in_err-added-in-Some-Goes-clause-err : goal.returns-in_err-added-in-Some-Goes-clause-err
+returns-in_err-added-in-Some-Goes-clause-err g c =
     let s = c.args.store.now.state in
     let part = g.M.MainTask.part in
     let script = g.M.MainTask.script in
@@ -255,11 +255,11 @@ returns-in_err-added-clause-err g c =
     let t = c.turn.new.store.state in
     let m' = part c.turn.new.main in
     let after = c.turn.new.trace in
-    let turned = none_as (λ (made : Option Made). Turned (setting_of c.args.component.now (script c.turns.main) c.turns.self.trap_on_idle) p m u made m' t) (λ (made : Option Made). Turned x p m u made m' t) (Some (stepped.Goes c.in-Goes.turn c.in-Goes.computed)) mid after
+    let turned = none_as (λ (made : Option Made). Turned (setting_of c.args.component.now (script c.turns.main) c.turns.self.trap_on_idle) p m u made m' t) (λ (made : Option Made). Turned x p m u made m' t) (Some (stepped.Goes c.in-Some-Goes.turn c.in-Some-Goes.computed)) mid after
     (λ made. turned_same c.args.component.now (script c.turns.main) (script c.args.main.now) c.turns.self.trap_on_idle c.args.self.now.trap_on_idle p m u made m' t c.turns.invariant.script c.turns.invariant.idle)
-    (rw c.in-Goes.is at c.in_ok-turn.ensures.turned) in
-    let on = added_more x from before (given s.core) p m u mid c.turns.added c.turns.invariant.on m' t after c.in-Goes.turn c.in-Goes.computed turned in
-    on_err c.from_residual-in_err-added.result _ (was_on_short x from before (given s.core) c.in-Goes.turn m' t after c.compute.new.trace (c.turns.added + 1) c.args.steps on c.in_err-added.ensures.err)
+    (rw c.in-Some-Goes.is at c.in_ok-turn.ensures.turned) in
+    let on = added_more x from before (given s.core) p m u mid c.turns.added c.turns.invariant.on m' t after c.in-Some-Goes.turn c.in-Some-Goes.computed turned in
+    on_err c.from_residual-in_err-added-in-Some-Goes.result _ (was_on_short x from before (given s.core) c.in-Some-Goes.turn m' t after c.compute.new.trace (c.turns.added + 1) c.args.steps on c.in_err-added-in-Some-Goes.ensures.err)
 
 pub returns-then-is_idle-clause-ok : goal.returns-then-is_idle-clause-ok
 returns-then-is_idle-clause-ok g c =
