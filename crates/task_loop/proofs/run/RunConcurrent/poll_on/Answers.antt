@@ -13,6 +13,7 @@ use Rattle.task_turns.proofs.DoesLemmas.{does_added, does_computed, does_none, d
 use Rattle.task_turns.proofs.DriveLemmas.{on_begins, turned_same, was_on, was_on_short}
 use Rattle.task_turns.proofs.LaterLemmas.{last_by_works}
 use Rattle.task_turns.proofs.SteppedLemmas.{added_more, none_as}
+use Rattle.task_turns.specs.Does.{DoesStep, step_of}
 use Rattle.task_turns.specs.Stepped.{AddedOrNone}
 use Rattle.task_turns.specs.Turn.{Turned, given, idle_line_of, setting_of, state_at}
 use Rattle.task_turns.specs.declared.made.Made.{Made}
@@ -107,7 +108,7 @@ returns-in-Some-Over-clause-ok g c =
     let after = c.turn.new.trace in
     let turned = none_as (λ (made : Option Made). Turned (setting_of c.args.component.now (script c.turns.main) c.turns.self.trap_on_idle) p m u made m' t) (λ (made : Option Made). Turned x p m u made m' t) (Some (stepped.Over c.in-Some-Over.outcome)) mid after
     (λ made. turned_same c.args.component.now (script c.turns.main) (script c.args.main.now) c.turns.self.trap_on_idle c.args.self.now.trap_on_idle p m u made m' t c.turns.invariant.script c.turns.invariant.idle)
-    (rw c.in-Some-Over.is at c.in_ok-turn.ensures.turned) in
+    (subst (λ (o : Option Stepped). AddedOrNone (λ (made : Option Made). Turned (setting_of c.args.component.now (script c.turns.main) c.turns.self.trap_on_idle) p m u made m' t) o mid after) (c.in-Some-Over.is ∙ ap (λ (q : Stepped). Some q) c.in-Some-Over.field-0-is) c.in_ok-turn.ensures.turned) in
     rw c.answer_of.ensures
     (poll_ends x from before (given s.core) pace c.args.steps p m u mid c.turns.added b k c.turns.invariant.on c.turns.invariant.paced m' t after c.after-self-in-Some-Over.result c.in-Some-Over.outcome (omega arith) turned c.after-self-in-Some-Over.ensures.since c.after-self-in-Some-Over.ensures.passes)
 
@@ -117,7 +118,7 @@ returns-in-Some-Over-clause-wanting g c =
 
 pub returns-in-Some-Over-clause-does : goal.returns-in-Some-Over-clause-does
 returns-in-Some-Over-clause-does g c =
-    does_added g.M.MainTask.does c.args.main.now c.args.trace.now c.turns.main c.turns.trace (stepped.Over c.in-Some-Over.outcome) c.turn.new.main c.turn.new.trace c.turns.invariant.does (rw c.in-Some-Over.is at c.in_ok-turn.ensures.does)
+    does_added g.M.MainTask.does c.args.main.now c.args.trace.now c.turns.main c.turns.trace (stepped.Over c.in-Some-Over.outcome) c.turn.new.main c.turn.new.trace c.turns.invariant.does (subst (λ (o : Option Stepped). AddedOrNone (λ (made : Option Made). DoesStep g.M.MainTask.does c.turns.main (step_of made) c.turn.new.main) o c.turns.trace c.turn.new.trace) (c.in-Some-Over.is ∙ ap (λ (q : Stepped). Some q) c.in-Some-Over.field-0-is) c.in_ok-turn.ensures.does)
 
 pub after-self-requires-in-Some-Goes : goal.after-self-requires-in-Some-Goes
 after-self-requires-in-Some-Goes g c =
@@ -144,7 +145,7 @@ returns-then-rests-clause-ok g c =
     let after = c.turn.new.trace in
     let turned = none_as (λ (made : Option Made). Turned (setting_of c.args.component.now (script c.turns.main) c.turns.self.trap_on_idle) p m u made m' t) (λ (made : Option Made). Turned x p m u made m' t) (Some (stepped.Goes c.in-Some-Goes.turn c.in-Some-Goes.computed)) mid after
     (λ made. turned_same c.args.component.now (script c.turns.main) (script c.args.main.now) c.turns.self.trap_on_idle c.args.self.now.trap_on_idle p m u made m' t c.turns.invariant.script c.turns.invariant.idle)
-    (rw c.in-Some-Goes.is at c.in_ok-turn.ensures.turned) in
+    (subst (λ (o : Option Stepped). AddedOrNone (λ (made : Option Made). Turned (setting_of c.args.component.now (script c.turns.main) c.turns.self.trap_on_idle) p m u made m' t) o mid after) (c.in-Some-Goes.is ∙ ap (λ (q : Stepped). Some q) c.in-Some-Goes.field-0-is) c.in_ok-turn.ensures.turned) in
     let stays = subst (λ (o : Option Mark). yields_before b k o ≡ false) c.next_mark-next.ensures (sym c.yields.ensures ∙ c.if-yields.false) in
     let rests = subst (λ (o : Option Mark). rests_by p o ≡ true) c.next_mark-next.ensures (sym c.rests-rests.ensures ∙ c.if-rests.true) in
     let since = c.after-self-in-Some-Goes.ensures.since ∙ ap (λ (o : Option Mark). counted k o) c.next_mark-next.ensures in
@@ -152,7 +153,7 @@ returns-then-rests-clause-ok g c =
 
 pub returns-then-rests-clause-does : goal.returns-then-rests-clause-does
 returns-then-rests-clause-does g c =
-    does_added g.M.MainTask.does c.args.main.now c.args.trace.now c.turns.main c.turns.trace (stepped.Goes c.in-Some-Goes.turn c.in-Some-Goes.computed) c.turn.new.main c.turn.new.trace c.turns.invariant.does (rw c.in-Some-Goes.is at c.in_ok-turn.ensures.does)
+    does_added g.M.MainTask.does c.args.main.now c.args.trace.now c.turns.main c.turns.trace (stepped.Goes c.in-Some-Goes.turn c.in-Some-Goes.computed) c.turn.new.main c.turn.new.trace c.turns.invariant.does (subst (λ (o : Option Stepped). AddedOrNone (λ (made : Option Made). DoesStep g.M.MainTask.does c.turns.main (step_of made) c.turn.new.main) o c.turns.trace c.turn.new.trace) (c.in-Some-Goes.is ∙ ap (λ (q : Stepped). Some q) c.in-Some-Goes.field-0-is) c.in_ok-turn.ensures.does)
 
 pub compute-requires-clause-order : goal.compute-requires-clause-order
 compute-requires-clause-order g c =
@@ -174,7 +175,7 @@ compute-requires-clause-order g c =
     let after = c.turn.new.trace in
     let turned = none_as (λ (made : Option Made). Turned (setting_of c.args.component.now (script c.turns.main) c.turns.self.trap_on_idle) p m u made m' t) (λ (made : Option Made). Turned x p m u made m' t) (Some (stepped.Goes c.in-Some-Goes.turn c.in-Some-Goes.computed)) mid after
     (λ made. turned_same c.args.component.now (script c.turns.main) (script c.args.main.now) c.turns.self.trap_on_idle c.args.self.now.trap_on_idle p m u made m' t c.turns.invariant.script c.turns.invariant.idle)
-    (rw c.in-Some-Goes.is at c.in_ok-turn.ensures.turned) in
+    (subst (λ (o : Option Stepped). AddedOrNone (λ (made : Option Made). Turned (setting_of c.args.component.now (script c.turns.main) c.turns.self.trap_on_idle) p m u made m' t) o mid after) (c.in-Some-Goes.is ∙ ap (λ (q : Stepped). Some q) c.in-Some-Goes.field-0-is) c.in_ok-turn.ensures.turned) in
     let on = added_more x from before (given s.core) p m u mid c.turns.added c.turns.invariant.on m' t after c.in-Some-Goes.turn c.in-Some-Goes.computed turned in
     on.at.order
 
@@ -198,7 +199,7 @@ turns-preserved g c =
     let after = c.turn.new.trace in
     let turned = none_as (λ (made : Option Made). Turned (setting_of c.args.component.now (script c.turns.main) c.turns.self.trap_on_idle) p m u made m' t) (λ (made : Option Made). Turned x p m u made m' t) (Some (stepped.Goes c.in-Some-Goes.turn c.in-Some-Goes.computed)) mid after
     (λ made. turned_same c.args.component.now (script c.turns.main) (script c.args.main.now) c.turns.self.trap_on_idle c.args.self.now.trap_on_idle p m u made m' t c.turns.invariant.script c.turns.invariant.idle)
-    (rw c.in-Some-Goes.is at c.in_ok-turn.ensures.turned) in
+    (subst (λ (o : Option Stepped). AddedOrNone (λ (made : Option Made). Turned (setting_of c.args.component.now (script c.turns.main) c.turns.self.trap_on_idle) p m u made m' t) o mid after) (c.in-Some-Goes.is ∙ ap (λ (q : Stepped). Some q) c.in-Some-Goes.field-0-is) c.in_ok-turn.ensures.turned) in
     let stays = subst (λ (o : Option Mark). yields_before b k o ≡ false) c.next_mark-next.ensures (sym c.yields.ensures ∙ c.if-yields.false) in
     let rests = subst (λ (o : Option Mark). rests_by p o ≡ false) c.next_mark-next.ensures (sym c.rests-rests.ensures ∙ c.if-rests.false) in
     let since = c.after-self-in-Some-Goes.ensures.since ∙ ap (λ (o : Option Mark). counted k o) c.next_mark-next.ensures in
@@ -214,7 +215,7 @@ turns-preserved g c =
       stands = c.in_ok-turn.ensures.stands ∙ c.turns.invariant.stands;
       on = c.in_ok-added-in-Some-Goes.ensures.on x refl from before (given s.core) m' on;
       does = does_computed g.M.MainTask.does c.args.main.now before c.turn.new.main after c.args.component.now c.in-Some-Goes.turn t (c.turns.added + 1) c.compute.new.w c.compute.new.trace c.in_ok-added-in-Some-Goes.added
-          (does_added g.M.MainTask.does c.args.main.now before c.turns.main mid (stepped.Goes c.in-Some-Goes.turn c.in-Some-Goes.computed) c.turn.new.main after c.turns.invariant.does (rw c.in-Some-Goes.is at c.in_ok-turn.ensures.does))
+          (does_added g.M.MainTask.does c.args.main.now before c.turns.main mid (stepped.Goes c.in-Some-Goes.turn c.in-Some-Goes.computed) c.turn.new.main after c.turns.invariant.does (subst (λ (o : Option Stepped). AddedOrNone (λ (made : Option Made). DoesStep g.M.MainTask.does c.turns.main (step_of made) c.turn.new.main) o c.turns.trace c.turn.new.trace) (c.in-Some-Goes.is ∙ ap (λ (q : Stepped). Some q) c.in-Some-Goes.field-0-is) c.in_ok-turn.ensures.does))
           computed;
       paced = paced_data pace.passes pace.since before after c.after-self-in-Some-Goes.result.passes c.after-self-in-Some-Goes.result.since more computed.labels c.compute.new.trace computed.computing computed.trace c.after-self-in-Some-Goes.ensures.passes;
       few = c.in_ok-added-in-Some-Goes.ensures.few.1;
@@ -257,7 +258,7 @@ returns-in_err-added-in-Some-Goes-clause-err g c =
     let after = c.turn.new.trace in
     let turned = none_as (λ (made : Option Made). Turned (setting_of c.args.component.now (script c.turns.main) c.turns.self.trap_on_idle) p m u made m' t) (λ (made : Option Made). Turned x p m u made m' t) (Some (stepped.Goes c.in-Some-Goes.turn c.in-Some-Goes.computed)) mid after
     (λ made. turned_same c.args.component.now (script c.turns.main) (script c.args.main.now) c.turns.self.trap_on_idle c.args.self.now.trap_on_idle p m u made m' t c.turns.invariant.script c.turns.invariant.idle)
-    (rw c.in-Some-Goes.is at c.in_ok-turn.ensures.turned) in
+    (subst (λ (o : Option Stepped). AddedOrNone (λ (made : Option Made). Turned (setting_of c.args.component.now (script c.turns.main) c.turns.self.trap_on_idle) p m u made m' t) o mid after) (c.in-Some-Goes.is ∙ ap (λ (q : Stepped). Some q) c.in-Some-Goes.field-0-is) c.in_ok-turn.ensures.turned) in
     let on = added_more x from before (given s.core) p m u mid c.turns.added c.turns.invariant.on m' t after c.in-Some-Goes.turn c.in-Some-Goes.computed turned in
     on_err c.from_residual-in_err-added-in-Some-Goes.result _ (was_on_short x from before (given s.core) c.in-Some-Goes.turn m' t after c.compute.new.trace (c.turns.added + 1) c.args.steps on c.in_err-added-in-Some-Goes.ensures.err)
 
