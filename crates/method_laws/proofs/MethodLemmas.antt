@@ -26,7 +26,7 @@ use Rattle.task_machine.specs.declared.records.Caller.{Caller}
 use Rattle.task_ops.specs.Came.{Meets}
 use Rattle.task_ops.specs.Halting.{GoesFirst, or_refused, promoted_found, promoted_if, refused_if, resumed_found}
 use Rattle.task_ops.specs.declared.came.Came.{Came}
-use Rattle.task_places.proofs.Laws.{Bool, Component, Core, ExportKind, Goes, HowFar, Label, List, None, Option, Place, Progress, Some, Trap, Turn, Unscripted, Why, ap, arith, at_handle_limit, call_made, callee_of, false, get-change, goal_of, how_far_of, instance_of, is_direct, is_explicit, is_some, is_sync_call, kind_of, length, may_tell, nat_tests, next_thread, not, on_thread, op_of, plain, put_switch, refl, script_of, set_position, set_register, subst, sym, task_of, told, trap_if, true, under_of, ℕ, ◌+◌, ◌-◌, ◌==◌, ◌∙◌, ◌≡◌, ◌≤◌}
+use Rattle.task_places.proofs.Laws.{Bool, Component, Core, ExportKind, Goes, HowFar, Label, List, None, Option, Place, Progress, Some, Trap, Turn, Unscripted, Why, ap, arith, at_handle_limit, call_made, callee_of, false, get-change, goal_of, how_far_of, instance_of, is_direct, is_explicit, is_some, is_sync_call, kind_of, length, may_tell, nat_tests, next_thread, not, on_thread, op_of, plain, put_switch, refl, script_of, set_position, set_register, subst, sym, task_of, told, trap_if, true, under_of, ℕ, ◌+◌, ◌==◌, ◌∙◌, ◌≡◌, ◌≤◌}
 use Rattle.task_rules.proofs.WalkTask.{unnot}
 use Rattle.task_rules.specs.Allowed.{is_for_main}
 use Rattle.task_rules.specs.Calls.{enter_row, enter_runs}
