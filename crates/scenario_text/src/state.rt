@@ -1,7 +1,10 @@
 //! What was read so far, and what each kind of line adds to it.
-ghost use Rattle.std.specs.Prelude.{◌≡◌, Some};
+ghost use Rattle.std.specs.Prelude.{◌≡◌, Some, map};
 ghost use Rattle.std.specs.Option.{option_map};
+ghost use Rattle.task_machine.specs.declared.op.Op.TheVariants as op;
 ghost use Rattle.text_lines.specs.Gives.{Gives, Becomes};
+ghost use Rattle.text_lines.specs.Line.{data_op_after, line_after};
+ghost use Rattle.text_lines.specs.Words.{◌>>=◌};
 ghost use Rattle.scenario_text.specs.State.{with_op, with_part, start_of, finish_of, spawn_of, ready_of, main_op_of};
 
 use crate::callee::{call_of, callee_of, fitting_export, host_place, params_of};
@@ -12,8 +15,11 @@ use crate::placement::{
 use crate::tree::{ExportText, HostText, InstanceText, MainOpText, PartText, ScenarioText};
 use std::alloc::Global;
 use std::mem;
-use task_machine::{ExportKind, IdleLine, Op, Operand, Seq};
-use text_lines::{HeadLine, Line, LineError, Name, NamedCall, NamedOp, PartLine};
+use task_machine::{DataOp, ExportKind, IdleLine, Op, Operand, Seq};
+use text_lines::{
+    DataWord, HeadLine, Keyword, Line, LineError, Name, NamedCall, NamedOp, PartLine,
+    data_op_after, line_after, target,
+};
 
 /// The head, the hosts, and the instances that are closed.
 #[derive(Drop)]
@@ -182,7 +188,7 @@ impl Drop for State {
 }
 
 impl State {
-    ghost use Rattle.scenario_text.specs.State.{script_closed, instance_closed, main_open, script_body, after_title, after_handles, after_table, after_idle, after_head, after_host, after_instance, after_export, after_react, after_thread, after_bad, after_part, after_op, after_call, after_main, after_main_op, after_answer, after_aborter, after_end, after, scenario_of};
+    ghost use Rattle.scenario_text.specs.State.{script_closed, instance_closed, main_open, script_body, after_title, after_handles, after_table, after_idle, after_head, after_host, after_instance, after_export, after_react, after_thread, after_bad, after_part, after_op, after_call, after_main, after_main_op, after_answer, after_aborter, after_end, after, after_words, scenario_of};
 
     #[tactic(auto, unfolding(crate::specs::State::script_closed))]
     fn close_script(self) -> Result<(Body, InstanceText), LineError>
@@ -376,6 +382,7 @@ impl State {
         }
     }
 
+    #[inline(never)]
     #[tactic(auto, unfolding(crate::specs::State::after_op))]
     fn add_op(&mut self, op: Op) -> Result<(), LineError>
         ensures { Becomes self.new result (after_op self.old op) }
@@ -524,22 +531,67 @@ impl State {
 
     // Adds any line. It stays out of line, so that the lines of scripts don't pay for its values.
     #[inline(never)]
-    fn add_any(&mut self, alloc: Global, line: Line) -> Result<(), LineError>
-        ensures { Becomes self.new result (after self.old line) }
-    {
-        *self = self.taken().after_line(alloc, line)?;
-        Ok(())
-    }
-
-    /// Adds a further line to what was read. After an error nothing is said of the state.
     #[tactic(auto, unfolding(crate::specs::State::after))]
-    pub fn add(&mut self, alloc: Global, line: Line) -> Result<(), LineError>
-        ensures { Becomes self.new result (after self.old line) }
+    fn add_line(
+        &mut self,
+        alloc: Global,
+        keyword: Keyword,
+        words: &[&[u8]],
+    ) -> Result<(), LineError>
+        ensures { Becomes self.new result (line_after keyword (map (λ w. w.now) words.now) >>= λ l. after self.old l) }
     {
-        match line {
+        match line_after(alloc, keyword, words)? {
             Line::Op(op) => self.add_op(op),
             Line::Call(call) => self.add_call(call),
-            line => self.add_any(alloc, line),
+            line => {
+                *self = self.taken().after_line(alloc, line)?;
+                Ok(())
+            }
+        }
+    }
+
+    // Adds an op on registers. The frequent ones are made where they are added, with no copy in between.
+    #[inline(always)]
+    #[tactic(auto, unfolding(text_lines::specs::Line::data_op_after))]
+    fn add_data(&mut self, word: DataWord, words: &[&[u8]]) -> Result<(), LineError>
+        ensures { Becomes self.new result (data_op_after word (map (λ w. w.now) words.now) >>= λ o. after_op self.old (op.Data o)) }
+    {
+        match word {
+            DataWord::Set => {
+                let Some((to, value)) = target(words) else {
+                    return Err(LineError::Bad);
+                };
+                self.add_op(Op::Data(DataOp::Set { to, value }))
+            }
+            DataWord::Add => {
+                let Some((to, value)) = target(words) else {
+                    return Err(LineError::Bad);
+                };
+                self.add_op(Op::Data(DataOp::Add { to, value }))
+            }
+            _ => {
+                let Some(op) = data_op_after(word, words) else {
+                    return Err(LineError::Bad);
+                };
+                self.add_op(Op::Data(op))
+            }
+        }
+    }
+
+    /// Adds the line that these words spell to what was read. After an error nothing is said of the state.
+    #[tactic(auto, unfolding(crate::specs::State::after_words, text_lines::specs::Line::line_at, text_lines::specs::Line::line_after, crate::specs::State::after))]
+    pub fn add(&mut self, alloc: Global, words: &[&[u8]]) -> Result<(), LineError>
+        ensures { Becomes self.new result (after_words self.old (map (λ w. w.now) words.now)) }
+    {
+        let Some((word, words)) = words.split_first() else {
+            return Err(LineError::Bad);
+        };
+        let Some(keyword) = Keyword::from_word(word) else {
+            return Err(LineError::Bad);
+        };
+        match keyword {
+            Keyword::Data(word) => self.add_data(word, words),
+            keyword => self.add_line(alloc, keyword, words),
         }
     }
 
