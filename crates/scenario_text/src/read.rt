@@ -49,7 +49,7 @@ fn word_end(line: &[u8]) -> Option<usize>
     ensures inside { IfSome result (λ i. i < length line.now) }
 {
     let mut at = 0;
-    while line.len() - at >= 4 {
+    'fours: while line.len() - at >= 4 {
         if line[at] == b' ' {
             return Some(at);
         }
@@ -64,7 +64,7 @@ fn word_end(line: &[u8]) -> Option<usize>
         }
         at += 4;
     }
-    while at < line.len() {
+    'ones: while at < line.len() {
         if line[at] == b' ' {
             return Some(at);
         }

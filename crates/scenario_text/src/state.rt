@@ -8,9 +8,9 @@ ghost use Rattle.text_lines.specs.Words.{◌>>=◌};
 ghost use Rattle.scenario_text.specs.State.{with_op, with_part, start_of, finish_of, spawn_of, ready_of, main_op_of};
 
 use crate::callee::{call_of, callee_of, fitting_export, host_place, params_of};
+use crate::main_lines::MainLines;
 use crate::placement::{
-    aborter_opens, export_opens, finish_opens, host_opens, instance_opens, is_callback,
-    main_has_room, op_opens, slot_opens, spawn_named, spawn_opens, start_opens,
+    export_opens, host_opens, instance_opens, is_callback, op_opens, slot_opens,
 };
 use crate::tree::{ExportText, HostText, InstanceText, MainOpText, PartText, ScenarioText};
 use std::alloc::Global;
@@ -85,7 +85,7 @@ fn push_op(callback: bool, ops: &mut Seq<Op>, op: Op) -> Result<(), LineError>
 #[tactic(auto, unfolding(crate::specs::State::start_of))]
 fn start_of(
     instances: &[InstanceText],
-    before: &[MainOpText],
+    before: &MainLines,
     instance: &[u8],
     export: &[u8],
     operands: Seq<Operand>,
@@ -93,31 +93,33 @@ fn start_of(
     ensures { result ≡ start_of instances.now before.now instance.now export.now operands }
 {
     let callee = fitting_export(instances, instance, export, operands.as_slice())?;
-    if !start_opens(before) {
+    if !before.start_opens() {
         return None;
     }
     Some(MainOpText::Start(callee, operands))
 }
 
 #[tactic(auto, unfolding(crate::specs::State::finish_of))]
-fn finish_of(before: &[MainOpText], start: u32, register: u8) -> Option<MainOpText>
+fn finish_of(before: &MainLines, start: u32, register: u8) -> Option<MainOpText>
     ensures { result ≡ finish_of before.now start register }
 {
-    finish_opens(before, start).then_some(MainOpText::Finish(start, register))
+    before
+        .finish_opens(start)
+        .then_some(MainOpText::Finish(start, register))
 }
 
 #[tactic(auto, unfolding(crate::specs::State::spawn_of))]
-fn spawn_of(hosts: &[HostText], before: &[MainOpText], name: &[u8]) -> Option<MainOpText>
+fn spawn_of(hosts: &[HostText], before: &MainLines, name: &[u8]) -> Option<MainOpText>
     ensures { result ≡ spawn_of hosts.now before.now name.now }
 {
     let host = host_place(hosts, name)?;
-    spawn_opens(before).then_some(MainOpText::Spawn(host))
+    before.spawn_opens().then_some(MainOpText::Spawn(host))
 }
 
 #[tactic(auto, unfolding(crate::specs::State::ready_of))]
 fn ready_of(
     instances: &[InstanceText],
-    before: &[MainOpText],
+    before: &MainLines,
     instance: &[u8],
     export: &[u8],
 ) -> Option<MainOpText>
@@ -125,11 +127,11 @@ fn ready_of(
 {
     let callee = callee_of(instances, instance, export)?;
     let _params = params_of(instances, callee)?;
-    main_has_room(before).then_some(MainOpText::Ready(callee))
+    before.has_room().then_some(MainOpText::Ready(callee))
 }
 
 #[tactic(auto, unfolding(crate::specs::State::main_op_of))]
-fn main_op_of(body: &Body, before: &[MainOpText], op: NamedOp) -> Option<MainOpText>
+fn main_op_of(body: &Body, before: &MainLines, op: NamedOp) -> Option<MainOpText>
     ensures { result ≡ main_op_of body.now before.now op }
 {
     let (hosts, instances) = (body.hosts.as_slice(), body.instances.as_slice());
@@ -143,9 +145,9 @@ fn main_op_of(body: &Body, before: &[MainOpText], op: NamedOp) -> Option<MainOpT
         ),
         NamedOp::Finish(start, register) => finish_of(before, start, register),
         NamedOp::Spawn(host) => spawn_of(hosts, before, host.as_slice()),
-        NamedOp::Abort(k) => spawn_named(before, k).then_some(MainOpText::Abort(k)),
-        NamedOp::Await(k) => spawn_named(before, k).then_some(MainOpText::Await(k)),
-        NamedOp::Quiet => main_has_room(before).then_some(MainOpText::Quiet),
+        NamedOp::Abort(k) => before.spawn_named(k).then_some(MainOpText::Abort(k)),
+        NamedOp::Await(k) => before.spawn_named(k).then_some(MainOpText::Await(k)),
+        NamedOp::Quiet => before.has_room().then_some(MainOpText::Quiet),
         NamedOp::Ready(instance, export) => {
             ready_of(instances, before, instance.as_slice(), export.as_slice())
         }
@@ -168,9 +170,9 @@ pub enum State {
     React(Body, InstanceText, Opening, Seq<Op>, Seq<Op>),
     /// A slot is open, with its script so far.
     Thread(Body, InstanceText, u8, Seq<Op>),
-    Main(Body, Seq<MainOpText>),
+    Main(Body, MainLines),
     /// Main has answered; the aborters so far.
-    Answered(Body, Seq<MainOpText>, Operand, Seq<Seq<u32>>),
+    Answered(Body, MainLines, Operand, Seq<Seq<u32>>),
     Ended(ScenarioText),
 }
 
@@ -424,11 +426,11 @@ impl State {
         ensures { Gives result (after_main self) }
     {
         let body = self.close_instance()?;
-        Ok(State::Main(body, Seq::new(alloc)))
+        Ok(State::Main(body, MainLines::new(alloc)))
     }
 
     #[tactic(auto, unfolding(crate::specs::State::main_open))]
-    fn open_main(self) -> Result<(Body, Seq<MainOpText>), LineError>
+    fn open_main(self) -> Result<(Body, MainLines), LineError>
         ensures { Gives result (main_open self) }
     {
         match self {
@@ -442,7 +444,7 @@ impl State {
         ensures { Gives result (after_main_op self op) }
     {
         let (body, mut ops) = self.open_main()?;
-        let op = main_op_of(&body, ops.as_slice(), op).ok_or(LineError::Bad)?;
+        let op = main_op_of(&body, &ops, op).ok_or(LineError::Bad)?;
         ops.push(op)?;
         Ok(State::Main(body, ops))
     }
@@ -461,7 +463,7 @@ impl State {
     {
         match self {
             State::Answered(body, ops, value, mut before) => {
-                if !aborter_opens(ops.as_slice(), before.as_slice(), spawns.as_slice()) {
+                if !ops.aborter_opens(before.as_slice(), spawns.as_slice()) {
                     return Err(LineError::Bad);
                 }
                 before.push(spawns)?;
@@ -482,7 +484,7 @@ impl State {
                 idle: body.idle,
                 hosts: body.hosts,
                 instances: body.instances,
-                main,
+                main: main.into_ops(),
                 answer,
                 aborters,
             })),
