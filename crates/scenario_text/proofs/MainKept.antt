@@ -1,17 +1,24 @@
 -- What is kept of main's ops stays so with one more.
-use Rattle.std.proofs.Common.{◌≡◌, ℕ, ◌+◌, ◌-◌, ◌<◌, ◌≤◌, Bool, true, false, ◌||◌, List, [], ◌∷◌, ◌++◌, length, get_or, set, refl, sym, ap, ◌∙◌, subst, arith, inl, inr}
-use Rattle.std.specs.Prelude.{◌==◌, eqb}
+use Rattle.std.proofs.Common.{◌≡◌, ℕ, ◌+◌, ◌-◌, ◌<◌, ◌≤◌, Bool, true, false, ◌&&◌, ◌||◌, cond, List, [], ◌∷◌, ◌++◌, length, get_or, set, Some, None, refl, sym, ap, ◌∙◌, subst, arith, inl, inr}
+use Rattle.std.specs.Prelude.{◌==◌, nat_le}
 use Rattle.std.specs.List.{list_any}
-use Rattle.std.proofs.lemmas.Bool.{cases_lt, cases_eq, ne_eqb, eq-eqb}
+use Rattle.std.proofs.lemmas.Bool.{and_parts, cases_lt, cases_eq, ne_eqb, eq-eqb, leb-true}
 use Rattle.std.proofs.lemmas.List.{get_or_append_left, get_or_push, get_or-set_same, get_or-set_other, length-append, length-set}
 use Rattle.std.proofs.lemmas.List.Folds.{list_any-append}
-use Rattle.std.proofs.lemmas.List.Sums.{sum_by_push}
+use Rattle.std.proofs.lemmas.List.Sums.{sum_by_push, count_by-le-length}
 use Rattle.task_machine.specs.declared.component.Callee.{Callee}
 use Rattle.task_machine.specs.declared.op.Operand.{Operand}
+use Rattle.text_lines.specs.declared.line.NamedOp.{NamedOp}
+use Rattle.text_lines.specs.declared.line.NamedOp.TheVariants as named
+use Rattle.text_lines.specs.Words.{◌>>=◌}
+use Rattle.text_lines.proofs.Numbers.{guarded}
+use Rattle.text_lines.proofs.WordLaws.{bind_some}
+use Rattle.scenario_text.specs.declared.state.Body.{Body}
 use Rattle.scenario_text.specs.declared.tree.MainOpText.{MainOpText}
 use Rattle.scenario_text.specs.declared.tree.MainOpText.TheVariants as main
-use Rattle.scenario_text.specs.Placement.{is_start, is_spawn, finishes, start_count, spawn_count}
-use Rattle.scenario_text.specs.MainLines.{IsKept}
+use Rattle.scenario_text.specs.Placement.{is_start, is_spawn, finishes, start_count, spawn_count, main_has_room, start_opens, finish_opens, spawn_opens, spawn_named, params_of}
+use Rattle.scenario_text.specs.MainLines.{IsKept, FinishesStart}
+use Rattle.scenario_text.specs.State.{fitting_export, callee_of, host_place, start_of, finish_of, spawn_of, ready_of, main_op_of}
 
 or_false : (b : Bool) → (b || false) ≡ b
 or_false true = refl
@@ -20,6 +27,9 @@ or_false false = refl
 or_true : (b : Bool) → (b || true) ≡ true
 or_true true = refl
 or_true false = refl
+
+pub few_spawns : (ops : List MainOpText) → spawn_count ops ≤ length ops
+few_spawns ops = count_by-le-length is_spawn ops
 
 module _ (ops : List MainOpText) (starts spawns : ℕ) (finished : List Bool) (kept : IsKept ops starts spawns finished) where
   any_more : (k : ℕ) (o : MainOpText) → list_any (finishes k) (ops ++ o ∷ []) ≡ (list_any (finishes k) ops || (finishes k o || false))
@@ -60,8 +70,8 @@ module _ (ops : List MainOpText) (starts spawns : ℕ) (finished : List Bool) (k
   kept_other o no_start no_spawn none =
       let same = same_finished o none in
       record {
-        starts_are = omega (arith, kept.starts_are, sum_by_push (λ o. cond (is_start o) 1 0) ops o, ap (λ (b : Bool). cond b 1 0) no_start);
-        spawns_are = omega (arith, kept.spawns_are, sum_by_push (λ o. cond (is_spawn o) 1 0) ops o, ap (λ (b : Bool). cond b 1 0) no_spawn);
+        starts_are = omega (arith, kept.starts_are, sum_by_push (λ o. cond (is_start o) 1 0) ops o, ap {B = ℕ} (λ (b : Bool). cond b 1 0) no_start);
+        spawns_are = omega (arith, kept.spawns_are, sum_by_push (λ o. cond (is_spawn o) 1 0) ops o, ap {B = ℕ} (λ (b : Bool). cond b 1 0) no_spawn);
         each = kept.each;
         finished_is = λ k lt. kept.finished_is k lt ∙ sym (same (k + 1));
         later = λ k lt. same k ∙ kept.later k lt;
@@ -103,3 +113,46 @@ module _ (ops : List MainOpText) (starts spawns : ℕ) (finished : List Bool) (k
       finished_is = λ j lt. kept.finished_is j lt ∙ sym (finishes_none (j + 1) (λ e. none (omega (arith, e))));
       later = λ j lt. finishes_none j (λ e. none (omega (arith, e, lt))) ∙ kept.later j lt;
     }
+
+-- ---- An op that a line of main is finishes no start but an earlier one
+
+module _ (b : Body) (before : List MainOpText) where
+  finish_known : (k r : ℕ) (o : MainOpText) → finish_of before k r ≡ Some o → FinishesStart before o
+  unfolding finish_of
+  finish_known k r o e =
+      let g = guarded (finish_opens before k) (main.Finish k r) o e in
+      let p = and_parts (main_has_room before && nat_le 1 k && nat_le k (start_count before)) _ g.0 in
+      let q = and_parts (main_has_room before && nat_le 1 k) (nat_le k (start_count before)) p.0 in
+      subst (FinishesStart before) g.1 (leb-true _ _ q.1)
+
+  start_known : (instance export : List ℕ) (xs : List Operand) (o : MainOpText) → start_of b.instances before instance export xs ≡ Some o → FinishesStart before o
+  unfolding start_of
+  start_known instance export xs o e =
+      let f = bind_some (fitting_export b.instances instance export xs) (λ f. cond (start_opens before) (Some (main.Start f xs)) None) o e in
+      let g = guarded (start_opens before) (main.Start f.0 xs) o f.2 in
+      subst (FinishesStart before) g.1 tt
+
+  spawn_known : (name : List ℕ) (o : MainOpText) → spawn_of b.hosts before name ≡ Some o → FinishesStart before o
+  unfolding spawn_of
+  spawn_known name o e =
+      let h = bind_some (host_place b.hosts name) (λ h. cond (spawn_opens before) (Some (main.Spawn h)) None) o e in
+      let g = guarded (spawn_opens before) (main.Spawn h.0) o h.2 in
+      subst (FinishesStart before) g.1 tt
+
+  ready_known : (instance export : List ℕ) (o : MainOpText) → ready_of b.instances before instance export ≡ Some o → FinishesStart before o
+  unfolding ready_of
+  ready_known instance export o e =
+      let f = bind_some (callee_of b.instances instance export) (λ f. params_of b.instances f >>= λ n. cond (main_has_room before) (Some (main.Ready f)) None) o e in
+      let n = bind_some (params_of b.instances f.0) (λ n. cond (main_has_room before) (Some (main.Ready f.0)) None) o f.2 in
+      let g = guarded (main_has_room before) (main.Ready f.0) o n.2 in
+      subst (FinishesStart before) g.1 tt
+
+  pub finishes_known : (l : NamedOp) (o : MainOpText) → main_op_of b before l ≡ Some o → FinishesStart before o
+  unfolding main_op_of
+  finishes_known (named.Start instance export xs) o e = start_known instance export xs o e
+  finishes_known (named.Finish k r) o e = finish_known k r o e
+  finishes_known (named.Spawn name) o e = spawn_known name o e
+  finishes_known (named.Abort k) o e = subst (FinishesStart before) (guarded (spawn_named before k) (main.Abort k) o e).1 tt
+  finishes_known (named.Await k) o e = subst (FinishesStart before) (guarded (spawn_named before k) (main.Await k) o e).1 tt
+  finishes_known named.Quiet o e = subst (FinishesStart before) (guarded (main_has_room before) main.Quiet o e).1 tt
+  finishes_known (named.Ready instance export) o e = ready_known instance export o e

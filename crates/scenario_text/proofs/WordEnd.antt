@@ -9,9 +9,9 @@ use Rattle.scenario_text.proofs.FirstByte.{first_byte}
 abbrev pub NoSpace : List ℕ → ℕ → Type 0
 NoSpace xs i = (k : ℕ) → k < i → get_or xs k 0 ≡ 32 → ⊥
 
-module _ (xs : List ℕ) (i d : ℕ) where
-  pub one_further : i < length xs → NoSpace xs i → (get_or xs i d ≡ 32 → ⊥) → NoSpace xs (i + 1)
-  one_further lt before other k below e =
+module _ (xs : List ℕ) (i : ℕ) where
+  pub one_further : (j d : ℕ) → j ≡ i + 1 → i < length xs → NoSpace xs i → (get_or xs i d ≡ 32 → ⊥) → NoSpace xs j
+  one_further j d next lt before other k below e =
       elim (cases_lt k i) [
         | inl lower ↦ before k lower e
         | inr here ↦
@@ -19,8 +19,8 @@ module _ (xs : List ℕ) (i d : ℕ) where
             other (sym (get_or_default xs i 0 d lt) ∙ ap (λ (j : ℕ). get_or xs j 0) same ∙ e)
       ]
 
-  pub found : i < length xs → NoSpace xs i → get_or xs i d ≡ 32 → Some i ≡ position (λ b. b == 32) xs
-  found lt before e =
+  pub found : (d : ℕ) → i < length xs → NoSpace xs i → get_or xs i d ≡ 32 → Some i ≡ position (λ b. b == 32) xs
+  found d lt before e =
       let here = eq-eqb _ _ (get_or_default xs i 0 d lt ∙ e) in
       first_byte 32 xs (Some i) (record { low = omega arith; high = lt; before = λ k low below passes. before k below (eqb-true _ _ passes) }, here)
 

@@ -35,6 +35,8 @@ pub struct MainLines {
 }
 
 impl Model for MainLines {
+    ghost use Rattle.std.specs.Prelude.{List};
+    ghost use Rattle.scenario_text.specs.declared.tree.MainOpText.{MainOpText};
     ghost use Rattle.scenario_text.specs.MainLines.{IsKept};
 
     ghost Value = { List MainOpText };
@@ -146,6 +148,16 @@ impl MainLines {
         }
     }
 
+    #[tactic(auto, using(crate::proofs::MainKept::few_spawns))]
+    fn push_spawn(&mut self, host: u32) -> Result<(), AllocError>
+        ensures { OnOk result (self.new ≡ self.old ++ main.Spawn host ∷ []) }
+    {
+        self.ops.push(MainOpText::Spawn(host))?;
+        let _count = self.ops.len();
+        self.spawns += 1;
+        Ok(())
+    }
+
     /// Adds an op, which finishes no later start than those that it follows.
     pub fn push(&mut self, op: MainOpText) -> Result<(), AllocError>
         requires { FinishesStart self.old op }
@@ -160,15 +172,23 @@ impl MainLines {
                 }
                 Ok(())
             }
-            MainOpText::Spawn(host) => {
-                self.ops.push(MainOpText::Spawn(host))?;
-                self.spawns += 1;
+            MainOpText::Spawn(host) => self.push_spawn(host),
+            MainOpText::Abort(spawn) => {
+                self.ops.push(MainOpText::Abort(spawn))?;
                 Ok(())
             }
-            MainOpText::Abort(spawn) => self.ops.push(MainOpText::Abort(spawn)),
-            MainOpText::Await(spawn) => self.ops.push(MainOpText::Await(spawn)),
-            MainOpText::Quiet => self.ops.push(MainOpText::Quiet),
-            MainOpText::Ready(callee) => self.ops.push(MainOpText::Ready(callee)),
+            MainOpText::Await(spawn) => {
+                self.ops.push(MainOpText::Await(spawn))?;
+                Ok(())
+            }
+            MainOpText::Quiet => {
+                self.ops.push(MainOpText::Quiet)?;
+                Ok(())
+            }
+            MainOpText::Ready(callee) => {
+                self.ops.push(MainOpText::Ready(callee))?;
+                Ok(())
+            }
         }
     }
 }

@@ -1,10 +1,8 @@
 //! What was read so far, and what each kind of line adds to it.
 ghost use Rattle.std.specs.Prelude.{◌≡◌, Some, map};
 ghost use Rattle.std.specs.Option.{option_map};
-ghost use Rattle.task_machine.specs.declared.op.Op.TheVariants as op;
 ghost use Rattle.text_lines.specs.Gives.{Gives, Becomes};
-ghost use Rattle.text_lines.specs.Line.{data_op_after, line_after};
-ghost use Rattle.text_lines.specs.Words.{◌>>=◌};
+ghost use Rattle.text_lines.specs.declared.keyword.Keyword.TheVariants as keyword;
 ghost use Rattle.scenario_text.specs.State.{with_op, with_part, start_of, finish_of, spawn_of, ready_of, main_op_of};
 
 use crate::callee::{call_of, callee_of, fitting_export, host_place, params_of};
@@ -17,8 +15,8 @@ use std::alloc::Global;
 use std::mem;
 use task_machine::{DataOp, ExportKind, IdleLine, Op, Operand, Seq};
 use text_lines::{
-    DataWord, HeadLine, Keyword, Line, LineError, Name, NamedCall, NamedOp, PartLine,
-    data_op_after, line_after, target,
+    DataWord, HeadLine, Keyword, Line, LineError, Name, NamedCall, NamedOp, PartLine, line_after,
+    target,
 };
 
 /// The head, the hosts, and the instances that are closed.
@@ -190,7 +188,7 @@ impl Drop for State {
 }
 
 impl State {
-    ghost use Rattle.scenario_text.specs.State.{script_closed, instance_closed, main_open, script_body, after_title, after_handles, after_table, after_idle, after_head, after_host, after_instance, after_export, after_react, after_thread, after_bad, after_part, after_op, after_call, after_main, after_main_op, after_answer, after_aborter, after_end, after, after_words, scenario_of};
+    ghost use Rattle.scenario_text.specs.State.{script_closed, instance_closed, main_open, script_body, after_title, after_handles, after_table, after_idle, after_head, after_host, after_instance, after_export, after_react, after_thread, after_bad, after_part, after_op, after_call, after_main, after_main_op, after_answer, after_aborter, after_end, after, after_keyword, after_words, scenario_of};
 
     #[tactic(auto, unfolding(crate::specs::State::script_closed))]
     fn close_script(self) -> Result<(Body, InstanceText), LineError>
@@ -444,7 +442,9 @@ impl State {
         ensures { Gives result (after_main_op self op) }
     {
         let (body, mut ops) = self.open_main()?;
-        let op = main_op_of(&body, &ops, op).ok_or(LineError::Bad)?;
+        let Some(op) = main_op_of(&body, &ops, op) else {
+            return Err(LineError::Bad);
+        };
         ops.push(op)?;
         Ok(State::Main(body, ops))
     }
@@ -540,7 +540,7 @@ impl State {
         keyword: Keyword,
         words: &[&[u8]],
     ) -> Result<(), LineError>
-        ensures { Becomes self.new result (line_after keyword (map (λ w. w.now) words.now) >>= λ l. after self.old l) }
+        ensures { Becomes self.new result (after_keyword self.old keyword (map (λ w. w.now) words.now)) }
     {
         match line_after(alloc, keyword, words)? {
             Line::Op(op) => self.add_op(op),
@@ -554,9 +554,9 @@ impl State {
 
     // Adds an op on registers. The frequent ones are made where they are added, with no copy in between.
     #[inline(always)]
-    #[tactic(auto, unfolding(text_lines::specs::Line::data_op_after))]
-    fn add_data(&mut self, word: DataWord, words: &[&[u8]]) -> Result<(), LineError>
-        ensures { Becomes self.new result (data_op_after word (map (λ w. w.now) words.now) >>= λ o. after_op self.old (op.Data o)) }
+    #[tactic(auto, unfolding(text_lines::specs::Line::line_after, text_lines::specs::Line::data_op_after, crate::specs::State::after))]
+    fn add_data(&mut self, alloc: Global, word: DataWord, words: &[&[u8]]) -> Result<(), LineError>
+        ensures { Becomes self.new result (after_keyword self.old (keyword.Data word) (map (λ w. w.now) words.now)) }
     {
         match word {
             DataWord::Set => {
@@ -571,17 +571,12 @@ impl State {
                 };
                 self.add_op(Op::Data(DataOp::Add { to, value }))
             }
-            _ => {
-                let Some(op) = data_op_after(word, words) else {
-                    return Err(LineError::Bad);
-                };
-                self.add_op(Op::Data(op))
-            }
+            word => self.add_line(alloc, Keyword::Data(word), words),
         }
     }
 
     /// Adds the line that these words spell to what was read. After an error nothing is said of the state.
-    #[tactic(auto, unfolding(crate::specs::State::after_words, text_lines::specs::Line::line_at, text_lines::specs::Line::line_after, crate::specs::State::after))]
+    #[tactic(auto, unfolding(crate::specs::State::after_words, text_lines::specs::Line::line_at))]
     pub fn add(&mut self, alloc: Global, words: &[&[u8]]) -> Result<(), LineError>
         ensures { Becomes self.new result (after_words self.old (map (λ w. w.now) words.now)) }
     {
@@ -592,7 +587,7 @@ impl State {
             return Err(LineError::Bad);
         };
         match keyword {
-            Keyword::Data(word) => self.add_data(word, words),
+            Keyword::Data(word) => self.add_data(alloc, word, words),
             keyword => self.add_line(alloc, keyword, words),
         }
     }

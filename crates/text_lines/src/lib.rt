@@ -13,5 +13,5 @@ pub use keyword::{DataWord, Keyword};
 pub use line::{
     CalleeName, HeadLine, HostWork, Line, LineError, NamedCall, NamedOp, PartLine, line_after,
 };
-pub use ops::{data_op_after, target};
+pub use ops::target;
 pub use words::{Name, number_up_to};
