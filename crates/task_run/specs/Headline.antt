@@ -1,5 +1,5 @@
 -- What a report says of a scenario: the printed steps are a run of the component machine.
-use Rattle.std.specs.Prelude.{◌≡◌, ◌<◌, ℕ, ◌≤◌, List, length, map}
+use Rattle.std.specs.Prelude.{◌≡◌, ◌<◌, ℕ, ◌≤◌, List, false, length, map, true}
 use Rattle.task_machine.specs.declared.label.Label.{Label}
 use Rattle.task_machine.specs.declared.outcome.Outcome.{Outcome}
 use Rattle.task_machine.specs.declared.scenario.NamesDef.{NamesDef}
@@ -42,8 +42,10 @@ pub record IsRunOf (x : ScenarioDef) (steps : ℕ) (trace : List Label) (outcome
   pub once : EndsOnce x.component (history (setting_of x) (opens x) trace last run)
   pub alone : 0 < length x.component.instances → OneHolder (history (setting_of x) (opens x) trace last run)
 
--- The report is of a run of the scenario that the text stands for.
+-- The report is of a run of the scenario that the text stands for. Its store is concurrent, and no run stands on it.
 pub record IsReportOf (text : List ℕ) (steps : ℕ) (r : Report) : Type 0 where
   pub scenario : Scenario
   pub reads : Reads text scenario
   pub run : IsRunOf (machine_scenario scenario) steps r.trace r.outcome r.store.state.core
+  pub free : r.store.running ≡ false
+  pub concurrent : r.store.concurrent ≡ true

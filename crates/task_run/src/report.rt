@@ -1,4 +1,4 @@
-ghost use Rattle.std.specs.Prelude.{◌≡◌, ◌<◌, ◌≤◌, ◌++◌, ℕ, false, length, IfOk, IsOk, IsErrOf, IsOkUnless, OnOk};
+ghost use Rattle.std.specs.Prelude.{◌≡◌, ◌<◌, ◌≤◌, ◌++◌, ℕ, false, length, true, IfOk, IsOk, IsErrOf, IsOkUnless, OnOk};
 ghost use Rattle.host_works.specs.Kept.{HoldsNone};
 ghost use Rattle.scenario_text.specs.Grammar.{IsBadLine};
 ghost use Rattle.task_machine.specs.Core.{fresh};
@@ -40,6 +40,7 @@ fn new_store(
     requires handles { handles ≤ 268435455 }
     ensures state { IfOk result (λ s. s.state ≡ with_core (fresh instances handles table) nothing) }
     ensures free { IfOk result (λ s. s.running ≡ false) }
+    ensures concurrent { IfOk result (λ s. s.concurrent ≡ true) }
     ensures works { IfOk result (λ s. HoldsNone s.works) }
 {
     let mut store = Store::new(alloc, (), true, 1);
@@ -66,7 +67,9 @@ fn traps_on_idle(idle: IdleLine) -> bool
 // Runs a scenario in a new store.
 fn run(alloc: Global, scenario: &Scenario, steps: u32) -> Result<Report, NoMemory>
     requires { IsRunnable scenario.now }
-    ensures { IfOk result (λ r. IsRunOf (machine_scenario scenario.now) steps r.trace r.outcome r.store.state.core) }
+    ensures ran { IfOk result (λ r. IsRunOf (machine_scenario scenario.now) steps r.trace r.outcome r.store.state.core) }
+    ensures free { IfOk result (λ r. r.store.running ≡ false) }
+    ensures concurrent { IfOk result (λ r. r.store.concurrent ≡ true) }
 {
     let mut store = new_store(
         alloc,
@@ -99,8 +102,9 @@ fn run(alloc: Global, scenario: &Scenario, steps: u32) -> Result<Report, NoMemor
 
 /// Runs the scenario of a text of at most 1,048,576 bytes for at most `steps` steps, 1 to
 /// 1,000,000. The report's labels are those of a run of the component machine from the scenario's
-/// opening state, its outcome is what that run has come to, and its store has the run's last state
-/// as its image. A text that is no scenario is refused at its first bad line.
+/// opening state, its outcome is what that run has come to, and its store, which is concurrent and on
+/// which no run stands, has the run's last state as its image. A text that is no scenario is refused at
+/// its first bad line.
 pub fn run_scenario(alloc: Global, text: &[u8], steps: u32) -> Result<Report, RunError>
     requires text { length text.now ≤ 1048576 }
     requires some { 0 < steps }

@@ -24,6 +24,7 @@ loop-made-preserved c =
           (ap (λ (s : StateView). with_core (with_instance s.core) s) c.loop-made.invariant.state
           ∙ ap (λ c. with_core c nothing) (fresh_more c.loop-made._made c.args.handles c.args.table ∙ ap (λ n. fresh n c.args.handles c.args.table) next));
       free = rw c.in-Ok.ensures.ok c.loop-made.invariant.free;
+      concurrent = rw c.in-Ok.ensures.ok c.loop-made.invariant.concurrent;
       works = rw c.in-Ok.ensures.ok c.loop-made.invariant.works;
     }
 
@@ -34,5 +35,6 @@ pub loop-made-init : goal.loop-made-init
 loop-made-init c = record {
   state = rw (c.set_max_component_handles.ensures, c.set_table_capacity.ensures, c.new-store.ensures.state) (ap (λ c. with_core c nothing) (limits_set c.args.handles c.args.table));
   free = rw (c.set_max_component_handles.ensures, c.set_table_capacity.ensures) c.new-store.ensures.running;
+  concurrent = rw (c.set_max_component_handles.ensures, c.set_table_capacity.ensures) c.new-store.ensures.concurrent;
   works = rw (c.set_max_component_handles.ensures, c.set_table_capacity.ensures) c.new-store.ensures.works;
 }

@@ -1,4 +1,4 @@
-use Rattle.std.proofs.Common.{◌≡◌, false}
+use Rattle.std.proofs.Common.{◌≡◌, false, true}
 use Rattle.host_works.specs.Kept.{HoldsNone}
 use Rattle.task_machine.specs.Core.{fresh}
 use Rattle.task_records.specs.Seen.{nothing}
@@ -9,5 +9,6 @@ abbrev pub invariant-loop-made : goal.invariant-loop-made
 invariant-loop-made l = record {
   state : l.store.state ≡ with_core (fresh l._made l.handles l.table) nothing;
   free : l.store.running ≡ false;
+  concurrent : l.store.concurrent ≡ true;
   works : HoldsNone l.store.works;
 }

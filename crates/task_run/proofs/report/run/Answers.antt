@@ -7,7 +7,7 @@ use Rattle.task_turns.specs.Turn.{state_at}
 use Rattle.task_turns.specs.Turn as loop
 use Rattle.task_run.specs.Script.{machine_ops, part_of, script_of}
 use Rattle.task_run.specs.declared.scenario.MainOp.{MainOp}
-use Rattle.std.specs.Prelude.{Bool}
+use Rattle.std.specs.Prelude.{Bool, ℕ}
 use Rattle.task_machine.specs.declared.records.Turn.{Turn}
 use Rattle.task_run.specs.Headline.{machine_scenario}
 use Rattle.task_run.proofs.HeadlineLemmas.{headline, opens_is}
@@ -30,8 +30,15 @@ pub drive-driven-requires-clause-hosts : goal.drive-driven-requires-clause-hosts
 drive-driven-requires-clause-hosts c =
     new_holds _ c.run_concurrent.new.store c.len.result c.args.scenario.now.handles c.args.scenario.now.table (rw c.run_concurrent.ensures.store c.in_ok-store.ensures.works) (rw (c.run_concurrent.ensures.store, c.in_ok-store.ensures.state) refl)
 
-pub returns : goal.returns
-returns c =
+pub returns-clause-free : goal.returns-clause-free
+returns-clause-free c = rw c.end.ensures refl
+
+pub returns-clause-concurrent : goal.returns-clause-concurrent
+returns-clause-concurrent c =
+    rw c.end.ensures (ap (λ (p : Bool × (Bool × ℕ)). p.1.0) c.drive-driven.ensures.stands ∙ rw c.run_concurrent.ensures.store c.in_ok-store.ensures.concurrent)
+
+pub returns-clause-ran : goal.returns-clause-ran
+returns-clause-ran c =
     headline (machine_scenario c.args.scenario.now) (scenario_keeps c.args.scenario.now c.requires) _ _ _ _ _ c.args.steps c.in-Ok-driven.outcome _
     (ap (λ (b : Bool). loop.setting_of c.args.scenario.now.component (script_of c.new-main.result) b) c.in-Ok.ensures.idle
     ∙ ap (λ i. record { component = c.args.scenario.now.component; script = script_of c.new-main.result; idle = i }) c.traps_on_idle.ensures
