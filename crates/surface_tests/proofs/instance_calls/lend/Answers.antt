@@ -4,7 +4,7 @@ use Rattle.surface_tests.proofs.instance_calls.lend.Goals as goal
 use Rattle.task_calls.specs.Asks.{IsRunningIn}
 use Rattle.task_words.specs.StateView.{StateView, call_of}
 
-pub returns-clause-running : goal.returns-clause-running
-returns-clause-running g c d runs =
+pub returns : goal.returns
+returns c d runs =
     let s = c.args.store.now.state in
     subst (λ (t : StateView). IsRunningIn d t) (sym c.set_call_context.ensures.new) (runs_lending d s (call_of s c.task_of.result) c.args.borrows runs)
