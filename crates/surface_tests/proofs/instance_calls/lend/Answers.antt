@@ -5,6 +5,8 @@ use Rattle.task_calls.specs.Asks.{IsRunningIn}
 use Rattle.task_words.specs.StateView.{StateView, call_of}
 
 pub returns : goal.returns
-returns c d runs =
+returns c =
     let s = c.args.store.now.state in
-    subst (λ (t : StateView). IsRunningIn d t) (sym c.set_call_context.ensures.new) (runs_lending d s (call_of s c.task_of.result) c.args.borrows runs)
+    record {
+      running = λ d runs. subst (λ (t : StateView). IsRunningIn d t) (sym c.set_call_context.ensures.new) (runs_lending d s (call_of s c.task_of.result) c.args.borrows runs);
+    }
