@@ -1,7 +1,7 @@
 ghost use Rattle.std.specs.Prelude.{◌≡◌, ◌&&◌, ◌<◌, not};
 ghost use Rattle.task_machine.specs.Moves.{is_deletable, is_deletable_call};
 ghost use Rattle.task_machine.specs.Maps.{size};
-ghost use Rattle.task_machine.specs.Read.{has_member, has_thread, has_waiters, is_last_thread, set_instance, undelivered_end};
+ghost use Rattle.task_machine.specs.Read.{has_member, has_thread, has_waiters, is_last_thread, undelivered_end};
 ghost use Rattle.task_records.specs.Seen.{IsSound, seen};
 ghost use Rattle.task_words.specs.StateView.{call_of, set_of, thread_of};
 
@@ -15,17 +15,6 @@ pub fn threads(parts: &CoreParts) -> u64
     ensures { result ≡ size (seen parts.now).core.threads }
 {
     parts.threads.len() as u64
-}
-
-/// Whether some thread of the call is left.
-pub fn has_thread(parts: &CoreParts, call: CallId) -> bool
-    requires { IsSound parts.now }
-    ensures { result ≡ has_thread (call_of (seen parts.now) call) (seen parts.now).core }
-{
-    match task_records::call(parts, call) {
-        Some(entry) => 0 < entry.threads,
-        None => false,
-    }
 }
 
 // An end that wasn't handed out.
@@ -61,27 +50,6 @@ pub fn is_deletable(parts: &CoreParts, call: CallId) -> bool
     match task_records::call(parts, call) {
         Some(entry) => both(is_deletable_call(&entry.call), has_thread),
         None => false,
-    }
-}
-
-/// The number of a set; 0 where the id names none.
-pub fn set_number(parts: &CoreParts, set: SetId) -> u64
-    requires { IsSound parts.now }
-    ensures { result ≡ set_of (seen parts.now) set }
-{
-    match task_records::set(parts, set) {
-        Some(entry) => entry.number,
-        None => 0,
-    }
-}
-
-pub fn set_instance(parts: &CoreParts, set: SetId) -> u32
-    requires { IsSound parts.now }
-    ensures { result ≡ set_instance (set_of (seen parts.now) set) (seen parts.now).core }
-{
-    match task_records::set(parts, set) {
-        Some(entry) => entry.set.instance,
-        None => 0,
     }
 }
 

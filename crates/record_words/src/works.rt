@@ -1,5 +1,5 @@
 ghost use Rattle.std.specs.Prelude.{◌≡◌};
-ghost use Rattle.task_machine.specs.Read.{course_of, phase_of, stage_of, was_cancelled};
+ghost use Rattle.task_machine.specs.Read.{course_of, phase_of, was_cancelled};
 ghost use Rattle.task_machine.specs.Write.{set_cancelled};
 ghost use Rattle.task_records.specs.Seen.{IsSound, seen};
 ghost use Rattle.task_rules.specs.Calls.{work_group};
@@ -37,16 +37,6 @@ pub fn phase(parts: &CoreParts, work: WorkId) -> Phase
     match task_records::work(parts, work) {
         Some(entry) => entry.work.phase,
         None => Phase::Complete,
-    }
-}
-
-pub fn stage(parts: &CoreParts, work: WorkId) -> Stage
-    requires { IsSound parts.now }
-    ensures { result ≡ stage_of (work_of (seen parts.now) work) (seen parts.now).core }
-{
-    match task_records::work(parts, work) {
-        Some(entry) => entry.work.stage,
-        None => Stage::Ended,
     }
 }
 

@@ -12,13 +12,6 @@ use task_machine::NoMemory;
 
 /// Waitable sets, their members and what keeps them.
 pub trait SetWords: View {
-    /// The number of a set; 0 where the id names none.
-    fn set_number(&self, set: SetId) -> u64
-        ensures { result ≡ set_of (Self.view self.now) set };
-
-    fn set_instance(&self, set: SetId) -> u32
-        ensures { result ≡ set_instance (set_of (Self.view self.now) set) (Self.view self.now).core };
-
     fn has_member(&self, set: SetId) -> bool
         requires { 0 < set_of (Self.view self.now) set }
         ensures { result ≡ has_member (set_of (Self.view self.now) set) (Self.view self.now).core };

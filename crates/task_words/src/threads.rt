@@ -47,11 +47,6 @@ pub trait ThreadWords: View {
     fn position(&self, thread: ThreadId) -> u32
         ensures { result ≡ position_of (thread_of (Self.view self.now) thread) (Self.view self.now).core };
 
-    /// The script that a thread runs.
-    fn script(&self, thread: ThreadId) -> Script
-        requires { 0 < thread_of (Self.view self.now) thread }
-        ensures { (t : Thread) → get (Self.view self.now).core.threads (thread_of (Self.view self.now) thread) ≡ Some t → result ≡ t.script };
-
     /// Where a thread is in its code.
     fn at(&self, thread: ThreadId) -> ThreadAt
         requires { 0 < thread_of (Self.view self.now) thread }
@@ -81,14 +76,8 @@ pub trait ThreadWords: View {
     fn set_register(&mut self, thread: ThreadId, register: u8, value: u64)
         ensures { Self.view self.new ≡ on_core (set_register (thread_of (Self.view self.old) thread) register value) (Self.view self.old) };
 
-    fn set_position(&mut self, thread: ThreadId, position: u32)
-        ensures { Self.view self.new ≡ on_core (set_position (thread_of (Self.view self.old) thread) position) (Self.view self.old) };
-
     fn set_how_far(&mut self, thread: ThreadId, how_far: HowFarId)
         ensures { Self.view self.new ≡ on_core (set_how_far (thread_of (Self.view self.old) thread) (how_far_in (Self.view self.old).tags how_far)) (Self.view self.old) };
-
-    fn set_script(&mut self, thread: ThreadId, script: Script)
-        ensures { Self.view self.new ≡ on_core (set_script (thread_of (Self.view self.old) thread) script) (Self.view self.old) };
 
     fn set_saved_own(&mut self, thread: ThreadId, flag: Option<bool>)
         ensures { Self.view self.new ≡ on_core (set_saved_own (thread_of (Self.view self.old) thread) flag) (Self.view self.old) };

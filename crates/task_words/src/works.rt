@@ -26,9 +26,6 @@ pub trait WorkWords: View {
     fn phase(&self, work: WorkId) -> Phase
         ensures { result ≡ phase_of (work_of (Self.view self.now) work) (Self.view self.now).core };
 
-    fn stage(&self, work: WorkId) -> Stage
-        ensures { result ≡ stage_of (work_of (Self.view self.now) work) (Self.view self.now).core };
-
     fn work_caller(&self, work: WorkId) -> WorkCallerId
         ensures { work_caller_in (Self.view self.now).tags result ≡ live_work_caller (work_caller_of (work_of (Self.view self.now) work) (Self.view self.now).core) (Self.view self.now).core };
 
