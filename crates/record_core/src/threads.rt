@@ -1,5 +1,5 @@
 use crate::task_core::TaskCore;
-use task_machine::{Given, NoMemory, Script};
+use task_machine::{Given, NoMemory};
 use task_words::{CallId, HowFarId, ThreadAt, ThreadId, ThreadWords};
 
 impl ThreadWords for TaskCore {

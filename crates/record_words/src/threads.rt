@@ -8,7 +8,6 @@ ghost use Rattle.task_words.specs.StateView.{on_core, thread_of};
 
 use crate::calls::callee;
 use crate::words::{put_word, word_in};
-use task_machine::Script;
 use task_records::{CoreParts, task_of};
 use task_words::{ThreadAt, ThreadId};
 

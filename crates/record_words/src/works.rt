@@ -5,7 +5,7 @@ ghost use Rattle.task_records.specs.Seen.{IsSound, seen};
 ghost use Rattle.task_rules.specs.Calls.{work_group};
 ghost use Rattle.task_words.specs.StateView.{on_core, work_of};
 
-use task_machine::{Course, Phase, Stage};
+use task_machine::{Course, Phase};
 use task_records::CoreParts;
 use task_words::WorkId;
 

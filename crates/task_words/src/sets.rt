@@ -1,6 +1,6 @@
 ghost use Rattle.std.specs.Prelude.{◌≡◌, ◌+◌, ◌<◌, ◌^◌, IfNone, IfOk, IfSome, IsSome, OnErr, OnOk, false, is_some, true};
 ghost use Rattle.task_machine.specs.Maps.{get};
-ghost use Rattle.task_machine.specs.Read.{at_handle_limit, fits, has_member, has_ready_member, has_waiters, is_ready_member, set_at, set_instance};
+ghost use Rattle.task_machine.specs.Read.{at_handle_limit, fits, has_member, has_ready_member, has_waiters, is_ready_member, set_at};
 ghost use Rattle.task_machine.specs.Write.{add_set, free_handle, give_handle, remove_set};
 ghost use Rattle.task_machine.specs.declared.records.Named.TheVariants as names;
 ghost use Rattle.task_words.specs.Names.{subtask_in};

@@ -2,7 +2,7 @@ ghost use Rattle.std.specs.Prelude.{◌≡◌, ◌+◌, ◌<◌, ◌≤◌, ◌^
 ghost use Rattle.task_machine.specs.Maps.{get};
 ghost use Rattle.task_machine.specs.Moves.{freed_thread_handle};
 ghost use Rattle.task_machine.specs.Read.{at_handle_limit, call_instance, callee_of, fits, how_far_of, instance_of, is_explicit, is_last_thread, position_of, register_of, registers_of, saved_callee_of, saved_own_of, task_of, thread_group, thread_handle_of};
-ghost use Rattle.task_machine.specs.Write.{add_thread, remove_thread, set_how_far, set_position, set_register, set_saved_callee, set_saved_own, set_script};
+ghost use Rattle.task_machine.specs.Write.{add_thread, remove_thread, set_how_far, set_register, set_saved_callee, set_saved_own};
 ghost use Rattle.task_machine.specs.declared.records.Script.TheVariants as scripts;
 ghost use Rattle.task_machine.specs.declared.records.Thread.{Thread};
 ghost use Rattle.task_rules.specs.Calls.{new_thread, next_thread, with_thread_handle};
@@ -16,7 +16,7 @@ ghost use Rattle.task_words.specs.StateView.{Keeps, KeepsBut, call_of, lost_thre
 
 use crate::names::{CallId, HowFarId, ThreadAt, ThreadId};
 use crate::view::View;
-use task_machine::{Given, NoMemory, Script};
+use task_machine::{Given, NoMemory};
 
 /// The records of threads.
 pub trait ThreadWords: View {

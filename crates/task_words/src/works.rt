@@ -1,5 +1,5 @@
 ghost use Rattle.std.specs.Prelude.{◌≡◌, ◌+◌, ◌<◌, ◌^◌, IfOk, None, OnErr, OnOk, Some, false, option_map, true};
-ghost use Rattle.task_machine.specs.Read.{at_handle_limit, course_of, fits, instance_of, new_handle, phase_of, stage_of, thread_group, was_cancelled, work_caller_of};
+ghost use Rattle.task_machine.specs.Read.{at_handle_limit, course_of, fits, instance_of, new_handle, phase_of, thread_group, was_cancelled, work_caller_of};
 ghost use Rattle.task_machine.specs.Write.{count_work, set_cancelled, set_course, set_phase, set_stage};
 ghost use Rattle.task_machine.specs.declared.records.Subtask.TheVariants as subtasks;
 ghost use Rattle.task_machine.specs.declared.records.WorkCaller.TheVariants as work_callers;
