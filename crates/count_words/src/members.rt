@@ -17,6 +17,17 @@ pub fn threads(parts: &CoreParts) -> u64
     parts.threads.len() as u64
 }
 
+// Whether some thread of the call is left.
+fn has_thread(parts: &CoreParts, call: CallId) -> bool
+    requires { IsSound parts.now }
+    ensures { result ≡ has_thread (call_of (seen parts.now) call) (seen parts.now).core }
+{
+    match task_records::call(parts, call) {
+        Some(entry) => 0 < entry.threads,
+        None => false,
+    }
+}
+
 // An end that wasn't handed out.
 fn undelivered_end(event: Option<Status>) -> Option<Status>
     ensures { result ≡ undelivered_end event }
@@ -50,6 +61,17 @@ pub fn is_deletable(parts: &CoreParts, call: CallId) -> bool
     match task_records::call(parts, call) {
         Some(entry) => both(is_deletable_call(&entry.call), has_thread),
         None => false,
+    }
+}
+
+/// The number of a set; 0 where the id names none.
+pub fn set_number(parts: &CoreParts, set: SetId) -> u64
+    requires { IsSound parts.now }
+    ensures { result ≡ set_of (seen parts.now) set }
+{
+    match task_records::set(parts, set) {
+        Some(entry) => entry.number,
+        None => 0,
     }
 }
 
