@@ -1,4 +1,5 @@
 pub mod AskLemmas
 pub mod DriveLemmas
 pub mod LendLemmas
+pub mod PollLemmas
 pub mod StateLemmas
