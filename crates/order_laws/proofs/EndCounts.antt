@@ -8,14 +8,14 @@ use Rattle.task_machine.specs.declared.records.CallEnd.{CallEnd}
 use Rattle.task_machine.specs.declared.records.Caller.{Caller}
 use Rattle.task_machine.specs.declared.records.Goal.{Goal}
 use Rattle.task_places.proofs.Balance.{Quiet}
-use Rattle.task_places.proofs.CountedSteps.{counted_stay}
+use Rattle.task_places.proofs.CountedSteps.{counted_stay, waiter_any}
 use Rattle.task_places.proofs.Laws.{Bool, Call, Core, HowFar, Join, None, Option, Place, Placed, Records, Some, Status, Subtask, Thread, WakesCounted, Why, admits, any_at, ap, arith, by_number, callee_of, event_of, false, free_thread_handle, fresh, get, get-change, get-remove, give_result, goal_of, has_waiter, how_far_of, if◌then◌else◌, inl, instance_of, is_explicit, is_none, is_ready_member, is_some, is_told, is_waiter, is_waiting_on, is_woken_at, join_of, kind_of, may_tell, may_wake, member_same, moved_to, nat_tests, not, on_call, on_instance, on_thread, option_map_or, place_of, published, refl, remove_call, remove_group, remove_thread, set_end, set_event, set_exited, set_how_far, set_place, set_position, set_register, set_result, set_uninteresting, shifted_far, shifts_shifted, subst, sym, task_of, told, told_to, true, ℕ, ◌==◌, ◌||◌, ◌∙◌, ◌≡◌}
 use Rattle.task_places.proofs.PlaceLaw.{entry_ready, listed}
 use Rattle.task_rules.proofs.PlacingLemmas.{Shifted}
 use Rattle.task_rules.proofs.PromotionLemmas.{first_has_entry}
 use Rattle.task_rules.proofs.WalkMoves.{told_at, told_shifts}
 use Rattle.task_rules.specs.Ends.{direct_exits, result_given, returned}
-use Rattle.wake_laws.proofs.EaseLemmas.{Eases, eased_moves, eased_woken, moves_keep, waiter_any}
+use Rattle.wake_laws.proofs.EaseLemmas.{Eases, eased_moves, eased_woken, moves_keep}
 use Rattle.wake_laws.proofs.MoveLemmas.{member_as, publish_keeps}
 use Rattle.wake_laws.specs.Stands.{NoWakeLost, PublishKeeps}
 

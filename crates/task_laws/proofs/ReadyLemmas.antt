@@ -28,7 +28,7 @@ guest_word a w s ok k h = inl (grind (arith, nat_tests, get-change, get-insert, 
 host_word : (a : Scene) (w : Word) (s : Core) → Allowed a w s → (i : ℕ) → is_some (event_of (Subtask.Host i) (after_word w s)) ≡ true →
     (is_some (event_of (Subtask.Host i) s) ≡ true) ⊎ (host_taken a.label ≡ Some i)
 unfolding add_call add_group add_set add_thread add_work count_work free_handle free_thread_handle give_handle give_result give_thread_handle on_call on_instance on_thread on_work push_high remove_call remove_group remove_set remove_thread remove_work set_backpressure set_cancel_delivered set_cancelled set_course set_do_not_enter set_do_not_suspend set_end set_event set_exited set_how_far set_join set_own_event set_phase set_position set_register set_result set_saved_callee set_saved_own set_script set_stage set_started set_starting_published set_subtask_handle set_thread_handle set_trapped set_uninteresting set_word take_result call_made with_handle with_thread_handle work_queued poll_pends
-host_word a (TakeHost m j) s ok i h = by_number i j _ (λ is. inr (rw is (taken_label a m j ok.1.0 ok.1.1))) (λ other. inl (grind (arith, nat_tests, get-change, other)))
+host_word a (TakeHost m j) s ok i h = by_number i j _ (λ is. inr (rw is (taken_label a m j ok.1.0 ok.1.1.0))) (λ other. inl (grind (arith, nat_tests, get-change, other)))
 host_word a w s ok i h = inl (grind (arith, nat_tests, get-change, get-insert, get-remove))
 
 -- ---- Members

@@ -57,12 +57,12 @@ join_others x (Subtask.Host i) (Subtask.Host q) j s other = grind (arith, nat_te
 join_others x (Subtask.Guest k) (Subtask.Host q) j s other = refl
 join_others x (Subtask.Host i) (Subtask.Guest q) j s other = refl
 
-event_threads : (sub : Subtask) (e : Option Status) (s : Core) → (set_event sub e s).threads ≡ s.threads
+pub event_threads : (sub : Subtask) (e : Option Status) (s : Core) → (set_event sub e s).threads ≡ s.threads
 unfolding set_event on_call on_work
 event_threads (Subtask.Guest k) e s = refl
 event_threads (Subtask.Host i) e s = refl
 
-join_threads : (sub : Subtask) (j : Join) (s : Core) → (set_join sub j s).threads ≡ s.threads
+pub join_threads : (sub : Subtask) (j : Join) (s : Core) → (set_join sub j s).threads ≡ s.threads
 unfolding set_join on_call on_work
 join_threads (Subtask.Guest k) j s = refl
 join_threads (Subtask.Host i) j s = refl

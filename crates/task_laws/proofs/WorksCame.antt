@@ -141,7 +141,7 @@ module _ {S : Type 0} (a : Scene) (s : Core) (q : WorksStand S s)
       (λ is. Made f host is (omega (arith, is)) refl (let z = h (inr (inr (omega (arith, is)))) in grind (arith, nat_tests, stands_append)))
       (λ e. Same refl (grind (arith, nat_tests, stands_append)))
   work_came (TakePush m j) ok i =
-      let t = taken m (Entry.Push j) s ok refl q.low in let h = ap (Standing j) t.0 in
+      let t = taken m (Entry.Push j) s ok.0 refl q.low in let h = ap (Standing j) t.0 in
       changed j _ (High (popped m s)) (λ i e. let h = ap (Standing i) t.0 in grind (arith, nat_tests))
       (λ none why. let z = q.high j (inr why) in grind (arith, nat_tests))
       (λ w at. let z = q.high j (inl (grind arith)) in Lives (doing w) refl (grind (arith, nat_tests)) refl (grind (arith, nat_tests))) i
@@ -170,7 +170,7 @@ module _ {S : Type 0} (a : Scene) (s : Core) (q : WorksStand S s)
   unfolding add_call add_group add_set add_thread add_work count_work free_handle free_thread_handle give_handle give_result give_thread_handle on_call on_instance on_thread on_work push_high remove_call remove_group remove_set remove_thread remove_work set_backpressure set_cancel_delivered set_cancelled set_course set_do_not_enter set_do_not_suspend set_end set_event set_exited set_how_far set_join set_own_event set_phase set_position set_register set_result set_saved_callee set_saved_own set_script set_stage set_started set_starting_published set_subtask_handle set_thread_handle set_trapped set_uninteresting set_word take_result call_made with_handle with_thread_handle work_queued poll_pends
   low_after (Places p) ok i = same_standing i _ _ (placing_works a p s ok).low ∙ q.low i
   low_after (Withdraw j) ok i = same_standing i _ _ (unqueued_works j s).low ∙ q.low i
-  low_after (TakePush m j) ok i = ap (Standing i) (taken m (Entry.Push j) s ok refl q.low).1 ∙ q.low i
+  low_after (TakePush m j) ok i = ap (Standing i) (taken m (Entry.Push j) s ok.0 refl q.low).1 ∙ q.low i
   low_after (TakeHost m j) ok i = ap (Standing i) (taken m (Entry.Host j) s ok.0 refl q.low).1 ∙ q.low i
   low_after w ok i = q.low i
 

@@ -24,7 +24,7 @@ abbrev IsTold : Subtask → Core → Type 0
 IsTold (Subtask.Guest k) s = is_told k s ≡ true
 IsTold (Subtask.Host i) s = (w : Work) × ((get s.works i ≡ Some w) × (is_async_work w.caller ≡ true))
 
-inside_of : (sub : Subtask) (f : HowFar) → is_inside (Place.Blocked sub) f ≡ true → (f ≡ HowFar.Calls sub) ⊎ (f ≡ HowFar.AwaitsEnd sub)
+pub inside_of : (sub : Subtask) (f : HowFar) → is_inside (Place.Blocked sub) f ≡ true → (f ≡ HowFar.Calls sub) ⊎ (f ≡ HowFar.AwaitsEnd sub)
 inside_of sub f h = grind (arith, nat_tests)
 
 call_of_told : (k : ℕ) (s : Core) → is_told k s ≡ true → (c : Call) × (get s.calls k ≡ Some c)

@@ -114,10 +114,10 @@ run_woken y n b there = grind (arith, nat_tests, get-change, there)
 resumed_woken : (y : ℕ) (m : Mark) (far : HowFar) → woken_place y (Some (Place.Ready m Why.Resumption)) far ≡ true → is_inside_wait y far ≡ true
 resumed_woken y m far h = grind (arith, h)
 
-move_none : (a : Scene) (n y : ℕ) (c : Bool) (u : Core) → MayMove a n (Place.Waiting y c) u → has_ready_member y u ≡ false
+pub move_none : (a : Scene) (n y : ℕ) (c : Bool) (u : Core) → MayMove a n (Place.Waiting y c) u → has_ready_member y u ≡ false
 move_none a n y c u ok = grind (arith, ok)
 
-waiter_any : (y j : ℕ) (s : Core) → is_waiter y j s ≡ true → has_waiter y s ≡ true
+pub waiter_any : (y j : ℕ) (s : Core) → is_waiter y j s ≡ true → has_waiter y s ≡ true
 unfolding has_waiter get
 waiter_any y j s on = any_found (λ (u : Thread). is_waiting_on y u.place) j s.threads.list (grind (arith, on))
 

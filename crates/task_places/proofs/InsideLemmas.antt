@@ -43,7 +43,7 @@ abbrev Inside : ℕ → Core → Type 0
 Inside k s = (p : Place) → place_of k s ≡ Some p → is_inside p (how_far_of k s) ≡ true
 
 -- an op comes further of the runner, or of one that the runner was on top of
-come_who : (a : Scene) (k : ℕ) (h : HowFar) (s : Core) → MayCome a k h s → IsRunner a k ⊎ ((m : ℕ) × (place_of k a.base ≡ Some (Place.Under m)))
+pub come_who : (a : Scene) (k : ℕ) (h : HowFar) (s : Core) → MayCome a k h s → IsRunner a k ⊎ ((m : ℕ) × (place_of k a.base ≡ Some (Place.Under m)))
 come_who a k h s ok = grind arith
 
 come_far : (a : Scene) (k : ℕ) (h : HowFar) (s : Core) → MayCome a k h s → IsRunner a k ⊎ ((v : ℕ) × (h ≡ HowFar.Answered v))

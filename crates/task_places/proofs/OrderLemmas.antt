@@ -106,7 +106,7 @@ module _ (x : Setting) (s : State) (l : Label) (t : State) {g : Bool} (h : InOrd
   )
 
   -- a call's start that the running thread may withdraw
-  withdrawable : Withdrawable (scene_of x s l w.next)
+  pub withdrawable : Withdrawable (scene_of x s l w.next)
   withdrawable = of_base (λ b. Withdrawable (record a { base = b })) s.turn s.core
       (λ m k is has unstarted. call_awaited s.core h.numbered h.calls_there h.starts k (assumption (named m k has)) unstarted)
     where

@@ -122,7 +122,7 @@ module _ {a : Scene} {b : Core} {n : ℕ} {q : Option Place} (f : Follows a b n 
       (withdrawn_stand n q k s (not_here k s st (λ e. let runs = f.runs ok.0.0 ok.0.1.1.1.1.1.0 in absurd (grind arith))) gone st)
   keeps_word (RemoveThread m) s ok puts fresh st = absurd ok
   keeps_word (TakePush x i) s ok puts fresh st =
-      let u = popped_quiet x (Entry.Push i) s (next_first s x (Entry.Push i) ok) (λ k. refl) in quiet_stand n q [] s _ (grind arith) st
+      let u = popped_quiet x (Entry.Push i) s (next_first s x (Entry.Push i) ok.0) (λ k. refl) in quiet_stand n q [] s _ (grind arith) st
   keeps_word (TakeHost x i) s ok puts fresh st =
       let u = popped_quiet x (Entry.Host i) s (next_first s x (Entry.Host i) ok.0) (λ k. refl) in quiet_stand n q [] s _ (grind arith) st
   keeps_word w s ok puts fresh st = quiet_stand n q [] s _ (grind (arith, nat_tests, get-change, entries-append)) st

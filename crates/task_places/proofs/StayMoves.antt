@@ -24,14 +24,14 @@ pub data Moves (a : Scene) (s t : Core) (j : ℕ) : Type 0 where
 
 -- ---- Lists of callers
 
-behind_place : (g : ℕ) (ns : List ℕ) (s : Core) (j : ℕ) → is_there j s ≡ true →
+pub behind_place : (g : ℕ) (ns : List ℕ) (s : Core) (j : ℕ) → is_there j s ≡ true →
     ((place_of j (behind g ns s) ≡ place_of j s) × (times j ns ≡ 0)) ⊎ ((place_of j (behind g ns s) ≡ Some (Place.Behind g)) × (1 ≤ times j ns))
 unfolding behind_one set_callers
 behind_place g [] s j there = inl (refl, refl)
 behind_place g (n ∷ ns) s j there =
     let rest = behind_place g ns (behind_one g n s) j in let is = set_place_is j n (Place.Behind g) s in grind (arith, nat_tests)
 
-resumed_place : (ns : List ℕ) (s : Core) (j : ℕ) → is_there j s ≡ true →
+pub resumed_place : (ns : List ℕ) (s : Core) (j : ℕ) → is_there j s ≡ true →
     ((place_of j (resumed_all ns s) ≡ place_of j s) × (times j ns ≡ 0)) ⊎ ((y : Mark) × ((place_of j (resumed_all ns s) ≡ Some (Place.Ready y Why.Resumption)) × (1 ≤ times j ns)))
 unfolding put_high push_high
 resumed_place [] s j there = inl (refl, refl)

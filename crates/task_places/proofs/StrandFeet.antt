@@ -25,7 +25,7 @@ below_found u n x (e ∷ es) at h =
     let rest = below_found u n x es in let more = below_more u n es h in let tied = unsigned_tied u e.0 in grind (arith, nat_tests)
 
 -- who is under n is found
-under_none : (n u : ℕ) (s : Core) → under_of n s ≡ None → place_of u s ≡ Some (Place.Under n) → ⊥
+pub under_none : (n u : ℕ) (s : Core) → under_of n s ≡ None → place_of u s ≡ Some (Place.Under n) → ⊥
 unfolding under_of numbers get
 under_none n u s none at = by (get s.threads u) (λ i. get s.threads u)
   where

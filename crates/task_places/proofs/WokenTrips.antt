@@ -1,6 +1,6 @@
 -- Where a thread that doesn't run comes to in a step, of those that wait, are held or have an entry.
-use Rattle.task_places.proofs.Laws.{[], after_placing, after_word, along, ap, arith, behind_one, Bool, by_number, Collapses, Core, Delivery, Enter, false, get, get-change, get-remove, GoBehind, GoesBack, how_far_of, HowFar, inl, inr, is_for_start, is_some, is_there, IsBeside, IsFirst, IsGone, IsRunner, IsSame, Lands, LandsAt, Mark, MayCome, MayLand, MayPut, Move, nat_tests, no_time, not, on_thread, Option, Place, place_kept, place_of, Places, Placing, placing_shifted, push_high, push_low, Put, put_high, put_low, Quits, refl, Remains, remove_thread, RemoveThread, Scene, set_callers, set_how_far, set_place, SetHowFar, settle_threads, Settles, shifted_far, Some, Stand, Stay, Stays, stays_allowed, subst, Subtask, sym, Thread, thread_came, ThreadAfter, Trip, true, Turn, wake_why, Why, Word, ℕ, ⊎_elim, ◌==◌, ◌∙◌, ◌≡◌, ◌≤◌, ◌⊎◌}
-use Rattle.task_places.proofs.{PlaceLaw.Frame, PlaceLaw.beside, PlaceLaw.move_runner, PlaceLaw.runner_there, PlaceLaw.stay_word, PlaceLaw.watch, PlaceLaw.yield_leaves, StayMoves.Born, StayMoves.Gone, StayMoves.Kept, StayMoves.Marked, StayMoves.Moves, StayMoves.Passed, StayMoves.Resumed, StayMoves.Woken, StayMoves.stay_moves}
+use Rattle.task_places.proofs.Laws.{[], after_placing, after_word, along, ap, arith, behind_one, Bool, by_number, Collapses, Core, Delivery, Enter, false, get, get-change, get-remove, GoBehind, GoesBack, how_far_of, HowFar, inl, inr, is_for_start, is_some, is_there, IsBeside, IsFirst, IsGone, IsRunner, IsSame, Lands, LandsAt, Mark, MayCome, MayLand, MayPut, Move, nat_tests, no_time, not, on_thread, Option, Place, place_kept, place_of, Places, Placing, placing_shifted, push_high, push_low, Put, put_high, put_low, Quits, refl, Remains, remove_thread, RemoveThread, Scene, set_callers, set_how_far, set_place, SetHowFar, settle_threads, Settles, shifted_far, Some, Stand, Stay, Stays, stays_allowed, subst, sym, Thread, thread_came, ThreadAfter, Trip, true, Turn, wake_why, Why, Word, ℕ, ⊎_elim, ◌==◌, ◌∙◌, ◌≡◌, ◌≤◌, ◌⊎◌}
+use Rattle.task_places.proofs.{InsideLemmas.come_who, PlaceLaw.Frame, PlaceLaw.beside, PlaceLaw.move_runner, PlaceLaw.runner_there, PlaceLaw.stay_word, PlaceLaw.watch, PlaceLaw.yield_leaves, StayMoves.Born, StayMoves.Gone, StayMoves.Kept, StayMoves.Marked, StayMoves.Moves, StayMoves.Passed, StayMoves.Resumed, StayMoves.Woken, StayMoves.stay_moves}
 
 abbrev pub ReadyFor : Why → Option Place → Type 0
 ReadyFor w p = (m : Mark) × (p ≡ Some (Place.Ready m w))
@@ -90,16 +90,6 @@ wends_first (Place.Held w) kind = inl refl
 wends_first (Place.Waiting x c) kind = inl refl
 wends_first q kind = absurd (grind arith)
 
--- how far an op comes is said of the runner's, or of that of the thread under it
-come_runs : (a : Scene) (j : ℕ) (h : HowFar) (s : Core) → MayCome a j h s → IsRunner a j ⊎ ((m : ℕ) × (place_of j a.base ≡ Some (Place.Under m)))
-come_runs a j (HowFar.Waits x) s ok = inl ok.0.0
-come_runs a j (HowFar.Calls (Subtask.Guest k)) s ok = inl ok.0
-come_runs a j (HowFar.Calls (Subtask.Host i)) s ok = inl ok.0
-come_runs a j (HowFar.Cancels sub) s ok = inl ok.0.0
-come_runs a j (HowFar.AwaitsEnd sub) s ok = inl ok.0.0
-come_runs a j (HowFar.Answered v) s ok = inr (ok.0, ok.1.1.1)
-come_runs a j h s ok = inl ok
-
 -- ---- Trips
 
 module _ {a : Scene} {b : Core} {n : ℕ} {o : Option Place} (f : Frame a b n o) (j : ℕ) (q : Place) (kind : is_wending q ≡ true)
@@ -122,7 +112,7 @@ module _ {a : Scene} {b : Core} {n : ℕ} {o : Option Place} (f : Frame a b n o)
     where
       go : ThreadAfter a w s j → how_far_of j (after_word w s) ≡ how_far_of j s
       go (IsSame r u e f c y (inl same) m z) = grind arith
-      go (IsSame r u e f c y (inr come) m z) = absurd (⊎_elim other (λ under. free under.0 under.1) (come_runs a j u.how_far s come))
+      go (IsSame r u e f c y (inr come) m z) = absurd (⊎_elim other (λ under. free under.0 under.1) (come_who a j u.how_far s come))
       go (IsGone e) = absurd (grind arith)
       go (IsBeside u new l same m e) = absurd (omega (arith, new, low))
       go (IsFirst u new l there y z far fresh e x) = absurd (omega (arith, new, low))
@@ -168,7 +158,7 @@ module _ {a : Scene} {b : Core} {n : ℕ} {o : Option Place} (f : Frame a b n o)
 
   come_apart : (m : ℕ) (h : HowFar) (s : Core) → MayCome a m h s → (j == m) ≡ false
   come_apart m h s ok = by_number j m _ (λ e. absurd (⊎_elim other (λ under. free under.0 under.1)
-      (come_runs a j h s (subst (λ (i : ℕ). MayCome a i h s) (sym e) ok)))) (λ e. e)
+      (come_who a j h s (subst (λ (i : ℕ). MayCome a i h s) (sym e) ok)))) (λ e. e)
 
   gone_same : (k : ℕ) (s t : Core) → IsRunner a k → Settles (after_word (RemoveThread k) s) t → get t.threads j ≡ get s.threads j
   unfolding remove_thread

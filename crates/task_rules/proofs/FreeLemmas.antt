@@ -68,7 +68,7 @@ published_wakes sub e (Some m) s chosen spare x is =
       ),
     )
 
-evented_join : (sub : Subtask) (e : Option Status) (s : Core) → join_of sub (set_event sub e s) ≡ join_of sub s
+pub evented_join : (sub : Subtask) (e : Option Status) (s : Core) → join_of sub (set_event sub e s) ≡ join_of sub s
 unfolding set_event on_call on_work
 evented_join sub e s = grind (arith, nat_tests, get-change)
 

@@ -354,7 +354,7 @@ module _ (x : Setting) (s : State) (l : Label) where
   host_entry_walks ended m i t at true may is =
       let base = popped m s.core in
       let a = scene_at (Turn.Take ended) (Some (m, Entry.Host i)) Turn.Main in
-      let taken_first : Keep a s.core (told_end i base) = subst (λ (u : Core). Keep a s.core (told_end i u)) (popped_shifted m s.core).only (word (TakeHost m i) (at, (woken_of l, is.0)) NoWord) in
+      let taken_first : Keep a s.core (told_end i base) = subst (λ (u : Core). Keep a s.core (told_end i u)) (popped_shifted m s.core).only (word (TakeHost m i) (at, (woken_of l, (is.0, ((ended, refl), refl)))) NoWord) in
       idle (Turn.Take ended) base Turn.Main s.main (host_label m i (woken_of l)) (host_done i (woken_of l) base) (grind arith) (same_main s.main _) is.0 is.1
       (takes_by a _ is.0 (grind arith) (λ j at. rw (taken_is m i (woken_of l) j at) (host_frees {b = s.core} i (woken_of l) base (popped_same m s.core) may taken_first))) (host_done_walks i (woken_of l) base may taken_first)
   host_entry_walks ended m i t at false may is = absurd is
@@ -367,7 +367,7 @@ module _ (x : Setting) (s : State) (l : Label) where
       (λ u. thread_taken_leads x s.main ended base n l u m (choice_of l) (place_of n base) refl) is
   entry_walks ended m (Entry.Push i) t at is =
       idle (Turn.Take ended) (popped m s.core) Turn.Main s.main (Label.Take (TakeLabel.Push m i)) (pushed i (popped m s.core)) refl (same_main s.main _) is.0 is.1
-      (mute_words _ _ is.0 refl) (subst (λ (t : Core). Keep (scene_at (Turn.Take ended) (Some (m, Entry.Push i)) Turn.Main) s.core (set_stage i Stage.Live t)) (popped_shifted m s.core).only (word (TakePush m i) at NoWord))
+      (mute_words _ _ is.0 refl) (subst (λ (t : Core). Keep (scene_at (Turn.Take ended) (Some (m, Entry.Push i)) Turn.Main) s.core (set_stage i Stage.Live t)) (popped_shifted m s.core).only (word (TakePush m i) (at, ((ended, refl), refl)) NoWord))
   entry_walks ended m (Entry.Host i) t at is = host_entry_walks ended m i t at (may_publish (Subtask.Host i) (woken_of l) (popped m s.core)) refl is
 
   take_step_walks : (ended : Bool) (o : Option (Mark × Entry)) (t : State) → next_entry s.core ≡ o → TakeStep x s o l t → WalkedBy (scene_at (Turn.Take ended) o) s.core s.main t

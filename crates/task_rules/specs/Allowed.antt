@@ -485,6 +485,10 @@ pub data MayAbort (a : Scene) (i : ℕ) : Type 0 where
   ScriptAborts : (p : MainPlace) (k : ℕ) → a.main ≡ Scripted p → i ≡ spawned_at p k → MayAbort a i
   ProgramAborts : a.main ≡ Unscripted → is_spawn i a.base ≡ true → MayAbort a i
 
+-- the entry that the turn takes is that of a work
+abbrev pub TakesWork : Scene → Type 0
+TakesWork a = ((ended : Bool) × (a.turn ≡ turn.Take ended)) × (a.runner ≡ None)
+
 -- ---- Sets and instances
 
 abbrev pub MayOpen : Scene → ℕ → Core → Type 0
@@ -536,11 +540,11 @@ Allowed a (NameCall i k) s = MayNameCall a i k s
 Allowed a (UnnameCall i h k) s = MayUnname a i h (subtask.Guest k) s
 Allowed a CountWork s = s.made ≡ a.base.made
 Allowed a (QueueWork f host group) s = (s.made ≡ a.base.made) × MayQueue a f group
-Allowed a (TakePush m i) s = next_entry s ≡ Some (m, entry.Push i)
+Allowed a (TakePush m i) s = (next_entry s ≡ Some (m, entry.Push i)) × TakesWork a
 Allowed a (Pend i host) s = IsPolled a i s
 Allowed a (EndWork i c) s = MayFinish a i c s × (is_async_work (work_caller_of i s) ≡ false)
 Allowed a (FinishWork i c) s = MayFinish a i c s × (is_async_work (work_caller_of i s) ≡ true)
-Allowed a (TakeHost m i) s = (next_entry s ≡ Some (m, entry.Host i)) × ((w : Option ℕ) × (a.label ≡ host_label m i w))
+Allowed a (TakeHost m i) s = (next_entry s ≡ Some (m, entry.Host i)) × ((w : Option ℕ) × ((a.label ≡ host_label m i w) × TakesWork a))
 -- an abort is asked for
 Allowed a (SetPhase i p) s = MayAbort a i × (p ≡ aborted_phase (phase_of i s))
 Allowed a (SetCancelled i) s = IsOwn a (subtask.Host i)

@@ -1,17 +1,24 @@
 -- The moves of each word, and so of a step.
-use Rattle.turn_laws.proofs.LineLemmas.{after_more, lawful_more, threads_end, threads_has, threads_less}
-use Rattle.turn_laws.specs.Moves.{AllOther, Comes, IsOther, Lawful, Lines, May, Move, Promotes, StepsMoveThreads, Takes, Withdraws, after, lines, moved, one_at, rest, taking, taking_at, taking_by, taking_next, threads_of, unlined, without}
-use Rattle.std.proofs.lemmas.List.{append-nil}
-use Rattle.std.proofs.Common.{ap, arith, inl, inr, subst, sym, ◌∙◌}
+use Rattle.std.proofs.Common.{ap, inl, inr, subst, sym, ◌∙◌}
 use Rattle.std.specs.Option.{option_map_or}
 use Rattle.std.specs.Prelude.{Bool, List, None, Option, Some, [], false, if◌then◌else◌, refl, true, ℕ, ◌+◌, ◌++◌, ◌∷◌, ◌≡◌, ◌⊎◌}
-use Rattle.task_machine.specs.Core.{Core, State}
-use Rattle.task_machine.specs.Moves.{behind, behind_one, displaced, has_entry, less, less_switch, newest, older, passed_on, promoted, put_high, put_low, put_switch, resumed_all, stand, stopped, unqueued}
-use Rattle.task_machine.specs.Read.{callers_of, entry_thread, foot_of, next_entry, or_high}
-use Rattle.task_machine.specs.Write.{add_call, add_group, add_set, add_thread, add_work, count_work, free_handle, free_thread_handle, give_handle, give_result, give_thread_handle, on_call, on_instance, on_thread, on_work, push_high, push_high_first, push_low, remove_call, remove_group, remove_set, remove_thread, remove_work, set_backpressure, set_callers, set_cancel_delivered, set_cancelled, set_course, set_do_not_enter, set_do_not_suspend, set_end, set_event, set_exited, set_high, set_how_far, set_join, set_low, set_own_event, set_phase, set_place, set_position, set_register, set_result, set_saved_callee, set_saved_own, set_script, set_stage, set_started, set_starting_published, set_subtask_handle, set_switch, set_thread_handle, set_trapped, set_uninteresting, set_word, take_result}
+use Rattle.task_machine.specs.Core.{Core, Queues, State}
+use Rattle.task_machine.specs.Labels.{choice_of, host_label}
+use Rattle.task_machine.specs.Moves.{behind, behind_one, displaced, has_entry, is_callback_waiter, less, less_switch, may_publish, newest, older, passed_on, promoted, published, put_high, put_low, put_switch, resumed_all, stand, stopped, unblocked, unqueued, wake, wake_joined, waken_by}
+use Rattle.task_machine.specs.Read.{blocked_on, callers_of, course_of, course_value, foot_of, join_of, next_entry, work_caller_of}
+use Rattle.task_machine.specs.Write.{add_call, add_group, add_set, add_thread, add_work, count_work, free_handle, free_thread_handle, give_handle, give_result, give_thread_handle, on_call, on_instance, on_thread, on_work, push_high, push_high_first, push_low, remove_call, remove_group, remove_set, remove_thread, remove_work, set_backpressure, set_callers, set_cancel_delivered, set_cancelled, set_course, set_do_not_enter, set_do_not_suspend, set_end, set_event, set_exited, set_high, set_how_far, set_join, set_low, set_own_event, set_phase, set_place, set_position, set_register, set_result, set_saved_callee, set_saved_own, set_script, set_stage, set_started, set_starting_published, set_subtask_handle, set_switch, set_thread_handle, set_trapped, set_uninteresting, set_word, take_result, with_high, with_low, with_switch}
 use Rattle.task_machine.specs.declared.label.Label.{Label}
 use Rattle.task_machine.specs.declared.records.Entry.{Entry}
 use Rattle.task_machine.specs.declared.records.Entry.TheVariants as entry
+use Rattle.task_machine.specs.declared.records.Join.{Join}
+use Rattle.task_machine.specs.declared.records.Join.TheVariants as join
+use Rattle.task_machine.specs.declared.records.Delivery.TheVariants as delivery
+use Rattle.task_machine.specs.declared.records.Stage.TheVariants as stage
+use Rattle.task_machine.specs.declared.records.Subtask.{Subtask}
+use Rattle.task_machine.specs.declared.records.Subtask.TheVariants as subtask
+use Rattle.task_machine.specs.declared.records.WorkCaller.{WorkCaller}
+use Rattle.task_machine.specs.declared.records.WorkCaller.TheVariants as caller
+use Rattle.task_machine.specs.declared.words.Status.{Status}
 use Rattle.task_machine.specs.declared.records.Turn.{Turn}
 use Rattle.task_machine.specs.declared.records.Turn.TheVariants as turn
 use Rattle.task_machine.specs.declared.records.Why.{Why}
@@ -20,88 +27,36 @@ use Rattle.task_machine.specs.declared.words.Mark.{Mark}
 use Rattle.task_machine.specs.declared.words.Mark.TheVariants as mark
 use Rattle.task_rules.proofs.ChainLemmas.{along}
 use Rattle.task_rules.proofs.WalkSteps.{step_walks}
-use Rattle.task_rules.specs.Allowed.{IsFall, IsSettling, MayHasten, MayLand, MayShift, Stays}
 use Rattle.task_rules.specs.Calls.{call_made, with_handle, with_thread_handle, work_queued}
-use Rattle.task_rules.specs.Chains.{Chain, Collapses, GoesBack, Lands, LandsAt, Quits, Remains, Settles, Stay, Trip}
+use Rattle.task_rules.specs.Chains.{Chain, Collapses, GoesBack, Lands, LandsAt, Quits, Remains, Settles, Stay, Trip, start_of}
 use Rattle.task_rules.specs.Scenes.{Scene, base_at, base_without, runner_at, scene_of, thread_of_entry}
-use Rattle.task_rules.specs.Stalled.{Setting}
-use Rattle.task_rules.specs.Takes.{popped, rest_of}
+use Rattle.task_rules.specs.Progress.{Stops, may}
+use Rattle.task_rules.specs.Stalled.{Setting, is_unended_take, may_deadlock}
+use Rattle.task_rules.specs.Takes.{host_done, host_result, host_row, host_status, popped, pushed}
+use Rattle.task_rules.specs.Turns.{at_turn, goes_to}
 use Rattle.task_rules.specs.Words.{AddGroup, FinishWork, RemoveCall, RemoveGroup, SetTrapped, SetUninteresting, Places, Placing, Pop, Promote, Put, QueueWork, RemoveThread, Stop, TakeHost, TakePush, Withdraw, Word, after_placing, after_word}
-use Rattle.task_rules.specs.Works.{poll_pends}
+use Rattle.task_rules.specs.Works.{has_moving_work, poll_pends}
+use Rattle.turn_laws.proofs.LineLemmas.{after_more, lawful_more}
+use Rattle.turn_laws.specs.Moves.{AllOther, Comes, IsOther, Lawful, May, Move, MovesBy, Promotes, StepsMoveEntries, Takes, Withdraws, after, moved, one_at, taking, taking_by, taking_next, unlined}
+use Rattle.task_rules.specs.Allowed.{IsFall, IsSettling, MayHasten, MayLand, MayShift, Stays, TakesWork}
+use Rattle.task_rules.specs.Step.{DeadlockStep, EmptyFor, Progresses, RestStep, Step, TakeStep, TurnStep}
 
--- ---- The next entry leaves its mark
-
--- one of a work
-popped_same : (m : Mark) (e : Entry) (s : Core) → entry_thread e ≡ None → next_entry s ≡ Some (m, e) → lines (popped m s) ≡ lines s
-unfolding popped set_switch set_high set_low next_entry
-popped_same m e s work h = by m s.queues.switch s.queues.high s.queues.low refl refl refl h
-  where
-    rested : (f : Entry) (es fs : List Entry) → es ≡ f ∷ fs → f ≡ e → threads_of (rest_of es) ≡ threads_of es
-    rested f es fs is same = grind arith
-
-    by : (m : Mark) (q : Option ℕ) (hs ls : List Entry) → s.queues.switch ≡ q → s.queues.high ≡ hs → s.queues.low ≡ ls →
-        or_high q hs ls ≡ Some (m, e) → lines (popped m s) ≡ lines s
-    by mark.High None (f ∷ hs) ls a b c h = ap (λ ns. record (lines s) { high = ns }) (rested f s.queues.high hs b (grind arith))
-    by mark.Low None [] (f ∷ ls) a b c h = ap (λ ns. record (lines s) { low = ns }) (rested f s.queues.low ls c (grind arith))
-    by m q hs ls a b c h = absurd (grind arith)
-
--- one of a thread
-abbrev Left : Mark → ℕ → Core → Type 0
-Left m n s = May (Takes m n) (lines s) × (lines (popped m s) ≡ moved (Takes m n) (lines s))
-
-popped_left : (m : Mark) (n : ℕ) (s : Core) → next_entry s ≡ Some (m, entry.Thread n) → Left m n s
-unfolding popped set_switch set_high set_low next_entry
-popped_left m n s h = by m s.queues.switch s.queues.high s.queues.low refl refl refl h
-  where
-    first : (f : Entry) (es fs : List Entry) → es ≡ f ∷ fs → f ≡ entry.Thread n →
-        (threads_of es ≡ n ∷ rest (threads_of es)) × (threads_of (rest_of es) ≡ rest (threads_of es))
-    first f es fs is same = (grind arith, grind arith)
-
-    by : (m : Mark) (q : Option ℕ) (hs ls : List Entry) → s.queues.switch ≡ q → s.queues.high ≡ hs → s.queues.low ≡ ls →
-        or_high q hs ls ≡ Some (m, entry.Thread n) → Left m n s
-    by mark.Switch (Some k) hs ls a b c h = (grind arith, refl)
-    by mark.High None (f ∷ hs) ls a b c h =
-        let is = first f s.queues.high hs b (grind arith) in ((a, is.0), ap (λ ns. record (lines s) { high = ns }) is.1)
-    by mark.Low None [] (f ∷ ls) a b c h =
-        let is = first f s.queues.low ls c (grind arith) in
-        ((a, (ap threads_of b, is.0)), ap (λ ns. record (lines s) { low = ns }) is.1)
-    by m q hs ls a b c h = absurd (grind arith)
-
--- where the step's own words begin, the entry that its turn takes has left its mark
-taking_leads : (p : Turn) (s : Core) → Lawful (taking_by p s) (lines s) ×
-    (lines (option_map_or (λ n. base_at p s) (runner_at p s) s) ≡ after (taking_by p s) (lines s))
-taking_leads (turn.Take ended) s = by (next_entry s) refl
-  where
-    at_entry : (m : Mark) (e : Entry) → next_entry s ≡ Some (m, e) → Lawful (taking_at m (entry_thread e)) (lines s) ×
-        (lines (option_map_or (λ n. popped m s) (entry_thread e) s) ≡ after (taking_at m (entry_thread e)) (lines s))
-    at_entry m (entry.Thread n) is = let q = popped_left m n s is in ((q.0, tt), q.1)
-    at_entry m e is = (tt, refl)
-
-    by : (o : Option (Mark × Entry)) → next_entry s ≡ o → Lawful (taking_next o) (lines s) ×
-        (lines (option_map_or (λ n. base_without o s) (thread_of_entry o) s) ≡ after (taking_next o) (lines s))
-    by None is = (tt, refl)
-    by (Some e) is = at_entry e.0 e.1 is
-taking_leads _ s = (tt, refl)
-
-settling_same : (w : Word) (s : Core) → IsSettling w s → lines (after_word w s) ≡ lines s
+settling_same : (w : Word) (s : Core) → IsSettling w s → (after_word w s).queues ≡ s.queues
 unfolding set_uninteresting remove_call remove_group on_call
 settling_same (SetUninteresting k) s ok = refl
 settling_same (RemoveCall k) s ok = refl
 settling_same (RemoveGroup g) s ok = refl
 settling_same _ s ok = absurd ok
 
-falling_same : (a : Scene) (w : Word) (s : Core) → IsFall a w s → lines (after_word w s) ≡ lines s
+falling_same : (a : Scene) (w : Word) (s : Core) → IsFall a w s → (after_word w s).queues ≡ s.queues
 unfolding remove_thread set_trapped
 falling_same a (RemoveThread n) s ok = refl
 falling_same a SetTrapped s ok = refl
 falling_same a _ s ok = absurd ok
 
-module _ (x : Setting) (first : State) (l : Label) (next : Turn) where
-  abbrev a : Scene
-  a = scene_of x first l next
-
+module _ (x : Setting) (first : State) (l : Label) where
   -- from the one to the other by other moves than takings
-  record Others (q r : Lines) : Type 0 where
+  record Others (q r : Queues) : Type 0 where
     moves : List Move
     other : AllOther x first l moves
     lawful : Lawful moves q
@@ -113,128 +68,267 @@ module _ (x : Setting) (first : State) (l : Label) (next : Turn) where
   other_more [] ws p q = q
   other_more (v ∷ vs) ws p q = (p.0, other_more vs ws p.1 q)
 
-  none : (q : Lines) → Others q q
+  none : (q : Queues) → Others q q
   none q = record { moves = []; other = tt; lawful = tt; leads = refl }
 
-  same : {q r : Lines} → r ≡ q → Others q r
+  same : {q r : Queues} → r ≡ q → Others q r
   same {q = q} e = record { moves = []; other = tt; lawful = tt; leads = e }
 
-  once : (v : Move) {q r : Lines} → IsOther x first l v → May v q → r ≡ moved v q → Others q r
+  once : (v : Move) {q r : Queues} → IsOther x first l v → May v q → r ≡ moved v q → Others q r
   once v ok may e = record { moves = v ∷ []; other = (ok, tt); lawful = (may, tt); leads = e }
 
-  more : {q r t : Lines} → Others q r → Others r t → Others q t
+  more : {q r t : Queues} → Others q r → Others r t → Others q t
   more {q = q} c d = record {
     moves = c.moves ++ d.moves;
     other = other_more c.moves d.moves c.other d.other;
-    lawful = lawful_more c.moves d.moves q c.lawful (subst (λ (u : Lines). Lawful d.moves u) c.leads d.lawful);
+    lawful = lawful_more c.moves d.moves q c.lawful (subst (λ (u : Queues). Lawful d.moves u) c.leads d.lawful);
     leads = d.leads ∙ (ap (after d.moves) c.leads ∙ sym (after_more c.moves d.moves q));
   }
 
   -- ---- Words that move threads
 
-  put_high_moves : (n : ℕ) (w : Why) (s : Core) → Others (lines s) (lines (put_high n w s))
+  put_high_moves : (n : ℕ) (w : Why) (s : Core) → Others s.queues (put_high n w s).queues
   unfolding put_high push_high set_place on_thread
-  put_high_moves n w s = once (Comes mark.High n) tt tt (ap (λ ns. record (lines s) { high = ns }) (threads_end s.queues.high (entry.Thread n)))
+  put_high_moves n w s = once (Comes mark.High (entry.Thread n)) tt tt refl
 
-  put_low_moves : (n : ℕ) (w : Why) (s : Core) → Others (lines s) (lines (put_low n w s))
+  put_low_moves : (n : ℕ) (w : Why) (s : Core) → Others s.queues (put_low n w s).queues
   unfolding put_low push_low set_place on_thread
-  put_low_moves n w s = once (Comes mark.Low n) tt tt (ap (λ ns. record (lines s) { low = ns }) (threads_end s.queues.low (entry.Thread n)))
+  put_low_moves n w s = once (Comes mark.Low (entry.Thread n)) tt tt refl
 
-  put_switch_moves : (n : ℕ) (w : Why) (s : Core) → Others (lines s) (lines (put_switch n w s))
+  put_switch_moves : (n : ℕ) (w : Why) (s : Core) → Others s.queues (put_switch n w s).queues
   unfolding put_switch set_switch push_high_first set_place on_thread
-  put_switch_moves n w s = once (Comes mark.Switch n) tt tt (by s.queues.switch)
+  put_switch_moves n w s = once (Comes mark.Switch (entry.Thread n)) tt refl (by s.queues.switch)
     where
-      by : (o : Option ℕ) → lines (set_switch (Some n) (stand n mark.Switch w (displaced o s))) ≡
-          record (lines s) { switch = Some n; high = one_at o ++ threads_of s.queues.high }
+      by : (o : Option ℕ) → (set_switch (Some n) (stand n mark.Switch w (displaced o s))).queues ≡
+          with_switch (Some n) (with_high (one_at o ++ s.queues.high) s.queues)
       by None = refl
       by (Some m) = refl
 
-  resumed_moves : (ns : List ℕ) (s : Core) → Others (lines s) (lines (resumed_all ns s))
-  resumed_moves [] s = none (lines s)
+  resumed_moves : (ns : List ℕ) (s : Core) → Others s.queues (resumed_all ns s).queues
+  resumed_moves [] s = none s.queues
   resumed_moves (n ∷ ns) s = more (put_high_moves n why.Resumption s) (resumed_moves ns (put_high n why.Resumption s))
 
-  behind_same : (f : ℕ) (ns : List ℕ) (s : Core) → lines (behind f ns s) ≡ lines s
+  behind_same : (f : ℕ) (ns : List ℕ) (s : Core) → (behind f ns s).queues ≡ s.queues
   unfolding behind_one set_callers set_place on_thread
   behind_same f [] s = refl
   behind_same f (n ∷ ns) s = behind_same f ns (behind_one f n s)
 
-  passed_on_moves : (o : Option ℕ) (ns : List ℕ) (s : Core) → Others (lines s) (lines (passed_on o ns s))
+  passed_on_moves : (o : Option ℕ) (ns : List ℕ) (s : Core) → Others s.queues (passed_on o ns s).queues
   passed_on_moves (Some m) ns s = same (behind_same (foot_of m s) ns s)
-  passed_on_moves None [] s = none (lines s)
+  passed_on_moves None [] s = none s.queues
   passed_on_moves None (n ∷ ns) s =
       more (put_switch_moves (newest n ns) why.Resumption s) (resumed_moves (older n ns) (put_switch (newest n ns) why.Resumption s))
 
-  stopped_moves : (f : ℕ) (s : Core) → Others (lines s) (lines (stopped f s))
+  stopped_moves : (f : ℕ) (s : Core) → Others s.queues (stopped f s).queues
   unfolding stopped set_callers
   stopped_moves f s = passed_on_moves s.queues.switch (callers_of f s) (set_callers f [] s)
 
-  unqueued_lines : (n : ℕ) (s : Core) → lines (unqueued n s) ≡ unlined n (lines s)
+  unqueued_is : (n : ℕ) (s : Core) → (unqueued n s).queues ≡ unlined n s.queues
   unfolding unqueued set_high set_low
-  unqueued_lines n s = by (has_entry n s.queues.high) ∙ ap (λ b. if b then record (lines s) { high = without n (threads_of s.queues.high) } else record (lines s) { low = without n (threads_of s.queues.low) }) (threads_has n s.queues.high)
+  unqueued_is n s = by (has_entry n s.queues.high)
     where
-      by : (b : Bool) → lines (if b then set_high (less n s.queues.high) s else set_low (less n s.queues.low) s) ≡
-          (if b then record (lines s) { high = without n (threads_of s.queues.high) } else record (lines s) { low = without n (threads_of s.queues.low) })
-      by true = ap (λ ns. record (lines s) { high = ns }) (threads_less n s.queues.high)
-      by false = ap (λ ns. record (lines s) { low = ns }) (threads_less n s.queues.low)
+      by : (b : Bool) → (if b then set_high (less n s.queues.high) s else set_low (less n s.queues.low) s).queues ≡
+          (if b then with_high (less n s.queues.high) s.queues else with_low (less n s.queues.low) s.queues)
+      by true = refl
+      by false = refl
 
-  promoted_moves : (n : ℕ) (s : Core) → s.queues.switch ≡ None → Others (lines s) (lines (promoted n s))
+  promoted_moves : (n : ℕ) (s : Core) → s.queues.switch ≡ None → Others s.queues (promoted n s).queues
   unfolding promoted set_switch set_place on_thread
-  promoted_moves n s may = once (Promotes n) tt may (ap (λ (q : Lines). record q { switch = Some n }) (unqueued_lines n s))
+  promoted_moves n s free = once (Promotes n) tt free (ap (with_switch (Some n)) (unqueued_is n s))
 
-  placing_moves : (p : Placing) (s : Core) → MayShift p s ⊎ (MayHasten a p s ⊎ MayLand a p s) → Others (lines s) (lines (after_placing p s))
+  -- ---- A status is published
+
+  wake_moves : (j : Join) (w : Option ℕ) (s : Core) → Others s.queues (wake_joined j w s).queues
+  unfolding wake
+  wake_moves (join.Set y) None s = none s.queues
+  wake_moves (join.Set y) (Some n) s = by (is_callback_waiter n s)
+    where
+      by : (b : Bool) → Others s.queues (waken_by b y n s).queues
+      by true = put_high_moves n (why.Delivery (delivery.Set y)) s
+      by false = put_high_moves n why.Resumption s
+  wake_moves j w s = none s.queues
+
+  unblocked_moves : (o : Option ℕ) (s : Core) → Others s.queues (unblocked o s).queues
+  unblocked_moves None s = none s.queues
+  unblocked_moves (Some n) s = put_high_moves n why.Resumption s
+
+  published_moves : (sub : Subtask) (e : Status) (w : Option ℕ) (s : Core) → Others s.queues (published sub e w s).queues
+  unfolding published set_event on_call on_work
+  published_moves sub e w s =
+      let u = set_event sub (Some e) s in
+      more (same (event_same sub)) (more (unblocked_moves (blocked_on sub s) u) (wake_moves (join_of sub s) w (unblocked (blocked_on sub s) u)))
+    where
+      event_same : (d : Subtask) → (set_event d (Some e) s).queues ≡ s.queues
+      event_same (subtask.Guest k) = refl
+      event_same (subtask.Host i) = refl
+
+  host_done_moves : (i : ℕ) (w : Option ℕ) (s : Core) → Others s.queues (host_done i w s).queues
+  unfolding host_done set_stage set_register on_work on_thread
+  host_done_moves i w s =
+      let v = course_value (course_of i s) in
+      more (published_moves (subtask.Host i) (host_status v) w (set_stage i stage.Ended s)) (same (result_same (work_caller_of i s) v (published (subtask.Host i) (host_status v) w (set_stage i stage.Ended s))))
+    where
+      result_same : (c : WorkCaller) (v : Option ℕ) (u : Core) → (host_result c v u).queues ≡ u.queues
+      result_same (caller.Async n q) (Some v) u = refl
+      result_same c v u = refl
+
+-- ---- Words, where the turn takes no entry of a work
+
+module _ (x : Setting) (first : State) (l : Label) (next : Turn) (apart : TakesWork (scene_of x first l next) → ⊥) where
+  abbrev a : Scene
+  a = scene_of x first l next
+
+  abbrev Moving : Queues → Queues → Type 0
+  Moving q r = Others x first l q r
+
+  placing_moves : (p : Placing) (s : Core) → MayShift p s ⊎ (MayHasten a p s ⊎ MayLand a p s) → Moving s.queues (after_placing p s).queues
   unfolding set_place on_thread behind_one set_callers
   placing_moves (Pop m) s (inl ok) = absurd ok
   placing_moves (Pop m) s (inr (inl ok)) = absurd ok
   placing_moves (Pop m) s (inr (inr ok)) = absurd ok
-  placing_moves (Put mark.Switch n w) s ok = put_switch_moves n w s
-  placing_moves (Put mark.High n w) s ok = put_high_moves n w s
-  placing_moves (Put mark.Low n w) s ok = put_low_moves n w s
-  placing_moves (Promote n) s (inl ok) = promoted_moves n s ok.0
-  placing_moves (Promote n) s (inr (inl ok)) = promoted_moves n s ok.0
+  placing_moves (Put mark.Switch n w) s ok = put_switch_moves x first l n w s
+  placing_moves (Put mark.High n w) s ok = put_high_moves x first l n w s
+  placing_moves (Put mark.Low n w) s ok = put_low_moves x first l n w s
+  placing_moves (Promote n) s (inl ok) = promoted_moves x first l n s ok.0
+  placing_moves (Promote n) s (inr (inl ok)) = promoted_moves x first l n s ok.0
   placing_moves (Promote n) s (inr (inr ok)) = absurd ok
-  placing_moves (Stop f) s ok = stopped_moves f s
-  placing_moves p s ok = none (lines s)
+  placing_moves (Stop f) s ok = stopped_moves x first l f s
+  placing_moves p s ok = none x first l s.queues
 
-  word_moves : (w : Word) (s : Core) → Stays a w s → Others (lines s) (lines (after_word w s))
+  word_moves : (w : Word) (s : Core) → Stays a w s → Moving s.queues (after_word w s).queues
   unfolding add_call add_group add_set add_thread add_work count_work free_handle free_thread_handle give_handle give_result give_thread_handle on_call on_instance on_thread on_work push_high remove_call remove_group remove_set remove_thread remove_work set_backpressure set_cancel_delivered set_cancelled set_course set_do_not_enter set_do_not_suspend set_end set_event set_exited set_how_far set_join set_own_event set_phase set_position set_register set_result set_saved_callee set_saved_own set_script set_stage set_started set_starting_published set_subtask_handle set_thread_handle set_trapped set_uninteresting set_word take_result call_made with_handle with_thread_handle work_queued poll_pends set_switch
   word_moves (Places p) s (inl ok) = placing_moves p s (inl ok)
   word_moves (Places p) s (inr ok) = placing_moves p s (inr (inl ok))
-  word_moves (Withdraw k) s ok = once (Withdraws k) ok.1.0 tt (ap (λ (q : Lines). record q { switch = less_switch k s.queues.switch }) (unqueued_lines k s))
-  word_moves (QueueWork f host group) s ok = same (ap (λ ns. record (lines s) { high = ns }) (threads_end s.queues.high (entry.Push (s.made.works + 1)) ∙ append-nil (threads_of s.queues.high)))
-  word_moves (TakePush m i) s ok = same (popped_same m (entry.Push i) s refl ok)
-  word_moves (FinishWork i c) s ok = same (ap (λ ns. record (lines s) { high = ns }) (threads_end s.queues.high (entry.Host i) ∙ append-nil (threads_of s.queues.high)))
-  word_moves (TakeHost m i) s ok = same (popped_same m (entry.Host i) s refl ok.0)
-  word_moves AddGroup s ok = none (lines s)
-  word_moves w s ok = none (lines s)
+  word_moves (Withdraw k) s ok = once x first l (Withdraws k) ok.1.0 tt (ap (with_switch (less_switch k s.queues.switch)) (unqueued_is x first l k s))
+  word_moves (QueueWork f host group) s ok = once x first l (Comes mark.High (entry.Push (s.made.works + 1))) tt tt refl
+  word_moves (FinishWork i c) s ok = once x first l (Comes mark.High (entry.Host i)) tt tt refl
+  word_moves (TakePush m i) s ok = absurd (apart ok.1)
+  word_moves (TakeHost m i) s ok = absurd (apart ok.1.1.1)
+  word_moves AddGroup s ok = none x first l s.queues
+  word_moves w s ok = none x first l s.queues
 
-  stay_moves : {b t : Core} → Stay a b t → Others (lines b) (lines t)
-  stay_moves {b = b} c = along (λ (u : Core). Others (lines b) (lines u)) (λ w u ok q. more q (word_moves w u ok)) (none (lines b)) c
+  stay_moves : {b t : Core} → Stay a b t → Moving b.queues t.queues
+  stay_moves {b = b} c = along (λ (u : Core). Moving b.queues u.queues) (λ w u ok q. more x first l q (word_moves w u ok)) (none x first l b.queues) c
 
-  settle_same : {b t : Core} → Settles b t → lines t ≡ lines b
-  settle_same {b = b} c = along (λ (u : Core). lines u ≡ lines b) (λ w u ok q. settling_same w u ok ∙ q) refl c
+  settle_same : {b t : Core} → Settles b t → t.queues ≡ b.queues
+  settle_same {b = b} c = along (λ (u : Core). u.queues ≡ b.queues) (λ w u ok q. settling_same w u ok ∙ q) refl c
 
-  fall_same : {b t : Core} → Chain (IsFall a) b t → lines t ≡ lines b
-  fall_same {b = b} c = along (λ (u : Core). lines u ≡ lines b) (λ w u ok q. falling_same a w u ok ∙ q) refl c
+  fall_same : {b t : Core} → Chain (IsFall a) b t → t.queues ≡ b.queues
+  fall_same {b = b} c = along (λ (u : Core). u.queues ≡ b.queues) (λ w u ok q. falling_same a w u ok ∙ q) refl c
 
-  trip_moves : {b t : Core} → Trip a b t → Others (lines b) (lines t)
+  trip_moves : {b t : Core} → Trip a b t → Moving b.queues t.queues
   unfolding set_how_far remove_thread on_thread set_place
   trip_moves (Remains t c still on) = stay_moves c
-  trip_moves (Lands s p c ok fit halts) = more (stay_moves c) (placing_moves p s (inr (inr ok)))
-  trip_moves (LandsAt s p n h c ok fit comes halts) = more (stay_moves c) (placing_moves p s (inr (inr ok)))
-  trip_moves (Quits s t n c leave d halts) = more (stay_moves c) (same (settle_same d))
-  trip_moves (GoesBack s t n m v c is runs to under d ok) = more (stay_moves c) (same (settle_same d))
-  trip_moves (Collapses t over c) = same (fall_same c)
+  trip_moves (Lands s p c ok fit halts) = more x first l (stay_moves c) (placing_moves p s (inr (inr ok)))
+  trip_moves (LandsAt s p n h c ok fit comes halts) = more x first l (stay_moves c) (placing_moves p s (inr (inr ok)))
+  trip_moves (Quits s t n c leave d halts) = more x first l (stay_moves c) (same x first l (settle_same d))
+  trip_moves (GoesBack s t n m v c is runs to under d ok) = more x first l (stay_moves c) (same x first l (settle_same d))
+  trip_moves (Collapses t over c) = same x first l (fall_same c)
 
-pub steps_move_threads : StepsMoveThreads
-unfolding StepsMoveThreads
-steps_move_threads x s l t step =
-    let w = step_walks x s l t step in
-    let c = trip_moves x s l w.next w.trip in
-    let q = taking_leads s.turn s.core in (
-      c.moves,
-      record {
-        other = c.other;
-        lawful = lawful_more (taking s) c.moves (lines s.core) q.0 (subst (λ (u : Lines). Lawful c.moves u) q.1 c.lawful);
-        leads = c.leads ∙ (ap (after c.moves) q.1 ∙ sym (after_more (taking s) c.moves (lines s.core)));
-      },
-    )
+-- ---- The entry that is taken leaves its mark
+
+left_is : (m : Mark) (e : Entry) (s : Core) → (popped m s).queues ≡ moved (Takes m e) s.queues
+unfolding popped set_switch set_high set_low
+left_is mark.Switch e s = refl
+left_is mark.High e s = refl
+left_is mark.Low e s = refl
+
+next_may : (m : Mark) (e : Entry) (s : Core) → next_entry s ≡ Some (m, e) → May (Takes m e) s.queues
+unfolding next_entry
+next_may m e s is = is
+
+core_of : (s : State) (u : Core) (p : Turn) (t : State) → t ≡ goes_to s u p → t.core ≡ u
+unfolding at_turn
+core_of s u p t is = ap (λ (y : State). y.core) is
+
+pushed_same : (i : ℕ) (s : Core) → (pushed i s).queues ≡ s.queues
+unfolding pushed set_stage on_work
+pushed_same i s = refl
+
+trapped_same : (s : Core) → (set_trapped s).queues ≡ s.queues
+unfolding set_trapped
+trapped_same s = refl
+
+some_none : {A : Type 0} {n : ℕ} → Some n ≡ None → A
+some_none e = absurd (cc)
+
+turn_step : (x : Setting) (s : State) (l : Label) (t : State) → Step x s l t → (p : Turn) → s.turn ≡ p → TurnStep x s p l t
+unfolding Step
+turn_step x s l t step p is = subst (λ (u : Turn). TurnStep x s u l t) is step
+
+-- ---- Steps
+
+module _ (x : Setting) (s : State) (l : Label) (t : State) where
+  Result : Type 0
+  Result = (others : List Move) × MovesBy x s l t others
+
+  -- after what the turn takes
+  behind_taking : (vs : List Move) → taking s ≡ vs → Lawful vs s.core.queues → Others x s l (after vs s.core.queues) t.core.queues → Result
+  unfolding Result
+  behind_taking vs is lawful c = (
+    c.moves,
+    record {
+      other = c.other;
+      lawful = subst (λ (us : List Move). Lawful (us ++ c.moves) s.core.queues) (sym is) (lawful_more vs c.moves s.core.queues lawful c.lawful);
+      leads = subst (λ (us : List Move). t.core.queues ≡ after (us ++ c.moves) s.core.queues) (sym is) (c.leads ∙ sym (after_more vs c.moves s.core.queues));
+    },
+  )
+
+  empty_same : (b : Bool) → EmptyFor x s b l t → t.core.queues ≡ s.core.queues
+  empty_same true is = rests (is_unended_take s.turn) is
+    where
+      rests : (b : Bool) → RestStep s b l t → t.core.queues ≡ s.core.queues
+      rests true is = ap (λ (c : Core). c.queues) (core_of s s.core turn.Main t is.1)
+      rests false is = absurd is
+  empty_same false is = dies (may_deadlock x s) is
+    where
+      dies : (b : Bool) → DeadlockStep s b l t → t.core.queues ≡ s.core.queues
+      dies true is = ap (λ (c : Core). c.queues) (core_of s (set_trapped s.core) turn.Over t is.1) ∙ trapped_same s.core
+      dies false is = absurd is
+
+  host_row_moves : (m : Mark) (i : ℕ) (w : Option ℕ) (u : Core) → Progresses s u i (host_row m i w u) l t → Others x s l u.queues t.core.queues
+  host_row_moves m i w u is = by (may_publish (subtask.Host i) w u) is
+    where
+      by : (b : Bool) → Progresses s u i (may b (Stops (host_label m i w) (host_done i w u))) l t → Others x s l u.queues t.core.queues
+      by true is = subst (λ (c : Core). Others x s l u.queues c.queues) (sym (core_of s (host_done i w u) turn.Main t is.1)) (host_done_moves x s l i w u)
+      by false is = absurd is
+
+  walks : Step x s l t → ((next : Turn) → TakesWork (scene_of x s l next) → ⊥) → (u : Core) → ((next : Turn) → start_of (scene_of x s l next) s.core ≡ u) →
+      Others x s l u.queues t.core.queues
+  walks step apart u is =
+      let w = step_walks x s l t step in
+      subst (λ (v : Core). Others x s l v.queues t.core.queues) (is w.next) (trip_moves x s l w.next (apart w.next) w.trip)
+
+  takes : Step x s l t → (o : Option (Mark × Entry)) → next_entry s.core ≡ o → taking s ≡ taking_next o → runner_at s.turn s.core ≡ thread_of_entry o →
+      base_at s.turn s.core ≡ base_without o s.core → TakeStep x s o l t → Result
+  takes step None none first runner base is = behind_taking [] first tt (same x s l (empty_same (has_moving_work s.core) is))
+  takes step (Some (m, entry.Thread n)) next first runner base is =
+      behind_taking (Takes m (entry.Thread n) ∷ []) first (next_may m (entry.Thread n) s.core next, tt)
+      (subst (λ (q : Queues). Others x s l q t.core.queues) (left_is m (entry.Thread n) s.core)
+      (walks step (λ to works. some_none (sym runner ∙ works.1)) (popped m s.core) (λ to. ap (λ (o : Option ℕ). option_map_or (λ k. base_at s.turn s.core) o s.core) runner ∙ base)))
+  takes step (Some (m, entry.Push i)) next first runner base is =
+      behind_taking (Takes m (entry.Push i) ∷ []) first (next_may m (entry.Push i) s.core next, tt)
+      (same x s l (ap (λ (c : Core). c.queues) (core_of s (pushed i (popped m s.core)) turn.Main t is.1) ∙ (pushed_same i (popped m s.core) ∙ left_is m (entry.Push i) s.core)))
+  takes step (Some (m, entry.Host i)) next first runner base is =
+      behind_taking (Takes m (entry.Host i) ∷ []) first (next_may m (entry.Host i) s.core next, tt)
+      (subst (λ (q : Queues). Others x s l q t.core.queues) (left_is m (entry.Host i) s.core) (host_row_moves m i (choice_of l).woken (popped m s.core) is))
+
+pub steps_move_entries : StepsMoveEntries
+unfolding StepsMoveEntries Result
+steps_move_entries x s l t step = by s.turn refl
+  where
+    others : (p : Turn) → s.turn ≡ p → taking_by p s.core ≡ [] → ((ended : Bool) → p ≡ turn.Take ended → ⊥) → ((next : Turn) → start_of (scene_of x s l next) s.core ≡ s.core) → Result x s l t
+    others p is none apart start = behind_taking x s l t [] (ap (λ (u : Turn). taking_by u s.core) is ∙ none) tt
+        (walks x s l t step (λ next works. apart works.0.0 (sym is ∙ works.0.1)) s.core start)
+
+    start_at : (p : Turn) → s.turn ≡ p → ((n : ℕ) → option_map_or (λ (k : ℕ). base_at p s.core) (runner_at p s.core) s.core ≡ s.core) → (next : Turn) → start_of (scene_of x s l next) s.core ≡ s.core
+    start_at p is plain next = ap (λ (u : Turn). option_map_or (λ (k : ℕ). base_at u s.core) (runner_at u s.core) s.core) is ∙ plain 0
+
+    by : (p : Turn) → s.turn ≡ p → (others : List Move) × MovesBy x s l t others
+    by (turn.Take ended) is =
+        takes x s l t step (next_entry s.core) refl (ap (λ (u : Turn). taking_by u s.core) is) (ap (λ (u : Turn). runner_at u s.core) is)
+        (ap (λ (u : Turn). base_at u s.core) is) (turn_step x s l t step (turn.Take ended) is)
+    by turn.Main is = others turn.Main is refl (λ ended e. absurd (cc)) (start_at turn.Main is (λ n. refl))
+    by (turn.Futures n) is = others (turn.Futures n) is refl (λ ended e. absurd (cc)) (start_at (turn.Futures n) is (λ n. refl))
+    by (turn.Run n) is = others (turn.Run n) is refl (λ ended e. absurd (cc)) (start_at (turn.Run n) is (λ n. refl))
+    by turn.Over is = others turn.Over is refl (λ ended e. absurd (cc)) (start_at turn.Over is (λ n. refl))

@@ -1,11 +1,13 @@
--- In which order threads are taken from the marks.
-use Rattle.std.specs.List.{filter, filter_map, list_any}
-use Rattle.std.specs.Prelude.{Bool, List, None, Option, Some, [], false, if◌then◌else◌, true, ℕ, ◌++◌, ◌==◌, ◌∷◌, ◌≡◌}
-use Rattle.task_machine.specs.Core.{Core, State}
-use Rattle.task_machine.specs.Moves.{less_switch}
-use Rattle.task_machine.specs.Read.{entry_thread, next_entry}
+-- In which order entries are taken from the marks.
+use Rattle.std.specs.List.{filter}
+use Rattle.std.specs.Prelude.{Bool, List, None, Option, Some, [], false, if◌then◌else◌, is_some, true, ℕ, ◌++◌, ◌∷◌, ◌≡◌}
+use Rattle.task_machine.specs.Core.{Core, Queues, State}
+use Rattle.task_machine.specs.Moves.{has_entry, less, less_switch}
+use Rattle.task_machine.specs.Read.{entry_thread, next_entry, or_high}
+use Rattle.task_machine.specs.Write.{with_high, with_low, with_switch}
 use Rattle.task_machine.specs.declared.label.Label.{Label}
 use Rattle.task_machine.specs.declared.records.Entry.{Entry}
+use Rattle.task_machine.specs.declared.records.Entry.TheVariants as entry
 use Rattle.task_machine.specs.declared.records.Subtask.TheVariants as subtask
 use Rattle.task_machine.specs.declared.records.Turn.{Turn}
 use Rattle.task_machine.specs.declared.records.Turn.TheVariants as turn
@@ -17,98 +19,66 @@ use Rattle.task_rules.specs.Scenes.{base_at}
 use Rattle.task_rules.specs.Stalled.{Setting}
 use Rattle.task_rules.specs.Step.{Step}
 use Rattle.task_rules.specs.SubtaskEnds.{end_for, written_by}
-
--- ---- Who stands at the marks
-
--- The threads whose entries stand at the marks, first those that are next.
-pub record Lines : Type 0 where
-  pub switch : Option ℕ
-  pub high : List ℕ
-  pub low : List ℕ
-
-abbrev pub threads_of : List Entry → List ℕ
-threads_of es = filter_map entry_thread es
-
-abbrev pub lines : Core → Lines
-lines s = record { switch = s.queues.switch; high = threads_of s.queues.high; low = threads_of s.queues.low }
-
-abbrev pub one_at : Option ℕ → List ℕ
-one_at None = []
-one_at (Some n) = n ∷ []
-
-abbrev pub at : Mark → Lines → List ℕ
-at mark.Switch q = one_at q.switch
-at mark.High q = q.high
-at mark.Low q = q.low
+use Rattle.task_rules.specs.Takes.{rest_of}
 
 -- ---- Moves
 
--- A change of who stands there.
+-- A change of what stands at the marks.
 pub data Move : Type 0 where
-  -- the thread's entry, which is next, is taken from the mark
-  Takes : (mark : Mark) → (thread : ℕ) → Move
-  -- the thread comes to the end of the mark; at switch, who stood there goes to the front of high
-  Comes : (mark : Mark) → (thread : ℕ) → Move
-  -- the thread moves to switch
+  -- the entry, which is next, is taken from the mark
+  Takes : (mark : Mark) → (entry : Entry) → Move
+  -- the entry comes to the end of the mark; at switch, who stood there goes to the front of high
+  Comes : (mark : Mark) → (entry : Entry) → Move
+  -- the thread's entry moves to switch
   Promotes : (thread : ℕ) → Move
   -- the thread's start is withdrawn
   Withdraws : (thread : ℕ) → Move
 
-abbrev pub rest : List ℕ → List ℕ
-rest [] = []
-rest (n ∷ ns) = ns
+abbrev pub one_at : Option ℕ → List Entry
+one_at None = []
+one_at (Some n) = entry.Thread n ∷ []
 
--- the list without the thread where it stands first
-abbrev pub without : ℕ → List ℕ → List ℕ
-without n [] = []
-without n (m ∷ ms) = if n == m then ms else m ∷ without n ms
+-- the thread's entry leaves high, or else low
+abbrev pub unlined : ℕ → Queues → Queues
+unlined n q = if has_entry n q.high then with_high (less n q.high) q else with_low (less n q.low) q
 
--- the thread leaves high, or else low
-abbrev pub unlined : ℕ → Lines → Lines
-unlined n q = if list_any (λ m. n == m) q.high then record q { high = without n q.high } else record q { low = without n q.low }
+abbrev pub moved : Move → Queues → Queues
+moved (Takes mark.Switch e) q = with_switch None q
+moved (Takes mark.High e) q = with_high (rest_of q.high) q
+moved (Takes mark.Low e) q = with_low (rest_of q.low) q
+moved (Comes mark.Switch e) q = with_switch (entry_thread e) (with_high (one_at q.switch ++ q.high) q)
+moved (Comes mark.High e) q = with_high (q.high ++ e ∷ []) q
+moved (Comes mark.Low e) q = with_low (q.low ++ e ∷ []) q
+moved (Promotes n) q = with_switch (Some n) (unlined n q)
+moved (Withdraws n) q = with_switch (less_switch n q.switch) (unlined n q)
 
-abbrev pub moved : Move → Lines → Lines
-moved (Takes mark.Switch n) q = record q { switch = None }
-moved (Takes mark.High n) q = record q { high = rest q.high }
-moved (Takes mark.Low n) q = record q { low = rest q.low }
-moved (Comes mark.Switch n) q = record q { switch = Some n; high = one_at q.switch ++ q.high }
-moved (Comes mark.High n) q = record q { high = q.high ++ n ∷ [] }
-moved (Comes mark.Low n) q = record q { low = q.low ++ n ∷ [] }
-moved (Promotes n) q = record (unlined n q) { switch = Some n }
-moved (Withdraws n) q = record (unlined n q) { switch = less_switch n q.switch }
-
--- where the move may be done
-abbrev pub May : Move → Lines → Type 0
-May (Takes mark.Switch n) q = q.switch ≡ Some n
-May (Takes mark.High n) q = (q.switch ≡ None) × (q.high ≡ n ∷ rest q.high)
-May (Takes mark.Low n) q = (q.switch ≡ None) × ((q.high ≡ []) × (q.low ≡ n ∷ rest q.low))
+-- where the move may be done: what is taken is next, only a thread comes to switch, and one is promoted where none stands there
+abbrev pub May : Move → Queues → Type 0
+May (Takes m e) q = or_high q.switch q.high q.low ≡ Some (m, e)
+May (Comes mark.Switch e) q = is_some (entry_thread e) ≡ true
 May (Promotes n) q = q.switch ≡ None
 May _ q = Unit {0}
 
 -- one after another, each where it may be done
-abbrev pub after : List Move → Lines → Lines
+abbrev pub after : List Move → Queues → Queues
 after [] q = q
 after (v ∷ vs) q = after vs (moved v q)
 
-abbrev pub Lawful : List Move → Lines → Type 0
+abbrev pub Lawful : List Move → Queues → Type 0
 Lawful [] q = Unit {0}
 Lawful (v ∷ vs) q = May v q × Lawful vs (moved v q)
 
 -- ---- The moves of a step, and of a run
 
-abbrev pub taking_at : Mark → Option ℕ → List Move
-taking_at m None = []
-taking_at m (Some n) = Takes m n ∷ []
-
 abbrev pub taking_next : Option (Mark × Entry) → List Move
 taking_next None = []
-taking_next (Some e) = taking_at e.0 (entry_thread e.1)
+taking_next (Some e) = Takes e.0 e.1 ∷ []
 
 abbrev pub taking_by : Turn → Core → List Move
 taking_by (turn.Take ended) s = taking_next (next_entry s)
 taking_by _ s = []
 
--- that of the thread whose entry is taken in the state's turn
+-- that of the entry which the state's turn takes
 abbrev pub taking : State → List Move
 taking s = taking_by s.turn s.core
 
@@ -126,11 +96,11 @@ AllOther x s l (v ∷ vs) = IsOther x s l v × AllOther x s l vs
 -- The step's moves are its taking, and then these.
 pub record MovesBy (x : Setting) (s : State) (l : Label) (t : State) (others : List Move) : Type 0 where
   pub other : AllOther x s l others
-  pub lawful : Lawful (taking s ++ others) (lines s.core)
-  pub leads : lines t.core ≡ after (taking s ++ others) (lines s.core)
+  pub lawful : Lawful (taking s ++ others) s.core.queues
+  pub leads : t.core.queues ≡ after (taking s ++ others) s.core.queues
 
-unfoldable pub StepsMoveThreads : Type 0
-StepsMoveThreads = (x : Setting) (s : State) (l : Label) (t : State) → Step x s l t → (others : List Move) × MovesBy x s l t others
+unfoldable pub StepsMoveEntries : Type 0
+StepsMoveEntries = (x : Setting) (s : State) (l : Label) (t : State) → Step x s l t → (others : List Move) × MovesBy x s l t others
 
 -- the moves of a run: those of its steps, one after another
 abbrev pub RunsBy : (x : Setting) (s : State) (ls : List Label) (t : State) → Run x s ls t → List Move → Type 0
@@ -138,10 +108,15 @@ RunsBy x s [] t run vs = vs ≡ []
 RunsBy x s (l ∷ ls) t run vs = (others : List Move) × ((later : List Move) × (MovesBy x s l run.0 others ×
     (RunsBy x run.0 ls t run.1.1 later × (vs ≡ (taking s ++ others) ++ later))))
 
-unfoldable pub RunsMoveThreads : Type 0
-RunsMoveThreads = (x : Setting) (s : State) (ls : List Label) (t : State) → (run : Run x s ls t) → (vs : List Move) × RunsBy x s ls t run vs
+unfoldable pub RunsMoveEntries : Type 0
+RunsMoveEntries = (x : Setting) (s : State) (ls : List Label) (t : State) → (run : Run x s ls t) → (vs : List Move) × RunsBy x s ls t run vs
 
 -- ---- First in, first out
+
+abbrev pub at : Mark → Queues → List Entry
+at mark.Switch q = one_at q.switch
+at mark.High q = q.high
+at mark.Low q = q.low
 
 abbrev pub same_mark : Mark → Mark → Bool
 same_mark mark.Switch mark.Switch = true
@@ -149,37 +124,37 @@ same_mark mark.High mark.High = true
 same_mark mark.Low mark.Low = true
 same_mark m k = false
 
--- the threads that are taken from the mark
-abbrev pub taken_from : Mark → List Move → List ℕ
+-- what is taken from the mark
+abbrev pub taken_from : Mark → List Move → List Entry
 taken_from m [] = []
-taken_from m (Takes k n ∷ vs) = if same_mark m k then n ∷ taken_from m vs else taken_from m vs
+taken_from m (Takes k e ∷ vs) = if same_mark m k then e ∷ taken_from m vs else taken_from m vs
 taken_from m (v ∷ vs) = taken_from m vs
 
--- the threads that come to it
-abbrev pub come_to : Mark → List Move → List ℕ
+-- what comes to it
+abbrev pub come_to : Mark → List Move → List Entry
 come_to m [] = []
-come_to m (Comes k n ∷ vs) = if same_mark m k then n ∷ come_to m vs else come_to m vs
+come_to m (Comes k e ∷ vs) = if same_mark m k then e ∷ come_to m vs else come_to m vs
 come_to m (v ∷ vs) = come_to m vs
 
--- the test fails a thread that comes to switch, or is withdrawn
-abbrev pub SparesMove : (ℕ → Bool) → Move → Type 0
-SparesMove test (Comes mark.Switch n) = test n ≡ false
-SparesMove test (Promotes n) = test n ≡ false
-SparesMove test (Withdraws n) = test n ≡ false
+-- the test fails an entry that comes to switch, or is withdrawn
+abbrev pub SparesMove : (Entry → Bool) → Move → Type 0
+SparesMove test (Comes mark.Switch e) = test e ≡ false
+SparesMove test (Promotes n) = test (entry.Thread n) ≡ false
+SparesMove test (Withdraws n) = test (entry.Thread n) ≡ false
 SparesMove test _ = Unit {0}
 
-abbrev pub Spares : (ℕ → Bool) → List Move → Type 0
+abbrev pub Spares : (Entry → Bool) → List Move → Type 0
 Spares test [] = Unit {0}
 Spares test (v ∷ vs) = SparesMove test v × Spares test vs
 
 -- and one that stands at switch
-abbrev pub SparesSwitch : (ℕ → Bool) → Option ℕ → Type 0
+abbrev pub SparesSwitch : (Entry → Bool) → Option ℕ → Type 0
 SparesSwitch test None = Unit {0}
-SparesSwitch test (Some n) = test n ≡ false
+SparesSwitch test (Some n) = test (entry.Thread n) ≡ false
 
--- Of the threads that pass a test, where none of them stands at switch, comes to it or is withdrawn in a run: those that are taken from a
+-- Of the entries that pass a test, where none of them stands at switch, comes to it or is withdrawn in a run: those that are taken from a
 -- mark, and then those that stand there at last, are those that stood there at first, and then those that came to it, in that order.
 unfoldable pub RunsTakeInTurn : Type 0
 RunsTakeInTurn = (x : Setting) (s : State) (ls : List Label) (t : State) (run : Run x s ls t) (vs : List Move) → RunsBy x s ls t run vs →
-    (test : ℕ → Bool) → SparesSwitch test s.core.queues.switch → Spares test vs → (m : Mark) →
-    filter test (taken_from m vs ++ at m (lines t.core)) ≡ filter test (at m (lines s.core) ++ come_to m vs)
+    (test : Entry → Bool) → SparesSwitch test s.core.queues.switch → Spares test vs → (m : Mark) →
+    filter test (taken_from m vs ++ at m t.core.queues) ≡ filter test (at m s.core.queues ++ come_to m vs)

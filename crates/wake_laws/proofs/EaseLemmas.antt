@@ -1,9 +1,10 @@
 -- What keeps that no wake is lost, and moves by which threads that wait or are blocked go on.
-use Rattle.task_places.proofs.Laws.{[], admits, any_at, any_found, ap, arith, Bool, by_number, callers_of, CallersGoOn, Core, event_of, false, get, get-change, goes_on_at, goes_on_within, has_waiter, how_far_of, HowFar, if◌then◌else◌, inl, inr, InsideOps, is_behind_of, is_inside, is_some, is_there, is_woken_at, Mark, nat_tests, None, NoneAdmitted, NoneBlockedOnEnd, on_thread, Option, option_map, option_map_or, Place, place_of, push_high, put_high, Records, refl, says, set_place, Some, Subtask, suc, sym, Thread, times, true, undelivered_end, unwrap_or, WakesCounted, Why, woken, zero, ℕ, ⊎_elim, ◌∙◌, ◌≡◌, ◌⊎◌}
-use Rattle.std.proofs.Common.{ap₂}
-use Rattle.task_laws.proofs.WakeTableLemmas.{waiting_of}
 use Rattle.task_laws.proofs.{WakeCounts.woken_at, WakeCounts.woken_place}
 use Rattle.task_places.proofs.{Balance.Balance, Balance.balanced, RestLemmas.is_rest}
+use Rattle.task_places.proofs.CountedSteps.{waiter_any}
+use Rattle.task_places.proofs.Laws.{[], admits, any_at, ap, arith, Bool, by_number, callers_of, CallersGoOn, Core, event_of, false, get, get-change, goes_on_at, goes_on_within, has_waiter, how_far_of, HowFar, if◌then◌else◌, inl, inr, InsideOps, is_behind_of, is_inside, is_some, is_there, is_woken_at, Mark, nat_tests, None, NoneAdmitted, NoneBlockedOnEnd, on_thread, Option, option_map, option_map_or, Place, place_of, push_high, put_high, Records, refl, says, set_place, Some, Subtask, suc, sym, Thread, times, true, undelivered_end, unwrap_or, WakesCounted, Why, woken, zero, ℕ, ⊎_elim, ◌∙◌, ◌≡◌, ◌⊎◌}
+use Rattle.std.proofs.Common.{ap₂}
+use Rattle.task_laws.proofs.WakeTableLemmas.{waiting_of}
 use Rattle.task_machine.specs.Read.{is_waiter, is_waiting_on}
 use Rattle.wake_laws.specs.Stands.{CallersBehind, NoWakeLost, OneBlocked, SwitchReady}
 
@@ -58,10 +59,6 @@ pub record Moves (s t : Core) : Type 0 where
   pub counts : (y j : ℕ) → is_waiter y j t ≡ true → is_waiter y j s ≡ true → Balance y s t
   pub behind : CallersBehind s → CallersBehind t
   pub switch : SwitchReady s → SwitchReady t
-
-pub waiter_any : (y j : ℕ) (s : Core) → is_waiter y j s ≡ true → has_waiter y s ≡ true
-unfolding has_waiter get
-waiter_any y j s on = any_found (λ (u : Thread). is_waiting_on y u.place) j s.threads.list (grind (arith, on))
 
 outside : (p : Place) (f : HowFar) → is_still p ≡ false → is_inside p f ≡ true
 outside p f h = grind arith

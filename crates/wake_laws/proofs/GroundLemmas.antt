@@ -1,12 +1,10 @@
 -- A state in order has what the facts of wakes stand on.
+use Rattle.task_places.proofs.BlockedLemmas.{inside_of}
 use Rattle.task_laws.proofs.Words.{subtask_handle}
-use Rattle.task_places.proofs.Laws.{ap, arith, Bool, cancelled_by, cancelled_call, Component, Core, get, how_far_of, HowFar, inl, InOrderIf, inr, is_inside, is_some, nat_tests, None, Option, Place, place_of, refl, Some, State, Subtask, true, ℕ, ⊎_elim, ◌≡◌, ◌⊎◌}
+use Rattle.task_places.proofs.Laws.{ap, arith, Bool, cancelled_by, cancelled_call, Component, Core, get, how_far_of, HowFar, inl, InOrderIf, inr, is_some, nat_tests, None, Option, Place, place_of, refl, Some, State, Subtask, true, ℕ, ⊎_elim, ◌≡◌, ◌⊎◌}
 use Rattle.wake_laws.specs.Stands.{CallersBehind, OneBlocked, OrderStands, SwitchReady}
 use Rattle.task_machine.specs.declared.records.Call.{Call}
 use Rattle.task_rules.specs.Places.{Placed}
-
-inside_of : (sub : Subtask) (f : HowFar) → is_inside (Place.Blocked sub) f ≡ true → (f ≡ HowFar.Calls sub) ⊎ (f ≡ HowFar.AwaitsEnd sub)
-inside_of sub f h = grind (arith, nat_tests)
 
 module _ {g : Bool} {c : Component} {s : State} (h : InOrderIf g c s) where
   -- inside a call: its caller alone

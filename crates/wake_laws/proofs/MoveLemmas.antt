@@ -1,46 +1,59 @@
 -- The moves that wake, take and join keep that no wake is lost.
+use Rattle.task_machine.specs.declared.records.Call.{Call}
+use Rattle.task_machine.specs.declared.records.Work.{Work}
+use Rattle.task_machine.specs.Maps.{change}
+use Rattle.task_laws.proofs.{ReadyLemmas.in_set_is, WakeCounts.woken_at, WakeCounts.woken_place, WakeTableLemmas.event_threads, WakeTableLemmas.join_others, WakeTableLemmas.join_threads, WakeTableLemmas.waiting_of}
+use Rattle.task_places.proofs.{Balance.Balance, Balance.Gained, Balance.Quiet, Balance.same_is}
+use Rattle.task_places.proofs.CountedSteps.{waiter_any}
+use Rattle.task_rules.proofs.FreeLemmas.{evented_join}
 use Rattle.task_machine.specs.Moves.{may_publish, may_wake_joined, unblocked, wake_joined}
 use Rattle.task_places.proofs.Laws.{admits, ap, arith, Bool, by_number, Core, event_of, false, found_none, get, get-change, how_far_of, inl, inr, is_callback_waiter, is_in_set, is_ready_member, is_some, is_woken_at, Join, join_of, joins, Mark, may_wake, MemberGift, nat_tests, NoGift, None, numbers, on_call, on_thread, on_work, Option, option_map, option_map_or, OwnEvent, OwnGift, Place, place_of, published, push_high, put_high, Records, refl, same_subtask, set_cancel_delivered, set_event, set_join, set_own_event, set_place, Some, Status, subst, Subtask, sym, taken, Thread, true, undelivered_end, wake, wake_why, waken_by, wakes_joined, wakes_one, Why, ℕ, ⊎_elim, ◌==◌, ◌∙◌, ◌≡◌, ◌⊎◌}
-use Rattle.task_laws.proofs.{ReadyLemmas.in_set_is, WakeCounts.woken_at, WakeCounts.woken_place, WakeTableLemmas.join_others, WakeTableLemmas.waiting_of}
 use Rattle.task_machine.specs.Read.{blocked_on, is_at, is_blocked_on, is_waiter, is_waiting_on}
-use Rattle.task_places.proofs.{Balance.Balance, Balance.Gained, Balance.Quiet, Balance.same_is}
 use Rattle.task_rules.proofs.WalkMoves.{blocked_at}
 use Rattle.task_rules.specs.Sets.{may_wake_new}
-use Rattle.wake_laws.proofs.EaseLemmas.{Eases, Moves, eased_moves, eased_woken, eases_after, eases_put, eases_same, moves_keep, waiter_any}
+use Rattle.wake_laws.proofs.EaseLemmas.{Eases, Moves, eased_moves, eased_woken, eases_after, eases_put, eases_same, moves_keep}
 use Rattle.wake_laws.specs.Stands.{GiveKeeps, JoinKeeps, NoWakeLost, PublishKeeps, TakeKeeps, WakeKeeps}
 
 eases_refl : (s : Core) → Eases s s
 eases_refl s = eases_same s s refl refl refl (λ n w. refl)
 
+by_subtask : {A : Type 0} (d sub : Subtask) → (d ≡ sub → A) → (same_subtask d sub ≡ false → A) → A
+by_subtask {A = A} d sub own other = by (same_subtask d sub) refl
+  where
+    by : (b : Bool) → same_subtask d sub ≡ b → A
+    by true is = own (same_is d sub is)
+    by false is = other is
+
 -- ---- Events and joins
 
-event_admits : (sub : Subtask) (e : Option Status) (s : Core) (n : ℕ) (w : Why) → admits n (set_event sub e s) w ≡ admits n s w
-unfolding set_event on_call on_work
-event_admits (Subtask.Guest k) e s n Why.Start = grind (arith, nat_tests, get-change)
-event_admits (Subtask.Guest k) e s n (Why.Delivery d) = grind (arith, nat_tests, get-change)
-event_admits (Subtask.Guest k) e s n Why.Resumption = refl
-event_admits (Subtask.Host i) e s n Why.Start = refl
-event_admits (Subtask.Host i) e s n (Why.Delivery d) = refl
-event_admits (Subtask.Host i) e s n Why.Resumption = refl
+-- where a call's kind and export stay
+on_call_eases : (k : ℕ) (f : Call → Call) (s : Core) → ((c : Call) → ((f c).kind ≡ c.kind) × ((f c).callee ≡ c.callee)) → Eases s (on_call k f s)
+unfolding on_call
+on_call_eases k f s same = eases_same s _ refl refl refl admitted
+  where
+    admitted : (n : ℕ) (w : Why) → admits n (record s { calls = change k f s.calls }) w ≡ admits n s w
+    admitted n Why.Start = grind (arith, nat_tests, get-change, same)
+    admitted n (Why.Delivery d) = grind (arith, nat_tests, get-change, same)
+    admitted n Why.Resumption = refl
 
-join_admits : (sub : Subtask) (j : Join) (s : Core) (n : ℕ) (w : Why) → admits n (set_join sub j s) w ≡ admits n s w
-unfolding set_join on_call on_work
-join_admits (Subtask.Guest k) j s n Why.Start = grind (arith, nat_tests, get-change)
-join_admits (Subtask.Guest k) j s n (Why.Delivery d) = grind (arith, nat_tests, get-change)
-join_admits (Subtask.Guest k) j s n Why.Resumption = refl
-join_admits (Subtask.Host i) j s n Why.Start = refl
-join_admits (Subtask.Host i) j s n (Why.Delivery d) = refl
-join_admits (Subtask.Host i) j s n Why.Resumption = refl
+on_work_eases : (i : ℕ) (f : Work → Work) (s : Core) → Eases s (on_work i f s)
+unfolding on_work
+on_work_eases i f s = eases_same s _ refl refl refl admitted
+  where
+    admitted : (n : ℕ) (w : Why) → admits n (record s { works = change i f s.works }) w ≡ admits n s w
+    admitted n Why.Start = refl
+    admitted n (Why.Delivery d) = refl
+    admitted n Why.Resumption = refl
 
 event_eases : (sub : Subtask) (e : Option Status) (s : Core) → Eases s (set_event sub e s)
-unfolding set_event on_call on_work
-event_eases (Subtask.Guest k) e s = eases_same s _ refl refl refl (event_admits (Subtask.Guest k) e s)
-event_eases (Subtask.Host i) e s = eases_same s _ refl refl refl (event_admits (Subtask.Host i) e s)
+unfolding set_event
+event_eases (Subtask.Guest k) e s = on_call_eases k (λ c. record c { event = e }) s (λ c. (refl, refl))
+event_eases (Subtask.Host i) e s = on_work_eases i (λ w. record w { event = e }) s
 
 join_eases : (sub : Subtask) (j : Join) (s : Core) → Eases s (set_join sub j s)
-unfolding set_join on_call on_work
-join_eases (Subtask.Guest k) j s = eases_same s _ refl refl refl (join_admits (Subtask.Guest k) j s)
-join_eases (Subtask.Host i) j s = eases_same s _ refl refl refl (join_admits (Subtask.Host i) j s)
+unfolding set_join
+join_eases (Subtask.Guest k) j s = on_call_eases k (λ c. record c { join = j }) s (λ c. (refl, refl))
+join_eases (Subtask.Host i) j s = on_work_eases i (λ w. record w { join = j }) s
 
 other_event : (d sub : Subtask) (e : Option Status) (s : Core) → same_subtask d sub ≡ false → (event_of d (set_event sub e s) ≡ event_of d s) × (join_of d (set_event sub e s) ≡ join_of d s)
 unfolding set_event on_call on_work
@@ -48,11 +61,6 @@ other_event (Subtask.Guest k) (Subtask.Guest q) e s other = (grind (arith, nat_t
 other_event (Subtask.Host i) (Subtask.Host q) e s other = (grind (arith, nat_tests, get-change, other), grind (arith, nat_tests, get-change, other))
 other_event (Subtask.Guest k) (Subtask.Host q) e s other = (refl, refl)
 other_event (Subtask.Host i) (Subtask.Guest q) e s other = (refl, refl)
-
-event_join : (sub : Subtask) (e : Option Status) (s : Core) → join_of sub (set_event sub e s) ≡ join_of sub s
-unfolding set_event on_call on_work
-event_join (Subtask.Guest k) e s = grind (arith, nat_tests, get-change)
-event_join (Subtask.Host i) e s = grind (arith, nat_tests, get-change)
 
 event_gone : (sub : Subtask) (s : Core) → event_of sub (set_event sub None s) ≡ None
 unfolding set_event on_call on_work
@@ -156,46 +164,45 @@ wake_keeps sub w s may h = moves_keep (quiet_moves s (wake_joined (join_of sub s
 take_event_keeps : (sub : Subtask) (s : Core) → NoWakeLost s → NoWakeLost (set_event sub None s)
 take_event_keeps sub s h = moves_keep (eased_moves (event_eases sub None s) events (λ y j now was. Quiet (λ d on. ready y d on) (eased_woken (event_eases sub None s) y))) h
   where
-    event_by : (d : Subtask) (b : Bool) → same_subtask d sub ≡ b → (event_of d (set_event sub None s) ≡ event_of d s) ⊎ (undelivered_end (event_of d (set_event sub None s)) ≡ None)
-    event_by d true is = inr (subst (λ (i : Subtask). undelivered_end (event_of i (set_event sub None s)) ≡ None) (sym (same_is d sub is)) (ap undelivered_end (event_gone sub s)))
-    event_by d false is = inl (other_event d sub None s is).0
-
     events : (n : ℕ) (d : Subtask) → place_of n (set_event sub None s) ≡ Some (Place.Blocked d) → (event_of d (set_event sub None s) ≡ event_of d s) ⊎ (undelivered_end (event_of d (set_event sub None s)) ≡ None)
-    events n d at = event_by d (same_subtask d sub) refl
+    events n d at = by_subtask d sub (λ is. inr (ap (λ (i : Subtask). undelivered_end (event_of i (set_event sub None s))) is ∙ ap undelivered_end (event_gone sub s)))
+        (λ apart. inl (other_event d sub None s apart).0)
 
     ready : (y : ℕ) (d : Subtask) → is_ready_member y d (set_event sub None s) ≡ true → is_ready_member y d s ≡ true
-    ready y d on = by (same_subtask d sub) refl
-      where
-        by : (b : Bool) → same_subtask d sub ≡ b → is_ready_member y d s ≡ true
-        by false is = let r = other_event d sub None s is in member_as y d s (set_event sub None s) r.0 r.1 on
-        by true is = absurd (let same = same_is d sub is in let gone = event_gone sub s in grind (arith, on, same, gone))
+    ready y d on = by_subtask d sub (λ same. absurd (let gone = event_gone sub s in grind (arith, on, same, gone)))
+        (λ apart. let r = other_event d sub None s apart in member_as y d s (set_event sub None s) r.0 r.1 on)
 
 pub take_keeps : TakeKeeps
 unfolding TakeKeeps
 take_keeps = take_event_keeps
 
-own_eases : (e : OwnEvent) (k : ℕ) (s : Core) → Eases s (taken (OwnGift e) k s) × ((d : Subtask) → (event_of d (taken (OwnGift e) k s) ≡ event_of d s) × (join_of d (taken (OwnGift e) k s) ≡ join_of d s))
-unfolding taken set_own_event set_cancel_delivered on_call
-own_eases OwnEvent.None k s = (eases_same s _ refl refl refl admitted, same)
-  where
-    admitted : (n : ℕ) (w : Why) → admits n (set_own_event k None s) w ≡ admits n s w
-    admitted n Why.Start = grind (arith, nat_tests, get-change)
-    admitted n (Why.Delivery d) = grind (arith, nat_tests, get-change)
-    admitted n Why.Resumption = refl
+-- what is read of subtasks stays
+abbrev SameEvents : Core → Core → Type 0
+SameEvents s t = (d : Subtask) → (event_of d t ≡ event_of d s) × (join_of d t ≡ join_of d s)
 
-    same : (d : Subtask) → (event_of d (set_own_event k None s) ≡ event_of d s) × (join_of d (set_own_event k None s) ≡ join_of d s)
+owed_eases : (e : Option OwnEvent) (k : ℕ) (s : Core) → Eases s (set_own_event k e s) × SameEvents s (set_own_event k e s)
+unfolding set_own_event on_call
+owed_eases e k s = (on_call_eases k (λ c. record c { own_event = e }) s (λ c. (refl, refl)), same)
+  where
+    same : SameEvents s (record s { calls = change k (λ c. record c { own_event = e }) s.calls })
     same (Subtask.Guest j) = (grind (arith, nat_tests, get-change), grind (arith, nat_tests, get-change))
     same (Subtask.Host j) = (refl, refl)
-own_eases OwnEvent.Cancelled k s = (eases_same s _ refl refl refl admitted, same)
-  where
-    admitted : (n : ℕ) (w : Why) → admits n (set_cancel_delivered k (set_own_event k None s)) w ≡ admits n s w
-    admitted n Why.Start = grind (arith, nat_tests, get-change)
-    admitted n (Why.Delivery d) = grind (arith, nat_tests, get-change)
-    admitted n Why.Resumption = refl
 
-    same : (d : Subtask) → (event_of d (set_cancel_delivered k (set_own_event k None s)) ≡ event_of d s) × (join_of d (set_cancel_delivered k (set_own_event k None s)) ≡ join_of d s)
+delivered_eases : (k : ℕ) (s : Core) → Eases s (set_cancel_delivered k s) × SameEvents s (set_cancel_delivered k s)
+unfolding set_cancel_delivered on_call
+delivered_eases k s = (on_call_eases k (λ c. record c { cancel_delivered = true }) s (λ c. (refl, refl)), same)
+  where
+    same : SameEvents s (record s { calls = change k (λ c. record c { cancel_delivered = true }) s.calls })
     same (Subtask.Guest j) = (grind (arith, nat_tests, get-change), grind (arith, nat_tests, get-change))
     same (Subtask.Host j) = (refl, refl)
+
+own_eases : (e : OwnEvent) (k : ℕ) (s : Core) → Eases s (taken (OwnGift e) k s) × SameEvents s (taken (OwnGift e) k s)
+unfolding taken
+own_eases OwnEvent.None k s = owed_eases None k s
+own_eases OwnEvent.Cancelled k s =
+    let a = owed_eases None k s in
+    let b = delivered_eases k (set_own_event k None s) in
+    (eases_after a.0 b.0, λ d. ((b.1 d).0 ∙ (a.1 d).0, (b.1 d).1 ∙ (a.1 d).1))
 
 pub give_keeps : GiveKeeps
 unfolding GiveKeeps taken
@@ -230,11 +237,6 @@ some_chosen x m s may = may
 put_apart : (m k : ℕ) (w : Why) (s : Core) → (m == k) ≡ false → place_of m (put_high k w s) ≡ place_of m s
 unfolding put_high push_high set_place on_thread
 put_apart m k w s apart = grind (arith, nat_tests, get-change, apart)
-
-event_threads : (sub : Subtask) (e : Option Status) (s : Core) → (set_event sub e s).threads ≡ s.threads
-unfolding set_event on_call on_work
-event_threads (Subtask.Guest k) e s = refl
-event_threads (Subtask.Host i) e s = refl
 
 module _ (sub : Subtask) (e : Status) (w : Option ℕ) (s : Core) (may : may_wake_joined (join_of sub s) w s ≡ true) (h : NoWakeLost s) where
   abbrev evented : Core
@@ -291,11 +293,8 @@ module _ (sub : Subtask) (e : Status) (w : Option ℕ) (s : Core) (may : may_wak
           let ready = put_there k Why.Resumption evented (ap (λ (o : Option Place). is_some o) (place_evented k ∙ blocked_at sub s k is)) in absurd (grind (arith, one, ready, now))
 
   events : (n : ℕ) (d : Subtask) → place_of n told ≡ Some (Place.Blocked d) → (event_of d told ≡ event_of d s) ⊎ (undelivered_end (event_of d told) ≡ None)
-  events n d at = by (same_subtask d sub) refl
-    where
-      by : (b : Bool) → same_subtask d sub ≡ b → (event_of d told ≡ event_of d s) ⊎ (undelivered_end (event_of d told) ≡ None)
-      by true is = absurd (unstuck n (at ∙ ap (λ (i : Subtask). Some (Place.Blocked i)) (same_is d sub is)))
-      by false is = inl ((event_as d evented told records).0 ∙ (other_event d sub (Some e) s is).0)
+  events n d at = by_subtask d sub (λ is. absurd (unstuck n (at ∙ ap (λ (i : Subtask). Some (Place.Blocked i)) is)))
+      (λ apart. inl ((event_as d evented told records).0 ∙ (other_event d sub (Some e) s apart).0))
 
   others : (y : ℕ) (d : Subtask) → same_subtask d sub ≡ false → is_ready_member y d told ≡ true → is_ready_member y d s ≡ true
   others y d apart on = let r = event_as d evented told records in let q = other_event d sub (Some e) s apart in member_as y d s told (r.0 ∙ q.0) (r.1 ∙ q.1) on
@@ -304,11 +303,9 @@ module _ (sub : Subtask) (e : Status) (w : Option ℕ) (s : Core) (may : may_wak
   counts y j now was = by (is_in_set y (join_of sub s)) refl
     where
       all_ready : is_in_set y (join_of sub s) ≡ false → (d : Subtask) → is_ready_member y d told ≡ true → is_ready_member y d s ≡ true
-      all_ready out d on = by (same_subtask d sub) refl
-        where
-          by : (b : Bool) → same_subtask d sub ≡ b → is_ready_member y d s ≡ true
-          by false is = others y d is on
-          by true is = absurd (let same = same_is d sub is in let r = (event_as sub evented told records).1 in let q = event_join sub (Some e) s in grind (arith, on, same, r, q, out))
+      all_ready out d on = by_subtask d sub
+          (λ same. absurd (let r = (event_as sub evented told records).1 in let q = evented_join sub (Some e) s in grind (arith, on, same, r, q, out)))
+          (λ apart. others y d apart on)
 
       gains : (v : Option ℕ) → may_wake y v s ≡ true → wake y v freed ≡ told → Balance y s told
       gains None chosen is = absurd (none_chosen y s chosen j was)
@@ -332,21 +329,12 @@ publish_keeps sub e w s may h = moves_keep (published_moves sub e w s may h) h
 
 -- ---- Joining
 
-join_threads : (sub : Subtask) (j : Join) (s : Core) → (set_join sub j s).threads ≡ s.threads
-unfolding set_join on_call on_work
-join_threads (Subtask.Guest k) j s = refl
-join_threads (Subtask.Host i) j s = refl
-
 -- a subtask without an event, or one that joins no set, becomes ready nowhere
 leaves_moves : (sub : Subtask) (j : Join) (s : Core) → ((y : ℕ) → is_ready_member y sub (set_join sub j s) ≡ false) → Moves s (set_join sub j s)
 leaves_moves sub j s none = eased_moves (join_eases sub j s) (λ n d at. inl (join_event d sub j s)) (λ y i now was. Quiet (λ d on. ready y d on) (eased_woken (join_eases sub j s) y))
   where
     ready : (y : ℕ) (d : Subtask) → is_ready_member y d (set_join sub j s) ≡ true → is_ready_member y d s ≡ true
-    ready y d on = by (same_subtask d sub) refl
-      where
-        by : (b : Bool) → same_subtask d sub ≡ b → is_ready_member y d s ≡ true
-        by false apart = sym (join_others y d sub j s apart) ∙ on
-        by true same = absurd (let e = same_is d sub same in let off = none y in grind (arith, on, e, off))
+    ready y d on = by_subtask d sub (λ e. absurd (let off = none y in grind (arith, on, e, off))) (λ apart. sym (join_others y d sub j s apart) ∙ on)
 
 no_member : (y : ℕ) (sub : Subtask) (j : Join) (s : Core) → (is_in_set y j ≡ true → is_some (event_of sub s) ≡ true → ⊥) → is_ready_member y sub (set_join sub j s) ≡ false
 no_member y sub j s none = by (is_ready_member y sub (set_join sub j s)) refl
@@ -376,12 +364,9 @@ module _ (sub : Subtask) (z : ℕ) (w : Option ℕ) (s : Core) (may : may_wake z
   others_ready y d apart on = let r = same_records d in sym (join_others y d sub (Join.Set z) s apart) ∙ member_as y d member woke r.0 r.1 on
 
   elsewhere : (y : ℕ) → (y == z) ≡ false → (d : Subtask) → is_ready_member y d woke ≡ true → is_ready_member y d s ≡ true
-  elsewhere y out d on = by (same_subtask d sub) refl
-    where
-      by : (b : Bool) → same_subtask d sub ≡ b → is_ready_member y d s ≡ true
-      by false apart = others_ready y d apart on
-      by true same = absurd (let e = same_is d sub same in let r = same_records d in
-          let at = join_is y sub (Join.Set z) s (ap (λ (i : Subtask). is_ready_member y i member) (sym e) ∙ member_as y d member woke r.0 r.1 on) in grind (arith, at.0, out))
+  elsewhere y out d on = by_subtask d sub
+      (λ e. absurd (let r = same_records d in let at = join_is y sub (Join.Set z) s (ap (λ (i : Subtask). is_ready_member y i member) (sym e) ∙ member_as y d member woke r.0 r.1 on) in grind (arith, at.0, out)))
+      (λ apart. others_ready y d apart on)
 
   joins_counts : (y j : ℕ) → is_waiter y j woke ≡ true → is_waiter y j s ≡ true → Balance y s woke
   joins_counts y j now was = by_number y z _ (λ e. subst (λ (i : ℕ). Balance i s woke) (sym e) (gains w refl may (ap (λ (i : ℕ). is_waiter i j s) (sym e) ∙ was)))

@@ -1,4 +1,6 @@
 -- The stop of a strand keeps that no wake is lost.
+use Rattle.task_laws.proofs.{WakeCounts.woken_at, WakeCounts.woken_place}
+use Rattle.task_places.proofs.StayMoves.{behind_place, resumed_place}
 use Rattle.task_places.proofs.Balance.{Quiet}
 use Rattle.task_places.proofs.Laws.{[], admits, ap, arith, behind, behind_one, Bool, by_number, callers_of, Core, false, foot_from, foot_of, get-insert, how_far_of, HowFar, if◌then◌else◌, inl, inr, insert, is_at, is_at_switch, is_behind_of, is_some, is_there, is_woken_at, List, Mark, nat_tests, newest, None, older, on_thread, Option, option_map_or, passed_on, Place, place_of, push_high, put_high, put_switch, refl, resumed_all, resumed_callers, says, set_callers, set_place, set_place_is, set_switch, shifted_calls, shifted_far, shifted_works, Some, Stop, stopped, subst, suc, sym, times, times-newest, true, under_of, under_place, unwrap_or, Why, zero, ℕ, ⊎_elim, ◌+◌, ◌==◌, ◌∙◌, ◌∷◌, ◌≡◌, ◌≤◌, ◌⊎◌}
 use Rattle.wake_laws.proofs.EaseLemmas.{callers_kept, GoesOn, is_still, Moves, moves_keep, nobody, none_leaves}
@@ -7,16 +9,8 @@ use Rattle.wake_laws.specs.Stands.{CallersBehind, NoWakeLost, StopKeeps, SwitchR
 use Rattle.task_rules.proofs.StopLemmas.{foot_there}
 use Rattle.task_rules.proofs.PlacingLemmas.{placing_shifted, Shifted, shifted_explicit, shifted_task}
 use Rattle.task_rules.proofs.StandLemmas.{times-append}
-use Rattle.task_laws.proofs.{WakeCounts.woken_at, WakeCounts.woken_place}
 
 -- ---- Lists of callers
-
--- a thread that isn't listed stays, and one that is comes behind g
-listed_behind : (g : ℕ) (ns : List ℕ) (s : Core) (j : ℕ) → is_there j s ≡ true →
-    ((place_of j (behind g ns s) ≡ place_of j s) × (times j ns ≡ 0)) ⊎ ((place_of j (behind g ns s) ≡ Some (Place.Behind g)) × (1 ≤ times j ns))
-unfolding behind_one set_callers
-listed_behind g [] s j there = inl (refl, refl)
-listed_behind g (n ∷ ns) s j there = let rest = listed_behind g ns (behind_one g n s) j in let is = set_place_is j n (Place.Behind g) s in grind (arith, nat_tests)
 
 behind_lists : (g : ℕ) (ns : List ℕ) (s : Core) (j f : ℕ) → times j (callers_of f (behind g ns s)) ≡ times j (callers_of f s) + (if f == g then times j ns else 0)
 unfolding behind_one set_callers set_place on_thread
@@ -27,12 +21,6 @@ behind_switch : (g : ℕ) (ns : List ℕ) (s : Core) → (behind g ns s).queues 
 unfolding behind_one set_callers set_place on_thread
 behind_switch g [] s = refl
 behind_switch g (n ∷ ns) s = behind_switch g ns (behind_one g n s)
-
-listed_resumed : (ns : List ℕ) (s : Core) (j : ℕ) → is_there j s ≡ true →
-    ((place_of j (resumed_all ns s) ≡ place_of j s) × (times j ns ≡ 0)) ⊎ ((y : Mark) × ((place_of j (resumed_all ns s) ≡ Some (Place.Ready y Why.Resumption)) × (1 ≤ times j ns)))
-unfolding put_high push_high
-listed_resumed [] s j there = inl (refl, refl)
-listed_resumed (n ∷ ns) s j there = let rest = listed_resumed ns (put_high n Why.Resumption s) j in let is = set_place_is j n (Place.Ready Mark.High Why.Resumption) s in grind (arith, nat_tests)
 
 resumed_rest : (ns : List ℕ) (s : Core) → ((resumed_all ns s).callers ≡ s.callers) × ((resumed_all ns s).queues.switch ≡ s.queues.switch)
 unfolding put_high push_high set_place on_thread
@@ -69,14 +57,14 @@ module _ (f : ℕ) (s : Core) (h : NoWakeLost s) where
 
   comes_by : (o : Option ℕ) → s.queues.switch ≡ o → (j : ℕ) → is_there j s ≡ true → Comes o j (passed_on o cs u)
   unfolding put_switch set_switch
-  comes_by (Some m) is j there = ⊎_elim (λ e. inl e) (λ r. inr (r.1, inr (m, (refl, r.0)))) (listed_behind (foot_of m u) cs u j there)
+  comes_by (Some m) is j there = ⊎_elim (λ e. inl e) (λ r. inr (r.1, inr (m, (refl, r.0)))) (behind_place (foot_of m u) cs u j there)
   comes_by None is j there = ⊎_elim (λ e. inl e) (λ r. inr (r.0, inl (refl, r.1))) (resumes cs)
     where
       resumes : (ns : List ℕ) → ((place_of j (resumed_callers ns u) ≡ place_of j s) × (times j ns ≡ 0)) ⊎ ((1 ≤ times j ns) ×
           (((y : Mark) × (place_of j (resumed_callers ns u) ≡ Some (Place.Ready y Why.Resumption)))))
       resumes [] = inl (refl, refl)
       resumes (n ∷ ns) =
-          let rest = listed_resumed (older n ns) (put_switch (newest n ns) Why.Resumption u) j in
+          let rest = resumed_place (older n ns) (put_switch (newest n ns) Why.Resumption u) j in
           let placed = set_place_is j (newest n ns) (Place.Ready Mark.Switch Why.Resumption) u in
           let all = times-newest j n ns in grind (arith, nat_tests, is)
 
@@ -122,7 +110,7 @@ module _ (f : ℕ) (s : Core) (h : NoWakeLost s) where
       let one = listed (newest n ns) (grind (arith, nat_tests, all)) in
       let placed = set_place_is (newest n ns) (newest n ns) (Place.Ready Mark.Switch Why.Resumption) u in
       let here : place_of (newest n ns) v ≡ Some (Place.Ready Mark.Switch Why.Resumption) = grind (arith, nat_tests, placed, none, one.0) in
-      let rest = listed_resumed (older n ns) v (newest n ns) (ap (λ (o : Option Place). is_some o) here) in
+      let rest = resumed_place (older n ns) v (newest n ns) (ap (λ (o : Option Place). is_some o) here) in
       ⊎_elim (λ e. let now = e.0 ∙ here in grind (arith, same, now)) (λ r. absurd (let more = r.1.1 in let once = one.1 in grind (arith, nat_tests, all, more, once))) rest
 
   first_resumed : s.queues.switch ≡ None → (m : ℕ) → t.queues.switch ≡ Some m → is_at m t is_at_switch ≡ true

@@ -1,11 +1,11 @@
 -- The end of a thread, and its run or suspension, keep that no wake is lost.
+use Rattle.task_laws.proofs.{WakeCounts.woken_at, WakeCounts.woken_place}
 use Rattle.task_laws.proofs.Words.{call_instance, is_deletable, remove}
 use Rattle.task_machine.specs.Moves.{call_settled, departed, ended, exited_if, freed_thread_handle, group_settled, interest_settled, is_finished, is_group_done}
 use Rattle.task_machine.specs.Read.{call_group, thread_handle_of}
-use Rattle.task_places.proofs.Laws.{[], admits, ap, arith, Bool, by_number, callers_of, CallersGoOn, Core, event_of, false, found_none, free_thread_handle, get, get-change, get-remove, how_far_of, HowFar, if◌then◌else◌, inl, inr, instance_of, is_at, is_behind_of, is_explicit, is_inside_wait, is_ready_member, is_some, is_there, is_under, is_woken_at, is_woken_for, join_of, kind_of, nat_tests, None, numbers, on_call, on_thread, Option, option_map, option_map_or, Place, place_of, refl, remove_call, remove_group, remove_thread, says, set_exited, set_place, set_uninteresting, Some, subst, Subtask, suc, sym, task_of, Thread, times, true, undelivered_end, under_of, Why, zero, ℕ, ⊎_elim, ◌==◌, ◌∙◌, ◌≡◌, ◌⊎◌}
-use Rattle.task_laws.proofs.{WakeCounts.woken_at, WakeCounts.woken_place}
+use Rattle.task_places.proofs.Laws.{[], admits, ap, arith, Bool, by_number, callers_of, CallersGoOn, Core, event_of, false, free_thread_handle, get, get-change, get-remove, how_far_of, HowFar, if◌then◌else◌, inl, inr, instance_of, is_behind_of, is_explicit, is_inside_wait, is_ready_member, is_some, is_there, is_woken_at, is_woken_for, join_of, kind_of, nat_tests, None, on_call, on_thread, Option, option_map, option_map_or, Place, place_of, refl, remove_call, remove_group, remove_thread, says, set_exited, set_place, set_uninteresting, Some, subst, Subtask, suc, sym, task_of, Thread, times, true, undelivered_end, Why, zero, ℕ, ⊎_elim, ◌==◌, ◌∙◌, ◌≡◌, ◌⊎◌}
 use Rattle.task_places.proofs.Balance.{Quiet}
-use Rattle.task_places.proofs.StrandFeet.{Down, down_further, Here, last_under, lowest}
+use Rattle.task_places.proofs.StrandFeet.{under_none, Down, down_further, Here, last_under, lowest}
 use Rattle.task_rules.proofs.CallThreads.{no_thread_left}
 use Rattle.wake_laws.proofs.EaseLemmas.{callers_kept, is_still, Leaves, Moves, moves_keep, nobody, none_leaves}
 use Rattle.wake_laws.proofs.MoveLemmas.{member_as}
@@ -14,15 +14,6 @@ use Rattle.wake_laws.specs.Stands.{CallersBehind, EndKeeps, MayComeToRun, MayLea
 not_behind : (g : ℕ) (o : Option Place) → ((f : ℕ) → o ≡ Some (Place.Behind f) → ⊥) → says (is_behind_of g) o ≡ 0
 not_behind g (Some (Place.Behind f)) none = absurd (none f refl)
 not_behind g o none = grind arith
-
--- who is under a thread is found
-under_found : (n u : ℕ) (s : Core) → under_of n s ≡ None → place_of u s ≡ Some (Place.Under n) → ⊥
-unfolding under_of numbers get
-under_found n u s none at = by (get s.threads u) (λ i. get s.threads u)
-  where
-    by : (o : Option Thread) → get s.threads u ≡ o → ⊥
-    by None is = absurd (grind arith)
-    by (Some r) is = found_none (λ k. is_at k s (is_under n)) u r s.threads.list is (grind (arith, nat_tests)) none
 
 -- ---- An end
 
@@ -171,7 +162,7 @@ module _ (n : ℕ) (s : Core) (may : MayLeave n s) (h : NoWakeLost s) where
   end_leaves : Leaves (λ j. j ≡ n) s t
   end_leaves = record {
     behind = λ j m at is. none_behind j (at ∙ ap (λ (i : ℕ). Some (Place.Behind i)) is);
-    under = λ j m at is. absurd (under_found n j s may.under (at ∙ ap (λ (i : ℕ). Some (Place.Under i)) is));
+    under = λ j m at is. absurd (under_none n j s may.under (at ∙ ap (λ (i : ℕ). Some (Place.Under i)) is));
     ends = λ j f at is. let gone = gone_thread in absurd (grind (arith, gone, at, is));
   }
 
