@@ -54,3 +54,15 @@ returns-in-Fails-clause-meets g c =
     let i = work_of s c.args.work in
     subst (λ (p : Poll). PollMeets i p s.core polled.Fails t.core) (sym (found_failed c.args.told (poll_of i s.core) c.in-Fails.is c.requires.told))
     (refl, ap (λ (v : StateView). v.core) c.set_trapped.ensures)
+
+pub returns-in-Pends-clause-tags : goal.returns-in-Pends-clause-tags
+returns-in-Pends-clause-tags g c =
+    let s = g.W.View.view c.args.w.now in
+    let e = found_pending c.args.told (poll_of (work_of s c.args.work) s.core) c.in-Pends.is c.requires.told in
+    ap (λ (v : StateView). v.tags) (c.count_poll-more.ensures.new e.0 e.1)
+
+pub returns-in-Pends-clause-current : goal.returns-in-Pends-clause-current
+returns-in-Pends-clause-current g c =
+    let s = g.W.View.view c.args.w.now in
+    let e = found_pending c.args.told (poll_of (work_of s c.args.work) s.core) c.in-Pends.is c.requires.told in
+    ap (λ (v : StateView). v.current) (c.count_poll-more.ensures.new e.0 e.1)
