@@ -1,5 +1,5 @@
 -- Where a drive is idle, an entry may be put, and the run goes on.
-use Rattle.std.proofs.Common.{ap, arith, refl, subst, sym}
+use Rattle.std.proofs.Common.{arith, refl, subst, sym}
 use Rattle.std.specs.Prelude.{Bool, List, None, Option, Some, [], false, length, true, ℕ, ◌∷◌, ◌==◌, ◌≡◌}
 use Rattle.task_machine.specs.Core.{Core, Main, State}
 use Rattle.task_machine.specs.declared.component.Component.{Component}
@@ -48,8 +48,10 @@ take_of (turn.Futures n) h = absurd (cc)
 take_of (turn.Run n) h = absurd (cc)
 take_of turn.Over h = absurd (cc)
 
-pub idle_turn : (x : Setting) (s : State) (before : List Label) (t : State) (after : List Label) (steps : ℕ) → Drives x s before t after steps outcome.Idle → t.turn ≡ turn.Take false
-idle_turn x s before t after steps h = take_of t.turn (unended x t (rests x t h.added steps h.ends))
+pub idle_turn : (x : Setting) (s : State) (before : List Label) (t : State) (after : List Label) (steps : ℕ) (o : Outcome) → Drives x s before t after steps o → o ≡ outcome.Idle → t.turn ≡ turn.Take false
+idle_turn x s before t after steps o h is =
+    let idle = subst (λ (q : Outcome). Drives x s before t after steps q) is h in
+    take_of t.turn (unended x t (rests x t idle.added steps idle.ends))
 
 pub settled_take_of : (s : Core) (p : Turn) → p ≡ turn.Take false → IsSettled s p
 settled_take_of s p is = subst (λ (q : Turn). IsSettled s q) (sym is) refl

@@ -169,8 +169,7 @@ fn entries_that_a_drive_took_until_it_was_idle_count(rt: HostRuntime) {
     };
     let mut main = Host { answer: None };
     let mut trace = Trace::new(rt.alloc());
-    let driven = run.drive(&component, &mut store, &mut main, 2000, &mut trace);
-    let Ok(Outcome::Idle) = driven else {
+    let Ok(Outcome::Idle) = run.drive(&component, &mut store, &mut main, 2000, &mut trace) else {
         panic!(rt; "a run that is idle")
     };
     assert!(rt; trace.len() == 1001);

@@ -1,6 +1,7 @@
-ghost use Rattle.std.specs.Prelude.{◌≡◌, ◌*◌, ◌+◌, ◌<◌, ◌≤◌, ◌^◌, IfErr, IfOk, None, OnErr, OnOk, Some, false, true, Bool};
+ghost use Rattle.std.specs.Prelude.{◌≡◌, ◌*◌, ◌+◌, ◌<◌, ◌≤◌, ◌^◌, IfErr, IfOk, None, OnErr, OnOk, Some, false, is_none, true, Bool};
 ghost use Rattle.label_laws.specs.Own.{next_mark};
 ghost use Rattle.task_ops.specs.Works.{NamesWorks};
+ghost use Rattle.task_rules.specs.Outcome.{outcome_of_label};
 ghost use Rattle.task_loop.specs.Paces.{Paces};
 ghost use Rattle.task_loop.specs.Standing.{standing};
 ghost use Rattle.task_store.specs.Hosts.{HoldsHosts};
@@ -8,7 +9,7 @@ ghost use Rattle.task_turns.specs.WellFormed.{IsWellFormed};
 ghost use Rattle.task_turns.specs.Does.{DoesAdded, DoesStep, step_of, step_shown};
 ghost use Rattle.task_turns.specs.Drive.{Drives, Drove, WasGoing};
 ghost use Rattle.task_turns.specs.Main.{Steps};
-ghost use Rattle.task_turns.specs.Stepped.{Added, AddedOrNone};
+ghost use Rattle.task_turns.specs.Stepped.{Added, AddedOrNone, Stands};
 ghost use Rattle.task_turns.specs.Turn.{IsAtTurn, IsFree, IsSettled, Makes, PendsIn, Sits, Turned, Turns, given, goes_on, is_open, running_of, runs_in, setting_of, state_at};
 
 use crate::main_task::MainTask;
@@ -17,7 +18,7 @@ use task_calls::TaskError;
 use task_machine::{Component, Mark, NoMemory, Outcome, Trap, Turn};
 use task_store::{Access, AccessorTask, FromHost, HostWork, StandingRun, Store};
 use task_turns::{
-    MainStep, RunStep, Stepped, Trace, compute, is_idle, made_by_main, put, step_run, take,
+    Made, MainStep, RunStep, Stepped, Trace, compute, is_idle, made_by_main, put, step_run, take,
 };
 use task_words::QueueWords;
 
@@ -111,6 +112,16 @@ fn step_main<T, H: HostWork, M: MainTask<T, H>>(
     put(trace, made)
 }
 
+// Adds the label of a step that called a host. It is out of line, as few steps do so.
+#[inline(never)]
+fn put_called(trace: &mut Trace, made: Made) -> Result<Stepped, NoMemory>
+    requires over { is_none (outcome_of_label made.label) ≡ is_open made.turn }
+    ensures stands { IfOk result (λ stepped. Stands stepped trace.old made trace.new) }
+    ensures err { OnErr result (trace.new ≡ trace.old) }
+{
+    put(trace, made)
+}
+
 // The running thread, which has this number, takes a step. A host that it calls is polled, and its
 // work is held.
 #[inline(always)]
@@ -131,11 +142,14 @@ fn run_thread<T, H: AccessorTask<T> + FromHost>(
     ensures hosts { OnOk result (HoldsHosts H.course store.new) }
     ensures err { OnErr result (trace.new ≡ trace.old) }
 {
-    match step_run(component, &mut store.state, thread, trace)? {
+    let Ok(step) = step_run(component, &mut store.state, thread, trace) else {
+        return Err(NoMemory);
+    };
+    match step {
         RunStep::Shown(stepped) => Ok(stepped),
         RunStep::Called(ran) => {
             store.call_host(ran.polled, ran.work)?;
-            put(trace, ran.made)
+            put_called(trace, ran.made)
         }
     }
 }
@@ -248,7 +262,10 @@ impl RunConcurrent {
         let mut added = 0;
         'turns: while added < steps {
             let next = next_mark(store, self.turn);
-            match self.turn(component, store, main, trace)? {
+            let Ok(stepped) = self.turn(component, store, main, trace) else {
+                return Err(NoMemory);
+            };
+            match stepped {
                 None => {
                     self.pace = pace.past(None);
                     return Ok(Outcome::Idle);
@@ -307,10 +324,18 @@ impl RunConcurrent {
         ensures err { OnErr result (trace.new ≡ trace.old) }
     {
         match self.turn {
-            Turn::Main => Ok(Some(step_main(component, store, main, trace)?)),
+            Turn::Main => {
+                let Ok(stepped) = step_main(component, store, main, trace) else {
+                    return Err(NoMemory);
+                };
+                Ok(Some(stepped))
+            }
             Turn::Futures { polled } => {
                 let made = store.poll_next(polled);
-                Ok(Some(put(trace, made)?))
+                let Ok(stepped) = put(trace, made) else {
+                    return Err(NoMemory);
+                };
+                Ok(Some(stepped))
             }
             Turn::Take { ended } => take(
                 component,
@@ -319,7 +344,12 @@ impl RunConcurrent {
                 self.trap_on_idle,
                 trace,
             ),
-            Turn::Run { thread } => Ok(Some(run_thread(component, store, thread, trace)?)),
+            Turn::Run { thread } => {
+                let Ok(stepped) = run_thread(component, store, thread, trace) else {
+                    return Err(NoMemory);
+                };
+                Ok(Some(stepped))
+            }
             Turn::Over => unreachable!(),
         }
     }

@@ -1,7 +1,10 @@
 -- A poll that yields leaves a run that goes on.
-use Rattle.std.proofs.Common.{arith, sym}
+use Rattle.std.proofs.Common.{ap, arith, sym, ◌∙◌}
+use Rattle.std.specs.Prelude.{Ok}
 use Rattle.surface_tests.proofs.PollLemmas.{pends_same}
 use Rattle.surface_tests.proofs.polls.polled_by_steps.Goals as goal
+use Rattle.task_loop.specs.RunPolls.{may_poll}
+use Rattle.task_loop.specs.declared.polls.RunPoll.{RunPoll}
 
 pub polls-preserved : goal.polls-preserved
 polls-preserved g c =
@@ -15,7 +18,7 @@ polls-preserved g c =
       hosts = rw c.in-Ok-Yielded.is at c.poll.ensures.hosts;
       given = omega (arith, few, so_far);
       current = polled.running;
-      unfinished = polled.unfinished;
+      unfinished = polled.unfinished ∙ ap (λ (q : RunPoll). may_poll (Ok q)) c.in-Ok-Yielded.field-0-is;
       settled = polled.settled;
       pends = pends_same _ _ _ _ _ _ _ _ (sym c.poll.ensures.script) (sym c.poll.ensures.idle) polled.pends;
       few = omega arith;
