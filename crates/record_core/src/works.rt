@@ -52,6 +52,11 @@ impl WorkWords for TaskCore {
         place_words::set_stage(&mut self.parts, work, stage);
     }
 
+    #[inline(always)]
+    fn count_poll(&mut self, work: WorkId) -> bool {
+        walk_words::count_poll(&mut self.parts, work)
+    }
+
     fn set_cancelled(&mut self, work: WorkId) {
         record_words::set_cancelled(&mut self.parts, work);
     }

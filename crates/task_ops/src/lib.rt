@@ -43,7 +43,7 @@ pub use switches::{
 pub use tasks::{ret, ret_bad, task_cancel};
 pub use threads::{halt, resume_later};
 pub use waits::{begin_wait, go_on_waiting};
-pub use works::{Polled, poll_work, take_push};
+pub use works::{Polled, Told, poll_work, take_push};
 
 /// An op that meets its row is a step of the machine; so is a taking, and an op of main's script.
 #[tactic(auto, using(crate::proofs::MeetLemmas::meeting_is_step, crate::proofs::MeetLemmas::taking_is_step, crate::proofs::MeetLemmas::acting_is_step))]

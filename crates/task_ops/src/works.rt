@@ -1,9 +1,10 @@
 //! The polls of live host works by the loop, and the taking of their pushes.
-ghost use Rattle.std.specs.Prelude.{◌≡◌, ◌<◌, Some};
+ghost use Rattle.std.specs.Prelude.{◌≡◌, ◌<◌, Some, true};
 ghost use Rattle.task_machine.specs.declared.label.Label.TheVariants as labels;
 ghost use Rattle.task_machine.specs.declared.label.TakeLabel.TheVariants as take_labels;
 ghost use Rattle.task_machine.specs.declared.records.Subtask.TheVariants as subtasks;
-ghost use Rattle.task_ops.specs.Polled.{PollMeets};
+ghost use Rattle.task_machine.specs.Read.{is_stage_live, stage_of};
+ghost use Rattle.task_ops.specs.Polled.{PollMeets, TellsPoll};
 ghost use Rattle.task_rules.specs.Takes.{pushed};
 ghost use Rattle.task_rules.specs.Works.{followed, poll_ends, poll_of};
 ghost use Rattle.task_words.specs.Apart.{IsBlockedUnqueued, work_entries};
@@ -11,14 +12,26 @@ ghost use Rattle.task_words.specs.Names.{work_caller_in};
 ghost use Rattle.task_words.specs.StateView.{on_core, work_of};
 
 use crate::came::Came;
-use task_machine::{Course, HostDef, Label, Mark, Phase, Stage, TakeLabel};
+use task_machine::{Course, Label, Mark, Phase, Stage, TakeLabel};
 use task_moves::unblock;
 use task_words::{SubtaskId, Words, WorkCallerId, WorkId};
+
+/// What a live work told when its poll was due.
+#[derive(Clone, Copy)]
+pub enum Told {
+    /// It is still pending.
+    Pends,
+    /// It has ended with this value, or without one, as it was aborted.
+    Ends(Option<u64>),
+    /// It has failed.
+    Fails,
+}
 
 /// What a poll by the loop came to.
 #[derive(Clone, Copy)]
 pub enum Polled {
-    Pends,
+    /// The work is still pending; whether a live work comes after it.
+    Pends { more: bool },
     Ends,
     Fails,
 }
@@ -75,45 +88,30 @@ fn end_work<W: Words>(w: &mut W, work: WorkId, value: Option<u64>)
     follow(w, caller, work);
 }
 
-/// A live work is polled. Where it fails the store is trapped.
-#[tactic(auto, unfolding(task_rules::specs::Works::poll_of, task_rules::specs::Works::poll_pends))]
-pub fn poll_work<W: Words>(w: &mut W, work: WorkId) -> Polled
+/// A live work was polled, and told this. Where it fails the store is trapped.
+#[tactic(auto, unfolding(task_rules::specs::Works::poll_pends))]
+pub fn poll_work<W: Words>(w: &mut W, work: WorkId, told: Told) -> Polled
     requires live { 0 < work_of (W.view w.old) work }
+    requires moves { is_stage_live (stage_of (work_of (W.view w.old) work) (W.view w.old).core) ≡ true }
+    requires told { TellsPoll told (poll_of (work_of (W.view w.old) work) (W.view w.old).core) }
     requires blocked { IsBlockedUnqueued (subtasks.Host (work_of (W.view w.old) work)) (W.view w.old).core }
     requires unqueued { work_entries (work_of (W.view w.old) work) (W.view w.old).core.queues.high ≡ 0 }
     ensures meets { PollMeets (work_of (W.view w.old) work) (poll_of (work_of (W.view w.old) work) (W.view w.old).core) (W.view w.old).core result (W.view w.new).core }
     ensures tags { (W.view w.new).tags ≡ (W.view w.old).tags }
     ensures current { (W.view w.new).current ≡ (W.view w.old).current }
 {
-    if matches!(w.phase(work), Phase::AbortRequested) {
-        end_work(w, work, None);
-        return Polled::Ends;
-    }
-    let host = match w.course(work) {
-        Course::Goes { host } => host,
-        Course::Value { value } => {
-            end_work(w, work, Some(value));
-            return Polled::Ends;
+    match told {
+        Told::Pends => {
+            let more = w.count_poll(work);
+            Polled::Pends { more }
         }
-        Course::NoValue => {
-            end_work(w, work, None);
-            return Polled::Ends;
-        }
-    };
-    match (host.polls, host.value) {
-        (Some(0), None) => {
-            w.set_trapped();
-            Polled::Fails
-        }
-        (Some(0), Some(value)) => {
-            end_work(w, work, Some(value));
+        Told::Ends(value) => {
+            end_work(w, work, value);
             Polled::Ends
         }
-        (polls, value) => {
-            let polls = polls.map(|polls| polls - 1);
-            let host = HostDef { polls, value };
-            w.set_course(work, Course::Goes { host });
-            Polled::Pends
+        Told::Fails => {
+            w.set_trapped();
+            Polled::Fails
         }
     }
 }

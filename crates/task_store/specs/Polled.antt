@@ -1,10 +1,20 @@
 -- A poll of a host work by the loop, and what is held of it then.
 use Rattle.std.specs.Prelude.{◌==◌, ◌||◌, ◌≡◌, Bool, None, Option, Some, false, ℕ}
+use Rattle.host_works.specs.declared.work.HostPoll.{HostPoll}
+use Rattle.host_works.specs.declared.work.HostPoll.TheVariants as answers
 use Rattle.task_machine.specs.Core.{Core}
 use Rattle.task_machine.specs.Read.{course_of, is_aborted, phase_of}
 use Rattle.task_machine.specs.Write.{set_trapped}
 use Rattle.task_machine.specs.declared.component.HostDef.{HostDef}
+use Rattle.task_ops.specs.declared.works.Told.{Told}
+use Rattle.task_ops.specs.declared.works.Told.TheVariants as told
 use Rattle.task_rules.specs.Works.{Ends, FailsNow, Poll, StillPends, has_end, poll_ends, poll_of, poll_pends}
+
+-- what a work tells that answers this
+abbrev pub told_of : HostPoll → Told
+told_of answers.Pending = told.Pends
+told_of (answers.Value v) = told.Ends (Some v)
+told_of answers.Failed = told.Fails
 
 -- the core after a poll that comes to this
 abbrev pub polled_core : ℕ → Poll → Core → Core

@@ -1,37 +1,52 @@
 //! The host works of a store: those of guests' calls, and those that a host spawns.
-ghost use Rattle.std.specs.Prelude.{◌||◌, ◌==◌, ◌≡◌, ◌<◌, ◌^◌, ℕ, IfErr, IfOk, IsSome, None, OnErr, OnOk, Some, cond, option_map, true};
+ghost use Rattle.std.specs.Prelude.{◌||◌, ◌==◌, ◌≡◌, ◌<◌, ◌^◌, ℕ, IfErr, IfOk, IfSome, IsSome, None, OnErr, OnOk, Some, cond, is_some, option_map, true};
 ghost use Rattle.task_laws.specs.Order.{WorksQueued};
 ghost use Rattle.task_machine.specs.Core.{Main};
 ghost use Rattle.task_machine.specs.Read.{is_aborted};
 ghost use Rattle.task_machine.specs.declared.records.Turn.{Turn};
 ghost use Rattle.task_machine.specs.declared.records.WorkCaller.TheVariants as work_callers;
+ghost use Rattle.task_ops.specs.Polled.{TellsPoll};
 ghost use Rattle.task_ops.specs.Works.{KeepsWorks};
 ghost use Rattle.task_rules.specs.Calls.{next_work, work_queued};
 ghost use Rattle.task_rules.specs.Places.{Placed};
 ghost use Rattle.task_rules.specs.Stalled.{Setting};
-ghost use Rattle.task_rules.specs.Works.{has_end};
+ghost use Rattle.task_rules.specs.Works.{has_end, poll_of, polled_in};
 ghost use Rattle.task_store.specs.Hosts.{HoldsHosts, WorksNumbered, held_after_call, held_by, settled};
-ghost use Rattle.task_store.specs.Polled.{Tells};
+ghost use Rattle.task_store.specs.Polled.{Tells, told_of};
 ghost use Rattle.task_store.specs.Spawned.{IsSpawnedIn};
 ghost use Rattle.task_turns.specs.Turn.{IsSettled, PendsIn, Turns, given};
 ghost use Rattle.task_words.specs.StateView.{Keeps, work_of};
 
 use crate::spawn::SpawnHandle;
 use crate::store::Store;
-use host_works::{AccessorTask, FromHost};
+use host_works::{AccessorTask, FromHost, HostPoll};
 use state_calls::TaskError;
 use task_machine::{Course, HostDef, NoMemory, Phase};
+use task_ops::Told;
 use task_turns::{Made, poll};
 use task_words::{ResultWords, WorkId, WorkWords};
 
-// Whether a work isn't polled: it was aborted, or has ended.
-fn is_over(phase: Phase, course: Course) -> bool
-    ensures { result ≡ (is_aborted phase || has_end course) }
+// What a work tells that isn't polled, as it was aborted or has ended; none where it is polled.
+fn untold(phase: Phase, course: Course) -> Option<Told>
+    ensures is { is_some result ≡ (is_aborted phase || has_end course) }
+    ensures told { IfSome result (λ told. TellsPoll told (polled_in phase course)) }
 {
     match (phase, course) {
-        (Phase::AbortRequested, _) => true,
-        (_, Course::Goes { host: _ }) => false,
-        _ => true,
+        (Phase::AbortRequested, _) => Some(Told::Ends(None)),
+        (_, Course::Goes { host: _ }) => None,
+        (_, Course::Value { value }) => Some(Told::Ends(Some(value))),
+        (_, Course::NoValue) => Some(Told::Ends(None)),
+    }
+}
+
+// What a work tells that was polled.
+fn told_of(answer: HostPoll) -> Told
+    ensures { result ≡ told_of answer }
+{
+    match answer {
+        HostPoll::Pending => Told::Pends,
+        HostPoll::Value(value) => Told::Ends(Some(value)),
+        HostPoll::Failed => Told::Fails,
     }
 }
 
@@ -66,19 +81,20 @@ impl<T, H: AccessorTask<T>> Store<T, H> {
         }
     }
 
-    // Polls the work. One that was aborted is let go, and isn't polled.
+    // Polls the work, which has this number, and answers what it tells. One that was aborted is let go, and isn't polled.
     #[inline(always)]
-    fn tell(&mut self, work: WorkId)
-        requires { HoldsHosts H.course self.old }
+    fn tell(&mut self, work: WorkId, number: u64) -> Told
+        requires hosts { HoldsHosts H.course self.old }
+        requires number { number ≡ work_of self.old.state work }
+        ensures answer { TellsPoll result (poll_of (work_of self.old.state work) self.old.state.core) }
         ensures told { Tells (work_of self.old.state work) self.old.state.core (held_by H.course self.old) (held_by H.course self.new) }
         ensures rest { self.new ≡ record self.old { value = self.new.value; works = self.new.works } }
     {
-        let number = self.state.work_number(work);
-        if is_over(self.state.phase(work), self.state.course(work)) {
+        if let Some(told) = untold(self.state.phase(work), self.state.course(work)) {
             self.works.let_go(number);
-            return;
+            return told;
         }
-        let _answer = self.works.poll(number, &mut self.value);
+        told_of(self.works.poll(number, &mut self.value))
     }
 
     /// Polls the live work that is next, past those with numbers up to `polled`.
@@ -96,8 +112,9 @@ impl<T, H: AccessorTask<T>> Store<T, H> {
         let Some(work) = self.state.next_polled(polled) else {
             unreachable!()
         };
-        self.tell(work);
-        poll(&mut self.state, work, polled)
+        let number = self.state.work_number(work);
+        let told = self.tell(work, number);
+        poll(&mut self.state, work, number, polled, told)
     }
 }
 

@@ -1,11 +1,15 @@
 -- The poll of a live work makes a step.
 use Rattle.std.proofs.Common.{ap, arith, refl, subst, sym, ◌∙◌}
 use Rattle.std.proofs.lemmas.Bool.Decides.{nat_tests}
-use Rattle.std.specs.Prelude.{Bool, List, None, Option, Some, false, is_none, not, option_map, true, ℕ, ◌≡◌}
+use Rattle.std.specs.Prelude.{Bool, List, None, Option, Some, false, is_none, is_some, not, option_map, true, ℕ, ◌≡◌}
 use Rattle.task_machine.proofs.CommuteLemmas.{get-change}
 use Rattle.task_machine.specs.Core.{Began, MainPlace, Refused, Scripted, Unscripted}
 use Rattle.task_machine.specs.Maps.{get}
-use Rattle.task_machine.specs.Read.{phase_of}
+use Rattle.std.specs.Option.{option_map_or}
+use Rattle.task_laws.proofs.PolledWorks.{polled_is_live}
+use Rattle.task_machine.specs.Read.{is_live, is_stage_live, phase_of, stage_of}
+use Rattle.task_machine.specs.declared.records.Stage.TheVariants as stages
+use Rattle.task_machine.specs.declared.records.Work.{Work}
 use Rattle.task_machine.specs.Write.{on_work, set_course}
 use Rattle.task_machine.specs.declared.component.Callee.{Callee}
 use Rattle.task_machine.specs.declared.component.HostDef.{HostDef}
@@ -35,18 +39,18 @@ use Rattle.task_turns.specs.declared.made.Made.{Made}
 use Rattle.task_words.specs.StateView.{StateView, thread_of}
 
 abbrev pub label_by : ℕ → Polled → Label
-label_by i polled.Pends = label.Loop (loop_label.FuturePends i)
+label_by i (polled.Pends more) = label.Loop (loop_label.FuturePends i)
 label_by i polled.Ends = label.Loop (loop_label.FutureEnds i)
 label_by i polled.Fails = label.Loop (loop_label.FutureFails i)
 
 abbrev pub turn_by : ℕ → Polled → Core → Turn
-turn_by i polled.Pends t = settled_turn t (turn.Futures i)
+turn_by i (polled.Pends more) t = settled_turn t (turn.Futures i)
 turn_by i polled.Ends t = settled_turn t (turn.Take true)
 turn_by i polled.Fails t = turn.Over
 
 polled_as : (k i : ℕ) (s t : Core) (m : Main) (r : Polled) (p : Poll) → PollMeets i p s r t → machine.Polled (state_at s m (turn.Futures k)) i p (label_by i r) (state_at t m (turn_by i r t))
 unfolding at_turn
-polled_as k i s t m r (StillPends host) h = (ap (label_by i) h.0, ap (λ (q : Polled). state_at t m (turn_by i q t)) h.0 ∙ ap (λ (u : Core). state_at u m (turn_by i polled.Pends u)) h.1)
+polled_as k i s t m r (StillPends host) h = (ap (label_by i) h.0, ap (λ (q : Polled). state_at t m (turn_by i q t)) h.0 ∙ ap (λ (u : Core). state_at u m (turn_by i (polled.Pends true) u)) h.1)
 polled_as k i s t m r (Ends v) h = (ap (label_by i) h.0, ap (λ (q : Polled). state_at t m (turn_by i q t)) h.0 ∙ ap (λ (u : Core). state_at u m (turn_by i polled.Ends u)) h.1)
 polled_as k i s t m r FailsNow h = (ap (label_by i) h.0, ap (λ (q : Polled). state_at t m (turn_by i q t)) h.0 ∙ ap (λ (u : Core). state_at u m (turn_by i polled.Fails u)) h.1)
 
@@ -55,6 +59,23 @@ unfolding Step
 poll_step k i s t m r next h x = subst (λ (o : Option ℕ). FuturesStep (state_at s m (turn.Futures k)) o (label_by i r) (state_at t m (turn_by i r t))) (sym next) (polled_as k i s t m r (poll_of i s) h)
 
 -- ---- The turn then
+
+-- the work that is polled is live
+pub polled_moves : (k i : ℕ) (s : Core) → next_polled k s ≡ Some i → is_stage_live (stage_of i s) ≡ true
+polled_moves k i s next = by (get s.works i) (polled_is_live k s i next)
+  where
+    by : (o : Option Work) → option_map_or is_live o false ≡ true → is_stage_live (option_map_or (λ (w : Work). w.stage) o stages.Ended) ≡ true
+    by None is = absurd (cc)
+    by (Some w) is = is
+
+-- whether a live work comes after it
+pub PollMeets-more : (i : ℕ) (s : Core) (more : Bool) (t : Core) (p : Poll) → PollMeets i p s (polled.Pends more) t → more ≡ is_some (next_polled i t)
+PollMeets-more i s more t (StillPends host) h = let e : polled.Pends more ≡ polled.Pends (is_some (next_polled i t)) = h.0 in cc
+PollMeets-more i s more t (Ends v) h = absurd (let e = h.0 in cc)
+PollMeets-more i s more t FailsNow h = absurd (let e = h.0 in cc)
+
+pub turn_is : (n i : ℕ) (more : Bool) (t : Core) → more ≡ is_some (next_polled i t) → n ≡ i → (p : Turn) → (more ≡ is_some (next_polled n t) → p ≡ settled_turn t (turn.Futures n)) → p ≡ settled_turn t (turn.Futures i)
+turn_is n i more t is same p settles = settles (is ∙ ap (λ k. is_some (next_polled k t)) (sym same)) ∙ ap (λ k. settled_turn t (turn.Futures k)) same
 
 pub futures_open : (n : ℕ) (s : Core) (o : Option ℕ) → (is_open (settled_futures n s o) ≡ true) × (runs_in (settled_futures n s o) ≡ None)
 futures_open n s None = (refl, refl)
@@ -65,12 +86,12 @@ take_open true = (refl, refl)
 take_open false = (refl, refl)
 
 none_runs : (i : ℕ) (r : Polled) (t : Core) → runs_in (turn_by i r t) ≡ None
-none_runs i polled.Pends t = (futures_open i t (next_polled i t)).1
+none_runs i (polled.Pends more) t = (futures_open i t (next_polled i t)).1
 none_runs i polled.Ends t = (take_open (nothing_stands t)).1
 none_runs i polled.Fails t = refl
 
 over_by : (i : ℕ) (r : Polled) (t : Core) → is_none (outcome_of_label (label_by i r)) ≡ is_open (turn_by i r t)
-over_by i polled.Pends t = sym (futures_open i t (next_polled i t)).0
+over_by i (polled.Pends more) t = sym (futures_open i t (next_polled i t)).0
 over_by i polled.Ends t = sym (take_open (nothing_stands t)).0
 over_by i polled.Fails t = refl
 

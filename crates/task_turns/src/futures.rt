@@ -3,23 +3,26 @@ ghost use Rattle.std.specs.Prelude.{◌≡◌, ◌<◌, None, Some, true};
 ghost use Rattle.task_machine.specs.Core.{Main};
 ghost use Rattle.task_machine.specs.declared.component.Component.{Component};
 ghost use Rattle.task_machine.specs.declared.records.Subtask.TheVariants as subtasks;
+ghost use Rattle.task_ops.specs.Polled.{TellsPoll};
 ghost use Rattle.task_ops.specs.Works.{KeepsWorks};
 ghost use Rattle.task_rules.specs.Stalled.{Setting, main_pends};
-ghost use Rattle.task_rules.specs.Works.{next_polled};
+ghost use Rattle.task_rules.specs.Works.{next_polled, poll_of};
 ghost use Rattle.task_turns.specs.Turn.{Makes, PendsIn};
 ghost use Rattle.task_words.specs.Apart.{IsBlockedUnqueued, work_entries};
 ghost use Rattle.task_words.specs.StateView.{work_of};
 
 use crate::made::Made;
-use crate::settles::{turn_after_end, turn_after_polls};
+use crate::settles::{turn_after_end, turn_where};
 use task_machine::{Label, LoopLabel, Turn};
-use task_ops::{Polled, poll_work};
+use task_ops::{Polled, Told, poll_work};
 use task_words::{Words, WorkId};
 
-/// The next live work past those with numbers up to `polled` is polled.
-pub fn step_poll<W: Words>(w: &mut W, work: WorkId, polled: u64) -> Made
-    requires live { 0 < work_of (W.view w.old) work }
+/// The next live work past those with numbers up to `polled`, which has this number, was polled, and told this.
+pub fn step_poll<W: Words>(w: &mut W, work: WorkId, number: u64, polled: u64, told: Told) -> Made
+    requires live { 0 < number }
+    requires number { number ≡ work_of (W.view w.old) work }
     requires next { next_polled polled (W.view w.old).core ≡ Some (work_of (W.view w.old) work) }
+    requires told { TellsPoll told (poll_of (work_of (W.view w.old) work) (W.view w.old).core) }
     requires current { (W.view w.old).current ≡ None }
     requires blocked { IsBlockedUnqueued (subtasks.Host (work_of (W.view w.old) work)) (W.view w.old).core }
     requires unqueued { work_entries (work_of (W.view w.old) work) (W.view w.old).core.queues.high ≡ 0 }
@@ -27,11 +30,10 @@ pub fn step_poll<W: Words>(w: &mut W, work: WorkId, polled: u64) -> Made
     ensures pends { (x : Setting) → (m : Main) → main_pends x (W.view w.old).core m ≡ true → PendsIn x (W.view w.new).core m result.turn }
     ensures works { KeepsWorks (W.view w.old) (W.view w.new) }
 {
-    let number = w.work_number(work);
-    match poll_work(w, work) {
-        Polled::Pends => Made {
+    match poll_work(w, work, told) {
+        Polled::Pends { more } => Made {
             label: Label::Loop(LoopLabel::FuturePends(number)),
-            turn: turn_after_polls(w, number),
+            turn: turn_where(number, more),
         },
         Polled::Ends => Made {
             label: Label::Loop(LoopLabel::FutureEnds(number)),

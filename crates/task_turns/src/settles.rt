@@ -1,18 +1,28 @@
 //! Whose turn comes where the machine moves on without a label.
-ghost use Rattle.std.specs.Prelude.{◌≡◌, true};
+ghost use Rattle.std.specs.Prelude.{◌≡◌, is_some, true};
+ghost use Rattle.task_machine.specs.Core.{Core};
 ghost use Rattle.task_rules.specs.Turns.{nothing_stands, settled_turn};
+ghost use Rattle.task_rules.specs.Works.{next_polled};
 
 use task_machine::Turn;
 use task_words::Words;
+
+// The turn after the works with numbers up to this one were polled, where `more` says whether one is left.
+pub(crate) fn turn_where(polled: u64, more: bool) -> Turn
+    ensures { (s : Core) → more ≡ is_some (next_polled polled s) → result ≡ settled_turn s (Turn.Futures polled) }
+{
+    if more {
+        Turn::Futures { polled }
+    } else {
+        Turn::Take { ended: false }
+    }
+}
 
 /// The turn after the works with numbers up to this one were polled.
 pub fn turn_after_polls<W: Words>(w: &W, polled: u64) -> Turn
     ensures { result ≡ settled_turn (W.view w.now).core (Turn.Futures polled) }
 {
-    match w.next_polled(polled) {
-        Some(_) => Turn::Futures { polled },
-        None => Turn::Take { ended: false },
-    }
+    turn_where(polled, w.next_polled(polled).is_some())
 }
 
 // Whether nothing is queued.

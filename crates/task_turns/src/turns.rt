@@ -3,11 +3,12 @@ ghost use Rattle.std.specs.Prelude.{◌≡◌, ◌≤◌, IfOk, IfSome, None, So
 ghost use Rattle.task_laws.specs.Order.{WorksQueued};
 ghost use Rattle.task_machine.specs.Core.{Main};
 ghost use Rattle.task_machine.specs.Read.{next_entry};
+ghost use Rattle.task_ops.specs.Polled.{TellsPoll};
 ghost use Rattle.task_ops.specs.Works.{KeepsWorks};
 ghost use Rattle.task_rules.specs.Outcome.{is_at_rest, outcome_of_label};
 ghost use Rattle.task_rules.specs.Places.{Placed};
 ghost use Rattle.task_rules.specs.Stalled.{Setting, is_unended_take};
-ghost use Rattle.task_rules.specs.Works.{next_polled};
+ghost use Rattle.task_rules.specs.Works.{next_polled, poll_of};
 ghost use Rattle.task_turns.specs.Later.{SameWorks};
 ghost use Rattle.task_turns.specs.WellFormed.{IsWellFormed};
 ghost use Rattle.task_turns.specs.Drive.{Computes, KeepsOn, StopsShort};
@@ -23,19 +24,22 @@ use crate::stretches::stretch;
 use crate::takes::step_take;
 use label_trace::Trace;
 use task_machine::{Component, NoMemory, Turn};
+use task_ops::Told;
 use task_words::{Words, WorkId};
 
-/// The live work that is next, past those with numbers up to `polled`, is polled.
-pub fn poll<W: Words>(w: &mut W, work: WorkId, polled: u64) -> Made
+/// The live work that is next, past those with numbers up to `polled`, has this number; it was polled, and told this.
+pub fn poll<W: Words>(w: &mut W, work: WorkId, number: u64, polled: u64, told: Told) -> Made
     requires placed { Placed (W.view w.old).core }
     requires works { WorksQueued (W.view w.old).core }
     requires current { (W.view w.old).current ≡ None }
+    requires number { number ≡ work_of (W.view w.old) work }
     requires next { next_polled polled (W.view w.old).core ≡ Some (work_of (W.view w.old) work) }
+    requires told { TellsPoll told (poll_of (work_of (W.view w.old) work) (W.view w.old).core) }
     ensures turns { (x : Setting) → (m : Main) → PendsIn x (W.view w.old).core m (Turn.Futures polled) → Turns x (Turn.Futures polled) m (W.view w.old) result m (W.view w.new) }
     ensures works { KeepsWorks (W.view w.old) (W.view w.new) }
 {
     w.none_is_zero();
-    step_poll(w, work, polled)
+    step_poll(w, work, number, polled, told)
 }
 
 // Nothing stands, and no work ended in this turn.

@@ -1,10 +1,11 @@
-ghost use Rattle.std.specs.Prelude.{◌≡◌, ◌+◌, ◌<◌, ◌^◌, IfOk, None, OnErr, OnOk, Some, false, option_map, true};
-ghost use Rattle.task_machine.specs.Read.{at_handle_limit, course_of, fits, instance_of, new_handle, phase_of, thread_group, was_cancelled, work_caller_of};
+ghost use Rattle.std.specs.Prelude.{◌≡◌, ◌+◌, ◌<◌, ◌^◌, IfOk, None, OnErr, OnOk, Some, false, is_some, option_map, true};
+ghost use Rattle.task_machine.specs.Read.{at_handle_limit, course_of, fits, instance_of, is_stage_live, new_handle, phase_of, stage_of, thread_group, was_cancelled, work_caller_of};
 ghost use Rattle.task_machine.specs.Write.{count_work, set_cancelled, set_course, set_phase, set_stage};
+ghost use Rattle.task_machine.specs.declared.component.HostDef.{HostDef as Left};
 ghost use Rattle.task_machine.specs.declared.records.Subtask.TheVariants as subtasks;
 ghost use Rattle.task_machine.specs.declared.records.WorkCaller.TheVariants as work_callers;
 ghost use Rattle.task_rules.specs.Calls.{next_work, with_handle, work_deleted, work_group, work_queued};
-ghost use Rattle.task_rules.specs.Works.{has_live_work, has_moving_work, next_polled};
+ghost use Rattle.task_rules.specs.Works.{StillPends, has_live_work, has_moving_work, next_polled, poll_of, poll_pends};
 ghost use Rattle.task_words.specs.Apart.{work_entries};
 ghost use Rattle.task_words.specs.Live.{live_work_caller};
 ghost use Rattle.task_words.specs.Names.{work_caller_in};
@@ -55,6 +56,14 @@ pub trait WorkWords: View {
 
     fn set_stage(&mut self, work: WorkId, stage: Stage)
         ensures { Self.view self.new ≡ on_core (set_stage (work_of (Self.view self.old) work) stage) (Self.view self.old) };
+
+    /// A live work is pending at its poll: one poll fewer is left of it, or it is never to end, as before. Answers
+    /// whether a live work comes after it.
+    fn count_poll(&mut self, work: WorkId) -> bool
+        requires live { is_stage_live (stage_of (work_of (Self.view self.old) work) (Self.view self.old).core) ≡ true }
+        requires pends { (left : Left) × (poll_of (work_of (Self.view self.old) work) (Self.view self.old).core ≡ StillPends left) }
+        ensures new { (left : Left) → poll_of (work_of (Self.view self.old) work) (Self.view self.old).core ≡ StillPends left → Self.view self.new ≡ on_core (poll_pends (work_of (Self.view self.old) work) left) (Self.view self.old) }
+        ensures more { result ≡ is_some (next_polled (work_of (Self.view self.old) work) (Self.view self.new).core) };
 
     fn set_cancelled(&mut self, work: WorkId)
         ensures { Self.view self.new ≡ on_core (set_cancelled (work_of (Self.view self.old) work)) (Self.view self.old) };

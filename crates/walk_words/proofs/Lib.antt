@@ -5,3 +5,4 @@ pub mod PollLemmas
 pub mod HeldLemmas
 pub mod ReleaseLemmas
 pub mod OrderLemmas
+pub mod CountLemmas

@@ -164,7 +164,7 @@ module _ (links : List (Spot LiveWork)) (c : ℕ) (linked : AreLinked links c (e
       by (x ∷ b) first parts = linked_there links c walk.front e b (subst (λ y. AreLinked links c (walk.front ++ y ∷ b)) (same_Some x e first) (subst (AreLinked links c) parts linked))
 
 module _ (a : CoreParts) (sound : IsSound a) where
-  polled_filed : IsIndex (live_chain (bare (parts_of a))) a.polled (filings live_work a.works)
+  pub polled_filed : IsIndex (live_chain (bare (parts_of a))) a.polled (filings live_work a.works)
   unfolding IsSound filings
   polled_filed = IsIndex-same (live_chain (bare (parts_of a))) a.polled _ sound.whole.chained.polled (filings live_work a.works) (λ r. sym (ap (said live_work r) (place_at-mapped (on_item bare_work) a.works r) ∙ by r (place_at a.works r)))
     where

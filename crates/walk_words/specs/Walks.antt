@@ -3,7 +3,7 @@ use Rattle.std.specs.List.{find}
 use Rattle.std.specs.Prelude.{◌≡◌, ◌==◌, ◌++◌, ℕ, if◌then◌else◌, List, [], ◌∷◌, Option, None, Some, length, map, nat_lt}
 use Rattle.table_order.specs.declared.seat_links.Seat.{Seat}
 use Rattle.task_index.specs.Walks.{number_at, walked}
-use Rattle.task_links.specs.Links.{head_of}
+use Rattle.task_links.specs.Links.{head_of, link_of}
 use Rattle.task_records.specs.Keys.{thread_key}
 use Rattle.task_records.specs.declared.parts.CoreParts.{CoreParts}
 use Rattle.task_records.specs.declared.works.LiveWork.{LiveWork}
@@ -30,6 +30,13 @@ live_numbers es = map (λ e. e.1.number) es
 -- what is left has the first above p
 abbrev pub HasNext : ℕ → List (ℕ × LiveWork) → List (ℕ × LiveWork) → Type 0
 HasNext p all left = find (nat_lt p) (live_numbers left) ≡ find (nat_lt p) (live_numbers all)
+
+-- a work with this number has this node in the chain of the live ones
+pub record StandsLive (node number : ℕ) (a : CoreParts) : Type 0 where
+  pub chain : ℕ
+  pub is : a.live ≡ Some chain
+  pub place : ℕ
+  pub link : link_of a.polled node ≡ Some (chain, record { number = number; place = place })
 
 module _ {P : Type 0} where
   -- A walk has come to the next entry: what holds of the entries that are left.

@@ -10,5 +10,5 @@ mod releases;
 
 pub use admissions::{has_admitted, has_held};
 pub use least::{blocked_on, under};
-pub use polls::next_polled;
+pub use polls::{count_poll, next_polled};
 pub use releases::release;

@@ -1,14 +1,18 @@
 //! The live work that is polled next. The live works stand in order of number, so it is the one after the work that was
 //! polled last.
 ghost use Rattle.std.specs.List.{find};
-ghost use Rattle.std.specs.Prelude.{◌≡◌, IsSome, nat_lt, option_map};
+ghost use Rattle.std.specs.Prelude.{◌≡◌, IsSome, is_some, nat_lt, option_map, true};
 ghost use Rattle.task_links.specs.Links.{AreLinked, IsLinks, entries, list_of};
+ghost use Rattle.task_machine.specs.Read.{is_stage_live, stage_of};
+ghost use Rattle.task_machine.specs.declared.component.HostDef.{HostDef as Left};
+ghost use Rattle.task_machine.specs.declared.records.Course.TheVariants as courses;
 ghost use Rattle.task_records.specs.Places.{Rises};
 ghost use Rattle.task_records.specs.Seen.{IsSound, seen};
-ghost use Rattle.task_rules.specs.Works.{next_polled};
-ghost use Rattle.task_words.specs.StateView.{work_of};
-ghost use Rattle.walk_words.specs.Walks.{HasNext, Walk, live_numbers};
+ghost use Rattle.task_rules.specs.Works.{StillPends, next_polled, poll_of, poll_pends, polled_course};
+ghost use Rattle.task_words.specs.StateView.{on_core, work_of};
+ghost use Rattle.walk_words.specs.Walks.{HasNext, StandsLive, Walk, live_numbers};
 
+use task_machine::Course;
 use task_records::{CoreParts, LiveWork, Node, work_at};
 use task_words::WorkId;
 
@@ -35,15 +39,21 @@ fn search_start(parts: &CoreParts, chain: usize, polled: u64) -> Option<(Node, L
     parts.polled.first(chain)
 }
 
-// The first work of the chain whose number is above this one.
-fn first_above(parts: &CoreParts, chain: usize, polled: u64) -> Option<WorkId>
+// The first work of the chain whose number is above this one, where none before `start` is.
+fn first_from(
+    parts: &CoreParts,
+    chain: usize,
+    polled: u64,
+    start: Option<(Node, LiveWork)>,
+) -> Option<WorkId>
     requires sound { IsSound parts.now }
     requires is { parts.now.live ≡ Some chain }
-    ensures is { option_map (λ id. work_of (seen parts.now) id) result ≡ find (nat_lt polled) (live_numbers (entries parts.now.polled chain)) }
-    ensures links { IsLinks parts.now.polled }
-    ensures linked { AreLinked parts.now.polled chain (entries parts.now.polled chain) }
+    requires walk { Walk (HasNext polled (entries parts.now.polled chain)) (entries parts.now.polled chain) (option_map (λ e. (e.0.index, e.1)) start) }
+    requires links { IsLinks parts.now.polled }
+    requires linked { AreLinked parts.now.polled chain (entries parts.now.polled chain) }
+    ensures { option_map (λ id. work_of (seen parts.now) id) result ≡ find (nat_lt polled) (live_numbers (entries parts.now.polled chain)) }
 {
-    let mut next = search_start(parts, chain, polled);
+    let mut next = start;
     while let Some((node, work)) = next {
         if polled < work.number {
             return Some(work_at(parts, work.place));
@@ -51,6 +61,16 @@ fn first_above(parts: &CoreParts, chain: usize, polled: u64) -> Option<WorkId>
         next = parts.polled.next(node);
     }
     None
+}
+
+// The first work of the chain whose number is above this one.
+fn first_above(parts: &CoreParts, chain: usize, polled: u64) -> Option<WorkId>
+    requires sound { IsSound parts.now }
+    requires is { parts.now.live ≡ Some chain }
+    ensures { option_map (λ id. work_of (seen parts.now) id) result ≡ next_polled polled (seen parts.now).core }
+{
+    let start = search_start(parts, chain, polled);
+    first_from(parts, chain, polled, start)
 }
 
 /// The live work that is polled next, where those with numbers up to this one were. Where this one is the number of the
@@ -63,4 +83,52 @@ pub fn next_polled(parts: &CoreParts, polled: u64) -> Option<WorkId>
         Some(chain) => first_above(parts, chain, polled),
         None => None,
     }
+}
+
+// Whether a live work stands after this node, whose work has this number.
+#[inline(always)]
+fn has_more(parts: &CoreParts, node: Node, number: u64) -> bool
+    requires sound { IsSound parts.now }
+    requires stands { StandsLive node.index number parts.now }
+    ensures { result ≡ is_some (next_polled number (seen parts.now).core) }
+{
+    let Some(chain) = parts.live else {
+        unreachable!()
+    };
+    parts.polled.no_node_is_twice();
+    parts.polled.nodes_have_values(chain);
+    let after = parts.polled.next(node);
+    first_from(parts, chain, number, after).is_some()
+}
+
+// One poll fewer is left, where so many are.
+#[inline(always)]
+fn count_down(course: &mut Course)
+    ensures { (left : Left) → polled_course course.old ≡ StillPends left → course.new ≡ courses.Goes left }
+{
+    if let Course::Goes { host } = course {
+        if let Some(polls) = &mut host.polls {
+            *polls = polls.saturating_sub(1);
+        }
+    }
+}
+
+/// A live work is pending at its poll: one poll fewer is left of it, or it is never to end, as before. Answers whether a
+/// live work comes after it.
+pub fn count_poll(parts: &mut CoreParts, work: WorkId) -> bool
+    requires sound { IsSound parts.old }
+    requires live { is_stage_live (stage_of (work_of (seen parts.old) work) (seen parts.old).core) ≡ true }
+    requires pends { (left : Left) × (poll_of (work_of (seen parts.old) work) (seen parts.old).core ≡ StillPends left) }
+    ensures sound { IsSound parts.new }
+    ensures new { (left : Left) → poll_of (work_of (seen parts.old) work) (seen parts.old).core ≡ StillPends left → seen parts.new ≡ on_core (poll_pends (work_of (seen parts.old) work) left) (seen parts.old) }
+    ensures more { result ≡ is_some (next_polled (work_of (seen parts.old) work) (seen parts.new).core) }
+{
+    let Ok(entry) = parts.works.get_mut(work) else {
+        unreachable!()
+    };
+    count_down(&mut entry.work.course);
+    let number = entry.number;
+    let node = entry.live;
+    parts.polled_last = Some(node);
+    has_more(parts, node, number)
 }

@@ -1,8 +1,10 @@
+use Rattle.std.proofs.Common.{subst, sym}
+use Rattle.std.specs.Prelude.{ℕ, ◌<◌}
 use Rattle.task_turns.proofs.IdleLemmas.{blocked_out, makes_turns, polled_live, polled_unqueued}
 use Rattle.task_turns.proofs.turns.poll.Goals as goal
 
 pub step_poll-requires-clause-live : goal.step_poll-requires-clause-live
-step_poll-requires-clause-live g c = polled_live c.args.polled _ _ c.none_is_zero.ensures.works c.requires.next
+step_poll-requires-clause-live g c = subst (λ (k : ℕ). 0 < k) (sym c.requires.number) (polled_live c.args.polled _ _ c.none_is_zero.ensures.works c.requires.next)
 
 pub step_poll-requires-clause-blocked : goal.step_poll-requires-clause-blocked
 step_poll-requires-clause-blocked g c = blocked_out _ _ c.requires.placed
