@@ -8,9 +8,11 @@ mod callers;
 mod pushes;
 mod removals;
 mod seats;
+mod takes;
 mod tops;
 
 pub use callers::{add_caller, has_callers, pop_caller, pop_newest_caller};
 pub use pushes::{push_high, push_high_first, push_host, push_low, set_switch};
 pub use removals::{pop, unqueue};
+pub use takes::take_next;
 pub use tops::{first_entry, next_entry, switch};

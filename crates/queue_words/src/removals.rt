@@ -17,7 +17,7 @@ use task_words::ThreadId;
 
 // The entry's nodes leave the chains that they are in.
 #[inline(always)]
-fn leave(parts: &mut CoreParts, queued: Queued)
+pub(crate) fn leave(parts: &mut CoreParts, queued: Queued)
     requires sound { IsSound parts.old }
     requires seated { IsSeated (bare (parts_of parts.old)) queued }
     ensures rows { RowsAre (bare (parts_of parts.old)) parts.new.marks parts.new.shelves (left (bare (parts_of parts.old)) queued) }

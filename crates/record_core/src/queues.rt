@@ -21,6 +21,11 @@ impl QueueWords for TaskCore {
         queue_words::pop(&mut self.parts, mark);
     }
 
+    #[inline(always)]
+    fn take_next(&mut self) -> Option<(Mark, EntryId)> {
+        queue_words::take_next(&mut self.parts)
+    }
+
     fn set_switch(&mut self, thread: Option<ThreadId>) {
         queue_words::set_switch(&mut self.parts, thread);
     }

@@ -369,6 +369,7 @@ impl<P: Copy> Links<P> {
     }
 
     /// Takes a node out of its chain, and gives the chain and the node's value; the node is then free. `None` where it is in no chain.
+    #[inline(always)]
     pub fn remove(&mut self, node: Node) -> Option<(usize, P)>
         requires { is_made self.old node.index ≡ true }
         ensures link { result ≡ link_of self.old node.index }

@@ -70,40 +70,31 @@ fn take_thread<W: Words>(w: &mut W, mark: Mark, thread: ThreadId) -> Result<Came
     }
 }
 
-// The next entry is the thread's, at this mark: it is taken.
+// The entry of the thread has left this mark: the thread runs, and what came of that is shown.
 #[inline(always)]
 fn step_thread<W: Words>(
-    component: &Component,
     w: &mut W,
-    ended: bool,
     mark: Mark,
     thread: ThreadId,
     trace: &mut Trace,
 ) -> Result<Stepped, NoMemory>
-    requires order { Sits component.now (Turn.Take ended) (W.view w.old).core }
-    requires next { next_entry (W.view w.old).core ≡ Some (mark, entries.Thread (thread_of (W.view w.old) thread)) }
-    requires finds { FindsSet (thread_of (W.view w.old) thread) (popped mark (W.view w.old).core) }
-    ensures makes { IfOk result (λ stepped. Added (λ made. Makes component.now (Turn.Take ended) (W.view w.old) made (W.view w.new) × IsFree made.turn) stepped trace.old trace.new) }
+    requires taken { Taken mark (thread_of (W.view w.old) thread) (W.view w.old).core }
+    requires finds { FindsSet (thread_of (W.view w.old) thread) (W.view w.old).core }
+    ensures shown { IfOk result (λ stepped. RowShown (λ came. thread_taken mark (thread_of (W.view w.old) thread) (choice_of (label_of (thread_of (W.view w.old) thread) came)) (W.view w.old).core (place_of (thread_of (W.view w.old) thread) (W.view w.old).core)) thread (with_current (Some thread) (W.view w.old)) trace.old stepped (W.view w.new) trace.new) }
     ensures works { OnOk result (KeepsWorks (W.view w.old) (W.view w.new)) }
     ensures err { OnErr result (trace.new ≡ trace.old) }
 {
-    let _component = component;
-    w.none_is_zero();
-    w.pop(mark);
     w.set_current(Some(thread));
     let came = take_thread(w, mark, thread)?;
     show(w, thread, trace, came, false)
 }
 
-// The next entry is the push of the work, at this mark: it is taken, and the work is live.
+// The push of the work has left this mark: the work is live.
 fn step_push<W: Words>(w: &mut W, mark: Mark, work: WorkId) -> Made
-    requires current { (W.view w.old).current ≡ None }
-    requires next { next_entry (W.view w.old).core ≡ Some (mark, entries.Push (work_of (W.view w.old) work)) }
-    ensures makes { (c : Component) → (ended : Bool) → Makes c (Turn.Take ended) (W.view w.old) result (W.view w.new) }
-    ensures turn { result.turn ≡ Turn.Main }
+    ensures made { result ≡ record { label = labels.Take (take_labels.Push mark (work_of (W.view w.old) work)); turn = Turn.Main } }
+    ensures new { W.view w.new ≡ on_core (pushed (work_of (W.view w.old) work)) (W.view w.old) }
     ensures works { KeepsWorks (W.view w.old) (W.view w.new) }
 {
-    w.pop(mark);
     let number = w.work_number(work);
     let _ = take_push(w, mark, work);
     Made {
@@ -112,24 +103,16 @@ fn step_push<W: Words>(w: &mut W, mark: Mark, work: WorkId) -> Made
     }
 }
 
-// The next entry is that of an ended host work, at this mark: it is taken, and the subtask is done.
-fn step_host<W: Words>(
-    component: &Component,
-    w: &mut W,
-    ended: bool,
-    mark: Mark,
-    work: WorkId,
-) -> Made
-    requires order { Sits component.now (Turn.Take ended) (W.view w.old).core }
-    requires current { (W.view w.old).current ≡ None }
-    requires next { next_entry (W.view w.old).core ≡ Some (mark, entries.Host (work_of (W.view w.old) work)) }
-    ensures makes { Makes component.now (Turn.Take ended) (W.view w.old) result (W.view w.new) }
+// The entry of the ended host work has left this mark: the subtask is done.
+fn step_host<W: Words>(w: &mut W, mark: Mark, work: WorkId) -> Made
+    requires live { 0 < work_of (W.view w.old) work }
+    requires placed { Placed (W.view w.old).core }
+    requires there { IsJoinThere (subtasks.Host (work_of (W.view w.old) work)) (W.view w.old).core }
+    ensures meets { Meets (host_row mark (work_of (W.view w.old) work) (choice_of result.label).woken (W.view w.old).core) (W.view w.old).core (Came.Stops result.label) (W.view w.new).core }
+    ensures current { (W.view w.new).current ≡ (W.view w.old).current }
     ensures turn { result.turn ≡ Turn.Main }
     ensures works { KeepsWorks (W.view w.old) (W.view w.new) }
 {
-    let _component = component;
-    w.none_is_zero();
-    w.pop(mark);
     let Came::Stops(label) = take_host(w, mark, work) else {
         unreachable!()
     };
@@ -154,10 +137,10 @@ pub fn step_take<W: Words>(
     ensures works { OnOk result (KeepsWorks (W.view w.old) (W.view w.new)) }
     ensures err { OnErr result (trace.new ≡ trace.old) }
 {
-    match w.next_entry() {
+    match w.take_next() {
         None => Ok(None),
         Some((mark, EntryId::Thread(thread))) => {
-            let stepped = step_thread(component, w, ended, mark, thread, trace)?;
+            let stepped = step_thread(w, mark, thread, trace)?;
             Ok(Some(stepped))
         }
         Some((mark, EntryId::Push(work))) => {
@@ -166,7 +149,7 @@ pub fn step_take<W: Words>(
             Ok(Some(stepped))
         }
         Some((mark, EntryId::Host(work))) => {
-            let made = step_host(component, w, ended, mark, work);
+            let made = step_host(w, mark, work);
             let stepped = put(trace, made)?;
             Ok(Some(stepped))
         }

@@ -1,4 +1,4 @@
-ghost use Rattle.std.specs.Prelude.{◌≡◌, ◌<◌, IfSome, option_map};
+ghost use Rattle.std.specs.Prelude.{◌≡◌, ◌<◌, IfSome, is_none, option_map, true};
 ghost use Rattle.task_machine.specs.Moves.{first_entry, unqueued};
 ghost use Rattle.task_machine.specs.Read.{next_entry};
 ghost use Rattle.task_machine.specs.Write.{push_high, push_high_first, push_low, set_switch};
@@ -31,6 +31,12 @@ pub trait QueueWords: View {
     /// The first entry of the mark is gone.
     fn pop(&mut self, mark: Mark)
         ensures { Self.view self.new ≡ on_core (popped mark) (Self.view self.old) };
+
+    /// What is taken next leaves its mark.
+    fn take_next(&mut self) -> Option<(Mark, EntryId)>
+        ensures next { option_map (λ e. (e.0, entry_in (Self.view self.old).tags e.1)) result ≡ next_entry (Self.view self.old).core }
+        ensures taken { IfSome result (λ e. Self.view self.new ≡ on_core (popped e.0) (Self.view self.old)) }
+        ensures none { is_none result ≡ true → Self.view self.new ≡ Self.view self.old };
 
     fn set_switch(&mut self, thread: Option<ThreadId>)
         requires { IfSome thread (λ id. 0 < thread_of (Self.view self.old) id) }

@@ -1,0 +1,82 @@
+use Rattle.task_records.proofs.Core.{ap, Entry, High, Low, Mark, None, Some, on_core, popped, refl, seen, sym, ◌∙◌, ◌≡◌}
+use Rattle.task_records.specs.declared.{parts.CoreParts.CoreParts}
+use Rattle.queue_words.proofs.LeaveLemmas.{left_sound, pop_high_seen, pop_low_seen}
+use Rattle.queue_words.proofs.SwitchLemmas.{follower_here, switch_after, switch_follows, switch_seen, switch_sound}
+use Rattle.queue_words.proofs.TopLemmas.{mark_live, next_high, next_low, next_none, next_switch, top_seated}
+use Rattle.queue_words.proofs.takes.take_next.Goals as goal
+
+-- ---- At switch
+
+pub returns-in-Some-clause-sound : goal.returns-in-Some-clause-sound
+returns-in-Some-clause-sound c = switch_sound c.args.parts.now None c.requires tt
+
+pub returns-in-Some-clause-next : goal.returns-in-Some-clause-next
+returns-in-Some-clause-next c =
+    let a = c.args.parts.now in
+    ap (λ n. Some (Mark.Switch, Entry.Thread n)) (c.thread_at.ensures ∙ follower_here a c.requires c.in-Some.first (switch_follows a c.requires c.in-Some.first c.in-Some.is)) ∙ sym (next_switch a c.requires c.in-Some.first c.in-Some.is)
+
+switch_popped : (a : CoreParts) → seen (switch_after a None) ≡ on_core (popped Mark.Switch) (seen a)
+unfolding popped
+switch_popped a = switch_seen a None None refl
+
+pub returns-in-Some-clause-taken : goal.returns-in-Some-clause-taken
+returns-in-Some-clause-taken c = switch_popped c.args.parts.now
+
+-- ---- At high
+
+pub first_queued-requires : goal.first_queued-requires
+first_queued-requires c = mark_live c.args.parts.now c.requires High
+
+pub entry_id-id-requires-clause-seated : goal.entry_id-id-requires-clause-seated
+entry_id-id-requires-clause-seated c = top_seated c.args.parts.now c.requires High c.in-Some-first_queued.queued c.in-Some-first_queued.ensures
+
+pub leave-requires-clause-seated : goal.leave-requires-clause-seated
+leave-requires-clause-seated c = top_seated c.args.parts.now c.requires High c.in-Some-first_queued.queued c.in-Some-first_queued.ensures
+
+pub returns-in-Some-first_queued-clause-sound : goal.returns-in-Some-first_queued-clause-sound
+returns-in-Some-first_queued-clause-sound c =
+    let a = c.args.parts.now in
+    let q = c.in-Some-first_queued in
+    left_sound a c.requires q.queued (top_seated a c.requires High q.queued q.ensures) c.leave.ensures.links c.leave.new.parts c.leave.ensures.rows c.leave.ensures.rest
+
+pub returns-in-Some-first_queued-clause-next : goal.returns-in-Some-first_queued-clause-next
+returns-in-Some-first_queued-clause-next c = ap (λ e. Some (Mark.High, e)) c.entry_id-id.ensures ∙ sym (next_high c.args.parts.now c.requires c.in-None.is c.in-Some-first_queued.queued c.in-Some-first_queued.ensures)
+
+pub returns-in-Some-first_queued-clause-taken : goal.returns-in-Some-first_queued-clause-taken
+returns-in-Some-first_queued-clause-taken c =
+    let a = c.args.parts.now in
+    let q = c.in-Some-first_queued in
+    pop_high_seen a c.requires q.queued (top_seated a c.requires High q.queued q.ensures) c.leave.ensures.links c.leave.new.parts c.leave.ensures.rows c.leave.ensures.rest q.ensures
+
+-- ---- At low
+
+pub first_queued-requires-in-None-first_queued : goal.first_queued-requires-in-None-first_queued
+first_queued-requires-in-None-first_queued c = mark_live c.args.parts.now c.requires Low
+
+pub entry_id-id-requires-in-Some-first_queued-2-clause-seated : goal.entry_id-id-requires-in-Some-first_queued-2-clause-seated
+entry_id-id-requires-in-Some-first_queued-2-clause-seated c = top_seated c.args.parts.now c.requires Low c.in-Some-first_queued-2.queued c.in-Some-first_queued-2.ensures
+
+pub leave-requires-in-Some-first_queued-2-clause-seated : goal.leave-requires-in-Some-first_queued-2-clause-seated
+leave-requires-in-Some-first_queued-2-clause-seated c = top_seated c.args.parts.now c.requires Low c.in-Some-first_queued-2.queued c.in-Some-first_queued-2.ensures
+
+pub returns-in-Some-first_queued-2-clause-sound : goal.returns-in-Some-first_queued-2-clause-sound
+returns-in-Some-first_queued-2-clause-sound c =
+    let a = c.args.parts.now in
+    let q = c.in-Some-first_queued-2 in
+    let l = c.leave-in-Some-first_queued-2 in
+    left_sound a c.requires q.queued (top_seated a c.requires Low q.queued q.ensures) l.ensures.links l.new.parts l.ensures.rows l.ensures.rest
+
+pub returns-in-Some-first_queued-2-clause-next : goal.returns-in-Some-first_queued-2-clause-next
+returns-in-Some-first_queued-2-clause-next c = ap (λ e. Some (Mark.Low, e)) c.entry_id-id-in-Some-first_queued-2.ensures ∙ sym (next_low c.args.parts.now c.requires c.in-None.is c.in-None-first_queued.ensures c.in-Some-first_queued-2.queued c.in-Some-first_queued-2.ensures)
+
+pub returns-in-Some-first_queued-2-clause-taken : goal.returns-in-Some-first_queued-2-clause-taken
+returns-in-Some-first_queued-2-clause-taken c =
+    let a = c.args.parts.now in
+    let q = c.in-Some-first_queued-2 in
+    let l = c.leave-in-Some-first_queued-2 in
+    pop_low_seen a c.requires q.queued (top_seated a c.requires Low q.queued q.ensures) l.ensures.links l.new.parts l.ensures.rows l.ensures.rest q.ensures
+
+-- ---- Nothing
+
+pub returns-in-None-first_queued-2-clause-next : goal.returns-in-None-first_queued-2-clause-next
+returns-in-None-first_queued-2-clause-next c = sym (next_none c.args.parts.now c.requires c.in-None.is c.in-None-first_queued.ensures c.in-None-first_queued-2.ensures)
