@@ -134,13 +134,13 @@ at_op g p = record g { thread = to_op p g.thread; awaited = 0 }
 -- a thread that begins an activation, with these words in r0, r1 and r2
 abbrev pub to_begun : (code : ℕ) → (handle : ℕ) → (status : ℕ) → Thread → Thread
 to_begun code handle status t =
-  record t {
-    registers = slice_set (slice_set (slice_set t.registers 0 code) 1 handle) 2 status;
-    script = script.React;
-    position = 0;
-    how_far = how_far.Fresh;
-    place = place.Running
-  }
+    record t {
+      registers = slice_set (slice_set (slice_set t.registers 0 code) 1 handle) 2 status;
+      script = script.React;
+      position = 0;
+      how_far = how_far.Fresh;
+      place = place.Running;
+    }
 
 abbrev pub begun : GuestThread → (code : ℕ) → (handle : ℕ) → (status : ℕ) → GuestThread
 begun g code handle status = record g { thread = to_begun code handle status g.thread; beside = 0; awaited = 0 }

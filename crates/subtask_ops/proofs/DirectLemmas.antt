@@ -17,6 +17,6 @@ use Rattle.task_machine.specs.declared.records.Subtask.TheVariants as subtask
 use Rattle.task_rules.specs.Calls.{call_made, enter_runs, next_thread, sync_sets_flag, with_thread_handle}
 use Rattle.task_words.specs.StateView.{StateView, call_of, on_core, thread_of}
 
-pub entered_is : (n m : TableId ThreadKey) (k : TableId GuestTaskKey) (N : ℕ) (e : Callee) (x : ExportKind) (words : List ℕ) (s : Core) (t u v y z a : StateView) → thread_of t n ≡ N → thread_of t m ≡ next_thread s → call_of t k ≡ next_thread s → t.core ≡ with_thread_handle e.instance (next_thread s) (call_made (caller.Thread N) e x goal.Direct (thread_group N s) words s) → u ≡ on_core (set_started (call_of t k)) t → v ≡ on_core (sync_sets_flag (thread_of u m) e.instance x) u → y ≡ on_core (set_place (thread_of v m) place.Running) v → z ≡ on_core (set_place (thread_of y n) (place.Under (thread_of y m))) y → a ≡ on_core (set_how_far (thread_of z n) (how_far.Calls (subtask.Guest (call_of z k)))) z → a.core ≡ enter_runs N e x words s
+pub entered_is : (n m : TableId ThreadKey) (k : TableId GuestTaskKey) (N : ℕ) (e : Callee) (x : ExportKind) (words : List ℕ) (s : Core) (t u v y a : StateView) → thread_of t n ≡ N → thread_of t m ≡ next_thread s → call_of t k ≡ next_thread s → t.core ≡ with_thread_handle e.instance (next_thread s) (call_made (caller.Thread N) e x goal.Direct (thread_group N s) words s) → u ≡ on_core (set_started (call_of t k)) t → v ≡ on_core (sync_sets_flag (thread_of u m) e.instance x) u → y ≡ on_core (set_place (thread_of v m) place.Running) v → a ≡ on_core (λ c. set_how_far (thread_of y n) (how_far.Calls (subtask.Guest (call_of y k))) (set_place (thread_of y n) (place.Under (thread_of y m)) c)) y → a.core ≡ enter_runs N e x words s
 unfolding enter_runs
-entered_is n m k N e x words s t u v y z a pn pm pk pt pu pv py pz pa = rw (pa, pz, py, pv, pu, pn, pm, pk, pt) refl
+entered_is n m k N e x words s t u v y a pn pm pk pt pu pv py pa = rw (pa, py, pv, pu, pn, pm, pk, pt) refl

@@ -52,8 +52,11 @@ fn run_on_top<W: Words>(
     w.set_started(call);
     set_flag(w, other, callee.instance, kind);
     w.set_place(other, PlaceId::Running);
-    w.set_place(thread, PlaceId::Under(other));
-    w.set_how_far(thread, HowFarId::Calls(SubtaskId::Guest(call)));
+    w.stand_at(
+        thread,
+        PlaceId::Under(other),
+        HowFarId::Calls(SubtaskId::Guest(call)),
+    );
     Ok(other)
 }
 

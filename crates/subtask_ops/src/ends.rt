@@ -91,8 +91,11 @@ fn await_end<W: Words>(w: &mut W, thread: ThreadId, subtask: SubtaskId)
     check(w, instance);
     let foot = foot_of(w, thread);
     stop(w, foot);
-    w.set_place(thread, PlaceId::Blocked(subtask));
-    w.set_how_far(thread, HowFarId::AwaitsEnd(subtask));
+    w.stand_at(
+        thread,
+        PlaceId::Blocked(subtask),
+        HowFarId::AwaitsEnd(subtask),
+    );
 }
 
 // Why what follows a cancel traps, if it does.

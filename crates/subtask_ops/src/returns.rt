@@ -70,8 +70,7 @@ pub(crate) fn stop_blocked<W: Words>(w: &mut W, thread: ThreadId, subtask: Subta
 {
     let foot = foot_of(w, thread);
     stop(w, foot);
-    w.set_place(thread, PlaceId::Blocked(subtask));
-    w.set_how_far(thread, HowFarId::Calls(subtask));
+    w.stand_at(thread, PlaceId::Blocked(subtask), HowFarId::Calls(subtask));
 }
 
 // The callee has returned to a `call`.

@@ -18,6 +18,23 @@ fn exit_task<W: Words>(w: &mut W, thread: ThreadId, call: CallId)
     }
 }
 
+/// The thread of this call gives back its handle and is gone, and what that settles is done.
+#[inline(always)]
+pub fn end_thread_in<W: Words>(w: &mut W, thread: ThreadId, call: CallId)
+    requires live { 0 < thread_of (W.view w.old) thread }
+    requires named { 0 < call_of (W.view w.old) call }
+    requires call { call_of (W.view w.old) call ≡ task_of (thread_of (W.view w.old) thread) (W.view w.old).core }
+    requires apart { IsApart (thread_of (W.view w.old) thread) (W.view w.old).core }
+    ensures core { (W.view w.new).core ≡ ended (thread_of (W.view w.old) thread) (W.view w.old).core }
+    ensures current { (W.view w.new).current ≡ (W.view w.old).current }
+    ensures tags { KeepsLive (lost_both (thread_of (W.view w.old) thread) (task_of (thread_of (W.view w.old) thread) (W.view w.old).core)) (W.view w.old).tags (W.view w.new).tags }
+{
+    exit_task(w, thread, call);
+    w.retire_thread(thread);
+    settle_interest(w, call);
+    settle_call(w, call);
+}
+
 /// The thread gives back its handle and is gone, and what that settles is done.
 #[inline(always)]
 pub fn end_thread<W: Words>(w: &mut W, thread: ThreadId)
@@ -28,8 +45,5 @@ pub fn end_thread<W: Words>(w: &mut W, thread: ThreadId)
     ensures tags { KeepsLive (lost_both (thread_of (W.view w.old) thread) (task_of (thread_of (W.view w.old) thread) (W.view w.old).core)) (W.view w.old).tags (W.view w.new).tags }
 {
     let call = w.task_of(thread);
-    exit_task(w, thread, call);
-    w.retire_thread(thread);
-    settle_interest(w, call);
-    settle_call(w, call);
+    end_thread_in(w, thread, call);
 }

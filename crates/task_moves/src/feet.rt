@@ -5,9 +5,10 @@ ghost use Rattle.task_words.specs.StateView.{thread_of};
 
 use task_words::{ThreadId, Words};
 
-/// The foot of a thread's strand.
+// The way down a strand, out of line, since most threads are their strand's foot.
 #[tactic(auto, using(crate::proofs::FootLemmas::foot_at), unfolding(task_machine::specs::Read::foot_of))]
-pub fn foot_of<W: Words>(w: &W, thread: ThreadId) -> ThreadId
+#[inline(never)]
+fn way_down<W: Words>(w: &W, thread: ThreadId) -> ThreadId
     requires { 0 < thread_of (W.view w.now) thread }
     ensures is { thread_of (W.view w.now) result ≡ foot_of (thread_of (W.view w.now) thread) (W.view w.now).core }
     ensures live { 0 < thread_of (W.view w.now) result }
@@ -21,4 +22,18 @@ pub fn foot_of<W: Words>(w: &W, thread: ThreadId) -> ThreadId
         let _ = step;
     }
     foot
+}
+
+/// The foot of a thread's strand.
+#[tactic(auto, using(crate::proofs::FootLemmas::foot_at), unfolding(task_machine::specs::Read::foot_of))]
+#[inline(always)]
+pub fn foot_of<W: Words>(w: &W, thread: ThreadId) -> ThreadId
+    requires { 0 < thread_of (W.view w.now) thread }
+    ensures is { thread_of (W.view w.now) result ≡ foot_of (thread_of (W.view w.now) thread) (W.view w.now).core }
+    ensures live { 0 < thread_of (W.view w.now) result }
+{
+    match w.under(thread) {
+        None => thread,
+        Some(_) => way_down(w, thread),
+    }
 }

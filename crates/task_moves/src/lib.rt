@@ -11,9 +11,11 @@ mod stops;
 mod tells;
 mod wakes;
 
-pub use ends::end_thread;
+pub use ends::{end_thread, end_thread_in};
 pub use feet::foot_of;
-pub use moves::{check, passes_check, promote, promote_unless, put_high, put_low, put_switch};
+pub use moves::{
+    check, passes_check, promote, promote_unless, put_high, put_low, put_low_at, put_switch,
+};
 pub use publishes::{publish, publish_waiter};
 pub use settle::{settle_call, settle_interest};
 pub use stops::stop;

@@ -2,11 +2,12 @@
 ghost use Rattle.std.specs.Prelude.{◌≡◌, ◌<◌};
 ghost use Rattle.task_machine.specs.Moves.{checked, displaced, passes_check, promoted, promoted_unless, put_high, put_low, put_switch};
 ghost use Rattle.task_words.specs.Apart.{IsSwitchUnqueued, IsUnqueued};
-ghost use Rattle.task_words.specs.Names.{why_in};
+ghost use Rattle.task_machine.specs.Write.{set_how_far};
+ghost use Rattle.task_words.specs.Names.{how_far_in, why_in};
 ghost use Rattle.task_words.specs.StateView.{on_core, thread_of};
 
 use task_machine::Mark;
-use task_words::{PlaceId, ThreadId, WhyId, Words};
+use task_words::{HowFarId, PlaceId, ThreadId, WhyId, Words};
 
 /// A thread without an entry gets one at high.
 #[tactic(auto, unfolding(task_machine::specs::Moves::put_high))]
@@ -30,6 +31,18 @@ pub fn put_low<W: Words>(w: &mut W, thread: ThreadId, why: WhyId)
 {
     let mark = Mark::Low;
     w.set_place(thread, PlaceId::Ready { mark, why });
+    w.push_low(thread);
+}
+
+/// The same, of a thread that has come so far in its op.
+#[inline(always)]
+pub fn put_low_at<W: Words>(w: &mut W, thread: ThreadId, why: WhyId, how_far: HowFarId)
+    requires live { 0 < thread_of (W.view w.old) thread }
+    requires unqueued { IsUnqueued (thread_of (W.view w.old) thread) (W.view w.old).core }
+    ensures { W.view w.new ≡ on_core (λ s. set_how_far (thread_of (W.view w.old) thread) (how_far_in (W.view w.old).tags how_far) (put_low (thread_of (W.view w.old) thread) (why_in (W.view w.old).tags why) s)) (W.view w.old) }
+{
+    let mark = Mark::Low;
+    w.stand_at(thread, PlaceId::Ready { mark, why }, how_far);
     w.push_low(thread);
 }
 

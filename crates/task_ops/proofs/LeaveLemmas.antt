@@ -1,13 +1,13 @@
 -- A sync export's exit, step by step.
 use Rattle.std.proofs.Common.{ap, refl, subst, sym, ◌∙◌}
-use Rattle.std.specs.Prelude.{Some, Option, [], false, option_map, unwrap_or, ℕ, ◌≡◌}
+use Rattle.std.specs.Prelude.{Some, Option, [], false, option_map, unwrap_or, ℕ, ◌<◌, ◌≡◌}
 use Rattle.task_table.specs.declared.id.TableId.{TableId}
 use Rattle.task_wait.specs.declared.keys.GuestTaskKey.{GuestTaskKey}
 use Rattle.task_wait.specs.declared.keys.ThreadKey.{ThreadKey}
 use Rattle.task_machine.specs.Core.{Core}
 use Rattle.task_machine.specs.Moves.{checked, ended, stopped}
 use Rattle.task_machine.specs.Read.{foot_of, instance_of, join_of, place_of, register_of, saved_own_of, task_of, under_of}
-use Rattle.task_machine.specs.Write.{on_instance, set_do_not_suspend, set_end}
+use Rattle.task_machine.specs.Write.{on_call, on_instance, set_do_not_suspend, set_end}
 use Rattle.task_machine.specs.declared.records.CallEnd.{CallEnd}
 use Rattle.task_machine.specs.declared.records.Place.TheVariants as place
 use Rattle.task_moves.proofs.UntouchedLemmas.{on_instance_untouched, set_end_untouched}
@@ -21,6 +21,8 @@ use Rattle.task_ops.proofs.FootLemmas.{checked_under, foot_may_still, quiet_unde
 use Rattle.task_ops.proofs.RunLemmas.{KeepsUnder, own_apart, stands_on}
 use Rattle.task_ops.proofs.TellingLemmas.{all_wait, returned_stands, returned_under}
 use Rattle.task_ops.specs.Running.{IsRunning}
+use Rattle.task_rules.proofs.PlacingLemmas.{shifted_task, shifts_shifted}
+use Rattle.task_rules.proofs.WalkMoves.{checked_shifts}
 use Rattle.task_rules.specs.Ends.{exit_restores, returned, sync_exits}
 use Rattle.task_words.specs.Apart.{IsApart}
 use Rattle.task_words.specs.StateView.{StateView, call_of, on_core, thread_of}
@@ -87,3 +89,23 @@ restored_under n m s t e at = still_under n m (exit_restores (thread_of s n)) s 
 
 pub check_under : (n m : TableId ThreadKey) (i : ℕ) (s t : StateView) → IsRunning (thread_of s n) s.core → t ≡ on_core (checked i) s → Some (thread_of s m) ≡ under_of (thread_of s n) s.core → place_of (thread_of t m) t.core ≡ Some (place.Under (thread_of t n))
 check_under n m i s t st e at = still_under n m (checked i) s t (checked_under (thread_of s n) place.Running i s.core refl st) e at
+
+-- ---- The call of a thread that is about to leave
+
+module _ (n : TableId ThreadKey) (k : TableId GuestTaskKey) (s t : StateView) (is : call_of s k ≡ task_of (thread_of s n) s.core) where
+  still_its : (f : Core → Core) → t ≡ on_core f s → task_of (thread_of s n) (f s.core) ≡ task_of (thread_of s n) s.core → call_of t k ≡ task_of (thread_of t n) t.core
+  still_its f e same = subst (λ (v : StateView). call_of v k ≡ task_of (thread_of v n) v.core) (sym e) (is ∙ sym same)
+
+  pub ended_its : (j : ℕ) (r : CallEnd) → t ≡ on_core (set_end j r) s → call_of t k ≡ task_of (thread_of t n) t.core
+  unfolding set_end on_call
+  ended_its j r e = still_its (set_end j r) e refl
+
+  pub restored_its : t ≡ on_core (exit_restores (thread_of s n)) s → call_of t k ≡ task_of (thread_of t n) t.core
+  unfolding exit_restores set_do_not_suspend on_instance
+  restored_its e = still_its (exit_restores (thread_of s n)) e refl
+
+  pub checked_its : (i : ℕ) → t ≡ on_core (checked i) s → call_of t k ≡ task_of (thread_of t n) t.core
+  checked_its i e = still_its (checked i) e (shifted_task (shifts_shifted (checked_shifts i s.core)) (thread_of s n))
+
+pub still_live : (k : TableId GuestTaskKey) (f : Core → Core) (s t : StateView) → t ≡ on_core f s → 0 < call_of s k → 0 < call_of t k
+still_live k f s t e live = subst (λ (v : StateView). 0 < call_of v k) (sym e) live

@@ -18,7 +18,8 @@ use crate::came::Came;
 use crate::exits::{has_held, reopen, stop_and_end};
 use task_machine::{CallEnd, ExportKind, Label, TaskLabel, Trap};
 use task_moves::{
-    check, end_thread, foot_of, is_told, passes_check, return_value, stop, tell_waiter,
+    check, end_thread, end_thread_in, foot_of, is_told, passes_check, return_value, stop,
+    tell_waiter,
 };
 use task_words::{CallId, HowFarId, PlaceId, SubtaskId, ThreadId, Words};
 
@@ -78,8 +79,10 @@ pub fn exit_sync<W: Words>(w: &mut W, thread: ThreadId) -> Came
 // A direct call's task returns the value, and the thread under it goes on.
 #[tactic(auto, unfolding(task_rules::specs::Ends::direct_exits))]
 #[inline(always)]
-fn leave_to<W: Words>(w: &mut W, thread: ThreadId, below: ThreadId, value: u64)
+fn leave_to<W: Words>(w: &mut W, thread: ThreadId, call: CallId, below: ThreadId, value: u64)
     requires live { 0 < thread_of (W.view w.old) thread }
+    requires named { 0 < call_of (W.view w.old) call }
+    requires call { call_of (W.view w.old) call ≡ task_of (thread_of (W.view w.old) thread) (W.view w.old).core }
     requires below { 0 < thread_of (W.view w.old) below }
     requires running { IsRunning (thread_of (W.view w.old) thread) (W.view w.old).core }
     requires under { place_of (thread_of (W.view w.old) below) (W.view w.old).core ≡ Some (places.Under (thread_of (W.view w.old) thread)) }
@@ -88,11 +91,9 @@ fn leave_to<W: Words>(w: &mut W, thread: ThreadId, below: ThreadId, value: u64)
     ensures named { thread_of (W.view w.new) below ≡ thread_of (W.view w.old) below }
     ensures works { KeepsWorks (W.view w.old) (W.view w.new) }
 {
-    let call = w.task_of(thread);
     w.set_end(call, CallEnd::Returned);
-    end_thread(w, thread);
-    w.set_place(below, PlaceId::Running);
-    w.set_how_far(below, HowFarId::Answered(value));
+    end_thread_in(w, thread, call);
+    w.stand_at(below, PlaceId::Running, HowFarId::Answered(value));
     w.set_current(Some(below));
 }
 
@@ -108,7 +109,8 @@ pub fn exit_direct<W: Words>(w: &mut W, thread: ThreadId) -> Came
 {
     let number = w.number(thread);
     let value = w.register(thread, 0);
-    let kind = w.kind(w.task_of(thread));
+    let call = w.task_of(thread);
+    let kind = w.kind(call);
     let Some(below) = w.under(thread) else {
         unreachable!()
     };
@@ -116,7 +118,7 @@ pub fn exit_direct<W: Words>(w: &mut W, thread: ThreadId) -> Came
     let label = Label::Task(TaskLabel::Exit(number));
     if matches!(kind, ExportKind::Sync) {
         restore(w, thread);
-        leave_to(w, thread, below, value);
+        leave_to(w, thread, call, below, value);
         return Came::Goes(label, to);
     }
     let instance = w.instance_of(thread);
@@ -124,7 +126,7 @@ pub fn exit_direct<W: Words>(w: &mut W, thread: ThreadId) -> Came
         return Came::Traps(Trap::CannotBlockSyncTask);
     }
     check(w, instance);
-    leave_to(w, thread, below, value);
+    leave_to(w, thread, call, below, value);
     Came::Goes(label, to)
 }
 

@@ -10,7 +10,7 @@ ghost use Rattle.task_words.specs.StateView.{on_core, thread_of};
 
 use crate::came::Came;
 use task_machine::{Label, Place, ThreadLabel, Trap};
-use task_moves::{check, foot_of, passes_check, put_low, stop};
+use task_moves::{check, foot_of, passes_check, put_low, put_low_at, stop};
 use task_words::{HowFarId, PlaceId, ThreadId, WhyId, Words};
 
 // The strand stops; its top is suspended, or gets a low entry.
@@ -24,11 +24,9 @@ pub(crate) fn stop_top<W: Words>(w: &mut W, thread: ThreadId, yielding: bool)
     let foot = foot_of(w, thread);
     stop(w, foot);
     if yielding {
-        put_low(w, thread, WhyId::Resumption);
-        w.set_how_far(thread, HowFarId::Yields);
+        put_low_at(w, thread, WhyId::Resumption, HowFarId::Yields);
     } else {
-        w.set_place(thread, PlaceId::Suspended);
-        w.set_how_far(thread, HowFarId::Suspends);
+        w.stand_at(thread, PlaceId::Suspended, HowFarId::Suspends);
     }
 }
 

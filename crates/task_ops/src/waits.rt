@@ -54,8 +54,11 @@ fn stop_waiting<W: Words>(w: &mut W, thread: ThreadId, set: SetId)
     let foot = foot_of(w, thread);
     stop(w, foot);
     let by_callback = false;
-    w.set_place(thread, PlaceId::Waiting { set, by_callback });
-    w.set_how_far(thread, HowFarId::Waits(set));
+    w.stand_at(
+        thread,
+        PlaceId::Waiting { set, by_callback },
+        HowFarId::Waits(set),
+    );
 }
 
 /// `wait R X`, as it begins

@@ -304,27 +304,11 @@ module _ (i : ℕ) (s : Core) (left right : ℕ → Option HostDef) where
     fits = going_fits d.0 going d.1 was (is i ∙ (own (option_and_then left_after (left i)) ∙ ap (λ (o : Option HostDef). option_and_then left_after o) was));
   }
 
--- the number of the work that is next
-pub next_is : (k i n : ℕ) (o : Option ℕ) → n ≡ k → Some k ≡ o → o ≡ Some i → n ≡ i
-next_is k i n o named next is = cc
-
-next_there : (n : ℕ) (s : Core) → IsSettled s (turn.Futures n) → (i : ℕ) × (next_polled n s ≡ Some i)
-next_there n s settled = by (next_polled n s) refl settled
-  where
-    never : (b : Bool) → settled_take false b ≡ turn.Futures n → ⊥
-    never true h = cc
-    never false h = cc
-
-    by : (o : Option ℕ) → next_polled n s ≡ o → settled_futures n s o ≡ turn.Futures n → (i : ℕ) × (next_polled n s ≡ Some i)
-    by None e h = absurd (never (nothing_stands s) h)
-    by (Some i) e h = (i, e)
-
 -- after the poll of the next work
-pub holds_next : (x : Setting) (s t : Core) (n : ℕ) (l : Label) (p : Turn) (left right : ℕ → Option HostDef) → IsSettled s (turn.Futures n) →
-    Step x (state_at s Unscripted (turn.Futures n)) l (state_at t Unscripted p) → ((i : ℕ) → next_polled n s ≡ Some i → Tells i s left right) → HoldsWorks left s → HoldsWorks right t
-holds_next x s t n l p left right settled step tells h =
-    let next = next_there n s settled in let i = next.0 in let q = tells i next.1 in
-    subst (λ (u : Core). HoldsWorks right u) (sym (core_polled x (state_at s Unscripted (turn.Futures n)) l (state_at t Unscripted p) n i refl next.1 step)) (holds_polled i s left right q.others h (poll_of i s) q.fits)
+pub holds_next : (x : Setting) (s t : Core) (n i : ℕ) (l : Label) (p : Turn) (left right : ℕ → Option HostDef) → next_polled n s ≡ Some i →
+    Step x (state_at s Unscripted (turn.Futures n)) l (state_at t Unscripted p) → Tells i s left right → HoldsWorks left s → HoldsWorks right t
+holds_next x s t n i l p left right next step tells h =
+    subst (λ (u : Core). HoldsWorks right u) (sym (core_polled x (state_at s Unscripted (turn.Futures n)) l (state_at t Unscripted p) n i refl next step)) (holds_polled i s left right tells.others h (poll_of i s) tells.fits)
 
 -- ---- Spawns
 

@@ -9,7 +9,7 @@ ghost use Rattle.task_ops.specs.Works.{KeepsWorks};
 ghost use Rattle.task_rules.specs.Calls.{next_work, work_queued};
 ghost use Rattle.task_rules.specs.Places.{Placed};
 ghost use Rattle.task_rules.specs.Stalled.{Setting};
-ghost use Rattle.task_rules.specs.Works.{has_end, next_polled};
+ghost use Rattle.task_rules.specs.Works.{has_end};
 ghost use Rattle.task_store.specs.Hosts.{HoldsHosts, WorksNumbered, held_after_call, held_by, settled};
 ghost use Rattle.task_store.specs.Polled.{Tells};
 ghost use Rattle.task_store.specs.Spawned.{IsSpawnedIn};
@@ -66,15 +66,13 @@ impl<T, H: AccessorTask<T>> Store<T, H> {
         }
     }
 
-    // Polls the work that is next. One that was aborted is let go, and isn't polled.
-    fn tell(&mut self, polled: u64)
+    // Polls the work. One that was aborted is let go, and isn't polled.
+    #[inline(always)]
+    fn tell(&mut self, work: WorkId)
         requires { HoldsHosts H.course self.old }
-        ensures told { (i : ℕ) → next_polled polled self.old.state.core ≡ Some i → Tells i self.old.state.core (held_by H.course self.old) (held_by H.course self.new) }
+        ensures told { Tells (work_of self.old.state work) self.old.state.core (held_by H.course self.old) (held_by H.course self.new) }
         ensures rest { self.new ≡ record self.old { value = self.new.value; works = self.new.works } }
     {
-        let Some(work) = self.state.next_polled(polled) else {
-            return;
-        };
         let number = self.state.work_number(work);
         if is_over(self.state.phase(work), self.state.course(work)) {
             self.works.let_go(number);
@@ -95,8 +93,11 @@ impl<T, H: AccessorTask<T>> Store<T, H> {
         ensures hosts { HoldsHosts H.course self.new }
         ensures rest { self.new ≡ record self.old { value = self.new.value; state = self.new.state; works = self.new.works } }
     {
-        self.tell(polled);
-        poll(&mut self.state, polled)
+        let Some(work) = self.state.next_polled(polled) else {
+            unreachable!()
+        };
+        self.tell(work);
+        poll(&mut self.state, work, polled)
     }
 }
 

@@ -22,7 +22,7 @@ use Rattle.task_rules.specs.Outcome.{call_outcome, last_outcome, loop_outcome, m
 use Rattle.task_turns.specs.declared.made.Made.{Made}
 use Rattle.task_machine.specs.declared.records.Turn.{Turn}
 use Rattle.task_places.proofs.OrderLemmas.{steps_make_few}
-use Rattle.task_turns.specs.Drive.{Drives, Drove, Going, IsOn}
+use Rattle.task_turns.specs.Drive.{Drives, Drove, Going, IsOn, StopsShort, WasGoing}
 use Rattle.task_turns.proofs.KeptLemmas.{sits_after}
 use Rattle.task_turns.proofs.SettleLemmas.{step_settles}
 use Rattle.task_turns.specs.Turn.{IsAtTurn, PendsIn, Sits, Turned, Turns, given, goes_on, setting_of, state_at}
@@ -126,7 +126,7 @@ call_ends : (l : CallLabel) (o : Outcome) → call_outcome l ≡ Some o → goes
 call_ends (call_label.Fails n i) o is = ap goes_on (some_of (outcome.HostFailed i) o is)
 call_ends _ o is = absurd (cc)
 
-label_ends : (l : Label) (o : Outcome) → outcome_of_label l ≡ Some o → goes_on o ≡ false
+pub label_ends : (l : Label) (o : Outcome) → outcome_of_label l ≡ Some o → goes_on o ≡ false
 label_ends (label.Main l) o is = main_ends l o is
 label_ends (label.Loop l) o is = loop_ends l o is
 label_ends (label.Call l) o is = call_ends l o is
@@ -209,3 +209,15 @@ on_turned_none x s before numbers p m m' t t' mid n steps on room h =
 pub turned_same : (c : Component) (ops ops' : List MainOpDef) (b b' : Bool) (p : Turn) (m : Main) (s : StateView) (made : Option Made) (m' : Main) (t : StateView) → ops ≡ ops' → b ≡ b'
     → Turned (setting_of c ops b) p m s made m' t → Turned (setting_of c ops' b') p m s made m' t
 turned_same c ops ops' b b' p m s made m' t script trap h = subst (λ v. Turned (setting_of c ops' v) p m s made m' t) trap (subst (λ o. Turned (setting_of c o b) p m s made m' t) script h)
+
+-- ---- Want of memory
+
+-- the run had gone on so far
+pub was_on : (x : Setting) (s : State) (before : List Label) (numbers : ℕ) (p : Turn) (m : Main) (t : StateView) (mid after : List Label) (n steps : ℕ) → IsOn x s before numbers p m t mid n → n ≤ steps → after ≡ mid → WasGoing x s before after steps
+was_on x s before numbers p m t mid after n steps on few same =
+    subst (λ (ls : List Label). WasGoing x s before ls steps) (sym same) (record { last = state_at t.core m p; labels = n; few = few; going = on.going })
+
+-- and on, in the same turn
+pub was_on_short : (x : Setting) (s : State) (before : List Label) (numbers : ℕ) (p : Turn) (m : Main) (t : StateView) (mid after : List Label) (n steps : ℕ) → IsOn x s before numbers p m t mid n → StopsShort x.component p t mid n after steps → WasGoing x s before after steps
+was_on_short x s before numbers p m t mid after n steps on short =
+    record { last = state_at short.last.core m p; labels = short.labels; few = short.few; going = (short.on x refl s before numbers m on).going }

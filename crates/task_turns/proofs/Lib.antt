@@ -15,3 +15,4 @@ pub mod FreshLemmas
 pub mod CoveredLemmas
 pub mod RanLemmas
 pub mod LaterLemmas
+pub mod DoesLemmas

@@ -1,7 +1,8 @@
 -- A run goes on by the ops of a stretch.
-use Rattle.std.proofs.Common.{ap, ap₂, refl, subst, sym, ◌∙◌, ◌++◌, ◌∷◌, []}
+use Rattle.std.proofs.Common.{ap, ap₂, append-nil, append_assoc, arith, length-append, refl, subst, sym, true, ◌∙◌, ◌++◌, ◌∷◌, []}
+use Rattle.std.specs.List.{list_all}
 use Rattle.std.specs.Option.{option_map_or}
-use Rattle.std.specs.Prelude.{List, None, Option, Some, slice_get, unwrap_or, ℕ, ◌+◌, ◌≡◌}
+use Rattle.std.specs.Prelude.{Bool, List, None, Option, Some, slice_get, unwrap_or, ℕ, ◌+◌, ◌≡◌, ◌≤◌}
 use Rattle.task_machine.specs.Core.{Core, Main}
 use Rattle.task_machine.specs.Labels.{choice_of}
 use Rattle.task_machine.specs.Maps.{Records, get}
@@ -20,6 +21,7 @@ use Rattle.task_machine.specs.declared.records.Call.{Call}
 use Rattle.task_machine.specs.declared.records.HowFar.TheVariants as how_far
 use Rattle.task_machine.specs.declared.records.Script.{Script}
 use Rattle.task_machine.specs.declared.records.Thread.{Thread}
+use Rattle.task_machine.specs.declared.records.Turn.{Turn}
 use Rattle.task_machine.specs.declared.records.Turn.TheVariants as turn
 use Rattle.task_ops.proofs.MeetLemmas.{meeting_is_step}
 use Rattle.task_ops.specs.Came.{Meets}
@@ -30,12 +32,12 @@ use Rattle.task_rules.specs.Scripts.{op_of, script_in, script_of}
 use Rattle.task_rules.specs.Stalled.{Setting}
 use Rattle.task_rules.specs.Step.{Step, did, op_row}
 use Rattle.task_turns.proofs.ContextLemmas.{context_same, position-context, script-context}
-use Rattle.task_turns.proofs.DriveLemmas.{on_more}
+use Rattle.task_turns.proofs.DriveLemmas.{Run-more, on_more}
 use Rattle.task_turns.proofs.OrderLemmas.{number_at, runner, runs_still}
 use Rattle.task_turns.proofs.RunLemmas.{script_is, settled}
 use Rattle.task_turns.specs.Context.{KeepsBeside, in_context, state_in}
 use Rattle.task_table.specs.declared.id.TableId.{TableId}
-use Rattle.task_turns.specs.Drive.{KeepsOn}
+use Rattle.task_turns.specs.Drive.{Computes, KeepsOn, StopsShort, is_data}
 use Rattle.task_turns.specs.Later.{SameWorks}
 use Rattle.task_turns.specs.Turn.{Sits, Turns, running_of, state_at}
 use Rattle.task_turns.specs.declared.context.ThreadContext.{ThreadContext}
@@ -66,6 +68,17 @@ begins n s t found fresh x position registers =
     ap (λ p. with_context n p x.registers s) position
     ∙ (ap (λ rs. with_context n (position_of n s) rs s) registers
     ∙ context_same n s t found (sym (ap (λ (o : Option Thread). option_map_or (λ (u : Thread). u.how_far) o how_far.Fresh) found) ∙ fresh))
+
+all_more : (test : Label → Bool) (ls : List Label) (l : Label) → list_all test ls ≡ true → test l ≡ true → list_all test (ls ++ l ∷ []) ≡ true
+all_more test [] l all one = grind (arith, one)
+all_more test (k ∷ ls) l all one = let rest = all_more test ls l in grind (arith, all, one, rest)
+
+-- before the first op
+pub computes_none : (c : Component) (p : Turn) (s : StateView) (before : List Label) (added : ℕ) → Computes c p s before added s before added
+computes_none c p s before added = record { labels = []; computing = refl; trace = sym (append-nil before); count = omega arith; run = λ x component m. refl }
+
+pub stops_at : (c : Component) (p : Turn) (s : StateView) (before : List Label) (added : ℕ) (t : StateView) (after : List Label) (k steps : ℕ) → k ≤ steps → KeepsOn c p s before added t after k → StopsShort c p s before added after steps
+stops_at c p s before added t after k steps few on = record { last = t; labels = k; few = few; on = on }
 
 module _ (c : Component) (n : ℕ) (t : StateView) (th : Thread) (found : get t.core.threads n ≡ Some th) (runs : running_of t ≡ Some n) (ops : List Op) (script : script_of c n t.core ≡ ops) (x : ThreadContext) where
   abbrev there : Core
@@ -108,6 +121,16 @@ module _ (c : Component) (n : ℕ) (t : StateView) (th : Thread) (found : get t.
     pub keeps_on : (s : StateView) (before mid : List Label) (added k : ℕ) → KeepsOn c (turn.Run n) s before added (state_in n x t) mid k → KeepsOn c (turn.Run n) s before added (state_in n y u) (mid ++ label.Data l ∷ []) (k + 1)
     keeps_on s before mid added k kept z component first trace numbers m going =
         on_more z first trace numbers (turn.Run n) m (state_in n x t) mid k (kept z component first trace numbers m going) made m (state_in n y u) (turns z component m) (mid ++ label.Data l ∷ []) refl refl
+
+    -- and shows a label of its own
+    pub computes_more : (s : StateView) (before mid : List Label) (added k : ℕ) → Computes c (turn.Run n) s before added (state_in n x t) mid k → Computes c (turn.Run n) s before added (state_in n y u) (mid ++ label.Data l ∷ []) (k + 1)
+    computes_more s before mid added k so_far = record {
+      labels = so_far.labels ++ label.Data l ∷ [];
+      computing = all_more is_data so_far.labels (label.Data l) so_far.computing refl;
+      trace = ap (λ (ls : List Label). ls ++ label.Data l ∷ []) so_far.trace ∙ append_assoc before so_far.labels (label.Data l ∷ []);
+      count = let more = length-append so_far.labels (label.Data l ∷ []) in let before = so_far.count in omega (arith, more, before);
+      run = λ z component m. Run-more z (state_at s.core m (turn.Run n)) so_far.labels (state_at there m (turn.Run n)) (label.Data l) (state_at (in_context n y u.core) m (turn.Run n)) (so_far.run z component m) (step z component m);
+    }
 
 -- what the thread that runs is, and which script it has
 pub begun : (c : Component) → (n : ℕ) (s : StateView) → Sits c (turn.Run n) s.core → get s.core.threads 0 ≡ None → running_of s ≡ Some n → (id : TableId ThreadKey) → s.current ≡ Some id

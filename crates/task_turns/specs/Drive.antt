@@ -1,7 +1,9 @@
 -- What driving a run adds to a trace.
-use Rattle.std.specs.Prelude.{◌≡◌, ℕ, ◌+◌, ◌*◌, ◌≤◌, List, ◌++◌, None, length}
+use Rattle.std.specs.List.{list_all}
+use Rattle.std.specs.Prelude.{◌≡◌, ℕ, ◌+◌, ◌*◌, ◌≤◌, Bool, List, ◌++◌, None, false, length, true}
 use Rattle.task_machine.specs.declared.component.Component.{Component}
 use Rattle.task_machine.specs.declared.label.Label.{Label}
+use Rattle.task_machine.specs.declared.label.Label.TheVariants as label
 use Rattle.task_machine.specs.declared.outcome.Outcome.{Outcome}
 use Rattle.task_machine.specs.Core.{Main, State}
 use Rattle.task_rules.specs.Stalled.{Setting}
@@ -53,3 +55,32 @@ KeepsOn c p s before added t after k =
     (x : Setting) → x.component ≡ c → (o : State) (trace : List Label) (numbers : ℕ) (m : Main) →
     IsOn x o trace numbers p m s before added →
     IsOn x o trace numbers p m t after k
+
+-- the label of an op on registers and words
+abbrev pub is_data : Label → Bool
+is_data (label.Data l) = true
+is_data _ = false
+
+-- Such ops alone were done in this turn, from s to t: k labels had been added then, where `added` had been before.
+pub record Computes (c : Component) (p : Turn) (s : StateView) (before : List Label) (added : ℕ) (t : StateView) (after : List Label)
+    (k : ℕ) : Type 0 where
+  pub labels : List Label
+  pub computing : list_all is_data labels ≡ true
+  pub trace : after ≡ before ++ labels
+  pub count : k ≡ added + length labels
+  pub run : (x : Setting) → x.component ≡ c → (m : Main) → Run x (state_at s.core m p) labels (state_at t.core m p)
+
+-- Memory is wanting: the run has gone on in this turn to a state that is lost, and its labels are in the trace.
+pub record StopsShort (c : Component) (p : Turn) (s : StateView) (before : List Label) (added : ℕ) (after : List Label) (steps : ℕ) :
+    Type 0 where
+  pub last : StateView
+  pub labels : ℕ
+  pub few : labels ≤ steps
+  pub on : KeepsOn c p s before added last after labels
+
+-- The labels that were added are those of a run of at most so many, to a state that is lost.
+pub record WasGoing (x : Setting) (s : State) (before after : List Label) (steps : ℕ) : Type 0 where
+  pub last : State
+  pub labels : ℕ
+  pub few : labels ≤ steps
+  pub going : Going x s before last after labels

@@ -2,6 +2,7 @@ pub mod Covered
 pub mod Turn
 pub mod Context
 pub mod Drive
+pub mod Does
 pub mod Taken
 pub mod Kept
 pub mod Main

@@ -2,6 +2,7 @@
 ghost use Rattle.std.specs.Prelude.{◌≡◌, None};
 ghost use Rattle.task_machine.specs.Core.{Main};
 ghost use Rattle.task_rules.specs.Stalled.{Setting};
+ghost use Rattle.task_turns.specs.Does.{label_of_step};
 ghost use Rattle.task_turns.specs.Main.{Steps};
 ghost use Rattle.task_turns.specs.Turn.{Turns, running_of};
 ghost use Rattle.task_words.specs.StateView.{StateView};
@@ -26,7 +27,8 @@ pub enum MainStep {
 /// entry is taken.
 pub fn made_by_main<W: Words>(w: &W, step: MainStep) -> Made
     requires { running_of (W.view w.now) ≡ None }
-    ensures { (x : Setting) → (m new : Main) → (s : StateView) → Steps x.component x.script m s.core step new (W.view w.now).core → Turns x Turn.Main m s result new (W.view w.now) }
+    ensures label { result.label ≡ label_of_step step }
+    ensures turns { (x : Setting) → (m new : Main) → (s : StateView) → Steps x.component x.script m s.core step new (W.view w.now).core → Turns x Turn.Main m s result new (W.view w.now) }
 {
     match step {
         MainStep::Did(label) => Made {

@@ -1,11 +1,11 @@
 //! A stretch of ops on registers and words, which the running thread does one after another. It works with the
 //! thread's context, which is written back in the end, so that no op looks the thread up.
-ghost use Rattle.std.specs.Prelude.{◌≡◌, ◌≤◌, IfOk, Some, true};
+ghost use Rattle.std.specs.Prelude.{◌≡◌, ◌≤◌, IfOk, OnErr, Some, true};
 ghost use Rattle.task_machine.specs.Read.{how_far_of};
 ghost use Rattle.task_machine.specs.declared.records.HowFar.TheVariants as how_far;
 ghost use Rattle.task_turns.specs.Later.{SameWorks};
 ghost use Rattle.task_turns.specs.WellFormed.{IsWellFormed};
-ghost use Rattle.task_turns.specs.Drive.{KeepsOn};
+ghost use Rattle.task_turns.specs.Drive.{Computes, KeepsOn, StopsShort};
 ghost use Rattle.task_turns.specs.Turn.{Sits, running_of};
 ghost use Rattle.task_words.specs.StateView.{thread_of};
 
@@ -42,6 +42,8 @@ pub fn stretch<W: Words>(
     requires few { added ≤ steps }
     ensures few { IfOk result (λ k. (added ≤ k) × (k ≤ steps)) }
     ensures on { IfOk result (λ k. KeepsOn component.now (Turn.Run number) (W.view w.old) trace.old added (W.view w.new) trace.new k) }
+    ensures computes { IfOk result (λ k. Computes component.now (Turn.Run number) (W.view w.old) trace.old added (W.view w.new) trace.new k) }
+    ensures err { OnErr result (StopsShort component.now (Turn.Run number) (W.view w.old) trace.old added trace.new steps) }
     ensures works { SameWorks (W.view w.old) (W.view w.new) }
 {
     w.none_is_zero();

@@ -1,5 +1,5 @@
 //! The turns of a run in which main has no part.
-ghost use Rattle.std.specs.Prelude.{◌≡◌, ◌≤◌, IfOk, None, false, OnOk};
+ghost use Rattle.std.specs.Prelude.{◌≡◌, ◌≤◌, IfOk, None, Some, false, OnErr, OnOk};
 ghost use Rattle.task_laws.specs.Order.{WorksQueued};
 ghost use Rattle.task_machine.specs.Core.{Main};
 ghost use Rattle.task_machine.specs.Read.{next_entry};
@@ -7,10 +7,12 @@ ghost use Rattle.task_ops.specs.Works.{KeepsWorks};
 ghost use Rattle.task_rules.specs.Outcome.{is_at_rest};
 ghost use Rattle.task_rules.specs.Places.{Placed};
 ghost use Rattle.task_rules.specs.Stalled.{Setting, is_unended_take};
+ghost use Rattle.task_rules.specs.Works.{next_polled};
 ghost use Rattle.task_turns.specs.Later.{SameWorks};
 ghost use Rattle.task_turns.specs.WellFormed.{IsWellFormed};
-ghost use Rattle.task_turns.specs.Drive.{KeepsOn};
-ghost use Rattle.task_turns.specs.Turn.{IsAtTurn, IsSettled, PendsIn, Sits, TurnedBeside, Turns, idle_line_of, running_of, runs_in, state_at};
+ghost use Rattle.task_turns.specs.Drive.{Computes, KeepsOn, StopsShort};
+ghost use Rattle.task_turns.specs.Turn.{IsAtTurn, PendsIn, Sits, TurnedBeside, Turns, idle_line_of, running_of, runs_in, state_at};
+ghost use Rattle.task_words.specs.StateView.{work_of};
 
 use crate::futures::step_poll;
 use crate::made::Made;
@@ -20,21 +22,18 @@ use crate::stretches::stretch;
 use crate::takes::step_take;
 use label_trace::Trace;
 use task_machine::{Component, Label, NoMemory, Turn};
-use task_words::Words;
+use task_words::{Words, WorkId};
 
-/// The live work that is next is polled.
-pub fn poll<W: Words>(w: &mut W, polled: u64) -> Made
+/// The live work that is next, past those with numbers up to `polled`, is polled.
+pub fn poll<W: Words>(w: &mut W, work: WorkId, polled: u64) -> Made
     requires placed { Placed (W.view w.old).core }
     requires works { WorksQueued (W.view w.old).core }
     requires current { (W.view w.old).current ≡ None }
-    requires settled { IsSettled (W.view w.old).core (Turn.Futures polled) }
+    requires next { next_polled polled (W.view w.old).core ≡ Some (work_of (W.view w.old) work) }
     ensures turns { (x : Setting) → (m : Main) → PendsIn x (W.view w.old).core m (Turn.Futures polled) → Turns x (Turn.Futures polled) m (W.view w.old) result m (W.view w.new) }
     ensures works { KeepsWorks (W.view w.old) (W.view w.new) }
 {
     w.none_is_zero();
-    let Some(work) = w.next_polled(polled) else {
-        unreachable!()
-    };
     step_poll(w, work, polled)
 }
 
@@ -93,6 +92,8 @@ pub fn compute<W: Words>(
     requires few { added ≤ steps }
     ensures few { IfOk result (λ k. (added ≤ k) × (k ≤ steps)) }
     ensures on { IfOk result (λ k. KeepsOn component.now turn (W.view w.old) trace.old added (W.view w.new) trace.new k) }
+    ensures computes { IfOk result (λ k. Computes component.now turn (W.view w.old) trace.old added (W.view w.new) trace.new k) }
+    ensures err { OnErr result (StopsShort component.now turn (W.view w.old) trace.old added trace.new steps) }
     ensures works { SameWorks (W.view w.old) (W.view w.new) }
 {
     if !matches!(last, Label::Data(_)) {

@@ -72,9 +72,9 @@ pub record PushesWork (a b : CoreParts) (w : HostWork) (group : GroupHere) (id :
   pub works : b.works ≡ pushed (entry_of w) a.works
   pub at : id ≡ next_place a.works
   pub only :
-    b ≡ record a {
-      works = b.works;
-      groups = raised a.groups group;
-      made = record a.made { works = a.made.works + 1 };
-      kept = record a.kept { used = a.kept.used + used }
-    }
+      b ≡ record a {
+        works = b.works;
+        groups = raised a.groups group;
+        made = record a.made { works = a.made.works + 1 };
+        kept = record a.kept { used = a.kept.used + used };
+      }

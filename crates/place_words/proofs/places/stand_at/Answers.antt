@@ -1,11 +1,11 @@
-use Rattle.task_records.proofs.Core.{ap, on_core, on_thread, Place, refl, seen, sym, thread_of, ◌∙◌}
+use Rattle.task_records.proofs.Core.{ap, on_core, on_thread, Place, refl, seen, set_how_far, set_place, sym, thread_of, ◌∙◌}
 use Rattle.place_words.proofs.StepLemmas.{stood}
 use Rattle.place_words.proofs.places.stand_at.Goals as goal
 use Rattle.place_words.specs.Moved.{to_stand}
 use Rattle.task_words.specs.Names.{how_far_in, place_in, why_in}
 
-pub stand_unchained-requires-in-Running-clause-unchained : goal.stand_unchained-requires-in-Running-clause-unchained
-stand_unchained-requires-in-Running-clause-unchained c i = refl
+pub stand_unchained-requires-clause-unchained : goal.stand_unchained-requires-clause-unchained
+stand_unchained-requires-clause-unchained c i = refl
 
 pub stand_unchained-requires-in-Ready-clause-unchained : goal.stand_unchained-requires-in-Ready-clause-unchained
 stand_unchained-requires-in-Ready-clause-unchained c i = refl
@@ -13,7 +13,11 @@ stand_unchained-requires-in-Ready-clause-unchained c i = refl
 pub returns-in-Running-clause-new : goal.returns-in-Running-clause-new
 returns-in-Running-clause-new c =
     let s = seen c.args.parts.now in
-    c.stand_unchained.ensures.new ∙ ap (λ x. record s { core = x }) (stood (thread_of s c.args.thread) Place.Running (how_far_in s.tags c.args.how_far) s.core)
+    let n = thread_of s c.args.thread in
+    let h = how_far_in s.tags c.args.how_far in
+    c.stand_unchained.ensures.new
+    ∙ (ap (λ x. record s { core = x }) (stood n Place.Running h s.core)
+    ∙ ap (λ p. on_core (λ x. set_how_far n h (set_place n (place_in s.tags p) x)) s) (sym c.in-Running.is))
 
 pub returns-in-Ready-clause-new : goal.returns-in-Ready-clause-new
 returns-in-Ready-clause-new c =
@@ -22,12 +26,17 @@ returns-in-Ready-clause-new c =
     let h = how_far_in s.tags c.args.how_far in
     c.stand_unchained-in-Ready.ensures.new
     ∙ (ap (λ w. on_core (on_thread n (to_stand (Place.Ready c.in-Ready.mark w) h)) s) (sym c.named_why-why.ensures.is)
-    ∙ ap (λ x. record s { core = x }) (stood n (Place.Ready c.in-Ready.mark (why_in s.tags c.in-Ready.why)) h s.core))
+    ∙ (ap (λ x. record s { core = x }) (stood n (Place.Ready c.in-Ready.mark (why_in s.tags c.in-Ready.why)) h s.core)
+    ∙ ap (λ p. on_core (λ x. set_how_far n h (set_place n (place_in s.tags p) x)) s) (sym c.in-Ready.is)))
 
 pub returns-in-Under-clause-new : goal.returns-in-Under-clause-new
 returns-in-Under-clause-new c =
     let s = seen c.args.parts.now in
-    c.stand_under.ensures.new ∙ ap (λ x. record s { core = x }) (stood (thread_of s c.args.thread) (Place.Under (thread_of s c.in-Under.callee)) (how_far_in s.tags c.args.how_far) s.core)
+    let n = thread_of s c.args.thread in
+    let h = how_far_in s.tags c.args.how_far in
+    c.stand_under.ensures.new
+    ∙ (ap (λ x. record s { core = x }) (stood n (Place.Under (thread_of s c.in-Under.callee)) h s.core)
+    ∙ ap (λ p. on_core (λ x. set_how_far n h (set_place n (place_in s.tags p) x)) s) (sym c.in-Under.is))
 
 pub returns-in_default-clause-new : goal.returns-in_default-clause-new
 returns-in_default-clause-new c =

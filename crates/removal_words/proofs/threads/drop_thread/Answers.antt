@@ -6,8 +6,8 @@ use Rattle.task_records.specs.declared.{calls.GuestTask.GuestTask, threads.Guest
 use Rattle.place_words.proofs.ThreadLemmas.{same_item}
 use Rattle.table_order.specs.Places.{given}
 
-pub overflow_sub-call : goal.overflow_sub-call
-overflow_sub-call c = call_counted c.args.parts.now c.requires.sound c.args.thread c.with_call.result.0 c.with_call.ensures.thread c.with_call.result.1 c.with_call.result.2 c.with_call.ensures.call c.with_call.ensures.of
+pub overflow_sub-threads : goal.overflow_sub-threads
+overflow_sub-threads c = call_counted c.args.parts.now c.requires.sound c.args.thread c.with_call.result.0 c.with_call.ensures.thread c.with_call.result.1 c.with_call.result.2 c.with_call.ensures.call c.with_call.ensures.of
 
 pub close_seats-requires : goal.close_seats-requires
 close_seats-requires c = under_live c.args.parts.now c.requires.sound c.args.thread c.with_call.result.0 c.with_call.ensures.thread c.with_call.result.1 c.with_call.result.2 c.with_call.ensures.call c.with_call.ensures.of c.requires.apart c.requires.place
@@ -37,7 +37,7 @@ pub returns-clause-sound : goal.returns-clause-sound
 unfolding IsSound
 returns-clause-sound c =
     let a = c.args.parts.now in
-    subst (λ (x : GuestTask). IsSound (record a { threads = c.delete.new.self; calls = with_entry c.with_call.result.1.rep (entry_of (record x { threads = c.with_call.result.2.threads - 1 })) a.calls; places = c.drop_seat.new.links; marks = c.drop_node-2.new.self; shelves = c.drop_node-3.new.self; behind = c.drop_node.new.self; kept = record a.kept { used = a.kept.used - 2 } })) (same_item c.with_call.ensures.call c.in-Ok-get_mut.ensures.value)
+    subst (λ (x : GuestTask). IsSound (record a { threads = c.delete.new.self; calls = with_entry c.with_call.result.1.rep (entry_of (record x { threads = c.with_call.result.2.threads - 1 })) a.calls; places = c.drop_seat.new.links; marks = c.drop_node-2.new.self; shelves = c.drop_node-3.new.self; behind = c.drop_node.new.self; kept = record a.kept { used = a.kept.used - 2 } })) (same_item c.with_call.ensures.call c.in-Ok.ensures.value)
     (removed_sound c.args.parts.now c.requires.sound c.args.thread c.with_call.result.0 c.with_call.ensures.thread c.with_call.result.1 c.with_call.result.2 c.with_call.ensures.call c.with_call.ensures.of c.requires.apart c.requires.place
     c.close_seats.new.links c.drop_seat.new.links c.close_seats.ensures c.drop_seat.ensures c.drop_node-2.new.self c.drop_node-2.ensures c.drop_node-3.new.self c.drop_node-3.ensures c.close.new.links c.drop_node.new.self c.close.ensures c.drop_node.ensures c.delete.new.self c.in-Ok-delete.ensures.ok c.delete.ensures.sound)
 
@@ -45,7 +45,7 @@ pub returns-clause-core : goal.returns-clause-core
 unfolding seen
 returns-clause-core c =
     let a = c.args.parts.now in
-    ap (λ (x : GuestTask). (seen (record a { threads = c.delete.new.self; calls = with_entry c.with_call.result.1.rep (entry_of (record x { threads = c.with_call.result.2.threads - 1 })) a.calls; places = c.drop_seat.new.links; marks = c.drop_node-2.new.self; shelves = c.drop_node-3.new.self; behind = c.drop_node.new.self; kept = record a.kept { used = a.kept.used - 2 } })).core) (sym (same_item c.with_call.ensures.call c.in-Ok-get_mut.ensures.value))
+    ap (λ (x : GuestTask). (seen (record a { threads = c.delete.new.self; calls = with_entry c.with_call.result.1.rep (entry_of (record x { threads = c.with_call.result.2.threads - 1 })) a.calls; places = c.drop_seat.new.links; marks = c.drop_node-2.new.self; shelves = c.drop_node-3.new.self; behind = c.drop_node.new.self; kept = record a.kept { used = a.kept.used - 2 } })).core) (sym (same_item c.with_call.ensures.call c.in-Ok.ensures.value))
     ∙ removed_core c.args.parts.now c.requires.sound c.args.thread c.with_call.result.0 c.with_call.ensures.thread c.with_call.result.1 c.with_call.result.2 c.with_call.ensures.call c.with_call.ensures.of c.requires.apart c.requires.place
     c.close_seats.new.links c.drop_seat.new.links c.close_seats.ensures c.drop_seat.ensures c.drop_node-2.new.self c.drop_node-2.ensures c.drop_node-3.new.self c.drop_node-3.ensures c.close.new.links c.drop_node.new.self c.close.ensures c.drop_node.ensures c.delete.new.self c.in-Ok-delete.ensures.ok
 
@@ -57,7 +57,7 @@ pub returns-clause-tags : goal.returns-clause-tags
 unfolding seen
 returns-clause-tags c =
     let a = c.args.parts.now in
-    subst (λ (x : GuestTask). KeepsBut (lost_thread (thread_of (seen a) c.args.thread)) (seen a).tags (seen (record a { threads = c.delete.new.self; calls = with_entry c.with_call.result.1.rep (entry_of (record x { threads = c.with_call.result.2.threads - 1 })) a.calls; places = c.drop_seat.new.links; marks = c.drop_node-2.new.self; shelves = c.drop_node-3.new.self; behind = c.drop_node.new.self; kept = record a.kept { used = a.kept.used - 2 } })).tags) (same_item c.with_call.ensures.call c.in-Ok-get_mut.ensures.value)
+    subst (λ (x : GuestTask). KeepsBut (lost_thread (thread_of (seen a) c.args.thread)) (seen a).tags (seen (record a { threads = c.delete.new.self; calls = with_entry c.with_call.result.1.rep (entry_of (record x { threads = c.with_call.result.2.threads - 1 })) a.calls; places = c.drop_seat.new.links; marks = c.drop_node-2.new.self; shelves = c.drop_node-3.new.self; behind = c.drop_node.new.self; kept = record a.kept { used = a.kept.used - 2 } })).tags) (same_item c.with_call.ensures.call c.in-Ok.ensures.value)
     (removed_tags c.args.parts.now c.requires.sound c.args.thread c.with_call.result.0 c.with_call.ensures.thread c.with_call.result.1 c.with_call.result.2 c.with_call.ensures.call c.with_call.ensures.of c.requires.apart c.requires.place
     c.close_seats.new.links c.drop_seat.new.links c.close_seats.ensures c.drop_seat.ensures c.drop_node-2.new.self c.drop_node-2.ensures c.drop_node-3.new.self c.drop_node-3.ensures c.close.new.links c.drop_node.new.self c.close.ensures c.drop_node.ensures c.delete.new.self c.in-Ok-delete.ensures.ok)
 

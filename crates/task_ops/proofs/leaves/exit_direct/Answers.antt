@@ -1,5 +1,5 @@
 use Rattle.task_machine.specs.declared.records.Place.TheVariants as place
-use Rattle.task_ops.proofs.LeaveLemmas.{check_under, restored_runs, restored_under}
+use Rattle.task_ops.proofs.LeaveLemmas.{check_under, checked_its, restored_its, restored_runs, restored_under}
 use Rattle.task_ops.proofs.RunLemmas.{checked_stands}
 use Rattle.task_ops.proofs.leaves.exit_direct.Goals as goal
 
@@ -14,3 +14,9 @@ leave_to-requires-2-clause-running g c = checked_stands c.args.thread place.Runn
 
 pub leave_to-requires-2-clause-under : goal.leave_to-requires-2-clause-under
 leave_to-requires-2-clause-under g c = check_under c.args.thread c.in-Some.below _ (g.W.View.view c.args.w.now) _ c.requires.running c.check.ensures c.in-Some.ensures.is
+
+pub leave_to-requires-clause-call : goal.leave_to-requires-clause-call
+leave_to-requires-clause-call g c = restored_its c.args.thread c.task_of-call.result (g.W.View.view c.args.w.now) _ c.task_of-call.ensures.is c.restore.ensures
+
+pub leave_to-requires-2-clause-call : goal.leave_to-requires-2-clause-call
+leave_to-requires-2-clause-call g c = checked_its c.args.thread c.task_of-call.result (g.W.View.view c.args.w.now) _ c.task_of-call.ensures.is _ c.check.ensures

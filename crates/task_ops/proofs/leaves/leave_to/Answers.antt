@@ -1,5 +1,8 @@
-use Rattle.task_ops.proofs.LeaveLemmas.{ended_apart}
+use Rattle.task_ops.proofs.LeaveLemmas.{ended_apart, ended_its}
 use Rattle.task_ops.proofs.leaves.leave_to.Goals as goal
 
-pub end_thread-requires-clause-apart : goal.end_thread-requires-clause-apart
-end_thread-requires-clause-apart g c = ended_apart c.args.thread _ _ (g.W.View.view c.args.w.now) _ c.requires.running c.set_end.ensures
+pub end_thread_in-requires-clause-apart : goal.end_thread_in-requires-clause-apart
+end_thread_in-requires-clause-apart g c = ended_apart c.args.thread _ _ (g.W.View.view c.args.w.now) _ c.requires.running c.set_end.ensures
+
+pub end_thread_in-requires-clause-call : goal.end_thread_in-requires-clause-call
+end_thread_in-requires-clause-call g c = ended_its c.args.thread c.args.call (g.W.View.view c.args.w.now) _ c.requires.call _ _ c.set_end.ensures

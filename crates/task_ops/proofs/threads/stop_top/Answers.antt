@@ -6,5 +6,5 @@ use Rattle.task_ops.proofs.threads.stop_top.Goals as goal
 pub stop-requires-clause-may : goal.stop-requires-clause-may
 stop-requires-clause-may g c = foot_may_stop c.args.thread place.Running _ (g.W.View.view c.args.w.now) refl c.requires.running c.foot_of-foot.ensures.is
 
-pub put_low-requires-clause-unqueued : goal.put_low-requires-clause-unqueued
-put_low-requires-clause-unqueued g c = stopped_unqueued c.args.thread place.Running _ (g.W.View.view c.args.w.now) _ c.requires.running c.stop.ensures
+pub put_low_at-requires-clause-unqueued : goal.put_low_at-requires-clause-unqueued
+put_low_at-requires-clause-unqueued g c = stopped_unqueued c.args.thread place.Running _ (g.W.View.view c.args.w.now) _ c.requires.running c.stop.ensures

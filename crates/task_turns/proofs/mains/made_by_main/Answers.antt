@@ -4,13 +4,13 @@ use Rattle.task_turns.proofs.mains.made_by_main.Goals as goal
 use Rattle.task_turns.specs.Main.{Steps}
 use Rattle.task_turns.specs.declared.mains.MainStep.{MainStep}
 
-pub returns-in-Did : goal.returns-in-Did
-returns-in-Did g c x m new s h = did_turns x m s new (g.W.View.view c.args.w.now) c.requires c.in-Did.label (subst (λ (k : MainStep). Steps x.component x.script m s.core k new (g.W.View.view c.args.w.now).core) c.in-Did.is h)
+pub returns-in-Did-clause-turns : goal.returns-in-Did-clause-turns
+returns-in-Did-clause-turns g c x m new s h = did_turns x m s new (g.W.View.view c.args.w.now) c.requires c.in-Did.label (subst (λ (k : MainStep). Steps x.component x.script m s.core k new (g.W.View.view c.args.w.now).core) c.in-Did.is h)
 
-pub returns-in-Pends : goal.returns-in-Pends
-returns-in-Pends g c x m new s h =
+pub returns-in-Pends-clause-turns : goal.returns-in-Pends-clause-turns
+returns-in-Pends-clause-turns g c x m new s h =
     waits_turns x m s new (g.W.View.view c.args.w.now) c.requires _ c.turn_after_polls.ensures (subst (λ (k : MainStep). Steps x.component x.script m s.core k new (g.W.View.view c.args.w.now).core) c.in-Pends.is h)
 
-pub returns-in-Answer : goal.returns-in-Answer
-returns-in-Answer g c x m new s h =
+pub returns-in-Answer-clause-turns : goal.returns-in-Answer-clause-turns
+returns-in-Answer-clause-turns g c x m new s h =
     answers_turns x m s new (g.W.View.view c.args.w.now) c.requires c.in-Answer.value (subst (λ (k : MainStep). Steps x.component x.script m s.core k new (g.W.View.view c.args.w.now).core) c.in-Answer.is h)

@@ -10,10 +10,10 @@ use Rattle.task_machine.specs.declared.op.Op.TheVariants as op
 use Rattle.task_machine.specs.declared.records.HowFar.TheVariants as how_far
 use Rattle.task_machine.specs.declared.records.Turn.TheVariants as turn
 use Rattle.task_turns.proofs.OrderLemmas.{number_at, runner, runs_still}
-use Rattle.task_turns.proofs.StretchLemmas.{begins, begun, beside_both, beside_same, beside_script, beside_there, keeps_on, script_there, written, written_works}
+use Rattle.task_turns.proofs.StretchLemmas.{begins, begun, beside_both, beside_same, beside_script, beside_there, computes_more, computes_none, keeps_on, stops_at, script_there, written, written_works}
 use Rattle.task_turns.proofs.stretches.stretch.Goals as goal
 use Rattle.task_turns.specs.Context.{state_in}
-use Rattle.task_turns.specs.Drive.{KeepsOn}
+use Rattle.task_turns.specs.Drive.{Computes, KeepsOn, StopsShort}
 use Rattle.task_words.specs.StateView.{StateView, thread_of, with_core}
 
 pub at-point-requires : goal.at-point-requires
@@ -38,6 +38,7 @@ ops-init g c =
     record {
       beside = beside_same s;
       on = subst (λ (d : Core). KeepsOn c.args.component.now (turn.Run c.args.number) s c.args.trace.now c.args.added (with_core d s) c.args.trace.now c.args.added) (sym same) (λ z component first trace numbers m going. going);
+      computes = subst (λ (d : Core). Computes c.args.component.now (turn.Run c.args.number) s c.args.trace.now c.args.added (with_core d s) c.args.trace.now c.args.added) (sym same) (computes_none c.args.component.now (turn.Run c.args.number) s c.args.trace.now c.args.added);
     }
 
 pub returns-in_default-op_at-clause-on : goal.returns-in_default-op_at-clause-on
@@ -46,6 +47,13 @@ returns-in_default-op_at-clause-on g c =
     let number = number_at c.args.number s c.requires.runs c.in-Some.thread (sym c.current.ensures ∙ c.in-Some.is) in
     let back = written c.args.number s (g.W.View.view c.ops.w) (g.W.View.view c.set_context.new.self) c.in-Some.thread c.ops.context number c.ops.invariant.beside c.set_context.ensures in
     subst (λ (u : StateView). KeepsOn c.args.component.now (turn.Run c.args.number) s c.args.trace.now c.args.added u c.ops.trace c.ops.count) (sym back) c.ops.invariant.on
+
+pub returns-in_default-op_at-clause-computes : goal.returns-in_default-op_at-clause-computes
+returns-in_default-op_at-clause-computes g c =
+    let s = g.W.View.view c.args.w.now in
+    let number = number_at c.args.number s c.requires.runs c.in-Some.thread (sym c.current.ensures ∙ c.in-Some.is) in
+    let back = written c.args.number s (g.W.View.view c.ops.w) (g.W.View.view c.set_context.new.self) c.in-Some.thread c.ops.context number c.ops.invariant.beside c.set_context.ensures in
+    subst (λ (u : StateView). Computes c.args.component.now (turn.Run c.args.number) s c.args.trace.now c.args.added u c.ops.trace c.ops.count) (sym back) c.ops.invariant.computes
 
 pub computes_in-label-requires-clause-there : goal.computes_in-label-requires-clause-there
 computes_in-label-requires-clause-there g c =
@@ -79,6 +87,8 @@ ops-preserved g c =
     record {
       beside = beside_both s t u beside c.computes_in-label.ensures.beside;
       on = subst (λ (ls : List Label). KeepsOn d (turn.Run n) s c.args.trace.now c.args.added (state_in n y u) ls (c.ops.count + 1)) (sym c.in-Ok.ensures.ok) on;
+      computes = subst (λ (ls : List Label). Computes d (turn.Run n) s c.args.trace.now c.args.added (state_in n y u) ls (c.ops.count + 1)) (sym c.in-Ok.ensures.ok)
+          (computes_more d n t q.0 found runs ops script x c.in-Some-Data.op l y u c.computes_in-label.ensures.beside row here s c.args.trace.now c.ops.trace c.args.added c.ops.count c.ops.invariant.computes);
     }
 
 pub returns-clause-on : goal.returns-clause-on
@@ -89,6 +99,21 @@ returns-clause-on g c =
     let all : c.ops.count ≡ c.args.steps = omega (arith, c.ops-test.false) in
     subst (λ k. KeepsOn c.args.component.now (turn.Run c.args.number) s c.args.trace.now c.args.added (g.W.View.view c.set_context-2.new.self) c.ops.trace k) all
     (subst (λ (u : StateView). KeepsOn c.args.component.now (turn.Run c.args.number) s c.args.trace.now c.args.added u c.ops.trace c.ops.count) (sym back) c.ops.invariant.on)
+
+pub returns-in_default-push-clause-err : goal.returns-in_default-push-clause-err
+returns-in_default-push-clause-err g c =
+    let s = g.W.View.view c.args.w.now in
+    subst (λ (ls : List Label). StopsShort c.args.component.now (turn.Run c.args.number) s c.args.trace.now c.args.added ls c.args.steps) (sym c.in_default-push.ensures.err)
+    (stops_at c.args.component.now (turn.Run c.args.number) s c.args.trace.now c.args.added (state_in c.args.number c.ops.context (g.W.View.view c.ops.w)) c.ops.trace c.ops.count c.args.steps (omega (arith, c.ops-test.true)) c.ops.invariant.on)
+
+pub returns-clause-computes : goal.returns-clause-computes
+returns-clause-computes g c =
+    let s = g.W.View.view c.args.w.now in
+    let number = number_at c.args.number s c.requires.runs c.in-Some.thread (sym c.current.ensures ∙ c.in-Some.is) in
+    let back = written c.args.number s (g.W.View.view c.ops.w) (g.W.View.view c.set_context-2.new.self) c.in-Some.thread c.ops.context number c.ops.invariant.beside c.set_context-2.ensures in
+    let all : c.ops.count ≡ c.args.steps = omega (arith, c.ops-test.false) in
+    subst (λ k. Computes c.args.component.now (turn.Run c.args.number) s c.args.trace.now c.args.added (g.W.View.view c.set_context-2.new.self) c.ops.trace k) all
+    (subst (λ (u : StateView). Computes c.args.component.now (turn.Run c.args.number) s c.args.trace.now c.args.added u c.ops.trace c.ops.count) (sym back) c.ops.invariant.computes)
 
 pub returns-in_default-op_at-clause-works : goal.returns-in_default-op_at-clause-works
 returns-in_default-op_at-clause-works g c =

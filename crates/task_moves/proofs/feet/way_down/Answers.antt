@@ -1,6 +1,6 @@
 use Rattle.std.proofs.Common.{sym, ◌∙◌}
 use Rattle.task_moves.proofs.FootLemmas.{foot_less}
-use Rattle.task_moves.proofs.feet.foot_of.Goals as goal
+use Rattle.task_moves.proofs.feet.way_down.Goals as goal
 
 pub loop-step-preserved : goal.loop-step-preserved
 loop-step-preserved g c = record {

@@ -1,7 +1,7 @@
 use Rattle.std.proofs.Common.{◌≡◌, ◌<◌, ◌-◌}
 use Rattle.task_machine.specs.Maps.{size}
 use Rattle.task_machine.specs.Read.{foot_from}
-use Rattle.task_moves.proofs.feet.foot_of.Given as goal
+use Rattle.task_moves.proofs.feet.way_down.Given as goal
 use Rattle.task_words.specs.StateView.{thread_of}
 
 -- the foot of what was reached is that of the thread
