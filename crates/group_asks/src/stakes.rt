@@ -1,5 +1,5 @@
 ghost use Rattle.std.specs.Prelude.{◌≡◌, ◌<◌, Some};
-ghost use Rattle.group_laws.specs.Groups.{stake, stake_dropped, stake_inside, stake_of, subtask_group};
+ghost use Rattle.group_laws.specs.Groups.{stake, stake_dropped, stake_inside, stake_of, stake_of_call, subtask_group};
 ghost use Rattle.task_machine.specs.Maps.{get};
 ghost use Rattle.task_machine.specs.Read.{how_far_of};
 ghost use Rattle.task_machine.specs.declared.records.Thread.{Thread};
@@ -43,14 +43,25 @@ fn dropped<W: Words>(w: &W, thread: ThreadId, handle: u64) -> u64
     }
 }
 
+// The group that an op on subtasks may finish.
+fn stake_of_call<W: Words>(w: &W, thread: ThreadId, op: &CallOp) -> u64
+    ensures { result ≡ stake_of_call (thread_of (W.view w.now) thread) (W.view w.now).core op.now }
+{
+    match op {
+        CallOp::Drop { subtask } => dropped(w, thread, value_of(w, thread, *subtask)),
+        CallOp::Call { .. } | CallOp::CallSync { .. } | CallOp::CallSyncHost { .. } => {
+            inside(w, thread)
+        }
+        _ => w.thread_group(thread),
+    }
+}
+
 // The group that the thread's op may finish.
 fn stake_of<W: Words>(w: &W, thread: ThreadId, op: &Op) -> u64
     ensures { result ≡ stake_of (thread_of (W.view w.now) thread) (W.view w.now).core op.now }
 {
     match op {
-        Op::Call(CallOp::Drop { subtask }) => dropped(w, thread, value_of(w, thread, *subtask)),
-        Op::Call(CallOp::Call { .. } | CallOp::CallSync { .. } | CallOp::CallSyncHost { .. }) =>
-            inside(w, thread),
+        Op::Call(call) => stake_of_call(w, thread, call),
         _ => w.thread_group(thread),
     }
 }

@@ -93,8 +93,17 @@ impl Func {
     {
         let group = store.state.made().groups + 1;
         match start_call(&mut store.state, component, self.callee(), params) {
-            Ok(thread) => Ok(FuncCallConcurrent { thread, group }),
-            Err(e) => Err(e),
+            Ok(thread) => {
+                let Ok(_made) = store.groups.make() else {
+                    store.set_trapped();
+                    return Err(TaskError::NoMemory);
+                };
+                Ok(FuncCallConcurrent { thread, group })
+            }
+            Err(e) => {
+                store.groups.clean_up(None);
+                Err(e)
+            }
         }
     }
 
@@ -119,7 +128,13 @@ impl Func {
     {
         let group = store.state.made().groups + 1;
         match start_untrapped(&mut store.state, component, self.callee(), params) {
-            Ok(thread) => Ok(FuncCallConcurrent { thread, group }),
+            Ok(thread) => {
+                let Ok(_made) = store.groups.make() else {
+                    store.set_trapped();
+                    return Err(TaskError::NoMemory);
+                };
+                Ok(FuncCallConcurrent { thread, group })
+            }
             Err(e) => Err(e),
         }
     }

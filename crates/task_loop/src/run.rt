@@ -7,7 +7,9 @@ ghost use Rattle.task_turns.specs.Drive.{Drives, Drove};
 ghost use Rattle.task_turns.specs.Main.{Steps};
 ghost use Rattle.task_turns.specs.Turn.{IsAtTurn, IsFree, IsSettled, Makes, PendsIn, Sits, Turned, Turns, given, goes_on, is_open, running_of, runs_in, setting_of, state_at};
 
+use crate::asks::{ask, group_after, group_of};
 use crate::main_task::MainTask;
+use group_notices::tell_step;
 use task_calls::TaskError;
 use task_machine::{
     CallLabel, Component, Label, LoopLabel, MainLabel, NoMemory, Outcome, Trap, Turn,
@@ -223,8 +225,9 @@ impl RunConcurrent {
         ensures ok { IfOk result (λ outcome. Drove (setting_of component.now (M.script main.old) self.old.trap_on_idle) (state_at store.old.state.core (M.part main.old) self.old.turn) trace.old (given store.old.state.core) self.new.turn (M.part main.new) store.new.state trace.new steps outcome) }
     {
         let mut added = 0;
+        let mut running = group_of(&store.state, self.turn);
         'turns: while added < steps {
-            let Some(made) = self.turn(component, store, main)? else {
+            let Some(made) = self.told_turn(component, store, main, &mut running)? else {
                 return Ok(Outcome::Idle);
             };
             self.turn = made.turn;
@@ -279,6 +282,29 @@ impl RunConcurrent {
             Turn::Run { thread } => Ok(Some(run_thread(component, store, thread)?)),
             Turn::Over => unreachable!(),
         }
+    }
+
+    // Makes a step, and tells the groups of the store what it gave. `running` is the group of the thread that runs.
+    fn told_turn<T, H: AccessorTask<T> + FromHost, M: MainTask<T, H>>(
+        &self,
+        component: &Component,
+        store: &mut Store<T, H>,
+        main: &mut M,
+        running: &mut Option<u64>,
+    ) -> Result<Option<Made>, NoMemory> {
+        let asked = ask(component, &store.state, self.turn, *running);
+        let Some(made) = self.turn(component, store, main)? else {
+            return Ok(None);
+        };
+        *running = group_after(&store.state, self.turn, made.turn, *running);
+        if let Turn::Main = self.turn {
+            return Ok(Some(made));
+        }
+        let left = store.state.groups();
+        let Ok(()) = tell_step(&mut store.groups, asked, *running, left) else {
+            unreachable!()
+        };
+        Ok(Some(made))
     }
 
     /// Ends the run: it no longer stands on the store.

@@ -12,7 +12,7 @@ returns-in-Some g c =
     let n = thread_of s c.args.thread in
     let q = c.requires.there in
     let is = op_is c.args.component.now n s.core q.0 q.1 c.script_ops-script.result.now c.at-point.result.callee (task_of n s.core) c.at-point.result.position c.at-point.result.script c.at-point.ensures.callee refl (c.at-point.ensures.script q.0 q.1) c.script_ops-script.ensures c.at-point.ensures.position
-        (Some c.in-Some.op.now) (sym (ap option_copied c.in-Some.is) ∙ c.op_at.ensures) in
+    (Some c.in-Some.op.now) (sym (ap option_copied c.in-Some.is) ∙ c.op_at.ensures) in
     c.stake_of.ensures ∙ sym (stake_is c.args.component.now n s.core c.in-Some.op.now is)
 
 pub returns-in-None : goal.returns-in-None
@@ -21,5 +21,5 @@ returns-in-None g c =
     let n = thread_of s c.args.thread in
     let q = c.requires.there in
     let is = op_is c.args.component.now n s.core q.0 q.1 c.script_ops-script.result.now c.at-point.result.callee (task_of n s.core) c.at-point.result.position c.at-point.result.script c.at-point.ensures.callee refl (c.at-point.ensures.script q.0 q.1) c.script_ops-script.ensures c.at-point.ensures.position
-        None (sym (ap option_copied c.in-None.is) ∙ c.op_at.ensures) in
+    None (sym (ap option_copied c.in-None.is) ∙ c.op_at.ensures) in
     c.thread_group.ensures ∙ sym (stake_is c.args.component.now n s.core _ is)
