@@ -124,70 +124,68 @@ fn numbers_have_limits(rt: HostRuntime) {
     assert!(rt; number_up_to(b"41", 40).is_none() && number_up_to(b"007", 40).is_none());
 }
 
+// The text's first bad line is this.
+fn is_bad_at(rt: &impl Abort, alloc: Global, text: &[u8], line: u32) {
+    assert!(rt; text.len() <= 1_048_576);
+    match read_text(alloc, text) {
+        Err(TextError::Bad(found)) => assert!(rt; found == line),
+        _ => panic!(rt; "a bad line"),
+    }
+}
+
+// These lines after four that say the limits and what is done when idle.
+fn is_bad_below(rt: &impl Abort, alloc: Global, lines: &[u8], line: u32) {
+    let Ok(mut text) = Vec::from_slice(alloc, b"scenario 1\nhandles 1\ntable 1\nidle trap\n") else {
+        panic!(rt; "no memory")
+    };
+    assert!(rt; text.extend_from_slice(lines).is_ok());
+    is_bad_at(rt, alloc, text.as_slice(), line);
+}
+
 #[test]
 fn names_the_first_bad_line(rt: HostRuntime) {
-    let front = &ONE_CALL[..ONE_CALL.len() - 4];
-    let texts: [(&[u8], u32); 18] = [
-        (b"", 1),
-        (b"\n", 1),
-        (b"scenario 1\nhandles 0100000\n", 2),
-        (b"scenario 1\nhandles 268435456\ntable 0\n", 2),
-        (b"scenario 1\nhandles 268435455\ntable 1000001\n", 3),
-        (
-            b"scenario 1\nhandles 1\ntable 1\nidle trap\ninstance 1a\n",
-            5,
-        ),
-        (
-            b"scenario 1\nhandles 1\ntable 1\nidle trap\ninstance a\nmain\n",
-            7,
-        ),
-        (front, 13),
-        (
-            b"scenario 1\nhandles 1\ntable 1\nidle trap\ninstance a\ninstance b\ninstance a\n",
-            7,
-        ),
-        (
-            b"scenario 1\nhandles 1\ntable 1\nidle trap\ninstance a\nexport f callback 0\nexport f callback 0\n",
-            7,
-        ),
-        (
-            b"scenario 1\nhandles 1\ntable 1\nidle trap\ninstance a\nexport f callback 0\nmain\nstart a.g\n",
-            8,
-        ),
-        (
-            b"scenario 1\nhandles 1\ntable 1\nidle trap\ninstance a\nexport f callback 0\nmain\nstart a.f\nfinish 1 r0\nfinish 1 r0\n",
-            10,
-        ),
-        (
-            b"scenario 1\nhandles 1\ntable 1\nidle trap\nhost a never\nhost a never\n",
-            6,
-        ),
-        (
-            b"scenario 1\nhandles 1\ntable 1\nidle trap\ninstance a\nexport f sync 0\nreact\n",
-            7,
-        ),
-        (
-            b"scenario 1\nhandles 1\ntable 1\nidle trap\ninstance a\nthread 3\ncb_yield\n",
-            7,
-        ),
-        (
-            b"scenario 1\nhandles 1\ntable 1\nidle trap\ninstance a\nthread 3\nbad 3\n",
-            7,
-        ),
-        (
-            b"scenario 1\nhandles 1\ntable 1\nidle trap\ninstance a\nexport f sync 0\ncall_sync r0 a.f\n",
-            7,
-        ),
-        (
-            b"scenario 1\nhandles 1\ntable 1\nidle trap\nmain\nanswer 0\naborter 1\n",
-            7,
-        ),
-    ];
-    for (text, line) in texts {
-        let error = read_text(rt.alloc(), text).err();
-        assert!(rt;
-            matches!(error, Some(TextError::Bad(found)) if found == line),
-            "line {line}"
-        );
-    }
+    is_bad_at(&rt, rt.alloc(), b"", 1);
+    is_bad_at(&rt, rt.alloc(), b"\n", 1);
+    is_bad_at(&rt, rt.alloc(), b"scenario 1\nhandles 0100000\n", 2);
+    is_bad_at(
+        &rt,
+        rt.alloc(),
+        b"scenario 1\nhandles 268435456\ntable 0\n",
+        2,
+    );
+    is_bad_at(
+        &rt,
+        rt.alloc(),
+        b"scenario 1\nhandles 268435455\ntable 1000001\n",
+        3,
+    );
+    is_bad_at(&rt, rt.alloc(), &ONE_CALL[..ONE_CALL.len() - 4], 13);
+}
+
+#[test]
+fn names_the_first_line_that_cannot_stand(rt: HostRuntime) {
+    is_bad_below(&rt, rt.alloc(), b"instance 1a\n", 5);
+    is_bad_below(&rt, rt.alloc(), b"instance a\nmain\n", 7);
+    is_bad_below(&rt, rt.alloc(), b"instance a\nthread 3\ncb_yield\n", 7);
+    is_bad_below(&rt, rt.alloc(), b"instance a\nthread 3\nbad 3\n", 7);
+    is_bad_below(&rt, rt.alloc(), b"instance a\nexport f sync 0\nreact\n", 7);
+    is_bad_below(
+        &rt,
+        rt.alloc(),
+        b"instance a\nexport f sync 0\ncall_sync r0 a.f\n",
+        7,
+    );
+    is_bad_below(&rt, rt.alloc(), b"main\nanswer 0\naborter 1\n", 7);
+}
+
+#[test]
+fn names_the_first_line_with_a_bad_name(rt: HostRuntime) {
+    is_bad_below(&rt, rt.alloc(), b"instance a\ninstance b\ninstance a\n", 7);
+    is_bad_below(&rt, rt.alloc(), b"host a never\nhost a never\n", 6);
+    let twice = b"instance a\nexport f callback 0\nexport f callback 0\n";
+    is_bad_below(&rt, rt.alloc(), twice, 7);
+    let unknown = b"instance a\nexport f callback 0\nmain\nstart a.g\n";
+    is_bad_below(&rt, rt.alloc(), unknown, 8);
+    let finished = b"instance a\nexport f callback 0\nmain\nstart a.f\nfinish 1 r0\nfinish 1 r0\n";
+    is_bad_below(&rt, rt.alloc(), finished, 10);
 }

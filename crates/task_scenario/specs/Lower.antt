@@ -13,7 +13,7 @@ use Rattle.scenario_text.specs.declared.tree.InstanceText.{InstanceText}
 use Rattle.scenario_text.specs.declared.tree.MainOpText.{MainOpText}
 use Rattle.scenario_text.specs.declared.tree.MainOpText.TheVariants as text
 use Rattle.scenario_text.specs.declared.tree.ScenarioText.{ScenarioText}
-use Rattle.scenario_text.specs.Grammar.{IsTextOf, IsBadLine}
+use Rattle.scenario_text.specs.Grammar.{IsTextOf}
 use Rattle.task_machine.specs.declared.component.Callee.{Callee}
 use Rattle.task_machine.specs.declared.component.ExportDef.{ExportDef}
 use Rattle.task_machine.specs.declared.component.InstanceDef.{InstanceDef}
@@ -23,8 +23,8 @@ use Rattle.task_scenario.specs.declared.scenario.InstanceNames.{InstanceNames}
 use Rattle.task_scenario.specs.declared.scenario.MainOp.{MainOp}
 use Rattle.task_scenario.specs.declared.scenario.MainOp.TheVariants as op
 use Rattle.task_scenario.specs.declared.scenario.Scenario.{Scenario}
-use Rattle.task_scenario.specs.declared.scenario.RunError.{RunError}
-use Rattle.task_scenario.specs.declared.scenario.RunError.TheVariants as errors
+use Rattle.scenario_reader.specs.declared.error.RunError.{RunError}
+use Rattle.scenario_reader.specs.Trees.{RefusedAs}
 
 abbrev pub work_def : HostWork → HostDef
 work_def (work.Value n v) = record { polls = Some n; value = Some v }
@@ -85,5 +85,4 @@ Reads text x = (tree : ScenarioText) × IsTextOf tree text × (x ≡ scenario_of
 -- a text gives its scenario, or is refused with its bad line; memory may be wanting
 abbrev pub ReadsAs : List ℕ → Result Scenario RunError → Type 0
 ReadsAs text (Ok x) = Reads text x
-ReadsAs text (Err (errors.BadScenario n)) = IsBadLine text n
-ReadsAs text (Err errors.NoMemory) = Unit {0}
+ReadsAs text (Err why) = RefusedAs text why

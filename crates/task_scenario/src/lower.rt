@@ -4,10 +4,10 @@ ghost use Rattle.task_scenario.specs.Lower.{host_def, export_def, instance_def, 
 ghost use Rattle.task_scenario.specs.declared.scenario.Scenario.{Scenario};
 
 use crate::copy::copy_component;
-use crate::scenario::{InstanceNames, MainOp, RunError, Scenario};
+use crate::scenario::{InstanceNames, MainOp, Scenario};
+use scenario_reader::{RunError, read_tree};
 use scenario_text::{
-    ExportText, HostText, HostWork, InstanceText, MainOpText, PartText, ScenarioText, TextError,
-    read_text,
+    ExportText, HostText, HostWork, InstanceText, MainOpText, PartText, ScenarioText,
 };
 use std::alloc::{AllocError, Global};
 use task_loop::{Func, Instance};
@@ -232,13 +232,12 @@ pub fn read_scenario(alloc: Global, text: &[u8]) -> Result<Scenario, RunError>
     // A scenario's text is refused for want of memory alone.
     ensures only { (x : Scenario) → Reads text.now x → IsOkUnless result RunError.NoMemory }
 {
-    match read_text(alloc, text) {
-        Ok(text) => match scenario_of(alloc, text) {
+    match read_tree(alloc, text) {
+        Ok(tree) => match scenario_of(alloc, tree) {
             Ok(scenario) => Ok(scenario),
             Err(_) => Err(RunError::NoMemory),
         },
-        Err(TextError::NoMemory) => Err(RunError::NoMemory),
-        Err(TextError::Bad(line)) => Err(RunError::BadScenario(line)),
+        Err(why) => Err(why),
     }
 }
 
