@@ -1,6 +1,10 @@
 ghost use Rattle.std.specs.Prelude.{◌≡◌, ◌*◌, ◌+◌, ◌<◌, ◌≤◌, ◌^◌, IfErr, IfOk, None, OnErr, OnOk, Some, false, is_none, true, Bool};
 ghost use Rattle.task_ops.specs.Works.{NamesWorks};
 ghost use Rattle.task_rules.specs.Outcome.{outcome_of_label};
+ghost use Rattle.group_notices.specs.Runs.{HasTold, moment};
+ghost use Rattle.task_group.specs.Listeners.{Told};
+ghost use Rattle.task_rules.specs.Notices.{moment_notices, running_group};
+ghost use Rattle.task_store.specs.Groups.{HoldsGroups};
 ghost use Rattle.task_store.specs.Hosts.{HoldsHosts};
 ghost use Rattle.task_turns.specs.WellFormed.{IsWellFormed};
 ghost use Rattle.task_turns.specs.Drive.{Drives, Drove};
@@ -171,6 +175,7 @@ impl RunConcurrent {
         requires suits { M.suits main.old component.now }
         requires knows { M.knows main.old store.old.state }
         requires hosts { HoldsHosts H.course store.old }
+        requires groups { HoldsGroups store.old.groups store.old.state.core }
         requires given { given store.old.state.core ≤ 2 ^ 60 }
         requires current { running_of store.old.state ≡ runs_in self.old.turn }
         requires unfinished { is_open self.old.turn ≡ true }
@@ -182,6 +187,8 @@ impl RunConcurrent {
         ensures hosts { OnOk result (HoldsHosts H.course store.new) }
         ensures idle { self.new.trap_on_idle ≡ self.old.trap_on_idle }
         ensures stands { store.new.running ≡ store.old.running }
+        ensures groups { OnOk result (HoldsGroups store.new.groups store.new.state.core) }
+        ensures told { OnOk result (HasTold (setting_of component.now (M.script main.old) self.old.trap_on_idle) (state_at store.old.state.core (M.part main.old) self.old.turn) trace.old (state_at store.new.state.core (M.part main.new) self.new.turn) trace.new store.old.groups store.new.groups) }
         ensures ok { IfOk result (λ outcome. Drives (setting_of component.now (M.script main.old) self.old.trap_on_idle) (state_at store.old.state.core (M.part main.old) self.old.turn) trace.old (state_at store.new.state.core (M.part main.new) self.new.turn) trace.new steps outcome) }
         ensures unfinished { IfOk result (λ outcome. is_open self.new.turn ≡ goes_on outcome) }
         ensures order { OnOk result (Sits component.now self.new.turn store.new.state.core) }
@@ -214,6 +221,7 @@ impl RunConcurrent {
         requires suits { M.suits main.old component.now }
         requires knows { M.knows main.old store.old.state }
         requires hosts { HoldsHosts H.course store.old }
+        requires groups { HoldsGroups store.old.groups store.old.state.core }
         requires given { given store.old.state.core ≤ 2 ^ 60 }
         requires pends { PendsIn (setting_of component.now (M.script main.old) self.old.trap_on_idle) store.old.state.core (M.part main.old) self.old.turn }
         ensures script { M.script main.new ≡ M.script main.old }
@@ -222,6 +230,8 @@ impl RunConcurrent {
         ensures hosts { OnOk result (HoldsHosts H.course store.new) }
         ensures idle { self.new.trap_on_idle ≡ self.old.trap_on_idle }
         ensures stands { store.new.running ≡ store.old.running }
+        ensures groups { OnOk result (HoldsGroups store.new.groups store.new.state.core) }
+        ensures told { OnOk result (HasTold (setting_of component.now (M.script main.old) self.old.trap_on_idle) (state_at store.old.state.core (M.part main.old) self.old.turn) trace.old (state_at store.new.state.core (M.part main.new) self.new.turn) trace.new store.old.groups store.new.groups) }
         ensures ok { IfOk result (λ outcome. Drove (setting_of component.now (M.script main.old) self.old.trap_on_idle) (state_at store.old.state.core (M.part main.old) self.old.turn) trace.old (given store.old.state.core) self.new.turn (M.part main.new) store.new.state trace.new steps outcome) }
     {
         let mut added = 0;
@@ -291,7 +301,26 @@ impl RunConcurrent {
         store: &mut Store<T, H>,
         main: &mut M,
         running: &mut Option<u64>,
-    ) -> Result<Option<Made>, NoMemory> {
+    ) -> Result<Option<Made>, NoMemory>
+        requires covered { IsWellFormed component.now }
+        requires at { IsAtTurn component.now self.now.turn store.old.state }
+        requires suits { M.suits main.old component.now }
+        requires knows { M.knows main.old store.old.state }
+        requires hosts { HoldsHosts H.course store.old }
+        requires groups { HoldsGroups store.old.groups store.old.state.core }
+        requires running { running.old ≡ running_group store.old.state.core self.now.turn }
+        requires given { given store.old.state.core + 4 < 2 ^ 61 }
+        requires pends { PendsIn (setting_of component.now (M.script main.old) self.now.trap_on_idle) store.old.state.core (M.part main.old) self.now.turn }
+        ensures script { M.script main.new ≡ M.script main.old }
+        ensures suits { OnOk result (M.suits main.new component.now) }
+        ensures knows { OnOk result (M.knows main.new store.new.state) }
+        ensures hosts { OnOk result (HoldsHosts H.course store.new) }
+        ensures groups { OnOk result (HoldsGroups store.new.groups store.new.state.core) }
+        ensures running { IfOk result (λ made. IfSome made (λ made. running.new ≡ running_group store.new.state.core made.turn)) }
+        ensures stands { store.new.running ≡ store.old.running }
+        ensures turned { IfOk result (λ made. Turned (setting_of component.now (M.script main.old) self.now.trap_on_idle) self.now.turn (M.part main.old) store.old.state made (M.part main.new) store.new.state) }
+        ensures told { IfOk result (λ made. IfSome made (λ made. Told (moment_notices (moment (state_at store.old.state.core (M.part main.old) self.now.turn) made.label (state_at store.new.state.core (M.part main.new) made.turn))) store.old.groups.listeners store.new.groups.listeners)) }
+    {
         let asked = ask(component, &store.state, self.turn, *running);
         let Some(made) = self.turn(component, store, main)? else {
             return Ok(None);
