@@ -4,4 +4,4 @@ use Rattle.task_group.specs.Groups.{Groups}
 use Rattle.task_store.proofs.store.Store.new.Goals as goal
 
 pub returns-clause-mirror : goal.returns-clause-mirror
-returns-clause-mirror g c = mirror_none _ (ap (λ (x : Groups). x.live) c.new-2.ensures)
+returns-clause-mirror g c = mirror_none _ (ap (λ (x : Groups). x.live) c.new-3.ensures)
