@@ -28,6 +28,10 @@ removed : (b : Bool) (o : Option ℕ) (n : ℕ) {made : ℕ} → IsSome (cond b 
 removed true o n live other = absurd (none_some live)
 removed false o n live other = other live
 
+fewer : (b : Bool) (o : Option ℕ) (n : ℕ) {made : ℕ} → IsSome (cond b None o) → ((n == made) ≡ true → b ≡ true) → (IsSome o → n ≤ made) → n ≤ made - 1
+fewer true o n live same other = absurd (none_some live)
+fewer false o n {made} live same other = let le = other live in grind (arith, nat_tests, le, same)
+
 back : (b : Bool) (w o : Option ℕ) → (b ≡ true → o ≡ None) → cond b None (cond b w o) ≡ o
 back true w o h = sym (h refl)
 back false w o h = refl
@@ -53,6 +57,13 @@ module _ (m : Counts) (made : ℕ) where
   known-remove k known n live =
       let live' : IsSome (cond (eq_by_cmp nat_cmp n k) None (finite.get m n)) = let P : Option ℕ → Type 0 = IsSome in subst P (finite.get-remove nat_cmp_total m k n) live in
       removed (eq_by_cmp nat_cmp n k) (finite.get m n) n live' (known n)
+
+  -- the last one is gone
+  pub known-last : IsKnown m made → IsKnown (finite.remove m made) (made - 1)
+  known-last known n live =
+      let tied = unsigned_tied n made in
+      let live' : IsSome (cond (eq_by_cmp nat_cmp n made) None (finite.get m n)) = let P : Option ℕ → Type 0 = IsSome in subst P (finite.get-remove nat_cmp_total m made n) live in
+      fewer (eq_by_cmp nat_cmp n made) (finite.get m n) n live' (λ e. unsigned_tied n made ∙ e) (known n)
 
   fresh : (o : Option ℕ) → finite.get m (made + 1) ≡ o → IsKnown m made → o ≡ None
   fresh None e known = refl

@@ -1,4 +1,4 @@
-ghost use Rattle.std.specs.Prelude.{◌≡◌, ◌≢◌, ℕ, ◌≤◌, ◌<◌, ◌+◌, ◌^◌, ◌↔◌, ◌∷◌, [], ◌++◌, Some, None, Err, IsTrue, IsSome, IfOk, OnOk, OnErr, false, is_some, if◌then◌else◌};
+ghost use Rattle.std.specs.Prelude.{◌≡◌, ◌≢◌, ℕ, ◌≤◌, ◌<◌, ◌+◌, ◌-◌, ◌^◌, ◌↔◌, ◌∷◌, [], ◌++◌, Some, None, Err, IsTrue, IsSome, IfOk, OnOk, OnErr, false, is_some, if◌then◌else◌};
 ghost use Rattle.std.specs.FinMap as finite;
 ghost use Rattle.task_group.specs.Counts.{count_in, raised, lowered};
 ghost use Rattle.task_group.specs.Listeners.{nobody, Told, AnsweredErr};
@@ -75,18 +75,56 @@ impl<H: TaskGroupHook> Groups<H> {
         ensures failed { (result ≡ Err GroupError.HookFailed) ↔ AnsweredErr self.old.listeners self.new.listeners }
         ensures no_memory { result ≡ Err GroupError.NoMemory → self.new ≡ self.old }
     {
-        let id = TaskGroupId {
-            number: self.made + 1,
-        };
-        let Ok(()) = self.counts.add(id.number) else {
+        let _counts = &self.counts;
+        let Ok(()) = self.prepare() else {
             return Err(GroupError::NoMemory);
         };
+        self.announce()
+    }
+
+    /// A group that isn't told of yet, with one task: it is to be told of by `announce`, or taken back by `withdraw`,
+    /// before any other call. At most 2^61 groups are made.
+    ///
+    /// `NoMemory` where there is none for it, with all as before.
+    pub fn prepare(&mut self) -> Result<(), NoMemory>
+        requires { self.old.made < 2 ^ 61 }
+        ensures ok { OnOk result (self.new ≡ record self.old { live = finite.insert self.old.live (self.old.made + 1) 1; made = self.old.made + 1 }) }
+        ensures err { OnErr result (self.new ≡ self.old) }
+    {
+        let Ok(()) = self.counts.add(self.made + 1) else {
+            return Err(NoMemory);
+        };
+        self.made += 1;
+        Ok(())
+    }
+
+    /// Tells the hook of the start of the group that was made last.
+    ///
+    /// `HookFailed` exactly where the hook answered an error, and then there is no such group, but the hook was told.
+    pub fn announce(&mut self) -> Result<TaskGroupId, GroupError>
+        requires { 0 < self.old.made }
+        ensures id { IfOk result (λ id. id.number ≡ self.old.made) }
+        ensures groups { OnOk result ((self.new.live ≡ self.old.live) × (self.new.made ≡ self.old.made)) }
+        ensures refused { OnErr result ((self.new.live ≡ finite.remove self.old.live self.old.made) × (self.new.made ≡ self.old.made - 1)) }
+        ensures told { Told (start_of (record { number = self.old.made }) ∷ []) self.old.listeners self.new.listeners }
+        ensures failed { (result ≡ Err GroupError.HookFailed) ↔ AnsweredErr self.old.listeners self.new.listeners }
+        ensures no_other { result ≢ Err GroupError.NoMemory }
+    {
+        let id = TaskGroupId { number: self.made };
         if self.listeners.tell(NoticeKind::Start, id).is_err() {
-            self.counts.remove(id.number);
+            self.withdraw();
             return Err(GroupError::HookFailed);
         }
-        self.made += 1;
         Ok(id)
+    }
+
+    /// Takes back the group that was made last, which nobody is told: its number is given again.
+    pub fn withdraw(&mut self)
+        requires { 0 < self.old.made }
+        ensures { self.new ≡ record self.old { live = finite.remove self.old.live self.old.made; made = self.old.made - 1 } }
+    {
+        self.counts.remove(self.made);
+        self.made -= 1;
     }
 
     /// One more task in the group; nothing where it is finished. A group has fewer than 2^32 tasks.

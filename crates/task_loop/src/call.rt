@@ -6,6 +6,10 @@ ghost use Rattle.task_machine.specs.declared.records.Turn.{Turn};
 ghost use Rattle.task_rules.specs.MainOps.{start_refusal};
 ghost use Rattle.task_rules.specs.Scripts.{export_at};
 ghost use Rattle.task_machine.specs.declared.component.HostDef.{HostDef};
+ghost use Rattle.task_group.specs.Groups.{finish_all};
+ghost use Rattle.task_group.specs.Listeners.{Told};
+ghost use Rattle.task_rules.specs.Notices.{told_of};
+ghost use Rattle.task_store.specs.Groups.{HoldsGroups};
 ghost use Rattle.task_store.specs.Hosts.{HoldsHosts};
 ghost use Rattle.task_turns.specs.WellFormed.{IsWellFormed};
 ghost use Rattle.task_turns.specs.Turn.{Sits, given};
@@ -89,12 +93,24 @@ impl Func {
         ensures group { IfOk result (λ call. call.group ≡ store.old.state.core.made.groups + 1) }
         ensures order { (p : Turn) → Sits component.now p store.old.state.core → Sits component.now p store.new.state.core }
         ensures hosts { (course : H → HostDef) → HoldsHosts course store.old → HoldsHosts course store.new }
-        ensures rest { store.new ≡ record store.old { state = store.new.state } }
+        ensures groups { HoldsGroups store.old.groups store.old.state.core → HoldsGroups store.new.groups store.new.state.core }
+        ensures told { HoldsGroups store.old.groups store.old.state.core → IfOk result (λ call. Told (told_of NoticeKind.Start call.group ∷ []) store.old.groups.listeners store.new.groups.listeners) }
+        ensures refused { HoldsGroups store.old.groups store.old.state.core → OnErr result (Told (finish_all store.old.groups.live) store.old.groups.listeners store.new.groups.listeners) }
+        ensures rest { store.new ≡ record store.old { state = store.new.state; groups = store.new.groups } }
     {
         let group = store.state.made().groups + 1;
         match start_call(&mut store.state, component, self.callee(), params) {
-            Ok(thread) => Ok(FuncCallConcurrent { thread, group }),
-            Err(e) => Err(e),
+            Ok(thread) => {
+                let Ok(_made) = store.groups.make() else {
+                    store.set_trapped();
+                    return Err(TaskError::NoMemory);
+                };
+                Ok(FuncCallConcurrent { thread, group })
+            }
+            Err(e) => {
+                store.groups.clean_up(None);
+                Err(e)
+            }
         }
     }
 
@@ -116,11 +132,19 @@ impl Func {
         ensures group { IfOk result (λ call. call.group ≡ store.old.state.core.made.groups + 1) }
         ensures order { (p : Turn) → Sits component.now p store.old.state.core → Sits component.now p store.new.state.core }
         ensures hosts { (course : H → HostDef) → HoldsHosts course store.old → HoldsHosts course store.new }
-        ensures rest { store.new ≡ record store.old { state = store.new.state } }
+        ensures groups { HoldsGroups store.old.groups store.old.state.core → HoldsGroups store.new.groups store.new.state.core }
+        ensures told { HoldsGroups store.old.groups store.old.state.core → IfOk result (λ call. Told (told_of NoticeKind.Start call.group ∷ []) store.old.groups.listeners store.new.groups.listeners) }
+        ensures rest { store.new ≡ record store.old { state = store.new.state; groups = store.new.groups } }
     {
         let group = store.state.made().groups + 1;
         match start_untrapped(&mut store.state, component, self.callee(), params) {
-            Ok(thread) => Ok(FuncCallConcurrent { thread, group }),
+            Ok(thread) => {
+                let Ok(_made) = store.groups.make() else {
+                    store.set_trapped();
+                    return Err(TaskError::NoMemory);
+                };
+                Ok(FuncCallConcurrent { thread, group })
+            }
             Err(e) => Err(e),
         }
     }

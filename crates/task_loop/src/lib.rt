@@ -1,6 +1,7 @@
 //! The event loop: main and the threads take their steps, and each step adds a label to a trace.
 #![tactic(auto)]
 
+mod asks;
 mod call;
 mod call_concurrent;
 mod host_calls;
@@ -17,7 +18,7 @@ pub use instance::Instance;
 pub use main_task::MainTask;
 pub use run::{RunConcurrent, run_concurrent};
 pub use task_calls::{Answer, QualifiedThreadId, ResumeThread, Step, SuspensionTarget, TaskError};
-pub use task_group::TaskGroupId;
+pub use task_group::{Notice, NoticeKind, TaskGroupId};
 pub use task_machine::{
     Callee, Component, ExportDef, HostDef, InstanceDef, Label, NoMemory, Op, Operand, Outcome, Slot,
 };

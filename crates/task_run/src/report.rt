@@ -14,7 +14,7 @@ ghost use Rattle.task_rules.specs.Texts.{label_text, outcome_text, line_text, te
 use crate::main_script::ScriptMain;
 use report_text::Page;
 use std::alloc::{AllocError, Global};
-use task_loop::{Outcome, Trace, run_concurrent};
+use task_loop::{Notice, Outcome, Trace, run_concurrent};
 use task_machine::{IdleLine, NoMemory};
 use task_scenario::{RunError, Scenario, read_scenario};
 use task_store::{ScriptedHost, Store};
@@ -24,6 +24,8 @@ use task_store::{ScriptedHost, Store};
 pub struct Report {
     pub trace: Trace,
     pub outcome: Outcome,
+    /// What the groups were told, in order.
+    pub groups: Vec<Notice>,
     pub store: Store<(), ScriptedHost>,
 }
 
@@ -72,6 +74,7 @@ fn run(alloc: Global, scenario: &Scenario, steps: u32) -> Result<Report, NoMemor
         scenario.handles,
         scenario.table,
     )?;
+    store.keep_notices(2 * (steps as usize) + 512)?;
     let Ok(mut run) = run_concurrent(&mut store, traps_on_idle(scenario.idle)) else {
         unreachable!()
     };
@@ -88,9 +91,14 @@ fn run(alloc: Global, scenario: &Scenario, steps: u32) -> Result<Report, NoMemor
         return Err(NoMemory);
     };
     run.end(&mut store);
+    let mut groups = Vec::new(alloc);
+    let Ok(()) = groups.extend_from_slice(store.notices()) else {
+        return Err(NoMemory);
+    };
     Ok(Report {
         trace,
         outcome,
+        groups,
         store,
     })
 }
