@@ -14,8 +14,11 @@ use Rattle.task_machine.specs.declared.label.SetLabel.TheVariants as set_label
 use Rattle.task_machine.specs.declared.label.TaskLabel.TheVariants as task_label
 use Rattle.task_machine.specs.declared.label.ThreadLabel.{ThreadLabel}
 use Rattle.task_machine.specs.declared.label.ThreadLabel.TheVariants as thread_label
+use Rattle.task_machine.specs.declared.op.CallOp.TheVariants as call_op
 use Rattle.task_machine.specs.declared.op.DataOp.{DataOp}
 use Rattle.task_machine.specs.declared.op.DataOp.TheVariants as data_op
+use Rattle.task_machine.specs.declared.op.Op.{Op}
+use Rattle.task_machine.specs.declared.op.Op.TheVariants as op
 use Rattle.task_machine.specs.declared.op.ThreadOp.{ThreadOp}
 use Rattle.task_machine.specs.declared.op.ThreadOp.TheVariants as thread_op
 use Rattle.task_machine.specs.declared.records.HowFar.{HowFar}
@@ -33,6 +36,8 @@ use Rattle.task_rules.specs.Sets.{chosen, finds_nothing, handed_out, poll_row, p
 use Rattle.task_rules.specs.Task.{dec_from, dec_row, inc_raises, inc_row, ret_bad_row, ret_done, ret_row, task_cancel_done, task_cancel_row}
 use Rattle.task_rules.specs.Threads.{Halt, Suspension, Yielding, by_how_far, halt_row, halted_resuming, halting, halts, has_yielded, resume_later_found, resume_later_row, resume_why, resumed_later, then_promote, then_promote_found, then_promote_row, then_resume_found, then_resume_row, thread_made, thread_new_label, thread_new_row, thread_row}
 pub use Rattle.cancel_ops.proofs.Shows.{ShowsFor, here, ShowsAs, nobody, StopsAs, shows_of, stops_goes, if_traps, if_lawful, if_found, if_given, two_traps}
+use Rattle.op_dispatch.specs.Fits.{calls_host}
+use Rattle.op_dispatch.specs.Polls.{polled_host}
 
 -- ---- Ops on registers and words
 
@@ -243,3 +248,9 @@ module _ (n : ℕ) (s : Core) where
   thread_shows c (thread_op.YieldThenResume x) = halting_shows (thread_label.YieldThenResume n) (λ l. then_resume_row Yielding n (value_of n s x) s) (resume_shows Yielding (value_of n s x))
   thread_shows c (thread_op.SuspendThenPromote x) = halting_shows (thread_label.SuspendThenPromote n) (λ l. then_promote_row Suspension n (value_of n s x) l s) (promote_shows Suspension (value_of n s x) (thread_label.SuspendThenPromote n))
   thread_shows c (thread_op.YieldThenPromote x) = halting_shows (thread_label.YieldThenPromote n) (λ l. then_promote_row Yielding n (value_of n s x) l s) (promote_shows Yielding (value_of n s x) (thread_label.YieldThenPromote n))
+
+-- an op that calls no host polls none
+pub plain_polls : (c : Component) (h : HowFar) (o : Op) → calls_host o ≡ false → polled_host c h o ≡ None
+plain_polls c h (op.Call (call_op.CallHost r q i)) e = absurd (cc)
+plain_polls c h (op.Call (call_op.CallSyncHost r i)) e = absurd (cc)
+plain_polls c h o e = refl

@@ -33,6 +33,16 @@ abbrev pub is_data_op : Op → Bool
 is_data_op (op.Data o) = true
 is_data_op o = false
 
+-- a call of a host
+abbrev pub is_host_call : CallOp → Bool
+is_host_call (call_op.CallHost r q i) = true
+is_host_call (call_op.CallSyncHost r i) = true
+is_host_call o = false
+
+abbrev pub calls_host : Op → Bool
+calls_host (op.Call o) = is_host_call o
+calls_host o = false
+
 -- ---- Where ops find their instances
 
 -- each instance of the component is there

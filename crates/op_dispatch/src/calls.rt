@@ -1,9 +1,9 @@
 //! The ops on subtasks, as they begin or resumed inside them.
-ghost use Rattle.op_dispatch.specs.Fits.{HasInstances, call_op_fits};
+ghost use Rattle.op_dispatch.specs.Fits.{HasInstances, call_op_fits, is_host_call};
 ghost use Rattle.op_dispatch.specs.Goes.{GoesOn, given};
 ghost use Rattle.op_dispatch.specs.Polls.{Polls};
 ghost use Rattle.op_dispatch.specs.Runner.{Runner, UnderWay, called_call, called_work, given_answer};
-ghost use Rattle.std.specs.Prelude.{◌≡◌, ◌+◌, ◌<◌, ◌≤◌, ◌^◌, IfOk, IfSome, IsSome, OnErr, OnOk, is_some, length, option_map, true};
+ghost use Rattle.std.specs.Prelude.{◌≡◌, ◌+◌, ◌<◌, ◌≤◌, ◌^◌, IfOk, IfSome, IsSome, OnErr, OnOk, false, is_some, length, option_map, true};
 ghost use Rattle.task_machine.specs.Maps.{get};
 ghost use Rattle.task_machine.specs.Read.{how_far_of, instance_of, position_of, registers_of};
 ghost use Rattle.task_machine.specs.declared.op.CallOp.{CallOp};
@@ -183,19 +183,25 @@ fn call_sync_of_host<W: Words>(
     })
 }
 
-/// An op on subtasks. Where memory is wanting, all is as before.
+/// Whether the op is a call of a host.
 #[inline(always)]
-pub(crate) fn do_call_op<W: Words>(
+pub fn is_host_call(op: &CallOp) -> bool
+    ensures { result ≡ is_host_call op.now }
+{
+    matches!(op, CallOp::CallHost { .. } | CallOp::CallSyncHost { .. })
+}
+
+/// A call of a host: the host that it polls and the work that it makes are named. Where memory is wanting, all is as
+/// before.
+pub fn do_host_call<W: Words>(
     component: &Component,
     w: &mut W,
     thread: ThreadId,
     op: &CallOp,
 ) -> Result<Done, NoMemory>
     requires runner { Runner thread (W.view w.old) }
-    requires fits { call_op_fits component.now op.now ≡ true }
+    requires host { is_host_call op.now ≡ true }
     requires position { position_of (thread_of (W.view w.old) thread) (W.view w.old).core + 1 < 2 ^ 32 }
-    requires handles { is_some (get (W.view w.old).core.handles (instance_of (thread_of (W.view w.old) thread) (W.view w.old).core)) ≡ true }
-    requires instances { HasInstances component.now (W.view w.old).core }
     requires few { given (W.view w.old).core < 2 ^ 61 }
     ensures meets { IfOk result (λ done. Meets (subtask_row component.now (thread_of (W.view w.old) thread) (W.view w.old).core op.now) (W.view w.old).core done.came (W.view w.new).core) }
     ensures goes { IfOk result (λ done. GoesOn done.came (W.view w.new)) }
@@ -205,42 +211,65 @@ pub(crate) fn do_call_op<W: Words>(
     ensures err { OnErr result (W.view w.new ≡ W.view w.old) }
 {
     match op {
+        CallOp::CallHost { to, result, host } => {
+            call_of_host(component, w, thread, *to, *result, *host)
+        }
+        CallOp::CallSyncHost { to, host } => call_sync_of_host(component, w, thread, *to, *host),
+        _ => unreachable!(),
+    }
+}
+
+/// An op on subtasks that calls no host. Where memory is wanting, all is as before.
+#[inline(always)]
+pub(crate) fn do_plain_call<W: Words>(
+    component: &Component,
+    w: &mut W,
+    thread: ThreadId,
+    op: &CallOp,
+) -> Result<Came, NoMemory>
+    requires runner { Runner thread (W.view w.old) }
+    requires plain { is_host_call op.now ≡ false }
+    requires fits { call_op_fits component.now op.now ≡ true }
+    requires position { position_of (thread_of (W.view w.old) thread) (W.view w.old).core + 1 < 2 ^ 32 }
+    requires handles { is_some (get (W.view w.old).core.handles (instance_of (thread_of (W.view w.old) thread) (W.view w.old).core)) ≡ true }
+    requires instances { HasInstances component.now (W.view w.old).core }
+    requires few { given (W.view w.old).core < 2 ^ 61 }
+    ensures meets { IfOk result (λ came. Meets (subtask_row component.now (thread_of (W.view w.old) thread) (W.view w.old).core op.now) (W.view w.old).core came (W.view w.new).core) }
+    ensures goes { IfOk result (λ came. GoesOn came (W.view w.new)) }
+    ensures stays { IfOk result (λ came. StaysAfter came (W.view w.old) (W.view w.new)) }
+    ensures works { OnOk result (NamesWorks (W.view w.old) (W.view w.new)) }
+    ensures err { OnErr result (W.view w.new ≡ W.view w.old) }
+{
+    match op {
         CallOp::Call {
             to,
             result,
             callee,
             params,
-        } => {
-            let came = call(
-                component,
-                w,
-                thread,
-                *to,
-                *result,
-                *callee,
-                params.as_slice(),
-            )?;
-            Ok(plain(came))
-        }
+        } => call(
+            component,
+            w,
+            thread,
+            *to,
+            *result,
+            *callee,
+            params.as_slice(),
+        ),
         CallOp::CallSync { to, callee, params } => {
-            let came = call_sync(component, w, thread, *to, *callee, params.as_slice())?;
-            Ok(plain(came))
+            call_sync(component, w, thread, *to, *callee, params.as_slice())
         }
-        CallOp::CallHost { to, result, host } => {
-            call_of_host(component, w, thread, *to, *result, *host)
-        }
-        CallOp::CallSyncHost { to, host } => call_sync_of_host(component, w, thread, *to, *host),
         CallOp::Cancel { to, subtask } => {
             let handle = value_of(w, thread, *subtask);
-            Ok(plain(cancels(w, thread, *to, handle, false)))
+            Ok(cancels(w, thread, *to, handle, false))
         }
         CallOp::CancelSync { to, subtask } => {
             let handle = value_of(w, thread, *subtask);
-            Ok(plain(cancels(w, thread, *to, handle, true)))
+            Ok(cancels(w, thread, *to, handle, true))
         }
         CallOp::Drop { subtask } => {
             let handle = value_of(w, thread, *subtask);
-            Ok(plain(drop_subtask(w, thread, handle)))
+            Ok(drop_subtask(w, thread, handle))
         }
+        _ => unreachable!(),
     }
 }

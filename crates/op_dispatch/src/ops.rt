@@ -1,5 +1,5 @@
 //! An op of the running thread, by its group.
-ghost use Rattle.op_dispatch.specs.Fits.{HasInstances, is_data_op, op_fits};
+ghost use Rattle.op_dispatch.specs.Fits.{HasInstances, calls_host, is_data_op, op_fits};
 ghost use Rattle.op_dispatch.specs.Goes.{GoesOn, given};
 ghost use Rattle.op_dispatch.specs.Polls.{Polls};
 ghost use Rattle.op_dispatch.specs.Runner.{Runner};
@@ -15,14 +15,46 @@ ghost use Rattle.task_rules.specs.Scripts.{script_of};
 ghost use Rattle.task_rules.specs.Step.{op_row};
 ghost use Rattle.task_words.specs.StateView.{thread_of};
 
-use crate::calls::do_call_op;
+use crate::calls::{do_host_call, do_plain_call, is_host_call};
 use crate::done::{Done, plain};
 use crate::sets::do_set_op;
 use crate::tasks::do_task_op;
 use crate::threads::do_thread_op;
 use task_machine::{Component, NoMemory, Op};
-use task_ops::compute;
+use task_ops::{Came, compute};
 use task_words::{ThreadId, Words};
+
+/// An op that isn't on registers and words, and calls no host, is done by the running thread, whether or not it is the
+/// one at its place. Where memory is wanting, all is as before.
+#[inline(always)]
+pub fn do_plain_op<W: Words>(
+    component: &Component,
+    w: &mut W,
+    thread: ThreadId,
+    op: &Op,
+) -> Result<Came, NoMemory>
+    requires runner { Runner thread (W.view w.old) }
+    requires other { is_data_op op.now ≡ false }
+    requires plain { calls_host op.now ≡ false }
+    requires fits { op_fits component.now op.now ≡ true }
+    requires instances { HasInstances component.now (W.view w.old).core }
+    requires position { position_of (thread_of (W.view w.old) thread) (W.view w.old).core + 1 < 2 ^ 32 }
+    requires handles { is_some (get (W.view w.old).core.handles (instance_of (thread_of (W.view w.old) thread) (W.view w.old).core)) ≡ true }
+    requires few { given (W.view w.old).core < 2 ^ 61 }
+    ensures meets { IfOk result (λ came. Meets (op_row component.now (thread_of (W.view w.old) thread) (W.view w.old).core (choice_of (label_of (thread_of (W.view w.old) thread) came)) op.now) (W.view w.old).core came (W.view w.new).core) }
+    ensures goes { IfOk result (λ came. GoesOn came (W.view w.new)) }
+    ensures stays { IfOk result (λ came. StaysAfter came (W.view w.old) (W.view w.new)) }
+    ensures works { OnOk result (NamesWorks (W.view w.old) (W.view w.new)) }
+    ensures err { OnErr result (W.view w.new ≡ W.view w.old) }
+{
+    match op {
+        Op::Data(_) => unreachable!(),
+        Op::Task(op) => Ok(do_task_op(w, thread, *op)),
+        Op::Set(op) => do_set_op(w, thread, *op),
+        Op::Call(op) => do_plain_call(component, w, thread, op),
+        Op::Thread(op) => do_thread_op(component, w, thread, *op),
+    }
+}
 
 /// An op that isn't on registers and words is done by the running thread, whether or not it is the one at its place.
 /// Where memory is wanting, all is as before.
@@ -47,11 +79,11 @@ pub fn do_other_op<W: Words>(
     ensures err { OnErr result (W.view w.new ≡ W.view w.old) }
 {
     match op {
-        Op::Data(_) => unreachable!(),
-        Op::Task(op) => Ok(plain(do_task_op(w, thread, *op))),
-        Op::Set(op) => Ok(plain(do_set_op(w, thread, *op)?)),
-        Op::Call(op) => do_call_op(component, w, thread, op),
-        Op::Thread(op) => Ok(plain(do_thread_op(component, w, thread, *op)?)),
+        Op::Call(call) if is_host_call(call) => do_host_call(component, w, thread, call),
+        _ => {
+            let came = do_plain_op(component, w, thread, op)?;
+            Ok(plain(came))
+        }
     }
 }
 

@@ -2,7 +2,7 @@
 use Rattle.label_laws.proofs.TurnLemmas.{main_at_its_turns}
 use Rattle.label_laws.specs.Own.{is_main_turn, is_of_main}
 use Rattle.std.proofs.Common.{refl, subst, ◌∙◌}
-use Rattle.std.specs.Prelude.{Bool, Err, IfOk, None, Ok, OnErr, Option, Result, Some, false, ℕ, ◌≡◌}
+use Rattle.std.specs.Prelude.{Bool, Err, IfOk, List, None, Ok, OnErr, Option, Result, Some, false, ℕ, ◌≡◌}
 use Rattle.task_machine.specs.Core.{Main}
 use Rattle.task_machine.specs.declared.label.Label.{Label}
 use Rattle.task_machine.specs.declared.label.Label.TheVariants as label
@@ -11,9 +11,12 @@ use Rattle.task_machine.specs.declared.memory.NoMemory.{NoMemory}
 use Rattle.task_machine.specs.declared.records.Turn.{Turn}
 use Rattle.task_machine.specs.declared.records.Turn.TheVariants as turn
 use Rattle.task_rules.specs.Stalled.{Setting}
+use Rattle.task_turns.proofs.SteppedLemmas.{none_as}
 use Rattle.task_turns.specs.Does.{DoesStep, step_of, step_shown}
+use Rattle.task_turns.specs.Stepped.{AddedOrNone}
 use Rattle.task_turns.specs.Turn.{Makes, PendsIn, Turned, TurnedBeside, Turns, idle_line_of, state_at}
 use Rattle.task_turns.specs.declared.made.Made.{Made}
+use Rattle.task_turns.specs.declared.made.Stepped.{Stepped}
 use Rattle.task_turns.specs.declared.mains.MainStep.{MainStep}
 use Rattle.task_words.specs.StateView.{StateView}
 
@@ -38,10 +41,12 @@ module _ {M : Type 0} (does : M → MainStep → M → Type 0) (m : M) (x : Sett
   still_turned ended None h = refl
   still_turned ended (Some made) h = still (turn.Take ended) refl made h
 
-  pub still_taken : (b ended : Bool) (r : Result (Option Made) NoMemory) → x.idle ≡ idle_line_of b → PendsIn x s.core k (turn.Take ended)
-      → IfOk r (λ o. TurnedBeside x.component b (turn.Take ended) s o t) → IfOk r (λ o. DoesStep does m (step_of o) m)
-  still_taken b ended (Ok o) idle pends turned = still_turned ended o (turned x refl idle k pends)
-  still_taken b ended (Err e) idle pends turned = tt
+  pub still_taken : (b ended : Bool) (r : Result (Option Stepped) NoMemory) (before after : List Label) → x.idle ≡ idle_line_of b → PendsIn x s.core k (turn.Take ended)
+      → IfOk r (λ o. AddedOrNone (λ made. TurnedBeside x.component b (turn.Take ended) s made t) o before after) → IfOk r (λ o. AddedOrNone (λ made. DoesStep does m (step_of made) m) o before after)
+  still_taken b ended (Ok o) before after idle pends turned =
+      none_as (λ (made : Option Made). TurnedBeside x.component b (turn.Take ended) s made t) (λ (made : Option Made). DoesStep does m (step_of made) m) o before after
+      (λ made h. still_turned ended made (h x refl idle k pends)) turned
+  still_taken b ended (Err e) before after idle pends turned = tt
 
 -- what is so anyhow is so after an error
 pub on_err : {A E : Type 0} (r : Result A E) (P : Type 0) → P → OnErr r P

@@ -3,12 +3,13 @@ use Rattle.std.proofs.Common.{ap, arith, inl, inr, refl, subst, sym, ◌∙◌}
 use Rattle.host_works.specs.Course.{one_fewer}
 use Rattle.op_dispatch.specs.Polls.{polled_host}
 use Rattle.std.specs.Option.{option_map}
-use Rattle.std.specs.Prelude.{[], Bool, Err, IfOk, None, Ok, OnOk, Option, Result, Some, cond, suc, true, zero, ℕ, ◌+◌, ◌==◌, ◌≡◌, ◌-◌}
+use Rattle.std.specs.Prelude.{[], Bool, Err, IfOk, List, None, Ok, OnOk, Option, Result, Some, cond, suc, true, zero, ℕ, ◌+◌, ◌==◌, ◌≡◌, ◌-◌}
 use Rattle.task_machine.specs.Core.{Core, Main, State, Unscripted}
 use Rattle.task_machine.specs.Maps.{get}
 use Rattle.task_machine.specs.Read.{course_of, how_far_of}
 use Rattle.task_machine.specs.declared.component.Component.{Component}
 use Rattle.task_machine.specs.declared.component.HostDef.{HostDef}
+use Rattle.task_machine.specs.declared.label.Label.{Label}
 use Rattle.task_machine.specs.declared.memory.NoMemory.{NoMemory}
 use Rattle.task_machine.specs.declared.op.CallOp.TheVariants as call_op
 use Rattle.task_machine.specs.declared.op.Op.{Op}
@@ -29,9 +30,11 @@ use Rattle.task_store.proofs.HostLemmas.{holds_as, holds_made, holds_quiet, hold
 use Rattle.task_store.specs.Hosts.{HoldsWorks, held_after_call}
 use Rattle.task_table.specs.declared.id.TableId.{TableId}
 use Rattle.task_turns.specs.Ran.{RanPolls, WorkMade}
+use Rattle.task_turns.specs.Stepped.{AddedOrNone}
 use Rattle.task_turns.specs.Turn.{Makes, PendsIn, Sits, Turned, TurnedBeside, idle_line_of, state_at}
 use Rattle.task_turns.specs.declared.made.Made.{Made}
 use Rattle.task_turns.specs.declared.made.Ran.{Ran}
+use Rattle.task_turns.specs.declared.made.Stepped.{Stepped}
 use Rattle.task_wait.specs.declared.keys.HostTaskKey.{HostTaskKey}
 use Rattle.task_words.specs.StateView.{StateView, work_of}
 
@@ -41,16 +44,17 @@ taking_makes_none : (x : Setting) (s : State) (ended : Bool) → s.turn ≡ turn
 taking_makes_none x s ended is (Spawns main) = cc
 taking_makes_none x s ended is (CallsHost n runs queues) = cc
 
-pub held_taken : (x : Setting) (b ended : Bool) (m : Main) (s t : StateView) (left : ℕ → Option HostDef) (r : Result (Option Made) NoMemory) → Sits x.component (turn.Take ended) s.core →
-    x.idle ≡ idle_line_of b → PendsIn x s.core m (turn.Take ended) → IfOk r (λ o. TurnedBeside x.component b (turn.Take ended) s o t) → HoldsWorks left s.core → OnOk r (HoldsWorks left t.core)
-held_taken x b ended m s t left (Err e) sits idle pends turned h = tt
-held_taken x b ended m s t left (Ok o) sits idle pends turned h = by o (turned x refl idle m pends)
-  where
-    by : (o : Option Made) → Turned x (turn.Take ended) m s o m t → HoldsWorks left t.core
-    by None k = subst (λ (v : StateView). HoldsWorks left v.core) (sym k.1.1) h
-    by (Some made) k =
-        holds_quiet x (state_at s.core m (turn.Take ended)) made.label (state_at t.core m made.turn) k.step (λ n e. cc) (sits.order m).works.made left
-        (taking_makes_none x (state_at s.core m (turn.Take ended)) ended refl) h
+pub held_taken : (x : Setting) (b ended : Bool) (m : Main) (s t : StateView) (left : ℕ → Option HostDef) (r : Result (Option Stepped) NoMemory) (before after : List Label) → Sits x.component (turn.Take ended) s.core →
+    x.idle ≡ idle_line_of b → PendsIn x s.core m (turn.Take ended) → IfOk r (λ o. AddedOrNone (λ made. TurnedBeside x.component b (turn.Take ended) s made t) o before after) → HoldsWorks left s.core → OnOk r (HoldsWorks left t.core)
+held_taken x b ended m s t left (Err e) before after sits idle pends turned h = tt
+held_taken x b ended m s t left (Ok None) before after sits idle pends turned h =
+    let k : Turned x (turn.Take ended) m s None m t = turned.0 x refl idle m pends in
+    subst (λ (v : StateView). HoldsWorks left v.core) (sym k.1.1) h
+held_taken x b ended m s t left (Ok (Some q)) before after sits idle pends turned h =
+    let made = turned.0 in
+    let k : Turned x (turn.Take ended) m s (Some made) m t = turned.1.1 x refl idle m pends in
+    holds_quiet x (state_at s.core m (turn.Take ended)) made.label (state_at t.core m made.turn) k.step (λ n e. cc) (sits.order m).works.made left
+    (taking_makes_none x (state_at s.core m (turn.Take ended)) ended refl) h
 
 -- ---- Ops of the running thread
 

@@ -1,22 +1,22 @@
-ghost use Rattle.std.specs.Prelude.{◌≡◌, ◌*◌, ◌+◌, ◌<◌, ◌≤◌, ◌^◌, IfErr, IfOk, None, OnErr, OnOk, Some, false, is_none, true, Bool};
+ghost use Rattle.std.specs.Prelude.{◌≡◌, ◌*◌, ◌+◌, ◌<◌, ◌≤◌, ◌^◌, IfErr, IfOk, None, OnErr, OnOk, Some, true, Bool};
 ghost use Rattle.task_ops.specs.Works.{NamesWorks};
-ghost use Rattle.task_rules.specs.Outcome.{outcome_of_label};
 ghost use Rattle.task_loop.specs.Standing.{standing};
 ghost use Rattle.task_store.specs.Hosts.{HoldsHosts};
 ghost use Rattle.task_turns.specs.WellFormed.{IsWellFormed};
 ghost use Rattle.task_turns.specs.Does.{DoesAdded, DoesStep, step_of, step_shown};
 ghost use Rattle.task_turns.specs.Drive.{Drives, Drove, WasGoing};
 ghost use Rattle.task_turns.specs.Main.{Steps};
+ghost use Rattle.task_turns.specs.Stepped.{Added, AddedOrNone};
 ghost use Rattle.task_turns.specs.Turn.{IsAtTurn, IsFree, IsSettled, Makes, PendsIn, Sits, Turned, Turns, given, goes_on, is_open, running_of, runs_in, setting_of, state_at};
 
 use crate::main_task::MainTask;
 use store_access::Access;
 use task_calls::TaskError;
-use task_machine::{
-    CallLabel, Component, Label, LoopLabel, MainLabel, NoMemory, Outcome, Trap, Turn,
-};
+use task_machine::{Component, NoMemory, Outcome, Trap, Turn};
 use task_store::{AccessorTask, FromHost, HostWork, StandingRun, Store};
-use task_turns::{Made, MainStep, Trace, compute, is_idle, made_by_main, step_run, take};
+use task_turns::{
+    MainStep, RunStep, Stepped, Trace, compute, is_idle, made_by_main, put, step_run, take,
+};
 
 /// A run of the event loop on a store.
 #[derive(Drop)]
@@ -49,32 +49,6 @@ pub fn run_concurrent<T, H>(
     }
 }
 
-// The outcome that a label gives.
-fn outcome_of(label: Label) -> Option<Outcome>
-    ensures { result ≡ outcome_of_label label }
-{
-    match label {
-        Label::Main(MainLabel::Answer(value)) => Some(Outcome::Done(value)),
-        Label::Loop(LoopLabel::Trap(trap, _)) => Some(Outcome::Trap(trap)),
-        Label::Loop(LoopLabel::Deadlock(trap)) => Some(Outcome::Deadlock(trap)),
-        Label::Loop(LoopLabel::FutureFails(work)) => Some(Outcome::HostFailed(work)),
-        Label::Call(CallLabel::Fails(_, work)) => Some(Outcome::HostFailed(work)),
-        _ => None,
-    }
-}
-
-// The outcome of a run that has made this step. The label is looked at only where the run is over.
-#[inline(always)]
-fn outcome_after(made: &Made) -> Option<Outcome>
-    requires over { is_none (outcome_of_label made.now.label) ≡ is_open made.now.turn }
-    ensures { result ≡ outcome_of_label made.now.label }
-{
-    match made.turn {
-        Turn::Over => outcome_of(made.label),
-        Turn::Main | Turn::Futures { .. } | Turn::Take { .. } | Turn::Run { .. } => None,
-    }
-}
-
 // Lends the store to main for an op.
 fn ask_main<T, H: HostWork, M: MainTask<T, H>>(
     component: &Component,
@@ -101,12 +75,13 @@ fn ask_main<T, H: HostWork, M: MainTask<T, H>>(
     main.step(&mut access, component)
 }
 
-// Takes an op of main.
+// Takes an op of main, and adds what that shows to the trace.
 fn step_main<T, H: HostWork, M: MainTask<T, H>>(
     component: &Component,
     store: &mut Store<T, H>,
     main: &mut M,
-) -> Result<Made, NoMemory>
+    trace: &mut Trace,
+) -> Result<Stepped, NoMemory>
     requires covered { IsWellFormed component.now }
     requires at { IsAtTurn component.now Turn.Main store.old.state }
     requires suits { M.suits main.old component.now }
@@ -118,36 +93,44 @@ fn step_main<T, H: HostWork, M: MainTask<T, H>>(
     ensures suits { OnOk result (M.suits main.new component.now) }
     ensures knows { OnOk result (M.knows main.new store.new.state) }
     ensures hosts { OnOk result (HoldsHosts H.course store.new) }
-    ensures does { IfOk result (λ made. DoesStep M.does main.old (step_shown made.label) main.new) }
-    ensures turns { IfOk result (λ made. (trap_on_idle : Bool) → Turns (setting_of component.now (M.script main.old) trap_on_idle) Turn.Main (M.part main.old) store.old.state made (M.part main.new) store.new.state) }
+    ensures does { IfOk result (λ stepped. Added (λ made. DoesStep M.does main.old (step_shown made.label) main.new) stepped trace.old trace.new) }
+    ensures turns { IfOk result (λ stepped. Added (λ made. (trap_on_idle : Bool) → Turns (setting_of component.now (M.script main.old) trap_on_idle) Turn.Main (M.part main.old) store.old.state made (M.part main.new) store.new.state) stepped trace.old trace.new) }
+    ensures err { OnErr result (trace.new ≡ trace.old) }
 {
     let Ok(step) = ask_main(component, store, main) else {
         return Err(NoMemory);
     };
-    Ok(made_by_main(&store.state, step))
+    let made = made_by_main(&store.state, step);
+    put(trace, made)
 }
 
 // The running thread, which has this number, takes a step. A host that it calls is polled, and its
 // work is held.
+#[inline(always)]
 fn run_thread<T, H: AccessorTask<T> + FromHost>(
     component: &Component,
     store: &mut Store<T, H>,
     thread: u64,
-) -> Result<Made, NoMemory>
+    trace: &mut Trace,
+) -> Result<Stepped, NoMemory>
     requires covered { IsWellFormed component.now }
     requires order { Sits component.now (Turn.Run thread) store.old.state.core }
     requires current { running_of store.old.state ≡ Some thread }
     requires given { given store.old.state.core + 4 < 2 ^ 61 }
     requires hosts { HoldsHosts H.course store.old }
     ensures stands { standing store.new ≡ standing store.old }
-    ensures makes { IfOk result (λ made. Makes component.now (Turn.Run thread) store.old.state made store.new.state) }
-    ensures free { IfOk result (λ made. IsFree made.turn) }
+    ensures makes { IfOk result (λ stepped. Added (λ made. Makes component.now (Turn.Run thread) store.old.state made store.new.state × IsFree made.turn) stepped trace.old trace.new) }
     ensures works { OnOk result (NamesWorks store.old.state store.new.state) }
     ensures hosts { OnOk result (HoldsHosts H.course store.new) }
+    ensures err { OnErr result (trace.new ≡ trace.old) }
 {
-    let ran = step_run(component, &mut store.state, thread)?;
-    store.call_host(ran.polled, ran.work)?;
-    Ok(ran.made)
+    match step_run(component, &mut store.state, thread, trace)? {
+        RunStep::Shown(stepped) => Ok(stepped),
+        RunStep::Called(ran) => {
+            store.call_host(ran.polled, ran.work)?;
+            put(trace, ran.made)
+        }
+    }
 }
 
 impl RunConcurrent {
@@ -235,25 +218,27 @@ impl RunConcurrent {
     {
         let mut added = 0;
         'turns: while added < steps {
-            let Some(made) = self.turn(component, store, main)? else {
-                return Ok(Outcome::Idle);
-            };
-            self.turn = made.turn;
-            let Ok(()) = trace.push(made.label) else {
-                return Err(NoMemory);
-            };
-            if let Some(outcome) = outcome_after(&made) {
-                return Ok(outcome);
+            match self.turn(component, store, main, trace)? {
+                None => {
+                    return Ok(Outcome::Idle);
+                }
+                Some(Stepped::Over(outcome)) => {
+                    self.turn = Turn::Over;
+                    return Ok(outcome);
+                }
+                Some(Stepped::Goes { turn, computed }) => {
+                    self.turn = turn;
+                    added = compute(
+                        component,
+                        &mut store.state,
+                        computed,
+                        turn,
+                        trace,
+                        added + 1,
+                        steps,
+                    )?;
+                }
             }
-            added = compute(
-                component,
-                &mut store.state,
-                &made.label,
-                self.turn,
-                trace,
-                added + 1,
-                steps,
-            )?;
         }
         if is_idle(&store.state, self.turn, self.trap_on_idle) {
             return Ok(Outcome::Idle);
@@ -261,14 +246,15 @@ impl RunConcurrent {
         Ok(Outcome::OutOfSteps)
     }
 
-    // Makes a step; none where nothing can go on and that is no deadlock. It is inlined, so that what it made is not copied.
+    // Makes a step, and adds its label to the trace; none where nothing can go on and that is no deadlock.
     #[inline(always)]
     fn turn<T, H: AccessorTask<T> + FromHost, M: MainTask<T, H>>(
         &self,
         component: &Component,
         store: &mut Store<T, H>,
         main: &mut M,
-    ) -> Result<Option<Made>, NoMemory>
+        trace: &mut Trace,
+    ) -> Result<Option<Stepped>, NoMemory>
         requires covered { IsWellFormed component.now }
         requires at { IsAtTurn component.now self.now.turn store.old.state }
         requires suits { M.suits main.old component.now }
@@ -281,14 +267,24 @@ impl RunConcurrent {
         ensures knows { OnOk result (M.knows main.new store.new.state) }
         ensures hosts { OnOk result (HoldsHosts H.course store.new) }
         ensures stands { standing store.new ≡ standing store.old }
-        ensures does { IfOk result (λ made. DoesStep M.does main.old (step_of made) main.new) }
-        ensures turned { IfOk result (λ made. Turned (setting_of component.now (M.script main.old) self.now.trap_on_idle) self.now.turn (M.part main.old) store.old.state made (M.part main.new) store.new.state) }
+        ensures does { IfOk result (λ stepped. AddedOrNone (λ made. DoesStep M.does main.old (step_of made) main.new) stepped trace.old trace.new) }
+        ensures turned { IfOk result (λ stepped. AddedOrNone (λ made. Turned (setting_of component.now (M.script main.old) self.now.trap_on_idle) self.now.turn (M.part main.old) store.old.state made (M.part main.new) store.new.state) stepped trace.old trace.new) }
+        ensures err { OnErr result (trace.new ≡ trace.old) }
     {
         match self.turn {
-            Turn::Main => Ok(Some(step_main(component, store, main)?)),
-            Turn::Futures { polled } => Ok(Some(store.poll_next(polled))),
-            Turn::Take { ended } => take(component, &mut store.state, ended, self.trap_on_idle),
-            Turn::Run { thread } => Ok(Some(run_thread(component, store, thread)?)),
+            Turn::Main => Ok(Some(step_main(component, store, main, trace)?)),
+            Turn::Futures { polled } => {
+                let made = store.poll_next(polled);
+                Ok(Some(put(trace, made)?))
+            }
+            Turn::Take { ended } => take(
+                component,
+                &mut store.state,
+                ended,
+                self.trap_on_idle,
+                trace,
+            ),
+            Turn::Run { thread } => Ok(Some(run_thread(component, store, thread, trace)?)),
             Turn::Over => unreachable!(),
         }
     }

@@ -12,6 +12,10 @@ use Rattle.task_machine.specs.declared.scenario.MainOpDef.{MainOpDef}
 use Rattle.task_turns.specs.Does.{DoesAdded, DoesShown, DoesStep, label_of_step, step_shown}
 use Rattle.task_turns.specs.Drive.{Computes, is_data}
 use Rattle.task_turns.specs.Main.{Did, Steps}
+use Rattle.task_turns.specs.Stepped.{Added}
+use Rattle.task_turns.specs.declared.made.Made.{Made}
+use Rattle.task_turns.specs.declared.made.Stepped.{Stepped}
+use Rattle.task_turns.specs.declared.made.Stepped.TheVariants as stepped
 use Rattle.task_turns.specs.declared.mains.MainStep.{MainStep}
 use Rattle.task_turns.specs.declared.mains.MainStep.TheVariants as step
 use Rattle.task_words.specs.StateView.{StateView}
@@ -82,3 +86,13 @@ module _ {M : Type 0} (does : M → MainStep → M → Type 0) where
     trace = computed.trace ∙ (ap (λ (ls : List Label). ls ++ computed.labels) so_far.trace ∙ append_assoc before so_far.added computed.labels);
     steps = shown_both so_far.added computed.labels m n n so_far.steps (shown_data computed.labels n computed.computing);
   }
+
+  -- a step that shows what main did was added
+  pub does_added : (m : M) (before : List Label) (mid : M) (mids : List Label) (q : Stepped) (n : M) (after : List Label) → DoesAdded does m before mid mids → Added (λ (made : Made). DoesStep does mid (step_shown made.label) n) q mids after → DoesAdded does m before n after
+  does_added m before mid mids (stepped.Goes p computed) n after so_far h = does_more m before mid mids h.0.label n after so_far h.1.1 h.1.0.0
+  does_added m before mid mids (stepped.Over o) n after so_far h = does_more m before mid mids h.0.label n after so_far h.1.1 h.1.0.0
+
+  -- none was made, and main did nothing
+  pub does_still : (m : M) (before : List Label) (mid : M) (mids : List Label) (n : M) (after : List Label) → DoesAdded does m before mid mids → (n ≡ mid) × (after ≡ mids) → DoesAdded does m before n after
+  does_still m before mid mids n after so_far h =
+      subst (λ (ls : List Label). DoesAdded does m before n ls) (sym h.1) (subst (λ (k : M). DoesAdded does m before k mids) (sym h.0) so_far)

@@ -16,3 +16,4 @@ pub mod CoveredLemmas
 pub mod RanLemmas
 pub mod LaterLemmas
 pub mod DoesLemmas
+pub mod SteppedLemmas

@@ -9,3 +9,4 @@ pub mod Main
 pub mod WellFormed
 pub mod Ran
 pub mod Later
+pub mod Stepped

@@ -1,14 +1,16 @@
 //! What a step made.
-ghost use Rattle.std.specs.Prelude.{◌≡◌, ◌<◌, None, is_none, true};
+ghost use Rattle.std.specs.Prelude.{◌≡◌, ◌<◌, IfOk, None, OnErr, is_none, true};
 ghost use Rattle.task_ops.specs.Steps.{core_after, label_of, turn_after};
 ghost use Rattle.task_ops.specs.Running.{IsTopmost};
 ghost use Rattle.task_ops.specs.Works.{KeepsWorks};
 ghost use Rattle.task_rules.specs.Outcome.{outcome_of_label};
 ghost use Rattle.task_rules.specs.Step.{struck};
+ghost use Rattle.task_turns.specs.Stepped.{Shown, Stands};
 ghost use Rattle.task_turns.specs.Turn.{CanStrike, GoesOn, is_going, is_open, running_of, runs_in};
 ghost use Rattle.task_words.specs.StateView.{thread_of};
 
-use task_machine::{CallLabel, HostDef, Label, LoopLabel, Turn};
+use label_trace::Trace;
+use task_machine::{CallLabel, HostDef, Label, LoopLabel, MainLabel, NoMemory, Outcome, Turn};
 use task_ops::{Came, strike};
 use task_words::{ThreadId, Words, WorkId};
 
@@ -19,12 +21,75 @@ pub struct Made {
     pub turn: Turn,
 }
 
+/// A step that was made, whose label is in the trace.
+#[derive(Clone, Copy)]
+pub enum Stepped {
+    /// Whose turn it is then. `computed` says that the step did an op on registers and words: others may follow.
+    Goes { turn: Turn, computed: bool },
+    /// The run is over.
+    Over(Outcome),
+}
+
 /// A step of the running thread that was made: the host that was polled first in it, and the work that was made.
 #[derive(Clone, Copy)]
 pub struct Ran {
     pub made: Made,
     pub polled: Option<HostDef>,
     pub work: Option<WorkId>,
+}
+
+/// A step of the running thread that was made, by where its label is.
+#[derive(Clone, Copy)]
+pub enum RunStep {
+    /// It polled no host, and its label is in the trace.
+    Shown(Stepped),
+    /// Its op calls a host, and its label is still to be added.
+    Called(Ran),
+}
+
+// The outcome that a label gives.
+fn outcome_of(label: Label) -> Option<Outcome>
+    ensures { result ≡ outcome_of_label label }
+{
+    match label {
+        Label::Main(MainLabel::Answer(value)) => Some(Outcome::Done(value)),
+        Label::Loop(LoopLabel::Trap(trap, _)) => Some(Outcome::Trap(trap)),
+        Label::Loop(LoopLabel::Deadlock(trap)) => Some(Outcome::Deadlock(trap)),
+        Label::Loop(LoopLabel::FutureFails(work)) => Some(Outcome::HostFailed(work)),
+        Label::Call(CallLabel::Fails(_, work)) => Some(Outcome::HostFailed(work)),
+        _ => None,
+    }
+}
+
+// The outcome of a run that has made this step. The label is looked at only where the run is over.
+#[inline(always)]
+fn outcome_after(made: &Made) -> Option<Outcome>
+    requires over { is_none (outcome_of_label made.now.label) ≡ is_open made.now.turn }
+    ensures { result ≡ outcome_of_label made.now.label }
+{
+    match made.turn {
+        Turn::Over => outcome_of(made.label),
+        Turn::Main | Turn::Futures { .. } | Turn::Take { .. } | Turn::Run { .. } => None,
+    }
+}
+
+/// Adds the label of a step that was made to the trace. Where memory is wanting, nothing is added.
+#[inline(always)]
+pub fn put(trace: &mut Trace, made: Made) -> Result<Stepped, NoMemory>
+    requires over { is_none (outcome_of_label made.label) ≡ is_open made.turn }
+    ensures stands { IfOk result (λ stepped. Stands stepped trace.old made trace.new) }
+    ensures err { OnErr result (trace.new ≡ trace.old) }
+{
+    let Ok(()) = trace.push(made.label) else {
+        return Err(NoMemory);
+    };
+    match outcome_after(&made) {
+        Some(outcome) => Ok(Stepped::Over(outcome)),
+        None => Ok(Stepped::Goes {
+            turn: made.turn,
+            computed: false,
+        }),
+    }
 }
 
 // The strand of the thread is gone, and none runs.
@@ -77,5 +142,66 @@ pub(crate) fn made_of<W: Words>(w: &mut W, thread: ThreadId, came: Came) -> Made
             let number = w.number(thread);
             fell(w, thread, Label::Call(CallLabel::Fails(number, work)))
         }
+    }
+}
+
+// Adds what an op that came to this shows to the trace, where its strand may be gone with it. It is out of line, as traps
+// are rare.
+#[cold]
+#[inline(never)]
+fn show_fall<W: Words>(
+    w: &mut W,
+    thread: ThreadId,
+    trace: &mut Trace,
+    came: Came,
+) -> Result<Stepped, NoMemory>
+    requires strikes { CanStrike came (thread_of (W.view w.old) thread) (W.view w.old).core }
+    requires goes { GoesOn came (W.view w.old) }
+    ensures shown { IfOk result (λ stepped. Shown thread came (W.view w.old) trace.old stepped (W.view w.new) trace.new) }
+    ensures works { KeepsWorks (W.view w.old) (W.view w.new) }
+    ensures err { OnErr result (trace.new ≡ trace.old) }
+{
+    let made = made_of(w, thread, came);
+    put(trace, made)
+}
+
+/// Adds what an op that came to this shows to the trace. A strand that trapped is taken away. `computed` says that
+/// the op was on registers and words. It is inlined, so that a label is packed where it is made.
+#[inline(always)]
+pub(crate) fn show<W: Words>(
+    w: &mut W,
+    thread: ThreadId,
+    trace: &mut Trace,
+    came: Came,
+    computed: bool,
+) -> Result<Stepped, NoMemory>
+    requires strikes { CanStrike came (thread_of (W.view w.old) thread) (W.view w.old).core }
+    requires goes { GoesOn came (W.view w.old) }
+    ensures shown { IfOk result (λ stepped. Shown thread came (W.view w.old) trace.old stepped (W.view w.new) trace.new) }
+    ensures works { KeepsWorks (W.view w.old) (W.view w.new) }
+    ensures err { OnErr result (trace.new ≡ trace.old) }
+{
+    match came {
+        Came::Goes(label, next) => {
+            let Ok(()) = trace.push(label) else {
+                return Err(NoMemory);
+            };
+            Ok(Stepped::Goes {
+                turn: Turn::Run { thread: next },
+                computed,
+            })
+        }
+        Came::Stops(label) => {
+            w.set_current(None);
+            let Ok(()) = trace.push(label) else {
+                return Err(NoMemory);
+            };
+            Ok(Stepped::Goes {
+                turn: Turn::Main,
+                computed,
+            })
+        }
+        Came::Traps(trap) => show_fall(w, thread, trace, Came::Traps(trap)),
+        Came::Fails(work) => show_fall(w, thread, trace, Came::Fails(work)),
     }
 }

@@ -1,12 +1,13 @@
 //! What comes where nothing stands.
-ghost use Rattle.std.specs.Prelude.{◌≡◌, None, false, true};
+ghost use Rattle.std.specs.Prelude.{◌≡◌, None, false, is_none, true};
 ghost use Rattle.task_machine.specs.Core.{Main};
 ghost use Rattle.task_machine.specs.Read.{next_entry};
 ghost use Rattle.task_machine.specs.declared.component.Component.{Component};
 ghost use Rattle.task_ops.specs.Works.{KeepsWorks};
+ghost use Rattle.task_rules.specs.Outcome.{outcome_of_label};
 ghost use Rattle.task_rules.specs.Stalled.{Setting, main_pends, works_rest};
 ghost use Rattle.task_rules.specs.Works.{has_live_work, has_moving_work};
-ghost use Rattle.task_turns.specs.Turn.{Makes, Sits, Turns};
+ghost use Rattle.task_turns.specs.Turn.{Makes, Sits, Turns, is_open};
 
 use crate::made::Made;
 use task_machine::{IdleLine, Label, LoopLabel, Turn};
@@ -20,6 +21,7 @@ pub fn step_rest<W: Words>(w: &W) -> Made
     requires moving { has_moving_work (W.view w.now).core ≡ true }
     ensures makes { (c : Component) → Makes c (Turn.Take false) (W.view w.now) result (W.view w.now) }
     ensures turn { result.turn ≡ Turn.Main }
+    ensures over { is_none (outcome_of_label result.label) ≡ is_open result.turn }
 {
     let _state = w;
     Made {
@@ -36,6 +38,7 @@ pub fn step_deadlock<W: Words>(w: &mut W) -> Made
     requires live { has_live_work (W.view w.old).core ≡ false }
     requires rest { works_rest (W.view w.old).core ≡ true }
     ensures turns { (x : Setting) → Sits x.component (Turn.Take false) (W.view w.old).core → x.idle ≡ IdleLine.Trap → (m : Main) → main_pends x (W.view w.old).core m ≡ true → Turns x (Turn.Take false) m (W.view w.old) result m (W.view w.new) }
+    ensures over { is_none (outcome_of_label result.label) ≡ is_open result.turn }
     ensures works { KeepsWorks (W.view w.old) (W.view w.new) }
 {
     Made {

@@ -1,24 +1,31 @@
 //! The step of the running thread: its op is done by its row.
-ghost use Rattle.op_dispatch.specs.Fits.{HasHandles, HasInstances};
-ghost use Rattle.op_dispatch.specs.Polls.{Polls};
+ghost use Rattle.op_dispatch.specs.Fits.{HasHandles, HasInstances, calls_host, is_data_op, is_host_call, op_fits};
+ghost use Rattle.op_dispatch.specs.Polls.{Polls, polled_host};
 ghost use Rattle.op_dispatch.specs.Runner.{Runner};
-ghost use Rattle.std.specs.Prelude.{◌≡◌, ◌<◌, ◌^◌, IfOk, OnErr, OnOk, Some};
+ghost use Rattle.std.specs.Prelude.{◌≡◌, ◌+◌, ◌<◌, ◌^◌, IfOk, None, OnErr, OnOk, Some, false, is_some, length, true};
 ghost use Rattle.task_machine.specs.Labels.{choice_of};
-ghost use Rattle.task_machine.specs.Read.{how_far_of};
+ghost use Rattle.task_machine.specs.Maps.{get};
+ghost use Rattle.task_machine.specs.Read.{how_far_of, instance_of, position_of};
+ghost use Rattle.task_machine.specs.declared.component.Component.{Component};
+ghost use Rattle.task_machine.specs.declared.op.Op.TheVariants as ops;
+ghost use Rattle.task_machine.specs.declared.op.TaskOp.TheVariants as task_ops;
 ghost use Rattle.task_ops.specs.Came.{Meets};
 ghost use Rattle.task_ops.specs.Stays.{StaysAfter};
 ghost use Rattle.task_ops.specs.Steps.{label_of};
-ghost use Rattle.task_ops.specs.Works.{NamesWorks};
-ghost use Rattle.task_rules.specs.Scripts.{op_of};
-ghost use Rattle.task_rules.specs.Step.{did};
-ghost use Rattle.task_turns.specs.Ran.{RanPolls};
+ghost use Rattle.task_ops.specs.Works.{KeepsWorks, NamesWorks};
+ghost use Rattle.task_rules.specs.Scripts.{op_of, script_of};
+ghost use Rattle.task_rules.specs.Step.{did, op_row};
+ghost use Rattle.task_turns.specs.Ran.{RanPolls, WorkMade};
+ghost use Rattle.task_turns.specs.Stepped.{RowRan, RowShown, RowStep, RunAdded, StepPolls};
 ghost use Rattle.task_turns.specs.Turn.{GoesOn, IsFree, Makes, Sits, given, running_of};
 ghost use Rattle.task_turns.specs.WellFormed.{IsWellFormed};
 ghost use Rattle.task_words.specs.StateView.{thread_of};
 
-use crate::made::{Ran, made_of};
-use op_dispatch::{Done, do_op, exit, op_at, script_ops};
-use task_machine::{Component, NoMemory, Turn};
+use crate::made::{Ran, RunStep, Stepped, made_of, show};
+use label_trace::Trace;
+use op_dispatch::{Done, do_host_call, do_op, do_plain_op, exit, is_host_call, op_at, script_ops};
+use task_machine::{CallOp, Component, DataOp, NoMemory, Op, Turn};
+use task_ops::compute;
 use task_words::{ThreadId, Words};
 
 /// The running thread does the op at its place; it exits at its script's end. Where memory is wanting, all is as before.
@@ -51,26 +58,158 @@ pub fn run_op<W: Words>(
     }
 }
 
-/// The running thread, which has this number, does its op. Answers what it shows, which host it polled first, and which
-/// work it made. Where memory is wanting, nothing is said of the state.
-pub fn step_run<W: Words>(component: &Component, w: &mut W, number: u64) -> Result<Ran, NoMemory>
-    requires covered { IsWellFormed component.now }
-    requires order { Sits component.now (Turn.Run number) (W.view w.old).core }
-    requires runs { running_of (W.view w.old) ≡ Some number }
+// An op of the thread's script on registers and words is done; others may follow.
+#[inline(never)]
+fn run_data<W: Words>(
+    component: &Component,
+    w: &mut W,
+    thread: ThreadId,
+    op: DataOp,
+    end: u32,
+    trace: &mut Trace,
+) -> Result<Stepped, NoMemory>
+    requires runner { Runner thread (W.view w.old) }
+    requires within { position_of (thread_of (W.view w.old) thread) (W.view w.old).core < end }
+    requires ends { length (script_of component.now (thread_of (W.view w.old) thread) (W.view w.old).core) ≡ end }
+    ensures shown { IfOk result (λ stepped. RowShown (λ came. op_row component.now (thread_of (W.view w.old) thread) (W.view w.old).core (choice_of (label_of (thread_of (W.view w.old) thread) came)) (ops.Data op)) thread (W.view w.old) trace.old stepped (W.view w.new) trace.new) }
+    ensures works { OnOk result (KeepsWorks (W.view w.old) (W.view w.new)) }
+    ensures err { OnErr result (trace.new ≡ trace.old) }
+{
+    let _component = component;
+    let came = compute(w, thread, op, end);
+    show(w, thread, trace, came, true)
+}
+
+// Another op of the thread's script that calls no host is done. It is out of line, so that its ops are there once.
+#[inline(never)]
+fn run_plain<W: Words>(
+    component: &Component,
+    w: &mut W,
+    thread: ThreadId,
+    op: &Op,
+    trace: &mut Trace,
+) -> Result<Stepped, NoMemory>
+    requires runner { Runner thread (W.view w.old) }
+    requires other { is_data_op op.now ≡ false }
+    requires plain { calls_host op.now ≡ false }
+    requires fits { op_fits component.now op.now ≡ true }
+    requires instances { HasInstances component.now (W.view w.old).core }
+    requires position { position_of (thread_of (W.view w.old) thread) (W.view w.old).core + 1 < 2 ^ 32 }
+    requires handles { is_some (get (W.view w.old).core.handles (instance_of (thread_of (W.view w.old) thread) (W.view w.old).core)) ≡ true }
     requires few { given (W.view w.old).core < 2 ^ 61 }
-    ensures makes { IfOk result (λ ran. Makes component.now (Turn.Run number) (W.view w.old) ran.made (W.view w.new)) }
-    ensures free { IfOk result (λ ran. IsFree ran.made.turn) }
-    ensures polls { IfOk result (λ ran. RanPolls component.now number (W.view w.old) ran (W.view w.new)) }
+    ensures shown { IfOk result (λ stepped. RowShown (λ came. op_row component.now (thread_of (W.view w.old) thread) (W.view w.old).core (choice_of (label_of (thread_of (W.view w.old) thread) came)) op.now) thread (W.view w.old) trace.old stepped (W.view w.new) trace.new) }
+    ensures unpolled { polled_host component.now (how_far_of (thread_of (W.view w.old) thread) (W.view w.old).core) op.now ≡ None }
+    ensures works { OnOk result (NamesWorks (W.view w.old) (W.view w.new)) }
+    ensures err { OnErr result (trace.new ≡ trace.old) }
+{
+    let came = do_plain_op(component, w, thread, op)?;
+    show(w, thread, trace, came, false)
+}
+
+// The thread exits at its script's end.
+#[inline(never)]
+fn run_exit<W: Words>(w: &mut W, thread: ThreadId, trace: &mut Trace) -> Result<Stepped, NoMemory>
+    requires runner { Runner thread (W.view w.old) }
+    ensures shown { IfOk result (λ stepped. (c : Component) → RowShown (λ came. op_row c (thread_of (W.view w.old) thread) (W.view w.old).core (choice_of (label_of (thread_of (W.view w.old) thread) came)) (ops.Task task_ops.Exit)) thread (W.view w.old) trace.old stepped (W.view w.new) trace.new) }
+    ensures works { OnOk result (KeepsWorks (W.view w.old) (W.view w.new)) }
+    ensures err { OnErr result (trace.new ≡ trace.old) }
+{
+    let came = exit(w, thread);
+    show(w, thread, trace, came, false)
+}
+
+// A call of a host by the thread's script.
+#[inline(never)]
+fn run_host<W: Words>(
+    component: &Component,
+    w: &mut W,
+    thread: ThreadId,
+    op: &CallOp,
+) -> Result<Ran, NoMemory>
+    requires runner { Runner thread (W.view w.old) }
+    requires host { is_host_call op.now ≡ true }
+    requires position { position_of (thread_of (W.view w.old) thread) (W.view w.old).core + 1 < 2 ^ 32 }
+    requires few { given (W.view w.old).core < 2 ^ 61 }
+    ensures ran { IfOk result (λ ran. RowRan (λ came. op_row component.now (thread_of (W.view w.old) thread) (W.view w.old).core (choice_of (label_of (thread_of (W.view w.old) thread) came)) (ops.Call op.now)) thread (W.view w.old) ran.made (W.view w.new)) }
+    ensures polled { IfOk result (λ ran. ran.polled ≡ polled_host component.now (how_far_of (thread_of (W.view w.old) thread) (W.view w.old).core) (ops.Call op.now)) }
+    ensures work { IfOk result (λ ran. WorkMade ran.polled ran.work (W.view w.old) (W.view w.new)) }
     ensures works { OnOk result (NamesWorks (W.view w.old) (W.view w.new)) }
 {
-    w.none_is_zero();
-    let Some(thread) = w.current() else {
-        unreachable!()
-    };
-    let done = run_op(component, w, thread)?;
+    let done = do_host_call(component, w, thread, op)?;
     Ok(Ran {
         made: made_of(w, thread, done.came),
         polled: done.polled,
         work: done.work,
     })
+}
+
+// An op of the thread's script, which ends at `end`, is done. It is inlined, so that a step that calls no host is not copied.
+#[inline(always)]
+fn run_by<W: Words>(
+    component: &Component,
+    w: &mut W,
+    thread: ThreadId,
+    op: &Op,
+    end: u32,
+    trace: &mut Trace,
+) -> Result<RunStep, NoMemory>
+    requires runner { Runner thread (W.view w.old) }
+    requires fits { op_fits component.now op.now ≡ true }
+    requires instances { HasInstances component.now (W.view w.old).core }
+    requires within { position_of (thread_of (W.view w.old) thread) (W.view w.old).core < end }
+    requires ends { length (script_of component.now (thread_of (W.view w.old) thread) (W.view w.old).core) ≡ end }
+    requires handles { is_some (get (W.view w.old).core.handles (instance_of (thread_of (W.view w.old) thread) (W.view w.old).core)) ≡ true }
+    requires few { given (W.view w.old).core < 2 ^ 61 }
+    ensures step { IfOk result (λ step. RowStep (λ came. op_row component.now (thread_of (W.view w.old) thread) (W.view w.old).core (choice_of (label_of (thread_of (W.view w.old) thread) came)) op.now) thread (W.view w.old) trace.old step (W.view w.new) trace.new) }
+    ensures polls { IfOk result (λ step. StepPolls (polled_host component.now (how_far_of (thread_of (W.view w.old) thread) (W.view w.old).core) op.now) (W.view w.old) step (W.view w.new)) }
+    ensures works { OnOk result (NamesWorks (W.view w.old) (W.view w.new)) }
+    ensures err { OnErr result (trace.new ≡ trace.old) }
+{
+    match op {
+        Op::Call(call) if is_host_call(call) => {
+            let ran = run_host(component, w, thread, call)?;
+            Ok(RunStep::Called(ran))
+        }
+        Op::Data(data) => {
+            let stepped = run_data(component, w, thread, *data, end, trace)?;
+            Ok(RunStep::Shown(stepped))
+        }
+        _ => {
+            let stepped = run_plain(component, w, thread, op, trace)?;
+            Ok(RunStep::Shown(stepped))
+        }
+    }
+}
+
+/// The running thread, which has this number, does its op. What that shows is added to the trace, but where the op
+/// calls a host: then the step, the host that was polled first, and the work that was made are answered. Where memory
+/// is wanting, nothing is added, and nothing is said of the state.
+#[inline(always)]
+pub fn step_run<W: Words>(
+    component: &Component,
+    w: &mut W,
+    number: u64,
+    trace: &mut Trace,
+) -> Result<RunStep, NoMemory>
+    requires covered { IsWellFormed component.now }
+    requires order { Sits component.now (Turn.Run number) (W.view w.old).core }
+    requires runs { running_of (W.view w.old) ≡ Some number }
+    requires few { given (W.view w.old).core < 2 ^ 61 }
+    ensures ran { IfOk result (λ ran. RunAdded (λ ran. (Makes component.now (Turn.Run number) (W.view w.old) ran.made (W.view w.new) × IsFree ran.made.turn) × RanPolls component.now number (W.view w.old) ran (W.view w.new)) ran trace.old trace.new) }
+    ensures works { OnOk result (NamesWorks (W.view w.old) (W.view w.new)) }
+    ensures err { OnErr result (trace.new ≡ trace.old) }
+{
+    w.none_is_zero();
+    let Some(thread) = w.current() else {
+        unreachable!()
+    };
+    let point = w.at(thread);
+    let script = script_ops(component, point.callee, point.script);
+    match op_at(script, point.position) {
+        Some(op) => run_by(component, w, thread, op, script.len() as u32, trace),
+        None => {
+            let stepped = run_exit(w, thread, trace)?;
+            Ok(RunStep::Shown(stepped))
+        }
+    }
 }

@@ -1,5 +1,5 @@
 //! The taking of an entry of a thread.
-ghost use Rattle.std.specs.Prelude.{◌≡◌, Bool, IfOk, None, Some, OnOk};
+ghost use Rattle.std.specs.Prelude.{◌≡◌, Bool, IfOk, None, OnErr, OnOk, Some};
 ghost use Rattle.task_machine.specs.Labels.{choice_of};
 ghost use Rattle.task_machine.specs.Moves.{why_of};
 ghost use Rattle.task_machine.specs.Read.{admits, next_entry, place_of};
@@ -11,11 +11,13 @@ ghost use Rattle.task_ops.specs.Stays.{StaysAfter};
 ghost use Rattle.task_ops.specs.Steps.{label_of};
 ghost use Rattle.task_ops.specs.Works.{KeepsWorks};
 ghost use Rattle.task_rules.specs.Takes.{delivery_row, popped, thread_taken};
+ghost use Rattle.task_turns.specs.Stepped.{Added, AddedOrNone};
 ghost use Rattle.task_turns.specs.Taken.{FindsSet, Taken};
 ghost use Rattle.task_turns.specs.Turn.{IsFree, Makes, Shows, Sits, Took};
 ghost use Rattle.task_words.specs.StateView.{thread_of, work_of};
 
-use crate::made::{Made, made_of};
+use crate::made::{Made, Stepped, put, show};
+use label_trace::Trace;
 use subtask_ops::take_host;
 use task_machine::{Component, Delivery, Label, Mark, NoMemory, TakeLabel, Turn, Why};
 use task_ops::{Came, deliver_own, deliver_set, hold_delivery, resume, take_push, take_start};
@@ -68,26 +70,28 @@ fn take_thread<W: Words>(w: &mut W, mark: Mark, thread: ThreadId) -> Result<Came
 }
 
 // The next entry is the thread's, at this mark: it is taken.
+#[inline(always)]
 fn step_thread<W: Words>(
     component: &Component,
     w: &mut W,
     ended: bool,
     mark: Mark,
     thread: ThreadId,
-) -> Result<Made, NoMemory>
+    trace: &mut Trace,
+) -> Result<Stepped, NoMemory>
     requires order { Sits component.now (Turn.Take ended) (W.view w.old).core }
     requires next { next_entry (W.view w.old).core ≡ Some (mark, entries.Thread (thread_of (W.view w.old) thread)) }
     requires finds { FindsSet (thread_of (W.view w.old) thread) (popped mark (W.view w.old).core) }
-    ensures makes { IfOk result (λ made. Makes component.now (Turn.Take ended) (W.view w.old) made (W.view w.new)) }
-    ensures free { IfOk result (λ made. IsFree made.turn) }
+    ensures makes { IfOk result (λ stepped. Added (λ made. Makes component.now (Turn.Take ended) (W.view w.old) made (W.view w.new) × IsFree made.turn) stepped trace.old trace.new) }
     ensures works { OnOk result (KeepsWorks (W.view w.old) (W.view w.new)) }
+    ensures err { OnErr result (trace.new ≡ trace.old) }
 {
     let _component = component;
     w.none_is_zero();
     w.pop(mark);
     w.set_current(Some(thread));
     let came = take_thread(w, mark, thread)?;
-    Ok(made_of(w, thread, came))
+    show(w, thread, trace, came, false)
 }
 
 // The next entry is the push of the work, at this mark: it is taken, and the work is live.
@@ -134,24 +138,36 @@ fn step_host<W: Words>(
     }
 }
 
-/// The next entry is taken; none where nothing stands.
+/// The next entry is taken, and what that shows is added to the trace; none where nothing stands. Where memory is
+/// wanting, nothing is added, and nothing is said of the state.
+#[inline(never)]
 pub fn step_take<W: Words>(
     component: &Component,
     w: &mut W,
     ended: bool,
-) -> Result<Option<Made>, NoMemory>
+    trace: &mut Trace,
+) -> Result<Option<Stepped>, NoMemory>
     requires order { Sits component.now (Turn.Take ended) (W.view w.old).core }
     requires current { (W.view w.old).current ≡ None }
-    ensures took { IfOk result (λ made. Took component.now ended (W.view w.old) made (W.view w.new)) }
+    ensures took { IfOk result (λ stepped. AddedOrNone (λ made. Took component.now ended (W.view w.old) made (W.view w.new)) stepped trace.old trace.new) }
     ensures works { OnOk result (KeepsWorks (W.view w.old) (W.view w.new)) }
+    ensures err { OnErr result (trace.new ≡ trace.old) }
 {
     match w.next_entry() {
         None => Ok(None),
         Some((mark, EntryId::Thread(thread))) => {
-            let made = step_thread(component, w, ended, mark, thread)?;
-            Ok(Some(made))
+            let stepped = step_thread(component, w, ended, mark, thread, trace)?;
+            Ok(Some(stepped))
         }
-        Some((mark, EntryId::Push(work))) => Ok(Some(step_push(w, mark, work))),
-        Some((mark, EntryId::Host(work))) => Ok(Some(step_host(component, w, ended, mark, work))),
+        Some((mark, EntryId::Push(work))) => {
+            let made = step_push(w, mark, work);
+            let stepped = put(trace, made)?;
+            Ok(Some(stepped))
+        }
+        Some((mark, EntryId::Host(work))) => {
+            let made = step_host(component, w, ended, mark, work);
+            let stepped = put(trace, made)?;
+            Ok(Some(stepped))
+        }
     }
 }

@@ -1,27 +1,28 @@
 //! The turns of a run in which main has no part.
-ghost use Rattle.std.specs.Prelude.{◌≡◌, ◌≤◌, IfOk, None, Some, false, OnErr, OnOk};
+ghost use Rattle.std.specs.Prelude.{◌≡◌, ◌≤◌, IfOk, IfSome, None, Some, false, is_none, OnErr, OnOk};
 ghost use Rattle.task_laws.specs.Order.{WorksQueued};
 ghost use Rattle.task_machine.specs.Core.{Main};
 ghost use Rattle.task_machine.specs.Read.{next_entry};
 ghost use Rattle.task_ops.specs.Works.{KeepsWorks};
-ghost use Rattle.task_rules.specs.Outcome.{is_at_rest};
+ghost use Rattle.task_rules.specs.Outcome.{is_at_rest, outcome_of_label};
 ghost use Rattle.task_rules.specs.Places.{Placed};
 ghost use Rattle.task_rules.specs.Stalled.{Setting, is_unended_take};
 ghost use Rattle.task_rules.specs.Works.{next_polled};
 ghost use Rattle.task_turns.specs.Later.{SameWorks};
 ghost use Rattle.task_turns.specs.WellFormed.{IsWellFormed};
 ghost use Rattle.task_turns.specs.Drive.{Computes, KeepsOn, StopsShort};
-ghost use Rattle.task_turns.specs.Turn.{IsAtTurn, PendsIn, Sits, TurnedBeside, Turns, idle_line_of, running_of, runs_in, state_at};
+ghost use Rattle.task_turns.specs.Stepped.{AddedOrNone};
+ghost use Rattle.task_turns.specs.Turn.{IsAtTurn, PendsIn, Sits, TurnedBeside, Turns, idle_line_of, is_open, running_of, runs_in, state_at};
 ghost use Rattle.task_words.specs.StateView.{work_of};
 
 use crate::futures::step_poll;
-use crate::made::Made;
+use crate::made::{Made, Stepped, put};
 use crate::rests::{step_deadlock, step_rest};
 use crate::settles::nothing_stands;
 use crate::stretches::stretch;
 use crate::takes::step_take;
 use label_trace::Trace;
-use task_machine::{Component, Label, NoMemory, Turn};
+use task_machine::{Component, NoMemory, Turn};
 use task_words::{Words, WorkId};
 
 /// The live work that is next, past those with numbers up to `polled`, is polled.
@@ -43,6 +44,7 @@ fn rest<W: Words>(w: &mut W, trap_on_idle: bool) -> Option<Made>
     requires current { (W.view w.old).current ≡ None }
     requires none { next_entry (W.view w.old).core ≡ None }
     ensures turned { (c : Component) → Sits c (Turn.Take false) (W.view w.old).core → TurnedBeside c trap_on_idle (Turn.Take false) (W.view w.old) result (W.view w.new) }
+    ensures over { IfSome result (λ made. is_none (outcome_of_label made.label) ≡ is_open made.turn) }
     ensures works { KeepsWorks (W.view w.old) (W.view w.new) }
 {
     if w.has_moving_work() {
@@ -57,21 +59,30 @@ fn rest<W: Words>(w: &mut W, trap_on_idle: bool) -> Option<Made>
     Some(step_deadlock(w))
 }
 
-/// The next entry is taken, or else it is seen what it is that nothing stands.
+/// The next entry is taken, or else it is seen what it is that nothing stands. What that shows is added to
+/// the trace. Where memory is wanting, nothing is added, and nothing is said of the state.
 pub fn take<W: Words>(
     component: &Component,
     w: &mut W,
     ended: bool,
     trap_on_idle: bool,
-) -> Result<Option<Made>, NoMemory>
+    trace: &mut Trace,
+) -> Result<Option<Stepped>, NoMemory>
     requires at { IsAtTurn component.now (Turn.Take ended) (W.view w.old) }
-    ensures turned { IfOk result (λ made. TurnedBeside component.now trap_on_idle (Turn.Take ended) (W.view w.old) made (W.view w.new)) }
+    ensures turned { IfOk result (λ stepped. AddedOrNone (λ made. TurnedBeside component.now trap_on_idle (Turn.Take ended) (W.view w.old) made (W.view w.new)) stepped trace.old trace.new) }
     ensures works { OnOk result (KeepsWorks (W.view w.old) (W.view w.new)) }
+    ensures err { OnErr result (trace.new ≡ trace.old) }
 {
-    match step_take(component, w, ended)? {
-        Some(made) => Ok(Some(made)),
+    match step_take(component, w, ended, trace)? {
+        Some(stepped) => Ok(Some(stepped)),
         None if ended => unreachable!(),
-        None => Ok(rest(w, trap_on_idle)),
+        None => match rest(w, trap_on_idle) {
+            Some(made) => {
+                let stepped = put(trace, made)?;
+                Ok(Some(stepped))
+            }
+            None => Ok(None),
+        },
     }
 }
 
@@ -80,7 +91,7 @@ pub fn take<W: Words>(
 pub fn compute<W: Words>(
     component: &Component,
     w: &mut W,
-    last: &Label,
+    computed: bool,
     turn: Turn,
     trace: &mut Trace,
     added: u32,
@@ -96,7 +107,7 @@ pub fn compute<W: Words>(
     ensures err { OnErr result (StopsShort component.now turn (W.view w.old) trace.old added trace.new steps) }
     ensures works { SameWorks (W.view w.old) (W.view w.new) }
 {
-    if !matches!(last, Label::Data(_)) {
+    if !computed {
         return Ok(added);
     }
     match turn {

@@ -1,49 +1,91 @@
 use Rattle.op_dispatch.specs.Polls.{polled_host}
-use Rattle.std.proofs.Common.{subst, sym, ◌≡◌, ◌∙◌}
-use Rattle.task_machine.specs.Core.{Unscripted}
-use Rattle.task_machine.specs.Read.{how_far_of}
+use Rattle.std.proofs.Common.{ap, length, refl, subst, sym, ◌<◌, ◌≡◌, ◌∙◌}
+use Rattle.std.proofs.lemmas.Option.{slice_get_within}
+use Rattle.std.specs.Prelude.{None, Some, option_copied, slice_get}
+use Rattle.task_machine.specs.Labels.{choice_of}
+use Rattle.task_machine.specs.Read.{callee_of, how_far_of, instance_of, task_of}
+use Rattle.task_machine.specs.declared.component.Callee.{Callee}
+use Rattle.task_machine.specs.declared.op.Op.TheVariants as op
+use Rattle.task_machine.specs.declared.op.TaskOp.TheVariants as task
+use Rattle.task_machine.specs.declared.records.Turn.TheVariants as turn
+use Rattle.task_ops.specs.Steps.{label_of}
 use Rattle.task_rules.specs.Scripts.{op_of}
-use Rattle.task_turns.proofs.IdleLemmas.{after_free, free_at}
-use Rattle.task_turns.proofs.OrderLemmas.{number_at, runner, strikes}
-use Rattle.task_turns.proofs.RanLemmas.{ran_work}
-use Rattle.task_turns.proofs.RunLemmas.{ran_at}
+use Rattle.task_rules.specs.Step.{did, op_row}
+use Rattle.task_turns.proofs.CoveredLemmas.{home_below}
+use Rattle.task_turns.proofs.OrderLemmas.{number_at, runner}
+use Rattle.task_turns.proofs.RunLemmas.{op_is, row_at, script_is}
+use Rattle.task_turns.proofs.SteppedLemmas.{row_as, run_added, run_steps, unpolled}
 use Rattle.task_turns.proofs.runs.step_run.Goals as goal
+use Rattle.task_turns.specs.Turn.{IsFree, Makes}
+use Rattle.task_turns.specs.declared.made.Made.{Made}
+use Rattle.task_words.specs.StateView.{thread_of}
 
-pub run_op-requires-clause-runner : goal.run_op-requires-clause-runner
-run_op-requires-clause-runner g c =
+pub at-point-requires : goal.at-point-requires
+at-point-requires g c =
+    let s = g.W.View.view c.args.w.now in
+    (runner c.args.component.now c.args.number s c.requires.order c.none_is_zero.ensures.threads c.requires.runs c.in-Some.thread (sym c.current.ensures ∙ c.in-Some.is)).live
+
+pub run_by-requires-clause-runner : goal.run_by-requires-clause-runner
+run_by-requires-clause-runner g c =
     let s = g.W.View.view c.args.w.now in
     runner c.args.component.now c.args.number s c.requires.order c.none_is_zero.ensures.threads c.requires.runs c.in-Some.thread (sym c.current.ensures ∙ c.in-Some.is)
 
-pub made_of-requires-clause-strikes : goal.made_of-requires-clause-strikes
-made_of-requires-clause-strikes g c =
-    let v = g.W.View.view in
-    let s = v c.args.w.now in
-    strikes c.in_ok-done.done.came c.in-Some.thread s (v c.run_op.new.w) (runner c.args.component.now c.args.number s c.requires.order c.none_is_zero.ensures.threads c.requires.runs c.in-Some.thread (sym c.current.ensures ∙ c.in-Some.is)) c.in_ok-done.ensures.stays
+pub run_exit-requires : goal.run_exit-requires
+run_exit-requires g c =
+    let s = g.W.View.view c.args.w.now in
+    record { runner = runner c.args.component.now c.args.number s c.requires.order c.none_is_zero.ensures.threads c.requires.runs c.in-Some.thread (sym c.current.ensures ∙ c.in-Some.is) }
 
-pub returns-clause-polls : goal.returns-clause-polls
-returns-clause-polls g c =
-    let v = g.W.View.view in
-    let s = v c.args.w.now in
-    let d = c.in_ok-done.done in
+pub run_by-requires-clause-fits : goal.run_by-requires-clause-fits
+run_by-requires-clause-fits g c =
+    c.requires.covered.ops c.at-point.result.callee c.at-point.result.script c.at-point.result.position c.in-Some-op_at.op.now (subst (λ os. slice_get os c.at-point.result.position ≡ Some c.in-Some-op_at.op.now) c.script_ops-script.ensures (sym (sym (ap option_copied c.in-Some-op_at.is) ∙ c.op_at.ensures)))
+
+pub run_by-requires-clause-within : goal.run_by-requires-clause-within
+run_by-requires-clause-within g c =
+    subst (λ k. k < length c.script_ops-script.result.now) c.at-point.ensures.position (slice_get_within c.script_ops-script.result.now c.at-point.result.position c.in-Some-op_at.op.now (sym (sym (ap option_copied c.in-Some-op_at.is) ∙ c.op_at.ensures)))
+
+pub run_by-requires-clause-ends : goal.run_by-requires-clause-ends
+run_by-requires-clause-ends g c =
+    let s = g.W.View.view c.args.w.now in
+    let n = thread_of s c.in-Some.thread in
+    let q = runner c.args.component.now c.args.number s c.requires.order c.none_is_zero.ensures.threads c.requires.runs c.in-Some.thread (sym c.current.ensures ∙ c.in-Some.is) in
+    ap length (script_is c.args.component.now n s.core q.thread q.here c.script_ops-script.result.now c.at-point.result.callee (task_of n s.core) c.at-point.result.position c.at-point.result.script c.at-point.ensures.callee refl (c.at-point.ensures.script q.thread q.here) c.script_ops-script.ensures c.at-point.ensures.position)
+
+pub run_by-requires-clause-handles : goal.run_by-requires-clause-handles
+run_by-requires-clause-handles g c =
+    let s = g.W.View.view c.args.w.now in
+    let n = thread_of s c.in-Some.thread in
+    let own : c.at-point.result.callee ≡ callee_of (task_of n s.core) s.core = c.at-point.ensures.callee in
+    c.requires.order.handles (instance_of n s.core) (subst (λ (f : Callee). f.instance < length c.args.component.now.instances) own
+    (home_below c.args.component.now c.at-point.result.callee c.at-point.result.script c.at-point.result.position c.in-Some-op_at.op.now (subst (λ os. slice_get os c.at-point.result.position ≡ Some c.in-Some-op_at.op.now) c.script_ops-script.ensures (sym (sym (ap option_copied c.in-Some-op_at.is) ∙ c.op_at.ensures)))))
+
+pub returns-in-Some-op_at-clause-ran : goal.returns-in-Some-op_at-clause-ran
+returns-in-Some-op_at-clause-ran g c =
+    let s = g.W.View.view c.args.w.now in
+    let n = thread_of s c.in-Some.thread in
+    let q = runner c.args.component.now c.args.number s c.requires.order c.none_is_zero.ensures.threads c.requires.runs c.in-Some.thread (sym c.current.ensures ∙ c.in-Some.is) in
+    let t = g.W.View.view c.run_by.new.w in
     let comp = c.args.component.now in
     let number = number_at c.args.number s c.requires.runs c.in-Some.thread (sym c.current.ensures ∙ c.in-Some.is) in
-    let polls = c.in_ok-done.ensures.polls in
-    record {
-      polled = subst (λ k. d.polled ≡ polled_host comp (how_far_of k s.core) (op_of comp k s.core)) number polls.polled;
-      work = ran_work comp _ _ d _ s (v c.run_op.new.w) (v c.made_of.new.w) (c.requires.order.order Unscripted).works polls c.made_of.ensures.core c.made_of.ensures.tags;
-    }
+    let o = c.in-Some-op_at.op.now in
+    let e = sym (ap option_copied c.in-Some-op_at.is) ∙ c.op_at.ensures in
+    let is = ap (polled_host comp (how_far_of n s.core)) (op_is c.args.component.now n s.core q.thread q.here c.script_ops-script.result.now c.at-point.result.callee (task_of n s.core) c.at-point.result.position c.at-point.result.script c.at-point.ensures.callee refl (c.at-point.ensures.script q.thread q.here) c.script_ops-script.ensures c.at-point.ensures.position (Some o) e) in
+    run_steps comp c.in-Some.thread c.args.number s t number c.args.trace.now c.run_by.new.trace c.run_by.result o is
+    (λ r u h. row_at c.args.component.now n s.core q.thread q.here c.script_ops-script.result.now c.at-point.result.callee (task_of n s.core) c.at-point.result.position c.at-point.result.script c.at-point.ensures.callee refl (c.at-point.ensures.script q.thread q.here) c.script_ops-script.ensures c.at-point.ensures.position (Some o) e r u h) c.run_by.ensures.step c.run_by.ensures.polls
 
-pub returns-clause-free : goal.returns-clause-free
-returns-clause-free g c = free_at _ _ c.made_of.ensures.turn (after_free c.in_ok-done.done.came)
-
-pub returns-clause-makes : goal.returns-clause-makes
-returns-clause-makes g c =
-    let v = g.W.View.view in
-    let s = v c.args.w.now in
+pub returns-in_ok-stepped-in-None-clause-ran : goal.returns-in_ok-stepped-in-None-clause-ran
+returns-in_ok-stepped-in-None-clause-ran g c =
+    let s = g.W.View.view c.args.w.now in
+    let n = thread_of s c.in-Some.thread in
+    let q = runner c.args.component.now c.args.number s c.requires.order c.none_is_zero.ensures.threads c.requires.runs c.in-Some.thread (sym c.current.ensures ∙ c.in-Some.is) in
+    let t = g.W.View.view c.run_exit.new.w in
+    let comp = c.args.component.now in
     let number = number_at c.args.number s c.requires.runs c.in-Some.thread (sym c.current.ensures ∙ c.in-Some.is) in
-    let made = c.made_of.result in
-    record {
-      step = ran_at c.in-Some.thread c.args.number s (v c.run_op.new.w) number c.args.component.now c.in_ok-done.done.came made.label made.turn (v c.made_of.new.w).core c.in_ok-done.ensures.meets c.in_ok-done.ensures.stays c.made_of.ensures.label c.made_of.ensures.turn c.made_of.ensures.core;
-      running = c.made_of.ensures.running;
-      over = c.made_of.ensures.over;
-    }
+    let e = sym (ap option_copied c.in-None.is) ∙ c.op_at.ensures in
+    let is = op_is c.args.component.now n s.core q.thread q.here c.script_ops-script.result.now c.at-point.result.callee (task_of n s.core) c.at-point.result.position c.at-point.result.script c.at-point.ensures.callee refl (c.at-point.ensures.script q.thread q.here) c.script_ops-script.ensures c.at-point.ensures.position None e in
+    let before = c.args.trace.now in
+    let after = c.run_exit.new.trace in
+    let did_it = row_as c.in-Some.thread s t c.in_ok-stepped-in-None.stepped before after (λ r. op_row comp n s.core (choice_of (label_of n r)) (op.Task task.Exit)) (λ r. did comp n s.core (choice_of (label_of n r)))
+    (λ r u h. row_at c.args.component.now n s.core q.thread q.here c.script_ops-script.result.now c.at-point.result.callee (task_of n s.core) c.at-point.result.position c.at-point.result.script c.at-point.ensures.callee refl (c.at-point.ensures.script q.thread q.here) c.script_ops-script.ensures c.at-point.ensures.position None e r u h) (c.in_ok-stepped-in-None.ensures.shown comp) in
+    unpolled c.in-Some.thread s t c.in_ok-stepped-in-None.stepped before after comp c.args.number (λ (made : Made). Makes comp (turn.Run c.args.number) s made t × IsFree made.turn)
+    (subst (λ k. polled_host comp (how_far_of k s.core) (op_of comp k s.core) ≡ None) number (ap (polled_host comp (how_far_of n s.core)) is))
+    (run_added c.in-Some.thread s t c.in_ok-stepped-in-None.stepped before after comp c.args.number number did_it)

@@ -1,11 +1,16 @@
+use Rattle.op_dispatch.proofs.StayLemmas.{ok_then}
 use Rattle.std.proofs.Common.{ap, subst, sym, ◌∙◌}
 use Rattle.std.specs.Prelude.{Some}
-use Rattle.task_turns.proofs.RunLemmas.{took}
+use Rattle.task_machine.specs.declared.records.Turn.TheVariants as turn
 use Rattle.task_turns.proofs.ShowLemmas.{taken_strikes}
+use Rattle.task_turns.proofs.SteppedLemmas.{take_added}
 use Rattle.task_turns.proofs.TakenLemmas.{taken}
-use Rattle.task_turns.proofs.IdleLemmas.{after_free, free_at}
 use Rattle.task_turns.proofs.takes.step_thread.Goals as goal
+use Rattle.task_turns.specs.Stepped.{Added, Shown}
 use Rattle.task_turns.specs.Taken.{Taken}
+use Rattle.task_turns.specs.Turn.{IsFree, Makes}
+use Rattle.task_turns.specs.declared.made.Made.{Made}
+use Rattle.task_turns.specs.declared.made.Stepped.{Stepped}
 use Rattle.task_words.specs.StateView.{StateView, thread_of, with_current}
 
 pub take_thread-requires-clause-taken : goal.take_thread-requires-clause-taken
@@ -15,8 +20,8 @@ take_thread-requires-clause-taken g c =
     subst (λ (u : StateView). Taken c.args.mark (thread_of u c.args.thread) u.core) (sym (c.set_current.ensures ∙ ap (with_current (Some c.args.thread)) c.pop.ensures))
     (taken c.args.component.now c.args.ended s.core c.requires.order c.none_is_zero.ensures.threads c.args.mark n c.requires.next)
 
-pub made_of-requires-clause-strikes : goal.made_of-requires-clause-strikes
-made_of-requires-clause-strikes g c =
+pub show-requires-clause-strikes : goal.show-requires-clause-strikes
+show-requires-clause-strikes g c =
     let v = g.W.View.view in
     let s = v c.args.w.now in
     let n = thread_of s c.args.thread in
@@ -24,20 +29,17 @@ made_of-requires-clause-strikes g c =
     (subst (λ (u : StateView). Taken c.args.mark (thread_of u c.args.thread) u.core) (sym (c.set_current.ensures ∙ ap (with_current (Some c.args.thread)) c.pop.ensures))
     (taken c.args.component.now c.args.ended s.core c.requires.order c.none_is_zero.ensures.threads c.args.mark n c.requires.next)) c.in_ok-came.ensures.stays
 
-pub returns-clause-free : goal.returns-clause-free
-returns-clause-free g c = free_at _ _ c.made_of.ensures.turn (after_free c.in_ok-came.came)
-
 pub returns-clause-makes : goal.returns-clause-makes
 returns-clause-makes g c =
     let v = g.W.View.view in
     let s = v c.args.w.now in
     let u = v c.set_current.new.self in
+    let w = v c.take_thread.new.w in
+    let t = v c.show.new.w in
     let n = thread_of s c.args.thread in
-    let made = c.made_of.result in
+    let came = c.in_ok-came.came in
     let entered = c.set_current.ensures ∙ ap (with_current (Some c.args.thread)) c.pop.ensures in
-    record {
-      step = took c.args.component.now c.args.ended c.args.mark c.args.thread n s u (v c.take_thread.new.w) c.in_ok-came.came made.label made.turn (v c.made_of.new.w).core
-          (ap (λ (q : StateView). thread_of q c.args.thread) entered) (ap (λ (q : StateView). q.core) entered) c.requires.next c.in_ok-came.ensures.meets c.in_ok-came.ensures.stays c.made_of.ensures.label c.made_of.ensures.turn c.made_of.ensures.core;
-      running = c.made_of.ensures.running;
-      over = c.made_of.ensures.over;
-    }
+    ok_then (λ (q : Stepped). Shown c.args.thread came w c.args.trace.now q t c.show.new.trace)
+    (λ (q : Stepped). Added (λ (made : Made). Makes c.args.component.now (turn.Take c.args.ended) s made t × IsFree made.turn) q c.args.trace.now c.show.new.trace) c.show.result
+    (λ q h. take_added c.args.component.now c.args.ended c.args.mark c.args.thread n s u w t came q c.args.trace.now c.show.new.trace
+    (ap (λ (x : StateView). thread_of x c.args.thread) entered) (ap (λ (x : StateView). x.core) entered) c.requires.next c.in_ok-came.ensures.meets c.in_ok-came.ensures.stays h) c.show.ensures.shown

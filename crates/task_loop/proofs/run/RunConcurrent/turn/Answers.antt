@@ -1,5 +1,7 @@
 -- Each turn is one of this run.
+use Rattle.op_dispatch.proofs.StayLemmas.{ok_then}
 use Rattle.std.proofs.Common.{refl, subst}
+use Rattle.std.specs.Prelude.{Bool, Option, Some}
 use Rattle.task_loop.proofs.DoesLemmas.{still, still_run, still_taken}
 use Rattle.task_loop.proofs.HoldLemmas.{held_taken}
 use Rattle.task_loop.proofs.KnowsLemmas.{by_poll, by_run, by_take}
@@ -9,7 +11,12 @@ use Rattle.task_machine.specs.declared.records.Turn.{Turn}
 use Rattle.task_machine.specs.declared.records.Turn.TheVariants as turn
 use Rattle.task_store.specs.Hosts.{held_by}
 use Rattle.task_turns.proofs.IdleLemmas.{makes_turns}
-use Rattle.task_turns.specs.Turn.{Sits, setting_of}
+use Rattle.task_turns.proofs.SteppedLemmas.{added_as, none_as}
+use Rattle.task_turns.specs.Does.{DoesStep, step_shown}
+use Rattle.task_turns.specs.Stepped.{AddedOrNone}
+use Rattle.task_turns.specs.Turn.{IsFree, Makes, Sits, Turned, TurnedBeside, Turns, setting_of}
+use Rattle.task_turns.specs.declared.made.Made.{Made}
+use Rattle.task_turns.specs.declared.made.Stepped.{Stepped}
 
 pub poll_next-requires-clause-placed : goal.poll_next-requires-clause-placed
 poll_next-requires-clause-placed g c = (c.requires.at.order.order Unscripted).in_place.placed
@@ -20,14 +27,32 @@ poll_next-requires-clause-works g c = (c.requires.at.order.order Unscripted).wor
 pub run_thread-requires-clause-order : goal.run_thread-requires-clause-order
 run_thread-requires-clause-order g c = subst (λ (p : Turn). Sits c.args.component.now p c.args.store.now.state.core) c.in-Run.is c.requires.at.order
 
+pub put-requires : goal.put-requires
+put-requires g c =
+    let x = setting_of c.args.component.now (g.M.MainTask.script c.args.main.now) c.args.self.now.trap_on_idle in
+    (c.poll_next.ensures.turns x (g.M.MainTask.part c.args.main.now) (rw c.in-Futures.is at c.requires.pends)).over
+
 pub returns-in_ok-step_main-in-Main-clause-turned : goal.returns-in_ok-step_main-in-Main-clause-turned
-returns-in_ok-step_main-in-Main-clause-turned g c = rw c.in-Main.is (c.in_ok-step_main-in-Main.ensures.turns c.args.self.now.trap_on_idle)
+returns-in_ok-step_main-in-Main-clause-turned g c =
+    let x = λ (b : Bool). setting_of c.args.component.now (g.M.MainTask.script c.args.main.now) b in
+    let m = g.M.MainTask.part c.args.main.now in
+    let m' = g.M.MainTask.part c.step_main.new.main in
+    let s = c.args.store.now.state in
+    let t = c.step_main.new.store.state in
+    rw c.in-Main.is
+    (added_as (λ (made : Made). (b : Bool) → Turns (x b) turn.Main m s made m' t) (λ (made : Made). Turns (x c.args.self.now.trap_on_idle) turn.Main m s made m' t) c.in_ok-step_main-in-Main.field-0 c.args.trace.now c.step_main.new.trace
+    (λ made h. h c.args.self.now.trap_on_idle) c.in_ok-step_main-in-Main.ensures.turns)
 
 pub returns-in_ok-run_thread-in-Run-clause-turned : goal.returns-in_ok-run_thread-in-Run-clause-turned
 returns-in_ok-run_thread-in-Run-clause-turned g c =
     let x = setting_of c.args.component.now (g.M.MainTask.script c.args.main.now) c.args.self.now.trap_on_idle in
-    let made = c.in_ok-run_thread-in-Run.field-0 in
-    rw c.in-Run.is (makes_turns x (turn.Run c.in-Run.thread) c.args.store.now.state made c.run_thread.new.store.state c.in_ok-run_thread-in-Run.ensures.makes (g.M.MainTask.part c.args.main.now) (c.in_ok-run_thread-in-Run.ensures.free x c.run_thread.new.store.state.core (g.M.MainTask.part c.args.main.now)))
+    let m = g.M.MainTask.part c.args.main.now in
+    let n = c.in-Run.thread in
+    let s = c.args.store.now.state in
+    let t = c.run_thread.new.store.state in
+    rw c.in-Run.is
+    (added_as (λ (made : Made). Makes c.args.component.now (turn.Run n) s made t × IsFree made.turn) (λ (made : Made). Turns x (turn.Run n) m s made m t) c.in_ok-run_thread-in-Run.field-0 c.args.trace.now c.run_thread.new.trace
+    (λ made h. makes_turns x (turn.Run n) s made t h.0 m (h.1 x t.core m)) c.in_ok-run_thread-in-Run.ensures.makes)
 
 pub returns-in_ok-run_thread-in-Run-clause-knows : goal.returns-in_ok-run_thread-in-Run-clause-knows
 returns-in_ok-run_thread-in-Run-clause-knows g c =
@@ -35,10 +60,16 @@ returns-in_ok-run_thread-in-Run-clause-knows g c =
     let s = c.args.store.now.state in
     let t = c.run_thread.new.store.state in
     let x = setting_of c.args.component.now (g.M.MainTask.script main) c.args.self.now.trap_on_idle in
-    by_run (g.M.MainTask.knows main) s t (λ last. g.met.M.MainTask.stays main s t last c.requires.knows) x (g.M.MainTask.part main) c.in-Run.thread c.in_ok-run_thread-in-Run.field-0 c.in_ok-run_thread-in-Run.ensures.makes c.in_ok-run_thread-in-Run.ensures.works
+    let made = c.in_ok-run_thread-in-Run.ensures.makes in
+    by_run (g.M.MainTask.knows main) s t (λ last. g.met.M.MainTask.stays main s t last c.requires.knows) x (g.M.MainTask.part main) c.in-Run.thread made.0 made.1.1.0 c.in_ok-run_thread-in-Run.ensures.works
 
-pub returns-in-Futures-clause-knows : goal.returns-in-Futures-clause-knows
-returns-in-Futures-clause-knows g c =
+pub returns-in_ok-put-in-Futures-clause-turned : goal.returns-in_ok-put-in-Futures-clause-turned
+returns-in_ok-put-in-Futures-clause-turned g c =
+    let x = setting_of c.args.component.now (g.M.MainTask.script c.args.main.now) c.args.self.now.trap_on_idle in
+    rw c.in-Futures.is (c.poll_next.result, (c.in_ok-put-in-Futures.ensures.stands, c.poll_next.ensures.turns x (g.M.MainTask.part c.args.main.now) (rw c.in-Futures.is at c.requires.pends)))
+
+pub returns-in_ok-put-in-Futures-clause-knows : goal.returns-in_ok-put-in-Futures-clause-knows
+returns-in_ok-put-in-Futures-clause-knows g c =
     let main = c.args.main.now in
     let part = g.M.MainTask.part main in
     let s = c.args.store.now.state in
@@ -46,38 +77,58 @@ returns-in-Futures-clause-knows g c =
     let x = setting_of c.args.component.now (g.M.MainTask.script main) c.args.self.now.trap_on_idle in
     by_poll (g.M.MainTask.knows main) s t (λ last. g.met.M.MainTask.stays main s t last c.requires.knows) x part c.in-Futures.polled c.poll_next.result (c.poll_next.ensures.turns x part (rw c.in-Futures.is at c.requires.pends)) c.poll_next.ensures.works
 
+pub returns-in-Take-clause-turned : goal.returns-in-Take-clause-turned
+returns-in-Take-clause-turned g c =
+    let x = setting_of c.args.component.now (g.M.MainTask.script c.args.main.now) c.args.self.now.trap_on_idle in
+    let m = g.M.MainTask.part c.args.main.now in
+    let p = turn.Take c.in-Take.ended in
+    let s = c.args.store.now.state in
+    let t = c.take.new.w in
+    let before = c.args.trace.now in
+    let after = c.take.new.trace in
+    rw c.in-Take.is
+    (ok_then (λ (o : Option Stepped). AddedOrNone (λ (made : Option Made). TurnedBeside c.args.component.now c.args.self.now.trap_on_idle p s made t) o before after)
+    (λ (o : Option Stepped). AddedOrNone (λ (made : Option Made). Turned x p m s made m t) o before after) c.take.result
+    (λ o h. none_as (λ (made : Option Made). TurnedBeside c.args.component.now c.args.self.now.trap_on_idle p s made t) (λ (made : Option Made). Turned x p m s made m t) o before after
+    (λ made k. k x refl refl m (rw c.in-Take.is at c.requires.pends)) h) c.take.ensures.turned)
+
 pub returns-in-Take-clause-knows : goal.returns-in-Take-clause-knows
 returns-in-Take-clause-knows g c =
     let main = c.args.main.now in
     let s = c.args.store.now.state in
     let t = c.take.new.w in
     let x = setting_of c.args.component.now (g.M.MainTask.script main) c.args.self.now.trap_on_idle in
-    by_take (g.M.MainTask.knows main) s t (λ last. g.met.M.MainTask.stays main s t last c.requires.knows) x c.args.self.now.trap_on_idle c.in-Take.ended (g.M.MainTask.part main) c.take.result refl (rw c.in-Take.is at c.requires.pends) c.take.ensures.turned c.take.ensures.works
+    by_take (g.M.MainTask.knows main) s t (λ last. g.met.M.MainTask.stays main s t last c.requires.knows) x c.args.self.now.trap_on_idle c.in-Take.ended (g.M.MainTask.part main) c.take.result c.args.trace.now c.take.new.trace refl (rw c.in-Take.is at c.requires.pends) c.take.ensures.turned c.take.ensures.works
 
 pub returns-in-Take-clause-hosts : goal.returns-in-Take-clause-hosts
 returns-in-Take-clause-hosts g c =
     let main = c.args.main.now in
     let store = c.args.store.now in
     let x = setting_of c.args.component.now (g.M.MainTask.script main) c.args.self.now.trap_on_idle in
-    held_taken x c.args.self.now.trap_on_idle c.in-Take.ended (g.M.MainTask.part main) store.state c.take.new.w (held_by g.H.HostWork.course store) c.take.result
+    held_taken x c.args.self.now.trap_on_idle c.in-Take.ended (g.M.MainTask.part main) store.state c.take.new.w (held_by g.H.HostWork.course store) c.take.result c.args.trace.now c.take.new.trace
     (subst (λ (p : Turn). Sits c.args.component.now p store.state.core) c.in-Take.is c.requires.at.order) refl (rw c.in-Take.is at c.requires.pends) c.take.ensures.turned c.requires.hosts
 
-pub returns-in-Futures-clause-does : goal.returns-in-Futures-clause-does
-returns-in-Futures-clause-does g c =
+pub returns-in_ok-put-in-Futures-clause-does : goal.returns-in_ok-put-in-Futures-clause-does
+returns-in_ok-put-in-Futures-clause-does g c =
     let main = c.args.main.now in
     let part = g.M.MainTask.part main in
     let x = setting_of c.args.component.now (g.M.MainTask.script main) c.args.self.now.trap_on_idle in
-    still g.M.MainTask.does main x part c.args.store.now.state c.poll_next.new.self.state (turn.Futures c.in-Futures.polled) refl c.poll_next.result
-    (c.poll_next.ensures.turns x part (rw c.in-Futures.is at c.requires.pends))
+    (c.poll_next.result, (c.in_ok-put-in-Futures.ensures.stands, still g.M.MainTask.does main x part c.args.store.now.state c.poll_next.new.self.state (turn.Futures c.in-Futures.polled) refl c.poll_next.result
+    (c.poll_next.ensures.turns x part (rw c.in-Futures.is at c.requires.pends))))
 
 pub returns-in-Take-clause-does : goal.returns-in-Take-clause-does
 returns-in-Take-clause-does g c =
     let main = c.args.main.now in
     let x = setting_of c.args.component.now (g.M.MainTask.script main) c.args.self.now.trap_on_idle in
-    still_taken g.M.MainTask.does main x (g.M.MainTask.part main) c.args.store.now.state c.take.new.w c.args.self.now.trap_on_idle c.in-Take.ended c.take.result refl (rw c.in-Take.is at c.requires.pends) c.take.ensures.turned
+    still_taken g.M.MainTask.does main x (g.M.MainTask.part main) c.args.store.now.state c.take.new.w c.args.self.now.trap_on_idle c.in-Take.ended c.take.result c.args.trace.now c.take.new.trace refl (rw c.in-Take.is at c.requires.pends) c.take.ensures.turned
 
 pub returns-in_ok-run_thread-in-Run-clause-does : goal.returns-in_ok-run_thread-in-Run-clause-does
 returns-in_ok-run_thread-in-Run-clause-does g c =
     let main = c.args.main.now in
+    let does = g.M.MainTask.does in
     let x = setting_of c.args.component.now (g.M.MainTask.script main) c.args.self.now.trap_on_idle in
-    still_run g.M.MainTask.does main x (g.M.MainTask.part main) c.args.store.now.state c.run_thread.new.store.state c.in-Run.thread c.in_ok-run_thread-in-Run.field-0 c.in_ok-run_thread-in-Run.ensures.makes
+    let n = c.in-Run.thread in
+    let s = c.args.store.now.state in
+    let t = c.run_thread.new.store.state in
+    added_as (λ (made : Made). Makes c.args.component.now (turn.Run n) s made t × IsFree made.turn) (λ (made : Made). DoesStep does main (step_shown made.label) main) c.in_ok-run_thread-in-Run.field-0 c.args.trace.now c.run_thread.new.trace
+    (λ made h. still_run does main x (g.M.MainTask.part main) s t n made h.0) c.in_ok-run_thread-in-Run.ensures.makes

@@ -1,0 +1,140 @@
+-- Steps whose labels are in the trace.
+use Rattle.op_dispatch.specs.Polls.{polled_host}
+use Rattle.std.proofs.Common.{inl, refl, subst, sym, ◌∙◌}
+use Rattle.std.specs.Prelude.{Bool, Err, IfOk, List, None, Ok, Option, Result, Some, false, true, ℕ, ◌+◌, ◌<◌, ◌≡◌, ◌≤◌}
+use Rattle.task_machine.specs.Core.{Core, Main, State}
+use Rattle.task_machine.specs.Labels.{choice_of}
+use Rattle.task_machine.specs.Read.{how_far_of, next_entry, place_of}
+use Rattle.task_machine.specs.declared.component.Component.{Component}
+use Rattle.task_machine.specs.declared.label.Label.{Label}
+use Rattle.task_machine.specs.declared.memory.NoMemory.{NoMemory}
+use Rattle.task_machine.specs.declared.op.Op.{Op}
+use Rattle.task_machine.specs.declared.outcome.Outcome.{Outcome}
+use Rattle.task_machine.specs.declared.outcome.Outcome.TheVariants as outcome
+use Rattle.task_machine.specs.declared.records.Entry.TheVariants as entry
+use Rattle.task_machine.specs.declared.records.Turn.{Turn}
+use Rattle.task_machine.specs.declared.records.Turn.TheVariants as turn
+use Rattle.task_machine.specs.declared.words.Mark.{Mark}
+use Rattle.task_ops.specs.Came.{Meets}
+use Rattle.task_ops.specs.Stays.{StaysAfter}
+use Rattle.task_ops.specs.Steps.{label_of}
+use Rattle.task_ops.specs.declared.came.Came.{Came}
+use Rattle.task_rules.specs.Progress.{Progress}
+use Rattle.task_rules.specs.Scripts.{op_of}
+use Rattle.task_rules.specs.Stalled.{Setting}
+use Rattle.task_rules.specs.Step.{did, op_row}
+use Rattle.task_rules.specs.Takes.{popped, thread_taken}
+use Rattle.task_table.specs.declared.id.TableId.{TableId}
+use Rattle.task_turns.proofs.DriveLemmas.{on_ends, on_more, on_turned_none}
+use Rattle.task_turns.proofs.IdleLemmas.{after_free, free_at}
+use Rattle.task_turns.proofs.RunLemmas.{ran_at, took}
+use Rattle.task_turns.specs.Drive.{Drove, IsOn}
+use Rattle.task_turns.specs.Ran.{RanPolls}
+use Rattle.task_turns.specs.Stepped.{Added, AddedOrNone, RowRan, RowShown, RowStep, RunAdded, Shown, StepPolls, made_by}
+use Rattle.task_turns.specs.Turn.{IsFree, Makes, Turned, Turns, is_open}
+use Rattle.task_turns.specs.declared.made.Made.{Made}
+use Rattle.task_turns.specs.declared.made.RunStep.{RunStep}
+use Rattle.task_turns.specs.declared.made.RunStep.TheVariants as run_step
+use Rattle.task_turns.specs.declared.made.Stepped.{Stepped}
+use Rattle.task_turns.specs.declared.made.Stepped.TheVariants as stepped
+use Rattle.task_wait.specs.declared.keys.ThreadKey.{ThreadKey}
+use Rattle.task_words.specs.StateView.{StateView, thread_of}
+
+-- a turn in which nothing more is made
+pub closed : (p : Turn) → is_open p ≡ false → p ≡ turn.Over
+closed turn.Over e = refl
+closed turn.Main e = absurd (cc)
+closed (turn.Futures n) e = absurd (cc)
+closed (turn.Take b) e = absurd (cc)
+closed (turn.Run n) e = absurd (cc)
+
+pub added_as : (P Q : Made → Type 0) (stepped : Stepped) (before after : List Label) → ((made : Made) → P made → Q made) → Added P stepped before after → Added Q stepped before after
+added_as P Q stepped before after f h = (h.0, (h.1.0, f h.0 h.1.1))
+
+pub none_as : (P Q : Option Made → Type 0) (o : Option Stepped) (before after : List Label) → ((made : Option Made) → P made → Q made) → AddedOrNone P o before after → AddedOrNone Q o before after
+none_as P Q None before after f h = (f None h.0, h.1)
+none_as P Q (Some q) before after f h = added_as (λ made. P (Some made)) (λ made. Q (Some made)) q before after (λ made. f (Some made)) h
+
+-- ---- A step of the running thread
+
+module _ (id : TableId ThreadKey) (s t : StateView) (stepped : Stepped) (before after : List Label) where
+  pub row_as : (P Q : Came → Progress) → ((r : Came) (u : Core) → Meets (P r) s.core r u → Meets (Q r) s.core r u) → RowShown P id s before stepped t after → RowShown Q id s before stepped t after
+  row_as P Q same h = record { came = h.came; left = h.left; meets = same h.came h.left.core h.meets; stays = h.stays; shown = h.shown }
+
+  -- an op that met its row made a step
+  pub run_added : (c : Component) (n : ℕ) → thread_of s id ≡ n → RowShown (λ r. did c (thread_of s id) s.core (choice_of (label_of (thread_of s id) r))) id s before stepped t after
+      → Added (λ made. Makes c (turn.Run n) s made t × IsFree made.turn) stepped before after
+  run_added c n number h =
+      let made = made_by (thread_of h.left id) h.came in
+      let makes : Makes c (turn.Run n) s made t = record {
+        step = ran_at id n s h.left number c h.came made.label made.turn t.core h.meets h.stays refl refl h.shown.core;
+        running = h.shown.running;
+        over = h.shown.over;
+      } in
+      (made, (h.shown.stands, (makes, after_free h.came)))
+
+  -- an op that polled no host
+  pub unpolled : (c : Component) (n : ℕ) (P : Made → Type 0) → polled_host c (how_far_of n s.core) (op_of c n s.core) ≡ None → Added P stepped before after
+      → Added (λ made. P made × RanPolls c n s (record { made = made; polled = None; work = None }) t) stepped before after
+  unpolled c n P none = added_as P (λ made. P made × RanPolls c n s (record { made = made; polled = None; work = None }) t) stepped before after
+      (λ made h. (h, record { polled = sym none; work = inl refl }))
+
+module _ (id : TableId ThreadKey) (s t : StateView) where
+  -- an op that met its row made a step, whose label is still to be added
+  pub ran_made : (c : Component) (n : ℕ) → thread_of s id ≡ n → (made : Made) → RowRan (λ r. did c (thread_of s id) s.core (choice_of (label_of (thread_of s id) r))) id s made t
+      → Makes c (turn.Run n) s made t × IsFree made.turn
+  ran_made c n number made h =
+      let makes : Makes c (turn.Run n) s made t = record {
+        step = ran_at id n s h.left number c h.came made.label made.turn t.core h.meets h.stays h.label h.turn h.core;
+        running = h.running;
+        over = h.over;
+      } in
+      (makes, free_at _ _ h.turn (after_free h.came))
+
+  pub row_ran_as : (P Q : Came → Progress) (made : Made) → ((r : Came) (u : Core) → Meets (P r) s.core r u → Meets (Q r) s.core r u) → RowRan P id s made t → RowRan Q id s made t
+  row_ran_as P Q made same h =
+      record { came = h.came; left = h.left; meets = same h.came h.left.core h.meets; stays = h.stays; label = h.label; turn = h.turn; core = h.core; running = h.running; over = h.over }
+
+-- what an op by its row came to is a step of the running thread
+pub run_steps : (c : Component) (id : TableId ThreadKey) (n : ℕ) (s t : StateView) → thread_of s id ≡ n → (before after : List Label) (r : Result RunStep NoMemory) (o : Op)
+    → polled_host c (how_far_of (thread_of s id) s.core) (op_of c (thread_of s id) s.core) ≡ polled_host c (how_far_of (thread_of s id) s.core) o
+    → ((came : Came) (u : Core) → Meets (op_row c (thread_of s id) s.core (choice_of (label_of (thread_of s id) came)) o) s.core came u → Meets (did c (thread_of s id) s.core (choice_of (label_of (thread_of s id) came))) s.core came u)
+    → IfOk r (λ step. RowStep (λ came. op_row c (thread_of s id) s.core (choice_of (label_of (thread_of s id) came)) o) id s before step t after)
+    → IfOk r (λ step. StepPolls (polled_host c (how_far_of (thread_of s id) s.core) o) s step t)
+    → IfOk r (λ step. RunAdded (λ ran. (Makes c (turn.Run n) s ran.made t × IsFree ran.made.turn) × RanPolls c n s ran t) step before after)
+run_steps c id n s t number before after (Err e) o is same step polls = tt
+run_steps c id n s t number before after (Ok (run_step.Shown q)) o is same step polls =
+    unpolled id s t q before after c n (λ made. Makes c (turn.Run n) s made t × IsFree made.turn)
+    (subst (λ k. polled_host c (how_far_of k s.core) (op_of c k s.core) ≡ None) number (is ∙ polls))
+    (run_added id s t q before after c n number (row_as id s t q before after (λ came. op_row c (thread_of s id) s.core (choice_of (label_of (thread_of s id) came)) o) (λ came. did c (thread_of s id) s.core (choice_of (label_of (thread_of s id) came))) same step))
+run_steps c id n s t number before after (Ok (run_step.Called ran)) o is same step polls =
+    let did_it = row_ran_as id s t (λ came. op_row c (thread_of s id) s.core (choice_of (label_of (thread_of s id) came)) o) (λ came. did c (thread_of s id) s.core (choice_of (label_of (thread_of s id) came))) ran.made same step.0 in
+    let polled : RanPolls c n s ran t = record { polled = subst (λ k. ran.polled ≡ polled_host c (how_far_of k s.core) (op_of c k s.core)) number (polls.0 ∙ sym is); work = polls.1 } in
+    ((ran_made id s t c n number ran.made did_it, polled), step.1)
+
+-- a taking that met its row made a step
+pub take_added : (c : Component) (ended : Bool) (mark : Mark) (id : TableId ThreadKey) (n : ℕ) (s u v t : StateView) (r : Came) (stepped : Stepped) (before after : List Label) → thread_of u id ≡ n → u.core ≡ popped mark s.core
+    → next_entry s.core ≡ Some (mark, entry.Thread n) → Meets (thread_taken mark (thread_of u id) (choice_of (label_of (thread_of u id) r)) u.core (place_of (thread_of u id) u.core)) u.core r v.core → StaysAfter r u v
+    → Shown id r v before stepped t after → Added (λ made. Makes c (turn.Take ended) s made t × IsFree made.turn) stepped before after
+take_added c ended mark id n s u v t r stepped before after number base next meets stays shown =
+    let made = made_by (thread_of v id) r in
+    let makes : Makes c (turn.Take ended) s made t = record {
+      step = took c ended mark id n s u v r made.label made.turn t.core number base next meets stays refl refl shown.core;
+      running = shown.running;
+      over = shown.over;
+    } in
+    (made, (shown.stands, (makes, after_free r)))
+
+-- ---- A run that is driven
+
+module _ (x : Setting) (s : State) (before : List Label) (numbers : ℕ) (p : Turn) (m : Main) (t : StateView) (mid : List Label) (n : ℕ) (on : IsOn x s before numbers p m t mid n)
+    (m' : Main) (t' : StateView) (after : List Label) where
+  pub added_more : (q : Turn) (computed : Bool) → Added (λ made. Turns x p m t made m' t') (stepped.Goes q computed) mid after → IsOn x s before numbers q m' t' after (n + 1)
+  added_more q computed h = subst (λ k. IsOn x s before numbers k m' t' after (n + 1)) h.1.0.1.0 (on_more x s before numbers p m t mid n on h.0 m' t' h.1.1 after h.1.0.0 h.1.0.1.1)
+
+  pub added_ends : (o : Outcome) (steps : ℕ) → n < steps → Added (λ made. Turns x p m t made m' t') (stepped.Over o) mid after → Drove x s before numbers turn.Over m' t' after steps o
+  added_ends o steps room h =
+      subst (λ k. Drove x s before numbers k m' t' after steps o) h.1.0.1.0 (on_ends x s before numbers p m t mid n on h.0 m' t' h.1.1 after h.1.0.0 steps o room h.1.0.1.1)
+
+  pub added_none : (steps : ℕ) → n ≤ steps → Turned x p m t None m' t' × (after ≡ mid) → Drove x s before numbers p m' t' after steps outcome.Idle
+  added_none steps room h = subst (λ (l : List Label). Drove x s before numbers p m' t' l steps outcome.Idle) (sym h.1) (on_turned_none x s before numbers p m m' t t' mid n steps on room h.0)

@@ -1,0 +1,84 @@
+-- A step whose label is in the trace.
+use Rattle.std.specs.Prelude.{List, None, Option, Some, [], is_none, true, ℕ, ◌++◌, ◌≡◌, ◌∷◌}
+use Rattle.task_machine.specs.Core.{Core}
+use Rattle.task_machine.specs.declared.component.HostDef.{HostDef}
+use Rattle.task_machine.specs.declared.label.Label.{Label}
+use Rattle.task_machine.specs.declared.records.Turn.TheVariants as turn
+use Rattle.task_ops.specs.Came.{Meets}
+use Rattle.task_ops.specs.Stays.{StaysAfter}
+use Rattle.task_ops.specs.Steps.{core_after, label_of, turn_after}
+use Rattle.task_ops.specs.declared.came.Came.{Came}
+use Rattle.task_rules.specs.Outcome.{outcome_of_label}
+use Rattle.task_rules.specs.Progress.{Progress}
+use Rattle.task_table.specs.declared.id.TableId.{TableId}
+use Rattle.task_turns.specs.Ran.{WorkMade}
+use Rattle.task_turns.specs.Turn.{is_going, is_open, running_of, runs_in}
+use Rattle.task_turns.specs.declared.made.Made.{Made}
+use Rattle.task_turns.specs.declared.made.Ran.{Ran}
+use Rattle.task_turns.specs.declared.made.RunStep.{RunStep}
+use Rattle.task_turns.specs.declared.made.RunStep.TheVariants as run_step
+use Rattle.task_turns.specs.declared.made.Stepped.{Stepped}
+use Rattle.task_turns.specs.declared.made.Stepped.TheVariants as stepped
+use Rattle.task_wait.specs.declared.keys.ThreadKey.{ThreadKey}
+use Rattle.task_words.specs.StateView.{StateView, thread_of}
+
+-- The label of the step was added, and what is left to tell is whose turn it is then, or the outcome that the label gives.
+abbrev pub Stands : Stepped → List Label → Made → List Label → Type 0
+Stands (stepped.Goes p computed) before made after = (after ≡ before ++ made.label ∷ []) × ((made.turn ≡ p) × (outcome_of_label made.label ≡ None))
+Stands (stepped.Over o) before made after = (after ≡ before ++ made.label ∷ []) × ((made.turn ≡ turn.Over) × (outcome_of_label made.label ≡ Some o))
+
+-- Such a step was made as this says of it.
+abbrev pub Added : (Made → Type 0) → Stepped → List Label → List Label → Type 0
+Added P stepped before after = (made : Made) × (Stands stepped before made after × P made)
+
+-- The same, or none was made, and nothing was added.
+abbrev pub AddedOrNone : (Option Made → Type 0) → Option Stepped → List Label → List Label → Type 0
+AddedOrNone P None before after = P None × (after ≡ before)
+AddedOrNone P (Some stepped) before after = Added (λ made. P (Some made)) stepped before after
+
+-- what an op of the thread shows that came to this
+abbrev pub made_by : ℕ → Came → Made
+made_by n r = record { label = label_of n r; turn = turn_after r }
+
+-- What the op came to is in the trace, and the strand is gone where it trapped.
+pub record Shown (id : TableId ThreadKey) (r : Came) (s : StateView) (before : List Label) (stepped : Stepped) (t : StateView) (after : List Label) : Type 0 where
+  pub stands : Stands stepped before (made_by (thread_of s id) r) after
+  pub core : t.core ≡ core_after (thread_of s id) r s.core
+  pub running : running_of t ≡ runs_in (turn_after r)
+  pub tags : is_going r ≡ true → t.tags ≡ s.tags
+  pub over : is_none (outcome_of_label (label_of (thread_of s id) r)) ≡ is_open (turn_after r)
+
+-- The op of the thread came to what its row says, and what it shows is in the trace.
+pub record RowShown (row : Came → Progress) (id : TableId ThreadKey) (s : StateView) (before : List Label) (stepped : Stepped) (t : StateView) (after : List Label) : Type 0 where
+  pub came : Came
+  pub left : StateView
+  pub meets : Meets (row came) s.core came left.core
+  pub stays : StaysAfter came s left
+  pub shown : Shown id came left before stepped t after
+
+-- The same of a step whose label is still to be added.
+pub record RowRan (row : Came → Progress) (id : TableId ThreadKey) (s : StateView) (made : Made) (t : StateView) : Type 0 where
+  pub came : Came
+  pub left : StateView
+  pub meets : Meets (row came) s.core came left.core
+  pub stays : StaysAfter came s left
+  pub label : made.label ≡ label_of (thread_of left id) came
+  pub turn : made.turn ≡ turn_after came
+  pub core : t.core ≡ core_after (thread_of left id) came left.core
+  pub running : running_of t ≡ runs_in made.turn
+  pub over : is_none (outcome_of_label made.label) ≡ is_open made.turn
+
+-- A step of the running thread was made as this says of it: it polled no host and its label was added, or nothing was added.
+abbrev pub RunAdded : (Ran → Type 0) → RunStep → List Label → List Label → Type 0
+RunAdded P (run_step.Shown stepped) before after = Added (λ made. P (record { made = made; polled = None; work = None })) stepped before after
+RunAdded P (run_step.Called ran) before after = P ran × (after ≡ before)
+
+-- either of these
+abbrev pub RowStep : (Came → Progress) → TableId ThreadKey → StateView → List Label → RunStep → StateView → List Label → Type 0
+RowStep row id s before (run_step.Shown stepped) t after = RowShown row id s before stepped t after
+RowStep row id s before (run_step.Called ran) t after = RowRan row id s ran.made t × (after ≡ before)
+
+-- A step that polled this host first says so, and which work was made.
+abbrev pub StepPolls : Option HostDef → StateView → RunStep → StateView → Type 0
+StepPolls host s (run_step.Shown stepped) t = host ≡ None
+StepPolls host s (run_step.Called ran) t = (ran.polled ≡ host) × WorkMade ran.polled ran.work s t
