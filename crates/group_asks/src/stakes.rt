@@ -1,7 +1,7 @@
 ghost use Rattle.std.specs.Prelude.{◌≡◌, ◌<◌, Some};
 ghost use Rattle.group_laws.specs.Groups.{stake, stake_dropped, stake_inside, stake_of, stake_of_call, subtask_group};
 ghost use Rattle.task_machine.specs.Maps.{get};
-ghost use Rattle.task_machine.specs.Read.{how_far_of};
+ghost use Rattle.task_machine.specs.Read.{how_far_of, thread_group};
 ghost use Rattle.task_machine.specs.declared.records.Thread.{Thread};
 ghost use Rattle.task_words.specs.Names.{subtask_in};
 ghost use Rattle.task_words.specs.StateView.{thread_of};
@@ -22,53 +22,61 @@ fn subtask_group<W: Words>(w: &W, subtask: SubtaskId) -> u64
 }
 
 // The group of the call that the thread's op is inside of, else the thread's own.
-fn inside<W: Words>(w: &W, thread: ThreadId) -> u64
+fn inside<W: Words>(w: &W, thread: ThreadId, own: u64) -> u64
+    requires own { own ≡ thread_group (thread_of (W.view w.now) thread) (W.view w.now).core }
     ensures { result ≡ stake_inside (thread_of (W.view w.now) thread) (W.view w.now).core (how_far_of (thread_of (W.view w.now) thread) (W.view w.now).core) }
 {
     w.none_is_zero();
     match w.how_far(thread) {
         HowFarId::Calls(subtask) => subtask_group(w, subtask),
-        _ => w.thread_group(thread),
+        _ => own,
     }
 }
 
 // The group of the subtask that the handle names.
-fn dropped<W: Words>(w: &W, thread: ThreadId, handle: u64) -> u64
+fn dropped<W: Words>(w: &W, thread: ThreadId, handle: u64, own: u64) -> u64
+    requires own { own ≡ thread_group (thread_of (W.view w.now) thread) (W.view w.now).core }
     ensures { result ≡ stake_dropped (thread_of (W.view w.now) thread) handle (W.view w.now).core }
 {
     w.none_is_zero();
     match w.subtask_at(w.instance_of(thread), handle) {
         Some(subtask) => subtask_group(w, subtask),
-        None => w.thread_group(thread),
+        None => own,
     }
 }
 
-// The group that an op on subtasks may finish.
-fn stake_of_call<W: Words>(w: &W, thread: ThreadId, op: &CallOp) -> u64
+// The group that an op on subtasks may finish. It is out of line, as few ops are such.
+#[inline(never)]
+fn stake_of_call<W: Words>(w: &W, thread: ThreadId, op: &CallOp, own: u64) -> u64
+    requires own { own ≡ thread_group (thread_of (W.view w.now) thread) (W.view w.now).core }
     ensures { result ≡ stake_of_call (thread_of (W.view w.now) thread) (W.view w.now).core op.now }
 {
     match op {
-        CallOp::Drop { subtask } => dropped(w, thread, value_of(w, thread, *subtask)),
+        CallOp::Drop { subtask } => dropped(w, thread, value_of(w, thread, *subtask), own),
         CallOp::Call { .. } | CallOp::CallSync { .. } | CallOp::CallSyncHost { .. } => {
-            inside(w, thread)
+            inside(w, thread, own)
         }
-        _ => w.thread_group(thread),
+        _ => own,
     }
 }
 
 // The group that the thread's op may finish.
-fn stake_of<W: Words>(w: &W, thread: ThreadId, op: &Op) -> u64
+#[inline(always)]
+fn stake_of<W: Words>(w: &W, thread: ThreadId, op: &Op, own: u64) -> u64
+    requires own { own ≡ thread_group (thread_of (W.view w.now) thread) (W.view w.now).core }
     ensures { result ≡ stake_of (thread_of (W.view w.now) thread) (W.view w.now).core op.now }
 {
     match op {
-        Op::Call(call) => stake_of_call(w, thread, call),
-        _ => w.thread_group(thread),
+        Op::Call(call) => stake_of_call(w, thread, call, own),
+        _ => own,
     }
 }
 
 /// The group that the next step of the running thread may finish: that of the subtask that it drops or is inside of, else
-/// its own.
-pub fn staked<W: Words>(component: &Component, w: &W, thread: ThreadId) -> u64
+/// its `own`.
+#[inline(always)]
+pub fn staked<W: Words>(component: &Component, w: &W, thread: ThreadId, own: u64) -> u64
+    requires own { own ≡ thread_group (thread_of (W.view w.now) thread) (W.view w.now).core }
     requires live { 0 < thread_of (W.view w.now) thread }
     requires there { (t : Thread) × (get (W.view w.now).core.threads (thread_of (W.view w.now) thread) ≡ Some t) }
     ensures { result ≡ stake component.now (thread_of (W.view w.now) thread) (W.view w.now).core }
@@ -76,7 +84,7 @@ pub fn staked<W: Words>(component: &Component, w: &W, thread: ThreadId) -> u64
     let point = w.at(thread);
     let script = script_ops(component, point.callee, point.script);
     match op_at(script, point.position) {
-        Some(op) => stake_of(w, thread, op),
-        None => w.thread_group(thread),
+        Some(op) => stake_of(w, thread, op, own),
+        None => own,
     }
 }

@@ -5,6 +5,7 @@ use task_machine::Turn;
 use task_words::{EntryId, Words};
 
 /// The group of the work that the loop polls in this turn, or whose entry it takes; none where that is no host call.
+#[inline(always)]
 pub fn worked_group<W: Words>(w: &W, turn: Turn) -> Option<u64>
     ensures { result ≡ worked_group (W.view w.now).core turn }
 {

@@ -9,3 +9,4 @@ pub mod DataGroups
 pub mod TakeGroups
 pub mod StepTells
 pub mod RunTells
+pub mod GroupLemmas

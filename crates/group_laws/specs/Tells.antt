@@ -1,15 +1,18 @@
 -- What a step tells the groups, by what is asked in the turn before it.
 use Rattle.group_laws.specs.Groups.{OneLess, stake}
 use Rattle.std.specs.List.{list_all}
-use Rattle.std.specs.Prelude.{Bool, List, None, Option, Some, [], false, option_and_then, true, ℕ, ◌++◌, ◌≡◌, ◌⊎◌}
+use Rattle.std.specs.Prelude.{Bool, List, None, Option, Some, [], false, option_and_then, true, ℕ, ◌++◌, ◌≡◌, ◌≤◌, ◌⊎◌}
 use Rattle.task_machine.specs.Core.{Core, State}
-use Rattle.task_machine.specs.Read.{next_entry}
+use Rattle.task_machine.specs.Maps.{get}
+use Rattle.task_machine.specs.Read.{next_entry, thread_group}
 use Rattle.task_machine.specs.declared.component.Component.{Component}
 use Rattle.task_machine.specs.declared.label.Label.{Label}
 use Rattle.task_machine.specs.declared.label.Label.TheVariants as label
+use Rattle.task_machine.specs.declared.records.Call.{Call}
 use Rattle.task_machine.specs.declared.records.Entry.{Entry}
 use Rattle.task_machine.specs.declared.records.Entry.TheVariants as entry
 use Rattle.task_machine.specs.declared.records.Notice.{Notice}
+use Rattle.task_machine.specs.declared.records.Thread.{Thread}
 use Rattle.task_machine.specs.declared.records.Turn.{Turn}
 use Rattle.task_machine.specs.declared.records.Turn.TheVariants as turn
 use Rattle.task_machine.specs.declared.words.Mark.{Mark}
@@ -74,6 +77,15 @@ abbrev pub RunsTellOn : Type 0
 RunsTellOn =
     (x : Setting) (s : State) (ls : List Label) (m : State) (ks : List Label) (t : State) (run : Run x s ls m) (more : Run x m ks t) →
     (both : Run x s (ls ++ ks) t) × (notices (history x s (ls ++ ks) t both) ≡ notices (history x s ls m run) ++ notices (history x m ks t more))
+
+-- a thread that is there before a step and after it, as its call is, is of the same group
+abbrev pub GroupStays : Type 0
+GroupStays =
+    (x : Setting) (s : State) (l : Label) (t : State) (n : ℕ) → Step x s l t →
+    (a : Thread) → get s.core.threads n ≡ Some a → n ≤ s.core.made.threads → a.call ≤ s.core.made.threads →
+    (b : Thread) → get t.core.threads n ≡ Some b →
+    (c : Call) → get s.core.calls a.call ≡ Some c → (d : Call) → get t.core.calls b.call ≡ Some d →
+    thread_group n t.core ≡ thread_group n s.core
 
 -- the notices of such a step
 abbrev pub NoticesTold : Type 0

@@ -1,9 +1,11 @@
 ghost use Rattle.std.specs.Prelude.{◌≡◌, ◌≤◌, List, ℕ, None, IsErr, OnOk, is_some};
 ghost use Rattle.group_notices.specs.Mirror.{Leads, Mirrors, named, told_by};
+ghost use Rattle.group_notices.specs.Quiet.{is_quiet, runs_on};
 ghost use Rattle.task_group.specs.Listeners.{AnsweredErr, Told, errors_of};
 ghost use Rattle.task_rules.specs.Notices.{around, finish_notices, of_live, switch_notices};
 
 use task_group::{GroupError, Groups, TaskGroupHook, TaskGroupId};
+use task_machine::Turn;
 
 /// What is asked of a turn before its step: the group of the thread that runs, that of the work which
 /// the turn works on, the group that the step may finish, and how many groups are live.
@@ -96,4 +98,27 @@ pub fn tell_step<H: TaskGroupHook>(
     switch(groups, asked.running, running)?;
     work(groups, asked.worked)?;
     finish(groups, asked, left)
+}
+
+// Whether the same thread runs on.
+#[inline(always)]
+fn runs_on(before: Turn, after: Turn) -> bool
+    ensures { result ≡ runs_on before after }
+{
+    match before {
+        Turn::Run { thread: old } => match after {
+            Turn::Run { thread: new } => old == new,
+            _ => false,
+        },
+        _ => false,
+    }
+}
+
+/// Whether a step is seen to give nothing to tell: the same thread runs on after it, and as many groups are live as
+/// before.
+#[inline(always)]
+pub fn is_quiet(asked: &Asked, before: Turn, after: Turn, left: u64) -> bool
+    ensures { result ≡ is_quiet asked.now before after left }
+{
+    runs_on(before, after) && asked.worked.is_none() && left == asked.live
 }

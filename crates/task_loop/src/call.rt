@@ -16,12 +16,11 @@ ghost use Rattle.task_turns.specs.Turn.{Sits, given};
 
 use crate::instance::Instance;
 use futures::task::Poll;
-use task_calls::{TaskError, finish_call, start_call, start_untrapped};
+use task_calls::{TaskError, finish_call, start_refusal, start_untrapped};
 use task_group::TaskGroupId;
 use task_machine::{Callee, Component};
 use task_store::Store;
 use task_turns::export_def;
-use task_words::ResultWords;
 
 /// Names an export by its instance and its place there, from 0.
 #[derive(Clone, Copy)]
@@ -98,17 +97,10 @@ impl Func {
         ensures refused { HoldsGroups store.old.groups store.old.state.core → OnErr result (Told (finish_all store.old.groups.live) store.old.groups.listeners store.new.groups.listeners) }
         ensures rest { store.new ≡ record store.old { state = store.new.state; groups = store.new.groups } }
     {
-        let group = store.state.made().groups + 1;
-        match start_call(&mut store.state, component, self.callee(), params) {
-            Ok(thread) => {
-                let Ok(_made) = store.groups.make() else {
-                    store.set_trapped();
-                    return Err(TaskError::NoMemory);
-                };
-                Ok(FuncCallConcurrent { thread, group })
-            }
+        match self.start_untrapped(component, store, params) {
+            Ok(call) => Ok(call),
             Err(e) => {
-                store.groups.clean_up(None);
+                store.set_trapped();
                 Err(e)
             }
         }
@@ -136,17 +128,23 @@ impl Func {
         ensures told { HoldsGroups store.old.groups store.old.state.core → IfOk result (λ call. Told (told_of NoticeKind.Start call.group ∷ []) store.old.groups.listeners store.new.groups.listeners) }
         ensures rest { store.new ≡ record store.old { state = store.new.state; groups = store.new.groups } }
     {
-        let group = store.state.made().groups + 1;
-        match start_untrapped(&mut store.state, component, self.callee(), params) {
-            Ok(thread) => {
-                let Ok(_made) = store.groups.make() else {
-                    store.set_trapped();
-                    return Err(TaskError::NoMemory);
-                };
-                Ok(FuncCallConcurrent { thread, group })
-            }
-            Err(e) => Err(e),
+        if let Some(trap) = start_refusal(&store.state) {
+            return Err(TaskError::Trap(trap));
         }
+        let Ok(()) = store.groups.prepare() else {
+            return Err(TaskError::NoMemory);
+        };
+        let Ok(thread) = start_untrapped(&mut store.state, component, self.callee(), params) else {
+            store.groups.withdraw();
+            return Err(TaskError::NoMemory);
+        };
+        let Ok(id) = store.groups.announce() else {
+            unreachable!()
+        };
+        Ok(FuncCallConcurrent {
+            thread,
+            group: id.number,
+        })
     }
 
     /// The result of a call that has returned; pending where it hasn't, and then nothing is

@@ -10,6 +10,7 @@ ghost use Rattle.task_turns.specs.Stepped.{Added, AddedOrNone};
 ghost use Rattle.task_turns.specs.Turn.{IsAtTurn, IsFree, IsSettled, Makes, PendsIn, Sits, Turned, Turns, given, goes_on, is_open, running_of, runs_in, setting_of, state_at};
 
 use crate::main_task::MainTask;
+use group_asks::{ask, group_of, tell};
 use store_access::Access;
 use task_calls::TaskError;
 use task_machine::{Component, NoMemory, Outcome, Trap, Turn};
@@ -133,6 +134,16 @@ fn run_thread<T, H: AccessorTask<T> + FromHost>(
     }
 }
 
+// Whose turn it is after a step; none where none was made.
+#[inline(always)]
+fn turn_after(stepped: &Option<Stepped>) -> Option<Turn> {
+    match stepped {
+        Some(Stepped::Goes { turn, computed: _ }) => Some(*turn),
+        Some(Stepped::Over(_)) => Some(Turn::Over),
+        None => None,
+    }
+}
+
 impl RunConcurrent {
     /// Goes on with the run until it is over, until it has added `steps` labels to the trace, or
     /// until nothing can go on and that is no deadlock. The labels that it adds are those of a run
@@ -217,8 +228,9 @@ impl RunConcurrent {
         ensures ok { IfOk result (λ outcome. Drove (setting_of component.now (M.script main.old) self.old.trap_on_idle) (state_at store.old.state.core (M.part main.old) self.old.turn) trace.old (given store.old.state.core) self.new.turn (M.part main.new) store.new.state trace.new steps outcome) }
     {
         let mut added = 0;
+        let mut running = group_of(&store.state, self.turn);
         'turns: while added < steps {
-            match self.turn(component, store, main, trace)? {
+            match self.told_turn(component, store, main, trace, &mut running)? {
                 None => {
                     return Ok(Outcome::Idle);
                 }
@@ -287,6 +299,32 @@ impl RunConcurrent {
             Turn::Run { thread } => Ok(Some(run_thread(component, store, thread, trace)?)),
             Turn::Over => unreachable!(),
         }
+    }
+
+    // Makes a step as `turn` does, and tells the groups of the store what it gave. `running` is the group of the thread
+    // that runs.
+    #[inline(always)]
+    fn told_turn<T, H: AccessorTask<T> + FromHost, M: MainTask<T, H>>(
+        &self,
+        component: &Component,
+        store: &mut Store<T, H>,
+        main: &mut M,
+        trace: &mut Trace,
+        running: &mut Option<u64>,
+    ) -> Result<Option<Stepped>, NoMemory>
+    {
+        let live = store.state.groups();
+        let asked = ask(component, &store.state, self.turn, *running, live);
+        let stepped = self.turn(component, store, main, trace)?;
+        let Some(after) = turn_after(&stepped) else {
+            return Ok(stepped);
+        };
+        if let Turn::Main = self.turn {
+            return Ok(stepped);
+        }
+        let left = store.state.groups();
+        *running = tell(&store.state, &mut store.groups, self.turn, after, &asked, left);
+        Ok(stepped)
     }
 
     /// Ends the run: it no longer stands on the store.

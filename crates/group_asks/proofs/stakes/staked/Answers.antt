@@ -22,4 +22,4 @@ returns-in-None g c =
     let q = c.requires.there in
     let is = op_is c.args.component.now n s.core q.0 q.1 c.script_ops-script.result.now c.at-point.result.callee (task_of n s.core) c.at-point.result.position c.at-point.result.script c.at-point.ensures.callee refl (c.at-point.ensures.script q.0 q.1) c.script_ops-script.ensures c.at-point.ensures.position
     None (sym (ap option_copied c.in-None.is) ∙ c.op_at.ensures) in
-    c.thread_group.ensures ∙ sym (stake_is c.args.component.now n s.core _ is)
+    c.requires.own ∙ sym (stake_is c.args.component.now n s.core _ is)
