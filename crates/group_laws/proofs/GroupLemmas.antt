@@ -1,5 +1,5 @@
 -- A thread stays in its group.
-use Rattle.std.proofs.Common.{ap, sym, ◌∙◌, ◌≡◌}
+use Rattle.std.proofs.Common.{ap, subst, sym, ◌∙◌, ◌≡◌}
 use Rattle.std.specs.Option.{option_map_or}
 use Rattle.std.specs.Prelude.{Option, Some, ℕ}
 use Rattle.group_laws.specs.Tells.{GroupStays}
@@ -16,7 +16,7 @@ group_in n s a c here call =
     ap (λ o. call_group (option_map_or (λ (t : Thread). t.call) o 0) s) here ∙ ap (λ o. option_map_or (λ (k : Call). k.group) o 0) call
 
 later : {X : Type 0} (P : X → X → Type 0) (o p : Option X) (x y : X) → LaterBy P o p → o ≡ Some x → p ≡ Some y → P x y
-later P o p x y h e f = let q : LaterBy P (Some x) (Some y) = rw (sym e, sym f) h in q
+later P o p x y h e f = subst (λ q. LaterBy P (Some x) q) f (subst (λ q. LaterBy P q p) e h)
 
 pub group_stays : GroupStays
 group_stays x s l t n step a here below known b there c call d after =

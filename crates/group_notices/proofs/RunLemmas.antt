@@ -1,8 +1,7 @@
 -- What runs have told.
-use Rattle.std.proofs.Common.{Bool, ap, ap₂, append-nil, append_assoc, arith, cond, false, inl, inr, nat_lt, refl, subst, sym, ◌<◌, ◌∙◌, ◌≡◌, ◌≤◌, length, ⊎_elim}
-use Rattle.std.proofs.lemmas.Bool.Decides.{nat_tests}
+use Rattle.std.proofs.Common.{ap, ap₂, append-nil, append_assoc, arith, refl, subst, sym, ◌∙◌, ◌≡◌, length}
 use Rattle.std.specs.List.{list_all}
-use Rattle.std.specs.Prelude.{List, None, Option, [], not, true, ℕ, ◌++◌, ◌==◌, ◌∷◌, ◌⊎◌}
+use Rattle.std.specs.Prelude.{List, None, Option, [], true, ℕ, ◌++◌, ◌∷◌, ◌⊎◌}
 use Rattle.group_laws.proofs.RunTells.{data_runs_tell_nothing, runs_tell_on}
 use Rattle.group_laws.proofs.StepTells.{notices_told, steps_tell}
 use Rattle.group_laws.specs.Groups.{OneLess}
@@ -51,25 +50,10 @@ data_told x s before m mid ls t n old new h at run all =
     more_told x s before m mid ls t old new new h run
     (subst (λ (ns : List Notice). Told ns new.listeners new.listeners) (sym (data_runs_tell_nothing x m ls t n run at all)) (told-none new.listeners))
 
-one_kept : (b : Bool) (x : ℕ) → (cond b (x ∷ []) [] ≡ []) ⊎ (cond b (x ∷ []) [] ≡ x ∷ [])
-one_kept true x = inr refl
-one_kept false x = inl refl
-
--- of one group alone it doesn't matter which is at stake
-few_less : (g h : ℕ) (gs hs : List ℕ) → length gs < 2 → (hs ≡ []) ⊎ OneLess g gs hs → (hs ≡ []) ⊎ OneLess h gs hs
-few_less g h [] hs few q = ⊎_elim inl (λ less. ⊎_elim (λ same. inr (inl same)) (λ none. inl none) less) q
-few_less g h (x ∷ []) hs few q =
-    ⊎_elim inl (λ less. ⊎_elim (λ same. inr (inl same)) (λ one. ⊎_elim (λ none. inl (one ∙ none)) (λ kept. inr (inl (one ∙ kept))) (one_kept (not (g == x)) x)) less) q
-few_less g h (x ∷ y ∷ gs) hs few q = absurd (omega (arith, few))
-
-less_asked : (g h : ℕ) (gs hs : List ℕ) → (2 ≤ length gs → h ≡ g) → (b : Bool) → nat_lt (length gs) 2 ≡ b → (hs ≡ []) ⊎ OneLess g gs hs → (hs ≡ []) ⊎ OneLess h gs hs
-less_asked g h gs hs is true few q = few_less g h gs hs (grind (arith, nat_tests, few)) q
-less_asked g h gs hs is false many q = subst (λ k. (hs ≡ []) ⊎ OneLess k gs hs) (sym (is (grind (arith, nat_tests, many)))) q
-
 pub asked_told : AskedTold
 asked_told x s l t a step main q = (
   record {
-    groups = less_asked (staked x.component s.core s.turn) a.staked s.core.groups t.core.groups q.staked (nat_lt (length s.core.groups) 2) refl (steps_tell x s l t step main).groups;
+    groups = subst (λ g. (t.core.groups ≡ []) ⊎ OneLess g s.core.groups t.core.groups) (sym q.staked) (steps_tell x s l t step main).groups;
     before = q.live;
     after = refl;
   },

@@ -1,3 +1,2 @@
 pub mod Mirror
-pub mod Quiet
 pub mod Runs

@@ -1,6 +1,6 @@
 -- What the steps of a run have told to the groups of a store.
 use Rattle.std.specs.List.{list_all}
-use Rattle.std.specs.Prelude.{List, None, [], false, length, true, ℕ, ◌++◌, ◌∷◌, ◌≡◌, ◌≤◌}
+use Rattle.std.specs.Prelude.{List, None, [], false, length, true, ℕ, ◌++◌, ◌∷◌, ◌≡◌}
 use Rattle.group_laws.specs.Tells.{is_data, is_main_turn, staked, worked_group}
 use Rattle.group_notices.specs.Mirror.{Leads, told_by}
 use Rattle.group_notices.specs.declared.tells.Asked.{Asked}
@@ -27,11 +27,11 @@ pub record HasTold (x : Setting) (s : State) (before : List Label) (t : State) (
 abbrev pub moment : State → Label → State → Moment
 moment s l t = record { before = s; label = l; after = t }
 
--- This is asked in the turn, before its step; which group is at stake matters only where several are live.
+-- This is asked in the turn, before its step.
 pub record IsAsked (c : Component) (s : Core) (p : Turn) (a : Asked) : Type 0 where
   pub running : a.running ≡ running_group s p
   pub worked : a.worked ≡ worked_group s p
-  pub staked : 2 ≤ length s.groups → a.staked ≡ staked c s p
+  pub staked : a.staked ≡ staked c s p
   pub live : a.live ≡ length s.groups
 
 -- nothing is told of no run

@@ -1,5 +1,4 @@
 //! What a run has told: each function here is the statement of a law.
-ghost use Rattle.group_notices.specs.Quiet.{QuietTold};
 ghost use Rattle.group_notices.specs.Runs.{AskedTold, DataTold, MainTold, NothingTold, StepTold};
 
 /// Before the first step nothing was told.
@@ -29,10 +28,4 @@ pub fn asked_is_told()
 #[tactic(auto, using(crate::proofs::RunLemmas::main_told))]
 pub fn main_is_told()
     ensures { MainTold }
-{}
-
-/// A step that is seen to give nothing to tell leaves the groups as they were.
-#[tactic(auto, using(crate::proofs::QuietLemmas::quiet_told))]
-pub fn quiet_is_told()
-    ensures { QuietTold }
 {}

@@ -5,9 +5,9 @@ ghost use Rattle.task_group.specs.Listeners.{nobody, Told, AnsweredErr};
 ghost use Rattle.task_group.specs.Heard.{start_of};
 ghost use Rattle.task_group.specs.Groups.{notice_at, finish_at, finish_all, same_group, Switches};
 
-use crate::counts::Counts;
 use crate::hook::{NoHook, TaskGroupHook};
 use crate::listeners::Listeners;
+use crate::live::Live;
 use crate::notice::{GroupError, TaskGroupId};
 use std::alloc::Global;
 use std::marker::Model;
@@ -20,7 +20,7 @@ use task_machine::{NoMemory, Notice, NoticeKind};
 /// `H` is the hook's type. Groups without a hook are `Groups`, and those with a boxed one `Groups<Box<MyHook>>`.
 #[derive(Drop)]
 pub struct Groups<H: TaskGroupHook = NoHook> {
-    counts: Counts,
+    counts: Live,
     made: u64,
     listeners: Listeners<H>,
 }
@@ -47,7 +47,7 @@ impl<H: TaskGroupHook> Groups<H> {
         ensures { result ≡ record { live = finite.empty; made = 0; listeners = nobody } }
     {
         Groups {
-            counts: Counts::new(alloc),
+            counts: Live::new(alloc),
             made: 0,
             listeners: Listeners::new(alloc),
         }
@@ -83,18 +83,20 @@ impl<H: TaskGroupHook> Groups<H> {
     }
 
     /// A group that isn't told of yet, with one task: it is to be told of by `announce`, or taken back by `withdraw`,
-    /// before any other call. At most 2^61 groups are made.
+    /// before any other call.
     ///
-    /// `NoMemory` where there is none for it, with all as before.
+    /// `NoMemory` where there is none for it, or 2^64 - 1 were made, with all as before.
     pub fn prepare(&mut self) -> Result<(), NoMemory>
-        requires { self.old.made < 2 ^ 61 }
         ensures ok { OnOk result (self.new ≡ record self.old { live = finite.insert self.old.live (self.old.made + 1) 1; made = self.old.made + 1 }) }
         ensures err { OnErr result (self.new ≡ self.old) }
     {
-        let Ok(()) = self.counts.add(self.made + 1) else {
+        let Some(number) = self.made.checked_add(1) else {
             return Err(NoMemory);
         };
-        self.made += 1;
+        let Ok(()) = self.counts.add(number) else {
+            return Err(NoMemory);
+        };
+        self.made = number;
         Ok(())
     }
 
@@ -167,6 +169,7 @@ impl<H: TaskGroupHook> Groups<H> {
     /// The thread that runs is one of another group, or of none: the hook is told of the exit from the old group and then of the enter into the new one, but for finished groups and for none. Nothing is told where both are the same.
     ///
     /// `HookFailed` exactly where the hook answered an error; after an error at the exit the enter isn't told.
+    #[inline(always)]
     pub fn switch(
         &mut self,
         old: Option<TaskGroupId>,
@@ -186,6 +189,7 @@ impl<H: TaskGroupHook> Groups<H> {
     }
 
     // A notice of a group, but of a finished one or of none.
+    #[inline(always)]
     fn tell_if_live(
         &mut self,
         kind: NoticeKind,
@@ -199,7 +203,7 @@ impl<H: TaskGroupHook> Groups<H> {
         let Some(id) = group else {
             return Ok(());
         };
-        if self.counts.get(id.number) == 0 {
+        if !self.counts.is_live(id.number) {
             return Ok(());
         }
         if self.listeners.tell(kind, id).is_err() {
@@ -254,6 +258,7 @@ impl<H: TaskGroupHook> Groups<H> {
 }
 
 // Whether both name the same group, or both name none.
+#[inline(always)]
 fn is_same(old: Option<TaskGroupId>, new: Option<TaskGroupId>) -> bool
     ensures { result ≡ same_group old new }
 {
@@ -265,7 +270,7 @@ fn is_same(old: Option<TaskGroupId>, new: Option<TaskGroupId>) -> bool
 }
 
 // Each live group is finished, in order of number.
-fn finish_each<H: TaskGroupHook>(counts: &mut Counts, listeners: &mut Listeners<H>)
+fn finish_each<H: TaskGroupHook>(counts: &mut Live, listeners: &mut Listeners<H>)
     ensures live { counts.new ≡ finite.empty }
     ensures told { Told (finish_all counts.old) listeners.old listeners.new }
 {

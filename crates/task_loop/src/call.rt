@@ -21,6 +21,7 @@ use task_group::TaskGroupId;
 use task_machine::{Callee, Component};
 use task_store::Store;
 use task_turns::export_def;
+use task_words::ResultWords;
 
 /// Names an export by its instance and its place there, from 0.
 #[derive(Clone, Copy)]
@@ -94,7 +95,7 @@ impl Func {
         ensures hosts { (course : H → HostDef) → HoldsHosts course store.old → HoldsHosts course store.new }
         ensures groups { HoldsGroups store.old.groups store.old.state.core → HoldsGroups store.new.groups store.new.state.core }
         ensures told { HoldsGroups store.old.groups store.old.state.core → IfOk result (λ call. Told (told_of NoticeKind.Start call.group ∷ []) store.old.groups.listeners store.new.groups.listeners) }
-        ensures refused { HoldsGroups store.old.groups store.old.state.core → OnErr result (Told (finish_all store.old.groups.live) store.old.groups.listeners store.new.groups.listeners) }
+        ensures refused { OnErr result (Told (finish_all store.old.groups.live) store.old.groups.listeners store.new.groups.listeners) }
         ensures rest { store.new ≡ record store.old { state = store.new.state; groups = store.new.groups } }
     {
         match self.start_untrapped(component, store, params) {
@@ -127,24 +128,26 @@ impl Func {
         ensures groups { HoldsGroups store.old.groups store.old.state.core → HoldsGroups store.new.groups store.new.state.core }
         ensures told { HoldsGroups store.old.groups store.old.state.core → IfOk result (λ call. Told (told_of NoticeKind.Start call.group ∷ []) store.old.groups.listeners store.new.groups.listeners) }
         ensures rest { store.new ≡ record store.old { state = store.new.state; groups = store.new.groups } }
+        ensures refused { OnErr result (store.new ≡ store.old) }
     {
         if let Some(trap) = start_refusal(&store.state) {
             return Err(TaskError::Trap(trap));
         }
+        let group = store.state.made().groups + 1;
+        let _made = store.groups.made();
         let Ok(()) = store.groups.prepare() else {
             return Err(TaskError::NoMemory);
         };
-        let Ok(thread) = start_untrapped(&mut store.state, component, self.callee(), params) else {
-            store.groups.withdraw();
-            return Err(TaskError::NoMemory);
-        };
-        let Ok(id) = store.groups.announce() else {
-            unreachable!()
-        };
-        Ok(FuncCallConcurrent {
-            thread,
-            group: id.number,
-        })
+        match start_untrapped(&mut store.state, component, self.callee(), params) {
+            Ok(thread) => {
+                let _told = store.groups.announce();
+                Ok(FuncCallConcurrent { thread, group })
+            }
+            Err(e) => {
+                store.groups.withdraw();
+                Err(e)
+            }
+        }
     }
 
     /// The result of a call that has returned; pending where it hasn't, and then nothing is

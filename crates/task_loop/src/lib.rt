@@ -8,6 +8,7 @@ mod instance;
 mod main_task;
 mod run;
 mod subtasks;
+mod tells;
 mod threads;
 mod waitables;
 

@@ -10,7 +10,8 @@ ghost use Rattle.task_turns.specs.Stepped.{Added, AddedOrNone};
 ghost use Rattle.task_turns.specs.Turn.{IsAtTurn, IsFree, IsSettled, Makes, PendsIn, Sits, Turned, Turns, given, goes_on, is_open, running_of, runs_in, setting_of, state_at};
 
 use crate::main_task::MainTask;
-use group_asks::{ask, group_of, tell};
+use crate::tells::{group_of, tell};
+use group_notices::Asked;
 use store_access::Access;
 use task_calls::TaskError;
 use task_machine::{Component, NoMemory, Outcome, Trap, Turn};
@@ -113,6 +114,7 @@ fn run_thread<T, H: AccessorTask<T> + FromHost>(
     store: &mut Store<T, H>,
     thread: u64,
     trace: &mut Trace,
+    asked: &mut Asked,
 ) -> Result<Stepped, NoMemory>
     requires covered { IsWellFormed component.now }
     requires order { Sits component.now (Turn.Run thread) store.old.state.core }
@@ -125,7 +127,7 @@ fn run_thread<T, H: AccessorTask<T> + FromHost>(
     ensures hosts { OnOk result (HoldsHosts H.course store.new) }
     ensures err { OnErr result (trace.new ≡ trace.old) }
 {
-    match step_run(component, &mut store.state, thread, trace)? {
+    match step_run(component, &mut store.state, thread, trace, asked)? {
         RunStep::Shown(stepped) => Ok(stepped),
         RunStep::Called(ran) => {
             store.call_host(ran.polled, ran.work)?;
@@ -266,6 +268,7 @@ impl RunConcurrent {
         store: &mut Store<T, H>,
         main: &mut M,
         trace: &mut Trace,
+        asked: &mut Asked,
     ) -> Result<Option<Stepped>, NoMemory>
         requires covered { IsWellFormed component.now }
         requires at { IsAtTurn component.now self.now.turn store.old.state }
@@ -286,7 +289,7 @@ impl RunConcurrent {
         match self.turn {
             Turn::Main => Ok(Some(step_main(component, store, main, trace)?)),
             Turn::Futures { polled } => {
-                let made = store.poll_next(polled);
+                let made = store.poll_next(polled, asked);
                 Ok(Some(put(trace, made)?))
             }
             Turn::Take { ended } => take(
@@ -295,8 +298,9 @@ impl RunConcurrent {
                 ended,
                 self.trap_on_idle,
                 trace,
+                asked,
             ),
-            Turn::Run { thread } => Ok(Some(run_thread(component, store, thread, trace)?)),
+            Turn::Run { thread } => Ok(Some(run_thread(component, store, thread, trace, asked)?)),
             Turn::Over => unreachable!(),
         }
     }
@@ -313,17 +317,20 @@ impl RunConcurrent {
         running: &mut Option<u64>,
     ) -> Result<Option<Stepped>, NoMemory>
     {
-        let live = store.state.groups();
-        let asked = ask(component, &store.state, self.turn, *running, live);
-        let stepped = self.turn(component, store, main, trace)?;
+        let mut asked = Asked {
+            running: *running,
+            worked: None,
+            staked: running.unwrap_or(0),
+            live: store.state.groups(),
+        };
+        let stepped = self.turn(component, store, main, trace, &mut asked)?;
         let Some(after) = turn_after(&stepped) else {
             return Ok(stepped);
         };
         if let Turn::Main = self.turn {
             return Ok(stepped);
         }
-        let left = store.state.groups();
-        *running = tell(&store.state, &mut store.groups, self.turn, after, &asked, left);
+        *running = tell(&store.state, &mut store.groups, self.turn, after, &asked);
         Ok(stepped)
     }
 

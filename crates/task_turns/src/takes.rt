@@ -1,4 +1,5 @@
 //! The taking of an entry of a thread.
+ghost use Rattle.group_laws.specs.Tells.{entry_group};
 ghost use Rattle.std.specs.Prelude.{◌≡◌, Bool, IfOk, None, OnErr, OnOk, Some};
 ghost use Rattle.task_machine.specs.Labels.{choice_of};
 ghost use Rattle.task_machine.specs.Moves.{why_of};
@@ -17,6 +18,7 @@ ghost use Rattle.task_turns.specs.Turn.{IsFree, Makes, Shows, Sits, Took};
 ghost use Rattle.task_words.specs.StateView.{thread_of, work_of};
 
 use crate::made::{Made, Stepped, put, show};
+use group_notices::Asked;
 use label_trace::Trace;
 use subtask_ops::take_host;
 use task_machine::{Component, Delivery, Label, Mark, NoMemory, TakeLabel, Turn, Why};
@@ -139,16 +141,19 @@ fn step_host<W: Words>(
 }
 
 /// The next entry is taken, and what that shows is added to the trace; none where nothing stands. Where memory is
-/// wanting, nothing is added, and nothing is said of the state.
+/// wanting, nothing is added, and nothing is said of the state. It is asked whose work it is, where the entry is that of one.
 #[inline(never)]
 pub fn step_take<W: Words>(
     component: &Component,
     w: &mut W,
     ended: bool,
     trace: &mut Trace,
+    asked: &mut Asked,
 ) -> Result<Option<Stepped>, NoMemory>
+    requires unworked { asked.old.worked ≡ None }
     requires order { Sits component.now (Turn.Take ended) (W.view w.old).core }
     requires current { (W.view w.old).current ≡ None }
+    ensures asked { asked.new ≡ record asked.old { worked = entry_group (next_entry (W.view w.old).core) (W.view w.old).core } }
     ensures took { IfOk result (λ stepped. AddedOrNone (λ made. Took component.now ended (W.view w.old) made (W.view w.new)) stepped trace.old trace.new) }
     ensures works { OnOk result (KeepsWorks (W.view w.old) (W.view w.new)) }
     ensures err { OnErr result (trace.new ≡ trace.old) }
@@ -165,6 +170,7 @@ pub fn step_take<W: Words>(
             Ok(Some(stepped))
         }
         Some((mark, EntryId::Host(work))) => {
+            asked.worked = w.work_group(work);
             let made = step_host(component, w, ended, mark, work);
             let stepped = put(trace, made)?;
             Ok(Some(stepped))

@@ -1,6 +1,6 @@
 use Rattle.std.proofs.Common.{ap, sym, ◌∙◌}
 use Rattle.group_laws.specs.Groups.{stake_dropped, stake_of_call}
-use Rattle.group_asks.proofs.stakes.stake_of_call.Goals as goal
+use Rattle.group_stakes.proofs.stakes.stake_of_call.Goals as goal
 use Rattle.task_words.specs.StateView.{thread_of}
 
 pub returns-in-Drop : goal.returns-in-Drop

@@ -1,13 +1,10 @@
-ghost use Rattle.std.specs.Prelude.{◌≡◌, ◌<◌, Some};
-ghost use Rattle.group_laws.specs.Groups.{stake, stake_dropped, stake_inside, stake_of, stake_of_call, subtask_group};
-ghost use Rattle.task_machine.specs.Maps.{get};
+ghost use Rattle.std.specs.Prelude.{◌≡◌};
+ghost use Rattle.group_laws.specs.Groups.{stake_dropped, stake_inside, stake_of, stake_of_call, subtask_group};
 ghost use Rattle.task_machine.specs.Read.{how_far_of, thread_group};
-ghost use Rattle.task_machine.specs.declared.records.Thread.{Thread};
 ghost use Rattle.task_words.specs.Names.{subtask_in};
 ghost use Rattle.task_words.specs.StateView.{thread_of};
 
-use op_dispatch::{op_at, script_ops};
-use task_machine::{CallOp, Component, Op};
+use task_machine::{CallOp, Op};
 use task_ops::value_of;
 use task_words::{HowFarId, SubtaskId, ThreadId, Words};
 
@@ -60,31 +57,15 @@ fn stake_of_call<W: Words>(w: &W, thread: ThreadId, op: &CallOp, own: u64) -> u6
     }
 }
 
-// The group that the thread's op may finish.
+/// The group that an op may finish, as the next one of the thread, whose group is `own`: that of the subtask that it drops
+/// or is inside of, else the thread's own.
 #[inline(always)]
-fn stake_of<W: Words>(w: &W, thread: ThreadId, op: &Op, own: u64) -> u64
+pub fn stake_of<W: Words>(w: &W, thread: ThreadId, op: &Op, own: u64) -> u64
     requires own { own ≡ thread_group (thread_of (W.view w.now) thread) (W.view w.now).core }
     ensures { result ≡ stake_of (thread_of (W.view w.now) thread) (W.view w.now).core op.now }
 {
     match op {
         Op::Call(call) => stake_of_call(w, thread, call, own),
         _ => own,
-    }
-}
-
-/// The group that the next step of the running thread may finish: that of the subtask that it drops or is inside of, else
-/// its `own`.
-#[inline(always)]
-pub fn staked<W: Words>(component: &Component, w: &W, thread: ThreadId, own: u64) -> u64
-    requires own { own ≡ thread_group (thread_of (W.view w.now) thread) (W.view w.now).core }
-    requires live { 0 < thread_of (W.view w.now) thread }
-    requires there { (t : Thread) × (get (W.view w.now).core.threads (thread_of (W.view w.now) thread) ≡ Some t) }
-    ensures { result ≡ stake component.now (thread_of (W.view w.now) thread) (W.view w.now).core }
-{
-    let point = w.at(thread);
-    let script = script_ops(component, point.callee, point.script);
-    match op_at(script, point.position) {
-        Some(op) => stake_of(w, thread, op, own),
-        None => own,
     }
 }
