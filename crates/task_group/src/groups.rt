@@ -75,24 +75,26 @@ impl<H: TaskGroupHook> Groups<H> {
         ensures failed { (result ≡ Err GroupError.HookFailed) ↔ AnsweredErr self.old.listeners self.new.listeners }
         ensures no_memory { result ≡ Err GroupError.NoMemory → self.new ≡ self.old }
     {
-        let _counts = &self.counts;
-        let Ok(()) = self.prepare() else {
+        let Ok(()) = self.prepare(self.made + 1) else {
             return Err(GroupError::NoMemory);
         };
         self.announce()
     }
 
     /// A group that isn't told of yet, with one task: it is to be told of by `announce`, or taken back by `withdraw`,
-    /// before any other call.
+    /// before any other call. It gets this number, or the one after the last one made where that isn't below it.
     ///
-    /// `NoMemory` where there is none for it, or 2^64 - 1 were made, with all as before.
-    pub fn prepare(&mut self) -> Result<(), NoMemory>
-        ensures ok { OnOk result (self.new ≡ record self.old { live = finite.insert self.old.live (self.old.made + 1) 1; made = self.old.made + 1 }) }
+    /// `NoMemory` where there is none for it, or 2^64 - 1 is given, with all as before.
+    pub fn prepare(&mut self, number: u64) -> Result<(), NoMemory>
+        ensures number { OnOk result (self.old.made < number → self.new.made ≡ number) }
+        ensures next { OnOk result (number ≤ self.old.made → self.new.made ≡ self.old.made + 1) }
+        ensures ok { OnOk result (self.new ≡ record self.old { live = finite.insert self.old.live self.new.made 1; made = self.new.made }) }
         ensures err { OnErr result (self.new ≡ self.old) }
     {
-        let Some(number) = self.made.checked_add(1) else {
+        let Some(next) = self.made.checked_add(1) else {
             return Err(NoMemory);
         };
+        let number = if number < next { next } else { number };
         let Ok(()) = self.counts.add(number) else {
             return Err(NoMemory);
         };
@@ -120,7 +122,7 @@ impl<H: TaskGroupHook> Groups<H> {
         Ok(id)
     }
 
-    /// Takes back the group that was made last, which nobody is told: its number is given again.
+    /// Takes back the group that was made last, which nobody is told: its number may be given again.
     pub fn withdraw(&mut self)
         requires { 0 < self.old.made }
         ensures { self.new ≡ record self.old { live = finite.remove self.old.live self.old.made; made = self.old.made - 1 } }

@@ -128,14 +128,14 @@ impl Func {
         ensures groups { HoldsGroups store.old.groups store.old.state.core → HoldsGroups store.new.groups store.new.state.core }
         ensures told { HoldsGroups store.old.groups store.old.state.core → IfOk result (λ call. Told (told_of NoticeKind.Start call.group ∷ []) store.old.groups.listeners store.new.groups.listeners) }
         ensures rest { store.new ≡ record store.old { state = store.new.state; groups = store.new.groups } }
-        ensures refused { OnErr result (store.new ≡ store.old) }
+        ensures refused { OnErr result ((store.new.groups.live ≡ store.old.groups.live) × (store.new.groups.listeners ≡ store.old.groups.listeners)) }
     {
         if let Some(trap) = start_refusal(&store.state) {
             return Err(TaskError::Trap(trap));
         }
         let group = store.state.made().groups + 1;
         let _made = store.groups.made();
-        let Ok(()) = store.groups.prepare() else {
+        let Ok(()) = store.groups.prepare(group) else {
             return Err(TaskError::NoMemory);
         };
         match start_untrapped(&mut store.state, component, self.callee(), params) {

@@ -1,5 +1,12 @@
-ghost use Rattle.std.specs.Prelude.{◌≡◌, ◌*◌, ◌+◌, ◌<◌, ◌≤◌, ◌^◌, IfErr, IfOk, None, OnErr, OnOk, Some, true, Bool};
+ghost use Rattle.std.specs.Prelude.{◌≡◌, ◌*◌, ◌+◌, ◌<◌, ◌≤◌, ◌^◌, IfErr, IfOk, IfSome, None, OnErr, OnOk, Some, option_map, true, Bool};
+ghost use Rattle.group_laws.specs.Groups.{stake};
+ghost use Rattle.group_notices.specs.Runs.{HasTold, moment};
+ghost use Rattle.task_group.specs.Listeners.{Told};
+ghost use Rattle.task_loop.specs.Told.{Begins, MainTells, TurnTells, TurnTold, main_notices, turn_of};
+ghost use Rattle.task_machine.specs.Read.{thread_group};
 ghost use Rattle.task_ops.specs.Works.{NamesWorks};
+ghost use Rattle.task_rules.specs.Notices.{moment_notices, running_group};
+ghost use Rattle.task_store.specs.Groups.{HoldsGroups};
 ghost use Rattle.task_loop.specs.Standing.{standing};
 ghost use Rattle.task_store.specs.Hosts.{HoldsHosts};
 ghost use Rattle.task_turns.specs.WellFormed.{IsWellFormed};
@@ -62,6 +69,7 @@ fn ask_main<T, H: HostWork, M: MainTask<T, H>>(
     requires suits { M.suits main.old component.now }
     requires knows { M.knows main.old store.old.state }
     requires hosts { HoldsHosts H.course store.old }
+    requires groups { HoldsGroups store.old.groups store.old.state.core }
     requires current { running_of store.old.state ≡ None }
     requires given { given store.old.state.core + 4 < 2 ^ 61 }
     ensures stands { standing store.new ≡ standing store.old }
@@ -70,6 +78,8 @@ fn ask_main<T, H: HostWork, M: MainTask<T, H>>(
     ensures knows { OnOk result (M.knows main.new store.new.state) }
     ensures hosts { OnOk result (HoldsHosts H.course store.new) }
     ensures current { OnOk result (running_of store.new.state ≡ running_of store.old.state) }
+    ensures groups { OnOk result (HoldsGroups store.new.groups store.new.state.core) }
+    ensures told { IfOk result (λ step. Told (main_notices step store.old.state.core store.new.state.core) store.old.groups.listeners store.new.groups.listeners) }
     ensures does { IfOk result (λ step. M.does main.old step main.new) }
     ensures ok { IfOk result (λ step. Steps component.now (M.script main.old) (M.part main.old) store.old.state.core step (M.part main.new) store.new.state.core) }
 {
@@ -89,6 +99,7 @@ fn step_main<T, H: HostWork, M: MainTask<T, H>>(
     requires suits { M.suits main.old component.now }
     requires knows { M.knows main.old store.old.state }
     requires hosts { HoldsHosts H.course store.old }
+    requires groups { HoldsGroups store.old.groups store.old.state.core }
     requires given { given store.old.state.core + 4 < 2 ^ 61 }
     ensures stands { standing store.new ≡ standing store.old }
     ensures script { M.script main.new ≡ M.script main.old }
@@ -97,6 +108,9 @@ fn step_main<T, H: HostWork, M: MainTask<T, H>>(
     ensures hosts { OnOk result (HoldsHosts H.course store.new) }
     ensures does { IfOk result (λ stepped. Added (λ made. DoesStep M.does main.old (step_shown made.label) main.new) stepped trace.old trace.new) }
     ensures turns { IfOk result (λ stepped. Added (λ made. (trap_on_idle : Bool) → Turns (setting_of component.now (M.script main.old) trap_on_idle) Turn.Main (M.part main.old) store.old.state made (M.part main.new) store.new.state) stepped trace.old trace.new) }
+    ensures groups { OnOk result (HoldsGroups store.new.groups store.new.state.core) }
+    ensures told { IfOk result (λ stepped. Added (λ made. Told (moment_notices (moment (state_at store.old.state.core (M.part main.old) Turn.Main) made.label (state_at store.new.state.core (M.part main.new) made.turn))) store.old.groups.listeners store.new.groups.listeners) stepped trace.old trace.new) }
+    ensures idle { IfOk result (λ stepped. running_group store.new.state.core (turn_of stepped) ≡ None) }
     ensures err { OnErr result (trace.new ≡ trace.old) }
 {
     let Ok(step) = ask_main(component, store, main) else {
@@ -120,11 +134,14 @@ fn run_thread<T, H: AccessorTask<T> + FromHost>(
     requires order { Sits component.now (Turn.Run thread) store.old.state.core }
     requires current { running_of store.old.state ≡ Some thread }
     requires given { given store.old.state.core + 4 < 2 ^ 61 }
+    requires own { asked.old.staked ≡ thread_group thread store.old.state.core }
     requires hosts { HoldsHosts H.course store.old }
     ensures stands { standing store.new ≡ standing store.old }
     ensures makes { IfOk result (λ stepped. Added (λ made. Makes component.now (Turn.Run thread) store.old.state made store.new.state × IsFree made.turn) stepped trace.old trace.new) }
     ensures works { OnOk result (NamesWorks store.old.state store.new.state) }
     ensures hosts { OnOk result (HoldsHosts H.course store.new) }
+    ensures asked { asked.new ≡ record asked.old { staked = stake component.now thread store.old.state.core } }
+    ensures groups { OnOk result (store.new.groups ≡ store.old.groups) }
     ensures err { OnErr result (trace.new ≡ trace.old) }
 {
     match step_run(component, &mut store.state, thread, trace, asked)? {
@@ -138,7 +155,9 @@ fn run_thread<T, H: AccessorTask<T> + FromHost>(
 
 // Whose turn it is after a step; none where none was made.
 #[inline(always)]
-fn turn_after(stepped: &Option<Stepped>) -> Option<Turn> {
+fn turn_after(stepped: &Option<Stepped>) -> Option<Turn>
+    ensures { result ≡ option_map (λ q. turn_of q) stepped.now }
+{
     match stepped {
         Some(Stepped::Goes { turn, computed: _ }) => Some(*turn),
         Some(Stepped::Over(_)) => Some(Turn::Over),
@@ -172,6 +191,7 @@ impl RunConcurrent {
         requires suits { M.suits main.old component.now }
         requires knows { M.knows main.old store.old.state }
         requires hosts { HoldsHosts H.course store.old }
+        requires groups { HoldsGroups store.old.groups store.old.state.core }
         requires given { given store.old.state.core ≤ 2 ^ 60 }
         requires current { running_of store.old.state ≡ runs_in self.old.turn }
         requires unfinished { is_open self.old.turn ≡ true }
@@ -182,6 +202,8 @@ impl RunConcurrent {
         ensures knows { OnOk result (M.knows main.new store.new.state) }
         ensures hosts { OnOk result (HoldsHosts H.course store.new) }
         ensures idle { self.new.trap_on_idle ≡ self.old.trap_on_idle }
+        ensures groups { OnOk result (HoldsGroups store.new.groups store.new.state.core) }
+        ensures told { OnOk result (HasTold (setting_of component.now (M.script main.old) self.old.trap_on_idle) (state_at store.old.state.core (M.part main.old) self.old.turn) trace.old (state_at store.new.state.core (M.part main.new) self.new.turn) trace.new store.old.groups store.new.groups) }
         ensures stands { standing store.new ≡ standing store.old }
         ensures ok { IfOk result (λ outcome. Drives (setting_of component.now (M.script main.old) self.old.trap_on_idle) (state_at store.old.state.core (M.part main.old) self.old.turn) trace.old (state_at store.new.state.core (M.part main.new) self.new.turn) trace.new steps outcome) }
         ensures unfinished { IfOk result (λ outcome. is_open self.new.turn ≡ goes_on outcome) }
@@ -217,6 +239,7 @@ impl RunConcurrent {
         requires suits { M.suits main.old component.now }
         requires knows { M.knows main.old store.old.state }
         requires hosts { HoldsHosts H.course store.old }
+        requires groups { HoldsGroups store.old.groups store.old.state.core }
         requires given { given store.old.state.core ≤ 2 ^ 60 }
         requires pends { PendsIn (setting_of component.now (M.script main.old) self.old.trap_on_idle) store.old.state.core (M.part main.old) self.old.turn }
         ensures script { M.script main.new ≡ M.script main.old }
@@ -224,6 +247,8 @@ impl RunConcurrent {
         ensures knows { OnOk result (M.knows main.new store.new.state) }
         ensures hosts { OnOk result (HoldsHosts H.course store.new) }
         ensures idle { self.new.trap_on_idle ≡ self.old.trap_on_idle }
+        ensures groups { OnOk result (HoldsGroups store.new.groups store.new.state.core) }
+        ensures told { OnOk result (HasTold (setting_of component.now (M.script main.old) self.old.trap_on_idle) (state_at store.old.state.core (M.part main.old) self.old.turn) trace.old (state_at store.new.state.core (M.part main.new) self.new.turn) trace.new store.old.groups store.new.groups) }
         ensures stands { standing store.new ≡ standing store.old }
         ensures does { OnOk result (DoesAdded M.does main.old trace.old main.new trace.new) }
         ensures err { OnErr result (WasGoing (setting_of component.now (M.script main.old) self.old.trap_on_idle) (state_at store.old.state.core (M.part main.old) self.old.turn) trace.old trace.new steps) }
@@ -275,6 +300,8 @@ impl RunConcurrent {
         requires suits { M.suits main.old component.now }
         requires knows { M.knows main.old store.old.state }
         requires hosts { HoldsHosts H.course store.old }
+        requires groups { HoldsGroups store.old.groups store.old.state.core }
+        requires begins { Begins store.old.state.core self.now.turn asked.old }
         requires given { given store.old.state.core + 4 < 2 ^ 61 }
         requires pends { PendsIn (setting_of component.now (M.script main.old) self.now.trap_on_idle) store.old.state.core (M.part main.old) self.now.turn }
         ensures script { M.script main.new ≡ M.script main.old }
@@ -284,6 +311,7 @@ impl RunConcurrent {
         ensures stands { standing store.new ≡ standing store.old }
         ensures does { IfOk result (λ stepped. AddedOrNone (λ made. DoesStep M.does main.old (step_of made) main.new) stepped trace.old trace.new) }
         ensures turned { IfOk result (λ stepped. AddedOrNone (λ made. Turned (setting_of component.now (M.script main.old) self.now.trap_on_idle) self.now.turn (M.part main.old) store.old.state made (M.part main.new) store.new.state) stepped trace.old trace.new) }
+        ensures tells { IfOk result (λ stepped. TurnTells component.now self.now.turn store.old.state.core asked.new store.old.groups store.new.groups (MainTells (M.part main.old) store.old.state.core store.old.groups stepped trace.old (M.part main.new) store.new.state.core store.new.groups trace.new)) }
         ensures err { OnErr result (trace.new ≡ trace.old) }
     {
         match self.turn {
@@ -316,6 +344,26 @@ impl RunConcurrent {
         trace: &mut Trace,
         running: &mut Option<u64>,
     ) -> Result<Option<Stepped>, NoMemory>
+        requires covered { IsWellFormed component.now }
+        requires at { IsAtTurn component.now self.now.turn store.old.state }
+        requires suits { M.suits main.old component.now }
+        requires knows { M.knows main.old store.old.state }
+        requires hosts { HoldsHosts H.course store.old }
+        requires groups { HoldsGroups store.old.groups store.old.state.core }
+        requires running { running.old ≡ running_group store.old.state.core self.now.turn }
+        requires given { given store.old.state.core + 4 < 2 ^ 61 }
+        requires pends { PendsIn (setting_of component.now (M.script main.old) self.now.trap_on_idle) store.old.state.core (M.part main.old) self.now.turn }
+        ensures script { M.script main.new ≡ M.script main.old }
+        ensures suits { OnOk result (M.suits main.new component.now) }
+        ensures knows { OnOk result (M.knows main.new store.new.state) }
+        ensures hosts { OnOk result (HoldsHosts H.course store.new) }
+        ensures stands { standing store.new ≡ standing store.old }
+        ensures does { IfOk result (λ stepped. AddedOrNone (λ made. DoesStep M.does main.old (step_of made) main.new) stepped trace.old trace.new) }
+        ensures turned { IfOk result (λ stepped. AddedOrNone (λ made. Turned (setting_of component.now (M.script main.old) self.now.trap_on_idle) self.now.turn (M.part main.old) store.old.state made (M.part main.new) store.new.state) stepped trace.old trace.new) }
+        ensures groups { OnOk result (HoldsGroups store.new.groups store.new.state.core) }
+        ensures running { IfOk result (λ stepped. IfSome stepped (λ stepped. running.new ≡ running_group store.new.state.core (turn_of stepped))) }
+        ensures told { IfOk result (λ stepped. AddedOrNone (λ made. TurnTold (setting_of component.now (M.script main.old) self.now.trap_on_idle) self.now.turn (M.part main.old) store.old.state store.old.groups made (M.part main.new) store.new.state store.new.groups) stepped trace.old trace.new) }
+        ensures err { OnErr result (trace.new ≡ trace.old) }
     {
         let mut asked = Asked {
             running: *running,
