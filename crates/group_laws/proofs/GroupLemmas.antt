@@ -8,7 +8,6 @@ use Rattle.task_machine.specs.Maps.{get}
 use Rattle.task_machine.specs.Read.{call_group, task_of, thread_group}
 use Rattle.task_machine.specs.declared.records.Call.{Call}
 use Rattle.task_machine.specs.declared.records.Thread.{Thread}
-use Rattle.task_rules.proofs.LawLemmas.{steady}
 use Rattle.task_rules.specs.Laws.{LaterBy, LaterCall, SameThread}
 
 group_in : (n : ℕ) (s : Core) (a : Thread) (c : Call) → get s.threads n ≡ Some a → get s.calls a.call ≡ Some c → thread_group n s ≡ c.group
@@ -19,8 +18,7 @@ later : {X : Type 0} (P : X → X → Type 0) (o p : Option X) (x y : X) → Lat
 later P o p x y h e f = subst (λ q. LaterBy P (Some x) q) f (subst (λ q. LaterBy P q p) e h)
 
 pub group_stays : GroupStays
-group_stays x s l t n step a here below known b there c call d after =
-    let r = steady x s l t step in
-    let same : SameThread a b = later SameThread (get s.core.threads n) (get t.core.threads n) a b (r.threads n below) here there in
-    let kept : LaterCall c d = later LaterCall (get s.core.calls a.call) (get t.core.calls a.call) c d (r.calls a.call known) call (ap (get t.core.calls) same.call ∙ after) in
-    group_in n t.core b d there after ∙ (sym kept.group ∙ sym (group_in n s.core a c here call))
+group_stays s t n r a here below known b there c call d after =
+    let same : SameThread a b = later SameThread (get s.threads n) (get t.threads n) a b (r.threads n below) here there in
+    let kept : LaterCall c d = later LaterCall (get s.calls a.call) (get t.calls a.call) c d (r.calls a.call known) call (ap (get t.calls) same.call ∙ after) in
+    group_in n t b d there after ∙ (sym kept.group ∙ sym (group_in n s a c here call))

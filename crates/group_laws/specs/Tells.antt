@@ -17,6 +17,7 @@ use Rattle.task_machine.specs.declared.records.Turn.{Turn}
 use Rattle.task_machine.specs.declared.records.Turn.TheVariants as turn
 use Rattle.task_machine.specs.declared.words.Mark.{Mark}
 use Rattle.task_rules.specs.Calls.{work_group}
+use Rattle.task_rules.specs.Laws.{Steady}
 use Rattle.task_rules.specs.History.{Moment, history}
 use Rattle.task_rules.specs.Notices.{around, finish_notices, moment_notices, notices, of_live, running_group, start_notices, switch_notices, work_notices}
 use Rattle.task_rules.specs.Run.{Run}
@@ -78,14 +79,14 @@ RunsTellOn =
     (x : Setting) (s : State) (ls : List Label) (m : State) (ks : List Label) (t : State) (run : Run x s ls m) (more : Run x m ks t) →
     (both : Run x s (ls ++ ks) t) × (notices (history x s (ls ++ ks) t both) ≡ notices (history x s ls m run) ++ notices (history x m ks t more))
 
--- a thread that is there before a step and after it, as its call is, is of the same group
+-- a thread that is there before and after, as its call is, is of the same group
 abbrev pub GroupStays : Type 0
 GroupStays =
-    (x : Setting) (s : State) (l : Label) (t : State) (n : ℕ) → Step x s l t →
-    (a : Thread) → get s.core.threads n ≡ Some a → n ≤ s.core.made.threads → a.call ≤ s.core.made.threads →
-    (b : Thread) → get t.core.threads n ≡ Some b →
-    (c : Call) → get s.core.calls a.call ≡ Some c → (d : Call) → get t.core.calls b.call ≡ Some d →
-    thread_group n t.core ≡ thread_group n s.core
+    (s t : Core) (n : ℕ) → Steady s t →
+    (a : Thread) → get s.threads n ≡ Some a → n ≤ s.made.threads → a.call ≤ s.made.threads →
+    (b : Thread) → get t.threads n ≡ Some b →
+    (c : Call) → get s.calls a.call ≡ Some c → (d : Call) → get t.calls b.call ≡ Some d →
+    thread_group n t ≡ thread_group n s
 
 -- the notices of such a step
 abbrev pub NoticesTold : Type 0

@@ -29,7 +29,7 @@ pub fn runs_tell_on()
     ensures { RunsTellOn }
 {}
 
-/// A thread that is there before a step and after it, as its call is, is of the same group.
+/// Whatever steps are made, a thread that is there before and after, as its call is, is of the same group.
 #[tactic(auto, using(crate::proofs::GroupLemmas::group_stays))]
 pub fn groups_stay()
     ensures { GroupStays }

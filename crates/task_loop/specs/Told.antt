@@ -56,11 +56,11 @@ pub record TurnTold (x : Setting) (p : Turn) (m : Main) (s : StateView) (old : G
   pub told : Told (notices_made p m s.core made n t.core) old.listeners new.listeners
 
 -- The step of main was made, its notices were told, and the groups of the store stand for those of its core.
-pub record MainTells (m : Main) (s : Core) (old : Groups) (q : Option Stepped) (before : List Label) (n : Main) (t : Core) (new : Groups)
-    (after : List Label) : Type 0 where
-  pub holds : HoldsGroups new t
-  pub told : AddedOrNone (λ made. Told (notices_made turn.Main m s made n t) old.listeners new.listeners) q before after
-  pub idle : IfSome q (λ k. running_group t (turn_of k) ≡ None)
+pub record MainTells (x : Setting) (m : Main) (s : StateView) (old : Groups) (q : Option Stepped) (before : List Label) (n : Main)
+    (t : StateView) (new : Groups) (after : List Label) : Type 0 where
+  pub holds : HoldsGroups new t.core
+  pub told : AddedOrNone (λ made. TurnTold x turn.Main m s old made n t new) q before after
+  pub idle : IfSome q (λ k. running_group t.core (turn_of k) ≡ None)
 
 -- Main's step is told by main; in other turns it is known what is to be told, and nothing was.
 abbrev pub TurnTells : Component → Turn → Core → Asked → Groups → Groups → Type 0 → Type 0

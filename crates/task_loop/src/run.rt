@@ -1,11 +1,12 @@
-ghost use Rattle.std.specs.Prelude.{◌≡◌, ◌*◌, ◌+◌, ◌<◌, ◌≤◌, ◌^◌, IfErr, IfOk, IfSome, None, OnErr, OnOk, Some, option_map, true, Bool};
+ghost use Rattle.std.specs.Prelude.{◌≡◌, ◌*◌, ◌+◌, ◌<◌, ◌≤◌, ◌^◌, IfErr, IfOk, IfSome, None, OnErr, OnOk, Some, true, Bool};
 ghost use Rattle.group_laws.specs.Groups.{stake};
-ghost use Rattle.group_notices.specs.Runs.{HasTold, moment};
+ghost use Rattle.group_laws.specs.Tells.{is_main_turn};
+ghost use Rattle.group_notices.specs.Runs.{HasTold};
 ghost use Rattle.task_group.specs.Listeners.{Told};
 ghost use Rattle.task_loop.specs.Told.{Begins, MainTells, TurnTells, TurnTold, main_notices, turn_of};
 ghost use Rattle.task_machine.specs.Read.{thread_group};
 ghost use Rattle.task_ops.specs.Works.{NamesWorks};
-ghost use Rattle.task_rules.specs.Notices.{moment_notices, running_group};
+ghost use Rattle.task_rules.specs.Notices.{running_group};
 ghost use Rattle.task_store.specs.Groups.{HoldsGroups};
 ghost use Rattle.task_loop.specs.Standing.{standing};
 ghost use Rattle.task_store.specs.Hosts.{HoldsHosts};
@@ -109,7 +110,7 @@ fn step_main<T, H: HostWork, M: MainTask<T, H>>(
     ensures does { IfOk result (λ stepped. Added (λ made. DoesStep M.does main.old (step_shown made.label) main.new) stepped trace.old trace.new) }
     ensures turns { IfOk result (λ stepped. Added (λ made. (trap_on_idle : Bool) → Turns (setting_of component.now (M.script main.old) trap_on_idle) Turn.Main (M.part main.old) store.old.state made (M.part main.new) store.new.state) stepped trace.old trace.new) }
     ensures groups { OnOk result (HoldsGroups store.new.groups store.new.state.core) }
-    ensures told { IfOk result (λ stepped. Added (λ made. Told (moment_notices (moment (state_at store.old.state.core (M.part main.old) Turn.Main) made.label (state_at store.new.state.core (M.part main.new) made.turn))) store.old.groups.listeners store.new.groups.listeners) stepped trace.old trace.new) }
+    ensures told { IfOk result (λ stepped. Added (λ made. (trap_on_idle : Bool) → TurnTold (setting_of component.now (M.script main.old) trap_on_idle) Turn.Main (M.part main.old) store.old.state store.old.groups (Some made) (M.part main.new) store.new.state store.new.groups) stepped trace.old trace.new) }
     ensures idle { IfOk result (λ stepped. running_group store.new.state.core (turn_of stepped) ≡ None) }
     ensures err { OnErr result (trace.new ≡ trace.old) }
 {
@@ -153,16 +154,22 @@ fn run_thread<T, H: AccessorTask<T> + FromHost>(
     }
 }
 
-// Whose turn it is after a step; none where none was made.
+// Whose turn it is after a step.
 #[inline(always)]
-fn turn_after(stepped: &Option<Stepped>) -> Option<Turn>
-    ensures { result ≡ option_map (λ q. turn_of q) stepped.now }
+fn turn_of(stepped: &Stepped) -> Turn
+    ensures { result ≡ turn_of stepped.now }
 {
     match stepped {
-        Some(Stepped::Goes { turn, computed: _ }) => Some(*turn),
-        Some(Stepped::Over(_)) => Some(Turn::Over),
-        None => None,
+        Stepped::Goes { turn, computed: _ } => *turn,
+        Stepped::Over(_) => Turn::Over,
     }
+}
+
+#[inline(always)]
+fn is_main(turn: Turn) -> bool
+    ensures { result ≡ is_main_turn turn }
+{
+    matches!(turn, Turn::Main)
 }
 
 impl RunConcurrent {
@@ -311,7 +318,7 @@ impl RunConcurrent {
         ensures stands { standing store.new ≡ standing store.old }
         ensures does { IfOk result (λ stepped. AddedOrNone (λ made. DoesStep M.does main.old (step_of made) main.new) stepped trace.old trace.new) }
         ensures turned { IfOk result (λ stepped. AddedOrNone (λ made. Turned (setting_of component.now (M.script main.old) self.now.trap_on_idle) self.now.turn (M.part main.old) store.old.state made (M.part main.new) store.new.state) stepped trace.old trace.new) }
-        ensures tells { IfOk result (λ stepped. TurnTells component.now self.now.turn store.old.state.core asked.new store.old.groups store.new.groups (MainTells (M.part main.old) store.old.state.core store.old.groups stepped trace.old (M.part main.new) store.new.state.core store.new.groups trace.new)) }
+        ensures tells { IfOk result (λ stepped. TurnTells component.now self.now.turn store.old.state.core asked.new store.old.groups store.new.groups (MainTells (setting_of component.now (M.script main.old) self.now.trap_on_idle) (M.part main.old) store.old.state store.old.groups stepped trace.old (M.part main.new) store.new.state store.new.groups trace.new)) }
         ensures err { OnErr result (trace.new ≡ trace.old) }
     {
         match self.turn {
@@ -372,14 +379,17 @@ impl RunConcurrent {
             live: store.state.groups(),
         };
         let stepped = self.turn(component, store, main, trace, &mut asked)?;
-        let Some(after) = turn_after(&stepped) else {
-            return Ok(stepped);
-        };
-        if let Turn::Main = self.turn {
+        if is_main(self.turn) {
             return Ok(stepped);
         }
-        *running = tell(&store.state, &mut store.groups, self.turn, after, &asked);
-        Ok(stepped)
+        match stepped {
+            None => Ok(None),
+            Some(stepped) => {
+                let after = turn_of(&stepped);
+                *running = tell(&store.state, &mut store.groups, self.turn, after, &asked);
+                Ok(Some(stepped))
+            }
+        }
     }
 
     /// Ends the run: it no longer stands on the store.

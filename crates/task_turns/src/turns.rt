@@ -109,6 +109,7 @@ pub fn compute<W: Words>(
     ensures few { IfOk result (λ k. (added ≤ k) × (k ≤ steps)) }
     ensures on { IfOk result (λ k. KeepsOn component.now turn (W.view w.old) trace.old added (W.view w.new) trace.new k) }
     ensures computes { IfOk result (λ k. Computes component.now turn (W.view w.old) trace.old added (W.view w.new) trace.new k) }
+    ensures still { runs_in turn ≡ None → IfOk result (λ k. k ≡ added) }
     ensures err { OnErr result (StopsShort component.now turn (W.view w.old) trace.old added trace.new steps) }
     ensures works { SameWorks (W.view w.old) (W.view w.new) }
 {
