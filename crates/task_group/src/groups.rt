@@ -75,7 +75,9 @@ impl<H: TaskGroupHook> Groups<H> {
         ensures failed { (result ≡ Err GroupError.HookFailed) ↔ AnsweredErr self.old.listeners self.new.listeners }
         ensures no_memory { result ≡ Err GroupError.NoMemory → self.new ≡ self.old }
     {
-        let Ok(()) = self.prepare(self.made + 1) else {
+        let _counts = &self.counts;
+        let next = self.made + 1;
+        let Ok(()) = self.prepare(next) else {
             return Err(GroupError::NoMemory);
         };
         self.announce()
@@ -94,7 +96,18 @@ impl<H: TaskGroupHook> Groups<H> {
         let Some(next) = self.made.checked_add(1) else {
             return Err(NoMemory);
         };
-        let number = if number < next { next } else { number };
+        if number < next {
+            return self.add(next);
+        }
+        self.add(number)
+    }
+
+    // A group of this number, which is above those that were given.
+    fn add(&mut self, number: u64) -> Result<(), NoMemory>
+        requires { self.old.made < number }
+        ensures ok { OnOk result (self.new ≡ record self.old { live = finite.insert self.old.live number 1; made = number }) }
+        ensures err { OnErr result (self.new ≡ self.old) }
+    {
         let Ok(()) = self.counts.add(number) else {
             return Err(NoMemory);
         };

@@ -1,6 +1,9 @@
 -- What the loop tells the groups.
 use Rattle.group_laws.proofs.GroupLemmas.{group_stays}
 use Rattle.group_laws.proofs.ListLemmas.{finish_none}
+use Rattle.group_laws.proofs.EndGroups.{mild_group}
+use Rattle.group_laws.proofs.MoveGroups.{Mild, mild_same}
+use Rattle.group_laws.proofs.RunTells.{data_runs_mild}
 use Rattle.group_laws.specs.Groups.{stake}
 use Rattle.group_laws.specs.Tells.{is_data, is_main_turn, worked_group}
 use Rattle.group_notices.proofs.RunLemmas.{asked_told, data_told, main_told, step_told_on}
@@ -8,12 +11,13 @@ use Rattle.group_notices.specs.Mirror.{Leads, Mirrors, told_by}
 use Rattle.group_notices.specs.Runs.{HasTold, IsAsked, moment}
 use Rattle.group_notices.specs.declared.tells.Asked.{Asked}
 use Rattle.std.proofs.Common.{ap, append-nil, arith, length, le_trans, refl, subst, sym, ◌∙◌, ◌≡◌}
+use Rattle.std.proofs.lemmas.Bool.Decides.{nat_tests}
 use Rattle.std.specs.List.{list_all}
-use Rattle.std.specs.Prelude.{Bool, Err, IfOk, List, None, Ok, Option, Result, Some, [], false, is_some, option_map, true, unwrap_or, ℕ, ◌++◌, ◌+◌, ◌∷◌}
-use Rattle.task_group.proofs.GroupLemmas.{told-none}
+use Rattle.std.specs.Prelude.{Bool, Err, IfOk, IfSome, List, None, Ok, Option, Result, Some, [], false, is_some, option_map, true, unwrap_or, ℕ, ◌++◌, ◌+◌, ◌==◌, ◌∷◌}
+use Rattle.task_group.proofs.GroupLemmas.{told-append, told-none}
 use Rattle.task_group.specs.Groups.{Groups}
 use Rattle.task_group.specs.Listeners.{Told}
-use Rattle.task_loop.specs.Told.{Begins, MainTells, TurnTold, main_notices, notices_made, turn_of}
+use Rattle.task_loop.specs.Told.{Begins, MainTells, TurnTells, TurnTold, main_notices, notices_made, runs_on, turn_of}
 use Rattle.task_machine.specs.Core.{Core, Main, State, Unscripted}
 use Rattle.task_machine.specs.Maps.{get}
 use Rattle.task_machine.specs.Read.{thread_group}
@@ -28,19 +32,21 @@ use Rattle.task_machine.specs.declared.records.Thread.{Thread}
 use Rattle.task_machine.specs.declared.records.Turn.{Turn}
 use Rattle.task_machine.specs.declared.records.Turn.TheVariants as turn
 use Rattle.task_machine.specs.declared.scenario.MainOpDef.{MainOpDef}
-use Rattle.task_rules.proofs.LawLemmas.{never_fewer}
+use Rattle.task_rules.proofs.LawLemmas.{never_fewer, runs_never_fewer, steady}
+use Rattle.task_rules.specs.History.{history}
 use Rattle.task_rules.specs.Laws.{Steady}
-use Rattle.task_rules.specs.Notices.{finish_notices, moment_notices, running_group, start_notices, work_notices}
+use Rattle.task_rules.specs.Notices.{finish_notices, moment_notices, notices, running_group, start_notices, work_notices}
 use Rattle.task_rules.specs.Run.{Run}
 use Rattle.task_rules.specs.Stalled.{Setting}
 use Rattle.task_rules.specs.Step.{Step}
 use Rattle.task_store.specs.Groups.{HoldsGroups}
+use Rattle.task_turns.proofs.KeptLemmas.{sits_after}
 use Rattle.task_turns.specs.Does.{label_of_step}
 use Rattle.task_turns.specs.Drive.{Computes}
 use Rattle.task_turns.specs.Drive as drive
 use Rattle.task_turns.specs.Main.{IsOpOfMain, Steps}
 use Rattle.task_turns.specs.Stepped.{Added, AddedOrNone, Stands}
-use Rattle.task_turns.specs.Turn.{Sits, Turned, Turns, running_of, runs_in, state_at}
+use Rattle.task_turns.specs.Turn.{Sits, Turned, Turns, running_of, runs_in, setting_of, state_at}
 use Rattle.task_turns.specs.declared.made.Made.{Made}
 use Rattle.task_turns.specs.declared.made.Stepped.{Stepped}
 use Rattle.task_turns.specs.declared.made.Stepped.TheVariants as stepped
@@ -148,6 +154,116 @@ module _ (x : Setting) (p : Turn) (main : is_main_turn p ≡ false) (m : Main) (
         unhooked = unhooked;
       }
 
+-- ---- By whose turn it is
+
+pub tells_main : (c : Component) (p : Turn) (s : Core) (a : Asked) (old new : Groups) (main : Type 0) → is_main_turn p ≡ true → TurnTells c p s a old new main → main
+tells_main c turn.Main s a old new main e h = h
+tells_main c (turn.Futures n) s a old new main e h = absurd (cc)
+tells_main c (turn.Take b) s a old new main e h = absurd (cc)
+tells_main c (turn.Run n) s a old new main e h = absurd (cc)
+tells_main c turn.Over s a old new main e h = absurd (cc)
+
+pub tells_other : (c : Component) (p : Turn) (s : Core) (a : Asked) (old new : Groups) (main : Type 0) → is_main_turn p ≡ false → TurnTells c p s a old new main → IsAsked c s p a × (new ≡ old)
+tells_other c turn.Main s a old new main e h = absurd (cc)
+tells_other c (turn.Futures n) s a old new main e h = h
+tells_other c (turn.Take b) s a old new main e h = h
+tells_other c (turn.Run n) s a old new main e h = h
+tells_other c turn.Over s a old new main e h = h
+
+-- main's turn
+pub main_at : (p : Turn) → is_main_turn p ≡ true → p ≡ turn.Main
+main_at turn.Main e = refl
+main_at (turn.Futures n) e = absurd (cc)
+main_at (turn.Take b) e = absurd (cc)
+main_at (turn.Run n) e = absurd (cc)
+main_at turn.Over e = absurd (cc)
+
+-- the same thread runs on
+pub runs_same : (p q : Turn) → runs_on p q ≡ true → (n : ℕ) × ((p ≡ turn.Run n) × (q ≡ turn.Run n))
+runs_same (turn.Run n) (turn.Run m) e = let same : n ≡ m = grind (arith, nat_tests, e) in (n, (refl, ap (λ k. turn.Run k) (sym same)))
+runs_same (turn.Run n) turn.Main e = absurd (cc)
+runs_same (turn.Run n) (turn.Futures k) e = absurd (cc)
+runs_same (turn.Run n) (turn.Take b) e = absurd (cc)
+runs_same (turn.Run n) turn.Over e = absurd (cc)
+runs_same turn.Main q e = absurd (cc)
+runs_same (turn.Futures k) q e = absurd (cc)
+runs_same (turn.Take b) q e = absurd (cc)
+runs_same turn.Over q e = absurd (cc)
+
+-- is of the same group after the step
+pub group_on : (x : Setting) (p q : Turn) (m n : Main) (s t : Core) (l : Label) → Sits x.component p s → Step x (state_at s m p) l (state_at t n q) → (r : Option ℕ) → r ≡ running_group s p → runs_on p q ≡ true → r ≡ running_group t q
+group_on x p q m n s t l sits step r is on =
+    let same = runs_same p q on in
+    let k = same.0 in
+    let after = subst (λ (w : Turn). Sits x.component w t) same.1.1 (sits_after x s t m n p q l sits step) in
+    let before = subst (λ (w : Turn). Sits x.component w s) same.1.0 sits in
+    is ∙ (ap (running_group s) same.1.0 ∙ (ap Some (sym (stays_in x.component k s t before after (steady x (state_at s m p) l (state_at t n q) step))) ∙ sym (ap (running_group t) same.1.1)))
+
+-- ---- Ops on registers and words
+
+data_as : (ls : List Label) → list_all drive.is_data ls ≡ true → list_all is_data ls ≡ true
+data_as [] e = refl
+data_as (label.Data l ∷ ls) e = data_as ls e
+data_as (label.Main l ∷ ls) e = absurd (cc)
+data_as (label.Loop l ∷ ls) e = absurd (cc)
+data_as (_ ∷ ls) e = absurd (cc)
+
+none_left : (ls : List Label) → length ls ≡ 0 → ls ≡ []
+none_left [] e = refl
+none_left (l ∷ ls) e = absurd (omega (arith, e))
+
+-- a turn in which no thread runs has none of them
+nothing_computed : (c : Component) (p : Turn) (s : StateView) (mid : List Label) (added : ℕ) (t : StateView) (after : List Label) (k : ℕ) → Computes c p s mid added t after k → k ≡ added → (x : Setting) → x.component ≡ c → (m : Main) →
+    (state_at t.core m p ≡ state_at s.core m p) × (after ≡ mid)
+nothing_computed c p s mid added t after k q same x is m =
+    let none = none_left q.labels (let e = q.count in omega (arith, e, same)) in (
+      subst (λ (ls : List Label). Run x (state_at s.core m p) ls (state_at t.core m p)) none (q.run x is m),
+      q.trace ∙ (ap (λ (ls : List Label). mid ++ ls) none ∙ append-nil mid),
+    )
+
+module _ (c : Component) (s : StateView) (mid : List Label) (added : ℕ) (t : StateView) (after : List Label) (k : ℕ) (x : Setting) (is : x.component ≡ c) where
+  stays : (p : Turn) → Computes c p s mid added t after k → k ≡ added → Mild s.core t.core
+  stays p q same =
+      let e = nothing_computed c p s mid added t after k q same x is Unscripted in
+      subst (λ (v : State). Mild s.core v.core) (sym e.0) (mild_same s.core)
+
+  -- they leave the groups, and each thread in its own
+  computed_mild : (p : Turn) → Computes c p s mid added t after k → (runs_in p ≡ None → k ≡ added) → Mild s.core t.core
+  computed_mild (turn.Run n) q still = data_runs_mild x (state_at s.core Unscripted (turn.Run n)) q.labels (state_at t.core Unscripted (turn.Run n)) n (q.run x is Unscripted) refl (data_as q.labels q.computing)
+  computed_mild turn.Main q still = stays turn.Main q (still refl)
+  computed_mild (turn.Futures n) q still = stays (turn.Futures n) q (still refl)
+  computed_mild (turn.Take b) q still = stays (turn.Take b) q (still refl)
+  computed_mild turn.Over q still = stays turn.Over q (still refl)
+
+  pub group_computed : (p : Turn) → Computes c p s mid added t after k → (runs_in p ≡ None → k ≡ added) → running_group t.core p ≡ running_group s.core p
+  group_computed (turn.Run n) q still = ap Some (mild_group (computed_mild (turn.Run n) q still) n)
+  group_computed turn.Main q still = refl
+  group_computed (turn.Futures n) q still = refl
+  group_computed (turn.Take b) q still = refl
+  group_computed turn.Over q still = refl
+
+  pub holds_computed : (p : Turn) → Computes c p s mid added t after k → (runs_in p ≡ None → k ≡ added) → (g : Groups) → HoldsGroups g s.core → HoldsGroups g t.core
+  holds_computed p q still g h =
+      let more = runs_never_fewer x (state_at s.core Unscripted p) q.labels (state_at t.core Unscripted p) (q.run x is Unscripted) in
+      record {
+        made = le_trans h.made more.groups;
+        mirror = subst (λ (gs : List ℕ). Mirrors gs g) (sym (computed_mild p q still).groups) h.mirror;
+        unhooked = h.unhooked;
+      }
+
+pub some_then : {A : Type 0} (P Q : A → Type 0) (o : Option A) → ((v : A) → P v → Q v) → IfSome o P → IfSome o Q
+some_then P Q None f h = tt
+some_then P Q (Some v) f h = f v h
+
+pub if_ok : {A E : Type 0} (P : Type 0) (r : Result A E) → P → IfOk r (λ _. P)
+if_ok P (Ok v) p = p
+if_ok P (Err e) p = tt
+
+-- a turn in which nothing was made tells nothing
+pub none_told : (x : Setting) (p : Turn) (m : Main) (s : StateView) (old : Groups) (n : Main) (t : StateView) (new : Groups) (before after : List Label) → new ≡ old →
+    AddedOrNone (λ made. Turned x p m s made n t) None before after → AddedOrNone (λ made. TurnTold x p m s old made n t new) None before after
+none_told x p m s old n t new before after same h = (record { turned = h.0; told = subst (λ (g : Groups). Told [] old.listeners g.listeners) (sym same) (told-none old.listeners) }, h.1)
+
 -- ---- A run
 
 module _ (x : Setting) (o : State) (trace : List Label) (first : Groups) where
@@ -167,25 +283,13 @@ module _ (x : Setting) (o : State) (trace : List Label) (first : Groups) where
       added_label (stepped.Goes p computed) before made after h = h.0
       added_label (stepped.Over o) before made after h = h.0
 
-  data_as : (ls : List Label) → list_all drive.is_data ls ≡ true → list_all is_data ls ≡ true
-  data_as [] e = refl
-  data_as (label.Data l ∷ ls) e = data_as ls e
-  data_as (label.Main l ∷ ls) e = absurd (cc)
-  data_as (label.Loop l ∷ ls) e = absurd (cc)
-  data_as (_ ∷ ls) e = absurd (cc)
-
-  none_left : (ls : List Label) → length ls ≡ 0 → ls ≡ []
-  none_left [] e = refl
-  none_left (l ∷ ls) e = absurd (omega (arith, e))
-
   told_nothing : (p : Turn) (m : Main) (s : StateView) (mid : List Label) (added : ℕ) (t : StateView) (after : List Label) (k : ℕ) (now : Groups) →
       HasTold x o trace (state_at s.core m p) mid first now → Computes x.component p s mid added t after k → k ≡ added →
       HasTold x o trace (state_at t.core m p) after first now
   told_nothing p m s mid added t after k now h q same =
-      let none = none_left q.labels (let e = q.count in omega (arith, e, same)) in
-      let stays : state_at t.core m p ≡ state_at s.core m p = subst (λ (ls : List Label). Run x (state_at s.core m p) ls (state_at t.core m p)) none (q.run x refl m) in
-      subst (λ (v : State). HasTold x o trace v after first now) (sym stays)
-      (subst (λ (ls : List Label). HasTold x o trace (state_at s.core m p) ls first now) (sym (q.trace ∙ (ap (λ (ls : List Label). mid ++ ls) none ∙ append-nil mid))) h)
+      let e = nothing_computed x.component p s mid added t after k q same x refl m in
+      subst (λ (v : State). HasTold x o trace v after first now) (sym e.0)
+      (subst (λ (ls : List Label). HasTold x o trace (state_at s.core m p) ls first now) (sym e.1) h)
 
   -- goes on by ops on registers and words
   pub told_computed : (p : Turn) (m : Main) (s : StateView) (mid : List Label) (added : ℕ) (t : StateView) (after : List Label) (k : ℕ) (now : Groups) →
@@ -198,3 +302,29 @@ module _ (x : Setting) (o : State) (trace : List Label) (first : Groups) where
   told_computed (turn.Futures i) m s mid added t after k now h q still = told_nothing (turn.Futures i) m s mid added t after k now h q (still refl)
   told_computed (turn.Take b) m s mid added t after k now h q still = told_nothing (turn.Take b) m s mid added t after k now h q (still refl)
   told_computed turn.Over m s mid added t after k now h q still = told_nothing turn.Over m s mid added t after k now h q (still refl)
+
+  same_state : (m n : Main) (s t : StateView) (p : Turn) → n ≡ m → t ≡ s → state_at t.core n p ≡ state_at s.core m p
+  same_state m n s t p main same = ap (λ (v : StateView). state_at v.core n p) same ∙ ap (λ (k : Main). state_at s.core k p) main
+
+  -- stays where nothing was made
+  pub told_still : (p : Turn) (m : Main) (s : StateView) (mid : List Label) (old : Groups) (n : Main) (t : StateView) (new : Groups) (after : List Label) →
+      HasTold x o trace (state_at s.core m p) mid first old → AddedOrNone (λ made. TurnTold x p m s old made n t new) None mid after →
+      HasTold x o trace (state_at t.core n p) after first new
+  told_still p m s mid old n t new after h made =
+      let q = made.0 in
+      subst (λ (v : State). HasTold x o trace v after first new) (sym (same_state m n s t p q.turned.1.0 q.turned.1.1))
+      (subst (λ (ls : List Label). HasTold x o trace (state_at s.core m p) ls first new) (sym made.1)
+      (record {
+        added = h.added;
+        trace = h.trace;
+        run = h.run;
+        told = subst (λ (ns : List Notice). Told ns first.listeners new.listeners) (append-nil (notices (history x o h.added (state_at s.core m p) h.run)))
+            (told-append (notices (history x o h.added (state_at s.core m p) h.run)) [] first.listeners old.listeners new.listeners h.told q.told);
+      }))
+
+-- what main is a script of and whether a deadlock traps are the same as at first
+pub told_same : (c : Component) (ops first : List MainOpDef) (b b0 : Bool) (p : Turn) (m : Main) (s : StateView) (old : Groups) (n : Main) (t : StateView) (new : Groups) (q : Option Stepped) (before after : List Label) → ops ≡ first → b ≡ b0 →
+    AddedOrNone (λ made. TurnTold (setting_of c ops b) p m s old made n t new) q before after → AddedOrNone (λ made. TurnTold (setting_of c first b0) p m s old made n t new) q before after
+told_same c ops first b b0 p m s old n t new q before after same idle h =
+    subst (λ (k : Bool). AddedOrNone (λ made. TurnTold (setting_of c first k) p m s old made n t new) q before after) idle
+    (subst (λ (l : List MainOpDef). AddedOrNone (λ made. TurnTold (setting_of c l b) p m s old made n t new) q before after) same h)
