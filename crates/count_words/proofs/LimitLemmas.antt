@@ -8,7 +8,7 @@ pub capacity_sound : (a : CoreParts) → IsSound a → (n : ℕ) → n ≤ 42949
 unfolding IsSound table_use
 capacity_sound a sound n few =
     sound_of_whole a (record a { capacity = n }) refl sound
-    (beside_whole (bare (parts_of a)) a.made (same_made a.made) a.finished (bare (parts_of a)).kept a.results.entries n sound.whole
+    (beside_whole (bare (parts_of a)) a.made (same_made a.made) a.finished (bare (parts_of a)).kept a.results n sound.whole
     (let k = sound.whole.counted.kept in record { used = k.used; groups = k.groups; live = k.live })
     sound.whole.counted.results
     sound.whole.counted.finished

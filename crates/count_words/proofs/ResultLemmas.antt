@@ -1,17 +1,14 @@
 -- The results that were given, by the numbers of their calls.
 use Rattle.task_records.proofs.SoundLemmas.{sound_of_whole}
 use Rattle.task_records.proofs.LaterLemmas.{beside_whole, same_made}
-use Rattle.count_words.specs.Rooms.{wanted}
-use Rattle.task_records.proofs.Core.{[], ap, ap₂, bare, bare_call, Bool, BTreeMap, Call, call_key, call_of, cases_eq, cond, core_of, eq-eqb, eq_by_cmp_equiv, false, get, get-empty, get-insert, get-remove, give_result, given_results, Goal, goal_of, GuestTaskKey, HasRoom, inl, inr, insert, is_at, is_some, IsSome, IsSound, item_at, item_of, List, lookup, loose_call, nat_cmp, nat_cmp_total, ne_eqb, None, Ok, on_core, on_item, Option, option_map, option_map_or, parts_of, Records, records, refl, remove, same_map, seen, Some, subst, sym, table_use, TableId, take_result, true, uninterested, unsigned_tied, with_given, ℕ, ◌==◌, ◌||◌, ◌∙◌, ◌∷◌, ◌≡◌, ◌⊎◌}
-use Rattle.task_records.specs.declared.{calls.GuestTask.GuestTask, parts.CoreParts.CoreParts, parts.ResultRoom.ResultRoom}
+use Rattle.result_rooms.specs.Rooms.{given_in as given, wanted}
+use Rattle.result_rooms.specs.declared.rooms.ResultRoom.{ResultRoom}
+use Rattle.task_records.proofs.Core.{[], ap, ap₂, bare, bare_call, Bool, Call, call_key, call_of, cases_eq, cond, core_of, eq-eqb, eq_by_cmp_equiv, false, get, get-empty, get-insert, get-remove, give_result, given_results, Goal, goal_of, GuestTaskKey, HasRoom, inl, inr, insert, is_at, is_some, IsSome, IsSound, item_at, item_of, List, lookup, loose_call, nat_cmp, nat_cmp_total, ne_eqb, None, Ok, on_core, on_item, Option, option_map, option_map_or, parts_of, Records, records, refl, remove, same_map, seen, Some, subst, sym, table_use, TableId, take_result, true, uninterested, unsigned_tied, with_given, ℕ, ◌==◌, ◌||◌, ◌∙◌, ◌∷◌, ◌≡◌, ◌⊎◌}
+use Rattle.task_records.specs.declared.{calls.GuestTask.GuestTask, parts.CoreParts.CoreParts}
 use Rattle.task_records.proofs.ReadLemmas.{call_named, call_read}
 use Rattle.task_records.proofs.TableLemmas.{get_mapped}
 
--- what was given, where there is room, and whether the call is there
-abbrev pub given : Option ResultRoom → Option ℕ
-given None = None
-given (Some r) = r.given
-
+-- whether the call is there
 abbrev pub lives_in : Option ResultRoom → Bool
 lives_in o = option_map_or (λ r. r.lives) o false
 
@@ -46,47 +43,47 @@ given_wanted r = by r.lives r.given
 pub lives_wanted : (r : ResultRoom) → r.lives ≡ true → lives_in (wanted r) ≡ true
 lives_wanted r lives = ap (λ b. lives_in (cond (b || is_some r.given) (Some r) None)) lives ∙ lives
 
-module _ (a : CoreParts) (sound : IsSound a) (m : BTreeMap ℕ ResultRoom) where
-  pub results_sound : ((k : ℕ) (c : Call) → get (core_of (bare (parts_of a))).calls k ≡ Some c → c.goal ≡ Goal.Main → HasRoom k m.entries) → IsSound (record a { results = m })
+module _ (a : CoreParts) (sound : IsSound a) (m : List (ℕ × ResultRoom)) where
+  pub results_sound : ((k : ℕ) (c : Call) → get (core_of (bare (parts_of a))).calls k ≡ Some c → c.goal ≡ Goal.Main → HasRoom k m) → IsSound (record a { results = m })
   unfolding IsSound table_use
   results_sound rooms =
       sound_of_whole a (record a { results = m }) refl sound
-      (beside_whole (bare (parts_of a)) a.made (same_made a.made) a.finished (bare (parts_of a)).kept m.entries a.capacity sound.whole
+      (beside_whole (bare (parts_of a)) a.made (same_made a.made) a.finished (bare (parts_of a)).kept m a.capacity sound.whole
       (let k = sound.whole.counted.kept in record { used = k.used; groups = k.groups; live = k.live })
       rooms
       sound.whole.counted.finished
       sound.whole.counted.few)
 
-  pub results_seen : (rs : Records ℕ) → ((q : ℕ) → given (lookup (is_at (nat_cmp q)) m.entries) ≡ get rs q) → seen (record a { results = m }) ≡ on_core (λ s. record s { results = rs }) (seen a)
+  pub results_seen : (rs : Records ℕ) → ((q : ℕ) → given (lookup (is_at (nat_cmp q)) m) ≡ get rs q) → seen (record a { results = m }) ≡ on_core (λ s. record s { results = rs }) (seen a)
   unfolding seen
-  results_seen rs same = ap (λ (ns : Records ℕ). record (seen a) { core = record (seen a).core { results = ns } }) (same_map (given_results m.entries) rs (λ q. get-given m.entries q ∙ same q))
+  results_seen rs same = ap (λ (ns : Records ℕ). record (seen a) { core = record (seen a).core { results = ns } }) (same_map (given_results m) rs (λ q. get-given m q ∙ same q))
 
   -- a map with the same rooms
-  pub same_sound : m.entries ≡ a.results.entries → IsSound (record a { results = m })
+  pub same_sound : m ≡ a.results → IsSound (record a { results = m })
   unfolding IsSound
   same_sound same = results_sound (λ k c at main. subst (HasRoom k) (sym same) (sound.whole.counted.results k c at main))
 
-  module _ (k : ℕ) (w : Option ResultRoom) (writes : (q : ℕ) → lookup (is_at (nat_cmp q)) m.entries ≡ cond (is_at (nat_cmp k) q) w (lookup (is_at (nat_cmp q)) a.results.entries)) where
-    written : (q : ℕ) → lookup (is_at (nat_cmp q)) m.entries ≡ cond (q == k) w (lookup (is_at (nat_cmp q)) a.results.entries)
-    written q = writes q ∙ ap (λ b. cond b w (lookup (is_at (nat_cmp q)) a.results.entries)) (at_key k q)
+  module _ (k : ℕ) (w : Option ResultRoom) (writes : (q : ℕ) → lookup (is_at (nat_cmp q)) m ≡ cond (is_at (nat_cmp k) q) w (lookup (is_at (nat_cmp q)) a.results)) where
+    written : (q : ℕ) → lookup (is_at (nat_cmp q)) m ≡ cond (q == k) w (lookup (is_at (nat_cmp q)) a.results)
+    written q = writes q ∙ ap (λ b. cond b w (lookup (is_at (nat_cmp q)) a.results)) (at_key k q)
 
-    pub has_written : lives_in w ≡ true → HasRoom k m.entries
-    has_written lives = ap lives_in (written k ∙ ap (λ b. cond b w (lookup (is_at (nat_cmp k)) a.results.entries)) (eq-eqb k k refl)) ∙ lives
+    pub has_written : lives_in w ≡ true → HasRoom k m
+    has_written lives = ap lives_in (written k ∙ ap (λ b. cond b w (lookup (is_at (nat_cmp k)) a.results)) (eq-eqb k k refl)) ∙ lives
 
     -- a call that is there has room still
     room_left : ((c : Call) → get (core_of (bare (parts_of a))).calls k ≡ Some c → c.goal ≡ Goal.Main → lives_in w ≡ true) → IsSound (record a { results = m })
     unfolding IsSound
     room_left lives = results_sound (λ q c at main. by q c at main (cases_eq q k))
       where
-        by : (q : ℕ) (c : Call) → get (core_of (bare (parts_of a))).calls q ≡ Some c → c.goal ≡ Goal.Main → (q ≡ k) ⊎ (q ≡ k → ⊥) → HasRoom q m.entries
+        by : (q : ℕ) (c : Call) → get (core_of (bare (parts_of a))).calls q ≡ Some c → c.goal ≡ Goal.Main → (q ≡ k) ⊎ (q ≡ k → ⊥) → HasRoom q m
         by q c at main (inl here) =
-            ap lives_in (written q ∙ ap (λ b. cond b w (lookup (is_at (nat_cmp q)) a.results.entries)) (eq-eqb q k here))
+            ap lives_in (written q ∙ ap (λ b. cond b w (lookup (is_at (nat_cmp q)) a.results)) (eq-eqb q k here))
             ∙ lives c (ap (get (core_of (bare (parts_of a))).calls) (sym here) ∙ at) main
         by q c at main (inr other) =
-            ap lives_in (written q ∙ ap (λ b. cond b w (lookup (is_at (nat_cmp q)) a.results.entries)) (ne_eqb q k other))
+            ap lives_in (written q ∙ ap (λ b. cond b w (lookup (is_at (nat_cmp q)) a.results)) (ne_eqb q k other))
             ∙ sound.whole.counted.results q c at main
 
-    pub written_sound : (HasRoom k a.results.entries → lives_in w ≡ true) → IsSound (record a { results = m })
+    pub written_sound : (HasRoom k a.results → lives_in w ≡ true) → IsSound (record a { results = m })
     unfolding IsSound
     written_sound keeps = room_left (λ c at main. keeps (sound.whole.counted.results k c at main))
 
@@ -94,8 +91,8 @@ module _ (a : CoreParts) (sound : IsSound a) (m : BTreeMap ℕ ResultRoom) where
     unfolding seen
     closed_sound gone = room_left (λ c at main. absurd (let none : ◌≡◌ {A = Option Call} None (Some c) = sym (get_mapped call_key call_key (on_item bare_call) (λ c. uninterested (loose_call c)) (λ e. refl) a.calls k ∙ ap (option_map (λ (c : Call). uninterested (loose_call c))) gone) ∙ at in cc))
 
-    written_at : (q : ℕ) → given (lookup (is_at (nat_cmp q)) m.entries) ≡ cond (q == k) (given w) (get (given_results a.results.entries) q)
-    written_at q = ap given (written q) ∙ (by_test (q == k) (lookup (is_at (nat_cmp q)) a.results.entries) ∙ ap (cond (q == k) (given w)) (sym (get-given a.results.entries q)))
+    written_at : (q : ℕ) → given (lookup (is_at (nat_cmp q)) m) ≡ cond (q == k) (given w) (get (given_results a.results) q)
+    written_at q = ap given (written q) ∙ (by_test (q == k) (lookup (is_at (nat_cmp q)) a.results) ∙ ap (cond (q == k) (given w)) (sym (get-given a.results q)))
       where
         by_test : (b : Bool) (x : Option ResultRoom) → given (cond b w x) ≡ cond b (given w) (given x)
         by_test true x = refl
@@ -110,26 +107,26 @@ module _ (a : CoreParts) (sound : IsSound a) (m : BTreeMap ℕ ResultRoom) where
     result_taken is = results_seen (remove (seen a).core.results k) (λ q. written_at q ∙ (ap (λ p. cond (q == k) p (get (seen a).core.results q)) is ∙ sym (get-remove (seen a).core.results k q)))
 
     -- a room with the result that stood there isn't seen
-    pub room_unseen : given w ≡ given (lookup (is_at (nat_cmp k)) a.results.entries) → seen (record a { results = m }) ≡ seen a
+    pub room_unseen : given w ≡ given (lookup (is_at (nat_cmp k)) a.results) → seen (record a { results = m }) ≡ seen a
     unfolding seen
     room_unseen is = results_seen (seen a).core.results (λ q. written_at q ∙ by q (cases_eq q k))
       where
-        by : (q : ℕ) → (q ≡ k) ⊎ (q ≡ k → ⊥) → cond (q == k) (given w) (get (given_results a.results.entries) q) ≡ get (given_results a.results.entries) q
-        by q (inl here) = ap (λ b. cond b (given w) (get (given_results a.results.entries) q)) (eq-eqb q k here) ∙ (is ∙ sym (get-given a.results.entries q ∙ ap (λ n. given (lookup (is_at (nat_cmp n)) a.results.entries)) here))
-        by q (inr other) = ap (λ b. cond b (given w) (get (given_results a.results.entries) q)) (ne_eqb q k other)
+        by : (q : ℕ) → (q ≡ k) ⊎ (q ≡ k → ⊥) → cond (q == k) (given w) (get (given_results a.results) q) ≡ get (given_results a.results) q
+        by q (inl here) = ap (λ b. cond b (given w) (get (given_results a.results) q)) (eq-eqb q k here) ∙ (is ∙ sym (get-given a.results q ∙ ap (λ n. given (lookup (is_at (nat_cmp n)) a.results)) here))
+        by q (inr other) = ap (λ b. cond b (given w) (get (given_results a.results) q)) (ne_eqb q k other)
 
   -- who had no room had no result
-  pub nothing_taken : (k : ℕ) → m ≡ a.results → lookup (is_at (nat_cmp k)) a.results.entries ≡ None → seen (record a { results = m }) ≡ on_core (take_result k) (seen a)
+  pub nothing_taken : (k : ℕ) → m ≡ a.results → lookup (is_at (nat_cmp k)) a.results ≡ None → seen (record a { results = m }) ≡ on_core (take_result k) (seen a)
   unfolding take_result seen
-  nothing_taken k same none = results_seen (remove (seen a).core.results k) (λ q. ap (λ (n : BTreeMap ℕ ResultRoom). given (lookup (is_at (nat_cmp q)) n.entries)) same ∙ (by q (cases_eq q k) ∙ sym (get-remove (seen a).core.results k q)))
+  nothing_taken k same none = results_seen (remove (seen a).core.results k) (λ q. ap (λ (n : List (ℕ × ResultRoom)). given (lookup (is_at (nat_cmp q)) n)) same ∙ (by q (cases_eq q k) ∙ sym (get-remove (seen a).core.results k q)))
     where
-      by : (q : ℕ) → (q ≡ k) ⊎ (q ≡ k → ⊥) → given (lookup (is_at (nat_cmp q)) a.results.entries) ≡ cond (q == k) None (get (given_results a.results.entries) q)
-      by q (inl here) = ap given (ap (λ n. lookup (is_at (nat_cmp n)) a.results.entries) here ∙ none) ∙ sym (ap (λ b. cond b None (get (given_results a.results.entries) q)) (eq-eqb q k here))
-      by q (inr other) = sym (get-given a.results.entries q) ∙ sym (ap (λ b. cond b None (get (given_results a.results.entries) q)) (ne_eqb q k other))
+      by : (q : ℕ) → (q ≡ k) ⊎ (q ≡ k → ⊥) → given (lookup (is_at (nat_cmp q)) a.results) ≡ cond (q == k) None (get (given_results a.results) q)
+      by q (inl here) = ap given (ap (λ n. lookup (is_at (nat_cmp n)) a.results) here ∙ none) ∙ sym (ap (λ b. cond b None (get (given_results a.results) q)) (eq-eqb q k here))
+      by q (inr other) = sym (get-given a.results q) ∙ sym (ap (λ b. cond b None (get (given_results a.results) q)) (ne_eqb q k other))
 
 -- a call by main has room for its result
 module _ (a : CoreParts) (sound : IsSound a) (id : TableId GuestTaskKey) (g : GuestTask) (is : Ok g ≡ item_at item_of a.calls id.rep id.serial) (main : goal_of (call_of (seen a) id) (seen a).core ≡ Goal.Main) where
-  room_there : HasRoom g.number a.results.entries
+  room_there : HasRoom g.number a.results
   unfolding IsSound seen
   room_there =
       sound.whole.counted.results g.number (uninterested (loose_call g.call))
@@ -137,5 +134,5 @@ module _ (a : CoreParts) (sound : IsSound a) (id : TableId GuestTaskKey) (g : Gu
       ∙ ap (option_map (λ (c : Call). uninterested (loose_call c))) (ap (get (records call_key a.calls.places)) (call_named a id g is) ∙ sym (call_read a sound id g is)))
       (ap (λ o. option_map_or (λ (c : Call). c.goal) o Goal.Nowhere) (call_read a sound id g is) ∙ main)
 
-  pub no_room : None ≡ lookup (is_at (nat_cmp g.number)) a.results.entries → ⊥
+  pub no_room : None ≡ lookup (is_at (nat_cmp g.number)) a.results → ⊥
   no_room none = absurd (let no : ◌≡◌ {A = Bool} false true = ap lives_in none ∙ room_there in cc)

@@ -1,4 +1,3 @@
 pub mod Entries
 pub mod Ones
 pub mod Limits
-pub mod Rooms

@@ -1,8 +1,4 @@
-ghost use Rattle.count_words.specs.Rooms.{wanted};
-ghost use Rattle.std.specs.BTreeMap.{is_at};
-ghost use Rattle.std.specs.Map.{lookup};
-ghost use Rattle.std.specs.Ordering.{nat_cmp};
-ghost use Rattle.std.specs.Prelude.{◌≡◌, IsSome, None, OnOk, if◌then◌else◌, ℕ};
+ghost use Rattle.std.specs.Prelude.{◌≡◌, None, OnOk};
 ghost use Rattle.task_machine.specs.Maps.{get};
 ghost use Rattle.task_machine.specs.Read.{goal_of};
 ghost use Rattle.task_machine.specs.Write.{give_result, take_result};
@@ -11,18 +7,17 @@ ghost use Rattle.task_records.specs.Image.{HasRoom};
 ghost use Rattle.task_records.specs.Seen.{IsSound, seen};
 ghost use Rattle.task_words.specs.StateView.{call_of, on_core};
 
+use result_rooms::ResultRoom;
 use task_machine::NoMemory;
-use task_records::{CoreParts, ResultRoom};
+use task_records::CoreParts;
 use task_words::CallId;
 
 /// What the call with this number has returned to main, which has not taken it.
+#[inline(always)]
 pub fn result(parts: &CoreParts, call: u64) -> Option<u64>
     ensures { result ≡ get (seen parts.now).core.results call }
 {
-    match parts.results.get(&call) {
-        Some(room) => room.given,
-        None => None,
-    }
+    parts.results.result(call)
 }
 
 /// Gives main the result of a call that it made. The room was taken when the call was made.
@@ -35,32 +30,18 @@ pub fn give_result(parts: &mut CoreParts, call: CallId, value: u64)
     match task_records::call(parts, call) {
         Some(found) => {
             let number = found.number;
-            match parts.results.get_mut(&number) {
+            match parts.results.room(number) {
                 Some(room) => {
-                    room.given = Some(value);
+                    let room = ResultRoom {
+                        given: Some(value),
+                        lives: room.lives,
+                    };
+                    parts.results.write(number, room);
                 }
                 None => unreachable!(),
             }
         }
         None => unreachable!(),
-    }
-}
-
-// Writes the room of a call. It goes where its call is gone and no result stands in it.
-fn put_room(parts: &mut CoreParts, call: u64, room: ResultRoom)
-    requires { IsSome (lookup (is_at (nat_cmp call)) parts.old.results.entries) }
-    ensures writes { (q : ℕ) → lookup (is_at (nat_cmp q)) parts.new.results.entries ≡ (if is_at (nat_cmp call) q then wanted room else lookup (is_at (nat_cmp q)) parts.old.results.entries) }
-    ensures only { parts.new ≡ record parts.old { results = parts.new.results } }
-{
-    if room.lives || room.given.is_some() {
-        match parts.results.get_mut(&call) {
-            Some(place) => {
-                *place = room;
-            }
-            None => unreachable!(),
-        }
-    } else {
-        parts.results.remove(&call);
     }
 }
 
@@ -70,24 +51,12 @@ pub fn make_room(parts: &mut CoreParts, call: u64) -> Result<(), NoMemory>
     requires { IsSound parts.old }
     ensures sound { IsSound parts.new }
     ensures seen { seen parts.new ≡ seen parts.old }
-    ensures room { OnOk result (HasRoom call parts.new.results.entries) }
+    ensures room { OnOk result (HasRoom call parts.new.results) }
     ensures only { parts.new ≡ record parts.old { results = parts.new.results } }
 {
-    if let Some(room) = parts.results.get(&call) {
-        let room = ResultRoom {
-            given: room.given,
-            lives: true,
-        };
-        put_room(parts, call, room);
-        return Ok(());
-    }
-    let room = ResultRoom {
-        given: None,
-        lives: true,
-    };
-    match parts.results.insert(call, room) {
-        Ok(_) => Ok(()),
-        Err(_) => Err(NoMemory),
+    match parts.results.make(call) {
+        Ok(()) => Ok(()),
+        Err(why) => Err(why),
     }
 }
 
@@ -97,12 +66,12 @@ pub fn take_result(parts: &mut CoreParts, call: u64)
     ensures sound { IsSound parts.new }
     ensures new { seen parts.new ≡ on_core (take_result call) (seen parts.old) }
 {
-    if let Some(room) = parts.results.get(&call) {
+    if let Some(room) = parts.results.room(call) {
         let room = ResultRoom {
             given: None,
             lives: room.lives,
         };
-        put_room(parts, call, room);
+        parts.results.write(call, room);
     }
 }
 
@@ -114,11 +83,11 @@ pub fn close_room(parts: &mut CoreParts, call: u64)
     ensures seen { seen parts.new ≡ seen parts.old }
     ensures only { parts.new ≡ record parts.old { results = parts.new.results } }
 {
-    if let Some(room) = parts.results.get(&call) {
+    if let Some(room) = parts.results.room(call) {
         let room = ResultRoom {
             given: room.given,
             lives: false,
         };
-        put_room(parts, call, room);
+        parts.results.write(call, room);
     }
 }

@@ -1,8 +1,7 @@
 -- A label more behind the others, and the first label before the rest.
-use Rattle.std.proofs.Common.{◌≡◌, ℕ, ◌+◌, ◌-◌, ◌<◌, ◌≤◌, List, [], ◌∷◌, ◌++◌, length, take, drop, true, false, refl, sym, ap, ◌∙◌, arith, length-append, length-drop, append_assoc}
-use Rattle.std.specs.Prelude.{Bool, cond, eqb}
+use Rattle.std.proofs.Common.{◌≡◌, ℕ, ◌+◌, ◌<◌, ◌≤◌, List, [], ◌∷◌, ◌++◌, length, drop, true, false, refl, sym, ap, arith, length-drop}
+use Rattle.std.specs.Prelude.{eqb}
 use Rattle.std.proofs.lemmas.List.{take-append-le, drop-append-le, take_all}
-use Rattle.task_machine.specs.declared.label.Label.{Label}
 use Rattle.label_trace.specs.declared.kinds.Head.{Head}
 use Rattle.label_trace.specs.declared.kinds.Kind.{Kind}
 use Rattle.label_trace.specs.declared.kinds.Kind.TheVariants as kind

@@ -1,7 +1,6 @@
 -- What a label is, by its kind and its numbers.
 use Rattle.std.specs.Prelude.{ℕ, Bool, true, false, List, ◌∷◌, cond, eqb}
 use Rattle.std.specs.Prelude.{slice_index as at}
-use Rattle.task_machine.specs.declared.label.CallLabel.{CallLabel}
 use Rattle.task_machine.specs.declared.label.DataLabel.{DataLabel}
 use Rattle.task_machine.specs.declared.label.Label.{Label}
 use Rattle.task_machine.specs.declared.label.LoopLabel.{LoopLabel}
@@ -20,13 +19,8 @@ use Rattle.task_machine.specs.declared.label.TakeLabel.TheVariants as take
 use Rattle.task_machine.specs.declared.label.TaskLabel.TheVariants as task_label
 use Rattle.task_machine.specs.declared.label.ThreadLabel.TheVariants as thread_label
 use Rattle.task_machine.specs.declared.words.Mark.{Mark}
-use Rattle.task_machine.specs.declared.words.OwnEvent.{OwnEvent}
-use Rattle.task_machine.specs.declared.words.Phase.{Phase}
-use Rattle.task_machine.specs.declared.words.Status.{Status}
-use Rattle.task_machine.specs.declared.words.Given.{Given}
 use Rattle.task_machine.specs.declared.words.Given.TheVariants as given
 use Rattle.task_machine.specs.declared.words.OwnEvent.TheVariants as own
-use Rattle.task_machine.specs.declared.trap.Trap.{Trap}
 use Rattle.label_trace.specs.declared.kinds.Kind.{Kind}
 use Rattle.label_trace.specs.declared.kinds.Kind.TheVariants as kind
 use Rattle.label_trace.specs.declared.kinds.MainKind.{MainKind}

@@ -4,6 +4,7 @@
 mod kinds;
 mod open;
 mod pack;
+mod parts;
 mod trace;
 
 pub use kinds::{

@@ -32,7 +32,7 @@ module _ (a : CoreParts) (request : Request) (group : ℕ) (words : List ℕ) (c
   pub request_strand :
       AtPlace (parts_of a) request.maker (caller_target request.caller)
       → IsSome (get (seen a).core.instances request.callee.instance)
-      → (request.goal ≡ Goal.Main → HasRoom (a.made.threads + 1) a.results.entries)
+      → (request.goal ≡ Goal.Main → HasRoom (a.made.threads + 1) a.results)
       → IsStrand (bare (parts_of a)) (bare_call (record c { first = next_place a.threads })) (bare_thread (record g { task = next_place a.calls }))
   request_strand caller there room = record {
     call_next = call_number;
@@ -50,7 +50,7 @@ module _ (a : CoreParts) (request : Request) (group : ℕ) (words : List ℕ) (c
     caller =
         subst (λ (m : ℕ). AtPlace (bare (parts_of a)) m (caller_target c.call.caller)) (sym maker)
         (subst (λ (k : Call). AtPlace (bare (parts_of a)) request.maker (caller_target k.caller)) (sym call_is) (place_in_bare a request.maker (caller_target request.caller) caller));
-    room = λ main. subst (λ (m : ℕ). HasRoom m a.results.entries) (sym call_number) (room (sym (ap (λ (k : Call). k.goal) call_is) ∙ main));
+    room = λ main. subst (λ (m : ℕ). HasRoom m a.results) (sym call_number) (room (sym (ap (λ (k : Call). k.goal) call_is) ∙ main));
   }
 
   pub request_core : (s : Core) → add_thread g.thread (add_call c.number c.call s) ≡ add_thread (new_thread (a.made.threads + 1) false Script.Start words None) (add_call (a.made.threads + 1) (new_call request.caller request.callee request.kind request.goal group) s)

@@ -46,7 +46,7 @@ pub fn add_strand(
     requires group { Ok group ≡ item_at item_of parts.old.groups id.rep id.serial }
     requires caller { AtPlace (parts_of parts.old) request.maker (caller_target request.caller) }
     requires there { IsSome (get (seen parts.old).core.instances request.callee.instance) }
-    requires result { request.goal ≡ goals.Main → HasRoom (parts.old.made.threads + 1) parts.old.results.entries }
+    requires result { request.goal ≡ goals.Main → HasRoom (parts.old.made.threads + 1) parts.old.results }
     requires loose { AreStrandLoose (bare (parts_of parts.old)) nodes.0 nodes.1 }
     ensures sound { IsSound parts.new }
     ensures thread { IfOk result (λ ids. thread_of (seen parts.new) ids.0 ≡ (seen parts.old).core.made.threads + 1) }
@@ -90,7 +90,7 @@ pub fn prepare(parts: &mut CoreParts, goal: Goal) -> Result<(CallNodes, ThreadNo
     ensures sound { IsSound parts.new }
     ensures seen { seen parts.new ≡ seen parts.old }
     ensures loose { IfOk result (λ nodes. AreStrandLoose (bare (parts_of parts.new)) nodes.0 nodes.1) }
-    ensures result { OnOk result (goal ≡ goals.Main → HasRoom (parts.new.made.threads + 1) parts.new.results.entries) }
+    ensures result { OnOk result (goal ≡ goals.Main → HasRoom (parts.new.made.threads + 1) parts.new.results) }
 {
     if let Goal::Main = goal {
         let number = parts.made.threads + 1;
@@ -114,7 +114,7 @@ fn add_main_strand(
     requires room { fits 4 (seen parts.old).core ≡ true }
     requires caller { request.caller ≡ callers.Main }
     requires there { IsSome (get (seen parts.old).core.instances request.callee.instance) }
-    requires result { request.goal ≡ goals.Main → HasRoom (parts.old.made.threads + 1) parts.old.results.entries }
+    requires result { request.goal ≡ goals.Main → HasRoom (parts.old.made.threads + 1) parts.old.results }
     requires loose { AreStrandLoose (bare (parts_of parts.old)) nodes.0 nodes.1 }
     ensures sound { IsSound parts.new }
     ensures thread { IfOk result (λ ids. thread_of (seen parts.new) ids.0 ≡ (seen parts.old).core.made.threads + 1) }
@@ -239,7 +239,7 @@ pub fn add_named_strand(
     requires group { Ok group ≡ item_at item_of parts.old.groups id.rep id.serial }
     requires caller { AtPlace (parts_of parts.old) request.maker (caller_target request.caller) }
     requires there { IsSome (get (seen parts.old).core.instances request.callee.instance) }
-    requires result { request.goal ≡ goals.Main → HasRoom (parts.old.made.threads + 1) parts.old.results.entries }
+    requires result { request.goal ≡ goals.Main → HasRoom (parts.old.made.threads + 1) parts.old.results }
     requires loose { AreStrandLoose (bare (parts_of parts.old)) nodes.0 nodes.1 }
     ensures sound { IsSound parts.new }
     ensures thread { IfOk result (λ ids. thread_of (seen parts.new) ids.0 ≡ next_thread (seen parts.old).core) }

@@ -1,9 +1,12 @@
 //! Guides: from where a seat's place is looked for in a long chain.
 //!
 //! One node in sixteen has a stop in a lane over all chains, one in 256 also in a second lane, one in 4,096 in a third,
-//! and each lane stands in the order of chains and seats. So a place is found past some fifty stops and nodes, however
-//! many stand in its chain. Nothing rests on the guides: who asks them tests the answer, and where memory is wanting a
-//! node has no stop. The first 64 names have none, as short chains need no guide.
+//! and each lane stands in the order of chains and seats. So among up to 65,536 nodes a place is found past some fifty
+//! stops and nodes, however many of them stand in its chain. Above that the third lane grows by a stop for each 4,096
+//! nodes, and is passed stop by stop: among 1,000,000 nodes some 250 at most. A lane is left after 1,024 stops, and a
+//! place that is further on is looked for from the end of its chain. Nothing rests on the guides: who asks them tests
+//! the answer, and where memory is wanting a node has no stop. The first 64 names have none, as short chains need no
+//! guide.
 ghost use Rattle.std.specs.Prelude.{IfSome, IsSome};
 ghost use Rattle.task_links.specs.Links.{link_of};
 
@@ -218,6 +221,7 @@ impl Guides {
     }
 
     // The stops of a node, in no lane.
+    #[cold]
     fn add_tower(&mut self, name: usize) {
         if self.lanes.is_none() {
             self.lanes = make_lanes(&mut self.stops);
@@ -242,6 +246,7 @@ impl Guides {
         }
     }
 
+    #[cold]
     fn drop_tower(&mut self, name: usize) {
         if let Some(tower) = self.towers.remove(&name) {
             drop_stop(&mut self.stops, tower.low);
@@ -258,6 +263,7 @@ impl Guides {
         }
     }
 
+    #[cold]
     fn leave_lanes(&mut self, name: usize) {
         if let Some(tower) = self.towers.get(&name) {
             let tower = *tower;
@@ -279,6 +285,7 @@ impl Guides {
         }
     }
 
+    #[cold]
     fn enter_lanes(&mut self, node: Node, chain: usize, seat: Seat) {
         let Some(lanes) = self.lanes else {
             return;
@@ -317,6 +324,7 @@ impl Guides {
     }
 
     /// A node near the place of a seat in its chain that doesn't come before it, if there is a stop there.
+    #[cold]
     pub(crate) fn near(&self, chain: usize, seat: Seat) -> Option<Node> {
         let Some(lanes) = self.lanes else {
             return None;

@@ -1,3 +1,4 @@
+pub mod Cells
 pub mod Spots
 pub mod Paths
 pub mod Splices

@@ -8,7 +8,7 @@ use Rattle.task_table.proofs.ReadLemmas.{slice_get-set_same, slice_get-set_other
 use Rattle.task_links.specs.declared.links.Role.{Role}
 use Rattle.task_links.specs.declared.links.Role.TheVariants.{Unused, Chain, Free, Linked}
 use Rattle.task_links.specs.Links.{Spot, Unmade, ChainOf, FreeNode, spot_at, Renames}
-use Rattle.task_links.specs.Rings.{role_at, ring_list, IsSound, shown, spot_of, new_spot, role_is_new, role_is_unused, role_is_used, is_unused_at}
+use Rattle.task_links.specs.Rings.{role_at, ring_list, AreRings, IsSound, shown, spot_of, new_spot, role_is_new, role_is_unused, role_is_used, is_unused_at}
 use Rattle.task_links.proofs.Changes.{within}
 use Rattle.task_links.proofs.Spots.{spot_at-shown}
 use Rattle.task_links.proofs.Names.{Renamed, AreRings-renamed, Renames-renamed}
@@ -96,9 +96,22 @@ module _ {P : Type 0} where
         long_previous = length-set pv i i ∙ (sound.rings.as_many_previous ∙ sym (length-set rs i r));
       }
 
-      pub Sound-reused : IsSound (set nx i i) (set pv i i) (set rs i r) more room
-      Sound-reused = record {
-        rings = AreRings-renamed nx pv _ _ rs _ i r renamed sound.rings;
+      -- a free node keeps what stood after and before its name
+      renamed_free : r ≡ Free → Renamed nx pv nx pv rs (set rs i r) i r
+      renamed_free free = record {
+        was_not_linked = λ c v is. absurd (let e = sym was_role ∙ is in cc);
+        was_empty = λ is. absurd (let e = sym was_role ∙ is in cc);
+        role = get_or-set_same rs i r Unused reused_inside;
+        is_not_linked = new_not_linked r new;
+        is_empty = λ is. absurd (let e = sym free ∙ is in cc);
+        others = λ q not_i. (refl, (refl, get_or-set_other rs i q r Unused not_i));
+        long_next = sound.rings.as_many_next ∙ sym (length-set rs i r);
+        long_previous = sound.rings.as_many_previous ∙ sym (length-set rs i r);
+      }
+
+      sound_with : (nx' pv' : List ℕ) → AreRings nx' pv' (set rs i r) → IsSound nx' pv' (set rs i r) more room
+      sound_with nx' pv' rings = record {
+        rings = rings;
         unused_once = λ n. elim (cases_eq n i) [
           | inl same ↦
               let none : count_by (λ m. m == i) more ≡ 0 = (let h = here in let few = at_most_one (slice_get rs i) in omega arith) in
@@ -119,6 +132,15 @@ module _ {P : Type 0} where
             omega arith;
         room_to_drop = let long = length-set rs i r in let r = sound.room_to_drop in omega arith;
       }
+
+      pub Sound-reused : IsSound (set nx i i) (set pv i i) (set rs i r) more room
+      Sound-reused = sound_with (set nx i i) (set pv i i) (AreRings-renamed nx pv _ _ rs _ i r renamed sound.rings)
+
+      pub Sound-freed : r ≡ Free → IsSound nx pv (set rs i r) more room
+      Sound-freed free = sound_with nx pv (AreRings-renamed nx pv _ _ rs _ i r (renamed_free free) sound.rings)
+
+      pub Renames-freed : r ≡ Free → Renames (shown nx rs) (shown nx (set rs i r)) i Unmade (new_spot r)
+      Renames-freed free = Renames-renamed nx pv _ pv rs _ i r (renamed_free free) sound.rings Unmade (spot_at-shown nx rs i ∙ ap (spot_of nx rs i) was_role)
 
       pub Renames-reused : Renames (shown nx rs) (shown (set nx i i) (set rs i r)) i Unmade (new_spot r)
       Renames-reused = Renames-renamed nx pv _ (set pv i i) rs _ i r renamed sound.rings Unmade (spot_at-shown nx rs i ∙ ap (spot_of nx rs i) was_role)

@@ -1,8 +1,9 @@
 -- How a `Links` lays out its chains: each is a ring of next and previous names that begins and ends at the chain's own. No public clause cites this module.
-use Rattle.std.specs.Prelude.{◌≡◌, ℕ, zero, suc, ◌+◌, ◌<◌, ◌≤◌, ◌==◌, if◌then◌else◌, Bool, true, false, List, [], ◌∷◌, length, slice_index_or, slice_get, count_by, Vec, vec_capacity, option_map, Option, Some, None}
+use Rattle.std.specs.Prelude.{◌≡◌, ℕ, zero, suc, ◌+◌, ◌<◌, ◌≤◌, ◌==◌, if◌then◌else◌, Bool, true, false, List, [], ◌∷◌, length, map, slice_index_or, slice_get, count_by, Vec, vec_capacity, option_map, Option, Some, None}
 use Rattle.std.specs.Global.{Global}
 pub use Rattle.task_links.specs.Links.{In, Apart}
 use Rattle.task_links.specs.Links.{Spot, Unmade, ChainOf, FreeNode, LinkedNode}
+use Rattle.task_links.specs.declared.links.Cell.{Cell}
 use Rattle.task_links.specs.declared.links.Role.{Role}
 use Rattle.task_links.specs.declared.links.Role.TheVariants.{Unused, Chain, Free, Linked}
 
@@ -10,6 +11,16 @@ abbrev pub at : List ℕ → ℕ → ℕ
 at xs n = slice_index_or xs n 0
 
 module _ {P : Type 0} where
+  -- the name after each one, the name before it, and what it stands for
+  abbrev pub next_names : List (Cell P) → List ℕ
+  next_names cs = map (λ c. c.next) cs
+
+  abbrev pub previous_names : List (Cell P) → List ℕ
+  previous_names cs = map (λ c. c.previous) cs
+
+  abbrev pub roles_in : List (Cell P) → List (Role P)
+  roles_in cs = map (λ c. c.role) cs
+
   abbrev pub role_at : List (Role P) → ℕ → Role P
   role_at rs n = slice_index_or rs n Unused
 
@@ -103,8 +114,8 @@ module _ {P : Type 0} where
   entry_at rs n = option_map (λ value. (n, value)) (role_value (role_at rs n))
 
   -- where no name is unused, there is room for one more, and for giving it back
-  abbrev pub HasRoom : Vec ℕ Global → Vec ℕ Global → Vec (Role P) Global → Vec ℕ Global → Type 0
-  HasRoom next previous roles unused = unused.items ≡ [] → (length next.items < vec_capacity next) × ((length previous.items < vec_capacity previous) × ((length roles.items < vec_capacity roles) × (length roles.items < vec_capacity unused)))
+  abbrev pub HasRoom : Vec (Cell P) Global → Vec ℕ Global → Type 0
+  HasRoom cells unused = unused.items ≡ [] → (length cells.items < vec_capacity cells) × (length cells.items < vec_capacity unused)
 
 -- the list goes once round the ring of the chain
 pub record IsRing {P : Type 0} (next previous : List ℕ) (rs : List (Role P)) (chain : ℕ) (list : List (ℕ × P)) : Type 0 where

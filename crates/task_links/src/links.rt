@@ -1,7 +1,7 @@
-ghost use Rattle.std.specs.Prelude.{◌≡◌, ◌⊎◌, ◌<◌, ◌≤◌, ◌++◌, ◌∷◌, [], ◌↔◌, true, Some, slice_set, length, IsSome, is_some, IfOk, OnOk, OnErr, vec_capacity};
+ghost use Rattle.std.specs.Prelude.{◌≡◌, ◌⊎◌, ◌<◌, ◌≤◌, ◌++◌, ◌∷◌, [], ◌↔◌, true, Some, slice_set, slice_index_or, length, IsSome, is_some, IfOk, OnOk, OnErr, vec_capacity};
 ghost use Rattle.std.specs.Option.{option_map};
 ghost use Rattle.task_links.specs.Links.{spot_at, Unmade, ChainOf, FreeNode, Renames, AreLinked, IsLinks, entries, is_free, is_made, link_of, list_of, linked, removed, inserted, head_of, following, last_of, preceding};
-ghost use Rattle.task_links.specs.Rings.{HasRoom, IsSound, entry_at, shown, new_spot, role_at, role_is_chain, role_is_free, role_is_new, role_is_node};
+ghost use Rattle.task_links.specs.Rings.{HasRoom, IsSound, entry_at, next_names, previous_names, shown, role_at, role_is_chain, role_is_free, role_is_node, roles_in};
 
 use std::alloc::{AllocError, Global};
 use std::marker::Model;
@@ -27,16 +27,22 @@ pub(crate) enum Role<P> {
     Linked(usize, P),
 }
 
+/// A name's neighbours in its ring, and what it stands for.
+#[derive(Clone, Copy)]
+pub(crate) struct Cell<P> {
+    /// The name after it, the chain's own after the last.
+    pub(crate) next: usize,
+    /// The name before it, the chain's own before the first.
+    pub(crate) previous: usize,
+    pub(crate) role: Role<P>,
+}
+
 /// Lists over nodes that were made before: a finite map from chains to lists of nodes with values, and the nodes that are in none.
 ///
 /// Chains and nodes have numbers from one range, and a number that was given back is given again. Each call works in constant time, but for the growth of the whole, and takes no memory but where it says so.
 #[derive(Drop)]
 pub struct Links<P> {
-    // The name after each one in its ring, the chain's own after the last.
-    next: Vec<usize>,
-    // The name before each one in its ring, the chain's own before the first.
-    previous: Vec<usize>,
-    roles: Vec<Role<P>>,
+    cells: Vec<Cell<P>>,
     // The unused names. It has room for each name.
     unused: Vec<usize>,
 }
@@ -49,57 +55,124 @@ impl<P> Model for Links<P> {
 
     ghost coded = { links_code P.code };
 
-    ghost use Rattle.task_links.specs.Rings.{shown, IsSound};
+    ghost use Rattle.task_links.specs.Rings.{shown, IsSound, next_names, previous_names, roles_in};
 
-    ghost view = { λ l. shown l.next.items l.roles.items };
+    ghost view = { λ l. shown (next_names l.cells.items) (roles_in l.cells.items) };
 
-    ghost invariant = { λ l. IsSound l.next.items l.previous.items l.roles.items l.unused.items (vec_capacity l.unused) };
+    ghost invariant = { λ l. IsSound (next_names l.cells.items) (previous_names l.cells.items) (roles_in l.cells.items) l.unused.items (vec_capacity l.unused) };
 }
 
-// Puts a free node between two neighbours of a ring.
-fn link<P: Copy>(
-    next: &mut Vec<usize>,
-    previous: &mut Vec<usize>,
-    roles: &mut Vec<Role<P>>,
-    before: usize,
-    after: usize,
-    node: usize,
-    role: Role<P>,
-)
-    requires before { before < length next.old.items }
-    requires node_next { node < length next.old.items }
-    requires after { after < length previous.old.items }
-    requires node_previous { node < length previous.old.items }
-    requires node { node < length roles.old.items }
-    ensures next { next.new.items ≡ slice_set (slice_set next.old.items before node) node after }
-    ensures previous { previous.new.items ≡ slice_set (slice_set previous.old.items node before) after node }
-    ensures roles { roles.new.items ≡ slice_set roles.old.items node role }
+// The name after one in its ring.
+#[inline(always)]
+fn next_of<P: Copy>(cells: &Vec<Cell<P>>, index: usize) -> usize
+    requires { index < length cells.now.items }
+    ensures { result ≡ slice_index_or (next_names cells.now.items) index result }
 {
-    next[before] = node;
-    next[node] = after;
-    previous[node] = before;
-    previous[after] = node;
-    roles[node] = role;
+    cells[index].next
 }
 
-// The node of a name with its value, if it is in a chain.
-fn entry<P: Copy>(roles: &Vec<Role<P>>, index: usize) -> Option<(Node, P)>
-    requires { index < length roles.now.items }
-    ensures { option_map (λ e. (e.0.index, e.1)) result ≡ entry_at roles.now.items index }
+// The name before one in its ring.
+#[inline(always)]
+fn previous_of<P: Copy>(cells: &Vec<Cell<P>>, index: usize) -> usize
+    requires { index < length cells.now.items }
+    ensures { result ≡ slice_index_or (previous_names cells.now.items) index result }
 {
-    match roles[index] {
-        Role::Linked(_, value) => Some((Node { index }, value)),
-        _ => None,
-    }
+    cells[index].previous
+}
+
+// What a name in use stands for.
+#[inline(always)]
+fn role_in<P: Copy>(cells: &Vec<Cell<P>>, index: usize) -> Role<P>
+    requires { index < length cells.now.items }
+    ensures { result ≡ role_at (roles_in cells.now.items) index }
+{
+    cells[index].role
 }
 
 // What a name stands for.
-fn role_of<P: Copy>(roles: &Vec<Role<P>>, index: usize) -> Role<P>
-    ensures { result ≡ role_at roles.now.items index }
+fn role_of<P: Copy>(cells: &Vec<Cell<P>>, index: usize) -> Role<P>
+    ensures { result ≡ role_at (roles_in cells.now.items) index }
 {
-    match roles.get(index) {
-        Some(role) => *role,
+    match cells.get(index) {
+        Some(cell) => cell.role,
         None => Role::Unused,
+    }
+}
+
+// Writes the name after one.
+#[inline(always)]
+fn set_next<P: Copy>(cells: &mut Vec<Cell<P>>, index: usize, next: usize)
+    requires { index < length cells.old.items }
+    ensures long { length cells.new.items ≡ length cells.old.items }
+    ensures next { next_names cells.new.items ≡ slice_set (next_names cells.old.items) index next }
+    ensures previous { previous_names cells.new.items ≡ previous_names cells.old.items }
+    ensures roles { roles_in cells.new.items ≡ roles_in cells.old.items }
+{
+    cells[index].next = next;
+}
+
+// Writes the name before one.
+#[inline(always)]
+fn set_previous<P: Copy>(cells: &mut Vec<Cell<P>>, index: usize, previous: usize)
+    requires { index < length cells.old.items }
+    ensures long { length cells.new.items ≡ length cells.old.items }
+    ensures next { next_names cells.new.items ≡ next_names cells.old.items }
+    ensures previous { previous_names cells.new.items ≡ slice_set (previous_names cells.old.items) index previous }
+    ensures roles { roles_in cells.new.items ≡ roles_in cells.old.items }
+{
+    cells[index].previous = previous;
+}
+
+// Writes what a name stands for.
+#[inline(always)]
+fn set_role<P: Copy>(cells: &mut Vec<Cell<P>>, index: usize, role: Role<P>)
+    requires { index < length cells.old.items }
+    ensures next { next_names cells.new.items ≡ next_names cells.old.items }
+    ensures previous { previous_names cells.new.items ≡ previous_names cells.old.items }
+    ensures roles { roles_in cells.new.items ≡ slice_set (roles_in cells.old.items) index role }
+{
+    cells[index].role = role;
+}
+
+// Writes all of a name.
+#[inline(always)]
+fn set_cell<P: Copy>(cells: &mut Vec<Cell<P>>, index: usize, cell: Cell<P>)
+    requires { index < length cells.old.items }
+    ensures long { length cells.new.items ≡ length cells.old.items }
+    ensures next { next_names cells.new.items ≡ slice_set (next_names cells.old.items) index cell.next }
+    ensures previous { previous_names cells.new.items ≡ slice_set (previous_names cells.old.items) index cell.previous }
+    ensures roles { roles_in cells.new.items ≡ slice_set (roles_in cells.old.items) index cell.role }
+{
+    cells[index] = cell;
+}
+
+// Puts a free node between two neighbours of a ring.
+fn link<P: Copy>(cells: &mut Vec<Cell<P>>, before: usize, after: usize, node: usize, role: Role<P>)
+    requires before { before < length cells.old.items }
+    requires after { after < length cells.old.items }
+    requires node { node < length cells.old.items }
+    ensures next { next_names cells.new.items ≡ slice_set (slice_set (next_names cells.old.items) before node) node after }
+    ensures previous { previous_names cells.new.items ≡ slice_set (slice_set (previous_names cells.old.items) node before) after node }
+    ensures roles { roles_in cells.new.items ≡ slice_set (roles_in cells.old.items) node role }
+{
+    set_next(cells, before, node);
+    let cell = Cell {
+        next: after,
+        previous: before,
+        role,
+    };
+    set_cell(cells, node, cell);
+    set_previous(cells, after, node);
+}
+
+// The node of a name with its value, if it is in a chain.
+fn entry<P: Copy>(cells: &Vec<Cell<P>>, index: usize) -> Option<(Node, P)>
+    requires { index < length cells.now.items }
+    ensures { option_map (λ e. (e.0.index, e.1)) result ≡ entry_at (roles_in cells.now.items) index }
+{
+    match role_in(cells, index) {
+        Role::Linked(_, value) => Some((Node { index }, value)),
+        _ => None,
     }
 }
 
@@ -132,56 +205,69 @@ fn is_node<P: Copy>(role: Role<P>) -> bool
 
 // Makes room for one name more, and for giving it back, where no name is unused.
 #[inline(always)]
-fn reserve<P>(
-    next: &mut Vec<usize>,
-    previous: &mut Vec<usize>,
-    roles: &mut Vec<Role<P>>,
-    unused: &mut Vec<usize>,
-) -> Result<(), AllocError>
-    requires { length next.old.items ≡ length roles.old.items }
-    ensures next { next.new.items ≡ next.old.items }
-    ensures previous { previous.new.items ≡ previous.old.items }
-    ensures roles { roles.new.items ≡ roles.old.items }
+fn reserve<P>(cells: &mut Vec<Cell<P>>, unused: &mut Vec<usize>) -> Result<(), AllocError>
+    ensures cells { cells.new.items ≡ cells.old.items }
     ensures unused { unused.new.items ≡ unused.old.items }
     ensures kept { vec_capacity unused.old ≤ vec_capacity unused.new }
-    ensures room { OnOk result (HasRoom next.new previous.new roles.new unused.new) }
+    ensures room { OnOk result (HasRoom cells.new unused.new) }
 {
     if unused.is_empty() {
-        unused.reserve(next.len() + 1)?;
-        next.reserve(1)?;
-        previous.reserve(1)?;
-        roles.reserve(1)?;
+        unused.reserve(cells.len() + 1)?;
+        cells.reserve(1)?;
     }
     Ok(())
 }
 
-// Gives an unused name, else a new one, to a chain or a free node.
+// Gives an unused name, else a new one, to a chain.
 #[inline(always)]
-fn name<P: Copy>(
-    next: &mut Vec<usize>,
-    previous: &mut Vec<usize>,
-    roles: &mut Vec<Role<P>>,
-    unused: &mut Vec<usize>,
-    role: Role<P>,
-) -> usize
-    requires sound { IsSound next.old.items previous.old.items roles.old.items unused.old.items (vec_capacity unused.old) }
-    requires room { HasRoom next.old previous.old roles.old unused.old }
-    requires role { role_is_new role ≡ true }
-    ensures sound { IsSound next.new.items previous.new.items roles.new.items unused.new.items (vec_capacity unused.new) }
-    ensures named { Renames (shown next.old.items roles.old.items) (shown next.new.items roles.new.items) result Unmade (new_spot role) }
+fn name_chain<P: Copy>(cells: &mut Vec<Cell<P>>, unused: &mut Vec<usize>) -> usize
+    requires sound { IsSound (next_names cells.old.items) (previous_names cells.old.items) (roles_in cells.old.items) unused.old.items (vec_capacity unused.old) }
+    requires room { HasRoom cells.old unused.old }
+    ensures sound { IsSound (next_names cells.new.items) (previous_names cells.new.items) (roles_in cells.new.items) unused.new.items (vec_capacity unused.new) }
+    ensures named { Renames (shown (next_names cells.old.items) (roles_in cells.old.items)) (shown (next_names cells.new.items) (roles_in cells.new.items)) result Unmade (ChainOf []) }
 {
     match unused.pop() {
         Some(index) => {
-            next[index] = index;
-            previous[index] = index;
-            roles[index] = role;
+            let cell = Cell {
+                next: index,
+                previous: index,
+                role: Role::Chain,
+            };
+            set_cell(cells, index, cell);
             index
         }
         None => {
-            let index = roles.len();
-            next.push_reserved(index);
-            previous.push_reserved(index);
-            roles.push_reserved(role);
+            let index = cells.len();
+            cells.push_reserved(Cell {
+                next: index,
+                previous: index,
+                role: Role::Chain,
+            });
+            index
+        }
+    }
+}
+
+// Gives an unused name, else a new one, to a free node. What comes after and before a free node says nothing.
+#[inline(always)]
+fn name_node<P: Copy>(cells: &mut Vec<Cell<P>>, unused: &mut Vec<usize>) -> usize
+    requires sound { IsSound (next_names cells.old.items) (previous_names cells.old.items) (roles_in cells.old.items) unused.old.items (vec_capacity unused.old) }
+    requires room { HasRoom cells.old unused.old }
+    ensures sound { IsSound (next_names cells.new.items) (previous_names cells.new.items) (roles_in cells.new.items) unused.new.items (vec_capacity unused.new) }
+    ensures named { Renames (shown (next_names cells.old.items) (roles_in cells.old.items)) (shown (next_names cells.new.items) (roles_in cells.new.items)) result Unmade FreeNode }
+{
+    match unused.pop() {
+        Some(index) => {
+            set_role(cells, index, Role::Free);
+            index
+        }
+        None => {
+            let index = cells.len();
+            cells.push_reserved(Cell {
+                next: index,
+                previous: index,
+                role: Role::Free,
+            });
             index
         }
     }
@@ -193,36 +279,9 @@ impl<P: Copy> Links<P> {
         ensures { result ≡ [] }
     {
         Links {
-            next: Vec::new(alloc),
-            previous: Vec::new(alloc),
-            roles: Vec::new(alloc),
+            cells: Vec::new(alloc),
             unused: Vec::new(alloc),
         }
-    }
-
-    // A new name for a chain or a free node.
-    #[inline(always)]
-    fn make(&mut self, role: Role<P>) -> Result<usize, NoMemory>
-        requires { role_is_new role ≡ true }
-        ensures made { IfOk result (λ index. Renames self.old self.new index Unmade (new_spot role)) }
-        ensures err { OnErr result (self.new ≡ self.old) }
-    {
-        let room = reserve(
-            &mut self.next,
-            &mut self.previous,
-            &mut self.roles,
-            &mut self.unused,
-        );
-        if room.is_err() {
-            return Err(NoMemory);
-        }
-        Ok(name(
-            &mut self.next,
-            &mut self.previous,
-            &mut self.roles,
-            &mut self.unused,
-            role,
-        ))
     }
 
     // Gives back the name of an empty chain or a free node.
@@ -230,7 +289,7 @@ impl<P: Copy> Links<P> {
         requires { (spot_at self.old index ≡ ChainOf []) ⊎ (spot_at self.old index ≡ FreeNode) }
         ensures { Renames self.old self.new index (spot_at self.old index) Unmade }
     {
-        self.roles[index] = Role::Unused;
+        set_role(&mut self.cells, index, Role::Unused);
         self.unused.push_reserved(index);
     }
 
@@ -240,7 +299,11 @@ impl<P: Copy> Links<P> {
         ensures made { IfOk result (λ chain. Renames self.old self.new chain Unmade (ChainOf [])) }
         ensures err { OnErr result (self.new ≡ self.old) }
     {
-        self.make(Role::Chain)
+        let room = reserve(&mut self.cells, &mut self.unused);
+        if room.is_err() {
+            return Err(NoMemory);
+        }
+        Ok(name_chain(&mut self.cells, &mut self.unused))
     }
 
     /// Drops a live chain that is empty.
@@ -257,10 +320,12 @@ impl<P: Copy> Links<P> {
         ensures made { IfOk result (λ node. Renames self.old self.new node.index Unmade FreeNode) }
         ensures err { OnErr result (self.new ≡ self.old) }
     {
-        match self.make(Role::Free) {
-            Ok(index) => Ok(Node { index }),
-            Err(why) => Err(why),
+        let room = reserve(&mut self.cells, &mut self.unused);
+        if room.is_err() {
+            return Err(NoMemory);
         }
+        let index = name_node(&mut self.cells, &mut self.unused);
+        Ok(Node { index })
     }
 
     /// Drops a free node.
@@ -277,11 +342,9 @@ impl<P: Copy> Links<P> {
         requires free { is_free self.old node.index ≡ true }
         ensures { self.new ≡ linked chain node.index value (entries self.old chain ++ (node.index, value) ∷ []) self.old }
     {
-        let last = self.previous[chain];
+        let last = previous_of(&self.cells, chain);
         link(
-            &mut self.next,
-            &mut self.previous,
-            &mut self.roles,
+            &mut self.cells,
             last,
             chain,
             node.index,
@@ -295,11 +358,9 @@ impl<P: Copy> Links<P> {
         requires free { is_free self.old node.index ≡ true }
         ensures { self.new ≡ linked chain node.index value ((node.index, value) ∷ entries self.old chain) self.old }
     {
-        let first = self.next[chain];
+        let first = next_of(&self.cells, chain);
         link(
-            &mut self.next,
-            &mut self.previous,
-            &mut self.roles,
+            &mut self.cells,
             chain,
             first,
             node.index,
@@ -313,13 +374,13 @@ impl<P: Copy> Links<P> {
         ensures link { result ≡ link_of self.old node.index }
         ensures links { self.new ≡ removed node.index self.old }
     {
-        match self.roles[node.index] {
+        match role_in(&self.cells, node.index) {
             Role::Linked(chain, value) => {
-                let before = self.previous[node.index];
-                let after = self.next[node.index];
-                self.next[before] = after;
-                self.previous[after] = before;
-                self.roles[node.index] = Role::Free;
+                let before = previous_of(&self.cells, node.index);
+                let after = next_of(&self.cells, node.index);
+                set_next(&mut self.cells, before, after);
+                set_previous(&mut self.cells, after, before);
+                set_role(&mut self.cells, node.index, Role::Free);
                 Some((chain, value))
             }
             _ => None,
@@ -332,13 +393,11 @@ impl<P: Copy> Links<P> {
         requires free { is_free self.old node.index ≡ true }
         ensures { self.new ≡ inserted at.index node.index value self.old }
     {
-        match self.roles[at.index] {
+        match role_in(&self.cells, at.index) {
             Role::Linked(chain, _) => {
-                let before = self.previous[at.index];
+                let before = previous_of(&self.cells, at.index);
                 link(
-                    &mut self.next,
-                    &mut self.previous,
-                    &mut self.roles,
+                    &mut self.cells,
                     before,
                     at.index,
                     node.index,
@@ -353,21 +412,21 @@ impl<P: Copy> Links<P> {
     pub fn no_node_is_twice(&self)
         ensures { IsLinks self.now }
     {
-        let _names = self.roles.len();
+        let _names = self.cells.len();
     }
 
     /// The law that each node of a chain has its value there. It does nothing.
     pub fn nodes_have_values(&self, chain: usize)
         ensures { AreLinked self.now chain (entries self.now chain) }
     {
-        let _chain = (self.roles.len(), chain);
+        let _chain = (self.cells.len(), chain);
     }
 
     /// Whether this names a live chain. It may be asked of any number.
     pub fn is_live(&self, chain: usize) -> bool
         ensures { result ≡ is_some (list_of self.now chain) }
     {
-        is_chain(role_of(&self.roles, chain))
+        is_chain(role_of(&self.cells, chain))
     }
 
     /// Whether this names a live chain with no node, so that it may be dropped. It may be asked of any number.
@@ -381,14 +440,14 @@ impl<P: Copy> Links<P> {
     pub fn is_made(&self, node: Node) -> bool
         ensures { result ≡ is_made self.now node.index }
     {
-        is_node(role_of(&self.roles, node.index))
+        is_node(role_of(&self.cells, node.index))
     }
 
     /// Whether this names a node that is made and in no chain. It may be asked of any name.
     pub fn is_free(&self, node: Node) -> bool
         ensures { result ≡ is_free self.now node.index }
     {
-        is_free(role_of(&self.roles, node.index))
+        is_free(role_of(&self.cells, node.index))
     }
 
     /// The chain of a made node and its value. `None` where it is in no chain.
@@ -396,7 +455,7 @@ impl<P: Copy> Links<P> {
         requires { is_made self.now node.index ≡ true }
         ensures { result ≡ link_of self.now node.index }
     {
-        match self.roles[node.index] {
+        match role_in(&self.cells, node.index) {
             Role::Linked(chain, value) => Some((chain, value)),
             _ => None,
         }
@@ -408,7 +467,7 @@ impl<P: Copy> Links<P> {
         ensures entry { option_map (λ e. (e.0.index, e.1)) result ≡ head_of (entries self.now chain) }
         ensures sound { IsLinks self.now }
     {
-        entry(&self.roles, self.next[chain])
+        entry(&self.cells, next_of(&self.cells, chain))
     }
 
     /// The last node of a live chain and its value. `None` where the chain is empty.
@@ -417,7 +476,7 @@ impl<P: Copy> Links<P> {
         ensures entry { option_map (λ e. (e.0.index, e.1)) result ≡ last_of (entries self.now chain) }
         ensures sound { IsLinks self.now }
     {
-        entry(&self.roles, self.previous[chain])
+        entry(&self.cells, previous_of(&self.cells, chain))
     }
 
     /// The node after one that is in a chain, and its value. `None` where that one is the last.
@@ -426,7 +485,7 @@ impl<P: Copy> Links<P> {
         ensures entry { option_map (λ e. (e.0.index, e.1)) result ≡ following node.index self.now }
         ensures sound { IsLinks self.now }
     {
-        entry(&self.roles, self.next[node.index])
+        entry(&self.cells, next_of(&self.cells, node.index))
     }
 
     /// The node before one that is in a chain, and its value. `None` where that one is the first.
@@ -435,6 +494,6 @@ impl<P: Copy> Links<P> {
         ensures entry { option_map (λ e. (e.0.index, e.1)) result ≡ preceding node.index self.now }
         ensures sound { IsLinks self.now }
     {
-        entry(&self.roles, self.previous[node.index])
+        entry(&self.cells, previous_of(&self.cells, node.index))
     }
 }

@@ -1,6 +1,7 @@
 -- Where more were made, what holds of the parts holds on.
 use Rattle.task_records.proofs.Core.{AreHandlesNamed, AreKept, arith, AtPlace, Call, CallOf, core_of, get, Goal, HandleKind, HasHome, HasRoom, IsCallNamed, IsHeldNamed, IsNamedAt, IsWhole, IsWorkNamed, Kinds, kinds, List, Made, Nothing, Parts, Rep, SetOf, Some, table_use, Target, ThreadOf, WaitableKind, WorkOf, ℕ, ◌≡◌, ◌≤◌}
-use Rattle.task_records.specs.declared.{calls.GuestTask.GuestTask, instances.InstanceRecord.InstanceRecord, parts.Kept.Kept, parts.ResultRoom.ResultRoom, threads.GuestThread.GuestThread, works.HostWork.HostWork}
+use Rattle.result_rooms.specs.declared.rooms.ResultRoom.{ResultRoom}
+use Rattle.task_records.specs.declared.{calls.GuestTask.GuestTask, instances.InstanceRecord.InstanceRecord, parts.Kept.Kept, threads.GuestThread.GuestThread, works.HostWork.HostWork}
 
 -- At least as many were made.
 pub record IsLater (m n : Made) : Type 0 where

@@ -21,7 +21,7 @@ pub use ids::{
     task_of, thread_at, work_at,
 };
 pub use instances::InstanceRecord;
-pub use parts::{CoreParts, Kept, ResultRoom};
+pub use parts::{CoreParts, Kept};
 pub use reads::{call, held, held_thread, instance, set, thread, work};
 pub use sets::WaitSet;
 pub use single::Single;

@@ -9,6 +9,7 @@ use crate::sets::WaitSet;
 use crate::single::Single;
 use crate::threads::{Follower, GuestThread, Queued};
 use crate::works::{HostWork, LiveWork};
+use result_rooms::ResultRooms;
 use std::alloc::Global;
 use std::collections::BTreeMap;
 use table_order::{SeatLinks, TablePlaces};
@@ -30,13 +31,6 @@ pub struct Kept {
     /// How many host works are live, and how many of these move.
     pub live: u64,
     pub moving: u64,
-}
-
-/// Room for the result of a call by main: the result, if it was given and not taken, and whether the call is there.
-#[derive(Clone, Copy)]
-pub struct ResultRoom {
-    pub given: Option<u64>,
-    pub lives: bool,
 }
 
 /// The parts of a core.
@@ -74,7 +68,7 @@ pub struct CoreParts {
     /// The thread that runs.
     pub current: Option<TableId<ThreadKey>>,
     /// The rooms for results, by the numbers of calls by main: of each that is there or whose result was not taken.
-    pub results: BTreeMap<u64, ResultRoom>,
+    pub results: ResultRooms,
     pub kept: Kept,
     /// The groups up to this number were finished by the trap of the store.
     pub finished: u64,
@@ -141,7 +135,7 @@ impl CoreParts {
             live: None,
             switch: None,
             current: None,
-            results: BTreeMap::new(alloc),
+            results: ResultRooms::new(alloc),
             kept: NOTHING_KEPT,
             finished: 0,
             table_places: TablePlaces::new(alloc),

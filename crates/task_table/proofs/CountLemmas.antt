@@ -1,5 +1,5 @@
 -- How each change of a place keeps the counts of children.
-use Rattle.std.proofs.Common.{◌≡◌, ◌≢◌, ℕ, ◌+◌, ◌-◌, ◌<◌, ◌≤◌, inl, inr, Bool, false, cond, List, [], ◌∷◌, ◌++◌, map, reverse, length, set, slice_get, count_by, Option, Some, None, IsSome, option_map, option_and_then, ◌==◌, length-set, get_or, refl, sym, ap, subst, ◌∙◌, arith}
+use Rattle.std.proofs.Common.{◌≡◌, ◌≢◌, ℕ, add-zero, IfSome, Bor, ◌+◌, ◌-◌, ◌<◌, ◌≤◌, inl, inr, Bool, false, cond, List, [], ◌∷◌, ◌++◌, map, reverse, length, set, slice_get, count_by, Option, Some, None, IsSome, option_map, option_and_then, ◌==◌, length-set, get_or, refl, sym, ap, subst, ◌∙◌, arith}
 use Rattle.std.proofs.lemmas.Bool.{cases_eq, eq-eqb, ne_eqb}
 use Rattle.std.proofs.lemmas.List.{map-set, map_push, length-map, reverse-append}
 use Rattle.std.proofs.lemmas.List.Sums.{count_by-le-length}
@@ -7,7 +7,8 @@ use Rattle.std.proofs.lemmas.Option.{slice_get_within, slice_get-map, slice_get_
 use Rattle.task_table.specs.declared.place.Place.{Place}
 use Rattle.task_table.specs.declared.place.Place.TheVariants.{Free, Taken}
 use Rattle.task_table.specs.declared.place.Slot.{Slot}
-use Rattle.task_table.specs.Table.{Placed, is_child_of, is_number, standing}
+use Rattle.std.specs.Option.{option_copied}
+use Rattle.task_table.specs.Table.{Placed, Table, children_of, is_child_of, is_number, standing}
 use Rattle.task_table.specs.Changes.{parent_put, with_parent_at}
 use Rattle.task_table.specs.Places.{placed, placed_in, slot_of, slot_at, slot_children, children_at, place_with_parent, NextIsFree, IsCounted, IsCountedBut}
 use Rattle.task_table.proofs.ReadLemmas.{slice_get-set_same, slice_get-set_other, slice_get-push_same, slice_get-push_other, set-slice_get, count_by-set, count_by-push}
@@ -24,6 +25,11 @@ module _ {E : Type 0} where
       by_read None is present = absurd (cc)
       by_read (Some Free) is present = absurd (cc)
       by_read (Some (Taken s)) is present = (s, is)
+
+  -- the children that are counted at a place which was read
+  pub children_read : (ps : List (Place E)) (t : Table E) (rep : ℕ) (o : Option (Bor (Slot E))) → option_copied o ≡ slot_at ps rep → IsCounted ps → map placed_in ps ≡ t.places → IfSome o (λ slot. slot.now.children ≡ children_of t rep)
+  children_read ps t rep None read counted shown = tt
+  children_read ps t rep (Some slot) read counted shown = ap slot_children read ∙ counted rep ∙ add-zero _ ∙ ap (count_by (is_child_of rep)) shown
 
   pub counted-set : (ps : List (Place E)) (i : ℕ) (old new : Place E) (more more' : Option ℕ)
       → slice_get ps i ≡ Some old

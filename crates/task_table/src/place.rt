@@ -1,6 +1,6 @@
 //! What stands at the places of a table, and the changes of one place.
 ghost use Rattle.std.specs.Prelude.{◌≡◌, ◌<◌, ◌≤◌, ◌+◌, ◌^◌, [], map, reverse, drop, Some, None, IsSome, OnOk, slice_set, slice_index_or, length, vec_capacity};
-ghost use Rattle.std.specs.Option.{option_map};
+ghost use Rattle.std.specs.Option.{option_copied, option_map};
 ghost use Rattle.std.specs.Borrow.{Lends, sem};
 ghost use Rattle.task_table.specs.Places.{placed_in, slot_of, slot_at, entry_in, place_with, place_with_parent, children_at, IsCounted, IsCountedBut, HasRoom, NextIsFree};
 ghost use Rattle.task_table.specs.Changes.{next_of, put_at_next, with_parent_at};
@@ -43,6 +43,16 @@ impl<E> Place<E> {
             Place::Taken(slot) => &mut slot.entry,
             Place::Free => unreachable!(),
         }
+    }
+}
+
+// The slot at a place.
+pub(crate) fn slot_in<E>(places: &Vec<Place<E>>, rep: u32) -> Option<&Slot<E>>
+    ensures { option_copied result ≡ slot_at places.now.items rep }
+{
+    match places.get(rep as usize) {
+        Some(Place::Taken(slot)) => Some(slot),
+        _ => None,
     }
 }
 

@@ -12,7 +12,7 @@ use crate::error::{PushError, ResourceTableError};
 use crate::id::TableId;
 use crate::iter::TableIter;
 use crate::kind::Kind;
-use crate::place::{Place, Slot, fill, link, reserve, unlink, vacate};
+use crate::place::{Place, Slot, fill, link, reserve, slot_in, unlink, vacate};
 use std::alloc::{AllocError, Global};
 use std::marker::Model;
 
@@ -105,10 +105,7 @@ impl<E> ResourceTable<E> {
         ensures children { IfSome result (λ slot. slot.now.children ≡ children_of self.now rep) }
         ensures sound { IsTable self.now }
     {
-        match self.places.get(rep as usize) {
-            Some(Place::Taken(slot)) => Some(slot),
-            _ => None,
-        }
+        slot_in(&self.places, rep)
     }
 
     // The slot of the entry with this place and serial.

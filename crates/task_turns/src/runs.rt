@@ -50,9 +50,9 @@ pub fn run_op<W: Words>(
     ensures err { OnErr result (W.view w.new ≡ W.view w.old) }
 {
     let point = w.at(thread);
-    let script = script_ops(component, point.callee, point.script);
-    match op_at(script, point.position) {
-        Some(op) => do_op(component, w, thread, op, script.len() as u32),
+    let body = script_ops(component, point.callee, point.script);
+    match op_at(body, point.position) {
+        Some(op) => do_op(component, w, thread, op, body.len() as u32),
         None => Ok(Done {
             came: exit(w, thread),
             polled: None,

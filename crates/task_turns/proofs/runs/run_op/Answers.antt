@@ -20,7 +20,7 @@ use Rattle.task_words.specs.StateView.{thread_of}
 pub do_op-requires-clause-fits : goal.do_op-requires-clause-fits
 do_op-requires-clause-fits g c =
     c.requires.covered.ops c.at-point.result.callee c.at-point.result.script c.at-point.result.position c.in-Some.op.now
-    (subst (λ os. slice_get os c.at-point.result.position ≡ Some c.in-Some.op.now) c.script_ops-script.ensures (sym c.op_at.ensures ∙ ap option_copied c.in-Some.is))
+    (subst (λ os. slice_get os c.at-point.result.position ≡ Some c.in-Some.op.now) c.script_ops-body.ensures (sym c.op_at.ensures ∙ ap option_copied c.in-Some.is))
 
 pub do_op-requires-clause-handles : goal.do_op-requires-clause-handles
 do_op-requires-clause-handles g c =
@@ -28,18 +28,18 @@ do_op-requires-clause-handles g c =
     let n = thread_of s c.args.thread in
     let own : c.at-point.result.callee ≡ callee_of (task_of n s.core) s.core = c.at-point.ensures.callee in
     c.requires.handles (instance_of n s.core) (subst (λ (f : Callee). f.instance < length c.args.component.now.instances) own
-    (home_below c.args.component.now c.at-point.result.callee c.at-point.result.script c.at-point.result.position c.in-Some.op.now (subst (λ os. slice_get os c.at-point.result.position ≡ Some c.in-Some.op.now) c.script_ops-script.ensures (sym c.op_at.ensures ∙ ap option_copied c.in-Some.is))))
+    (home_below c.args.component.now c.at-point.result.callee c.at-point.result.script c.at-point.result.position c.in-Some.op.now (subst (λ os. slice_get os c.at-point.result.position ≡ Some c.in-Some.op.now) c.script_ops-body.ensures (sym c.op_at.ensures ∙ ap option_copied c.in-Some.is))))
 
 pub do_op-requires-clause-within : goal.do_op-requires-clause-within
 do_op-requires-clause-within g c =
-    subst (λ k. k < length c.script_ops-script.result.now) c.at-point.ensures.position (slice_get_within c.script_ops-script.result.now c.at-point.result.position c.in-Some.op.now (sym c.op_at.ensures ∙ ap option_copied c.in-Some.is))
+    subst (λ k. k < length c.script_ops-body.result.now) c.at-point.ensures.position (slice_get_within c.script_ops-body.result.now c.at-point.result.position c.in-Some.op.now (sym c.op_at.ensures ∙ ap option_copied c.in-Some.is))
 
 pub do_op-requires-clause-ends : goal.do_op-requires-clause-ends
 do_op-requires-clause-ends g c =
     let s = g.W.View.view c.args.w.now in
     let n = thread_of s c.args.thread in
     let q = c.requires.runner in
-    ap length (script_is c.args.component.now n s.core q.thread q.here c.script_ops-script.result.now c.at-point.result.callee (task_of n s.core) c.at-point.result.position c.at-point.result.script c.at-point.ensures.callee refl (c.at-point.ensures.script q.thread q.here) c.script_ops-script.ensures c.at-point.ensures.position)
+    ap length (script_is c.args.component.now n s.core q.thread q.here c.script_ops-body.result.now c.at-point.result.callee (task_of n s.core) c.at-point.result.position c.at-point.result.script c.at-point.ensures.callee refl (c.at-point.ensures.script q.thread q.here) c.script_ops-body.ensures c.at-point.ensures.position)
 
 pub returns-in-Some-clause-meets : goal.returns-in-Some-clause-meets
 returns-in-Some-clause-meets g c =
@@ -48,7 +48,7 @@ returns-in-Some-clause-meets g c =
     let n = thread_of s c.args.thread in
     let q = c.requires.runner in
     ok_then (λ (d : Done). Meets (op_row c.args.component.now n s.core (choice_of (label_of n d.came)) c.in-Some.op.now) s.core d.came t.core) (λ (d : Done). Meets (did c.args.component.now n s.core (choice_of (label_of n d.came))) s.core d.came t.core) c.do_op.result
-    (λ d h. row_at c.args.component.now n s.core q.thread q.here c.script_ops-script.result.now c.at-point.result.callee (task_of n s.core) c.at-point.result.position c.at-point.result.script c.at-point.ensures.callee refl (c.at-point.ensures.script q.thread q.here) c.script_ops-script.ensures c.at-point.ensures.position
+    (λ d h. row_at c.args.component.now n s.core q.thread q.here c.script_ops-body.result.now c.at-point.result.callee (task_of n s.core) c.at-point.result.position c.at-point.result.script c.at-point.ensures.callee refl (c.at-point.ensures.script q.thread q.here) c.script_ops-body.ensures c.at-point.ensures.position
     (Some c.in-Some.op.now) (sym (ap option_copied c.in-Some.is) ∙ c.op_at.ensures) d.came t.core h) c.do_op.ensures.meets
 
 pub returns-in-Some-clause-polls : goal.returns-in-Some-clause-polls
@@ -57,7 +57,7 @@ returns-in-Some-clause-polls g c =
     let t = g.W.View.view c.do_op.new.w in
     let n = thread_of s c.args.thread in
     let q = c.requires.runner in
-    let is = op_is c.args.component.now n s.core q.thread q.here c.script_ops-script.result.now c.at-point.result.callee (task_of n s.core) c.at-point.result.position c.at-point.result.script c.at-point.ensures.callee refl (c.at-point.ensures.script q.thread q.here) c.script_ops-script.ensures c.at-point.ensures.position (Some c.in-Some.op.now) (sym (ap option_copied c.in-Some.is) ∙ c.op_at.ensures) in
+    let is = op_is c.args.component.now n s.core q.thread q.here c.script_ops-body.result.now c.at-point.result.callee (task_of n s.core) c.at-point.result.position c.at-point.result.script c.at-point.ensures.callee refl (c.at-point.ensures.script q.thread q.here) c.script_ops-body.ensures c.at-point.ensures.position (Some c.in-Some.op.now) (sym (ap option_copied c.in-Some.is) ∙ c.op_at.ensures) in
     ok_then (λ (d : Done). Polls c.args.component.now (how_far_of n s.core) c.in-Some.op.now s d t) (λ (d : Done). Polls c.args.component.now (how_far_of n s.core) (op_of c.args.component.now n s.core) s d t) c.do_op.result
     (λ d h. subst (λ (o : Op). Polls c.args.component.now (how_far_of n s.core) o s d t) (sym is) h) c.do_op.ensures.polls
 
@@ -67,7 +67,7 @@ returns-in-None-clause-meets g c =
     let t = g.W.View.view c.exit.new.w in
     let n = thread_of s c.args.thread in
     let q = c.requires.runner in
-    row_at c.args.component.now n s.core q.thread q.here c.script_ops-script.result.now c.at-point.result.callee (task_of n s.core) c.at-point.result.position c.at-point.result.script c.at-point.ensures.callee refl (c.at-point.ensures.script q.thread q.here) c.script_ops-script.ensures c.at-point.ensures.position
+    row_at c.args.component.now n s.core q.thread q.here c.script_ops-body.result.now c.at-point.result.callee (task_of n s.core) c.at-point.result.position c.at-point.result.script c.at-point.ensures.callee refl (c.at-point.ensures.script q.thread q.here) c.script_ops-body.ensures c.at-point.ensures.position
     None (sym (ap option_copied c.in-None.is) ∙ c.op_at.ensures) c.exit.result t.core c.exit.ensures.meets
 
 pub returns-in-None-clause-polls : goal.returns-in-None-clause-polls
@@ -75,7 +75,7 @@ returns-in-None-clause-polls g c =
     let s = g.W.View.view c.args.w.now in
     let n = thread_of s c.args.thread in
     let q = c.requires.runner in
-    let is = op_is c.args.component.now n s.core q.thread q.here c.script_ops-script.result.now c.at-point.result.callee (task_of n s.core) c.at-point.result.position c.at-point.result.script c.at-point.ensures.callee refl (c.at-point.ensures.script q.thread q.here) c.script_ops-script.ensures c.at-point.ensures.position None (sym (ap option_copied c.in-None.is) ∙ c.op_at.ensures) in
+    let is = op_is c.args.component.now n s.core q.thread q.here c.script_ops-body.result.now c.at-point.result.callee (task_of n s.core) c.at-point.result.position c.at-point.result.script c.at-point.ensures.callee refl (c.at-point.ensures.script q.thread q.here) c.script_ops-body.ensures c.at-point.ensures.position None (sym (ap option_copied c.in-None.is) ∙ c.op_at.ensures) in
     record {
       polled = sym (ap (polled_host c.args.component.now (how_far_of n s.core)) is);
       work = refl;

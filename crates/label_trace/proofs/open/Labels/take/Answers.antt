@@ -1,5 +1,4 @@
-use Rattle.std.proofs.Common.{◌≡◌, [], ◌∷◌, ◌+◌, ◌<◌, ◌∙◌, List, ℕ, ap, sym, arith, length, drop, take, refl, length-drop}
-use Rattle.task_machine.specs.declared.label.Label.{Label}
+use Rattle.std.proofs.Common.{◌≡◌, [], ◌∷◌, ◌+◌, ◌∙◌, List, ℕ, ap, sym, arith, length, drop, take, refl}
 use Rattle.label_trace.specs.declared.kinds.Head.{Head}
 use Rattle.label_trace.specs.Labels.{count_of, labels_of, label_of}
 use Rattle.label_trace.proofs.open.Labels.take.Goals as goal

@@ -1,4 +1,4 @@
-use Rattle.std.proofs.Common.{◌≡◌, arith}
+use Rattle.std.proofs.Common.{arith}
 use Rattle.label_trace.proofs.Appending.{length_labels}
 use Rattle.label_trace.proofs.trace.Trace.len.Goals as goal
 

@@ -1,4 +1,4 @@
-use Rattle.std.proofs.Common.{◌≡◌, refl}
+use Rattle.std.proofs.Common.{refl}
 use Rattle.label_trace.specs.Labels.{count_of, labels_of}
 use Rattle.label_trace.proofs.trace.Trace.new.Goals as goal
 

@@ -1,4 +1,4 @@
-use Rattle.std.proofs.Common.{◌≡◌, ◌++◌, ◌∙◌, ap, refl, length, arith, length-append}
+use Rattle.std.proofs.Common.{refl, length, arith, length-append}
 use Rattle.label_trace.specs.declared.kinds.Head.{Head}
 use Rattle.label_trace.proofs.Appending.{count_append, labels_append}
 use Rattle.label_trace.proofs.trace.Trace.put.Goals as goal

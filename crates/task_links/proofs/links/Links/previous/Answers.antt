@@ -1,17 +1,19 @@
-use Rattle.std.proofs.Common.{arith, vec_capacity, ◌∙◌, subst}
-use Rattle.task_links.proofs.Calls.{previous_long, linked_role, linked_inside, previous_inside, previous_shown}
+use Rattle.std.proofs.Common.{vec_capacity, subst, ◌∙◌}
 use Rattle.task_links.specs.Links.{IsLinks}
+use Rattle.task_links.specs.Rings.{next_names, previous_names, roles_in}
+use Rattle.task_links.proofs.Cells.{in_cells}
+use Rattle.task_links.proofs.Calls.{linked_role, linked_inside, previous_inside, previous_shown}
 use Rattle.task_links.proofs.Seen.{IsLinks-shown}
 use Rattle.task_links.proofs.links.Links.previous.Goals as goal
 
-pub index-requires : goal.index-requires
-index-requires g c = let l = linked_role c.self.inside.next.items c.self.inside.previous.items c.self.inside.roles.items c.self.inside.unused.items (vec_capacity c.self.inside.unused) c.self.invariant c.args.self.now c.self.view_is c.args.node.index c.requires in let inside = previous_long c.self.inside.next.items c.self.inside.previous.items c.self.inside.roles.items c.self.inside.unused.items (vec_capacity c.self.inside.unused) c.self.invariant c.args.self.now c.self.view_is c.args.node.index (linked_inside c.self.inside.next.items c.self.inside.previous.items c.self.inside.roles.items c.self.inside.unused.items (vec_capacity c.self.inside.unused) c.self.invariant c.args.self.now c.self.view_is c.args.node.index l.0 l.1.0 l.1.1) in let ok = c.self.inside.previous.ok in omega arith
+pub previous_of-requires : goal.previous_of-requires
+previous_of-requires g c = let l = linked_role (next_names c.self.inside.cells.items) (previous_names c.self.inside.cells.items) (roles_in c.self.inside.cells.items) c.self.inside.unused.items (vec_capacity c.self.inside.unused) c.self.invariant c.args.self.now c.self.view_is c.args.node.index c.requires in in_cells c.self.inside.cells.items c.args.node.index (linked_inside (next_names c.self.inside.cells.items) (previous_names c.self.inside.cells.items) (roles_in c.self.inside.cells.items) c.self.inside.unused.items (vec_capacity c.self.inside.unused) c.self.invariant c.args.self.now c.self.view_is c.args.node.index l.0 l.1.0 l.1.1)
 
 pub entry-requires : goal.entry-requires
-entry-requires g c = let l = linked_role c.self.inside.next.items c.self.inside.previous.items c.self.inside.roles.items c.self.inside.unused.items (vec_capacity c.self.inside.unused) c.self.invariant c.args.self.now c.self.view_is c.args.node.index c.requires in previous_inside c.self.inside.next.items c.self.inside.previous.items c.self.inside.roles.items c.self.inside.unused.items (vec_capacity c.self.inside.unused) c.self.invariant c.args.self.now c.self.view_is c.args.node.index l.0 l.1.0 l.1.1 c.index.result.now c.index.ensures
+entry-requires g c = let l = linked_role (next_names c.self.inside.cells.items) (previous_names c.self.inside.cells.items) (roles_in c.self.inside.cells.items) c.self.inside.unused.items (vec_capacity c.self.inside.unused) c.self.invariant c.args.self.now c.self.view_is c.args.node.index c.requires in in_cells c.self.inside.cells.items c.previous_of.result (previous_inside (next_names c.self.inside.cells.items) (previous_names c.self.inside.cells.items) (roles_in c.self.inside.cells.items) c.self.inside.unused.items (vec_capacity c.self.inside.unused) c.self.invariant c.args.self.now c.self.view_is c.args.node.index l.0 l.1.0 l.1.1 c.previous_of.result c.previous_of.ensures)
 
 pub returns-clause-entry : goal.returns-clause-entry
-returns-clause-entry g c = let l = linked_role c.self.inside.next.items c.self.inside.previous.items c.self.inside.roles.items c.self.inside.unused.items (vec_capacity c.self.inside.unused) c.self.invariant c.args.self.now c.self.view_is c.args.node.index c.requires in c.entry.ensures ∙ previous_shown c.self.inside.next.items c.self.inside.previous.items c.self.inside.roles.items c.self.inside.unused.items (vec_capacity c.self.inside.unused) c.self.invariant c.args.self.now c.self.view_is c.args.node.index l.0 l.1.0 l.1.1 c.index.result.now c.index.ensures
+returns-clause-entry g c = let l = linked_role (next_names c.self.inside.cells.items) (previous_names c.self.inside.cells.items) (roles_in c.self.inside.cells.items) c.self.inside.unused.items (vec_capacity c.self.inside.unused) c.self.invariant c.args.self.now c.self.view_is c.args.node.index c.requires in c.entry.ensures ∙ previous_shown (next_names c.self.inside.cells.items) (previous_names c.self.inside.cells.items) (roles_in c.self.inside.cells.items) c.self.inside.unused.items (vec_capacity c.self.inside.unused) c.self.invariant c.args.self.now c.self.view_is c.args.node.index l.0 l.1.0 l.1.1 c.previous_of.result c.previous_of.ensures
 
 pub returns-clause-sound : goal.returns-clause-sound
-returns-clause-sound g c = subst IsLinks c.self.view_is (IsLinks-shown c.self.inside.next.items c.self.inside.previous.items c.self.inside.roles.items c.self.invariant.rings)
+returns-clause-sound g c = subst IsLinks c.self.view_is (IsLinks-shown (next_names c.self.inside.cells.items) (previous_names c.self.inside.cells.items) (roles_in c.self.inside.cells.items) c.self.invariant.rings)

@@ -1,31 +1,23 @@
-use Rattle.std.proofs.Common.{arith, vec_capacity}
-use Rattle.task_links.proofs.Calls.{next_long, previous_long, free_inside, chain_inside, last_inside, push_back_sound, push_back_shown}
+use Rattle.std.proofs.Common.{vec_capacity}
+use Rattle.task_links.specs.Rings.{next_names, previous_names, roles_in}
+use Rattle.task_links.proofs.Cells.{in_cells}
+use Rattle.task_links.proofs.Calls.{free_inside, chain_inside, last_inside, push_back_sound, push_back_shown}
 use Rattle.task_links.proofs.links.Links.push_back.Goals as goal
 
-pub index-last-requires : goal.index-last-requires
-index-last-requires g c = let inside = previous_long c.self.inside.next.items c.self.inside.previous.items c.self.inside.roles.items c.self.inside.unused.items (vec_capacity c.self.inside.unused) c.self.invariant c.args.self.now c.self.view_is c.args.chain (chain_inside c.self.inside.next.items c.self.inside.previous.items c.self.inside.roles.items c.self.inside.unused.items (vec_capacity c.self.inside.unused) c.self.invariant c.args.self.now c.self.view_is c.args.chain c.requires.chain) in let ok = c.self.inside.previous.ok in omega arith
+pub previous_of-last-requires : goal.previous_of-last-requires
+previous_of-last-requires g c = in_cells c.self.inside.cells.items c.args.chain (chain_inside (next_names c.self.inside.cells.items) (previous_names c.self.inside.cells.items) (roles_in c.self.inside.cells.items) c.self.inside.unused.items (vec_capacity c.self.inside.unused) c.self.invariant c.args.self.now c.self.view_is c.args.chain c.requires.chain)
 
 pub link-requires-clause-before : goal.link-requires-clause-before
-link-requires-clause-before g c = next_long c.self.inside.next.items c.self.inside.previous.items c.self.inside.roles.items c.self.inside.unused.items (vec_capacity c.self.inside.unused) c.self.invariant c.args.self.now c.self.view_is c.index-last.result.now (last_inside c.self.inside.next.items c.self.inside.previous.items c.self.inside.roles.items c.self.inside.unused.items (vec_capacity c.self.inside.unused) c.self.invariant c.args.self.now c.self.view_is c.args.chain c.requires.chain c.index-last.result.now c.index-last.ensures)
-
-pub link-requires-clause-node_next : goal.link-requires-clause-node_next
-link-requires-clause-node_next g c = next_long c.self.inside.next.items c.self.inside.previous.items c.self.inside.roles.items c.self.inside.unused.items (vec_capacity c.self.inside.unused) c.self.invariant c.args.self.now c.self.view_is c.args.node.index (free_inside c.self.inside.next.items c.self.inside.previous.items c.self.inside.roles.items c.self.inside.unused.items (vec_capacity c.self.inside.unused) c.self.invariant c.args.self.now c.self.view_is c.args.node.index c.requires.free)
+link-requires-clause-before g c = in_cells c.self.inside.cells.items c.previous_of-last.result (last_inside (next_names c.self.inside.cells.items) (previous_names c.self.inside.cells.items) (roles_in c.self.inside.cells.items) c.self.inside.unused.items (vec_capacity c.self.inside.unused) c.self.invariant c.args.self.now c.self.view_is c.args.chain c.requires.chain c.previous_of-last.result c.previous_of-last.ensures)
 
 pub link-requires-clause-after : goal.link-requires-clause-after
-link-requires-clause-after g c = previous_long c.self.inside.next.items c.self.inside.previous.items c.self.inside.roles.items c.self.inside.unused.items (vec_capacity c.self.inside.unused) c.self.invariant c.args.self.now c.self.view_is c.args.chain (chain_inside c.self.inside.next.items c.self.inside.previous.items c.self.inside.roles.items c.self.inside.unused.items (vec_capacity c.self.inside.unused) c.self.invariant c.args.self.now c.self.view_is c.args.chain c.requires.chain)
-
-pub link-requires-clause-node_previous : goal.link-requires-clause-node_previous
-link-requires-clause-node_previous g c = previous_long c.self.inside.next.items c.self.inside.previous.items c.self.inside.roles.items c.self.inside.unused.items (vec_capacity c.self.inside.unused) c.self.invariant c.args.self.now c.self.view_is c.args.node.index (free_inside c.self.inside.next.items c.self.inside.previous.items c.self.inside.roles.items c.self.inside.unused.items (vec_capacity c.self.inside.unused) c.self.invariant c.args.self.now c.self.view_is c.args.node.index c.requires.free)
+link-requires-clause-after g c = in_cells c.self.inside.cells.items c.args.chain (chain_inside (next_names c.self.inside.cells.items) (previous_names c.self.inside.cells.items) (roles_in c.self.inside.cells.items) c.self.inside.unused.items (vec_capacity c.self.inside.unused) c.self.invariant c.args.self.now c.self.view_is c.args.chain c.requires.chain)
 
 pub link-requires-clause-node : goal.link-requires-clause-node
-link-requires-clause-node g c = free_inside c.self.inside.next.items c.self.inside.previous.items c.self.inside.roles.items c.self.inside.unused.items (vec_capacity c.self.inside.unused) c.self.invariant c.args.self.now c.self.view_is c.args.node.index c.requires.free
+link-requires-clause-node g c = in_cells c.self.inside.cells.items c.args.node.index (free_inside (next_names c.self.inside.cells.items) (previous_names c.self.inside.cells.items) (roles_in c.self.inside.cells.items) c.self.inside.unused.items (vec_capacity c.self.inside.unused) c.self.invariant c.args.self.now c.self.view_is c.args.node.index c.requires.free)
 
 pub invariant_of-self : goal.invariant_of-self
-invariant_of-self g c =
-    push_back_sound c.self.inside.next.items c.self.inside.previous.items c.self.inside.roles.items c.self.inside.unused.items (vec_capacity c.self.inside.unused) c.self.invariant c.args.self.now c.self.view_is c.args.chain c.requires.chain c.args.node.index c.args.value c.requires.free _ _ _
-    c.index-last.result.now c.index-last.ensures c.link.ensures.next c.link.ensures.previous c.link.ensures.roles
+invariant_of-self g c = push_back_sound (next_names c.self.inside.cells.items) (previous_names c.self.inside.cells.items) (roles_in c.self.inside.cells.items) c.self.inside.unused.items (vec_capacity c.self.inside.unused) c.self.invariant c.args.self.now c.self.view_is c.args.chain c.requires.chain c.args.node.index c.args.value c.requires.free _ _ _ c.previous_of-last.result c.previous_of-last.ensures c.link.ensures.next c.link.ensures.previous c.link.ensures.roles
 
 pub returns : goal.returns
-returns g c =
-    push_back_shown c.self.inside.next.items c.self.inside.previous.items c.self.inside.roles.items c.self.inside.unused.items (vec_capacity c.self.inside.unused) c.self.invariant c.args.self.now c.self.view_is c.args.chain c.requires.chain c.args.node.index c.args.value c.requires.free c.link.new.next.items c.link.new.previous.items c.link.new.roles.items
-    c.index-last.result.now c.index-last.ensures c.link.ensures.next c.link.ensures.roles
+returns g c = push_back_shown (next_names c.self.inside.cells.items) (previous_names c.self.inside.cells.items) (roles_in c.self.inside.cells.items) c.self.inside.unused.items (vec_capacity c.self.inside.unused) c.self.invariant c.args.self.now c.self.view_is c.args.chain c.requires.chain c.args.node.index c.args.value c.requires.free (next_names c.link.new.cells.items) (previous_names c.link.new.cells.items) (roles_in c.link.new.cells.items) c.previous_of-last.result c.previous_of-last.ensures c.link.ensures.next c.link.ensures.roles

@@ -1,38 +1,39 @@
-use Rattle.std.proofs.Common.{arith, vec_capacity, ◌∙◌, sym, ap, refl, set}
-use Rattle.task_links.specs.declared.links.Role.TheVariants.{Linked, Free, Unused}
-use Rattle.std.proofs.lemmas.List.{get_or_default}
+use Rattle.std.proofs.Common.{◌<◌, vec_capacity, set, sym, ap, subst, ◌∙◌}
+use Rattle.task_links.specs.declared.links.Role.TheVariants.{Free}
 use Rattle.task_links.specs.Links.{removed_by}
-use Rattle.task_links.proofs.Calls.{next_long, previous_long, made_inside, role_read, linked_seen, unlinked_seen, next_inside, previous_inside, remove_sound, remove_shown}
+use Rattle.task_links.specs.Rings.{next_names, previous_names, roles_in}
+use Rattle.task_links.proofs.Cells.{in_cells}
+use Rattle.task_links.proofs.Calls.{made_inside, linked_seen, unlinked_seen, next_inside, previous_inside, remove_sound, remove_shown}
 use Rattle.task_links.proofs.links.Links.remove.Goals as goal
 
-pub index-requires : goal.index-requires
-index-requires g c = let inside = made_inside c.self.inside.next.items c.self.inside.previous.items c.self.inside.roles.items c.self.inside.unused.items (vec_capacity c.self.inside.unused) c.self.invariant c.args.self.now c.self.view_is c.args.node.index c.requires in let ok = c.self.inside.roles.ok in omega arith
+pub role_in-requires : goal.role_in-requires
+role_in-requires g c = in_cells c.self.inside.cells.items c.args.node.index (made_inside (next_names c.self.inside.cells.items) (previous_names c.self.inside.cells.items) (roles_in c.self.inside.cells.items) c.self.inside.unused.items (vec_capacity c.self.inside.unused) c.self.invariant c.args.self.now c.self.view_is c.args.node.index c.requires)
 
-pub index-before-requires : goal.index-before-requires
-index-before-requires g c = let inside = previous_long c.self.inside.next.items c.self.inside.previous.items c.self.inside.roles.items c.self.inside.unused.items (vec_capacity c.self.inside.unused) c.self.invariant c.args.self.now c.self.view_is c.args.node.index (made_inside c.self.inside.next.items c.self.inside.previous.items c.self.inside.roles.items c.self.inside.unused.items (vec_capacity c.self.inside.unused) c.self.invariant c.args.self.now c.self.view_is c.args.node.index c.requires) in let ok = c.self.inside.previous.ok in omega arith
+pub previous_of-before-requires : goal.previous_of-before-requires
+previous_of-before-requires g c = in_cells c.self.inside.cells.items c.args.node.index (made_inside (next_names c.self.inside.cells.items) (previous_names c.self.inside.cells.items) (roles_in c.self.inside.cells.items) c.self.inside.unused.items (vec_capacity c.self.inside.unused) c.self.invariant c.args.self.now c.self.view_is c.args.node.index c.requires)
 
-pub index-after-requires : goal.index-after-requires
-index-after-requires g c = let inside = next_long c.self.inside.next.items c.self.inside.previous.items c.self.inside.roles.items c.self.inside.unused.items (vec_capacity c.self.inside.unused) c.self.invariant c.args.self.now c.self.view_is c.args.node.index (made_inside c.self.inside.next.items c.self.inside.previous.items c.self.inside.roles.items c.self.inside.unused.items (vec_capacity c.self.inside.unused) c.self.invariant c.args.self.now c.self.view_is c.args.node.index c.requires) in let ok = c.self.inside.next.ok in omega arith
+pub next_of-after-requires : goal.next_of-after-requires
+next_of-after-requires g c = in_cells c.self.inside.cells.items c.args.node.index (made_inside (next_names c.self.inside.cells.items) (previous_names c.self.inside.cells.items) (roles_in c.self.inside.cells.items) c.self.inside.unused.items (vec_capacity c.self.inside.unused) c.self.invariant c.args.self.now c.self.view_is c.args.node.index c.requires)
 
-pub index_mut-requires : goal.index_mut-requires
-index_mut-requires g c = let role = role_read c.self.inside.next.items c.self.inside.previous.items c.self.inside.roles.items c.self.inside.unused.items (vec_capacity c.self.inside.unused) c.self.invariant c.args.self.now c.self.view_is c.args.node.index c.index.result.now (Linked c.in-Linked.chain c.in-Linked.value) (made_inside c.self.inside.next.items c.self.inside.previous.items c.self.inside.roles.items c.self.inside.unused.items (vec_capacity c.self.inside.unused) c.self.invariant c.args.self.now c.self.view_is c.args.node.index c.requires) c.index.ensures c.in-Linked.is in let inside = next_long c.self.inside.next.items c.self.inside.previous.items c.self.inside.roles.items c.self.inside.unused.items (vec_capacity c.self.inside.unused) c.self.invariant c.args.self.now c.self.view_is c.index-before.result.now (previous_inside c.self.inside.next.items c.self.inside.previous.items c.self.inside.roles.items c.self.inside.unused.items (vec_capacity c.self.inside.unused) c.self.invariant c.args.self.now c.self.view_is c.args.node.index c.in-Linked.chain c.in-Linked.value role c.index-before.result.now c.index-before.ensures) in let ok = c.self.inside.next.ok in omega arith
+pub set_next-requires : goal.set_next-requires
+set_next-requires g c = in_cells c.self.inside.cells.items c.previous_of-before.result (previous_inside (next_names c.self.inside.cells.items) (previous_names c.self.inside.cells.items) (roles_in c.self.inside.cells.items) c.self.inside.unused.items (vec_capacity c.self.inside.unused) c.self.invariant c.args.self.now c.self.view_is c.args.node.index c.in-Linked.chain c.in-Linked.value (sym c.role_in.ensures ∙ c.in-Linked.is) c.previous_of-before.result c.previous_of-before.ensures)
 
-pub index_mut-requires-in-Linked : goal.index_mut-requires-in-Linked
-index_mut-requires-in-Linked g c = let role = role_read c.self.inside.next.items c.self.inside.previous.items c.self.inside.roles.items c.self.inside.unused.items (vec_capacity c.self.inside.unused) c.self.invariant c.args.self.now c.self.view_is c.args.node.index c.index.result.now (Linked c.in-Linked.chain c.in-Linked.value) (made_inside c.self.inside.next.items c.self.inside.previous.items c.self.inside.roles.items c.self.inside.unused.items (vec_capacity c.self.inside.unused) c.self.invariant c.args.self.now c.self.view_is c.args.node.index c.requires) c.index.ensures c.in-Linked.is in let inside = previous_long c.self.inside.next.items c.self.inside.previous.items c.self.inside.roles.items c.self.inside.unused.items (vec_capacity c.self.inside.unused) c.self.invariant c.args.self.now c.self.view_is c.index-after.result.now (next_inside c.self.inside.next.items c.self.inside.previous.items c.self.inside.roles.items c.self.inside.unused.items (vec_capacity c.self.inside.unused) c.self.invariant c.args.self.now c.self.view_is c.args.node.index c.in-Linked.chain c.in-Linked.value role c.index-after.result.now c.index-after.ensures) in let ok = c.self.inside.previous.ok in omega arith
+pub set_previous-requires : goal.set_previous-requires
+set_previous-requires g c = subst (λ m. c.next_of-after.result < m) (sym c.set_next.ensures.long) (in_cells c.self.inside.cells.items c.next_of-after.result (next_inside (next_names c.self.inside.cells.items) (previous_names c.self.inside.cells.items) (roles_in c.self.inside.cells.items) c.self.inside.unused.items (vec_capacity c.self.inside.unused) c.self.invariant c.args.self.now c.self.view_is c.args.node.index c.in-Linked.chain c.in-Linked.value (sym c.role_in.ensures ∙ c.in-Linked.is) c.next_of-after.result c.next_of-after.ensures))
 
-pub index_mut-requires-in-Linked-2 : goal.index_mut-requires-in-Linked-2
-index_mut-requires-in-Linked-2 g c = let inside = made_inside c.self.inside.next.items c.self.inside.previous.items c.self.inside.roles.items c.self.inside.unused.items (vec_capacity c.self.inside.unused) c.self.invariant c.args.self.now c.self.view_is c.args.node.index c.requires in let ok = c.self.inside.roles.ok in omega arith
+pub set_role-requires : goal.set_role-requires
+set_role-requires g c = subst (λ m. c.args.node.index < m) (sym (c.set_previous.ensures.long ∙ c.set_next.ensures.long)) (in_cells c.self.inside.cells.items c.args.node.index (made_inside (next_names c.self.inside.cells.items) (previous_names c.self.inside.cells.items) (roles_in c.self.inside.cells.items) c.self.inside.unused.items (vec_capacity c.self.inside.unused) c.self.invariant c.args.self.now c.self.view_is c.args.node.index c.requires))
 
 pub invariant_of-self : goal.invariant_of-self
-invariant_of-self g c = let role = role_read c.self.inside.next.items c.self.inside.previous.items c.self.inside.roles.items c.self.inside.unused.items (vec_capacity c.self.inside.unused) c.self.invariant c.args.self.now c.self.view_is c.args.node.index c.index.result.now (Linked c.in-Linked.chain c.in-Linked.value) (made_inside c.self.inside.next.items c.self.inside.previous.items c.self.inside.roles.items c.self.inside.unused.items (vec_capacity c.self.inside.unused) c.self.invariant c.args.self.now c.self.view_is c.args.node.index c.requires) c.index.ensures c.in-Linked.is in remove_sound c.self.inside.next.items c.self.inside.previous.items c.self.inside.roles.items c.self.inside.unused.items (vec_capacity c.self.inside.unused) c.self.invariant c.args.self.now c.self.view_is c.args.node.index c.in-Linked.chain c.in-Linked.value role _ _ _ c.index-before.result.now c.index-after.result.now c.index-before.ensures c.index-after.ensures refl refl refl
+invariant_of-self g c = remove_sound (next_names c.self.inside.cells.items) (previous_names c.self.inside.cells.items) (roles_in c.self.inside.cells.items) c.self.inside.unused.items (vec_capacity c.self.inside.unused) c.self.invariant c.args.self.now c.self.view_is c.args.node.index c.in-Linked.chain c.in-Linked.value (sym c.role_in.ensures ∙ c.in-Linked.is) _ _ _ c.previous_of-before.result c.next_of-after.result c.previous_of-before.ensures c.next_of-after.ensures (c.set_role.ensures.next ∙ (c.set_previous.ensures.next ∙ c.set_next.ensures.next)) (c.set_role.ensures.previous ∙ (c.set_previous.ensures.previous ∙ ap (λ l. set l c.next_of-after.result c.previous_of-before.result) c.set_next.ensures.previous)) (c.set_role.ensures.roles ∙ ap (λ l. set l c.args.node.index Free) (c.set_previous.ensures.roles ∙ c.set_next.ensures.roles))
 
 pub returns-in-Linked-clause-link : goal.returns-in-Linked-clause-link
-returns-in-Linked-clause-link g c = let role = role_read c.self.inside.next.items c.self.inside.previous.items c.self.inside.roles.items c.self.inside.unused.items (vec_capacity c.self.inside.unused) c.self.invariant c.args.self.now c.self.view_is c.args.node.index c.index.result.now (Linked c.in-Linked.chain c.in-Linked.value) (made_inside c.self.inside.next.items c.self.inside.previous.items c.self.inside.roles.items c.self.inside.unused.items (vec_capacity c.self.inside.unused) c.self.invariant c.args.self.now c.self.view_is c.args.node.index c.requires) c.index.ensures c.in-Linked.is in sym (linked_seen c.self.inside.next.items c.self.inside.previous.items c.self.inside.roles.items c.self.inside.unused.items (vec_capacity c.self.inside.unused) c.self.invariant c.args.self.now c.self.view_is c.args.node.index c.in-Linked.chain c.in-Linked.value role)
+returns-in-Linked-clause-link g c = sym (linked_seen (next_names c.self.inside.cells.items) (previous_names c.self.inside.cells.items) (roles_in c.self.inside.cells.items) c.self.inside.unused.items (vec_capacity c.self.inside.unused) c.self.invariant c.args.self.now c.self.view_is c.args.node.index c.in-Linked.chain c.in-Linked.value (sym c.role_in.ensures ∙ c.in-Linked.is))
 
 pub returns-in-Linked-clause-links : goal.returns-in-Linked-clause-links
-returns-in-Linked-clause-links g c = let role = role_read c.self.inside.next.items c.self.inside.previous.items c.self.inside.roles.items c.self.inside.unused.items (vec_capacity c.self.inside.unused) c.self.invariant c.args.self.now c.self.view_is c.args.node.index c.index.result.now (Linked c.in-Linked.chain c.in-Linked.value) (made_inside c.self.inside.next.items c.self.inside.previous.items c.self.inside.roles.items c.self.inside.unused.items (vec_capacity c.self.inside.unused) c.self.invariant c.args.self.now c.self.view_is c.args.node.index c.requires) c.index.ensures c.in-Linked.is in remove_shown c.self.inside.next.items c.self.inside.previous.items c.self.inside.roles.items c.self.inside.unused.items (vec_capacity c.self.inside.unused) c.self.invariant c.args.self.now c.self.view_is c.args.node.index c.in-Linked.chain c.in-Linked.value role (set c.self.inside.next.items c.index-before.result.now c.index-after.result.now) c.self.inside.previous.items (set c.self.inside.roles.items c.args.node.index Free) c.index-before.result.now c.index-after.result.now c.index-before.ensures c.index-after.ensures refl refl
+returns-in-Linked-clause-links g c = remove_shown (next_names c.self.inside.cells.items) (previous_names c.self.inside.cells.items) (roles_in c.self.inside.cells.items) c.self.inside.unused.items (vec_capacity c.self.inside.unused) c.self.invariant c.args.self.now c.self.view_is c.args.node.index c.in-Linked.chain c.in-Linked.value (sym c.role_in.ensures ∙ c.in-Linked.is) (next_names c.set_role.new.cells.items) (previous_names c.set_role.new.cells.items) (roles_in c.set_role.new.cells.items) c.previous_of-before.result c.next_of-after.result c.previous_of-before.ensures c.next_of-after.ensures (c.set_role.ensures.next ∙ (c.set_previous.ensures.next ∙ c.set_next.ensures.next)) (c.set_role.ensures.roles ∙ ap (λ l. set l c.args.node.index Free) (c.set_previous.ensures.roles ∙ c.set_next.ensures.roles))
 
 pub returns-in_default : goal.returns-in_default
 returns-in_default g c =
-    let none = unlinked_seen c.self.inside.next.items c.self.inside.previous.items c.self.inside.roles.items c.self.inside.unused.items (vec_capacity c.self.inside.unused) c.self.invariant c.args.self.now c.self.view_is c.args.node.index (λ d v is. c.in_default.not-Linked d v (c.index.ensures ∙ get_or_default c.self.inside.roles.items c.args.node.index _ Unused (made_inside c.self.inside.next.items c.self.inside.previous.items c.self.inside.roles.items c.self.inside.unused.items (vec_capacity c.self.inside.unused) c.self.invariant c.args.self.now c.self.view_is c.args.node.index c.requires) ∙ is)) in
+    let none = unlinked_seen (next_names c.self.inside.cells.items) (previous_names c.self.inside.cells.items) (roles_in c.self.inside.cells.items) c.self.inside.unused.items (vec_capacity c.self.inside.unused) c.self.invariant c.args.self.now c.self.view_is c.args.node.index (λ d v is. c.in_default.not-Linked d v (c.role_in.ensures ∙ is)) in
     record { link = sym none; links = sym (ap (λ o. removed_by c.args.node.index o c.args.self.now) none) }

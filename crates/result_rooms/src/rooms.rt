@@ -1,0 +1,119 @@
+ghost use Rattle.result_rooms.specs.Rooms.{given_in, wanted, weight};
+ghost use Rattle.std.specs.BTreeMap.{is_at};
+ghost use Rattle.std.specs.Map.{lookup};
+ghost use Rattle.std.specs.Ordering.{nat_cmp};
+ghost use Rattle.std.specs.Prelude.{◌≡◌, [], Bool, IsSome, OnErr, OnOk, Some, if◌then◌else◌, true, ℕ};
+
+use std::alloc::Global;
+use std::collections::BTreeMap;
+use std::marker::Model;
+use task_machine::NoMemory;
+
+/// Room for the result of a call by main: the result, if it was given and not taken, and whether the call is there.
+#[derive(Clone, Copy)]
+pub struct ResultRoom {
+    pub given: Option<u64>,
+    pub lives: bool,
+}
+
+/// The rooms for results, by the numbers of calls by main: contracts see its entries. How many results stand there is kept
+/// beside, so that main, which asks again and again for one that isn't there yet, mostly has its answer at once.
+#[derive(Drop)]
+pub struct ResultRooms {
+    rooms: BTreeMap<u64, ResultRoom>,
+    // How many results stand in the rooms.
+    given: u64,
+}
+
+impl Model for ResultRooms {
+    ghost use Rattle.std.specs.Prelude.{◌≡◌, List, ℕ};
+    ghost use Rattle.result_rooms.specs.Rooms.{count_given};
+    ghost use Rattle.result_rooms.specs.declared.rooms.ResultRoom.{ResultRoom};
+
+    ghost Value = { List (ℕ × ResultRoom) };
+
+    ghost view = { λ r. r.rooms.entries };
+
+    ghost invariant = { λ r. r.given ≡ count_given r.rooms.entries };
+}
+
+// 1 where a result stands in the room.
+#[inline(always)]
+fn weight(given: Option<u64>) -> u64
+    ensures { (lives : Bool) → result ≡ weight (record { given = given; lives = lives }) }
+{
+    if given.is_some() { 1 } else { 0 }
+}
+
+// The result that stands in the room of a call, if there is one.
+#[inline(always)]
+fn given_in(rooms: &BTreeMap<u64, ResultRoom>, call: u64) -> Option<u64>
+    ensures { result ≡ given_in (lookup (is_at (nat_cmp call)) rooms.now.entries) }
+{
+    match rooms.get(&call) {
+        Some(room) => room.given,
+        None => None,
+    }
+}
+
+impl ResultRooms {
+    /// No room.
+    pub fn new(alloc: Global) -> ResultRooms
+        ensures { result ≡ [] }
+    {
+        ResultRooms {
+            rooms: BTreeMap::new(alloc),
+            given: 0,
+        }
+    }
+
+    /// The result that stands in the room of a call, if there is one.
+    #[inline(always)]
+    pub fn result(&self, call: u64) -> Option<u64>
+        ensures { result ≡ given_in (lookup (is_at (nat_cmp call)) self.now) }
+    {
+        if self.given == 0 {
+            return None;
+        }
+        given_in(&self.rooms, call)
+    }
+
+    /// The room of a call, if there is one.
+    pub fn room(&self, call: u64) -> Option<ResultRoom>
+        ensures { result ≡ lookup (is_at (nat_cmp call)) self.now }
+    {
+        self.rooms.get(&call).copied()
+    }
+
+    /// Makes room for a call that is there; a result that stands in its room stays. Where memory is wanting, all is as
+    /// before.
+    pub fn make(&mut self, call: u64) -> Result<(), NoMemory>
+        ensures made { OnOk result ((q : ℕ) → lookup (is_at (nat_cmp q)) self.new ≡ (if is_at (nat_cmp call) q then Some (record { given = given_in (lookup (is_at (nat_cmp call)) self.old); lives = true }) else lookup (is_at (nat_cmp q)) self.old)) }
+        ensures err { OnErr result (self.new ≡ self.old) }
+    {
+        let given = given_in(&self.rooms, call);
+        match self.rooms.insert(call, ResultRoom { given, lives: true }) {
+            Ok(_) => Ok(()),
+            Err(_) => Err(NoMemory),
+        }
+    }
+
+    /// Writes the room of a call, which is there. It goes where its call is gone and no result stands in it.
+    pub fn write(&mut self, call: u64, room: ResultRoom)
+        requires { IsSome (lookup (is_at (nat_cmp call)) self.old) }
+        ensures { (q : ℕ) → lookup (is_at (nat_cmp q)) self.new ≡ (if is_at (nat_cmp call) q then wanted room else lookup (is_at (nat_cmp q)) self.old) }
+    {
+        let less = self.given - weight(given_in(&self.rooms, call));
+        let _few = self.rooms.len();
+        if room.lives || room.given.is_some() {
+            self.given = less + weight(room.given);
+            match self.rooms.insert(call, room) {
+                Ok(_) => {}
+                Err(_) => unreachable!(),
+            }
+        } else {
+            self.given = less;
+            let _gone = self.rooms.remove(&call);
+        }
+    }
+}
