@@ -10,3 +10,4 @@ pub mod TakeGroups
 pub mod StepTells
 pub mod RunTells
 pub mod GroupLemmas
+pub mod MainGroups

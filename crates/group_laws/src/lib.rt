@@ -2,7 +2,7 @@
 //! statement of a law, about the steps of `task_rules`.
 #![tactic(auto)]
 
-ghost use Rattle.group_laws.specs.Tells.{DataRunsTellNothing, GroupStays, NoticesTold, RunsTellOn, StepsTell};
+ghost use Rattle.group_laws.specs.Tells.{DataRunsTellNothing, GroupStays, MainSpares, NoticesTold, RunsTellOn, StepsTell};
 
 /// In each turn but main's no group is made. A step finishes all groups, or the one at stake, or none; and what it tells of a
 /// work is told of the one that the turn polls or whose entry it takes.
@@ -33,4 +33,10 @@ pub fn runs_tell_on()
 #[tactic(auto, using(crate::proofs::GroupLemmas::group_stays))]
 pub fn groups_stay()
     ensures { GroupStays }
+{}
+
+/// An op of main that isn't a start leaves the groups.
+#[tactic(auto, using(crate::proofs::MainGroups::mains_spare))]
+pub fn mains_spare()
+    ensures { MainSpares }
 {}
