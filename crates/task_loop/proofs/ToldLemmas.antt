@@ -5,15 +5,16 @@ use Rattle.group_laws.proofs.EndGroups.{mild_group}
 use Rattle.group_laws.proofs.MoveGroups.{Mild, mild_same}
 use Rattle.group_laws.proofs.RunTells.{data_runs_mild}
 use Rattle.group_laws.specs.Groups.{stake}
-use Rattle.group_laws.specs.Tells.{is_data, is_main_turn, worked_group}
+use Rattle.group_laws.proofs.MainGroups.{mains_spare}
+use Rattle.group_laws.specs.Tells.{is_data, is_main_turn, is_start, worked_group}
 use Rattle.group_notices.proofs.RunLemmas.{asked_told, data_told, main_told, step_told_on}
 use Rattle.group_notices.specs.Mirror.{Leads, Mirrors, told_by}
 use Rattle.group_notices.specs.Runs.{HasTold, IsAsked, moment}
 use Rattle.group_notices.specs.declared.tells.Asked.{Asked}
-use Rattle.std.proofs.Common.{ap, append-nil, arith, length, le_trans, refl, subst, sym, ◌∙◌, ◌≡◌}
+use Rattle.std.proofs.Common.{ap, append-nil, arith, length, le_refl, le_trans, refl, subst, sym, ◌∙◌, ◌≡◌}
 use Rattle.std.proofs.lemmas.Bool.Decides.{nat_tests}
 use Rattle.std.specs.List.{list_all}
-use Rattle.std.specs.Prelude.{Bool, Err, IfOk, IfSome, List, None, Ok, Option, Result, Some, [], false, is_some, option_map, true, unwrap_or, ℕ, ◌++◌, ◌+◌, ◌==◌, ◌∷◌}
+use Rattle.std.specs.Prelude.{Bool, Err, IfOk, IfSome, List, None, Ok, Option, Result, Some, [], false, is_some, option_map, true, unwrap_or, ℕ, ◌++◌, ◌+◌, ◌==◌, ◌∷◌, ◌≤◌}
 use Rattle.task_group.proofs.GroupLemmas.{told-append, told-none}
 use Rattle.task_group.specs.Groups.{Groups}
 use Rattle.task_group.specs.Listeners.{Told}
@@ -24,6 +25,7 @@ use Rattle.task_machine.specs.Read.{thread_group}
 use Rattle.task_machine.specs.declared.component.Component.{Component}
 use Rattle.task_machine.specs.declared.label.Label.{Label}
 use Rattle.task_machine.specs.declared.label.Label.TheVariants as label
+use Rattle.task_machine.specs.declared.label.MainLabel.TheVariants as main_label
 use Rattle.task_machine.specs.declared.records.Call.{Call}
 use Rattle.task_machine.specs.declared.records.Notice.{Notice}
 use Rattle.task_machine.specs.declared.records.Place.{Place}
@@ -41,10 +43,11 @@ use Rattle.task_rules.specs.Stalled.{Setting}
 use Rattle.task_rules.specs.Step.{Step}
 use Rattle.task_store.specs.Groups.{HoldsGroups}
 use Rattle.task_turns.proofs.KeptLemmas.{sits_after}
+use Rattle.task_turns.proofs.MainLemmas.{main_step}
 use Rattle.task_turns.specs.Does.{label_of_step}
 use Rattle.task_turns.specs.Drive.{Computes}
 use Rattle.task_turns.specs.Drive as drive
-use Rattle.task_turns.specs.Main.{IsOpOfMain, Steps}
+use Rattle.task_turns.specs.Main.{IsOpOfMain, Steps, main_setting}
 use Rattle.task_turns.specs.Stepped.{Added, AddedOrNone, Stands}
 use Rattle.task_turns.specs.Turn.{Sits, Turned, Turns, running_of, runs_in, setting_of, state_at}
 use Rattle.task_turns.specs.declared.made.Made.{Made}
@@ -328,3 +331,35 @@ pub told_same : (c : Component) (ops first : List MainOpDef) (b b0 : Bool) (p : 
 told_same c ops first b b0 p m s old n t new q before after same idle h =
     subst (λ (k : Bool). AddedOrNone (λ made. TurnTold (setting_of c first k) p m s old made n t new) q before after) idle
     (subst (λ (l : List MainOpDef). AddedOrNone (λ made. TurnTold (setting_of c l b) p m s old made n t new) q before after) same h)
+
+-- ---- Ops of main but its starts
+
+no_start : (l : Label) (t : Core) → is_start l ≡ false → start_notices l t ≡ []
+no_start (label.Main (main_label.Start k n)) t e = absurd (cc)
+no_start (label.Main l) t e = refl
+no_start _ t e = refl
+
+module _ (c : Component) (ops : List MainOpDef) (m : Main) (s : Core) (n : Main) (t : Core) where
+  kept_groups : (q : MainStep) → Steps c ops m s q n t → is_start (label_of_step q) ≡ false → t.groups ≡ s.groups
+  kept_groups (step.Did l) h other = mains_spare (main_setting c ops) (state_at s m turn.Main) m l (state_at t n turn.Main) h.step other
+  kept_groups step.Pends h other = ap (λ (k : Core). k.groups) h.core
+  kept_groups (step.Answer v) h other = ap (λ (k : Core). k.groups) h.core
+
+  kept_made : (q : MainStep) → Steps c ops m s q n t → s.made.groups ≤ t.made.groups
+  kept_made (step.Did l) h = (never_fewer (main_setting c ops) (state_at s m turn.Main) l (state_at t n turn.Main) (main_step (main_setting c ops) m s l (state_at t n turn.Main) h.step)).groups
+  kept_made step.Pends h = subst (λ (k : Core). s.made.groups ≤ k.made.groups) (sym h.core) (le_refl _)
+  kept_made (step.Answer v) h = subst (λ (k : Core). s.made.groups ≤ k.made.groups) (sym h.core) (le_refl _)
+
+  -- they tell nothing
+  pub main_quiet : (q : MainStep) → Steps c ops m s q n t → is_start (label_of_step q) ≡ false → main_notices q s t ≡ []
+  main_quiet (step.Did l) h other =
+      ap (λ (ns : List Notice). ns ++ finish_notices s.groups t.groups) (no_start l t other) ∙ (ap (finish_notices s.groups) (kept_groups (step.Did l) h other) ∙ finish_none s.groups)
+  main_quiet step.Pends h other = refl
+  main_quiet (step.Answer v) h other = refl
+
+  pub main_holds : (q : MainStep) → Steps c ops m s q n t → is_start (label_of_step q) ≡ false → (g : Groups) → HoldsGroups g s → HoldsGroups g t
+  main_holds q h other g holds = record {
+    made = le_trans holds.made (kept_made q h);
+    mirror = subst (λ (gs : List ℕ). Mirrors gs g) (sym (kept_groups q h other)) holds.mirror;
+    unhooked = holds.unhooked;
+  }
