@@ -120,8 +120,8 @@ returns-in_ok-stepped-in-None-clause-asked g c =
     let is = op_is comp n s.core q.thread q.here c.script_ops-script.result.now c.at-point.result.callee (task_of n s.core) c.at-point.result.position c.at-point.result.script c.at-point.ensures.callee refl (c.at-point.ensures.script q.thread q.here) c.script_ops-script.ensures c.at-point.ensures.position None (sym (ap option_copied c.in-None.is) ∙ c.op_at.ensures) in
     ap (λ (k : ℕ). record c.args.asked.now { staked = k }) (c.requires.own ∙ (ap (λ (k : ℕ). thread_group k s.core) (sym number) ∙ (sym (stake_is comp n s.core (op.Task task.Exit) is) ∙ ap (λ k. stake comp k s.core) number)))
 
-pub returns-in_err-stepped-clause-asked : goal.returns-in_err-stepped-clause-asked
-returns-in_err-stepped-clause-asked g c =
+pub returns-in_err-stepped-in-None-clause-asked : goal.returns-in_err-stepped-in-None-clause-asked
+returns-in_err-stepped-in-None-clause-asked g c =
     let s = g.W.View.view c.args.w.now in
     let n = thread_of s c.in-Some.thread in
     let q = runner c.args.component.now c.args.number s c.requires.order c.none_is_zero.ensures.threads c.requires.runs c.in-Some.thread (sym c.current.ensures ∙ c.in-Some.is) in
