@@ -18,8 +18,8 @@ use Rattle.task_turns.specs.declared.made.Stepped.{Stepped}
 
 pub put-requires : goal.put-requires
 put-requires g c =
-    let made = c.made_by_main.ensures.turns (setting_of c.args.component.now (g.M.MainTask.script c.args.main.now) true) (g.M.MainTask.part c.args.main.now) (g.M.MainTask.part c.ask_main.new.main) c.args.store.now.state c.in-Ok.ensures.ok in
-    made.over
+    let made = c.made_by_main-made.ensures.turns (setting_of c.args.component.now (g.M.MainTask.script c.args.main.now) true) (g.M.MainTask.part c.args.main.now) (g.M.MainTask.part c.ask_main.new.main) c.args.store.now.state c.in-Ok.ensures.ok in
+    record { over = made.over }
 
 pub returns-clause-turns : goal.returns-clause-turns
 returns-clause-turns g c =
@@ -30,9 +30,9 @@ returns-clause-turns g c =
     let t = c.ask_main.new.store.state in
     let before = c.args.trace.now in
     let after = c.put.new.trace in
-    let made = c.made_by_main.result in
+    let made = c.made_by_main-made.result in
     ok_then (λ (q : Stepped). Stands q before made after) (λ (q : Stepped). Added (λ (k : Made). (b : Bool) → Turns (x b) turn.Main m s k m' t) q before after) c.put.result
-    (λ q h. (made, (h, λ b. c.made_by_main.ensures.turns (x b) m m' s c.in-Ok.ensures.ok))) c.put.ensures.stands
+    (λ q h. (made, (h, λ b. c.made_by_main-made.ensures.turns (x b) m m' s c.in-Ok.ensures.ok))) c.put.ensures.stands
 
 pub returns-clause-does : goal.returns-clause-does
 returns-clause-does g c =
@@ -41,8 +41,8 @@ returns-clause-does g c =
     let before = c.args.trace.now in
     let after = c.put.new.trace in
     let step = c.in-Ok.step in
-    let made = c.made_by_main.result in
-    let did = step_in g.M.MainTask.does main main' step made.label c.made_by_main.ensures.label
+    let made = c.made_by_main-made.result in
+    let did = step_in g.M.MainTask.does main main' step made.label c.made_by_main-made.ensures.label
         (steps_shown c.args.component.now (g.M.MainTask.script main) (g.M.MainTask.part main) c.args.store.now.state.core step (g.M.MainTask.part main') c.ask_main.new.store.state.core c.in-Ok.ensures.ok)
         c.in-Ok.ensures.does in
     ok_then (λ (q : Stepped). Stands q before made after) (λ (q : Stepped). Added (λ (k : Made). DoesStep g.M.MainTask.does main (step_shown k.label) main') q before after) c.put.result

@@ -21,11 +21,11 @@ use Rattle.task_turns.specs.Turn.{IsFree, Makes, Sits, Turned, TurnedBeside, Tur
 use Rattle.task_turns.specs.declared.made.Made.{Made}
 use Rattle.task_turns.specs.declared.made.Stepped.{Stepped}
 
-pub poll_next-requires-clause-placed : goal.poll_next-requires-clause-placed
-poll_next-requires-clause-placed g c = (c.requires.at.order.order Unscripted).in_place.placed
+pub poll_next-made-requires-clause-placed : goal.poll_next-made-requires-clause-placed
+poll_next-made-requires-clause-placed g c = (c.requires.at.order.order Unscripted).in_place.placed
 
-pub poll_next-requires-clause-works : goal.poll_next-requires-clause-works
-poll_next-requires-clause-works g c = (c.requires.at.order.order Unscripted).works
+pub poll_next-made-requires-clause-works : goal.poll_next-made-requires-clause-works
+poll_next-made-requires-clause-works g c = (c.requires.at.order.order Unscripted).works
 
 pub run_thread-requires-clause-order : goal.run_thread-requires-clause-order
 run_thread-requires-clause-order g c = subst (λ (p : Turn). Sits c.args.component.now p c.args.store.now.state.core) c.in-Run.is c.requires.at.order
@@ -33,7 +33,7 @@ run_thread-requires-clause-order g c = subst (λ (p : Turn). Sits c.args.compone
 pub put-requires : goal.put-requires
 put-requires g c =
     let x = setting_of c.args.component.now (g.M.MainTask.script c.args.main.now) c.args.self.now.trap_on_idle in
-    (c.poll_next.ensures.turns x (g.M.MainTask.part c.args.main.now) (rw c.in-Futures.is at c.requires.pends)).over
+    record { over = (c.poll_next-made.ensures.turns x (g.M.MainTask.part c.args.main.now) (rw c.in-Futures.is at c.requires.pends)).over }
 
 pub returns-in_ok-step_main-in-Main-clause-turned : goal.returns-in_ok-step_main-in-Main-clause-turned
 returns-in_ok-step_main-in-Main-clause-turned g c =
@@ -69,16 +69,16 @@ returns-in_ok-run_thread-in-Run-clause-knows g c =
 pub returns-in_ok-put-in-Futures-clause-turned : goal.returns-in_ok-put-in-Futures-clause-turned
 returns-in_ok-put-in-Futures-clause-turned g c =
     let x = setting_of c.args.component.now (g.M.MainTask.script c.args.main.now) c.args.self.now.trap_on_idle in
-    rw c.in-Futures.is (c.poll_next.result, (c.in_ok-put-in-Futures.ensures.stands, c.poll_next.ensures.turns x (g.M.MainTask.part c.args.main.now) (rw c.in-Futures.is at c.requires.pends)))
+    rw c.in-Futures.is (c.poll_next-made.result, (c.in_ok-put-in-Futures.ensures.stands, c.poll_next-made.ensures.turns x (g.M.MainTask.part c.args.main.now) (rw c.in-Futures.is at c.requires.pends)))
 
 pub returns-in_ok-put-in-Futures-clause-knows : goal.returns-in_ok-put-in-Futures-clause-knows
 returns-in_ok-put-in-Futures-clause-knows g c =
     let main = c.args.main.now in
     let part = g.M.MainTask.part main in
     let s = c.args.store.now.state in
-    let t = c.poll_next.new.self.state in
+    let t = c.poll_next-made.new.self.state in
     let x = setting_of c.args.component.now (g.M.MainTask.script main) c.args.self.now.trap_on_idle in
-    by_poll (g.M.MainTask.knows main) s t (λ last. g.met.M.MainTask.stays main s t last c.requires.knows) x part c.in-Futures.polled c.poll_next.result (c.poll_next.ensures.turns x part (rw c.in-Futures.is at c.requires.pends)) c.poll_next.ensures.works
+    by_poll (g.M.MainTask.knows main) s t (λ last. g.met.M.MainTask.stays main s t last c.requires.knows) x part c.in-Futures.polled c.poll_next-made.result (c.poll_next-made.ensures.turns x part (rw c.in-Futures.is at c.requires.pends)) c.poll_next-made.ensures.works
 
 pub returns-in-Take-clause-turned : goal.returns-in-Take-clause-turned
 returns-in-Take-clause-turned g c =
@@ -116,8 +116,8 @@ returns-in_ok-put-in-Futures-clause-does g c =
     let main = c.args.main.now in
     let part = g.M.MainTask.part main in
     let x = setting_of c.args.component.now (g.M.MainTask.script main) c.args.self.now.trap_on_idle in
-    (c.poll_next.result, (c.in_ok-put-in-Futures.ensures.stands, still g.M.MainTask.does main x part c.args.store.now.state c.poll_next.new.self.state (turn.Futures c.in-Futures.polled) refl c.poll_next.result
-    (c.poll_next.ensures.turns x part (rw c.in-Futures.is at c.requires.pends))))
+    (c.poll_next-made.result, (c.in_ok-put-in-Futures.ensures.stands, still g.M.MainTask.does main x part c.args.store.now.state c.poll_next-made.new.self.state (turn.Futures c.in-Futures.polled) refl c.poll_next-made.result
+    (c.poll_next-made.ensures.turns x part (rw c.in-Futures.is at c.requires.pends))))
 
 pub returns-in-Take-clause-does : goal.returns-in-Take-clause-does
 returns-in-Take-clause-does g c =
