@@ -163,7 +163,7 @@ returns-in_ok-run_thread-in-Run-clause-tells g c =
 pub returns-in_ok-put-in-Futures-clause-tells : goal.returns-in_ok-put-in-Futures-clause-tells
 returns-in_ok-put-in-Futures-clause-tells g c =
     let s = c.args.store.now.state.core in
-    rw c.in-Futures.is (asked_poll c.args.component.now s c.args.asked.now c.poll_next.new.asked c.in-Futures.polled (subst (λ (p : Turn). Begins s p c.args.asked.now) c.in-Futures.is c.requires.begins) c.poll_next.ensures.asked, ap (λ k. k.groups) c.poll_next.ensures.rest)
+    rw c.in-Futures.is (asked_poll c.args.component.now s c.args.asked.now c.poll_next-made.new.asked c.in-Futures.polled (subst (λ (p : Turn). Begins s p c.args.asked.now) c.in-Futures.is c.requires.begins) c.poll_next-made.ensures.asked, ap (λ k. k.groups) c.poll_next-made.ensures.rest)
 
 pub returns-in-Take-clause-tells : goal.returns-in-Take-clause-tells
 returns-in-Take-clause-tells g c =
