@@ -69,7 +69,7 @@ returns-in-None-clause-told g c =
 pub tell-requires-clause-runs : goal.tell-requires-clause-runs
 tell-requires-clause-runs g c =
     let made = rw c.in-Some.is at c.in_ok-stepped.ensures.turned in
-    made.1.1.running ∙ ap runs_in (stands_turn c.in-Some.stepped c.args.trace.now made.0 c.turn.new.trace made.1.0 ∙ sym c.turn_of.ensures)
+    made.1.1.running ∙ ap runs_in (stands_turn c.in-Some.stepped c.args.trace.now made.0 c.turn.new.trace made.1.0 ∙ sym c.turn_of-after.ensures)
 
 pub tell-requires-clause-stays : goal.tell-requires-clause-stays
 tell-requires-clause-stays g c = λ on.
@@ -83,8 +83,8 @@ tell-requires-clause-stays g c = λ on.
     let m = part c.args.main.now in
     let n = part c.turn.new.main in
     let p = c.args.self.now.turn in
-    let after = stands_turn c.in-Some.stepped c.args.trace.now made.0 c.turn.new.trace made.1.0 ∙ sym c.turn_of.ensures in
-    group_on x p c.turn_of.result m n s t made.0.label c.requires.at.order
+    let after = stands_turn c.in-Some.stepped c.args.trace.now made.0 c.turn.new.trace made.1.0 ∙ sym c.turn_of-after.ensures in
+    group_on x p c.turn_of-after.result m n s t made.0.label c.requires.at.order
     (subst (λ (q : Turn). Step x (state_at s m p) made.0.label (state_at t n q)) after made.1.1.step) c.turn.new.asked.running tells.0.running on
 
 pub tell-requires-clause-unhooked : goal.tell-requires-clause-unhooked
@@ -108,7 +108,7 @@ returns-in-Some-clause-groups g c =
     (c.tell.ensures.made ∙ ap (λ (k : Groups). k.made) tells.1) c.tell.ensures.unhooked
 
 pub returns-in-Some-clause-running : goal.returns-in-Some-clause-running
-returns-in-Some-clause-running g c = c.tell.ensures.running ∙ ap (running_group c.turn.new.store.state.core) c.turn_of.ensures
+returns-in-Some-clause-running g c = c.tell.ensures.running ∙ ap (running_group c.turn.new.store.state.core) c.turn_of-after.ensures
 
 pub returns-in-Some-clause-told : goal.returns-in-Some-clause-told
 returns-in-Some-clause-told g c =
@@ -125,4 +125,4 @@ returns-in-Some-clause-told g c =
     let new = c.tell.new.groups in
     other_told x c.args.self.now.turn other (part c.args.main.now) s a tells.0 c.args.store.now.groups c.requires.groups (part c.turn.new.main) t new q c.args.trace.now c.turn.new.trace made
     (subst (λ (k : Groups). (gs : List ℕ) → Mirrors gs k → Leads a (length t.core.groups) gs t.core.groups → Told (told_by a (running_group t.core (turn_of q)) gs t.core.groups) k.listeners new.listeners) tells.1
-    (subst (λ (r : Turn). (gs : List ℕ) → Mirrors gs mid → Leads a (length t.core.groups) gs t.core.groups → Told (told_by a (running_group t.core r) gs t.core.groups) mid.listeners new.listeners) c.turn_of.ensures c.tell.ensures.told))
+    (subst (λ (r : Turn). (gs : List ℕ) → Mirrors gs mid → Leads a (length t.core.groups) gs t.core.groups → Told (told_by a (running_group t.core r) gs t.core.groups) mid.listeners new.listeners) c.turn_of-after.ensures c.tell.ensures.told))
