@@ -2,7 +2,7 @@
 use Rattle.group_laws.specs.Tells.{MainSpares, is_start, is_start_op}
 use Rattle.std.proofs.Common.{ap, refl, subst, sym, ◌∙◌, ◌≡◌}
 use Rattle.std.specs.Prelude.{Bool, List, None, Option, Some, false, not, true, ℕ}
-use Rattle.task_machine.specs.Core.{Core, Main, MainPlace, Scripted, State, Unscripted}
+use Rattle.task_machine.specs.Core.{Began, Core, Main, MainPlace, Refused, Scripted, Started, State, Unscripted}
 use Rattle.task_machine.specs.Maps.{get}
 use Rattle.task_machine.specs.Read.{phase_of}
 use Rattle.task_machine.specs.Write.{add_work, count_work, on_work, push_high, set_phase, take_result}
@@ -18,7 +18,7 @@ use Rattle.task_machine.specs.declared.records.Turn.TheVariants as turn
 use Rattle.task_machine.specs.declared.scenario.MainOpDef.{MainOpDef}
 use Rattle.task_machine.specs.declared.trap.Trap.{Trap}
 use Rattle.task_rules.specs.Calls.{work_queued}
-use Rattle.task_rules.specs.MainOps.{Abort, Answer, Answers, Await, Began, Does, Finish, MainAct, MainProgress, Pends, Quiet, Ready, Refused, Spawn, Start, Started, act_of, finish_act, finish_result, has_interesting, is_complete, is_ready_for_call, line_of, main_aborted, main_row, main_spawned, op_at, start_act, start_refusal, unless_pending}
+use Rattle.task_rules.specs.MainOps.{Abort, Answer, Answers, Await, Does, Finish, MainAct, MainProgress, Pends, Quiet, Ready, Spawn, Start, act_of, finish_act, finish_result, has_interesting, is_complete, is_ready_for_call, line_of, main_aborted, main_row, main_spawned, op_at, start_act, start_refusal, unless_pending}
 use Rattle.task_rules.specs.Stalled.{Setting}
 use Rattle.task_rules.specs.Step.{MainProgresses, MainStep, OpenAct, OpenProgresses, OpenStep, ScriptStep, Step, TurnStep}
 use Rattle.task_rules.specs.Turns.{at_turn, goes_to}
