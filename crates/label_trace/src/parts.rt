@@ -28,7 +28,6 @@ pub struct Parts {
 }
 
 // A label of one number.
-#[inline(always)]
 fn one(kind: Kind, first: u64) -> Parts
     ensures { result ≡ record { kind = kind; first = first; rest = Rest.None } }
 {
@@ -40,7 +39,6 @@ fn one(kind: Kind, first: u64) -> Parts
 }
 
 // A label of two numbers.
-#[inline(always)]
 fn two(kind: Kind, first: u64, second: u64) -> Parts
     ensures { result ≡ record { kind = kind; first = first; rest = Rest.One second } }
 {
@@ -52,7 +50,6 @@ fn two(kind: Kind, first: u64, second: u64) -> Parts
 }
 
 // A label of three numbers.
-#[inline(always)]
 fn three(kind: Kind, first: u64, second: u64, third: u64) -> Parts
     ensures { result ≡ record { kind = kind; first = first; rest = Rest.Two second third } }
 {

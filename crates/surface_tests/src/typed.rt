@@ -10,10 +10,11 @@ ghost use Rattle.task_turns.specs.WellFormed.{IsWellFormed};
 use crate::drive::{CALLEE, Host, component, store};
 use futures::task::Poll;
 use std::process::Abort;
-use task_loop::{Component, Outcome, Trace, run_concurrent};
+use task_loop::{
+    Component, FromWord, Outcome, Trace, TypedFunc, TypedFuncCallConcurrent, Words, run_concurrent,
+};
 use task_machine::Turn;
 use task_store::{HostWork, ScriptedHost, Store};
-use typed_calls::{FromWord, TypedFunc, TypedFuncCallConcurrent, Words};
 
 // Drives the store until nothing goes on.
 fn drive(

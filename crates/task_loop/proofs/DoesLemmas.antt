@@ -2,7 +2,7 @@
 use Rattle.label_laws.proofs.TurnLemmas.{main_at_its_turns}
 use Rattle.label_laws.specs.Own.{is_main_turn, is_of_main}
 use Rattle.std.proofs.Common.{refl, subst, ◌∙◌}
-use Rattle.std.specs.Prelude.{Bool, Err, IfOk, List, None, Ok, OnErr, Option, Result, Some, false, ℕ, ◌≡◌}
+use Rattle.std.specs.Prelude.{Bool, Err, IfOk, List, None, Ok, OnErr, OnOk, Option, Result, Some, false, ℕ, ◌≡◌}
 use Rattle.task_machine.specs.Core.{Main}
 use Rattle.task_machine.specs.declared.label.Label.{Label}
 use Rattle.task_machine.specs.declared.label.Label.TheVariants as label
@@ -52,3 +52,7 @@ module _ {M : Type 0} (does : M → MainStep → M → Type 0) (m : M) (x : Sett
 pub on_err : {A E : Type 0} (r : Result A E) (P : Type 0) → P → OnErr r P
 on_err (Ok v) P h = tt
 on_err (Err e) P h = h
+
+pub on_ok : {A E : Type 0} (r : Result A E) (P : Type 0) → P → OnOk r P
+on_ok (Ok v) P h = h
+on_ok (Err e) P h = tt

@@ -4,8 +4,7 @@ use Rattle.host_works.specs.Course.{one_fewer}
 use Rattle.op_dispatch.specs.Polls.{polled_host}
 use Rattle.std.specs.Option.{option_map}
 use Rattle.std.specs.Prelude.{[], Bool, Err, IfOk, List, None, Ok, OnOk, Option, Result, Some, cond, suc, true, zero, ℕ, ◌+◌, ◌==◌, ◌≡◌, ◌-◌}
-use Rattle.task_machine.specs.Core.{Core, Main, State, Unscripted}
-use Rattle.task_machine.specs.Maps.{get}
+use Rattle.task_machine.specs.Core.{Main, State, Unscripted}
 use Rattle.task_machine.specs.Read.{course_of, how_far_of}
 use Rattle.task_machine.specs.declared.component.Component.{Component}
 use Rattle.task_machine.specs.declared.component.HostDef.{HostDef}
@@ -18,11 +17,10 @@ use Rattle.task_machine.specs.declared.records.Course.TheVariants as courses
 use Rattle.task_machine.specs.declared.records.HowFar.{HowFar}
 use Rattle.task_machine.specs.declared.records.HowFar.TheVariants as how_far
 use Rattle.task_machine.specs.declared.records.Subtask.TheVariants as subtask
-use Rattle.task_machine.specs.declared.records.Turn.{Turn}
 use Rattle.task_machine.specs.declared.records.Turn.TheVariants as turn
 use Rattle.task_machine.specs.declared.scenario.IdleLine.TheVariants as idle_line
 use Rattle.task_laws.specs.Courses.{CallsHost, MakesWork, Spawns}
-use Rattle.task_rules.specs.Calls.{FirstPoll, Later, first_poll}
+use Rattle.task_rules.specs.Calls.{Later, first_poll}
 use Rattle.task_rules.specs.OpParts.{queues_work}
 use Rattle.task_rules.specs.Scripts.{op_of}
 use Rattle.task_rules.specs.Stalled.{Setting}
@@ -32,7 +30,6 @@ use Rattle.task_table.specs.declared.id.TableId.{TableId}
 use Rattle.task_turns.specs.Ran.{RanPolls, WorkMade}
 use Rattle.task_turns.specs.Stepped.{AddedOrNone}
 use Rattle.task_turns.specs.Turn.{Makes, PendsIn, Sits, Turned, TurnedBeside, idle_line_of, state_at}
-use Rattle.task_turns.specs.declared.made.Made.{Made}
 use Rattle.task_turns.specs.declared.made.Ran.{Ran}
 use Rattle.task_turns.specs.declared.made.Stepped.{Stepped}
 use Rattle.task_wait.specs.declared.keys.HostTaskKey.{HostTaskKey}

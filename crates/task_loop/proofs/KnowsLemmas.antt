@@ -2,7 +2,6 @@
 use Rattle.std.proofs.Common.{◌≡◌, ℕ, Bool, Option, refl}
 use Rattle.std.specs.Prelude.{Err, IfOk, List, None, Ok, OnOk, Result, Some}
 use Rattle.task_machine.specs.Core.{Main}
-use Rattle.task_machine.specs.declared.component.Component.{Component}
 use Rattle.task_machine.specs.declared.label.Label.{Label}
 use Rattle.task_machine.specs.declared.memory.NoMemory.{NoMemory}
 use Rattle.task_machine.specs.declared.records.Turn.TheVariants as turn

@@ -10,6 +10,7 @@ mod run;
 mod subtasks;
 mod tells;
 mod threads;
+mod typed;
 mod waitables;
 
 pub use call::{Func, FuncCallConcurrent};
@@ -23,3 +24,4 @@ pub use task_machine::{
     Callee, Component, ExportDef, HostDef, InstanceDef, Label, NoMemory, Op, Operand, Outcome, Slot,
 };
 pub use task_turns::{Made, MainStep, Trace, operand_value};
+pub use typed::{FromWord, TypedCallConcurrent, TypedFunc, TypedFuncCallConcurrent, Words};

@@ -14,10 +14,10 @@ use Rattle.task_rules.specs.Stalled.{Setting, setting_of}
 use Rattle.task_turns.specs.Drive.{Drives}
 use Rattle.task_turns.specs.Turn.{state_at}
 use Rattle.task_run.specs.Runnable.{IsRunnable}
-use Rattle.task_scenario.specs.Lower.{Reads}
+use Rattle.task_run.specs.Lower.{Reads}
 use Rattle.task_run.proofs.RunnableLemmas.{runnable_scenario}
 use Rattle.task_run.specs.Headline.{IsRunOf, machine_scenario}
-use Rattle.task_scenario.specs.declared.scenario.Scenario.{Scenario}
+use Rattle.task_run.specs.declared.scenario.Scenario.{Scenario}
 
 module _ (x : Scenario) (runnable : IsRunnable x) where
   -- the opening state is that of a new store with main at its first op

@@ -1,3 +1,4 @@
+pub mod PartLemmas
 pub mod Fronts
 pub mod ScriptLemmas
 pub mod LoweredLemmas

@@ -26,7 +26,7 @@ use Rattle.task_machine.specs.declared.op.Op.{Op}
 use Rattle.task_machine.specs.declared.records.Script.{Script}
 use Rattle.task_machine.specs.declared.records.Script.TheVariants as script
 use Rattle.task_rules.specs.Scripts.{export_at, script_in, slot_at, slot_script}
-use Rattle.task_scenario.specs.Lower.{export_def, instance_def, scenario_of, slots_after}
+use Rattle.task_run.specs.Lower.{export_def, instance_def, scenario_of, slots_after}
 
 -- each op had room
 pub short : (hosts : List HostText) (earlier : List InstanceText) (callback : Bool) (before ops : List Op) → EachStands (OpStands hosts earlier callback) before ops → length before ≤ 4096

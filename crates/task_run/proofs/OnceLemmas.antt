@@ -32,9 +32,9 @@ use Rattle.task_run.proofs.HeadlineLemmas.{Keeps}
 use Rattle.task_run.specs.Headline.{machine_scenario}
 use Rattle.task_run.specs.Runnable.{IsRunnable}
 use Rattle.task_run.specs.Script.{machine_op}
-use Rattle.task_scenario.specs.declared.scenario.MainOp.{MainOp}
-use Rattle.task_scenario.specs.declared.scenario.MainOp.TheVariants as main
-use Rattle.task_scenario.specs.declared.scenario.Scenario.{Scenario}
+use Rattle.task_run.specs.declared.scenario.MainOp.{MainOp}
+use Rattle.task_run.specs.declared.scenario.MainOp.TheVariants as main
+use Rattle.task_run.specs.declared.scenario.Scenario.{Scenario}
 
 module _ (x : Scenario) (runnable : IsRunnable x) where
   abbrev c : Component

@@ -39,10 +39,10 @@ use Rattle.task_rules.specs.Scripts.{export_at, script_in, slot_at, slot_script}
 use Rattle.task_run.proofs.LoweredLemmas.{at_lowered, export_params, exported, lowered, params_later, script_known, short, slot_stands}
 use Rattle.task_run.specs.Runnable.{IsRunnable}
 use Rattle.task_run.specs.Script.{SuitsOps}
-use Rattle.task_scenario.specs.Lower as lower
-use Rattle.task_scenario.specs.Lower.{host_def, instance_def, scenario_of}
-use Rattle.task_scenario.specs.declared.scenario.MainOp.{MainOp}
-use Rattle.task_scenario.specs.declared.scenario.MainOp.TheVariants as main_op
+use Rattle.task_run.specs.Lower as lower
+use Rattle.task_run.specs.Lower.{host_def, instance_def, scenario_of}
+use Rattle.task_run.specs.declared.scenario.MainOp.{MainOp}
+use Rattle.task_run.specs.declared.scenario.MainOp.TheVariants as main_op
 use Rattle.task_turns.specs.WellFormed as fit
 use Rattle.text_lines.specs.Fits.{operand_fits, plain_op_fits, register_fits}
 use Rattle.text_lines.specs.Fits as line

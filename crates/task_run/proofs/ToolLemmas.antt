@@ -4,8 +4,8 @@ use Rattle.std.proofs.Common.{Some, None}
 use Rattle.std.specs.Prelude.{Option, IsNone}
 use Rattle.task_run.specs.declared.program.End.{End}
 use Rattle.task_run.specs.declared.program.End.TheVariants as ends
-use Rattle.task_scenario.specs.declared.scenario.Scenario.{Scenario}
-use Rattle.task_scenario.specs.Lower.{Reads}
+use Rattle.task_run.specs.declared.scenario.Scenario.{Scenario}
+use Rattle.task_run.specs.Lower.{Reads}
 use Rattle.task_rules.specs.Texts.{text}
 use Rattle.task_run.specs.declared.program.ToolEnd.{ToolEnd}
 use Rattle.task_run.specs.declared.report.Report.{Report}

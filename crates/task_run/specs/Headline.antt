@@ -11,9 +11,9 @@ use Rattle.task_rules.specs.Outcome.{IsOutcome}
 use Rattle.task_rules.specs.Run.{Run, opens}
 use Rattle.task_rules.specs.Stalled.{setting_of}
 use Rattle.task_run.specs.declared.report.Report.{Report}
-use Rattle.task_scenario.specs.declared.scenario.InstanceNames.{InstanceNames}
-use Rattle.task_scenario.specs.declared.scenario.Scenario.{Scenario}
-use Rattle.task_scenario.specs.Lower.{Reads}
+use Rattle.task_run.specs.declared.scenario.InstanceNames.{InstanceNames}
+use Rattle.task_run.specs.declared.scenario.Scenario.{Scenario}
+use Rattle.task_run.specs.Lower.{Reads}
 use Rattle.task_run.specs.Script.{machine_ops}
 
 abbrev pub machine_names : InstanceNames → NamesDef

@@ -1,6 +1,6 @@
 -- What a run needs of a scenario.
 use Rattle.std.specs.Prelude.{◌≤◌, length}
-use Rattle.task_scenario.specs.declared.scenario.Scenario.{Scenario}
+use Rattle.task_run.specs.declared.scenario.Scenario.{Scenario}
 use Rattle.task_laws.specs.Settings.{CodesInCallbacks}
 use Rattle.task_turns.specs.WellFormed.{IsWellFormed}
 use Rattle.task_run.specs.Script.{SuitsOps}

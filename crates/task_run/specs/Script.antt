@@ -8,8 +8,8 @@ use Rattle.task_machine.specs.declared.op.Operand.{Operand}
 use Rattle.task_machine.specs.declared.trap.Trap.{Trap}
 use Rattle.task_machine.specs.Core.{Began, Main, MainPlace, Refused, Scripted, Started}
 use Rattle.task_rules.specs.Scripts.{export_at}
-use Rattle.task_scenario.specs.declared.scenario.MainOp.{MainOp}
-use Rattle.task_scenario.specs.declared.scenario.MainOp.TheVariants as op
+use Rattle.task_run.specs.declared.scenario.MainOp.{MainOp}
+use Rattle.task_run.specs.declared.scenario.MainOp.TheVariants as op
 use Rattle.task_loop.specs.declared.call.Func.{Func}
 use Rattle.task_run.specs.declared.main_script.ScriptMain.{ScriptMain}
 use Rattle.task_run.specs.declared.main_script.Start.{Start}

@@ -10,10 +10,10 @@ use Rattle.task_machine.specs.declared.outcome.Outcome.{Outcome}
 use Rattle.task_rules.specs.Texts as texts
 use Rattle.task_run.specs.declared.program.ToolEnd.{ToolEnd}
 use Rattle.task_run.specs.declared.report.Report.{Report}
-use Rattle.task_scenario.specs.declared.scenario.Scenario.{Scenario}
+use Rattle.task_run.specs.declared.scenario.Scenario.{Scenario}
 use Rattle.task_machine.specs.Core.{Core}
 use Rattle.task_run.specs.Headline.{IsReportOf, IsRunOf, machine_scenario}
-use Rattle.task_scenario.specs.Lower.{Reads}
+use Rattle.task_run.specs.Lower.{Reads}
 use Rattle.byte_streams.specs.Outside.{Appends}
 use Rattle.byte_streams.specs.Pump.{IsFront, IsTaken, IsTooLong, IsWhole}
 use Rattle.generated_scenario.specs.Generated.{gen}

@@ -9,7 +9,7 @@ ghost use Rattle.task_rules.specs.MainOps.{is_complete, is_ready_for_call, main_
 ghost use Rattle.task_rules.specs.Run.{main_opening};
 ghost use Rattle.task_rules.specs.Scripts.{export_at, values_in};
 ghost use Rattle.state_calls.specs.declared.error.TaskError.TheVariants as task_error;
-ghost use Rattle.task_scenario.specs.declared.scenario.MainOp.TheVariants as main_op;
+ghost use Rattle.task_run.specs.declared.scenario.MainOp.TheVariants as main_op;
 ghost use Rattle.task_loop.specs.Calls.{callee_of};
 ghost use Rattle.task_loop.specs.Standing.{standing};
 ghost use Rattle.task_turns.specs.WellFormed.{IsWellFormed};
@@ -24,13 +24,13 @@ ghost use Rattle.task_machine.specs.Read.{phase_of};
 ghost use Rattle.task_ops.specs.Works.{KeepsWorks};
 ghost use Rattle.task_words.specs.StateView.{StateView, on_core};
 
+use crate::scenario::MainOp;
 use futures::task::Poll;
 use std::alloc::{AllocError, Global};
 use store_access::{Access, Whole};
 use task_calls::finish_call as take_result;
 use task_loop::{Func, MainStep, MainTask, TaskError, operand_value};
 use task_machine::{Component, HostDef, Label, MainLabel, Operand, Phase, Trap, Turn};
-use task_scenario::MainOp;
 use task_store::{AccessorTask, FromHost, HostWork, SpawnHandle};
 use task_words::{InstanceWords, ResultWords, View};
 

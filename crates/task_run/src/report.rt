@@ -7,16 +7,18 @@ ghost use Rattle.task_turns.specs.Turn.{idle_line_of};
 ghost use Rattle.task_words.specs.StateView.{with_core};
 ghost use Rattle.task_run.specs.Runnable.{IsRunnable};
 ghost use Rattle.task_run.specs.Headline.{IsReportOf, IsRunOf, machine_scenario};
-ghost use Rattle.task_scenario.specs.Lower.{Reads};
-ghost use Rattle.task_scenario.specs.declared.scenario.Scenario.{Scenario};
+ghost use Rattle.task_run.specs.Lower.{Reads};
+ghost use Rattle.task_run.specs.declared.scenario.Scenario.{Scenario};
 ghost use Rattle.task_rules.specs.Texts.{label_text, outcome_text, line_text, text};
 
+use crate::lower::read_scenario;
 use crate::main_script::ScriptMain;
+use crate::scenario::Scenario;
 use report_text::Page;
+use scenario_reader::RunError;
 use std::alloc::{AllocError, Global};
 use task_loop::{Notice, Outcome, Trace, run_concurrent};
 use task_machine::{IdleLine, NoMemory};
-use task_scenario::{RunError, Scenario, read_scenario};
 use task_store::{ScriptedHost, Store};
 
 /// What a run came to: its steps, its end, and the store that it left.

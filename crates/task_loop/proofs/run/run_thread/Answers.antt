@@ -1,8 +1,9 @@
 -- A host that the thread called is held.
 use Rattle.host_works.specs.Kept.{held}
 use Rattle.op_dispatch.proofs.StayLemmas.{ok_then}
-use Rattle.std.proofs.Common.{refl, subst, ◌≡◌}
+use Rattle.std.proofs.Common.{refl, subst}
 use Rattle.std.specs.Prelude.{None}
+use Rattle.task_loop.proofs.DoesLemmas.{on_ok}
 use Rattle.task_loop.proofs.HoldLemmas.{held_run}
 use Rattle.task_loop.proofs.run.run_thread.Goals as goal
 use Rattle.task_machine.specs.declared.records.Turn.TheVariants as turn
@@ -14,7 +15,6 @@ use Rattle.task_turns.specs.Turn.{IsFree, Makes}
 use Rattle.task_turns.specs.declared.made.Made.{Made}
 use Rattle.task_turns.specs.declared.made.Ran.{Ran}
 use Rattle.task_turns.specs.declared.made.RunStep.{RunStep}
-use Rattle.task_turns.specs.declared.made.RunStep.TheVariants as run_step
 use Rattle.task_turns.specs.declared.made.Stepped.{Stepped}
 
 pub returns-in-Shown-clause-makes : goal.returns-in-Shown-clause-makes
@@ -51,8 +51,8 @@ put-requires g c =
     let ran = subst (λ (r : RunStep). RunAdded (λ (q : Ran). (Makes comp (turn.Run n) s q.made t × IsFree q.made.turn) × RanPolls comp n s q t) r c.args.trace.now c.step_run.new.trace) c.in-Called.is c.in_ok-stepped.ensures.ran in
     record { over = ran.0.0.0.over }
 
-pub returns-in-Called-clause-makes : goal.returns-in-Called-clause-makes
-returns-in-Called-clause-makes g c =
+pub returns-in_ok-call_host-in-Called-clause-makes : goal.returns-in_ok-call_host-in-Called-clause-makes
+returns-in_ok-call_host-in-Called-clause-makes g c =
     let s = c.args.store.now.state in
     let t = c.step_run.new.w in
     let comp = c.args.component.now in
@@ -62,16 +62,17 @@ returns-in-Called-clause-makes g c =
     let after = c.put.new.trace in
     let made = c.in-Called.ran.made in
     let ran = subst (λ (r : RunStep). RunAdded (λ (q : Ran). (Makes comp (turn.Run n) s q.made t × IsFree q.made.turn) × RanPolls comp n s q t) r before mid) c.in-Called.is c.in_ok-stepped.ensures.ran in
-    ok_then (λ (q : Stepped). Stands q mid made after) (λ (q : Stepped). Added (λ (m : Made). Makes comp (turn.Run n) s m t × IsFree m.turn) q before after) c.put.result
-    (λ q h. (made, (subst (λ l. Stands q l made after) ran.1 h, ran.0.0))) c.put.ensures.stands
+    rw c.in_ok-call_host-in-Called.ensures.rest
+    (ok_then (λ (q : Stepped). Stands q mid made after) (λ (q : Stepped). Added (λ (m : Made). Makes comp (turn.Run n) s m t × IsFree m.turn) q before after) c.put.result
+    (λ q h. (made, (subst (λ l. Stands q l made after) ran.1 h, ran.0.0))) c.put.ensures.stands)
 
-pub returns-in-Called-clause-hosts : goal.returns-in-Called-clause-hosts
-returns-in-Called-clause-hosts g c =
+pub returns-in_ok-call_host-in-Called-clause-hosts : goal.returns-in_ok-call_host-in-Called-clause-hosts
+returns-in_ok-call_host-in-Called-clause-hosts g c =
     let store = c.args.store.now in
     let s = store.state in
     let t = c.step_run.new.w in
     let comp = c.args.component.now in
     let n = c.args.thread in
     let ran = subst (λ (r : RunStep). RunAdded (λ (q : Ran). (Makes comp (turn.Run n) s q.made t × IsFree q.made.turn) × RanPolls comp n s q t) r c.args.trace.now c.step_run.new.trace) c.in-Called.is c.in_ok-stepped.ensures.ran in
-    rw c.in_ok-call_host.ensures.rest
-    (held_run comp n s t c.in-Called.ran c.requires.order ran.0.0.0 ran.0.1 (held_by g.H.HostWork.course store) c.requires.hosts (held g.H.HostWork.course c.call_host.new.self.works) c.in_ok-call_host.ensures.held)
+    rw c.in_ok-call_host-in-Called.ensures.rest
+    (on_ok c.put.result _ (held_run comp n s t c.in-Called.ran c.requires.order ran.0.0.0 ran.0.1 (held_by g.H.HostWork.course store) c.requires.hosts (held g.H.HostWork.course c.call_host.new.self.works) c.in_ok-call_host-in-Called.ensures.held))

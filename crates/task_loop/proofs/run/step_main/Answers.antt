@@ -43,8 +43,8 @@ returns-clause-does g c =
     let step = c.in-Ok.step in
     let made = c.made_by_main-made.result in
     let did = step_in g.M.MainTask.does main main' step made.label c.made_by_main-made.ensures.label
-        (steps_shown c.args.component.now (g.M.MainTask.script main) (g.M.MainTask.part main) c.args.store.now.state.core step (g.M.MainTask.part main') c.ask_main.new.store.state.core c.in-Ok.ensures.ok)
-        c.in-Ok.ensures.does in
+    (steps_shown c.args.component.now (g.M.MainTask.script main) (g.M.MainTask.part main) c.args.store.now.state.core step (g.M.MainTask.part main') c.ask_main.new.store.state.core c.in-Ok.ensures.ok)
+    c.in-Ok.ensures.does in
     ok_then (λ (q : Stepped). Stands q before made after) (λ (q : Stepped). Added (λ (k : Made). DoesStep g.M.MainTask.does main (step_shown k.label) main') q before after) c.put.result
     (λ q h. (made, (h, did))) c.put.ensures.stands
 

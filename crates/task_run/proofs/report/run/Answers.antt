@@ -6,7 +6,7 @@ use Rattle.task_rules.specs.Run.{main_opening}
 use Rattle.task_turns.specs.Turn.{state_at}
 use Rattle.task_turns.specs.Turn as loop
 use Rattle.task_run.specs.Script.{machine_ops, part_of, script_of}
-use Rattle.task_scenario.specs.declared.scenario.MainOp.{MainOp}
+use Rattle.task_run.specs.declared.scenario.MainOp.{MainOp}
 use Rattle.std.specs.Prelude.{Bool}
 use Rattle.task_machine.specs.declared.records.Turn.{Turn}
 use Rattle.task_run.specs.Headline.{machine_scenario}

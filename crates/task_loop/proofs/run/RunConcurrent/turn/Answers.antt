@@ -115,9 +115,14 @@ pub returns-in_ok-put-in-Futures-clause-does : goal.returns-in_ok-put-in-Futures
 returns-in_ok-put-in-Futures-clause-does g c =
     let main = c.args.main.now in
     let part = g.M.MainTask.part main in
-    let x = setting_of c.args.component.now (g.M.MainTask.script main) c.args.self.now.trap_on_idle in
-    (c.poll_next-made.result, (c.in_ok-put-in-Futures.ensures.stands, still g.M.MainTask.does main x part c.args.store.now.state c.poll_next-made.new.self.state (turn.Futures c.in-Futures.polled) refl c.poll_next-made.result
-    (c.poll_next-made.ensures.turns x part (rw c.in-Futures.is at c.requires.pends))))
+    let x = setting_of c.args.component.now (g.M.MainTask.script main) c.args.self.now.trap_on_idle in (
+      c.poll_next-made.result,
+      (
+        c.in_ok-put-in-Futures.ensures.stands,
+        still g.M.MainTask.does main x part c.args.store.now.state c.poll_next-made.new.self.state (turn.Futures c.in-Futures.polled) refl c.poll_next-made.result
+            (c.poll_next-made.ensures.turns x part (rw c.in-Futures.is at c.requires.pends)),
+      ),
+    )
 
 pub returns-in-Take-clause-does : goal.returns-in-Take-clause-does
 returns-in-Take-clause-does g c =

@@ -3,8 +3,8 @@ use Rattle.std.specs.Prelude.{slice_get}
 use Rattle.std.specs.Option.{option_map}
 use Rattle.std.proofs.lemmas.Option.{slice_get-map}
 use Rattle.task_machine.specs.declared.scenario.MainOpDef.TheVariants as machine
-use Rattle.task_scenario.specs.declared.scenario.MainOp.{MainOp}
-use Rattle.task_scenario.specs.declared.scenario.MainOp.TheVariants as main_op
+use Rattle.task_run.specs.declared.scenario.MainOp.{MainOp}
+use Rattle.task_run.specs.declared.scenario.MainOp.TheVariants as main_op
 use Rattle.task_run.specs.Script.{machine_op, place_of, script_of}
 use Rattle.task_run.proofs.ScriptLemmas.{answers_by_row, pends_past}
 use Rattle.task_run.proofs.SpawnLemmas.{knows_result, knows_still}

@@ -1,0 +1,127 @@
+-- A return and the exit of a direct call keep order, whatever the op at the thread's place is.
+use Rattle.order_laws.proofs.EndCounts.{checked_moved, exit_counted, return_counted, returned_position}
+use Rattle.order_laws.proofs.EndLeads.{direct_exit_to_leads, return_leads}
+use Rattle.order_laws.proofs.PieceLemmas.{lead_keeps, piece_keeps, setting_for}
+use Rattle.order_laws.specs.Pieces.{ExitKeeps, Orderly, RegisterKeeps, ReturnAtEnd, ReturnKeeps, SameInstances, state_in}
+use Rattle.task_laws.proofs.WakeCounts.{woken_at, woken_place}
+use Rattle.task_machine.specs.Labels.{exit_label, ret_label}
+use Rattle.task_machine.specs.Maps.{same_map}
+use Rattle.task_machine.specs.Moves.{checked, passes_check}
+use Rattle.task_machine.specs.Read.{has_ended, is_async_lifted, position_of, register_of}
+use Rattle.task_places.proofs.CountedSteps.{counted_stay}
+use Rattle.task_places.proofs.Laws.{Bool, Component, Core, ExportKind, Goes, HowFar, Label, None, Option, Place, Progress, Records, Some, Thread, Trap, Turn, Unscripted, WakesCounted, advanced, ap, arith, false, fresh, get-change, goal_of, how_far_of, inl, instance_of, is_direct, is_explicit, is_waiting_on, kind_of, le_refl, length, may_tell, member_same, moved_to, nat_tests, not, on_instance, on_thread, option_map_or, place_of, refl, script_of, set_do_not_suspend, set_how_far, set_position, set_register, shifted_calls, shifted_far, shifted_works, shifts_shifted, subst, sym, task_of, trap_if, true, under_of, under_place, ℕ, ◌+◌, ◌∙◌, ◌≡◌, ◌≤◌}
+use Rattle.task_rules.proofs.WalkMoves.{checked_shifts}
+use Rattle.task_rules.proofs.WalkTask.{Leads, seen}
+use Rattle.task_rules.specs.Chains.{NoWord, Then}
+use Rattle.task_rules.specs.Ends.{direct_exit_row, direct_exit_to, direct_exits, exit_restores, returned}
+use Rattle.task_rules.specs.Task.{ret_done}
+use Rattle.task_rules.specs.Words.{SetRegister}
+use Rattle.wake_laws.proofs.GroundLemmas.{order_stands}
+use Rattle.wake_laws.specs.Stands.{OrderStands}
+
+-- ---- A return
+
+module _ (c : Component) (n v : ℕ) (w : Option ℕ) (s : Core) (unended : has_ended (task_of n s) s ≡ false) (lifted : is_async_lifted (kind_of (task_of n s) s) ≡ true)
+    (may : may_tell (task_of n s) w s ≡ true) (fresh : how_far_of n s ≡ HowFar.Fresh) (h : Orderly c (Turn.Run n) s) where
+  abbrev r : Core
+  r = returned (task_of n s) v w s
+
+  -- the thread is at a place of its script then
+  at_any_place : (q : ℕ) → q ≤ length (script_of c n s) → Orderly c (Turn.Run n) (moved_to n q r) × SameInstances s (moved_to n q r)
+  unfolding OrderStands
+  at_any_place q within = lead_keeps c n (ret_label n v w) (Turn.Run n) s (moved_to n q r)
+      (λ m. return_leads (setting_for c) m s n (ret_label n v w) (Turn.Run n) v q w refl refl within unended lifted may) refl
+      (return_counted n v q w s may fresh (order_stands c (state_in Unscripted (Turn.Run n) s) (h Unscripted) refl)) h
+
+  at_next_place : position_of n s + 1 ≤ length (script_of c n s) → Orderly c (Turn.Run n) (ret_done n v w s) × SameInstances s (ret_done n v w s)
+  unfolding ret_done advanced
+  at_next_place within = at_any_place (position_of n r + 1) (let same = returned_position (task_of n s) v w s may n in grind (arith, same, within))
+
+  put_back : (q p : ℕ) (u : Core) → set_position n q (moved_to n p u) ≡ moved_to n q u
+  unfolding moved_to set_how_far set_position on_thread
+  put_back q p u = ap (λ (ts : Records Thread). record u { threads = ts }) (same_map _ _ (λ j. grind (arith, nat_tests, get-change)))
+
+  at_its_end : let t = set_position n (length (script_of c n s)) (ret_done n v w s) in Orderly c (Turn.Run n) t × SameInstances s t
+  unfolding ret_done advanced
+  at_its_end = subst (λ (t : Core). Orderly c (Turn.Run n) t × SameInstances s t) (sym (put_back (length (script_of c n s)) (position_of n r + 1) r)) (at_any_place (length (script_of c n s)) (le_refl _))
+
+pub return_keeps : ReturnKeeps
+unfolding ReturnKeeps
+return_keeps c n v w s unended lifted may fresh within h = at_next_place c n v w s unended lifted may fresh h within
+
+pub return_at_end : ReturnAtEnd
+unfolding ReturnAtEnd
+return_at_end c n v w s unended lifted may fresh h = at_its_end c n v w s unended lifted may fresh h
+
+-- ---- The exit of a direct call
+
+-- the core that a row goes on with
+abbrev new_in : Core → Progress → Core
+new_in s (Goes l t m) = t
+new_in s _ = s
+
+module _ (c : Component) (n m : ℕ) (l : Label) (new s : Core) (fresh : how_far_of n s ≡ HowFar.Fresh) (h : Orderly c (Turn.Run n) s) where
+  abbrev v : ℕ
+  v = register_of n 0 s
+
+  abbrev i : ℕ
+  i = instance_of n s
+
+  first : WakesCounted s
+  first = ((h Unscripted).awake refl).counted
+
+  runs : place_of n s ≡ Some Place.Running
+  runs = (h Unscripted).in_place.runs n refl
+
+  abbrev Goes_on : Progress → Type 0
+  Goes_on p = p ≡ Goes l new m
+
+  after_flag : (d : ℕ) → under_of n s ≡ Some d → WakesCounted (direct_exits n d v (exit_restores n s))
+  unfolding exit_restores set_do_not_suspend on_instance
+  after_flag d is = exit_counted n d v s (exit_restores n s) runs fresh (under_place n d s is) (λ j. inl refl) (λ j. refl) refl refl first
+
+  after_check : (d : ℕ) → under_of n s ≡ Some d → WakesCounted (direct_exits n d v (checked i s))
+  after_check d is =
+      let q = shifts_shifted (checked_shifts i s) in
+      exit_counted n d v s (checked i s) runs fresh (under_place n d s is) (checked_moved i s (h Unscripted).in_place.placed) (shifted_far q) (shifted_calls q) (shifted_works q) first
+
+  checks : (d : ℕ) → under_of n s ≡ Some d → (b : Bool) → Goes_on (trap_if b Trap.CannotBlockSyncTask (Goes (exit_label n None) (direct_exits n d v (checked i s)) d)) → WakesCounted new
+  checks d is true row = absurd (cc)
+  checks d is false row = subst WakesCounted (ap (new_in s) row) (after_check d is)
+
+  exits_counted : (k : ExportKind) (o : Option ℕ) → under_of n s ≡ o → Goes_on (direct_exit_to n k s o) → WakesCounted new
+  exits_counted k None is row = absurd (cc)
+  exits_counted ExportKind.Sync (Some d) is row = subst WakesCounted (ap (new_in s) row) (after_flag d is)
+  exits_counted ExportKind.Blocking (Some d) is row = checks d is (not (passes_check i s)) row
+  exits_counted ExportKind.Stackful (Some d) is row = checks d is (not (passes_check i s)) row
+  exits_counted ExportKind.Callback (Some d) is row = checks d is (not (passes_check i s)) row
+
+  exits_keep : is_explicit n s ≡ false → is_direct (goal_of (task_of n s) s) ≡ true → Goes_on (direct_exit_row n s) → Orderly c (Turn.Run m) new × SameInstances s new
+  exits_keep implicit direct row = lead_keeps c n l (Turn.Run m) s new
+      (λ main. subst (Leads (seen (setting_for c) main (Turn.Run n) s n l (Turn.Run m)) s) row
+      (direct_exit_to_leads (setting_for c) main s n l (Turn.Run m) (kind_of (task_of n s) s) (under_of n s) refl implicit direct) refl refl) refl
+      (exits_counted (kind_of (task_of n s) s) (under_of n s) refl row) h
+
+pub exit_keeps : ExitKeeps
+unfolding ExitKeeps
+exit_keeps c n m l new s implicit direct fresh row h = exits_keep c n m l new s fresh h implicit direct row
+
+-- ---- A register
+
+pub register_keeps : RegisterKeeps
+unfolding RegisterKeeps set_register on_thread
+register_keeps c n r v s h = piece_keeps c n s (set_register n r v s) (λ m. Then s (SetRegister n r v) NoWord tt)
+    (counted_stay
+    (λ y j on. ap (λ (o : Option Place). option_map_or (is_waiting_on y) o false) (sym (place j)) ∙ on)
+    (λ y sub on. sym (member_same y s t refl refl sub) ∙ on)
+    (λ y j on. woken_at y j t ∙ (ap (λ (o : Option Place). woken_place y o (how_far_of j t)) (place j) ∙ (ap (woken_place y (place_of j s)) (far j) ∙ (sym (woken_at y j s) ∙ on))))
+    ((h Unscripted).awake refl).counted) h
+  where
+    t : Core
+    t = set_register n r v s
+
+    place : (j : ℕ) → place_of j t ≡ place_of j s
+    place j = grind (arith, nat_tests, get-change)
+
+    far : (j : ℕ) → how_far_of j t ≡ how_far_of j s
+    far j = grind (arith, nat_tests, get-change)

@@ -1,0 +1,11 @@
+pub mod WalkedLemmas
+pub mod SteadyLemmas
+pub mod PieceLemmas
+pub mod EndLeads
+pub mod EndCounts
+pub mod EndLemmas
+pub mod CallLemmas
+pub mod InsideLemmas
+pub mod StartLemmas
+pub mod TailLemmas
+pub mod AnywhereLemmas

@@ -1,6 +1,0 @@
-use Rattle.std.proofs.Common.{◌≡◌, map, take}
-use Rattle.task_scenario.specs.Lower.{host_def}
-use Rattle.task_scenario.proofs.lower.host_defs.Given as goal
-
-abbrev pub invariant-loop-host : goal.invariant-loop-host
-invariant-loop-host l = l.defs ≡ map host_def (take l.host-index l.hosts)

@@ -1,6 +1,0 @@
-use Rattle.std.proofs.Common.{◌≡◌, map}
-use Rattle.task_scenario.specs.Lower.{main_op}
-use Rattle.task_scenario.proofs.lower.main_ops.Given as goal
-
-abbrev pub invariant-loop-line : goal.invariant-loop-line
-invariant-loop-line l = l.ops ≡ map main_op l.yielded
