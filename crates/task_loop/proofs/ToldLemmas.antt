@@ -4,9 +4,8 @@ use Rattle.group_laws.proofs.ListLemmas.{finish_none}
 use Rattle.group_laws.proofs.EndGroups.{mild_group}
 use Rattle.group_laws.proofs.MoveGroups.{Mild, mild_same}
 use Rattle.group_laws.proofs.RunTells.{data_runs_mild}
-use Rattle.group_laws.specs.Groups.{stake}
 use Rattle.group_laws.proofs.MainGroups.{mains_spare}
-use Rattle.group_laws.specs.Tells.{is_data, is_main_turn, is_start, worked_group}
+use Rattle.group_laws.specs.Tells.{is_data, is_main_turn, is_start, staked, worked_group}
 use Rattle.group_notices.proofs.RunLemmas.{asked_told, data_told, main_told, step_told_on}
 use Rattle.group_notices.specs.Mirror.{Leads, Mirrors, told_by}
 use Rattle.group_notices.specs.Runs.{HasTold, IsAsked, moment}
@@ -14,11 +13,11 @@ use Rattle.group_notices.specs.declared.tells.Asked.{Asked}
 use Rattle.std.proofs.Common.{ap, append-nil, arith, length, le_refl, le_trans, refl, subst, sym, ◌∙◌, ◌≡◌}
 use Rattle.std.proofs.lemmas.Bool.Decides.{nat_tests}
 use Rattle.std.specs.List.{list_all}
-use Rattle.std.specs.Prelude.{Bool, Err, IfOk, IfSome, List, None, Ok, Option, Result, Some, [], false, is_some, option_map, true, unwrap_or, ℕ, ◌++◌, ◌+◌, ◌==◌, ◌∷◌, ◌≤◌}
+use Rattle.std.specs.Prelude.{Bool, Err, IfOk, IfSome, List, None, Ok, Option, Result, Some, [], false, is_some, option_map, true, ℕ, ◌++◌, ◌+◌, ◌==◌, ◌∷◌, ◌≤◌}
 use Rattle.task_group.proofs.GroupLemmas.{told-append, told-none}
 use Rattle.task_group.specs.Groups.{Groups}
 use Rattle.task_group.specs.Listeners.{Told}
-use Rattle.task_loop.specs.Told.{Begins, MainTells, TurnTells, TurnTold, main_notices, notices_made, runs_on, turn_of}
+use Rattle.task_loop.specs.Told.{MainTells, TurnTells, TurnTold, main_notices, notices_made, runs_on, turn_of}
 use Rattle.task_machine.specs.Core.{Core, Main, State, Unscripted}
 use Rattle.task_machine.specs.Maps.{get}
 use Rattle.task_machine.specs.Read.{thread_group}
@@ -56,18 +55,6 @@ use Rattle.task_turns.specs.declared.made.Stepped.TheVariants as stepped
 use Rattle.task_turns.specs.declared.mains.MainStep.{MainStep}
 use Rattle.task_turns.specs.declared.mains.MainStep.TheVariants as step
 use Rattle.task_words.specs.StateView.{StateView}
-
--- ---- What is asked
-
-module _ (c : Component) (s : Core) (a b : Asked) where
-  pub asked_run : (n : ℕ) → Begins s (turn.Run n) a → b ≡ record a { staked = stake c n s } → IsAsked c s (turn.Run n) b
-  asked_run n h e = subst (IsAsked c s (turn.Run n)) (sym e) (record { running = h.running; worked = h.worked; staked = refl; live = h.live })
-
-  pub asked_take : (ended : Bool) → Begins s (turn.Take ended) a → b ≡ record a { worked = worked_group s (turn.Take ended) } → IsAsked c s (turn.Take ended) b
-  asked_take ended h e = subst (IsAsked c s (turn.Take ended)) (sym e) (record { running = h.running; worked = refl; staked = h.staked; live = h.live })
-
-  pub asked_poll : (n : ℕ) → Begins s (turn.Futures n) a → b ≡ record a { worked = worked_group s (turn.Futures n) } → IsAsked c s (turn.Futures n) b
-  asked_poll n h e = subst (IsAsked c s (turn.Futures n)) (sym e) (record { running = h.running; worked = refl; staked = h.staked; live = h.live })
 
 -- ---- Main's step
 
@@ -159,19 +146,19 @@ module _ (x : Setting) (p : Turn) (main : is_main_turn p ≡ false) (m : Main) (
 
 -- ---- By whose turn it is
 
-pub tells_main : (c : Component) (p : Turn) (s : Core) (a : Asked) (old new : Groups) (main : Type 0) → is_main_turn p ≡ true → TurnTells c p s a old new main → main
-tells_main c turn.Main s a old new main e h = h
-tells_main c (turn.Futures n) s a old new main e h = absurd (cc)
-tells_main c (turn.Take b) s a old new main e h = absurd (cc)
-tells_main c (turn.Run n) s a old new main e h = absurd (cc)
-tells_main c turn.Over s a old new main e h = absurd (cc)
+pub tells_main : (c : Component) (p : Turn) (s : Core) (g : ℕ) (w : Option ℕ) (old new : Groups) (main : Type 0) → is_main_turn p ≡ true → TurnTells c p s g w old new main → main
+tells_main c turn.Main s g w old new main e h = h
+tells_main c (turn.Futures n) s g w old new main e h = absurd (cc)
+tells_main c (turn.Take b) s g w old new main e h = absurd (cc)
+tells_main c (turn.Run n) s g w old new main e h = absurd (cc)
+tells_main c turn.Over s g w old new main e h = absurd (cc)
 
-pub tells_other : (c : Component) (p : Turn) (s : Core) (a : Asked) (old new : Groups) (main : Type 0) → is_main_turn p ≡ false → TurnTells c p s a old new main → IsAsked c s p a × (new ≡ old)
-tells_other c turn.Main s a old new main e h = absurd (cc)
-tells_other c (turn.Futures n) s a old new main e h = h
-tells_other c (turn.Take b) s a old new main e h = h
-tells_other c (turn.Run n) s a old new main e h = h
-tells_other c turn.Over s a old new main e h = h
+pub tells_other : (c : Component) (p : Turn) (s : Core) (g : ℕ) (w : Option ℕ) (old new : Groups) (main : Type 0) → is_main_turn p ≡ false → TurnTells c p s g w old new main → (g ≡ staked c s p) × ((w ≡ worked_group s p) × (new ≡ old))
+tells_other c turn.Main s g w old new main e h = absurd (cc)
+tells_other c (turn.Futures n) s g w old new main e h = h
+tells_other c (turn.Take b) s g w old new main e h = h
+tells_other c (turn.Run n) s g w old new main e h = h
+tells_other c turn.Over s g w old new main e h = h
 
 -- main's turn
 pub main_at : (p : Turn) → is_main_turn p ≡ true → p ≡ turn.Main

@@ -1,7 +1,7 @@
 -- What the steps of a run tell the groups of the store.
-use Rattle.std.specs.Prelude.{Bool, IfSome, List, None, Option, Some, [], false, length, unwrap_or, ◌++◌, ◌==◌, ◌≡◌}
-use Rattle.group_notices.specs.Runs.{IsAsked, moment}
-use Rattle.group_notices.specs.declared.tells.Asked.{Asked}
+use Rattle.std.specs.Prelude.{Bool, IfSome, List, None, Option, Some, [], false, ℕ, ◌++◌, ◌==◌, ◌≡◌}
+use Rattle.group_laws.specs.Tells.{staked, worked_group}
+use Rattle.group_notices.specs.Runs.{moment}
 use Rattle.task_group.specs.Groups.{Groups}
 use Rattle.task_group.specs.Listeners.{Told}
 use Rattle.task_machine.specs.Core.{Core, Main}
@@ -37,13 +37,6 @@ abbrev pub turn_of : Stepped → Turn
 turn_of (stepped.Goes p computed) = p
 turn_of (stepped.Over o) = turn.Over
 
--- This is asked before the function of the step says more: no work is worked on, and only the running thread's own group is at stake.
-pub record Begins (s : Core) (p : Turn) (a : Asked) : Type 0 where
-  pub running : a.running ≡ running_group s p
-  pub worked : a.worked ≡ None
-  pub staked : a.staked ≡ unwrap_or (running_group s p) 0
-  pub live : a.live ≡ length s.groups
-
 -- the notices of the step that was made, if one was
 abbrev pub notices_made : Turn → Main → Core → Option Made → Main → Core → List Notice
 notices_made p m s None n t = []
@@ -62,7 +55,7 @@ pub record MainTells (x : Setting) (m : Main) (s : StateView) (old : Groups) (q 
   pub told : AddedOrNone (λ made. TurnTold x turn.Main m s old made n t new) q before after
   pub idle : IfSome q (λ k. running_group t.core (turn_of k) ≡ None)
 
--- Main's step is told by main; in other turns it is known what is to be told, and nothing was.
-abbrev pub TurnTells : Component → Turn → Core → Asked → Groups → Groups → Type 0 → Type 0
-TurnTells c turn.Main s a old new main = main
-TurnTells c p s a old new main = IsAsked c s p a × (new ≡ old)
+-- Main's step is told by main; in other turns it is known which group is at stake and whose work is worked on, and nothing was told.
+abbrev pub TurnTells : Component → Turn → Core → ℕ → Option ℕ → Groups → Groups → Type 0 → Type 0
+TurnTells c turn.Main s stake work old new main = main
+TurnTells c p s stake work old new main = (stake ≡ staked c s p) × ((work ≡ worked_group s p) × (new ≡ old))

@@ -1,9 +1,9 @@
-ghost use Rattle.std.specs.Prelude.{◌≡◌, ◌*◌, ◌+◌, ◌<◌, ◌≤◌, ◌^◌, IfErr, IfOk, IfSome, None, OnErr, OnOk, Some, true, Bool};
+ghost use Rattle.std.specs.Prelude.{◌≡◌, ◌*◌, ◌+◌, ◌<◌, ◌≤◌, ◌^◌, IfErr, IfOk, IfSome, None, OnErr, OnOk, Some, true, unwrap_or, Bool};
 ghost use Rattle.group_laws.specs.Groups.{stake};
 ghost use Rattle.group_laws.specs.Tells.{is_main_turn};
 ghost use Rattle.group_notices.specs.Runs.{HasTold};
 ghost use Rattle.task_group.specs.Listeners.{Told};
-ghost use Rattle.task_loop.specs.Told.{Begins, MainTells, TurnTells, TurnTold, main_notices, turn_of};
+ghost use Rattle.task_loop.specs.Told.{MainTells, TurnTells, TurnTold, main_notices, turn_of};
 ghost use Rattle.task_machine.specs.Read.{thread_group};
 ghost use Rattle.task_ops.specs.Works.{NamesWorks};
 ghost use Rattle.task_rules.specs.Notices.{running_group};
@@ -129,23 +129,23 @@ fn run_thread<T, H: AccessorTask<T> + FromHost>(
     store: &mut Store<T, H>,
     thread: u64,
     trace: &mut Trace,
-    asked: &mut Asked,
+    staked: &mut u64,
 ) -> Result<Stepped, NoMemory>
     requires covered { IsWellFormed component.now }
     requires order { Sits component.now (Turn.Run thread) store.old.state.core }
     requires current { running_of store.old.state ≡ Some thread }
     requires given { given store.old.state.core + 4 < 2 ^ 61 }
-    requires own { asked.old.staked ≡ thread_group thread store.old.state.core }
+    requires own { staked.old ≡ thread_group thread store.old.state.core }
     requires hosts { HoldsHosts H.course store.old }
     ensures stands { standing store.new ≡ standing store.old }
     ensures makes { IfOk result (λ stepped. Added (λ made. Makes component.now (Turn.Run thread) store.old.state made store.new.state × IsFree made.turn) stepped trace.old trace.new) }
     ensures works { OnOk result (NamesWorks store.old.state store.new.state) }
     ensures hosts { OnOk result (HoldsHosts H.course store.new) }
-    ensures asked { asked.new ≡ record asked.old { staked = stake component.now thread store.old.state.core } }
+    ensures staked { staked.new ≡ stake component.now thread store.old.state.core }
     ensures groups { OnOk result (store.new.groups ≡ store.old.groups) }
     ensures err { OnErr result (trace.new ≡ trace.old) }
 {
-    match step_run(component, &mut store.state, thread, trace, asked)? {
+    match step_run(component, &mut store.state, thread, trace, staked)? {
         RunStep::Shown(stepped) => Ok(stepped),
         RunStep::Called(ran) => {
             store.call_host(ran.polled, ran.work)?;
@@ -300,7 +300,8 @@ impl RunConcurrent {
         store: &mut Store<T, H>,
         main: &mut M,
         trace: &mut Trace,
-        asked: &mut Asked,
+        staked: &mut u64,
+        worked: &mut Option<u64>,
     ) -> Result<Option<Stepped>, NoMemory>
         requires covered { IsWellFormed component.now }
         requires at { IsAtTurn component.now self.now.turn store.old.state }
@@ -308,7 +309,8 @@ impl RunConcurrent {
         requires knows { M.knows main.old store.old.state }
         requires hosts { HoldsHosts H.course store.old }
         requires groups { HoldsGroups store.old.groups store.old.state.core }
-        requires begins { Begins store.old.state.core self.now.turn asked.old }
+        requires own { staked.old ≡ unwrap_or (running_group store.old.state.core self.now.turn) 0 }
+        requires unworked { worked.old ≡ None }
         requires given { given store.old.state.core + 4 < 2 ^ 61 }
         requires pends { PendsIn (setting_of component.now (M.script main.old) self.now.trap_on_idle) store.old.state.core (M.part main.old) self.now.turn }
         ensures script { M.script main.new ≡ M.script main.old }
@@ -318,13 +320,13 @@ impl RunConcurrent {
         ensures stands { standing store.new ≡ standing store.old }
         ensures does { IfOk result (λ stepped. AddedOrNone (λ made. DoesStep M.does main.old (step_of made) main.new) stepped trace.old trace.new) }
         ensures turned { IfOk result (λ stepped. AddedOrNone (λ made. Turned (setting_of component.now (M.script main.old) self.now.trap_on_idle) self.now.turn (M.part main.old) store.old.state made (M.part main.new) store.new.state) stepped trace.old trace.new) }
-        ensures tells { IfOk result (λ stepped. TurnTells component.now self.now.turn store.old.state.core asked.new store.old.groups store.new.groups (MainTells (setting_of component.now (M.script main.old) self.now.trap_on_idle) (M.part main.old) store.old.state store.old.groups stepped trace.old (M.part main.new) store.new.state store.new.groups trace.new)) }
+        ensures tells { IfOk result (λ stepped. TurnTells component.now self.now.turn store.old.state.core staked.new worked.new store.old.groups store.new.groups (MainTells (setting_of component.now (M.script main.old) self.now.trap_on_idle) (M.part main.old) store.old.state store.old.groups stepped trace.old (M.part main.new) store.new.state store.new.groups trace.new)) }
         ensures err { OnErr result (trace.new ≡ trace.old) }
     {
         match self.turn {
             Turn::Main => Ok(Some(step_main(component, store, main, trace)?)),
             Turn::Futures { polled } => {
-                let made = store.poll_next(polled, asked);
+                let made = store.poll_next(polled, worked);
                 Ok(Some(put(trace, made)?))
             }
             Turn::Take { ended } => take(
@@ -333,9 +335,9 @@ impl RunConcurrent {
                 ended,
                 self.trap_on_idle,
                 trace,
-                asked,
+                worked,
             ),
-            Turn::Run { thread } => Ok(Some(run_thread(component, store, thread, trace, asked)?)),
+            Turn::Run { thread } => Ok(Some(run_thread(component, store, thread, trace, staked)?)),
             Turn::Over => unreachable!(),
         }
     }
@@ -372,19 +374,22 @@ impl RunConcurrent {
         ensures told { IfOk result (λ stepped. AddedOrNone (λ made. TurnTold (setting_of component.now (M.script main.old) self.now.trap_on_idle) self.now.turn (M.part main.old) store.old.state store.old.groups made (M.part main.new) store.new.state store.new.groups) stepped trace.old trace.new) }
         ensures err { OnErr result (trace.new ≡ trace.old) }
     {
-        let mut asked = Asked {
-            running: *running,
-            worked: None,
-            staked: running.unwrap_or(0),
-            live: store.state.groups(),
-        };
-        let stepped = self.turn(component, store, main, trace, &mut asked)?;
+        let live = store.state.groups();
+        let mut staked = running.unwrap_or(0);
+        let mut worked = None;
+        let stepped = self.turn(component, store, main, trace, &mut staked, &mut worked)?;
         if is_main(self.turn) {
             return Ok(stepped);
         }
         match stepped {
             None => Ok(None),
             Some(stepped) => {
+                let asked = Asked {
+                    running: *running,
+                    worked,
+                    staked,
+                    live,
+                };
                 let after = turn_of(&stepped);
                 *running = tell(&store.state, &mut store.groups, self.turn, after, &asked);
                 Ok(Some(stepped))

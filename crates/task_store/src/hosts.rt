@@ -19,7 +19,6 @@ ghost use Rattle.task_words.specs.StateView.{Keeps, work_of};
 
 use crate::spawn::SpawnHandle;
 use crate::store::Store;
-use group_notices::Asked;
 use host_works::{AccessorTask, FromHost};
 use state_calls::TaskError;
 use task_machine::{Course, HostDef, NoMemory, Phase};
@@ -84,13 +83,13 @@ impl<T, H: AccessorTask<T>> Store<T, H> {
     }
 
     /// Polls the live work that is next, past those with numbers up to `polled`. Its group is asked.
-    pub fn poll_next(&mut self, polled: u64, asked: &mut Asked) -> Made
+    pub fn poll_next(&mut self, polled: u64, worked: &mut Option<u64>) -> Made
         requires placed { Placed self.old.state.core }
         requires works { WorksQueued self.old.state.core }
         requires current { self.old.state.current ≡ None }
         requires settled { IsSettled self.old.state.core (Turn.Futures polled) }
         requires hosts { HoldsHosts H.course self.old }
-        ensures asked { asked.new ≡ record asked.old { worked = worked_group self.old.state.core (Turn.Futures polled) } }
+        ensures worked { worked.new ≡ worked_group self.old.state.core (Turn.Futures polled) }
         ensures turns { (x : Setting) → (m : Main) → PendsIn x self.old.state.core m (Turn.Futures polled) → Turns x (Turn.Futures polled) m self.old.state result m self.new.state }
         ensures works { KeepsWorks self.old.state self.new.state }
         ensures hosts { HoldsHosts H.course self.new }
@@ -99,7 +98,7 @@ impl<T, H: AccessorTask<T>> Store<T, H> {
         let Some(work) = self.state.next_polled(polled) else {
             unreachable!()
         };
-        asked.worked = self.state.work_group(work);
+        *worked = self.state.work_group(work);
         self.tell(work);
         poll(&mut self.state, work, polled)
     }

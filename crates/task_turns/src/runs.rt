@@ -23,7 +23,6 @@ ghost use Rattle.task_turns.specs.WellFormed.{IsWellFormed};
 ghost use Rattle.task_words.specs.StateView.{thread_of};
 
 use crate::made::{Ran, RunStep, Stepped, made_of, show};
-use group_notices::Asked;
 use group_stakes::stake_of;
 use label_trace::Trace;
 use op_dispatch::{Done, do_host_call, do_op, do_plain_op, exit, is_host_call, op_at, script_ops};
@@ -155,9 +154,9 @@ fn run_by<W: Words>(
     op: &Op,
     end: u32,
     trace: &mut Trace,
-    asked: &mut Asked,
+    staked: &mut u64,
 ) -> Result<RunStep, NoMemory>
-    requires own { asked.old.staked ≡ thread_group (thread_of (W.view w.old) thread) (W.view w.old).core }
+    requires own { staked.old ≡ thread_group (thread_of (W.view w.old) thread) (W.view w.old).core }
     requires runner { Runner thread (W.view w.old) }
     requires fits { op_fits component.now op.now ≡ true }
     requires instances { HasInstances component.now (W.view w.old).core }
@@ -168,10 +167,10 @@ fn run_by<W: Words>(
     ensures step { IfOk result (λ step. RowStep (λ came. op_row component.now (thread_of (W.view w.old) thread) (W.view w.old).core (choice_of (label_of (thread_of (W.view w.old) thread) came)) op.now) thread (W.view w.old) trace.old step (W.view w.new) trace.new) }
     ensures polls { IfOk result (λ step. StepPolls (polled_host component.now (how_far_of (thread_of (W.view w.old) thread) (W.view w.old).core) op.now) (W.view w.old) step (W.view w.new)) }
     ensures works { OnOk result (NamesWorks (W.view w.old) (W.view w.new)) }
-    ensures asked { asked.new ≡ record asked.old { staked = stake_of (thread_of (W.view w.old) thread) (W.view w.old).core op.now } }
+    ensures staked { staked.new ≡ stake_of (thread_of (W.view w.old) thread) (W.view w.old).core op.now }
     ensures err { OnErr result (trace.new ≡ trace.old) }
 {
-    asked.staked = stake_of(w, thread, op, asked.staked);
+    *staked = stake_of(w, thread, op, *staked);
     match op {
         Op::Call(call) if is_host_call(call) => {
             let ran = run_host(component, w, thread, call)?;
@@ -198,14 +197,14 @@ pub fn step_run<W: Words>(
     w: &mut W,
     number: u64,
     trace: &mut Trace,
-    asked: &mut Asked,
+    staked: &mut u64,
 ) -> Result<RunStep, NoMemory>
-    requires own { asked.old.staked ≡ thread_group number (W.view w.old).core }
+    requires own { staked.old ≡ thread_group number (W.view w.old).core }
     requires covered { IsWellFormed component.now }
     requires order { Sits component.now (Turn.Run number) (W.view w.old).core }
     requires runs { running_of (W.view w.old) ≡ Some number }
     requires few { given (W.view w.old).core < 2 ^ 61 }
-    ensures asked { asked.new ≡ record asked.old { staked = stake component.now number (W.view w.old).core } }
+    ensures staked { staked.new ≡ stake component.now number (W.view w.old).core }
     ensures ran { IfOk result (λ ran. RunAdded (λ ran. (Makes component.now (Turn.Run number) (W.view w.old) ran.made (W.view w.new) × IsFree ran.made.turn) × RanPolls component.now number (W.view w.old) ran (W.view w.new)) ran trace.old trace.new) }
     ensures works { OnOk result (NamesWorks (W.view w.old) (W.view w.new)) }
     ensures err { OnErr result (trace.new ≡ trace.old) }
@@ -217,7 +216,7 @@ pub fn step_run<W: Words>(
     let point = w.at(thread);
     let script = script_ops(component, point.callee, point.script);
     match op_at(script, point.position) {
-        Some(op) => run_by(component, w, thread, op, script.len() as u32, trace, asked),
+        Some(op) => run_by(component, w, thread, op, script.len() as u32, trace, staked),
         None => {
             let stepped = run_exit(w, thread, trace)?;
             Ok(RunStep::Shown(stepped))

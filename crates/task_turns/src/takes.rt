@@ -18,7 +18,6 @@ ghost use Rattle.task_turns.specs.Turn.{IsFree, Makes, Shows, Sits, Took};
 ghost use Rattle.task_words.specs.StateView.{thread_of, work_of};
 
 use crate::made::{Made, Stepped, put, show};
-use group_notices::Asked;
 use label_trace::Trace;
 use subtask_ops::take_host;
 use task_machine::{Component, Delivery, Label, Mark, NoMemory, TakeLabel, Turn, Why};
@@ -148,12 +147,12 @@ pub fn step_take<W: Words>(
     w: &mut W,
     ended: bool,
     trace: &mut Trace,
-    asked: &mut Asked,
+    worked: &mut Option<u64>,
 ) -> Result<Option<Stepped>, NoMemory>
-    requires unworked { asked.old.worked ≡ None }
+    requires unworked { worked.old ≡ None }
     requires order { Sits component.now (Turn.Take ended) (W.view w.old).core }
     requires current { (W.view w.old).current ≡ None }
-    ensures asked { asked.new ≡ record asked.old { worked = entry_group (next_entry (W.view w.old).core) (W.view w.old).core } }
+    ensures worked { worked.new ≡ entry_group (next_entry (W.view w.old).core) (W.view w.old).core }
     ensures took { IfOk result (λ stepped. AddedOrNone (λ made. Took component.now ended (W.view w.old) made (W.view w.new)) stepped trace.old trace.new) }
     ensures works { OnOk result (KeepsWorks (W.view w.old) (W.view w.new)) }
     ensures err { OnErr result (trace.new ≡ trace.old) }
@@ -170,7 +169,7 @@ pub fn step_take<W: Words>(
             Ok(Some(stepped))
         }
         Some((mark, EntryId::Host(work))) => {
-            asked.worked = w.work_group(work);
+            *worked = w.work_group(work);
             let made = step_host(component, w, ended, mark, work);
             let stepped = put(trace, made)?;
             Ok(Some(stepped))

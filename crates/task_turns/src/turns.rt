@@ -22,7 +22,6 @@ use crate::rests::{step_deadlock, step_rest};
 use crate::settles::nothing_stands;
 use crate::stretches::stretch;
 use crate::takes::step_take;
-use group_notices::Asked;
 use label_trace::Trace;
 use task_machine::{Component, NoMemory, Turn};
 use task_words::{Words, WorkId};
@@ -69,16 +68,16 @@ pub fn take<W: Words>(
     ended: bool,
     trap_on_idle: bool,
     trace: &mut Trace,
-    asked: &mut Asked,
+    worked: &mut Option<u64>,
 ) -> Result<Option<Stepped>, NoMemory>
-    requires unworked { asked.old.worked ≡ None }
+    requires unworked { worked.old ≡ None }
     requires at { IsAtTurn component.now (Turn.Take ended) (W.view w.old) }
-    ensures asked { asked.new ≡ record asked.old { worked = worked_group (W.view w.old).core (Turn.Take ended) } }
+    ensures worked { worked.new ≡ worked_group (W.view w.old).core (Turn.Take ended) }
     ensures turned { IfOk result (λ stepped. AddedOrNone (λ made. TurnedBeside component.now trap_on_idle (Turn.Take ended) (W.view w.old) made (W.view w.new)) stepped trace.old trace.new) }
     ensures works { OnOk result (KeepsWorks (W.view w.old) (W.view w.new)) }
     ensures err { OnErr result (trace.new ≡ trace.old) }
 {
-    match step_take(component, w, ended, trace, asked)? {
+    match step_take(component, w, ended, trace, worked)? {
         Some(stepped) => Ok(Some(stepped)),
         None if ended => unreachable!(),
         None => match rest(w, trap_on_idle) {

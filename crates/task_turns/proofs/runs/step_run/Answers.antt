@@ -97,10 +97,10 @@ returns-in_ok-stepped-in-None-clause-ran g c =
 pub run_by-requires-clause-own : goal.run_by-requires-clause-own
 run_by-requires-clause-own g c =
     let s = g.W.View.view c.args.w.now in
-    subst (λ (k : ℕ). c.args.asked.now.staked ≡ thread_group k s.core) (sym (number_at c.args.number s c.requires.runs c.in-Some.thread (sym c.current.ensures ∙ c.in-Some.is))) c.requires.own
+    subst (λ (k : ℕ). c.args.staked.now ≡ thread_group k s.core) (sym (number_at c.args.number s c.requires.runs c.in-Some.thread (sym c.current.ensures ∙ c.in-Some.is))) c.requires.own
 
-pub returns-in-Some-op_at-clause-asked : goal.returns-in-Some-op_at-clause-asked
-returns-in-Some-op_at-clause-asked g c =
+pub returns-in-Some-op_at-clause-staked : goal.returns-in-Some-op_at-clause-staked
+returns-in-Some-op_at-clause-staked g c =
     let s = g.W.View.view c.args.w.now in
     let n = thread_of s c.in-Some.thread in
     let q = runner c.args.component.now c.args.number s c.requires.order c.none_is_zero.ensures.threads c.requires.runs c.in-Some.thread (sym c.current.ensures ∙ c.in-Some.is) in
@@ -108,24 +108,24 @@ returns-in-Some-op_at-clause-asked g c =
     let number = number_at c.args.number s c.requires.runs c.in-Some.thread (sym c.current.ensures ∙ c.in-Some.is) in
     let o = c.in-Some-op_at.op.now in
     let is = op_is comp n s.core q.thread q.here c.script_ops-script.result.now c.at-point.result.callee (task_of n s.core) c.at-point.result.position c.at-point.result.script c.at-point.ensures.callee refl (c.at-point.ensures.script q.thread q.here) c.script_ops-script.ensures c.at-point.ensures.position (Some o) (sym (ap option_copied c.in-Some-op_at.is) ∙ c.op_at.ensures) in
-    c.run_by.ensures.asked ∙ ap (λ (k : ℕ). record c.args.asked.now { staked = k }) (sym (stake_is comp n s.core o is) ∙ ap (λ k. stake comp k s.core) number)
+    c.run_by.ensures.staked ∙ (sym (stake_is comp n s.core o is) ∙ ap (λ k. stake comp k s.core) number)
 
-pub returns-in_ok-stepped-in-None-clause-asked : goal.returns-in_ok-stepped-in-None-clause-asked
-returns-in_ok-stepped-in-None-clause-asked g c =
+pub returns-in_ok-stepped-in-None-clause-staked : goal.returns-in_ok-stepped-in-None-clause-staked
+returns-in_ok-stepped-in-None-clause-staked g c =
     let s = g.W.View.view c.args.w.now in
     let n = thread_of s c.in-Some.thread in
     let q = runner c.args.component.now c.args.number s c.requires.order c.none_is_zero.ensures.threads c.requires.runs c.in-Some.thread (sym c.current.ensures ∙ c.in-Some.is) in
     let comp = c.args.component.now in
     let number = number_at c.args.number s c.requires.runs c.in-Some.thread (sym c.current.ensures ∙ c.in-Some.is) in
     let is = op_is comp n s.core q.thread q.here c.script_ops-script.result.now c.at-point.result.callee (task_of n s.core) c.at-point.result.position c.at-point.result.script c.at-point.ensures.callee refl (c.at-point.ensures.script q.thread q.here) c.script_ops-script.ensures c.at-point.ensures.position None (sym (ap option_copied c.in-None.is) ∙ c.op_at.ensures) in
-    ap (λ (k : ℕ). record c.args.asked.now { staked = k }) (c.requires.own ∙ (ap (λ (k : ℕ). thread_group k s.core) (sym number) ∙ (sym (stake_is comp n s.core (op.Task task.Exit) is) ∙ ap (λ k. stake comp k s.core) number)))
+    (c.requires.own ∙ (ap (λ (k : ℕ). thread_group k s.core) (sym number) ∙ (sym (stake_is comp n s.core (op.Task task.Exit) is) ∙ ap (λ k. stake comp k s.core) number)))
 
-pub returns-in_err-stepped-in-None-clause-asked : goal.returns-in_err-stepped-in-None-clause-asked
-returns-in_err-stepped-in-None-clause-asked g c =
+pub returns-in_err-stepped-in-None-clause-staked : goal.returns-in_err-stepped-in-None-clause-staked
+returns-in_err-stepped-in-None-clause-staked g c =
     let s = g.W.View.view c.args.w.now in
     let n = thread_of s c.in-Some.thread in
     let q = runner c.args.component.now c.args.number s c.requires.order c.none_is_zero.ensures.threads c.requires.runs c.in-Some.thread (sym c.current.ensures ∙ c.in-Some.is) in
     let comp = c.args.component.now in
     let number = number_at c.args.number s c.requires.runs c.in-Some.thread (sym c.current.ensures ∙ c.in-Some.is) in
     let is = op_is comp n s.core q.thread q.here c.script_ops-script.result.now c.at-point.result.callee (task_of n s.core) c.at-point.result.position c.at-point.result.script c.at-point.ensures.callee refl (c.at-point.ensures.script q.thread q.here) c.script_ops-script.ensures c.at-point.ensures.position None (sym (ap option_copied c.in-None.is) ∙ c.op_at.ensures) in
-    ap (λ (k : ℕ). record c.args.asked.now { staked = k }) (c.requires.own ∙ (ap (λ (k : ℕ). thread_group k s.core) (sym number) ∙ (sym (stake_is comp n s.core (op.Task task.Exit) is) ∙ ap (λ k. stake comp k s.core) number)))
+    (c.requires.own ∙ (ap (λ (k : ℕ). thread_group k s.core) (sym number) ∙ (sym (stake_is comp n s.core (op.Task task.Exit) is) ∙ ap (λ k. stake comp k s.core) number)))

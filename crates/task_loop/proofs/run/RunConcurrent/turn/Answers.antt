@@ -4,8 +4,8 @@ use Rattle.std.proofs.Common.{ap, refl, subst, ◌≡◌}
 use Rattle.std.specs.Prelude.{Bool, Option, Some, unwrap_or}
 use Rattle.task_loop.proofs.DoesLemmas.{still, still_run, still_taken}
 use Rattle.task_loop.proofs.HoldLemmas.{held_taken}
-use Rattle.task_loop.proofs.ToldLemmas.{asked_poll, asked_run, asked_take, if_ok}
-use Rattle.task_loop.specs.Told.{Begins, TurnTold}
+use Rattle.task_loop.proofs.ToldLemmas.{if_ok}
+use Rattle.task_loop.specs.Told.{TurnTold}
 use Rattle.task_rules.specs.Notices.{running_group}
 use Rattle.task_loop.proofs.KnowsLemmas.{by_poll, by_run, by_take}
 use Rattle.task_loop.proofs.run.RunConcurrent.turn.Goals as goal
@@ -144,7 +144,7 @@ returns-in_ok-run_thread-in-Run-clause-does g c =
 -- ---- What is asked and told
 
 pub run_thread-requires-clause-own : goal.run_thread-requires-clause-own
-run_thread-requires-clause-own g c = subst (λ (p : Turn). c.args.asked.now.staked ≡ unwrap_or (running_group c.args.store.now.state.core p) 0) c.in-Run.is c.requires.begins.staked
+run_thread-requires-clause-own g c = subst (λ (p : Turn). c.args.staked.now ≡ unwrap_or (running_group c.args.store.now.state.core p) 0) c.in-Run.is c.requires.own
 
 pub returns-in_ok-step_main-in-Main-clause-tells : goal.returns-in_ok-step_main-in-Main-clause-tells
 returns-in_ok-step_main-in-Main-clause-tells g c =
@@ -161,17 +161,14 @@ returns-in_ok-step_main-in-Main-clause-tells g c =
     })
 
 pub returns-in_ok-run_thread-in-Run-clause-tells : goal.returns-in_ok-run_thread-in-Run-clause-tells
-returns-in_ok-run_thread-in-Run-clause-tells g c =
-    let s = c.args.store.now.state.core in
-    rw c.in-Run.is (asked_run c.args.component.now s c.args.asked.now c.run_thread.new.asked c.in-Run.thread (subst (λ (p : Turn). Begins s p c.args.asked.now) c.in-Run.is c.requires.begins) c.run_thread.ensures.asked, c.in_ok-run_thread-in-Run.ensures.groups)
+returns-in_ok-run_thread-in-Run-clause-tells g c = rw c.in-Run.is (c.run_thread.ensures.staked, (c.requires.unworked, c.in_ok-run_thread-in-Run.ensures.groups))
 
 pub returns-in_ok-put-in-Futures-clause-tells : goal.returns-in_ok-put-in-Futures-clause-tells
 returns-in_ok-put-in-Futures-clause-tells g c =
-    let s = c.args.store.now.state.core in
-    rw c.in-Futures.is (asked_poll c.args.component.now s c.args.asked.now c.poll_next-made.new.asked c.in-Futures.polled (subst (λ (p : Turn). Begins s p c.args.asked.now) c.in-Futures.is c.requires.begins) c.poll_next-made.ensures.asked, ap (λ k. k.groups) c.poll_next-made.ensures.rest)
+    let own = subst (λ (p : Turn). c.args.staked.now ≡ unwrap_or (running_group c.args.store.now.state.core p) 0) c.in-Futures.is c.requires.own in
+    rw c.in-Futures.is (own, (c.poll_next-made.ensures.worked, ap (λ k. k.groups) c.poll_next-made.ensures.rest))
 
 pub returns-in-Take-clause-tells : goal.returns-in-Take-clause-tells
 returns-in-Take-clause-tells g c =
-    let s = c.args.store.now.state.core in
-    let asked = asked_take c.args.component.now s c.args.asked.now c.take.new.asked c.in-Take.ended (subst (λ (p : Turn). Begins s p c.args.asked.now) c.in-Take.is c.requires.begins) c.take.ensures.asked in
-    rw c.in-Take.is (if_ok _ c.take.result (asked, refl))
+    let own = subst (λ (p : Turn). c.args.staked.now ≡ unwrap_or (running_group c.args.store.now.state.core p) 0) c.in-Take.is c.requires.own in
+    rw c.in-Take.is (if_ok _ c.take.result (own, (c.take.ensures.worked, refl)))
