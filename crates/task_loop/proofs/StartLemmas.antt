@@ -132,3 +132,12 @@ announced P (Err error.HookFailed) ns a b none told failed other h =
     let lt = failed refl in
     absurd (omega (arith, before, after, lt))
 announced P (Err error.NoMemory) ns a b none told failed other h = absurd (other refl)
+
+-- the finish of a call keeps them
+result_kept : (g : Groups) (k : ℕ) (s : StateView) → HoldsGroups g s.core → HoldsGroups g (on_core (take_result k) s).core
+unfolding take_result
+result_kept g k s h = record { made = h.made; mirror = h.mirror; unhooked = h.unhooked }
+
+pub finish_keeps : (g : Groups) (k : ℕ) (s t : StateView) (r : Poll ℕ) → Finishes k s r t → HoldsGroups g s.core → HoldsGroups g t.core
+finish_keeps g k s t (Ready v) f h = subst (λ (u : StateView). HoldsGroups g u.core) (sym f.1) (result_kept g k s h)
+finish_keeps g k s t Pending f h = subst (λ (u : StateView). HoldsGroups g u.core) (sym f.1) h

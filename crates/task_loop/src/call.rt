@@ -187,6 +187,7 @@ impl Func {
         ensures call { call.new ≡ call.old }
         ensures order { (c : Component) → (p : Turn) → Sits c p store.old.state.core → Sits c p store.new.state.core }
         ensures hosts { (course : H → HostDef) → HoldsHosts course store.old → HoldsHosts course store.new }
+        ensures groups { HoldsGroups store.old.groups store.old.state.core → HoldsGroups store.new.groups store.new.state.core }
         ensures rest { store.new ≡ record store.old { state = store.new.state } }
     {
         finish_call(&mut store.state, call.thread)
