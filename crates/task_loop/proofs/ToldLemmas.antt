@@ -128,11 +128,14 @@ module _ (x : Setting) (p : Turn) (main : is_main_turn p ≡ false) (m : Main) (
       let at = stands_turn q before made.0 after made.1.0 in
       let here = told s.core.groups holds.mirror leads.0 in (
         made.0,
-        (made.1.0, record {
-          turned = made.1.1;
-          told = subst (λ (ns : List Notice). Told ns old.listeners new.listeners)
-              (ap (λ (k : Turn). told_by a (running_group t.core k) s.core.groups t.core.groups) (sym at) ∙ leads.1) here;
-        }),
+        (
+          made.1.0,
+          record {
+            turned = made.1.1;
+            told = subst (λ (ns : List Notice). Told ns old.listeners new.listeners)
+                (ap (λ (k : Turn). told_by a (running_group t.core k) s.core.groups t.core.groups) (sym at) ∙ leads.1) here;
+          },
+        ),
       )
 
   pub other_holds : ((gs : List ℕ) → Mirrors gs old → Leads a (length t.core.groups) gs t.core.groups → Mirrors t.core.groups new) → new.made ≡ old.made → is_some new.listeners.hook ≡ false → HoldsGroups new t.core

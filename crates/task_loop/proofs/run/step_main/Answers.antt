@@ -60,7 +60,7 @@ returns-clause-told g c =
     let turns = λ (b : Bool). c.made_by_main-made.ensures.turns (x b) m n s.state c.in-Ok.ensures.ok in
     let none = idle_at made.turn t.state.core (running_of t.state) (turns true).running (c.in-Ok.ensures.current ∙ c.requires.at.running) in
     let told = subst (λ (ns : List Notice). Told ns s.groups.listeners t.groups.listeners)
-        (sym (main_moment c.args.component.now ops m s.state.core n t.state.core c.in-Ok.step c.in-Ok.ensures.ok made.label c.made_by_main-made.ensures.label made.turn none)) c.in-Ok.ensures.told in
+    (sym (main_moment c.args.component.now ops m s.state.core n t.state.core c.in-Ok.step c.in-Ok.ensures.ok made.label c.made_by_main-made.ensures.label made.turn none)) c.in-Ok.ensures.told in
     ok_then (λ (q : Stepped). Stands q c.args.trace.now made c.put.new.trace) (λ (q : Stepped). Added (λ (k : Made). (b : Bool) → TurnTold (x b) turn.Main m s.state s.groups (Some k) n t.state t.groups) q c.args.trace.now c.put.new.trace) c.put.result
     (λ q h. (made, (h, λ b. record { turned = turns b; told = told }))) c.put.ensures.stands
 

@@ -12,9 +12,10 @@ returns-clause-refused g c =
     let next : c.prepare.new.self.made ≡ c.self.inside.made + 1 = c.in-Ok.ensures.number (omega (arith, was)) in
     let live : c.self.inside.counts ≡ c.args.self.now.live = ap (λ (t : Groups). t.live) c.self.view_is in
     let made = c.prepare.new.self.made in
-    on_err_weaker c.announce.result (λ h.
-      (h.0 ∙ (ap (λ (t : Groups). finite.remove t.live made) ok
+    on_err_weaker c.announce.result (λ h. (
+      h.0 ∙ (ap (λ (t : Groups). finite.remove t.live made) ok
           ∙ (ap (λ m. finite.remove (finite.insert m made 1) made) (sym live)
           ∙ (remove-above c.self.inside.counts c.self.inside.made made 1 (omega (arith, next)) c.self.invariant ∙ live))),
-       h.1 ∙ omega (arith, next, was)))
-      c.announce.ensures.refused
+      h.1 ∙ omega (arith, next, was),
+    ))
+    c.announce.ensures.refused
