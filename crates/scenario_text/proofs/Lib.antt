@@ -1,6 +1,8 @@
 pub mod Splits
 pub mod ReadFrom
 pub mod FirstByte
+pub mod WordEnd
+pub mod MainKept
 pub mod StandingLaws
 pub mod ExportLaws
 pub mod CalleeLaws

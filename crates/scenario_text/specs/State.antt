@@ -35,7 +35,8 @@ use Rattle.scenario_text.specs.declared.tree.MainOpText.{MainOpText}
 use Rattle.scenario_text.specs.declared.tree.MainOpText.TheVariants as main
 use Rattle.scenario_text.specs.declared.tree.ScenarioText.{ScenarioText}
 use Rattle.text_lines.specs.Words.{◌>>=◌}
-use Rattle.text_lines.specs.Line.{line_at}
+use Rattle.text_lines.specs.declared.keyword.Keyword.{Keyword}
+use Rattle.text_lines.specs.Line.{line_after, line_at}
 use Rattle.scenario_text.specs.Spelling.{Lines, exports_of}
 use Rattle.task_machine.specs.Read.{is_callback}
 use Rattle.scenario_text.specs.Placement.{host_opens, has_room_for_op, op_suits, params_of, export_opens, slot_opens, instance_opens, main_has_room, start_opens, finish_opens, spawn_opens, spawn_named, aborter_opens}
@@ -291,6 +292,10 @@ after s (line.MainOp o) = after_main_op s o
 after s (line.Answer x) = after_answer s x
 after s (line.Aborter ks) = after_aborter s ks
 after s line.End = after_end s
+
+-- what the line of a keyword and the words after it makes of a state
+abbrev pub after_keyword : State → Keyword → List (List ℕ) → Option State
+after_keyword s k words = line_after k words >>= λ l. after s l
 
 -- what one more line makes of a state
 unfoldable pub after_words : State → List (List ℕ) → Option State

@@ -2,6 +2,7 @@
 #![tactic(auto)]
 
 mod callee;
+mod main_lines;
 mod placement;
 mod read;
 mod state;

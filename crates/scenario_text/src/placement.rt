@@ -1,12 +1,12 @@
 //! Where a line may stand: the limits, and the names that stand on earlier lines.
 ghost use Rattle.std.specs.Prelude.{◌≡◌, ◌+◌, ◌-◌, ◌&&◌};
-ghost use Rattle.std.specs.List.{list_all, list_any};
+ghost use Rattle.std.specs.List.{list_any};
 ghost use Rattle.std.specs.Str.{bytes_eq};
 ghost use Rattle.task_machine.specs.Read.{is_callback};
-ghost use Rattle.scenario_text.specs.Placement.{host_opens, has_room_for_op, is_callback_end, op_suits, is_export, is_export_named, exports_among, export_count, export_opens, fills, slot_opens, instance_opens, main_has_room, is_start, is_spawn, finishes, start_count, spawn_count, start_opens, finish_opens, spawn_opens, is_spawned, spawn_named, aborter_opens};
+ghost use Rattle.scenario_text.specs.Placement.{host_opens, has_room_for_op, is_callback_end, op_suits, is_export, is_export_named, exports_among, export_count, export_opens, fills, slot_opens, instance_opens};
 
-use crate::tree::{HostText, InstanceText, MainOpText, PartText};
-use task_machine::{ExportKind, Op, Seq, TaskOp};
+use crate::tree::{HostText, InstanceText, PartText};
+use task_machine::{ExportKind, Op, TaskOp};
 
 // The most ops of a script.
 const OPS: usize = 4_096;
@@ -17,18 +17,6 @@ const HOSTS: usize = 256;
 const INSTANCES: usize = 64;
 
 const EXPORTS: usize = 256;
-
-// The most ops of main before its answer, and the most starts and the most spawns among them.
-const MAIN_OPS: usize = 4_095;
-
-const STARTS: usize = 256;
-
-const SPAWNS: usize = 256;
-
-// The most aborters, and the most spawns that one aborts.
-const ABORTERS: usize = 8;
-
-const ABORTS: usize = 16;
 
 fn has_host(before: &[HostText], name: &[u8]) -> bool
     ensures { result ≡ list_any (λ h. bytes_eq h.name name.now) before.now }
@@ -169,100 +157,4 @@ pub fn slot_opens(before: &[PartText], slot: u8) -> bool
     ensures { result ≡ slot_opens before.now slot }
 {
     !is_filled(before, slot)
-}
-
-/// Whether an op of main may follow these, if nothing else forbids it.
-pub fn main_has_room(before: &[MainOpText]) -> bool
-    ensures { result ≡ main_has_room before.now }
-{
-    before.len() < MAIN_OPS
-}
-
-fn is_start(op: &MainOpText) -> bool
-    ensures { result ≡ is_start op.now }
-{
-    matches!(op, MainOpText::Start(..))
-}
-
-fn is_spawn(op: &MainOpText) -> bool
-    ensures { result ≡ is_spawn op.now }
-{
-    matches!(op, MainOpText::Spawn(_))
-}
-
-fn finishes(op: &MainOpText, start: u32) -> bool
-    ensures { result ≡ finishes start op.now }
-{
-    matches!(op, MainOpText::Finish(k, _) if *k == start)
-}
-
-fn start_count(before: &[MainOpText]) -> usize
-    ensures { result ≡ start_count before.now }
-{
-    before.iter().filter(|o| is_start(o)).count()
-}
-
-fn spawn_count(before: &[MainOpText]) -> usize
-    ensures { result ≡ spawn_count before.now }
-{
-    before.iter().filter(|o| is_spawn(o)).count()
-}
-
-fn is_finished(before: &[MainOpText], start: u32) -> bool
-    ensures { result ≡ list_any (finishes start) before.now }
-{
-    before.iter().any(|o| finishes(o, start))
-}
-
-/// Whether a start may follow these ops of main.
-pub fn start_opens(before: &[MainOpText]) -> bool
-    ensures { result ≡ start_opens before.now }
-{
-    main_has_room(before) && start_count(before) < STARTS
-}
-
-/// Whether a finish of this start, an earlier one that isn't finished, may follow these ops of main.
-pub fn finish_opens(before: &[MainOpText], start: u32) -> bool
-    ensures { result ≡ finish_opens before.now start }
-{
-    main_has_room(before)
-        && 1 <= start
-        && start as usize <= start_count(before)
-        && !is_finished(before, start)
-}
-
-/// Whether a spawn may follow these ops of main.
-pub fn spawn_opens(before: &[MainOpText]) -> bool
-    ensures { result ≡ spawn_opens before.now }
-{
-    main_has_room(before) && spawn_count(before) < SPAWNS
-}
-
-fn is_spawned(before: &[MainOpText], spawn: u32) -> bool
-    ensures { result ≡ is_spawned before.now spawn }
-{
-    1 <= spawn && spawn as usize <= spawn_count(before)
-}
-
-/// Whether an op on this spawn, an earlier one, may follow these ops of main.
-pub fn spawn_named(before: &[MainOpText], spawn: u32) -> bool
-    ensures { result ≡ spawn_named before.now spawn }
-{
-    main_has_room(before) && is_spawned(before, spawn)
-}
-
-fn all_spawned(main: &[MainOpText], spawns: &[u32]) -> bool
-    ensures { result ≡ list_all (is_spawned main.now) spawns.now }
-{
-    spawns.iter().all(|k| is_spawned(main, *k))
-}
-
-/// Whether an aborter of these spawns of main may follow those before it.
-pub fn aborter_opens(main: &[MainOpText], before: &[Seq<u32>], spawns: &[u32]) -> bool
-    ensures { result ≡ aborter_opens main.now before.now spawns.now }
-{
-    before.len() < ABORTERS
-        && 1 <= spawns.len()
-        && spawns.len() <= ABORTS
-        && all_spawned(main, spawns)
 }

@@ -10,7 +10,7 @@ use crate::state::State;
 use crate::tree::ScenarioText;
 use memchr::memchr;
 use std::alloc::{AllocError, Global};
-use text_lines::{LineError, read_line};
+use text_lines::LineError;
 
 /// Why a text gave no scenario.
 #[derive(Clone, Copy)]
@@ -43,12 +43,34 @@ fn first_line(text: &[u8]) -> Option<(&[u8], &[u8])>
     }
 }
 
-// Where the first word of a line ends.
+// Where the first word of a line ends. Four bytes are looked at in a turn: most words are short.
 fn word_end(line: &[u8]) -> Option<usize>
     ensures place { result ≡ position (λ b. b == 32) line.now }
     ensures inside { IfSome result (λ i. i < length line.now) }
 {
-    line.iter().position(|b| *b == b' ')
+    let mut at = 0;
+    'fours: while line.len() - at >= 4 {
+        if line[at] == b' ' {
+            return Some(at);
+        }
+        if line[at + 1] == b' ' {
+            return Some(at + 1);
+        }
+        if line[at + 2] == b' ' {
+            return Some(at + 2);
+        }
+        if line[at + 3] == b' ' {
+            return Some(at + 3);
+        }
+        at += 4;
+    }
+    'ones: while at < line.len() {
+        if line[at] == b' ' {
+            return Some(at);
+        }
+        at += 1;
+    }
+    None
 }
 
 // Puts the words of a line into a list that is used for each line.
@@ -65,7 +87,6 @@ fn split_words<'a>(list: &mut Vec<&'a [u8]>, line: &'a [u8]) -> Result<(), Alloc
     Ok(())
 }
 
-#[tactic(auto, unfolding(crate::specs::State::after_words))]
 fn add_line<'a>(
     alloc: Global,
     state: &mut State,
@@ -75,8 +96,7 @@ fn add_line<'a>(
     ensures { Becomes state.new result (after_words state.old (words line.now)) }
 {
     split_words(list, line)?;
-    let line = read_line(alloc, list)?;
-    state.add(alloc, line)
+    state.add(alloc, list)
 }
 
 fn read(alloc: Global, text: &[u8]) -> Result<ScenarioText, TextError>

@@ -1,19 +1,23 @@
 //! What was read so far, and what each kind of line adds to it.
-ghost use Rattle.std.specs.Prelude.{◌≡◌, Some};
+ghost use Rattle.std.specs.Prelude.{◌≡◌, Some, map};
 ghost use Rattle.std.specs.Option.{option_map};
 ghost use Rattle.text_lines.specs.Gives.{Gives, Becomes};
+ghost use Rattle.text_lines.specs.declared.keyword.Keyword.TheVariants as keyword;
 ghost use Rattle.scenario_text.specs.State.{with_op, with_part, start_of, finish_of, spawn_of, ready_of, main_op_of};
 
 use crate::callee::{call_of, callee_of, fitting_export, host_place, params_of};
+use crate::main_lines::MainLines;
 use crate::placement::{
-    aborter_opens, export_opens, finish_opens, host_opens, instance_opens, is_callback,
-    main_has_room, op_opens, slot_opens, spawn_named, spawn_opens, start_opens,
+    export_opens, host_opens, instance_opens, is_callback, op_opens, slot_opens,
 };
 use crate::tree::{ExportText, HostText, InstanceText, MainOpText, PartText, ScenarioText};
 use std::alloc::Global;
 use std::mem;
-use task_machine::{ExportKind, IdleLine, Op, Operand, Seq};
-use text_lines::{HeadLine, Line, LineError, Name, NamedCall, NamedOp, PartLine};
+use task_machine::{DataOp, ExportKind, IdleLine, Op, Operand, Seq};
+use text_lines::{
+    DataWord, HeadLine, Keyword, Line, LineError, Name, NamedCall, NamedOp, PartLine, line_after,
+    target,
+};
 
 /// The head, the hosts, and the instances that are closed.
 #[derive(Drop)]
@@ -79,7 +83,7 @@ fn push_op(callback: bool, ops: &mut Seq<Op>, op: Op) -> Result<(), LineError>
 #[tactic(auto, unfolding(crate::specs::State::start_of))]
 fn start_of(
     instances: &[InstanceText],
-    before: &[MainOpText],
+    before: &MainLines,
     instance: &[u8],
     export: &[u8],
     operands: Seq<Operand>,
@@ -87,31 +91,33 @@ fn start_of(
     ensures { result ≡ start_of instances.now before.now instance.now export.now operands }
 {
     let callee = fitting_export(instances, instance, export, operands.as_slice())?;
-    if !start_opens(before) {
+    if !before.start_opens() {
         return None;
     }
     Some(MainOpText::Start(callee, operands))
 }
 
 #[tactic(auto, unfolding(crate::specs::State::finish_of))]
-fn finish_of(before: &[MainOpText], start: u32, register: u8) -> Option<MainOpText>
+fn finish_of(before: &MainLines, start: u32, register: u8) -> Option<MainOpText>
     ensures { result ≡ finish_of before.now start register }
 {
-    finish_opens(before, start).then_some(MainOpText::Finish(start, register))
+    before
+        .finish_opens(start)
+        .then_some(MainOpText::Finish(start, register))
 }
 
 #[tactic(auto, unfolding(crate::specs::State::spawn_of))]
-fn spawn_of(hosts: &[HostText], before: &[MainOpText], name: &[u8]) -> Option<MainOpText>
+fn spawn_of(hosts: &[HostText], before: &MainLines, name: &[u8]) -> Option<MainOpText>
     ensures { result ≡ spawn_of hosts.now before.now name.now }
 {
     let host = host_place(hosts, name)?;
-    spawn_opens(before).then_some(MainOpText::Spawn(host))
+    before.spawn_opens().then_some(MainOpText::Spawn(host))
 }
 
 #[tactic(auto, unfolding(crate::specs::State::ready_of))]
 fn ready_of(
     instances: &[InstanceText],
-    before: &[MainOpText],
+    before: &MainLines,
     instance: &[u8],
     export: &[u8],
 ) -> Option<MainOpText>
@@ -119,11 +125,11 @@ fn ready_of(
 {
     let callee = callee_of(instances, instance, export)?;
     let _params = params_of(instances, callee)?;
-    main_has_room(before).then_some(MainOpText::Ready(callee))
+    before.has_room().then_some(MainOpText::Ready(callee))
 }
 
 #[tactic(auto, unfolding(crate::specs::State::main_op_of))]
-fn main_op_of(body: &Body, before: &[MainOpText], op: NamedOp) -> Option<MainOpText>
+fn main_op_of(body: &Body, before: &MainLines, op: NamedOp) -> Option<MainOpText>
     ensures { result ≡ main_op_of body.now before.now op }
 {
     let (hosts, instances) = (body.hosts.as_slice(), body.instances.as_slice());
@@ -137,9 +143,9 @@ fn main_op_of(body: &Body, before: &[MainOpText], op: NamedOp) -> Option<MainOpT
         ),
         NamedOp::Finish(start, register) => finish_of(before, start, register),
         NamedOp::Spawn(host) => spawn_of(hosts, before, host.as_slice()),
-        NamedOp::Abort(k) => spawn_named(before, k).then_some(MainOpText::Abort(k)),
-        NamedOp::Await(k) => spawn_named(before, k).then_some(MainOpText::Await(k)),
-        NamedOp::Quiet => main_has_room(before).then_some(MainOpText::Quiet),
+        NamedOp::Abort(k) => before.spawn_named(k).then_some(MainOpText::Abort(k)),
+        NamedOp::Await(k) => before.spawn_named(k).then_some(MainOpText::Await(k)),
+        NamedOp::Quiet => before.has_room().then_some(MainOpText::Quiet),
         NamedOp::Ready(instance, export) => {
             ready_of(instances, before, instance.as_slice(), export.as_slice())
         }
@@ -162,9 +168,9 @@ pub enum State {
     React(Body, InstanceText, Opening, Seq<Op>, Seq<Op>),
     /// A slot is open, with its script so far.
     Thread(Body, InstanceText, u8, Seq<Op>),
-    Main(Body, Seq<MainOpText>),
+    Main(Body, MainLines),
     /// Main has answered; the aborters so far.
-    Answered(Body, Seq<MainOpText>, Operand, Seq<Seq<u32>>),
+    Answered(Body, MainLines, Operand, Seq<Seq<u32>>),
     Ended(ScenarioText),
 }
 
@@ -182,7 +188,7 @@ impl Drop for State {
 }
 
 impl State {
-    ghost use Rattle.scenario_text.specs.State.{script_closed, instance_closed, main_open, script_body, after_title, after_handles, after_table, after_idle, after_head, after_host, after_instance, after_export, after_react, after_thread, after_bad, after_part, after_op, after_call, after_main, after_main_op, after_answer, after_aborter, after_end, after, scenario_of};
+    ghost use Rattle.scenario_text.specs.State.{script_closed, instance_closed, main_open, script_body, after_title, after_handles, after_table, after_idle, after_head, after_host, after_instance, after_export, after_react, after_thread, after_bad, after_part, after_op, after_call, after_main, after_main_op, after_answer, after_aborter, after_end, after, after_keyword, after_words, scenario_of};
 
     #[tactic(auto, unfolding(crate::specs::State::script_closed))]
     fn close_script(self) -> Result<(Body, InstanceText), LineError>
@@ -376,6 +382,7 @@ impl State {
         }
     }
 
+    #[inline(never)]
     #[tactic(auto, unfolding(crate::specs::State::after_op))]
     fn add_op(&mut self, op: Op) -> Result<(), LineError>
         ensures { Becomes self.new result (after_op self.old op) }
@@ -417,11 +424,11 @@ impl State {
         ensures { Gives result (after_main self) }
     {
         let body = self.close_instance()?;
-        Ok(State::Main(body, Seq::new(alloc)))
+        Ok(State::Main(body, MainLines::new(alloc)))
     }
 
     #[tactic(auto, unfolding(crate::specs::State::main_open))]
-    fn open_main(self) -> Result<(Body, Seq<MainOpText>), LineError>
+    fn open_main(self) -> Result<(Body, MainLines), LineError>
         ensures { Gives result (main_open self) }
     {
         match self {
@@ -435,7 +442,9 @@ impl State {
         ensures { Gives result (after_main_op self op) }
     {
         let (body, mut ops) = self.open_main()?;
-        let op = main_op_of(&body, ops.as_slice(), op).ok_or(LineError::Bad)?;
+        let Some(op) = main_op_of(&body, &ops, op) else {
+            return Err(LineError::Bad);
+        };
         ops.push(op)?;
         Ok(State::Main(body, ops))
     }
@@ -454,7 +463,7 @@ impl State {
     {
         match self {
             State::Answered(body, ops, value, mut before) => {
-                if !aborter_opens(ops.as_slice(), before.as_slice(), spawns.as_slice()) {
+                if !ops.aborter_opens(before.as_slice(), spawns.as_slice()) {
                     return Err(LineError::Bad);
                 }
                 before.push(spawns)?;
@@ -475,7 +484,7 @@ impl State {
                 idle: body.idle,
                 hosts: body.hosts,
                 instances: body.instances,
-                main,
+                main: main.into_ops(),
                 answer,
                 aborters,
             })),
@@ -524,22 +533,62 @@ impl State {
 
     // Adds any line. It stays out of line, so that the lines of scripts don't pay for its values.
     #[inline(never)]
-    fn add_any(&mut self, alloc: Global, line: Line) -> Result<(), LineError>
-        ensures { Becomes self.new result (after self.old line) }
-    {
-        *self = self.taken().after_line(alloc, line)?;
-        Ok(())
-    }
-
-    /// Adds a further line to what was read. After an error nothing is said of the state.
     #[tactic(auto, unfolding(crate::specs::State::after))]
-    pub fn add(&mut self, alloc: Global, line: Line) -> Result<(), LineError>
-        ensures { Becomes self.new result (after self.old line) }
+    fn add_line(
+        &mut self,
+        alloc: Global,
+        keyword: Keyword,
+        words: &[&[u8]],
+    ) -> Result<(), LineError>
+        ensures { Becomes self.new result (after_keyword self.old keyword (map (λ w. w.now) words.now)) }
     {
-        match line {
+        match line_after(alloc, keyword, words)? {
             Line::Op(op) => self.add_op(op),
             Line::Call(call) => self.add_call(call),
-            line => self.add_any(alloc, line),
+            line => {
+                *self = self.taken().after_line(alloc, line)?;
+                Ok(())
+            }
+        }
+    }
+
+    // Adds an op on registers. The frequent ones are made where they are added, with no copy in between.
+    #[inline(always)]
+    #[tactic(auto, unfolding(text_lines::specs::Line::line_after, text_lines::specs::Line::data_op_after, crate::specs::State::after))]
+    fn add_data(&mut self, alloc: Global, word: DataWord, words: &[&[u8]]) -> Result<(), LineError>
+        ensures { Becomes self.new result (after_keyword self.old (keyword.Data word) (map (λ w. w.now) words.now)) }
+    {
+        match word {
+            DataWord::Set => {
+                let Some((to, value)) = target(words) else {
+                    return Err(LineError::Bad);
+                };
+                self.add_op(Op::Data(DataOp::Set { to, value }))
+            }
+            DataWord::Add => {
+                let Some((to, value)) = target(words) else {
+                    return Err(LineError::Bad);
+                };
+                self.add_op(Op::Data(DataOp::Add { to, value }))
+            }
+            word => self.add_line(alloc, Keyword::Data(word), words),
+        }
+    }
+
+    /// Adds the line that these words spell to what was read. After an error nothing is said of the state.
+    #[tactic(auto, unfolding(crate::specs::State::after_words, text_lines::specs::Line::line_at))]
+    pub fn add(&mut self, alloc: Global, words: &[&[u8]]) -> Result<(), LineError>
+        ensures { Becomes self.new result (after_words self.old (map (λ w. w.now) words.now)) }
+    {
+        let Some((word, words)) = words.split_first() else {
+            return Err(LineError::Bad);
+        };
+        let Some(keyword) = Keyword::from_word(word) else {
+            return Err(LineError::Bad);
+        };
+        match keyword {
+            Keyword::Data(word) => self.add_data(alloc, word, words),
+            keyword => self.add_line(alloc, keyword, words),
         }
     }
 

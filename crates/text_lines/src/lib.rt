@@ -9,7 +9,9 @@ mod ops;
 mod parts;
 mod words;
 
+pub use keyword::{DataWord, Keyword};
 pub use line::{
-    CalleeName, HeadLine, HostWork, Line, LineError, NamedCall, NamedOp, PartLine, read_line,
+    CalleeName, HeadLine, HostWork, Line, LineError, NamedCall, NamedOp, PartLine, line_after,
 };
+pub use ops::target;
 pub use words::{Name, number_up_to};

@@ -1,6 +1,6 @@
 //! One line, apart from where it stands.
 ghost use Rattle.std.specs.Prelude.{◌≡◌, map};
-ghost use Rattle.text_lines.specs.Line.{frame_after, line_after, line_at};
+ghost use Rattle.text_lines.specs.Line.{frame_after, line_after};
 ghost use Rattle.text_lines.specs.Gives.{Gives};
 
 use crate::calls::{call_line_after, main_op_after};
@@ -121,8 +121,10 @@ fn frame_after(alloc: Global, word: FrameWord, words: &[&[u8]]) -> Result<Line, 
     }
 }
 
+/// The line that a keyword and the words after it spell, in the one spelling that it has. Numbers that
+/// count earlier lines are at most 4,095 here.
 #[tactic(auto, unfolding(crate::specs::Line::line_after))]
-fn line_after(alloc: Global, keyword: Keyword, words: &[&[u8]]) -> Result<Line, LineError>
+pub fn line_after(alloc: Global, keyword: Keyword, words: &[&[u8]]) -> Result<Line, LineError>
     ensures { Gives result (line_after keyword (map (λ w. w.now) words.now)) }
 {
     match keyword {
@@ -148,15 +150,4 @@ fn line_after(alloc: Global, keyword: Keyword, words: &[&[u8]]) -> Result<Line, 
         Keyword::Main(word) => Ok(Line::MainOp(main_op_after(alloc, word, words)?)),
         Keyword::Frame(word) => frame_after(alloc, word, words),
     }
-}
-
-/// The line that words spell, in the one spelling that it has. Numbers that count earlier lines are
-/// at most 4,095 here.
-#[tactic(auto, unfolding(crate::specs::Line::line_at))]
-pub fn read_line(alloc: Global, words: &[&[u8]]) -> Result<Line, LineError>
-    ensures { Gives result (line_at (map (λ w. w.now) words.now)) }
-{
-    let (word, words) = words.split_first().ok_or(LineError::Bad)?;
-    let keyword = Keyword::from_word(word).ok_or(LineError::Bad)?;
-    line_after(alloc, keyword, words)
 }

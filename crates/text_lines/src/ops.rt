@@ -21,13 +21,22 @@ pub fn operand_after(words: &[&[u8]]) -> Option<Operand>
     operand(one(words)?)
 }
 
-/// A register and an operand.
+/// A register and an operand, of two words.
+#[inline(always)]
 #[tactic(auto, unfolding(crate::specs::Line::target_after))]
 pub fn target(words: &[&[u8]]) -> Option<(u8, Operand)>
     ensures { result ≡ target_after (map (λ w. w.now) words.now) }
 {
-    let (to, value) = two(words)?;
-    Some((register(to)?, operand(value)?))
+    let Some((to, value)) = two(words) else {
+        return None;
+    };
+    let Some(to) = register(to) else {
+        return None;
+    };
+    let Some(value) = operand(value) else {
+        return None;
+    };
+    Some((to, value))
 }
 
 // A register to which an event is written, and an operand.

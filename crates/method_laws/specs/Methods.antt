@@ -1,0 +1,93 @@
+-- What the calls by which a host has the running thread do a piece of a row, or a row in place of the one at its place, leave in order.
+use Rattle.op_dispatch.specs.Goes.{running_of}
+use Rattle.state_calls.specs.declared.error.TaskError.{TaskError}
+use Rattle.state_calls.specs.declared.names.QualifiedThreadId.{QualifiedThreadId}
+use Rattle.order_laws.specs.Pieces.{IsPrepared}
+use Rattle.std.specs.Prelude.{Bool, List, None, Ok, Result, Some, false, is_some, length, true, ℕ, ◌+◌, ◌≡◌, ◌≤◌}
+use Rattle.task_calls.specs.Answers.{nothing_in}
+use Rattle.task_calls.specs.Asks.{Answers, turn_in}
+use Rattle.task_calls.specs.Calls.{Returns}
+use Rattle.task_calls.specs.Directs.{IsDirect, enters_row, exits_row, thread_in}
+use Rattle.task_calls.specs.Prepared.{Prepared, Prepares, goal_for, starts_in}
+use Rattle.task_calls.specs.Resumes.{Resumed, resumed_by}
+use Rattle.task_calls.specs.declared.answers.Step.{Step}
+use Rattle.task_calls.specs.declared.intrinsics.ResumeThread.{ResumeThread}
+use Rattle.task_calls.specs.declared.intrinsics.ResumeThread.TheVariants as resume
+use Rattle.task_machine.specs.Read.{callee_of, how_far_of, is_async_lifted, is_explicit, position_of, task_of}
+use Rattle.task_machine.specs.Write.{set_position}
+use Rattle.task_machine.specs.declared.component.Callee.{Callee}
+use Rattle.task_machine.specs.declared.component.Component.{Component}
+use Rattle.task_machine.specs.declared.records.HowFar.TheVariants as how_far
+use Rattle.task_machine.specs.declared.records.Turn.TheVariants as turn
+use Rattle.task_rules.specs.OpParts.{callee_of_op, is_sync_call}
+use Rattle.task_rules.specs.Scripts.{export_at, export_kind, op_of, script_of}
+use Rattle.task_turns.specs.Turn.{Sits}
+use Rattle.task_words.specs.StateView.{StateView, thread_of, with_core, with_current}
+
+-- n runs, no op of it is under way, and the core is in order
+pub record Rests (c : Component) (n : ℕ) (s : StateView) : Type 0 where
+  pub runs : running_of s ≡ Some n
+  pub fresh : how_far_of n s.core ≡ how_far.Fresh
+  pub order : Sits c (turn.Run n) s.core
+
+-- the core is in order at the turn of the thread that runs
+abbrev pub InTurn : Component → StateView → Type 0
+InTurn c s = Sits c (turn_in s) s.core
+
+-- ---- Another thread
+
+-- the other thread goes first, and doesn't wait for its turn at low
+abbrev pub goes_first : ResumeThread → Bool
+goes_first resume.ResumeLater = false
+goes_first how = true
+
+-- where another thread is resumed, or its yield promoted, by its handle, or that is refused
+unfoldable pub ResumesKeep : Type 0
+ResumesKeep = (c : Component) (how : ResumeThread) (n h : ℕ) (s t : StateView) (r : Result Bool TaskError) → goes_first how ≡ true →
+    Rests c n s → Resumed (resumed_by how n h s.core) s r t → InTurn c t
+
+-- ---- A return
+
+-- where the task returns, or that is refused, whatever the op at the thread's place is
+unfoldable pub ReturnsKeep : Type 0
+ReturnsKeep = (c : Component) (n v : ℕ) (own_type : Bool) (s t : StateView) (r : Result (Unit {0}) TaskError) → Rests c n s →
+    position_of n s.core + 1 ≤ length (script_of c n s.core) → Returns n v own_type s r t → InTurn c t
+
+-- at the script's end, too, all of order is so, but that the thread may be one place past it
+unfoldable pub ReturnsAtEnd : Type 0
+ReturnsAtEnd = (c : Component) (n v : ℕ) (own_type : Bool) (s t : StateView) → Rests c n s → Returns n v own_type s (Ok tt) t →
+    Sits c (turn_in t) (set_position n (length (script_of c n s.core)) t.core)
+
+-- ---- Direct calls
+
+-- where a direct call is exited, or that is refused, whatever the op at the place of its thread is
+unfoldable pub ExitsKeep : Type 0
+ExitsKeep = (c : Component) (n v : ℕ) (s t : StateView) (r : Result (Step (Unit {0})) TaskError) → Rests c n s → IsDirect n s.core →
+    Answers (exits_row v s.core) nothing_in s r t → InTurn c t
+
+-- where the export is called directly that the sync call at the thread's place calls, with any words, or that is refused
+unfoldable pub EntersKeep : Type 0
+EntersKeep = (c : Component) (n : ℕ) (e : Callee) (words : List ℕ) (s t : StateView) (r : Result (Step ℕ) TaskError) → Rests c n s →
+    callee_of_op (op_of c n s.core) ≡ Some e → is_sync_call (op_of c n s.core) ≡ true → is_async_lifted (export_kind c e) ≡ false →
+    Answers (enters_row c e words s.core) thread_in s r t → InTurn c t
+
+-- ---- A call in two halves
+
+-- where a call is prepared, or that is refused, whatever the op at the thread's place is, if the export that the thread serves is one of
+-- the component
+unfoldable pub PreparesKeep : Type 0
+PreparesKeep = (c : Component) (n q : ℕ) (async_caller room : Bool) (e : Callee) (words : List ℕ) (s t : StateView)
+    (r : Result QualifiedThreadId TaskError) → Rests c n s →
+    (is_explicit n s.core ≡ false → is_some (export_at c (callee_of (task_of n s.core) s.core)) ≡ true) →
+    Prepares c n e words (goal_for async_caller q) s room r t → Sits c (turn.Run n) t.core
+
+-- nothing has become of a call as it is prepared
+unfoldable pub PreparesMake : Type 0
+PreparesMake = (c : Component) (n q : ℕ) (async_caller : Bool) (e : Callee) (words : List ℕ) (s t : StateView) (id : QualifiedThreadId) →
+    Rests c n s → Prepared c n e words (goal_for async_caller q) s t id → IsPrepared n (thread_of t id.thread) t.core
+
+-- where it is started, whatever was done in between, and the op at the thread's place calls an export
+unfoldable pub StartsKeep : Type 0
+StartsKeep = (c : Component) (n : ℕ) (s t : StateView) (id : QualifiedThreadId) → Rests c n s →
+    IsPrepared n (thread_of s id.thread) s.core → is_some (callee_of_op (op_of c n s.core)) ≡ true →
+    t ≡ with_current None (with_core (starts_in n id s) s) → InTurn c t
