@@ -28,7 +28,8 @@ use Rattle.task_rules.specs.Calls.{call_made}
 use Rattle.task_rules.specs.MainOps.{main_started}
 use Rattle.task_store.proofs.HostLemmas.{holds_same}
 use Rattle.task_store.specs.Groups.{HoldsGroups}
-use Rattle.task_store.specs.Hosts.{HoldsWorks}
+use Rattle.task_store.specs.Hosts.{HoldsHosts, HoldsWorks}
+use Rattle.task_store.specs.declared.store.Store.{Store}
 use Rattle.task_turns.specs.Turn.{running_of}
 use Rattle.task_words.specs.StateView.{StateView, on_core, thread_of}
 
@@ -141,3 +142,8 @@ result_kept g k s h = record { made = h.made; mirror = h.mirror; unhooked = h.un
 pub finish_keeps : (g : Groups) (k : ℕ) (s t : StateView) (r : Poll ℕ) → Finishes k s r t → HoldsGroups g s.core → HoldsGroups g t.core
 finish_keeps g k s t (Ready v) f h = subst (λ (u : StateView). HoldsGroups g u.core) (sym f.1) (result_kept g k s h)
 finish_keeps g k s t Pending f h = subst (λ (u : StateView). HoldsGroups g u.core) (sym f.1) h
+
+-- a store that is trapped holds the same host works
+pub trapped_hosts : {T H : Type 0} (course : H → HostDef) (st : Store T H) (g : Groups) → HoldsHosts course st → HoldsHosts course (record st { state = on_core set_trapped st.state; groups = g })
+unfolding set_trapped
+trapped_hosts course st g h = record { there = h.there; ended = h.ended }
