@@ -12,6 +12,7 @@ use Rattle.group_notices.specs.Runs.{HasTold, IsAsked, moment}
 use Rattle.group_notices.specs.declared.tells.Asked.{Asked}
 use Rattle.std.proofs.Common.{ap, append-nil, arith, length, le_refl, le_trans, refl, subst, sym, ◌∙◌, ◌≡◌}
 use Rattle.std.proofs.lemmas.Bool.Decides.{nat_tests}
+use Rattle.std.proofs.lemmas.List.{append_cancel_left}
 use Rattle.std.specs.List.{list_all}
 use Rattle.std.specs.Prelude.{Bool, Err, IfOk, IfSome, List, None, Ok, Option, Result, Some, [], false, is_some, option_map, true, ℕ, ◌++◌, ◌+◌, ◌==◌, ◌∷◌, ◌≤◌}
 use Rattle.task_group.proofs.GroupLemmas.{told-append, told-none}
@@ -37,6 +38,8 @@ use Rattle.task_rules.proofs.LawLemmas.{never_fewer, runs_never_fewer, steady}
 use Rattle.task_rules.specs.History.{history}
 use Rattle.task_rules.specs.Laws.{Steady}
 use Rattle.task_rules.specs.Notices.{finish_notices, moment_notices, notices, running_group, start_notices, work_notices}
+use Rattle.task_machine.specs.declared.outcome.Outcome.{Outcome}
+use Rattle.task_rules.specs.Outcome.{IsOutcome}
 use Rattle.task_rules.specs.Run.{Run}
 use Rattle.task_rules.specs.Stalled.{Setting}
 use Rattle.task_rules.specs.Step.{Step}
@@ -44,7 +47,7 @@ use Rattle.task_store.specs.Groups.{HoldsGroups}
 use Rattle.task_turns.proofs.KeptLemmas.{sits_after}
 use Rattle.task_turns.proofs.MainLemmas.{main_step}
 use Rattle.task_turns.specs.Does.{label_of_step}
-use Rattle.task_turns.specs.Drive.{Computes}
+use Rattle.task_turns.specs.Drive.{Computes, Drives}
 use Rattle.task_turns.specs.Drive as drive
 use Rattle.task_turns.specs.Main.{IsOpOfMain, Steps, main_setting}
 use Rattle.task_turns.specs.Stepped.{Added, AddedOrNone, Stands}
@@ -353,3 +356,18 @@ module _ (c : Component) (ops : List MainOpDef) (m : Main) (s : Core) (n : Main)
     mirror = subst (λ (gs : List ℕ). Mirrors gs g) (sym (kept_groups q h other)) holds.mirror;
     unhooked = holds.unhooked;
   }
+
+-- the run that was told is one that was driven
+pub told_drives : (x : Setting) (s : State) (before : List Label) (t : State) (after : List Label) (steps : ℕ) (o : Outcome) (old new : Groups) → HasTold x s before t after old new → Drives x s before t after steps o →
+    (d : Drives x s before t after steps o) × Told (notices (history x s d.added t d.run)) old.listeners new.listeners
+told_drives x s before t after steps o old new h d =
+    let same : h.added ≡ d.added = append_cancel_left before h.added d.added (sym h.trace ∙ d.trace) in (
+      record {
+        added = h.added;
+        trace = h.trace;
+        run = h.run;
+        few = subst (λ (ls : List Label). length ls ≤ steps) (sym same) d.few;
+        ends = subst (λ (ls : List Label). IsOutcome x t ls steps o) (sym same) d.ends;
+      },
+      h.told,
+    )
