@@ -6,6 +6,8 @@
 #[cfg(test)]
 mod abort;
 #[cfg(test)]
+mod groups;
+#[cfg(test)]
 mod program;
 #[cfg(test)]
 mod report;

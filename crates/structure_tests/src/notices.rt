@@ -34,7 +34,7 @@ fn steps_are_told(rt: HostRuntime) {
         staked: 0,
         live: 1,
     };
-    assert!(&rt; tell_step(&mut groups, taken, Some(1), 1).is_ok());
+    assert!(&rt; tell_step(&mut groups, &taken, Some(1), 1).is_ok());
     last(&rt, &groups, 2, b'e');
     let exits = Asked {
         running: Some(1),
@@ -42,6 +42,6 @@ fn steps_are_told(rt: HostRuntime) {
         staked: 1,
         live: 1,
     };
-    assert!(&rt; tell_step(&mut groups, exits, None, 0).is_ok());
+    assert!(&rt; tell_step(&mut groups, &exits, None, 0).is_ok());
     last(&rt, &groups, 4, b'f');
 }

@@ -1,5 +1,13 @@
-ghost use Rattle.std.specs.Prelude.{◌≡◌, ◌*◌, ◌+◌, ◌<◌, ◌≤◌, ◌^◌, IfErr, IfOk, None, OnErr, OnOk, Some, false, true, Bool};
+ghost use Rattle.std.specs.Prelude.{◌≡◌, ◌*◌, ◌+◌, ◌<◌, ◌≤◌, ◌^◌, IfErr, IfOk, IfSome, None, OnErr, OnOk, Some, false, true, unwrap_or, Bool};
+ghost use Rattle.group_laws.specs.Groups.{stake};
+ghost use Rattle.group_laws.specs.Tells.{is_main_turn};
+ghost use Rattle.group_notices.specs.Runs.{HasTold};
+ghost use Rattle.task_group.specs.Listeners.{Told};
+ghost use Rattle.task_loop.specs.Told.{MainTells, TurnTells, TurnTold, main_notices, turn_of};
+ghost use Rattle.task_machine.specs.Read.{thread_group};
 ghost use Rattle.task_ops.specs.Works.{NamesWorks};
+ghost use Rattle.task_rules.specs.Notices.{running_group};
+ghost use Rattle.task_store.specs.Groups.{HoldsGroups};
 ghost use Rattle.task_loop.specs.Standing.{standing};
 ghost use Rattle.task_store.specs.Hosts.{HoldsHosts};
 ghost use Rattle.task_turns.specs.WellFormed.{IsWellFormed};
@@ -10,6 +18,8 @@ ghost use Rattle.task_turns.specs.Stepped.{Added, AddedOrNone};
 ghost use Rattle.task_turns.specs.Turn.{IsAtTurn, IsFree, IsSettled, Makes, PendsIn, Sits, Turned, Turns, given, goes_on, is_open, running_of, runs_in, setting_of, state_at};
 
 use crate::main_task::MainTask;
+use crate::tells::{group_of, tell};
+use group_notices::Asked;
 use run_pace::Pace;
 use store_access::Access;
 use task_calls::TaskError;
@@ -63,6 +73,7 @@ fn ask_main<T, H: HostWork, M: MainTask<T, H>>(
     requires suits { M.suits main.old component.now }
     requires knows { M.knows main.old store.old.state }
     requires hosts { HoldsHosts H.course store.old }
+    requires groups { HoldsGroups store.old.groups store.old.state.core }
     requires current { running_of store.old.state ≡ None }
     requires given { given store.old.state.core + 4 < 2 ^ 61 }
     ensures stands { standing store.new ≡ standing store.old }
@@ -71,6 +82,8 @@ fn ask_main<T, H: HostWork, M: MainTask<T, H>>(
     ensures knows { OnOk result (M.knows main.new store.new.state) }
     ensures hosts { OnOk result (HoldsHosts H.course store.new) }
     ensures current { OnOk result (running_of store.new.state ≡ running_of store.old.state) }
+    ensures groups { OnOk result (HoldsGroups store.new.groups store.new.state.core) }
+    ensures told { IfOk result (λ step. Told (main_notices step store.old.state.core store.new.state.core) store.old.groups.listeners store.new.groups.listeners) }
     ensures does { IfOk result (λ step. M.does main.old step main.new) }
     ensures ok { IfOk result (λ step. Steps component.now (M.script main.old) (M.part main.old) store.old.state.core step (M.part main.new) store.new.state.core) }
 {
@@ -90,6 +103,7 @@ fn step_main<T, H: HostWork, M: MainTask<T, H>>(
     requires suits { M.suits main.old component.now }
     requires knows { M.knows main.old store.old.state }
     requires hosts { HoldsHosts H.course store.old }
+    requires groups { HoldsGroups store.old.groups store.old.state.core }
     requires given { given store.old.state.core + 4 < 2 ^ 61 }
     ensures stands { standing store.new ≡ standing store.old }
     ensures script { M.script main.new ≡ M.script main.old }
@@ -98,6 +112,9 @@ fn step_main<T, H: HostWork, M: MainTask<T, H>>(
     ensures hosts { OnOk result (HoldsHosts H.course store.new) }
     ensures does { IfOk result (λ stepped. Added (λ made. DoesStep M.does main.old (step_shown made.label) main.new) stepped trace.old trace.new) }
     ensures turns { IfOk result (λ stepped. Added (λ made. (trap_on_idle : Bool) → Turns (setting_of component.now (M.script main.old) trap_on_idle) Turn.Main (M.part main.old) store.old.state made (M.part main.new) store.new.state) stepped trace.old trace.new) }
+    ensures groups { OnOk result (HoldsGroups store.new.groups store.new.state.core) }
+    ensures told { IfOk result (λ stepped. Added (λ made. (trap_on_idle : Bool) → TurnTold (setting_of component.now (M.script main.old) trap_on_idle) Turn.Main (M.part main.old) store.old.state store.old.groups (Some made) (M.part main.new) store.new.state store.new.groups) stepped trace.old trace.new) }
+    ensures idle { IfOk result (λ stepped. running_group store.new.state.core (turn_of stepped) ≡ None) }
     ensures err { OnErr result (trace.new ≡ trace.old) }
 {
     let Ok(step) = ask_main(component, store, main) else {
@@ -115,25 +132,47 @@ fn run_thread<T, H: AccessorTask<T> + FromHost>(
     store: &mut Store<T, H>,
     thread: u64,
     trace: &mut Trace,
+    staked: &mut u64,
 ) -> Result<Stepped, NoMemory>
     requires covered { IsWellFormed component.now }
     requires order { Sits component.now (Turn.Run thread) store.old.state.core }
     requires current { running_of store.old.state ≡ Some thread }
     requires given { given store.old.state.core + 4 < 2 ^ 61 }
+    requires own { staked.old ≡ thread_group thread store.old.state.core }
     requires hosts { HoldsHosts H.course store.old }
     ensures stands { standing store.new ≡ standing store.old }
     ensures makes { IfOk result (λ stepped. Added (λ made. Makes component.now (Turn.Run thread) store.old.state made store.new.state × IsFree made.turn) stepped trace.old trace.new) }
     ensures works { OnOk result (NamesWorks store.old.state store.new.state) }
     ensures hosts { OnOk result (HoldsHosts H.course store.new) }
+    ensures staked { staked.new ≡ stake component.now thread store.old.state.core }
+    ensures groups { OnOk result (store.new.groups ≡ store.old.groups) }
     ensures err { OnErr result (trace.new ≡ trace.old) }
 {
-    match step_run(component, &mut store.state, thread, trace)? {
+    match step_run(component, &mut store.state, thread, trace, staked)? {
         RunStep::Shown(stepped) => Ok(stepped),
         RunStep::Called(ran) => {
             store.call_host(ran.polled, ran.work)?;
             put(trace, ran.made)
         }
     }
+}
+
+// Whose turn it is after a step.
+#[inline(always)]
+fn turn_of(stepped: &Stepped) -> Turn
+    ensures { result ≡ turn_of stepped.now }
+{
+    match stepped {
+        Stepped::Goes { turn, computed: _ } => *turn,
+        Stepped::Over(_) => Turn::Over,
+    }
+}
+
+#[inline(always)]
+fn is_main(turn: Turn) -> bool
+    ensures { result ≡ is_main_turn turn }
+{
+    matches!(turn, Turn::Main)
 }
 
 impl RunConcurrent {
@@ -162,6 +201,7 @@ impl RunConcurrent {
         requires suits { M.suits main.old component.now }
         requires knows { M.knows main.old store.old.state }
         requires hosts { HoldsHosts H.course store.old }
+        requires groups { HoldsGroups store.old.groups store.old.state.core }
         requires given { given store.old.state.core ≤ 2 ^ 60 }
         requires current { running_of store.old.state ≡ runs_in self.old.turn }
         requires unfinished { is_open self.old.turn ≡ true }
@@ -172,6 +212,8 @@ impl RunConcurrent {
         ensures knows { OnOk result (M.knows main.new store.new.state) }
         ensures hosts { OnOk result (HoldsHosts H.course store.new) }
         ensures idle { self.new.trap_on_idle ≡ self.old.trap_on_idle }
+        ensures groups { OnOk result (HoldsGroups store.new.groups store.new.state.core) }
+        ensures told { OnOk result (HasTold (setting_of component.now (M.script main.old) self.old.trap_on_idle) (state_at store.old.state.core (M.part main.old) self.old.turn) trace.old (state_at store.new.state.core (M.part main.new) self.new.turn) trace.new store.old.groups store.new.groups) }
         ensures stands { standing store.new ≡ standing store.old }
         ensures ok { IfOk result (λ outcome. Drives (setting_of component.now (M.script main.old) self.old.trap_on_idle) (state_at store.old.state.core (M.part main.old) self.old.turn) trace.old (state_at store.new.state.core (M.part main.new) self.new.turn) trace.new steps outcome) }
         ensures unfinished { IfOk result (λ outcome. is_open self.new.turn ≡ goes_on outcome) }
@@ -209,6 +251,7 @@ impl RunConcurrent {
         requires suits { M.suits main.old component.now }
         requires knows { M.knows main.old store.old.state }
         requires hosts { HoldsHosts H.course store.old }
+        requires groups { HoldsGroups store.old.groups store.old.state.core }
         requires given { given store.old.state.core ≤ 2 ^ 60 }
         requires pends { PendsIn (setting_of component.now (M.script main.old) self.old.trap_on_idle) store.old.state.core (M.part main.old) self.old.turn }
         ensures script { M.script main.new ≡ M.script main.old }
@@ -216,14 +259,17 @@ impl RunConcurrent {
         ensures knows { OnOk result (M.knows main.new store.new.state) }
         ensures hosts { OnOk result (HoldsHosts H.course store.new) }
         ensures idle { self.new.trap_on_idle ≡ self.old.trap_on_idle }
+        ensures groups { OnOk result (HoldsGroups store.new.groups store.new.state.core) }
+        ensures told { OnOk result (HasTold (setting_of component.now (M.script main.old) self.old.trap_on_idle) (state_at store.old.state.core (M.part main.old) self.old.turn) trace.old (state_at store.new.state.core (M.part main.new) self.new.turn) trace.new store.old.groups store.new.groups) }
         ensures stands { standing store.new ≡ standing store.old }
         ensures does { OnOk result (DoesAdded M.does main.old trace.old main.new trace.new) }
         ensures err { OnErr result (WasGoing (setting_of component.now (M.script main.old) self.old.trap_on_idle) (state_at store.old.state.core (M.part main.old) self.old.turn) trace.old trace.new steps) }
         ensures ok { IfOk result (λ outcome. Drove (setting_of component.now (M.script main.old) self.old.trap_on_idle) (state_at store.old.state.core (M.part main.old) self.old.turn) trace.old (given store.old.state.core) self.new.turn (M.part main.new) store.new.state trace.new steps outcome) }
     {
         let mut added = 0;
+        let mut running = group_of(&store.state, self.turn);
         'turns: while added < steps {
-            match self.turn(component, store, main, trace)? {
+            match self.told_turn(component, store, main, trace, &mut running)? {
                 None => {
                     return Ok(Outcome::Idle);
                 }
@@ -253,18 +299,23 @@ impl RunConcurrent {
 
     // Makes a step, and adds its label to the trace; none where nothing can go on and that is no deadlock.
     #[inline(always)]
-    pub(crate) fn turn<T, H: AccessorTask<T> + FromHost, M: MainTask<T, H>>(
+    fn turn<T, H: AccessorTask<T> + FromHost, M: MainTask<T, H>>(
         &self,
         component: &Component,
         store: &mut Store<T, H>,
         main: &mut M,
         trace: &mut Trace,
+        staked: &mut u64,
+        worked: &mut Option<u64>,
     ) -> Result<Option<Stepped>, NoMemory>
         requires covered { IsWellFormed component.now }
         requires at { IsAtTurn component.now self.now.turn store.old.state }
         requires suits { M.suits main.old component.now }
         requires knows { M.knows main.old store.old.state }
         requires hosts { HoldsHosts H.course store.old }
+        requires groups { HoldsGroups store.old.groups store.old.state.core }
+        requires own { staked.old ≡ unwrap_or (running_group store.old.state.core self.now.turn) 0 }
+        requires unworked { worked.old ≡ None }
         requires given { given store.old.state.core + 4 < 2 ^ 61 }
         requires pends { PendsIn (setting_of component.now (M.script main.old) self.now.trap_on_idle) store.old.state.core (M.part main.old) self.now.turn }
         ensures script { M.script main.new ≡ M.script main.old }
@@ -274,12 +325,13 @@ impl RunConcurrent {
         ensures stands { standing store.new ≡ standing store.old }
         ensures does { IfOk result (λ stepped. AddedOrNone (λ made. DoesStep M.does main.old (step_of made) main.new) stepped trace.old trace.new) }
         ensures turned { IfOk result (λ stepped. AddedOrNone (λ made. Turned (setting_of component.now (M.script main.old) self.now.trap_on_idle) self.now.turn (M.part main.old) store.old.state made (M.part main.new) store.new.state) stepped trace.old trace.new) }
+        ensures tells { IfOk result (λ stepped. TurnTells component.now self.now.turn store.old.state.core staked.new worked.new store.old.groups store.new.groups (MainTells (setting_of component.now (M.script main.old) self.now.trap_on_idle) (M.part main.old) store.old.state store.old.groups stepped trace.old (M.part main.new) store.new.state store.new.groups trace.new)) }
         ensures err { OnErr result (trace.new ≡ trace.old) }
     {
         match self.turn {
             Turn::Main => Ok(Some(step_main(component, store, main, trace)?)),
             Turn::Futures { polled } => {
-                let made = store.poll_next(polled);
+                let made = store.poll_next(polled, worked);
                 Ok(Some(put(trace, made)?))
             }
             Turn::Take { ended } => take(
@@ -288,9 +340,65 @@ impl RunConcurrent {
                 ended,
                 self.trap_on_idle,
                 trace,
+                worked,
             ),
-            Turn::Run { thread } => Ok(Some(run_thread(component, store, thread, trace)?)),
+            Turn::Run { thread } => Ok(Some(run_thread(component, store, thread, trace, staked)?)),
             Turn::Over => unreachable!(),
+        }
+    }
+
+    // Makes a step as `turn` does, and tells the groups of the store what it gave. `running` is the group of the thread
+    // that runs.
+    #[inline(always)]
+    pub(crate) fn told_turn<T, H: AccessorTask<T> + FromHost, M: MainTask<T, H>>(
+        &self,
+        component: &Component,
+        store: &mut Store<T, H>,
+        main: &mut M,
+        trace: &mut Trace,
+        running: &mut Option<u64>,
+    ) -> Result<Option<Stepped>, NoMemory>
+        requires covered { IsWellFormed component.now }
+        requires at { IsAtTurn component.now self.now.turn store.old.state }
+        requires suits { M.suits main.old component.now }
+        requires knows { M.knows main.old store.old.state }
+        requires hosts { HoldsHosts H.course store.old }
+        requires groups { HoldsGroups store.old.groups store.old.state.core }
+        requires running { running.old ≡ running_group store.old.state.core self.now.turn }
+        requires given { given store.old.state.core + 4 < 2 ^ 61 }
+        requires pends { PendsIn (setting_of component.now (M.script main.old) self.now.trap_on_idle) store.old.state.core (M.part main.old) self.now.turn }
+        ensures script { M.script main.new ≡ M.script main.old }
+        ensures suits { OnOk result (M.suits main.new component.now) }
+        ensures knows { OnOk result (M.knows main.new store.new.state) }
+        ensures hosts { OnOk result (HoldsHosts H.course store.new) }
+        ensures stands { standing store.new ≡ standing store.old }
+        ensures does { IfOk result (λ stepped. AddedOrNone (λ made. DoesStep M.does main.old (step_of made) main.new) stepped trace.old trace.new) }
+        ensures turned { IfOk result (λ stepped. AddedOrNone (λ made. Turned (setting_of component.now (M.script main.old) self.now.trap_on_idle) self.now.turn (M.part main.old) store.old.state made (M.part main.new) store.new.state) stepped trace.old trace.new) }
+        ensures groups { OnOk result (HoldsGroups store.new.groups store.new.state.core) }
+        ensures running { IfOk result (λ stepped. IfSome stepped (λ stepped. running.new ≡ running_group store.new.state.core (turn_of stepped))) }
+        ensures told { IfOk result (λ stepped. AddedOrNone (λ made. TurnTold (setting_of component.now (M.script main.old) self.now.trap_on_idle) self.now.turn (M.part main.old) store.old.state store.old.groups made (M.part main.new) store.new.state store.new.groups) stepped trace.old trace.new) }
+        ensures err { OnErr result (trace.new ≡ trace.old) }
+    {
+        let live = store.state.groups();
+        let mut staked = running.unwrap_or(0);
+        let mut worked = None;
+        let stepped = self.turn(component, store, main, trace, &mut staked, &mut worked)?;
+        if is_main(self.turn) {
+            return Ok(stepped);
+        }
+        match stepped {
+            None => Ok(None),
+            Some(stepped) => {
+                let asked = Asked {
+                    running: *running,
+                    worked,
+                    staked,
+                    live,
+                };
+                let after = turn_of(&stepped);
+                *running = tell(&store.state, &mut store.groups, self.turn, after, &asked);
+                Ok(Some(stepped))
+            }
         }
     }
 

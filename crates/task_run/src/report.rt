@@ -17,7 +17,7 @@ use crate::scenario::Scenario;
 use report_text::Page;
 use scenario_reader::RunError;
 use std::alloc::{AllocError, Global};
-use task_loop::{Outcome, Trace, run_concurrent};
+use task_loop::{Notice, Outcome, Trace, run_concurrent};
 use task_machine::{IdleLine, NoMemory};
 use task_store::{ScriptedHost, Store};
 
@@ -26,6 +26,8 @@ use task_store::{ScriptedHost, Store};
 pub struct Report {
     pub trace: Trace,
     pub outcome: Outcome,
+    /// What the groups were told, in order.
+    pub groups: Vec<Notice>,
     pub store: Store<(), ScriptedHost>,
 }
 
@@ -77,6 +79,7 @@ fn run(alloc: Global, scenario: &Scenario, steps: u32) -> Result<Report, NoMemor
         scenario.handles,
         scenario.table,
     )?;
+    store.keep_notices(2 * (steps as usize) + 512)?;
     let Ok(mut run) = run_concurrent(&mut store, traps_on_idle(scenario.idle)) else {
         unreachable!()
     };
@@ -93,9 +96,14 @@ fn run(alloc: Global, scenario: &Scenario, steps: u32) -> Result<Report, NoMemor
         return Err(NoMemory);
     };
     run.end(&mut store);
+    let mut groups = Vec::new(alloc);
+    let Ok(()) = groups.extend_from_slice(store.notices()) else {
+        return Err(NoMemory);
+    };
     Ok(Report {
         trace,
         outcome,
+        groups,
         store,
     })
 }

@@ -1,5 +1,6 @@
 pub mod Data
 pub mod Drops
+pub mod Groups
 pub mod Hosts
 pub mod Lending
 pub mod Polled

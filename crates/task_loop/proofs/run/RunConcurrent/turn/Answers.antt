@@ -1,9 +1,12 @@
 -- Each turn is one of this run.
 use Rattle.op_dispatch.proofs.StayLemmas.{ok_then}
-use Rattle.std.proofs.Common.{refl, subst}
-use Rattle.std.specs.Prelude.{Bool, Option}
+use Rattle.std.proofs.Common.{ap, refl, subst, ◌≡◌}
+use Rattle.std.specs.Prelude.{Bool, Option, Some, unwrap_or}
 use Rattle.task_loop.proofs.DoesLemmas.{still, still_run, still_taken}
 use Rattle.task_loop.proofs.HoldLemmas.{held_taken}
+use Rattle.task_loop.proofs.ToldLemmas.{if_ok}
+use Rattle.task_loop.specs.Told.{TurnTold}
+use Rattle.task_rules.specs.Notices.{running_group}
 use Rattle.task_loop.proofs.KnowsLemmas.{by_poll, by_run, by_take}
 use Rattle.task_loop.proofs.run.RunConcurrent.turn.Goals as goal
 use Rattle.task_machine.specs.Core.{Unscripted}
@@ -137,3 +140,35 @@ returns-in_ok-run_thread-in-Run-clause-does g c =
     let t = c.run_thread.new.store.state in
     added_as (λ (made : Made). Makes c.args.component.now (turn.Run n) s made t × IsFree made.turn) (λ (made : Made). DoesStep does main (step_shown made.label) main) c.in_ok-run_thread-in-Run.field-0 c.args.trace.now c.run_thread.new.trace
     (λ made h. still_run does main x (g.M.MainTask.part main) s t n made h.0) c.in_ok-run_thread-in-Run.ensures.makes
+
+-- ---- What is asked and told
+
+pub run_thread-requires-clause-own : goal.run_thread-requires-clause-own
+run_thread-requires-clause-own g c = subst (λ (p : Turn). c.args.staked.now ≡ unwrap_or (running_group c.args.store.now.state.core p) 0) c.in-Run.is c.requires.own
+
+pub returns-in_ok-step_main-in-Main-clause-tells : goal.returns-in_ok-step_main-in-Main-clause-tells
+returns-in_ok-step_main-in-Main-clause-tells g c =
+    let x = λ (b : Bool). setting_of c.args.component.now (g.M.MainTask.script c.args.main.now) b in
+    let m = g.M.MainTask.part c.args.main.now in
+    let n = g.M.MainTask.part c.step_main.new.main in
+    let s = c.args.store.now in
+    let t = c.step_main.new.store in
+    rw c.in-Main.is (record {
+      holds = c.in_ok-step_main-in-Main.ensures.groups;
+      told = added_as (λ (made : Made). (b : Bool) → TurnTold (x b) turn.Main m s.state s.groups (Some made) n t.state t.groups) (λ (made : Made). TurnTold (x c.args.self.now.trap_on_idle) turn.Main m s.state s.groups (Some made) n t.state t.groups)
+          c.in_ok-step_main-in-Main.field-0 c.args.trace.now c.step_main.new.trace (λ made h. h c.args.self.now.trap_on_idle) c.in_ok-step_main-in-Main.ensures.told;
+      idle = c.in_ok-step_main-in-Main.ensures.idle;
+    })
+
+pub returns-in_ok-run_thread-in-Run-clause-tells : goal.returns-in_ok-run_thread-in-Run-clause-tells
+returns-in_ok-run_thread-in-Run-clause-tells g c = rw c.in-Run.is (c.run_thread.ensures.staked, (c.requires.unworked, c.in_ok-run_thread-in-Run.ensures.groups))
+
+pub returns-in_ok-put-in-Futures-clause-tells : goal.returns-in_ok-put-in-Futures-clause-tells
+returns-in_ok-put-in-Futures-clause-tells g c =
+    let own = subst (λ (p : Turn). c.args.staked.now ≡ unwrap_or (running_group c.args.store.now.state.core p) 0) c.in-Futures.is c.requires.own in
+    rw c.in-Futures.is (own, (c.poll_next-made.ensures.worked, ap (λ k. k.groups) c.poll_next-made.ensures.rest))
+
+pub returns-in-Take-clause-tells : goal.returns-in-Take-clause-tells
+returns-in-Take-clause-tells g c =
+    let own = subst (λ (p : Turn). c.args.staked.now ≡ unwrap_or (running_group c.args.store.now.state.core p) 0) c.in-Take.is c.requires.own in
+    rw c.in-Take.is (if_ok _ c.take.result (own, (c.take.ensures.worked, refl)))
