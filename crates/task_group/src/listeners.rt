@@ -75,7 +75,7 @@ impl<H: TaskGroupHook> Listeners<H> {
         ensures answer { IsErr result ↔ AnsweredErr self.old self.new }
     {
         if self.notices.len() < self.room {
-            let _ = self.notices.push(Notice {
+            self.notices.push_reserved(Notice {
                 kind,
                 group: id.number,
             });
