@@ -1,4 +1,4 @@
-ghost use Rattle.std.specs.Prelude.{◌≡◌, ◌<◌, ◌↔◌, ◌++◌, None, IsSome, OnOk, OnErr, IfNone, is_some};
+ghost use Rattle.std.specs.Prelude.{◌≡◌, ◌<◌, ◌+◌, ◌==◌, ◌↔◌, ◌++◌, None, IsSome, OnOk, OnErr, IfNone, is_some};
 ghost use Rattle.std.specs.Option.{option_to_list};
 ghost use Rattle.std.specs.FinMap as finite;
 ghost use Rattle.task_group.specs.Counts.{count_in};
@@ -7,19 +7,20 @@ use crate::counts::Counts;
 use std::alloc::{AllocError, Global};
 use std::marker::Model;
 
-/// How many tasks each live group has, by the group's number. It knows of one group that it is live, so that who asks for
-/// the same one again and again isn't kept waiting.
+/// How many tasks each live group has, by the group's number. It knows of the last groups that were made one after another
+/// and aren't finished, so that who asks for one of these again and again isn't kept waiting.
 #[derive(Drop)]
 pub struct Live {
     counts: Counts,
-    // A live group, or 0.
-    recent: u64,
+    // All groups from the first to the last of these are live.
+    low: u64,
+    high: u64,
 }
 
 impl Model for Live {
     ghost use Rattle.std.specs.Coded.{coded_ℕ};
     ghost use Rattle.std.specs.FinMap as finite;
-    ghost use Rattle.task_group.specs.Counts.{Counts as Shown, IsRecent};
+    ghost use Rattle.task_group.specs.Counts.{Counts as Shown, AreLive};
 
     ghost Value = { Shown };
 
@@ -27,7 +28,7 @@ impl Model for Live {
 
     ghost view = { λ l. l.counts };
 
-    ghost invariant = { λ l. IsRecent l.counts l.recent };
+    ghost invariant = { λ l. AreLive l.counts l.low l.high };
 }
 
 impl Live {
@@ -36,7 +37,8 @@ impl Live {
     {
         Live {
             counts: Counts::new(alloc),
-            recent: 0,
+            low: 1,
+            high: 0,
         }
     }
 
@@ -50,12 +52,11 @@ impl Live {
 
     // Whether the group is live.
     #[inline(always)]
-    pub fn is_live(&mut self, number: u64) -> bool
-        ensures answer { result ≡ is_some (finite.get self.old number) }
-        ensures same { self.new ≡ self.old }
+    pub fn is_live(&self, number: u64) -> bool
+        ensures { result ≡ is_some (finite.get self.now number) }
     {
-        if number == self.recent {
-            if number != 0 {
+        if self.low <= number {
+            if number <= self.high {
                 return true;
             }
         }
@@ -63,15 +64,10 @@ impl Live {
     }
 
     #[inline(never)]
-    fn look_up(&mut self, number: u64) -> bool
-        ensures answer { result ≡ is_some (finite.get self.old number) }
-        ensures same { self.new ≡ self.old }
+    fn look_up(&self, number: u64) -> bool
+        ensures { result ≡ is_some (finite.get self.now number) }
     {
-        if self.counts.get(number) == 0 {
-            return false;
-        }
-        self.recent = number;
-        true
+        self.counts.get(number) != 0
     }
 
     // A new group, with one task.
@@ -79,8 +75,14 @@ impl Live {
         ensures ok { OnOk result (self.new ≡ finite.insert self.old number 1) }
         ensures err { OnErr result (self.new ≡ self.old) }
     {
-        self.recent = 0;
-        self.counts.add(number)
+        self.counts.add(number)?;
+        if is_next(self.high, number) {
+            self.high = number;
+        } else {
+            self.low = number;
+            self.high = number;
+        }
+        Ok(())
     }
 
     // Another count of a live group.
@@ -89,7 +91,6 @@ impl Live {
         requires positive { 0 < count }
         ensures { self.new ≡ finite.insert self.old number count }
     {
-        self.recent = 0;
         self.counts.set(number, count);
     }
 
@@ -97,8 +98,15 @@ impl Live {
     pub fn remove(&mut self, number: u64)
         ensures { self.new ≡ finite.remove self.old number }
     {
-        self.recent = 0;
         self.counts.remove(number);
+        if self.low <= number {
+            if number < self.high {
+                self.low = number + 1;
+            } else {
+                self.low = 1;
+                self.high = 0;
+            }
+        }
     }
 
     // The live group with the least number is finished.
@@ -106,7 +114,18 @@ impl Live {
         ensures numbers { finite.keys self.old ≡ option_to_list result ++ finite.keys self.new }
         ensures none { IfNone result (self.new ≡ finite.empty) }
     {
-        self.recent = 0;
+        self.low = 1;
+        self.high = 0;
         self.counts.pop_first()
     }
+}
+
+// Whether the number is the one after the last.
+fn is_next(last: u64, number: u64) -> bool
+    ensures { result ≡ (last + 1 == number) }
+{
+    if number <= last {
+        return false;
+    }
+    number - last == 1
 }

@@ -143,7 +143,7 @@ impl RunConcurrent {
         ensures ok { IfOk result (λ r. Paused (setting_of component.now (M.script main.old) self.old.trap_on_idle) (state_at store.old.state.core (M.part main.old) self.old.turn) trace.old (given store.old.state.core) self.old.pace steps r self.new.turn (M.part main.new) store.new.state trace.new self.new.pace) }
     {
         let mut added = 0;
-        let mut running = group_of(&store.state, self.turn);
+        let mut running = group_of(&store.state, self.turn).unwrap_or(0);
         'turns: while added < steps {
             let next = next_mark(store, self.turn);
             if self.pace.yields(next) {
@@ -151,7 +151,7 @@ impl RunConcurrent {
                 return Ok(Ok(RunPoll::Yielded));
             }
             let rests = rests(self.turn, next);
-            match self.told_turn(component, store, main, trace, &mut running)? {
+            match self.turn(component, store, main, trace, &mut running)? {
                 None => {
                     self.pace = self.pace.after(None);
                     return Ok(Ok(RunPoll::Idle));

@@ -267,9 +267,9 @@ impl RunConcurrent {
         ensures ok { IfOk result (λ outcome. Drove (setting_of component.now (M.script main.old) self.old.trap_on_idle) (state_at store.old.state.core (M.part main.old) self.old.turn) trace.old (given store.old.state.core) self.new.turn (M.part main.new) store.new.state trace.new steps outcome) }
     {
         let mut added = 0;
-        let mut running = group_of(&store.state, self.turn);
+        let mut running = group_of(&store.state, self.turn).unwrap_or(0);
         'turns: while added < steps {
-            match self.told_turn(component, store, main, trace, &mut running)? {
+            match self.turn(component, store, main, trace, &mut running)? {
                 None => {
                     return Ok(Outcome::Idle);
                 }
@@ -299,14 +299,13 @@ impl RunConcurrent {
 
     // Makes a step, and adds its label to the trace; none where nothing can go on and that is no deadlock.
     #[inline(always)]
-    fn turn<T, H: AccessorTask<T> + FromHost, M: MainTask<T, H>>(
+    pub(crate) fn turn<T, H: AccessorTask<T> + FromHost, M: MainTask<T, H>>(
         &self,
         component: &Component,
         store: &mut Store<T, H>,
         main: &mut M,
         trace: &mut Trace,
-        staked: &mut u64,
-        worked: &mut Option<u64>,
+        running: &mut u64,
     ) -> Result<Option<Stepped>, NoMemory>
         requires covered { IsWellFormed component.now }
         requires at { IsAtTurn component.now self.now.turn store.old.state }
@@ -331,74 +330,60 @@ impl RunConcurrent {
         match self.turn {
             Turn::Main => Ok(Some(step_main(component, store, main, trace)?)),
             Turn::Futures { polled } => {
-                let made = store.poll_next(polled, worked);
-                Ok(Some(put(trace, made)?))
-            }
-            Turn::Take { ended } => take(
-                component,
-                &mut store.state,
-                ended,
-                self.trap_on_idle,
-                trace,
-                worked,
-            ),
-            Turn::Run { thread } => Ok(Some(run_thread(component, store, thread, trace, staked)?)),
-            Turn::Over => unreachable!(),
-        }
-    }
-
-    // Makes a step as `turn` does, and tells the groups of the store what it gave. `running` is the group of the thread
-    // that runs.
-    #[inline(always)]
-    pub(crate) fn told_turn<T, H: AccessorTask<T> + FromHost, M: MainTask<T, H>>(
-        &self,
-        component: &Component,
-        store: &mut Store<T, H>,
-        main: &mut M,
-        trace: &mut Trace,
-        running: &mut Option<u64>,
-    ) -> Result<Option<Stepped>, NoMemory>
-        requires covered { IsWellFormed component.now }
-        requires at { IsAtTurn component.now self.now.turn store.old.state }
-        requires suits { M.suits main.old component.now }
-        requires knows { M.knows main.old store.old.state }
-        requires hosts { HoldsHosts H.course store.old }
-        requires groups { HoldsGroups store.old.groups store.old.state.core }
-        requires running { running.old ≡ running_group store.old.state.core self.now.turn }
-        requires given { given store.old.state.core + 4 < 2 ^ 61 }
-        requires pends { PendsIn (setting_of component.now (M.script main.old) self.now.trap_on_idle) store.old.state.core (M.part main.old) self.now.turn }
-        ensures script { M.script main.new ≡ M.script main.old }
-        ensures suits { OnOk result (M.suits main.new component.now) }
-        ensures knows { OnOk result (M.knows main.new store.new.state) }
-        ensures hosts { OnOk result (HoldsHosts H.course store.new) }
-        ensures stands { standing store.new ≡ standing store.old }
-        ensures does { IfOk result (λ stepped. AddedOrNone (λ made. DoesStep M.does main.old (step_of made) main.new) stepped trace.old trace.new) }
-        ensures turned { IfOk result (λ stepped. AddedOrNone (λ made. Turned (setting_of component.now (M.script main.old) self.now.trap_on_idle) self.now.turn (M.part main.old) store.old.state made (M.part main.new) store.new.state) stepped trace.old trace.new) }
-        ensures groups { OnOk result (HoldsGroups store.new.groups store.new.state.core) }
-        ensures running { IfOk result (λ stepped. IfSome stepped (λ stepped. running.new ≡ running_group store.new.state.core (turn_of stepped))) }
-        ensures told { IfOk result (λ stepped. AddedOrNone (λ made. TurnTold (setting_of component.now (M.script main.old) self.now.trap_on_idle) self.now.turn (M.part main.old) store.old.state store.old.groups made (M.part main.new) store.new.state store.new.groups) stepped trace.old trace.new) }
-        ensures err { OnErr result (trace.new ≡ trace.old) }
-    {
-        let live = store.state.groups();
-        let mut staked = running.unwrap_or(0);
-        let mut worked = None;
-        let stepped = self.turn(component, store, main, trace, &mut staked, &mut worked)?;
-        if is_main(self.turn) {
-            return Ok(stepped);
-        }
-        match stepped {
-            None => Ok(None),
-            Some(stepped) => {
+                let live = store.state.groups();
+                let mut worked = None;
+                let made = store.poll_next(polled, &mut worked);
+                let stepped = put(trace, made)?;
                 let asked = Asked {
-                    running: *running,
+                    running: None,
                     worked,
+                    staked: 0,
+                    live,
+                };
+                let after = turn_of(&stepped);
+                *running = tell(&store.state, &mut store.groups, Turn::Futures { polled }, after, &asked).unwrap_or(0);
+                Ok(Some(stepped))
+            }
+            Turn::Take { ended } => {
+                let live = store.state.groups();
+                let mut worked = None;
+                match take(
+                    component,
+                    &mut store.state,
+                    ended,
+                    self.trap_on_idle,
+                    trace,
+                    &mut worked,
+                )? {
+                    None => Ok(None),
+                    Some(stepped) => {
+                        let asked = Asked {
+                            running: None,
+                            worked,
+                            staked: 0,
+                            live,
+                        };
+                        let after = turn_of(&stepped);
+                        *running = tell(&store.state, &mut store.groups, Turn::Take { ended }, after, &asked).unwrap_or(0);
+                        Ok(Some(stepped))
+                    }
+                }
+            }
+            Turn::Run { thread } => {
+                let live = store.state.groups();
+                let mut staked = *running;
+                let stepped = run_thread(component, store, thread, trace, &mut staked)?;
+                let asked = Asked {
+                    running: Some(*running),
+                    worked: None,
                     staked,
                     live,
                 };
                 let after = turn_of(&stepped);
-                *running = tell(&store.state, &mut store.groups, self.turn, after, &asked);
+                *running = tell(&store.state, &mut store.groups, Turn::Run { thread }, after, &asked).unwrap_or(0);
                 Ok(Some(stepped))
             }
+            Turn::Over => unreachable!(),
         }
     }
 
