@@ -15,10 +15,7 @@ pub use limits::{
     at_handle_limit, count_work, current, fits, has_interesting, made, set_current, set_trapped,
     set_uninteresting, trapped,
 };
-pub use members::{
-    has_member, has_thread, has_waiters, is_deletable, is_last_thread, set_instance, set_number,
-    threads,
-};
+pub use members::{has_member, has_waiters, is_deletable, is_last_thread, set_number, threads};
 pub use results::{close_room, give_result, make_room, result, take_result};
 pub use settings::{capacity, handle_limit, set_capacity, set_handle_limit, used};
 pub use stalls::some_may_not_suspend;

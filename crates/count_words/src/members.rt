@@ -1,7 +1,7 @@
 ghost use Rattle.std.specs.Prelude.{◌≡◌, ◌&&◌, ◌<◌, not};
 ghost use Rattle.task_machine.specs.Moves.{is_deletable, is_deletable_call};
 ghost use Rattle.task_machine.specs.Maps.{size};
-ghost use Rattle.task_machine.specs.Read.{has_member, has_thread, has_waiters, is_last_thread, set_instance, undelivered_end};
+ghost use Rattle.task_machine.specs.Read.{has_member, has_thread, has_waiters, is_last_thread, undelivered_end};
 ghost use Rattle.task_records.specs.Seen.{IsSound, seen};
 ghost use Rattle.task_words.specs.StateView.{call_of, set_of, thread_of};
 
@@ -17,8 +17,8 @@ pub fn threads(parts: &CoreParts) -> u64
     parts.threads.len() as u64
 }
 
-/// Whether some thread of the call is left.
-pub fn has_thread(parts: &CoreParts, call: CallId) -> bool
+// Whether some thread of the call is left.
+fn has_thread(parts: &CoreParts, call: CallId) -> bool
     requires { IsSound parts.now }
     ensures { result ≡ has_thread (call_of (seen parts.now) call) (seen parts.now).core }
 {
@@ -71,16 +71,6 @@ pub fn set_number(parts: &CoreParts, set: SetId) -> u64
 {
     match task_records::set(parts, set) {
         Some(entry) => entry.number,
-        None => 0,
-    }
-}
-
-pub fn set_instance(parts: &CoreParts, set: SetId) -> u32
-    requires { IsSound parts.now }
-    ensures { result ≡ set_instance (set_of (seen parts.now) set) (seen parts.now).core }
-{
-    match task_records::set(parts, set) {
-        Some(entry) => entry.set.instance,
         None => 0,
     }
 }

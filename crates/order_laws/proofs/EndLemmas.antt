@@ -1,6 +1,6 @@
 -- A return and the exit of a direct call keep order, whatever the op at the thread's place is.
 use Rattle.order_laws.proofs.EndCounts.{checked_moved, exit_counted, return_counted, returned_position}
-use Rattle.order_laws.proofs.EndLeads.{direct_exit_to_leads, return_leads}
+use Rattle.order_laws.proofs.EndLeads.{return_leads}
 use Rattle.order_laws.proofs.PieceLemmas.{lead_keeps, piece_keeps, setting_for}
 use Rattle.order_laws.specs.Pieces.{ExitKeeps, Orderly, RegisterKeeps, ReturnAtEnd, ReturnKeeps, SameInstances, state_in}
 use Rattle.task_laws.proofs.WakeCounts.{woken_at, woken_place}
@@ -11,7 +11,7 @@ use Rattle.task_machine.specs.Read.{has_ended, is_async_lifted, position_of, reg
 use Rattle.task_places.proofs.CountedSteps.{counted_stay}
 use Rattle.task_places.proofs.Laws.{Bool, Component, Core, ExportKind, Goes, HowFar, Label, None, Option, Place, Progress, Records, Some, Thread, Trap, Turn, Unscripted, WakesCounted, advanced, ap, arith, false, fresh, get-change, goal_of, how_far_of, inl, instance_of, is_direct, is_explicit, is_waiting_on, kind_of, le_refl, length, may_tell, member_same, moved_to, nat_tests, not, on_instance, on_thread, option_map_or, place_of, refl, script_of, set_do_not_suspend, set_how_far, set_position, set_register, shifted_calls, shifted_far, shifted_works, shifts_shifted, subst, sym, task_of, trap_if, true, under_of, under_place, ℕ, ◌+◌, ◌∙◌, ◌≡◌, ◌≤◌}
 use Rattle.task_rules.proofs.WalkMoves.{checked_shifts}
-use Rattle.task_rules.proofs.WalkTask.{Leads, seen}
+use Rattle.task_rules.proofs.WalkTask.{Leads, direct_exit_to_leads, seen}
 use Rattle.task_rules.specs.Chains.{NoWord, Then}
 use Rattle.task_rules.specs.Ends.{direct_exit_row, direct_exit_to, direct_exits, exit_restores, returned}
 use Rattle.task_rules.specs.Task.{ret_done}

@@ -1,5 +1,4 @@
 pub mod WalkedLemmas
-pub mod SteadyLemmas
 pub mod PieceLemmas
 pub mod EndLeads
 pub mod EndCounts

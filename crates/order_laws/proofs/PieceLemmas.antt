@@ -1,5 +1,5 @@
 -- Pieces of rows, after which the running thread goes on, keep order.
-use Rattle.order_laws.proofs.SteadyLemmas.{walk_steady}
+use Rattle.task_rules.proofs.LawLemmas.{walk_steady}
 use Rattle.order_laws.proofs.WalkedLemmas.{walked_in_order}
 use Rattle.order_laws.specs.Pieces.{KeepsOrder, Orderly, PromoteKeeps, ResumeKeeps, SameInstances, WalkedInOrder, state_in}
 use Rattle.task_laws.proofs.OneHolder.{instance_stays, table_stays}

@@ -55,10 +55,6 @@ impl CallWords for TaskCore {
         task_records::first_thread(&self.parts, call)
     }
 
-    fn has_thread(&self, call: CallId) -> bool {
-        count_words::has_thread(&self.parts, call)
-    }
-
     fn is_deletable(&self, call: CallId) -> bool {
         count_words::is_deletable(&self.parts, call)
     }

@@ -3,14 +3,6 @@ use task_machine::NoMemory;
 use task_words::{SetId, SetWords, SubtaskId};
 
 impl SetWords for TaskCore {
-    fn set_number(&self, set: SetId) -> u64 {
-        count_words::set_number(&self.parts, set)
-    }
-
-    fn set_instance(&self, set: SetId) -> u32 {
-        count_words::set_instance(&self.parts, set)
-    }
-
     fn has_member(&self, set: SetId) -> bool {
         count_words::has_member(&self.parts, set)
     }

@@ -1,5 +1,5 @@
 use crate::task_core::TaskCore;
-use task_machine::{Given, NoMemory, Script};
+use task_machine::{Given, NoMemory};
 use task_words::{CallId, HowFarId, ThreadAt, ThreadId, ThreadWords};
 
 impl ThreadWords for TaskCore {
@@ -29,10 +29,6 @@ impl ThreadWords for TaskCore {
 
     fn position(&self, thread: ThreadId) -> u32 {
         record_words::position(&self.parts, thread)
-    }
-
-    fn script(&self, thread: ThreadId) -> Script {
-        record_words::script(&self.parts, thread)
     }
 
     #[inline(always)]
@@ -69,17 +65,9 @@ impl ThreadWords for TaskCore {
         record_words::set_register(&mut self.parts, thread, register, value);
     }
 
-    fn set_position(&mut self, thread: ThreadId, position: u32) {
-        record_words::set_position(&mut self.parts, thread, position);
-    }
-
     #[inline(always)]
     fn set_how_far(&mut self, thread: ThreadId, how_far: HowFarId) {
         place_words::set_how_far(&mut self.parts, thread, how_far);
-    }
-
-    fn set_script(&mut self, thread: ThreadId, script: Script) {
-        record_words::set_script(&mut self.parts, thread, script);
     }
 
     fn set_saved_own(&mut self, thread: ThreadId, flag: Option<bool>) {

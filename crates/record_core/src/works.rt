@@ -15,10 +15,6 @@ impl WorkWords for TaskCore {
         record_words::phase(&self.parts, work)
     }
 
-    fn stage(&self, work: WorkId) -> Stage {
-        record_words::stage(&self.parts, work)
-    }
-
     fn work_caller(&self, work: WorkId) -> WorkCallerId {
         record_words::work_caller(&self.parts, work)
     }

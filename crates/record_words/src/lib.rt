@@ -26,6 +26,6 @@ pub use names::{caller, how_far, join, work_caller};
 pub use subtasks::{event, has_ended, set_subtask_handle, subtask_handle};
 pub use threads::{
     at, instance_of, is_explicit, number, position, register, registers, saved_callee, saved_own,
-    script, set_position, set_register, set_saved_callee, set_saved_own, set_script, thread_handle,
+    set_register, set_saved_callee, set_saved_own, thread_handle,
 };
-pub use works::{course, phase, set_cancelled, stage, was_cancelled, work_group, work_number};
+pub use works::{course, phase, set_cancelled, was_cancelled, work_group, work_number};

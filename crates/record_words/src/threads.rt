@@ -1,14 +1,13 @@
 ghost use Rattle.std.specs.Prelude.{◌≡◌, ◌<◌, Some};
 ghost use Rattle.task_machine.specs.Maps.{get};
 ghost use Rattle.task_machine.specs.Read.{callee_of, instance_of, is_explicit, position_of, register_of, registers_of, saved_callee_of, saved_own_of, task_of, thread_handle_of};
-ghost use Rattle.task_machine.specs.Write.{set_position, set_register, set_saved_callee, set_saved_own, set_script};
+ghost use Rattle.task_machine.specs.Write.{set_register, set_saved_callee, set_saved_own};
 ghost use Rattle.task_machine.specs.declared.records.Thread.{Thread};
 ghost use Rattle.task_records.specs.Seen.{IsSound, seen};
 ghost use Rattle.task_words.specs.StateView.{on_core, thread_of};
 
 use crate::calls::callee;
 use crate::words::{put_word, word_in};
-use task_machine::Script;
 use task_records::{CoreParts, task_of};
 use task_words::{ThreadAt, ThreadId};
 
@@ -62,18 +61,6 @@ pub fn position(parts: &CoreParts, thread: ThreadId) -> u32
     match task_records::thread(parts, thread) {
         Some(entry) => entry.thread.position,
         None => 0,
-    }
-}
-
-/// The script that a thread runs.
-pub fn script(parts: &CoreParts, thread: ThreadId) -> Script
-    requires sound { IsSound parts.now }
-    requires live { 0 < thread_of (seen parts.now) thread }
-    ensures { (t : Thread) → get (seen parts.now).core.threads (thread_of (seen parts.now) thread) ≡ Some t → result ≡ t.script }
-{
-    match task_records::thread(parts, thread) {
-        Some(entry) => entry.thread.script,
-        None => unreachable!(),
     }
 }
 
@@ -142,26 +129,6 @@ pub fn set_register(parts: &mut CoreParts, thread: ThreadId, register: u8, value
 {
     if let Ok(entry) = parts.threads.get_mut(thread) {
         put_word(&mut entry.thread.registers, register, value);
-    }
-}
-
-pub fn set_position(parts: &mut CoreParts, thread: ThreadId, position: u32)
-    requires { IsSound parts.old }
-    ensures sound { IsSound parts.new }
-    ensures new { seen parts.new ≡ on_core (set_position (thread_of (seen parts.old) thread) position) (seen parts.old) }
-{
-    if let Ok(entry) = parts.threads.get_mut(thread) {
-        entry.thread.position = position;
-    }
-}
-
-pub fn set_script(parts: &mut CoreParts, thread: ThreadId, script: Script)
-    requires { IsSound parts.old }
-    ensures sound { IsSound parts.new }
-    ensures new { seen parts.new ≡ on_core (set_script (thread_of (seen parts.old) thread) script) (seen parts.old) }
-{
-    if let Ok(entry) = parts.threads.get_mut(thread) {
-        entry.thread.script = script;
     }
 }
 

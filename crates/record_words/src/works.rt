@@ -1,11 +1,11 @@
 ghost use Rattle.std.specs.Prelude.{◌≡◌};
-ghost use Rattle.task_machine.specs.Read.{course_of, phase_of, stage_of, was_cancelled};
+ghost use Rattle.task_machine.specs.Read.{course_of, phase_of, was_cancelled};
 ghost use Rattle.task_machine.specs.Write.{set_cancelled};
 ghost use Rattle.task_records.specs.Seen.{IsSound, seen};
 ghost use Rattle.task_rules.specs.Calls.{work_group};
 ghost use Rattle.task_words.specs.StateView.{on_core, work_of};
 
-use task_machine::{Course, Phase, Stage};
+use task_machine::{Course, Phase};
 use task_records::CoreParts;
 use task_words::WorkId;
 
@@ -37,16 +37,6 @@ pub fn phase(parts: &CoreParts, work: WorkId) -> Phase
     match task_records::work(parts, work) {
         Some(entry) => entry.work.phase,
         None => Phase::Complete,
-    }
-}
-
-pub fn stage(parts: &CoreParts, work: WorkId) -> Stage
-    requires { IsSound parts.now }
-    ensures { result ≡ stage_of (work_of (seen parts.now) work) (seen parts.now).core }
-{
-    match task_records::work(parts, work) {
-        Some(entry) => entry.work.stage,
-        None => Stage::Ended,
     }
 }
 

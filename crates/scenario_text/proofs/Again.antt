@@ -1,7 +1,7 @@
 -- The spelling of a well formed tree is read as that tree.
-use Rattle.std.proofs.Common.{◌≡◌, ℕ, ◌+◌, ◌<◌, ◌≤◌, ◌&&◌, not, true, false, ltb, List, [], ◌∷◌, ◌++◌, length, map, Option, Some, None, Ok, refl, sym, ap, subst, ◌∙◌, append_assoc, arith, lit≤}
+use Rattle.std.proofs.Common.{◌≡◌, ℕ, ◌<◌, ◌≤◌, ◌&&◌, true, false, ltb, List, [], ◌∷◌, ◌++◌, length, map, Option, Some, None, Ok, refl, sym, ap, subst, ◌∙◌, append_assoc, arith, lit≤}
 use Rattle.std.specs.Prelude.{nat_le}
-use Rattle.std.specs.List.{flat_map, list_all, list_any}
+use Rattle.std.specs.List.{flat_map, list_all}
 use Rattle.std.proofs.lemmas.Bool.{and_parts, and_from, le-leb, leb-true, ltb-true}
 use Rattle.std.proofs.lemmas.List.{append-nil}
 use Rattle.std.proofs.lemmas.List.Sums.{count_by-le-length}
@@ -13,10 +13,10 @@ use Rattle.text_lines.specs.declared.line.NamedOp.{NamedOp}
 use Rattle.text_lines.specs.declared.line.NamedOp.TheVariants as named
 use Rattle.text_lines.specs.declared.line.Line.TheVariants as line
 use Rattle.text_lines.specs.Words.{◌>>=◌}
-use Rattle.text_lines.specs.LineWords.{title_words, handles_words, table_words, idle_words, instance_words, export_words, react_words, thread_words, bad_words, main_words, answer_words, aborter_words, end_words}
-use Rattle.text_lines.specs.Fits.{register_fits, handles_fit, table_fits}
+use Rattle.text_lines.specs.LineWords.{title_words, handles_words, table_words, idle_words, instance_words, export_words, react_words, thread_words, main_words, answer_words, aborter_words, end_words}
+use Rattle.text_lines.specs.Fits.{handles_fit, table_fits}
 use Rattle.text_lines.proofs.CallLaws.{named_words, named_fits}
-use Rattle.text_lines.proofs.LineLaws.{numbers_fit, line_words, line_fits}
+use Rattle.text_lines.proofs.LineLaws.{numbers_fit}
 use Rattle.scenario_text.specs.declared.state.Body.{Body}
 use Rattle.scenario_text.specs.declared.state.Opening.{Opening}
 use Rattle.scenario_text.specs.declared.state.State.{State}
@@ -31,10 +31,10 @@ use Rattle.scenario_text.specs.declared.tree.MainOpText.TheVariants as main
 use Rattle.scenario_text.specs.declared.tree.ScenarioText.{ScenarioText}
 use Rattle.scenario_text.specs.Spelling.{Lines, head_lines, host_line, exports_of, instance_name, export_name, host_name, script_lines, react_lines, export_lines, part_lines, instance_lines, lines_after, body_lines, main_op_words, main_lines, lines_of}
 use Rattle.task_machine.specs.Read.{is_callback}
-use Rattle.scenario_text.specs.Placement.{EachStands, HostStands, ReactStands, ExportStands, PartStands, InstanceStands, main_has_room, is_start, is_spawn, finishes, start_count, spawn_count, start_opens, finish_opens, spawn_opens, is_spawned, spawn_named, MainOpStands, aborter_opens, AborterStands, IsWellFormed}
+use Rattle.scenario_text.specs.Placement.{EachStands, HostStands, ReactStands, ExportStands, PartStands, InstanceStands, main_has_room, is_start, is_spawn, start_count, spawn_count, finish_opens, is_spawned, spawn_named, MainOpStands, AborterStands, IsWellFormed}
 use Rattle.scenario_text.specs.State.{with_host, with_instance, with_part, with_export, script_closed, instance_closed, main_open, after_title, after_handles, after_table, after_idle, after_head, after_host, after_instance, after_export, after_react, after_thread, after_bad, after_part, after_main, start_of, finish_of, spawn_of, ready_of, main_op_of, after_main_op, after_answer, after_aborter, after_end, after, read_from, scenario_of}
 use Rattle.scenario_text.proofs.StandingLaws.{few_after}
-use Rattle.scenario_text.proofs.SoFar.{BodyFits, with_host_fits, with_instance_fits}
+use Rattle.scenario_text.proofs.SoFar.{BodyFits, with_instance_fits}
 use Rattle.scenario_text.proofs.CalleeLaws.{host_again, callee_again, fitting_again}
 use Rattle.scenario_text.proofs.ScriptsAgain.{ReadsTo, nothing, both, one_line, ops_read, start_takes, react_takes, thread_takes}
 

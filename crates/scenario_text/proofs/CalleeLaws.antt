@@ -1,5 +1,5 @@
 -- A callee's name is that of the place that is found for it, and is found again.
-use Rattle.std.proofs.Common.{◌≡◌, ℕ, zero, suc, ◌+◌, ◌^◌, ◌<◌, ◌≤◌, true, false, ◌&&◌, not, cond, eqb, ltb, List, [], ◌∷◌, length, map, take, Option, Some, None, refl, sym, ap, subst, ◌∙◌, arith}
+use Rattle.std.proofs.Common.{◌≡◌, ℕ, zero, suc, ◌+◌, ◌^◌, ◌<◌, true, false, ◌&&◌, cond, eqb, ltb, List, [], ◌∷◌, length, take, Option, Some, None, refl, sym, ap, subst, ◌∙◌, arith}
 use Rattle.std.specs.Prelude.{slice_get, unwrap_or, position}
 use Rattle.std.specs.List.{list_all, list_any}
 use Rattle.std.specs.Option.{option_map}
@@ -25,7 +25,7 @@ use Rattle.scenario_text.specs.declared.tree.HostText.{HostText}
 use Rattle.scenario_text.specs.declared.tree.ExportText.{ExportText}
 use Rattle.scenario_text.specs.declared.tree.InstanceText.{InstanceText}
 use Rattle.scenario_text.specs.Spelling.{exports_in, exports_of, instance_name, export_name, name_of, host_name, call_op_words}
-use Rattle.scenario_text.specs.Placement.{EachStands, HostStands, params_of, CallStands, exports_among, export_count, export_opens, ExportStands, InstanceStands}
+use Rattle.scenario_text.specs.Placement.{EachStands, HostStands, params_of, CallStands, exports_among, export_count, export_opens, InstanceStands}
 use Rattle.scenario_text.specs.State.{small, host_place, instance_place, export_place, callee_of, fitting_export, fitting_host, call_to, call_sync_to, call_of}
 use Rattle.scenario_text.proofs.StandingLaws.{place_takes, place_again, same_bytes, bytes_same, stands_at, some_map, length_before}
 use Rattle.scenario_text.proofs.ExportLaws.{exports_counted, exports_named, export_stands}

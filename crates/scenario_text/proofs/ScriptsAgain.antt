@@ -1,5 +1,5 @@
 -- The lines of a well formed script are read as that script.
-use Rattle.std.proofs.Common.{◌≡◌, ℕ, ◌+◌, Bool, true, false, ◌&&◌, List, [], ◌∷◌, ◌++◌, map, Option, Some, None, refl, sym, ap, subst, ◌∙◌, append_assoc}
+use Rattle.std.proofs.Common.{◌≡◌, ℕ, ◌+◌, Bool, true, false, List, [], ◌∷◌, ◌++◌, Some, refl, sym, ap, subst, ◌∙◌, append_assoc}
 use Rattle.std.proofs.lemmas.List.{append-nil}
 use Rattle.task_machine.specs.declared.op.Op.{Op}
 use Rattle.task_machine.specs.declared.op.Op.TheVariants as op
@@ -7,14 +7,14 @@ use Rattle.task_machine.specs.declared.op.CallOp.{CallOp}
 use Rattle.task_machine.specs.declared.op.CallOp.TheVariants as call_op
 use Rattle.text_lines.specs.declared.line.Line.{Line}
 use Rattle.text_lines.specs.declared.line.Line.TheVariants as line
-use Rattle.text_lines.specs.Fits.{subtask_op_fits, plain_op_fits}
+use Rattle.text_lines.specs.Fits.{plain_op_fits}
 use Rattle.text_lines.proofs.LineLaws.{line_words, line_fits, line_again}
 use Rattle.scenario_text.specs.declared.state.Body.{Body}
 use Rattle.scenario_text.specs.declared.state.Opening.{Opening}
 use Rattle.scenario_text.specs.declared.state.State.{State}
 use Rattle.scenario_text.specs.declared.state.State.TheVariants as state
 use Rattle.scenario_text.specs.declared.tree.InstanceText.{InstanceText}
-use Rattle.scenario_text.specs.Spelling.{Lines, call_op_words, op_words, script_lines}
+use Rattle.scenario_text.specs.Spelling.{Lines, op_words, script_lines}
 use Rattle.task_machine.specs.Read.{is_callback}
 use Rattle.scenario_text.specs.Placement.{EachStands, CallStands, OpFits, OpStands}
 use Rattle.scenario_text.specs.State.{script_body, with_op, after_op, after_call, after, after_words, read_from}

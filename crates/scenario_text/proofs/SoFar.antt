@@ -1,5 +1,5 @@
 -- What a state has read, and what is open in it.
-use Rattle.std.proofs.Common.{◌≡◌, ℕ, Bool, true, false, ◌&&◌, cond, List, [], ◌∷◌, ◌++◌, map, Option, Some, None, refl, sym, ap, subst, ◌∙◌, append_assoc}
+use Rattle.std.proofs.Common.{◌≡◌, ℕ, Bool, true, false, ◌&&◌, List, [], ◌∷◌, ◌++◌, map, Some, None, refl, sym, ap, subst, ◌∙◌, append_assoc}
 use Rattle.std.specs.List.{flat_map}
 use Rattle.std.proofs.lemmas.Bool.{and_parts}
 use Rattle.std.proofs.lemmas.List.{append-nil, map-append}
@@ -7,7 +7,7 @@ use Rattle.std.proofs.lemmas.List.Concat.{flat_map-append}
 use Rattle.task_machine.specs.declared.op.Operand.{Operand}
 use Rattle.task_machine.specs.declared.op.Op.{Op}
 use Rattle.text_lines.specs.Words.{◌>>=◌}
-use Rattle.text_lines.specs.LineWords.{title_words, handles_words, table_words, export_words, react_words, thread_words, instance_words, main_words, answer_words, aborter_words}
+use Rattle.text_lines.specs.LineWords.{title_words, handles_words, table_words, export_words, react_words, thread_words, instance_words, answer_words, aborter_words}
 use Rattle.text_lines.specs.Fits.{operand_fits, handles_fit, table_fits}
 use Rattle.text_lines.proofs.Numbers.{guarded}
 use Rattle.text_lines.proofs.WordLaws.{bind_some, some_is}
@@ -23,7 +23,7 @@ use Rattle.scenario_text.specs.declared.tree.MainOpText.{MainOpText}
 use Rattle.scenario_text.specs.Spelling.{Lines, head_lines, host_line, op_words, script_lines, part_lines, instance_lines, lines_after, body_lines, main_lines, lines_of}
 use Rattle.task_machine.specs.Read.{is_callback}
 use Rattle.scenario_text.specs.Placement.{EachStands, HostStands, has_room_for_op, op_suits, OpFits, OpStands, ScriptStands, PartStands, InstanceStands, MainOpStands, AborterStands, IsWellFormed}
-use Rattle.scenario_text.specs.State.{with_host, with_instance, with_part, export_from, with_export, script_closed, instance_closed, with_op, script_body}
+use Rattle.scenario_text.specs.State.{with_host, with_instance, with_part, export_from, script_closed, instance_closed, with_op}
 use Rattle.scenario_text.proofs.StandingLaws.{each_more}
 
 -- ---- What a state has read

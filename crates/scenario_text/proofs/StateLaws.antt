@@ -1,13 +1,12 @@
 -- Each line that a state takes is the next one of what was read.
-use Rattle.std.proofs.Common.{◌≡◌, ℕ, Bool, true, false, ◌&&◌, cond, eqb, List, [], ◌∷◌, ◌++◌, length, map, Option, Some, None, refl, sym, ap, subst, ◌∙◌, append_assoc}
+use Rattle.std.proofs.Common.{◌≡◌, ℕ, true, false, ◌&&◌, cond, List, [], ◌∷◌, ◌++◌, map, Some, None, refl, sym, ap, subst, ◌∙◌, append_assoc}
 use Rattle.std.specs.Prelude.{nat_le}
 use Rattle.std.specs.List.{list_all}
-use Rattle.std.proofs.lemmas.Bool.{and_parts, and_from, leb-true}
+use Rattle.std.proofs.lemmas.Bool.{and_parts, leb-true}
 use Rattle.std.proofs.lemmas.List.{append-nil, map-append}
 use Rattle.task_machine.specs.declared.op.Operand.{Operand}
 use Rattle.task_machine.specs.declared.op.Op.{Op}
 use Rattle.task_machine.specs.declared.op.Op.TheVariants as op
-use Rattle.task_machine.specs.declared.op.CallOp.{CallOp}
 use Rattle.task_machine.specs.declared.op.CallOp.TheVariants as call_op
 use Rattle.task_machine.specs.declared.scenario.IdleLine.{IdleLine}
 use Rattle.text_lines.specs.declared.line.HeadLine.{HeadLine}
@@ -20,8 +19,8 @@ use Rattle.text_lines.specs.declared.line.NamedOp.TheVariants as named
 use Rattle.text_lines.specs.declared.line.Line.{Line}
 use Rattle.text_lines.specs.declared.line.Line.TheVariants as line
 use Rattle.text_lines.specs.Words.{◌>>=◌, is_name}
-use Rattle.text_lines.specs.LineWords.{title_words, handles_words, table_words, idle_words, instance_words, export_words, react_words, thread_words, bad_words, subtask_op_words, plain_op_words, main_words, start_words, spawn_words, ready_words, answer_words, aborter_words, end_words}
-use Rattle.text_lines.specs.Fits.{register_fits, operand_fits, handles_fit, table_fits, work_fits, slot_fits, subtask_op_fits, plain_op_fits}
+use Rattle.text_lines.specs.LineWords.{title_words, handles_words, table_words, idle_words, instance_words, export_words, react_words, thread_words, bad_words, plain_op_words, main_words, start_words, spawn_words, ready_words, answer_words, aborter_words, end_words}
+use Rattle.text_lines.specs.Fits.{register_fits, operand_fits, handles_fit, table_fits, work_fits, slot_fits, plain_op_fits}
 use Rattle.text_lines.proofs.Numbers.{guarded}
 use Rattle.text_lines.proofs.WordLaws.{bind_some, some_is}
 use Rattle.text_lines.proofs.CallLaws.{named_call_words, named_call_fits, named_words, named_fits}
@@ -35,13 +34,13 @@ use Rattle.scenario_text.specs.declared.tree.InstanceText.{InstanceText}
 use Rattle.scenario_text.specs.declared.tree.PartText.TheVariants as part
 use Rattle.scenario_text.specs.declared.tree.MainOpText.{MainOpText}
 use Rattle.scenario_text.specs.declared.tree.MainOpText.TheVariants as main
-use Rattle.scenario_text.specs.Spelling.{Lines, host_line, op_words, script_lines, part_lines, instance_lines, name_of, host_name, main_op_words, main_lines}
+use Rattle.scenario_text.specs.Spelling.{Lines, host_line, op_words, script_lines, main_op_words, main_lines}
 use Rattle.task_machine.specs.Read.{is_callback}
-use Rattle.scenario_text.specs.Placement.{EachStands, host_opens, OpFits, CallStands, export_opens, slot_opens, instance_opens, main_has_room, start_opens, finish_opens, spawn_opens, spawn_named, params_of, MainOpStands, aborter_opens, AborterStands, IsWellFormed}
-use Rattle.scenario_text.specs.State.{with_host, with_part, script_closed, instance_closed, main_open, script_body, after_title, after_handles, after_table, after_idle, after_head, after_host, after_instance, after_export, after_react, after_thread, after_bad, after_part, with_op, after_op, after_call, after_main, host_place, callee_of, fitting_export, start_of, finish_of, spawn_of, ready_of, main_op_of, call_of, after_main_op, after_answer, after_aborter, whole, after_end, after}
+use Rattle.scenario_text.specs.Placement.{host_opens, OpFits, export_opens, slot_opens, instance_opens, main_has_room, start_opens, finish_opens, spawn_opens, spawn_named, params_of, MainOpStands, aborter_opens, AborterStands, IsWellFormed}
+use Rattle.scenario_text.specs.State.{with_host, with_part, script_closed, instance_closed, main_open, script_body, after_title, after_handles, after_table, after_idle, after_head, after_host, after_instance, after_export, after_react, after_thread, after_bad, after_part, after_op, after_call, after_main, host_place, callee_of, fitting_export, start_of, finish_of, spawn_of, ready_of, main_op_of, call_of, after_main_op, after_answer, after_aborter, whole, after_end, after}
 use Rattle.scenario_text.proofs.StandingLaws.{each_more}
-use Rattle.scenario_text.proofs.CalleeLaws.{host_named, callee_named, export_fits, IsCall, named_call_is}
-use Rattle.scenario_text.proofs.SoFar.{front, until, so_far, IsSound, Follows, BodyFits, MainFits, AnswerFits, host_grows, with_host_fits, part_grows, with_part_stands, closes_script, closes_instance, start_open, react_open, thread_open, takes_op}
+use Rattle.scenario_text.proofs.CalleeLaws.{host_named, callee_named, export_fits, named_call_is}
+use Rattle.scenario_text.proofs.SoFar.{front, until, IsSound, Follows, BodyFits, AnswerFits, host_grows, with_host_fits, part_grows, with_part_stands, closes_script, closes_instance, start_open, react_open, thread_open, takes_op}
 
 -- ---- The head
 

@@ -117,10 +117,9 @@ calls_begin x s l next p =
       },
     )
 
-pub step_goes : (x : Setting) (s : State) (l : Label) (t : State) → CodesInCallbacks x.component → CallsHold x.component s.core →
-    Step x s l t → CallsHold x.component t.core × CallsRise s.core t.core
-step_goes x s l t codes p step =
-    let w : Walked x s l t = step_walks x s l t step in
+pub walked_goes : (x : Setting) (s : State) (l : Label) (t : State) → CodesInCallbacks x.component → CallsHold x.component s.core →
+    Walked x s l t → CallsHold x.component t.core × CallsRise s.core t.core
+walked_goes x s l t codes p w =
     let a : Scene = scene_of x s l w.next in
     let b = calls_begin x s l w.next p in
     let g : CallsGo a t.core = along (CallsGo a) (word_goes a codes b.0) b.1 w.walk in (
@@ -131,6 +130,10 @@ step_goes x s l t codes p step =
   where
     risen : (o p : Option Call) → LaterBy Goes o p → LaterBy Rises o p
     risen o p h = grind arith
+
+pub step_goes : (x : Setting) (s : State) (l : Label) (t : State) → CodesInCallbacks x.component → CallsHold x.component s.core →
+    Step x s l t → CallsHold x.component t.core × CallsRise s.core t.core
+step_goes x s l t codes p step = walked_goes x s l t codes p (step_walks x s l t step)
 
 -- ---- Runs
 

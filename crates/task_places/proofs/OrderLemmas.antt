@@ -1,5 +1,5 @@
 -- A state in order: each opening state is, and each step leads from one to one.
-use Rattle.task_places.proofs.Laws.{[], after_word, AllFit, Allowed, along, ap, apart_after, arith, at_place, Awake, base_at, Bool, ByHandle, ByOp, Call, callee_of, calls_begin, calls_told_word, CallsAwaited, CallsGo, CallsHold, CallsInside, CallsNamed, CallsThere, CallsTold, can_come, cancelled_call, cancels_word, CancelsGo, CancelsWatched, Component, Core, directs_word, DirectsOnTop, DirectsRun, empty, EndWords, event_of, false, few_word, first_waits, Fits, fits_word, fresh, Gains, get, get-empty, has_waiter, HasNotRun, HasSubtask, held_word, Homed, homed_word, host_event_word, host_taken, HostsAwaited, housed_word, how_far_of, HowFar, inl, InOrder, InOrderIf, InPlace, inr, Inside, inside_word, InsideThere, instance_of, is_awaited, is_fresh, is_open, is_ready_member, is_some, is_sync_call, is_there, IsRunner, joins_word, JoinsNamed, KnownCancels, KnownHome, Label, Layered, layered_word, le_refl, le_trans, length, List, made_works_word, MakesFew, member_same, names_go_word, NamesGo, NamesHold, None, NoneAdmitted, Numbered, of_base, OfBase, Op, op_at_place, op_of_thread, opening, opening_holds, opening_joins, opening_named, opening_names_known, opening_sets, opening_works_known, opening_works_named, OpeningInOrder, option_map, option_map_or, Place, place_of, Placed, plain, plain_scene, queued_handle, queued_watched, ready_goes_word, ReadyGoes, refl, Run, runner_there, RunnerHoused, said_plain, Scene, scene_of, Script, script_in, sets_named_word, SetsNamed, Setting, Some, starts_word, StartsAwaited, StartsFirst, StartsGo, StartsThere, State, Status, Steady, steady, Step, step_goes, step_over, step_walks, StepInOrder, StepsMakeFew, Strands, subst, Subtask, subtask_under_way, sym, task_of, telling_word, TellingGoes, Thread, Traced, traced_word, true, Turn, Unbegun, unbegun_word, undelivered_end, Waited, WaitsAtHome, WaitsPlaced, WakesCounted, Walk, Walked, was_started, WasCall, watched_word, Word, word_goes, Work, works_go, works_hold, works_named_word, works_said_word, works_told, WorksKnown, WorksNamed, WorksQueued, WorksSaid, WorksTold, writes_over, written_at, ℕ, ⊎_elim, ◌∙◌, ◌∷◌, ◌≡◌, ◌≤◌, ◌⊎◌, next_thread, first_waits}
+use Rattle.task_places.proofs.Laws.{[], after_word, AllFit, Allowed, along, ap, apart_after, arith, at_place, Awake, base_at, Bool, ByHandle, ByOp, Call, callee_of, calls_begin, calls_told_word, CallsAwaited, CallsGo, CallsHold, CallsInside, CallsNamed, CallsThere, CallsTold, can_come, cancelled_call, cancels_word, CancelsGo, CancelsWatched, Component, Core, directs_word, DirectsOnTop, DirectsRun, empty, EndWords, event_of, false, few_word, first_waits, Fits, fits_word, fresh, Gains, get, get-empty, has_waiter, HasNotRun, HasSubtask, held_word, Homed, homed_word, host_event_word, host_taken, HostsAwaited, housed_word, how_far_of, HowFar, inl, InOrder, InOrderIf, InPlace, inr, Inside, inside_word, InsideThere, instance_of, is_awaited, is_fresh, is_open, is_ready_member, is_some, is_sync_call, is_there, IsRunner, joins_word, JoinsNamed, KnownCancels, KnownHome, Label, Layered, layered_word, le_refl, le_trans, length, List, made_works_word, MakesFew, member_same, names_go_word, NamesGo, NamesHold, next_thread, None, NoneAdmitted, Numbered, of_base, OfBase, Op, op_at_place, op_of_thread, opening, opening_holds, opening_joins, opening_named, opening_names_known, opening_sets, opening_works_known, opening_works_named, OpeningInOrder, option_map, option_map_or, Place, place_of, Placed, plain, plain_scene, queued_handle, queued_watched, ready_goes_word, ReadyGoes, refl, Run, runner_there, RunnerHoused, said_plain, Scene, scene_of, Script, script_in, sets_named_word, SetsNamed, Setting, Some, starts_word, StartsAwaited, StartsFirst, StartsGo, StartsThere, State, Status, Steady, steady, Step, step_over, step_walks, StepInOrder, StepsMakeFew, Strands, subst, Subtask, subtask_under_way, sym, task_of, telling_word, TellingGoes, Thread, Traced, traced_word, true, Turn, Unbegun, unbegun_word, undelivered_end, Waited, WaitsAtHome, WaitsPlaced, WakesCounted, Walk, Walked, walked_goes, was_started, WasCall, watched_word, Word, word_goes, Work, works_go, works_hold, works_named_word, works_said_word, works_told, WorksKnown, WorksNamed, WorksQueued, WorksSaid, WorksTold, writes_over, written_at, ℕ, ⊎_elim, ◌∙◌, ◌∷◌, ◌≡◌, ◌≤◌, ◌⊎◌}
 use Rattle.task_places.proofs.{AloneLemmas.step_alone, BlockedLemmas.step_blocked, CallersSteps.callers_kept, CallersSteps.feet_kept, CallersSteps.free_kept, CallsBack.back_apart, CountedSteps.step_counted, Directs.directs_on_top, HostsAwaited.Asked, HostsAwaited.step_asked, HostsAwaited.step_works, InsideLemmas.step_inside, PlaceLaw.Arrives, PlaceSteps.Withdrawable, PlaceSteps.settled_run, PlaceSteps.step_arrives, PlaceSteps.step_by, WaitsKept.AtWaits, WaitsKept.far_waits, WaitsKept.step_waits, WaitsKept.wait_op, WorksQueued.stands_of}
 use Rattle.task_places.specs.Kept.{ReachedInOrder, ReachedInPlace, StepsKeepPlaces}
 
@@ -300,15 +300,16 @@ module _ (x : Setting) (s : State) (l : Label) (t : State) {g : Bool} (h : InOrd
       low : (n : ℕ) → IsRunner a n → task_of n a.base ≤ a.base.made.threads
       low n is = let there = runner n is in grind (arith, h.numbered.threads n)
 
-  pub awake_kept : Step x s l t → Steady s.core t.core → Awake s.turn s.core → is_open t.turn ≡ true → Awake t.turn t.core
-  awake_kept step steady first live = record {
-    alone = step_alone x s l t w h.in_place withdrawable (grind arith) first.alone;
+  awake_kept : Steady s.core t.core → is_open s.turn ≡ true → Awake s.turn s.core → is_open t.turn ≡ true → WakesCounted t.core →
+      Awake t.turn t.core
+  awake_kept steady going first live counted = record {
+    alone = step_alone x s l t w h.in_place withdrawable (λ over. absurd (grind (arith, over, going))) first.alone;
     starts_there = starts_after first.starts_there live;
     blocked = step_blocked x s l t w h withdrawable steady (λ over. let e = w.turn in absurd (grind arith)) telling hosts_told calls_told_kept works_told_kept first.blocked;
     callers = callers_kept x s l t w h withdrawable (λ over. let e = w.turn in absurd (grind arith)) first.callers first.feet first.free;
     feet = feet_kept x s l t w h withdrawable (λ over. let e = w.turn in absurd (grind arith)) first.callers first.feet first.free;
     free = free_kept x s l t w h withdrawable (λ over. let e = w.turn in absurd (grind arith)) first.callers first.feet first.free;
-    counted = step_counted x s l t step w h withdrawable live came first.alone first.counted;
+    counted = counted;
   }
 
   pub fits_kept : Steady s.core t.core → Fits x.component t.core
@@ -414,19 +415,18 @@ step_open x s l t step = by s.turn refl
     by Turn.Over is = absurd (step_over x s l t is step)
     by p is = refl
 
--- ---- A step in order
+-- ---- A walk, and a step, from a state in order
 
 -- what is so of the state while the turns aren't over is given
-pub step_kept : (x : Setting) (s : State) (l : Label) (t : State) {g : Bool} → InOrderIf g x.component s → Step x s l t →
-    ((m : ℕ) → s.turn ≡ Turn.Run m → g ≡ true) → (b : Bool) → (b ≡ true → Awake t.turn t.core) → InOrderIf b x.component t
-step_kept x s l t h step turn b awake =
-    let w = step_walks x s l t step in
-    let q : CallsHold x.component t.core = (step_goes x s l t h.codes (held_of h) step).0 in
+walked_kept : (x : Setting) (s : State) (l : Label) (t : State) {g : Bool} → InOrderIf g x.component s → Walked x s l t →
+    Steady s.core t.core → ((m : ℕ) → s.turn ≡ Turn.Run m → g ≡ true) → (b : Bool) → (b ≡ true → Awake t.turn t.core) → InOrderIf b x.component t
+walked_kept x s l t h w steady turn b awake =
+    let q : CallsHold x.component t.core = (walked_goes x s l t h.codes (held_of h) w).0 in
     record {
       codes = h.codes;
       in_place = in_place_kept x s l t h w;
       strands = strands_kept x s l t h w;
-      directs = directs_kept x s l t h w (steady x s l t step) q.numbered;
+      directs = directs_kept x s l t h w steady q.numbered;
       works = (works_kept x s l t h w).0;
       awaited = (works_kept x s l t h w).1;
       numbered = q.numbered;
@@ -436,14 +436,14 @@ step_kept x s l t h step turn b awake =
       names = (called x s l t h w).1.0.hold.known;
       calls = awaited_kept x s l t h w;
       works_known = (handles_last x s l t h w).1.0.known;
-      waits = waits_kept x s l t h w turn (steady x s l t step);
+      waits = waits_kept x s l t h w turn steady;
       waits_placed = placed_kept x s l t h w;
       sets_named = (joined_kept x s l t h w turn).0;
       joins_named = (joined_kept x s l t h w turn).1;
       kinds = q.kinds;
       deliveries = q.deliveries;
-      fits = fits_kept x s l t h w (steady x s l t step);
-      starts = starts_kept x s l t h w (steady x s l t step);
+      fits = fits_kept x s l t h w steady;
+      starts = starts_kept x s l t h w steady;
       unbegun = unbegun_kept x s l t h w;
       watched = (handles_last x s l t h w).0.0.1.1.1;
       cancelled = (handles_last x s l t h w).1.1.named;
@@ -454,9 +454,23 @@ step_kept x s l t h step turn b awake =
       awake = awake;
     }
 
+-- where records stay those of the same and wakes are counted as the walk ends
+pub walked_in_order : (x : Setting) (s : State) (l : Label) (t : State) → is_open s.turn ≡ true → InOrder x.component s → Walked x s l t →
+    Steady s.core t.core → (is_open t.turn ≡ true → WakesCounted t.core) → InOrder x.component t
+walked_in_order x s l t going h w steady counted =
+    walked_kept x s l t h w steady (λ m e. going) (is_open t.turn) (λ live. awake_kept x s l t h w steady going (h.awake going) live (counted live))
+
+-- what is so while the turns aren't over is given
+pub step_kept : (x : Setting) (s : State) (l : Label) (t : State) {g : Bool} → InOrderIf g x.component s → Step x s l t →
+    ((m : ℕ) → s.turn ≡ Turn.Run m → g ≡ true) → (b : Bool) → (b ≡ true → Awake t.turn t.core) → InOrderIf b x.component t
+step_kept x s l t h step = walked_kept x s l t h (step_walks x s l t step) (steady x s l t step)
+
 pub step_in_order : StepInOrder
 step_in_order x s l t h step =
-    let w = step_walks x s l t step in step_kept x s l t h step (λ m e. step_open x s l t step) (is_open t.turn) (λ live. awake_kept x s l t h w step (steady x s l t step) (h.awake (step_open x s l t step)) live)
+    let going = step_open x s l t step in
+    let w = step_walks x s l t step in
+    walked_in_order x s l t going h w (steady x s l t step)
+    (λ live. step_counted x s l t step w h (withdrawable x s l t h w) live (came x s l t h w) (h.awake going).alone (h.awake going).counted)
 
 -- ---- The first state
 

@@ -1,5 +1,5 @@
 -- The laws of steps and runs.
-use Rattle.task_rules.proofs.Machine.{[], add_call, add_group, add_set, add_thread, add_work, AddGroup, after_word, ap, arith, Call, call_made, Core, count_work, EachStep, free_handle, free_thread_handle, get, get-change, get-insert, get-remove, give_handle, give_result, give_thread_handle, KeptByRuns, Label, LaterBy, LaterCall, LaterWork, le_trans, nat_tests, NeverFewer, None, on_call, on_instance, on_thread, on_work, Option, Outcome, outcome_of_label, OutcomeEnds, OutcomeIsLast, OverIsLast, Places, poll_pends, push_high, refl, remove_call, remove_group, remove_set, remove_thread, remove_work, Run, RunGoesOn, RunsJoin, SameLimits, SameThread, set_backpressure, set_cancel_delivered, set_cancelled, set_course, set_do_not_enter, set_do_not_suspend, set_end, set_event, set_exited, set_how_far, set_join, set_own_event, set_phase, set_position, set_register, set_result, set_saved_callee, set_saved_own, set_script, set_stage, set_started, set_starting_published, set_subtask_handle, set_thread_handle, set_trapped, set_uninteresting, set_word, Setting, settled_turn, SetTrapped, Some, State, Steady, Step, subst, sym, take_result, TakeHost, TakePush, Thread, Turn, TurnStep, with_handle, with_thread_handle, Word, Work, work_queued, ℕ, ◌∙◌, ◌∷◌, ◌≡◌, ◌≤◌}
+use Rattle.task_rules.proofs.Machine.{[], add_call, add_group, add_set, add_thread, add_work, AddGroup, after_word, ap, arith, Call, call_made, Core, count_work, EachStep, free_handle, free_thread_handle, get, get-change, get-insert, get-remove, give_handle, give_result, give_thread_handle, KeptByRuns, Label, LaterBy, LaterCall, LaterWork, le_trans, nat_tests, NeverFewer, None, on_call, on_instance, on_thread, on_work, Option, Outcome, outcome_of_label, OutcomeEnds, OutcomeIsLast, OverIsLast, Places, poll_pends, push_high, refl, remove_call, remove_group, remove_set, remove_thread, remove_work, Run, RunGoesOn, RunsJoin, SameLimits, SameThread, Scene, set_backpressure, set_cancel_delivered, set_cancelled, set_course, set_do_not_enter, set_do_not_suspend, set_end, set_event, set_exited, set_how_far, set_join, set_own_event, set_phase, set_position, set_register, set_result, set_saved_callee, set_saved_own, set_script, set_stage, set_started, set_starting_published, set_subtask_handle, set_thread_handle, set_trapped, set_uninteresting, set_word, Setting, settled_turn, SetTrapped, Some, State, Steady, Step, subst, sym, take_result, TakeHost, TakePush, Thread, Turn, TurnStep, Walk, with_handle, with_thread_handle, Word, Work, work_queued, ℕ, ◌∙◌, ◌∷◌, ◌≡◌, ◌≤◌}
 use Rattle.task_rules.proofs.{ChainLemmas.along, PlacingLemmas.placing_shifted, PlacingLemmas.popped_shifted, WalkSteps.step_walks}
 
 -- a label that gives an outcome ends the turns
@@ -113,8 +113,12 @@ steady_word b w s q = record {
   works = λ i h. works_word b w s i (le_trans h q.works_made) (q.works i h);
 }
 
+-- a walk keeps each record that of the same thread, call or work
+pub walk_steady : {a : Scene} {b t : Core} → Walk a b t → Steady b t
+walk_steady {b = b} c = along (Steady b) (λ w u ok h. steady_word b w u h) (steady_same b) c
+
 pub steady : EachStep Steady
-steady = step_kept Steady steady_same steady_word
+steady x s l t step = walk_steady (step_walks x s l t step).walk
 
 pub runs_steady : KeptByRuns Steady
 runs_steady = runs_keep Steady steady_same steady_after steady

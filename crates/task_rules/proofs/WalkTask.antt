@@ -68,10 +68,10 @@ abbrev pub is_still : Scene → Core → Label → Bool
 is_still a t k = is_plain a.base k && is_mute a t k
 
 -- a label of a task that ends, or is cancelled, says that
-abbrev SaysTask : Component → Main → ℕ → Status → Core → Core → Label → Type 0
+abbrev pub SaysTask : Component → Main → ℕ → Status → Core → Core → Label → Type 0
 SaysTask c m n f s t k = (is_plain s k ≡ true) × ((written_by c s k t ≡ task_end n f s) × (handed_by c m s k t ≡ None))
 
-ret_is : (c : Component) (m : Main) (n v : ℕ) (w : Option ℕ) (s t : Core) → SaysTask c m n Status.Returned s t (ret_label n v w)
+pub ret_is : (c : Component) (m : Main) (n v : ℕ) (w : Option ℕ) (s t : Core) → SaysTask c m n Status.Returned s t (ret_label n v w)
 ret_is c m n v w s t = (grind arith, (grind arith, grind arith))
 
 task_cancel_is : (c : Component) (m : Main) (n : ℕ) (w : Option ℕ) (s t : Core) → SaysTask c m n Status.ReturnCancelled s t (task_cancel_label n w)
@@ -265,7 +265,7 @@ module _ (x : Setting) (main : Main) (s : Core) (n : ℕ) (l : Label) (next : Tu
   exit_says t w is implicit kind = ap (λ (k : Label). written_by x.component s k t) is ∙ exit_ends w t implicit kind
 
   -- the label says an end of the task
-  writes_task : (f : Status) (t u : Core) {o : Option SubtaskEnd} → o ≡ task_end n f s → EndsCall a (task_of n s) → is_over (task_of n s) u ≡ true → Walk a u t → EndTells a t (Subtask.Guest (task_of n s)) f → (sub : Subtask) (e : Status) → o ≡ Some (end_for e sub) → Writes a t sub × EndTells a t sub e
+  pub writes_task : (f : Status) (t u : Core) {o : Option SubtaskEnd} → o ≡ task_end n f s → EndsCall a (task_of n s) → is_over (task_of n s) u ≡ true → Walk a u t → EndTells a t (Subtask.Guest (task_of n s)) f → (sub : Subtask) (e : Status) → o ≡ Some (end_for e sub) → Writes a t sub × EndTells a t sub e
   writes_task f t u is ends over c tells sub e says = said_is (λ d g. Writes a t d × EndTells a t d g) (sym is ∙ says) (WritesCall (task_of n s) u ends over c, tells)
 
   -- an exit that ends no task
@@ -339,7 +339,7 @@ module _ (x : Setting) (main : Main) (s : Core) (n : ℕ) (l : Label) (next : Tu
       let r = direct_exits_walks n refl m v t is_so refl to (under_place n m s under) (word (EndCall (task_of n t) CallEnd.Returned) (subst (λ (k : ℕ). MayEnd a k CallEnd.Returned t) (sym task) (exits None t is implicit (inl direct) calls), says is) c) in
       (r.0, λ exit. r.1)) here over
 
-  direct_exit_to_leads : (k : ExportKind) (o : Option ℕ) → under_of n s ≡ o → is_explicit n s ≡ false → is_direct (goal_of (task_of n s) s) ≡ true → Leads a s (direct_exit_to n k s o)
+  pub direct_exit_to_leads : (k : ExportKind) (o : Option ℕ) → under_of n s ≡ o → is_explicit n s ≡ false → is_direct (goal_of (task_of n s) s) ≡ true → Leads a s (direct_exit_to n k s o)
   unfolding exit_restores set_do_not_suspend on_instance
   direct_exit_to_leads k None under implicit direct = tt
   direct_exit_to_leads ExportKind.Sync (Some m) under implicit direct = direct_leads m (exit_restores n s) under implicit direct refl refl (word (SetDoNotSuspend (instance_of n s) (unwrap_or (saved_own_of n s) false)) tt NoWord)

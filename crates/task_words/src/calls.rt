@@ -61,10 +61,6 @@ pub trait CallWords: View {
     fn first_thread(&self, call: CallId) -> ThreadId
         ensures { thread_of (Self.view self.now) result ≡ live_thread (call_of (Self.view self.now) call) (Self.view self.now).core };
 
-    /// Whether some thread of the call is left.
-    fn has_thread(&self, call: CallId) -> bool
-        ensures { result ≡ has_thread (call_of (Self.view self.now) call) (Self.view self.now).core };
-
     /// Whether nothing keeps the call.
     fn is_deletable(&self, call: CallId) -> bool
         ensures { result ≡ is_deletable (call_of (Self.view self.now) call) (Self.view self.now).core };

@@ -1,6 +1,6 @@
 ghost use Rattle.std.specs.Prelude.{◌≡◌, ◌+◌, ◌<◌, ◌^◌, IfNone, IfOk, IfSome, IsSome, OnErr, OnOk, false, is_some, true};
 ghost use Rattle.task_machine.specs.Maps.{get};
-ghost use Rattle.task_machine.specs.Read.{at_handle_limit, fits, has_member, has_ready_member, has_waiters, is_ready_member, set_at, set_instance};
+ghost use Rattle.task_machine.specs.Read.{at_handle_limit, fits, has_member, has_ready_member, has_waiters, is_ready_member, set_at};
 ghost use Rattle.task_machine.specs.Write.{add_set, free_handle, give_handle, remove_set};
 ghost use Rattle.task_machine.specs.declared.records.Named.TheVariants as names;
 ghost use Rattle.task_words.specs.Names.{subtask_in};
@@ -12,13 +12,6 @@ use task_machine::NoMemory;
 
 /// Waitable sets, their members and what keeps them.
 pub trait SetWords: View {
-    /// The number of a set; 0 where the id names none.
-    fn set_number(&self, set: SetId) -> u64
-        ensures { result ≡ set_of (Self.view self.now) set };
-
-    fn set_instance(&self, set: SetId) -> u32
-        ensures { result ≡ set_instance (set_of (Self.view self.now) set) (Self.view self.now).core };
-
     fn has_member(&self, set: SetId) -> bool
         requires { 0 < set_of (Self.view self.now) set }
         ensures { result ≡ has_member (set_of (Self.view self.now) set) (Self.view self.now).core };

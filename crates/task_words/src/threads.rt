@@ -2,7 +2,7 @@ ghost use Rattle.std.specs.Prelude.{◌≡◌, ◌+◌, ◌<◌, ◌≤◌, ◌^
 ghost use Rattle.task_machine.specs.Maps.{get};
 ghost use Rattle.task_machine.specs.Moves.{freed_thread_handle};
 ghost use Rattle.task_machine.specs.Read.{at_handle_limit, call_instance, callee_of, fits, how_far_of, instance_of, is_explicit, is_last_thread, position_of, register_of, registers_of, saved_callee_of, saved_own_of, task_of, thread_group, thread_handle_of};
-ghost use Rattle.task_machine.specs.Write.{add_thread, remove_thread, set_how_far, set_position, set_register, set_saved_callee, set_saved_own, set_script};
+ghost use Rattle.task_machine.specs.Write.{add_thread, remove_thread, set_how_far, set_register, set_saved_callee, set_saved_own};
 ghost use Rattle.task_machine.specs.declared.records.Script.TheVariants as scripts;
 ghost use Rattle.task_machine.specs.declared.records.Thread.{Thread};
 ghost use Rattle.task_rules.specs.Calls.{new_thread, next_thread, with_thread_handle};
@@ -16,7 +16,7 @@ ghost use Rattle.task_words.specs.StateView.{Keeps, KeepsBut, call_of, lost_thre
 
 use crate::names::{CallId, HowFarId, ThreadAt, ThreadId};
 use crate::view::View;
-use task_machine::{Given, NoMemory, Script};
+use task_machine::{Given, NoMemory};
 
 /// The records of threads.
 pub trait ThreadWords: View {
@@ -47,11 +47,6 @@ pub trait ThreadWords: View {
     fn position(&self, thread: ThreadId) -> u32
         ensures { result ≡ position_of (thread_of (Self.view self.now) thread) (Self.view self.now).core };
 
-    /// The script that a thread runs.
-    fn script(&self, thread: ThreadId) -> Script
-        requires { 0 < thread_of (Self.view self.now) thread }
-        ensures { (t : Thread) → get (Self.view self.now).core.threads (thread_of (Self.view self.now) thread) ≡ Some t → result ≡ t.script };
-
     /// Where a thread is in its code.
     fn at(&self, thread: ThreadId) -> ThreadAt
         requires { 0 < thread_of (Self.view self.now) thread }
@@ -81,14 +76,8 @@ pub trait ThreadWords: View {
     fn set_register(&mut self, thread: ThreadId, register: u8, value: u64)
         ensures { Self.view self.new ≡ on_core (set_register (thread_of (Self.view self.old) thread) register value) (Self.view self.old) };
 
-    fn set_position(&mut self, thread: ThreadId, position: u32)
-        ensures { Self.view self.new ≡ on_core (set_position (thread_of (Self.view self.old) thread) position) (Self.view self.old) };
-
     fn set_how_far(&mut self, thread: ThreadId, how_far: HowFarId)
         ensures { Self.view self.new ≡ on_core (set_how_far (thread_of (Self.view self.old) thread) (how_far_in (Self.view self.old).tags how_far)) (Self.view self.old) };
-
-    fn set_script(&mut self, thread: ThreadId, script: Script)
-        ensures { Self.view self.new ≡ on_core (set_script (thread_of (Self.view self.old) thread) script) (Self.view self.old) };
 
     fn set_saved_own(&mut self, thread: ThreadId, flag: Option<bool>)
         ensures { Self.view self.new ≡ on_core (set_saved_own (thread_of (Self.view self.old) thread) flag) (Self.view self.old) };

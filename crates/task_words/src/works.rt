@@ -1,5 +1,5 @@
 ghost use Rattle.std.specs.Prelude.{◌≡◌, ◌+◌, ◌<◌, ◌^◌, IfOk, None, OnErr, OnOk, Some, false, option_map, true};
-ghost use Rattle.task_machine.specs.Read.{at_handle_limit, course_of, fits, instance_of, new_handle, phase_of, stage_of, thread_group, was_cancelled, work_caller_of};
+ghost use Rattle.task_machine.specs.Read.{at_handle_limit, course_of, fits, instance_of, new_handle, phase_of, thread_group, was_cancelled, work_caller_of};
 ghost use Rattle.task_machine.specs.Write.{count_work, set_cancelled, set_course, set_phase, set_stage};
 ghost use Rattle.task_machine.specs.declared.records.Subtask.TheVariants as subtasks;
 ghost use Rattle.task_machine.specs.declared.records.WorkCaller.TheVariants as work_callers;
@@ -25,9 +25,6 @@ pub trait WorkWords: View {
 
     fn phase(&self, work: WorkId) -> Phase
         ensures { result ≡ phase_of (work_of (Self.view self.now) work) (Self.view self.now).core };
-
-    fn stage(&self, work: WorkId) -> Stage
-        ensures { result ≡ stage_of (work_of (Self.view self.now) work) (Self.view self.now).core };
 
     fn work_caller(&self, work: WorkId) -> WorkCallerId
         ensures { work_caller_in (Self.view self.now).tags result ≡ live_work_caller (work_caller_of (work_of (Self.view self.now) work) (Self.view self.now).core) (Self.view self.now).core };

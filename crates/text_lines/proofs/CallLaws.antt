@@ -17,7 +17,7 @@ use Rattle.text_lines.specs.declared.line.NamedCall.TheVariants as named_call
 use Rattle.text_lines.specs.declared.line.NamedOp.{NamedOp}
 use Rattle.text_lines.specs.declared.line.NamedOp.TheVariants as named
 use Rattle.text_lines.specs.declared.line.Line.TheVariants as line
-use Rattle.text_lines.specs.Words.{◌>>=◌, register_at, operand_at, is_name_byte, is_name, one_of, two_of}
+use Rattle.text_lines.specs.Words.{◌>>=◌, register_at, is_name_byte, is_name, one_of, two_of}
 use Rattle.text_lines.specs.Keyword.{main_word}
 use Rattle.text_lines.specs.LineWords.{register_word, operand_word, callee_word, call_words, call_sync_words, start_words, finish_words, spawn_words, abort_words, await_words, quiet_words, ready_words}
 use Rattle.text_lines.specs.Fits.{register_fits, operand_fits}

@@ -1,5 +1,5 @@
 -- How a keyword and the words after it spell a value, by how many words there are.
-use Rattle.std.proofs.Common.{◌≡◌, ℕ, Bool, true, false, ◌&&◌, cond, eqb, List, [], ◌∷◌, length, map, Option, Some, None, refl, sym, ap, subst, ◌∙◌, lit<}
+use Rattle.std.proofs.Common.{◌≡◌, ℕ, Bool, true, ◌&&◌, cond, eqb, List, [], ◌∷◌, length, map, Option, Some, None, refl, sym, ap, subst, ◌∙◌, lit<}
 use Rattle.std.specs.Prelude.{nat_le}
 use Rattle.std.specs.List.{list_all}
 use Rattle.std.specs.Str.{bytes_eq}
@@ -7,7 +7,7 @@ use Rattle.std.proofs.lemmas.Bool.{and_parts, and_from, eqb-true}
 use Rattle.std.proofs.lemmas.List.{nil_from_length}
 use Rattle.std.proofs.lemmas.Slice.Eq.{bytes_eq-Decides}
 use Rattle.task_machine.specs.declared.op.Operand.{Operand}
-use Rattle.text_lines.specs.Words.{◌>>=◌, operand_at, register_at, register_up_to, one_of, two_of, three_of, four_of, each_at}
+use Rattle.text_lines.specs.Words.{◌>>=◌, one_of, two_of, three_of, four_of, each_at}
 use Rattle.text_lines.specs.LineWords.{register_word, operand_word}
 use Rattle.text_lines.specs.Fits.{register_fits, operand_fits}
 use Rattle.text_lines.specs.Line.{alone, register_after, operand_after, target_after, event_after}

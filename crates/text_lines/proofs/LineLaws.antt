@@ -34,7 +34,7 @@ use Rattle.text_lines.specs.Line.{head_after, never_after, fail_after, value_aft
 use Rattle.text_lines.specs.LineWords.{kind_word, title_words, handles_words, table_words, idle_words, work_words, host_words, instance_words, export_words, react_words, thread_words, bad_words, data_op_words, task_op_words, set_op_words, thread_op_words, plain_op_words, main_words, answer_words, aborter_words, end_words}
 use Rattle.text_lines.specs.Fits.{operand_fits, handles_fit, table_fits, work_fits, slot_fits, data_op_fits, task_op_fits, set_op_fits, thread_op_fits, plain_op_fits}
 use Rattle.text_lines.proofs.Numbers.{guarded}
-use Rattle.text_lines.proofs.WordLaws.{bind_some, some_is, numbers, bounded, idles, kinds, operands, always}
+use Rattle.text_lines.proofs.WordLaws.{bind_some, some_is, numbers, bounded, idles, kinds, operands}
 use Rattle.text_lines.proofs.LineForms.{Spells, Tails, one_takes, three_take, four_take, three_words, no_words, fixed_word, one_word, as_line, with_tail, one_tail, operand_tail, target_tail, each_take, each_again}
 use Rattle.text_lines.proofs.OpLaws.{data_op_takes, task_op_takes, set_op_takes, thread_op_takes, op_again}
 use Rattle.text_lines.proofs.CallLaws.{named_call_words, named_call_fits, call_takes, call_sync_takes, call_again, named_words, named_fits, main_op_takes, named_again}

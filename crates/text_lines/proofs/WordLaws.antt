@@ -1,6 +1,6 @@
 -- Each kind of word is read from its one spelling.
 use Rattle.std.proofs.Common.{◌≡◌, ◌≢◌, ℕ, ◌^◌, ◌<◌, ◌≤◌, Bool, true, false, cond, leb, eqb, List, [], ◌∷◌, Option, Some, None, refl, sym, ap, subst, ◌∙◌, arith, lit<}
-use Rattle.std.specs.Prelude.{decimal, codes, nat_le, nat_lt, is_some, MatchOption}
+use Rattle.std.specs.Prelude.{decimal, codes, nat_le, is_some, MatchOption}
 use Rattle.std.specs.Char.{is_ascii_digit}
 use Rattle.std.specs.Str.{all_ascii_digits, bytes_eq}
 use Rattle.std.proofs.lemmas.Fmt.{digits_decimal}

@@ -1,4 +1,4 @@
-use Rattle.std.proofs.Common.{◌≡◌, ◌-◌, ◌≤◌, length}
+use Rattle.std.proofs.Common.{◌-◌, ◌≤◌, length}
 use Rattle.scenario_text.proofs.WordEnd.{NoSpace}
 use Rattle.scenario_text.proofs.read.word_end.Given as goal
 

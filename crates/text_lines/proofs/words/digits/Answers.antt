@@ -1,4 +1,4 @@
-use Rattle.std.proofs.Common.{◌+◌, sym, ◌∙◌, take, arith}
+use Rattle.std.proofs.Common.{sym, ◌∙◌, take, arith}
 use Rattle.text_lines.proofs.Numbers.{digit_more, digits_read, digits_told}
 use Rattle.text_lines.proofs.words.digits.Goals as goal
 

@@ -1,4 +1,4 @@
-use Rattle.std.proofs.Common.{◌≤◌, refl, arith}
+use Rattle.std.proofs.Common.{refl, arith}
 use Rattle.scenario_text.specs.declared.tree.MainOpText.TheVariants as main
 use Rattle.scenario_text.proofs.MainKept.{kept_finish, kept_finish_of_none, kept_other}
 use Rattle.scenario_text.proofs.main_lines.MainLines.push.Goals as goal
