@@ -5,7 +5,7 @@ use Rattle.group_laws.proofs.EndGroups.{mild_group}
 use Rattle.group_laws.proofs.MoveGroups.{Mild, mild_same}
 use Rattle.group_laws.proofs.RunTells.{data_runs_mild}
 use Rattle.group_laws.proofs.MainGroups.{mains_spare}
-use Rattle.group_laws.specs.Tells.{is_data, is_main_turn, is_start, staked, worked_group}
+use Rattle.group_laws.specs.Tells.{is_data, is_main_turn, is_start}
 use Rattle.group_notices.proofs.RunLemmas.{asked_told, data_told, main_told, step_told_on}
 use Rattle.group_notices.specs.Mirror.{Leads, Mirrors, told_by}
 use Rattle.group_notices.specs.Runs.{HasTold, IsAsked, moment}
@@ -18,7 +18,7 @@ use Rattle.std.specs.Prelude.{Bool, Err, IfOk, IfSome, List, None, Ok, Option, R
 use Rattle.task_group.proofs.GroupLemmas.{told-append, told-none}
 use Rattle.task_group.specs.Groups.{Groups}
 use Rattle.task_group.specs.Listeners.{Told}
-use Rattle.task_loop.specs.Told.{MainTells, TurnTells, TurnTold, main_notices, notices_made, runs_on, turn_of}
+use Rattle.task_loop.specs.Told.{RunTold, TurnTold, main_notices, notices_made, runs_on, turn_of}
 use Rattle.task_machine.specs.Core.{Core, Main, State, Unscripted}
 use Rattle.task_machine.specs.Maps.{get}
 use Rattle.task_machine.specs.Read.{thread_group}
@@ -44,6 +44,7 @@ use Rattle.task_rules.specs.Run.{Run}
 use Rattle.task_rules.specs.Stalled.{Setting}
 use Rattle.task_rules.specs.Step.{Step}
 use Rattle.task_store.specs.Groups.{HoldsGroups}
+use Rattle.task_turns.proofs.IdleLemmas.{makes_turns}
 use Rattle.task_turns.proofs.KeptLemmas.{sits_after}
 use Rattle.task_turns.proofs.MainLemmas.{main_step}
 use Rattle.task_turns.specs.Does.{label_of_step}
@@ -51,7 +52,7 @@ use Rattle.task_turns.specs.Drive.{Computes, Drives}
 use Rattle.task_turns.specs.Drive as drive
 use Rattle.task_turns.specs.Main.{IsOpOfMain, Steps, main_setting}
 use Rattle.task_turns.specs.Stepped.{Added, AddedOrNone, Stands}
-use Rattle.task_turns.specs.Turn.{Sits, Turned, Turns, running_of, runs_in, setting_of, state_at}
+use Rattle.task_turns.specs.Turn.{IsFree, Makes, Sits, Turned, Turns, running_of, runs_in, setting_of, state_at}
 use Rattle.task_turns.specs.declared.made.Made.{Made}
 use Rattle.task_turns.specs.declared.made.Stepped.{Stepped}
 use Rattle.task_turns.specs.declared.made.Stepped.TheVariants as stepped
@@ -150,29 +151,7 @@ module _ (x : Setting) (p : Turn) (main : is_main_turn p ≡ false) (m : Main) (
         unhooked = unhooked;
       }
 
--- ---- By whose turn it is
-
-pub tells_main : (c : Component) (p : Turn) (s : Core) (g : ℕ) (w : Option ℕ) (old new : Groups) (main : Type 0) → is_main_turn p ≡ true → TurnTells c p s g w old new main → main
-tells_main c turn.Main s g w old new main e h = h
-tells_main c (turn.Futures n) s g w old new main e h = absurd (cc)
-tells_main c (turn.Take b) s g w old new main e h = absurd (cc)
-tells_main c (turn.Run n) s g w old new main e h = absurd (cc)
-tells_main c turn.Over s g w old new main e h = absurd (cc)
-
-pub tells_other : (c : Component) (p : Turn) (s : Core) (g : ℕ) (w : Option ℕ) (old new : Groups) (main : Type 0) → is_main_turn p ≡ false → TurnTells c p s g w old new main → (g ≡ staked c s p) × ((w ≡ worked_group s p) × (new ≡ old))
-tells_other c turn.Main s g w old new main e h = absurd (cc)
-tells_other c (turn.Futures n) s g w old new main e h = h
-tells_other c (turn.Take b) s g w old new main e h = h
-tells_other c (turn.Run n) s g w old new main e h = h
-tells_other c turn.Over s g w old new main e h = h
-
--- main's turn
-pub main_at : (p : Turn) → is_main_turn p ≡ true → p ≡ turn.Main
-main_at turn.Main e = refl
-main_at (turn.Futures n) e = absurd (cc)
-main_at (turn.Take b) e = absurd (cc)
-main_at (turn.Run n) e = absurd (cc)
-main_at turn.Over e = absurd (cc)
+-- ---- A step of the running thread
 
 -- the same thread runs on
 pub runs_same : (p q : Turn) → runs_on p q ≡ true → (n : ℕ) × ((p ≡ turn.Run n) × (q ≡ turn.Run n))
@@ -194,6 +173,45 @@ group_on x p q m n s t l sits step r is on =
     let after = subst (λ (w : Turn). Sits x.component w t) same.1.1 (sits_after x s t m n p q l sits step) in
     let before = subst (λ (w : Turn). Sits x.component w s) same.1.0 sits in
     is ∙ (ap (running_group s) same.1.0 ∙ (ap Some (sym (stays_in x.component k s t before after (steady x (state_at s m p) l (state_at t n q) step))) ∙ sym (ap (running_group t) same.1.1)))
+
+module _ (c : Component) (n : ℕ) (s t : StateView) (q : Stepped) (before after : List Label)
+    (made : Added (λ made. Makes c (turn.Run n) s made t × IsFree made.turn) q before after) where
+  run_turns : (x : Setting) → x.component ≡ c → (m : Main) → Turns x (turn.Run n) m s made.0 m t
+  run_turns x is m =
+      makes_turns x (turn.Run n) s made.0 t (subst (λ (k : Component). Makes k (turn.Run n) s made.0 t) (sym is) (made.1.1).0) m ((made.1.1).1 x t.core m)
+
+  pub run_runs : running_of t ≡ runs_in (turn_of q)
+  run_runs = ((made.1.1).0).running ∙ ap (λ (p : Turn). runs_in p) (stands_turn q before made.0 after made.1.0)
+
+  -- one that runs on stays in its group
+  pub run_stays : (g : ℕ) → Sits c (turn.Run n) s.core → g ≡ thread_group n s.core → runs_on (turn.Run n) (turn_of q) ≡ true → running_group t.core (turn_of q) ≡ Some g
+  run_stays g sits own on =
+      let x = setting_of c [] false in
+      let step = subst (λ (p : Turn). Step x (state_at s.core Unscripted (turn.Run n)) (made.0).label (state_at t.core Unscripted p))
+          (stands_turn q before made.0 after made.1.0) (((made.1.1).0).step x refl Unscripted) in
+      sym (group_on x (turn.Run n) (turn_of q) Unscripted Unscripted s.core t.core (made.0).label sits step (Some g) (ap Some own) on)
+
+  module _ (a : Asked) (asked : IsAsked c s.core (turn.Run n) a) (old : Groups) (holds : HoldsGroups old s.core) (new : Groups) where
+    pub run_told : ((gs : List ℕ) → Mirrors gs old → Leads a (length t.core.groups) gs t.core.groups → Told (told_by a (running_group t.core (turn_of q)) gs t.core.groups) old.listeners new.listeners)
+        → Added (λ made. RunTold c n s old made t new) q before after
+    run_told told = (
+      made.0,
+      (
+        made.1.0,
+        λ x is m.
+            (other_told x (turn.Run n) refl m s a (subst (λ (k : Component). IsAsked k s.core (turn.Run n) a) (sym is) asked) old holds m t new q before after
+            (made.0, (made.1.0, run_turns x is m)) told).1.1,
+      ),
+    )
+
+    pub run_holds : ((gs : List ℕ) → Mirrors gs old → Leads a (length t.core.groups) gs t.core.groups → Mirrors t.core.groups new) → new.made ≡ old.made → is_some new.listeners.hook ≡ false → HoldsGroups new t.core
+    run_holds mirrors same unhooked =
+        let x = setting_of c [] false in
+        other_holds x (turn.Run n) refl Unscripted s a asked old holds Unscripted t new q before after (made.0, (made.1.0, run_turns x refl Unscripted)) mirrors same unhooked
+
+-- the turn after such a step
+pub turns_runs : (x : Setting) (p : Turn) (m : Main) (s : StateView) (n : Main) (t : StateView) (q : Stepped) (before after : List Label) → Added (λ made. Turns x p m s made n t) q before after → running_of t ≡ runs_in (turn_of q)
+turns_runs x p m s n t q before after made = (made.1.1).running ∙ ap (λ (k : Turn). runs_in k) (stands_turn q before made.0 after made.1.0)
 
 -- ---- Ops on registers and words
 

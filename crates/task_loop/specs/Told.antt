@@ -1,19 +1,16 @@
 -- What the steps of a run tell the groups of the store.
-use Rattle.std.specs.Prelude.{Bool, IfSome, List, None, Option, Some, [], false, ℕ, ◌++◌, ◌==◌, ◌≡◌}
-use Rattle.group_laws.specs.Tells.{staked, worked_group}
+use Rattle.std.specs.Prelude.{Bool, List, None, Option, Some, [], false, unwrap_or, ℕ, ◌++◌, ◌==◌, ◌≡◌}
+use Rattle.group_notices.specs.declared.tells.Asked.{Asked}
 use Rattle.group_notices.specs.Runs.{moment}
 use Rattle.task_group.specs.Groups.{Groups}
 use Rattle.task_group.specs.Listeners.{Told}
 use Rattle.task_machine.specs.Core.{Core, Main}
-use Rattle.task_machine.specs.declared.label.Label.{Label}
 use Rattle.task_machine.specs.declared.component.Component.{Component}
 use Rattle.task_machine.specs.declared.records.Notice.{Notice}
 use Rattle.task_machine.specs.declared.records.Turn.{Turn}
 use Rattle.task_machine.specs.declared.records.Turn.TheVariants as turn
 use Rattle.task_rules.specs.Notices.{finish_notices, moment_notices, running_group, start_notices}
 use Rattle.task_rules.specs.Stalled.{Setting}
-use Rattle.task_store.specs.Groups.{HoldsGroups}
-use Rattle.task_turns.specs.Stepped.{AddedOrNone}
 use Rattle.task_turns.specs.Turn.{Turned, state_at}
 use Rattle.task_turns.specs.declared.made.Made.{Made}
 use Rattle.task_turns.specs.declared.made.Stepped.{Stepped}
@@ -37,6 +34,18 @@ abbrev pub turn_of : Stepped → Turn
 turn_of (stepped.Goes p computed) = p
 turn_of (stepped.Over o) = turn.Over
 
+-- the group of the thread that runs; default: none does
+abbrev pub group_running : Core → Turn → ℕ
+group_running s p = unwrap_or (running_group s p) 0
+
+-- what is asked before the step of a turn in which no thread runs
+abbrev pub asked_beside : (worked : Option ℕ) → (live : ℕ) → Asked
+asked_beside worked live = record { running = None; worked = worked; staked = 0; live = live }
+
+-- and before that of a thread of this group, which may finish that one
+abbrev pub asked_in : (running staked live : ℕ) → Asked
+asked_in running staked live = record { running = Some running; worked = None; staked = staked; live = live }
+
 -- the notices of the step that was made, if one was
 abbrev pub notices_made : Turn → Main → Core → Option Made → Main → Core → List Notice
 notices_made p m s None n t = []
@@ -48,14 +57,6 @@ pub record TurnTold (x : Setting) (p : Turn) (m : Main) (s : StateView) (old : G
   pub turned : Turned x p m s made n t
   pub told : Told (notices_made p m s.core made n t.core) old.listeners new.listeners
 
--- The step of main was made, its notices were told, and the groups of the store stand for those of its core.
-pub record MainTells (x : Setting) (m : Main) (s : StateView) (old : Groups) (q : Option Stepped) (before : List Label) (n : Main)
-    (t : StateView) (new : Groups) (after : List Label) : Type 0 where
-  pub holds : HoldsGroups new t.core
-  pub told : AddedOrNone (λ made. TurnTold x turn.Main m s old made n t new) q before after
-  pub idle : IfSome q (λ k. running_group t.core (turn_of k) ≡ None)
-
--- Main's step is told by main; in other turns it is known which group is at stake and whose work is worked on, and nothing was told.
-abbrev pub TurnTells : Component → Turn → Core → ℕ → Option ℕ → Groups → Groups → Type 0 → Type 0
-TurnTells c turn.Main s stake work old new main = main
-TurnTells c p s stake work old new main = (stake ≡ staked c s p) × ((work ≡ worked_group s p) × (new ≡ old))
+-- the same of a step of the running thread, whatever main is
+abbrev pub RunTold : Component → ℕ → StateView → Groups → Made → StateView → Groups → Type 0
+RunTold c n s old made t new = (x : Setting) → x.component ≡ c → (m : Main) → TurnTold x (turn.Run n) m s old (Some made) m t new

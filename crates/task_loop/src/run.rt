@@ -1,9 +1,8 @@
-ghost use Rattle.std.specs.Prelude.{◌≡◌, ◌*◌, ◌+◌, ◌<◌, ◌≤◌, ◌^◌, IfErr, IfOk, IfSome, None, OnErr, OnOk, Some, false, true, unwrap_or, Bool};
+ghost use Rattle.std.specs.Prelude.{◌≡◌, ◌*◌, ◌+◌, ◌<◌, ◌≤◌, ◌^◌, IfErr, IfOk, IfSome, None, OnErr, OnOk, Some, false, true, Bool};
 ghost use Rattle.group_laws.specs.Groups.{stake};
-ghost use Rattle.group_laws.specs.Tells.{is_main_turn};
 ghost use Rattle.group_notices.specs.Runs.{HasTold};
 ghost use Rattle.task_group.specs.Listeners.{Told};
-ghost use Rattle.task_loop.specs.Told.{MainTells, TurnTells, TurnTold, main_notices, turn_of};
+ghost use Rattle.task_loop.specs.Told.{RunTold, TurnTold, group_running, main_notices, turn_of};
 ghost use Rattle.task_machine.specs.Read.{thread_group};
 ghost use Rattle.task_ops.specs.Works.{NamesWorks};
 ghost use Rattle.task_rules.specs.Notices.{running_group};
@@ -18,8 +17,7 @@ ghost use Rattle.task_turns.specs.Stepped.{Added, AddedOrNone};
 ghost use Rattle.task_turns.specs.Turn.{IsAtTurn, IsFree, IsSettled, Makes, PendsIn, Sits, Turned, Turns, given, goes_on, is_open, running_of, runs_in, setting_of, state_at};
 
 use crate::main_task::MainTask;
-use crate::tells::{group_of, tell};
-use group_notices::Asked;
+use crate::tells::{group_of, tell_run, tell_work};
 use run_pace::Pace;
 use store_access::Access;
 use task_calls::TaskError;
@@ -125,9 +123,9 @@ fn step_main<T, H: HostWork, M: MainTask<T, H>>(
 }
 
 // The running thread, which has this number, takes a step. A host that it calls is polled, and its
-// work is held.
+// work is held. The group that the step may finish is asked, where that of the thread was.
 #[inline(always)]
-fn run_thread<T, H: AccessorTask<T> + FromHost>(
+fn step_thread<T, H: AccessorTask<T> + FromHost>(
     component: &Component,
     store: &mut Store<T, H>,
     thread: u64,
@@ -157,22 +155,45 @@ fn run_thread<T, H: AccessorTask<T> + FromHost>(
     }
 }
 
-// Whose turn it is after a step.
+// The running thread, which has this number, takes a step. A host that it calls is polled, and its
+// work is held. The groups of the store are told what the step gave. `running` is the group of the thread that runs.
 #[inline(always)]
-fn turn_of(stepped: &Stepped) -> Turn
-    ensures { result ≡ turn_of stepped.now }
+fn run_thread<T, H: AccessorTask<T> + FromHost>(
+    component: &Component,
+    store: &mut Store<T, H>,
+    thread: u64,
+    trace: &mut Trace,
+    running: &mut u64,
+) -> Result<Stepped, NoMemory>
+    requires covered { IsWellFormed component.now }
+    requires order { Sits component.now (Turn.Run thread) store.old.state.core }
+    requires current { running_of store.old.state ≡ Some thread }
+    requires given { given store.old.state.core + 4 < 2 ^ 61 }
+    requires running { running.old ≡ thread_group thread store.old.state.core }
+    requires hosts { HoldsHosts H.course store.old }
+    requires groups { HoldsGroups store.old.groups store.old.state.core }
+    ensures stands { standing store.new ≡ standing store.old }
+    ensures makes { IfOk result (λ stepped. Added (λ made. Makes component.now (Turn.Run thread) store.old.state made store.new.state × IsFree made.turn) stepped trace.old trace.new) }
+    ensures works { OnOk result (NamesWorks store.old.state store.new.state) }
+    ensures hosts { OnOk result (HoldsHosts H.course store.new) }
+    ensures groups { OnOk result (HoldsGroups store.new.groups store.new.state.core) }
+    ensures running { IfOk result (λ stepped. running.new ≡ group_running store.new.state.core (turn_of stepped)) }
+    ensures told { IfOk result (λ stepped. Added (λ made. RunTold component.now thread store.old.state store.old.groups made store.new.state store.new.groups) stepped trace.old trace.new) }
+    ensures err { OnErr result (trace.new ≡ trace.old) }
 {
-    match stepped {
-        Stepped::Goes { turn, computed: _ } => *turn,
-        Stepped::Over(_) => Turn::Over,
-    }
-}
-
-#[inline(always)]
-fn is_main(turn: Turn) -> bool
-    ensures { result ≡ is_main_turn turn }
-{
-    matches!(turn, Turn::Main)
+    let live = store.state.groups();
+    let mut staked = *running;
+    let stepped = step_thread(component, store, thread, trace, &mut staked)?;
+    *running = tell_run(
+        &store.state,
+        &mut store.groups,
+        thread,
+        &stepped,
+        *running,
+        staked,
+        live,
+    );
+    Ok(stepped)
 }
 
 impl RunConcurrent {
@@ -181,7 +202,8 @@ impl RunConcurrent {
     /// of the component machine from the store before to the store after, and the outcome is what
     /// that run has come to. The labels of main among them are those of the steps that main did, in their order. Where
     /// memory is wanting, the store is trapped, and the labels that were added are those of such a run to a state that is
-    /// lost. Whether a run stands on the store, whether it is concurrent and its number stay.
+    /// lost. Whether a run stands on the store, whether it is concurrent and its number stay. The groups of the store are told
+    /// the notices of that run, in their order.
     ///
     /// At most 2^60 numbers were given in the store, which is in order, as the component suits
     /// main. The thread that runs in the store is the one that the last call on this run
@@ -297,7 +319,8 @@ impl RunConcurrent {
         Ok(Outcome::OutOfSteps)
     }
 
-    // Makes a step, and adds its label to the trace; none where nothing can go on and that is no deadlock.
+    // Makes a step, adds its label to the trace, and tells the groups of the store what it gave; none where nothing can go on
+    // and that is no deadlock. `running` is the group of the thread that runs, 0 where none does.
     #[inline(always)]
     pub(crate) fn turn<T, H: AccessorTask<T> + FromHost, M: MainTask<T, H>>(
         &self,
@@ -313,8 +336,7 @@ impl RunConcurrent {
         requires knows { M.knows main.old store.old.state }
         requires hosts { HoldsHosts H.course store.old }
         requires groups { HoldsGroups store.old.groups store.old.state.core }
-        requires own { staked.old ≡ unwrap_or (running_group store.old.state.core self.now.turn) 0 }
-        requires unworked { worked.old ≡ None }
+        requires running { running.old ≡ group_running store.old.state.core self.now.turn }
         requires given { given store.old.state.core + 4 < 2 ^ 61 }
         requires pends { PendsIn (setting_of component.now (M.script main.old) self.now.trap_on_idle) store.old.state.core (M.part main.old) self.now.turn }
         ensures script { M.script main.new ≡ M.script main.old }
@@ -324,7 +346,9 @@ impl RunConcurrent {
         ensures stands { standing store.new ≡ standing store.old }
         ensures does { IfOk result (λ stepped. AddedOrNone (λ made. DoesStep M.does main.old (step_of made) main.new) stepped trace.old trace.new) }
         ensures turned { IfOk result (λ stepped. AddedOrNone (λ made. Turned (setting_of component.now (M.script main.old) self.now.trap_on_idle) self.now.turn (M.part main.old) store.old.state made (M.part main.new) store.new.state) stepped trace.old trace.new) }
-        ensures tells { IfOk result (λ stepped. TurnTells component.now self.now.turn store.old.state.core staked.new worked.new store.old.groups store.new.groups (MainTells (setting_of component.now (M.script main.old) self.now.trap_on_idle) (M.part main.old) store.old.state store.old.groups stepped trace.old (M.part main.new) store.new.state store.new.groups trace.new)) }
+        ensures groups { OnOk result (HoldsGroups store.new.groups store.new.state.core) }
+        ensures running { IfOk result (λ stepped. IfSome stepped (λ stepped. running.new ≡ group_running store.new.state.core (turn_of stepped))) }
+        ensures told { IfOk result (λ stepped. AddedOrNone (λ made. TurnTold (setting_of component.now (M.script main.old) self.now.trap_on_idle) self.now.turn (M.part main.old) store.old.state store.old.groups made (M.part main.new) store.new.state store.new.groups) stepped trace.old trace.new) }
         ensures err { OnErr result (trace.new ≡ trace.old) }
     {
         match self.turn {
@@ -334,53 +358,22 @@ impl RunConcurrent {
                 let mut worked = None;
                 let made = store.poll_next(polled, &mut worked);
                 let stepped = put(trace, made)?;
-                let asked = Asked {
-                    running: None,
-                    worked,
-                    staked: 0,
-                    live,
-                };
-                let after = turn_of(&stepped);
-                *running = tell(&store.state, &mut store.groups, Turn::Futures { polled }, after, &asked).unwrap_or(0);
+                *running = tell_work(&store.state, &mut store.groups, &stepped, worked, live);
                 Ok(Some(stepped))
             }
             Turn::Take { ended } => {
                 let live = store.state.groups();
                 let mut worked = None;
-                match take(
-                    component,
-                    &mut store.state,
-                    ended,
-                    self.trap_on_idle,
-                    trace,
-                    &mut worked,
-                )? {
-                    None => Ok(None),
-                    Some(stepped) => {
-                        let asked = Asked {
-                            running: None,
-                            worked,
-                            staked: 0,
-                            live,
-                        };
-                        let after = turn_of(&stepped);
-                        *running = tell(&store.state, &mut store.groups, Turn::Take { ended }, after, &asked).unwrap_or(0);
-                        Ok(Some(stepped))
-                    }
-                }
+                let idle = self.trap_on_idle;
+                let taken = take(component, &mut store.state, ended, idle, trace, &mut worked)?;
+                let Some(stepped) = taken else {
+                    return Ok(None);
+                };
+                *running = tell_work(&store.state, &mut store.groups, &stepped, worked, live);
+                Ok(Some(stepped))
             }
             Turn::Run { thread } => {
-                let live = store.state.groups();
-                let mut staked = *running;
-                let stepped = run_thread(component, store, thread, trace, &mut staked)?;
-                let asked = Asked {
-                    running: Some(*running),
-                    worked: None,
-                    staked,
-                    live,
-                };
-                let after = turn_of(&stepped);
-                *running = tell(&store.state, &mut store.groups, Turn::Run { thread }, after, &asked).unwrap_or(0);
+                let stepped = run_thread(component, store, thread, trace, running)?;
                 Ok(Some(stepped))
             }
             Turn::Over => unreachable!(),

@@ -1,12 +1,12 @@
 -- Each turn adds to the run, until it is over.
 use Rattle.std.proofs.Common.{arith, refl, ap, subst, sym, ◌∙◌}
-use Rattle.std.specs.Prelude.{IfSome, None, Option, Some, ◌+◌, ◌≡◌}
+use Rattle.std.specs.Prelude.{IfSome, None, Option, Some, unwrap_or, ℕ, ◌+◌, ◌≡◌}
+use Rattle.group_notices.proofs.RunLemmas.{nothing_told}
 use Rattle.task_loop.proofs.DoesLemmas.{on_err}
 use Rattle.task_loop.proofs.ToldLemmas.{group_computed, holds_computed, told_computed, told_more, told_same, told_still}
-use Rattle.task_loop.specs.Told.{TurnTold, turn_of}
-use Rattle.task_rules.specs.Notices.{running_group}
-use Rattle.task_turns.proofs.DoesLemmas.{does_added, does_computed, does_still}
-use Rattle.task_turns.proofs.DriveLemmas.{on_out_at, on_rests, turned_same, was_on, was_on_short}
+use Rattle.task_loop.specs.Told.{TurnTold, group_running, turn_of}
+use Rattle.task_turns.proofs.DoesLemmas.{does_added, does_computed, does_none, does_still}
+use Rattle.task_turns.proofs.DriveLemmas.{on_begins, on_out_at, on_rests, turned_same, was_on, was_on_short}
 use Rattle.task_turns.proofs.SteppedLemmas.{added_ends, added_more, added_none, none_as}
 use Rattle.task_store.proofs.HostLemmas.{holds_same}
 use Rattle.task_store.specs.Hosts.{held_by}
@@ -19,6 +19,27 @@ use Rattle.task_turns.specs.declared.made.Stepped.{Stepped}
 use Rattle.task_turns.specs.declared.made.Stepped.TheVariants as stepped
 use Rattle.task_loop.proofs.run.RunConcurrent.go_on.Goals as goal
 
+pub turns-init : goal.turns-init
+turns-init g c =
+    let s = c.args.store.now.state in
+    let part = g.M.MainTask.part in
+    let x = setting_of c.args.component.now (g.M.MainTask.script c.args.main.now) c.args.self.now.trap_on_idle in
+    let before = c.args.trace.now in
+    record {
+      script = refl;
+      suits = c.requires.suits;
+      knows = c.requires.knows;
+      hosts = c.requires.hosts;
+      idle = refl;
+      stands = refl;
+      on = on_begins x before c.args.self.now.turn (part c.args.main.now) s c.requires.at c.requires.pends;
+      does = does_none g.M.MainTask.does c.args.main.now before;
+      few = omega arith;
+      groups = c.requires.groups;
+      running = c.unwrap_or-running.ensures ∙ ap (λ (o : Option ℕ). unwrap_or o 0) c.group_of.ensures;
+      told = nothing_told x (state_at s.core (part c.args.main.now) c.args.self.now.turn) before c.args.store.now.groups;
+    }
+
 pub returns-in-None-clause-ok : goal.returns-in-None-clause-ok
 returns-in-None-clause-ok g c =
     let s = c.args.store.now.state in
@@ -26,14 +47,14 @@ returns-in-None-clause-ok g c =
     let script = g.M.MainTask.script in
     let x = setting_of c.args.component.now (script c.args.main.now) c.args.self.now.trap_on_idle in
     let u = c.turns.store.state in
-    let t = c.told_turn.new.store.state in
+    let t = c.turn.new.store.state in
     let m = part c.turns.main in
-    let m' = part c.told_turn.new.main in
+    let m' = part c.turn.new.main in
     let mid = c.turns.trace in
-    let after = c.told_turn.new.trace in
+    let after = c.turn.new.trace in
     let turned = none_as (λ (made : Option Made). Turned (setting_of c.args.component.now (script c.turns.main) c.turns.self.trap_on_idle) c.turns.self.turn m u made m' t) (λ (made : Option Made). Turned x c.turns.self.turn m u made m' t) None mid after
     (λ made. turned_same c.args.component.now (script c.turns.main) (script c.args.main.now) c.turns.self.trap_on_idle c.args.self.now.trap_on_idle c.turns.self.turn m u made m' t c.turns.invariant.script c.turns.invariant.idle)
-    (rw c.in-None.is at c.in_ok-told_turn.ensures.turned) in
+    (rw c.in-None.is at c.in_ok-turn.ensures.turned) in
     added_none x (state_at s.core (part c.args.main.now) c.args.self.now.turn) c.args.trace.now (given s.core) c.turns.self.turn m u mid c.turns.added c.turns.invariant.on m' t after c.args.steps (omega arith) turned
 
 pub returns-in-Some-Over-clause-ok : goal.returns-in-Some-Over-clause-ok
@@ -43,14 +64,14 @@ returns-in-Some-Over-clause-ok g c =
     let script = g.M.MainTask.script in
     let x = setting_of c.args.component.now (script c.args.main.now) c.args.self.now.trap_on_idle in
     let u = c.turns.store.state in
-    let t = c.told_turn.new.store.state in
+    let t = c.turn.new.store.state in
     let m = part c.turns.main in
-    let m' = part c.told_turn.new.main in
+    let m' = part c.turn.new.main in
     let mid = c.turns.trace in
-    let after = c.told_turn.new.trace in
+    let after = c.turn.new.trace in
     let turned = none_as (λ (made : Option Made). Turned (setting_of c.args.component.now (script c.turns.main) c.turns.self.trap_on_idle) c.turns.self.turn m u made m' t) (λ (made : Option Made). Turned x c.turns.self.turn m u made m' t) (Some (stepped.Over c.in-Some-Over.outcome)) mid after
     (λ made. turned_same c.args.component.now (script c.turns.main) (script c.args.main.now) c.turns.self.trap_on_idle c.args.self.now.trap_on_idle c.turns.self.turn m u made m' t c.turns.invariant.script c.turns.invariant.idle)
-    (subst (λ (o : Option Stepped). AddedOrNone (λ (made : Option Made). Turned (setting_of c.args.component.now (script c.turns.main) c.turns.self.trap_on_idle) c.turns.self.turn m u made m' t) o mid after) (c.in-Some-Over.is ∙ ap (λ (q : Stepped). Some q) c.in-Some-Over.field-0-is) c.in_ok-told_turn.ensures.turned) in
+    (subst (λ (o : Option Stepped). AddedOrNone (λ (made : Option Made). Turned (setting_of c.args.component.now (script c.turns.main) c.turns.self.trap_on_idle) c.turns.self.turn m u made m' t) o mid after) (c.in-Some-Over.is ∙ ap (λ (q : Stepped). Some q) c.in-Some-Over.field-0-is) c.in_ok-turn.ensures.turned) in
     added_ends x (state_at s.core (part c.args.main.now) c.args.self.now.turn) c.args.trace.now (given s.core) c.turns.self.turn m u mid c.turns.added c.turns.invariant.on m' t after c.in-Some-Over.outcome c.args.steps (omega arith) turned
 
 pub compute-requires-clause-order : goal.compute-requires-clause-order
@@ -60,14 +81,14 @@ compute-requires-clause-order g c =
     let script = g.M.MainTask.script in
     let x = setting_of c.args.component.now (script c.args.main.now) c.args.self.now.trap_on_idle in
     let u = c.turns.store.state in
-    let t = c.told_turn.new.store.state in
+    let t = c.turn.new.store.state in
     let m = part c.turns.main in
-    let m' = part c.told_turn.new.main in
+    let m' = part c.turn.new.main in
     let mid = c.turns.trace in
-    let after = c.told_turn.new.trace in
+    let after = c.turn.new.trace in
     let turned = none_as (λ (made : Option Made). Turned (setting_of c.args.component.now (script c.turns.main) c.turns.self.trap_on_idle) c.turns.self.turn m u made m' t) (λ (made : Option Made). Turned x c.turns.self.turn m u made m' t) (Some (stepped.Goes c.in-Some-Goes.turn c.in-Some-Goes.computed)) mid after
     (λ made. turned_same c.args.component.now (script c.turns.main) (script c.args.main.now) c.turns.self.trap_on_idle c.args.self.now.trap_on_idle c.turns.self.turn m u made m' t c.turns.invariant.script c.turns.invariant.idle)
-    (subst (λ (o : Option Stepped). AddedOrNone (λ (made : Option Made). Turned (setting_of c.args.component.now (script c.turns.main) c.turns.self.trap_on_idle) c.turns.self.turn m u made m' t) o mid after) (c.in-Some-Goes.is ∙ ap (λ (q : Stepped). Some q) c.in-Some-Goes.field-0-is) c.in_ok-told_turn.ensures.turned) in
+    (subst (λ (o : Option Stepped). AddedOrNone (λ (made : Option Made). Turned (setting_of c.args.component.now (script c.turns.main) c.turns.self.trap_on_idle) c.turns.self.turn m u made m' t) o mid after) (c.in-Some-Goes.is ∙ ap (λ (q : Stepped). Some q) c.in-Some-Goes.field-0-is) c.in_ok-turn.ensures.turned) in
     (added_more x (state_at s.core (part c.args.main.now) c.args.self.now.turn) c.args.trace.now (given s.core) c.turns.self.turn m u mid c.turns.added c.turns.invariant.on m' t after c.in-Some-Goes.turn c.in-Some-Goes.computed turned).at.order
 
 pub turns-preserved : goal.turns-preserved
@@ -77,36 +98,36 @@ turns-preserved g c =
     let script = g.M.MainTask.script in
     let x = setting_of c.args.component.now (script c.args.main.now) c.args.self.now.trap_on_idle in
     let u = c.turns.store.state in
-    let t = c.told_turn.new.store.state in
+    let t = c.turn.new.store.state in
     let m = part c.turns.main in
-    let m' = part c.told_turn.new.main in
+    let m' = part c.turn.new.main in
     let mid = c.turns.trace in
-    let after = c.told_turn.new.trace in
+    let after = c.turn.new.trace in
     let turned = none_as (λ (made : Option Made). Turned (setting_of c.args.component.now (script c.turns.main) c.turns.self.trap_on_idle) c.turns.self.turn m u made m' t) (λ (made : Option Made). Turned x c.turns.self.turn m u made m' t) (Some (stepped.Goes c.in-Some-Goes.turn c.in-Some-Goes.computed)) mid after
     (λ made. turned_same c.args.component.now (script c.turns.main) (script c.args.main.now) c.turns.self.trap_on_idle c.args.self.now.trap_on_idle c.turns.self.turn m u made m' t c.turns.invariant.script c.turns.invariant.idle)
-    (subst (λ (o : Option Stepped). AddedOrNone (λ (made : Option Made). Turned (setting_of c.args.component.now (script c.turns.main) c.turns.self.trap_on_idle) c.turns.self.turn m u made m' t) o mid after) (c.in-Some-Goes.is ∙ ap (λ (q : Stepped). Some q) c.in-Some-Goes.field-0-is) c.in_ok-told_turn.ensures.turned) in
+    (subst (λ (o : Option Stepped). AddedOrNone (λ (made : Option Made). Turned (setting_of c.args.component.now (script c.turns.main) c.turns.self.trap_on_idle) c.turns.self.turn m u made m' t) o mid after) (c.in-Some-Goes.is ∙ ap (λ (q : Stepped). Some q) c.in-Some-Goes.field-0-is) c.in_ok-turn.ensures.turned) in
     let on = added_more x (state_at s.core (part c.args.main.now) c.args.self.now.turn) c.args.trace.now (given s.core) c.turns.self.turn m u mid c.turns.added c.turns.invariant.on m' t after c.in-Some-Goes.turn c.in-Some-Goes.computed turned in
     let o = state_at s.core (part c.args.main.now) c.args.self.now.turn in
     let first = c.args.store.now.groups in
     record {
-      script = c.in_ok-told_turn.ensures.script ∙ c.turns.invariant.script;
-      suits = c.in_ok-told_turn.ensures.suits;
-      knows = g.met.M.MainTask.stays c.told_turn.new.main t c.compute.new.w (last_by_works t c.compute.new.w c.in_ok-added-in-Some-Goes.ensures.works) c.in_ok-told_turn.ensures.knows;
-      hosts = holds_same t.core c.compute.new.w.core (held_by g.H.HostWork.course c.told_turn.new.store) c.in_ok-added-in-Some-Goes.ensures.works.works c.in_ok-told_turn.ensures.hosts;
+      script = c.in_ok-turn.ensures.script ∙ c.turns.invariant.script;
+      suits = c.in_ok-turn.ensures.suits;
+      knows = g.met.M.MainTask.stays c.turn.new.main t c.compute.new.w (last_by_works t c.compute.new.w c.in_ok-added-in-Some-Goes.ensures.works) c.in_ok-turn.ensures.knows;
+      hosts = holds_same t.core c.compute.new.w.core (held_by g.H.HostWork.course c.turn.new.store) c.in_ok-added-in-Some-Goes.ensures.works.works c.in_ok-turn.ensures.hosts;
       idle = c.turns.invariant.idle;
-      stands = c.in_ok-told_turn.ensures.stands ∙ c.turns.invariant.stands;
+      stands = c.in_ok-turn.ensures.stands ∙ c.turns.invariant.stands;
       on = c.in_ok-added-in-Some-Goes.ensures.on x refl (state_at s.core (part c.args.main.now) c.args.self.now.turn) c.args.trace.now (given s.core) m' on;
-      does = does_computed g.M.MainTask.does c.args.main.now c.args.trace.now c.told_turn.new.main after c.args.component.now c.in-Some-Goes.turn t (c.turns.added + 1) c.compute.new.w c.compute.new.trace c.in_ok-added-in-Some-Goes.added
-          (does_added g.M.MainTask.does c.args.main.now c.args.trace.now c.turns.main mid (stepped.Goes c.in-Some-Goes.turn c.in-Some-Goes.computed) c.told_turn.new.main after c.turns.invariant.does (subst (λ (o : Option Stepped). AddedOrNone (λ (made : Option Made). DoesStep g.M.MainTask.does c.turns.main (step_of made) c.told_turn.new.main) o c.turns.trace c.told_turn.new.trace) (c.in-Some-Goes.is ∙ ap (λ (q : Stepped). Some q) c.in-Some-Goes.field-0-is) c.in_ok-told_turn.ensures.does))
+      does = does_computed g.M.MainTask.does c.args.main.now c.args.trace.now c.turn.new.main after c.args.component.now c.in-Some-Goes.turn t (c.turns.added + 1) c.compute.new.w c.compute.new.trace c.in_ok-added-in-Some-Goes.added
+          (does_added g.M.MainTask.does c.args.main.now c.args.trace.now c.turns.main mid (stepped.Goes c.in-Some-Goes.turn c.in-Some-Goes.computed) c.turn.new.main after c.turns.invariant.does (subst (λ (o : Option Stepped). AddedOrNone (λ (made : Option Made). DoesStep g.M.MainTask.does c.turns.main (step_of made) c.turn.new.main) o c.turns.trace c.turn.new.trace) (c.in-Some-Goes.is ∙ ap (λ (q : Stepped). Some q) c.in-Some-Goes.field-0-is) c.in_ok-turn.ensures.does))
           c.in_ok-added-in-Some-Goes.ensures.computes;
       few = c.in_ok-added-in-Some-Goes.ensures.few.1;
-      groups = holds_computed c.args.component.now t after (c.turns.added + 1) c.compute.new.w c.compute.new.trace c.in_ok-added-in-Some-Goes.added x refl c.in-Some-Goes.turn c.in_ok-added-in-Some-Goes.ensures.computes c.in_ok-added-in-Some-Goes.ensures.still c.told_turn.new.store.groups c.in_ok-told_turn.ensures.groups;
-      running = subst (λ (w : Option Stepped). IfSome w (λ q. c.told_turn.new.running ≡ running_group t.core (turn_of q))) (c.in-Some-Goes.is ∙ ap (λ (q : Stepped). Some q) c.in-Some-Goes.field-0-is) c.in_ok-told_turn.ensures.running
-          ∙ sym (group_computed c.args.component.now t after (c.turns.added + 1) c.compute.new.w c.compute.new.trace c.in_ok-added-in-Some-Goes.added x refl c.in-Some-Goes.turn c.in_ok-added-in-Some-Goes.ensures.computes c.in_ok-added-in-Some-Goes.ensures.still);
-      told = told_computed x o c.args.trace.now first c.in-Some-Goes.turn m' t after (c.turns.added + 1) c.compute.new.w c.compute.new.trace c.in_ok-added-in-Some-Goes.added c.told_turn.new.store.groups
-          (told_more x o c.args.trace.now first c.turns.self.turn m u mid c.turns.store.groups m' t c.told_turn.new.store.groups (stepped.Goes c.in-Some-Goes.turn c.in-Some-Goes.computed) after c.turns.invariant.told
-          (told_same c.args.component.now (script c.turns.main) (script c.args.main.now) c.turns.self.trap_on_idle c.args.self.now.trap_on_idle c.turns.self.turn m u c.turns.store.groups m' t c.told_turn.new.store.groups (Some (stepped.Goes c.in-Some-Goes.turn c.in-Some-Goes.computed)) mid after c.turns.invariant.script c.turns.invariant.idle
-          (subst (λ (w : Option Stepped). AddedOrNone (λ (made : Option Made). TurnTold (setting_of c.args.component.now (script c.turns.main) c.turns.self.trap_on_idle) c.turns.self.turn m u c.turns.store.groups made m' t c.told_turn.new.store.groups) w mid after) (c.in-Some-Goes.is ∙ ap (λ (q : Stepped). Some q) c.in-Some-Goes.field-0-is) c.in_ok-told_turn.ensures.told)))
+      groups = holds_computed c.args.component.now t after (c.turns.added + 1) c.compute.new.w c.compute.new.trace c.in_ok-added-in-Some-Goes.added x refl c.in-Some-Goes.turn c.in_ok-added-in-Some-Goes.ensures.computes c.in_ok-added-in-Some-Goes.ensures.still c.turn.new.store.groups c.in_ok-turn.ensures.groups;
+      running = subst (λ (w : Option Stepped). IfSome w (λ q. c.turn.new.running ≡ group_running t.core (turn_of q))) (c.in-Some-Goes.is ∙ ap (λ (q : Stepped). Some q) c.in-Some-Goes.field-0-is) c.in_ok-turn.ensures.running
+          ∙ ap (λ (o : Option ℕ). unwrap_or o 0) (sym (group_computed c.args.component.now t after (c.turns.added + 1) c.compute.new.w c.compute.new.trace c.in_ok-added-in-Some-Goes.added x refl c.in-Some-Goes.turn c.in_ok-added-in-Some-Goes.ensures.computes c.in_ok-added-in-Some-Goes.ensures.still));
+      told = told_computed x o c.args.trace.now first c.in-Some-Goes.turn m' t after (c.turns.added + 1) c.compute.new.w c.compute.new.trace c.in_ok-added-in-Some-Goes.added c.turn.new.store.groups
+          (told_more x o c.args.trace.now first c.turns.self.turn m u mid c.turns.store.groups m' t c.turn.new.store.groups (stepped.Goes c.in-Some-Goes.turn c.in-Some-Goes.computed) after c.turns.invariant.told
+          (told_same c.args.component.now (script c.turns.main) (script c.args.main.now) c.turns.self.trap_on_idle c.args.self.now.trap_on_idle c.turns.self.turn m u c.turns.store.groups m' t c.turn.new.store.groups (Some (stepped.Goes c.in-Some-Goes.turn c.in-Some-Goes.computed)) mid after c.turns.invariant.script c.turns.invariant.idle
+          (subst (λ (w : Option Stepped). AddedOrNone (λ (made : Option Made). TurnTold (setting_of c.args.component.now (script c.turns.main) c.turns.self.trap_on_idle) c.turns.self.turn m u c.turns.store.groups made m' t c.turn.new.store.groups) w mid after) (c.in-Some-Goes.is ∙ ap (λ (q : Stepped). Some q) c.in-Some-Goes.field-0-is) c.in_ok-turn.ensures.told)))
           c.in_ok-added-in-Some-Goes.ensures.computes c.in_ok-added-in-Some-Goes.ensures.still;
     }
 
@@ -130,19 +151,19 @@ returns-clause-ok g c =
 
 pub returns-in-None-clause-does : goal.returns-in-None-clause-does
 returns-in-None-clause-does g c =
-    does_still g.M.MainTask.does c.args.main.now c.args.trace.now c.turns.main c.turns.trace c.told_turn.new.main c.told_turn.new.trace c.turns.invariant.does (rw c.in-None.is at c.in_ok-told_turn.ensures.does)
+    does_still g.M.MainTask.does c.args.main.now c.args.trace.now c.turns.main c.turns.trace c.turn.new.main c.turn.new.trace c.turns.invariant.does (rw c.in-None.is at c.in_ok-turn.ensures.does)
 
 pub returns-in-Some-Over-clause-does : goal.returns-in-Some-Over-clause-does
 returns-in-Some-Over-clause-does g c =
-    does_added g.M.MainTask.does c.args.main.now c.args.trace.now c.turns.main c.turns.trace (stepped.Over c.in-Some-Over.outcome) c.told_turn.new.main c.told_turn.new.trace c.turns.invariant.does (subst (λ (o : Option Stepped). AddedOrNone (λ (made : Option Made). DoesStep g.M.MainTask.does c.turns.main (step_of made) c.told_turn.new.main) o c.turns.trace c.told_turn.new.trace) (c.in-Some-Over.is ∙ ap (λ (q : Stepped). Some q) c.in-Some-Over.field-0-is) c.in_ok-told_turn.ensures.does)
+    does_added g.M.MainTask.does c.args.main.now c.args.trace.now c.turns.main c.turns.trace (stepped.Over c.in-Some-Over.outcome) c.turn.new.main c.turn.new.trace c.turns.invariant.does (subst (λ (o : Option Stepped). AddedOrNone (λ (made : Option Made). DoesStep g.M.MainTask.does c.turns.main (step_of made) c.turn.new.main) o c.turns.trace c.turn.new.trace) (c.in-Some-Over.is ∙ ap (λ (q : Stepped). Some q) c.in-Some-Over.field-0-is) c.in_ok-turn.ensures.does)
 
-pub returns-in_err-told_turn-clause-err : goal.returns-in_err-told_turn-clause-err
-returns-in_err-told_turn-clause-err g c =
+pub returns-in_err-turn-clause-err : goal.returns-in_err-turn-clause-err
+returns-in_err-turn-clause-err g c =
     let s = c.args.store.now.state in
     let part = g.M.MainTask.part in
     let script = g.M.MainTask.script in
     let x = setting_of c.args.component.now (script c.args.main.now) c.args.self.now.trap_on_idle in
-    on_err c.from_residual.result _ (was_on x (state_at s.core (part c.args.main.now) c.args.self.now.turn) c.args.trace.now (given s.core) c.turns.self.turn (part c.turns.main) c.turns.store.state c.turns.trace c.told_turn.new.trace c.turns.added c.args.steps c.turns.invariant.on c.turns.invariant.few c.in_err-told_turn.ensures.err)
+    on_err c.from_residual.result _ (was_on x (state_at s.core (part c.args.main.now) c.args.self.now.turn) c.args.trace.now (given s.core) c.turns.self.turn (part c.turns.main) c.turns.store.state c.turns.trace c.turn.new.trace c.turns.added c.args.steps c.turns.invariant.on c.turns.invariant.few c.in_err-turn.ensures.err)
 
 pub returns-in_err-added-in-Some-Goes-clause-err : goal.returns-in_err-added-in-Some-Goes-clause-err
 returns-in_err-added-in-Some-Goes-clause-err g c =
@@ -151,14 +172,14 @@ returns-in_err-added-in-Some-Goes-clause-err g c =
     let script = g.M.MainTask.script in
     let x = setting_of c.args.component.now (script c.args.main.now) c.args.self.now.trap_on_idle in
     let u = c.turns.store.state in
-    let t = c.told_turn.new.store.state in
+    let t = c.turn.new.store.state in
     let m = part c.turns.main in
-    let m' = part c.told_turn.new.main in
+    let m' = part c.turn.new.main in
     let mid = c.turns.trace in
-    let after = c.told_turn.new.trace in
+    let after = c.turn.new.trace in
     let turned = none_as (λ (made : Option Made). Turned (setting_of c.args.component.now (script c.turns.main) c.turns.self.trap_on_idle) c.turns.self.turn m u made m' t) (λ (made : Option Made). Turned x c.turns.self.turn m u made m' t) (Some (stepped.Goes c.in-Some-Goes.turn c.in-Some-Goes.computed)) mid after
     (λ made. turned_same c.args.component.now (script c.turns.main) (script c.args.main.now) c.turns.self.trap_on_idle c.args.self.now.trap_on_idle c.turns.self.turn m u made m' t c.turns.invariant.script c.turns.invariant.idle)
-    (subst (λ (o : Option Stepped). AddedOrNone (λ (made : Option Made). Turned (setting_of c.args.component.now (script c.turns.main) c.turns.self.trap_on_idle) c.turns.self.turn m u made m' t) o mid after) (c.in-Some-Goes.is ∙ ap (λ (q : Stepped). Some q) c.in-Some-Goes.field-0-is) c.in_ok-told_turn.ensures.turned) in
+    (subst (λ (o : Option Stepped). AddedOrNone (λ (made : Option Made). Turned (setting_of c.args.component.now (script c.turns.main) c.turns.self.trap_on_idle) c.turns.self.turn m u made m' t) o mid after) (c.in-Some-Goes.is ∙ ap (λ (q : Stepped). Some q) c.in-Some-Goes.field-0-is) c.in_ok-turn.ensures.turned) in
     let on = added_more x (state_at s.core (part c.args.main.now) c.args.self.now.turn) c.args.trace.now (given s.core) c.turns.self.turn m u mid c.turns.added c.turns.invariant.on m' t after c.in-Some-Goes.turn c.in-Some-Goes.computed turned in
     on_err c.from_residual-in_err-added-in-Some-Goes.result _ (was_on_short x (state_at s.core (part c.args.main.now) c.args.self.now.turn) c.args.trace.now (given s.core) c.in-Some-Goes.turn m' t after c.compute.new.trace (c.turns.added + 1) c.args.steps on c.in_err-added-in-Some-Goes.ensures.err)
 
@@ -171,14 +192,14 @@ returns-in-None-clause-told g c =
     let x = setting_of c.args.component.now (script c.args.main.now) c.args.self.now.trap_on_idle in
     let o = state_at c.args.store.now.state.core (part c.args.main.now) c.args.self.now.turn in
     let u = c.turns.store.state in
-    let t = c.told_turn.new.store.state in
+    let t = c.turn.new.store.state in
     let m = part c.turns.main in
-    let m' = part c.told_turn.new.main in
+    let m' = part c.turn.new.main in
     let mid = c.turns.trace in
-    let after = c.told_turn.new.trace in
-    told_still x o c.args.trace.now c.args.store.now.groups c.turns.self.turn m u mid c.turns.store.groups m' t c.told_turn.new.store.groups after c.turns.invariant.told
-    (told_same c.args.component.now (script c.turns.main) (script c.args.main.now) c.turns.self.trap_on_idle c.args.self.now.trap_on_idle c.turns.self.turn m u c.turns.store.groups m' t c.told_turn.new.store.groups None mid after c.turns.invariant.script c.turns.invariant.idle
-    (rw c.in-None.is at c.in_ok-told_turn.ensures.told))
+    let after = c.turn.new.trace in
+    told_still x o c.args.trace.now c.args.store.now.groups c.turns.self.turn m u mid c.turns.store.groups m' t c.turn.new.store.groups after c.turns.invariant.told
+    (told_same c.args.component.now (script c.turns.main) (script c.args.main.now) c.turns.self.trap_on_idle c.args.self.now.trap_on_idle c.turns.self.turn m u c.turns.store.groups m' t c.turn.new.store.groups None mid after c.turns.invariant.script c.turns.invariant.idle
+    (rw c.in-None.is at c.in_ok-turn.ensures.told))
 
 pub returns-in-Some-Over-clause-told : goal.returns-in-Some-Over-clause-told
 returns-in-Some-Over-clause-told g c =
@@ -187,12 +208,12 @@ returns-in-Some-Over-clause-told g c =
     let x = setting_of c.args.component.now (script c.args.main.now) c.args.self.now.trap_on_idle in
     let o = state_at c.args.store.now.state.core (part c.args.main.now) c.args.self.now.turn in
     let u = c.turns.store.state in
-    let t = c.told_turn.new.store.state in
+    let t = c.turn.new.store.state in
     let m = part c.turns.main in
-    let m' = part c.told_turn.new.main in
+    let m' = part c.turn.new.main in
     let mid = c.turns.trace in
-    let after = c.told_turn.new.trace in
+    let after = c.turn.new.trace in
     let over = stepped.Over c.in-Some-Over.outcome in
-    told_more x o c.args.trace.now c.args.store.now.groups c.turns.self.turn m u mid c.turns.store.groups m' t c.told_turn.new.store.groups over after c.turns.invariant.told
-    (told_same c.args.component.now (script c.turns.main) (script c.args.main.now) c.turns.self.trap_on_idle c.args.self.now.trap_on_idle c.turns.self.turn m u c.turns.store.groups m' t c.told_turn.new.store.groups (Some over) mid after c.turns.invariant.script c.turns.invariant.idle
-    (subst (λ (w : Option Stepped). AddedOrNone (λ (made : Option Made). TurnTold (setting_of c.args.component.now (script c.turns.main) c.turns.self.trap_on_idle) c.turns.self.turn m u c.turns.store.groups made m' t c.told_turn.new.store.groups) w mid after) (c.in-Some-Over.is ∙ ap (λ (q : Stepped). Some q) c.in-Some-Over.field-0-is) c.in_ok-told_turn.ensures.told))
+    told_more x o c.args.trace.now c.args.store.now.groups c.turns.self.turn m u mid c.turns.store.groups m' t c.turn.new.store.groups over after c.turns.invariant.told
+    (told_same c.args.component.now (script c.turns.main) (script c.args.main.now) c.turns.self.trap_on_idle c.args.self.now.trap_on_idle c.turns.self.turn m u c.turns.store.groups m' t c.turn.new.store.groups (Some over) mid after c.turns.invariant.script c.turns.invariant.idle
+    (subst (λ (w : Option Stepped). AddedOrNone (λ (made : Option Made). TurnTold (setting_of c.args.component.now (script c.turns.main) c.turns.self.trap_on_idle) c.turns.self.turn m u c.turns.store.groups made m' t c.turn.new.store.groups) w mid after) (c.in-Some-Over.is ∙ ap (λ (q : Stepped). Some q) c.in-Some-Over.field-0-is) c.in_ok-turn.ensures.told))

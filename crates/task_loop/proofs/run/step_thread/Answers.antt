@@ -5,7 +5,7 @@ use Rattle.std.proofs.Common.{refl, subst}
 use Rattle.std.specs.Prelude.{None}
 use Rattle.task_loop.proofs.DoesLemmas.{on_ok}
 use Rattle.task_loop.proofs.HoldLemmas.{held_run}
-use Rattle.task_loop.proofs.run.run_thread.Goals as goal
+use Rattle.task_loop.proofs.run.step_thread.Goals as goal
 use Rattle.task_machine.specs.declared.records.Turn.TheVariants as turn
 use Rattle.task_store.specs.Hosts.{held_by}
 use Rattle.task_turns.proofs.SteppedLemmas.{added_as}
