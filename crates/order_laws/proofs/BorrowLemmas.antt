@@ -1,6 +1,6 @@
 -- Order hangs on no borrows.
-use Rattle.lend_laws.proofs.ReadLemmas.{absent, admitted, awaits, callees, counted, ends, events, found, goals, handles, instances, joins, kinds, lent, there, unbegun, watched}
-use Rattle.lend_laws.specs.Borrows.{BorrowsKeepOrder}
+use Rattle.order_laws.proofs.ReadLemmas.{absent, admitted, awaits, callees, counted, ends, events, found, goals, handles, instances, joins, kinds, lent, there, unbegun, watched}
+use Rattle.order_laws.specs.Borrows.{BorrowsKeepOrder}
 use Rattle.std.proofs.Common.{ap, refl, subst, sym, ◌∙◌}
 use Rattle.std.specs.Prelude.{Bool, None, Option, Some, false, is_some, length, true, ℕ, ◌≡◌, ◌≤◌, ◌⊎◌}
 use Rattle.task_laws.specs.Order.{CallKind, CallKinds, CallsTold, CancelsNamed, CancelsWatched, DeliveredByCallback, DirectsOnTop, Fits, InOrderIf, IsOf, JoinNamed, OnlyCalled, StartsAwaited, StartsFirst, ThreadNumbered, has_one_on_top, is_uncancelled, names_script}
