@@ -12,10 +12,9 @@ ghost use Rattle.embed_example.specs.Relays.{Relays};
 
 use crate::parts::{DOUBLE, NEXT};
 use futures::task::Poll;
-use store_access::{Access, Whole};
 use task_loop::{Component, Func, FuncCallConcurrent, Label, MainStep, MainTask, TaskError};
 use task_machine::{MainLabel, Turn};
-use task_store::{HostWork, ScriptedHost};
+use task_store::{Access, HostWork, ScriptedHost, Whole};
 
 /// Where main is.
 #[derive(Drop)]

@@ -8,3 +8,5 @@ pub mod InsideLemmas
 pub mod StartLemmas
 pub mod TailLemmas
 pub mod AnywhereLemmas
+pub mod ReadLemmas
+pub mod BorrowLemmas

@@ -1,6 +1,5 @@
 use std::alloc::Global;
-use store_access::{Access, Project, Whole};
-use task_store::Store;
+use task_store::{Access, Project, Store, Whole};
 
 fn store(alloc: Global, concurrent: bool) -> Store<u8, u8> {
     Store::new(alloc, 5, concurrent, 1)

@@ -1,7 +1,7 @@
 -- A thread runs on where its task lends something.
-use Rattle.lend_laws.proofs.OrderLemmas.{borrows_keep_order}
-use Rattle.lend_laws.proofs.ReadLemmas.{instances}
-use Rattle.lend_laws.specs.Borrows.{BorrowsKeepOrder, borrowing}
+use Rattle.order_laws.proofs.BorrowLemmas.{borrows_keep_order}
+use Rattle.order_laws.proofs.ReadLemmas.{instances}
+use Rattle.order_laws.specs.Borrows.{BorrowsKeepOrder, borrowing}
 use Rattle.std.proofs.Common.{subst, sym}
 use Rattle.std.specs.Prelude.{length, ℕ, ◌<◌}
 use Rattle.task_calls.specs.Asks.{IsRunningIn}

@@ -6,12 +6,10 @@ ghost use Rattle.task_turns.specs.Turn.{given};
 use futures::task::Poll;
 use std::alloc::Global;
 use std::marker::PhantomData;
-use store_access::{
-    Access, Accessor, AsAccessor, Project, SlotError, SpawnError, StoreSlot, TryGet, Whole,
-};
 use task_machine::{HostDef, Trap};
 use task_store::{
-    ComponentInstanceId, FromHost, RuntimeInstance, ScriptedHost, SpawnHandle, Store,
+    Access, Accessor, AsAccessor, ComponentInstanceId, FromHost, Project, RuntimeInstance,
+    ScriptedHost, SlotError, SpawnError, SpawnHandle, Store, StoreSlot, TryGet, Whole,
 };
 
 // What a host counts.

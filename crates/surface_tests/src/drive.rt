@@ -14,13 +14,12 @@ ghost use Rattle.task_words.specs.StateView.{with_core};
 use futures::task::Poll;
 use std::alloc::{AllocError, Global};
 use std::process::Abort;
-use store_access::{Access, Whole};
 use task_loop::{
     Component, ExportDef, Func, FuncCallConcurrent, Instance, InstanceDef, Label, MainStep,
     MainTask, Op, Operand, Outcome, TaskError, Trace, run_concurrent,
 };
 use task_machine::{DataOp, ExportKind, LoopLabel, MainLabel, NoMemory, Seq, TaskOp, Trap, Turn};
-use task_store::{HostWork, ScriptedHost, Store};
+use task_store::{Access, HostWork, ScriptedHost, Store, Whole};
 use task_words::{ThreadWords, View};
 
 pub(crate) const CALLEE: Func = Func {

@@ -14,10 +14,9 @@ ghost use Rattle.task_turns.specs.Main.{Steps};
 ghost use Rattle.task_turns.specs.Turn.{Sits, given, running_of};
 ghost use Rattle.task_words.specs.StateView.{StateView};
 
-use store_access::{Access, Whole};
 use task_calls::TaskError;
 use task_machine::{Component, Turn};
-use task_store::HostWork;
+use task_store::{Access, HostWork, Whole};
 use task_turns::MainStep;
 
 /// The host's own task, which starts calls and waits for them. It is a script, or any other

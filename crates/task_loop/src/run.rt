@@ -19,10 +19,9 @@ ghost use Rattle.task_turns.specs.Turn.{IsAtTurn, IsFree, IsSettled, Makes, Pend
 use crate::main_task::MainTask;
 use crate::tells::{group_of, tell_run, tell_work};
 use run_pace::Pace;
-use store_access::Access;
 use task_calls::TaskError;
 use task_machine::{Component, NoMemory, Outcome, Trap, Turn};
-use task_store::{AccessorTask, FromHost, HostWork, StandingRun, Store};
+use task_store::{Access, AccessorTask, FromHost, HostWork, StandingRun, Store};
 use task_turns::{
     MainStep, RunStep, Stepped, Trace, compute, is_idle, made_by_main, put, step_run, take,
 };

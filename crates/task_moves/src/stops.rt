@@ -1,6 +1,8 @@
 //! The Stop of a strand.
 ghost use Rattle.std.specs.Prelude.{◌≡◌, ◌<◌};
-ghost use Rattle.task_machine.specs.Moves.{stopped};
+ghost use Rattle.task_machine.specs.Moves.{put_switch, stopped};
+ghost use Rattle.task_machine.specs.declared.records.Why.TheVariants as whys;
+ghost use Rattle.task_words.specs.Apart.{IsSwitchUnqueued};
 ghost use Rattle.task_moves.specs.Stops.{AreCallersUnqueued, MayPass, MayStop, behind_from, resumed_from};
 ghost use Rattle.task_words.specs.StateView.{on_core, thread_of};
 
@@ -32,6 +34,17 @@ fn pass_callers<W: Words>(w: &mut W, foot: ThreadId, other: ThreadId)
     }
 }
 
+// The newest caller of a foot goes to switch. It is out of line, as most strands have no callers.
+#[cold]
+#[inline(never)]
+fn resume_newest<W: Words>(w: &mut W, newest: ThreadId)
+    requires live { 0 < thread_of (W.view w.old) newest }
+    requires switch { IsSwitchUnqueued (W.view w.old).core }
+    ensures { W.view w.new ≡ on_core (put_switch (thread_of (W.view w.old) newest) whys.Resumption) (W.view w.old) }
+{
+    put_switch(w, newest, WhyId::Resumption);
+}
+
 /// The strand with this foot stops.
 #[inline(always)]
 pub fn stop<W: Words>(w: &mut W, foot: ThreadId)
@@ -47,6 +60,6 @@ pub fn stop<W: Words>(w: &mut W, foot: ThreadId)
     let Some(newest) = w.pop_newest_caller(foot) else {
         return;
     };
-    put_switch(w, newest, WhyId::Resumption);
+    resume_newest(w, newest);
     resume_callers(w, foot);
 }

@@ -27,11 +27,10 @@ ghost use Rattle.task_words.specs.StateView.{StateView, on_core};
 use crate::scenario::MainOp;
 use futures::task::Poll;
 use std::alloc::{AllocError, Global};
-use store_access::{Access, Whole};
 use task_calls::finish_call as take_result;
 use task_loop::{Func, MainStep, MainTask, TaskError, operand_value};
 use task_machine::{Component, HostDef, Label, MainLabel, Operand, Phase, Trap, Turn};
-use task_store::{AccessorTask, FromHost, HostWork, SpawnHandle};
+use task_store::{Access, AccessorTask, FromHost, HostWork, SpawnHandle, Whole};
 use task_words::{InstanceWords, ResultWords, View};
 
 // A start by main: the number of its call, or why it was refused.

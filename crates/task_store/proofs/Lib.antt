@@ -1,3 +1,5 @@
 pub mod FreshLemmas
 pub mod HostLemmas
 pub mod SpawnLemmas
+mod CallLemmas
+mod SlotLemmas

@@ -1,9 +1,13 @@
+pub mod Called
 pub mod Data
 pub mod Drops
 pub mod Groups
 pub mod Hosts
 pub mod Lending
+pub mod PartLending
 pub mod Polled
 pub mod Polls
 pub mod Scopes
+pub mod Slots
 pub mod Spawned
+pub mod Spawns

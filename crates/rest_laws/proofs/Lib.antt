@@ -1,2 +1,0 @@
-pub mod RestLemmas
-pub mod LiveLemmas

@@ -1,4 +1,0 @@
-pub mod Called
-pub mod Lending
-pub mod Slots
-pub mod Spawns

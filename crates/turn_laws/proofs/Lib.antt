@@ -1,0 +1,5 @@
+pub mod LiveLemmas
+pub mod RestLemmas
+pub mod LineLemmas
+pub mod StepMoves
+pub mod RunMoves
