@@ -1,5 +1,5 @@
 -- A driven script is a run of its scenario.
-use Rattle.std.proofs.Common.{◌≡◌, ℕ, List, [], refl, sym, subst}
+use Rattle.std.proofs.Common.{◌≡◌, ◌∙◌, ◌++◌, ◌-◌, ap, ℕ, List, [], refl, sym, subst, take}
 use Rattle.std.specs.Prelude.{◌<◌, ◌≤◌, length}
 use Rattle.task_machine.specs.declared.label.Label.{Label}
 use Rattle.task_machine.specs.declared.outcome.Outcome.{Outcome}
@@ -7,6 +7,11 @@ use Rattle.task_machine.specs.declared.records.Turn.TheVariants as turn
 use Rattle.task_machine.specs.declared.scenario.ScenarioDef.{ScenarioDef}
 use Rattle.task_machine.specs.Core.{Core, State, Scripted, fresh}
 use Rattle.task_rules.specs.History.{history}
+use Rattle.group_notices.specs.Runs.{HasTold}
+use Rattle.task_group.specs.Groups.{Groups}
+use Rattle.task_group.specs.Listeners.{Listeners, Told, nobody}
+use Rattle.task_loop.proofs.ToldLemmas.{told_drives}
+use Rattle.task_rules.specs.Notices.{notices}
 use Rattle.task_rules.specs.Once.{EndsOnce, OneHolder}
 use Rattle.task_rules.specs.Outcome.{IsOutcome}
 use Rattle.task_rules.specs.Run.{Run, main_opening, opens}
@@ -16,7 +21,7 @@ use Rattle.task_turns.specs.Turn.{state_at}
 use Rattle.task_run.specs.Runnable.{IsRunnable}
 use Rattle.task_run.specs.Lower.{Reads}
 use Rattle.task_run.proofs.RunnableLemmas.{runnable_scenario}
-use Rattle.task_run.specs.Headline.{IsRunOf, machine_scenario}
+use Rattle.task_run.specs.Headline.{IsRunOf, machine_scenario, notices_kept}
 use Rattle.task_run.specs.declared.scenario.Scenario.{Scenario}
 
 module _ (x : Scenario) (runnable : IsRunnable x) where
@@ -31,21 +36,32 @@ pub record Keeps (x : ScenarioDef) : Type 0 where
   pub alone : (ls : List Label) (t : State) (run : Run (setting_of x) (opens x) ls t) → 0 < length x.component.instances →
       OneHolder (history (setting_of x) (opens x) ls t run)
 
-pub headline : (x : ScenarioDef) → Keeps x → (y : Setting) (s t : State) (before after : List Label) (steps : ℕ) (o : Outcome) (core : Core) →
-    y ≡ setting_of x → s ≡ opens x → before ≡ [] → core ≡ t.core → Drives y s before t after steps o → IsRunOf x steps after o core
-headline x keeps y s t before after steps o core setting start none image drives =
-    let one : Drives (setting_of x) s before t after steps o = subst (λ (y : Setting). Drives y s before t after steps o) setting drives in
-    let two : Drives (setting_of x) (opens x) before t after steps o = subst (λ (s : State). Drives (setting_of x) s before t after steps o) start one in
-    let three : Drives (setting_of x) (opens x) [] t after steps o = subst (λ (ls : List Label). Drives (setting_of x) (opens x) ls t after steps o) none two in
-    let run : Run (setting_of x) (opens x) after t = subst (λ (ls : List Label). Run (setting_of x) (opens x) ls t) (sym three.trace) three.run in
+-- a run was driven, and its notices were told
+DrivesTold : (old new : Groups) (t : State) (after : List Label) (steps : ℕ) (o : Outcome) → Setting → State → List Label → Type 0
+DrivesTold old new t after steps o y s before =
+    (d : Drives y s before t after steps o) × Told (notices (history y s d.added t d.run)) old.listeners new.listeners
+
+pub headline : (x : ScenarioDef) → Keeps x → (y : Setting) (s t : State) (before after : List Label) (steps : ℕ) (o : Outcome) (core : Core) (old new : Groups) →
+    y ≡ setting_of x → s ≡ opens x → before ≡ [] → core ≡ t.core → old.listeners ≡ record nobody { room = notices_kept steps } →
+    Drives y s before t after steps o → HasTold y s before t after old new → IsRunOf x steps after o core new.listeners.notices
+headline x keeps y s t before after steps o core old new setting start none image room drives told =
+    let zero : DrivesTold old new t after steps o y s before = told_drives y s before t after steps o old new told drives in
+    let one : DrivesTold old new t after steps o (setting_of x) s before = subst (λ (y : Setting). DrivesTold old new t after steps o y s before) setting zero in
+    let two : DrivesTold old new t after steps o (setting_of x) (opens x) before = subst (λ (s : State). DrivesTold old new t after steps o (setting_of x) s before) start one in
+    let three : DrivesTold old new t after steps o (setting_of x) (opens x) [] = subst (λ (ls : List Label). DrivesTold old new t after steps o (setting_of x) (opens x) ls) none two in
+    let d = three.0 in
+    let both : (run : Run (setting_of x) (opens x) after t) × Told (notices (history (setting_of x) (opens x) after t run)) old.listeners new.listeners =
+    subst (λ (ls : List Label). (run : Run (setting_of x) (opens x) ls t) × Told (notices (history (setting_of x) (opens x) ls t run)) old.listeners new.listeners) (sym d.trace) (d.run, three.1) in
+    let run = both.0 in
     record {
       last = t;
       run = run;
-      few = subst (λ (ls : List Label). length ls ≤ steps) (sym three.trace) three.few;
-      ends = subst (λ (ls : List Label). IsOutcome (setting_of x) t ls steps o) (sym three.trace) three.ends;
+      few = subst (λ (ls : List Label). length ls ≤ steps) (sym d.trace) d.few;
+      ends = subst (λ (ls : List Label). IsOutcome (setting_of x) t ls steps o) (sym d.trace) d.ends;
       image = image;
       once = keeps.once after t run;
       alone = keeps.alone after t run;
+      told = both.1.kept ∙ ap (λ (l : Listeners). l.notices ++ take (l.room - length l.notices) (notices (history (setting_of x) (opens x) after t run))) room;
     }
 
 -- a run has what it needs of a scenario that a text stands for

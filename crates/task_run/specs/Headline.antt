@@ -1,11 +1,13 @@
 -- What a report says of a scenario: the printed steps are a run of the component machine.
-use Rattle.std.specs.Prelude.{◌≡◌, ◌<◌, ℕ, ◌≤◌, List, false, length, map, true}
+use Rattle.std.specs.Prelude.{◌≡◌, ◌<◌, ℕ, ◌≤◌, ◌+◌, ◌*◌, List, false, length, map, take, true}
 use Rattle.task_machine.specs.declared.label.Label.{Label}
 use Rattle.task_machine.specs.declared.outcome.Outcome.{Outcome}
+use Rattle.task_machine.specs.declared.records.Notice.{Notice}
 use Rattle.task_machine.specs.declared.scenario.NamesDef.{NamesDef}
 use Rattle.task_machine.specs.declared.scenario.ScenarioDef.{ScenarioDef}
 use Rattle.task_machine.specs.Core.{Core, State}
 use Rattle.task_rules.specs.History.{history}
+use Rattle.task_rules.specs.Notices.{notices}
 use Rattle.task_rules.specs.Once.{EndsOnce, OneHolder}
 use Rattle.task_rules.specs.Outcome.{IsOutcome}
 use Rattle.task_rules.specs.Run.{Run, opens}
@@ -31,9 +33,14 @@ machine_scenario x = record {
   aborters = x.aborters;
 }
 
+-- so many notices of a run of so many steps are kept
+abbrev pub notices_kept : ℕ → ℕ
+notices_kept steps = 2 * steps + 512
+
 -- Some run of the scenario with at most so many steps shows these labels, has come to this, and its last state has this core. It hands out
--- each end once, and one holding entry of an instance runs at a time; without an instance there is no entry.
-pub record IsRunOf (x : ScenarioDef) (steps : ℕ) (trace : List Label) (outcome : Outcome) (core : Core) : Type 0 where
+-- each end once, and one holding entry of an instance runs at a time; without an instance there is no entry. The groups were told its
+-- notices, of which as many are kept as there was room for.
+pub record IsRunOf (x : ScenarioDef) (steps : ℕ) (trace : List Label) (outcome : Outcome) (core : Core) (groups : List Notice) : Type 0 where
   pub last : State
   pub run : Run (setting_of x) (opens x) trace last
   pub few : length trace ≤ steps
@@ -41,11 +48,12 @@ pub record IsRunOf (x : ScenarioDef) (steps : ℕ) (trace : List Label) (outcome
   pub image : core ≡ last.core
   pub once : EndsOnce x.component (history (setting_of x) (opens x) trace last run)
   pub alone : 0 < length x.component.instances → OneHolder (history (setting_of x) (opens x) trace last run)
+  pub told : groups ≡ take (notices_kept steps) (notices (history (setting_of x) (opens x) trace last run))
 
 -- The report is of a run of the scenario that the text stands for. Its store is concurrent, and no run stands on it.
 pub record IsReportOf (text : List ℕ) (steps : ℕ) (r : Report) : Type 0 where
   pub scenario : Scenario
   pub reads : Reads text scenario
-  pub run : IsRunOf (machine_scenario scenario) steps r.trace r.outcome r.store.state.core
+  pub run : IsRunOf (machine_scenario scenario) steps r.trace r.outcome r.store.state.core r.groups.items
   pub free : r.store.running ≡ false
   pub concurrent : r.store.concurrent ≡ true

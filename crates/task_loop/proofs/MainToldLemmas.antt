@@ -1,21 +1,21 @@
--- What the ops of a script tell the groups of the store.
+-- What the ops of a main tell the groups of the store.
 use Rattle.std.proofs.Common.{ap, arith, refl, subst, sym, ◌∙◌, ◌≡◌}
 use Rattle.std.proofs.lemmas.Bool.Decides.{nat_tests}
-use Rattle.std.specs.Prelude.{Err, IfOk, List, None, Ok, OnOk, Option, Result, Some, [], false, map, not, true, ℕ, ◌++◌, ◌+◌, ◌==◌, ◌∷◌}
+use Rattle.std.specs.Prelude.{Err, IfOk, List, None, Ok, OnOk, Option, Result, Some, [], false, is_some, map, not, true, ℕ, ◌++◌, ◌+◌, ◌==◌, ◌∷◌, ◌≤◌}
 use Rattle.group_laws.proofs.ListLemmas.{decide, filter_none, filter_same, finish_every}
 use Rattle.group_laws.specs.Tells.{is_start}
-use Rattle.group_notices.proofs.MirrorLemmas.{keys_mirror}
+use Rattle.group_notices.proofs.MirrorLemmas.{keys_mirror, mirror_same}
 use Rattle.group_notices.specs.Mirror.{Mirrors}
 use Rattle.state_calls.specs.declared.error.TaskError.{TaskError}
 use Rattle.state_calls.specs.declared.error.TaskError.TheVariants as task_error
 use Rattle.task_calls.specs.Calls.{Starts}
 use Rattle.task_group.proofs.GroupLemmas.{told-none}
 use Rattle.task_group.specs.Groups.{Groups, finish_all, finish_number}
-use Rattle.task_group.specs.Listeners.{Told}
+use Rattle.task_group.specs.Listeners.{Listeners, Told, nobody}
 use Rattle.task_loop.proofs.StartLemmas.{start_groups, start_made}
 use Rattle.task_loop.proofs.ToldLemmas.{main_holds, main_quiet}
 use Rattle.task_loop.specs.Told.{main_notices}
-use Rattle.task_machine.specs.Core.{Core, Main}
+use Rattle.task_machine.specs.Core.{Core, Main, fresh}
 use Rattle.task_machine.specs.Write.{set_trapped}
 use Rattle.task_machine.specs.declared.component.Callee.{Callee}
 use Rattle.task_machine.specs.declared.component.Component.{Component}
@@ -84,3 +84,23 @@ module _ (c : Component) (ops : List MainOpDef) (m : Main) (s : Core) (n : Main)
   pub told_result : (r : Result MainStep TaskError) → IfOk r (λ q. Steps c ops m s q n t) → IfOk r (λ q. is_start (label_of_step q) ≡ false) → IfOk r (λ q. Told (main_notices q s t) g.listeners h.listeners)
   told_result (Ok q) steps other = told_step q steps other
   told_result (Err e) steps other = tt
+
+-- ---- A new store
+
+fresh_groups : (i h tb : ℕ) → (fresh i h tb).groups ≡ []
+unfolding fresh
+fresh_groups i h tb = refl
+
+pub new_groups : (g : Groups) (room i h tb : ℕ) → g.made ≡ 0 → g.listeners ≡ nobody → Mirrors [] g → HoldsGroups (record g { listeners = record g.listeners { room = room } }) (fresh i h tb)
+new_groups g room i h tb made listeners mirror = record {
+  made = subst (λ (k : ℕ). k ≤ (fresh i h tb).made.groups) (sym made) (omega arith);
+  mirror = subst (λ (gs : List ℕ). Mirrors gs (record g { listeners = record g.listeners { room = room } })) (sym (fresh_groups i h tb)) (mirror_same [] g (record g { listeners = record g.listeners { room = room } }) refl mirror);
+  unhooked = ap (λ (l : Listeners). is_some l.hook) listeners;
+}
+
+pub fresh_holds : (g : Groups) (i h tb : ℕ) → g.made ≡ 0 → g.listeners ≡ nobody → Mirrors [] g → HoldsGroups g (fresh i h tb)
+fresh_holds g i h tb made listeners mirror = record {
+  made = subst (λ (k : ℕ). k ≤ (fresh i h tb).made.groups) (sym made) (omega arith);
+  mirror = subst (λ (gs : List ℕ). Mirrors gs g) (sym (fresh_groups i h tb)) mirror;
+  unhooked = ap (λ (l : Listeners). is_some l.hook) listeners;
+}
