@@ -43,10 +43,10 @@ in_more (h ∷ gs) hs g there = elim (decide (g == h)) [
 ]
 
 -- where more groups are live, none was finished
-finish_more : (gs hs : List ℕ) → finish_notices gs (gs ++ hs) ≡ []
+pub finish_more : (gs hs : List ℕ) → finish_notices gs (gs ++ hs) ≡ []
 finish_more gs hs = ap (map (told_of notice.Finish)) (filter_same (λ g. not (is_in (gs ++ hs) g)) (λ g. false) gs (λ g there. ap not (in_more gs hs g there)) ∙ filter_none gs)
 
-trapped_groups : (s : Core) → (set_trapped s).groups ≡ []
+pub trapped_groups : (s : Core) → (set_trapped s).groups ≡ []
 unfolding set_trapped
 trapped_groups s = refl
 

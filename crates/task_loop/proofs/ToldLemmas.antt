@@ -389,3 +389,10 @@ told_drives x s before t after steps o old new h d =
       },
       h.told,
     )
+
+-- ---- In the terms of a turn's answers
+
+-- the step of this turn was made and told, where the turn is this one
+pub told_turn : (x : Setting) (n : ℕ) (m : Main) (s : StateView) (old : Groups) (t : StateView) (new : Groups) (q : Stepped) (before after : List Label) →
+    Added (λ made. RunTold x.component n s old made t new) q before after → Added (λ made. TurnTold x (turn.Run n) m s old (Some made) m t new) q before after
+told_turn x n m s old t new q before after made = (made.0, (made.1.0, made.1.1 x refl m))

@@ -1,5 +1,5 @@
 -- A driven script is a run of its scenario.
-use Rattle.std.proofs.Common.{◌≡◌, ◌∙◌, ◌++◌, ◌-◌, ap, ℕ, List, [], refl, sym, subst, take}
+use Rattle.std.proofs.Common.{◌≡◌, ◌∙◌, ◌++◌, ◌-◌, ◌+◌, ◌*◌, ◌∷◌, ap, arith, ℕ, zero, suc, List, [], refl, sym, subst, take}
 use Rattle.std.specs.Prelude.{◌<◌, ◌≤◌, length}
 use Rattle.task_machine.specs.declared.label.Label.{Label}
 use Rattle.task_machine.specs.declared.outcome.Outcome.{Outcome}
@@ -18,10 +18,12 @@ use Rattle.task_rules.specs.Run.{Run, main_opening, opens}
 use Rattle.task_rules.specs.Stalled.{Setting, setting_of}
 use Rattle.task_turns.specs.Drive.{Drives}
 use Rattle.task_turns.specs.Turn.{state_at}
+use Rattle.task_machine.specs.declared.records.Notice.{Notice}
+use Rattle.task_run.proofs.RoomLemmas.{run_room}
 use Rattle.task_run.specs.Runnable.{IsRunnable}
 use Rattle.task_run.specs.Lower.{Reads}
 use Rattle.task_run.proofs.RunnableLemmas.{runnable_scenario}
-use Rattle.task_run.specs.Headline.{IsRunOf, machine_scenario, notices_kept}
+use Rattle.task_run.specs.Headline.{IsRunOf, machine_scenario}
 use Rattle.task_run.specs.declared.scenario.Scenario.{Scenario}
 
 module _ (x : Scenario) (runnable : IsRunnable x) where
@@ -36,13 +38,33 @@ pub record Keeps (x : ScenarioDef) : Type 0 where
   pub alone : (ls : List Label) (t : State) (run : Run (setting_of x) (opens x) ls t) → 0 < length x.component.instances →
       OneHolder (history (setting_of x) (opens x) ls t run)
 
+take_whole : (ns : List Notice) (k : ℕ) → length ns ≤ k → take k ns ≡ ns
+take_whole [] zero few = refl
+take_whole [] (suc k) few = refl
+take_whole (n ∷ ns) zero few = absurd (omega (arith, few))
+take_whole (n ∷ ns) (suc k) few = ap (λ (ms : List Notice). n ∷ ms) (take_whole ns k (omega (arith, few)))
+
+abbrev told_of_run : (x : ScenarioDef) (ls : List Label) (t : State) → Run (setting_of x) (opens x) ls t → List Notice
+told_of_run x ls t run = notices (history (setting_of x) (opens x) ls t run)
+
+opens_groups : (x : ScenarioDef) → (opens x).core.groups ≡ []
+unfolding opens fresh
+opens_groups x = refl
+
+-- the room that a report takes is enough
+room_suffices : (x : ScenarioDef) (ls : List Label) (t : State) (run : Run (setting_of x) (opens x) ls t) (steps : ℕ) → length ls ≤ steps → length (told_of_run x ls t run) ≤ 2 * steps + 512
+room_suffices x ls t run steps few =
+    let all = run_room (setting_of x) (opens x) ls t run in
+    let none = ap (λ (gs : List ℕ). length gs) (opens_groups x) in
+    omega (arith, all, none, few)
+
 -- a run was driven, and its notices were told
 DrivesTold : (old new : Groups) (t : State) (after : List Label) (steps : ℕ) (o : Outcome) → Setting → State → List Label → Type 0
 DrivesTold old new t after steps o y s before =
     (d : Drives y s before t after steps o) × Told (notices (history y s d.added t d.run)) old.listeners new.listeners
 
 pub headline : (x : ScenarioDef) → Keeps x → (y : Setting) (s t : State) (before after : List Label) (steps : ℕ) (o : Outcome) (core : Core) (old new : Groups) →
-    y ≡ setting_of x → s ≡ opens x → before ≡ [] → core ≡ t.core → old.listeners ≡ record nobody { room = notices_kept steps } →
+    y ≡ setting_of x → s ≡ opens x → before ≡ [] → core ≡ t.core → old.listeners ≡ record nobody { room = 2 * steps + 512 } →
     Drives y s before t after steps o → HasTold y s before t after old new → IsRunOf x steps after o core new.listeners.notices
 headline x keeps y s t before after steps o core old new setting start none image room drives told =
     let zero : DrivesTold old new t after steps o y s before = told_drives y s before t after steps o old new told drives in
@@ -61,7 +83,8 @@ headline x keeps y s t before after steps o core old new setting start none imag
       image = image;
       once = keeps.once after t run;
       alone = keeps.alone after t run;
-      told = both.1.kept ∙ ap (λ (l : Listeners). l.notices ++ take (l.room - length l.notices) (notices (history (setting_of x) (opens x) after t run))) room;
+      told = both.1.kept ∙ (ap (λ (l : Listeners). l.notices ++ take (l.room - length l.notices) (told_of_run x after t run)) room
+          ∙ take_whole (told_of_run x after t run) (2 * steps + 512) (room_suffices x after t run steps (subst (λ (ls : List Label). length ls ≤ steps) (sym d.trace) d.few)));
     }
 
 -- a run has what it needs of a scenario that a text stands for

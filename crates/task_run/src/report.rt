@@ -114,9 +114,9 @@ fn run(alloc: Global, scenario: &Scenario, steps: u32) -> Result<Report, NoMemor
 
 /// Runs the scenario of a text of at most 1,048,576 bytes for at most `steps` steps, 1 to
 /// 1,000,000. The report's labels are those of a run of the component machine from the scenario's
-/// opening state, its outcome is what that run has come to, its groups are the notices of that run, of which as many are kept
-/// as twice the steps and 512 more, and its store, which is concurrent and on which no run stands, has the run's last state as
-/// its image. A text that is no scenario is refused at its first bad line.
+/// opening state, its outcome is what that run has come to, its groups are the notices of that run, and its store, which is
+/// concurrent and on which no run stands, has the run's last state as its image. A text that is no scenario is refused at its
+/// first bad line.
 pub fn run_scenario(alloc: Global, text: &[u8], steps: u32) -> Result<Report, RunError>
     requires text { length text.now ≤ 1048576 }
     requires some { 0 < steps }
