@@ -53,6 +53,7 @@ fn take_delivery<W: Words>(w: &mut W, mark: Mark, thread: ThreadId, delivery: De
 }
 
 // An entry of the thread was taken from the mark: the thread starts, is given what is there for it, or goes on.
+#[inline(always)]
 fn take_thread<W: Words>(w: &mut W, mark: Mark, thread: ThreadId) -> Result<Came, NoMemory>
     requires taken { Taken mark (thread_of (W.view w.old) thread) (W.view w.old).core }
     requires finds { FindsSet (thread_of (W.view w.old) thread) (W.view w.old).core }
