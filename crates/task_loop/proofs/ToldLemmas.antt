@@ -188,7 +188,7 @@ module _ (c : Component) (n : ℕ) (s t : StateView) (q : Stepped) (before after
   run_stays g sits own on =
       let x = setting_of c [] false in
       let step = subst (λ (p : Turn). Step x (state_at s.core Unscripted (turn.Run n)) (made.0).label (state_at t.core Unscripted p))
-          (stands_turn q before made.0 after made.1.0) (((made.1.1).0).step x refl Unscripted) in
+      (stands_turn q before made.0 after made.1.0) (((made.1.1).0).step x refl Unscripted) in
       sym (group_on x (turn.Run n) (turn_of q) Unscripted Unscripted s.core t.core (made.0).label sits step (Some g) (ap Some own) on)
 
   module _ (a : Asked) (asked : IsAsked c s.core (turn.Run n) a) (old : Groups) (holds : HoldsGroups old s.core) (new : Groups) where
