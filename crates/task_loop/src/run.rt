@@ -1,4 +1,4 @@
-ghost use Rattle.std.specs.Prelude.{◌≡◌, ◌*◌, ◌+◌, ◌<◌, ◌≤◌, ◌^◌, IfErr, IfOk, IfSome, None, OnErr, OnOk, Some, false, true, Bool};
+ghost use Rattle.std.specs.Prelude.{◌≡◌, ◌*◌, ◌+◌, ◌<◌, ◌≤◌, ◌^◌, IfErr, IfOk, IfSome, None, OnErr, OnOk, Some, false, is_none, true, Bool};
 ghost use Rattle.group_laws.specs.Groups.{stake};
 ghost use Rattle.group_notices.specs.Runs.{HasTold};
 ghost use Rattle.task_group.specs.Listeners.{Told};
@@ -6,6 +6,7 @@ ghost use Rattle.task_loop.specs.Told.{RunTold, TurnTold, group_running, main_no
 ghost use Rattle.task_machine.specs.Read.{thread_group};
 ghost use Rattle.task_ops.specs.Works.{NamesWorks};
 ghost use Rattle.task_rules.specs.Notices.{running_group};
+ghost use Rattle.task_rules.specs.Outcome.{outcome_of_label};
 ghost use Rattle.task_store.specs.Groups.{HoldsGroups};
 ghost use Rattle.task_loop.specs.Standing.{standing};
 ghost use Rattle.task_store.specs.Hosts.{HoldsHosts};
@@ -13,7 +14,7 @@ ghost use Rattle.task_turns.specs.WellFormed.{IsWellFormed};
 ghost use Rattle.task_turns.specs.Does.{DoesAdded, DoesStep, step_of, step_shown};
 ghost use Rattle.task_turns.specs.Drive.{Drives, Drove, WasGoing};
 ghost use Rattle.task_turns.specs.Main.{Steps};
-ghost use Rattle.task_turns.specs.Stepped.{Added, AddedOrNone};
+ghost use Rattle.task_turns.specs.Stepped.{Added, AddedOrNone, Stands};
 ghost use Rattle.task_turns.specs.Turn.{IsAtTurn, IsFree, IsSettled, Makes, PendsIn, Sits, Turned, Turns, given, goes_on, is_open, running_of, runs_in, setting_of, state_at};
 
 use crate::main_task::MainTask;
@@ -23,7 +24,7 @@ use task_calls::TaskError;
 use task_machine::{Component, NoMemory, Outcome, Trap, Turn};
 use task_store::{Access, AccessorTask, FromHost, HostWork, StandingRun, Store};
 use task_turns::{
-    MainStep, RunStep, Stepped, Trace, compute, is_idle, made_by_main, put, step_run, take,
+    Made, MainStep, RunStep, Stepped, Trace, compute, is_idle, made_by_main, put, step_run, take,
 };
 
 /// A run of the event loop on a store.
@@ -121,6 +122,16 @@ fn step_main<T, H: HostWork, M: MainTask<T, H>>(
     put(trace, made)
 }
 
+// Adds the label of a step that called a host. It is out of line, as few ops do.
+#[inline(never)]
+fn put_called(trace: &mut Trace, made: Made) -> Result<Stepped, NoMemory>
+    requires over { is_none (outcome_of_label made.label) ≡ is_open made.turn }
+    ensures stands { IfOk result (λ stepped. Stands stepped trace.old made trace.new) }
+    ensures err { OnErr result (trace.new ≡ trace.old) }
+{
+    put(trace, made)
+}
+
 // The running thread, which has this number, takes a step. A host that it calls is polled, and its
 // work is held. The group that the step may finish is asked, where that of the thread was.
 #[inline(always)]
@@ -149,7 +160,7 @@ fn step_thread<T, H: AccessorTask<T> + FromHost>(
         RunStep::Shown(stepped) => Ok(stepped),
         RunStep::Called(ran) => {
             store.call_host(ran.polled, ran.work)?;
-            put(trace, ran.made)
+            put_called(trace, ran.made)
         }
     }
 }
