@@ -126,21 +126,20 @@ module _ (x : Setting) (p : Turn) (main : is_main_turn p ≡ false) (m : Main) (
   leads : Leads a (length t.core.groups) s.core.groups t.core.groups × (told_by a (running_group t.core (made.0).turn) s.core.groups t.core.groups ≡ moment_notices (moment (state_at s.core m p) (made.0).label (state_at t.core n (made.0).turn)))
   leads = asked_told x (state_at s.core m p) (made.0).label (state_at t.core n (made.0).turn) a (made.1.1).step main asked
 
+  pub told_made : ((gs : List ℕ) → Mirrors gs old → Leads a (length t.core.groups) gs t.core.groups → Told (told_by a (running_group t.core (turn_of q)) gs t.core.groups) old.listeners new.listeners)
+      → TurnTold x p m s old (Some made.0) n t new
+  told_made told =
+      let at = stands_turn q before made.0 after made.1.0 in
+      let here = told s.core.groups holds.mirror leads.0 in
+      record {
+        turned = made.1.1;
+        told = subst (λ (ns : List Notice). Told ns old.listeners new.listeners)
+            (ap (λ (k : Turn). told_by a (running_group t.core k) s.core.groups t.core.groups) (sym at) ∙ leads.1) here;
+      }
+
   pub other_told : ((gs : List ℕ) → Mirrors gs old → Leads a (length t.core.groups) gs t.core.groups → Told (told_by a (running_group t.core (turn_of q)) gs t.core.groups) old.listeners new.listeners)
       → Added (λ made. TurnTold x p m s old (Some made) n t new) q before after
-  other_told told =
-      let at = stands_turn q before made.0 after made.1.0 in
-      let here = told s.core.groups holds.mirror leads.0 in (
-        made.0,
-        (
-          made.1.0,
-          record {
-            turned = made.1.1;
-            told = subst (λ (ns : List Notice). Told ns old.listeners new.listeners)
-                (ap (λ (k : Turn). told_by a (running_group t.core k) s.core.groups t.core.groups) (sym at) ∙ leads.1) here;
-          },
-        ),
-      )
+  other_told told = (made.0, (made.1.0, told_made told))
 
   pub other_holds : ((gs : List ℕ) → Mirrors gs old → Leads a (length t.core.groups) gs t.core.groups → Mirrors t.core.groups new) → new.made ≡ old.made → is_some new.listeners.hook ≡ false → HoldsGroups new t.core
   other_holds mirrors same unhooked =
@@ -199,8 +198,8 @@ module _ (c : Component) (n : ℕ) (s t : StateView) (q : Stepped) (before after
       (
         made.1.0,
         λ x is m.
-            (other_told x (turn.Run n) refl m s a (subst (λ (k : Component). IsAsked k s.core (turn.Run n) a) (sym is) asked) old holds m t new q before after
-            (made.0, (made.1.0, run_turns x is m)) told).1.1,
+            told_made x (turn.Run n) refl m s a (subst (λ (k : Component). IsAsked k s.core (turn.Run n) a) (sym is) asked) old holds m t new q before after
+            (made.0, (made.1.0, run_turns x is m)) told,
       ),
     )
 

@@ -375,12 +375,19 @@ impl RunConcurrent {
                 let live = store.state.groups();
                 let mut worked = None;
                 let idle = self.trap_on_idle;
-                let taken = take(component, &mut store.state, ended, idle, trace, &mut worked)?;
-                let Some(stepped) = taken else {
-                    return Ok(None);
-                };
-                *running = tell_work(&store.state, &mut store.groups, &stepped, worked, live);
-                Ok(Some(stepped))
+                match take(component, &mut store.state, ended, idle, trace, &mut worked)? {
+                    None => Ok(None),
+                    Some(stepped) => {
+                        *running = tell_work(
+                            &store.state,
+                            &mut store.groups,
+                            &stepped,
+                            worked,
+                            live,
+                        );
+                        Ok(Some(stepped))
+                    }
+                }
             }
             Turn::Run { thread } => {
                 let stepped = run_thread(component, store, thread, trace, running)?;
