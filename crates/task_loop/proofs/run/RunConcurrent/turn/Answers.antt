@@ -284,8 +284,8 @@ returns-in-None-clause-told g c =
     (λ made k. k x refl refl m pends) (rw c.in-None.is at c.in_ok-take-in-Take.ensures.turned) in
     rw c.in-Take.is (none_told x p m s c.args.store.now.groups m t c.args.store.now.groups before after refl turned)
 
-pub tell_work-requires-in-Take-clause-runs : goal.tell_work-requires-in-Take-clause-runs
-tell_work-requires-in-Take-clause-runs g c =
+pub tell_work-requires-in-Some-clause-runs : goal.tell_work-requires-in-Some-clause-runs
+tell_work-requires-in-Some-clause-runs g c =
     let x = setting_of c.args.component.now (g.M.MainTask.script c.args.main.now) c.args.self.now.trap_on_idle in
     let m = g.M.MainTask.part c.args.main.now in
     let p = turn.Take c.in-Take.ended in
@@ -312,8 +312,8 @@ returns-in-Some-clause-groups g c =
     (λ made k. k x refl refl m pends) (rw c.in-Some.is at c.in_ok-take-in-Take.ensures.turned) in
     let a = asked_beside c.take.new.worked c.groups-live-in-Take.result in
     let asked : IsAsked c.args.component.now s.core p a = record { running = refl; worked = c.take.ensures.worked; staked = refl; live = c.groups-live-in-Take.ensures } in
-    let tells = c.tell_work-in-Take.ensures in
-    other_holds x p refl m s a asked c.args.store.now.groups c.requires.groups m t c.tell_work-in-Take.new.groups c.in-Some.stepped before after turned tells.mirrors tells.made tells.unhooked
+    let tells = c.tell_work-in-Some.ensures in
+    other_holds x p refl m s a asked c.args.store.now.groups c.requires.groups m t c.tell_work-in-Some.new.groups c.in-Some.stepped before after turned tells.mirrors tells.made tells.unhooked
 
 pub returns-in-Some-clause-told : goal.returns-in-Some-clause-told
 returns-in-Some-clause-told g c =
@@ -329,8 +329,8 @@ returns-in-Some-clause-told g c =
     (λ made k. k x refl refl m pends) (rw c.in-Some.is at c.in_ok-take-in-Take.ensures.turned) in
     let a = asked_beside c.take.new.worked c.groups-live-in-Take.result in
     let asked : IsAsked c.args.component.now s.core p a = record { running = refl; worked = c.take.ensures.worked; staked = refl; live = c.groups-live-in-Take.ensures } in
-    let tells = c.tell_work-in-Take.ensures in
-    rw c.in-Take.is (other_told x p refl m s a asked c.args.store.now.groups c.requires.groups m t c.tell_work-in-Take.new.groups c.in-Some.stepped before after turned tells.told)
+    let tells = c.tell_work-in-Some.ensures in
+    rw c.in-Take.is (other_told x p refl m s a asked c.args.store.now.groups c.requires.groups m t c.tell_work-in-Some.new.groups c.in-Some.stepped before after turned tells.told)
 
 -- ---- A work is polled
 
@@ -342,7 +342,7 @@ tell_work-requires-clause-runs g c =
     let s = c.args.store.now.state in
     let t = c.poll_next-made.new.self.state in
     let before = c.args.trace.now in
-    let after = c.put-stepped.new.trace in
+    let after = c.put.new.trace in
     let q = c.in_ok-stepped-in-Futures.stepped in
     let turns = c.poll_next-made.ensures.turns x m (rw c.in-Futures.is at c.requires.pends) in
     let made : Added (λ (k : Made). Turns x p m s k m t) q before after = (c.poll_next-made.result, (c.in_ok-stepped-in-Futures.ensures.stands, turns)) in
@@ -356,7 +356,7 @@ returns-in_ok-stepped-in-Futures-clause-groups g c =
     let s = c.args.store.now.state in
     let t = c.poll_next-made.new.self.state in
     let before = c.args.trace.now in
-    let after = c.put-stepped.new.trace in
+    let after = c.put.new.trace in
     let q = c.in_ok-stepped-in-Futures.stepped in
     let turns = c.poll_next-made.ensures.turns x m (rw c.in-Futures.is at c.requires.pends) in
     let made : Added (λ (k : Made). Turns x p m s k m t) q before after = (c.poll_next-made.result, (c.in_ok-stepped-in-Futures.ensures.stands, turns)) in
@@ -376,7 +376,7 @@ returns-in_ok-stepped-in-Futures-clause-told g c =
     let s = c.args.store.now.state in
     let t = c.poll_next-made.new.self.state in
     let before = c.args.trace.now in
-    let after = c.put-stepped.new.trace in
+    let after = c.put.new.trace in
     let q = c.in_ok-stepped-in-Futures.stepped in
     let turns = c.poll_next-made.ensures.turns x m (rw c.in-Futures.is at c.requires.pends) in
     let made : Added (λ (k : Made). Turns x p m s k m t) q before after = (c.poll_next-made.result, (c.in_ok-stepped-in-Futures.ensures.stands, turns)) in
