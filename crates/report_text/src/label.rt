@@ -63,14 +63,18 @@ fn phase_word(phase: Phase) -> &'static [u8]
     }
 }
 
-fn mark_word(mark: Mark) -> &'static [u8]
-    ensures text { result.now ≡ mark_text mark }
-    ensures short { length result.now ≤ 6 }
+// The word of a mark: of words that are known where a line is compiled, a few stores are made.
+#[inline(always)]
+fn mark_word(out: &mut [u8], at: usize, mark: Mark) -> usize
+    requires { at + 6 ≤ length out.old }
+    ensures end { result ≤ at + 6 }
+    ensures room { length out.new ≡ length out.old }
+    ensures text { take result out.new ≡ take at out.old ++ mark_text mark }
 {
     match mark {
-        Mark::Switch => b"switch",
-        Mark::High => b"high",
-        Mark::Low => b"low",
+        Mark::Switch => words(out, at, b"switch"),
+        Mark::High => words(out, at, b"high"),
+        Mark::Low => words(out, at, b"low"),
     }
 }
 
@@ -202,7 +206,7 @@ fn takes(out: &mut [u8], at: usize, mark: Mark, what: &[u8], entry: u64) -> usiz
     ensures text { take result out.new ≡ take at out.old ++ taken_text mark what.now entry }
 {
     let end = words(out, at, b"take ");
-    let end = words(out, end, mark_word(mark));
+    let end = mark_word(out, end, mark);
     number(out, end, what, entry)
 }
 
