@@ -1,5 +1,7 @@
-use Rattle.std.proofs.Common.{◌∙◌, ap, refl, arith}
+use Rattle.std.proofs.Common.{◌∙◌, ◌+◌, ◌*◌, ap, refl, subst, sym, arith}
 use Rattle.std.proofs.Common.{List}
+use Rattle.task_group.specs.Listeners.{Listeners}
+use Rattle.task_machine.specs.declared.records.Notice.{Notice}
 use Rattle.task_machine.specs.declared.records.Turn.TheVariants as turn
 use Rattle.task_machine.specs.Core.{Scripted}
 use Rattle.task_rules.specs.Run.{main_opening}
@@ -9,7 +11,7 @@ use Rattle.task_run.specs.Script.{machine_ops, part_of, script_of}
 use Rattle.task_run.specs.declared.scenario.MainOp.{MainOp}
 use Rattle.std.specs.Prelude.{Bool, ℕ}
 use Rattle.task_machine.specs.declared.records.Turn.{Turn}
-use Rattle.task_run.specs.Headline.{machine_scenario}
+use Rattle.task_run.specs.Headline.{IsRunOf, machine_scenario}
 use Rattle.task_loop.proofs.MainToldLemmas.{new_groups}
 use Rattle.task_run.proofs.HeadlineLemmas.{headline, opens_is}
 use Rattle.task_run.proofs.OnceLemmas.{scenario_keeps}
@@ -48,7 +50,10 @@ returns-clause-concurrent c =
 
 pub returns-clause-ran : goal.returns-clause-ran
 returns-clause-ran c =
-    headline (machine_scenario c.args.scenario.now) (scenario_keeps c.args.scenario.now c.requires) _ _ _ _ _ c.args.steps c.in-Ok-driven.outcome _
+    -- the list that was copied is the one that the groups kept
+    subst (λ (ns : List Notice). IsRunOf (machine_scenario c.args.scenario.now) c.args.steps c.drive-driven.new.trace c.in-Ok-driven.outcome c.end.new.store.state.core ns)
+    (sym (c.in-Ok-extend_from_slice.ensures.items ∙ rw (c.new-groups.ensures, c.notices.ensures, c.end.ensures) refl))
+    (headline (machine_scenario c.args.scenario.now) (scenario_keeps c.args.scenario.now c.requires) _ _ _ _ _ c.args.steps c.in-Ok-driven.outcome _ c.run_concurrent.new.store.groups c.drive-driven.new.store.groups
     (ap (λ (b : Bool). loop.setting_of c.args.scenario.now.component (script_of c.new-main.result) b) c.in-Ok.ensures.idle
     ∙ ap (λ i. record { component = c.args.scenario.now.component; script = script_of c.new-main.result; idle = i }) c.traps_on_idle.ensures
     ∙ ap (λ (ops : List MainOp). record { component = c.args.scenario.now.component; script = machine_ops ops; idle = c.args.scenario.now.idle }) (c.new-main.ensures.ops ∙ c.as_slice.ensures))
@@ -58,4 +63,6 @@ returns-clause-ran c =
     ∙ opens_is c.args.scenario.now c.requires)
     c.new-trace.ensures
     (rw c.end.ensures refl)
+    (rw (c.run_concurrent.ensures.store, c.in_ok-keep_notices.ensures.ok) (ap (λ (l : Listeners). record l { room = 2 * c.args.steps + 512 }) c.in_ok-store.ensures.groups.1))
     c.in-Ok-driven.ensures.ok
+    c.in-Ok-driven.ensures.told)
