@@ -1,6 +1,6 @@
 use Rattle.std.proofs.Common.{ap, arith, subst, sym, ◌+◌, ◌-◌, ◌∙◌, ◌≡◌, ◌≤◌}
 use Rattle.std.specs.FinMap as finite
-use Rattle.std.specs.Prelude.{Err, None, Ok, Option, [], false, is_some, ℕ, ◌∷◌}
+use Rattle.std.specs.Prelude.{Err, IsSome, None, Ok, Option, [], false, is_some, ℕ, ◌∷◌}
 use Rattle.task_calls.specs.Untrapped.{StartsUntrapped}
 use Rattle.task_group.proofs.GroupLemmas.{remove-above}
 use Rattle.task_group.specs.Groups.{Groups}
@@ -71,7 +71,7 @@ returns-in-Err-clause-groups g c = λ holds.
     let core_made = ap (λ m. m.groups) c.made-group.ensures in
     let made : mid.made ≡ s.core.made.groups + 1 = c.in-Ok.ensures.number (omega (arith, below, core_made)) ∙ ap (λ k. k + 1) core_made in
     let starts = subst (λ (o : Option Trap). StartsUntrapped c.args.component.now c.callee.result c.args.params.now s o (Err c.in-Err.e) c.start_untrapped.new.w) c.requires.fits c.in-Err.ensures.starts in
-    let known = λ q there. subst (λ (k : ℕ). q ≤ k) c.made-made.ensures.value (c.made-made.ensures.known q there) in
+    let known : (q : ℕ) → IsSome (finite.get g0.live q) → q ≤ g0.made = λ q there. subst (λ (k : ℕ). q ≤ k) c.made-made.ensures.value (c.made-made.ensures.known q there) in
     let live : new.live ≡ g0.live = ap (λ (k : Groups). k.live) c.withdraw.ensures ∙ (ap (λ (k : Groups). finite.remove k.live mid.made) ok ∙ remove-above g0.live g0.made mid.made 1 (omega (arith, made, below)) known) in
     let less : new.made ≡ mid.made - 1 = ap (λ (k : Groups). k.made) c.withdraw.ensures in
     subst (λ (v : StateView). HoldsGroups new v.core) (sym starts.1)
@@ -83,7 +83,7 @@ returns-in-Err-clause-refused g c =
     let mid = c.prepare.new.self in
     let ok = c.in-Ok.ensures.ok in
     let above = is_above g0.made (c.made-group.result.groups + 1) mid.made c.in-Ok.ensures.number c.in-Ok.ensures.next in
-    let known = λ q there. subst (λ (k : ℕ). q ≤ k) c.made-made.ensures.value (c.made-made.ensures.known q there) in (
+    let known : (q : ℕ) → IsSome (finite.get g0.live q) → q ≤ g0.made = λ q there. subst (λ (k : ℕ). q ≤ k) c.made-made.ensures.value (c.made-made.ensures.known q there) in (
       ap (λ (k : Groups). k.live) c.withdraw.ensures ∙ (ap (λ (k : Groups). finite.remove k.live mid.made) ok ∙ remove-above g0.live g0.made mid.made 1 above known),
       ap (λ (k : Groups). k.listeners) c.withdraw.ensures ∙ ap (λ (k : Groups). k.listeners) ok,
     )
