@@ -1,5 +1,5 @@
 -- What the ops of a main tell the groups of the store.
-use Rattle.std.proofs.Common.{ap, arith, refl, subst, sym, ◌∙◌, ◌≡◌}
+use Rattle.std.proofs.Common.{ap, arith, inl, inr, refl, subst, sym, ◌∙◌, ◌≡◌}
 use Rattle.std.proofs.lemmas.Bool.Decides.{nat_tests}
 use Rattle.std.specs.Prelude.{Err, IfOk, List, None, Ok, OnOk, Option, Result, Some, [], false, is_some, map, not, true, ℕ, ◌++◌, ◌+◌, ◌==◌, ◌∷◌, ◌≤◌}
 use Rattle.group_laws.proofs.ListLemmas.{decide, filter_none, filter_same, finish_every}
@@ -25,6 +25,7 @@ use Rattle.task_machine.specs.declared.records.Notice.{Notice}
 use Rattle.task_machine.specs.declared.records.NoticeKind.TheVariants as notice
 use Rattle.task_machine.specs.declared.scenario.MainOpDef.{MainOpDef}
 use Rattle.task_machine.specs.declared.trap.Trap.{Trap}
+use Rattle.task_rules.specs.MainOps.{main_started}
 use Rattle.task_rules.specs.Notices.{finish_notices, is_in, told_of}
 use Rattle.task_store.specs.Groups.{HoldsGroups}
 use Rattle.task_turns.specs.Does.{label_of_step}
@@ -55,8 +56,8 @@ module _ (c : Component) (e : Callee) (words : List ℕ) (s t : StateView) (k : 
   pub started_notices : (o : Option Trap) (n : ℕ) → Starts c e words s o (Ok n) t → told_of notice.Start (s.core.made.groups + 1) ∷ [] ≡ main_notices (step.Did (label.Main (main_label.Start k n))) s.core t.core
   started_notices None n starts =
       sym (ap (λ (u : Core). (told_of notice.Start u.made.groups ∷ []) ++ finish_notices s.core.groups u.groups) starts.1.core
-      ∙ (ap (λ i. (told_of notice.Start i ∷ []) ++ finish_notices s.core.groups _) (start_made c e words s.core)
-      ∙ ap (λ (ns : List Notice). told_of notice.Start (s.core.made.groups + 1) ∷ ns) (ap (finish_notices s.core.groups) (start_groups c e words s.core) ∙ finish_more s.core.groups _)))
+      ∙ (ap (λ i. (told_of notice.Start i ∷ []) ++ finish_notices s.core.groups (main_started c e words s.core).groups) (start_made c e words s.core)
+      ∙ ap (λ (ns : List Notice). told_of notice.Start (s.core.made.groups + 1) ∷ ns) (ap (finish_notices s.core.groups) (start_groups c e words s.core) ∙ finish_more s.core.groups ((s.core.made.groups + 1) ∷ []))))
   started_notices (Some why) n starts = let no : Ok n ≡ Err (task_error.Trap why) = starts.0 in absurd (cc)
 
   -- one that is refused finishes all

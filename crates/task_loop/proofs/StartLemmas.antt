@@ -1,10 +1,12 @@
 -- A start leaves no thread that runs, where there was none; calls of a host change no host work.
 use Rattle.futures.specs.declared.task.Poll.{Poll}
 use Rattle.futures.specs.declared.task.Poll.TheVariants.{Pending, Ready}
-use Rattle.std.proofs.Common.{ap, arith, refl, subst, sym, ◌∙◌}
+use Rattle.std.proofs.Common.{ap, arith, inl, inr, refl, subst, sym, ◌∙◌}
+use Rattle.std.proofs.lemmas.Bool.Decides.{nat_tests}
+use Rattle.group_laws.proofs.ListLemmas.{decide}
 use Rattle.std.specs.FinMap as finite
 use Rattle.std.specs.Option.{option_map_or}
-use Rattle.std.specs.Prelude.{Err, IsSome, OnOk, false, List, None, Ok, Option, Result, Some, [], is_some, option_map, ℕ, ◌++◌, ◌+◌, ◌∷◌, ◌≡◌, ◌≤◌}
+use Rattle.std.specs.Prelude.{Err, IsSome, OnOk, false, List, None, Ok, Option, Result, Some, [], is_some, nat_lt, option_map, ℕ, ◌++◌, ◌+◌, ◌∷◌, ◌≡◌, ◌<◌, ◌≤◌}
 use Rattle.group_notices.proofs.MirrorLemmas.{mirror_more, mirror_same}
 use Rattle.group_notices.specs.Mirror.{Mirrors}
 use Rattle.task_group.specs.Groups.{Groups}
@@ -147,3 +149,10 @@ finish_keeps g k s t Pending f h = subst (λ (u : StateView). HoldsGroups g u.co
 pub trapped_hosts : {T H : Type 0} (course : H → HostDef) (st : Store T H) (g : Groups) → HoldsHosts course st → HoldsHosts course (record st { state = on_core set_trapped st.state; groups = g })
 unfolding set_trapped
 trapped_hosts course st g h = record { there = h.there; ended = h.ended }
+
+-- the number that was prepared is above those that were given
+pub is_above : (made number new : ℕ) → (made < number → new ≡ number) → (number ≤ made → new ≡ made + 1) → made < new
+is_above made number new more next = elim (decide (nat_lt made number)) [
+  | inl less ↦ let l : made < number = grind (arith, nat_tests, less) in let e = more l in omega (arith, l, e)
+  | inr other ↦ let l : number ≤ made = grind (arith, nat_tests, other) in let e = next l in omega (arith, l, e)
+]
