@@ -3,6 +3,9 @@ ghost use Rattle.std.specs.Prelude.{◌≡◌, ◌+◌, ◌<◌, ◌^◌, [], If
 ghost use Rattle.task_machine.specs.Core.{Unscripted};
 ghost use Rattle.state_calls.specs.declared.error.TaskError.TheVariants as task_error;
 ghost use Rattle.task_loop.specs.Standing.{standing};
+ghost use Rattle.task_group.specs.Listeners.{Told};
+ghost use Rattle.task_loop.specs.Told.{main_notices};
+ghost use Rattle.task_store.specs.Groups.{HoldsGroups};
 ghost use Rattle.task_store.specs.Hosts.{HoldsHosts};
 ghost use Rattle.task_turns.specs.WellFormed.{IsWellFormed};
 ghost use Rattle.task_turns.specs.Main.{Steps};
@@ -50,11 +53,14 @@ fn start(
     requires order { Sits component.now Turn.Main access.old.store.now.state.core }
     requires takes { TakesOne component.now func }
     requires hosts { HoldsHosts ⟦<ScriptedHost as HostWork>⟧.course access.old.store.now }
+    requires groups { HoldsGroups access.old.store.now.groups access.old.store.now.state.core }
     requires current { running_of access.old.store.now.state ≡ None }
     requires given { given access.old.store.now.state.core + 4 < 2 ^ 61 }
     ensures same { access.new.store.ghost_name ≡ access.old.store.ghost_name }
     ensures stands { standing access.new.store.now ≡ standing access.old.store.now }
     ensures hosts { HoldsHosts ⟦<ScriptedHost as HostWork>⟧.course access.new.store.now }
+    ensures groups { HoldsGroups access.new.store.now.groups access.new.store.now.state.core }
+    ensures told { IfOk result (λ step. Told (main_notices step access.old.store.now.state.core access.new.store.now.state.core) access.old.store.now.groups.listeners access.new.store.now.groups.listeners) }
     ensures current { OnOk result (running_of access.new.store.now.state ≡ running_of access.old.store.now.state) }
     ensures ok { IfOk result (λ step. Steps component.now [] Unscripted access.old.store.now.state.core step Unscripted access.new.store.now.state.core) }
     ensures does { IfOk result (λ step. Relays relay.old step relay.new) }

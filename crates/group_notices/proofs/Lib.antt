@@ -1,3 +1,4 @@
 pub mod MirrorLemmas
 pub mod TellLemmas
 pub mod RunLemmas
+pub mod QuietLemmas

@@ -3,12 +3,15 @@ use Rattle.std.proofs.Common.{ap, arith, refl, subst, sym, ◌∙◌, ◌≡◌}
 use Rattle.std.proofs.lemmas.Bool.Decides.{nat_tests}
 use Rattle.std.proofs.lemmas.List.Kept.{IsStrictlySortedBy-filter}
 use Rattle.std.specs.BTreeMap.{is_at}
-use Rattle.std.specs.Cmp.{nat_cmp_total, unsigned_tied}
+use Rattle.std.specs.Cmp.{nat_cmp_is, nat_cmp_total, unsigned_tied}
 use Rattle.std.specs.FinMap as finite
+use Rattle.std.proofs.lemmas.List.Folds.{list_any-append}
+use Rattle.std.specs.List.{AllByRecursion}
 use Rattle.std.specs.List.Sorted.{IsStrictlySortedBy}
 use Rattle.std.specs.Map.{keys_of, lookup}
 use Rattle.std.specs.Ordering.{nat_cmp}
-use Rattle.std.specs.Prelude.{List, None, Some, [], cond, map, true, unwrap_or, ℕ, ◌∷◌}
+use Rattle.std.specs.declared.cmp.Ordering.TheVariants.{Less}
+use Rattle.std.specs.Prelude.{IsSome, List, None, Some, [], cond, is_some, map, true, unwrap_or, ℕ, ◌++◌, ◌<◌, ◌==◌, ◌∷◌}
 use Rattle.group_laws.specs.Groups.{without}
 use Rattle.group_laws.proofs.ListLemmas.{in_without}
 use Rattle.group_notices.specs.Mirror.{Mirrors}
@@ -28,6 +31,21 @@ keys-ones (g ∷ gs) = ap (λ ks. g ∷ ks) (keys-ones gs)
 found : (gs : List ℕ) (q : ℕ) → lookup (is_at (nat_cmp q)) (ones gs) ≡ cond (is_in gs q) (Some 1) None
 found [] q = refl
 found (g ∷ gs) q = let rest = found gs q in let tied = unsigned_tied q g in grind (arith, nat_tests, rest, tied)
+
+less_is : (x n : ℕ) → x < n → nat_cmp x n ≡ Less
+less_is x n lt = sym (nat_cmp_is x n Less lt)
+
+below_more : (x : ℕ) (xs : List ℕ) (n : ℕ) → AllByRecursion (λ y. nat_cmp x y ≡ Less) xs → nat_cmp x n ≡ Less → AllByRecursion (λ y. nat_cmp x y ≡ Less) (xs ++ n ∷ [])
+below_more x [] n all less = (less, tt)
+below_more x (y ∷ xs) n all less = (all.0, below_more x xs n all.1 less)
+
+sorted_more : (xs : List ℕ) (n : ℕ) → IsStrictlySortedBy nat_cmp xs → ((q : ℕ) → is_in xs q ≡ true → q < n) → IsStrictlySortedBy nat_cmp (xs ++ n ∷ [])
+unfolding IsStrictlySortedBy
+sorted_more [] n sorted below = (tt, tt)
+sorted_more (x ∷ xs) n sorted below = (
+  below_more x xs n sorted.0 (less_is x n (below x (grind (arith, nat_tests)))),
+  sorted_more xs n sorted.1 (λ q there. below q (grind (arith, nat_tests, there))),
+)
 
 module _ (gs : List ℕ) (g : Groups) (m : Mirrors gs g) where
   same_live : g.live ≡ live_in (ones gs)
@@ -58,6 +76,21 @@ module _ (gs : List ℕ) (g : Groups) (m : Mirrors gs g) where
           let tied = unsigned_tied q n in
           let rest = m.live q in
           let out = in_without n gs q in
+          grind (arith, nat_tests, e, tied, rest, out)
+
+  -- one group more, whose number is above theirs
+  pub mirror_more : (n : ℕ) (h : Groups) → ((q : ℕ) → IsSome (finite.get g.live q) → q < n) → h.live ≡ finite.insert g.live n 1 → Mirrors (gs ++ n ∷ []) h
+  mirror_more n h below more = record {
+    ordered = sorted_more gs n m.ordered (λ q there. below q (ap is_some (m.live q ∙ ap (λ b. cond b (Some 1) None) there)));
+    live = λ q. wider q;
+  }
+    where
+      wider : (q : ℕ) → finite.get h.live q ≡ cond (is_in (gs ++ n ∷ []) q) (Some 1) None
+      wider q =
+          let e = ap (λ (t : Counts). finite.get t q) more ∙ finite.get-insert nat_cmp_total g.live n 1 q in
+          let tied = unsigned_tied q n in
+          let rest = m.live q in
+          let out = list_any-append (λ h. q == h) gs (n ∷ []) in
           grind (arith, nat_tests, e, tied, rest, out)
 
 pub mirror_none : (h : Groups) → h.live ≡ finite.empty → Mirrors [] h

@@ -15,6 +15,7 @@ pub struct Asked {
     pub live: u64,
 }
 
+#[inline(always)]
 fn name(group: Option<u64>) -> Option<TaskGroupId>
     ensures { result ≡ named group }
 {
@@ -25,6 +26,7 @@ fn name(group: Option<u64>) -> Option<TaskGroupId>
 }
 
 // A thread of the new group runs, or of none.
+#[inline(always)]
 fn switch<H: TaskGroupHook>(
     groups: &mut Groups<H>,
     old: Option<u64>,
@@ -39,8 +41,9 @@ fn switch<H: TaskGroupHook>(
     groups.switch(name(old), name(new))
 }
 
-// A work of the group is worked on, and left again.
-fn work<H: TaskGroupHook>(groups: &mut Groups<H>, group: Option<u64>) -> Result<(), GroupError>
+// A work of the group is worked on, and left again. It is out of line, as few steps do so.
+#[inline(never)]
+fn work_on<H: TaskGroupHook>(groups: &mut Groups<H>, group: Option<u64>) -> Result<(), GroupError>
     ensures live { (groups.new.live ≡ groups.old.live) × (groups.new.made ≡ groups.old.made) }
     ensures told { OnOk result ((gs : List ℕ) → Mirrors gs groups.old → Told (of_live gs (around group)) groups.old.listeners groups.new.listeners) }
     ensures failed { IsErr result → AnsweredErr groups.old.listeners groups.new.listeners }
@@ -51,8 +54,24 @@ fn work<H: TaskGroupHook>(groups: &mut Groups<H>, group: Option<u64>) -> Result<
     switch(groups, group, None)
 }
 
-// The groups that the step has finished.
-fn finish<H: TaskGroupHook>(
+// The same, where it is of a group.
+#[inline(always)]
+fn work<H: TaskGroupHook>(groups: &mut Groups<H>, group: Option<u64>) -> Result<(), GroupError>
+    ensures live { (groups.new.live ≡ groups.old.live) × (groups.new.made ≡ groups.old.made) }
+    ensures told { OnOk result ((gs : List ℕ) → Mirrors gs groups.old → Told (of_live gs (around group)) groups.old.listeners groups.new.listeners) }
+    ensures failed { IsErr result → AnsweredErr groups.old.listeners groups.new.listeners }
+    ensures errors { errors_of groups.old.listeners ≤ errors_of groups.new.listeners }
+    ensures hook { is_some groups.new.listeners.hook ≡ is_some groups.old.listeners.hook }
+{
+    match group {
+        None => Ok(()),
+        Some(_) => work_on(groups, group),
+    }
+}
+
+// The groups that the step has finished. It is out of line, as few steps finish any.
+#[inline(never)]
+fn finish_some<H: TaskGroupHook>(
     groups: &mut Groups<H>,
     asked: Asked,
     left: u64,
@@ -76,19 +95,40 @@ fn finish<H: TaskGroupHook>(
     Ok(())
 }
 
+// The same, where there are any.
+#[inline(always)]
+fn finish<H: TaskGroupHook>(
+    groups: &mut Groups<H>,
+    asked: &Asked,
+    left: u64,
+) -> Result<(), GroupError>
+    ensures made { groups.new.made ≡ groups.old.made }
+    ensures told { OnOk result ((gs hs : List ℕ) → Mirrors gs groups.old → Leads asked.now left gs hs → Told (finish_notices gs hs) groups.old.listeners groups.new.listeners) }
+    ensures mirrors { (gs hs : List ℕ) → Mirrors gs groups.old → Leads asked.now left gs hs → Mirrors hs groups.new }
+    ensures failed { IsErr result → AnsweredErr groups.old.listeners groups.new.listeners }
+    ensures errors { errors_of groups.old.listeners ≤ errors_of groups.new.listeners }
+    ensures hook { is_some groups.new.listeners.hook ≡ is_some groups.old.listeners.hook }
+{
+    if left == asked.live {
+        return Ok(());
+    }
+    finish_some(groups, *asked, left)
+}
+
 /// Tells groups, which stand for those of a core, what a step gave: before it this was asked, after it a
 /// thread of the group `running` runs, or none, and `left` groups are live. An error is the hook's; after it the
 /// rest isn't told. It takes time that grows with the logarithm of the number of live groups, and where
-/// all are finished with that number.
+/// all are finished with that number. It is inlined, as most steps give nothing.
+#[inline(always)]
 pub fn tell_step<H: TaskGroupHook>(
     groups: &mut Groups<H>,
-    asked: Asked,
+    asked: &Asked,
     running: Option<u64>,
     left: u64,
 ) -> Result<(), GroupError>
     ensures made { groups.new.made ≡ groups.old.made }
-    ensures told { OnOk result ((gs hs : List ℕ) → Mirrors gs groups.old → Leads asked left gs hs → Told (told_by asked running gs hs) groups.old.listeners groups.new.listeners) }
-    ensures mirrors { OnOk result ((gs hs : List ℕ) → Mirrors gs groups.old → Leads asked left gs hs → Mirrors hs groups.new) }
+    ensures told { OnOk result ((gs hs : List ℕ) → Mirrors gs groups.old → Leads asked.now left gs hs → Told (told_by asked.now running gs hs) groups.old.listeners groups.new.listeners) }
+    ensures mirrors { OnOk result ((gs hs : List ℕ) → Mirrors gs groups.old → Leads asked.now left gs hs → Mirrors hs groups.new) }
     ensures failed { IsErr result → AnsweredErr groups.old.listeners groups.new.listeners }
     ensures errors { errors_of groups.old.listeners ≤ errors_of groups.new.listeners }
     ensures hook { is_some groups.new.listeners.hook ≡ is_some groups.old.listeners.hook }

@@ -9,6 +9,8 @@ mod abort;
 #[cfg(test)]
 mod access;
 #[cfg(test)]
+mod groups;
+#[cfg(test)]
 mod program;
 #[cfg(test)]
 mod report;

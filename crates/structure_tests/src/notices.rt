@@ -42,8 +42,8 @@ fn steps_are_told(rt: HostRuntime) {
     assert!(&rt; groups.keep_notices(4).is_ok());
     assert!(&rt; groups.make().is_ok());
     last(&rt, &groups, 1, b's');
-    assert!(&rt; tell_step(&mut groups, asked(None, 0), Some(1), 1).is_ok());
+    assert!(&rt; tell_step(&mut groups, &asked(None, 0), Some(1), 1).is_ok());
     last(&rt, &groups, 2, b'e');
-    assert!(&rt; tell_step(&mut groups, asked(Some(1), 1), None, 0).is_ok());
+    assert!(&rt; tell_step(&mut groups, &asked(Some(1), 1), None, 0).is_ok());
     last(&rt, &groups, 4, b'f');
 }

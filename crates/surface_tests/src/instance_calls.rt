@@ -10,6 +10,7 @@ ghost use Rattle.task_rules.specs.Scripts.{export_at, export_kind};
 ghost use Rattle.task_machine.specs.Core.{fresh};
 ghost use Rattle.task_records.specs.Seen.{nothing};
 ghost use Rattle.task_run.specs.Runnable.{IsRunnable};
+ghost use Rattle.task_store.specs.Groups.{HoldsGroups};
 ghost use Rattle.task_store.specs.Hosts.{HoldsHosts};
 ghost use Rattle.task_turns.specs.Turn.{Sits, given, running_of};
 ghost use Rattle.task_words.specs.StateView.{with_core};
@@ -70,6 +71,7 @@ fn new_store(rt: &impl Abort, alloc: Global) -> Store<(), ScriptedHost>
     ensures state { result.state ≡ with_core (fresh 2 100000 1000000) nothing }
     ensures free { result.running ≡ false }
     ensures works { HoldsNone result.works }
+    ensures groups { HoldsGroups result.groups result.state.core }
 {
     let mut store = Store::new(alloc, (), true, 1);
     let Ok(_) = store.add_instance() else {
@@ -94,6 +96,7 @@ fn drive(
     requires fresh { store.old.state ≡ with_core (fresh 2 100000 1000000) nothing }
     requires free { store.old.running ≡ false }
     requires works { HoldsNone store.old.works }
+    requires groups { HoldsGroups store.old.groups store.old.state.core }
     requires few { steps ≤ 100 }
     ensures order { IfSome (running_of store.new.state) (λ n. Sits scenario.now.component (Turn.Run n) store.new.state.core) }
     ensures given { given store.new.state.core ≤ 200 }

@@ -6,6 +6,7 @@ ghost use Rattle.task_machine.specs.Core.{fresh};
 ghost use Rattle.task_records.specs.Seen.{nothing};
 ghost use Rattle.task_rules.specs.Scripts.{export_at};
 ghost use Rattle.task_run.specs.Runnable.{IsRunnable};
+ghost use Rattle.task_store.specs.Groups.{HoldsGroups};
 ghost use Rattle.task_store.specs.Hosts.{HoldsHosts};
 ghost use Rattle.task_turns.specs.Turn.{IsSettled, PendsIn, Sits, given, is_open, running_of, runs_in, setting_of};
 ghost use Rattle.task_turns.specs.WellFormed.{IsWellFormed};
@@ -66,6 +67,7 @@ fn polled_by_steps<H: AccessorTask<()> + FromHost, M: MainTask<(), H>>(
     requires suits { M.suits main.old component.now }
     requires knows { M.knows main.old store.old.state }
     requires hosts { HoldsHosts H.course store.old }
+    requires groups { HoldsGroups store.old.groups store.old.state.core }
     requires given { given store.old.state.core ≡ 0 }
     requires current { running_of store.old.state ≡ runs_in run.old.turn }
     requires unfinished { is_open run.old.turn ≡ true }
@@ -95,6 +97,7 @@ fn ran_by_steps(
     requires one { length scenario.now.component.instances ≡ 1 }
     requires fresh { store.old.state ≡ with_core (fresh 1 100000 1000000) nothing }
     requires works { HoldsNone store.old.works }
+    requires groups { HoldsGroups store.old.groups store.old.state.core }
 {
     let Ok(mut run) = run_concurrent(store, true) else {
         panic!(rt; "a run")
@@ -144,10 +147,12 @@ fn call_often<H: HostWork>(
     requires few { count ≤ 1000 }
     requires current { running_of store.old.state ≡ None }
     requires hosts { HoldsHosts H.course store.old }
+    requires groups { HoldsGroups store.old.groups store.old.state.core }
     ensures order { (p : Turn) → Sits component.now p store.old.state.core → Sits component.now p store.new.state.core }
     ensures given { given store.new.state.core ≤ given store.old.state.core + 2 * count }
     ensures current { running_of store.new.state ≡ None }
     ensures hosts { HoldsHosts H.course store.new }
+    ensures groups { HoldsGroups store.new.groups store.new.state.core }
 {
     let mut calls = 0;
     'calls: while calls < count {

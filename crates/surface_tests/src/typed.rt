@@ -3,6 +3,7 @@ ghost use Rattle.std.specs.Prelude.{◌≡◌, ◌+◌, IfSome, IsSome, None, So
 ghost use Rattle.host_works.specs.Kept.{HoldsNone};
 ghost use Rattle.task_loop.specs.Calls.{callee_of};
 ghost use Rattle.task_rules.specs.Scripts.{export_at};
+ghost use Rattle.task_store.specs.Groups.{HoldsGroups};
 ghost use Rattle.task_store.specs.Hosts.{HoldsHosts};
 ghost use Rattle.task_turns.specs.Turn.{Sits, given, running_of};
 ghost use Rattle.task_turns.specs.WellFormed.{IsWellFormed};
@@ -28,6 +29,7 @@ fn drive(
     requires given { given store.old.state.core ≡ 2 }
     requires current { running_of store.old.state ≡ None }
     requires hosts { HoldsHosts ⟦<ScriptedHost as HostWork>⟧.course store.old }
+    requires groups { HoldsGroups store.old.groups store.old.state.core }
 {
     let Ok(mut run) = run_concurrent(store, false) else {
         panic!(rt; "a run")
@@ -54,10 +56,12 @@ fn called(
     requires given { given store.old.state.core ≡ 0 }
     requires current { running_of store.old.state ≡ None }
     requires hosts { HoldsHosts ⟦<ScriptedHost as HostWork>⟧.course store.old }
+    requires groups { HoldsGroups store.old.groups store.old.state.core }
     ensures order { Sits component.now Turn.Main store.new.state.core }
     ensures given { given store.new.state.core ≡ 2 }
     ensures current { running_of store.new.state ≡ None }
     ensures hosts { HoldsHosts ⟦<ScriptedHost as HostWork>⟧.course store.new }
+    ensures groups { HoldsGroups store.new.groups store.new.state.core }
 {
     match func.start_call_concurrent(component, store, 7) {
         Ok(call) => call,

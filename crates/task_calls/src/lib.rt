@@ -26,4 +26,4 @@ pub use returns::task_return;
 pub use starts::{prepare_call, start_prepared};
 pub use state_calls::{QualifiedThreadId, TaskError, is_live};
 pub use tasks::new_guest_task;
-pub use untrapped::start_untrapped;
+pub use untrapped::{start_refusal, start_untrapped};

@@ -12,9 +12,10 @@ use task_ops::{Acted, start};
 use task_turns::export_def;
 use task_words::Words;
 
-// Why a start is refused.
+/// Why a start by the host is refused: with trap 20 where the store is trapped, and else with trap 18 where its four
+/// entries don't fit into the table.
 #[tactic(auto, unfolding(task_rules::specs::MainOps::start_refusal))]
-fn refusal<W: Words>(w: &W) -> Option<Trap>
+pub fn start_refusal<W: Words>(w: &W) -> Option<Trap>
     ensures { result ≡ start_refusal (W.view w.now).core }
 {
     if w.trapped() {
@@ -47,7 +48,7 @@ pub fn start_untrapped<W: Words>(
     let Some(def) = export_def(component, callee) else {
         unreachable!()
     };
-    if let Some(trap) = refusal(w) {
+    if let Some(trap) = start_refusal(w) {
         return Err(TaskError::Trap(trap));
     }
     match start(w, 1, callee, def.kind, words) {

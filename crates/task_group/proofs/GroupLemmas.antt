@@ -1,5 +1,5 @@
 -- The numbers of live groups, and notices that are told one after another.
-use Rattle.std.proofs.Common.{◌≡◌, ◌≢◌, ℕ, zero, suc, ◌+◌, ◌-◌, ◌≤◌, List, [], ◌∷◌, ◌++◌, length, map, take, refl, sym, ap, subst, ◌∙◌, arith, Bool, true, false, cond, append_assoc, append-nil, length-append}
+use Rattle.std.proofs.Common.{◌≡◌, ◌≢◌, ℕ, zero, suc, ◌+◌, ◌-◌, ◌<◌, ◌≤◌, List, [], ◌∷◌, ◌++◌, length, map, take, refl, sym, ap, subst, ◌∙◌, arith, Bool, true, false, cond, append_assoc, append-nil, length-append}
 use Rattle.std.specs.Prelude.{Option, Some, None, IsSome, is_some, ◌==◌}
 use Rattle.std.specs.Option.{option_map}
 use Rattle.std.specs.Ordering.{nat_cmp, eq_by_cmp}
@@ -28,6 +28,10 @@ removed : (b : Bool) (o : Option ℕ) (n : ℕ) {made : ℕ} → IsSome (cond b 
 removed true o n live other = absurd (none_some live)
 removed false o n live other = other live
 
+fewer : (b : Bool) (o : Option ℕ) (n : ℕ) {made : ℕ} → IsSome (cond b None o) → ((n == made) ≡ true → b ≡ true) → (IsSome o → n ≤ made) → n ≤ made - 1
+fewer true o n live same other = absurd (none_some live)
+fewer false o n {made} live same other = let le = other live in grind (arith, nat_tests, le, same)
+
 back : (b : Bool) (w o : Option ℕ) → (b ≡ true → o ≡ None) → cond b None (cond b w o) ≡ o
 back true w o h = sym (h refl)
 back false w o h = refl
@@ -46,6 +50,10 @@ module _ (m : Counts) (made : ℕ) where
   pub known-insert : (k v : ℕ) → IsKnown m made → IsSome (finite.get m k) → IsKnown (finite.insert m k v) made
   known-insert k v known live = known_at k v made (known k live) (omega arith) known
 
+  -- one of a number above all
+  pub known-above : (k : ℕ) → made < k → IsKnown m made → IsKnown (finite.insert m k 1) k
+  known-above k above known = known_at k 1 k (omega arith) (omega (arith, above)) known
+
   pub known-add : IsKnown m made → IsKnown (finite.insert m (made + 1) 1) (made + 1)
   known-add known = known_at (made + 1) 1 (made + 1) (omega arith) (omega arith) known
 
@@ -54,9 +62,27 @@ module _ (m : Counts) (made : ℕ) where
       let live' : IsSome (cond (eq_by_cmp nat_cmp n k) None (finite.get m n)) = let P : Option ℕ → Type 0 = IsSome in subst P (finite.get-remove nat_cmp_total m k n) live in
       removed (eq_by_cmp nat_cmp n k) (finite.get m n) n live' (known n)
 
+  -- the last one is gone
+  pub known-last : IsKnown m made → IsKnown (finite.remove m made) (made - 1)
+  known-last known n live =
+      let tied = unsigned_tied n made in
+      let live' : IsSome (cond (eq_by_cmp nat_cmp n made) None (finite.get m n)) = let P : Option ℕ → Type 0 = IsSome in subst P (finite.get-remove nat_cmp_total m made n) live in
+      fewer (eq_by_cmp nat_cmp n made) (finite.get m n) n live' (λ e. unsigned_tied n made ∙ e) (known n)
+
   fresh : (o : Option ℕ) → finite.get m (made + 1) ≡ o → IsKnown m made → o ≡ None
   fresh None e known = refl
   fresh (Some c) e known = absurd (let le = known (made + 1) (ap is_some e) in omega arith)
+
+  absent_above : (k : ℕ) (o : Option ℕ) → finite.get m k ≡ o → made < k → IsKnown m made → o ≡ None
+  absent_above k None e above known = refl
+  absent_above k (Some c) e above known = absurd (let le = known k (ap is_some e) in omega (arith, above, le))
+
+  -- a group that is made and taken back leaves nothing, whatever number above all it has
+  pub remove-above : (k v : ℕ) → made < k → IsKnown m made → finite.remove (finite.insert m k v) k ≡ m
+  remove-above k v above known = finite.same_map nat_cmp_total finite.nat_cmp-IsAntisymmetric _ _ (λ q.
+      finite.get-remove nat_cmp_total (finite.insert m k v) k q
+      ∙ ap (λ o. cond (eq_by_cmp nat_cmp q k) None o) (finite.get-insert nat_cmp_total m k v q)
+      ∙ back (eq_by_cmp nat_cmp q k) (Some v) (finite.get m q) (λ e. let same : q ≡ k = equal q k (sym (unsigned_tied q k) ∙ e) in ap (finite.get m) same ∙ absent_above k _ refl above known))
 
   -- a group that is made and taken back leaves nothing
   pub remove-insert : (v : ℕ) → IsKnown m made → finite.remove (finite.insert m (made + 1) v) (made + 1) ≡ m

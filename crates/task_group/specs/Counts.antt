@@ -1,5 +1,5 @@
 -- How many tasks each live group has, as a map that is kept in order of number.
-use Rattle.std.specs.Prelude.{◌≡◌, ℕ, ◌+◌, ◌-◌, ◌<◌, List, Option, Some, None, unwrap_or, nat_lt, if◌then◌else◌}
+use Rattle.std.specs.Prelude.{◌≡◌, ℕ, ◌+◌, ◌-◌, ◌<◌, ◌≤◌, List, IsSome, Option, Some, None, unwrap_or, nat_lt, if◌then◌else◌}
 use Rattle.std.specs.List.Sorted.{IsStrictlySortedBy}
 use Rattle.std.specs.Ordering.{nat_cmp}
 use Rattle.std.specs.FinMap as finite
@@ -36,3 +36,7 @@ live_in entries = finite.from_entries entries
 pub record IsSound (entries : List (ℕ × ℕ)) (numbers : List ℕ) : Type 0 where
   pub ordered : IsStrictlySortedBy nat_cmp numbers
   pub positive : (number count : ℕ) → finite.get (live_in entries) number ≡ Some count → 0 < count
+
+-- all groups from the first to the last of these are live
+abbrev pub AreLive : Counts → (low high : ℕ) → Type 0
+AreLive live low high = (n : ℕ) → low ≤ n → n ≤ high → IsSome (finite.get live n)

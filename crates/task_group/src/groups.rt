@@ -1,13 +1,13 @@
-ghost use Rattle.std.specs.Prelude.{◌≡◌, ◌≢◌, ℕ, ◌≤◌, ◌<◌, ◌+◌, ◌^◌, ◌↔◌, ◌∷◌, [], ◌++◌, Some, None, Err, IsTrue, IsSome, IfOk, OnOk, OnErr, false, is_some, if◌then◌else◌};
+ghost use Rattle.std.specs.Prelude.{◌≡◌, ◌≢◌, ℕ, ◌≤◌, ◌<◌, ◌+◌, ◌-◌, ◌^◌, ◌↔◌, ◌∷◌, [], ◌++◌, Some, None, Err, IsTrue, IsSome, IfOk, OnOk, OnErr, false, is_some, if◌then◌else◌};
 ghost use Rattle.std.specs.FinMap as finite;
 ghost use Rattle.task_group.specs.Counts.{count_in, raised, lowered};
 ghost use Rattle.task_group.specs.Listeners.{nobody, Told, AnsweredErr};
 ghost use Rattle.task_group.specs.Heard.{start_of};
 ghost use Rattle.task_group.specs.Groups.{notice_at, finish_at, finish_all, same_group, Switches};
 
-use crate::counts::Counts;
 use crate::hook::{NoHook, TaskGroupHook};
 use crate::listeners::Listeners;
+use crate::live::Live;
 use crate::notice::{GroupError, TaskGroupId};
 use std::alloc::Global;
 use std::marker::Model;
@@ -20,7 +20,7 @@ use task_machine::{NoMemory, Notice, NoticeKind};
 /// `H` is the hook's type. Groups without a hook are `Groups`, and those with a boxed one `Groups<Box<MyHook>>`.
 #[derive(Drop)]
 pub struct Groups<H: TaskGroupHook = NoHook> {
-    counts: Counts,
+    counts: Live,
     made: u64,
     listeners: Listeners<H>,
 }
@@ -47,7 +47,7 @@ impl<H: TaskGroupHook> Groups<H> {
         ensures { result ≡ record { live = finite.empty; made = 0; listeners = nobody } }
     {
         Groups {
-            counts: Counts::new(alloc),
+            counts: Live::new(alloc),
             made: 0,
             listeners: Listeners::new(alloc),
         }
@@ -75,18 +75,73 @@ impl<H: TaskGroupHook> Groups<H> {
         ensures failed { (result ≡ Err GroupError.HookFailed) ↔ AnsweredErr self.old.listeners self.new.listeners }
         ensures no_memory { result ≡ Err GroupError.NoMemory → self.new ≡ self.old }
     {
-        let id = TaskGroupId {
-            number: self.made + 1,
-        };
-        let Ok(()) = self.counts.add(id.number) else {
+        let _counts = &self.counts;
+        let next = self.made + 1;
+        let Ok(()) = self.prepare(next) else {
             return Err(GroupError::NoMemory);
         };
+        self.announce()
+    }
+
+    /// A group that isn't told of yet, with one task: it is to be told of by `announce`, or taken back by `withdraw`,
+    /// before any other call. It gets this number, or the one after the last one made where that isn't below it.
+    ///
+    /// `NoMemory` where there is none for it, or 2^64 - 1 is given, with all as before.
+    pub fn prepare(&mut self, number: u64) -> Result<(), NoMemory>
+        ensures number { OnOk result (self.old.made < number → self.new.made ≡ number) }
+        ensures next { OnOk result (number ≤ self.old.made → self.new.made ≡ self.old.made + 1) }
+        ensures ok { OnOk result (self.new ≡ record self.old { live = finite.insert self.old.live self.new.made 1; made = self.new.made }) }
+        ensures err { OnErr result (self.new ≡ self.old) }
+    {
+        let Some(next) = self.made.checked_add(1) else {
+            return Err(NoMemory);
+        };
+        if number < next {
+            return self.add(next);
+        }
+        self.add(number)
+    }
+
+    // A group of this number, which is above those that were given.
+    fn add(&mut self, number: u64) -> Result<(), NoMemory>
+        requires { self.old.made < number }
+        ensures ok { OnOk result (self.new ≡ record self.old { live = finite.insert self.old.live number 1; made = number }) }
+        ensures err { OnErr result (self.new ≡ self.old) }
+    {
+        let Ok(()) = self.counts.add(number) else {
+            return Err(NoMemory);
+        };
+        self.made = number;
+        Ok(())
+    }
+
+    /// Tells the hook of the start of the group that was made last.
+    ///
+    /// `HookFailed` exactly where the hook answered an error, and then there is no such group, but the hook was told.
+    pub fn announce(&mut self) -> Result<TaskGroupId, GroupError>
+        requires { 0 < self.old.made }
+        ensures id { IfOk result (λ id. id.number ≡ self.old.made) }
+        ensures groups { OnOk result ((self.new.live ≡ self.old.live) × (self.new.made ≡ self.old.made)) }
+        ensures refused { OnErr result ((self.new.live ≡ finite.remove self.old.live self.old.made) × (self.new.made ≡ self.old.made - 1)) }
+        ensures told { Told (start_of (record { number = self.old.made }) ∷ []) self.old.listeners self.new.listeners }
+        ensures failed { (result ≡ Err GroupError.HookFailed) ↔ AnsweredErr self.old.listeners self.new.listeners }
+        ensures no_other { result ≢ Err GroupError.NoMemory }
+    {
+        let id = TaskGroupId { number: self.made };
         if self.listeners.tell(NoticeKind::Start, id).is_err() {
-            self.counts.remove(id.number);
+            self.withdraw();
             return Err(GroupError::HookFailed);
         }
-        self.made += 1;
         Ok(id)
+    }
+
+    /// Takes back the group that was made last, which nobody is told: its number may be given again.
+    pub fn withdraw(&mut self)
+        requires { 0 < self.old.made }
+        ensures { self.new ≡ record self.old { live = finite.remove self.old.live self.old.made; made = self.old.made - 1 } }
+    {
+        self.counts.remove(self.made);
+        self.made -= 1;
     }
 
     /// One more task in the group; nothing where it is finished. A group has fewer than 2^32 tasks.
@@ -129,6 +184,7 @@ impl<H: TaskGroupHook> Groups<H> {
     /// The thread that runs is one of another group, or of none: the hook is told of the exit from the old group and then of the enter into the new one, but for finished groups and for none. Nothing is told where both are the same.
     ///
     /// `HookFailed` exactly where the hook answered an error; after an error at the exit the enter isn't told.
+    #[inline(always)]
     pub fn switch(
         &mut self,
         old: Option<TaskGroupId>,
@@ -148,6 +204,7 @@ impl<H: TaskGroupHook> Groups<H> {
     }
 
     // A notice of a group, but of a finished one or of none.
+    #[inline(always)]
     fn tell_if_live(
         &mut self,
         kind: NoticeKind,
@@ -161,7 +218,7 @@ impl<H: TaskGroupHook> Groups<H> {
         let Some(id) = group else {
             return Ok(());
         };
-        if self.counts.get(id.number) == 0 {
+        if !self.counts.is_live(id.number) {
             return Ok(());
         }
         if self.listeners.tell(kind, id).is_err() {
@@ -216,6 +273,7 @@ impl<H: TaskGroupHook> Groups<H> {
 }
 
 // Whether both name the same group, or both name none.
+#[inline(always)]
 fn is_same(old: Option<TaskGroupId>, new: Option<TaskGroupId>) -> bool
     ensures { result ≡ same_group old new }
 {
@@ -227,7 +285,7 @@ fn is_same(old: Option<TaskGroupId>, new: Option<TaskGroupId>) -> bool
 }
 
 // Each live group is finished, in order of number.
-fn finish_each<H: TaskGroupHook>(counts: &mut Counts, listeners: &mut Listeners<H>)
+fn finish_each<H: TaskGroupHook>(counts: &mut Live, listeners: &mut Listeners<H>)
     ensures live { counts.new ≡ finite.empty }
     ensures told { Told (finish_all counts.old) listeners.old listeners.new }
 {

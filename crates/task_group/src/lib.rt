@@ -5,6 +5,7 @@ mod counts;
 mod groups;
 mod hook;
 mod listeners;
+mod live;
 mod notice;
 
 pub use groups::Groups;

@@ -69,12 +69,13 @@ impl<H: TaskGroupHook> Listeners<H> {
     }
 
     // One notice to the hook and to the list. An error is the hook's.
+    #[inline(always)]
     pub fn tell(&mut self, kind: NoticeKind, id: TaskGroupId) -> Result<(), HookError>
         ensures told { Told (notice_of kind id ∷ []) self.old self.new }
         ensures answer { IsErr result ↔ AnsweredErr self.old self.new }
     {
         if self.notices.len() < self.room {
-            let _ = self.notices.push(Notice {
+            self.notices.push_reserved(Notice {
                 kind,
                 group: id.number,
             });

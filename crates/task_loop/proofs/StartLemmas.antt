@@ -1,9 +1,22 @@
 -- A start leaves no thread that runs, where there was none; calls of a host change no host work.
 use Rattle.futures.specs.declared.task.Poll.{Poll}
 use Rattle.futures.specs.declared.task.Poll.TheVariants.{Pending, Ready}
-use Rattle.std.proofs.Common.{ap, refl, ◌∙◌}
-use Rattle.std.specs.Prelude.{Err, List, None, Ok, Option, Result, Some, option_map, ℕ, ◌≡◌}
-use Rattle.task_calls.specs.Calls.{Finishes, Starts}
+use Rattle.std.proofs.Common.{ap, arith, inl, inr, refl, subst, sym, ◌∙◌}
+use Rattle.std.proofs.lemmas.Bool.Decides.{nat_tests}
+use Rattle.group_laws.proofs.ListLemmas.{decide}
+use Rattle.std.specs.FinMap as finite
+use Rattle.std.specs.Option.{option_map_or}
+use Rattle.std.specs.Prelude.{Err, IsSome, OnOk, false, List, None, Ok, Option, Result, Some, [], is_some, nat_lt, option_map, ℕ, ◌++◌, ◌+◌, ◌∷◌, ◌≡◌, ◌<◌, ◌≤◌}
+use Rattle.group_notices.proofs.MirrorLemmas.{mirror_more, mirror_same}
+use Rattle.group_notices.specs.Mirror.{Mirrors}
+use Rattle.task_group.specs.Groups.{Groups}
+use Rattle.task_group.specs.Heard.{Heard}
+use Rattle.task_group.specs.Listeners.{AnsweredErr, Listeners, Told}
+use Rattle.task_group.specs.declared.notice.GroupError.{GroupError}
+use Rattle.task_group.specs.declared.notice.GroupError.TheVariants as error
+use Rattle.task_group.specs.declared.notice.TaskGroupId.{TaskGroupId}
+use Rattle.task_machine.specs.declared.records.Notice.{Notice}
+use Rattle.task_calls.specs.Calls.{Becomes, Finishes, Starts}
 use Rattle.task_calls.specs.Untrapped.{StartsUntrapped}
 use Rattle.state_calls.specs.declared.error.TaskError.{TaskError}
 use Rattle.task_machine.specs.Core.{Core}
@@ -16,7 +29,9 @@ use Rattle.task_machine.specs.declared.trap.Trap.{Trap}
 use Rattle.task_rules.specs.Calls.{call_made}
 use Rattle.task_rules.specs.MainOps.{main_started}
 use Rattle.task_store.proofs.HostLemmas.{holds_same}
-use Rattle.task_store.specs.Hosts.{HoldsWorks}
+use Rattle.task_store.specs.Groups.{HoldsGroups}
+use Rattle.task_store.specs.Hosts.{HoldsHosts, HoldsWorks}
+use Rattle.task_store.specs.declared.store.Store.{Store}
 use Rattle.task_turns.specs.Turn.{running_of}
 use Rattle.task_words.specs.StateView.{StateView, on_core, thread_of}
 
@@ -32,6 +47,9 @@ pub start_current : (c : Component) (e : Callee) (words : List ℕ) (s t : State
 start_current c e words s t (Some why) r none k = current_still s t k.1.current none
 start_current c e words s t None (Ok n) none k = current_still s t k.1.current none
 start_current c e words s t None (Err why) none k = current_still s t k.1.current none
+
+trapped_becomes : (s u t : StateView) → u ≡ s → t ≡ on_core set_trapped u → Becomes (set_trapped s.core) s t
+trapped_becomes s u t same is = grind arith
 
 -- ---- What a store holds of host works
 
@@ -61,3 +79,80 @@ module _ (left : ℕ → Option HostDef) where
   pub finish_holds : (k : ℕ) (s t : StateView) (r : Poll ℕ) → Finishes k s r t → HoldsWorks left s.core → HoldsWorks left t.core
   finish_holds k s t (Ready v) f h = holds_same s.core t.core left (ap (λ (u : StateView). u.core.works) f.1 ∙ result_works k s) h
   finish_holds k s t Pending f h = holds_same s.core t.core left (ap (λ (u : StateView). u.core.works) f.1) h
+
+-- ---- The groups of a store
+
+pub start_groups : (c : Component) (e : Callee) (words : List ℕ) (s : Core) → (main_started c e words s).groups ≡ s.groups ++ (s.made.groups + 1) ∷ []
+unfolding main_started put_high push_high set_place on_thread call_made add_call add_thread add_group
+start_groups c e words s = refl
+
+pub start_made : (c : Component) (e : Callee) (words : List ℕ) (s : Core) → (main_started c e words s).made.groups ≡ s.made.groups + 1
+unfolding main_started put_high push_high set_place on_thread call_made add_call add_thread add_group
+start_made c e words s = refl
+
+-- a group of the next number was prepared and told of
+pub started_holds : (c : Component) (e : Callee) (words : List ℕ) (s t : Core) (g h : Groups) → t ≡ main_started c e words s → HoldsGroups g s → ((q : ℕ) → IsSome (finite.get g.live q) → q ≤ g.made) →
+    h.live ≡ finite.insert g.live (s.made.groups + 1) 1 → h.made ≡ s.made.groups + 1 → is_some h.listeners.hook ≡ is_some g.listeners.hook → HoldsGroups h t
+started_holds c e words s t g h is holds known live made hook = record {
+  made = let m = ap (λ (u : Core). u.made.groups) is ∙ start_made c e words s in omega (arith, made, m);
+  mirror = subst (λ (gs : List ℕ). Mirrors gs h) (sym (ap (λ (u : Core). u.groups) is ∙ start_groups c e words s))
+      (mirror_more s.groups g holds.mirror (s.made.groups + 1) h (λ q there. let a = known q there in let b = holds.made in omega (arith, a, b)) live);
+  unhooked = hook ∙ holds.unhooked;
+}
+
+-- a group that was prepared and taken back
+pub withdrawn_holds : (s : Core) (g h : Groups) → HoldsGroups g s → h.live ≡ g.live → h.made ≤ s.made.groups → h.listeners ≡ g.listeners → HoldsGroups h s
+withdrawn_holds s g h holds live made same = record {
+  made = made;
+  mirror = mirror_same s.groups g h live holds.mirror;
+  unhooked = ap (λ (l : Listeners). is_some l.hook) same ∙ holds.unhooked;
+}
+
+-- a store that is trapped has none
+pub trapped_holds : (s : Core) (g h : Groups) → HoldsGroups g s → Mirrors [] h → h.made ≡ g.made → is_some h.listeners.hook ≡ is_some g.listeners.hook → HoldsGroups h (set_trapped s)
+unfolding set_trapped
+trapped_holds s g h holds none made hook = record {
+  made = let a = holds.made in omega (arith, a, made);
+  mirror = none;
+  unhooked = hook ∙ holds.unhooked;
+}
+
+-- a start that was refused, of a store that is trapped then
+pub refused_starts : (c : Component) (e : Callee) (words : List ℕ) (s u t : StateView) (o : Option Trap) (why : TaskError) → StartsUntrapped c e words s o (Err why) u → t ≡ on_core set_trapped u → Starts c e words s o (Err why) t
+refused_starts c e words s u t (Some w) why h is = (h.0, trapped_becomes s u t h.1 is)
+refused_starts c e words s u t None why h is = (h.0, trapped_becomes s u t h.1 is)
+
+none_errors : (o : Option Heard) → is_some o ≡ false → option_map_or (λ (h : Heard). h.errors) o 0 ≡ 0
+none_errors None e = refl
+none_errors (Some h) e = absurd (cc)
+
+-- without a hook a group is told of
+pub announced : (P : Type 0) (r : Result TaskGroupId GroupError) (ns : List Notice) (a b : Listeners) → is_some a.hook ≡ false → Told ns a b → (r ≡ Err error.HookFailed → AnsweredErr a b) → (r ≡ Err error.NoMemory → ⊥) → OnOk r P → P
+announced P (Ok id) ns a b none told failed other h = h
+announced P (Err error.HookFailed) ns a b none told failed other h =
+    let before = none_errors a.hook none in
+    let after = none_errors b.hook (told.same_hook ∙ none) in
+    let lt = failed refl in
+    absurd (omega (arith, before, after, lt))
+announced P (Err error.NoMemory) ns a b none told failed other h = absurd (other refl)
+
+-- the finish of a call keeps them
+result_kept : (g : Groups) (k : ℕ) (s : StateView) → HoldsGroups g s.core → HoldsGroups g (on_core (take_result k) s).core
+unfolding take_result
+result_kept g k s h = record { made = h.made; mirror = h.mirror; unhooked = h.unhooked }
+
+pub finish_keeps : (g : Groups) (k : ℕ) (s t : StateView) (r : Poll ℕ) → Finishes k s r t → HoldsGroups g s.core → HoldsGroups g t.core
+finish_keeps g k s t (Ready v) f h = subst (λ (u : StateView). HoldsGroups g u.core) (sym f.1) (result_kept g k s h)
+finish_keeps g k s t Pending f h = subst (λ (u : StateView). HoldsGroups g u.core) (sym f.1) h
+
+-- a store that is trapped holds the same host works
+pub trapped_hosts : {T H : Type 0} (course : H → HostDef) (st : Store T H) (g : Groups) → HoldsHosts course st → HoldsHosts course (record st { state = on_core set_trapped st.state; groups = g })
+unfolding set_trapped
+trapped_hosts course st g h = record { there = h.there; ended = h.ended }
+
+-- the number that was prepared is above those that were given
+pub is_above : (made number new : ℕ) → (made < number → new ≡ number) → (number ≤ made → new ≡ made + 1) → made < new
+is_above made number new more next = elim (decide (nat_lt made number)) [
+  | inl less ↦ let l : made < number = grind (arith, nat_tests, less) in let e = more l in omega (arith, l, e)
+  | inr other ↦ let l : number ≤ made = grind (arith, nat_tests, other) in let e = next l in omega (arith, l, e)
+]

@@ -1,4 +1,4 @@
-ghost use Rattle.std.specs.Prelude.{◌≡◌, ◌+◌, ◌<◌, ◌^◌, IfOk, IfSome, IsSome, length};
+ghost use Rattle.std.specs.Prelude.{◌≡◌, ◌+◌, ◌<◌, ◌^◌, IfOk, IfSome, IsSome, None, OnErr, [], ◌∷◌, length};
 ghost use Rattle.task_calls.specs.Calls.{Finishes, Starts};
 ghost use Rattle.task_calls.specs.Untrapped.{StartsUntrapped};
 ghost use Rattle.task_loop.specs.Calls.{callee_of, number_of_start};
@@ -6,13 +6,18 @@ ghost use Rattle.task_machine.specs.declared.records.Turn.{Turn};
 ghost use Rattle.task_rules.specs.MainOps.{start_refusal};
 ghost use Rattle.task_rules.specs.Scripts.{export_at};
 ghost use Rattle.task_machine.specs.declared.component.HostDef.{HostDef};
+ghost use Rattle.task_group.specs.Groups.{finish_all};
+ghost use Rattle.task_group.specs.Listeners.{Told};
+ghost use Rattle.task_machine.specs.declared.records.NoticeKind.{NoticeKind};
+ghost use Rattle.task_rules.specs.Notices.{told_of};
+ghost use Rattle.task_store.specs.Groups.{HoldsGroups};
 ghost use Rattle.task_store.specs.Hosts.{HoldsHosts};
 ghost use Rattle.task_turns.specs.WellFormed.{IsWellFormed};
 ghost use Rattle.task_turns.specs.Turn.{Sits, given};
 
 use crate::instance::Instance;
 use futures::task::Poll;
-use task_calls::{TaskError, finish_call, start_call, start_untrapped};
+use task_calls::{TaskError, finish_call, start_refusal, start_untrapped};
 use task_group::TaskGroupId;
 use task_machine::{Callee, Component};
 use task_store::Store;
@@ -89,12 +94,17 @@ impl Func {
         ensures group { IfOk result (λ call. call.group ≡ store.old.state.core.made.groups + 1) }
         ensures order { (p : Turn) → Sits component.now p store.old.state.core → Sits component.now p store.new.state.core }
         ensures hosts { (course : H → HostDef) → HoldsHosts course store.old → HoldsHosts course store.new }
-        ensures rest { store.new ≡ record store.old { state = store.new.state } }
+        ensures groups { HoldsGroups store.old.groups store.old.state.core → HoldsGroups store.new.groups store.new.state.core }
+        ensures told { HoldsGroups store.old.groups store.old.state.core → IfOk result (λ call. Told (told_of NoticeKind.Start call.group ∷ []) store.old.groups.listeners store.new.groups.listeners) }
+        ensures refused { OnErr result (Told (finish_all store.old.groups.live) store.old.groups.listeners store.new.groups.listeners) }
+        ensures rest { store.new ≡ record store.old { state = store.new.state; groups = store.new.groups } }
     {
-        let group = store.state.made().groups + 1;
-        match start_call(&mut store.state, component, self.callee(), params) {
-            Ok(thread) => Ok(FuncCallConcurrent { thread, group }),
-            Err(e) => Err(e),
+        match self.start_untrapped(component, store, params) {
+            Ok(call) => Ok(call),
+            Err(e) => {
+                store.set_trapped();
+                Err(e)
+            }
         }
     }
 
@@ -116,12 +126,53 @@ impl Func {
         ensures group { IfOk result (λ call. call.group ≡ store.old.state.core.made.groups + 1) }
         ensures order { (p : Turn) → Sits component.now p store.old.state.core → Sits component.now p store.new.state.core }
         ensures hosts { (course : H → HostDef) → HoldsHosts course store.old → HoldsHosts course store.new }
-        ensures rest { store.new ≡ record store.old { state = store.new.state } }
+        ensures groups { HoldsGroups store.old.groups store.old.state.core → HoldsGroups store.new.groups store.new.state.core }
+        ensures told { HoldsGroups store.old.groups store.old.state.core → IfOk result (λ call. Told (told_of NoticeKind.Start call.group ∷ []) store.old.groups.listeners store.new.groups.listeners) }
+        ensures rest { store.new ≡ record store.old { state = store.new.state; groups = store.new.groups } }
+        ensures refused { OnErr result ((store.new.groups.live ≡ store.old.groups.live) × (store.new.groups.listeners ≡ store.old.groups.listeners)) }
+    {
+        match start_refusal(&store.state) {
+            Some(trap) => Err(TaskError::Trap(trap)),
+            None => self.start_fitting(component, store, params),
+        }
+    }
+
+    // The same where it isn't refused. The group is prepared first, so that it can be taken back unseen.
+    fn start_fitting<T, H>(
+        self,
+        component: &Component,
+        store: &mut Store<T, H>,
+        params: &[u64],
+    ) -> Result<FuncCallConcurrent, TaskError>
+        requires covered { IsWellFormed component.now }
+        requires there { IsSome (export_at component.now (callee_of self)) }
+        requires params { IfSome (export_at component.now (callee_of self)) (λ e. length params.now ≡ e.params) }
+        requires order { (p : Turn) × Sits component.now p store.old.state.core }
+        requires fits { start_refusal store.old.state.core ≡ None }
+        requires given { given store.old.state.core < 2 ^ 61 }
+        ensures starts { StartsUntrapped component.now (callee_of self) params.now store.old.state (start_refusal store.old.state.core) (number_of_start result) store.new.state }
+        ensures group { IfOk result (λ call. call.group ≡ store.old.state.core.made.groups + 1) }
+        ensures order { (p : Turn) → Sits component.now p store.old.state.core → Sits component.now p store.new.state.core }
+        ensures hosts { (course : H → HostDef) → HoldsHosts course store.old → HoldsHosts course store.new }
+        ensures groups { HoldsGroups store.old.groups store.old.state.core → HoldsGroups store.new.groups store.new.state.core }
+        ensures told { HoldsGroups store.old.groups store.old.state.core → IfOk result (λ call. Told (told_of NoticeKind.Start call.group ∷ []) store.old.groups.listeners store.new.groups.listeners) }
+        ensures rest { store.new ≡ record store.old { state = store.new.state; groups = store.new.groups } }
+        ensures refused { OnErr result ((store.new.groups.live ≡ store.old.groups.live) × (store.new.groups.listeners ≡ store.old.groups.listeners)) }
     {
         let group = store.state.made().groups + 1;
+        let _made = store.groups.made();
+        let Ok(()) = store.groups.prepare(group) else {
+            return Err(TaskError::NoMemory);
+        };
         match start_untrapped(&mut store.state, component, self.callee(), params) {
-            Ok(thread) => Ok(FuncCallConcurrent { thread, group }),
-            Err(e) => Err(e),
+            Ok(thread) => {
+                let _told = store.groups.announce();
+                Ok(FuncCallConcurrent { thread, group })
+            }
+            Err(e) => {
+                store.groups.withdraw();
+                Err(e)
+            }
         }
     }
 
@@ -136,6 +187,7 @@ impl Func {
         ensures call { call.new ≡ call.old }
         ensures order { (c : Component) → (p : Turn) → Sits c p store.old.state.core → Sits c p store.new.state.core }
         ensures hosts { (course : H → HostDef) → HoldsHosts course store.old → HoldsHosts course store.new }
+        ensures groups { HoldsGroups store.old.groups store.old.state.core → HoldsGroups store.new.groups store.new.state.core }
         ensures rest { store.new ≡ record store.old { state = store.new.state } }
     {
         finish_call(&mut store.state, call.thread)

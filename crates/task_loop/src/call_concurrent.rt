@@ -5,6 +5,7 @@ ghost use Rattle.task_loop.specs.Polled.{FinishesWith, Polls, thread_in};
 ghost use Rattle.task_machine.specs.declared.component.Component.{Component as Shape};
 ghost use Rattle.task_machine.specs.declared.component.HostDef.{HostDef};
 ghost use Rattle.task_machine.specs.declared.records.Turn.{Turn};
+ghost use Rattle.task_store.specs.Groups.{HoldsGroups};
 ghost use Rattle.task_store.specs.Hosts.{HoldsHosts};
 ghost use Rattle.task_rules.specs.Scripts.{export_at};
 ghost use Rattle.task_turns.specs.Turn.{Sits, given};
@@ -63,6 +64,7 @@ fn finish<T, H>(
     ensures call { call.new ≡ call.old }
     ensures order { (c : Shape) → (p : Turn) → Sits c p store.old.state.core → Sits c p store.new.state.core }
     ensures hosts { (course : H → HostDef) → HoldsHosts course store.old → HoldsHosts course store.new }
+    ensures groups { HoldsGroups store.old.groups store.old.state.core → HoldsGroups store.new.groups store.new.state.core }
     ensures rest { store.new ≡ record store.old { state = store.new.state } }
 {
     match func.finish_call_concurrent(store, call) {
@@ -90,7 +92,8 @@ impl CallConcurrent {
         ensures words { self.new.params ≡ self.old.params }
         ensures order { (p : Turn) → Sits component.now p store.old.state.core → Sits component.now p store.new.state.core }
         ensures hosts { (course : H → HostDef) → HoldsHosts course store.old → HoldsHosts course store.new }
-        ensures rest { store.new ≡ record store.old { state = store.new.state } }
+        ensures groups { HoldsGroups store.old.groups store.old.state.core → HoldsGroups store.new.groups store.new.state.core }
+        ensures rest { store.new ≡ record store.old { state = store.new.state; groups = store.new.groups } }
     {
         if let Some(call) = &mut self.call {
             return finish(self.func, store, call);

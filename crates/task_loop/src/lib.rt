@@ -9,6 +9,7 @@ mod main_task;
 mod polls;
 mod run;
 mod subtasks;
+mod tells;
 mod threads;
 mod typed;
 mod waitables;
@@ -20,7 +21,7 @@ pub use main_task::MainTask;
 pub use polls::RunPoll;
 pub use run::{RunConcurrent, run_concurrent};
 pub use task_calls::{Answer, QualifiedThreadId, ResumeThread, Step, SuspensionTarget, TaskError};
-pub use task_group::TaskGroupId;
+pub use task_group::{Notice, NoticeKind, TaskGroupId};
 pub use task_machine::{
     Callee, Component, ExportDef, HostDef, InstanceDef, Label, NoMemory, Op, Operand, Outcome, Slot,
 };

@@ -3,6 +3,9 @@ ghost use Rattle.task_machine.specs.Core.{Main};
 ghost use Rattle.task_machine.specs.declared.component.Component.{Component};
 ghost use Rattle.task_machine.specs.declared.scenario.MainOpDef.{MainOpDef};
 ghost use Rattle.task_loop.specs.Standing.{standing};
+ghost use Rattle.task_group.specs.Listeners.{Told};
+ghost use Rattle.task_loop.specs.Told.{main_notices};
+ghost use Rattle.task_store.specs.Groups.{HoldsGroups};
 ghost use Rattle.task_store.specs.Hosts.{HoldsHosts};
 ghost use Rattle.task_turns.specs.WellFormed.{IsWellFormed};
 ghost use Rattle.task_turns.specs.declared.mains.MainStep.{MainStep};
@@ -48,6 +51,7 @@ pub trait MainTask<T, H: HostWork> {
         requires suits { suits self.old component.now }
         requires knows { knows self.old access.old.store.now.state }
         requires hosts { HoldsHosts H.course access.old.store.now }
+        requires groups { HoldsGroups access.old.store.now.groups access.old.store.now.state.core }
         requires current { running_of access.old.store.now.state ≡ None }
         requires given { given access.old.store.now.state.core + 4 < 2 ^ 61 }
         ensures same { access.new.store.ghost_name ≡ access.old.store.ghost_name }
@@ -57,6 +61,8 @@ pub trait MainTask<T, H: HostWork> {
         ensures knows { OnOk result (knows self.new access.new.store.now.state) }
         ensures hosts { OnOk result (HoldsHosts H.course access.new.store.now) }
         ensures current { OnOk result (running_of access.new.store.now.state ≡ running_of access.old.store.now.state) }
+        ensures groups { OnOk result (HoldsGroups access.new.store.now.groups access.new.store.now.state.core) }
+        ensures told { IfOk result (λ step. Told (main_notices step access.old.store.now.state.core access.new.store.now.state.core) access.old.store.now.groups.listeners access.new.store.now.groups.listeners) }
         ensures ok { IfOk result (λ step. Steps component.now (script self.old) (part self.old) access.old.store.now.state.core step (part self.new) access.new.store.now.state.core) }
         ensures does { IfOk result (λ step. does self.old step self.new) }
         ensures err { IfErr result (λ e. e ≡ TaskError.NoMemory) };

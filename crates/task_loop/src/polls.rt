@@ -1,8 +1,10 @@
 //! Polls of a run: it goes on until it yields, so that a host can do other things in between.
 ghost use Rattle.std.specs.Prelude.{◌≡◌, ◌≤◌, ◌^◌, Err, false, IfOk, OnErr, OnOk, true};
+ghost use Rattle.group_notices.specs.Runs.{HasTold};
 ghost use Rattle.label_laws.specs.Own.{next_mark, rests_by};
 ghost use Rattle.task_loop.specs.RunPolls.{Answered, Paused, run_answer};
 ghost use Rattle.task_loop.specs.Standing.{standing};
+ghost use Rattle.task_store.specs.Groups.{HoldsGroups};
 ghost use Rattle.task_store.specs.Hosts.{HoldsHosts};
 ghost use Rattle.task_turns.specs.Does.{DoesAdded};
 ghost use Rattle.task_turns.specs.Drive.{WasGoing};
@@ -11,6 +13,7 @@ ghost use Rattle.task_turns.specs.WellFormed.{IsWellFormed};
 
 use crate::main_task::MainTask;
 use crate::run::{RunConcurrent, next_mark};
+use crate::tells::group_of;
 use run_pace::Pace;
 use task_calls::TaskError;
 use task_machine::{Component, Mark, NoMemory, Outcome, Turn};
@@ -61,7 +64,8 @@ impl RunConcurrent {
     /// yielded, and where it has added `steps` labels. After the first two of these the next poll begins with the entry that is next
     /// then. Entries that `drive` took count too.
     ///
-    /// What is asked of the store and of main is as for `drive`; and so is what is said where memory is wanting.
+    /// What is asked of the store and of main is as for `drive`; and so is what is said where memory is wanting, and what the
+    /// groups are told.
     pub fn poll<T, H: AccessorTask<T> + FromHost, M: MainTask<T, H>>(
         &mut self,
         component: &Component,
@@ -75,6 +79,7 @@ impl RunConcurrent {
         requires suits { M.suits main.old component.now }
         requires knows { M.knows main.old store.old.state }
         requires hosts { HoldsHosts H.course store.old }
+        requires groups { HoldsGroups store.old.groups store.old.state.core }
         requires given { given store.old.state.core ≤ 2 ^ 60 }
         requires current { running_of store.old.state ≡ runs_in self.old.turn }
         requires unfinished { is_open self.old.turn ≡ true }
@@ -84,6 +89,8 @@ impl RunConcurrent {
         ensures suits { Answered result (M.suits main.new component.now) }
         ensures knows { Answered result (M.knows main.new store.new.state) }
         ensures hosts { Answered result (HoldsHosts H.course store.new) }
+        ensures groups { Answered result (HoldsGroups store.new.groups store.new.state.core) }
+        ensures told { Answered result (HasTold (setting_of component.now (M.script main.old) self.old.trap_on_idle) (state_at store.old.state.core (M.part main.old) self.old.turn) trace.old (state_at store.new.state.core (M.part main.new) self.new.turn) trace.new store.old.groups store.new.groups) }
         ensures idle { self.new.trap_on_idle ≡ self.old.trap_on_idle }
         ensures stands { standing store.new ≡ standing store.old }
         ensures does { Answered result (DoesAdded M.does main.old trace.old main.new trace.new) }
@@ -114,12 +121,15 @@ impl RunConcurrent {
         requires suits { M.suits main.old component.now }
         requires knows { M.knows main.old store.old.state }
         requires hosts { HoldsHosts H.course store.old }
+        requires groups { HoldsGroups store.old.groups store.old.state.core }
         requires given { given store.old.state.core ≤ 2 ^ 60 }
         requires pends { PendsIn (setting_of component.now (M.script main.old) self.old.trap_on_idle) store.old.state.core (M.part main.old) self.old.turn }
         ensures script { M.script main.new ≡ M.script main.old }
         ensures suits { OnOk result (M.suits main.new component.now) }
         ensures knows { OnOk result (M.knows main.new store.new.state) }
         ensures hosts { OnOk result (HoldsHosts H.course store.new) }
+        ensures groups { OnOk result (HoldsGroups store.new.groups store.new.state.core) }
+        ensures told { OnOk result (HasTold (setting_of component.now (M.script main.old) self.old.trap_on_idle) (state_at store.old.state.core (M.part main.old) self.old.turn) trace.old (state_at store.new.state.core (M.part main.new) self.new.turn) trace.new store.old.groups store.new.groups) }
         ensures idle { self.new.trap_on_idle ≡ self.old.trap_on_idle }
         ensures stands { standing store.new ≡ standing store.old }
         ensures does { OnOk result (DoesAdded M.does main.old trace.old main.new trace.new) }
@@ -128,6 +138,7 @@ impl RunConcurrent {
         ensures ok { IfOk result (λ r. Paused (setting_of component.now (M.script main.old) self.old.trap_on_idle) (state_at store.old.state.core (M.part main.old) self.old.turn) trace.old (given store.old.state.core) self.old.pace steps r self.new.turn (M.part main.new) store.new.state trace.new self.new.pace) }
     {
         let mut added = 0;
+        let mut running = group_of(&store.state, self.turn).unwrap_or(0);
         'turns: while added < steps {
             let next = next_mark(store, self.turn);
             if self.pace.yields(next) {
@@ -135,7 +146,7 @@ impl RunConcurrent {
                 return Ok(Ok(RunPoll::Yielded));
             }
             let rests = rests(self.turn, next);
-            match self.turn(component, store, main, trace)? {
+            match self.turn(component, store, main, trace, &mut running)? {
                 None => {
                     self.pace = self.pace.after(None);
                     return Ok(Ok(RunPoll::Idle));

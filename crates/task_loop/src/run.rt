@@ -1,7 +1,14 @@
-ghost use Rattle.std.specs.Prelude.{◌≡◌, ◌*◌, ◌+◌, ◌<◌, ◌≤◌, ◌^◌, IfErr, IfOk, None, OnErr, OnOk, Some, false, is_none, true, Bool};
-ghost use Rattle.label_laws.specs.Own.{next_mark};
+ghost use Rattle.std.specs.Prelude.{◌≡◌, ◌*◌, ◌+◌, ◌<◌, ◌≤◌, ◌^◌, IfErr, IfOk, IfSome, None, OnErr, OnOk, Some, false, is_none, true, Bool};
+ghost use Rattle.group_laws.specs.Groups.{stake};
+ghost use Rattle.group_notices.specs.Runs.{HasTold};
+ghost use Rattle.task_group.specs.Listeners.{Told};
+ghost use Rattle.task_loop.specs.Told.{RunTold, TurnTold, group_running, main_notices, turn_of};
+ghost use Rattle.task_machine.specs.Read.{thread_group};
 ghost use Rattle.task_ops.specs.Works.{NamesWorks};
+ghost use Rattle.task_rules.specs.Notices.{running_group};
 ghost use Rattle.task_rules.specs.Outcome.{outcome_of_label};
+ghost use Rattle.task_store.specs.Groups.{HoldsGroups};
+ghost use Rattle.label_laws.specs.Own.{next_mark};
 ghost use Rattle.task_loop.specs.Paces.{Paces};
 ghost use Rattle.task_loop.specs.Standing.{standing};
 ghost use Rattle.task_store.specs.Hosts.{HoldsHosts};
@@ -13,6 +20,7 @@ ghost use Rattle.task_turns.specs.Stepped.{Added, AddedOrNone, Stands};
 ghost use Rattle.task_turns.specs.Turn.{IsAtTurn, IsFree, IsSettled, Makes, PendsIn, Sits, Turned, Turns, given, goes_on, is_open, running_of, runs_in, setting_of, state_at};
 
 use crate::main_task::MainTask;
+use crate::tells::{group_of, tell_run, tell_work};
 use run_pace::Pace;
 use task_calls::TaskError;
 use task_machine::{Component, Mark, NoMemory, Outcome, Trap, Turn};
@@ -68,6 +76,7 @@ fn ask_main<T, H: HostWork, M: MainTask<T, H>>(
     requires suits { M.suits main.old component.now }
     requires knows { M.knows main.old store.old.state }
     requires hosts { HoldsHosts H.course store.old }
+    requires groups { HoldsGroups store.old.groups store.old.state.core }
     requires current { running_of store.old.state ≡ None }
     requires given { given store.old.state.core + 4 < 2 ^ 61 }
     ensures stands { standing store.new ≡ standing store.old }
@@ -76,6 +85,8 @@ fn ask_main<T, H: HostWork, M: MainTask<T, H>>(
     ensures knows { OnOk result (M.knows main.new store.new.state) }
     ensures hosts { OnOk result (HoldsHosts H.course store.new) }
     ensures current { OnOk result (running_of store.new.state ≡ running_of store.old.state) }
+    ensures groups { OnOk result (HoldsGroups store.new.groups store.new.state.core) }
+    ensures told { IfOk result (λ step. Told (main_notices step store.old.state.core store.new.state.core) store.old.groups.listeners store.new.groups.listeners) }
     ensures does { IfOk result (λ step. M.does main.old step main.new) }
     ensures ok { IfOk result (λ step. Steps component.now (M.script main.old) (M.part main.old) store.old.state.core step (M.part main.new) store.new.state.core) }
 {
@@ -95,6 +106,7 @@ fn step_main<T, H: HostWork, M: MainTask<T, H>>(
     requires suits { M.suits main.old component.now }
     requires knows { M.knows main.old store.old.state }
     requires hosts { HoldsHosts H.course store.old }
+    requires groups { HoldsGroups store.old.groups store.old.state.core }
     requires given { given store.old.state.core + 4 < 2 ^ 61 }
     ensures stands { standing store.new ≡ standing store.old }
     ensures script { M.script main.new ≡ M.script main.old }
@@ -103,6 +115,9 @@ fn step_main<T, H: HostWork, M: MainTask<T, H>>(
     ensures hosts { OnOk result (HoldsHosts H.course store.new) }
     ensures does { IfOk result (λ stepped. Added (λ made. DoesStep M.does main.old (step_shown made.label) main.new) stepped trace.old trace.new) }
     ensures turns { IfOk result (λ stepped. Added (λ made. (trap_on_idle : Bool) → Turns (setting_of component.now (M.script main.old) trap_on_idle) Turn.Main (M.part main.old) store.old.state made (M.part main.new) store.new.state) stepped trace.old trace.new) }
+    ensures groups { OnOk result (HoldsGroups store.new.groups store.new.state.core) }
+    ensures told { IfOk result (λ stepped. Added (λ made. (trap_on_idle : Bool) → TurnTold (setting_of component.now (M.script main.old) trap_on_idle) Turn.Main (M.part main.old) store.old.state store.old.groups (Some made) (M.part main.new) store.new.state store.new.groups) stepped trace.old trace.new) }
+    ensures idle { IfOk result (λ stepped. running_group store.new.state.core (turn_of stepped) ≡ None) }
     ensures err { OnErr result (trace.new ≡ trace.old) }
 {
     let Ok(step) = ask_main(component, store, main) else {
@@ -123,35 +138,77 @@ fn put_called(trace: &mut Trace, made: Made) -> Result<Stepped, NoMemory>
 }
 
 // The running thread, which has this number, takes a step. A host that it calls is polled, and its
-// work is held.
+// work is held. The group that the step may finish is asked, where that of the thread was.
 #[inline(always)]
-fn run_thread<T, H: AccessorTask<T> + FromHost>(
+fn step_thread<T, H: AccessorTask<T> + FromHost>(
     component: &Component,
     store: &mut Store<T, H>,
     thread: u64,
     trace: &mut Trace,
+    staked: &mut u64,
 ) -> Result<Stepped, NoMemory>
     requires covered { IsWellFormed component.now }
     requires order { Sits component.now (Turn.Run thread) store.old.state.core }
     requires current { running_of store.old.state ≡ Some thread }
     requires given { given store.old.state.core + 4 < 2 ^ 61 }
+    requires own { staked.old ≡ thread_group thread store.old.state.core }
     requires hosts { HoldsHosts H.course store.old }
     ensures stands { standing store.new ≡ standing store.old }
     ensures makes { IfOk result (λ stepped. Added (λ made. Makes component.now (Turn.Run thread) store.old.state made store.new.state × IsFree made.turn) stepped trace.old trace.new) }
     ensures works { OnOk result (NamesWorks store.old.state store.new.state) }
     ensures hosts { OnOk result (HoldsHosts H.course store.new) }
+    ensures staked { staked.new ≡ stake component.now thread store.old.state.core }
+    ensures groups { OnOk result (store.new.groups ≡ store.old.groups) }
     ensures err { OnErr result (trace.new ≡ trace.old) }
 {
-    let Ok(step) = step_run(component, &mut store.state, thread, trace) else {
-        return Err(NoMemory);
-    };
-    match step {
+    match step_run(component, &mut store.state, thread, trace, staked)? {
         RunStep::Shown(stepped) => Ok(stepped),
         RunStep::Called(ran) => {
             store.call_host(ran.polled, ran.work)?;
             put_called(trace, ran.made)
         }
     }
+}
+
+// The running thread, which has this number, takes a step. A host that it calls is polled, and its
+// work is held. The groups of the store are told what the step gave. `running` is the group of the thread that runs.
+#[inline(always)]
+fn run_thread<T, H: AccessorTask<T> + FromHost>(
+    component: &Component,
+    store: &mut Store<T, H>,
+    thread: u64,
+    trace: &mut Trace,
+    running: &mut u64,
+) -> Result<Stepped, NoMemory>
+    requires covered { IsWellFormed component.now }
+    requires order { Sits component.now (Turn.Run thread) store.old.state.core }
+    requires current { running_of store.old.state ≡ Some thread }
+    requires given { given store.old.state.core + 4 < 2 ^ 61 }
+    requires running { running.old ≡ thread_group thread store.old.state.core }
+    requires hosts { HoldsHosts H.course store.old }
+    requires groups { HoldsGroups store.old.groups store.old.state.core }
+    ensures stands { standing store.new ≡ standing store.old }
+    ensures makes { IfOk result (λ stepped. Added (λ made. Makes component.now (Turn.Run thread) store.old.state made store.new.state × IsFree made.turn) stepped trace.old trace.new) }
+    ensures works { OnOk result (NamesWorks store.old.state store.new.state) }
+    ensures hosts { OnOk result (HoldsHosts H.course store.new) }
+    ensures groups { OnOk result (HoldsGroups store.new.groups store.new.state.core) }
+    ensures running { IfOk result (λ stepped. running.new ≡ group_running store.new.state.core (turn_of stepped)) }
+    ensures told { IfOk result (λ stepped. Added (λ made. RunTold component.now thread store.old.state store.old.groups made store.new.state store.new.groups) stepped trace.old trace.new) }
+    ensures err { OnErr result (trace.new ≡ trace.old) }
+{
+    let live = store.state.groups();
+    let mut staked = *running;
+    let stepped = step_thread(component, store, thread, trace, &mut staked)?;
+    *running = tell_run(
+        &store.state,
+        &mut store.groups,
+        thread,
+        &stepped,
+        *running,
+        staked,
+        live,
+    );
+    Ok(stepped)
 }
 
 // The mark of the entry that is taken next in this turn.
@@ -173,7 +230,8 @@ impl RunConcurrent {
     /// of the component machine from the store before to the store after, and the outcome is what
     /// that run has come to. The labels of main among them are those of the steps that main did, in their order. Where
     /// memory is wanting, the store is trapped, and the labels that were added are those of such a run to a state that is
-    /// lost. Whether a run stands on the store, whether it is concurrent and its number stay.
+    /// lost. Whether a run stands on the store, whether it is concurrent and its number stay. The groups of the store are told
+    /// the notices of that run, in their order.
     ///
     /// It yields wherever `poll` does, and goes on. So entries that it took count for the next poll where it has come to
     /// idleness, since the last of these yields. None counts where its steps were used up, since it has yielded then, nor
@@ -197,6 +255,7 @@ impl RunConcurrent {
         requires suits { M.suits main.old component.now }
         requires knows { M.knows main.old store.old.state }
         requires hosts { HoldsHosts H.course store.old }
+        requires groups { HoldsGroups store.old.groups store.old.state.core }
         requires given { given store.old.state.core ≤ 2 ^ 60 }
         requires current { running_of store.old.state ≡ runs_in self.old.turn }
         requires unfinished { is_open self.old.turn ≡ true }
@@ -207,6 +266,8 @@ impl RunConcurrent {
         ensures knows { OnOk result (M.knows main.new store.new.state) }
         ensures hosts { OnOk result (HoldsHosts H.course store.new) }
         ensures idle { self.new.trap_on_idle ≡ self.old.trap_on_idle }
+        ensures groups { OnOk result (HoldsGroups store.new.groups store.new.state.core) }
+        ensures told { OnOk result (HasTold (setting_of component.now (M.script main.old) self.old.trap_on_idle) (state_at store.old.state.core (M.part main.old) self.old.turn) trace.old (state_at store.new.state.core (M.part main.new) self.new.turn) trace.new store.old.groups store.new.groups) }
         ensures stands { standing store.new ≡ standing store.old }
         ensures ok { IfOk result (λ outcome. Drives (setting_of component.now (M.script main.old) self.old.trap_on_idle) (state_at store.old.state.core (M.part main.old) self.old.turn) trace.old (state_at store.new.state.core (M.part main.new) self.new.turn) trace.new steps outcome) }
         ensures unfinished { IfOk result (λ outcome. is_open self.new.turn ≡ goes_on outcome) }
@@ -244,6 +305,7 @@ impl RunConcurrent {
         requires suits { M.suits main.old component.now }
         requires knows { M.knows main.old store.old.state }
         requires hosts { HoldsHosts H.course store.old }
+        requires groups { HoldsGroups store.old.groups store.old.state.core }
         requires given { given store.old.state.core ≤ 2 ^ 60 }
         requires pends { PendsIn (setting_of component.now (M.script main.old) self.old.trap_on_idle) store.old.state.core (M.part main.old) self.old.turn }
         ensures script { M.script main.new ≡ M.script main.old }
@@ -251,6 +313,8 @@ impl RunConcurrent {
         ensures knows { OnOk result (M.knows main.new store.new.state) }
         ensures hosts { OnOk result (HoldsHosts H.course store.new) }
         ensures idle { self.new.trap_on_idle ≡ self.old.trap_on_idle }
+        ensures groups { OnOk result (HoldsGroups store.new.groups store.new.state.core) }
+        ensures told { OnOk result (HasTold (setting_of component.now (M.script main.old) self.old.trap_on_idle) (state_at store.old.state.core (M.part main.old) self.old.turn) trace.old (state_at store.new.state.core (M.part main.new) self.new.turn) trace.new store.old.groups store.new.groups) }
         ensures stands { standing store.new ≡ standing store.old }
         ensures does { OnOk result (DoesAdded M.does main.old trace.old main.new trace.new) }
         ensures pace { IfOk result (λ outcome. Paces self.old.pace trace.old trace.new outcome self.new.pace) }
@@ -260,12 +324,10 @@ impl RunConcurrent {
     {
         let mut pace = self.pace;
         let mut added = 0;
+        let mut running = group_of(&store.state, self.turn).unwrap_or(0);
         'turns: while added < steps {
             let next = next_mark(store, self.turn);
-            let Ok(stepped) = self.turn(component, store, main, trace) else {
-                return Err(NoMemory);
-            };
-            match stepped {
+            match self.turn(component, store, main, trace, &mut running)? {
                 None => {
                     self.pace = pace.past(None);
                     return Ok(Outcome::Idle);
@@ -298,7 +360,8 @@ impl RunConcurrent {
         Ok(Outcome::OutOfSteps)
     }
 
-    // Makes a step, and adds its label to the trace; none where nothing can go on and that is no deadlock.
+    // Makes a step, adds its label to the trace, and tells the groups of the store what it gave; none where nothing can go on
+    // and that is no deadlock. `running` is the group of the thread that runs, 0 where none does.
     #[inline(always)]
     pub(crate) fn turn<T, H: AccessorTask<T> + FromHost, M: MainTask<T, H>>(
         &self,
@@ -306,12 +369,15 @@ impl RunConcurrent {
         store: &mut Store<T, H>,
         main: &mut M,
         trace: &mut Trace,
+        running: &mut u64,
     ) -> Result<Option<Stepped>, NoMemory>
         requires covered { IsWellFormed component.now }
         requires at { IsAtTurn component.now self.now.turn store.old.state }
         requires suits { M.suits main.old component.now }
         requires knows { M.knows main.old store.old.state }
         requires hosts { HoldsHosts H.course store.old }
+        requires groups { HoldsGroups store.old.groups store.old.state.core }
+        requires running { running.old ≡ group_running store.old.state.core self.now.turn }
         requires given { given store.old.state.core + 4 < 2 ^ 61 }
         requires pends { PendsIn (setting_of component.now (M.script main.old) self.now.trap_on_idle) store.old.state.core (M.part main.old) self.now.turn }
         ensures script { M.script main.new ≡ M.script main.old }
@@ -321,33 +387,41 @@ impl RunConcurrent {
         ensures stands { standing store.new ≡ standing store.old }
         ensures does { IfOk result (λ stepped. AddedOrNone (λ made. DoesStep M.does main.old (step_of made) main.new) stepped trace.old trace.new) }
         ensures turned { IfOk result (λ stepped. AddedOrNone (λ made. Turned (setting_of component.now (M.script main.old) self.now.trap_on_idle) self.now.turn (M.part main.old) store.old.state made (M.part main.new) store.new.state) stepped trace.old trace.new) }
+        ensures groups { OnOk result (HoldsGroups store.new.groups store.new.state.core) }
+        ensures running { IfOk result (λ stepped. IfSome stepped (λ stepped. running.new ≡ group_running store.new.state.core (turn_of stepped))) }
+        ensures told { IfOk result (λ stepped. AddedOrNone (λ made. TurnTold (setting_of component.now (M.script main.old) self.now.trap_on_idle) self.now.turn (M.part main.old) store.old.state store.old.groups made (M.part main.new) store.new.state store.new.groups) stepped trace.old trace.new) }
         ensures err { OnErr result (trace.new ≡ trace.old) }
     {
         match self.turn {
-            Turn::Main => {
-                let Ok(stepped) = step_main(component, store, main, trace) else {
-                    return Err(NoMemory);
-                };
-                Ok(Some(stepped))
-            }
+            Turn::Main => Ok(Some(step_main(component, store, main, trace)?)),
             Turn::Futures { polled } => {
-                let made = store.poll_next(polled);
-                let Ok(stepped) = put(trace, made) else {
-                    return Err(NoMemory);
-                };
+                let live = store.state.groups();
+                let mut worked = None;
+                let made = store.poll_next(polled, &mut worked);
+                let stepped = put(trace, made)?;
+                *running = tell_work(&store.state, &mut store.groups, &stepped, worked, live);
                 Ok(Some(stepped))
             }
-            Turn::Take { ended } => take(
-                component,
-                &mut store.state,
-                ended,
-                self.trap_on_idle,
-                trace,
-            ),
+            Turn::Take { ended } => {
+                let live = store.state.groups();
+                let mut worked = None;
+                let idle = self.trap_on_idle;
+                match take(component, &mut store.state, ended, idle, trace, &mut worked)? {
+                    None => Ok(None),
+                    Some(stepped) => {
+                        *running = tell_work(
+                            &store.state,
+                            &mut store.groups,
+                            &stepped,
+                            worked,
+                            live,
+                        );
+                        Ok(Some(stepped))
+                    }
+                }
+            }
             Turn::Run { thread } => {
-                let Ok(stepped) = run_thread(component, store, thread, trace) else {
-                    return Err(NoMemory);
-                };
+                let stepped = run_thread(component, store, thread, trace, running)?;
                 Ok(Some(stepped))
             }
             Turn::Over => unreachable!(),

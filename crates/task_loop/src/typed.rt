@@ -9,6 +9,7 @@ ghost use Rattle.task_machine.specs.declared.component.HostDef.{HostDef};
 ghost use Rattle.task_machine.specs.declared.records.Turn.{Turn};
 ghost use Rattle.task_rules.specs.MainOps.{start_refusal};
 ghost use Rattle.task_rules.specs.Scripts.{export_at};
+ghost use Rattle.task_store.specs.Groups.{HoldsGroups};
 ghost use Rattle.task_store.specs.Hosts.{HoldsHosts};
 ghost use Rattle.task_turns.specs.Turn.{Sits, given};
 ghost use Rattle.task_turns.specs.WellFormed.{IsWellFormed};
@@ -114,7 +115,8 @@ impl<P: Words, R: FromWord> TypedFunc<P, R> {
         ensures group { IfOk result (λ call. call.call.group ≡ store.old.state.core.made.groups + 1) }
         ensures order { (p : Turn) → Sits component.now p store.old.state.core → Sits component.now p store.new.state.core }
         ensures hosts { (course : H → HostDef) → HoldsHosts course store.old → HoldsHosts course store.new }
-        ensures rest { store.new ≡ record store.old { state = store.new.state } }
+        ensures groups { HoldsGroups store.old.groups store.old.state.core → HoldsGroups store.new.groups store.new.state.core }
+        ensures rest { store.new ≡ record store.old { state = store.new.state; groups = store.new.groups } }
     {
         let words = words_of(params);
         let count = P::COUNT as usize;
@@ -148,7 +150,8 @@ impl<P: Words, R: FromWord> TypedFunc<P, R> {
         ensures group { IfOk result (λ call. call.call.group ≡ store.old.state.core.made.groups + 1) }
         ensures order { (p : Turn) → Sits component.now p store.old.state.core → Sits component.now p store.new.state.core }
         ensures hosts { (course : H → HostDef) → HoldsHosts course store.old → HoldsHosts course store.new }
-        ensures rest { store.new ≡ record store.old { state = store.new.state } }
+        ensures groups { HoldsGroups store.old.groups store.old.state.core → HoldsGroups store.new.groups store.new.state.core }
+        ensures rest { store.new ≡ record store.old { state = store.new.state; groups = store.new.groups } }
     {
         self.start_with(component, store, &params)
     }
@@ -164,6 +167,7 @@ impl<P: Words, R: FromWord> TypedFunc<P, R> {
         ensures call { call.new ≡ call.old }
         ensures order { (c : Shape) → (p : Turn) → Sits c p store.old.state.core → Sits c p store.new.state.core }
         ensures hosts { (course : H → HostDef) → HoldsHosts course store.old → HoldsHosts course store.new }
+        ensures groups { HoldsGroups store.old.groups store.old.state.core → HoldsGroups store.new.groups store.new.state.core }
         ensures rest { store.new ≡ record store.old { state = store.new.state } }
     {
         match self.func.finish_call_concurrent(store, &mut call.call) {
@@ -205,6 +209,7 @@ fn finish<T, H, P: Words, R: FromWord>(
     ensures call { call.new ≡ call.old }
     ensures order { (c : Shape) → (p : Turn) → Sits c p store.old.state.core → Sits c p store.new.state.core }
     ensures hosts { (course : H → HostDef) → HoldsHosts course store.old → HoldsHosts course store.new }
+    ensures groups { HoldsGroups store.old.groups store.old.state.core → HoldsGroups store.new.groups store.new.state.core }
     ensures rest { store.new ≡ record store.old { state = store.new.state } }
 {
     match func.finish_call_concurrent(store, call) {
@@ -233,7 +238,8 @@ impl<P: Words, R: FromWord> TypedCallConcurrent<P, R> {
         ensures params { self.new.params ≡ self.old.params }
         ensures order { (p : Turn) → Sits component.now p store.old.state.core → Sits component.now p store.new.state.core }
         ensures hosts { (course : H → HostDef) → HoldsHosts course store.old → HoldsHosts course store.new }
-        ensures rest { store.new ≡ record store.old { state = store.new.state } }
+        ensures groups { HoldsGroups store.old.groups store.old.state.core → HoldsGroups store.new.groups store.new.state.core }
+        ensures rest { store.new ≡ record store.old { state = store.new.state; groups = store.new.groups } }
     {
         if let Some(call) = &mut self.call {
             return finish(&self.func, store, call);

@@ -1,5 +1,5 @@
 -- A driven script is a run of its scenario.
-use Rattle.std.proofs.Common.{◌≡◌, ℕ, List, [], refl, sym, subst}
+use Rattle.std.proofs.Common.{◌≡◌, ◌∙◌, ◌++◌, ◌-◌, ◌+◌, ◌*◌, ◌∷◌, ap, arith, ℕ, zero, suc, List, [], refl, sym, subst, take}
 use Rattle.std.specs.Prelude.{◌<◌, ◌≤◌, length}
 use Rattle.task_machine.specs.declared.label.Label.{Label}
 use Rattle.task_machine.specs.declared.outcome.Outcome.{Outcome}
@@ -7,12 +7,19 @@ use Rattle.task_machine.specs.declared.records.Turn.TheVariants as turn
 use Rattle.task_machine.specs.declared.scenario.ScenarioDef.{ScenarioDef}
 use Rattle.task_machine.specs.Core.{Core, State, Scripted, fresh}
 use Rattle.task_rules.specs.History.{history}
+use Rattle.group_notices.specs.Runs.{HasTold}
+use Rattle.task_group.specs.Groups.{Groups}
+use Rattle.task_group.specs.Listeners.{Listeners, Told, nobody}
+use Rattle.task_loop.proofs.ToldLemmas.{told_drives}
+use Rattle.task_rules.specs.Notices.{notices}
 use Rattle.task_rules.specs.Once.{EndsOnce, OneHolder}
 use Rattle.task_rules.specs.Outcome.{IsOutcome}
 use Rattle.task_rules.specs.Run.{Run, main_opening, opens}
 use Rattle.task_rules.specs.Stalled.{Setting, setting_of}
 use Rattle.task_turns.specs.Drive.{Drives}
 use Rattle.task_turns.specs.Turn.{state_at}
+use Rattle.task_machine.specs.declared.records.Notice.{Notice}
+use Rattle.task_run.proofs.RoomLemmas.{run_room}
 use Rattle.task_run.specs.Runnable.{IsRunnable}
 use Rattle.task_run.specs.Lower.{Reads}
 use Rattle.task_run.proofs.RunnableLemmas.{runnable_scenario}
@@ -31,21 +38,53 @@ pub record Keeps (x : ScenarioDef) : Type 0 where
   pub alone : (ls : List Label) (t : State) (run : Run (setting_of x) (opens x) ls t) → 0 < length x.component.instances →
       OneHolder (history (setting_of x) (opens x) ls t run)
 
-pub headline : (x : ScenarioDef) → Keeps x → (y : Setting) (s t : State) (before after : List Label) (steps : ℕ) (o : Outcome) (core : Core) →
-    y ≡ setting_of x → s ≡ opens x → before ≡ [] → core ≡ t.core → Drives y s before t after steps o → IsRunOf x steps after o core
-headline x keeps y s t before after steps o core setting start none image drives =
-    let one : Drives (setting_of x) s before t after steps o = subst (λ (y : Setting). Drives y s before t after steps o) setting drives in
-    let two : Drives (setting_of x) (opens x) before t after steps o = subst (λ (s : State). Drives (setting_of x) s before t after steps o) start one in
-    let three : Drives (setting_of x) (opens x) [] t after steps o = subst (λ (ls : List Label). Drives (setting_of x) (opens x) ls t after steps o) none two in
-    let run : Run (setting_of x) (opens x) after t = subst (λ (ls : List Label). Run (setting_of x) (opens x) ls t) (sym three.trace) three.run in
+take_whole : (ns : List Notice) (k : ℕ) → length ns ≤ k → take k ns ≡ ns
+take_whole [] zero few = refl
+take_whole [] (suc k) few = refl
+take_whole (n ∷ ns) zero few = absurd (omega (arith, few))
+take_whole (n ∷ ns) (suc k) few = ap (λ (ms : List Notice). n ∷ ms) (take_whole ns k (omega (arith, few)))
+
+abbrev told_of_run : (x : ScenarioDef) (ls : List Label) (t : State) → Run (setting_of x) (opens x) ls t → List Notice
+told_of_run x ls t run = notices (history (setting_of x) (opens x) ls t run)
+
+opens_groups : (x : ScenarioDef) → (opens x).core.groups ≡ []
+unfolding opens fresh
+opens_groups x = refl
+
+-- the room that a report takes is enough
+room_suffices : (x : ScenarioDef) (ls : List Label) (t : State) (run : Run (setting_of x) (opens x) ls t) (steps : ℕ) → length ls ≤ steps → length (told_of_run x ls t run) ≤ 2 * steps + 512
+room_suffices x ls t run steps few =
+    let all = run_room (setting_of x) (opens x) ls t run in
+    let none = ap (λ (gs : List ℕ). length gs) (opens_groups x) in
+    omega (arith, all, none, few)
+
+-- a run was driven, and its notices were told
+DrivesTold : (old new : Groups) (t : State) (after : List Label) (steps : ℕ) (o : Outcome) → Setting → State → List Label → Type 0
+DrivesTold old new t after steps o y s before =
+    (d : Drives y s before t after steps o) × Told (notices (history y s d.added t d.run)) old.listeners new.listeners
+
+pub headline : (x : ScenarioDef) → Keeps x → (y : Setting) (s t : State) (before after : List Label) (steps : ℕ) (o : Outcome) (core : Core) (old new : Groups) →
+    y ≡ setting_of x → s ≡ opens x → before ≡ [] → core ≡ t.core → old.listeners ≡ record nobody { room = 2 * steps + 512 } →
+    Drives y s before t after steps o → HasTold y s before t after old new → IsRunOf x steps after o core new.listeners.notices
+headline x keeps y s t before after steps o core old new setting start none image room drives told =
+    let zero : DrivesTold old new t after steps o y s before = told_drives y s before t after steps o old new told drives in
+    let one : DrivesTold old new t after steps o (setting_of x) s before = subst (λ (y : Setting). DrivesTold old new t after steps o y s before) setting zero in
+    let two : DrivesTold old new t after steps o (setting_of x) (opens x) before = subst (λ (s : State). DrivesTold old new t after steps o (setting_of x) s before) start one in
+    let three : DrivesTold old new t after steps o (setting_of x) (opens x) [] = subst (λ (ls : List Label). DrivesTold old new t after steps o (setting_of x) (opens x) ls) none two in
+    let d = three.0 in
+    let both : (run : Run (setting_of x) (opens x) after t) × Told (notices (history (setting_of x) (opens x) after t run)) old.listeners new.listeners =
+    subst (λ (ls : List Label). (run : Run (setting_of x) (opens x) ls t) × Told (notices (history (setting_of x) (opens x) ls t run)) old.listeners new.listeners) (sym d.trace) (d.run, three.1) in
+    let run = both.0 in
     record {
       last = t;
       run = run;
-      few = subst (λ (ls : List Label). length ls ≤ steps) (sym three.trace) three.few;
-      ends = subst (λ (ls : List Label). IsOutcome (setting_of x) t ls steps o) (sym three.trace) three.ends;
+      few = subst (λ (ls : List Label). length ls ≤ steps) (sym d.trace) d.few;
+      ends = subst (λ (ls : List Label). IsOutcome (setting_of x) t ls steps o) (sym d.trace) d.ends;
       image = image;
       once = keeps.once after t run;
       alone = keeps.alone after t run;
+      told = both.1.kept ∙ (ap (λ (l : Listeners). l.notices ++ take (l.room - length l.notices) (told_of_run x after t run)) room
+          ∙ take_whole (told_of_run x after t run) (2 * steps + 512) (room_suffices x after t run steps (subst (λ (ls : List Label). length ls ≤ steps) (sym d.trace) d.few)));
     }
 
 -- a run has what it needs of a scenario that a text stands for

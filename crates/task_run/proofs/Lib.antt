@@ -7,3 +7,4 @@ pub mod HeadlineLemmas
 pub mod OnceLemmas
 pub mod ToolLemmas
 pub mod SpawnLemmas
+pub mod RoomLemmas

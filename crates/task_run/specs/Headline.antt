@@ -2,10 +2,12 @@
 use Rattle.std.specs.Prelude.{◌≡◌, ◌<◌, ℕ, ◌≤◌, List, false, length, map, true}
 use Rattle.task_machine.specs.declared.label.Label.{Label}
 use Rattle.task_machine.specs.declared.outcome.Outcome.{Outcome}
+use Rattle.task_machine.specs.declared.records.Notice.{Notice}
 use Rattle.task_machine.specs.declared.scenario.NamesDef.{NamesDef}
 use Rattle.task_machine.specs.declared.scenario.ScenarioDef.{ScenarioDef}
 use Rattle.task_machine.specs.Core.{Core, State}
 use Rattle.task_rules.specs.History.{history}
+use Rattle.task_rules.specs.Notices.{notices}
 use Rattle.task_rules.specs.Once.{EndsOnce, OneHolder}
 use Rattle.task_rules.specs.Outcome.{IsOutcome}
 use Rattle.task_rules.specs.Run.{Run, opens}
@@ -32,8 +34,9 @@ machine_scenario x = record {
 }
 
 -- Some run of the scenario with at most so many steps shows these labels, has come to this, and its last state has this core. It hands out
--- each end once, and one holding entry of an instance runs at a time; without an instance there is no entry.
-pub record IsRunOf (x : ScenarioDef) (steps : ℕ) (trace : List Label) (outcome : Outcome) (core : Core) : Type 0 where
+-- each end once, and one holding entry of an instance runs at a time; without an instance there is no entry. The groups are its
+-- notices.
+pub record IsRunOf (x : ScenarioDef) (steps : ℕ) (trace : List Label) (outcome : Outcome) (core : Core) (groups : List Notice) : Type 0 where
   pub last : State
   pub run : Run (setting_of x) (opens x) trace last
   pub few : length trace ≤ steps
@@ -41,11 +44,12 @@ pub record IsRunOf (x : ScenarioDef) (steps : ℕ) (trace : List Label) (outcome
   pub image : core ≡ last.core
   pub once : EndsOnce x.component (history (setting_of x) (opens x) trace last run)
   pub alone : 0 < length x.component.instances → OneHolder (history (setting_of x) (opens x) trace last run)
+  pub told : groups ≡ notices (history (setting_of x) (opens x) trace last run)
 
 -- The report is of a run of the scenario that the text stands for. Its store is concurrent, and no run stands on it.
 pub record IsReportOf (text : List ℕ) (steps : ℕ) (r : Report) : Type 0 where
   pub scenario : Scenario
   pub reads : Reads text scenario
-  pub run : IsRunOf (machine_scenario scenario) steps r.trace r.outcome r.store.state.core
+  pub run : IsRunOf (machine_scenario scenario) steps r.trace r.outcome r.store.state.core r.groups.items
   pub free : r.store.running ≡ false
   pub concurrent : r.store.concurrent ≡ true

@@ -1,4 +1,9 @@
-ghost use Rattle.std.specs.Prelude.{◌≡◌, ◌+◌, ◌<◌, ◌^◌, ◌-◌, ◌++◌, ◌∷◌, [], length, option_copied, IfOk, IfErr, IfSome, IsSome, None, OnOk, OnErr, Some, slice_get, slice_set};
+ghost use Rattle.group_laws.specs.Tells.{is_start};
+ghost use Rattle.task_group.specs.Listeners.{Told};
+ghost use Rattle.task_loop.specs.Told.{main_notices};
+ghost use Rattle.task_store.specs.Groups.{HoldsGroups};
+ghost use Rattle.task_turns.specs.Does.{label_of_step};
+ghost use Rattle.std.specs.Prelude.{◌≡◌, ◌+◌, ◌<◌, ◌^◌, ◌-◌, ◌++◌, ◌∷◌, [], length, option_copied, IfOk, IfErr, IfSome, IsSome, None, OnOk, OnErr, Some, slice_get, slice_set, false};
 ghost use Rattle.task_machine.specs.declared.component.ExportDef.{ExportDef};
 ghost use Rattle.task_rules.specs.MainOps.{is_complete, is_ready_for_call, main_aborted, spawned_at, started_at};
 ghost use Rattle.task_rules.specs.Run.{main_opening};
@@ -181,6 +186,7 @@ fn make_start<T, H: HostWork>(
     requires hosts { HoldsHosts H.course access.old.store.now }
     requires op { slice_get main.old.ops.now main.old.at ≡ Some (main_op.Start func params.now) }
     requires there { (e : ExportDef) × ((export_at component.now (callee_of func) ≡ Some e) × (length params.now ≡ e.params)) }
+    requires groups { HoldsGroups access.old.store.now.groups access.old.store.now.state.core }
     ensures same { access.new.store.ghost_name ≡ access.old.store.ghost_name }
     ensures stands { standing access.new.store.now ≡ standing access.old.store.now }
     ensures ops { main.new.ops ≡ main.old.ops }
@@ -188,6 +194,8 @@ fn make_start<T, H: HostWork>(
     ensures current { OnOk result (running_of access.new.store.now.state ≡ running_of access.old.store.now.state) }
     ensures hosts { OnOk result (HoldsHosts H.course access.new.store.now) }
     ensures names { KeepsWorks access.old.store.now.state access.new.store.now.state }
+    ensures groups { OnOk result (HoldsGroups access.new.store.now.groups access.new.store.now.state.core) }
+    ensures told { IfOk result (λ step. Told (main_notices step access.old.store.now.state.core access.new.store.now.state.core) access.old.store.now.groups.listeners access.new.store.now.groups.listeners) }
     ensures ok { IfOk result (λ step. Steps component.now (script_of main.old) (part_of main.old) access.old.store.now.state.core step (part_of main.new) access.new.store.now.state.core) }
     ensures err { IfErr result (λ e. e ≡ task_error.NoMemory) }
 {
@@ -228,6 +236,8 @@ fn finish_call<T, H: HostWork>(
     ensures current { OnOk result (running_of access.new.store.now.state ≡ running_of access.old.store.now.state) }
     ensures hosts { OnOk result (HoldsHosts H.course access.new.store.now) }
     ensures names { KeepsWorks access.old.store.now.state access.new.store.now.state }
+    ensures groups { access.new.store.now.groups ≡ access.old.store.now.groups }
+    ensures unstarted { IfOk result (λ step. is_start (label_of_step step) ≡ false) }
     ensures ok { IfOk result (λ step. Steps component.now (script_of main.old) (part_of main.old) access.old.store.now.state.core step (part_of main.new) access.new.store.now.state.core) }
     ensures err { IfErr result (λ e. e ≡ task_error.NoMemory) }
 {
@@ -276,6 +286,8 @@ fn spawn_work<T, H: AccessorTask<T> + FromHost>(
     ensures current { OnOk result (access.new.store.now.state.current ≡ access.old.store.now.state.current) }
     ensures knows { OnOk result (KnowsSpawns main.new access.new.store.now.state) }
     ensures hosts { OnOk result (HoldsHosts H.course access.new.store.now) }
+    ensures groups { access.new.store.now.groups ≡ access.old.store.now.groups }
+    ensures unstarted { IfOk result (λ step. is_start (label_of_step step) ≡ false) }
     ensures ok { IfOk result (λ step. Steps component.now (script_of main.old) (part_of main.old) access.old.store.now.state.core step (part_of main.new) access.new.store.now.state.core) }
     ensures err { IfErr result (λ e. e ≡ task_error.NoMemory) }
 {
@@ -325,6 +337,8 @@ fn abort_work<T, H: HostWork>(
     ensures current { running_of access.new.store.now.state ≡ running_of access.old.store.now.state }
     ensures hosts { HoldsHosts H.course access.new.store.now }
     ensures names { KeepsWorks access.old.store.now.state access.new.store.now.state }
+    ensures groups { access.new.store.now.groups ≡ access.old.store.now.groups }
+    ensures unstarted { is_start (label_of_step result) ≡ false }
     ensures ok { Steps component.now (script_of main.old) (part_of main.old) access.old.store.now.state.core result (part_of main.new) access.new.store.now.state.core }
 {
     let _component = component;
@@ -359,6 +373,7 @@ fn await_work<T, H>(
     requires knows { KnowsSpawns main.old access.now.store.now.state }
     ensures ops { main.new.ops ≡ main.old.ops }
     ensures spawns { main.new.spawns ≡ main.old.spawns }
+    ensures unstarted { is_start (label_of_step result) ≡ false }
     ensures ok { Steps component.now (script_of main.old) (part_of main.old) access.now.store.now.state.core result (part_of main.new) access.now.store.now.state.core }
 {
     let _component = component;
@@ -381,6 +396,7 @@ fn await_quiet<T, H>(
     requires op { slice_get main.old.ops.now main.old.at ≡ Some main_op.Quiet }
     ensures ops { main.new.ops ≡ main.old.ops }
     ensures spawns { main.new.spawns ≡ main.old.spawns }
+    ensures unstarted { is_start (label_of_step result) ≡ false }
     ensures ok { Steps component.now (script_of main.old) (part_of main.old) access.now.store.now.state.core result (part_of main.new) access.now.store.now.state.core }
 {
     let _component = component;
@@ -411,6 +427,7 @@ fn await_ready<T, H>(
     requires op { slice_get main.old.ops.now main.old.at ≡ Some (main_op.Ready func) }
     ensures ops { main.new.ops ≡ main.old.ops }
     ensures spawns { main.new.spawns ≡ main.old.spawns }
+    ensures unstarted { is_start (label_of_step result) ≡ false }
     ensures ok { Steps component.now (script_of main.old) (part_of main.old) access.now.store.now.state.core result (part_of main.new) access.now.store.now.state.core }
 {
     let _component = component;

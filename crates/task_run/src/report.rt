@@ -1,6 +1,8 @@
-ghost use Rattle.std.specs.Prelude.{◌≡◌, ◌<◌, ◌≤◌, ◌++◌, ℕ, false, length, true, IfOk, IsOk, IsErrOf, IsOkUnless, OnOk};
+ghost use Rattle.std.specs.Prelude.{◌≡◌, ◌<◌, ◌≤◌, ◌++◌, [], ℕ, false, length, true, IfOk, IsOk, IsErrOf, IsOkUnless, OnOk};
+ghost use Rattle.group_notices.specs.Mirror.{Mirrors};
 ghost use Rattle.host_works.specs.Kept.{HoldsNone};
 ghost use Rattle.scenario_text.specs.Grammar.{IsBadLine};
+ghost use Rattle.task_group.specs.Listeners.{nobody};
 ghost use Rattle.task_machine.specs.Core.{fresh};
 ghost use Rattle.task_records.specs.Seen.{nothing};
 ghost use Rattle.task_turns.specs.Turn.{idle_line_of};
@@ -17,7 +19,7 @@ use crate::scenario::Scenario;
 use report_text::Page;
 use scenario_reader::RunError;
 use std::alloc::{AllocError, Global};
-use task_loop::{Outcome, Trace, run_concurrent};
+use task_loop::{Notice, Outcome, Trace, run_concurrent};
 use task_machine::{IdleLine, NoMemory};
 use task_store::{ScriptedHost, Store};
 
@@ -26,6 +28,8 @@ use task_store::{ScriptedHost, Store};
 pub struct Report {
     pub trace: Trace,
     pub outcome: Outcome,
+    /// What the groups were told, in order.
+    pub groups: Vec<Notice>,
     pub store: Store<(), ScriptedHost>,
 }
 
@@ -42,6 +46,8 @@ fn new_store(
     ensures free { IfOk result (λ s. s.running ≡ false) }
     ensures concurrent { IfOk result (λ s. s.concurrent ≡ true) }
     ensures works { IfOk result (λ s. HoldsNone s.works) }
+    ensures groups { IfOk result (λ s. (s.groups.made ≡ 0) × (s.groups.listeners ≡ nobody)) }
+    ensures mirror { IfOk result (λ s. Mirrors [] s.groups) }
 {
     let mut store = Store::new(alloc, (), true, 1);
     store.set_table_capacity(table as usize);
@@ -67,7 +73,7 @@ fn traps_on_idle(idle: IdleLine) -> bool
 // Runs a scenario in a new store.
 fn run(alloc: Global, scenario: &Scenario, steps: u32) -> Result<Report, NoMemory>
     requires { IsRunnable scenario.now }
-    ensures ran { IfOk result (λ r. IsRunOf (machine_scenario scenario.now) steps r.trace r.outcome r.store.state.core) }
+    ensures ran { IfOk result (λ r. IsRunOf (machine_scenario scenario.now) steps r.trace r.outcome r.store.state.core r.groups.items) }
     ensures free { IfOk result (λ r. r.store.running ≡ false) }
     ensures concurrent { IfOk result (λ r. r.store.concurrent ≡ true) }
 {
@@ -77,6 +83,7 @@ fn run(alloc: Global, scenario: &Scenario, steps: u32) -> Result<Report, NoMemor
         scenario.handles,
         scenario.table,
     )?;
+    store.keep_notices(2 * (steps as usize) + 512)?;
     let Ok(mut run) = run_concurrent(&mut store, traps_on_idle(scenario.idle)) else {
         unreachable!()
     };
@@ -93,18 +100,23 @@ fn run(alloc: Global, scenario: &Scenario, steps: u32) -> Result<Report, NoMemor
         return Err(NoMemory);
     };
     run.end(&mut store);
+    let mut groups = Vec::new(alloc);
+    let Ok(()) = groups.extend_from_slice(store.notices()) else {
+        return Err(NoMemory);
+    };
     Ok(Report {
         trace,
         outcome,
+        groups,
         store,
     })
 }
 
 /// Runs the scenario of a text of at most 1,048,576 bytes for at most `steps` steps, 1 to
 /// 1,000,000. The report's labels are those of a run of the component machine from the scenario's
-/// opening state, its outcome is what that run has come to, and its store, which is concurrent and on
-/// which no run stands, has the run's last state as its image. A text that is no scenario is refused at
-/// its first bad line.
+/// opening state, its outcome is what that run has come to, its groups are the notices of that run, and its store, which is
+/// concurrent and on which no run stands, has the run's last state as its image. A text that is no scenario is refused at its
+/// first bad line.
 pub fn run_scenario(alloc: Global, text: &[u8], steps: u32) -> Result<Report, RunError>
     requires text { length text.now ≤ 1048576 }
     requires some { 0 < steps }

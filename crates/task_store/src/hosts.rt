@@ -1,4 +1,5 @@
 //! The host works of a store: those of guests' calls, and those that a host spawns.
+ghost use Rattle.group_laws.specs.Tells.{worked_group};
 ghost use Rattle.std.specs.Prelude.{◌||◌, ◌==◌, ◌≡◌, ◌<◌, ◌^◌, ℕ, IfErr, IfOk, IfSome, IsSome, None, OnErr, OnOk, Some, cond, is_some, option_map, true};
 ghost use Rattle.task_laws.specs.Order.{WorksQueued};
 ghost use Rattle.task_machine.specs.Core.{Main};
@@ -97,13 +98,14 @@ impl<T, H: AccessorTask<T>> Store<T, H> {
         told_of(self.works.poll(number, &mut self.value))
     }
 
-    /// Polls the live work that is next, past those with numbers up to `polled`.
-    pub fn poll_next(&mut self, polled: u64) -> Made
+    /// Polls the live work that is next, past those with numbers up to `polled`. Its group is asked.
+    pub fn poll_next(&mut self, polled: u64, worked: &mut Option<u64>) -> Made
         requires placed { Placed self.old.state.core }
         requires works { WorksQueued self.old.state.core }
         requires current { self.old.state.current ≡ None }
         requires settled { IsSettled self.old.state.core (Turn.Futures polled) }
         requires hosts { HoldsHosts H.course self.old }
+        ensures worked { worked.new ≡ worked_group self.old.state.core (Turn.Futures polled) }
         ensures turns { (x : Setting) → (m : Main) → PendsIn x self.old.state.core m (Turn.Futures polled) → Turns x (Turn.Futures polled) m self.old.state result m self.new.state }
         ensures works { KeepsWorks self.old.state self.new.state }
         ensures hosts { HoldsHosts H.course self.new }
@@ -112,6 +114,7 @@ impl<T, H: AccessorTask<T>> Store<T, H> {
         let Some(work) = self.state.next_polled(polled) else {
             unreachable!()
         };
+        *worked = self.state.work_group(work);
         let number = self.state.work_number(work);
         let told = self.tell(work, number);
         poll(&mut self.state, work, number, polled, told)

@@ -1,5 +1,6 @@
 ghost use Rattle.std.specs.Prelude.{[], ◌≡◌, ◌+◌, ◌-◌, ◌<◌, ◌≤◌, ◌^◌, ◌↔◌, cond, false, min, true, IfErr, IfOk, IfSome, IsSome, OnErr, OnOk};
 ghost use Rattle.std.specs.Borrow.{sem};
+ghost use Rattle.group_notices.specs.Mirror.{Mirrors};
 ghost use Rattle.host_works.specs.Kept.{HoldsNone};
 ghost use Rattle.make_words.specs.Instances.{with_instance};
 ghost use Rattle.count_words.specs.Limits.{with_capacity, with_handle_limit};
@@ -9,12 +10,15 @@ ghost use Rattle.task_machine.specs.Write.{set_trapped};
 ghost use Rattle.task_records.specs.Seen.{nothing};
 ghost use Rattle.task_store.specs.Lending.{LendsValue};
 ghost use Rattle.task_turns.specs.Turn.{given};
+ghost use Rattle.task_group.specs.Groups.{finish_all};
+ghost use Rattle.task_group.specs.Listeners.{Told, nobody};
 ghost use Rattle.task_words.specs.StateView.{on_core};
 
 use crate::scopes::ComponentTasksNotConcurrent;
 use host_works::HostWorks;
 use record_core::TaskCore;
 use std::alloc::Global;
+use task_group::{Groups, Notice};
 use task_machine::{NoMemory, Trap};
 use task_words::ResultWords;
 
@@ -46,6 +50,8 @@ pub struct Store<T, H> {
     pub scopes: ComponentTasksNotConcurrent,
     /// The calls and threads of the store.
     pub state: TaskCore,
+    /// The groups of the core, and who is told of them.
+    pub groups: Groups,
     // The host works that haven't ended.
     pub(crate) works: HostWorks<H>,
     // Whether a run stands on the store.
@@ -62,6 +68,7 @@ impl<T: Drop, H: Drop> Drop for Store<T, H> {
             fuel: _,
             scopes: _,
             state: _,
+            groups: _,
             works: _,
             running: _,
         } = self;
@@ -78,6 +85,8 @@ impl<T, H> Store<T, H> {
         ensures fuel { result.fuel ≡ 134217728 }
         ensures scopes { result.scopes ≡ [] }
         ensures state { result.state ≡ nothing }
+        ensures groups { (result.groups.made ≡ 0) × (result.groups.listeners ≡ nobody) }
+        ensures mirror { Mirrors [] result.groups }
         ensures works { HoldsNone result.works }
         ensures running { result.running ≡ false }
     {
@@ -88,6 +97,7 @@ impl<T, H> Store<T, H> {
             fuel: 134217728,
             scopes: ComponentTasksNotConcurrent::new(alloc),
             state: TaskCore::new(alloc),
+            groups: Groups::new(alloc),
             works: HostWorks::new(alloc),
             running: false,
         }
@@ -189,11 +199,34 @@ impl<T, H> Store<T, H> {
         self.state.trapped()
     }
 
-    /// Traps the store, and finishes all groups.
+    /// Traps the store, and finishes all groups, which is told in order of number. No group is live then.
     pub fn set_trapped(&mut self)
-        ensures { self.new ≡ record self.old { state = on_core set_trapped self.old.state } }
+        ensures rest { self.new ≡ record self.old { state = on_core set_trapped self.old.state; groups = self.new.groups } }
+        ensures told { Told (finish_all self.old.groups.live) self.old.groups.listeners self.new.groups.listeners }
+        ensures made { self.new.groups.made ≡ self.old.groups.made }
+        ensures mirror { Mirrors [] self.new.groups }
     {
         self.state.set_trapped();
+        self.groups.clean_up(None);
+    }
+
+    /// Before the first group: from now on each notice of a group is kept, until `room` of them are. Where memory is
+    /// wanting, the store is as before.
+    pub fn keep_notices(&mut self, room: usize) -> Result<(), NoMemory>
+        requires concurrent { self.old.concurrent ≡ true }
+        requires first { self.old.groups.made ≡ 0 }
+        ensures ok { OnOk result (self.new ≡ record self.old { groups = record self.old.groups { listeners = record self.old.groups.listeners { room = room } } }) }
+        ensures err { OnErr result (self.new ≡ self.old) }
+    {
+        self.groups.keep_notices(room)
+    }
+
+    /// The notices that were kept, in the order in which they were told.
+    pub fn notices(&self) -> &[Notice]
+        requires { self.now.concurrent ≡ true }
+        ensures { result.now ≡ self.now.groups.listeners.notices }
+    {
+        self.groups.notices()
     }
 
     /// Whether a run stands on the store.

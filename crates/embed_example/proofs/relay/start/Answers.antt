@@ -1,4 +1,14 @@
 -- What came of the start is an op of main.
+use Rattle.std.specs.Prelude.{List, ℕ}
+use Rattle.task_group.specs.Listeners.{Told}
+use Rattle.task_loop.proofs.MainToldLemmas.{refused_notices, started_notices}
+use Rattle.task_loop.specs.Told.{main_notices}
+use Rattle.task_machine.specs.declared.label.Label.TheVariants as label
+use Rattle.task_machine.specs.declared.label.MainLabel.TheVariants as main_label
+use Rattle.task_machine.specs.declared.records.Notice.{Notice}
+use Rattle.task_machine.specs.declared.records.NoticeKind.TheVariants as notice
+use Rattle.task_rules.specs.Notices.{told_of}
+use Rattle.task_turns.specs.declared.mains.MainStep.TheVariants as step
 use Rattle.std.specs.Prelude.{Err, Ok, [], ◌∷◌}
 use Rattle.std.proofs.Common.{subst, sym, ◌∙◌}
 use Rattle.task_calls.specs.Calls.{Starts}
@@ -30,3 +40,21 @@ pub returns-in-Err-Trap-clause-current : goal.returns-in-Err-Trap-clause-current
 returns-in-Err-Trap-clause-current c =
     let before = c.args.access.now.store.now.state in
     start_current c.args.component.now (callee_of c.args.func) (c.args.relay.now.word ∷ []) before c.start_call_concurrent.new.store.state (start_refusal before.core) _ c.requires.current c.in-Err-Trap.ensures.starts ∙ sym c.requires.current
+
+pub returns-in-Ok-clause-told : goal.returns-in-Ok-clause-told
+returns-in-Ok-clause-told c =
+    let s = c.args.access.now.store.now in
+    let t = c.start_call_concurrent.new.store in
+    let started = started_notices c.args.component.now (callee_of c.args.func) (c.args.relay.now.word ∷ []) s.state t.state c.saturating_add-number.result (start_refusal s.state.core) c.in-Ok.call.thread c.in-Ok.ensures.starts in
+    subst (λ (n : ℕ). Told (main_notices (step.Did (label.Main (main_label.Start c.saturating_add-number.result n))) s.state.core t.state.core) s.groups.listeners t.groups.listeners) (sym c.thread-thread.ensures)
+    (subst (λ (ns : List Notice). Told ns s.groups.listeners t.groups.listeners) started
+    (subst (λ (g : ℕ). Told (told_of notice.Start g ∷ []) s.groups.listeners t.groups.listeners) c.in-Ok.ensures.group (c.in-Ok.ensures.told c.requires.groups)))
+
+pub returns-in-Err-Trap-clause-told : goal.returns-in-Err-Trap-clause-told
+returns-in-Err-Trap-clause-told c =
+    let s = c.args.access.now.store.now in
+    let t = c.start_call_concurrent.new.store in
+    let starts = subst (λ (e : TaskError). Starts c.args.component.now (callee_of c.args.func) (c.args.relay.now.word ∷ []) s.state (start_refusal s.state.core) (Err e) t.state) c.in-Err-Trap.field-0-is c.in-Err-Trap.ensures.starts in
+    subst (λ (ns : List Notice). Told ns s.groups.listeners t.groups.listeners)
+    (refused_notices c.args.component.now (callee_of c.args.func) (c.args.relay.now.word ∷ []) s.state t.state c.saturating_add-number.result (start_refusal s.state.core) c.in-Err-Trap.trap starts s.groups c.requires.groups.mirror)
+    c.in-Err-Trap.ensures.refused

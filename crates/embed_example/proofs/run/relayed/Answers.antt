@@ -39,3 +39,6 @@ returns-clause-ran c = (
       ∙ rw (c.run_concurrent.ensures.store, c.in_ok-store.ensures.state) refl)
       c.new-trace.ensures c.in_ok-outcome.ensures.ok,
 )
+
+pub drive-requires-clause-groups : goal.drive-requires-clause-groups
+drive-requires-clause-groups c = rw c.run_concurrent.ensures.store c.in_ok-store.ensures.groups

@@ -10,7 +10,7 @@ returns-clause-told g c =
     let one : (gs : List ℕ) → Mirrors gs c.args.groups.now → Mirrors gs c.switch.new.groups = λ gs m. mirror_same gs c.args.groups.now c.switch.new.groups c.switch.ensures.live.0 m in
     let two : (gs : List ℕ) → Mirrors gs c.args.groups.now → Mirrors gs c.work.new.groups = λ gs m. mirror_same gs c.switch.new.groups c.work.new.groups c.work.ensures.live.0 (one gs m) in
     on_ok_weaker c.finish.result
-    (λ last gs hs m q. step_told c.args.asked c.args.running gs hs c.args.groups.now.listeners c.switch.new.groups.listeners c.work.new.groups.listeners c.finish.new.groups.listeners
+    (λ last gs hs m q. step_told c.args.asked.now c.args.running gs hs c.args.groups.now.listeners c.switch.new.groups.listeners c.work.new.groups.listeners c.finish.new.groups.listeners
     (c.in_ok-switch.ensures.told gs m) (c.in_ok-work.ensures.told gs (one gs m)) (last gs hs (two gs m) q))
     c.finish.ensures.told
 

@@ -16,3 +16,6 @@ returns-clause-given g c = let more = begun_given _ _ _ _ _ _ _ c.in-Ok.ensures.
 
 pub returns-clause-current : goal.returns-clause-current
 returns-clause-current g c = start_current _ _ _ _ _ _ _ c.requires.current c.in-Ok.ensures.starts
+
+pub returns-clause-groups : goal.returns-clause-groups
+returns-clause-groups g c = c.start_call_concurrent.ensures.groups c.requires.groups

@@ -16,3 +16,6 @@ drive-driven-requires-clause-knows g c = c.new-main.ensures.knows c.run_concurre
 pub drive-driven-requires-clause-hosts : goal.drive-driven-requires-clause-hosts
 drive-driven-requires-clause-hosts g c =
     new_holds _ c.run_concurrent.new.store 1 100000 1000000 (rw c.run_concurrent.ensures.store c.requires.works) (rw (c.run_concurrent.ensures.store, c.requires.fresh) refl)
+
+pub drive-driven-requires-clause-groups : goal.drive-driven-requires-clause-groups
+drive-driven-requires-clause-groups g c = rw c.run_concurrent.ensures.store c.requires.groups

@@ -33,3 +33,6 @@ returns-clause-given g c =
 
 pub returns-clause-hosts : goal.returns-clause-hosts
 returns-clause-hosts g c = rw c.end.ensures (rw c.in-Ok-OutOfSteps.is at c.drive-driven.ensures.hosts)
+
+pub drive-driven-requires-clause-groups : goal.drive-driven-requires-clause-groups
+drive-driven-requires-clause-groups g c = rw c.run_concurrent.ensures.store c.requires.groups

@@ -16,5 +16,6 @@ calls-preserved g c =
       given = omega (arith, more, so_far);
       current = start_current _ _ _ _ _ _ _ c.calls.invariant.current c.in-Ok.ensures.starts;
       hosts = c.start_call_concurrent.ensures.hosts _ c.calls.invariant.hosts;
+      groups = c.start_call_concurrent.ensures.groups c.calls.invariant.groups;
       few = omega arith;
     }

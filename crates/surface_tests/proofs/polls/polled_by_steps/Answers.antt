@@ -16,6 +16,7 @@ polls-preserved g c =
       suits = rw c.in-Ok-Yielded.is at c.poll.ensures.suits;
       knows = rw c.in-Ok-Yielded.is at c.poll.ensures.knows;
       hosts = rw c.in-Ok-Yielded.is at c.poll.ensures.hosts;
+      groups = rw c.in-Ok-Yielded.is at c.poll.ensures.groups;
       given = omega (arith, few, so_far);
       current = polled.running;
       unfinished = polled.unfinished ∙ ap (λ (q : RunPoll). may_poll (Ok q)) c.in-Ok-Yielded.field-0-is;

@@ -1,6 +1,7 @@
 -- The run goes on.
 use Rattle.std.proofs.Common.{◌*◌, ◌-◌, ◌≡◌, ◌≤◌}
 use Rattle.std.specs.Prelude.{true}
+use Rattle.task_store.specs.Groups.{HoldsGroups}
 use Rattle.task_store.specs.Hosts.{HoldsHosts}
 use Rattle.task_turns.specs.Turn.{IsSettled, PendsIn, Sits, given, is_open, running_of, runs_in, setting_of}
 use Rattle.surface_tests.proofs.polls.polled_by_steps.Given as goal
@@ -11,6 +12,7 @@ invariant-polls g l = record {
   suits : g.M.MainTask.suits l.main l.component;
   knows : g.M.MainTask.knows l.main l.store.state;
   hosts : HoldsHosts g.H.HostWork.course l.store;
+  groups : HoldsGroups l.store.groups l.store.state.core;
   given : given l.store.state.core ≤ 2 * l.yields;
   current : running_of l.store.state ≡ runs_in l.run.turn;
   unfinished : is_open l.run.turn ≡ true;

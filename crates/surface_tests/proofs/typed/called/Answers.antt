@@ -22,3 +22,6 @@ pub returns-clause-hosts : goal.returns-clause-hosts
 returns-clause-hosts g c =
     rw c.start_call_concurrent.ensures.rest
     (start_holds _ _ _ _ c.args.store.now.state c.start_call_concurrent.new.store.state _ _ (started_as _ _ _ _ _ _ _ c.in-Ok.ensures.starts) c.requires.hosts)
+
+pub returns-clause-groups : goal.returns-clause-groups
+returns-clause-groups g c = c.start_call_concurrent.ensures.groups c.requires.groups

@@ -9,3 +9,6 @@ step-requires-clause-current g c = rw c.new-access.ensures c.requires.current
 
 pub step-requires-clause-hosts : goal.step-requires-clause-hosts
 step-requires-clause-hosts g c = rw c.new-access.ensures c.requires.hosts
+
+pub step-requires-clause-groups : goal.step-requires-clause-groups
+step-requires-clause-groups g c = rw c.new-access.ensures c.requires.groups

@@ -1,12 +1,18 @@
 -- What main did makes the step that is shown.
 use Rattle.task_loop.proofs.run.step_main.Goals as goal
 use Rattle.op_dispatch.proofs.StayLemmas.{ok_then}
-use Rattle.std.specs.Prelude.{Bool, true}
+use Rattle.std.proofs.Common.{ap, subst, sym, ◌∙◌, ◌≡◌}
+use Rattle.std.specs.Prelude.{Bool, List, None, Some, true}
+use Rattle.task_group.specs.Listeners.{Told}
+use Rattle.task_loop.proofs.ToldLemmas.{idle_at, main_moment, stands_turn}
+use Rattle.task_loop.specs.Told.{TurnTold, turn_of}
+use Rattle.task_machine.specs.declared.records.Notice.{Notice}
+use Rattle.task_rules.specs.Notices.{running_group}
 use Rattle.task_machine.specs.declared.records.Turn.TheVariants as turn
 use Rattle.task_turns.proofs.DoesLemmas.{step_in, steps_shown}
 use Rattle.task_turns.specs.Does.{DoesStep, step_shown}
 use Rattle.task_turns.specs.Stepped.{Added, Stands}
-use Rattle.task_turns.specs.Turn.{Turns, setting_of}
+use Rattle.task_turns.specs.Turn.{Turns, running_of, setting_of}
 use Rattle.task_turns.specs.declared.made.Made.{Made}
 use Rattle.task_turns.specs.declared.made.Stepped.{Stepped}
 
@@ -41,3 +47,31 @@ returns-clause-does g c =
     c.in-Ok.ensures.does in
     ok_then (λ (q : Stepped). Stands q before made after) (λ (q : Stepped). Added (λ (k : Made). DoesStep g.M.MainTask.does main (step_shown k.label) main') q before after) c.put.result
     (λ q h. (made, (h, did))) c.put.ensures.stands
+
+pub returns-clause-told : goal.returns-clause-told
+returns-clause-told g c =
+    let x = λ (b : Bool). setting_of c.args.component.now (g.M.MainTask.script c.args.main.now) b in
+    let ops = g.M.MainTask.script c.args.main.now in
+    let m = g.M.MainTask.part c.args.main.now in
+    let n = g.M.MainTask.part c.ask_main.new.main in
+    let s = c.args.store.now in
+    let t = c.ask_main.new.store in
+    let made = c.made_by_main-made.result in
+    let turns = λ (b : Bool). c.made_by_main-made.ensures.turns (x b) m n s.state c.in-Ok.ensures.ok in
+    let none = idle_at made.turn t.state.core (running_of t.state) (turns true).running (c.in-Ok.ensures.current ∙ c.requires.at.running) in
+    let told = subst (λ (ns : List Notice). Told ns s.groups.listeners t.groups.listeners)
+    (sym (main_moment c.args.component.now ops m s.state.core n t.state.core c.in-Ok.step c.in-Ok.ensures.ok made.label c.made_by_main-made.ensures.label made.turn none)) c.in-Ok.ensures.told in
+    ok_then (λ (q : Stepped). Stands q c.args.trace.now made c.put.new.trace) (λ (q : Stepped). Added (λ (k : Made). (b : Bool) → TurnTold (x b) turn.Main m s.state s.groups (Some k) n t.state t.groups) q c.args.trace.now c.put.new.trace) c.put.result
+    (λ q h. (made, (h, λ b. record { turned = turns b; told = told }))) c.put.ensures.stands
+
+pub returns-clause-idle : goal.returns-clause-idle
+returns-clause-idle g c =
+    let x = setting_of c.args.component.now (g.M.MainTask.script c.args.main.now) true in
+    let m = g.M.MainTask.part c.args.main.now in
+    let n = g.M.MainTask.part c.ask_main.new.main in
+    let s = c.args.store.now.state in
+    let t = c.ask_main.new.store.state in
+    let made = c.made_by_main-made.result in
+    let none = idle_at made.turn t.core (running_of t) (c.made_by_main-made.ensures.turns x m n s c.in-Ok.ensures.ok).running (c.in-Ok.ensures.current ∙ c.requires.at.running) in
+    ok_then (λ (q : Stepped). Stands q c.args.trace.now made c.put.new.trace) (λ (q : Stepped). running_group t.core (turn_of q) ≡ None) c.put.result
+    (λ q h. ap (running_group t.core) (sym (stands_turn q c.args.trace.now made c.put.new.trace h)) ∙ none) c.put.ensures.stands

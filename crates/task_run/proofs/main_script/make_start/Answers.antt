@@ -1,4 +1,4 @@
-use Rattle.std.proofs.Common.{◌∙◌, ◌+◌, ap, ap₂, subst, sym, Err, Ok}
+use Rattle.std.proofs.Common.{◌∙◌, ◌+◌, ap, ap₂, subst, sym, Err, Ok, List, [], ◌∷◌, ℕ}
 use Rattle.std.specs.Option.{option_map}
 use Rattle.std.proofs.lemmas.List.{length-map, map_push}
 use Rattle.std.proofs.lemmas.Option.{slice_get-map}
@@ -10,7 +10,15 @@ use Rattle.state_calls.specs.declared.error.TaskError.{TaskError}
 use Rattle.task_loop.proofs.StartLemmas.{start_current}
 use Rattle.task_loop.specs.Calls.{callee_of}
 use Rattle.task_run.specs.Script.{machine_op, place_of, script_of, started_of}
+use Rattle.task_loop.proofs.MainToldLemmas.{refused_notices, started_notices}
 use Rattle.task_run.proofs.ScriptLemmas.{did_by_row, refused_row, started_row}
+use Rattle.task_group.specs.Listeners.{Told}
+use Rattle.task_loop.specs.Told.{main_notices}
+use Rattle.task_machine.specs.declared.label.Label.TheVariants as label
+use Rattle.task_machine.specs.declared.records.Notice.{Notice}
+use Rattle.task_machine.specs.declared.records.NoticeKind.TheVariants as notice
+use Rattle.task_rules.specs.Notices.{told_of}
+use Rattle.task_turns.specs.declared.mains.MainStep.TheVariants as step
 use Rattle.task_run.proofs.main_script.make_start.Goals as goal
 
 pub returns-in-Ok-clause-ok : goal.returns-in-Ok-clause-ok
@@ -32,3 +40,27 @@ returns-in-Ok-clause-current c w =
 pub returns-in-Err-Trap-clause-current : goal.returns-in-Err-Trap-clause-current
 returns-in-Err-Trap-clause-current c w =
     start_current w.args.component.now (callee_of w.args.func) w.as_slice.result.now w.args.access.now.store.now.state w.start_call_concurrent.new.store.state (start_refusal w.args.access.now.store.now.state.core) _ w.requires.current w.in-Err-Trap.ensures.starts ∙ sym w.requires.current
+
+pub returns-in-Ok-clause-groups : goal.returns-in-Ok-clause-groups
+returns-in-Ok-clause-groups c w = w.in-Ok.ensures.groups w.requires.groups
+
+pub returns-in-Err-Trap-clause-groups : goal.returns-in-Err-Trap-clause-groups
+returns-in-Err-Trap-clause-groups c w = w.in-Err-Trap.ensures.groups w.requires.groups
+
+pub returns-in-Ok-clause-told : goal.returns-in-Ok-clause-told
+returns-in-Ok-clause-told c w =
+    let s = w.args.access.now.store.now in
+    let t = w.start_call_concurrent.new.store in
+    let started = started_notices w.args.component.now (callee_of w.args.func) w.as_slice.result.now s.state t.state w.in-Some.number (start_refusal s.state.core) w.in-Ok.call.thread w.in-Ok.ensures.starts in
+    subst (λ (n : ℕ). Told (main_notices (step.Did (label.Main (main_label.Start w.in-Some.number n))) s.state.core t.state.core) s.groups.listeners t.groups.listeners) (sym w.thread-thread.ensures)
+    (subst (λ (ns : List Notice). Told ns s.groups.listeners t.groups.listeners) started
+    (subst (λ (g : ℕ). Told (told_of notice.Start g ∷ []) s.groups.listeners t.groups.listeners) w.in-Ok.ensures.group (w.in-Ok.ensures.told w.requires.groups)))
+
+pub returns-in-Err-Trap-clause-told : goal.returns-in-Err-Trap-clause-told
+returns-in-Err-Trap-clause-told c w =
+    let s = w.args.access.now.store.now in
+    let t = w.start_call_concurrent.new.store in
+    let starts = subst (λ (e : TaskError). Starts w.args.component.now (callee_of w.args.func) w.as_slice.result.now s.state (start_refusal s.state.core) (Err e) t.state) w.in-Err-Trap.field-0-is w.in-Err-Trap.ensures.starts in
+    subst (λ (ns : List Notice). Told ns s.groups.listeners t.groups.listeners)
+    (refused_notices w.args.component.now (callee_of w.args.func) w.as_slice.result.now s.state t.state w.in-Some.number (start_refusal s.state.core) w.in-Err-Trap.trap starts s.groups w.requires.groups.mirror)
+    w.in-Err-Trap.ensures.refused

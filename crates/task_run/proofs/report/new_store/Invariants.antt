@@ -1,4 +1,6 @@
-use Rattle.std.proofs.Common.{◌≡◌, false, true}
+use Rattle.std.proofs.Common.{◌≡◌, [], false, true}
+use Rattle.group_notices.specs.Mirror.{Mirrors}
+use Rattle.task_group.specs.Listeners.{nobody}
 use Rattle.host_works.specs.Kept.{HoldsNone}
 use Rattle.task_machine.specs.Core.{fresh}
 use Rattle.task_records.specs.Seen.{nothing}
@@ -11,4 +13,6 @@ invariant-loop-made l = record {
   free : l.store.running ≡ false;
   concurrent : l.store.concurrent ≡ true;
   works : HoldsNone l.store.works;
+  groups : (l.store.groups.made ≡ 0) × (l.store.groups.listeners ≡ nobody);
+  mirror : Mirrors [] l.store.groups;
 }

@@ -1,4 +1,12 @@
 -- What came of a finish is an op of main, and main may answer.
+use Rattle.std.proofs.Common.{ap, refl}
+use Rattle.std.specs.Prelude.{[]}
+use Rattle.task_group.proofs.GroupLemmas.{told-none}
+use Rattle.task_loop.proofs.MainToldLemmas.{told_step}
+use Rattle.task_machine.specs.Core.{Unscripted}
+use Rattle.task_machine.specs.declared.label.Label.TheVariants as label
+use Rattle.task_machine.specs.declared.label.MainLabel.TheVariants as main_label
+use Rattle.task_turns.specs.declared.mains.MainStep.TheVariants as step
 use Rattle.embed_example.proofs.HostLemmas.{answers_now, did_finish}
 use Rattle.embed_example.proofs.relay.RelayMainTaskUnitScriptedHost.step.Goals as goal
 
@@ -8,3 +16,16 @@ returns-in-Some-clause-ok c =
 
 pub returns-in_default-started-clause-ok : goal.returns-in_default-started-clause-ok
 returns-in_default-started-clause-ok c = answers_now _ _ _
+
+pub returns-in-Some-clause-groups : goal.returns-in-Some-clause-groups
+returns-in-Some-clause-groups c = c.finish_call_concurrent.ensures.groups c.requires.groups
+
+pub returns-in-Some-clause-told : goal.returns-in-Some-clause-told
+returns-in-Some-clause-told c =
+    let s = c.args.access.now.store.now in
+    let t = c.finish_call_concurrent.new.store in
+    told_step c.args.component.now [] Unscripted s.state.core Unscripted t.state.core s.groups t.groups (ap (λ k. k.groups) c.finish_call_concurrent.ensures.rest) (step.Did (label.Main (main_label.Finish c.args.self.now.started c.in-Ready.value)))
+    (did_finish c.args.component.now s.state t.state c.in-Some.call.thread c.args.self.now.started c.in-Ready.value c.in-Ready.ensures.finishes) refl
+
+pub returns-in_default-started-clause-told : goal.returns-in_default-started-clause-told
+returns-in_default-started-clause-told c = told-none _

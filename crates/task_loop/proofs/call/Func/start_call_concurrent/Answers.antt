@@ -1,15 +1,44 @@
-use Rattle.std.specs.Prelude.{Err, Ok}
-use Rattle.task_loop.proofs.StartLemmas.{start_holds}
+use Rattle.std.proofs.Common.{ap, subst, sym, ◌∙◌}
+use Rattle.std.specs.Prelude.{Err}
+use Rattle.task_calls.proofs.ApartLemmas.{trap_in_order}
+use Rattle.task_group.specs.Counts.{Counts}
+use Rattle.task_group.specs.Groups.{finish_all}
+use Rattle.task_group.specs.Listeners.{Listeners, Told}
+use Rattle.task_loop.proofs.StartLemmas.{refused_starts, trapped_holds, trapped_hosts}
 use Rattle.task_loop.proofs.call.Func.start_call_concurrent.Goals as goal
+use Rattle.task_loop.specs.Calls.{callee_of}
 use Rattle.task_rules.specs.MainOps.{start_refusal}
-use Rattle.task_store.specs.Hosts.{held_by}
+use Rattle.task_store.specs.Groups.{HoldsGroups}
+use Rattle.task_store.specs.Hosts.{HoldsHosts}
+use Rattle.task_turns.specs.Turn.{Sits}
+use Rattle.task_words.specs.StateView.{StateView}
 
-pub returns-in-Ok-clause-hosts : goal.returns-in-Ok-clause-hosts
-returns-in-Ok-clause-hosts g c course h =
-    let store = c.args.store.now in
-    start_holds (held_by course store) c.args.component.now c.callee.result c.args.params.now store.state c.start_call.new.w (start_refusal store.state.core) (Ok c.in-Ok.thread) c.in-Ok.ensures.starts h
+pub returns-in-Err-clause-starts : goal.returns-in-Err-clause-starts
+returns-in-Err-clause-starts g c =
+    let s = c.args.store.now.state in
+    refused_starts c.args.component.now (callee_of c.args.self) c.args.params.now s c.start_untrapped.new.store.state c.set_trapped.new.self.state (start_refusal s.core) c.in-Err.e c.in-Err.ensures.starts (ap (λ k. k.state) c.set_trapped.ensures.rest)
+
+pub returns-in-Err-clause-order : goal.returns-in-Err-clause-order
+returns-in-Err-clause-order g c = λ p sits.
+    subst (λ (v : StateView). Sits c.args.component.now p v.core) (sym (ap (λ k. k.state) c.set_trapped.ensures.rest))
+    (trap_in_order c.args.component.now p c.start_untrapped.new.store.state.core (c.start_untrapped.ensures.order p sits))
 
 pub returns-in-Err-clause-hosts : goal.returns-in-Err-clause-hosts
 returns-in-Err-clause-hosts g c course h =
-    let store = c.args.store.now in
-    start_holds (held_by course store) c.args.component.now c.callee.result c.args.params.now store.state c.start_call.new.w (start_refusal store.state.core) (Err c.in-Err.e) c.in-Err.ensures.starts h
+    subst (λ k. HoldsHosts course k) (sym c.set_trapped.ensures.rest)
+    (trapped_hosts course c.start_untrapped.new.store c.set_trapped.new.self.groups (c.start_untrapped.ensures.hosts course h))
+
+pub returns-in-Err-clause-groups : goal.returns-in-Err-clause-groups
+returns-in-Err-clause-groups g c = λ holds.
+    let mid = c.start_untrapped.new.store in
+    let new = c.set_trapped.new.self in
+    let e = c.set_trapped.ensures in
+    subst (λ (v : StateView). HoldsGroups new.groups v.core) (sym (ap (λ k. k.state) e.rest))
+    (trapped_holds mid.state.core mid.groups new.groups (c.start_untrapped.ensures.groups holds) e.mirror e.made e.told.same_hook)
+
+pub returns-in-Err-clause-refused : goal.returns-in-Err-clause-refused
+returns-in-Err-clause-refused g c =
+    let new = c.set_trapped.new.self.groups.listeners in
+    let same = c.in-Err.ensures.refused in
+    subst (λ (l : Listeners). Told (finish_all c.args.store.now.groups.live) l new) same.1
+    (subst (λ (k : Counts). Told (finish_all k) c.start_untrapped.new.store.groups.listeners new) same.0 c.set_trapped.ensures.told)

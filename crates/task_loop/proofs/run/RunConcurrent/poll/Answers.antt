@@ -5,4 +5,4 @@ use Rattle.task_machine.specs.Write.{set_trapped}
 
 pub returns-in-Err-clause-err : goal.returns-in-Err-clause-err
 unfolding set_trapped
-returns-in-Err-clause-err g c is = rw c.set_trapped.ensures refl
+returns-in-Err-clause-err g c is = rw c.set_trapped.ensures.rest refl

@@ -1,11 +1,14 @@
 -- Each turn adds to the run, until the poll stops.
 use Rattle.std.proofs.Common.{arith, refl, ap, subst, sym, ◌∙◌}
-use Rattle.std.specs.Prelude.{None, Option, Some, false, true, ◌+◌, ◌≡◌}
+use Rattle.std.specs.Prelude.{IfSome, None, Option, Some, false, true, unwrap_or, ℕ, ◌+◌, ◌≡◌}
+use Rattle.group_notices.proofs.RunLemmas.{nothing_told}
 use Rattle.label_laws.specs.Own.{next_mark, rests_by}
 use Rattle.run_pace.specs.Pace.{counted, yields_before}
 use Rattle.task_loop.proofs.DoesLemmas.{on_err}
 use Rattle.task_loop.proofs.PausedLemmas.{idle_turned, idles, paced_data, paced_none, poll_ends, poll_goes, poll_rests, used_up, yields_now}
 use Rattle.task_loop.proofs.RunPollLemmas.{outcome_there}
+use Rattle.task_loop.proofs.ToldLemmas.{group_computed, holds_computed, told_computed, told_more, told_same, told_still}
+use Rattle.task_loop.specs.Told.{TurnTold, group_running, turn_of}
 use Rattle.task_machine.specs.declared.words.Mark.{Mark}
 use Rattle.task_store.proofs.HostLemmas.{holds_same}
 use Rattle.task_store.specs.Hosts.{held_by}
@@ -41,6 +44,9 @@ turns-init g c =
       does = does_none g.M.MainTask.does c.args.main.now before;
       paced = paced_none pace.passes pace.since before;
       few = omega arith;
+      groups = c.requires.groups;
+      running = c.unwrap_or-running.ensures ∙ ap (λ (o : Option ℕ). unwrap_or o 0) c.group_of.ensures;
+      told = nothing_told x from before c.args.store.now.groups;
     }
 
 pub returns-then-yields-clause-ok : goal.returns-then-yields-clause-ok
@@ -219,6 +225,14 @@ turns-preserved g c =
           computed;
       paced = paced_data pace.passes pace.since before after c.after-self-in-Some-Goes.result.passes c.after-self-in-Some-Goes.result.since more computed.labels c.compute.new.trace computed.computing computed.trace c.after-self-in-Some-Goes.ensures.passes;
       few = c.in_ok-added-in-Some-Goes.ensures.few.1;
+      groups = holds_computed c.args.component.now t after (c.turns.added + 1) c.compute.new.w c.compute.new.trace c.in_ok-added-in-Some-Goes.added x refl c.in-Some-Goes.turn computed c.in_ok-added-in-Some-Goes.ensures.still c.turn.new.store.groups c.in_ok-turn.ensures.groups;
+      running = subst (λ (w : Option Stepped). IfSome w (λ q. c.turn.new.running ≡ group_running t.core (turn_of q))) (c.in-Some-Goes.is ∙ ap (λ (q : Stepped). Some q) c.in-Some-Goes.field-0-is) c.in_ok-turn.ensures.running
+          ∙ ap (λ (o : Option ℕ). unwrap_or o 0) (sym (group_computed c.args.component.now t after (c.turns.added + 1) c.compute.new.w c.compute.new.trace c.in_ok-added-in-Some-Goes.added x refl c.in-Some-Goes.turn computed c.in_ok-added-in-Some-Goes.ensures.still));
+      told = told_computed x from before c.args.store.now.groups c.in-Some-Goes.turn m' t after (c.turns.added + 1) c.compute.new.w c.compute.new.trace c.in_ok-added-in-Some-Goes.added c.turn.new.store.groups
+          (told_more x from before c.args.store.now.groups p m u mid c.turns.store.groups m' t c.turn.new.store.groups (stepped.Goes c.in-Some-Goes.turn c.in-Some-Goes.computed) after c.turns.invariant.told
+          (told_same c.args.component.now (script c.turns.main) (script c.args.main.now) c.turns.self.trap_on_idle c.args.self.now.trap_on_idle p m u c.turns.store.groups m' t c.turn.new.store.groups (Some (stepped.Goes c.in-Some-Goes.turn c.in-Some-Goes.computed)) mid after c.turns.invariant.script c.turns.invariant.idle
+          (subst (λ (w : Option Stepped). AddedOrNone (λ (made : Option Made). TurnTold (setting_of c.args.component.now (script c.turns.main) c.turns.self.trap_on_idle) p m u c.turns.store.groups made m' t c.turn.new.store.groups) w mid after) (c.in-Some-Goes.is ∙ ap (λ (q : Stepped). Some q) c.in-Some-Goes.field-0-is) c.in_ok-turn.ensures.told)))
+          computed c.in_ok-added-in-Some-Goes.ensures.still;
     }
 
 pub returns-in_err-turn-clause-err : goal.returns-in_err-turn-clause-err
@@ -299,3 +313,58 @@ returns-clause-ok g c =
     let on = c.turns.invariant.on in
     let moves = c.is_idle.ensures x on.at.order (ap idle_line_of (sym c.turns.invariant.idle)) m on.pends ∙ c.if-is_idle.false in
     used_up x from before (given s.core) pace c.args.steps p m u mid c.turns.added b k c.turns.invariant.on c.turns.invariant.paced c.yielded-self-2.result (omega arith) moves c.yielded-self-2.ensures.since c.yielded-self-2.ensures.passes
+
+-- ---- What was told
+
+pub returns-in-None-clause-told : goal.returns-in-None-clause-told
+returns-in-None-clause-told g c =
+    let part = g.M.MainTask.part in
+    let script = g.M.MainTask.script in
+    let x = setting_of c.args.component.now (script c.args.main.now) c.args.self.now.trap_on_idle in
+    let from = state_at c.args.store.now.state.core (part c.args.main.now) c.args.self.now.turn in
+    let p = c.turns.self.turn in
+    let m = part c.turns.main in
+    let u = c.turns.store.state in
+    let mid = c.turns.trace in
+    let t = c.turn.new.store.state in
+    let m' = part c.turn.new.main in
+    let after = c.turn.new.trace in
+    told_still x from c.args.trace.now c.args.store.now.groups p m u mid c.turns.store.groups m' t c.turn.new.store.groups after c.turns.invariant.told
+    (told_same c.args.component.now (script c.turns.main) (script c.args.main.now) c.turns.self.trap_on_idle c.args.self.now.trap_on_idle p m u c.turns.store.groups m' t c.turn.new.store.groups None mid after c.turns.invariant.script c.turns.invariant.idle
+    (rw c.in-None.is at c.in_ok-turn.ensures.told))
+
+pub returns-in-Some-Over-clause-told : goal.returns-in-Some-Over-clause-told
+returns-in-Some-Over-clause-told g c =
+    let part = g.M.MainTask.part in
+    let script = g.M.MainTask.script in
+    let x = setting_of c.args.component.now (script c.args.main.now) c.args.self.now.trap_on_idle in
+    let from = state_at c.args.store.now.state.core (part c.args.main.now) c.args.self.now.turn in
+    let p = c.turns.self.turn in
+    let m = part c.turns.main in
+    let u = c.turns.store.state in
+    let mid = c.turns.trace in
+    let t = c.turn.new.store.state in
+    let m' = part c.turn.new.main in
+    let after = c.turn.new.trace in
+    let over = stepped.Over c.in-Some-Over.outcome in
+    told_more x from c.args.trace.now c.args.store.now.groups p m u mid c.turns.store.groups m' t c.turn.new.store.groups over after c.turns.invariant.told
+    (told_same c.args.component.now (script c.turns.main) (script c.args.main.now) c.turns.self.trap_on_idle c.args.self.now.trap_on_idle p m u c.turns.store.groups m' t c.turn.new.store.groups (Some over) mid after c.turns.invariant.script c.turns.invariant.idle
+    (subst (λ (w : Option Stepped). AddedOrNone (λ (made : Option Made). TurnTold (setting_of c.args.component.now (script c.turns.main) c.turns.self.trap_on_idle) p m u c.turns.store.groups made m' t c.turn.new.store.groups) w mid after) (c.in-Some-Over.is ∙ ap (λ (q : Stepped). Some q) c.in-Some-Over.field-0-is) c.in_ok-turn.ensures.told))
+
+pub returns-then-rests-clause-told : goal.returns-then-rests-clause-told
+returns-then-rests-clause-told g c =
+    let part = g.M.MainTask.part in
+    let script = g.M.MainTask.script in
+    let x = setting_of c.args.component.now (script c.args.main.now) c.args.self.now.trap_on_idle in
+    let from = state_at c.args.store.now.state.core (part c.args.main.now) c.args.self.now.turn in
+    let p = c.turns.self.turn in
+    let m = part c.turns.main in
+    let u = c.turns.store.state in
+    let mid = c.turns.trace in
+    let t = c.turn.new.store.state in
+    let m' = part c.turn.new.main in
+    let after = c.turn.new.trace in
+    let goes = stepped.Goes c.in-Some-Goes.turn c.in-Some-Goes.computed in
+    told_more x from c.args.trace.now c.args.store.now.groups p m u mid c.turns.store.groups m' t c.turn.new.store.groups goes after c.turns.invariant.told
+    (told_same c.args.component.now (script c.turns.main) (script c.args.main.now) c.turns.self.trap_on_idle c.args.self.now.trap_on_idle p m u c.turns.store.groups m' t c.turn.new.store.groups (Some goes) mid after c.turns.invariant.script c.turns.invariant.idle
+    (subst (λ (w : Option Stepped). AddedOrNone (λ (made : Option Made). TurnTold (setting_of c.args.component.now (script c.turns.main) c.turns.self.trap_on_idle) p m u c.turns.store.groups made m' t c.turn.new.store.groups) w mid after) (c.in-Some-Goes.is ∙ ap (λ (q : Stepped). Some q) c.in-Some-Goes.field-0-is) c.in_ok-turn.ensures.told))

@@ -1,0 +1,29 @@
+use Rattle.std.proofs.Common.{arith}
+use Rattle.group_notices.proofs.TellLemmas.{all_mirrored, all_told, one_mirrored, one_told, same_mirrored, same_told}
+use Rattle.group_notices.proofs.tells.finish_some.Goals as goal
+
+pub returns-then-left-eq0-clause-told : goal.returns-then-left-eq0-clause-told
+returns-then-left-eq0-clause-told g c = λ gs hs m q. all_told c.args.asked c.args.left gs hs q c.args.groups.now c.clean_up.new.self m c.if-left-eq0.true c.clean_up.ensures.told
+
+pub returns-then-left-eq0-clause-mirrors : goal.returns-then-left-eq0-clause-mirrors
+returns-then-left-eq0-clause-mirrors g c = λ gs hs m q. all_mirrored c.args.asked c.args.left gs hs q c.args.groups.now c.clean_up.new.self m c.if-left-eq0.true c.clean_up.ensures.live
+
+pub returns-in_err-decrement-clause-mirrors : goal.returns-in_err-decrement-clause-mirrors
+returns-in_err-decrement-clause-mirrors g c =
+    λ gs hs m q. one_mirrored c.args.asked c.args.left gs hs q c.args.groups.now c.decrement.new.self m c.if-left-eq0.false c.if-left-asked.true c.decrement.ensures.live
+
+pub returns-in_ok-decrement-clause-told : goal.returns-in_ok-decrement-clause-told
+returns-in_ok-decrement-clause-told g c =
+    λ gs hs m q. one_told c.args.asked c.args.left gs hs q c.args.groups.now c.decrement.new.self m c.if-left-eq0.false c.if-left-asked.true c.decrement.ensures.told
+
+pub returns-in_ok-decrement-clause-mirrors : goal.returns-in_ok-decrement-clause-mirrors
+returns-in_ok-decrement-clause-mirrors g c =
+    λ gs hs m q. one_mirrored c.args.asked c.args.left gs hs q c.args.groups.now c.decrement.new.self m c.if-left-eq0.false c.if-left-asked.true c.decrement.ensures.live
+
+pub returns-else-left-asked-clause-told : goal.returns-else-left-asked-clause-told
+returns-else-left-asked-clause-told g c =
+    λ gs hs m q. same_told c.args.asked c.args.left gs hs q c.if-left-eq0.false (λ fewer. let e = c.if-left-asked.false in omega (arith, e, fewer)) c.args.groups.now.listeners
+
+pub returns-else-left-asked-clause-mirrors : goal.returns-else-left-asked-clause-mirrors
+returns-else-left-asked-clause-mirrors g c =
+    λ gs hs m q. same_mirrored c.args.asked c.args.left gs hs q c.if-left-eq0.false (λ fewer. let e = c.if-left-asked.false in omega (arith, e, fewer)) c.args.groups.now m

@@ -1,0 +1,107 @@
+-- What the ops of a main tell the groups of the store.
+use Rattle.std.proofs.Common.{ap, arith, inl, inr, refl, subst, sym, ◌∙◌, ◌≡◌}
+use Rattle.std.proofs.lemmas.Bool.Decides.{nat_tests}
+use Rattle.std.specs.Prelude.{Err, IfOk, List, None, Ok, OnOk, Option, Result, Some, [], false, is_some, map, not, true, ℕ, ◌++◌, ◌+◌, ◌==◌, ◌∷◌, ◌≤◌}
+use Rattle.group_laws.proofs.ListLemmas.{decide, filter_none, filter_same, finish_every}
+use Rattle.group_laws.specs.Tells.{is_start}
+use Rattle.group_notices.proofs.MirrorLemmas.{keys_mirror, mirror_same}
+use Rattle.group_notices.specs.Mirror.{Mirrors}
+use Rattle.state_calls.specs.declared.error.TaskError.{TaskError}
+use Rattle.state_calls.specs.declared.error.TaskError.TheVariants as task_error
+use Rattle.task_calls.specs.Calls.{Starts}
+use Rattle.task_group.proofs.GroupLemmas.{told-none}
+use Rattle.task_group.specs.Groups.{Groups, finish_all, finish_number}
+use Rattle.task_group.specs.Listeners.{Listeners, Told, nobody}
+use Rattle.task_loop.proofs.StartLemmas.{start_groups, start_made}
+use Rattle.task_loop.proofs.ToldLemmas.{main_holds, main_quiet}
+use Rattle.task_loop.specs.Told.{main_notices}
+use Rattle.task_machine.specs.Core.{Core, Main, fresh}
+use Rattle.task_machine.specs.Write.{set_trapped}
+use Rattle.task_machine.specs.declared.component.Callee.{Callee}
+use Rattle.task_machine.specs.declared.component.Component.{Component}
+use Rattle.task_machine.specs.declared.label.Label.TheVariants as label
+use Rattle.task_machine.specs.declared.label.MainLabel.TheVariants as main_label
+use Rattle.task_machine.specs.declared.records.Notice.{Notice}
+use Rattle.task_machine.specs.declared.records.NoticeKind.TheVariants as notice
+use Rattle.task_machine.specs.declared.scenario.MainOpDef.{MainOpDef}
+use Rattle.task_machine.specs.declared.trap.Trap.{Trap}
+use Rattle.task_rules.specs.MainOps.{main_started}
+use Rattle.task_rules.specs.Notices.{finish_notices, is_in, told_of}
+use Rattle.task_store.specs.Groups.{HoldsGroups}
+use Rattle.task_turns.specs.Does.{label_of_step}
+use Rattle.task_turns.specs.Main.{Steps}
+use Rattle.task_turns.specs.declared.mains.MainStep.{MainStep}
+use Rattle.task_turns.specs.declared.mains.MainStep.TheVariants as step
+use Rattle.task_words.specs.StateView.{StateView}
+
+-- ---- Starts
+
+in_more : (gs hs : List ℕ) (g : ℕ) → is_in gs g ≡ true → is_in (gs ++ hs) g ≡ true
+in_more [] hs g there = absurd (cc)
+in_more (h ∷ gs) hs g there = elim (decide (g == h)) [
+  | inl same ↦ grind (arith, nat_tests, same)
+  | inr other ↦ let rest : is_in gs g ≡ true = grind (arith, nat_tests, other, there) in let more = in_more gs hs g rest in grind (arith, nat_tests, other, more)
+]
+
+-- where more groups are live, none was finished
+pub finish_more : (gs hs : List ℕ) → finish_notices gs (gs ++ hs) ≡ []
+finish_more gs hs = ap (map (told_of notice.Finish)) (filter_same (λ g. not (is_in (gs ++ hs) g)) (λ g. false) gs (λ g there. ap not (in_more gs hs g there)) ∙ filter_none gs)
+
+pub trapped_groups : (s : Core) → (set_trapped s).groups ≡ []
+unfolding set_trapped
+trapped_groups s = refl
+
+module _ (c : Component) (e : Callee) (words : List ℕ) (s t : StateView) (k : ℕ) where
+  -- a start that makes a call tells of its group
+  pub started_notices : (o : Option Trap) (n : ℕ) → Starts c e words s o (Ok n) t → told_of notice.Start (s.core.made.groups + 1) ∷ [] ≡ main_notices (step.Did (label.Main (main_label.Start k n))) s.core t.core
+  started_notices None n starts =
+      sym (ap (λ (u : Core). (told_of notice.Start u.made.groups ∷ []) ++ finish_notices s.core.groups u.groups) starts.1.core
+      ∙ (ap (λ i. (told_of notice.Start i ∷ []) ++ finish_notices s.core.groups (main_started c e words s.core).groups) (start_made c e words s.core)
+      ∙ ap (λ (ns : List Notice). told_of notice.Start (s.core.made.groups + 1) ∷ ns) (ap (finish_notices s.core.groups) (start_groups c e words s.core) ∙ finish_more s.core.groups ((s.core.made.groups + 1) ∷ []))))
+  started_notices (Some why) n starts = let no : Ok n ≡ Err (task_error.Trap why) = starts.0 in absurd (cc)
+
+  -- one that is refused finishes all
+  pub refused_notices : (o : Option Trap) (why : Trap) → Starts c e words s o (Err (task_error.Trap why)) t → (g : Groups) → Mirrors s.core.groups g → finish_all g.live ≡ main_notices (step.Did (label.Main (main_label.StartRefused why k))) s.core t.core
+  refused_notices None why starts g mirror = let no : task_error.Trap why ≡ task_error.NoMemory = starts.0 in absurd (cc)
+  refused_notices (Some other) why starts g mirror =
+      ap (map finish_number) (keys_mirror s.core.groups g mirror)
+      ∙ sym (ap (finish_notices s.core.groups) (ap (λ (u : Core). u.groups) starts.1.core ∙ trapped_groups s.core) ∙ finish_every s.core.groups)
+
+-- ---- The other ops
+
+module _ (c : Component) (ops : List MainOpDef) (m : Main) (s : Core) (n : Main) (t : Core) (g h : Groups) (same : h ≡ g) where
+  pub holds_step : (q : MainStep) → Steps c ops m s q n t → is_start (label_of_step q) ≡ false → HoldsGroups g s → HoldsGroups h t
+  holds_step q steps other holds = subst (λ (k : Groups). HoldsGroups k t) (sym same) (main_holds c ops m s n t q steps other g holds)
+
+  pub told_step : (q : MainStep) → Steps c ops m s q n t → is_start (label_of_step q) ≡ false → Told (main_notices q s t) g.listeners h.listeners
+  told_step q steps other =
+      subst (λ (ns : List Notice). Told ns g.listeners h.listeners) (sym (main_quiet c ops m s n t q steps other))
+      (subst (λ (k : Groups). Told [] g.listeners k.listeners) (sym same) (told-none g.listeners))
+
+  pub holds_result : (r : Result MainStep TaskError) → IfOk r (λ q. Steps c ops m s q n t) → IfOk r (λ q. is_start (label_of_step q) ≡ false) → HoldsGroups g s → OnOk r (HoldsGroups h t)
+  holds_result (Ok q) steps other holds = holds_step q steps other holds
+  holds_result (Err e) steps other holds = tt
+
+  pub told_result : (r : Result MainStep TaskError) → IfOk r (λ q. Steps c ops m s q n t) → IfOk r (λ q. is_start (label_of_step q) ≡ false) → IfOk r (λ q. Told (main_notices q s t) g.listeners h.listeners)
+  told_result (Ok q) steps other = told_step q steps other
+  told_result (Err e) steps other = tt
+
+-- ---- A new store
+
+fresh_groups : (i h tb : ℕ) → (fresh i h tb).groups ≡ []
+unfolding fresh
+fresh_groups i h tb = refl
+
+pub new_groups : (g : Groups) (room i h tb : ℕ) → g.made ≡ 0 → g.listeners ≡ nobody → Mirrors [] g → HoldsGroups (record g { listeners = record g.listeners { room = room } }) (fresh i h tb)
+new_groups g room i h tb made listeners mirror = record {
+  made = subst (λ (k : ℕ). k ≤ (fresh i h tb).made.groups) (sym made) (omega arith);
+  mirror = subst (λ (gs : List ℕ). Mirrors gs (record g { listeners = record g.listeners { room = room } })) (sym (fresh_groups i h tb)) (mirror_same [] g (record g { listeners = record g.listeners { room = room } }) refl mirror);
+  unhooked = ap (λ (l : Listeners). is_some l.hook) listeners;
+}
+
+pub fresh_holds : (g : Groups) (i h tb : ℕ) → g.made ≡ 0 → g.listeners ≡ nobody → Mirrors [] g → HoldsGroups g (fresh i h tb)
+fresh_holds g i h tb made listeners mirror = record {
+  made = subst (λ (k : ℕ). k ≤ (fresh i h tb).made.groups) (sym made) (omega arith);
+  mirror = subst (λ (gs : List ℕ). Mirrors gs g) (sym (fresh_groups i h tb)) mirror;
+  unhooked = ap (λ (l : Listeners). is_some l.hook) listeners;
+}

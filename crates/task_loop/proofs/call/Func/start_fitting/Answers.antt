@@ -1,0 +1,89 @@
+use Rattle.std.proofs.Common.{ap, arith, subst, sym, ◌+◌, ◌-◌, ◌∙◌, ◌≡◌, ◌≤◌}
+use Rattle.std.specs.FinMap as finite
+use Rattle.std.specs.Prelude.{Err, IsSome, None, Ok, Option, [], false, is_some, ℕ, ◌∷◌}
+use Rattle.task_calls.specs.Untrapped.{StartsUntrapped}
+use Rattle.task_group.proofs.GroupLemmas.{remove-above}
+use Rattle.task_group.specs.Groups.{Groups}
+use Rattle.task_loop.proofs.StartLemmas.{announced, is_above, started_holds, untrapped_holds, withdrawn_holds}
+use Rattle.task_loop.proofs.call.Func.start_fitting.Goals as goal
+use Rattle.task_machine.specs.declared.trap.Trap.{Trap}
+use Rattle.task_rules.specs.MainOps.{start_refusal}
+use Rattle.task_group.specs.Listeners.{Listeners, Told}
+use Rattle.task_machine.specs.declared.records.NoticeKind.TheVariants as notice
+use Rattle.task_rules.specs.Notices.{told_of}
+use Rattle.task_store.specs.Groups.{HoldsGroups}
+use Rattle.task_words.specs.StateView.{StateView}
+use Rattle.task_store.specs.Hosts.{held_by}
+
+pub returns-in-Ok-start_untrapped-clause-hosts : goal.returns-in-Ok-start_untrapped-clause-hosts
+returns-in-Ok-start_untrapped-clause-hosts g c course h =
+    let store = c.args.store.now in
+    untrapped_holds (held_by course store) c.args.component.now c.callee.result c.args.params.now store.state c.start_untrapped.new.w (start_refusal store.state.core) (Ok c.in-Ok-start_untrapped.thread) c.in-Ok-start_untrapped.ensures.starts h
+
+pub returns-in-Err-clause-hosts : goal.returns-in-Err-clause-hosts
+returns-in-Err-clause-hosts g c course h =
+    let store = c.args.store.now in
+    untrapped_holds (held_by course store) c.args.component.now c.callee.result c.args.params.now store.state c.start_untrapped.new.w (start_refusal store.state.core) (Err c.in-Err.e) c.in-Err.ensures.starts h
+
+pub returns-in-Ok-start_untrapped-clause-groups : goal.returns-in-Ok-start_untrapped-clause-groups
+returns-in-Ok-start_untrapped-clause-groups g c = λ holds.
+    let s = c.args.store.now.state in
+    let g0 = c.args.store.now.groups in
+    let mid = c.prepare.new.self in
+    let new = c.announce-told.new.self in
+    let t = c.start_untrapped.new.w in
+    let ok = c.in-Ok.ensures.ok in
+    let below = holds.made in
+    let core_made = ap (λ m. m.groups) c.made-group.ensures in
+    let made : mid.made ≡ s.core.made.groups + 1 = c.in-Ok.ensures.number (omega (arith, below, core_made)) ∙ ap (λ k. k + 1) core_made in
+    let hook : is_some mid.listeners.hook ≡ false = ap (λ (k : Groups). is_some k.listeners.hook) ok ∙ holds.unhooked in
+    let told = c.announce-told.ensures in
+    let same = announced ((new.live ≡ mid.live) × (new.made ≡ mid.made)) c.announce-told.result _ mid.listeners new.listeners hook told.told told.failed.0 told.no_other told.groups in
+    let starts = subst (λ (o : Option Trap). StartsUntrapped c.args.component.now c.callee.result c.args.params.now s o (Ok c.in-Ok-start_untrapped.thread) t) c.requires.fits c.in-Ok-start_untrapped.ensures.starts in
+    started_holds c.args.component.now c.callee.result c.args.params.now s.core t.core g0 new starts.1.core holds
+    (λ q there. subst (λ (k : ℕ). q ≤ k) c.made-made.ensures.value (c.made-made.ensures.known q there))
+    (same.0 ∙ (ap (λ (k : Groups). k.live) ok ∙ ap (λ (k : ℕ). finite.insert g0.live k 1) made)) (same.1 ∙ made)
+    (told.told.same_hook ∙ ap (λ (k : Groups). is_some k.listeners.hook) ok)
+
+pub returns-in-Ok-start_untrapped-clause-told : goal.returns-in-Ok-start_untrapped-clause-told
+returns-in-Ok-start_untrapped-clause-told g c = λ holds.
+    let s = c.args.store.now.state in
+    let g0 = c.args.store.now.groups in
+    let mid = c.prepare.new.self in
+    let new = c.announce-told.new.self in
+    let t = c.start_untrapped.new.w in
+    let ok = c.in-Ok.ensures.ok in
+    let below = holds.made in
+    let core_made = ap (λ m. m.groups) c.made-group.ensures in
+    let made : mid.made ≡ s.core.made.groups + 1 = c.in-Ok.ensures.number (omega (arith, below, core_made)) ∙ ap (λ k. k + 1) core_made in
+    let hook : is_some mid.listeners.hook ≡ false = ap (λ (k : Groups). is_some k.listeners.hook) ok ∙ holds.unhooked in
+    subst (λ (l : Listeners). Told (told_of notice.Start (c.made-group.result.groups + 1) ∷ []) l new.listeners) (ap (λ (k : Groups). k.listeners) ok)
+    (subst (λ (k : ℕ). Told (told_of notice.Start k ∷ []) mid.listeners new.listeners) (made ∙ ap (λ k. k + 1) (sym core_made)) c.announce-told.ensures.told)
+
+pub returns-in-Err-clause-groups : goal.returns-in-Err-clause-groups
+returns-in-Err-clause-groups g c = λ holds.
+    let s = c.args.store.now.state in
+    let g0 = c.args.store.now.groups in
+    let mid = c.prepare.new.self in
+    let new = c.withdraw.new.self in
+    let ok = c.in-Ok.ensures.ok in
+    let below = holds.made in
+    let core_made = ap (λ m. m.groups) c.made-group.ensures in
+    let made : mid.made ≡ s.core.made.groups + 1 = c.in-Ok.ensures.number (omega (arith, below, core_made)) ∙ ap (λ k. k + 1) core_made in
+    let starts = subst (λ (o : Option Trap). StartsUntrapped c.args.component.now c.callee.result c.args.params.now s o (Err c.in-Err.e) c.start_untrapped.new.w) c.requires.fits c.in-Err.ensures.starts in
+    let known : (q : ℕ) → IsSome (finite.get g0.live q) → q ≤ g0.made = λ q there. subst (λ (k : ℕ). q ≤ k) c.made-made.ensures.value (c.made-made.ensures.known q there) in
+    let live : new.live ≡ g0.live = ap (λ (k : Groups). k.live) c.withdraw.ensures ∙ (ap (λ (k : Groups). finite.remove k.live mid.made) ok ∙ remove-above g0.live g0.made mid.made 1 (omega (arith, made, below)) known) in
+    let less : new.made ≡ mid.made - 1 = ap (λ (k : Groups). k.made) c.withdraw.ensures in
+    subst (λ (v : StateView). HoldsGroups new v.core) (sym starts.1)
+    (withdrawn_holds s.core g0 new holds live (omega (arith, made, less)) (ap (λ (k : Groups). k.listeners) c.withdraw.ensures ∙ ap (λ (k : Groups). k.listeners) ok))
+
+pub returns-in-Err-clause-refused : goal.returns-in-Err-clause-refused
+returns-in-Err-clause-refused g c =
+    let g0 = c.args.store.now.groups in
+    let mid = c.prepare.new.self in
+    let ok = c.in-Ok.ensures.ok in
+    let above = is_above g0.made (c.made-group.result.groups + 1) mid.made c.in-Ok.ensures.number c.in-Ok.ensures.next in
+    let known : (q : ℕ) → IsSome (finite.get g0.live q) → q ≤ g0.made = λ q there. subst (λ (k : ℕ). q ≤ k) c.made-made.ensures.value (c.made-made.ensures.known q there) in (
+      ap (λ (k : Groups). k.live) c.withdraw.ensures ∙ (ap (λ (k : Groups). finite.remove k.live mid.made) ok ∙ remove-above g0.live g0.made mid.made 1 above known),
+      ap (λ (k : Groups). k.listeners) c.withdraw.ensures ∙ ap (λ (k : Groups). k.listeners) ok,
+    )

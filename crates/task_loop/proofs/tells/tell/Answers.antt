@@ -1,0 +1,9 @@
+-- The groups after the step are those of the core.
+use Rattle.std.proofs.Common.{length, subst, sym, ◌≡◌}
+use Rattle.std.specs.Prelude.{List, ℕ}
+use Rattle.group_notices.specs.Mirror.{Leads}
+use Rattle.task_loop.proofs.tells.tell.Goals as goal
+
+pub returns-clause-mirrors : goal.returns-clause-mirrors
+returns-clause-mirrors c gs mirror leads =
+    c.in-Ok.ensures.mirrors gs c.args.core.now.core.groups mirror (subst (λ (k : ℕ). Leads c.args.asked.now k gs c.args.core.now.core.groups) (sym c.groups.ensures) leads)

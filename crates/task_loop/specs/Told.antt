@@ -1,0 +1,62 @@
+-- What the steps of a run tell the groups of the store.
+use Rattle.std.specs.Prelude.{Bool, List, None, Option, Some, [], false, unwrap_or, ℕ, ◌++◌, ◌==◌, ◌≡◌}
+use Rattle.group_notices.specs.declared.tells.Asked.{Asked}
+use Rattle.group_notices.specs.Runs.{moment}
+use Rattle.task_group.specs.Groups.{Groups}
+use Rattle.task_group.specs.Listeners.{Told}
+use Rattle.task_machine.specs.Core.{Core, Main}
+use Rattle.task_machine.specs.declared.component.Component.{Component}
+use Rattle.task_machine.specs.declared.records.Notice.{Notice}
+use Rattle.task_machine.specs.declared.records.Turn.{Turn}
+use Rattle.task_machine.specs.declared.records.Turn.TheVariants as turn
+use Rattle.task_rules.specs.Notices.{finish_notices, moment_notices, running_group, start_notices}
+use Rattle.task_rules.specs.Stalled.{Setting}
+use Rattle.task_turns.specs.Turn.{Turned, state_at}
+use Rattle.task_turns.specs.declared.made.Made.{Made}
+use Rattle.task_turns.specs.declared.made.Stepped.{Stepped}
+use Rattle.task_turns.specs.declared.made.Stepped.TheVariants as stepped
+use Rattle.task_turns.specs.declared.mains.MainStep.{MainStep}
+use Rattle.task_turns.specs.declared.mains.MainStep.TheVariants as step
+use Rattle.task_words.specs.StateView.{StateView}
+
+-- main's op tells of the group that it made, and of those that it finished
+abbrev pub main_notices : MainStep → Core → Core → List Notice
+main_notices (step.Did l) s t = start_notices l t ++ finish_notices s.groups t.groups
+main_notices _ s t = []
+
+-- the same thread runs on
+abbrev pub runs_on : Turn → Turn → Bool
+runs_on (turn.Run n) (turn.Run m) = n == m
+runs_on _ _ = false
+
+-- whose turn it is after the step
+abbrev pub turn_of : Stepped → Turn
+turn_of (stepped.Goes p computed) = p
+turn_of (stepped.Over o) = turn.Over
+
+-- the group of the thread that runs; default: none does
+abbrev pub group_running : Core → Turn → ℕ
+group_running s p = unwrap_or (running_group s p) 0
+
+-- what is asked before the step of a turn in which no thread runs
+abbrev pub asked_beside : (worked : Option ℕ) → (live : ℕ) → Asked
+asked_beside worked live = record { running = None; worked = worked; staked = 0; live = live }
+
+-- and before that of a thread of this group, which may finish that one
+abbrev pub asked_in : (running staked live : ℕ) → Asked
+asked_in running staked live = record { running = Some running; worked = None; staked = staked; live = live }
+
+-- the notices of the step that was made, if one was
+abbrev pub notices_made : Turn → Main → Core → Option Made → Main → Core → List Notice
+notices_made p m s None n t = []
+notices_made p m s (Some made) n t = moment_notices (moment (state_at s m p) made.label (state_at t n made.turn))
+
+-- The step was made as `Turned` says, and its notices were told.
+pub record TurnTold (x : Setting) (p : Turn) (m : Main) (s : StateView) (old : Groups) (made : Option Made) (n : Main) (t : StateView) (new : Groups) :
+    Type 0 where
+  pub turned : Turned x p m s made n t
+  pub told : Told (notices_made p m s.core made n t.core) old.listeners new.listeners
+
+-- the same of a step of the running thread, whatever main is
+abbrev pub RunTold : Component → ℕ → StateView → Groups → Made → StateView → Groups → Type 0
+RunTold c n s old made t new = (x : Setting) → x.component ≡ c → (m : Main) → TurnTold x (turn.Run n) m s old (Some made) m t new

@@ -1,0 +1,318 @@
+-- The room for notices suffices: a step gives at most two, beside those of groups that finish, which their starts pay for.
+use Rattle.std.proofs.Common.{ap, arith, length, length-append, refl, subst, sym, ◌∙◌, ◌≡◌, ◌⊎◌, inl, inr}
+use Rattle.std.proofs.lemmas.Bool.Decides.{nat_tests}
+use Rattle.std.specs.Prelude.{Bool, List, None, Option, Some, [], cond, false, filter, map, not, true, ℕ, ◌++◌, ◌+◌, ◌*◌, ◌==◌, ◌∷◌, ◌≤◌, ◌&&◌}
+use Rattle.group_laws.proofs.ListLemmas.{decide, filter_same, finish_every, finish_none, in_without}
+use Rattle.group_laws.proofs.StepTells.{notices_told, steps_tell}
+use Rattle.group_laws.specs.Groups.{OneLess, without}
+use Rattle.group_laws.specs.Tells.{IsTold, entry_group, is_main_turn, worked_group}
+use Rattle.group_notices.proofs.RunLemmas.{main_told}
+use Rattle.group_notices.specs.Runs.{moment}
+use Rattle.task_loop.proofs.MainToldLemmas.{finish_more, trapped_groups}
+use Rattle.task_loop.proofs.StartLemmas.{start_groups}
+use Rattle.task_machine.specs.Core.{Began, Core, Main, MainPlace, Refused, Scripted, Started, State, Unscripted}
+use Rattle.task_machine.specs.Labels.{choice_of}
+use Rattle.task_machine.specs.Maps.{get}
+use Rattle.task_machine.specs.Read.{next_entry, phase_of}
+use Rattle.task_machine.specs.Moves.{put_high}
+use Rattle.task_machine.specs.Write.{add_call, add_group, add_thread, add_work, count_work, on_thread, on_work, push_high, set_phase, set_place, set_trapped, take_result}
+use Rattle.task_machine.specs.declared.component.Callee.{Callee}
+use Rattle.task_machine.specs.declared.component.Component.{Component}
+use Rattle.task_machine.specs.declared.label.Label.{Label}
+use Rattle.task_machine.specs.declared.label.Label.TheVariants as label
+use Rattle.task_machine.specs.declared.label.LoopLabel.TheVariants as loop_label
+use Rattle.task_machine.specs.declared.label.MainLabel.{MainLabel}
+use Rattle.task_machine.specs.declared.label.MainLabel.TheVariants as main_label
+use Rattle.task_machine.specs.declared.records.Entry.{Entry}
+use Rattle.task_machine.specs.declared.records.Entry.TheVariants as entry
+use Rattle.task_machine.specs.declared.records.Notice.{Notice}
+use Rattle.task_machine.specs.declared.records.NoticeKind.{NoticeKind}
+use Rattle.task_machine.specs.declared.records.NoticeKind.TheVariants as notice
+use Rattle.task_machine.specs.declared.records.Turn.{Turn}
+use Rattle.task_machine.specs.declared.records.Turn.TheVariants as turn
+use Rattle.task_machine.specs.declared.scenario.MainOpDef.{MainOpDef}
+use Rattle.task_machine.specs.declared.trap.Trap.{Trap}
+use Rattle.task_machine.specs.declared.words.Mark.{Mark}
+use Rattle.task_rules.specs.Calls.{call_made, work_queued}
+use Rattle.task_rules.specs.History.{history}
+use Rattle.task_rules.specs.MainOps.{Abort, Answer, Answers, Await, Does, Finish, MainAct, MainProgress, Pends, Quiet, Ready, Spawn, Start, act_of, finish_act, finish_result, has_interesting, is_complete, is_ready_for_call, line_of, main_aborted, main_row, main_spawned, main_started, op_at, start_act, start_refusal, unless_pending}
+use Rattle.task_rules.specs.Notices.{around, finish_notices, group_notice, is_in, moment_notices, notices, of_live, running_group, same_group, start_notices, switch_notices, told_of, work_notices}
+use Rattle.task_rules.specs.Progress.{Goes, Never, Progress, Stops, may}
+use Rattle.task_rules.specs.Run.{Run}
+use Rattle.task_rules.specs.Stalled.{Setting}
+use Rattle.task_rules.specs.Step.{FuturesStep, MainProgresses, MainStep, OpenAct, OpenProgresses, OpenStep, Polled, Progresses, ScriptStep, Step, TakeStep, TurnStep, entry_number}
+use Rattle.task_rules.specs.Takes.{host_row, popped, take_row}
+use Rattle.task_rules.specs.Turns.{at_turn, goes_to, nothing_stands, settled_futures, settled_take}
+use Rattle.task_rules.specs.Works.{Ends, FailsNow, Poll, StillPends, next_polled, poll_of}
+
+-- ---- How many notices there are of each kind
+
+kept_few : (b : Bool) (n : Notice) (ns ms : List Notice) → length ns ≤ length ms → length (cond b (n ∷ ns) ns) ≤ length (n ∷ ms)
+kept_few true n ns ms h = omega (arith, h)
+kept_few false n ns ms h = omega (arith, h)
+
+live_few : (gs : List ℕ) (ns : List Notice) → length (of_live gs ns) ≤ length ns
+live_few gs [] = omega arith
+live_few gs (n ∷ ns) = kept_few (is_in gs n.group) n (of_live gs ns) ns (live_few gs ns)
+
+one_notice : (k : NoticeKind) (o : Option ℕ) → length (group_notice k o) ≤ 1
+one_notice k None = omega arith
+one_notice k (Some g) = omega arith
+
+two_notices : (j k : NoticeKind) (a b : Option ℕ) → length (group_notice j a ++ group_notice k b) ≤ 2
+two_notices j k a b = let x = one_notice j a in let y = one_notice k b in let e = length-append (group_notice j a) (group_notice k b) in omega (arith, x, y, e)
+
+unless_same : (b : Bool) (ns : List Notice) → length ns ≤ 2 → length (cond b [] ns) ≤ 2
+unless_same true ns h = omega arith
+unless_same false ns h = h
+
+-- either another thread runs then, or a work is worked on
+pub few_told : (a b w : Option ℕ) → (w ≡ None) ⊎ ((a ≡ None) × (b ≡ None)) → length (switch_notices a b ++ around w) ≤ 2
+few_told a b w (inl none) =
+    subst (λ (o : Option ℕ). length (switch_notices a b ++ around o) ≤ 2) (sym none)
+    (let e = length-append (switch_notices a b) [] in let h = unless_same (same_group a b) (group_notice notice.Exit a ++ group_notice notice.Enter b) (two_notices notice.Exit notice.Enter a b) in omega (arith, e, h))
+few_told a b w (inr none) =
+    subst (λ (o : Option ℕ). length (switch_notices o b ++ around w) ≤ 2) (sym none.0)
+    (subst (λ (o : Option ℕ). length (switch_notices None o ++ around w) ≤ 2) (sym none.1) (two_notices notice.Enter notice.Exit w w))
+
+-- ---- Those that finish
+
+count_parts : (g : ℕ) (gs : List ℕ) → length (filter (λ h. g == h) gs) + length (without g gs) ≡ length gs
+count_parts g [] = refl
+count_parts g (h ∷ gs) = let rest = count_parts g gs in elim (decide (g == h)) [
+  | inl same ↦ rw same (omega (arith, rest))
+  | inr other ↦ rw other (omega (arith, rest))
+]
+
+gone_is : (b c : Bool) → b ≡ true → not (b && not c) ≡ c
+gone_is true true e = refl
+gone_is true false e = refl
+gone_is false c e = absurd (cc)
+
+length_told : (gs : List ℕ) → length (map (told_of notice.Finish) gs) ≡ length gs
+length_told [] = refl
+length_told (g ∷ gs) = let e = length_told gs in omega (arith, e)
+
+finish_few : (g : ℕ) (gs hs : List ℕ) → (hs ≡ []) ⊎ OneLess g gs hs → length (finish_notices gs hs) + length hs ≤ length gs
+finish_few g gs hs (inl none) = rw (none, finish_every gs) (let e = length_told gs in omega (arith, e))
+finish_few g gs hs (inr (inl same)) = rw (same, finish_none gs) (omega arith)
+finish_few g gs hs (inr (inr less)) =
+    let gone = filter_same (λ h. not (is_in (without g gs) h)) (λ h. g == h) gs (λ h there. ap not (in_without g gs h) ∙ gone_is (is_in gs h) (g == h) there) in
+    let e = length_told (filter (λ h. not (is_in (without g gs) h)) gs) ∙ ap length gone in
+    let all = count_parts g gs in
+    rw less (omega (arith, e, all))
+
+-- ---- No thread runs after a poll, and after the entry of a host call was taken
+
+main_none : (s : State) (d new : Core) (m : Main) → running_group d (at_turn s new m turn.Main).turn ≡ None
+unfolding at_turn
+main_none s d new m = refl
+
+over_none : (s : State) (d new : Core) (m : Main) → running_group d (at_turn s new m turn.Over).turn ≡ None
+unfolding at_turn
+over_none s d new m = refl
+
+settled_none : (d : Core) (b q : Bool) → running_group d (settled_take b q) ≡ None
+settled_none d true true = refl
+settled_none d true false = refl
+settled_none d false true = refl
+settled_none d false false = refl
+
+take_none : (s : State) (d new : Core) (m : Main) (b : Bool) → running_group d (at_turn s new m (turn.Take b)).turn ≡ None
+unfolding at_turn
+take_none s d new m b = settled_none d b (nothing_stands new)
+
+polled_none : (d : Core) (n : ℕ) (s : Core) (o : Option ℕ) → running_group d (settled_futures n s o) ≡ None
+polled_none d n s None = settled_none d false (nothing_stands s)
+polled_none d n s (Some i) = refl
+
+futures_none : (s : State) (d new : Core) (m : Main) (n : ℕ) → running_group d (at_turn s new m (turn.Futures n)).turn ≡ None
+unfolding at_turn
+futures_none s d new m n = polled_none d n new (next_polled n new)
+
+none_by : (t u : State) → t ≡ u → running_group t.core u.turn ≡ None → running_group t.core t.turn ≡ None
+none_by t u is none = ap (λ (v : State). running_group t.core v.turn) is ∙ none
+
+poll_none : (s : State) (i : ℕ) (q : Poll) (l : Label) (t : State) → Polled s i q l t → running_group t.core t.turn ≡ None
+poll_none s i (StillPends host) l t h = none_by t _ h.1 (futures_none s t.core _ s.main i)
+poll_none s i (Ends v) l t h = none_by t _ h.1 (take_none s t.core _ s.main true)
+poll_none s i FailsNow l t h = none_by t _ h.1 (over_none s t.core _ s.main)
+
+works_none : (s : State) (o : Option ℕ) (l : Label) (t : State) → FuturesStep s o l t → running_group t.core t.turn ≡ None
+works_none s None l t h = absurd h
+works_none s (Some i) l t h = poll_none s i (poll_of i s.core) l t h
+
+may_stop : (s : State) (base : Core) (n : ℕ) (b : Bool) (k : Label) (new : Core) (l : Label) (t : State) → Progresses s base n (may b (Stops k new)) l t → running_group t.core t.turn ≡ None
+may_stop s base n true k new l t h = none_by t _ h.1 (main_none s t.core new s.main)
+may_stop s base n false k new l t h = absurd h
+
+entry_none : (x : Setting) (s : State) (o : Option (Mark × Entry)) (l : Label) (t : State) → TakeStep x s o l t → (entry_group o s.core ≡ None) ⊎ (running_group t.core t.turn ≡ None)
+entry_none x s None l t h = inl refl
+entry_none x s (Some (m, entry.Thread n)) l t h = inl refl
+entry_none x s (Some (m, entry.Push i)) l t h = inl refl
+entry_none x s (Some (m, entry.Host i)) l t h = inr (may_stop s _ i _ _ _ l t h)
+
+-- ---- A step in another turn than main's
+
+abbrev Room : State → Label → State → Type 0
+Room s l t = length (moment_notices (moment s l t)) + length t.core.groups ≤ 2 + length s.core.groups
+
+alone : (x : Setting) (s : State) (l : Label) (t : State) (p : Turn) → TurnStep x s p l t → is_main_turn p ≡ false →
+    (worked_group s.core p ≡ None) ⊎ ((running_group s.core p ≡ None) × (running_group t.core t.turn ≡ None))
+alone x s l t turn.Main h other = absurd (cc)
+alone x s l t (turn.Futures n) h other = inr (refl, works_none s (next_polled n s.core) l t h)
+alone x s l t (turn.Take b) h other = elim (entry_none x s (next_entry s.core) l t h) [
+  | inl none ↦ inl none
+  | inr none ↦ inr (refl, none)
+]
+alone x s l t (turn.Run n) h other = inl refl
+alone x s l t turn.Over h other = absurd h
+
+other_room : (x : Setting) (s : State) (l : Label) (t : State) → Step x s l t → is_main_turn s.turn ≡ false → Room s l t
+unfolding Step
+other_room x s l t step other =
+    let gs = s.core.groups in
+    let hs = t.core.groups in
+    let few = few_told (running_group s.core s.turn) (running_group t.core t.turn) (worked_group s.core s.turn) (alone x s l t s.turn step other) in
+    let live = live_few gs (switch_notices (running_group s.core s.turn) (running_group t.core t.turn) ++ around (worked_group s.core s.turn)) in
+    let told = steps_tell x s l t step other in
+    let finished = finish_few _ gs hs told.groups in
+    let e = ap length (notices_told x s l t step other) ∙ length-append (of_live gs (switch_notices (running_group s.core s.turn) (running_group t.core t.turn) ++ around (worked_group s.core s.turn))) (finish_notices gs hs) in
+    omega (arith, few, live, finished, e)
+
+-- ---- Main's
+
+abbrev Fits : Core → List Notice → Core → Type 0
+Fits s ns t = length ns + (length (finish_notices s.groups t.groups) + length t.groups) ≤ 2 + length s.groups
+
+same_fits : (s t : Core) → t.groups ≡ s.groups → Fits s [] t
+same_fits s t same = rw (same, finish_none s.groups) (omega arith)
+
+abbrev Bound : Core → MainProgress → Type 0
+Bound s (Does l new) = Fits s (start_notices (label.Main l) new) new
+Bound s Pends = Unit {0}
+Bound s (Answers v) = Unit {0}
+
+start_bound : (c : Component) (k : ℕ) (e : Callee) (words : List ℕ) (s : Core) (o : Option Trap) → Bound s (start_act c k e words s o)
+start_bound c k e words s None =
+    let n = length-append s.groups ((s.made.groups + 1) ∷ []) in
+    rw (start_groups c e words s, finish_more s.groups ((s.made.groups + 1) ∷ [])) (omega (arith, n))
+start_bound c k e words s (Some t) = rw (trapped_groups s, finish_every s.groups) (let n = length_told s.groups in omega (arith, n))
+
+result_groups : (n : ℕ) (s : Core) → (take_result n s).groups ≡ s.groups
+unfolding take_result
+result_groups n s = refl
+
+result_bound : (k n : ℕ) (s : Core) (o : Option ℕ) → Bound s (finish_result k n s o)
+result_bound k n s None = tt
+result_bound k n s (Some v) = same_fits s (take_result n s) (result_groups n s)
+
+finish_bound : (k : ℕ) (s : Core) (x : Started) → Bound s (finish_act k s x)
+finish_bound k s (Began n) = result_bound k n s (get s.results n)
+finish_bound k s (Refused t) = same_fits s s refl
+
+spawned_groups : (c : Component) (h : ℕ) (s : Core) → (main_spawned c h s).groups ≡ s.groups
+unfolding main_spawned work_queued push_high add_work count_work
+spawned_groups c h s = refl
+
+aborted_groups : (i : ℕ) (s : Core) → (main_aborted i s).groups ≡ s.groups
+unfolding main_aborted set_phase on_work
+aborted_groups i s = refl
+
+await_bound : (b : Bool) (k : ℕ) (s : Core) → Bound s (unless_pending b (main_label.Await k) s)
+await_bound true k s = same_fits s s refl
+await_bound false k s = tt
+
+quiet_bound : (b : Bool) (s : Core) → Bound s (unless_pending b main_label.Quiet s)
+quiet_bound true s = same_fits s s refl
+quiet_bound false s = tt
+
+ready_bound : (b : Bool) (s : Core) → Bound s (unless_pending b main_label.Ready s)
+ready_bound true s = same_fits s s refl
+ready_bound false s = tt
+
+row_bound : (c : Component) (k : ℕ) (s : Core) (act : MainAct) → Bound s (main_row c k s act)
+row_bound c k s (Start e words) = start_bound c k e words s (start_refusal s)
+row_bound c k s (Finish x) = finish_bound k s x
+row_bound c k s (Spawn h) = same_fits s (main_spawned c h s) (spawned_groups c h s)
+row_bound c k s (Abort i) = same_fits s (main_aborted i s) (aborted_groups i s)
+row_bound c k s (Await i) = await_bound (is_complete (phase_of i s)) k s
+row_bound c k s Quiet = quiet_bound (not (has_interesting s)) s
+row_bound c k s (Ready i) = ready_bound (is_ready_for_call i s) s
+row_bound c k s (Answer v) = tt
+
+main_room : (s : State) (l : Label) (t : State) → s.turn ≡ turn.Main → running_group t.core t.turn ≡ None → work_notices l s.core ≡ [] → Fits s.core (start_notices l t.core) t.core → Room s l t
+main_room s l t at none quiet fits =
+    let e = ap length (main_told s l t at none quiet) ∙ length-append (start_notices l t.core) (finish_notices s.core.groups t.core.groups) in
+    omega (arith, e, fits)
+
+core_at : (s : State) (new : Core) (m : Main) (p : Turn) → (at_turn s new m p).core ≡ new
+unfolding at_turn
+core_at s new m p = refl
+
+core_by : (s : State) (new : Core) (m : Main) (p : Turn) (t : State) → t ≡ at_turn s new m p → t.core ≡ new
+core_by s new m p t is = ap (λ (u : State). u.core) is ∙ core_at s new m p
+
+module _ (s : State) (at : s.turn ≡ turn.Main) (l : Label) (t : State) where
+  done_room : (k : MainLabel) (new : Core) (m : Main) → l ≡ label.Main k → t ≡ at_turn s new m turn.Main → Bound s.core (Does k new) → Room s l t
+  done_room k new m shown is bound =
+      main_room s l t at (none_by t _ is (main_none s t.core new m)) (ap (λ (q : Label). work_notices q s.core) shown)
+      (subst (λ (q : Label). Fits s.core (start_notices q t.core) t.core) (sym shown) (subst (λ (d : Core). Fits s.core (start_notices (label.Main k) d) d) (sym (core_by s new m turn.Main t is)) bound))
+
+  left_room : (k : Label) (p : Turn) → l ≡ k → t ≡ at_turn s s.core s.main p → running_group t.core (at_turn s s.core s.main p).turn ≡ None → work_notices k s.core ≡ [] → start_notices k t.core ≡ [] → Room s l t
+  left_room k p shown is none quiet unstarted =
+      main_room s l t at (none_by t _ is none) (ap (λ (q : Label). work_notices q s.core) shown ∙ quiet)
+      (subst (λ (ns : List Notice). Fits s.core ns t.core) (sym (ap (λ (q : Label). start_notices q t.core) shown ∙ unstarted)) (same_fits s.core t.core (ap (λ (d : Core). d.groups) (core_by s s.core s.main p t is))))
+
+  pends_room : l ≡ label.Loop loop_label.MainPends → t ≡ goes_to s s.core (turn.Futures 0) → Room s l t
+  pends_room shown is = left_room (label.Loop loop_label.MainPends) (turn.Futures 0) shown is (futures_none s t.core s.core s.main 0) refl refl
+
+  answers_room : (v : ℕ) → l ≡ label.Main (main_label.Answer v) → t ≡ goes_to s s.core turn.Over → Room s l t
+  answers_room v shown is = left_room (label.Main (main_label.Answer v)) turn.Over shown is (over_none s t.core s.core s.main) refl refl
+
+  script_room : (p : MainPlace) (o : MainOpDef) (q : MainProgress) → MainProgresses s p o q l t → Bound s.core q → Room s l t
+  script_room p o (Does k new) h bound = done_room k new _ h.0 h.1 bound
+  script_room p o Pends h bound = pends_room h.0 h.1
+  script_room p o (Answers v) h bound = answers_room v h.0 h.1
+
+  place_room : (x : Setting) (p : MainPlace) (o : Option MainOpDef) → ScriptStep x s p o l t → Room s l t
+  place_room x p None h = pends_room h.0 h.1
+  place_room x p (Some o) h = script_room p o _ h (row_bound x.component (line_of p o) s.core (act_of p o))
+
+  open_room : (q : MainProgress) → OpenProgresses s q l t → Bound s.core q → Room s l t
+  open_room (Does k new) h bound = done_room k new s.main h.0 h.1 bound
+  open_room Pends h bound = absurd h
+  open_room (Answers v) h bound = answers_room v h.0 h.1
+
+  act_room : (x : Setting) → (k : ℕ) × ((act : MainAct) × OpenAct x s k act l t) → Room s l t
+  act_room x h = open_room _ h.1.1.1 (row_bound x.component h.0 s.core h.1.0)
+
+any_room : (s : State) (at : s.turn ≡ turn.Main) (l : Label) (t : State) (x : Setting) → OpenStep x s l t → Room s l t
+any_room s at (label.Loop loop_label.MainPends) t x h = pends_room s at (label.Loop loop_label.MainPends) t refl h
+any_room s at (label.Loop l) t x h = act_room s at (label.Loop l) t x h
+any_room s at (label.Main l) t x h = act_room s at (label.Main l) t x h
+any_room s at l t x h = act_room s at l t x h
+
+mains_room : (s : State) (at : s.turn ≡ turn.Main) (l : Label) (t : State) (x : Setting) (m : Main) → MainStep x s m l t → Room s l t
+mains_room s at l t x (Scripted p) h = place_room s at l t x p (op_at x.script p) h
+mains_room s at l t x Unscripted h = any_room s at l t x h
+
+turn_room : (x : Setting) (s : State) (l : Label) (t : State) (p : Turn) → s.turn ≡ p → TurnStep x s p l t → Step x s l t → Room s l t
+turn_room x s l t turn.Main at h step = mains_room s at l t x s.main h
+turn_room x s l t (turn.Futures n) at h step = other_room x s l t step (ap is_main_turn at)
+turn_room x s l t (turn.Take b) at h step = other_room x s l t step (ap is_main_turn at)
+turn_room x s l t (turn.Run n) at h step = other_room x s l t step (ap is_main_turn at)
+turn_room x s l t turn.Over at h step = other_room x s l t step (ap is_main_turn at)
+
+step_room : (x : Setting) (s : State) (l : Label) (t : State) → Step x s l t → Room s l t
+unfolding Step
+step_room x s l t step = turn_room x s l t s.turn refl step step
+
+-- ---- A run's notices are at most two for each label, beside the groups that it began with
+pub run_room : (x : Setting) (s : State) (ls : List Label) (t : State) (run : Run x s ls t) → length (notices (history x s ls t run)) + length t.core.groups ≤ 2 * length ls + length s.core.groups
+run_room x s [] t run = let e = ap (λ (u : State). length u.core.groups) run in omega (arith, e)
+run_room x s (l ∷ ls) t run =
+    let first = step_room x s l run.0 run.1.0 in
+    let rest = run_room x run.0 ls t run.1.1 in
+    let e = length-append (moment_notices (moment s l run.0)) (notices (history x run.0 ls t run.1.1)) in
+    omega (arith, first, rest, e)
