@@ -1,7 +1,7 @@
 //! What the groups of a run are told.
 use std::alloc::Global;
 use std::process::Abort;
-use task_loop::{Notice, NoticeKind};
+use task_loop::{NoticeKind, Notices};
 use task_run::run_scenario;
 
 // A letter for what happened: Start, Enter, eXit, Finish.
@@ -15,7 +15,7 @@ fn letter(kind: NoticeKind) -> u8 {
 }
 
 // The notices as text: a letter and a digit for each.
-fn written(rt: &impl Abort, alloc: Global, notices: &[Notice]) -> Vec<u8> {
+fn written(rt: &impl Abort, alloc: Global, notices: Notices<'_>) -> Vec<u8> {
     let mut text = Vec::new(alloc);
     for notice in notices {
         assert!(rt; notice.group < 10);
@@ -31,7 +31,7 @@ fn tells(rt: &impl Abort, alloc: Global, text: &[u8], told: &[u8]) {
     let Ok(report) = run_scenario(alloc, text, 200) else {
         panic!(rt; "a report")
     };
-    let text = written(rt, alloc, report.groups.as_slice());
+    let text = written(rt, alloc, report.groups.notices());
     assert!(rt; text.as_slice() == told);
 }
 

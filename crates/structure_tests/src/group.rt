@@ -4,7 +4,7 @@ ghost use Rattle.task_group.specs.Heard.{Tells, notice_of};
 use std::alloc::Global;
 use std::cell::Cell;
 use std::process::Abort;
-use task_group::{GroupError, Groups, HookError, Notice, NoticeKind, TaskGroupHook, TaskGroupId};
+use task_group::{GroupError, Groups, HookError, NoticeKind, Notices, TaskGroupHook, TaskGroupId};
 
 // What was told is written down as two digits for each notice: what happened, and to which group.
 const START: u64 = 1;
@@ -201,8 +201,9 @@ fn no_hook(rt: HostRuntime) {
 }
 
 // Whether the first notice is that this group starts.
-fn first_starts(notices: &[Notice], number: u64) -> bool {
-    match notices.first() {
+fn first_starts(notices: Notices<'_>, number: u64) -> bool {
+    let mut left = notices;
+    match left.next() {
         Some(notice) => matches!(notice.kind, NoticeKind::Start) && notice.group == number,
         None => false,
     }

@@ -1,6 +1,6 @@
 use group_notices::{Asked, tell_step};
 use std::process::Abort;
-use task_group::{Groups, Notice, NoticeKind};
+use task_group::{Groups, NoticeKind, Notices};
 
 // A letter for what happened: Start, Enter, eXit, Finish.
 fn letter(kind: NoticeKind) -> u8 {
@@ -19,11 +19,12 @@ fn last(rt: &impl Abort, groups: &Groups, count: usize, kind: u8) {
 }
 
 // The group and the letter of the last notice.
-fn last_of(notices: &[Notice]) -> (u64, u8) {
-    match notices.last() {
-        Some(notice) => (notice.group, letter(notice.kind)),
-        None => (0, 0),
+fn last_of(notices: Notices<'_>) -> (u64, u8) {
+    let mut last = (0, 0);
+    for notice in notices {
+        last = (notice.group, letter(notice.kind));
     }
+    last
 }
 
 // What is asked before a step: the group that runs, and the one at stake.

@@ -1,3 +1,5 @@
+pub mod Kept
+pub mod Packed
 pub mod Heard
 pub mod Listeners
 pub mod Counts

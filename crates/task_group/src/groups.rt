@@ -9,9 +9,10 @@ use crate::hook::{NoHook, TaskGroupHook};
 use crate::listeners::Listeners;
 use crate::live::Live;
 use crate::notice::{GroupError, TaskGroupId};
+use crate::notices::Notices;
 use std::alloc::Global;
 use std::marker::Model;
-use task_machine::{NoMemory, Notice, NoticeKind};
+use task_machine::{NoMemory, NoticeKind};
 
 /// The live groups of a store, with the number of tasks in each, and who is told of them.
 ///
@@ -265,8 +266,8 @@ impl<H: TaskGroupHook> Groups<H> {
     }
 
     /// The notices that were kept, in the order in which they were told.
-    pub fn notices(&self) -> &[Notice]
-        ensures { result.now ≡ self.now.listeners.notices }
+    pub fn notices(&self) -> Notices<'_>
+        ensures { result ≡ self.now.listeners.notices }
     {
         self.listeners.notices()
     }

@@ -4,11 +4,15 @@
 mod counts;
 mod groups;
 mod hook;
+mod kept;
 mod listeners;
 mod live;
 mod notice;
+mod notices;
+mod packed;
 
 pub use groups::Groups;
 pub use hook::{NoHook, TaskGroupHook};
 pub use notice::{GroupError, HookError, TaskGroupId};
+pub use notices::{NoticeList, Notices};
 pub use task_machine::{NoMemory, Notice, NoticeKind};

@@ -3,7 +3,9 @@ ghost use Rattle.task_group.specs.Heard.{notice_of};
 ghost use Rattle.task_group.specs.Listeners.{nobody, Told, AnsweredErr};
 
 use crate::hook::{TaskGroupHook, tell};
+use crate::kept::Kept;
 use crate::notice::{HookError, TaskGroupId};
+use crate::notices::Notices;
 use std::alloc::Global;
 use std::marker::Model;
 use task_machine::{NoMemory, Notice, NoticeKind};
@@ -12,12 +14,10 @@ use task_machine::{NoMemory, Notice, NoticeKind};
 #[derive(Drop)]
 pub struct Listeners<H: TaskGroupHook> {
     hook: Option<H>,
-    notices: Vec<Notice>,
-    room: usize,
+    kept: Kept,
 }
 
 impl<H: TaskGroupHook> Model for Listeners<H> {
-    ghost use Rattle.std.specs.Prelude.{◌≤◌, vec_capacity};
     ghost use Rattle.std.specs.Option.{option_map};
     ghost use Rattle.task_group.specs.Listeners.{Listeners as Shown, listeners_code};
 
@@ -27,11 +27,9 @@ impl<H: TaskGroupHook> Model for Listeners<H> {
 
     ghost view = { λ l. record {
       hook = option_map H.heard l.hook;
-      notices = l.notices.items;
-      room = l.room;
+      notices = l.kept.notices;
+      room = l.kept.room;
     } };
-
-    ghost invariant = { λ l. l.room ≤ vec_capacity l.notices };
 }
 
 impl<H: TaskGroupHook> Listeners<H> {
@@ -40,8 +38,7 @@ impl<H: TaskGroupHook> Listeners<H> {
     {
         Listeners {
             hook: None,
-            notices: Vec::new(alloc),
-            room: 0,
+            kept: Kept::new(alloc),
         }
     }
 
@@ -55,17 +52,13 @@ impl<H: TaskGroupHook> Listeners<H> {
         ensures ok { OnOk result (self.new ≡ record self.old { room = room }) }
         ensures err { OnErr result (self.new ≡ self.old) }
     {
-        if self.notices.reserve_exact(room).is_err() {
-            return Err(NoMemory);
-        }
-        self.room = room;
-        Ok(())
+        self.kept.keep(room)
     }
 
-    pub fn notices(&self) -> &[Notice]
-        ensures { result.now ≡ self.now.notices }
+    pub fn notices(&self) -> Notices<'_>
+        ensures { result ≡ self.now.notices }
     {
-        self.notices.as_slice()
+        self.kept.notices()
     }
 
     // One notice to the hook and to the list. An error is the hook's.
@@ -74,12 +67,10 @@ impl<H: TaskGroupHook> Listeners<H> {
         ensures told { Told (notice_of kind id ∷ []) self.old self.new }
         ensures answer { IsErr result ↔ AnsweredErr self.old self.new }
     {
-        if self.notices.len() < self.room {
-            self.notices.push_reserved(Notice {
-                kind,
-                group: id.number,
-            });
-        }
+        self.kept.push(Notice {
+            kind,
+            group: id.number,
+        });
         match &mut self.hook {
             Some(hook) => tell(hook, kind, id),
             None => Ok(()),

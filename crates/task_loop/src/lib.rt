@@ -21,7 +21,7 @@ pub use main_task::MainTask;
 pub use polls::RunPoll;
 pub use run::{RunConcurrent, run_concurrent};
 pub use task_calls::{Answer, QualifiedThreadId, ResumeThread, Step, SuspensionTarget, TaskError};
-pub use task_group::{Notice, NoticeKind, TaskGroupId};
+pub use task_group::{Notice, NoticeKind, NoticeList, Notices, TaskGroupId};
 pub use task_machine::{
     Callee, Component, ExportDef, HostDef, InstanceDef, Label, NoMemory, Op, Operand, Outcome, Slot,
 };

@@ -161,7 +161,10 @@ fn step_thread<T, H: AccessorTask<T> + FromHost>(
     ensures groups { OnOk result (store.new.groups ≡ store.old.groups) }
     ensures err { OnErr result (trace.new ≡ trace.old) }
 {
-    match step_run(component, &mut store.state, thread, trace, staked)? {
+    let Ok(step) = step_run(component, &mut store.state, thread, trace, staked) else {
+        return Err(NoMemory);
+    };
+    match step {
         RunStep::Shown(stepped) => Ok(stepped),
         RunStep::Called(ran) => {
             store.call_host(ran.polled, ran.work)?;
@@ -198,7 +201,9 @@ fn run_thread<T, H: AccessorTask<T> + FromHost>(
 {
     let live = store.state.groups();
     let mut staked = *running;
-    let stepped = step_thread(component, store, thread, trace, &mut staked)?;
+    let Ok(stepped) = step_thread(component, store, thread, trace, &mut staked) else {
+        return Err(NoMemory);
+    };
     *running = tell_run(
         &store.state,
         &mut store.groups,
@@ -327,7 +332,10 @@ impl RunConcurrent {
         let mut running = group_of(&store.state, self.turn).unwrap_or(0);
         'turns: while added < steps {
             let next = next_mark(store, self.turn);
-            match self.turn(component, store, main, trace, &mut running)? {
+            let Ok(stepped) = self.turn(component, store, main, trace, &mut running) else {
+                return Err(NoMemory);
+            };
+            match stepped {
                 None => {
                     self.pace = pace.past(None);
                     return Ok(Outcome::Idle);
@@ -393,12 +401,19 @@ impl RunConcurrent {
         ensures err { OnErr result (trace.new ≡ trace.old) }
     {
         match self.turn {
-            Turn::Main => Ok(Some(step_main(component, store, main, trace)?)),
+            Turn::Main => {
+                let Ok(stepped) = step_main(component, store, main, trace) else {
+                    return Err(NoMemory);
+                };
+                Ok(Some(stepped))
+            }
             Turn::Futures { polled } => {
                 let live = store.state.groups();
                 let mut worked = None;
                 let made = store.poll_next(polled, &mut worked);
-                let stepped = put(trace, made)?;
+                let Ok(stepped) = put(trace, made) else {
+                    return Err(NoMemory);
+                };
                 *running = tell_work(&store.state, &mut store.groups, &stepped, worked, live);
                 Ok(Some(stepped))
             }
@@ -406,7 +421,12 @@ impl RunConcurrent {
                 let live = store.state.groups();
                 let mut worked = None;
                 let idle = self.trap_on_idle;
-                match take(component, &mut store.state, ended, idle, trace, &mut worked)? {
+                let Ok(taken) =
+                    take(component, &mut store.state, ended, idle, trace, &mut worked)
+                else {
+                    return Err(NoMemory);
+                };
+                match taken {
                     None => Ok(None),
                     Some(stepped) => {
                         *running = tell_work(
@@ -421,7 +441,9 @@ impl RunConcurrent {
                 }
             }
             Turn::Run { thread } => {
-                let stepped = run_thread(component, store, thread, trace, running)?;
+                let Ok(stepped) = run_thread(component, store, thread, trace, running) else {
+                    return Err(NoMemory);
+                };
                 Ok(Some(stepped))
             }
             Turn::Over => unreachable!(),

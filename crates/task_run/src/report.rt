@@ -19,7 +19,7 @@ use crate::scenario::Scenario;
 use report_text::Page;
 use scenario_reader::RunError;
 use std::alloc::{AllocError, Global};
-use task_loop::{Notice, Outcome, Trace, run_concurrent};
+use task_loop::{NoticeList, Outcome, Trace, run_concurrent};
 use task_machine::{IdleLine, NoMemory};
 use task_store::{ScriptedHost, Store};
 
@@ -29,7 +29,7 @@ pub struct Report {
     pub trace: Trace,
     pub outcome: Outcome,
     /// What the groups were told, in order.
-    pub groups: Vec<Notice>,
+    pub groups: NoticeList,
     pub store: Store<(), ScriptedHost>,
 }
 
@@ -100,10 +100,7 @@ fn run(alloc: Global, scenario: &Scenario, steps: u32) -> Result<Report, NoMemor
         return Err(NoMemory);
     };
     run.end(&mut store);
-    let mut groups = Vec::new(alloc);
-    let Ok(()) = groups.extend_from_slice(store.notices()) else {
-        return Err(NoMemory);
-    };
+    let groups = NoticeList::copied(alloc, store.notices())?;
     Ok(Report {
         trace,
         outcome,

@@ -18,7 +18,7 @@ use crate::scopes::ComponentTasksNotConcurrent;
 use host_works::HostWorks;
 use record_core::TaskCore;
 use std::alloc::Global;
-use task_group::{Groups, Notice};
+use task_group::{Groups, Notices};
 use task_machine::{NoMemory, Trap};
 use task_words::ResultWords;
 
@@ -222,9 +222,9 @@ impl<T, H> Store<T, H> {
     }
 
     /// The notices that were kept, in the order in which they were told.
-    pub fn notices(&self) -> &[Notice]
+    pub fn notices(&self) -> Notices<'_>
         requires { self.now.concurrent ≡ true }
-        ensures { result.now ≡ self.now.groups.listeners.notices }
+        ensures { result ≡ self.now.groups.listeners.notices }
     {
         self.groups.notices()
     }
