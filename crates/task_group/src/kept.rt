@@ -19,7 +19,7 @@ pub struct Kept {
 }
 
 impl Model for Kept {
-    ghost use Rattle.std.specs.Prelude.{◌≡◌, ◌<◌, ◌≤◌, ◌×◌, ◌^◌, [], vec_capacity};
+    ghost use Rattle.std.specs.Prelude.{vec_capacity};
     ghost use Rattle.task_group.specs.Kept.{Kept as Shown, IsSound};
     ghost use Rattle.task_group.specs.Packed.{listed};
 
