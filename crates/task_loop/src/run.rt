@@ -414,7 +414,7 @@ impl RunConcurrent {
                 let Ok(stepped) = put(trace, made) else {
                     return Err(NoMemory);
                 };
-                *running = tell_work(&store.state, &mut store.groups, &stepped, worked, live);
+                *running = tell_work(&store.state, &mut store.groups, worked, live);
                 Ok(Some(stepped))
             }
             Turn::Take { ended } => {
@@ -429,13 +429,7 @@ impl RunConcurrent {
                 match taken {
                     None => Ok(None),
                     Some(stepped) => {
-                        *running = tell_work(
-                            &store.state,
-                            &mut store.groups,
-                            &stepped,
-                            worked,
-                            live,
-                        );
+                        *running = tell_work(&store.state, &mut store.groups, worked, live);
                         Ok(Some(stepped))
                     }
                 }
