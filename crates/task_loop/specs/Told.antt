@@ -41,12 +41,12 @@ abbrev pub group_running : Core → Turn → ℕ
 group_running s p = unwrap_or (running_group s p) 0
 
 -- what is asked before the step of a turn in which no thread runs
-abbrev pub asked_beside : (worked : Option ℕ) → (live : ℕ) → Asked
-asked_beside worked live = record { running = None; worked = worked; staked = 0; live = live }
+abbrev pub asked_beside : (worked : Option ℕ) → Asked
+asked_beside worked = record { running = None; worked = worked; staked = 0 }
 
 -- and before that of a thread of this group, which may finish that one
-abbrev pub asked_in : (running staked live : ℕ) → Asked
-asked_in running staked live = record { running = Some running; worked = None; staked = staked; live = live }
+abbrev pub asked_in : (running staked : ℕ) → Asked
+asked_in running staked = record { running = Some running; worked = None; staked = staked }
 
 -- the notices of the step that was made, if one was
 abbrev pub notices_made : Turn → Main → Core → Option Made → Main → Core → List Notice
