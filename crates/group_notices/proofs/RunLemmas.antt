@@ -54,7 +54,6 @@ pub asked_told : AskedTold
 asked_told x s l t a step main q = (
   record {
     groups = subst (λ g. (t.core.groups ≡ []) ⊎ OneLess g s.core.groups t.core.groups) (sym q.staked) (steps_tell x s l t step main).groups;
-    before = q.live;
     after = refl;
   },
   ap₂ (λ (r w : Option ℕ). of_live s.core.groups (switch_notices r (running_group t.core t.turn) ++ around w) ++ finish_notices s.core.groups t.core.groups)

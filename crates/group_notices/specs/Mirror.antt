@@ -23,8 +23,7 @@ named o = option_map (λ n. record { number = n }) o
 abbrev pub told_by : Asked → Option ℕ → List ℕ → List ℕ → List Notice
 told_by a running gs hs = of_live gs (switch_notices a.running running ++ around a.worked) ++ finish_notices gs hs
 
--- the groups from before to after a step: all are finished, or the one that was at stake, or none; and so many were live, and are
+-- the groups from before to after a step: all are finished, or the one that was at stake, or none; and so many are live
 pub record Leads (a : Asked) (left : ℕ) (gs hs : List ℕ) : Type 0 where
   pub groups : (hs ≡ []) ⊎ OneLess a.staked gs hs
-  pub before : a.live ≡ length gs
   pub after : left ≡ length hs

@@ -32,7 +32,6 @@ pub record IsAsked (c : Component) (s : Core) (p : Turn) (a : Asked) : Type 0 wh
   pub running : a.running ≡ running_group s p
   pub worked : a.worked ≡ worked_group s p
   pub staked : a.staked ≡ staked c s p
-  pub live : a.live ≡ length s.groups
 
 -- nothing is told of no run
 abbrev pub NothingTold : Type 0

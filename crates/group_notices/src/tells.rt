@@ -1,4 +1,4 @@
-ghost use Rattle.std.specs.Prelude.{◌≡◌, ◌≤◌, List, ℕ, None, IsErr, OnOk, is_some};
+ghost use Rattle.std.specs.Prelude.{◌≡◌, ◌≤◌, List, ℕ, None, IsErr, OnOk, false, is_some, true};
 ghost use Rattle.group_notices.specs.Mirror.{Leads, Mirrors, named, told_by};
 ghost use Rattle.task_group.specs.Listeners.{AnsweredErr, Told, errors_of};
 ghost use Rattle.task_rules.specs.Notices.{around, finish_notices, of_live, switch_notices};
@@ -6,13 +6,12 @@ ghost use Rattle.task_rules.specs.Notices.{around, finish_notices, of_live, swit
 use task_group::{GroupError, Groups, TaskGroupHook, TaskGroupId};
 
 /// What is asked of a turn before its step: the group of the thread that runs, that of the work which
-/// the turn works on, the group that the step may finish, and how many groups are live.
+/// the turn works on, and the group that the step may finish.
 #[derive(Clone, Copy)]
 pub struct Asked {
     pub running: Option<u64>,
     pub worked: Option<u64>,
     pub staked: u64,
-    pub live: u64,
 }
 
 #[inline(always)]
@@ -87,7 +86,7 @@ fn finish_some<H: TaskGroupHook>(
         groups.clean_up(None);
         return Ok(());
     }
-    if left < asked.live {
+    if left < groups.len() {
         groups.decrement(TaskGroupId {
             number: asked.staked,
         })?;
@@ -109,7 +108,7 @@ fn finish<H: TaskGroupHook>(
     ensures errors { errors_of groups.old.listeners ≤ errors_of groups.new.listeners }
     ensures hook { is_some groups.new.listeners.hook ≡ is_some groups.old.listeners.hook }
 {
-    if left == asked.live {
+    if left == groups.len() {
         return Ok(());
     }
     finish_some(groups, *asked, left)
@@ -136,4 +135,28 @@ pub fn tell_step<H: TaskGroupHook>(
     switch(groups, asked.running, running)?;
     work(groups, asked.worked)?;
     finish(groups, asked, left)
+}
+
+/// The same where it is told at once, which is so of most steps: no work was worked on, no group was finished, and there is no
+/// hook. Answers whether it was; else nothing is told.
+#[inline(always)]
+pub fn tell_at_once<H: TaskGroupHook>(
+    groups: &mut Groups<H>,
+    asked: &Asked,
+    running: Option<u64>,
+    left: u64,
+) -> bool
+    ensures made { groups.new.made ≡ groups.old.made }
+    ensures told { result ≡ true → (gs hs : List ℕ) → Mirrors gs groups.old → Leads asked.now left gs hs → Told (told_by asked.now running gs hs) groups.old.listeners groups.new.listeners }
+    ensures mirrors { result ≡ true → (gs hs : List ℕ) → Mirrors gs groups.old → Leads asked.now left gs hs → Mirrors hs groups.new }
+    ensures none { result ≡ false → groups.new ≡ groups.old }
+    ensures hook { is_some groups.new.listeners.hook ≡ is_some groups.old.listeners.hook }
+{
+    if asked.worked.is_some() {
+        return false;
+    }
+    if left != groups.len() {
+        return false;
+    }
+    groups.switch_at_once(name(asked.running), name(running))
 }

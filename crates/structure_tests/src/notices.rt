@@ -33,7 +33,6 @@ fn asked(running: Option<u64>, staked: u64) -> Asked {
         running,
         worked: None,
         staked,
-        live: 1,
     }
 }
 

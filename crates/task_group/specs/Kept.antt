@@ -11,8 +11,8 @@ abbrev pub nothing : Kept
 nothing = record { notices = []; room = 0 }
 
 -- There is room in both parts, and words are added only as long as none is kept whole.
-pub record IsSound (whole : List Notice) (below room words_room whole_room : ℕ) : Type 0 where
+pub record IsSound (notices : List Notice) (below room words_room whole_room : ℕ) : Type 0 where
   pub words : room ≤ words_room
   pub whole : room ≤ whole_room
   pub fit : below ≤ 2 ^ 30
-  pub first : 0 < below → whole ≡ []
+  pub first : 0 < below → notices ≡ []

@@ -47,6 +47,14 @@ impl Counts {
         self.counts.get(&number).copied().unwrap_or(0)
     }
 
+    // How many groups are live.
+    #[inline(always)]
+    pub fn len(&self) -> usize
+        ensures { result ≡ finite.len self.now }
+    {
+        self.counts.len()
+    }
+
     // A new group, with one task.
     pub fn add(&mut self, number: u64) -> Result<(), AllocError>
         ensures ok { OnOk result (self.new ≡ finite.insert self.old number 1) }

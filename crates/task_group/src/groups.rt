@@ -1,7 +1,7 @@
-ghost use Rattle.std.specs.Prelude.{◌≡◌, ◌≢◌, ℕ, ◌≤◌, ◌<◌, ◌+◌, ◌-◌, ◌^◌, ◌↔◌, ◌∷◌, [], ◌++◌, Some, None, Err, IsTrue, IsSome, IfOk, OnOk, OnErr, false, is_some, if◌then◌else◌};
+ghost use Rattle.std.specs.Prelude.{◌≡◌, ◌≢◌, ℕ, ◌≤◌, ◌<◌, ◌+◌, ◌-◌, ◌^◌, ◌↔◌, ◌∷◌, [], ◌++◌, Some, None, Err, IsTrue, IsSome, IfOk, OnOk, OnErr, false, is_some, if◌then◌else◌, true};
 ghost use Rattle.std.specs.FinMap as finite;
 ghost use Rattle.task_group.specs.Counts.{count_in, raised, lowered};
-ghost use Rattle.task_group.specs.Listeners.{nobody, Told, AnsweredErr};
+ghost use Rattle.task_group.specs.Listeners.{nobody, Told, AnsweredErr, errors_of};
 ghost use Rattle.task_group.specs.Heard.{start_of};
 ghost use Rattle.task_group.specs.Groups.{notice_at, finish_at, finish_all, same_group, Switches};
 
@@ -204,6 +204,37 @@ impl<H: TaskGroupHook> Groups<H> {
         self.tell_if_live(NoticeKind::Enter, new)
     }
 
+    /// The same where it is told at once, which is so of most switches: nothing is to be told, or there is no hook, and one notice
+    /// of a group that is known to be live is kept in four bytes. Answers whether it was; else nothing is told.
+    #[inline(always)]
+    pub fn switch_at_once(&mut self, old: Option<TaskGroupId>, new: Option<TaskGroupId>) -> bool
+        ensures groups { (self.new.live ≡ self.old.live) × (self.new.made ≡ self.old.made) }
+        ensures same { IsTrue (same_group old new) → self.new ≡ self.old }
+        ensures told { result ≡ true → same_group old new ≡ false → Switches (notice_at self.old.live NoticeKind.Exit old) (notice_at self.old.live NoticeKind.Enter new) self.old.listeners self.new.listeners }
+        ensures calm { result ≡ true → errors_of self.new.listeners ≡ errors_of self.old.listeners }
+        ensures none { result ≡ false → self.new ≡ self.old }
+    {
+        match (old, new) {
+            (Some(id), None) => self.tell_at_once(NoticeKind::Exit, id),
+            (None, Some(id)) => self.tell_at_once(NoticeKind::Enter, id),
+            _ => is_same(old, new),
+        }
+    }
+
+    // A notice of a group that is known to be live.
+    #[inline(always)]
+    fn tell_at_once(&mut self, kind: NoticeKind, id: TaskGroupId) -> bool
+        ensures groups { (self.new.live ≡ self.old.live) × (self.new.made ≡ self.old.made) }
+        ensures told { result ≡ true → Told (notice_at self.old.live kind (Some id)) self.old.listeners self.new.listeners }
+        ensures calm { result ≡ true → errors_of self.new.listeners ≡ errors_of self.old.listeners }
+        ensures none { result ≡ false → self.new ≡ self.old }
+    {
+        if !self.counts.is_known(id.number) {
+            return false;
+        }
+        self.listeners.tell_word(kind, id)
+    }
+
     // A notice of a group, but of a finished one or of none.
     #[inline(always)]
     fn tell_if_live(
@@ -244,6 +275,14 @@ impl<H: TaskGroupHook> Groups<H> {
         ensures finished { (result ≡ 0) ↔ (finite.get self.now.live id.number ≡ None) }
     {
         self.counts.get(id.number)
+    }
+
+    /// How many groups are live.
+    #[inline(always)]
+    pub fn len(&self) -> u64
+        ensures { result ≡ finite.len self.now.live }
+    {
+        self.counts.len() as u64
     }
 
     /// How many groups were made so far. No live group has a greater number.

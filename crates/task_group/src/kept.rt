@@ -1,5 +1,5 @@
 //! The notices that are kept.
-ghost use Rattle.std.specs.Prelude.{◌≡◌, ◌-◌, [], ◌∷◌, ◌++◌, OnOk, OnErr, length, take};
+ghost use Rattle.std.specs.Prelude.{◌≡◌, ◌-◌, [], ◌∷◌, ◌++◌, OnOk, OnErr, false, length, take, true};
 ghost use Rattle.task_group.specs.Kept.{nothing};
 
 use crate::notices::Notices;
@@ -19,7 +19,7 @@ pub struct Kept {
 }
 
 impl Model for Kept {
-    ghost use Rattle.std.specs.Prelude.{◌≡◌, ◌<◌, ◌≤◌, ◌×◌, ◌^◌, [], vec_capacity};
+    ghost use Rattle.std.specs.Prelude.{vec_capacity};
     ghost use Rattle.task_group.specs.Kept.{Kept as Shown, IsSound};
     ghost use Rattle.task_group.specs.Packed.{listed};
 
@@ -74,16 +74,28 @@ impl Kept {
     pub fn push(&mut self, notice: Notice)
         ensures { self.new ≡ record self.old { notices = self.old.notices ++ take (self.old.room - length self.old.notices) (notice ∷ []) } }
     {
-        if notice.group < self.below {
-            if self.words.len() < self.room {
-                self.words.push_reserved(packed(notice));
-            }
-            return;
+        if !self.push_word(notice) {
+            self.push_whole(notice);
         }
-        self.push_whole(notice);
     }
 
-    // The same, whole. It is out of line, as few groups have such numbers.
+    /// The same where that takes a word, and there is room. Answers whether it was kept.
+    #[inline(always)]
+    pub fn push_word(&mut self, notice: Notice) -> bool
+        ensures kept { result ≡ true → self.new ≡ record self.old { notices = self.old.notices ++ take (self.old.room - length self.old.notices) (notice ∷ []) } }
+        ensures none { result ≡ false → self.new ≡ self.old }
+    {
+        if notice.group >= self.below {
+            return false;
+        }
+        if self.words.len() >= self.room {
+            return false;
+        }
+        self.words.push_reserved(packed(notice));
+        true
+    }
+
+    // The same, as a word or whole. It is out of line, as few groups have numbers that don't fit a word.
     #[cold]
     #[inline(never)]
     fn push_whole(&mut self, notice: Notice)

@@ -1,6 +1,6 @@
-ghost use Rattle.std.specs.Prelude.{◌≡◌, ◌↔◌, ◌∷◌, [], OnOk, OnErr, IsErr, Some};
+ghost use Rattle.std.specs.Prelude.{◌≡◌, ◌↔◌, ◌∷◌, [], OnOk, OnErr, IsErr, Some, false, true};
 ghost use Rattle.task_group.specs.Heard.{notice_of};
-ghost use Rattle.task_group.specs.Listeners.{nobody, Told, AnsweredErr};
+ghost use Rattle.task_group.specs.Listeners.{nobody, Told, AnsweredErr, errors_of};
 
 use crate::hook::{TaskGroupHook, tell};
 use crate::kept::Kept;
@@ -59,6 +59,22 @@ impl<H: TaskGroupHook> Listeners<H> {
         ensures { result ≡ self.now.notices }
     {
         self.kept.notices()
+    }
+
+    // One notice to the list, where there is no hook, and it is kept as a word. Answers whether it was told; else nothing is.
+    #[inline(always)]
+    pub fn tell_word(&mut self, kind: NoticeKind, id: TaskGroupId) -> bool
+        ensures told { result ≡ true → Told (notice_of kind id ∷ []) self.old self.new }
+        ensures calm { result ≡ true → errors_of self.new ≡ errors_of self.old }
+        ensures none { result ≡ false → self.new ≡ self.old }
+    {
+        if self.hook.is_some() {
+            return false;
+        }
+        self.kept.push_word(Notice {
+            kind,
+            group: id.number,
+        })
     }
 
     // One notice to the hook and to the list. An error is the hook's.

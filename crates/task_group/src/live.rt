@@ -1,4 +1,4 @@
-ghost use Rattle.std.specs.Prelude.{◌≡◌, ◌<◌, ◌+◌, ◌==◌, ◌↔◌, ◌++◌, None, IsSome, OnOk, OnErr, IfNone, is_some};
+ghost use Rattle.std.specs.Prelude.{◌≡◌, ◌<◌, ◌+◌, ◌==◌, ◌↔◌, ◌++◌, None, IsSome, OnOk, OnErr, IfNone, is_some, true};
 ghost use Rattle.std.specs.Option.{option_to_list};
 ghost use Rattle.std.specs.FinMap as finite;
 ghost use Rattle.task_group.specs.Counts.{count_in};
@@ -50,15 +50,32 @@ impl Live {
         self.counts.get(number)
     }
 
+    // How many groups are live.
+    #[inline(always)]
+    pub fn len(&self) -> usize
+        ensures { result ≡ finite.len self.now }
+    {
+        self.counts.len()
+    }
+
+    // Whether the group is known to be live without a look-up.
+    #[inline(always)]
+    pub fn is_known(&self, number: u64) -> bool
+        ensures { result ≡ true → is_some (finite.get self.now number) ≡ true }
+    {
+        if number < self.low {
+            return false;
+        }
+        number <= self.high
+    }
+
     // Whether the group is live.
     #[inline(always)]
     pub fn is_live(&self, number: u64) -> bool
         ensures { result ≡ is_some (finite.get self.now number) }
     {
-        if self.low <= number {
-            if number <= self.high {
-                return true;
-            }
+        if self.is_known(number) {
+            return true;
         }
         self.look_up(number)
     }

@@ -7,7 +7,7 @@ use std::marker::Model;
 use task_machine::{NoMemory, Notice};
 
 /// The notices of a list that are left, one after another. A contract sees the list of them.
-#[derive(Clone, Copy)]
+#[derive(Drop)]
 pub struct Notices<'a> {
     pub(crate) words: &'a [u32],
     pub(crate) whole: &'a [Notice],
@@ -78,7 +78,7 @@ impl Model for NoticeList {
 impl NoticeList {
     /// A copy of these notices. `NoMemory` where there is none for them.
     pub fn copied(alloc: Global, notices: Notices<'_>) -> Result<NoticeList, NoMemory>
-        ensures { IfOk result (λ list. list ≡ notices) }
+        ensures { IfOk result (λ list. list ≡ notices.entry) }
     {
         let mut words = Vec::new(alloc);
         let Ok(()) = words.extend_from_slice(notices.words) else {

@@ -23,11 +23,14 @@ fn code_of(kind: NoticeKind) -> u32
 fn kind_at(code: u32) -> NoticeKind
     ensures { result ≡ kind_at code }
 {
-    match code {
-        0 => NoticeKind::Start,
-        1 => NoticeKind::Enter,
-        2 => NoticeKind::Exit,
-        _ => NoticeKind::Finish,
+    if code == 0 {
+        NoticeKind::Start
+    } else if code == 1 {
+        NoticeKind::Enter
+    } else if code == 2 {
+        NoticeKind::Exit
+    } else {
+        NoticeKind::Finish
     }
 }
 

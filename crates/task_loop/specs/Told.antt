@@ -1,17 +1,19 @@
 -- What the steps of a run tell the groups of the store.
+use Rattle.std.specs.Option.{option_map}
 use Rattle.std.specs.Prelude.{Bool, List, None, Option, Some, [], false, unwrap_or, ℕ, ◌++◌, ◌==◌, ◌≡◌}
 use Rattle.group_notices.specs.declared.tells.Asked.{Asked}
 use Rattle.group_notices.specs.Runs.{moment}
 use Rattle.task_group.specs.Groups.{Groups}
 use Rattle.task_group.specs.Listeners.{Told}
 use Rattle.task_machine.specs.Core.{Core, Main}
+use Rattle.task_machine.specs.Read.{thread_group}
 use Rattle.task_machine.specs.declared.component.Component.{Component}
 use Rattle.task_machine.specs.declared.records.Notice.{Notice}
 use Rattle.task_machine.specs.declared.records.Turn.{Turn}
 use Rattle.task_machine.specs.declared.records.Turn.TheVariants as turn
 use Rattle.task_rules.specs.Notices.{finish_notices, moment_notices, running_group, start_notices}
 use Rattle.task_rules.specs.Stalled.{Setting}
-use Rattle.task_turns.specs.Turn.{Turned, state_at}
+use Rattle.task_turns.specs.Turn.{Turned, running_of, state_at}
 use Rattle.task_turns.specs.declared.made.Made.{Made}
 use Rattle.task_turns.specs.declared.made.Stepped.{Stepped}
 use Rattle.task_turns.specs.declared.made.Stepped.TheVariants as stepped
@@ -39,12 +41,12 @@ abbrev pub group_running : Core → Turn → ℕ
 group_running s p = unwrap_or (running_group s p) 0
 
 -- what is asked before the step of a turn in which no thread runs
-abbrev pub asked_beside : (worked : Option ℕ) → (live : ℕ) → Asked
-asked_beside worked live = record { running = None; worked = worked; staked = 0; live = live }
+abbrev pub asked_beside : (worked : Option ℕ) → Asked
+asked_beside worked = record { running = None; worked = worked; staked = 0 }
 
 -- and before that of a thread of this group, which may finish that one
-abbrev pub asked_in : (running staked live : ℕ) → Asked
-asked_in running staked live = record { running = Some running; worked = None; staked = staked; live = live }
+abbrev pub asked_in : (running staked : ℕ) → Asked
+asked_in running staked = record { running = Some running; worked = None; staked = staked }
 
 -- the notices of the step that was made, if one was
 abbrev pub notices_made : Turn → Main → Core → Option Made → Main → Core → List Notice
@@ -60,3 +62,7 @@ pub record TurnTold (x : Setting) (p : Turn) (m : Main) (s : StateView) (old : G
 -- the same of a step of the running thread, whatever main is
 abbrev pub RunTold : Component → ℕ → StateView → Groups → Made → StateView → Groups → Type 0
 RunTold c n s old made t new = (x : Setting) → x.component ≡ c → (m : Main) → TurnTold x (turn.Run n) m s old (Some made) m t new
+
+-- the group of the thread that runs in a store; None: none does
+abbrev pub current_group : StateView → Option ℕ
+current_group s = option_map (λ n. thread_group n s.core) (running_of s)

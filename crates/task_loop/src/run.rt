@@ -20,7 +20,7 @@ ghost use Rattle.task_turns.specs.Stepped.{Added, AddedOrNone, Stands};
 ghost use Rattle.task_turns.specs.Turn.{IsAtTurn, IsFree, IsSettled, Makes, PendsIn, Sits, Turned, Turns, given, goes_on, is_open, running_of, runs_in, setting_of, state_at};
 
 use crate::main_task::MainTask;
-use crate::tells::{group_of, tell_run, tell_work};
+use crate::tells::{group_of, tell_poll, tell_run, tell_work};
 use run_pace::Pace;
 use task_calls::TaskError;
 use task_machine::{Component, Mark, NoMemory, Outcome, Trap, Turn};
@@ -199,7 +199,6 @@ fn run_thread<T, H: AccessorTask<T> + FromHost>(
     ensures told { IfOk result (λ stepped. Added (λ made. RunTold component.now thread store.old.state store.old.groups made store.new.state store.new.groups) stepped trace.old trace.new) }
     ensures err { OnErr result (trace.new ≡ trace.old) }
 {
-    let live = store.state.groups();
     let mut staked = *running;
     let Ok(stepped) = step_thread(component, store, thread, trace, &mut staked) else {
         return Err(NoMemory);
@@ -211,7 +210,6 @@ fn run_thread<T, H: AccessorTask<T> + FromHost>(
         &stepped,
         *running,
         staked,
-        live,
     );
     Ok(stepped)
 }
@@ -408,17 +406,15 @@ impl RunConcurrent {
                 Ok(Some(stepped))
             }
             Turn::Futures { polled } => {
-                let live = store.state.groups();
                 let mut worked = None;
                 let made = store.poll_next(polled, &mut worked);
                 let Ok(stepped) = put(trace, made) else {
                     return Err(NoMemory);
                 };
-                *running = tell_work(&store.state, &mut store.groups, &stepped, worked, live);
+                *running = tell_poll(&store.state, &mut store.groups, worked);
                 Ok(Some(stepped))
             }
             Turn::Take { ended } => {
-                let live = store.state.groups();
                 let mut worked = None;
                 let idle = self.trap_on_idle;
                 let Ok(taken) =
@@ -429,13 +425,7 @@ impl RunConcurrent {
                 match taken {
                     None => Ok(None),
                     Some(stepped) => {
-                        *running = tell_work(
-                            &store.state,
-                            &mut store.groups,
-                            &stepped,
-                            worked,
-                            live,
-                        );
+                        *running = tell_work(&store.state, &mut store.groups, worked);
                         Ok(Some(stepped))
                     }
                 }

@@ -1,13 +1,13 @@
 //! What the loop tells the groups of a store after a step.
-ghost use Rattle.std.specs.Prelude.{◌≡◌, List, Some, false, is_some, length, true, ℕ};
+ghost use Rattle.std.specs.Prelude.{◌≡◌, List, Some, false, is_some, length, true, unwrap_or, ℕ};
 ghost use Rattle.group_notices.specs.Mirror.{Leads, Mirrors, told_by};
 ghost use Rattle.task_group.specs.Listeners.{Told};
-ghost use Rattle.task_loop.specs.Told.{asked_beside, asked_in, group_running, runs_on, turn_of};
+ghost use Rattle.task_loop.specs.Told.{asked_beside, asked_in, current_group, group_running, runs_on, turn_of};
 ghost use Rattle.task_machine.specs.declared.records.Turn.TheVariants as turns;
 ghost use Rattle.task_rules.specs.Notices.{running_group};
 ghost use Rattle.task_turns.specs.Turn.{running_of, runs_in};
 
-use group_notices::{Asked, tell_step};
+use group_notices::{Asked, tell_at_once, tell_step};
 use record_core::TaskCore;
 use task_group::Groups;
 use task_machine::Turn;
@@ -29,29 +29,28 @@ pub(crate) fn group_of(core: &TaskCore, turn: Turn) -> Option<u64>
     }
 }
 
-// The same after a step of this thread, whose group was `running`: a thread that runs on stays in it.
+// The group of the thread that runs.
 #[inline(always)]
-fn group_after(core: &TaskCore, thread: u64, after: Turn, running: u64) -> Option<u64>
-    requires runs { running_of core.now ≡ runs_in after }
-    requires stays { runs_on (turns.Run thread) after ≡ true → running_group core.now.core after ≡ Some running }
-    ensures { result ≡ running_group core.now.core after }
+fn group_now(core: &TaskCore) -> Option<u64>
+    ensures { result ≡ current_group core.now }
 {
-    if let Turn::Run { thread: next } = after {
-        if next == thread {
-            return Some(running);
-        }
+    match core.current() {
+        Some(thread) => Some(core.thread_group(thread)),
+        None => None,
     }
-    group_of(core, after)
 }
 
-// Whose turn it is after a step.
+// Whether the thread runs on after a step.
 #[inline(always)]
-fn turn_of(stepped: &Stepped) -> Turn
-    ensures { result ≡ turn_of stepped.now }
+fn goes_on(thread: u64, stepped: &Stepped) -> bool
+    ensures { result ≡ runs_on (turns.Run thread) (turn_of stepped.now) }
 {
     match stepped {
-        Stepped::Goes { turn, computed: _ } => *turn,
-        Stepped::Over(_) => Turn::Over,
+        Stepped::Goes {
+            turn: Turn::Run { thread: next },
+            computed: _,
+        } => *next == thread,
+        _ => false,
     }
 }
 
@@ -69,38 +68,93 @@ fn tell(core: &TaskCore, groups: &mut Groups, asked: &Asked, running: Option<u64
     };
 }
 
-/// Tells the groups what a step gave before which no thread ran, and answers the group of the thread that runs after it, 0
-/// where none does. `worked` is the group of the work that was worked on, and `live` is how many groups were live.
-#[inline(always)]
-pub(crate) fn tell_work(
-    core: &TaskCore,
-    groups: &mut Groups,
-    stepped: &Stepped,
-    worked: Option<u64>,
-    live: u64,
-) -> u64
-    requires runs { running_of core.now ≡ runs_in (turn_of stepped.now) }
+// The same, at large. It is out of line, as few steps give more than a notice.
+#[inline(never)]
+fn tell_all(core: &TaskCore, groups: &mut Groups, asked: Asked) -> u64
     requires unhooked { is_some groups.old.listeners.hook ≡ false }
-    ensures running { result ≡ group_running core.now.core (turn_of stepped.now) }
-    ensures told { (gs : List ℕ) → Mirrors gs groups.old → Leads (asked_beside worked live) (length core.now.core.groups) gs core.now.core.groups → Told (told_by (asked_beside worked live) (running_group core.now.core (turn_of stepped.now)) gs core.now.core.groups) groups.old.listeners groups.new.listeners }
-    ensures mirrors { (gs : List ℕ) → Mirrors gs groups.old → Leads (asked_beside worked live) (length core.now.core.groups) gs core.now.core.groups → Mirrors core.now.core.groups groups.new }
+    ensures running { result ≡ unwrap_or (current_group core.now) 0 }
+    ensures told { (gs : List ℕ) → Mirrors gs groups.old → Leads asked (length core.now.core.groups) gs core.now.core.groups → Told (told_by asked (current_group core.now) gs core.now.core.groups) groups.old.listeners groups.new.listeners }
+    ensures mirrors { (gs : List ℕ) → Mirrors gs groups.old → Leads asked (length core.now.core.groups) gs core.now.core.groups → Mirrors core.now.core.groups groups.new }
     ensures made { groups.new.made ≡ groups.old.made }
     ensures unhooked { is_some groups.new.listeners.hook ≡ false }
 {
-    let running = group_of(core, turn_of(stepped));
-    let asked = Asked {
-        running: None,
-        worked,
-        staked: 0,
-        live,
-    };
+    let running = group_now(core);
     tell(core, groups, &asked, running);
     running.unwrap_or(0)
 }
 
+/// Tells the groups what a step gave before which no thread ran, and answers the group of the thread that runs after it, 0
+/// where none does. `worked` is the group of the work that was worked on. It is out of line, so that the loop keeps its own
+/// values in registers.
+#[inline(never)]
+pub(crate) fn tell_work(core: &TaskCore, groups: &mut Groups, worked: Option<u64>) -> u64
+    requires unhooked { is_some groups.old.listeners.hook ≡ false }
+    ensures running { result ≡ unwrap_or (current_group core.now) 0 }
+    ensures told { (gs : List ℕ) → Mirrors gs groups.old → Leads (asked_beside worked) (length core.now.core.groups) gs core.now.core.groups → Told (told_by (asked_beside worked) (current_group core.now) gs core.now.core.groups) groups.old.listeners groups.new.listeners }
+    ensures mirrors { (gs : List ℕ) → Mirrors gs groups.old → Leads (asked_beside worked) (length core.now.core.groups) gs core.now.core.groups → Mirrors core.now.core.groups groups.new }
+    ensures made { groups.new.made ≡ groups.old.made }
+    ensures unhooked { is_some groups.new.listeners.hook ≡ false }
+{
+    let asked = Asked {
+        running: None,
+        worked,
+        staked: 0,
+    };
+    let running = group_now(core);
+    if tell_at_once(groups, &asked, running, core.groups()) {
+        return running.unwrap_or(0);
+    }
+    tell_all(core, groups, asked)
+}
+
+/// The same of a poll of a work, after which no thread runs mostly, and which is of no group where main spawned it.
+#[inline(always)]
+pub(crate) fn tell_poll(core: &TaskCore, groups: &mut Groups, worked: Option<u64>) -> u64
+    requires unhooked { is_some groups.old.listeners.hook ≡ false }
+    ensures running { result ≡ unwrap_or (current_group core.now) 0 }
+    ensures told { (gs : List ℕ) → Mirrors gs groups.old → Leads (asked_beside worked) (length core.now.core.groups) gs core.now.core.groups → Told (told_by (asked_beside worked) (current_group core.now) gs core.now.core.groups) groups.old.listeners groups.new.listeners }
+    ensures mirrors { (gs : List ℕ) → Mirrors gs groups.old → Leads (asked_beside worked) (length core.now.core.groups) gs core.now.core.groups → Mirrors core.now.core.groups groups.new }
+    ensures made { groups.new.made ≡ groups.old.made }
+    ensures unhooked { is_some groups.new.listeners.hook ≡ false }
+{
+    let asked = Asked {
+        running: None,
+        worked,
+        staked: 0,
+    };
+    if core.current().is_none() {
+        if tell_at_once(groups, &asked, None, core.groups()) {
+            return 0;
+        }
+    }
+    tell_work(core, groups, worked)
+}
+
+// The same of a step of a thread of the group `running`. `staked` is the group that the step may have finished.
+#[inline(never)]
+fn tell_change(core: &TaskCore, groups: &mut Groups, running: u64, staked: u64) -> u64
+    requires unhooked { is_some groups.old.listeners.hook ≡ false }
+    ensures running { result ≡ unwrap_or (current_group core.now) 0 }
+    ensures told { (gs : List ℕ) → Mirrors gs groups.old → Leads (asked_in running staked) (length core.now.core.groups) gs core.now.core.groups → Told (told_by (asked_in running staked) (current_group core.now) gs core.now.core.groups) groups.old.listeners groups.new.listeners }
+    ensures mirrors { (gs : List ℕ) → Mirrors gs groups.old → Leads (asked_in running staked) (length core.now.core.groups) gs core.now.core.groups → Mirrors core.now.core.groups groups.new }
+    ensures made { groups.new.made ≡ groups.old.made }
+    ensures unhooked { is_some groups.new.listeners.hook ≡ false }
+{
+    let asked = Asked {
+        running: Some(running),
+        worked: None,
+        staked,
+    };
+    let after = group_now(core);
+    if tell_at_once(groups, &asked, after, core.groups()) {
+        return after.unwrap_or(0);
+    }
+    tell_all(core, groups, asked)
+}
+
 /// Tells the groups what a step of this thread gave, which is of the group `running`, and answers the group of the thread that
-/// runs after it, 0 where none does. `staked` is the group that the step may have finished, and `live` is how many groups were
-/// live.
+/// runs after it, 0 where none does. `staked` is the group that the step may have finished. A thread that runs on stays in its
+/// group.
 #[inline(always)]
 pub(crate) fn tell_run(
     core: &TaskCore,
@@ -109,24 +163,25 @@ pub(crate) fn tell_run(
     stepped: &Stepped,
     running: u64,
     staked: u64,
-    live: u64,
 ) -> u64
     requires runs { running_of core.now ≡ runs_in (turn_of stepped.now) }
     requires stays { runs_on (turns.Run thread) (turn_of stepped.now) ≡ true → running_group core.now.core (turn_of stepped.now) ≡ Some running }
     requires unhooked { is_some groups.old.listeners.hook ≡ false }
     ensures running { result ≡ group_running core.now.core (turn_of stepped.now) }
-    ensures told { (gs : List ℕ) → Mirrors gs groups.old → Leads (asked_in running staked live) (length core.now.core.groups) gs core.now.core.groups → Told (told_by (asked_in running staked live) (running_group core.now.core (turn_of stepped.now)) gs core.now.core.groups) groups.old.listeners groups.new.listeners }
-    ensures mirrors { (gs : List ℕ) → Mirrors gs groups.old → Leads (asked_in running staked live) (length core.now.core.groups) gs core.now.core.groups → Mirrors core.now.core.groups groups.new }
+    ensures told { (gs : List ℕ) → Mirrors gs groups.old → Leads (asked_in running staked) (length core.now.core.groups) gs core.now.core.groups → Told (told_by (asked_in running staked) (running_group core.now.core (turn_of stepped.now)) gs core.now.core.groups) groups.old.listeners groups.new.listeners }
+    ensures mirrors { (gs : List ℕ) → Mirrors gs groups.old → Leads (asked_in running staked) (length core.now.core.groups) gs core.now.core.groups → Mirrors core.now.core.groups groups.new }
     ensures made { groups.new.made ≡ groups.old.made }
     ensures unhooked { is_some groups.new.listeners.hook ≡ false }
 {
-    let after = group_after(core, thread, turn_of(stepped), running);
-    let asked = Asked {
-        running: Some(running),
-        worked: None,
-        staked,
-        live,
-    };
-    tell(core, groups, &asked, after);
-    after.unwrap_or(0)
+    if goes_on(thread, stepped) {
+        let asked = Asked {
+            running: Some(running),
+            worked: None,
+            staked,
+        };
+        if tell_at_once(groups, &asked, Some(running), core.groups()) {
+            return running;
+        }
+    }
+    tell_change(core, groups, running, staked)
 }
