@@ -50,6 +50,6 @@ pub record IsRunOf (x : ScenarioDef) (steps : ℕ) (trace : List Label) (outcome
 pub record IsReportOf (text : List ℕ) (steps : ℕ) (r : Report) : Type 0 where
   pub scenario : Scenario
   pub reads : Reads text scenario
-  pub run : IsRunOf (machine_scenario scenario) steps r.trace r.outcome r.store.state.core r.groups.items
+  pub run : IsRunOf (machine_scenario scenario) steps r.trace r.outcome r.store.state.core r.groups
   pub free : r.store.running ≡ false
   pub concurrent : r.store.concurrent ≡ true

@@ -73,7 +73,7 @@ fn traps_on_idle(idle: IdleLine) -> bool
 // Runs a scenario in a new store.
 fn run(alloc: Global, scenario: &Scenario, steps: u32) -> Result<Report, NoMemory>
     requires { IsRunnable scenario.now }
-    ensures ran { IfOk result (λ r. IsRunOf (machine_scenario scenario.now) steps r.trace r.outcome r.store.state.core r.groups.items) }
+    ensures ran { IfOk result (λ r. IsRunOf (machine_scenario scenario.now) steps r.trace r.outcome r.store.state.core r.groups) }
     ensures free { IfOk result (λ r. r.store.running ≡ false) }
     ensures concurrent { IfOk result (λ r. r.store.concurrent ≡ true) }
 {
