@@ -399,8 +399,7 @@ impl RunConcurrent {
             Turn::Take { ended } => {
                 let mut worked = None;
                 let idle = self.trap_on_idle;
-                let Ok(taken) =
-                    take(component, &mut store.state, ended, idle, trace, &mut worked)
+                let Ok(taken) = take(component, &mut store.state, ended, idle, trace, &mut worked)
                 else {
                     return Err(NoMemory);
                 };
