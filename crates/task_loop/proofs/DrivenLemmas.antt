@@ -1,7 +1,7 @@
 -- How far a run has come since it last yielded, once it was driven.
 use Rattle.run_pace.specs.Pace.{since_driven}
 use Rattle.run_pace.specs.declared.pace.Pace.{Pace}
-use Rattle.std.proofs.Common.{ap, drop, length, refl, ◌∙◌}
+use Rattle.std.proofs.Common.{ap, drop, length, refl, sym, ◌∙◌}
 use Rattle.std.proofs.Math.Seq.{drop-append_seam}
 use Rattle.std.specs.Prelude.{List, false, ℕ, ◌++◌, ◌≡◌}
 use Rattle.task_loop.specs.Paces.{Paces, since_left_by}
@@ -22,6 +22,15 @@ none_left (outcome.HostFailed i) k h = refl
 none_left outcome.Idle k h = absurd (cc)
 none_left outcome.OutOfSteps k h = absurd (cc)
 
+-- nothing counts but where it is idle
+pub unless_idle : (o : Outcome) → (o ≡ outcome.Idle → ⊥) → (k : ℕ) → since_left_by o k ≡ 0
+unless_idle (outcome.Done v) other k = refl
+unless_idle (outcome.Trap t) other k = refl
+unless_idle (outcome.Deadlock t) other k = refl
+unless_idle (outcome.HostFailed i) other k = refl
+unless_idle outcome.OutOfSteps other k = refl
+unless_idle outcome.Idle other k = absurd (other refl)
+
 module _ (x : Setting) (s t : State) (before after : List Label) (steps : ℕ) (o : Outcome) (drives : Drives x s before t after steps o) (pace pace' : Pace) where
   -- it is idle: the labels of the drive are counted, which stand from the end of those before on
   pub paces_counted : o ≡ outcome.Idle → pace'.since ≡ since_driven pace.passes pace.since (drop (length before) after) → pace'.passes ≡ false → Paces pace before after o pace'
@@ -31,5 +40,5 @@ module _ (x : Setting) (s t : State) (before after : List Label) (steps : ℕ) (
       record { added = added; trace = drives.trace; left = rw idle counted; passes_on = passes }
 
   -- else none counts
-  pub paces_none : ((k : ℕ) → since_left_by o k ≡ 0) → pace'.since ≡ 0 → pace'.passes ≡ false → Paces pace before after o pace'
-  paces_none none since passes = rw (none (since_driven pace.passes pace.since drives.added)) record { added = drives.added; trace = drives.trace; left = since; passes_on = passes }
+  pub paces_none : (o ≡ outcome.Idle → ⊥) → pace'.since ≡ 0 → pace'.passes ≡ false → Paces pace before after o pace'
+  paces_none other since passes = record { added = drives.added; trace = drives.trace; left = since ∙ sym (unless_idle o other _); passes_on = passes }
