@@ -1,3 +1,4 @@
+pub mod AnswerLemmas
 pub mod EventLaws
 pub mod StartLemmas
 pub mod WorkEnds
