@@ -18,3 +18,4 @@ pub mod RestLemmas
 pub mod LineLemmas
 pub mod StepMoves
 pub mod RunMoves
+pub mod AnswerLemmas

@@ -1,9 +1,10 @@
-//! Laws of runs: what a host does between the steps, to a running thread's state and to its calls' counts of borrows, keeps order;
-//! a call or a work tells a status once, a later one is a higher one, and the end of a work is told as it was written; turns take
-//! entries in a stated order, and come to something where they take none. Each function here is the statement of a law, about the
-//! rules that `task_rules` defines.
+//! Laws of runs: what a host does between the steps, to a running thread's state and to its calls' counts of borrows, keeps
+//! order; a call or a work tells a status once, a later one is a higher one, and the end of a work is told as it was written;
+//! turns take entries in a stated order, and come to something where they take none; main's answer leaves a core in which no
+//! wake is lost. Each function here is the statement of a law, about the rules that `task_rules` defines.
 #![tactic(auto)]
 
+mod answers;
 mod borrows;
 mod calls;
 mod ends;
@@ -14,6 +15,7 @@ mod takes;
 mod walked;
 mod works;
 
+pub use answers::answers_lose_none;
 pub use borrows::borrows_keep_order;
 pub use calls::{calls_keep, enters_keep, prepares_keep, starts_keep};
 pub use ends::{exits_keep, returns_keep};
