@@ -1,11 +1,15 @@
--- The group at stake is that of the thread's op.
-use Rattle.std.proofs.Common.{ap, refl, ◌∙◌, ◌≡◌}
-use Rattle.std.specs.Prelude.{ℕ}
+-- The group at stake is that of the thread's op; that of a work whose entry is taken is the work's.
+use Rattle.std.proofs.Common.{ap, refl, sym, ◌∙◌, ◌≡◌}
+use Rattle.std.specs.Prelude.{Option, Some, ℕ}
 use Rattle.group_laws.specs.Groups.{stake, stake_of}
+use Rattle.group_laws.specs.Tells.{entry_group}
 use Rattle.task_machine.specs.Core.{Core}
+use Rattle.task_machine.specs.Read.{next_entry}
+use Rattle.task_machine.specs.Write.{set_high, set_low, set_switch}
 use Rattle.task_machine.specs.declared.component.Component.{Component}
 use Rattle.task_machine.specs.declared.op.Op.{Op}
-use Rattle.task_machine.specs.Write.{set_high, set_low, set_switch}
+use Rattle.task_machine.specs.declared.records.Entry.{Entry}
+use Rattle.task_machine.specs.declared.records.Entry.TheVariants as entry
 use Rattle.task_machine.specs.declared.words.Mark.{Mark}
 use Rattle.task_machine.specs.declared.words.Mark.TheVariants as mark
 use Rattle.task_rules.specs.Calls.{work_group}
@@ -19,13 +23,15 @@ pub stake_is : (c : Component) (n : ℕ) (s : Core) (o : Op) → op_of c n s ≡
 unfolding stake
 stake_is c n s o e = ap (stake_of n s) e
 
--- ---- The group of a work whose entry has left its mark
-
-popped_group : (m : Mark) (i : ℕ) (s : Core) → work_group i (popped m s) ≡ work_group i s
+-- an entry that leaves its mark leaves the works
+worked_left : (m : Mark) (i : ℕ) (s : Core) → work_group i (popped m s) ≡ work_group i s
 unfolding popped set_switch set_high set_low
-popped_group mark.Switch i s = refl
-popped_group mark.High i s = refl
-popped_group mark.Low i s = refl
+worked_left mark.Switch i s = refl
+worked_left mark.High i s = refl
+worked_left mark.Low i s = refl
 
-pub left_group : (s u : StateView) (m : Mark) (work : TableId HostTaskKey) → u ≡ on_core (popped m) s → work_group (work_of u work) u.core ≡ work_group (work_of s work) s.core
-left_group s u m work left = ap (λ (x : StateView). work_group (work_of x work) x.core) left ∙ popped_group m (work_of s work) s.core
+-- the group of the work whose entry was taken
+pub worked_is : (s u : StateView) (m : Mark) (id : TableId HostTaskKey) → u ≡ on_core (popped m) s → next_entry s.core ≡ Some (m, entry.Host (work_of s id)) → work_group (work_of u id) u.core ≡ entry_group (next_entry s.core) s.core
+worked_is s u m id left next =
+    ap (λ (v : StateView). work_group (work_of v id) v.core) left
+    ∙ (worked_left m (work_of s id) s.core ∙ ap (λ (o : Option (Mark × Entry)). entry_group o s.core) (sym next))
