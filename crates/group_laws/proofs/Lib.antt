@@ -9,3 +9,5 @@ pub mod DataGroups
 pub mod TakeGroups
 pub mod StepTells
 pub mod RunTells
+pub mod GroupLemmas
+pub mod MainGroups

@@ -2,6 +2,7 @@
 use Rattle.group_laws.proofs.DataGroups.{data_plain}
 use Rattle.group_laws.proofs.EndGroups.{mild_group}
 use Rattle.group_laws.proofs.ListLemmas.{finish_none}
+use Rattle.group_laws.proofs.MoveGroups.{Mild, mild_same, mild_then}
 use Rattle.group_laws.proofs.OpGroups.{op_quiet}
 use Rattle.group_laws.proofs.StepTells.{RunsOn, data_starts, data_works, plain_runs_on}
 use Rattle.group_laws.specs.Groups.{Spares, is_silent}
@@ -82,6 +83,14 @@ data_runs_tell_nothing x s (l ∷ ls) t n run at all =
     let both = and_parts (is_data l) (list_all is_data ls) all in
     let first = data_tells_nothing x s l run.0 n run.1.0 at both.0 in
     ap₂ (λ (a b : List Notice). a ++ b) first.1 (data_runs_tell_nothing x run.0 ls t n run.1.1 first.0 both.1)
+
+-- a run of such labels from a thread's turn leaves the groups, and each thread in its own
+pub data_runs_mild : (x : Setting) (s : State) (ls : List Label) (t : State) (n : ℕ) → Run x s ls t → s.turn ≡ Turn.Run n → list_all is_data ls ≡ true → Mild s.core t.core
+data_runs_mild x s [] t n run at all = subst (λ (v : State). Mild s.core v.core) (sym run) (mild_same s.core)
+data_runs_mild x s (l ∷ ls) t n run at all =
+    let both = and_parts (is_data l) (list_all is_data ls) all in
+    let first = data_runs_on x s l run.0 n run.1.0 at both.0 in
+    mild_then first.mild (data_runs_mild x run.0 ls t n run.1.1 first.runs both.1)
 
 tells_from : (x : Setting) (s m : State) (ks : List Label) (t : State) → m ≡ s → (more : Run x m ks t) →
     (both : Run x s ks t) × (notices (history x s ks t both) ≡ notices (history x m ks t more))

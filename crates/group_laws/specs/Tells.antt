@@ -1,24 +1,30 @@
 -- What a step tells the groups, by what is asked in the turn before it.
 use Rattle.group_laws.specs.Groups.{OneLess, stake}
 use Rattle.std.specs.List.{list_all}
-use Rattle.std.specs.Prelude.{Bool, List, None, Option, Some, [], false, option_and_then, true, ℕ, ◌++◌, ◌≡◌, ◌⊎◌}
-use Rattle.task_machine.specs.Core.{Core, State}
-use Rattle.task_machine.specs.Read.{next_entry}
+use Rattle.std.specs.Prelude.{Bool, List, None, Option, Some, [], false, option_and_then, true, ℕ, ◌++◌, ◌≡◌, ◌≤◌, ◌⊎◌}
+use Rattle.task_machine.specs.Core.{Core, Main, State}
+use Rattle.task_machine.specs.Maps.{get}
+use Rattle.task_machine.specs.Read.{next_entry, thread_group}
 use Rattle.task_machine.specs.declared.component.Component.{Component}
 use Rattle.task_machine.specs.declared.label.Label.{Label}
 use Rattle.task_machine.specs.declared.label.Label.TheVariants as label
+use Rattle.task_machine.specs.declared.label.MainLabel.{MainLabel}
+use Rattle.task_machine.specs.declared.label.MainLabel.TheVariants as main_label
+use Rattle.task_machine.specs.declared.records.Call.{Call}
 use Rattle.task_machine.specs.declared.records.Entry.{Entry}
 use Rattle.task_machine.specs.declared.records.Entry.TheVariants as entry
 use Rattle.task_machine.specs.declared.records.Notice.{Notice}
+use Rattle.task_machine.specs.declared.records.Thread.{Thread}
 use Rattle.task_machine.specs.declared.records.Turn.{Turn}
 use Rattle.task_machine.specs.declared.records.Turn.TheVariants as turn
 use Rattle.task_machine.specs.declared.words.Mark.{Mark}
 use Rattle.task_rules.specs.Calls.{work_group}
+use Rattle.task_rules.specs.Laws.{Steady}
 use Rattle.task_rules.specs.History.{Moment, history}
 use Rattle.task_rules.specs.Notices.{around, finish_notices, moment_notices, notices, of_live, running_group, start_notices, switch_notices, work_notices}
 use Rattle.task_rules.specs.Run.{Run}
 use Rattle.task_rules.specs.Stalled.{Setting}
-use Rattle.task_rules.specs.Step.{Step}
+use Rattle.task_rules.specs.Step.{MainStep, Step}
 use Rattle.task_rules.specs.Works.{next_polled}
 
 -- the group of the host call whose entry is taken
@@ -74,6 +80,29 @@ abbrev pub RunsTellOn : Type 0
 RunsTellOn =
     (x : Setting) (s : State) (ls : List Label) (m : State) (ks : List Label) (t : State) (run : Run x s ls m) (more : Run x m ks t) →
     (both : Run x s (ls ++ ks) t) × (notices (history x s (ls ++ ks) t both) ≡ notices (history x s ls m run) ++ notices (history x m ks t more))
+
+-- a start by main, made or refused
+abbrev pub is_start_op : MainLabel → Bool
+is_start_op (main_label.Start k n) = true
+is_start_op (main_label.StartRefused w k) = true
+is_start_op _ = false
+
+abbrev pub is_start : Label → Bool
+is_start (label.Main l) = is_start_op l
+is_start _ = false
+
+-- the other ops of main leave the groups
+abbrev pub MainSpares : Type 0
+MainSpares = (x : Setting) (s : State) (m : Main) (l : Label) (t : State) → MainStep x s m l t → is_start l ≡ false → t.core.groups ≡ s.core.groups
+
+-- a thread that is there before and after, as its call is, is of the same group
+abbrev pub GroupStays : Type 0
+GroupStays =
+    (s t : Core) (n : ℕ) → Steady s t →
+    (a : Thread) → get s.threads n ≡ Some a → n ≤ s.made.threads → a.call ≤ s.made.threads →
+    (b : Thread) → get t.threads n ≡ Some b →
+    (c : Call) → get s.calls a.call ≡ Some c → (d : Call) → get t.calls b.call ≡ Some d →
+    thread_group n t ≡ thread_group n s
 
 -- the notices of such a step
 abbrev pub NoticesTold : Type 0

@@ -2,7 +2,7 @@
 //! statement of a law, about the steps of `task_rules`.
 #![tactic(auto)]
 
-ghost use Rattle.group_laws.specs.Tells.{DataRunsTellNothing, NoticesTold, RunsTellOn, StepsTell};
+ghost use Rattle.group_laws.specs.Tells.{DataRunsTellNothing, GroupStays, MainSpares, NoticesTold, RunsTellOn, StepsTell};
 
 /// In each turn but main's no group is made. A step finishes all groups, or the one at stake, or none; and what it tells of a
 /// work is told of the one that the turn polls or whose entry it takes.
@@ -27,4 +27,16 @@ pub fn data_tells_nothing()
 #[tactic(auto, using(crate::proofs::RunTells::runs_tell_on))]
 pub fn runs_tell_on()
     ensures { RunsTellOn }
+{}
+
+/// Whatever steps are made, a thread that is there before and after, as its call is, is of the same group.
+#[tactic(auto, using(crate::proofs::GroupLemmas::group_stays))]
+pub fn groups_stay()
+    ensures { GroupStays }
+{}
+
+/// An op of main that isn't a start leaves the groups.
+#[tactic(auto, using(crate::proofs::MainGroups::mains_spare))]
+pub fn mains_spare()
+    ensures { MainSpares }
 {}

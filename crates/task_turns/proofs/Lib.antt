@@ -17,3 +17,4 @@ pub mod RanLemmas
 pub mod LaterLemmas
 pub mod DoesLemmas
 pub mod SteppedLemmas
+pub mod StakeLemmas

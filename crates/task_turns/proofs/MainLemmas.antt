@@ -33,7 +33,7 @@ pends_like x s Unscripted pends = pends
 
 module _ (x : Setting) (m : Main) (s : Core) where
   -- a step of main is a step of the machine
-  main_step : (l : Label) (t : State) → MainStep x (state_at s m turn.Main) m l t → Step x (state_at s m turn.Main) l t
+  pub main_step : (l : Label) (t : State) → MainStep x (state_at s m turn.Main) m l t → Step x (state_at s m turn.Main) l t
   unfolding Step
   main_step l t step = step
 

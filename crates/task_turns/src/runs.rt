@@ -1,11 +1,12 @@
 //! The step of the running thread: its op is done by its row.
+ghost use Rattle.group_laws.specs.Groups.{stake, stake_of};
 ghost use Rattle.op_dispatch.specs.Fits.{HasHandles, HasInstances, calls_host, is_data_op, is_host_call, op_fits};
 ghost use Rattle.op_dispatch.specs.Polls.{Polls, polled_host};
 ghost use Rattle.op_dispatch.specs.Runner.{Runner};
 ghost use Rattle.std.specs.Prelude.{◌≡◌, ◌+◌, ◌<◌, ◌^◌, IfOk, None, OnErr, OnOk, Some, false, is_some, length, true};
 ghost use Rattle.task_machine.specs.Labels.{choice_of};
 ghost use Rattle.task_machine.specs.Maps.{get};
-ghost use Rattle.task_machine.specs.Read.{how_far_of, instance_of, position_of};
+ghost use Rattle.task_machine.specs.Read.{how_far_of, instance_of, position_of, thread_group};
 ghost use Rattle.task_machine.specs.declared.component.Component.{Component};
 ghost use Rattle.task_machine.specs.declared.op.Op.TheVariants as ops;
 ghost use Rattle.task_machine.specs.declared.op.TaskOp.TheVariants as task_ops;
@@ -22,6 +23,7 @@ ghost use Rattle.task_turns.specs.WellFormed.{IsWellFormed};
 ghost use Rattle.task_words.specs.StateView.{thread_of};
 
 use crate::made::{Ran, RunStep, Stepped, made_of, show};
+use group_stakes::stake_of;
 use label_trace::Trace;
 use op_dispatch::{Done, do_host_call, do_op, do_plain_op, exit, is_host_call, op_at, script_ops};
 use task_machine::{CallOp, Component, DataOp, NoMemory, Op, Turn};
@@ -152,7 +154,9 @@ fn run_by<W: Words>(
     op: &Op,
     end: u32,
     trace: &mut Trace,
+    staked: &mut u64,
 ) -> Result<RunStep, NoMemory>
+    requires own { staked.old ≡ thread_group (thread_of (W.view w.old) thread) (W.view w.old).core }
     requires runner { Runner thread (W.view w.old) }
     requires fits { op_fits component.now op.now ≡ true }
     requires instances { HasInstances component.now (W.view w.old).core }
@@ -163,8 +167,10 @@ fn run_by<W: Words>(
     ensures step { IfOk result (λ step. RowStep (λ came. op_row component.now (thread_of (W.view w.old) thread) (W.view w.old).core (choice_of (label_of (thread_of (W.view w.old) thread) came)) op.now) thread (W.view w.old) trace.old step (W.view w.new) trace.new) }
     ensures polls { IfOk result (λ step. StepPolls (polled_host component.now (how_far_of (thread_of (W.view w.old) thread) (W.view w.old).core) op.now) (W.view w.old) step (W.view w.new)) }
     ensures works { OnOk result (NamesWorks (W.view w.old) (W.view w.new)) }
+    ensures staked { staked.new ≡ stake_of (thread_of (W.view w.old) thread) (W.view w.old).core op.now }
     ensures err { OnErr result (trace.new ≡ trace.old) }
 {
+    *staked = stake_of(w, thread, op, *staked);
     match op {
         Op::Call(call) if is_host_call(call) => {
             let ran = run_host(component, w, thread, call)?;
@@ -183,18 +189,22 @@ fn run_by<W: Words>(
 
 /// The running thread, which has this number, does its op. What that shows is added to the trace, but where the op
 /// calls a host: then the step, the host that was polled first, and the work that was made are answered. Where memory
-/// is wanting, nothing is added, and nothing is said of the state.
+/// is wanting, nothing is added, and nothing is said of the state. The group that the step may finish is asked, where that
+/// of the thread was.
 #[inline(always)]
 pub fn step_run<W: Words>(
     component: &Component,
     w: &mut W,
     number: u64,
     trace: &mut Trace,
+    staked: &mut u64,
 ) -> Result<RunStep, NoMemory>
+    requires own { staked.old ≡ thread_group number (W.view w.old).core }
     requires covered { IsWellFormed component.now }
     requires order { Sits component.now (Turn.Run number) (W.view w.old).core }
     requires runs { running_of (W.view w.old) ≡ Some number }
     requires few { given (W.view w.old).core < 2 ^ 61 }
+    ensures staked { staked.new ≡ stake component.now number (W.view w.old).core }
     ensures ran { IfOk result (λ ran. RunAdded (λ ran. (Makes component.now (Turn.Run number) (W.view w.old) ran.made (W.view w.new) × IsFree ran.made.turn) × RanPolls component.now number (W.view w.old) ran (W.view w.new)) ran trace.old trace.new) }
     ensures works { OnOk result (NamesWorks (W.view w.old) (W.view w.new)) }
     ensures err { OnErr result (trace.new ≡ trace.old) }
@@ -206,7 +216,7 @@ pub fn step_run<W: Words>(
     let point = w.at(thread);
     let script = script_ops(component, point.callee, point.script);
     match op_at(script, point.position) {
-        Some(op) => run_by(component, w, thread, op, script.len() as u32, trace),
+        Some(op) => run_by(component, w, thread, op, script.len() as u32, trace, staked),
         None => {
             let stepped = run_exit(w, thread, trace)?;
             Ok(RunStep::Shown(stepped))

@@ -1,4 +1,5 @@
 //! The taking of an entry of a thread.
+ghost use Rattle.group_laws.specs.Tells.{entry_group};
 ghost use Rattle.std.specs.Prelude.{◌≡◌, ◌<◌, Bool, IfOk, None, OnErr, OnOk, Some};
 ghost use Rattle.task_machine.specs.Labels.{choice_of};
 ghost use Rattle.task_machine.specs.Moves.{why_of};
@@ -127,16 +128,19 @@ fn step_host<W: Words>(w: &mut W, mark: Mark, work: WorkId) -> Made
 }
 
 /// The next entry is taken, and what that shows is added to the trace; none where nothing stands. Where memory is
-/// wanting, nothing is added, and nothing is said of the state.
+/// wanting, nothing is added, and nothing is said of the state. It is asked whose work it is, where the entry is that of one.
 #[inline(never)]
 pub fn step_take<W: Words>(
     component: &Component,
     w: &mut W,
     ended: bool,
     trace: &mut Trace,
+    worked: &mut Option<u64>,
 ) -> Result<Option<Stepped>, NoMemory>
+    requires unworked { worked.old ≡ None }
     requires order { Sits component.now (Turn.Take ended) (W.view w.old).core }
     requires current { (W.view w.old).current ≡ None }
+    ensures worked { worked.new ≡ entry_group (next_entry (W.view w.old).core) (W.view w.old).core }
     ensures took { IfOk result (λ stepped. AddedOrNone (λ made. Took component.now ended (W.view w.old) made (W.view w.new)) stepped trace.old trace.new) }
     ensures works { OnOk result (KeepsWorks (W.view w.old) (W.view w.new)) }
     ensures err { OnErr result (trace.new ≡ trace.old) }
@@ -155,6 +159,7 @@ pub fn step_take<W: Words>(
             Ok(Some(stepped))
         }
         Some((mark, EntryId::Host(work))) => {
+            *worked = w.work_group(work);
             let made = step_host(w, mark, work);
             let stepped = put(trace, made)?;
             Ok(Some(stepped))

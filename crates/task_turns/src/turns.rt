@@ -1,4 +1,5 @@
 //! The turns of a run in which main has no part.
+ghost use Rattle.group_laws.specs.Tells.{worked_group};
 ghost use Rattle.std.specs.Prelude.{◌≡◌, ◌≤◌, IfOk, IfSome, None, Some, false, is_none, OnErr, OnOk};
 ghost use Rattle.task_laws.specs.Order.{WorksQueued};
 ghost use Rattle.task_machine.specs.Core.{Main};
@@ -71,13 +72,16 @@ pub fn take<W: Words>(
     ended: bool,
     trap_on_idle: bool,
     trace: &mut Trace,
+    worked: &mut Option<u64>,
 ) -> Result<Option<Stepped>, NoMemory>
+    requires unworked { worked.old ≡ None }
     requires at { IsAtTurn component.now (Turn.Take ended) (W.view w.old) }
+    ensures worked { worked.new ≡ worked_group (W.view w.old).core (Turn.Take ended) }
     ensures turned { IfOk result (λ stepped. AddedOrNone (λ made. TurnedBeside component.now trap_on_idle (Turn.Take ended) (W.view w.old) made (W.view w.new)) stepped trace.old trace.new) }
     ensures works { OnOk result (KeepsWorks (W.view w.old) (W.view w.new)) }
     ensures err { OnErr result (trace.new ≡ trace.old) }
 {
-    match step_take(component, w, ended, trace)? {
+    match step_take(component, w, ended, trace, worked)? {
         Some(stepped) => Ok(Some(stepped)),
         None if ended => unreachable!(),
         None => match rest(w, trap_on_idle) {
@@ -108,6 +112,7 @@ pub fn compute<W: Words>(
     ensures few { IfOk result (λ k. (added ≤ k) × (k ≤ steps)) }
     ensures on { IfOk result (λ k. KeepsOn component.now turn (W.view w.old) trace.old added (W.view w.new) trace.new k) }
     ensures computes { IfOk result (λ k. Computes component.now turn (W.view w.old) trace.old added (W.view w.new) trace.new k) }
+    ensures still { runs_in turn ≡ None → IfOk result (λ k. k ≡ added) }
     ensures err { OnErr result (StopsShort component.now turn (W.view w.old) trace.old added trace.new steps) }
     ensures works { SameWorks (W.view w.old) (W.view w.new) }
 {

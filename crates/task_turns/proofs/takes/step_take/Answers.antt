@@ -1,12 +1,17 @@
 use Rattle.std.proofs.Common.{ap, subst, sym, ◌∙◌}
-use Rattle.std.specs.Prelude.{Some, ◌<◌}
+use Rattle.std.specs.Prelude.{Option, Some, option_map, ◌<◌}
+use Rattle.group_laws.specs.Tells.{entry_group}
+use Rattle.task_machine.specs.declared.records.Entry.{Entry}
 use Rattle.task_machine.specs.declared.records.Subtask.TheVariants as subtask
+use Rattle.task_machine.specs.declared.words.Mark.{Mark}
 use Rattle.task_moves.specs.Idle.{IsJoinThere}
 use Rattle.task_rules.specs.Places.{Placed}
+use Rattle.task_turns.proofs.StakeLemmas.{worked_is}
 use Rattle.task_turns.proofs.SteppedLemmas.{host_makes, left_is, next_is, push_makes, take_added}
 use Rattle.task_turns.proofs.TakenLemmas.{finds, host_joined, host_live, host_placed, taken}
 use Rattle.task_turns.proofs.takes.step_take.Goals as goal
 use Rattle.task_turns.specs.Taken.{FindsSet, Taken}
+use Rattle.task_words.specs.Names.{entry_in}
 use Rattle.task_words.specs.StateView.{StateView, thread_of, with_current, work_of}
 use Rattle.task_words.specs.declared.names.EntryId.{EntryId}
 use Rattle.task_words.specs.declared.names.EntryId.TheVariants as entries
@@ -126,3 +131,56 @@ returns-in_ok-stepped-in-Some-default-Host-clause-took g c =
     let makes = host_makes c.args.component.now c.args.ended q.mark q.work s u (v c.step_host-made.new.w) c.step_host-made.result c.requires.current (left_is s u c.take_next.result q.mark (entries.Host q.work) c.take_next.ensures.taken at)
     (next_is s c.take_next.result q.mark (entries.Host q.work) c.take_next.ensures.next at) c.step_host-made.ensures.meets c.step_host-made.ensures.current c.step_host-made.ensures.turn in
     (c.step_host-made.result, (c.in_ok-stepped-in-Some-default-Host.ensures.stands, makes))
+
+-- ---- The group that is worked on
+
+pub returns-in-None-clause-worked : goal.returns-in-None-clause-worked
+returns-in-None-clause-worked g c =
+    let s = g.W.View.view c.args.w.now in
+    c.requires.unworked ∙ ap (λ (o : Option (Mark × Entry)). entry_group o s.core) (sym (ap (option_map (λ (x : Mark × EntryId). (x.0, entry_in s.tags x.1))) c.in-None.is) ∙ c.take_next.ensures.next)
+
+pub returns-in_ok-stepped-in-Some-default-Thread-clause-worked : goal.returns-in_ok-stepped-in-Some-default-Thread-clause-worked
+returns-in_ok-stepped-in-Some-default-Thread-clause-worked g c =
+    let s = g.W.View.view c.args.w.now in
+    let q = c.in-Some-default-Thread in
+    let at = q.is ∙ ap (λ (e : EntryId). Some (q.mark, e)) q.field-0-1-is in
+    c.requires.unworked ∙ ap (λ (o : Option (Mark × Entry)). entry_group o s.core) (sym (next_is s c.take_next.result q.mark (entries.Thread q.thread) c.take_next.ensures.next at))
+
+pub returns-in_err-stepped-in-Some-default-Thread-clause-worked : goal.returns-in_err-stepped-in-Some-default-Thread-clause-worked
+returns-in_err-stepped-in-Some-default-Thread-clause-worked g c =
+    let s = g.W.View.view c.args.w.now in
+    let q = c.in-Some-default-Thread in
+    let at = q.is ∙ ap (λ (e : EntryId). Some (q.mark, e)) q.field-0-1-is in
+    c.requires.unworked ∙ ap (λ (o : Option (Mark × Entry)). entry_group o s.core) (sym (next_is s c.take_next.result q.mark (entries.Thread q.thread) c.take_next.ensures.next at))
+
+pub returns-in_ok-stepped-in-Some-default-Push-clause-worked : goal.returns-in_ok-stepped-in-Some-default-Push-clause-worked
+returns-in_ok-stepped-in-Some-default-Push-clause-worked g c =
+    let s = g.W.View.view c.args.w.now in
+    let q = c.in-Some-default-Push in
+    let at = q.is ∙ ap (λ (e : EntryId). Some (q.mark, e)) q.field-0-1-is in
+    c.requires.unworked ∙ ap (λ (o : Option (Mark × Entry)). entry_group o s.core) (sym (next_is s c.take_next.result q.mark (entries.Push q.work) c.take_next.ensures.next at))
+
+pub returns-in_err-stepped-in-Some-default-Push-clause-worked : goal.returns-in_err-stepped-in-Some-default-Push-clause-worked
+returns-in_err-stepped-in-Some-default-Push-clause-worked g c =
+    let s = g.W.View.view c.args.w.now in
+    let q = c.in-Some-default-Push in
+    let at = q.is ∙ ap (λ (e : EntryId). Some (q.mark, e)) q.field-0-1-is in
+    c.requires.unworked ∙ ap (λ (o : Option (Mark × Entry)). entry_group o s.core) (sym (next_is s c.take_next.result q.mark (entries.Push q.work) c.take_next.ensures.next at))
+
+pub returns-in_ok-stepped-in-Some-default-Host-clause-worked : goal.returns-in_ok-stepped-in-Some-default-Host-clause-worked
+returns-in_ok-stepped-in-Some-default-Host-clause-worked g c =
+    let v = g.W.View.view in
+    let s = v c.args.w.now in
+    let u = v c.take_next.new.self in
+    let q = c.in-Some-default-Host in
+    let at = q.is ∙ ap (λ (e : EntryId). Some (q.mark, e)) q.field-0-1-is in
+    c.work_group.ensures ∙ worked_is s u q.mark q.work (left_is s u c.take_next.result q.mark (entries.Host q.work) c.take_next.ensures.taken at) (next_is s c.take_next.result q.mark (entries.Host q.work) c.take_next.ensures.next at)
+
+pub returns-in_err-stepped-in-Some-default-Host-clause-worked : goal.returns-in_err-stepped-in-Some-default-Host-clause-worked
+returns-in_err-stepped-in-Some-default-Host-clause-worked g c =
+    let v = g.W.View.view in
+    let s = v c.args.w.now in
+    let u = v c.take_next.new.self in
+    let q = c.in-Some-default-Host in
+    let at = q.is ∙ ap (λ (e : EntryId). Some (q.mark, e)) q.field-0-1-is in
+    c.work_group.ensures ∙ worked_is s u q.mark q.work (left_is s u c.take_next.result q.mark (entries.Host q.work) c.take_next.ensures.taken at) (next_is s c.take_next.result q.mark (entries.Host q.work) c.take_next.ensures.next at)
