@@ -1,5 +1,4 @@
 ghost use Rattle.std.specs.Prelude.{◌≡◌, ◌*◌, ◌+◌, ◌<◌, ◌≤◌, ◌^◌, IfErr, IfOk, None, OnErr, OnOk, Some, false, is_none, true, Bool};
-ghost use Rattle.label_laws.specs.Own.{next_mark};
 ghost use Rattle.task_ops.specs.Works.{NamesWorks};
 ghost use Rattle.task_rules.specs.Outcome.{outcome_of_label};
 ghost use Rattle.task_loop.specs.Paces.{Paces};
@@ -15,12 +14,11 @@ ghost use Rattle.task_turns.specs.Turn.{IsAtTurn, IsFree, IsSettled, Makes, Pend
 use crate::main_task::MainTask;
 use run_pace::Pace;
 use task_calls::TaskError;
-use task_machine::{Component, Mark, NoMemory, Outcome, Trap, Turn};
+use task_machine::{Component, NoMemory, Outcome, Trap, Turn};
 use task_store::{Access, AccessorTask, FromHost, HostWork, StandingRun, Store};
 use task_turns::{
     Made, MainStep, RunStep, Stepped, Trace, compute, is_idle, made_by_main, put, step_run, take,
 };
-use task_words::QueueWords;
 
 /// A run of the event loop on a store.
 #[derive(Drop)]
@@ -154,19 +152,6 @@ fn run_thread<T, H: AccessorTask<T> + FromHost>(
     }
 }
 
-// The mark of the entry that is taken next in this turn.
-pub(crate) fn next_mark<T, H>(store: &Store<T, H>, turn: Turn) -> Option<Mark>
-    ensures { result ≡ next_mark turn store.now.state.core }
-{
-    match turn {
-        Turn::Take { ended: _ } => match store.state.next_entry() {
-            Some((mark, _)) => Some(mark),
-            None => None,
-        },
-        _ => None,
-    }
-}
-
 impl RunConcurrent {
     /// Goes on with the run until it is over, until it has added `steps` labels to the trace, or
     /// until nothing can go on and that is no deadlock. The labels that it adds are those of a run
@@ -221,8 +206,15 @@ impl RunConcurrent {
         ensures err { OnErr result (store.new.state.core.trapped ≡ true) }
         ensures added { OnErr result (WasGoing (setting_of component.now (M.script main.old) self.old.trap_on_idle) (state_at store.old.state.core (M.part main.old) self.old.turn) trace.old trace.new steps) }
     {
+        let from = trace.len();
         match self.go_on(component, store, main, steps, trace) {
-            Ok(outcome) => Ok(outcome),
+            Ok(outcome) => {
+                self.pace = match outcome {
+                    Outcome::Idle => self.pace.driven(trace, from),
+                    _ => Pace::new(),
+                };
+                Ok(outcome)
+            }
             Err(_) => {
                 store.set_trapped();
                 Err(NoMemory)
@@ -253,31 +245,23 @@ impl RunConcurrent {
         ensures idle { self.new.trap_on_idle ≡ self.old.trap_on_idle }
         ensures stands { standing store.new ≡ standing store.old }
         ensures does { OnOk result (DoesAdded M.does main.old trace.old main.new trace.new) }
-        ensures pace { IfOk result (λ outcome. Paces self.old.pace trace.old trace.new outcome self.new.pace) }
-        ensures kept { OnErr result (self.new.pace ≡ self.old.pace) }
+        ensures pace { self.new.pace ≡ self.old.pace }
         ensures err { OnErr result (WasGoing (setting_of component.now (M.script main.old) self.old.trap_on_idle) (state_at store.old.state.core (M.part main.old) self.old.turn) trace.old trace.new steps) }
         ensures ok { IfOk result (λ outcome. Drove (setting_of component.now (M.script main.old) self.old.trap_on_idle) (state_at store.old.state.core (M.part main.old) self.old.turn) trace.old (given store.old.state.core) self.new.turn (M.part main.new) store.new.state trace.new steps outcome) }
     {
-        let mut pace = self.pace;
         let mut added = 0;
         'turns: while added < steps {
-            let next = next_mark(store, self.turn);
             let Ok(stepped) = self.turn(component, store, main, trace) else {
                 return Err(NoMemory);
             };
             match stepped {
-                None => {
-                    self.pace = pace.past(None);
-                    return Ok(Outcome::Idle);
-                }
+                None => return Ok(Outcome::Idle),
                 Some(Stepped::Over(outcome)) => {
                     self.turn = Turn::Over;
-                    self.pace = Pace::new();
                     return Ok(outcome);
                 }
                 Some(Stepped::Goes { turn, computed }) => {
                     self.turn = turn;
-                    pace = pace.past(next);
                     added = compute(
                         component,
                         &mut store.state,
@@ -291,10 +275,8 @@ impl RunConcurrent {
             }
         }
         if is_idle(&store.state, self.turn, self.trap_on_idle) {
-            self.pace = pace.past(None);
             return Ok(Outcome::Idle);
         }
-        self.pace = Pace::new();
         Ok(Outcome::OutOfSteps)
     }
 
