@@ -2,7 +2,7 @@ use Rattle.std.proofs.Common.{length, take, ◌≡◌}
 use Rattle.task_machine.specs.Read.{registers_of}
 use Rattle.task_rules.specs.Scripts.{values_in}
 use Rattle.task_words.specs.StateView.{thread_of}
-use Rattle.subtask_ops.proofs.operands.operand_values.Given as goal
+use Rattle.subtask_ops.proofs.operands.read_operands.Given as goal
 
 abbrev pub invariant-loop-place : goal.invariant-loop-place
 invariant-loop-place g l =

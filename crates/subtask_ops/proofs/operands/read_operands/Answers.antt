@@ -3,7 +3,7 @@ use Rattle.std.proofs.lemmas.List.{map_more, take_more_set}
 use Rattle.std.proofs.Math.ListN.{length-set}
 use Rattle.task_rules.specs.Scripts.{value_of}
 use Rattle.task_words.specs.StateView.{thread_of}
-use Rattle.subtask_ops.proofs.operands.operand_values.Goals as goal
+use Rattle.subtask_ops.proofs.operands.read_operands.Goals as goal
 
 pub loop-place-preserved : goal.loop-place-preserved
 loop-place-preserved g c =
