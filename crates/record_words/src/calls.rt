@@ -9,7 +9,8 @@ ghost use Rattle.task_rules.specs.Takes.{starting_is_published};
 ghost use Rattle.task_words.specs.StateView.{call_of, on_core, thread_of};
 
 use task_machine::{CallEnd, Callee, ExportKind, Goal, OwnEvent};
-use task_records::{CoreParts, task_of};
+use task_records::CoreParts;
+use task_wait::GuestTaskKey;
 use task_words::{CallId, ThreadId};
 
 /// The number of a call; 0 where the id names none.
@@ -147,7 +148,13 @@ pub fn thread_group(parts: &CoreParts, thread: ThreadId) -> u64
     requires { IsSound parts.now }
     ensures { result ≡ thread_group (thread_of (seen parts.now) thread) (seen parts.now).core }
 {
-    call_group(parts, task_of(parts, thread))
+    match task_records::thread(parts, thread) {
+        Some(entry) => match parts.calls.item_at::<GuestTaskKey>(entry.task) {
+            Some(item) => item.call.group,
+            None => 0,
+        },
+        None => 0,
+    }
 }
 
 pub fn set_started(parts: &mut CoreParts, call: CallId)
