@@ -122,7 +122,9 @@ class Run:
 
 
 def groups(columns):
-    """Neighbours of one instance, and of one call: the name of each group, its first column and how many they are."""
+    """Neighbours of one instance, and of one call: the name of each group, its first column and how many they are.
+
+    An instance whose name is too long for its columns is named with each of its calls."""
     instances, calls = [], []
     for place, (_, call, name) in enumerate(columns):
         instance, _, export = name.partition('.')
@@ -131,6 +133,12 @@ def groups(columns):
                 found[-1][3] += 1
             else:
                 found.append([key, title, place, 1])
+    for group in instances:
+        if LETTER * len(group[1]) > WIDE * group[3] - 8:
+            for call in calls:
+                if group[2] <= call[2] < group[2] + group[3]:
+                    call[1] = f'{group[1]}.{call[1]}'
+            group[1] = ''
     return instances, calls
 
 
@@ -281,6 +289,9 @@ def picture(run, columns):
     tall, wide = top + TALL * (len(run.labels) + 2), LEFT + WIDE * len(columns) + 40
     parts = [f'<svg xmlns="http://www.w3.org/2000/svg" width="{wide}" height="{tall}" font-family="monospace" font-size="11">',
              '<rect width="100%" height="100%" fill="white"/>', ARROW, *heads(columns, top)]
+    for place, (state, colour) in enumerate(COLOURS.items()):
+        parts.append(f'<rect x="{8 + 72 * place}" y="6" width="12" height="12" fill="{colour}" stroke="#9aa0aa"/>')
+        parts.append(f'<text x="{24 + 72 * place}" y="16" fill="#666">{state}</text>')
     for thread, state, since, until in run.bars:
         parts.append(f'<rect x="{at[thread] - 6}" y="{top + TALL * since}" width="12" height="{TALL * (until - since)}" '
                      f'fill="{COLOURS[state]}" stroke="#9aa0aa"/>')
@@ -333,10 +344,15 @@ function groups(columns, key, title) {
 }
 function names(columns) {
   const instance = column => column[2].split('.')[0], call = column => column[2].split('.')[1] || 'call ' + column[1];
-  const calls = groups(columns, column => column[1], call);
+  const instances = groups(columns, instance, instance), calls = groups(columns, column => column[1], call);
+  for (const group of instances) if (LETTER * group.title.length > WIDE * group.many - 8) {
+    for (const called of calls) if (group.place <= called.place && called.place < group.place + group.many)
+      called.title = group.title + '.' + called.title;
+    group.title = '';
+  }
   top_ = Math.round(44 + LETTER * Math.max(0, ...calls.map(group => group.title.length)));
   let drawn = '';
-  for (const group of groups(columns, instance, instance)) if (group.title) {
+  for (const group of instances) if (group.title) {
     const x = LEFT + WIDE * group.place - 10;
     drawn += `<rect x="${x}" y="4" width="${WIDE * group.many - 6}" height="15" fill="#eef1f5"/>` +
       `<text x="${Math.max(x + 3, view.scrollLeft + LEFT - 8)}" y="15" font-weight="bold">${plain(group.title)}</text>`;

@@ -1,2 +1,1 @@
 pub mod MethodLemmas
-pub mod WakeLemmas

@@ -1,5 +1,5 @@
 -- A step in which main answers.
-use Rattle.event_laws.specs.Answers.{AnswersLoseNone, NoneLost}
+use Rattle.order_laws.specs.Answers.{AnswersLoseNone, NoneLost}
 use Rattle.label_laws.proofs.TurnLemmas.{main_at_its_turns}
 use Rattle.label_laws.specs.Own.{is_main_turn}
 use Rattle.std.proofs.Common.{ap, refl, subst, sym}

@@ -1,4 +1,4 @@
-ghost use Rattle.event_laws.specs.Answers.{AnswersLoseNone};
+ghost use Rattle.order_laws.specs.Answers.{AnswersLoseNone};
 
 /// Main's answer ends the run and changes nothing of the core, so no wake is lost in the state that is left.
 #[tactic(auto, using(crate::proofs::AnswerLemmas::answers_lose_none))]

@@ -1,8 +1,8 @@
 -- A turn that rests has lowered the polls that are left of some work.
 use Rattle.label_laws.proofs.TakingLemmas.{IsTaken, take_shows}
 use Rattle.label_laws.specs.Own.{Shows}
-use Rattle.turn_laws.proofs.LiveLemmas.{moving_found, next_above, next_least}
-use Rattle.turn_laws.specs.Rests.{AllPending, LowersPolls, RestsLowerPolls, is_pending, with_polls}
+use Rattle.order_laws.proofs.LiveLemmas.{moving_found, next_above, next_least}
+use Rattle.order_laws.specs.Rests.{AllPending, LowersPolls, RestsLowerPolls, is_pending, with_polls}
 use Rattle.std.proofs.Common.{ap, arith, inl, inr, refl, subst, sym, ⊎_elim, ◌∙◌}
 use Rattle.std.proofs.lemmas.Bool.Decides.{nat_tests}
 use Rattle.std.specs.Option.{option_map}

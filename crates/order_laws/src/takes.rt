@@ -1,4 +1,4 @@
-ghost use Rattle.turn_laws.specs.Moves.{RunsMoveEntries, RunsTakeInTurn, StepsMoveEntries};
+ghost use Rattle.order_laws.specs.Moves.{RunsMoveEntries, RunsTakeInTurn, StepsMoveEntries};
 
 /// A step changes what stands at the marks by single moves alone. The entry that is next in its turn is taken, and no
 /// other; one comes to the end of high or of low, or a thread to switch, from where one that stood there goes to the front

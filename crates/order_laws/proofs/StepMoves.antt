@@ -36,8 +36,8 @@ use Rattle.task_rules.specs.Takes.{host_done, host_result, host_row, host_status
 use Rattle.task_rules.specs.Turns.{at_turn, goes_to}
 use Rattle.task_rules.specs.Words.{AddGroup, FinishWork, RemoveCall, RemoveGroup, SetTrapped, SetUninteresting, Places, Placing, Pop, Promote, Put, QueueWork, RemoveThread, Stop, TakeHost, TakePush, Withdraw, Word, after_placing, after_word}
 use Rattle.task_rules.specs.Works.{has_moving_work, poll_pends}
-use Rattle.turn_laws.proofs.LineLemmas.{after_more, lawful_more}
-use Rattle.turn_laws.specs.Moves.{AllOther, Comes, IsOther, Lawful, May, Move, MovesBy, Promotes, StepsMoveEntries, Takes, Withdraws, after, moved, one_at, taking, taking_by, taking_next, unlined}
+use Rattle.order_laws.proofs.LineLemmas.{after_more, lawful_more}
+use Rattle.order_laws.specs.Moves.{AllOther, Comes, IsOther, Lawful, May, Move, MovesBy, Promotes, StepsMoveEntries, Takes, Withdraws, after, moved, one_at, taking, taking_by, taking_next, unlined}
 use Rattle.task_rules.specs.Allowed.{IsFall, IsSettling, MayHasten, MayLand, MayShift, Stays, TakesWork}
 use Rattle.task_rules.specs.Step.{DeadlockStep, EmptyFor, Progresses, RestStep, Step, TakeStep, TurnStep}
 

@@ -1,7 +1,7 @@
-ghost use Rattle.event_laws.specs.Events.{EventsReached, RunsTellHigher, StartsUnstarted, StepsTellHigher};
+ghost use Rattle.order_laws.specs.Events.{EventsReached, RunsTellHigher, StartsUnstarted, StepsTellHigher};
 
 /// In a state that a run comes to, a call whose first thread waits for its start has not started.
-#[tactic(auto, using(crate::proofs::StartLemmas::starts_unstarted))]
+#[tactic(auto, using(crate::proofs::WaitLemmas::starts_unstarted))]
 pub fn starts_wait_unstarted()
     ensures { StartsUnstarted }
 {}

@@ -1,5 +1,5 @@
 -- The ends of host works, along the words of a step.
-use Rattle.event_laws.specs.Works.{Answered, has_recorded, IsRecorded, IsUnended, NoWorkEndIsCovered, recorded_end, WorkEndsAreSaid, WorkEndsHandedAsTold, WorkEndsToldAsRecorded, WrittenWorkEndsAreNew}
+use Rattle.order_laws.specs.Works.{Answered, has_recorded, IsRecorded, IsUnended, NoWorkEndIsCovered, recorded_end, WorkEndsAreSaid, WorkEndsHandedAsTold, WorkEndsToldAsRecorded, WrittenWorkEndsAreNew}
 use Rattle.std.specs.Option.{option_map_or}
 use Rattle.std.specs.Prelude.{is_some, option_map}
 use Rattle.std.proofs.Common.{ap, inl, inr, refl, subst, sym}

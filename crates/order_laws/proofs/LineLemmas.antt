@@ -14,7 +14,7 @@ use Rattle.task_machine.specs.declared.words.Mark.{Mark}
 use Rattle.task_machine.specs.declared.words.Mark.TheVariants as mark
 use Rattle.task_rules.proofs.Machine.{nat_tests}
 use Rattle.task_rules.specs.Takes.{rest_of}
-use Rattle.turn_laws.specs.Moves.{Comes, Lawful, May, Move, Promotes, Spares, SparesMove, SparesSwitch, Takes, Withdraws, after, at, come_to, moved, one_at, same_mark, taken_from, unlined}
+use Rattle.order_laws.specs.Moves.{Comes, Lawful, May, Move, Promotes, Spares, SparesMove, SparesSwitch, Takes, Withdraws, after, at, come_to, moved, one_at, same_mark, taken_from, unlined}
 
 -- ---- Moves one after another
 

@@ -1,4 +1,4 @@
-ghost use Rattle.event_laws.specs.Works.{NoWorkEndIsCovered, WorkEndsAreSaid, WorkEndsHandedAsTold, WorkEndsToldAsRecorded, WrittenWorkEndsAreNew};
+ghost use Rattle.order_laws.specs.Works.{NoWorkEndIsCovered, WorkEndsAreSaid, WorkEndsHandedAsTold, WorkEndsToldAsRecorded, WrittenWorkEndsAreNew};
 
 /// In a state that a run comes to, an end that a host work has still to hand out is that in its record; the work is of an
 /// async call, and its entry was taken.

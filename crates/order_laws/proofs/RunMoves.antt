@@ -6,9 +6,9 @@ use Rattle.task_machine.specs.Core.{Queues, State}
 use Rattle.task_machine.specs.declared.label.Label.{Label}
 use Rattle.task_rules.specs.Run.{Run}
 use Rattle.task_rules.specs.Stalled.{Setting}
-use Rattle.turn_laws.proofs.LineLemmas.{after_more, lawful_more, moves_in_turn}
-use Rattle.turn_laws.proofs.StepMoves.{steps_move_entries}
-use Rattle.turn_laws.specs.Moves.{Lawful, Move, RunsBy, RunsMoveEntries, RunsTakeInTurn, StepsMoveEntries, after, at, taken_from, taking}
+use Rattle.order_laws.proofs.LineLemmas.{after_more, lawful_more, moves_in_turn}
+use Rattle.order_laws.proofs.StepMoves.{steps_move_entries}
+use Rattle.order_laws.specs.Moves.{Lawful, Move, RunsBy, RunsMoveEntries, RunsTakeInTurn, StepsMoveEntries, after, at, taken_from, taking}
 
 pub runs_move_entries : RunsMoveEntries
 unfolding RunsMoveEntries StepsMoveEntries

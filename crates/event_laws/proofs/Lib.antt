@@ -1,4 +1,0 @@
-pub mod AnswerLemmas
-pub mod EventLaws
-pub mod StartLemmas
-pub mod WorkEnds
