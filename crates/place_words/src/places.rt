@@ -29,6 +29,7 @@ use task_machine::{Delivery, Mark, Place, Why};
 use task_records::{CoreParts, named_set};
 use task_words::{HowFarId, PlaceId, SetId, ThreadId, WhyId};
 
+/// Where the thread is, by the numbers of what that names.
 pub fn place(parts: &CoreParts, thread: ThreadId) -> Option<Place>
     requires { IsSound parts.now }
     ensures { result ≡ place_of (thread_of (seen parts.now) thread) (seen parts.now).core }
