@@ -21,8 +21,8 @@ tell_run-requires-clause-stays g c =
 pub tell_run-requires-clause-unhooked : goal.tell_run-requires-clause-unhooked
 tell_run-requires-clause-unhooked g c = ap (λ (k : Groups). is_some k.listeners.hook) c.in-Ok.ensures.groups ∙ c.requires.groups.unhooked
 
-pub returns-in-Ok-clause-groups : goal.returns-in-Ok-clause-groups
-returns-in-Ok-clause-groups g c =
+pub returns-clause-groups : goal.returns-clause-groups
+returns-clause-groups g c =
     let s = c.args.store.now.state in
     let t = c.step_thread.new.store.state in
     let a = asked_in c.args.running.now c.step_thread.new.staked in
@@ -32,8 +32,8 @@ returns-in-Ok-clause-groups g c =
     (subst (λ (k : Groups). (gs : List ℕ) → Mirrors gs k → Leads a (length t.core.groups) gs t.core.groups → Mirrors t.core.groups new) c.in-Ok.ensures.groups c.tell_run.ensures.mirrors)
     (c.tell_run.ensures.made ∙ ap (λ (k : Groups). k.made) c.in-Ok.ensures.groups) c.tell_run.ensures.unhooked
 
-pub returns-in-Ok-clause-told : goal.returns-in-Ok-clause-told
-returns-in-Ok-clause-told g c =
+pub returns-clause-told : goal.returns-clause-told
+returns-clause-told g c =
     let s = c.args.store.now.state in
     let t = c.step_thread.new.store.state in
     let q = c.in-Ok.stepped in

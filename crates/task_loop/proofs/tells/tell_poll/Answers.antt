@@ -10,12 +10,12 @@ use Rattle.task_loop.proofs.tells.tell_poll.Goals as goal
 
 pub returns-then-tell_at_once-clause-running : goal.returns-then-tell_at_once-clause-running
 returns-then-tell_at_once-clause-running c =
-    ap (λ (o : Option ℕ). unwrap_or o 0) (sym (idle_group c.args.core.now (sym c.is_some.ensures ∙ c.if-is_some.false)))
+    ap (λ (o : Option ℕ). unwrap_or o 0) (sym (idle_group c.args.core.now (rw c.current.ensures at (sym c.is_some.ensures ∙ c.if-is_some.false))))
 
 pub returns-then-tell_at_once-clause-told : goal.returns-then-tell_at_once-clause-told
 returns-then-tell_at_once-clause-told c = λ gs m q.
     let t = c.args.core.now in
-    subst (λ (o : Option ℕ). Told (told_by (asked_beside c.args.worked) o gs t.core.groups) c.args.groups.now.listeners c.tell_at_once.new.groups.listeners) (sym (idle_group t (sym c.is_some.ensures ∙ c.if-is_some.false)))
+    subst (λ (o : Option ℕ). Told (told_by (asked_beside c.args.worked) o gs t.core.groups) c.args.groups.now.listeners c.tell_at_once.new.groups.listeners) (sym (idle_group t (rw c.current.ensures at (sym c.is_some.ensures ∙ c.if-is_some.false))))
     (c.tell_at_once.ensures.told c.if-tell_at_once.true gs t.core.groups m (subst (λ (k : ℕ). Leads (asked_beside c.args.worked) k gs t.core.groups) (sym c.groups.ensures) q))
 
 pub returns-then-tell_at_once-clause-mirrors : goal.returns-then-tell_at_once-clause-mirrors
