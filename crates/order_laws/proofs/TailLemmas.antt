@@ -25,7 +25,7 @@ module _ (o : Op) where
   abbrev export_with : ExportDef → ExportDef
   export_with e = record e { start = with_tail e.start; react = with_tail e.react }
 
-  abbrev slot_with : Slot → Slot
+  abbrev pub slot_with : Slot → Slot
   slot_with (slot.Script ops) = slot.Script (with_tail ops)
   slot_with k = k
 
@@ -50,7 +50,7 @@ module _ (o : Op) where
       by None = refl
       by (Some i) = slice_get-map export_with i.exports f.export
 
-  slot_of : (c : Component) (i x : ℕ) → slot_at (tailed c) i x ≡ slot_with (slot_at c i x)
+  pub slot_of : (c : Component) (i x : ℕ) → slot_at (tailed c) i x ≡ slot_with (slot_at c i x)
   slot_of c i x = ap (λ (d : Option InstanceDef). unwrap_or (option_and_then (λ (d : InstanceDef). slice_get d.slots x) d) slot.Empty) (slice_get-map instance_with c.instances i)
       ∙ by (slice_get c.instances i)
     where
