@@ -5,20 +5,20 @@ use Rattle.order_laws.proofs.EndCounts.{moved_counted}
 use Rattle.order_laws.proofs.PieceLemmas.{piece_keeps}
 use Rattle.order_laws.proofs.TailLemmas.{kinds_same, longer, order_as, tailed}
 use Rattle.order_laws.proofs.ThereLemmas.{IsThere, goes_there, last_of}
-use Rattle.order_laws.specs.Pieces.{KeepsOrder, Orderly, PrepareAnywhere, PrepareKeeps, SameInstances, state_in}
+use Rattle.order_laws.specs.Pieces.{Orderly, PrepareAnywhere, PrepareKeeps, SameInstances, state_in}
 use Rattle.std.proofs.Common.{ap₂}
 use Rattle.task_laws.specs.Order.{ThreadFits, has_one_on_top, names_script}
 use Rattle.task_machine.specs.Maps.{same_map}
-use Rattle.task_machine.specs.Read.{call_instance, thread_group}
+use Rattle.task_machine.specs.Read.{thread_group}
 use Rattle.task_machine.specs.declared.component.Callee.{Callee}
 use Rattle.task_machine.specs.declared.op.CallOp.{CallOp}
 use Rattle.task_machine.specs.declared.records.Caller.{Caller}
 use Rattle.task_machine.specs.declared.records.Goal.{Goal}
-use Rattle.task_places.proofs.Laws.{Bool, Component, Core, ExportKind, Fits, HowFar, InOrder, List, None, Op, Option, Place, Records, Script, Some, Thread, Turn, Unscripted, [], add_call, add_thread, ap, arith, at_place, by_number, call_made, callee_of, can_come, false, fresh, get, get-change, get-insert, how_far_of, is_direct, is_explicit, is_some, is_sync_call, length, moved_to, nat_tests, new_thread, on_thread, op_at_place, op_of, op_there, option_map_or, plain, refl, registers_for, script_in, script_of, set_how_far, set_position, subst, sym, task_of, true, unwrap_or, ℕ, ◌+◌, ◌==◌, ◌∙◌, ◌≡◌, ◌≤◌}
+use Rattle.task_places.proofs.Laws.{Component, Core, ExportKind, Fits, HowFar, InOrder, List, None, Op, Option, Place, Records, Script, Some, Thread, Turn, Unscripted, [], add_call, add_thread, ap, arith, by_number, call_made, callee_of, can_come, false, fresh, get, get-change, get-insert, how_far_of, is_direct, is_explicit, is_some, is_sync_call, length, moved_to, nat_tests, new_thread, on_thread, op_at_place, plain, refl, registers_for, script_in, script_of, set_how_far, set_position, subst, sym, task_of, true, unwrap_or, ℕ, ◌+◌, ◌==◌, ◌∙◌, ◌≡◌, ◌≤◌}
 use Rattle.task_rules.specs.Allowed.{is_for_main}
 use Rattle.task_rules.specs.Chains.{NoWord, Then}
 use Rattle.task_rules.specs.OpParts.{callee_of_op}
-use Rattle.task_rules.specs.Scripts.{export_at, export_kind, script_of_thread}
+use Rattle.task_rules.specs.Scripts.{export_at, export_kind}
 use Rattle.task_rules.specs.Words.{Advance}
 
 module _ (c : Component) (n : ℕ) (e : Callee) (g : Goal) (words : List ℕ) (s : Core) (fresh : how_far_of n s ≡ HowFar.Fresh)

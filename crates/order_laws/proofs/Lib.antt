@@ -23,4 +23,5 @@ mod PlaceReads
 mod PlaceWrites
 mod PlaceRows
 pub mod PlaceLaws
+pub mod PlaceOrder
 mod ThereLemmas

@@ -14,7 +14,7 @@ use Rattle.task_machine.specs.declared.component.Slot.{Slot}
 use Rattle.task_machine.specs.declared.op.CallOp.{CallOp}
 use Rattle.task_machine.specs.declared.op.ThreadOp.{ThreadOp}
 use Rattle.task_places.proofs.CallersSteps.{SamePlaces, callers_stay}
-use Rattle.task_places.proofs.Laws.{by_number, Choice, Component, Core, Goes, Label, Op, Option, Place, Progress, Progresses, Records, State, Stops, Thread, Turn, Unscripted, WakesCounted, ap, arith, false, get-change, goes_to, is_open, is_some, moved_to, nat_tests, on_thread, op_of, op_row, refl, set_how_far, set_position, subst, sym, true, ℕ, ◌+◌, ◌==◌, ◌∙◌, ◌≡◌}
+use Rattle.task_places.proofs.Laws.{InOrder, List, Main, by_number, settled_turn, Choice, Component, Core, Goes, Label, Op, Option, Place, Progress, Progresses, Records, State, Stops, Thread, Turn, Unscripted, WakesCounted, ap, arith, false, get-change, goes_to, is_open, is_some, moved_to, nat_tests, on_thread, op_of, op_row, refl, set_how_far, set_position, subst, sym, true, ℕ, ◌+◌, ◌==◌, ◌∙◌, ◌≡◌}
 use Rattle.task_places.proofs.OrderLemmas.{step_in_order}
 use Rattle.task_rules.specs.OpParts.{ends_activation}
 use Rattle.task_rules.specs.Progress.{Fails, Never, Ordered, Traps}
@@ -70,31 +70,75 @@ unending o on = grind arith
 
 -- ---- What the row leads to
 
--- the same, but for the place of the thread
-abbrev IsMoved : ℕ → State → State → Type 0
-IsMoved n t u = (is_open u.turn ≡ true) × ((r : ℕ) × (u.core ≡ set_position n r t.core))
+-- What the row of the thread n, that is at q in its script, comes to by this label: what the row here comes to in t, but for that place.
+pub record Leads (x t : State) (n q : ℕ) (l : Label) (p : Progress) : Type 0 where
+  pub core : Core
+  pub turn : Turn
+  pub place : ℕ
+  pub is : core ≡ set_position n place t.core
+  pub goes : (y : State) → Progresses y y.core n (relocated n q p) l (goes_to y core turn)
+  pub open_turn : is_open (settled_turn core turn) ≡ true
+  pub on : (m : ℕ) → t.turn ≡ Turn.Run m → (turn ≡ Turn.Run m) × (place ≡ q + 1)
 
-leads : (x y : State) (n q : ℕ) (l : Label) (t : State) (p : Progress) → Progresses x x.core n p l t → is_open t.turn ≡ true →
-    (u : State) × (Progresses y y.core n (relocated n q p) l u × IsMoved n t u)
+leads : (x t : State) (n q : ℕ) (l : Label) (p : Progress) → Progresses x x.core n p l t → is_open t.turn ≡ true → Leads x t n q l p
 unfolding at_turn
-leads x y n q l t (Goes k new m) h on =
-    (goes_to y (set_position n (q + 1) new) (Turn.Run m), ((h.0, refl), (refl, (q + 1, ap (λ (v : State). set_position n (q + 1) v.core) (sym h.1)))))
-leads x y n q l t (Stops k new) h on =
-    (goes_to y (set_position n q new) Turn.Main, ((h.0, refl), (refl, (q, ap (λ (v : State). set_position n q v.core) (sym h.1)))))
-leads x y n q l t (Ordered ns next) h on =
-    let r = leads x y n q l t (next h.0) h.1.1 on in (r.0, ((h.0, (h.1.0, r.1.0)), r.1.1))
-leads x y n q l t (Traps w) h on = absurd (let over = ap (λ (v : State). is_open v.turn) h.1 in cc)
-leads x y n q l t (Fails i) h on = absurd (let over = ap (λ (v : State). is_open v.turn) h.1 in cc)
-leads x y n q l t Never h on = absurd h
+leads x t n q l (Goes k new m) h on = record {
+  core = set_position n (q + 1) new;
+  turn = Turn.Run m;
+  place = q + 1;
+  is = ap (λ (v : State). set_position n (q + 1) v.core) (sym h.1);
+  goes = λ y. (h.0, refl);
+  open_turn = refl;
+  on = λ j to. (sym (ap (λ (v : State). v.turn) h.1) ∙ to, refl);
+}
+leads x t n q l (Stops k new) h on = record {
+  core = set_position n q new;
+  turn = Turn.Main;
+  place = q;
+  is = ap (λ (v : State). set_position n q v.core) (sym h.1);
+  goes = λ y. (h.0, refl);
+  open_turn = refl;
+  on = λ j to. absurd (let main = ap (λ (v : State). v.turn) h.1 in cc);
+}
+leads x t n q l (Ordered ns next) h on = let r = leads x t n q l (next h.0) h.1.1 on in record {
+  core = r.core;
+  turn = r.turn;
+  place = r.place;
+  is = r.is;
+  goes = λ y. (h.0, (h.1.0, r.goes y));
+  open_turn = r.open_turn;
+  on = r.on;
+}
+leads x t n q l (Traps w) h on = absurd (let over = ap (λ (v : State). is_open v.turn) h.1 in cc)
+leads x t n q l (Fails i) h on = absurd (let over = ap (λ (v : State). is_open v.turn) h.1 in cc)
+leads x t n q l Never h on = absurd h
+
+-- where the thread stays at q it goes on at the next place
+pub next_place : (x t : State) (n q m : ℕ) (l : Label) (p : Progress) → Progresses x x.core n p l t → p ≡ relocated n q p → t.turn ≡ Turn.Run m →
+    t.core ≡ set_position n (q + 1) t.core
+unfolding at_turn
+next_place x t n q m l (Goes k new j) h same to = let is : new ≡ set_position n (q + 1) new = cc in
+    ap (λ (v : State). v.core) h.1 ∙ (is ∙ ap (λ (v : State). set_position n (q + 1) v.core) (sym h.1))
+next_place x t n q m l (Ordered ns next) h same to = next_place x t n q m l (next h.0) h.1.1 (let is : next ≡ (λ order. relocated n q (next order)) = cc in ap (λ (f : List ℕ → Progress). f h.0) is) to
+next_place x t n q m l (Stops k new) h same to = absurd (let main = ap (λ (v : State). v.turn) h.1 in cc)
+next_place x t n q m l (Traps w) h same to = absurd (let over = ap (λ (v : State). v.turn) h.1 in cc)
+next_place x t n q m l (Fails i) h same to = absurd (let over = ap (λ (v : State). v.turn) h.1 in cc)
+next_place x t n q m l Never h same to = absurd h
 
 module _ (c : Component) (o : Op) (n : ℕ) (s : Core) (asked : is_asked o ≡ true) (may : MayAsk c n s) (h : Orderly c (Turn.Run n) s) where
-  it : IsThere c o n s
+  abbrev pub d : Component
+  d = tailed o c
+
+  abbrev pub old : InOrder c (state_in Unscripted (Turn.Run n) s)
+  old = h Unscripted
+
+  pub it : IsThere c o n s
   it = goes_there c n o s (unending o asked) may.fresh may.serves h
 
-  abbrev q : ℕ
+  abbrev pub q : ℕ
   q = last_of c it.thread s
 
-  abbrev there : Core
+  abbrev pub there : Core
   there = set_position n q s
 
   -- no op of it is under way
@@ -103,28 +147,37 @@ module _ (c : Component) (o : Op) (n : ℕ) (s : Core) (asked : is_asked o ≡ t
   same_far = let far = may.fresh in ap (λ (ts : Records Thread). record s { threads = ts }) (same_map _ _ (λ i. by_number i n _
       (λ is. grind (arith, nat_tests, get-change, is, far)) (λ other. grind (arith, nat_tests, get-change, other))))
 
+  pub before : Orderly d (Turn.Run n) there
+  before = subst (λ (u : Core). Orderly d (Turn.Run n) u) same_far it.order
+
   -- its number isn't that of the next thread
-  not_next : (n == s.made.threads + 1) ≡ false
+  pub not_next : (n == s.made.threads + 1) ≡ false
   not_next =
-      let old = h Unscripted in
       let low = (old.in_place.placed n).number (let runs = old.in_place.runs n refl in ap (λ (p : Option Place). is_some p) runs) in
       grind (arith, nat_tests, low)
 
-  row : (ch : Choice) → did (tailed o c) n there ch ≡ relocated n q (op_row c n s ch o)
+  row : (ch : Choice) → did d n there ch ≡ relocated n q (op_row c n s ch o)
   unfolding did
-  row ch = ap (op_row (tailed o c) n there ch) (ap (op_of (tailed o c) n) (sym same_far) ∙ it.op) ∙ (tail_alike c o n there ch o asked ∙
-      rows_alike n q c s may.fresh not_next ch o asked)
+  row ch = ap (op_row d n there ch) (ap (op_of d n) (sym same_far) ∙ it.op) ∙ (tail_alike c o n there ch o asked ∙ rows_alike n q c s may.fresh not_next ch o asked)
 
-  loses_none : (l : Label) (t : State) → Progresses (state_in Unscripted (Turn.Run n) s) s n (op_row c n s (choice_of l) o) l t → is_open t.turn ≡ true →
-      NoWakeLost t.core
-  unfolding OrderStands Step
-  loses_none l t progress on =
-      let x = state_in Unscripted (Turn.Run n) there in
-      let next = leads (state_in Unscripted (Turn.Run n) s) x n q l t (op_row c n s (choice_of l) o) progress on in
-      let before = subst (λ (u : Core). Orderly (tailed o c) (Turn.Run n) u) same_far it.order in
-      let step : Step (setting_for (tailed o c)) x l next.0 = subst (λ (p : Progress). Progresses x there n p l next.0) (sym (row (choice_of l))) next.1.0 in
-      let kept = order_stands (tailed o c) next.0 (step_in_order (setting_for (tailed o c)) x l next.0 (before Unscripted) step) next.1.1.0 in
-      stands_anywhere n next.1.1.1.0 t.core (subst NoWakeLost next.1.1.1.1 kept)
+  module _ (l : Label) (t : State) (progress : Progresses (state_in Unscripted (Turn.Run n) s) s n (op_row c n s (choice_of l) o) l t)
+      (on : is_open t.turn ≡ true) where
+    pub next : Leads (state_in Unscripted (Turn.Run n) s) t n q l (op_row c n s (choice_of l) o)
+    next = leads (state_in Unscripted (Turn.Run n) s) t n q l (op_row c n s (choice_of l) o) progress on
+
+    abbrev pub y : Main → State
+    y m = state_in m (Turn.Run n) there
+
+    pub steps : (m : Main) → Step (setting_for d) (y m) l (goes_to (y m) next.core next.turn)
+    unfolding Step
+    steps m = subst (λ (p : Progress). Progresses (y m) there n p l (goes_to (y m) next.core next.turn)) (sym (row (choice_of l))) (next.goes (y m))
+
+    pub after : (m : Main) → InOrder d (goes_to (y m) next.core next.turn)
+    after m = step_in_order (setting_for d) (y m) l _ (before m) (steps m)
+
+    loses_none : NoWakeLost t.core
+    unfolding OrderStands at_turn
+    loses_none = stands_anywhere n next.place t.core (subst NoWakeLost next.is (order_stands d _ (after Unscripted) next.open_turn))
 
 pub rows_lose_none : RowsLoseNone
 unfolding RowsLoseNone
