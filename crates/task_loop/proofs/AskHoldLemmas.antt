@@ -97,7 +97,7 @@ use Rattle.task_words.specs.StateView.{StateView, with_core, with_current}
 
 -- ---- A component in which each script up to some names has this op at each place up to one
 
-many : {X : Type 0} → ℕ → X → List X
+pub many : {X : Type 0} → ℕ → X → List X
 many zero x = x ∷ []
 many (suc n) x = x ∷ many n x
 
