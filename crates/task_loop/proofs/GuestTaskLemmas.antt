@@ -159,10 +159,10 @@ module _ (x : ExportKind) (i : ℕ) (f : Option QualifiedThreadId) (s t : StateV
     pub settled : (l : Listeners) (h : Groups) → Told (begun_notices f s.core) l g.listeners → (t.core.trapped ≡ false → h ≡ g) →
         (t.core.trapped ≡ true → (h.live ≡ finite.empty) × (h.made ≡ g.made)) → (t.core.trapped ≡ true → Told (finish_all g.live) g.listeners h.listeners) →
         HoldsGroups h t.core × Told (begin_notices f s.core) l h.listeners
-    settled l h told open live all = by t.core.trapped refl
+    settled l h told opens live all = by t.core.trapped refl
       where
         by : (b : Bool) → t.core.trapped ≡ b → HoldsGroups h t.core × Told (begin_notices f s.core) l h.listeners
-        by false e = subst (λ (k : Groups). HoldsGroups k t.core × Told (begin_notices f s.core) l k.listeners) (sym (open e)) (open_holds e, open_told l e told)
+        by false e = subst (λ (k : Groups). HoldsGroups k t.core × Told (begin_notices f s.core) l k.listeners) (sym (opens e)) (open_holds e, open_told l e told)
         by true e = let done = live e in (shut_holds h e done.0 done.1 (all e).same_hook, shut_told l h e told (all e))
 
 pub begun_core : (x : ExportKind) (i : ℕ) (f : Option QualifiedThreadId) (s t : StateView) (room : Bool) (id : QualifiedThreadId) → Begins x i f s room (Ok id) t → t.core ≡ task_begun x i f s

@@ -51,4 +51,4 @@ returns-clause-groups g c holds =
     rw c.settle.ensures.rest (subst (λ (k : Groups). HoldsGroups c.tell_call.new.groups t.core × Told (call_notices s t) k.listeners c.tell_call.new.groups.listeners) same told)
 
 pub returns-in_default-clause-groups : goal.returns-in_default-clause-groups
-returns-in_default-clause-groups g c holds = (holds, still_told c.args.store.now.state c.args.store.now.groups.listeners)
+returns-in_default-clause-groups g c holds = rw c.hold_next.ensures.rest (holds, still_told c.args.store.now.state c.args.store.now.groups.listeners)
