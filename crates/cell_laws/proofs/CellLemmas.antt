@@ -4,7 +4,7 @@ use Rattle.std.proofs.Common.{cond, sym}
 use Rattle.std.specs.Prelude.{Bool, None, Some, false, ◌==◌}
 use Rattle.std.proofs.lemmas.Bool.{eqb-true}
 use Rattle.std.specs.Option.{option_map, option_map_or}
-use Rattle.cell_laws.specs.Cells.{CellsStay, SameCell, SpawnedNothing, phase_told}
+use Rattle.cell_laws.specs.Cells.{CellsStay, CellsStayInside, IsInside, Runs, SameCell, Takes, SpawnedNothing, phase_told}
 use Rattle.task_laws.specs.Order.{WorksKnown}
 use Rattle.task_machine.specs.Core.{Main, MainPlace, Scripted, Unscripted}
 use Rattle.task_laws.proofs.CallsSteps.{base_out}
@@ -14,6 +14,18 @@ use Rattle.task_machine.specs.declared.words.Phase.TheVariants as phases
 use Rattle.task_rules.specs.Allowed.{AbortsOwn, MayAbort, ProgramAborts, ScriptAborts, is_async_work}
 use Rattle.task_rules.specs.MainOps.{spawned_at}
 use Rattle.task_rules.specs.Words.{SetPhase}
+use Rattle.task_machine.specs.Labels.{choice_of}
+use Rattle.task_machine.specs.Read.{next_entry}
+use Rattle.task_machine.specs.declared.records.Entry.{Entry}
+use Rattle.task_machine.specs.declared.words.Mark.{Mark}
+use Rattle.task_rules.specs.Progress.{Fails, Goes, Never, Ordered, Progress, Stops, Traps}
+use Rattle.task_rules.specs.Stalled.{is_unended_take, may_deadlock}
+use Rattle.task_rules.specs.Step.{DeadlockStep, EmptyFor, Progresses, RestStep, Step, TakeStep, TurnStep, did, entry_number}
+use Rattle.task_rules.specs.Takes.{popped, take_row}
+use Rattle.task_rules.specs.Turns.{at_turn}
+use Rattle.task_rules.specs.Works.{has_moving_work}
+use Rattle.std.specs.Prelude.{[], true}
+use Rattle.task_laws.proofs.Words.{Records}
 
 -- a call's cell is running, whatever its phase
 told_async : (f : WorkCaller) (p : Phase) → is_async_work f ≡ true → phase_told f p ≡ phases.Running
@@ -116,3 +128,77 @@ pub cells_stay : CellsStay
 unfolding CellsStay
 cells_stay x s l t step quiet nothing none calls i below = let w = step_walks x s l t step in
     (along (Stays s.core) (λ v u ok q. stays_word (scene_of x s l w.next) quiet s.core (may_abort x s l w.next nothing calls) none v u ok q) (stays_same s.core) w.walk).same i below
+
+-- ---- Whatever main is, where a thread runs or an entry is taken
+
+module _ (m : Main) where
+  progress_free : (s : State) (base : Core) (n : ℕ) (p : Progress) (l : Label) (t : State) → Progresses s base n p l t → Progresses (record s { main = m }) base n p l (record t { main = m })
+  unfolding at_turn
+  progress_free s base n (Goes k new j) l t h = (h.0, ap (λ (u : State). record u { main = m }) h.1)
+  progress_free s base n (Stops k new) l t h = (h.0, ap (λ (u : State). record u { main = m }) h.1)
+  progress_free s base n (Traps why) l t h = (h.0, ap (λ (u : State). record u { main = m }) h.1)
+  progress_free s base n (Fails i) l t h = (h.0, ap (λ (u : State). record u { main = m }) h.1)
+  progress_free s base n Never l t h = absurd h
+  progress_free s base n (Ordered ns next) l t h = (h.0, (h.1.0, progress_free s base n (next h.0) l t h.1.1))
+
+-- a main that has spawned nothing
+nobody : Main
+nobody = Scripted (record { position = 0; registers = []; starts = []; spawns = [] })
+
+spawned_none : (k : ℕ) → spawned_at (record { position = 0; registers = []; starts = []; spawns = [] }) k ≡ 0
+spawned_none k = grind arith
+
+same_works : (s t : Core) → t.works ≡ s.works → (i : ℕ) → LaterBy SameCell (get s.works i) (get t.works i)
+same_works s t same i = subst (λ (m : Records Work). LaterBy SameCell (get s.works i) (get m i)) (sym same) (by (get s.works i))
+  where
+    by : (o : Option Work) → LaterBy SameCell o o
+    by None = tt
+    by (Some w) = same_cell w
+
+is_inside : Turn → Bool
+is_inside (Turn.Run n) = true
+is_inside (Turn.Take ended) = true
+is_inside p = false
+
+inside_is : (p : Turn) → IsInside p → is_inside p ≡ true
+unfolding is_inside
+inside_is _ (Runs n) = refl
+inside_is _ (Takes ended) = refl
+
+module _ (x : Setting) (s : State) (l : Label) (t : State) (none : get s.core.works 0 ≡ None) (known : WorksKnown s.core) where
+  by_free : Step x (record s { main = nobody }) l (record t { main = nobody }) → ((n : ℕ) → s.turn ≡ Turn.Futures n → ⊥) → (i : ℕ) → i ≤ s.core.made.works → LaterBy SameCell (get s.core.works i) (get t.core.works i)
+  unfolding CellsStay nobody
+  by_free step quiet i below = cells_stay x (record s { main = nobody }) l (record t { main = nobody }) step quiet (record { place = _; is = refl; spawned = spawned_none }) none known i below
+
+  empty_stays : (b : Bool) → EmptyFor x s b l t → (i : ℕ) → LaterBy SameCell (get s.core.works i) (get t.core.works i)
+  unfolding at_turn set_trapped
+  empty_stays true h i = rests (is_unended_take s.turn) h
+    where
+      rests : (c : Bool) → RestStep s c l t → LaterBy SameCell (get s.core.works i) (get t.core.works i)
+      rests true h = same_works s.core t.core (ap (λ (u : State). u.core.works) h.1) i
+      rests false h = absurd h
+  empty_stays false h i = dead (may_deadlock x s) h
+    where
+      dead : (c : Bool) → DeadlockStep s c l t → LaterBy SameCell (get s.core.works i) (get t.core.works i)
+      dead true h = same_works s.core t.core (ap (λ (u : State). u.core.works) h.1) i
+      dead false h = absurd h
+
+  take_stays : (ended : Bool) → s.turn ≡ Turn.Take ended → (o : Option (Mark × Entry)) → next_entry s.core ≡ o → TakeStep x s o l t → (i : ℕ) → i ≤ s.core.made.works → LaterBy SameCell (get s.core.works i) (get t.core.works i)
+  unfolding Step
+  take_stays ended is None at h i below = empty_stays (has_moving_work s.core) h i
+  take_stays ended is (Some e) at h i below = by_free (subst (λ (p : Turn). TurnStep x (record s { main = nobody }) p l (record t { main = nobody })) (sym is)
+      (subst (λ (o : Option (Mark × Entry)). TakeStep x (record s { main = nobody }) o l (record t { main = nobody })) (sym at)
+      (progress_free nobody s (popped e.0 s.core) (entry_number e.1) (take_row e.0 (choice_of l) (popped e.0 s.core) e.1) l t h))) (λ n e. cc) i below
+
+  inside : (p : Turn) → s.turn ≡ p → IsInside p → TurnStep x s p l t → (i : ℕ) → i ≤ s.core.made.works → LaterBy SameCell (get s.core.works i) (get t.core.works i)
+  unfolding Step is_inside
+  inside (Turn.Run n) is where_in h i below = by_free (subst (λ (p : Turn). TurnStep x (record s { main = nobody }) p l (record t { main = nobody })) (sym is)
+      (progress_free nobody s s.core n (did x.component n s.core (choice_of l)) l t h)) (λ n e. cc) i below
+  inside (Turn.Take ended) is where_in h i below = take_stays ended is (next_entry s.core) refl h i below
+  inside Turn.Main is where_in h i below = absurd (let e = inside_is Turn.Main where_in in cc)
+  inside (Turn.Futures n) is where_in h i below = absurd (let e = inside_is (Turn.Futures n) where_in in cc)
+  inside Turn.Over is where_in h i below = absurd (let e = inside_is Turn.Over where_in in cc)
+
+pub cells_stay_inside : CellsStayInside
+unfolding CellsStayInside Step
+cells_stay_inside x s l t step where_in none known i below = inside x s l t none known s.turn refl where_in step i below

@@ -1,9 +1,10 @@
 -- The cells of host works, by their records.
-use Rattle.std.specs.Prelude.{None, ℕ, ◌≡◌, ◌≤◌}
+use Rattle.std.specs.Prelude.{Bool, None, ℕ, ◌≡◌, ◌≤◌}
 use Rattle.task_laws.specs.Order.{WorksKnown}
 use Rattle.task_machine.specs.Core.{MainPlace, Scripted, State}
 use Rattle.task_machine.specs.Maps.{get}
 use Rattle.task_machine.specs.declared.label.Label.{Label}
+use Rattle.task_machine.specs.declared.records.Turn.{Turn}
 use Rattle.task_machine.specs.declared.records.Turn.TheVariants as turn
 use Rattle.task_machine.specs.declared.records.Work.{Work}
 use Rattle.task_machine.specs.declared.records.WorkCaller.{WorkCaller}
@@ -34,8 +35,18 @@ pub record SpawnedNothing (s : State) : Type 0 where
   pub is : s.main ≡ Scripted place
   pub spawned : (k : ℕ) → spawned_at place k ≡ 0
 
+-- a thread runs, or an entry is taken
+pub data IsInside : Turn → Type 0 where
+  Runs : (n : ℕ) → IsInside (turn.Run n)
+  Takes : (ended : Bool) → IsInside (turn.Take ended)
+
 -- At each turn but that of futures the cell of a work that was made before keeps its phase, if the work is still there. It is said of a main that
 -- has spawned nothing, so that it aborts no work.
 unfoldable pub CellsStay : Type 0
 CellsStay = (x : Setting) (s : State) (l : Label) (t : State) → Step x s l t → ((n : ℕ) → s.turn ≡ turn.Futures n → ⊥) → SpawnedNothing s →
+    get s.core.works 0 ≡ None → WorksKnown s.core → (i : ℕ) → i ≤ s.core.made.works → LaterBy SameCell (get s.core.works i) (get t.core.works i)
+
+-- At a turn of a thread, or of a take, that is so whatever main is.
+unfoldable pub CellsStayInside : Type 0
+CellsStayInside = (x : Setting) (s : State) (l : Label) (t : State) → Step x s l t → IsInside s.turn →
     get s.core.works 0 ≡ None → WorksKnown s.core → (i : ℕ) → i ≤ s.core.made.works → LaterBy SameCell (get s.core.works i) (get t.core.works i)

@@ -3,4 +3,4 @@
 
 mod laws;
 
-pub use laws::cells_stay;
+pub use laws::{cells_stay, cells_stay_inside};
