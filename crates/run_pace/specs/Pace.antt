@@ -34,3 +34,19 @@ passes_after passes (l ∷ ls) = false
 abbrev pub is_unyielded : (passes : Bool) → (since : ℕ) → List Label → Bool
 is_unyielded passes since [] = true
 is_unyielded passes since (l ∷ ls) = not (yields_before passes since (mark_taken l)) && is_unyielded false (counted since (mark_taken l)) ls
+
+-- ---- A run that is polled on each time that it yields
+
+-- begun anew where it yields
+abbrev pub unless_yielded : (yields : Bool) → ℕ → ℕ
+unless_yielded true since = 0
+unless_yielded false since = since
+
+-- with an entry of this mark, or none
+abbrev pub counted_past : (passes : Bool) → (since : ℕ) → Option Mark → ℕ
+counted_past passes since m = counted (unless_yielded (yields_before passes since m) since) m
+
+-- how many entries were taken since it last yielded, with these labels
+abbrev pub since_driven : (passes : Bool) → (since : ℕ) → List Label → ℕ
+since_driven passes since [] = since
+since_driven passes since (l ∷ ls) = since_driven false (counted_past passes since (mark_taken l)) ls

@@ -1,5 +1,5 @@
 ghost use Rattle.std.specs.Prelude.{◌≡◌, ◌≤◌, false, true};
-ghost use Rattle.run_pace.specs.Pace.{counted, yields_before};
+ghost use Rattle.run_pace.specs.Pace.{counted, counted_past, yields_before};
 
 use task_machine::Mark;
 
@@ -65,5 +65,16 @@ impl Pace {
             since,
             passes: false,
         }
+    }
+
+    /// That after a step that took an entry of this mark, or none, where the run is polled on if it yields before that entry.
+    pub fn past(self, mark: Option<Mark>) -> Self
+        ensures since { result.since ≡ counted_past self.passes self.since mark }
+        ensures passes { result.passes ≡ false }
+    {
+        if self.yields(mark) {
+            return Pace::yielded(true).after(mark);
+        }
+        self.after(mark)
     }
 }

@@ -1,10 +1,13 @@
-//! Tests of scenarios and of what runs them: the texts and the program's top call; and of join handles, whose works run in threads.
+//! Tests of scenarios and of what runs them: the texts and the program's top call; of join handles, whose works run in threads; and of slots
+//! and accessors.
 //!
 //! They stand apart, so that those crates are proved without them.
 #![tactic(auto)]
 
 #[cfg(test)]
 mod abort;
+#[cfg(test)]
+mod access;
 #[cfg(test)]
 mod program;
 #[cfg(test)]

@@ -2,8 +2,8 @@ use std::alloc::Global;
 use std::process::Abort;
 use task_loop::Outcome;
 use task_run::{
-    MemorySink, MemorySource, Read, RunError, Sink, Source, StdSink, StdSource, SureSink,
-    SureSource, USAGE, Wrote, component_of, make_scenario, print_report, read_scenario,
+    MemorySink, MemorySource, Read, Report, RunError, Scenario, Sink, Source, StdSink, StdSource,
+    SureSink, SureSource, USAGE, Wrote, component_of, make_scenario, print_report, read_scenario,
     run_scenario, tool,
 };
 
@@ -59,16 +59,28 @@ fn sink(rt: &impl Abort, alloc: Global, capacity: usize, fail: &[u32]) -> Memory
     }
 }
 
-// The text's report is this.
-fn reports(rt: &impl Abort, alloc: Global, text: &[u8], steps: u32, printed: &[u8]) {
-    assert!(rt; text.len() <= MOST_BYTES && 0 < steps && steps <= 100);
-    let Ok(report) = run_scenario(alloc, text, steps) else {
-        panic!(rt; "a report")
-    };
-    let Ok(text) = print_report(alloc, &report) else {
-        panic!(rt; "no memory")
-    };
-    assert!(rt; text.as_slice() == printed);
+// The text's report.
+fn report_of(rt: &impl Abort, alloc: Global, text: &[u8], steps: u32) -> Report {
+    assert!(rt; text.len() <= MOST_BYTES);
+    assert!(rt; 0 < steps && steps <= 100);
+    match run_scenario(alloc, text, steps) {
+        Ok(report) => report,
+        Err(_) => panic!(rt; "a report"),
+    }
+}
+
+fn printed(rt: &impl Abort, alloc: Global, report: &Report) -> Vec<u8> {
+    match print_report(alloc, report) {
+        Ok(text) => text,
+        Err(_) => panic!(rt; "no memory"),
+    }
+}
+
+// The text's report is printed as this.
+fn reports(rt: &impl Abort, alloc: Global, text: &[u8], steps: u32, wanted: &[u8]) {
+    let report = report_of(rt, alloc, text, steps);
+    let text = printed(rt, alloc, &report);
+    assert!(rt; text.as_slice() == wanted);
 }
 
 #[test]
@@ -142,9 +154,14 @@ fn is_bad_at(rt: &impl Abort, alloc: Global, text: &[u8], line: u32) {
 fn a_bad_text_is_refused_at_its_first_bad_line(rt: HostRuntime) {
     is_bad_at(&rt, rt.alloc(), b"", 1);
     is_bad_at(&rt, rt.alloc(), &ONE_CALL[..ONE_CALL.len() - 4], 13);
-    let mut longer = bytes(&rt, rt.alloc(), ONE_CALL);
-    assert!(rt; longer.extend_from_slice(b"end\n").is_ok());
+    let longer = one_more_line(&rt, rt.alloc());
     is_bad_at(&rt, rt.alloc(), longer.as_slice(), 14);
+}
+
+fn one_more_line(rt: &impl Abort, alloc: Global) -> Vec<u8> {
+    let mut longer = bytes(rt, alloc, ONE_CALL);
+    assert!(rt; longer.extend_from_slice(b"end\n").is_ok());
+    longer
 }
 
 // The words of a call of the program, and the calls of its source and its sink that fail.
@@ -179,7 +196,8 @@ fn ends(rt: &impl Abort, alloc: Global, call: Call<'_>, text: &[u8], status: u8,
     let mut sink = sink(rt, alloc, 4096, call.bad_writes);
     let words = words(rt, alloc, call.words);
     let end = tool(alloc, words.as_slice(), &mut source, &mut sink);
-    assert!(rt; end.status == status && end.report.is_some() == (status == 0));
+    assert!(rt; end.status == status);
+    assert!(rt; end.report.is_some() == (status == 0));
     assert!(rt; sink.bytes() == written);
 }
 
@@ -189,9 +207,7 @@ fn the_program_ends_with_its_statuses(rt: HostRuntime) {
     ends(&rt, rt.alloc(), RUN, b"", 3, b"bad scenario line 1\n");
     ends(&rt, rt.alloc(), BAD_READ, ONE_CALL, 4, b"");
     ends(&rt, rt.alloc(), BAD_WRITE, ONE_CALL, 5, b"main start");
-    let Ok(long) = vec![in rt.alloc(); b'\n'; 1_048_577] else {
-        panic!(rt; "no memory")
-    };
+    let long = too_long(&rt, rt.alloc());
     ends(&rt, rt.alloc(), RUN, long.as_slice(), 6, b"text too long\n");
     ends(
         &rt,
@@ -201,6 +217,13 @@ fn the_program_ends_with_its_statuses(rt: HostRuntime) {
         5,
         b"text too l",
     );
+}
+
+fn too_long(rt: &impl Abort, alloc: Global) -> Vec<u8> {
+    match vec![in alloc; b'\n'; 1_048_577] {
+        Ok(text) => text,
+        Err(_) => panic!(rt; "no memory"),
+    }
 }
 
 #[test]
@@ -254,30 +277,44 @@ fn the_generated_scenario_is_summed_up(rt: HostRuntime) {
     ends(&rt, rt.alloc(), called_by(&["make", "257"]), b"", 2, USAGE);
 }
 
+fn generated(rt: &impl Abort, alloc: Global) -> Vec<u8> {
+    match make_scenario(alloc, 1) {
+        Ok(text) => text,
+        Err(_) => panic!(rt; "no memory"),
+    }
+}
+
+// The program's `make 1` writes this.
+fn makes(rt: &impl Abort, alloc: Global, written: &[u8]) {
+    let words = words(rt, alloc, &["make", "1"]);
+    let mut source = source(rt, alloc, b"", &[]);
+    let mut sink = sink(rt, alloc, 4096, &[]);
+    let end = tool(alloc, words.as_slice(), &mut source, &mut sink);
+    assert!(rt; end.status == 0);
+    assert!(rt; end.report.is_none());
+    assert!(rt; sink.bytes() == written);
+}
+
 #[test]
 fn what_make_writes_runs_to_its_end(rt: HostRuntime) {
-    let words = words(&rt, rt.alloc(), &["make", "1"]);
-    let mut source = source(&rt, rt.alloc(), b"", &[]);
-    let mut sink = sink(&rt, rt.alloc(), 4096, &[]);
-    let end = tool(rt.alloc(), words.as_slice(), &mut source, &mut sink);
-    assert!(rt; end.status == 0 && end.report.is_none());
-    let Ok(text) = make_scenario(rt.alloc(), 1) else {
-        panic!(rt; "no memory")
-    };
-    assert!(rt; sink.bytes() == text.as_slice());
-    let Ok(report) = run_scenario(rt.alloc(), text.as_slice(), 100) else {
-        panic!(rt; "a report")
-    };
+    let text = generated(&rt, rt.alloc());
+    makes(&rt, rt.alloc(), text.as_slice());
+    let report = report_of(&rt, rt.alloc(), text.as_slice(), 100);
     assert!(rt; matches!(report.outcome, Outcome::Done(102)));
+}
+
+fn sure_sink(rt: &impl Abort, alloc: Global, capacity: usize) -> SureSink {
+    match SureSink::new(alloc, 50, capacity) {
+        Ok(sink) => sink,
+        Err(_) => panic!(rt; "no memory"),
+    }
 }
 
 // A sure sink of this room keeps this of the report.
 fn keeps(rt: &impl Abort, alloc: Global, capacity: usize, kept: &[u8]) {
     let words = words(rt, alloc, &["run", "7"]);
     let mut source = SureSource::new(bytes(rt, alloc, ONE_CALL), 100);
-    let Ok(mut sink) = SureSink::new(alloc, 50, capacity) else {
-        panic!(rt; "no memory")
-    };
+    let mut sink = sure_sink(rt, alloc, capacity);
     let end = tool(alloc, words.as_slice(), &mut source, &mut sink);
     assert!(rt; end.status == 0);
     assert!(rt; sink.bytes() == kept);
@@ -291,25 +328,44 @@ fn a_sure_sink_keeps_what_its_room_holds(rt: HostRuntime) {
 
 #[test]
 fn a_scenario_is_read_and_its_component_copied(rt: HostRuntime) {
-    let Ok(scenario) = read_scenario(rt.alloc(), ONE_CALL) else {
-        panic!(rt; "a scenario")
-    };
-    assert!(rt; scenario.handles == 100_000 && scenario.names.len() == 1);
+    let scenario = one_call(&rt, rt.alloc());
+    assert!(rt; scenario.handles == 100_000);
+    assert!(rt; scenario.names.len() == 1);
     assert!(rt; scenario.main.len() == 3);
-    let Ok(component) = component_of(rt.alloc(), &scenario) else {
-        panic!(rt; "no memory")
-    };
-    assert!(rt; component.instances.len() == 1);
+    assert!(rt; instances(&rt, rt.alloc(), &scenario) == 1);
+}
+
+fn one_call(rt: &impl Abort, alloc: Global) -> Scenario {
+    match read_scenario(alloc, ONE_CALL) {
+        Ok(scenario) => scenario,
+        Err(_) => panic!(rt; "a scenario"),
+    }
+}
+
+// The instances of the scenario's component, copied.
+fn instances(rt: &impl Abort, alloc: Global, scenario: &Scenario) -> usize {
+    match component_of(alloc, scenario) {
+        Ok(component) => component.instances.len(),
+        Err(_) => panic!(rt; "no memory"),
+    }
 }
 
 #[test]
 fn std_s_readers_and_writers_are_adapted(rt: HostRuntime) {
-    let mut source = StdSource::new(ONE_CALL);
     let mut buf = [0; 8];
-    assert!(rt; matches!(source.read(&mut buf), Read::Got(8)) && buf == *b"scenario");
-    let mut written = Vec::new(rt.alloc());
+    assert!(rt; reads(&mut buf) && buf == *b"scenario");
+    assert!(rt; writes(rt.alloc()));
+}
+
+fn reads(buf: &mut [u8; 8]) -> bool {
+    let mut source = StdSource::new(ONE_CALL);
+    matches!(source.read(buf), Read::Got(8))
+}
+
+fn writes(alloc: Global) -> bool {
+    let mut written = Vec::new(alloc);
     let mut sink = StdSink::new(&mut written);
-    assert!(rt; matches!(sink.write(b"done"), Wrote::Took(4)));
+    matches!(sink.write(b"done"), Wrote::Took(4))
 }
 
 #[test]
@@ -320,5 +376,9 @@ fn a_full_sink_fails(rt: HostRuntime) {
     let end = tool(rt.alloc(), words.as_slice(), &mut source, &mut sink);
     assert!(rt; end.status == 5);
     assert!(rt; sink.bytes() == b"main start".as_slice());
-    assert!(rt; MemorySink::new(rt.alloc(), 4, usize::MAX, Vec::new(rt.alloc())).is_err());
+    assert!(rt; wants_too_much(rt.alloc()));
+}
+
+fn wants_too_much(alloc: Global) -> bool {
+    MemorySink::new(alloc, 4, usize::MAX, Vec::new(alloc)).is_err()
 }

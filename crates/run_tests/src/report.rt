@@ -10,11 +10,21 @@ use task_machine::{
 // The label's line is this.
 fn prints(rt: &impl Abort, alloc: Global, label: Label, text: &[u8]) {
     let mut page = page(rt, alloc);
+    let trace = traced(rt, alloc, label);
+    assert!(rt; takes_all(&mut page, &trace));
+    assert!(rt; page.as_slice() == text);
+}
+
+fn traced(rt: &impl Abort, alloc: Global, label: Label) -> Trace {
     let mut trace = Trace::new(alloc);
     assert!(rt; trace.push(label).is_ok());
+    trace
+}
+
+// Whether the page has room for all labels.
+fn takes_all(page: &mut Page, trace: &Trace) -> bool {
     let mut labels = trace.labels();
-    assert!(rt; !page.fill(&mut labels));
-    assert!(rt; page.as_slice() == text);
+    !page.fill(&mut labels)
 }
 
 fn page(rt: &impl Abort, alloc: Global) -> Page {

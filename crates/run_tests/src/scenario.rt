@@ -1,6 +1,6 @@
 use scenario_text::{
-    HostWork, InstanceText, MainOpText, PartText, ScenarioText, TextError, number_up_to, one_tree,
-    read_text,
+    HostText, HostWork, InstanceText, MainOpText, PartText, ScenarioText, TextError, number_up_to,
+    one_tree, read_text,
 };
 use std::alloc::Global;
 use std::process::Abort;
@@ -65,24 +65,36 @@ fn has_two_exports(rt: &impl Abort, instance: &InstanceText) {
         panic!(rt; "an export")
     };
     assert!(rt; export.start.len() == 7);
-    let Some(op) = export.start.as_slice().get(5) else {
-        panic!(rt; "an op")
-    };
-    assert!(rt; skips(op));
+    assert!(rt; sixth_skips(export.start.as_slice()));
+}
+
+fn sixth_skips(ops: &[Op]) -> bool {
+    match ops.get(5) {
+        Some(op) => skips(op),
+        None => false,
+    }
+}
+
+fn second_starts(ops: &[MainOpText]) -> bool {
+    match ops.get(1) {
+        Some(op) => starts(op),
+        None => false,
+    }
+}
+
+fn has_many_instances(rt: &impl Abort, tree: &ScenarioText) {
+    assert!(rt; tree.instances.len() == 3);
+    match tree.instances.as_slice().first() {
+        Some(instance) => has_two_exports(rt, instance),
+        None => panic!(rt; "an instance"),
+    }
+    assert!(rt; second_starts(tree.main.as_slice()));
 }
 
 #[test]
 fn reads_many_instances(rt: HostRuntime) {
     let tree = read(&rt, rt.alloc(), TWO_INSTANCES);
-    assert!(rt; tree.instances.len() == 3);
-    let Some(instance) = tree.instances.as_slice().first() else {
-        panic!(rt; "an instance")
-    };
-    has_two_exports(&rt, instance);
-    let Some(op) = tree.main.as_slice().get(1) else {
-        panic!(rt; "a start")
-    };
-    assert!(rt; starts(op));
+    has_many_instances(&rt, &tree);
 }
 
 fn calls(op: &Op) -> bool {
@@ -97,25 +109,40 @@ fn has_call(rt: &impl Abort, instance: &InstanceText) {
     let Some(PartText::Export(export)) = instance.parts.as_slice().first() else {
         panic!(rt; "an export")
     };
-    assert!(rt; matches!(export.kind, ExportKind::Stackful) && export.react.is_none());
-    let Some(op) = export.start.as_slice().first() else {
-        panic!(rt; "an op")
-    };
-    assert!(rt; calls(op));
+    assert!(rt; matches!(export.kind, ExportKind::Stackful));
+    assert!(rt; export.react.is_none());
+    assert!(rt; first_calls(export.start.as_slice()));
+}
+
+fn first_calls(ops: &[Op]) -> bool {
+    match ops.first() {
+        Some(op) => calls(op),
+        None => false,
+    }
+}
+
+fn first_has_value(hosts: &[HostText]) -> bool {
+    match hosts.first() {
+        Some(host) => matches!(host.work, HostWork::Value(9, 100)),
+        None => false,
+    }
+}
+
+fn has_each_line(rt: &impl Abort, tree: &ScenarioText) {
+    assert!(rt; tree.hosts.len() == 3);
+    assert!(rt; tree.main.len() == 7);
+    assert!(rt; tree.aborters.len() == 1);
+    assert!(rt; first_has_value(tree.hosts.as_slice()));
+    match tree.instances.as_slice().get(1) {
+        Some(instance) => has_call(rt, instance),
+        None => panic!(rt; "an instance"),
+    }
 }
 
 #[test]
 fn reads_each_line(rt: HostRuntime) {
     let tree = read(&rt, rt.alloc(), EACH_LINE);
-    assert!(rt; tree.hosts.len() == 3 && tree.main.len() == 7 && tree.aborters.len() == 1);
-    let Some(host) = tree.hosts.as_slice().first() else {
-        panic!(rt; "a host")
-    };
-    assert!(rt; matches!(host.work, HostWork::Value(9, 100)));
-    let Some(instance) = tree.instances.as_slice().get(1) else {
-        panic!(rt; "an instance")
-    };
-    has_call(&rt, instance);
+    has_each_line(&rt, &tree);
 }
 
 #[test]
@@ -127,19 +154,29 @@ fn numbers_have_limits(rt: HostRuntime) {
 // The text's first bad line is this.
 fn is_bad_at(rt: &impl Abort, alloc: Global, text: &[u8], line: u32) {
     assert!(rt; text.len() <= 1_048_576);
-    match read_text(alloc, text) {
-        Err(TextError::Bad(found)) => assert!(rt; found == line),
-        _ => panic!(rt; "a bad line"),
+    assert!(rt; bad_line(read_text(alloc, text)) == line);
+}
+
+// The first bad line, or 0 where there is none.
+fn bad_line(read: Result<ScenarioText, TextError>) -> u32 {
+    match read {
+        Err(TextError::Bad(line)) => line,
+        _ => 0,
     }
 }
 
 // These lines after four that say the limits and what is done when idle.
 fn is_bad_below(rt: &impl Abort, alloc: Global, lines: &[u8], line: u32) {
-    let Ok(mut text) = Vec::from_slice(alloc, b"scenario 1\nhandles 1\ntable 1\nidle trap\n") else {
-        panic!(rt; "no memory")
-    };
+    let mut text = four_lines(rt, alloc);
     assert!(rt; text.extend_from_slice(lines).is_ok());
     is_bad_at(rt, alloc, text.as_slice(), line);
+}
+
+fn four_lines(rt: &impl Abort, alloc: Global) -> Vec<u8> {
+    match Vec::from_slice(alloc, b"scenario 1\nhandles 1\ntable 1\nidle trap\n") {
+        Ok(text) => text,
+        Err(_) => panic!(rt; "no memory"),
+    }
 }
 
 #[test]

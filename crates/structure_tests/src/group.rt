@@ -93,10 +93,16 @@ fn watched<'a>(rt: &impl Abort, alloc: Global, told: &'a Cell<u64>, fails: u64) 
 // A new group has this number; or, where that is 0, the hook failed.
 fn made(rt: &impl Abort, groups: &mut Watched<'_>, number: u64) {
     assert!(rt; groups.made() < 9);
-    match groups.make() {
-        Ok(id) => assert!(rt; id.number == number),
-        Err(GroupError::HookFailed) => assert!(rt; number == 0),
-        Err(GroupError::NoMemory) => panic!(rt; "no memory"),
+    let made = number_of(groups.make());
+    assert!(rt; made == number);
+}
+
+// The group's number, or 0 where the hook failed.
+fn number_of(made: Result<TaskGroupId, GroupError>) -> u64 {
+    match made {
+        Ok(id) => id.number,
+        Err(GroupError::HookFailed) => 0,
+        Err(GroupError::NoMemory) => u64::MAX,
     }
 }
 
@@ -122,31 +128,59 @@ fn lowers(groups: &mut Watched<'_>, number: u64) -> bool {
     matches!(groups.decrement(id(number)), Ok(true))
 }
 
+// Two groups, the first with two tasks.
+fn two_made(rt: &impl Abort, groups: &mut Watched<'_>) {
+    made(rt, groups, 1);
+    made(rt, groups, 2);
+    raised(rt, groups, 1);
+}
+
+// A thread goes from group to group.
+fn all_switch(groups: &mut Watched<'_>) -> bool {
+    let enters = switches(groups, None, 1);
+    let stays = switches(groups, Some(1), 1);
+    let goes = switches(groups, Some(1), 2);
+    enters && stays && goes
+}
+
+// A group of two finishes with the second.
+fn second_lowers(groups: &mut Watched<'_>) -> bool {
+    let first = lowers(groups, 1);
+    let second = lowers(groups, 1);
+    let third = lowers(groups, 1);
+    !first && second && !third
+}
+
 #[test]
 fn notices_in_order(rt: HostRuntime) {
     let told = Cell::new(0);
     let mut groups = watched(&rt, rt.alloc(), &told, 0);
-    made(&rt, &mut groups, 1);
-    made(&rt, &mut groups, 2);
-    raised(&rt, &mut groups, 1);
-    assert!(rt; switches(&mut groups, None, 1) && switches(&mut groups, Some(1), 1));
-    assert!(rt; switches(&mut groups, Some(1), 2) && !lowers(&mut groups, 1));
-    assert!(rt; lowers(&mut groups, 1) && !lowers(&mut groups, 1));
+    two_made(&rt, &mut groups);
+    assert!(rt; all_switch(&mut groups));
+    assert!(rt; second_lowers(&mut groups));
     assert!(rt; switches(&mut groups, Some(2), 1));
     groups.clean_up(Some(id(2)));
     assert!(rt; told.get() == 11_12_21_31_22_41_32_32_42);
     assert!(rt; groups.notices().len() == 6);
 }
 
-// A hook that fails at notices of one kind: the first groups made, and then what is told.
+// A hook that fails at notices of one kind: the first group made, or 0, and then what is told.
 fn fails_at(rt: &impl Abort, alloc: Global, kind: u64, first: u64, want: u64) {
     let told = Cell::new(0);
     let mut groups = watched(rt, alloc, &told, kind);
     made(rt, &mut groups, first);
-    made(rt, &mut groups, if first == 0 { 0 } else { 2 });
-    assert!(rt; switches(&mut groups, Some(1), 2) == (kind == START || kind == FINISH));
-    assert!(rt; lowers(&mut groups, 1) == (kind == ENTER || kind == EXIT));
+    made(rt, &mut groups, first.wrapping_mul(2));
+    let answers = (switches(&mut groups, Some(1), 2), lowers(&mut groups, 1));
+    assert!(rt; answers == fails_elsewhere(kind));
     assert!(rt; told.get() == want);
+}
+
+// Whether neither an exit nor an enter fails, and whether no finish does.
+fn fails_elsewhere(kind: u64) -> (bool, bool) {
+    (
+        kind == START || kind == FINISH,
+        kind == ENTER || kind == EXIT,
+    )
 }
 
 #[test]
@@ -161,17 +195,15 @@ fn failing_hooks(rt: HostRuntime) {
 fn no_hook(rt: HostRuntime) {
     let mut groups: Groups = Groups::new(rt.alloc());
     assert!(rt; groups.keep_notices(1).is_ok());
-    let Ok(made) = groups.make() else {
-        panic!(rt; "no memory")
-    };
-    assert!(rt; matches!(groups.decrement(made), Ok(true)));
-    assert!(rt;
-        matches!(
-            groups.notices().first(),
-            Some(Notice {
-                kind: NoticeKind::Start,
-                group: 1
-            })
-        )
-    );
+    let made = number_of(groups.make());
+    let finished = matches!(groups.decrement(id(made)), Ok(true));
+    assert!(rt; finished && first_starts(groups.notices(), 1));
+}
+
+// Whether the first notice is that this group starts.
+fn first_starts(notices: &[Notice], number: u64) -> bool {
+    match notices.first() {
+        Some(notice) => matches!(notice.kind, NoticeKind::Start) && notice.group == number,
+        None => false,
+    }
 }

@@ -106,16 +106,27 @@ fn lowered_handle_limit(rt: HostRuntime) {
     assert!(rt; held.insert_guest(3) == 1);
 }
 
-#[test]
-fn threads_share_the_counter(rt: HostRuntime) {
+// A counter up to two, with one thread: its handle was given, given back and given again.
+fn counted_thread(rt: &impl Abort, alloc: Global) -> HandleCounter {
     let mut counter = HandleCounter::new(2);
-    let mut threads = ThreadHandleTable::new(rt.alloc());
+    let mut threads = ThreadHandleTable::new(alloc);
     assert!(rt; matches!(threads.guest_thread_insert(&mut counter, rep(1)), Ok(1)));
     assert!(rt; id_of(threads.guest_thread_rep(1)) == 1);
     assert!(rt; id_of(threads.guest_thread_remove(&mut counter, 1)) == 1);
     assert!(rt; given(threads.guest_thread_insert(&mut counter, rep(2))) == 1);
-    let mut held = HandleTable::new(rt.alloc());
-    assert!(rt; given(held.waitable_set_insert(&mut counter, rep(4))) == 1);
-    assert!(rt; given(held.waitable_set_insert(&mut counter, rep(5))) == NONE);
+    counter
+}
+
+// A set gets the second handle, and the next one none.
+fn set_is_counted(rt: &impl Abort, alloc: Global, counter: &mut HandleCounter) {
+    let mut held = HandleTable::new(alloc);
+    assert!(rt; given(held.waitable_set_insert(counter, rep(4))) == 1);
+    assert!(rt; given(held.waitable_set_insert(counter, rep(5))) == NONE);
+}
+
+#[test]
+fn threads_share_the_counter(rt: HostRuntime) {
+    let mut counter = counted_thread(&rt, rt.alloc());
+    set_is_counted(&rt, rt.alloc(), &mut counter);
     assert!(rt; counter.live() == 2);
 }

@@ -102,28 +102,47 @@ fn answer_of(
     call: Call,
 ) -> u32 {
     match call {
-        Call::Push => match table.push::<Number>(7) {
-            Ok(id) => {
-                assert!(rt; ids.push(id).is_ok());
-                id.rep()
-            }
-            Err(back) => refused(back.why),
-        },
+        Call::Push => push_answer(rt, table, ids),
         Call::Delete(n) => done(table.delete(id_at(ids, n))),
         Call::Capacity(n) => {
             table.set_max_capacity(n as usize);
             0
         }
-        Call::AddChild(child, parent) => {
-            let child = id_at(ids, child);
-            assert!(rt; !table.has_parent(child));
-            done(table.add_child(child, id_at(ids, parent)))
-        }
+        Call::AddChild(child, parent) => add_answer(
+            rt,
+            table,
+            id_at(ids, child),
+            id_at(ids, parent),
+        ),
         Call::RemoveChild(child, parent) => done(table.remove_child(
             id_at(ids, child),
             id_at(ids, parent),
         )),
     }
+}
+
+fn push_answer(
+    rt: &impl Abort,
+    table: &mut ResourceTable<Entry>,
+    ids: &mut Vec<TableId<Number>>,
+) -> u32 {
+    match table.push::<Number>(7) {
+        Ok(id) => {
+            assert!(rt; ids.push(id).is_ok());
+            id.rep()
+        }
+        Err(back) => refused(back.why),
+    }
+}
+
+fn add_answer(
+    rt: &impl Abort,
+    table: &mut ResourceTable<Entry>,
+    child: TableId<Number>,
+    parent: TableId<Number>,
+) -> u32 {
+    assert!(rt; !table.has_parent(child));
+    done(table.add_child(child, parent))
 }
 
 // Makes the calls on a new table, and compares the answers.
@@ -190,11 +209,42 @@ fn pushed(rt: &impl Abort, table: &mut ResourceTable<Entry>, number: u32) {
     let Ok(id) = table.push::<Number>(number as u64) else {
         panic!(rt; "no memory")
     };
-    assert!(rt; id.rep() == number && id.serial() == number as u64);
+    assert!(rt; id.rep() == number);
+    assert!(rt; id.serial() == number as u64);
+    write(table, id, number as u64 / 2);
+    assert!(rt; read(table, id) == number as u64 / 2);
+}
+
+fn write(table: &mut ResourceTable<Entry>, id: TableId<Number>, number: u64) {
     if let Ok(item) = table.get_mut(id) {
-        *item = number as u64 / 2;
+        *item = number;
     }
-    assert!(rt; matches!(table.get(id), Ok(item) if *item == number as u64 / 2));
+}
+
+fn read(table: &ResourceTable<Entry>, id: TableId<Number>) -> u64 {
+    match table.get(id) {
+        Ok(item) => *item,
+        Err(_) => u64::MAX,
+    }
+}
+
+// The number of an entry.
+fn number_of(entry: &Entry) -> u64 {
+    match entry {
+        Entry::Number(number) => *number,
+        Entry::Flag(_) => u64::MAX,
+    }
+}
+
+// How many entries are gone through: each has half its place as its number.
+fn gone_through(rt: &impl Abort, table: &ResourceTable<Entry>) -> u32 {
+    let mut seen = 0;
+    for (rep, entry) in table.iter() {
+        assert!(rt; rep == seen);
+        assert!(rt; number_of(entry) == seen as u64 / 2);
+        seen = rep.wrapping_add(1);
+    }
+    seen
 }
 
 #[test]
@@ -205,10 +255,5 @@ fn entries_are_counted_read_and_written(rt: HostRuntime) {
     pushed(&rt, &mut table, 1);
     pushed(&rt, &mut table, 2);
     assert!(rt; table.len() == 3 && table.free() == 999_997);
-    let mut seen = 0;
-    for (rep, entry) in table.iter() {
-        assert!(rt; rep == seen && matches!(entry, Entry::Number(n) if *n == seen as u64 / 2));
-        seen = rep.wrapping_add(1);
-    }
-    assert!(rt; seen == 3);
+    assert!(rt; gone_through(&rt, &table) == 3);
 }

@@ -1,5 +1,5 @@
-mod AccessLemmas
 pub mod AskLemmas
 pub mod DriveLemmas
 pub mod LendLemmas
+pub mod PollLemmas
 pub mod StateLemmas

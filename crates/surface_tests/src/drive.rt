@@ -98,7 +98,7 @@ pub(crate) fn component(rt: &impl Abort, alloc: Global) -> Component
 }
 
 // A new store with one instance.
-fn new_store(rt: &impl Abort, alloc: Global) -> Store<(), ScriptedHost>
+pub(crate) fn new_store(rt: &impl Abort, alloc: Global) -> Store<(), ScriptedHost>
     ensures state { result.state ≡ with_core (fresh 1 100000 1000000) nothing }
     ensures works { HoldsNone result.works }
 {

@@ -369,6 +369,21 @@ fn a_task_that_lends_is_not_ended(rt: HostRuntime) {
     assert!(rt; matches!(cancelled, Err(TaskError::Trap(Trap::ScopeExit))));
 }
 
+// What the return of a task comes to that lends so many things.
+fn returns_lending(rt: &impl Abort, alloc: Global, borrows: u32) -> Result<(), TaskError> {
+    let mut at = running(rt, alloc, CALLER, 29, A, false);
+    assert!(rt; lend(&mut at.store, borrows));
+    assert!(rt; is_asking(&at.store, A, false));
+    A.task_return(&at.scenario.component, &mut at.store, 0, 0, 0, 7)
+}
+
+#[test]
+fn a_task_that_lends_does_not_return(rt: HostRuntime) {
+    let lending = returns_lending(&rt, rt.alloc(), 1);
+    assert!(rt; matches!(lending, Err(TaskError::Trap(Trap::ScopeExit))));
+    assert!(rt; returns_lending(&rt, rt.alloc(), 0).is_ok());
+}
+
 fn raises_backpressure(rt: &impl Abort, alloc: Global) -> bool {
     let mut at = running(rt, alloc, CALLER, 3, B, false);
     B.backpressure_modify(&at.scenario.component, &mut at.store, 1, true)

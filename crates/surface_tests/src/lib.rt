@@ -4,8 +4,6 @@
 #![tactic(auto)]
 
 #[cfg(test)]
-mod access;
-#[cfg(test)]
 mod calls_of_states;
 #[cfg(test)]
 mod drive;

@@ -71,14 +71,14 @@ unyielded_one b k l h = grind (arith, h)
 
 -- labels of registers and words
 
-data_kept : (l : Label) → is_data l ≡ true → (mark_taken l ≡ None) × (is_rest l ≡ false)
+pub data_kept : (l : Label) → is_data l ≡ true → (mark_taken l ≡ None) × (is_rest l ≡ false)
 data_kept (label.Data l) h = (refl, refl)
 data_kept (label.Main l) h = absurd (cc)
 data_kept (label.Loop l) h = absurd (cc)
 data_kept (label.Take l) h = absurd (cc)
 data_kept _ h = absurd (cc)
 
-all_of : (l : Label) (ls : List Label) → list_all is_data (l ∷ ls) ≡ true → (is_data l ≡ true) × (list_all is_data ls ≡ true)
+pub all_of : (l : Label) (ls : List Label) → list_all is_data (l ∷ ls) ≡ true → (is_data l ≡ true) × (list_all is_data ls ≡ true)
 all_of l ls h = (grind arith, grind arith)
 
 pub data_since : (k : ℕ) (ls : List Label) → list_all is_data ls ≡ true → since_after k ls ≡ k

@@ -10,13 +10,12 @@ ghost use Rattle.task_turns.specs.Turn.{IsAtTurn, IsSettled, PendsIn, Sits, give
 ghost use Rattle.task_turns.specs.WellFormed.{IsWellFormed};
 
 use crate::main_task::MainTask;
-use crate::run::RunConcurrent;
+use crate::run::{RunConcurrent, next_mark};
 use run_pace::Pace;
 use task_calls::TaskError;
 use task_machine::{Component, Mark, NoMemory, Outcome, Turn};
 use task_store::{AccessorTask, FromHost, Store};
 use task_turns::{Stepped, Trace, compute, is_idle};
-use task_words::QueueWords;
 
 /// What a poll of a run has come to, where the run has neither trapped nor failed.
 #[derive(Clone, Copy)]
@@ -29,19 +28,6 @@ pub enum RunPoll {
     Rest,
     /// Nothing can go on, and that is no deadlock.
     Idle,
-}
-
-// The mark of the entry that is taken next in this turn.
-fn next_mark<T, H>(store: &Store<T, H>, turn: Turn) -> Option<Mark>
-    ensures { result ≡ next_mark turn store.now.state.core }
-{
-    match turn {
-        Turn::Take { ended: _ } => match store.state.next_entry() {
-            Some((mark, _)) => Some(mark),
-            None => None,
-        },
-        _ => None,
-    }
 }
 
 // What a poll answers where a run has come to this.
@@ -73,7 +59,7 @@ impl RunConcurrent {
     /// that rests; where nothing can go on, and that is no deadlock; where the run has trapped, is a deadlock or a host has failed,
     /// as an error; and where it yields: before a low entry is taken, before an entry is taken where 128 were since it last
     /// yielded, and where it has added `steps` labels. After the first two of these the next poll begins with the entry that is next
-    /// then. `drive` begins that count anew.
+    /// then. Entries that `drive` took count too.
     ///
     /// What is asked of the store and of main is as for `drive`; and so is what is said where memory is wanting.
     pub fn poll<T, H: AccessorTask<T> + FromHost, M: MainTask<T, H>>(

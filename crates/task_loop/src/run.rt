@@ -1,22 +1,26 @@
-ghost use Rattle.std.specs.Prelude.{◌≡◌, ◌*◌, ◌+◌, ◌<◌, ◌≤◌, ◌^◌, IfErr, IfOk, None, OnErr, OnOk, Some, false, true, Bool};
+ghost use Rattle.std.specs.Prelude.{◌≡◌, ◌*◌, ◌+◌, ◌<◌, ◌≤◌, ◌^◌, IfErr, IfOk, None, OnErr, OnOk, Some, false, is_none, true, Bool};
+ghost use Rattle.label_laws.specs.Own.{next_mark};
 ghost use Rattle.task_ops.specs.Works.{NamesWorks};
+ghost use Rattle.task_rules.specs.Outcome.{outcome_of_label};
+ghost use Rattle.task_loop.specs.Paces.{Paces};
 ghost use Rattle.task_loop.specs.Standing.{standing};
 ghost use Rattle.task_store.specs.Hosts.{HoldsHosts};
 ghost use Rattle.task_turns.specs.WellFormed.{IsWellFormed};
 ghost use Rattle.task_turns.specs.Does.{DoesAdded, DoesStep, step_of, step_shown};
 ghost use Rattle.task_turns.specs.Drive.{Drives, Drove, WasGoing};
 ghost use Rattle.task_turns.specs.Main.{Steps};
-ghost use Rattle.task_turns.specs.Stepped.{Added, AddedOrNone};
+ghost use Rattle.task_turns.specs.Stepped.{Added, AddedOrNone, Stands};
 ghost use Rattle.task_turns.specs.Turn.{IsAtTurn, IsFree, IsSettled, Makes, PendsIn, Sits, Turned, Turns, given, goes_on, is_open, running_of, runs_in, setting_of, state_at};
 
 use crate::main_task::MainTask;
 use run_pace::Pace;
 use task_calls::TaskError;
-use task_machine::{Component, NoMemory, Outcome, Trap, Turn};
+use task_machine::{Component, Mark, NoMemory, Outcome, Trap, Turn};
 use task_store::{Access, AccessorTask, FromHost, HostWork, StandingRun, Store};
 use task_turns::{
-    MainStep, RunStep, Stepped, Trace, compute, is_idle, made_by_main, put, step_run, take,
+    Made, MainStep, RunStep, Stepped, Trace, compute, is_idle, made_by_main, put, step_run, take,
 };
+use task_words::QueueWords;
 
 /// A run of the event loop on a store.
 #[derive(Drop)]
@@ -38,6 +42,8 @@ pub fn run_concurrent<T, H>(
     ensures begun { OnOk result (store.old.running ≡ false) }
     ensures turn { IfOk result (λ run. run.turn ≡ Turn.Main) }
     ensures idle { IfOk result (λ run. run.trap_on_idle ≡ trap_on_idle) }
+    ensures since { IfOk result (λ run. run.pace.since ≡ 0) }
+    ensures passes { IfOk result (λ run. run.pace.passes ≡ false) }
     ensures store { store.new ≡ record store.old { running = true } }
 {
     match store.begin_run() {
@@ -106,6 +112,16 @@ fn step_main<T, H: HostWork, M: MainTask<T, H>>(
     put(trace, made)
 }
 
+// Adds the label of a step that called a host. It is out of line, as few steps do so.
+#[inline(never)]
+fn put_called(trace: &mut Trace, made: Made) -> Result<Stepped, NoMemory>
+    requires over { is_none (outcome_of_label made.label) ≡ is_open made.turn }
+    ensures stands { IfOk result (λ stepped. Stands stepped trace.old made trace.new) }
+    ensures err { OnErr result (trace.new ≡ trace.old) }
+{
+    put(trace, made)
+}
+
 // The running thread, which has this number, takes a step. A host that it calls is polled, and its
 // work is held.
 #[inline(always)]
@@ -126,12 +142,28 @@ fn run_thread<T, H: AccessorTask<T> + FromHost>(
     ensures hosts { OnOk result (HoldsHosts H.course store.new) }
     ensures err { OnErr result (trace.new ≡ trace.old) }
 {
-    match step_run(component, &mut store.state, thread, trace)? {
+    let Ok(step) = step_run(component, &mut store.state, thread, trace) else {
+        return Err(NoMemory);
+    };
+    match step {
         RunStep::Shown(stepped) => Ok(stepped),
         RunStep::Called(ran) => {
             store.call_host(ran.polled, ran.work)?;
-            put(trace, ran.made)
+            put_called(trace, ran.made)
         }
+    }
+}
+
+// The mark of the entry that is taken next in this turn.
+pub(crate) fn next_mark<T, H>(store: &Store<T, H>, turn: Turn) -> Option<Mark>
+    ensures { result ≡ next_mark turn store.now.state.core }
+{
+    match turn {
+        Turn::Take { ended: _ } => match store.state.next_entry() {
+            Some((mark, _)) => Some(mark),
+            None => None,
+        },
+        _ => None,
     }
 }
 
@@ -142,6 +174,10 @@ impl RunConcurrent {
     /// that run has come to. The labels of main among them are those of the steps that main did, in their order. Where
     /// memory is wanting, the store is trapped, and the labels that were added are those of such a run to a state that is
     /// lost. Whether a run stands on the store, whether it is concurrent and its number stay.
+    ///
+    /// It yields wherever `poll` does, and goes on. So entries that it took count for the next poll where it has come to
+    /// idleness, since the last of these yields. None counts where its steps were used up, since it has yielded then, nor
+    /// where the run is over. Where memory is wanting, the count is as before.
     ///
     /// At most 2^60 numbers were given in the store, which is in order, as the component suits
     /// main. The thread that runs in the store is the one that the last call on this run
@@ -180,12 +216,12 @@ impl RunConcurrent {
         ensures current { OnOk result (running_of store.new.state ≡ runs_in self.new.turn) }
         ensures pends { OnOk result (PendsIn (setting_of component.now (M.script main.old) self.old.trap_on_idle) store.new.state.core (M.part main.new) self.new.turn) }
         ensures does { OnOk result (DoesAdded M.does main.old trace.old main.new trace.new) }
+        ensures pace { IfOk result (λ outcome. Paces self.old.pace trace.old trace.new outcome self.new.pace) }
+        ensures kept { OnErr result (self.new.pace ≡ self.old.pace) }
         ensures err { OnErr result (store.new.state.core.trapped ≡ true) }
         ensures added { OnErr result (WasGoing (setting_of component.now (M.script main.old) self.old.trap_on_idle) (state_at store.old.state.core (M.part main.old) self.old.turn) trace.old trace.new steps) }
     {
-        let driven = self.go_on(component, store, main, steps, trace);
-        self.pace = Pace::new();
-        match driven {
+        match self.go_on(component, store, main, steps, trace) {
             Ok(outcome) => Ok(outcome),
             Err(_) => {
                 store.set_trapped();
@@ -217,21 +253,31 @@ impl RunConcurrent {
         ensures idle { self.new.trap_on_idle ≡ self.old.trap_on_idle }
         ensures stands { standing store.new ≡ standing store.old }
         ensures does { OnOk result (DoesAdded M.does main.old trace.old main.new trace.new) }
+        ensures pace { IfOk result (λ outcome. Paces self.old.pace trace.old trace.new outcome self.new.pace) }
+        ensures kept { OnErr result (self.new.pace ≡ self.old.pace) }
         ensures err { OnErr result (WasGoing (setting_of component.now (M.script main.old) self.old.trap_on_idle) (state_at store.old.state.core (M.part main.old) self.old.turn) trace.old trace.new steps) }
         ensures ok { IfOk result (λ outcome. Drove (setting_of component.now (M.script main.old) self.old.trap_on_idle) (state_at store.old.state.core (M.part main.old) self.old.turn) trace.old (given store.old.state.core) self.new.turn (M.part main.new) store.new.state trace.new steps outcome) }
     {
+        let mut pace = self.pace;
         let mut added = 0;
         'turns: while added < steps {
-            match self.turn(component, store, main, trace)? {
+            let next = next_mark(store, self.turn);
+            let Ok(stepped) = self.turn(component, store, main, trace) else {
+                return Err(NoMemory);
+            };
+            match stepped {
                 None => {
+                    self.pace = pace.past(None);
                     return Ok(Outcome::Idle);
                 }
                 Some(Stepped::Over(outcome)) => {
                     self.turn = Turn::Over;
+                    self.pace = Pace::new();
                     return Ok(outcome);
                 }
                 Some(Stepped::Goes { turn, computed }) => {
                     self.turn = turn;
+                    pace = pace.past(next);
                     added = compute(
                         component,
                         &mut store.state,
@@ -245,8 +291,10 @@ impl RunConcurrent {
             }
         }
         if is_idle(&store.state, self.turn, self.trap_on_idle) {
+            self.pace = pace.past(None);
             return Ok(Outcome::Idle);
         }
+        self.pace = Pace::new();
         Ok(Outcome::OutOfSteps)
     }
 
@@ -276,10 +324,18 @@ impl RunConcurrent {
         ensures err { OnErr result (trace.new ≡ trace.old) }
     {
         match self.turn {
-            Turn::Main => Ok(Some(step_main(component, store, main, trace)?)),
+            Turn::Main => {
+                let Ok(stepped) = step_main(component, store, main, trace) else {
+                    return Err(NoMemory);
+                };
+                Ok(Some(stepped))
+            }
             Turn::Futures { polled } => {
                 let made = store.poll_next(polled);
-                Ok(Some(put(trace, made)?))
+                let Ok(stepped) = put(trace, made) else {
+                    return Err(NoMemory);
+                };
+                Ok(Some(stepped))
             }
             Turn::Take { ended } => take(
                 component,
@@ -288,7 +344,12 @@ impl RunConcurrent {
                 self.trap_on_idle,
                 trace,
             ),
-            Turn::Run { thread } => Ok(Some(run_thread(component, store, thread, trace)?)),
+            Turn::Run { thread } => {
+                let Ok(stepped) = run_thread(component, store, thread, trace) else {
+                    return Err(NoMemory);
+                };
+                Ok(Some(stepped))
+            }
             Turn::Over => unreachable!(),
         }
     }

@@ -1,5 +1,6 @@
 -- So far a run was made, and it can go on.
 use Rattle.std.proofs.Common.{◌≡◌, ◌≤◌, ◌-◌}
+use Rattle.task_loop.proofs.DrivenLemmas.{Driven}
 use Rattle.task_loop.specs.Standing.{standing}
 use Rattle.task_store.specs.Hosts.{HoldsHosts}
 use Rattle.task_turns.specs.Does.{DoesAdded}
@@ -17,6 +18,8 @@ invariant-turns g l = record {
   stands : standing l.store ≡ standing l.initial.store;
   on : IsOn (setting_of l.component (g.M.MainTask.script l.initial.main) l.initial.self.trap_on_idle) (state_at l.initial.store.state.core (g.M.MainTask.part l.initial.main) l.initial.self.turn) l.initial.trace (given l.initial.store.state.core) l.self.turn (g.M.MainTask.part l.main) l.store.state l.trace l.added;
   does : DoesAdded g.M.MainTask.does l.initial.main l.initial.trace l.main l.trace;
+  paced : Driven l.initial.self.pace.passes l.initial.self.pace.since l.initial.trace l.trace l.pace.passes l.pace.since;
+  kept : l.self.pace ≡ l.initial.self.pace;
   few : l.added ≤ l.steps;
 }
 

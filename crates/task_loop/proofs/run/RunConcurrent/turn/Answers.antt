@@ -32,44 +32,44 @@ put-requires g c =
     let x = setting_of c.args.component.now (g.M.MainTask.script c.args.main.now) c.args.self.now.trap_on_idle in
     record { over = (c.poll_next-made.ensures.turns x (g.M.MainTask.part c.args.main.now) (rw c.in-Futures.is at c.requires.pends)).over }
 
-pub returns-in_ok-step_main-in-Main-clause-turned : goal.returns-in_ok-step_main-in-Main-clause-turned
-returns-in_ok-step_main-in-Main-clause-turned g c =
+pub returns-in-Ok-clause-turned : goal.returns-in-Ok-clause-turned
+returns-in-Ok-clause-turned g c =
     let x = λ (b : Bool). setting_of c.args.component.now (g.M.MainTask.script c.args.main.now) b in
     let m = g.M.MainTask.part c.args.main.now in
     let m' = g.M.MainTask.part c.step_main.new.main in
     let s = c.args.store.now.state in
     let t = c.step_main.new.store.state in
     rw c.in-Main.is
-    (added_as (λ (made : Made). (b : Bool) → Turns (x b) turn.Main m s made m' t) (λ (made : Made). Turns (x c.args.self.now.trap_on_idle) turn.Main m s made m' t) c.in_ok-step_main-in-Main.field-0 c.args.trace.now c.step_main.new.trace
-    (λ made h. h c.args.self.now.trap_on_idle) c.in_ok-step_main-in-Main.ensures.turns)
+    (added_as (λ (made : Made). (b : Bool) → Turns (x b) turn.Main m s made m' t) (λ (made : Made). Turns (x c.args.self.now.trap_on_idle) turn.Main m s made m' t) c.in-Ok.stepped c.args.trace.now c.step_main.new.trace
+    (λ made h. h c.args.self.now.trap_on_idle) c.in-Ok.ensures.turns)
 
-pub returns-in_ok-run_thread-in-Run-clause-turned : goal.returns-in_ok-run_thread-in-Run-clause-turned
-returns-in_ok-run_thread-in-Run-clause-turned g c =
+pub returns-in-Ok-run_thread-clause-turned : goal.returns-in-Ok-run_thread-clause-turned
+returns-in-Ok-run_thread-clause-turned g c =
     let x = setting_of c.args.component.now (g.M.MainTask.script c.args.main.now) c.args.self.now.trap_on_idle in
     let m = g.M.MainTask.part c.args.main.now in
     let n = c.in-Run.thread in
     let s = c.args.store.now.state in
     let t = c.run_thread.new.store.state in
     rw c.in-Run.is
-    (added_as (λ (made : Made). Makes c.args.component.now (turn.Run n) s made t × IsFree made.turn) (λ (made : Made). Turns x (turn.Run n) m s made m t) c.in_ok-run_thread-in-Run.field-0 c.args.trace.now c.run_thread.new.trace
-    (λ made h. makes_turns x (turn.Run n) s made t h.0 m (h.1 x t.core m)) c.in_ok-run_thread-in-Run.ensures.makes)
+    (added_as (λ (made : Made). Makes c.args.component.now (turn.Run n) s made t × IsFree made.turn) (λ (made : Made). Turns x (turn.Run n) m s made m t) c.in-Ok-run_thread.stepped c.args.trace.now c.run_thread.new.trace
+    (λ made h. makes_turns x (turn.Run n) s made t h.0 m (h.1 x t.core m)) c.in-Ok-run_thread.ensures.makes)
 
-pub returns-in_ok-run_thread-in-Run-clause-knows : goal.returns-in_ok-run_thread-in-Run-clause-knows
-returns-in_ok-run_thread-in-Run-clause-knows g c =
+pub returns-in-Ok-run_thread-clause-knows : goal.returns-in-Ok-run_thread-clause-knows
+returns-in-Ok-run_thread-clause-knows g c =
     let main = c.args.main.now in
     let s = c.args.store.now.state in
     let t = c.run_thread.new.store.state in
     let x = setting_of c.args.component.now (g.M.MainTask.script main) c.args.self.now.trap_on_idle in
-    let made = c.in_ok-run_thread-in-Run.ensures.makes in
-    by_run (g.M.MainTask.knows main) s t (λ last. g.met.M.MainTask.stays main s t last c.requires.knows) x (g.M.MainTask.part main) c.in-Run.thread made.0 made.1.1.0 c.in_ok-run_thread-in-Run.ensures.works
+    let made = c.in-Ok-run_thread.ensures.makes in
+    by_run (g.M.MainTask.knows main) s t (λ last. g.met.M.MainTask.stays main s t last c.requires.knows) x (g.M.MainTask.part main) c.in-Run.thread made.0 made.1.1.0 c.in-Ok-run_thread.ensures.works
 
-pub returns-in_ok-put-in-Futures-clause-turned : goal.returns-in_ok-put-in-Futures-clause-turned
-returns-in_ok-put-in-Futures-clause-turned g c =
+pub returns-in-Ok-put-clause-turned : goal.returns-in-Ok-put-clause-turned
+returns-in-Ok-put-clause-turned g c =
     let x = setting_of c.args.component.now (g.M.MainTask.script c.args.main.now) c.args.self.now.trap_on_idle in
-    rw c.in-Futures.is (c.poll_next-made.result, (c.in_ok-put-in-Futures.ensures.stands, c.poll_next-made.ensures.turns x (g.M.MainTask.part c.args.main.now) (rw c.in-Futures.is at c.requires.pends)))
+    rw c.in-Futures.is (c.poll_next-made.result, (c.in-Ok-put.ensures.stands, c.poll_next-made.ensures.turns x (g.M.MainTask.part c.args.main.now) (rw c.in-Futures.is at c.requires.pends)))
 
-pub returns-in_ok-put-in-Futures-clause-knows : goal.returns-in_ok-put-in-Futures-clause-knows
-returns-in_ok-put-in-Futures-clause-knows g c =
+pub returns-in-Ok-put-clause-knows : goal.returns-in-Ok-put-clause-knows
+returns-in-Ok-put-clause-knows g c =
     let main = c.args.main.now in
     let part = g.M.MainTask.part main in
     let s = c.args.store.now.state in
@@ -108,14 +108,14 @@ returns-in-Take-clause-hosts g c =
     held_taken x c.args.self.now.trap_on_idle c.in-Take.ended (g.M.MainTask.part main) store.state c.take.new.w (held_by g.H.HostWork.course store) c.take.result c.args.trace.now c.take.new.trace
     (subst (λ (p : Turn). Sits c.args.component.now p store.state.core) c.in-Take.is c.requires.at.order) refl (rw c.in-Take.is at c.requires.pends) c.take.ensures.turned c.requires.hosts
 
-pub returns-in_ok-put-in-Futures-clause-does : goal.returns-in_ok-put-in-Futures-clause-does
-returns-in_ok-put-in-Futures-clause-does g c =
+pub returns-in-Ok-put-clause-does : goal.returns-in-Ok-put-clause-does
+returns-in-Ok-put-clause-does g c =
     let main = c.args.main.now in
     let part = g.M.MainTask.part main in
     let x = setting_of c.args.component.now (g.M.MainTask.script main) c.args.self.now.trap_on_idle in (
       c.poll_next-made.result,
       (
-        c.in_ok-put-in-Futures.ensures.stands,
+        c.in-Ok-put.ensures.stands,
         still g.M.MainTask.does main x part c.args.store.now.state c.poll_next-made.new.self.state (turn.Futures c.in-Futures.polled) refl c.poll_next-made.result
             (c.poll_next-made.ensures.turns x part (rw c.in-Futures.is at c.requires.pends)),
       ),
@@ -127,13 +127,13 @@ returns-in-Take-clause-does g c =
     let x = setting_of c.args.component.now (g.M.MainTask.script main) c.args.self.now.trap_on_idle in
     still_taken g.M.MainTask.does main x (g.M.MainTask.part main) c.args.store.now.state c.take.new.w c.args.self.now.trap_on_idle c.in-Take.ended c.take.result c.args.trace.now c.take.new.trace refl (rw c.in-Take.is at c.requires.pends) c.take.ensures.turned
 
-pub returns-in_ok-run_thread-in-Run-clause-does : goal.returns-in_ok-run_thread-in-Run-clause-does
-returns-in_ok-run_thread-in-Run-clause-does g c =
+pub returns-in-Ok-run_thread-clause-does : goal.returns-in-Ok-run_thread-clause-does
+returns-in-Ok-run_thread-clause-does g c =
     let main = c.args.main.now in
     let does = g.M.MainTask.does in
     let x = setting_of c.args.component.now (g.M.MainTask.script main) c.args.self.now.trap_on_idle in
     let n = c.in-Run.thread in
     let s = c.args.store.now.state in
     let t = c.run_thread.new.store.state in
-    added_as (λ (made : Made). Makes c.args.component.now (turn.Run n) s made t × IsFree made.turn) (λ (made : Made). DoesStep does main (step_shown made.label) main) c.in_ok-run_thread-in-Run.field-0 c.args.trace.now c.run_thread.new.trace
-    (λ made h. still_run does main x (g.M.MainTask.part main) s t n made h.0) c.in_ok-run_thread-in-Run.ensures.makes
+    added_as (λ (made : Made). Makes c.args.component.now (turn.Run n) s made t × IsFree made.turn) (λ (made : Made). DoesStep does main (step_shown made.label) main) c.in-Ok-run_thread.stepped c.args.trace.now c.run_thread.new.trace
+    (λ made h. still_run does main x (g.M.MainTask.part main) s t n made h.0) c.in-Ok-run_thread.ensures.makes

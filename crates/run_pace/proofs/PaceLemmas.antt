@@ -1,0 +1,40 @@
+-- How many entries were taken since a run last yielded, where it is polled on.
+use Rattle.label_laws.specs.Own.{mark_taken}
+use Rattle.run_pace.specs.Pace.{counted, counted_past, is_unyielded, passes_after, since_after, since_driven, unless_yielded, yields_before}
+use Rattle.std.proofs.Common.{ap, refl, ◌∙◌}
+use Rattle.std.specs.Prelude.{Bool, List, None, Option, Some, [], false, not, true, ℕ, ◌&&◌, ◌++◌, ◌∷◌, ◌≡◌}
+use Rattle.task_machine.specs.declared.label.Label.{Label}
+use Rattle.task_machine.specs.declared.words.Mark.{Mark}
+
+-- where it doesn't yield before it, an entry is counted
+pub past_stays : (b : Bool) (k : ℕ) (o : Option Mark) → yields_before b k o ≡ false → counted_past b k o ≡ counted k o
+past_stays b k o h = ap (λ (y : Bool). counted (unless_yielded y k) o) h
+
+pub driven_both : (b : Bool) (k : ℕ) (ls ks : List Label) → since_driven b k (ls ++ ks) ≡ since_driven (passes_after b ls) (since_driven b k ls) ks
+driven_both b k [] ks = refl
+driven_both b k (l ∷ ls) ks = driven_both false (counted_past b k (mark_taken l)) ls ks ∙ later ls
+  where
+    later : (ls : List Label) → since_driven (passes_after false ls) (since_driven false (counted_past b k (mark_taken l)) ls) ks ≡ since_driven false (since_driven false (counted_past b k (mark_taken l)) ls) ks
+    later [] = refl
+    later (m ∷ ls) = refl
+
+-- Where it didn't yield, a poll counts the same.
+pub driven_unyielded : (b : Bool) (k : ℕ) (ls : List Label) → is_unyielded b k ls ≡ true → since_driven b k ls ≡ since_after k ls
+driven_unyielded b k [] h = refl
+driven_unyielded b k (l ∷ ls) h =
+    let q = both (yields_before b k (mark_taken l)) (is_unyielded false (counted k (mark_taken l)) ls) h in
+    ap (λ (j : ℕ). since_driven false j ls) (past_stays b k (mark_taken l) q.0) ∙ driven_unyielded false (counted k (mark_taken l)) ls q.1
+  where
+    both : (x y : Bool) → (not x && y) ≡ true → (x ≡ false) × (y ≡ true)
+    both false y h = (refl, h)
+    both true y h = absurd (cc)
+
+-- Where it yields before the entry that is taken next, it may have yielded so just before.
+pub past_yielded : (b : Bool) (k : ℕ) (o : Option Mark) → yields_before b k o ≡ true → counted_past b k o ≡ counted_past true 0 o
+past_yielded b k None h = absurd (cc)
+past_yielded b k (Some m) h = ap (λ (y : Bool). counted (unless_yielded y k) (Some m)) h
+
+pub passes_both : (b : Bool) (ls ks : List Label) → passes_after b (ls ++ ks) ≡ passes_after (passes_after b ls) ks
+passes_both b [] ks = refl
+passes_both b (l ∷ ls) [] = refl
+passes_both b (l ∷ ls) (k ∷ ks) = refl
