@@ -1,7 +1,7 @@
 -- The host works that a store holds.
 use Rattle.host_works.specs.Course.{left_after, one_fewer}
-use Rattle.host_works.specs.Kept.{held}
-use Rattle.std.specs.Option.{option_and_then}
+use Rattle.host_works.specs.Kept.{HeldWork, held}
+use Rattle.std.specs.Option.{option_and_then, option_map}
 use Rattle.std.specs.Prelude.{◌==◌, ◌≡◌, ◌≤◌, Bool, None, Option, Some, cond, false, is_some, true, ℕ}
 use Rattle.task_machine.specs.Core.{Core}
 use Rattle.task_machine.specs.Maps.{get}
@@ -9,6 +9,10 @@ use Rattle.task_machine.specs.Read.{course_of}
 use Rattle.task_machine.specs.declared.component.HostDef.{HostDef}
 use Rattle.task_machine.specs.declared.records.Course.TheVariants as courses
 use Rattle.task_machine.specs.declared.records.Work.{Work}
+use Rattle.task_machine.specs.declared.records.WorkCaller.{WorkCaller}
+use Rattle.task_machine.specs.declared.records.WorkCaller.TheVariants as callers
+use Rattle.task_machine.specs.declared.words.Phase.{Phase}
+use Rattle.task_machine.specs.declared.words.Phase.TheVariants as phases
 use Rattle.task_rules.specs.Works.{has_end}
 use Rattle.task_store.specs.declared.store.Store.{Store}
 
@@ -20,10 +24,29 @@ pub record HoldsWorks (left : ℕ → Option HostDef) (s : Core) : Type 0 where
 
 -- what the work with this number that the store holds is still to do
 abbrev pub held_by : {T H : Type 0} → (H → HostDef) → Store T H → ℕ → Option HostDef
-held_by course store i = held course store.works i
+held_by course store i = option_map (λ (w : HeldWork). w.left) (held course store.works i)
 
-abbrev pub HoldsHosts : {T H : Type 0} → (H → HostDef) → Store T H → Type 0
-HoldsHosts course store = HoldsWorks (held_by course store) store.state.core
+-- the phase of its cell
+abbrev pub phase_by : {T H : Type 0} → (H → HostDef) → Store T H → ℕ → Option Phase
+phase_by course store i = option_map (λ (w : HeldWork). w.phase) (held course store.works i)
+
+-- The phase of the cell of a work, by its record: a spawned work's is the record's. A guest asks its call to end by the core alone, and
+-- the cell is told when the poll is due.
+abbrev pub phase_told : WorkCaller → Phase → Phase
+phase_told callers.Spawn p = p
+phase_told f p = phases.Running
+
+abbrev pub cell_phase : Work → Phase
+cell_phase w = phase_told w.caller w.phase
+
+-- each work that is held has a record that goes on, whose phase its cell has
+abbrev pub CellsAre : (ℕ → Option Phase) → Core → Type 0
+CellsAre phase s = (i : ℕ) (p : Phase) → phase i ≡ Some p → (w : Work) × ((get s.works i ≡ Some w) × ((has_end w.course ≡ false) × (p ≡ cell_phase w)))
+
+-- What a store holds of host works is what its core says of them.
+pub record HoldsHosts {T H : Type 0} (course : H → HostDef) (store : Store T H) : Type 0 where
+  pub works : HoldsWorks (held_by course store) store.state.core
+  pub cells : CellsAre (phase_by course store) store.state.core
 
 -- each work that is there has a number that was given
 abbrev pub WorksNumbered : Core → Type 0
