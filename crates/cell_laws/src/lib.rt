@@ -3,4 +3,4 @@
 
 mod laws;
 
-pub use laws::{cells_stay, cells_stay_inside};
+pub use laws::{cells_stay, cells_stay_inside, works_stay_running, works_stay_taken};

@@ -387,7 +387,7 @@ fn await_work<T, H: HostWork>(
     ensures unstarted { is_start (label_of_step result) ≡ false }
     ensures store { access.new.store.now ≡ record access.old.store.now { works = access.new.store.now.works } }
     ensures hosts { HoldsHosts H.course access.new.store.now }
-    ensures ok { Steps component.now (script_of main.old) (part_of main.old) access.now.store.now.state.core result (part_of main.new) access.now.store.now.state.core }
+    ensures ok { Steps component.now (script_of main.old) (part_of main.old) access.old.store.now.state.core result (part_of main.new) access.new.store.now.state.core }
 {
     let _component = component;
     let at = main.next_place();

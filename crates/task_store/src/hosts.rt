@@ -12,8 +12,8 @@ ghost use Rattle.task_rules.specs.Calls.{next_work, work_queued};
 ghost use Rattle.task_rules.specs.Places.{Placed};
 ghost use Rattle.task_rules.specs.Stalled.{Setting};
 ghost use Rattle.task_rules.specs.Works.{has_end, poll_of, polled_in};
-ghost use Rattle.task_store.specs.Hosts.{HoldsHosts, WorksNumbered, held_after_call, held_by, settled};
-ghost use Rattle.task_store.specs.Polled.{Tells, told_of};
+ghost use Rattle.task_store.specs.Hosts.{HoldsHosts, HoldsWorks, WorksNumbered, held_after_call, held_by, running, settled};
+ghost use Rattle.task_store.specs.Polled.{after_polled, told_of};
 ghost use Rattle.task_store.specs.Spawned.{IsSpawnedIn};
 ghost use Rattle.task_turns.specs.Turn.{IsSettled, PendsIn, Turns, given};
 ghost use Rattle.task_words.specs.StateView.{Keeps, work_of};
@@ -40,14 +40,15 @@ fn untold(phase: Phase, course: Course) -> Option<Told>
     }
 }
 
-// What a work tells that was polled.
-fn told_of(answer: HostPoll) -> Told
+// What a work tells that answered this; one that isn't polled, as it was aborted, ends without a value.
+fn told_of(answer: Option<HostPoll>) -> Told
     ensures { result ≡ told_of answer }
 {
     match answer {
-        HostPoll::Pending => Told::Pends,
-        HostPoll::Value(value) => Told::Ends(Some(value)),
-        HostPoll::Failed => Told::Fails,
+        Some(HostPoll::Pending) => Told::Pends,
+        Some(HostPoll::Value(value)) => Told::Ends(Some(value)),
+        Some(HostPoll::Failed) => Told::Fails,
+        None => Told::Ends(None),
     }
 }
 
@@ -88,7 +89,7 @@ impl<T, H: AccessorTask<T>> Store<T, H> {
         requires hosts { HoldsHosts H.course self.old }
         requires number { number ≡ work_of self.old.state work }
         ensures answer { TellsPoll result (poll_of (work_of self.old.state work) self.old.state.core) }
-        ensures told { Tells (work_of self.old.state work) self.old.state.core (held_by H.course self.old) (held_by H.course self.new) }
+        ensures told { HoldsWorks (held_by H.course self.new) (after_polled (work_of self.old.state work) self.old.state.core) }
         ensures rest { self.new ≡ record self.old { value = self.new.value; works = self.new.works } }
     {
         if let Some(told) = untold(self.state.phase(work), self.state.course(work)) {
@@ -127,7 +128,7 @@ impl<T, H: AccessorTask<T>> Store<T, H> {
     pub fn hold_next(&mut self, work: H) -> Result<u64, NoMemory>
         requires given { given self.old.state.core < 2 ^ 61 }
         ensures number { IfOk result (λ i. i ≡ next_work self.old.state.core) }
-        ensures ok { OnOk result ((i : ℕ) → held_by H.course self.new i ≡ cond (next_work self.old.state.core == i) (Some (H.course work)) (held_by H.course self.old i)) }
+        ensures ok { OnOk result ((i : ℕ) → held_by H.course self.new i ≡ cond (next_work self.old.state.core == i) (running (H.course work)) (held_by H.course self.old i)) }
         ensures err { OnErr result ((i : ℕ) → held_by H.course self.new i ≡ held_by H.course self.old i) }
         ensures rest { self.new ≡ record self.old { works = self.new.works } }
     {
