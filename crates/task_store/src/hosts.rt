@@ -1,6 +1,6 @@
 //! The host works of a store: those of guests' calls, and those that a host spawns.
 ghost use Rattle.group_laws.specs.Tells.{worked_group};
-ghost use Rattle.std.specs.Prelude.{◌||◌, ◌==◌, ◌≡◌, ◌<◌, ◌^◌, ℕ, IfErr, IfOk, IfSome, IsSome, None, OnErr, OnOk, Some, cond, is_some, option_map, true};
+ghost use Rattle.std.specs.Prelude.{◌||◌, ◌==◌, ◌≡◌, ◌<◌, ◌^◌, ℕ, IfErr, IfOk, IfSome, None, OnErr, OnOk, Some, cond, is_some, option_map, true};
 ghost use Rattle.task_laws.specs.Order.{WorksQueued};
 ghost use Rattle.task_machine.specs.Core.{Main};
 ghost use Rattle.task_machine.specs.Read.{is_aborted};
@@ -137,11 +137,10 @@ impl<T, H: AccessorTask<T>> Store<T, H> {
         Ok(number)
     }
 
-    /// What becomes of the work with this number, which is held, once its call was made or refused: it is polled where
+    /// What becomes of the work with this number once its call was made or refused: it is polled where
     /// `polled` says so, and let go where the call wasn't made.
     pub fn settle_held(&mut self, number: u64, polled: bool, made: bool)
-        requires there { IsSome (held_by H.course self.old number) }
-        requires polled { made ≡ true → polled ≡ true }
+        requires { made ≡ true → polled ≡ true }
         ensures left { (i : ℕ) → held_by H.course self.new i ≡ cond (number == i) (settled made (held_by H.course self.old number)) (held_by H.course self.old i) }
         ensures rest { self.new ≡ record self.old { value = self.new.value; works = self.new.works } }
     {
