@@ -502,17 +502,59 @@ module _ (i : ℕ) (s : Core) (left right : ℕ → Option HeldWork) (h : HoldsW
       (subst (λ (o : Option HeldWork). HoldsSaid (after_poll o) (said_after p (Some (g.work.caller, (g.work.phase, courses.Goes g.host))))) (sym g.held) own)))
 
   -- a work that is polled tells what the machine finds
-  told_again : (polls value : Option ℕ) → let d : HostDef = record { polls = polls; value = value } in TellsPoll (told_of (answers (running d))) (polled_again d polls)
+  told_again : (polls value : Option ℕ) → let d : HostDef = record { polls = polls; value = value } in TellsPoll (told_of (told d)) (polled_again d polls)
   told_again None v = refl
   told_again (Some zero) None = refl
   told_again (Some zero) (Some v) = refl
   told_again (Some (suc n)) v = refl
 
-  pub going_tells : is_over i s ≡ false → TellsPoll (told_of (answers (left i))) (poll_of i s)
-  going_tells over =
+  pub going_tells : is_over i s ≡ false → (answer : HostPoll) → Some answer ≡ answers (left i) → TellsPoll (told_of answer) (poll_of i s)
+  going_tells over answer is =
       let g = going over in
-      subst (λ (p : Poll). TellsPoll (told_of (answers (left i))) p) (sym (polled_of g))
-      (subst (λ (o : Option HeldWork). TellsPoll (told_of (answers o)) (polled_again g.host g.host.polls)) (sym g.held) (told_again g.host.polls g.host.value))
+      let same : told g.host ≡ answer = let e = is ∙ ap answers g.held in cc in
+      subst (λ (p : Poll). TellsPoll (told_of answer) p) (sym (polled_of g))
+      (subst (λ (a : HostPoll). TellsPoll (told_of a) (polled_again g.host g.host.polls)) same (told_again g.host.polls g.host.value))
+
+  -- one that wasn't aborted is polled just where it hasn't ended
+  pub unpolled_over : is_aborted (phase_of i s) ≡ false → None ≡ answers (left i) → has_end (course_of i s) ≡ true
+  unpolled_over unasked none = by (has_end (course_of i s)) refl
+    where
+      over : (b : Bool) → has_end (course_of i s) ≡ b → is_over i s ≡ b
+      over b e = ap (λ (c : Bool). c || has_end (course_of i s)) unasked ∙ e
+
+      by : (b : Bool) → has_end (course_of i s) ≡ b → has_end (course_of i s) ≡ true
+      by true e = e
+      by false e = let g = going (over false e) in absurd (let n = none ∙ ap answers g.held in cc)
+
+  pub polled_goes : is_aborted (phase_of i s) ≡ false → (answer : HostPoll) → Some answer ≡ answers (left i) → is_over i s ≡ false
+  polled_goes unasked answer is = by (get s.works i) (h.each i)
+    where
+      goes : (c : Course) (p : Phase) → left i ≡ held_of c p → has_end c ≡ false
+      goes (courses.Goes d) p e = refl
+      goes (courses.Value v) p e = absurd (let n = is ∙ ap answers e in cc)
+      goes courses.NoValue p e = absurd (let n = is ∙ ap answers e in cc)
+
+      by : (o : Option Work) → HoldsAt (left i) o → (is_aborted (phase_of i s) || has_end (option_map_or (λ (w : Work). w.course) o courses.NoValue)) ≡ false
+      by None e = absurd (let n = is ∙ ap answers e in cc)
+      by (Some w) e = ap (λ (b : Bool). b || has_end w.course) unasked ∙ goes w.course (phase_told w.caller w.phase) e.held
+
+  -- one that isn't held stays so
+  pub unheld_over : is_aborted (phase_of i s) ≡ false → None ≡ answers (left i) → ((j : ℕ) → right j ≡ cond (i == j) (after_poll (left i)) (left j)) → HoldsWorks right (after_polled i s)
+  unheld_over unasked none is =
+      let ended = unpolled_over unasked none in
+      over_held (ap (λ (b : Bool). b || has_end (course_of i s)) unasked ∙ ended) (λ j. is j ∙ ap (λ (o : Option HeldWork). cond (i == j) (after_poll o) (left j)) (unheld ended))
+    where
+      unheld : has_end (course_of i s) ≡ true → left i ≡ None
+      unheld ended = by (get s.works i) ended (h.each i)
+        where
+          gone : (c : Course) (p : Phase) → has_end c ≡ true → held_of c p ≡ None
+          gone (courses.Goes d) p is = absurd (cc)
+          gone (courses.Value v) p is = refl
+          gone courses.NoValue p is = refl
+
+          by : (o : Option Work) → has_end (option_map_or (λ (w : Work). w.course) o courses.NoValue) ≡ true → HoldsAt (left i) o → left i ≡ None
+          by None e q = q
+          by (Some w) e q = q.held ∙ gone w.course (phase_told w.caller w.phase) e
 
 -- after the poll of the next work
 pub holds_next : (x : Setting) (s t : Core) (n i : ℕ) (l : Label) (p : Turn) (right : ℕ → Option HeldWork) → next_polled n s ≡ Some i →

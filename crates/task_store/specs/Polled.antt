@@ -1,5 +1,5 @@
 -- A poll of a host work by the loop.
-use Rattle.std.specs.Prelude.{◌||◌, Bool, None, Option, Some, ℕ}
+use Rattle.std.specs.Prelude.{◌||◌, Bool, Some, ℕ}
 use Rattle.host_works.specs.declared.work.HostPoll.{HostPoll}
 use Rattle.host_works.specs.declared.work.HostPoll.TheVariants as answers
 use Rattle.task_machine.specs.Core.{Core}
@@ -9,12 +9,11 @@ use Rattle.task_ops.specs.declared.works.Told.{Told}
 use Rattle.task_ops.specs.declared.works.Told.TheVariants as told
 use Rattle.task_rules.specs.Works.{Ends, FailsNow, Poll, StillPends, has_end, poll_ends, poll_of, poll_pends}
 
--- what a work tells that answers this; one that isn't polled ends without a value
-abbrev pub told_of : Option HostPoll → Told
-told_of None = told.Ends None
-told_of (Some answers.Pending) = told.Pends
-told_of (Some (answers.Value v)) = told.Ends (Some v)
-told_of (Some answers.Failed) = told.Fails
+-- what a work tells that answers this
+abbrev pub told_of : HostPoll → Told
+told_of answers.Pending = told.Pends
+told_of (answers.Value v) = told.Ends (Some v)
+told_of answers.Failed = told.Fails
 
 -- the core after a poll that comes to this
 abbrev pub polled_core : ℕ → Poll → Core → Core

@@ -3,7 +3,6 @@ ghost use Rattle.group_laws.specs.Tells.{worked_group};
 ghost use Rattle.std.specs.Prelude.{◌||◌, ◌==◌, ◌≡◌, ◌<◌, ◌^◌, ℕ, IfErr, IfOk, IfSome, None, OnErr, OnOk, Some, cond, is_some, option_map, true};
 ghost use Rattle.task_laws.specs.Order.{WorksQueued};
 ghost use Rattle.task_machine.specs.Core.{Main};
-ghost use Rattle.task_machine.specs.Read.{is_aborted};
 ghost use Rattle.task_machine.specs.declared.records.Turn.{Turn};
 ghost use Rattle.task_machine.specs.declared.records.WorkCaller.TheVariants as work_callers;
 ghost use Rattle.task_ops.specs.Polled.{TellsPoll};
@@ -11,7 +10,7 @@ ghost use Rattle.task_ops.specs.Works.{KeepsWorks};
 ghost use Rattle.task_rules.specs.Calls.{next_work, work_queued};
 ghost use Rattle.task_rules.specs.Places.{Placed};
 ghost use Rattle.task_rules.specs.Stalled.{Setting};
-ghost use Rattle.task_rules.specs.Works.{has_end, poll_of, polled_in};
+ghost use Rattle.task_rules.specs.Works.{has_end, poll_of, polled_course};
 ghost use Rattle.task_store.specs.Hosts.{HoldsHosts, HoldsWorks, WorksNumbered, held_after_call, held_by, running, settled};
 ghost use Rattle.task_store.specs.Polled.{after_polled, told_of};
 ghost use Rattle.task_store.specs.Spawned.{IsSpawnedIn};
@@ -27,28 +26,25 @@ use task_ops::Told;
 use task_turns::{Made, poll};
 use task_words::{ResultWords, WorkId, WorkWords};
 
-// What a work tells that isn't polled, as it was aborted or has ended; none where it is polled.
-fn untold(phase: Phase, course: Course) -> Option<Told>
-    ensures is { is_some result ≡ (is_aborted phase || has_end course) }
-    ensures told { IfSome result (λ told. TellsPoll told (polled_in phase course)) }
+// What a work tells that has ended.
+fn told_at_end(course: Course) -> Told
+    requires { has_end course ≡ true }
+    ensures { TellsPoll result (polled_course course) }
 {
-    match (phase, course) {
-        (Phase::AbortRequested, _) => Some(Told::Ends(None)),
-        (_, Course::Goes { host: _ }) => None,
-        (_, Course::Value { value }) => Some(Told::Ends(Some(value))),
-        (_, Course::NoValue) => Some(Told::Ends(None)),
+    match course {
+        Course::Value { value } => Told::Ends(Some(value)),
+        _ => Told::Ends(None),
     }
 }
 
-// What a work tells that answered this; one that isn't polled, as it was aborted, ends without a value.
-fn told_of(answer: Option<HostPoll>) -> Told
+// What a work tells that was polled.
+fn told_of(answer: HostPoll) -> Told
     ensures { result ≡ told_of answer }
 {
     match answer {
-        Some(HostPoll::Pending) => Told::Pends,
-        Some(HostPoll::Value(value)) => Told::Ends(Some(value)),
-        Some(HostPoll::Failed) => Told::Fails,
-        None => Told::Ends(None),
+        HostPoll::Pending => Told::Pends,
+        HostPoll::Value(value) => Told::Ends(Some(value)),
+        HostPoll::Failed => Told::Fails,
     }
 }
 
@@ -83,7 +79,8 @@ impl<T, H: AccessorTask<T>> Store<T, H> {
         }
     }
 
-    // Polls the work, which has this number, and answers what it tells. One that was aborted is let go, and isn't polled.
+    // Polls the work, which has this number, and answers what it tells. One that was aborted is let go, and isn't polled;
+    // one that isn't held has ended.
     #[inline(always)]
     fn tell(&mut self, work: WorkId, number: u64) -> Told
         requires hosts { HoldsHosts H.course self.old }
@@ -92,11 +89,14 @@ impl<T, H: AccessorTask<T>> Store<T, H> {
         ensures told { HoldsWorks (held_by H.course self.new) (after_polled (work_of self.old.state work) self.old.state.core) }
         ensures rest { self.new ≡ record self.old { value = self.new.value; works = self.new.works } }
     {
-        if let Some(told) = untold(self.state.phase(work), self.state.course(work)) {
+        if let Phase::AbortRequested = self.state.phase(work) {
             self.works.let_go(number);
-            return told;
+            return Told::Ends(None);
         }
-        told_of(self.works.poll(number, &mut self.value))
+        match self.works.poll(number, &mut self.value) {
+            Some(answer) => told_of(answer),
+            None => told_at_end(self.state.course(work)),
+        }
     }
 
     /// Polls the live work that is next, past those with numbers up to `polled`. Its group is asked.
