@@ -382,11 +382,14 @@ fn await_work<T, H: HostWork>(
     requires op { slice_get main.old.ops.now main.old.at ≡ Some (main_op.Await spawn) }
     requires knows { KnowsSpawns main.old access.old.store.now.state }
     ensures same { access.new.store.ghost_name ≡ access.old.store.ghost_name }
+    ensures stands { standing access.new.store.now ≡ standing access.old.store.now }
     ensures ops { main.new.ops ≡ main.old.ops }
     ensures spawns { main.new.spawns ≡ main.old.spawns }
-    ensures unstarted { is_start (label_of_step result) ≡ false }
-    ensures store { access.new.store.now ≡ record access.old.store.now { works = access.new.store.now.works } }
+    ensures current { running_of access.new.store.now.state ≡ running_of access.old.store.now.state }
     ensures hosts { HoldsHosts H.course access.new.store.now }
+    ensures names { KeepsWorks access.old.store.now.state access.new.store.now.state }
+    ensures groups { access.new.store.now.groups ≡ access.old.store.now.groups }
+    ensures unstarted { is_start (label_of_step result) ≡ false }
     ensures ok { Steps component.now (script_of main.old) (part_of main.old) access.old.store.now.state.core result (part_of main.new) access.new.store.now.state.core }
 {
     let _component = component;
