@@ -249,11 +249,7 @@ pub fn step_run<W: Words>(
 /// the work that was made are answered, and the label is still to be added. Where memory is wanting, nothing is said of the
 /// state. It is out of line, so that what it answers is there only where a host is called.
 #[inline(never)]
-pub fn step_call<W: Words>(
-    component: &Component,
-    w: &mut W,
-    number: u64,
-) -> Result<Ran, NoMemory>
+pub fn step_call<W: Words>(component: &Component, w: &mut W, number: u64) -> Result<Ran, NoMemory>
     requires covered { IsWellFormed component.now }
     requires order { Sits component.now (Turn.Run number) (W.view w.old).core }
     requires runs { running_of (W.view w.old) ≡ Some number }
@@ -268,9 +264,9 @@ pub fn step_call<W: Words>(
         unreachable!()
     };
     let point = w.at(thread);
-    let script = script_ops(component, point.callee, point.script);
-    match op_at(script, point.position) {
-        Some(op) => run_called(component, w, thread, op, script.len() as u32),
+    let body = script_ops(component, point.callee, point.script);
+    match op_at(body, point.position) {
+        Some(op) => run_called(component, w, thread, op, body.len() as u32),
         None => unreachable!(),
     }
 }
