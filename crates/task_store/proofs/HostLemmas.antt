@@ -9,8 +9,6 @@ use Rattle.host_works.specs.Course.{one_fewer, told}
 use Rattle.host_works.specs.Kept.{Found, HeldWork, HoldsNone, after_abort, after_poll, answers, found_phase, held}
 use Rattle.host_works.specs.declared.kept.HostWorks.{HostWorks}
 use Rattle.host_works.specs.declared.work.HostPoll.{HostPoll}
-use Rattle.task_abort.specs.PhaseLog.{after}
-use Rattle.task_abort.specs.declared.log.PhaseCall.TheVariants.{Abort}
 use Rattle.task_laws.proofs.CourseLemmas.{courses_stay, works_are_called}
 use Rattle.task_laws.specs.Courses.{CoursesStay, MakesWork, SameCourse, WorksAreCalled}
 use Rattle.task_laws.specs.Order.{InOrder}
@@ -233,19 +231,16 @@ module _ (x : Setting) (s : State) (l : Label) (t : State) (step : Step x s l t)
 -- ---- Aborts
 
 abort_told : (w : Work) → is_spawned w.caller ≡ true → after_abort (held_of w.course (phase_told w.caller w.phase)) ≡ held_of w.course (phase_told w.caller (aborted_phase w.phase))
-abort_told w spawn = by w.caller w.course spawn
+abort_told w spawn = by w.caller w.course w.phase spawn
   where
-    same : (p : Phase) → after Abort p ≡ aborted_phase p
-    same phases.Running = refl
-    same phases.AbortRequested = refl
-    same phases.Complete = refl
-
-    by : (f : WorkCaller) (c : Course) → is_spawned f ≡ true → after_abort (held_of c (phase_told f w.phase)) ≡ held_of c (phase_told f (aborted_phase w.phase))
-    by callers.Spawn (courses.Goes d) is = ap (λ (p : Phase). Some (Found d p)) (same w.phase)
-    by callers.Spawn (courses.Value v) is = refl
-    by callers.Spawn courses.NoValue is = refl
-    by (callers.Async n q) c is = absurd (cc)
-    by (callers.Sync n) c is = absurd (cc)
+    by : (f : WorkCaller) (c : Course) (p : Phase) → is_spawned f ≡ true → after_abort (held_of c (phase_told f p)) ≡ held_of c (phase_told f (aborted_phase p))
+    by callers.Spawn (courses.Goes d) phases.Running is = refl
+    by callers.Spawn (courses.Goes d) phases.AbortRequested is = refl
+    by callers.Spawn (courses.Goes d) phases.Complete is = refl
+    by callers.Spawn (courses.Value v) p is = refl
+    by callers.Spawn courses.NoValue p is = refl
+    by (callers.Async n q) c p is = absurd (cc)
+    by (callers.Sync n) c p is = absurd (cc)
 
 still_complete : (p : Phase) → is_complete (aborted_phase p) ≡ is_complete p
 still_complete phases.Running = refl
@@ -537,6 +532,25 @@ module _ (i : ℕ) (s : Core) (left right : ℕ → Option HeldWork) (h : HoldsW
       by : (o : Option Work) → HoldsAt (left i) o → (is_aborted (phase_of i s) || has_end (option_map_or (λ (w : Work). w.course) o courses.NoValue)) ≡ false
       by None e = absurd (let n = is ∙ ap answers e in cc)
       by (Some w) e = ap (λ (b : Bool). b || has_end w.course) unasked ∙ goes w.course (phase_told w.caller w.phase) e.held
+
+  -- what the poll of a work comes to, by its phase
+  pub aborted_ends : is_aborted (phase_of i s) ≡ true → poll_of i s ≡ Ends None
+  unfolding poll_of
+  aborted_ends is = by (phase_of i s) is
+    where
+      by : (p : Phase) → is_aborted p ≡ true → polled_in p (course_of i s) ≡ Ends None
+      by phases.Running is = absurd (cc)
+      by phases.AbortRequested is = refl
+      by phases.Complete is = absurd (cc)
+
+  pub unaborted_polls : is_aborted (phase_of i s) ≡ false → poll_of i s ≡ polled_course (course_of i s)
+  unfolding poll_of
+  unaborted_polls is = by (phase_of i s) is
+    where
+      by : (p : Phase) → is_aborted p ≡ false → polled_in p (course_of i s) ≡ polled_course (course_of i s)
+      by phases.Running is = refl
+      by phases.AbortRequested is = absurd (cc)
+      by phases.Complete is = refl
 
   -- one that isn't held stays so
   pub unheld_over : is_aborted (phase_of i s) ≡ false → None ≡ answers (left i) → ((j : ℕ) → right j ≡ cond (i == j) (after_poll (left i)) (left j)) → HoldsWorks right (after_polled i s)

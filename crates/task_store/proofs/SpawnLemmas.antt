@@ -1,5 +1,5 @@
 -- Spawned works that are gone.
-use Rattle.std.proofs.Common.{ap, ap₂, arith, inl, le_refl, refl, subst, sym}
+use Rattle.std.proofs.Common.{ap, ap₂, arith, inl, le_refl, refl, subst, sym, ◌∙◌}
 use Rattle.std.proofs.lemmas.Bool.Decides.{nat_tests}
 use Rattle.std.specs.Option.{option_map_or}
 use Rattle.std.specs.Prelude.{None, Option, ℕ, ◌↔◌, ◌+◌, ◌<◌, ◌≡◌, ◌≤◌}
@@ -48,17 +48,17 @@ spawned_in h s d t number named core = record {
   named = inl named;
 }
 
+complete_ready : (p : Phase) → p ≡ phases.Complete → ◌≡◌ {A = Poll (Unit {0})} (polls.Ready tt) (poll_of_phase p)
+complete_ready phases.Running is = absurd (cc)
+complete_ready phases.AbortRequested is = absurd (cc)
+complete_ready phases.Complete is = refl
+
+other_pending : (p : Phase) → (p ≡ phases.Complete → ⊥) → ◌≡◌ {A = Poll (Unit {0})} polls.Pending (poll_of_phase p)
+other_pending phases.Running never = refl
+other_pending phases.AbortRequested never = refl
+other_pending phases.Complete never = absurd (never refl)
+
 -- ready just where the phase is complete
 pub poll_is : (r : Poll (Unit {0})) (p : Phase) → (r ≡ polls.Ready tt) ↔ (p ≡ phases.Complete) → r ≡ poll_of_phase p
-poll_is (polls.Ready tt) p h = by p (h.0 refl)
-  where
-    by : (p : Phase) → p ≡ phases.Complete → polls.Ready tt ≡ poll_of_phase p
-    by phases.Running is = absurd (cc)
-    by phases.AbortRequested is = absurd (cc)
-    by phases.Complete is = refl
-poll_is polls.Pending p h = by p (h.1)
-  where
-    by : (p : Phase) → (p ≡ phases.Complete → polls.Pending ≡ polls.Ready tt) → polls.Pending ≡ poll_of_phase p
-    by phases.Running is = refl
-    by phases.AbortRequested is = refl
-    by phases.Complete is = absurd (let e = is refl in cc)
+poll_is (polls.Ready u) p h = complete_ready p (h.0 refl)
+poll_is polls.Pending p h = other_pending p (λ is. let e = h.1 is in cc)

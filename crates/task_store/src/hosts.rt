@@ -3,6 +3,7 @@ ghost use Rattle.group_laws.specs.Tells.{worked_group};
 ghost use Rattle.std.specs.Prelude.{◌||◌, ◌==◌, ◌≡◌, ◌<◌, ◌^◌, ℕ, IfErr, IfOk, IfSome, None, OnErr, OnOk, Some, cond, is_some, option_map, true};
 ghost use Rattle.task_laws.specs.Order.{WorksQueued};
 ghost use Rattle.task_machine.specs.Core.{Main};
+ghost use Rattle.task_machine.specs.Read.{is_aborted};
 ghost use Rattle.task_machine.specs.declared.records.Turn.{Turn};
 ghost use Rattle.task_machine.specs.declared.records.WorkCaller.TheVariants as work_callers;
 ghost use Rattle.task_ops.specs.Polled.{TellsPoll};
@@ -25,6 +26,13 @@ use task_machine::{Course, HostDef, NoMemory, Phase};
 use task_ops::Told;
 use task_turns::{Made, poll};
 use task_words::{ResultWords, WorkId, WorkWords};
+
+// Whether an abort was asked for.
+fn is_aborted(phase: Phase) -> bool
+    ensures { result ≡ is_aborted phase }
+{
+    matches!(phase, Phase::AbortRequested)
+}
 
 // What a work tells that has ended.
 fn told_at_end(course: Course) -> Told
@@ -89,7 +97,7 @@ impl<T, H: AccessorTask<T>> Store<T, H> {
         ensures told { HoldsWorks (held_by H.course self.new) (after_polled (work_of self.old.state work) self.old.state.core) }
         ensures rest { self.new ≡ record self.old { value = self.new.value; works = self.new.works } }
     {
-        if let Phase::AbortRequested = self.state.phase(work) {
+        if is_aborted(self.state.phase(work)) {
             self.works.let_go(number);
             return Told::Ends(None);
         }

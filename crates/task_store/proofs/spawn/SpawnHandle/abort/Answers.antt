@@ -44,6 +44,6 @@ returns-clause-state = aborted
 pub returns-clause-hosts : goal.returns-clause-hosts
 returns-clause-hosts g c =
     let store = c.args.store.now in
-    let state = ap (λ (k : Store g.T g.H). k.state.core) (aborted g c) in
+    let state = ap (λ k. k.state.core) (aborted g c) in
     subst (λ (s : Core). HoldsWorks (held g.H.HostWork.course c.abort-phase.new.self) s) (sym state)
     (holds_aborted c.args.self.now.number store.state.core (held_by g.H.HostWork.course store) (held g.H.HostWork.course c.abort-phase.new.self) c.requires.spawned.caller c.abort-phase.ensures.held c.requires.hosts)
