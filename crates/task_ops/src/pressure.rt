@@ -1,13 +1,11 @@
 //! Backpressure.
-ghost use Rattle.std.specs.Prelude.{◌≡◌, ◌+◌, ◌<◌, ◌^◌, [], IsPermutation, List, true, ℕ};
+ghost use Rattle.std.specs.Prelude.{◌≡◌, ◌+◌, ◌<◌, ◌^◌};
 ghost use Rattle.task_laws.specs.Wakes.{NoneAdmitted};
-ghost use Rattle.task_machine.specs.Moves.{released};
-ghost use Rattle.task_machine.specs.Read.{admitted_held, may_not_enter, position_of};
+ghost use Rattle.task_machine.specs.Read.{position_of};
 ghost use Rattle.task_ops.specs.Came.{Meets};
 ghost use Rattle.task_ops.specs.Running.{IsRunning};
-ghost use Rattle.task_rules.specs.Places.{Placed};
 ghost use Rattle.task_rules.specs.Task.{dec_row, inc_row};
-ghost use Rattle.task_words.specs.StateView.{on_core, thread_of};
+ghost use Rattle.task_words.specs.StateView.{thread_of};
 
 use crate::came::Came;
 use task_machine::{Label, TaskLabel, Trap};
@@ -32,19 +30,7 @@ pub fn raise<W: Words>(w: &mut W, thread: ThreadId) -> Came
     Came::Goes(Label::Task(TaskLabel::BpInc(number)), number)
 }
 
-// The held threads that are admitted are put at high: none of an instance that keeps entries out, and these aren't looked at.
-fn let_in<W: Words>(w: &mut W, instance: u32)
-    requires placed { Placed (W.view w.old).core }
-    requires out { may_not_enter instance (W.view w.old).core ≡ true → admitted_held instance (W.view w.old).core ≡ [] }
-    ensures { (order : List ℕ) × (IsPermutation (admitted_held instance (W.view w.old).core) order × (W.view w.new ≡ on_core (released order) (W.view w.old))) }
-{
-    if w.may_not_enter(instance) {
-        return;
-    }
-    w.release(instance);
-}
-
-/// `bp_dec`
+/// `bp_dec`. Where the instance keeps entries out, none of its held threads is admitted, and these aren't looked at.
 #[tactic(auto, using(crate::proofs::PositionLemmas::position_pressure))]
 pub fn lower<W: Words>(w: &mut W, thread: ThreadId) -> Came
     requires running { IsRunning (thread_of (W.view w.old) thread) (W.view w.old).core }
@@ -63,7 +49,11 @@ pub fn lower<W: Words>(w: &mut W, thread: ThreadId) -> Came
     let label = Label::Task(TaskLabel::BpDec(number));
     w.set_backpressure(instance, count - 1);
     if count == 1 {
-        let_in(w, instance);
+        if w.may_not_enter(instance) {
+            w.advance(thread);
+            return Came::Goes(label, number);
+        }
+        w.release(instance);
         w.advance(thread);
         return Came::Goes(label, number);
     }
