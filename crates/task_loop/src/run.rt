@@ -1,4 +1,4 @@
-ghost use Rattle.std.specs.Prelude.{◌≡◌, ◌*◌, ◌+◌, ◌<◌, ◌≤◌, ◌^◌, IfErr, IfOk, IfSome, None, OnErr, OnOk, Some, false, is_none, true, Bool};
+ghost use Rattle.std.specs.Prelude.{◌≡◌, ◌*◌, ◌+◌, ◌<◌, ◌≤◌, ◌^◌, IfErr, IfOk, IfSome, None, OnErr, OnOk, Some, false, true, Bool};
 ghost use Rattle.group_laws.specs.Groups.{stake};
 ghost use Rattle.group_notices.specs.Runs.{HasTold};
 ghost use Rattle.task_group.specs.Listeners.{Told};
@@ -26,7 +26,8 @@ use task_calls::TaskError;
 use task_machine::{Component, NoMemory, Outcome, Trap, Turn};
 use task_store::{Access, AccessorTask, FromHost, HostWork, StandingRun, Store};
 use task_turns::{
-    MainStep, RunStep, Stepped, Trace, compute, is_idle, made_by_main, put, step_call, step_run, take,
+    MainStep, RunStep, Stepped, Trace, compute, is_idle, made_by_main, put, step_call, step_run,
+    take,
 };
 
 /// A run of the event loop on a store.
