@@ -442,7 +442,12 @@ module _ (i : ℕ) (s : Core) (left right : ℕ → Option HeldWork) (h : HoldsW
       let q : HoldsWork (left i) w.caller w.phase w.course = subst (λ (o : Option Work). HoldsAt (left i) o) at (h.each i) in
       let spawned : is_spawned w.caller ≡ true → is_complete w.phase ≡ false = λ is. q.spawned is ∙ ap has_end goes in
       record {
-        work = w; host = d; at = at; goes = goes; unasked = unasked; spawned = spawned;
+        work = w;
+        host = d;
+        at = at;
+        goes = goes;
+        unasked = unasked;
+        spawned = spawned;
         held = q.held ∙ (ap (λ (c : Course). held_of c (phase_told w.caller w.phase)) goes ∙ ap (λ (p : Phase). Some (Found d p)) (cell_runs w.caller w.phase unasked spawned));
       }
 
