@@ -3,6 +3,7 @@ use Rattle.group_notices.proofs.MirrorLemmas.{mirror_more, mirror_none}
 use Rattle.group_notices.proofs.TellLemmas.{all_told}
 use Rattle.group_notices.specs.Mirror.{Leads, Mirrors}
 use Rattle.group_notices.specs.declared.tells.Asked.{Asked}
+use Rattle.host_works.specs.Kept.{HeldWork}
 use Rattle.state_calls.specs.Currents.{entered, is_left, left_for, now_runs, number_in, runner}
 use Rattle.state_calls.specs.Ends.{Ends}
 use Rattle.state_calls.specs.declared.currents.CurrentThread.{CurrentThread}
@@ -22,7 +23,6 @@ use Rattle.task_loop.specs.Told.{begin_notices, begun_notices, groups_with}
 use Rattle.task_machine.specs.Core.{Core}
 use Rattle.task_machine.specs.Write.{add_call, add_group, add_thread, on_thread, set_place, set_trapped}
 use Rattle.task_machine.specs.declared.component.ExportKind.{ExportKind}
-use Rattle.task_machine.specs.declared.component.HostDef.{HostDef}
 use Rattle.task_machine.specs.declared.records.Place.TheVariants as place
 use Rattle.task_machine.specs.declared.records.Notice.{Notice}
 use Rattle.task_machine.specs.declared.trap.Trap.TheVariants as trap
@@ -33,7 +33,7 @@ use Rattle.task_store.specs.Groups.{HoldsGroups}
 use Rattle.task_store.specs.Hosts.{HoldsWorks}
 use Rattle.task_words.specs.StateView.{StateView}
 
-module _ (left : ℕ → Option HostDef) where
+module _ (left : ℕ → Option HeldWork) where
   as_before : (s t : StateView) → t ≡ s → HoldsWorks left s.core → HoldsWorks left t.core
   as_before s t same h = subst (λ (v : StateView). HoldsWorks left v.core) (sym same) h
 
