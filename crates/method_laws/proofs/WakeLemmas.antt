@@ -49,7 +49,7 @@ went n (came.Traps why) t e = tt
 went n (came.Fails i) t e = tt
 
 -- what met a row and wasn't refused comes of it
-meets_progresses : (x : State) (n : ℕ) (p : Progress) (r : Came) (t : Core) → Meets p x.core r t → is_going r ≡ true →
+pub meets_progresses : (x : State) (n : ℕ) (p : Progress) (r : Came) (t : Core) → Meets p x.core r t → is_going r ≡ true →
     Progresses x x.core n p (label_of n r) (goes_to x t (turn_after r))
 meets_progresses x n (Goes l new m) (came.Goes k j) t h on = let e = h.0 in let is = h.1 in (cc, cc)
 meets_progresses x n (Stops l new) (came.Stops k) t h on = let e = h.0 in let is = h.1 in (cc, cc)

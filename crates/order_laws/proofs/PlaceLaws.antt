@@ -1,5 +1,7 @@
 -- An op that is done where another one stands loses no wake: the thread goes to that op at the end of its script, in a component that has it
 -- there, and does it; what it leaves is the same but for its place in the script.
+use Rattle.task_places.proofs.Laws.{by_number, InOrder, is_open, ready_members, WakesCounted}
+use Rattle.task_rules.proofs.Machine.{ap, arith, at_turn, CallOp, Choice, choice_of, Component, Core, did, ends_activation, Fails, false, get-change, Goes, goes_to, is_some, Label, List, Main, moved_to, nat_tests, Never, on_thread, Op, op_of, op_row, Option, Ordered, Place, Progress, Progresses, Records, refl, same_map, set_how_far, set_position, settled_turn, Slot, slot_at, State, Step, Stops, subst, sym, Thread, ThreadOp, Traps, true, Turn, Unscripted, ℕ, ◌+◌, ◌==◌, ◌∙◌, ◌≡◌}
 use Rattle.order_laws.proofs.PieceLemmas.{setting_for}
 use Rattle.order_laws.proofs.PlaceReads.{same_admits, same_parts, same_place, same_waiter, same_woken}
 use Rattle.order_laws.proofs.PlaceRows.{relocated, rows_alike}
@@ -7,21 +9,9 @@ use Rattle.order_laws.proofs.TailLemmas.{slot_of, slot_with, tailed}
 use Rattle.order_laws.proofs.ThereLemmas.{IsThere, goes_there, last_of}
 use Rattle.order_laws.specs.Anywhere.{MayAsk, RowsLoseNone, is_asked}
 use Rattle.order_laws.specs.Pieces.{Orderly, state_in}
-use Rattle.task_laws.specs.Wakes.{ready_members}
-use Rattle.task_machine.specs.Labels.{choice_of}
-use Rattle.task_machine.specs.Maps.{same_map}
-use Rattle.task_machine.specs.declared.component.Slot.{Slot}
-use Rattle.task_machine.specs.declared.op.CallOp.{CallOp}
-use Rattle.task_machine.specs.declared.op.ThreadOp.{ThreadOp}
 use Rattle.task_places.proofs.CallersSteps.{SamePlaces, callers_stay}
-use Rattle.task_places.proofs.Laws.{InOrder, List, Main, by_number, settled_turn, Choice, Component, Core, Goes, Label, Op, Option, Place, Progress, Progresses, Records, State, Stops, Thread, Turn, Unscripted, WakesCounted, ap, arith, false, get-change, goes_to, is_open, is_some, moved_to, nat_tests, on_thread, op_of, op_row, refl, set_how_far, set_position, subst, sym, true, ℕ, ◌+◌, ◌==◌, ◌∙◌, ◌≡◌}
 use Rattle.task_places.proofs.OrderLemmas.{step_in_order}
-use Rattle.task_rules.specs.OpParts.{ends_activation}
-use Rattle.task_rules.specs.Progress.{Fails, Never, Ordered, Traps}
-use Rattle.task_rules.specs.Scripts.{slot_at}
-use Rattle.task_rules.specs.Step.{Step, did}
 use Rattle.task_rules.specs.Threads.{thread_new_row}
-use Rattle.task_rules.specs.Turns.{at_turn}
 use Rattle.wake_laws.proofs.GroundLemmas.{order_stands}
 use Rattle.wake_laws.specs.Stands.{NoWakeLost, OrderStands}
 
@@ -78,18 +68,18 @@ pub record Leads (x t : State) (n q : ℕ) (l : Label) (p : Progress) : Type 0 w
   pub is : core ≡ set_position n place t.core
   pub goes : (y : State) → Progresses y y.core n (relocated n q p) l (goes_to y core turn)
   pub open_turn : is_open (settled_turn core turn) ≡ true
-  pub on : (m : ℕ) → t.turn ≡ Turn.Run m → (turn ≡ Turn.Run m) × (place ≡ q + 1)
+  pub on : (m : ℕ) → t.turn ≡ Turn.Run m → (turn ≡ Turn.Run n) × (place ≡ q + 1)
 
 leads : (x t : State) (n q : ℕ) (l : Label) (p : Progress) → Progresses x x.core n p l t → is_open t.turn ≡ true → Leads x t n q l p
 unfolding at_turn
 leads x t n q l (Goes k new m) h on = record {
   core = set_position n (q + 1) new;
-  turn = Turn.Run m;
+  turn = Turn.Run n;
   place = q + 1;
   is = ap (λ (v : State). set_position n (q + 1) v.core) (sym h.1);
   goes = λ y. (h.0, refl);
   open_turn = refl;
-  on = λ j to. (sym (ap (λ (v : State). v.turn) h.1) ∙ to, refl);
+  on = λ j to. (refl, refl);
 }
 leads x t n q l (Stops k new) h on = record {
   core = set_position n q new;
@@ -113,13 +103,19 @@ leads x t n q l (Traps w) h on = absurd (let over = ap (λ (v : State). is_open 
 leads x t n q l (Fails i) h on = absurd (let over = ap (λ (v : State). is_open v.turn) h.1 in cc)
 leads x t n q l Never h on = absurd h
 
--- where the thread stays at q it goes on at the next place
+-- where the row is the same with the thread at q, the thread goes on, at the next place
 pub next_place : (x t : State) (n q m : ℕ) (l : Label) (p : Progress) → Progresses x x.core n p l t → p ≡ relocated n q p → t.turn ≡ Turn.Run m →
-    t.core ≡ set_position n (q + 1) t.core
+    (m ≡ n) × (t.core ≡ set_position n (q + 1) t.core)
 unfolding at_turn
-next_place x t n q m l (Goes k new j) h same to = let is : new ≡ set_position n (q + 1) new = cc in
-    ap (λ (v : State). v.core) h.1 ∙ (is ∙ ap (λ (v : State). set_position n (q + 1) v.core) (sym h.1))
-next_place x t n q m l (Ordered ns next) h same to = next_place x t n q m l (next h.0) h.1.1 (let is : next ≡ (λ order. relocated n q (next order)) = cc in ap (λ (f : List ℕ → Progress). f h.0) is) to
+next_place x t n q m l (Goes k new j) h same to =
+    let is : new ≡ set_position n (q + 1) new = cc in
+    let own : j ≡ n = cc in
+    let run = ap (λ (v : State). v.turn) h.1 in
+    let one : j ≡ m = cc in
+    (sym one ∙ own, ap (λ (v : State). v.core) h.1 ∙ (is ∙ ap (λ (v : State). set_position n (q + 1) v.core) (sym h.1)))
+next_place x t n q m l (Ordered ns next) h same to =
+    let is : next ≡ (λ order. relocated n q (next order)) = cc in
+    next_place x t n q m l (next h.0) h.1.1 (ap (λ (f : List ℕ → Progress). f h.0) is) to
 next_place x t n q m l (Stops k new) h same to = absurd (let main = ap (λ (v : State). v.turn) h.1 in cc)
 next_place x t n q m l (Traps w) h same to = absurd (let over = ap (λ (v : State). v.turn) h.1 in cc)
 next_place x t n q m l (Fails i) h same to = absurd (let over = ap (λ (v : State). v.turn) h.1 in cc)

@@ -1,5 +1,8 @@
 -- An op that is done where another one stands, and goes on, keeps order: in the component that has it at the end of the script the thread goes
 -- back to any place of its script, and so does no other one.
+use Rattle.task_laws.proofs.Rules.{Advance, call_instance, Callee, script_of_thread, ◌<◌}
+use Rattle.task_places.proofs.Laws.{[], after_word, along, ap, arith, at_place, at_turn, by_number, callee_of, can_come, choice_of, Component, Core, Fits, get, get-change, goes_to, how_far_of, HowFar, inl, InOrder, inr, is_open, is_some, is_sync_call, IsBeside, IsFirst, IsGone, IsSame, Label, le_refl, le_trans, length, List, made_threads_word, moved_to, nat_tests, on_thread, Op, op_at_place, op_row, Option, option_map_or, Place, Progresses, Records, refl, Scene, scene_of, Script, script_in, script_of, set_how_far, set_position, Some, State, step_walks, subst, sym, Thread, thread_came, true, Turn, Unscripted, Walk, Walked, Word, ℕ, ⊎_elim, ◌+◌, ◌∙◌, ◌≡◌, ◌≤◌, ◌⊎◌}
+use Rattle.task_rules.proofs.Machine.{ap₂, NoWord, position_of, same_map, TaskOp, Then}
 use Rattle.order_laws.proofs.EndCounts.{moved_counted}
 use Rattle.order_laws.proofs.PieceLemmas.{piece_keeps, setting_for, walk_instances}
 use Rattle.order_laws.proofs.PlaceLaws.{Leads, after as steps_after, before as there_before, it as goes, next as leads_on, next_place, not_next, steps}
@@ -8,22 +11,8 @@ use Rattle.order_laws.proofs.TailLemmas.{any_tailed, kinds_same, longer, names_s
 use Rattle.order_laws.proofs.ThereLemmas.{IsThere, last_of}
 use Rattle.order_laws.specs.Anywhere.{MayAsk, RowsKeepOrder, is_asked}
 use Rattle.order_laws.specs.Pieces.{Orderly, SameInstances, state_in}
-use Rattle.task_laws.proofs.CallsCame.{ThreadCame, IsBeside, IsFirst, IsGone, IsSame, RunsOn, thread_came}
-use Rattle.task_laws.proofs.CountLemmas.{made_threads_word}
-use Rattle.task_machine.specs.Labels.{choice_of}
-use Rattle.task_machine.specs.Maps.{same_map}
-use Rattle.task_machine.specs.Read.{call_instance, position_of}
-use Rattle.task_machine.specs.declared.component.Callee.{Callee}
-use Rattle.task_machine.specs.declared.op.TaskOp.{TaskOp}
-use Rattle.task_places.proofs.Laws.{Component, Core, Fits, HowFar, InOrder, Label, List, Op, Option, Place, Progresses, Records, Scene, Some, State, Thread, Turn, Unscripted, Walk, Walked, Word, after_word, along, ap, arith, at_place, by_number, callee_of, can_come, get, get-change, goes_to, how_far_of, inl, inr, is_open, is_some, is_sync_call, le_refl, le_trans, length, moved_to, nat_tests, on_thread, op_at_place, op_row, option_map_or, refl, scene_of, script_in, script_of, set_how_far, set_position, step_walks, subst, sym, true, ℕ, ⊎_elim, ◌+◌, ◌∙◌, ◌≡◌, ◌≤◌, ◌⊎◌}
-use Rattle.std.proofs.Common.{ap₂}
-use Rattle.std.specs.Prelude.{[], ◌<◌}
-use Rattle.task_machine.specs.declared.records.Script.{Script}
+use Rattle.task_laws.proofs.CallsCame.{ThreadCame, RunsOn}
 use Rattle.task_rules.proofs.LawLemmas.{walk_steady}
-use Rattle.task_rules.specs.Chains.{NoWord, Then}
-use Rattle.task_rules.specs.Scripts.{script_of_thread}
-use Rattle.task_rules.specs.Turns.{at_turn}
-use Rattle.task_rules.specs.Words.{Advance}
 
 exits_fresh : (far : HowFar) → can_come (Op.Task TaskOp.Exit) far ≡ true → far ≡ HowFar.Fresh
 exits_fresh far can = grind arith
@@ -245,20 +234,25 @@ module _ (c : Component) (o : Op) (n : ℕ) (s : Core) (asked : is_asked o ≡ t
     unfolding set_position on_thread
     instances = let k = subst (SameInstances there) w_is (walk_instances walk) in record { instances = k.instances; handles = k.handles }
 
-  -- it goes on at the next place
+module _ (c : Component) (o : Op) (n : ℕ) (s : Core) (asked : is_asked o ≡ true) (may : MayAsk c n s) (h : Orderly c (Turn.Run n) s) where
   stays : set_position n (position_of n s) s ≡ s
   unfolding set_position on_thread
-  stays = let here = it.here in ap (λ (ts : Records Thread). record s { threads = ts }) (same_map _ _ (λ i. by_number i n _
-      (λ is. let same : record it.thread { position = position_of n s } ≡ it.thread = ap (λ (k : ℕ). record it.thread { position = k }) (grind (arith, here)) in
+  stays = let here = (goes c o n s asked may h).here in let r = (goes c o n s asked may h).thread in
+      ap (λ (ts : Records Thread). record s { threads = ts }) (same_map _ _ (λ i. by_number i n _
+      (λ is. let same : record r { position = position_of n s } ≡ r = ap (λ (k : ℕ). record r { position = k }) (grind (arith, here)) in
       grind (arith, nat_tests, get-change, is, here, same)) (λ other. grind (arith, nat_tests, get-change, other))))
 
-  goes_on : t.core ≡ set_position n (position_of n s + 1) t.core
-  goes_on =
+  -- it goes on at the next place
+  goes_on : (m : ℕ) (l : Label) (t : State) → Progresses (state_in Unscripted (Turn.Run n) s) s n (op_row c n s (choice_of l) o) l t → t.turn ≡ Turn.Run m →
+      (m ≡ n) × (t.core ≡ set_position n (position_of n s + 1) t.core)
+  goes_on m l t progress to =
       let k = position_of n s in
-      next_place (state_in Unscripted (Turn.Run n) s) t n k n l (op_row c n s (choice_of l) o) progress
+      next_place (state_in Unscripted (Turn.Run n) s) t n k m l (op_row c n s (choice_of l) o) progress
       (ap (λ (u : Core). op_row c n u (choice_of l) o) (sym stays) ∙ rows_alike n k c s may.fresh (not_next c o n s asked may h) (choice_of l) o asked) to
 
 pub rows_keep_order : RowsKeepOrder
 unfolding RowsKeepOrder
-rows_keep_order c o n s l t asked may order progress to =
-    (goes_on c o n s asked may order l t progress to, λ p within. (ordered c o n s asked may order l t progress to p within, instances c o n s asked may order l t progress to p within))
+rows_keep_order c o n m s l t asked may order progress to =
+    let next = goes_on c o n s asked may order m l t progress to in
+    let on = to ∙ ap (λ (k : ℕ). Turn.Run k) next.0 in
+    (next.0, (next.1, λ p within. (ordered c o n s asked may order l t progress on p within, instances c o n s asked may order l t progress on p within)))

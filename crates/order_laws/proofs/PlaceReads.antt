@@ -1,32 +1,13 @@
 -- What is read off a core is the same wherever a thread is in its script.
-use Rattle.std.proofs.Common.{T, ap, ap₂, arith, refl, sym, ◌∙◌}
-use Rattle.std.proofs.lemmas.Bool.Decides.{nat_tests}
-use Rattle.std.proofs.lemmas.List.Sums.{sum_by-cons}
-use Rattle.std.specs.Cmp.{nat_cmp_total}
-use Rattle.std.specs.FinMap.Entries.{by_order, find as seek, is_sorted, length-put, put}
-use Rattle.std.specs.List.{list_any}
-use Rattle.std.specs.Option.{option_map_or}
+use Rattle.task_rules.proofs.Machine.{[], admits, admitted_held, ap, ap₂, arith, at_handle_limit, blocked_on, Bool, Call, call_instance, change, cond, Core, Entry, event_of, false, first_entry, fits, foot_from, foot_of, get, get-change, gift, Gift, gift_after_own, given_for, hands_on, has_member, has_ready_member, has_thread, has_waiter, has_waiters, how_far_of, insert, is_deletable, is_entry_in, is_explicit, is_group_done, is_held_admitted, is_some, is_sorted, is_woken_for, Join, join_of, keeps_set, length, List, list_any, map, may_hand_on, may_publish, may_tell, may_wake, may_wake_joined, may_wake_new, nat_cmp, nat_cmp_total, nat_tests, new_handle, new_thread_handle, None, numbers, on_thread, Option, option_and_then, option_map_or, OwnEvent, passes_check, Place, place_of, Records, refl, registers_of, set_position, size, Some, Status, Subtask, suc, sum_by-cons, sym, T, task_of, Thread, thread_handle_of, true, under_of, Why, woken, zero, ℕ, ◌&&◌, ◌+◌, ◌==◌, ◌∙◌, ◌∷◌, ◌≡◌}
+use Rattle.std.specs.FinMap.Entries.{by_order, find as seek, length-put, put}
 use Rattle.std.proofs.Common.{Equal, Greater, Less, Ordering}
-use Rattle.std.specs.Ordering.{is_eq, nat_cmp}
-use Rattle.std.specs.Prelude.{Bool, List, None, Option, Some, [], cond, count_by, false, is_some, length, map, option_and_then, suc, true, zero, ℕ, ◌&&◌, ◌+◌, ◌==◌, ◌∷◌, ◌≡◌}
-use Rattle.task_machine.proofs.CommuteLemmas.{get-change}
+use Rattle.std.specs.Ordering.{is_eq}
+use Rattle.std.specs.Prelude.{count_by}
 use Rattle.task_machine.proofs.SizeLemmas.{size-change}
-use Rattle.task_machine.specs.Core.{Core}
-use Rattle.task_machine.specs.Maps.{Records, change, changed, get, insert, numbers, size}
-use Rattle.task_machine.specs.Moves.{first_entry, first_low, gift, gift_after_own, given_for, hands_on, is_deletable, is_group_done, may_hand_on, may_publish, may_wake, may_wake_joined, member_gift, own_gift, Gift, passes_check}
-use Rattle.task_machine.specs.Read.{admits, is_held_admitted, call_instance, event_of, is_entry_in, join_of, admitted_held, at_handle_limit, blocked_on, fits, foot_from, foot_of, has_member, has_ready_member, has_thread, has_waiter, has_waiters, how_far_of, is_explicit, is_woken_for, keeps_set, live_count, new_handle, new_thread_handle, place_of, registers_of, table_use, task_of, thread_handle_of, under_of, woken}
-use Rattle.task_machine.specs.Write.{on_thread, set_position}
-use Rattle.task_machine.specs.declared.records.Call.{Call}
-use Rattle.task_machine.specs.declared.records.Entry.{Entry}
-use Rattle.task_machine.specs.declared.records.Place.{Place}
-use Rattle.task_machine.specs.declared.records.Subtask.{Subtask}
-use Rattle.task_machine.specs.declared.records.Thread.{Thread}
-use Rattle.task_machine.specs.declared.records.Why.{Why}
-use Rattle.task_machine.specs.declared.records.Join.{Join}
-use Rattle.task_machine.specs.declared.words.OwnEvent.{OwnEvent}
-use Rattle.task_machine.specs.declared.words.Status.{Status}
-use Rattle.task_rules.specs.Ends.{may_tell}
-use Rattle.task_rules.specs.Sets.{may_wake_new}
+use Rattle.task_machine.specs.Maps.{changed}
+use Rattle.task_machine.specs.Moves.{first_low, member_gift, own_gift}
+use Rattle.task_machine.specs.Read.{live_count, table_use}
 use Rattle.task_rules.specs.Threads.{has_yielded}
 
 -- ---- Lists of records

@@ -1,42 +1,11 @@
 -- The rows of ops are the same wherever the running thread is in its script.
+use Rattle.task_rules.proofs.Machine.{advanced, answered, ap, arith, assigned, behind_switch, Bool, CallOp, cancel_aborts_host, cancel_asks, cancel_by_end, cancel_ended_row, cancel_goes_behind, cancel_guest, cancel_promotes_yield, cancel_stops, cancel_subtask, cancel_takes_end, cancel_wakes_callback, cancel_withdraws, CancelCase, Choice, chosen, Component, Core, dropped, Fails, false, finds_nothing, get-change, gift, Gift, Given, Goes, how_far_of, HowFar, join_done, join_to, joined, Label, may, Mode, moved_to, nat_tests, Never, None, on_thread, Op, op_row, Option, or_never, or_trap, Ordered, Progress, received, Records, refl, same_map, set_dropped, set_given, set_how_far, set_made, set_position, set_row, SetOp, settle_group_of, Slot, Some, Status, Stops, Subtask, subtask_ended, suc, task_of, TaskOp, Thread, ThreadLabel, ThreadOp, Trap, trap_if, Traps, true, value_of, wait_begins, wait_stops, wait_stops_checked, wakes_joined, with_thread_handle, work_deleted, zero, ℕ, ◌+◌, ◌==◌, ◌≡◌}
 use Rattle.order_laws.proofs.PlaceReads.{same_gift, same_join, same_parts, same_reads, same_registers}
 use Rattle.order_laws.specs.Anywhere.{is_asked, is_asked_task}
 use Rattle.order_laws.proofs.PlaceWrites.{by_moves, by_thread, by_words}
-use Rattle.std.proofs.Common.{ap, arith, refl}
-use Rattle.std.proofs.lemmas.Bool.Decides.{nat_tests}
-use Rattle.std.specs.Prelude.{Bool, None, Option, Some, false, suc, true, zero, ℕ, ◌+◌, ◌==◌, ◌≡◌}
-use Rattle.task_machine.proofs.CommuteLemmas.{get-change}
-use Rattle.task_machine.specs.Core.{Core}
-use Rattle.task_machine.specs.Labels.{Choice}
-use Rattle.task_machine.specs.Maps.{Records, same_map}
-use Rattle.task_machine.specs.Moves.{Gift}
-use Rattle.task_machine.specs.Moves.{gift}
-use Rattle.task_machine.specs.Read.{how_far_of, subtask_ended, task_of}
-use Rattle.task_rules.specs.Calls.{settle_group_of}
-use Rattle.task_rules.specs.Scripts.{value_of}
-use Rattle.task_rules.specs.Step.{op_row}
 use Rattle.task_rules.specs.Threads.{has_yielded}
-use Rattle.task_machine.specs.Write.{on_thread, set_how_far, set_position}
-use Rattle.task_machine.specs.declared.component.Component.{Component}
-use Rattle.task_machine.specs.declared.component.Slot.{Slot}
-use Rattle.task_machine.specs.declared.label.Label.{Label}
-use Rattle.task_machine.specs.declared.label.ThreadLabel.{ThreadLabel}
-use Rattle.task_machine.specs.declared.op.CallOp.{CallOp}
-use Rattle.task_machine.specs.declared.op.Op.{Op}
-use Rattle.task_machine.specs.declared.op.SetOp.{SetOp}
-use Rattle.task_machine.specs.declared.op.TaskOp.{TaskOp}
-use Rattle.task_machine.specs.declared.op.ThreadOp.{ThreadOp}
-use Rattle.task_machine.specs.declared.records.HowFar.{HowFar}
-use Rattle.task_machine.specs.declared.records.Subtask.{Subtask}
-use Rattle.task_machine.specs.declared.records.Thread.{Thread}
-use Rattle.task_machine.specs.declared.trap.Trap.{Trap}
-use Rattle.task_machine.specs.declared.words.Given.{Given}
-use Rattle.task_machine.specs.declared.words.Status.{Status}
-use Rattle.task_rules.specs.Calls.{answered, with_thread_handle, work_deleted}
-use Rattle.task_rules.specs.Cancels.{CancelCase, Mode, cancel_aborts_host, cancel_asks, cancel_by_end, cancel_ended_row, cancel_found, cancel_goes_behind, cancel_guest, cancel_host, cancel_promotes_yield, cancel_stops, cancel_subtask, cancel_takes_end, cancel_unended_row, cancel_wakes_callback, cancel_withdraws, behind_switch, drop_found, dropped, subtask_settled}
-use Rattle.task_rules.specs.Data.{advanced, assigned, moved_to}
-use Rattle.task_rules.specs.Progress.{Fails, Goes, Never, Ordered, Progress, Stops, Traps, may, or_never, or_trap, trap_if}
-use Rattle.task_rules.specs.Sets.{chosen, join_done, join_to, joined, poll_takes, received, set_drop_found, set_dropped, set_given, set_made, set_new_row, set_row, wait_begins, wait_stops, wait_stops_checked, wait_takes, wakes_joined, finds_nothing}
+use Rattle.task_rules.specs.Cancels.{cancel_found, cancel_host, cancel_unended_row, drop_found, subtask_settled}
+use Rattle.task_rules.specs.Sets.{poll_takes, set_drop_found, set_new_row, wait_takes}
 use Rattle.task_rules.specs.Task.{dec_from, dec_lowers, dec_opens, held_by_counter, inc_raises, inc_row, ret_bad_row, ret_done, ret_row, task_cancel_done, task_cancel_row, task_row}
 use Rattle.task_rules.specs.Threads.{Halt, halted, halted_checked, halted_promoting, halted_resuming, halts, resume_later_found, resumed_later, then_promote, then_promote_found, then_resume_found, thread_made, thread_new_row, thread_row}
 
@@ -44,7 +13,7 @@ use Rattle.task_rules.specs.Threads.{Halt, halted, halted_checked, halted_promot
 
 module _ (n q : ℕ) where
   abbrev pub relocated : Progress → Progress
-  relocated (Goes l t m) = Goes l (set_position n (q + 1) t) m
+  relocated (Goes l t m) = Goes l (set_position n (q + 1) t) n
   relocated (Stops l t) = Stops l (set_position n q t)
   relocated (Ordered ns next) = Ordered ns (λ order. relocated (next order))
   relocated (Traps w) = Traps w

@@ -1,29 +1,6 @@
 -- What changes a core changes it alike wherever a thread is in its script.
+use Rattle.task_rules.proofs.Machine.{[], add_set, add_thread, ap, arith, behind, behind_one, Bool, call_settled, CallEnd, Caller, cancelled, checked, cond, Core, displaced, Entry, false, free_handle, get-change, get-insert, get-remove, Gift, give_handle, give_result, give_thread_handle, Goal, group_settled, handed_on, HowFar, Join, List, Named, nat_tests, None, on_call, on_instance, on_thread, on_work, Option, OwnEvent, passed_on, Phase, Place, promoted, promoted_first, promoted_unless, published, push_high, push_high_first, push_low, put_high, put_low, put_switch, Records, refl, released, released_one, remove_call, remove_group, remove_set, remove_thread, remove_work, result_given, resumed_all, resumed_callers, returned, same_map, Set, set_backpressure, set_callers, set_cancel_delivered, set_cancelled, set_do_not_suspend, set_end, set_event, set_exited, set_high, set_how_far, set_join, set_low, set_own_event, set_phase, set_place, set_position, set_register, set_result, set_saved_callee, set_subtask_handle, set_switch, set_thread_handle, set_uninteresting, Some, Status, stopped, Subtask, taken, Thread, told, true, unblocked, unqueued, wake, wake_joined, waken_by, Why, withdrawn, ℕ, ◌+◌, ◌==◌, ◌∙◌, ◌∷◌, ◌≡◌}
 use Rattle.order_laws.proofs.PlaceReads.{same_parts, same_reads}
-use Rattle.std.proofs.Common.{ap, arith, refl, ◌∙◌}
-use Rattle.std.proofs.lemmas.Bool.Decides.{nat_tests}
-use Rattle.std.specs.Prelude.{Bool, List, None, Option, Some, [], cond, false, true, ℕ, ◌+◌, ◌==◌, ◌∷◌, ◌≡◌}
-use Rattle.task_machine.proofs.CommuteLemmas.{get-change}
-use Rattle.task_machine.specs.Core.{Core}
-use Rattle.task_machine.specs.Maps.{Records, get-insert, get-remove, same_map}
-use Rattle.task_machine.specs.Moves.{behind, behind_one, call_settled, checked, displaced, Gift, group_settled, handed_on, passed_on, promoted, promoted_first, promoted_unless, published, put_high, put_low, put_switch, released, released_one, resumed_all, resumed_callers, stopped, taken, unblocked, unqueued, wake, wake_joined, waken_by, withdrawn}
-use Rattle.task_machine.specs.Write.{add_set, add_thread, free_handle, give_handle, give_result, give_thread_handle, on_call, on_instance, on_thread, on_work, push_high, push_high_first, push_low, remove_call, remove_group, remove_set, remove_thread, remove_work, set_backpressure, set_callers, set_cancel_delivered, set_cancelled, set_do_not_suspend, set_end, set_event, set_exited, set_high, set_how_far, set_join, set_low, set_own_event, set_phase, set_place, set_position, set_register, set_result, set_saved_callee, set_subtask_handle, set_switch, set_thread_handle, set_uninteresting}
-use Rattle.task_machine.specs.declared.records.CallEnd.{CallEnd}
-use Rattle.task_machine.specs.declared.records.Caller.{Caller}
-use Rattle.task_machine.specs.declared.records.Entry.{Entry}
-use Rattle.task_machine.specs.declared.records.Goal.{Goal}
-use Rattle.task_machine.specs.declared.records.HowFar.{HowFar}
-use Rattle.task_machine.specs.declared.records.Join.{Join}
-use Rattle.task_machine.specs.declared.records.Named.{Named}
-use Rattle.task_machine.specs.declared.records.Place.{Place}
-use Rattle.task_machine.specs.declared.records.Set.{Set}
-use Rattle.task_machine.specs.declared.records.Subtask.{Subtask}
-use Rattle.task_machine.specs.declared.records.Thread.{Thread}
-use Rattle.task_machine.specs.declared.records.Why.{Why}
-use Rattle.task_machine.specs.declared.words.OwnEvent.{OwnEvent}
-use Rattle.task_machine.specs.declared.words.Phase.{Phase}
-use Rattle.task_machine.specs.declared.words.Status.{Status}
-use Rattle.task_rules.specs.Ends.{cancelled, result_given, returned, told}
 
 module _ (n q : ℕ) where
   abbrev moved : Core → Core

@@ -1,16 +1,12 @@
 -- The running thread goes to an op at the end of its script, in a component that has the op there.
+use Rattle.task_laws.proofs.Rules.{[], Advance, ap, arith, at_place, Bool, call_instance, Callee, callee_of, Component, Core, ends_activation, false, get, get-change, how_far_of, HowFar, InOrder, is_explicit, is_some, length, List, moved_to, names_script, nat_tests, on_thread, Op, op_at_place, op_of, Option, option_map_or, refl, Script, script_in, script_of, script_of_thread, set_how_far, set_position, Some, subst, sym, task_of, Thread, true, Turn, Unscripted, ℕ, ◌+◌, ◌∙◌, ◌≡◌, ◌≤◌}
+use Rattle.task_places.proofs.Laws.{op_there}
+use Rattle.task_rules.proofs.Machine.{NoWord, Then}
 use Rattle.order_laws.proofs.EndCounts.{moved_counted}
 use Rattle.order_laws.proofs.PieceLemmas.{piece_keeps}
 use Rattle.order_laws.proofs.TailLemmas.{IsScriptThere, kinds_same, longer, op_last, order_as, tailed, tailed_codes, tailed_fits, tailed_there, with_tail}
 use Rattle.order_laws.specs.Pieces.{Orderly, state_in}
-use Rattle.task_laws.specs.Order.{names_script}
-use Rattle.task_machine.specs.Read.{call_instance}
-use Rattle.task_machine.specs.declared.component.Callee.{Callee}
-use Rattle.task_places.proofs.Laws.{Bool, Component, Core, HowFar, InOrder, List, Op, Option, Script, Some, Thread, Turn, Unscripted, [], ap, arith, at_place, callee_of, false, get, get-change, how_far_of, is_explicit, is_some, length, moved_to, nat_tests, on_thread, op_at_place, op_of, op_there, option_map_or, refl, script_in, script_of, set_how_far, set_position, subst, sym, task_of, true, ℕ, ◌+◌, ◌∙◌, ◌≡◌, ◌≤◌}
-use Rattle.task_rules.specs.Chains.{NoWord, Then}
-use Rattle.task_rules.specs.OpParts.{ends_activation}
-use Rattle.task_rules.specs.Scripts.{export_at, script_of_thread}
-use Rattle.task_rules.specs.Words.{Advance}
+use Rattle.task_rules.specs.Scripts.{export_at}
 
 -- the place of the op
 abbrev pub last_of : Component → Thread → Core → ℕ

@@ -50,11 +50,10 @@ RowsLoseNone = (c : Component) (o : Op) (n : ℕ) (s : Core) (l : Label) (t : St
     Orderly c (turn.Run n) s → Progresses (state_in Unscripted (turn.Run n) s) s n (op_row c n s (choice_of l) o) l t →
     is_open t.turn ≡ true → NoWakeLost t.core
 
--- Where it goes on, it comes to the next place of its script; and the core is in order with the thread at any place of its script, also at
--- its end, so as it is where that next place is one of them.
+-- Where it goes on, the same thread does, at the next place of its script; and the core is in order with the thread at any place of its
+-- script, also at its end, so as it is where that next place is one of them.
 unfoldable pub RowsKeepOrder : Type 0
-RowsKeepOrder = (c : Component) (o : Op) (n : ℕ) (s : Core) (l : Label) (t : State) → is_asked o ≡ true → MayAsk c n s →
+RowsKeepOrder = (c : Component) (o : Op) (n m : ℕ) (s : Core) (l : Label) (t : State) → is_asked o ≡ true → MayAsk c n s →
     Orderly c (turn.Run n) s → Progresses (state_in Unscripted (turn.Run n) s) s n (op_row c n s (choice_of l) o) l t →
-    t.turn ≡ turn.Run n → (t.core ≡ set_position n (position_of n s + 1) t.core) ×
-    ((p : ℕ) → p ≤ length (script_of c n s) →
-    Orderly c (turn.Run n) (set_position n p t.core) × SameInstances s (set_position n p t.core))
+    t.turn ≡ turn.Run m → (m ≡ n) × ((t.core ≡ set_position n (position_of n s + 1) t.core) ×
+    ((p : ℕ) → p ≤ length (script_of c n s) → Orderly c (turn.Run n) (set_position n p t.core) × SameInstances s (set_position n p t.core)))
