@@ -4,10 +4,7 @@ ghost use Rattle.task_group.specs.Heard.{Tells, notice_of};
 use std::alloc::Global;
 use std::cell::Cell;
 use std::process::Abort;
-use task_group::{
-    GroupError, Groups, HookError, NoMemory, NoticeKind, NoticeList, Notices, TaskGroupHook,
-    TaskGroupId,
-};
+use task_group::{GroupError, Groups, HookError, NoticeKind, Notices, TaskGroupHook, TaskGroupId};
 
 // What was told is written down as two digits for each notice: what happened, and to which group.
 const START: u64 = 1;
@@ -209,20 +206,18 @@ fn shared_lists(rt: HostRuntime) {
     let mut groups: Groups = Groups::new(rt.alloc());
     assert!(rt; groups.keep_notices(3).is_ok());
     let made = number_of(groups.make());
-    let early = groups.share_notices(rt.alloc());
+    let early = match groups.share_notices(rt.alloc()) {
+        Ok(list) => list.notices().len(),
+        Err(_) => 0,
+    };
     let entered = groups.switch(None, Some(id(made))).is_ok();
-    let late = groups.share_notices(rt.alloc());
+    let late = match groups.share_notices(rt.alloc()) {
+        Ok(list) => list.notices().len(),
+        Err(_) => 0,
+    };
     let left = groups.switch(Some(id(made)), None).is_ok();
-    assert!(rt; entered && left && is_list(&early, made, 1) && is_list(&late, made, 2));
+    assert!(rt; entered && left && early == 1 && late == 2);
     assert!(rt; groups.notices().len() == 3 && first_starts(groups.notices(), made));
-}
-
-// Whether there is a list of so many notices, whose first one is that this group starts.
-fn is_list(list: &Result<NoticeList, NoMemory>, number: u64, count: usize) -> bool {
-    match list {
-        Ok(list) => list.notices().len() == count && first_starts(list.notices(), number),
-        Err(_) => false,
-    }
 }
 
 // Whether the first notice is that this group starts.
