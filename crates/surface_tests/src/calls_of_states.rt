@@ -49,8 +49,22 @@ fn first_thread(rt: &impl Abort, store: &Store<(), ScriptedHost>) -> QualifiedTh
     }
 }
 
-// The calls stand in functions by reference: a test owns the store, and what it owns is proved anew at each of its calls.
 type Queued = Store<(), ScriptedHost>;
+
+// What is asked of that store. The calls stand in functions that are lent it: what a function owns is proved anew at each of its calls.
+#[derive(Clone, Copy)]
+enum Ask {
+    SetsAndTakes,
+    IsReadyOnceSet,
+    LeavesItsSet,
+    IsGivenNone,
+    TakesAStart,
+    MovesToSwitch,
+    FirstMovesToSwitch,
+    Stops,
+    HasOneInstance,
+    Begins,
+}
 
 fn sets_and_takes(store: &mut Queued, task: CallId) -> bool
     requires live { 0 < call_of store.old.state task }
@@ -61,14 +75,6 @@ fn sets_and_takes(store: &mut Queued, task: CallId) -> bool
     let woken = set_event(&mut store.state, Waitable::Guest(task), started);
     let event = take_event(&mut store.state, Waitable::Guest(task));
     matches!(woken, Ok(None)) && matches!(event, Some(Event::Subtask(Status::Started)))
-}
-
-#[test]
-fn an_event_is_set_and_taken(rt: HostRuntime) {
-    let mut store = queued(&rt, rt.alloc());
-    let id = first_thread(&rt, &store);
-    assert!(rt; is_live(&store.state, id));
-    assert!(rt; sets_and_takes(&mut store, id.task));
 }
 
 fn is_ready_once_set(store: &mut Queued, task: CallId) -> bool
@@ -88,13 +94,6 @@ fn is_ready_once_set(store: &mut Queued, task: CallId) -> bool
     )
 }
 
-#[test]
-fn a_waitable_with_an_event_is_ready(rt: HostRuntime) {
-    let mut store = queued(&rt, rt.alloc());
-    let id = first_thread(&rt, &store);
-    assert!(rt; is_ready_once_set(&mut store, id.task));
-}
-
 fn leaves_its_set(store: &mut Queued, task: CallId) -> bool
     requires live { 0 < call_of store.old.state task }
     requires placed { Placed store.old.state.core }
@@ -108,24 +107,10 @@ fn leaves_its_set(store: &mut Queued, task: CallId) -> bool
     )
 }
 
-#[test]
-fn a_waitable_leaves_its_set(rt: HostRuntime) {
-    let mut store = queued(&rt, rt.alloc());
-    let id = first_thread(&rt, &store);
-    assert!(rt; leaves_its_set(&mut store, id.task));
-}
-
 fn is_given_none(store: &mut Queued, task: CallId) -> bool
     requires { 0 < call_of store.old.state task }
 {
     get_event(&mut store.state, task, None, true).is_none()
-}
-
-#[test]
-fn a_task_without_an_event_is_given_none(rt: HostRuntime) {
-    let mut store = queued(&rt, rt.alloc());
-    let id = first_thread(&rt, &store);
-    assert!(rt; is_given_none(&mut store, id.task));
 }
 
 fn takes_a_start(store: &mut Queued) -> bool
@@ -137,12 +122,6 @@ fn takes_a_start(store: &mut Queued) -> bool
     )
 }
 
-#[test]
-fn a_start_is_taken(rt: HostRuntime) {
-    let mut store = queued(&rt, rt.alloc());
-    assert!(rt; takes_a_start(&mut store));
-}
-
 fn moves_to_switch(store: &mut Queued, id: QualifiedThreadId) -> bool
     requires live { IsLive store.old.state id }
     requires placed { Placed store.old.state.core }
@@ -150,23 +129,10 @@ fn moves_to_switch(store: &mut Queued, id: QualifiedThreadId) -> bool
     promote_thread_work_item(&mut store.state, id)
 }
 
-#[test]
-fn a_start_moves_to_switch(rt: HostRuntime) {
-    let mut store = queued(&rt, rt.alloc());
-    let id = first_thread(&rt, &store);
-    assert!(rt; moves_to_switch(&mut store, id));
-}
-
 fn first_moves_to_switch(store: &mut Queued) -> bool
     requires { IsSome (get store.old.state.core.instances 0) }
 {
     promote_instance_local_thread_work_item(&mut store.state, 0)
-}
-
-#[test]
-fn an_instance_s_first_entry_moves_to_switch(rt: HostRuntime) {
-    let mut store = queued(&rt, rt.alloc());
-    assert!(rt; first_moves_to_switch(&mut store));
 }
 
 fn stops(store: &mut Queued, id: QualifiedThreadId) -> bool
@@ -177,13 +143,6 @@ fn stops(store: &mut Queued, id: QualifiedThreadId) -> bool
         return false;
     };
     stop(&mut store.state, id).is_ok() && store.state.switch().is_none()
-}
-
-#[test]
-fn a_strand_without_callers_stops(rt: HostRuntime) {
-    let mut store = queued(&rt, rt.alloc());
-    let id = first_thread(&rt, &store);
-    assert!(rt; stops(&mut store, id));
 }
 
 fn is_open(read: Option<ConcurrentInstanceState>) -> bool {
@@ -200,12 +159,6 @@ fn has_one_instance(store: &Queued) -> bool {
     is_open(instance(&store.state, 0)) && instance(&store.state, 1).is_none()
 }
 
-#[test]
-fn an_instance_is_read(rt: HostRuntime) {
-    let store = queued(&rt, rt.alloc());
-    assert!(rt; has_one_instance(&store));
-}
-
 fn begins(store: &mut Queued) -> bool
     requires there { IsSome (get store.old.state.core.instances 0) }
     requires given { given store.old.state.core ≡ 2 }
@@ -216,8 +169,80 @@ fn begins(store: &mut Queued) -> bool
     }
 }
 
+fn answers(store: &mut Queued, id: QualifiedThreadId, ask: Ask) -> bool
+    requires live { IsLive store.old.state id }
+    requires task { 0 < call_of store.old.state id.task }
+    requires placed { Placed store.old.state.core }
+    requires joins { (k : ℕ) → IsJoinThere (subtasks.Guest k) store.old.state.core }
+    requires there { IsSome (get store.old.state.core.instances 0) }
+    requires given { given store.old.state.core ≡ 2 }
+{
+    match ask {
+        Ask::SetsAndTakes => sets_and_takes(store, id.task),
+        Ask::IsReadyOnceSet => is_ready_once_set(store, id.task),
+        Ask::LeavesItsSet => leaves_its_set(store, id.task),
+        Ask::IsGivenNone => is_given_none(store, id.task),
+        Ask::TakesAStart => takes_a_start(store),
+        Ask::MovesToSwitch => moves_to_switch(store, id),
+        Ask::FirstMovesToSwitch => first_moves_to_switch(store),
+        Ask::Stops => stops(store, id),
+        Ask::HasOneInstance => has_one_instance(store),
+        Ask::Begins => begins(store),
+    }
+}
+
+fn holds(rt: &impl Abort, alloc: Global, ask: Ask) -> bool {
+    let mut store = queued(rt, alloc);
+    let id = first_thread(rt, &store);
+    is_live(&store.state, id) && answers(&mut store, id, ask)
+}
+
+#[test]
+fn an_event_is_set_and_taken(rt: HostRuntime) {
+    assert!(rt; holds(&rt, rt.alloc(), Ask::SetsAndTakes));
+}
+
+#[test]
+fn a_waitable_with_an_event_is_ready(rt: HostRuntime) {
+    assert!(rt; holds(&rt, rt.alloc(), Ask::IsReadyOnceSet));
+}
+
+#[test]
+fn a_waitable_leaves_its_set(rt: HostRuntime) {
+    assert!(rt; holds(&rt, rt.alloc(), Ask::LeavesItsSet));
+}
+
+#[test]
+fn a_task_without_an_event_is_given_none(rt: HostRuntime) {
+    assert!(rt; holds(&rt, rt.alloc(), Ask::IsGivenNone));
+}
+
+#[test]
+fn a_start_is_taken(rt: HostRuntime) {
+    assert!(rt; holds(&rt, rt.alloc(), Ask::TakesAStart));
+}
+
+#[test]
+fn a_start_moves_to_switch(rt: HostRuntime) {
+    assert!(rt; holds(&rt, rt.alloc(), Ask::MovesToSwitch));
+}
+
+#[test]
+fn an_instance_s_first_entry_moves_to_switch(rt: HostRuntime) {
+    assert!(rt; holds(&rt, rt.alloc(), Ask::FirstMovesToSwitch));
+}
+
+#[test]
+fn a_strand_without_callers_stops(rt: HostRuntime) {
+    assert!(rt; holds(&rt, rt.alloc(), Ask::Stops));
+}
+
+#[test]
+fn an_instance_is_read(rt: HostRuntime) {
+    assert!(rt; holds(&rt, rt.alloc(), Ask::HasOneInstance));
+}
+
 #[test]
 fn a_task_begins(rt: HostRuntime) {
-    let mut store = queued(&rt, rt.alloc());
-    assert!(rt; begins(&mut store));
+    assert!(rt; holds(&rt, rt.alloc(), Ask::Begins));
 }
