@@ -10,17 +10,17 @@ ghost use Rattle.task_words.specs.StateView.{StateView, call_of};
 
 use crate::drive::{called, component, store};
 use state_calls::{
-    ConcurrentInstanceState, Item, QualifiedThreadId, get_event, instance, is_live, join,
-    mark_ready, promote_instance_local_thread_work_item, promote_thread_work_item, set_event, stop,
-    take_event, take_item,
+    ConcurrentInstanceState, CurrentThread, Item, QualifiedThreadId, get_event, instance, is_live,
+    join, mark_ready, promote_instance_local_thread_work_item, promote_thread_work_item, set_event,
+    set_thread, stop, take_event, take_item,
 };
 use std::alloc::Global;
 use std::process::Abort;
 use task_calls::new_guest_task;
-use task_machine::{ExportKind, Mark, Status};
+use task_machine::{ExportKind, Mark, Place, Status};
 use task_store::{ScriptedHost, Store};
 use task_wait::{Event, Waitable};
-use task_words::{CallId, PlaceWords, QueueWords, SubtaskId, SubtaskWords, ThreadWords};
+use task_words::{CallId, PlaceWords, QueueWords, SubtaskId, SubtaskWords, ThreadWords, View};
 
 // A store with one instance, in which a call of it is queued.
 fn queued(rt: &impl Abort, alloc: Global) -> Store<(), ScriptedHost>
@@ -63,7 +63,7 @@ enum Ask {
     FirstMovesToSwitch,
     Stops,
     HasOneInstance,
-    Begins,
+    BeginsAndRuns,
 }
 
 fn sets_and_takes(store: &mut Queued, task: CallId) -> bool
@@ -159,14 +159,22 @@ fn has_one_instance(store: &Queued) -> bool {
     is_open(instance(&store.state, 0)) && instance(&store.state, 1).is_none()
 }
 
-fn begins(store: &mut Queued) -> bool
+// A task is made while no thread runs, and then its thread runs.
+fn begins_and_runs(store: &mut Queued) -> bool
     requires there { IsSome (get store.old.state.core.instances 0) }
     requires given { given store.old.state.core ≡ 2 }
 {
-    match new_guest_task(&mut store.state, ExportKind::Callback, 0, None) {
-        Ok(id) => is_live(&store.state, id),
-        Err(_) => false,
-    }
+    let Ok(id) = new_guest_task(&mut store.state, ExportKind::Callback, 0, None) else {
+        return false;
+    };
+    let Some(Place::New) = store.state.place(id.thread) else {
+        return false;
+    };
+    let None = store.state.current() else {
+        return false;
+    };
+    let before = set_thread(&mut store.state, CurrentThread::Guest(id));
+    matches!(before, Ok(CurrentThread::None)) && store.state.current().is_some()
 }
 
 fn answers(store: &mut Queued, id: QualifiedThreadId, ask: Ask) -> bool
@@ -187,7 +195,7 @@ fn answers(store: &mut Queued, id: QualifiedThreadId, ask: Ask) -> bool
         Ask::FirstMovesToSwitch => first_moves_to_switch(store),
         Ask::Stops => stops(store, id),
         Ask::HasOneInstance => has_one_instance(store),
-        Ask::Begins => begins(store),
+        Ask::BeginsAndRuns => begins_and_runs(store),
     }
 }
 
@@ -198,37 +206,21 @@ fn holds(rt: &impl Abort, alloc: Global, ask: Ask) -> bool {
 }
 
 #[test]
-fn an_event_is_set_and_taken(rt: HostRuntime) {
+fn events_are_set_and_taken(rt: HostRuntime) {
     assert!(rt; holds(&rt, rt.alloc(), Ask::SetsAndTakes));
-}
-
-#[test]
-fn a_waitable_with_an_event_is_ready(rt: HostRuntime) {
-    assert!(rt; holds(&rt, rt.alloc(), Ask::IsReadyOnceSet));
-}
-
-#[test]
-fn a_waitable_leaves_its_set(rt: HostRuntime) {
-    assert!(rt; holds(&rt, rt.alloc(), Ask::LeavesItsSet));
-}
-
-#[test]
-fn a_task_without_an_event_is_given_none(rt: HostRuntime) {
     assert!(rt; holds(&rt, rt.alloc(), Ask::IsGivenNone));
 }
 
 #[test]
-fn a_start_is_taken(rt: HostRuntime) {
+fn a_waitable_is_ready_and_leaves_its_set(rt: HostRuntime) {
+    assert!(rt; holds(&rt, rt.alloc(), Ask::IsReadyOnceSet));
+    assert!(rt; holds(&rt, rt.alloc(), Ask::LeavesItsSet));
+}
+
+#[test]
+fn entries_are_taken_and_move_to_switch(rt: HostRuntime) {
     assert!(rt; holds(&rt, rt.alloc(), Ask::TakesAStart));
-}
-
-#[test]
-fn a_start_moves_to_switch(rt: HostRuntime) {
     assert!(rt; holds(&rt, rt.alloc(), Ask::MovesToSwitch));
-}
-
-#[test]
-fn an_instance_s_first_entry_moves_to_switch(rt: HostRuntime) {
     assert!(rt; holds(&rt, rt.alloc(), Ask::FirstMovesToSwitch));
 }
 
@@ -243,6 +235,6 @@ fn an_instance_is_read(rt: HostRuntime) {
 }
 
 #[test]
-fn a_task_begins(rt: HostRuntime) {
-    assert!(rt; holds(&rt, rt.alloc(), Ask::Begins));
+fn a_task_begins_and_runs(rt: HostRuntime) {
+    assert!(rt; holds(&rt, rt.alloc(), Ask::BeginsAndRuns));
 }

@@ -1,10 +1,13 @@
 //! The calls of an instance, each by a thread of a scenario that was run so far.
 ghost use Rattle.host_works.specs.Kept.{HoldsNone};
-ghost use Rattle.std.specs.Prelude.{◌≡◌, ◌<◌, ◌≤◌, IfSome, IsSome, false, length, true};
+ghost use Rattle.std.specs.Prelude.{◌≡◌, ◌<◌, ◌≤◌, IfSome, IsSome, None, Some, [], false, length, true};
+ghost use Rattle.state_calls.specs.Named.{IsLive};
 ghost use Rattle.task_calls.specs.Asks.{CanAsk, HasPaused, IsRunningIn};
 ghost use Rattle.task_calls.specs.Directs.{IsDirect};
 ghost use Rattle.task_loop.specs.Calls.{callee_of};
-ghost use Rattle.task_machine.specs.Read.{is_async_lifted};
+ghost use Rattle.task_machine.specs.Read.{callers_of, is_async_lifted, place_of, under_of};
+ghost use Rattle.task_machine.specs.declared.records.Place.TheVariants as places;
+ghost use Rattle.task_rules.specs.Places.{Placed};
 ghost use Rattle.task_machine.specs.declared.component.Component.{Component};
 ghost use Rattle.task_rules.specs.Scripts.{export_at, export_kind};
 ghost use Rattle.task_machine.specs.Core.{fresh};
@@ -13,20 +16,21 @@ ghost use Rattle.task_run.specs.Runnable.{IsRunnable};
 ghost use Rattle.task_store.specs.Groups.{HoldsGroups};
 ghost use Rattle.task_store.specs.Hosts.{HoldsHosts};
 ghost use Rattle.task_turns.specs.Turn.{Sits, given, running_of};
-ghost use Rattle.task_words.specs.StateView.{with_core};
+ghost use Rattle.task_words.specs.StateView.{thread_of, with_core};
 
 use op_dispatch::export_def;
 use record_core::{CallContext, Scope};
+use state_calls::{Item, QualifiedThreadId, cleanup_thread, is_live, push_work_item};
 use std::alloc::Global;
 use std::process::Abort;
 use task_loop::{
     Answer, Component, Func, Instance, Outcome, ResumeThread, Step, SuspensionTarget, TaskError,
     Trace, run_concurrent,
 };
-use task_machine::{Callee, ExportKind, Goal, HostDef, Trap, Turn};
+use task_machine::{Callee, ExportKind, Goal, HostDef, Mark, Place, Trap, Turn};
 use task_run::{Scenario, ScriptMain, read_scenario};
 use task_store::{FromHost, HostWork, ScriptedHost, Store};
-use task_words::{CallWords, HowFarId, ThreadWords, View};
+use task_words::{CallWords, HowFarId, InstanceWords, PlaceWords, ThreadWords, View};
 
 // A thread of b makes a set, calls a host that never answers, makes a thread, cancels the call, waits for its end, drops it,
 // and then calls and cancels a callback of a, which is told so.
@@ -229,9 +233,56 @@ fn a_thread_makes_and_uses_a_set(rt: HostRuntime) {
     assert!(rt; holds(&rt, rt.alloc(), &OfSets::Joins, CALLER, 6, B));
 }
 
+// The thread of the instance with handle 2, where it is new and nobody is under it or behind it.
+fn made_thread(store: &Store<(), ScriptedHost>, instance: Instance) -> Option<QualifiedThreadId>
+    ensures live { IfSome result (λ id. IsLive store.now.state id) }
+    ensures new { IfSome result (λ id. place_of (thread_of store.now.state id.thread) store.now.state.core ≡ Some places.New) }
+    ensures callers { IfSome result (λ id. callers_of (thread_of store.now.state id.thread) store.now.state.core ≡ []) }
+    ensures under { IfSome result (λ id. under_of (thread_of store.now.state id.thread) store.now.state.core ≡ None) }
+{
+    let thread = store.state.thread_at(instance.index, 2)?;
+    let id = QualifiedThreadId {
+        task: store.state.task_of(thread),
+        thread,
+    };
+    if !is_live(&store.state, id) || store.state.has_callers(thread) {
+        return None;
+    }
+    let None = store.state.under(thread) else {
+        return None;
+    };
+    let Some(Place::New) = store.state.place(thread) else {
+        return None;
+    };
+    Some(id)
+}
+
+// The start of the thread that was made is queued.
+fn is_queued(store: &mut Store<(), ScriptedHost>, instance: Instance) -> bool
+    requires { Placed store.old.state.core }
+{
+    let Some(id) = made_thread(store, instance) else {
+        return false;
+    };
+    let queued = push_work_item(&mut store.state, Item::StartExplicit(id), Mark::High);
+    queued.is_ok() && matches!(store.state.place(id.thread), Some(Place::Ready { .. }))
+}
+
+// The thread that was made is gone.
+fn ends(store: &mut Store<(), ScriptedHost>, instance: Instance) -> bool
+    requires { Placed store.old.state.core }
+{
+    let Some(id) = made_thread(store, instance) else {
+        return false;
+    };
+    cleanup_thread(&mut store.state, id).is_ok() && !is_live(&store.state, id)
+}
+
 #[derive(Clone, Copy)]
 enum OfThreads {
     HasAnIndex,
+    IsQueued,
+    Ends,
     Makes,
     Yields,
     // In this way, and whether it answers so.
@@ -244,6 +295,8 @@ impl Asks for OfThreads {
         let store = &mut at.store;
         match self {
             OfThreads::HasAnIndex => matches!(instance.thread_index(component, store), Ok(1)),
+            OfThreads::IsQueued => is_queued(store, instance),
+            OfThreads::Ends => ends(store, instance),
             OfThreads::Makes => {
                 let thread = instance.thread_new_indirect(component, store, instance.index, 0, 5);
                 matches!(thread, Ok(2))
@@ -289,6 +342,12 @@ fn a_thread_makes_another_and_pauses(rt: HostRuntime) {
     assert!(rt; holds(&rt, rt.alloc(), &OfThreads::Makes, CALLER, 3, B));
     assert!(rt; holds(&rt, rt.alloc(), &OfThreads::Yields, CALLER, 6, B));
     assert!(rt; goes_on(&rt, rt.alloc()));
+}
+
+#[test]
+fn a_thread_s_state_queues_and_ends_another(rt: HostRuntime) {
+    assert!(rt; holds(&rt, rt.alloc(), &OfThreads::IsQueued, CALLER, 6, B));
+    assert!(rt; holds(&rt, rt.alloc(), &OfThreads::Ends, CALLER, 6, B));
 }
 
 // The export is there, takes so many words and is sync or isn't.
