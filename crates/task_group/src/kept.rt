@@ -79,7 +79,7 @@ impl Kept {
         }
     }
 
-    /// The same where that takes a word, and there is room. Answers whether it was kept.
+    /// The same where that takes a word at most. Answers whether it was done.
     #[inline(always)]
     pub fn push_word(&mut self, notice: Notice) -> bool
         ensures kept { result ≡ true → self.new ≡ record self.old { notices = self.old.notices ++ take (self.old.room - length self.old.notices) (notice ∷ []) } }
@@ -88,10 +88,9 @@ impl Kept {
         if notice.group >= self.below {
             return false;
         }
-        if self.words.len() >= self.room {
-            return false;
+        if self.words.len() < self.room {
+            self.words.push_reserved(packed(notice));
         }
-        self.words.push_reserved(packed(notice));
         true
     }
 
