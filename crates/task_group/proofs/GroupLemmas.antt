@@ -9,7 +9,7 @@ use Rattle.std.proofs.lemmas.Bool.Decides.{nat_tests}
 use Rattle.std.proofs.lemmas.Grind.{common_steps}
 use Rattle.std.proofs.lemmas.List.{length-take, map-append}
 use Rattle.task_machine.specs.declared.records.Notice.{Notice}
-use Rattle.task_group.specs.Listeners.{AnsweredErr, Listeners, told_of, Told, errors_of}
+use Rattle.task_group.specs.Listeners.{Listeners, told_of, Told}
 use Rattle.task_group.specs.Counts.{Counts}
 use Rattle.task_group.specs.Groups.{IsKnown, Switches, finish_number, numbered}
 

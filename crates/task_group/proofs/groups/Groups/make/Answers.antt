@@ -1,4 +1,4 @@
-use Rattle.std.proofs.Common.{◌+◌, ◌-◌, ◌<◌, ap, arith, sym, ◌∙◌, ◌≡◌}
+use Rattle.std.proofs.Common.{◌+◌, ap, arith, sym, ◌∙◌, ◌≡◌}
 use Rattle.std.proofs.lemmas.Result.{on_err_weaker}
 use Rattle.std.specs.FinMap as finite
 use Rattle.task_group.specs.Groups.{Groups}
