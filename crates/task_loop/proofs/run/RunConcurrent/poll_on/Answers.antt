@@ -88,7 +88,7 @@ returns-in-None-clause-ok g c =
     let turned = none_as (λ (made : Option Made). Turned (setting_of c.args.component.now (script c.turns.main) c.turns.self.trap_on_idle) p m u made m' t) (λ (made : Option Made). Turned x p m u made m' t) None mid after
     (λ made. turned_same c.args.component.now (script c.turns.main) (script c.args.main.now) c.turns.self.trap_on_idle c.args.self.now.trap_on_idle p m u made m' t c.turns.invariant.script c.turns.invariant.idle)
     (rw c.in-None.is at c.in_ok-turn.ensures.turned) in
-    idle_turned x from before (given s.core) pace c.args.steps p m u mid c.turns.added b k c.turns.invariant.on c.turns.invariant.paced m' t after c.after-self.result (omega arith) turned c.after-self.ensures.since c.after-self.ensures.passes
+    idle_turned x from before (given s.core) pace c.args.steps p m u mid c.turns.added b k c.turns.invariant.on c.turns.invariant.paced m' t after c.idles.new.self.pace (omega arith) turned c.idles.ensures.since c.idles.ensures.passes
 
 pub returns-in-None-clause-does : goal.returns-in-None-clause-does
 returns-in-None-clause-does g c =
@@ -115,12 +115,12 @@ returns-in-Some-Over-clause-ok g c =
     let turned = none_as (λ (made : Option Made). Turned (setting_of c.args.component.now (script c.turns.main) c.turns.self.trap_on_idle) p m u made m' t) (λ (made : Option Made). Turned x p m u made m' t) (Some (stepped.Over c.in-Some-Over.outcome)) mid after
     (λ made. turned_same c.args.component.now (script c.turns.main) (script c.args.main.now) c.turns.self.trap_on_idle c.args.self.now.trap_on_idle p m u made m' t c.turns.invariant.script c.turns.invariant.idle)
     (subst (λ (o : Option Stepped). AddedOrNone (λ (made : Option Made). Turned (setting_of c.args.component.now (script c.turns.main) c.turns.self.trap_on_idle) p m u made m' t) o mid after) (c.in-Some-Over.is ∙ ap (λ (q : Stepped). Some q) c.in-Some-Over.field-0-is) c.in_ok-turn.ensures.turned) in
-    rw c.answer_of.ensures
-    (poll_ends x from before (given s.core) pace c.args.steps p m u mid c.turns.added b k c.turns.invariant.on c.turns.invariant.paced m' t after c.after-self-in-Some-Over.result c.in-Some-Over.outcome (omega arith) turned c.after-self-in-Some-Over.ensures.since c.after-self-in-Some-Over.ensures.passes)
+    rw c.ends.ensures.answer
+    (poll_ends x from before (given s.core) pace c.args.steps p m u mid c.turns.added b k c.turns.invariant.on c.turns.invariant.paced m' t after c.ends.new.self.pace c.in-Some-Over.outcome (omega arith) turned c.ends.ensures.since c.ends.ensures.passes)
 
 pub returns-in-Some-Over-clause-wanting : goal.returns-in-Some-Over-clause-wanting
 returns-in-Some-Over-clause-wanting g c =
-    rw c.answer_of.ensures (outcome_there c.in-Some-Over.outcome)
+    rw c.ends.ensures.answer (outcome_there c.in-Some-Over.outcome)
 
 pub returns-in-Some-Over-clause-does : goal.returns-in-Some-Over-clause-does
 returns-in-Some-Over-clause-does g c =
@@ -293,7 +293,7 @@ returns-then-is_idle-clause-ok g c =
     let k = c.turns.self.pace.since in
     let on = c.turns.invariant.on in
     let rests = c.is_idle.ensures x on.at.order (ap idle_line_of (sym c.turns.invariant.idle)) m on.pends ∙ c.if-is_idle.true in
-    idles x from before (given s.core) pace c.args.steps p m u mid c.turns.added b k c.turns.invariant.on c.turns.invariant.paced c.after-self-then-is_idle.result (omega arith) rests c.after-self-then-is_idle.ensures.since c.after-self-then-is_idle.ensures.passes
+    idles x from before (given s.core) pace c.args.steps p m u mid c.turns.added b k c.turns.invariant.on c.turns.invariant.paced c.idles-then-is_idle.new.self.pace (omega arith) rests c.idles-then-is_idle.ensures.since c.idles-then-is_idle.ensures.passes
 
 pub returns-clause-ok : goal.returns-clause-ok
 returns-clause-ok g c =
