@@ -245,7 +245,10 @@ fn made_thread(store: &Store<(), ScriptedHost>, instance: Instance) -> Option<Qu
         task: store.state.task_of(thread),
         thread,
     };
-    if !is_live(&store.state, id) || store.state.has_callers(thread) {
+    if !is_live(&store.state, id) {
+        return None;
+    }
+    if store.state.has_callers(thread) {
         return None;
     }
     let None = store.state.under(thread) else {
