@@ -92,7 +92,8 @@ unfolding main_started put_high push_high set_place on_thread call_made add_call
 start_made c e words s = refl
 
 groups_is : (a b : Groups) → a.live ≡ b.live → a.made ≡ b.made → a.listeners ≡ b.listeners → a ≡ b
-groups_is a b live made listeners = cc
+groups_is a b live made listeners =
+    ap (λ l. record a { live = l }) live ∙ (ap (λ (k : ℕ). record b { made = k; listeners = a.listeners }) made ∙ ap (λ l. record b { listeners = l }) listeners)
 
 -- a group that was prepared is taken out of the live ones
 pub taken_back : (g m : Groups) (made number : ℕ) → IsKnown g.live made → made ≡ g.made → m ≡ record g { live = finite.insert g.live m.made 1; made = m.made } → m.made ≡ numbered g.made number →
