@@ -17,7 +17,8 @@ use Rattle.task_group.specs.declared.notice.GroupError.{GroupError}
 use Rattle.task_group.specs.declared.notice.GroupError.TheVariants as error
 use Rattle.task_group.specs.declared.notice.TaskGroupId.{TaskGroupId}
 use Rattle.task_machine.specs.declared.records.Notice.{Notice}
-use Rattle.task_calls.specs.Calls.{Becomes, Finishes, Starts}
+use Rattle.task_calls.specs.Calls.{Finishes, Starts}
+use Rattle.task_words.specs.Becomes.{Becomes}
 use Rattle.task_calls.specs.Untrapped.{StartsUntrapped}
 use Rattle.state_calls.specs.declared.error.TaskError.{TaskError}
 use Rattle.task_machine.specs.Core.{Core}
