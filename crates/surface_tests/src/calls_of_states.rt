@@ -17,6 +17,7 @@ use state_calls::{
 use std::alloc::Global;
 use std::process::Abort;
 use task_calls::new_guest_task;
+use task_loop::TaskGroupId;
 use task_machine::{ExportKind, Mark, Place, Status};
 use task_store::{ScriptedHost, Store};
 use task_wait::{Event, Waitable};
@@ -206,13 +207,9 @@ fn holds(rt: &impl Abort, alloc: Global, ask: Ask) -> bool {
 }
 
 #[test]
-fn events_are_set_and_taken(rt: HostRuntime) {
+fn a_waitable_tells_its_event(rt: HostRuntime) {
     assert!(rt; holds(&rt, rt.alloc(), Ask::SetsAndTakes));
     assert!(rt; holds(&rt, rt.alloc(), Ask::IsGivenNone));
-}
-
-#[test]
-fn a_waitable_is_ready_and_leaves_its_set(rt: HostRuntime) {
     assert!(rt; holds(&rt, rt.alloc(), Ask::IsReadyOnceSet));
     assert!(rt; holds(&rt, rt.alloc(), Ask::LeavesItsSet));
 }
@@ -225,16 +222,22 @@ fn entries_are_taken_and_move_to_switch(rt: HostRuntime) {
 }
 
 #[test]
-fn a_strand_without_callers_stops(rt: HostRuntime) {
+fn a_strand_stops_and_an_instance_is_read(rt: HostRuntime) {
     assert!(rt; holds(&rt, rt.alloc(), Ask::Stops));
-}
-
-#[test]
-fn an_instance_is_read(rt: HostRuntime) {
     assert!(rt; holds(&rt, rt.alloc(), Ask::HasOneInstance));
 }
 
 #[test]
 fn a_task_begins_and_runs(rt: HostRuntime) {
     assert!(rt; holds(&rt, rt.alloc(), Ask::BeginsAndRuns));
+}
+
+#[test]
+fn a_task_begins_a_group(rt: HostRuntime) {
+    let mut store = queued(&rt, rt.alloc());
+    let group = TaskGroupId { number: 2 };
+    let Ok(id) = task_loop::new_guest_task(&mut store, ExportKind::Callback, 0, None) else {
+        panic!(rt; "a task")
+    };
+    assert!(rt; is_live(&store.state, id) && store.groups.count(group) == 1);
 }

@@ -25,7 +25,7 @@ use std::alloc::Global;
 use std::process::Abort;
 use task_loop::{
     Answer, Component, Func, Instance, Outcome, ResumeThread, Step, SuspensionTarget, TaskError,
-    Trace, run_concurrent,
+    TaskGroupId, Trace, run_concurrent,
 };
 use task_machine::{Callee, ExportKind, Goal, HostDef, Mark, Place, Trap, Turn};
 use task_run::{Scenario, ScriptMain, read_scenario};
@@ -44,6 +44,10 @@ const DIRECT: &[u8] =
 // A thread of b calls two hosts, of which it cancels the second one. Both end while it yields; then it cancels the first one.
 const HOSTS: &[u8] =
     b"scenario 1\nhandles 100000\ntable 1000000\nidle wait\nhost dead never\nhost soon polls 1 value 9\ninstance a\nexport f callback 0\nret 0\nexit\ninstance b\nexport h stackful 0\ncall r4 r5 soon\ncall r4 r5 dead\ncancel r6 2\nyield\nyield\nyield\ncancel r6 1\nyield\nmain\nstart b.h\nfinish 1 r0\nanswer r0\nend\n";
+
+// The first thread of b calls a host and ends; the second one takes the end of that subtask, and drops it.
+const LEFT: &[u8] =
+    b"scenario 1\nhandles 100000\ntable 1000000\nidle wait\nhost soon polls 1 value 9\ninstance a\nexport f callback 0\nret 0\nexit\ninstance b\nexport h stackful 0\ncall r4 r5 soon\nret 0\nexport g stackful 0\nyield\nyield\nyield\ncancel r6 1\ndrop 1\nret 0\nmain\nstart b.h\nfinish 1 r0\nstart b.g\nfinish 2 r1\nanswer r0\nend\n";
 
 const A: Instance = Instance { index: 0 };
 
@@ -413,6 +417,15 @@ fn a_thread_calls_an_export(rt: HostRuntime) {
     assert!(rt; enters(&rt, rt.alloc()) && leaves(&rt, rt.alloc()));
 }
 
+// What is left of a call's group is dropped by a thread of another one.
+fn finishes_a_group(rt: &impl Abort, alloc: Global) -> bool {
+    let mut at = running(rt, alloc, LEFT, 28, B, false);
+    let group = TaskGroupId { number: 1 };
+    let live = at.store.groups.count(group) == 1;
+    let dropped = B.subtask_drop(&at.scenario.component, &mut at.store, 1, 1);
+    live && dropped.is_ok() && at.store.groups.count(group) == 0
+}
+
 // The running thread's task lends so many things.
 fn lend(store: &mut Store<(), ScriptedHost>, borrows: u32) -> bool
     ensures running { (c : Component) → IsRunningIn c store.old.state → IsRunningIn c store.new.state }
@@ -488,6 +501,7 @@ fn a_thread_cancels_and_is_cancelled(rt: HostRuntime) {
     assert!(rt; holds(&rt, rt.alloc(), &OfCalls::Drops, CALLER, 17, B));
     assert!(rt; holds(&rt, rt.alloc(), &OfCalls::EndsAsCancelled, CALLER, 29, A));
     assert!(rt; holds(&rt, rt.alloc(), &OfCalls::RaisesBackpressure, CALLER, 3, B));
+    assert!(rt; finishes_a_group(&rt, rt.alloc()));
 }
 
 fn first_poll(rt: &impl Abort, alloc: Global, polls: Option<u32>) -> Option<u32> {
