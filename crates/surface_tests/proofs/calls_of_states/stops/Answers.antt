@@ -6,4 +6,4 @@ use Rattle.task_table.specs.declared.id.TableId.{TableId}
 use Rattle.task_wait.specs.declared.keys.ThreadKey.{ThreadKey}
 
 pub stop-requires-clause-may : goal.stop-requires-clause-may
-stop-requires-clause-may g c = stops_freely _ c.switch.result c.args.store.now.state c.switch.ensures.is (ap (λ (o : Option (TableId ThreadKey)). is_none o) c.in-None.is) c.requires.placed
+stop-requires-clause-may c = stops_freely _ c.switch.result c.args.store.now.state c.switch.ensures.is (ap (λ (o : Option (TableId ThreadKey)). is_none o) c.in-None.is) c.requires.placed
