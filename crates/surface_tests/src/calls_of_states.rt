@@ -10,18 +10,18 @@ ghost use Rattle.task_words.specs.StateView.{StateView, call_of};
 
 use crate::drive::{called, component, store};
 use state_calls::{
-    Item, QualifiedThreadId, get_event, instance, is_live, join, mark_ready,
-    promote_instance_local_thread_work_item, promote_thread_work_item, set_event, stop, take_event,
-    take_item,
+    ConcurrentInstanceState, CurrentThread, Item, QualifiedThreadId, get_event, instance, is_live,
+    join, mark_ready, promote_instance_local_thread_work_item, promote_thread_work_item, set_event,
+    set_thread, stop, take_event, take_item,
 };
 use std::alloc::Global;
 use std::process::Abort;
 use task_calls::new_guest_task;
 use task_loop::TaskGroupId;
-use task_machine::{ExportKind, Mark, Status};
+use task_machine::{ExportKind, Mark, Place, Status};
 use task_store::{ScriptedHost, Store};
 use task_wait::{Event, Waitable};
-use task_words::{PlaceWords, QueueWords, SubtaskId, SubtaskWords, ThreadWords};
+use task_words::{CallId, PlaceWords, QueueWords, SubtaskId, SubtaskWords, ThreadWords, View};
 
 // A store with one instance, in which a call of it is queued.
 fn queued(rt: &impl Abort, alloc: Global) -> Store<(), ScriptedHost>
@@ -50,95 +50,186 @@ fn first_thread(rt: &impl Abort, store: &Store<(), ScriptedHost>) -> QualifiedTh
     }
 }
 
-#[test]
-fn an_event_is_set_and_taken(rt: HostRuntime) {
-    let mut store = queued(&rt, rt.alloc());
-    let id = first_thread(&rt, &store);
-    assert!(rt; is_live(&store.state, id));
-    let started = Event::Subtask(Status::Started);
-    let woken = set_event(&mut store.state, Waitable::Guest(id.task), started);
-    assert!(rt; matches!(woken, Ok(None)));
-    let event = take_event(&mut store.state, Waitable::Guest(id.task));
-    assert!(rt; matches!(event, Some(Event::Subtask(Status::Started))));
+type Queued = Store<(), ScriptedHost>;
+
+// What is asked of that store. The calls stand in functions that are lent it: what a function owns is proved anew at each of its calls.
+#[derive(Clone, Copy)]
+enum Ask {
+    SetsAndTakes,
+    IsReadyOnceSet,
+    LeavesItsSet,
+    IsGivenNone,
+    TakesAStart,
+    MovesToSwitch,
+    FirstMovesToSwitch,
+    Stops,
+    HasOneInstance,
+    BeginsAndRuns,
 }
 
-#[test]
-fn a_waitable_with_an_event_is_ready(rt: HostRuntime) {
-    let mut store = queued(&rt, rt.alloc());
-    let id = first_thread(&rt, &store);
+fn sets_and_takes(store: &mut Queued, task: CallId) -> bool
+    requires live { 0 < call_of store.old.state task }
+    requires placed { Placed store.old.state.core }
+    requires joins { (k : ℕ) → IsJoinThere (subtasks.Guest k) store.old.state.core }
+{
+    let started = Event::Subtask(Status::Started);
+    let woken = set_event(&mut store.state, Waitable::Guest(task), started);
+    let event = take_event(&mut store.state, Waitable::Guest(task));
+    matches!(woken, Ok(None)) && matches!(event, Some(Event::Subtask(Status::Started)))
+}
+
+fn is_ready_once_set(store: &mut Queued, task: CallId) -> bool
+    requires live { 0 < call_of store.old.state task }
+    requires placed { Placed store.old.state.core }
+    requires joins { (k : ℕ) → IsJoinThere (subtasks.Guest k) store.old.state.core }
+{
     store
         .state
-        .set_event(SubtaskId::Guest(id.task), Some(Status::Started));
-    assert!(rt; store.state.event(SubtaskId::Guest(id.task)).is_some());
-    let woken = mark_ready(&mut store.state, Waitable::Guest(id.task));
-    assert!(rt; matches!(woken, Ok(None)));
+        .set_event(SubtaskId::Guest(task), Some(Status::Started));
+    if store.state.event(SubtaskId::Guest(task)).is_none() {
+        return false;
+    }
+    matches!(
+        mark_ready(&mut store.state, Waitable::Guest(task)),
+        Ok(None)
+    )
 }
 
-#[test]
-fn a_waitable_leaves_its_set(rt: HostRuntime) {
-    let mut store = queued(&rt, rt.alloc());
-    let id = first_thread(&rt, &store);
-    assert!(rt; store.state.blocked_on(SubtaskId::Guest(id.task)).is_none());
-    let woken = join(&mut store.state, Waitable::Guest(id.task), None);
-    assert!(rt; matches!(woken, Ok(None)));
+fn leaves_its_set(store: &mut Queued, task: CallId) -> bool
+    requires live { 0 < call_of store.old.state task }
+    requires placed { Placed store.old.state.core }
+{
+    if store.state.blocked_on(SubtaskId::Guest(task)).is_some() {
+        return false;
+    }
+    matches!(
+        join(&mut store.state, Waitable::Guest(task), None),
+        Ok(None)
+    )
 }
 
-#[test]
-fn a_task_without_an_event_is_given_none(rt: HostRuntime) {
-    let mut store = queued(&rt, rt.alloc());
-    let id = first_thread(&rt, &store);
-    assert!(rt; get_event(&mut store.state, id.task, None, true).is_none());
+fn is_given_none(store: &mut Queued, task: CallId) -> bool
+    requires { 0 < call_of store.old.state task }
+{
+    get_event(&mut store.state, task, None, true).is_none()
 }
 
-#[test]
-fn a_start_is_taken(rt: HostRuntime) {
-    let mut store = queued(&rt, rt.alloc());
-    let taken = take_item(&mut store.state);
-    assert!(rt; matches!(taken, Some((Mark::High, Item::StartImplicit(_)))));
+fn takes_a_start(store: &mut Queued) -> bool
+    requires { Placed store.old.state.core }
+{
+    matches!(
+        take_item(&mut store.state),
+        Some((Mark::High, Item::StartImplicit(_)))
+    )
 }
 
-#[test]
-fn a_start_moves_to_switch(rt: HostRuntime) {
-    let mut store = queued(&rt, rt.alloc());
-    let id = first_thread(&rt, &store);
-    assert!(rt; promote_thread_work_item(&mut store.state, id));
+fn moves_to_switch(store: &mut Queued, id: QualifiedThreadId) -> bool
+    requires live { IsLive store.old.state id }
+    requires placed { Placed store.old.state.core }
+{
+    promote_thread_work_item(&mut store.state, id)
 }
 
-#[test]
-fn an_instance_s_first_entry_moves_to_switch(rt: HostRuntime) {
-    let mut store = queued(&rt, rt.alloc());
-    assert!(rt; promote_instance_local_thread_work_item(&mut store.state, 0));
+fn first_moves_to_switch(store: &mut Queued) -> bool
+    requires { IsSome (get store.old.state.core.instances 0) }
+{
+    promote_instance_local_thread_work_item(&mut store.state, 0)
 }
 
-#[test]
-fn a_strand_without_callers_stops(rt: HostRuntime) {
-    let mut store = queued(&rt, rt.alloc());
-    let id = first_thread(&rt, &store);
+fn stops(store: &mut Queued, id: QualifiedThreadId) -> bool
+    requires live { IsLive store.old.state id }
+    requires placed { Placed store.old.state.core }
+{
     let None = store.state.switch() else {
-        panic!(rt; "nothing at switch")
+        return false;
     };
-    assert!(rt; stop(&mut store.state, id).is_ok());
-    assert!(rt; store.state.switch().is_none());
+    stop(&mut store.state, id).is_ok() && store.state.switch().is_none()
 }
 
-#[test]
-fn an_instance_is_read(rt: HostRuntime) {
-    let store = queued(&rt, rt.alloc());
-    let Some(read) = instance(&store.state, 0) else {
-        panic!(rt; "an instance")
-    };
-    assert!(rt; read.pending_is_empty() && read.backpressure() == 0);
-    assert!(rt; !read.do_not_enter() && !read.do_not_suspend());
-    assert!(rt; instance(&store.state, 1).is_none());
+fn is_open(read: Option<ConcurrentInstanceState>) -> bool {
+    match read {
+        Some(read) => {
+            let is_free = !read.do_not_enter() && !read.do_not_suspend();
+            is_free && read.pending_is_empty() && read.backpressure() == 0
+        }
+        None => false,
+    }
 }
 
-#[test]
-fn a_task_begins(rt: HostRuntime) {
-    let mut store = queued(&rt, rt.alloc());
+fn has_one_instance(store: &Queued) -> bool {
+    is_open(instance(&store.state, 0)) && instance(&store.state, 1).is_none()
+}
+
+// A task is made while no thread runs, and then its thread runs.
+fn begins_and_runs(store: &mut Queued) -> bool
+    requires there { IsSome (get store.old.state.core.instances 0) }
+    requires given { given store.old.state.core ≡ 2 }
+{
     let Ok(id) = new_guest_task(&mut store.state, ExportKind::Callback, 0, None) else {
-        panic!(rt; "a task")
+        return false;
     };
-    assert!(rt; is_live(&store.state, id));
+    let Some(Place::New) = store.state.place(id.thread) else {
+        return false;
+    };
+    let None = store.state.current() else {
+        return false;
+    };
+    let before = set_thread(&mut store.state, CurrentThread::Guest(id));
+    matches!(before, Ok(CurrentThread::None)) && store.state.current().is_some()
+}
+
+fn answers(store: &mut Queued, id: QualifiedThreadId, ask: Ask) -> bool
+    requires live { IsLive store.old.state id }
+    requires task { 0 < call_of store.old.state id.task }
+    requires placed { Placed store.old.state.core }
+    requires joins { (k : ℕ) → IsJoinThere (subtasks.Guest k) store.old.state.core }
+    requires there { IsSome (get store.old.state.core.instances 0) }
+    requires given { given store.old.state.core ≡ 2 }
+{
+    match ask {
+        Ask::SetsAndTakes => sets_and_takes(store, id.task),
+        Ask::IsReadyOnceSet => is_ready_once_set(store, id.task),
+        Ask::LeavesItsSet => leaves_its_set(store, id.task),
+        Ask::IsGivenNone => is_given_none(store, id.task),
+        Ask::TakesAStart => takes_a_start(store),
+        Ask::MovesToSwitch => moves_to_switch(store, id),
+        Ask::FirstMovesToSwitch => first_moves_to_switch(store),
+        Ask::Stops => stops(store, id),
+        Ask::HasOneInstance => has_one_instance(store),
+        Ask::BeginsAndRuns => begins_and_runs(store),
+    }
+}
+
+fn holds(rt: &impl Abort, alloc: Global, ask: Ask) -> bool {
+    let mut store = queued(rt, alloc);
+    let id = first_thread(rt, &store);
+    is_live(&store.state, id) && answers(&mut store, id, ask)
+}
+
+#[test]
+fn a_waitable_tells_its_event(rt: HostRuntime) {
+    assert!(rt; holds(&rt, rt.alloc(), Ask::SetsAndTakes));
+    assert!(rt; holds(&rt, rt.alloc(), Ask::IsGivenNone));
+    assert!(rt; holds(&rt, rt.alloc(), Ask::IsReadyOnceSet));
+    assert!(rt; holds(&rt, rt.alloc(), Ask::LeavesItsSet));
+}
+
+#[test]
+fn entries_are_taken_and_move_to_switch(rt: HostRuntime) {
+    assert!(rt; holds(&rt, rt.alloc(), Ask::TakesAStart));
+    assert!(rt; holds(&rt, rt.alloc(), Ask::MovesToSwitch));
+    assert!(rt; holds(&rt, rt.alloc(), Ask::FirstMovesToSwitch));
+}
+
+#[test]
+fn a_strand_stops_and_an_instance_is_read(rt: HostRuntime) {
+    assert!(rt; holds(&rt, rt.alloc(), Ask::Stops));
+    assert!(rt; holds(&rt, rt.alloc(), Ask::HasOneInstance));
+}
+
+#[test]
+fn a_task_begins_and_runs(rt: HostRuntime) {
+    assert!(rt; holds(&rt, rt.alloc(), Ask::BeginsAndRuns));
 }
 
 #[test]

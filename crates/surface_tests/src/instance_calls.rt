@@ -1,10 +1,13 @@
 //! The calls of an instance, each by a thread of a scenario that was run so far.
 ghost use Rattle.host_works.specs.Kept.{HoldsNone};
-ghost use Rattle.std.specs.Prelude.{◌≡◌, ◌<◌, ◌≤◌, IfSome, IsSome, false, length, true};
+ghost use Rattle.std.specs.Prelude.{◌≡◌, ◌<◌, ◌≤◌, IfSome, IsSome, None, Some, [], false, length, true};
+ghost use Rattle.state_calls.specs.Named.{IsLive};
 ghost use Rattle.task_calls.specs.Asks.{CanAsk, HasPaused, IsRunningIn};
 ghost use Rattle.task_calls.specs.Directs.{IsDirect};
 ghost use Rattle.task_loop.specs.Calls.{callee_of};
-ghost use Rattle.task_machine.specs.Read.{is_async_lifted};
+ghost use Rattle.task_machine.specs.Read.{callers_of, is_async_lifted, place_of, under_of};
+ghost use Rattle.task_machine.specs.declared.records.Place.TheVariants as places;
+ghost use Rattle.task_rules.specs.Places.{Placed};
 ghost use Rattle.task_machine.specs.declared.component.Component.{Component};
 ghost use Rattle.task_rules.specs.Scripts.{export_at, export_kind};
 ghost use Rattle.task_machine.specs.Core.{fresh};
@@ -13,20 +16,21 @@ ghost use Rattle.task_run.specs.Runnable.{IsRunnable};
 ghost use Rattle.task_store.specs.Groups.{HoldsGroups};
 ghost use Rattle.task_store.specs.Hosts.{HoldsHosts};
 ghost use Rattle.task_turns.specs.Turn.{Sits, given, running_of};
-ghost use Rattle.task_words.specs.StateView.{with_core};
+ghost use Rattle.task_words.specs.StateView.{thread_of, with_core};
 
 use op_dispatch::export_def;
 use record_core::{CallContext, Scope};
+use state_calls::{Item, QualifiedThreadId, cleanup_thread, is_live, push_work_item};
 use std::alloc::Global;
 use std::process::Abort;
 use task_loop::{
     Answer, Component, Func, Instance, Outcome, ResumeThread, Step, SuspensionTarget, TaskError,
     TaskGroupId, Trace, run_concurrent,
 };
-use task_machine::{Callee, ExportKind, Goal, HostDef, Trap, Turn};
+use task_machine::{Callee, ExportKind, Goal, HostDef, Mark, Place, Trap, Turn};
 use task_run::{Scenario, ScriptMain, read_scenario};
 use task_store::{FromHost, HostWork, ScriptedHost, Store};
-use task_words::{CallWords, HowFarId, ThreadWords, View};
+use task_words::{CallWords, HowFarId, InstanceWords, PlaceWords, ThreadWords, View};
 
 // A thread of b makes a set, calls a host that never answers, makes a thread, cancels the call, waits for its end, drops it,
 // and then calls and cancels a callback of a, which is told so.
@@ -163,60 +167,164 @@ fn running(
     Midway { scenario, store }
 }
 
-fn makes_a_set(rt: &impl Abort, alloc: Global) -> bool {
-    let mut at = running(rt, alloc, CALLER, 3, B, false);
-    matches!(
-        B.waitable_set_new(&at.scenario.component, &mut at.store, 1),
-        Ok(1)
-    )
+// What the running thread asks of its instance; it tells whether the answer is the one that is due. It is lent the store: what a function
+// owns is proved anew at each of its calls.
+trait Asks {
+    fn asks(&self, at: &mut Midway, instance: Instance) -> bool
+        requires running { IsRunningIn at.old.scenario.component at.old.store.state }
+        requires fresh { CanAsk instance.index at.old.store.state };
 }
 
-fn drops_a_set(rt: &impl Abort, alloc: Global) -> bool {
-    let mut at = running(rt, alloc, CALLER, 4, B, false);
-    B.waitable_set_drop(&at.scenario.component, &mut at.store, 1, 1)
-        .is_ok()
+// The same after so many labels of the text's scenario.
+fn holds(
+    rt: &impl Abort,
+    alloc: Global,
+    ask: &impl Asks,
+    text: &[u8],
+    steps: u32,
+    instance: Instance,
+) -> bool
+    requires text { length text.now ≤ 1048576 }
+    requires few { steps ≤ 100 }
+    requires instance { instance.index < 2 }
+{
+    let mut at = running(rt, alloc, text, steps, instance, false);
+    ask.asks(&mut at, instance)
 }
 
-fn polls_a_set(rt: &impl Abort, alloc: Global) -> bool {
-    let mut at = running(rt, alloc, CALLER, 4, B, false);
-    let event = B.waitable_set_poll(&at.scenario.component, &mut at.store, 1, 1);
-    matches!(event, Ok((0, 0, 0)))
+#[derive(Clone, Copy)]
+enum OfSets {
+    Makes,
+    Drops,
+    Polls,
+    Waits,
+    Joins,
 }
 
-fn waits(rt: &impl Abort, alloc: Global) -> bool {
-    let mut at = running(rt, alloc, CALLER, 4, B, false);
-    let event = B.waitable_set_wait(&at.scenario.component, &mut at.store, 1, 1);
-    matches!(event, Ok(Step::Pause))
-}
-
-fn joins(rt: &impl Abort, alloc: Global) -> bool {
-    let mut at = running(rt, alloc, CALLER, 6, B, false);
-    B.waitable_join(&at.scenario.component, &mut at.store, 1, 2, 1)
-        .is_ok()
+impl Asks for OfSets {
+    fn asks(&self, at: &mut Midway, instance: Instance) -> bool {
+        let component = &at.scenario.component;
+        let store = &mut at.store;
+        match self {
+            OfSets::Makes => matches!(
+                instance.waitable_set_new(component, store, instance.index),
+                Ok(1)
+            ),
+            OfSets::Drops => instance
+                .waitable_set_drop(component, store, instance.index, 1)
+                .is_ok(),
+            OfSets::Polls => {
+                let event = instance.waitable_set_poll(component, store, instance.index, 1);
+                matches!(event, Ok((0, 0, 0)))
+            }
+            OfSets::Waits => {
+                let event = instance.waitable_set_wait(component, store, instance.index, 1);
+                matches!(event, Ok(Step::Pause))
+            }
+            OfSets::Joins => instance
+                .waitable_join(component, store, instance.index, 2, 1)
+                .is_ok(),
+        }
+    }
 }
 
 #[test]
 fn a_thread_makes_and_uses_a_set(rt: HostRuntime) {
-    assert!(rt; makes_a_set(&rt, rt.alloc()) && drops_a_set(&rt, rt.alloc()));
-    assert!(rt; polls_a_set(&rt, rt.alloc()) && waits(&rt, rt.alloc()) && joins(&rt, rt.alloc()));
+    assert!(rt; holds(&rt, rt.alloc(), &OfSets::Makes, CALLER, 3, B));
+    assert!(rt; holds(&rt, rt.alloc(), &OfSets::Drops, CALLER, 4, B));
+    assert!(rt; holds(&rt, rt.alloc(), &OfSets::Polls, CALLER, 4, B));
+    assert!(rt; holds(&rt, rt.alloc(), &OfSets::Waits, CALLER, 4, B));
+    assert!(rt; holds(&rt, rt.alloc(), &OfSets::Joins, CALLER, 6, B));
 }
 
-fn has_an_index(rt: &impl Abort, alloc: Global) -> bool {
-    let mut at = running(rt, alloc, CALLER, 3, B, false);
-    matches!(B.thread_index(&at.scenario.component, &mut at.store), Ok(1))
+// The thread of the instance with handle 2, where it is new and nobody is under it or behind it.
+fn made_thread(store: &Store<(), ScriptedHost>, instance: Instance) -> Option<QualifiedThreadId>
+    ensures live { IfSome result (λ id. IsLive store.now.state id) }
+    ensures new { IfSome result (λ id. place_of (thread_of store.now.state id.thread) store.now.state.core ≡ Some places.New) }
+    ensures callers { IfSome result (λ id. callers_of (thread_of store.now.state id.thread) store.now.state.core ≡ []) }
+    ensures under { IfSome result (λ id. under_of (thread_of store.now.state id.thread) store.now.state.core ≡ None) }
+{
+    let thread = store.state.thread_at(instance.index, 2)?;
+    let id = QualifiedThreadId {
+        task: store.state.task_of(thread),
+        thread,
+    };
+    if !is_live(&store.state, id) {
+        return None;
+    }
+    if store.state.has_callers(thread) {
+        return None;
+    }
+    let None = store.state.under(thread) else {
+        return None;
+    };
+    let Some(Place::New) = store.state.place(thread) else {
+        return None;
+    };
+    Some(id)
 }
 
-fn makes_a_thread(rt: &impl Abort, alloc: Global) -> bool {
-    let mut at = running(rt, alloc, CALLER, 3, B, false);
-    let thread = B.thread_new_indirect(&at.scenario.component, &mut at.store, 1, 0, 5);
-    matches!(thread, Ok(2))
+// The start of the thread that was made is queued.
+fn is_queued(store: &mut Store<(), ScriptedHost>, instance: Instance) -> bool
+    requires { Placed store.old.state.core }
+{
+    let Some(id) = made_thread(store, instance) else {
+        return false;
+    };
+    let queued = push_work_item(&mut store.state, Item::StartExplicit(id), Mark::High);
+    queued.is_ok() && matches!(store.state.place(id.thread), Some(Place::Ready { .. }))
 }
 
-fn yields(rt: &impl Abort, alloc: Global) -> bool {
-    let mut at = running(rt, alloc, CALLER, 6, B, false);
-    let target = SuspensionTarget::Resume(2);
-    let step = B.suspension_intrinsic(&at.scenario.component, &mut at.store, 1, true, target);
-    matches!(step, Ok(Step::Pause))
+// The thread that was made is gone.
+fn ends(store: &mut Store<(), ScriptedHost>, instance: Instance) -> bool
+    requires { Placed store.old.state.core }
+{
+    let Some(id) = made_thread(store, instance) else {
+        return false;
+    };
+    cleanup_thread(&mut store.state, id).is_ok() && !is_live(&store.state, id)
+}
+
+#[derive(Clone, Copy)]
+enum OfThreads {
+    HasAnIndex,
+    IsQueued,
+    Ends,
+    Makes,
+    Yields,
+    // In this way, and whether it answers so.
+    Resumes(ResumeThread, bool),
+}
+
+impl Asks for OfThreads {
+    fn asks(&self, at: &mut Midway, instance: Instance) -> bool {
+        let component = &at.scenario.component;
+        let store = &mut at.store;
+        match self {
+            OfThreads::HasAnIndex => matches!(instance.thread_index(component, store), Ok(1)),
+            OfThreads::IsQueued => is_queued(store, instance),
+            OfThreads::Ends => ends(store, instance),
+            OfThreads::Makes => {
+                let thread = instance.thread_new_indirect(component, store, instance.index, 0, 5);
+                matches!(thread, Ok(2))
+            }
+            OfThreads::Yields => {
+                let target = SuspensionTarget::Resume(2);
+                let step = instance.suspension_intrinsic(
+                    component,
+                    store,
+                    instance.index,
+                    true,
+                    target,
+                );
+                matches!(step, Ok(Step::Pause))
+            }
+            OfThreads::Resumes(how, found) => {
+                let resumed = instance.resume_thread(component, store, instance.index, 2, *how);
+                matches!(resumed, Ok(x) if x == *found)
+            }
+        }
+    }
 }
 
 fn goes_on(rt: &impl Abort, alloc: Global) -> bool {
@@ -225,52 +333,28 @@ fn goes_on(rt: &impl Abort, alloc: Global) -> bool {
     matches!(event, Ok(Step::Done(Answer::Three(1, 2, 4))))
 }
 
-fn resumes(rt: &impl Abort, alloc: Global) -> bool {
-    let mut at = running(rt, alloc, CALLER, 6, B, false);
-    let resumed = B.resume_thread(
-        &at.scenario.component,
-        &mut at.store,
-        1,
-        2,
-        ResumeThread::Resume,
-    );
-    matches!(resumed, Ok(true))
-}
-
-fn promotes(rt: &impl Abort, alloc: Global) -> bool {
-    let mut at = running(rt, alloc, CALLER, 6, B, false);
-    let promoted = B.resume_thread(
-        &at.scenario.component,
-        &mut at.store,
-        1,
-        2,
-        ResumeThread::Promote,
-    );
-    matches!(promoted, Ok(false))
-}
-
-fn resumes_later(rt: &impl Abort, alloc: Global) -> bool {
-    let mut at = running(rt, alloc, CALLER, 6, B, false);
-    let resumed = B.resume_thread(
-        &at.scenario.component,
-        &mut at.store,
-        1,
-        2,
-        ResumeThread::ResumeLater,
-    );
-    matches!(resumed, Ok(true))
-}
-
 #[test]
 fn a_thread_resumes_another(rt: HostRuntime) {
-    assert!(rt; resumes(&rt, rt.alloc()) && promotes(&rt, rt.alloc()));
-    assert!(rt; resumes_later(&rt, rt.alloc()));
+    let resumes = OfThreads::Resumes(ResumeThread::Resume, true);
+    assert!(rt; holds(&rt, rt.alloc(), &resumes, CALLER, 6, B));
+    let promotes = OfThreads::Resumes(ResumeThread::Promote, false);
+    assert!(rt; holds(&rt, rt.alloc(), &promotes, CALLER, 6, B));
+    let later = OfThreads::Resumes(ResumeThread::ResumeLater, true);
+    assert!(rt; holds(&rt, rt.alloc(), &later, CALLER, 6, B));
 }
 
 #[test]
 fn a_thread_makes_another_and_pauses(rt: HostRuntime) {
-    assert!(rt; has_an_index(&rt, rt.alloc()) && makes_a_thread(&rt, rt.alloc()));
-    assert!(rt; yields(&rt, rt.alloc()) && goes_on(&rt, rt.alloc()));
+    assert!(rt; holds(&rt, rt.alloc(), &OfThreads::HasAnIndex, CALLER, 3, B));
+    assert!(rt; holds(&rt, rt.alloc(), &OfThreads::Makes, CALLER, 3, B));
+    assert!(rt; holds(&rt, rt.alloc(), &OfThreads::Yields, CALLER, 6, B));
+    assert!(rt; goes_on(&rt, rt.alloc()));
+}
+
+#[test]
+fn a_thread_s_state_queues_and_ends_another(rt: HostRuntime) {
+    assert!(rt; holds(&rt, rt.alloc(), &OfThreads::IsQueued, CALLER, 6, B));
+    assert!(rt; holds(&rt, rt.alloc(), &OfThreads::Ends, CALLER, 6, B));
 }
 
 // The export is there, takes so many words and is sync or isn't.
@@ -333,18 +417,6 @@ fn a_thread_calls_an_export(rt: HostRuntime) {
     assert!(rt; enters(&rt, rt.alloc()) && leaves(&rt, rt.alloc()));
 }
 
-fn cancels(rt: &impl Abort, alloc: Global) -> bool {
-    let mut at = running(rt, alloc, CALLER, 5, B, false);
-    let end = B.subtask_cancel(&at.scenario.component, &mut at.store, 1, true, 2);
-    matches!(end, Ok(Step::Done(4_294_967_295)))
-}
-
-fn drops(rt: &impl Abort, alloc: Global) -> bool {
-    let mut at = running(rt, alloc, CALLER, 17, B, false);
-    B.subtask_drop(&at.scenario.component, &mut at.store, 1, 2)
-        .is_ok()
-}
-
 // What is left of a call's group is dropped by a thread of another one.
 fn finishes_a_group(rt: &impl Abort, alloc: Global) -> bool {
     let mut at = running(rt, alloc, LEFT, 28, B, false);
@@ -352,11 +424,6 @@ fn finishes_a_group(rt: &impl Abort, alloc: Global) -> bool {
     let live = at.store.groups.count(group) == 1;
     let dropped = B.subtask_drop(&at.scenario.component, &mut at.store, 1, 1);
     live && dropped.is_ok() && at.store.groups.count(group) == 0
-}
-
-fn ends_as_cancelled(rt: &impl Abort, alloc: Global) -> bool {
-    let mut at = running(rt, alloc, CALLER, 29, A, false);
-    A.task_cancel(&at.scenario.component, &mut at.store).is_ok()
 }
 
 // The running thread's task lends so many things.
@@ -400,17 +467,41 @@ fn a_task_that_lends_does_not_return(rt: HostRuntime) {
     assert!(rt; returns_lending(&rt, rt.alloc(), 0).is_ok());
 }
 
-fn raises_backpressure(rt: &impl Abort, alloc: Global) -> bool {
-    let mut at = running(rt, alloc, CALLER, 3, B, false);
-    B.backpressure_modify(&at.scenario.component, &mut at.store, 1, true)
-        .is_ok()
+#[derive(Clone, Copy)]
+enum OfCalls {
+    Cancels,
+    Drops,
+    EndsAsCancelled,
+    RaisesBackpressure,
+}
+
+impl Asks for OfCalls {
+    fn asks(&self, at: &mut Midway, instance: Instance) -> bool {
+        let component = &at.scenario.component;
+        let store = &mut at.store;
+        match self {
+            OfCalls::Cancels => {
+                let end = instance.subtask_cancel(component, store, instance.index, true, 2);
+                matches!(end, Ok(Step::Done(4_294_967_295)))
+            }
+            OfCalls::Drops => instance
+                .subtask_drop(component, store, instance.index, 2)
+                .is_ok(),
+            OfCalls::EndsAsCancelled => instance.task_cancel(component, store).is_ok(),
+            OfCalls::RaisesBackpressure => instance
+                .backpressure_modify(component, store, instance.index, true)
+                .is_ok(),
+        }
+    }
 }
 
 #[test]
 fn a_thread_cancels_and_is_cancelled(rt: HostRuntime) {
-    assert!(rt; cancels(&rt, rt.alloc()) && drops(&rt, rt.alloc()));
+    assert!(rt; holds(&rt, rt.alloc(), &OfCalls::Cancels, CALLER, 5, B));
+    assert!(rt; holds(&rt, rt.alloc(), &OfCalls::Drops, CALLER, 17, B));
+    assert!(rt; holds(&rt, rt.alloc(), &OfCalls::EndsAsCancelled, CALLER, 29, A));
+    assert!(rt; holds(&rt, rt.alloc(), &OfCalls::RaisesBackpressure, CALLER, 3, B));
     assert!(rt; finishes_a_group(&rt, rt.alloc()));
-    assert!(rt; ends_as_cancelled(&rt, rt.alloc()) && raises_backpressure(&rt, rt.alloc()));
 }
 
 fn first_poll(rt: &impl Abort, alloc: Global, polls: Option<u32>) -> Option<u32> {

@@ -9,9 +9,9 @@ use Rattle.std.proofs.lemmas.Bool.Decides.{nat_tests}
 use Rattle.std.proofs.lemmas.Grind.{common_steps}
 use Rattle.std.proofs.lemmas.List.{length-take, map-append}
 use Rattle.task_machine.specs.declared.records.Notice.{Notice}
-use Rattle.task_group.specs.Listeners.{AnsweredErr, Listeners, told_of, Told, errors_of}
+use Rattle.task_group.specs.Listeners.{Listeners, told_of, Told}
 use Rattle.task_group.specs.Counts.{Counts}
-use Rattle.task_group.specs.Groups.{IsKnown, Switches, finish_number}
+use Rattle.task_group.specs.Groups.{IsKnown, Switches, finish_number, numbered}
 
 pub some_of : {X : Type 0} (o : Option X) (n : ℕ) → n ≢ 0 → (o ≡ None → n ≡ 0) → IsSome o
 some_of None n ne h = absurd (ne (h refl))
@@ -35,6 +35,14 @@ fewer false o n {made} live same other = let le = other live in grind (arith, na
 back : (b : Bool) (w o : Option ℕ) → (b ≡ true → o ≡ None) → cond b None (cond b w o) ≡ o
 back true w o h = sym (h refl)
 back false w o h = refl
+
+-- the next number is got where it is wanted
+pub numbered_next : (made number : ℕ) → number ≡ made + 1 → numbered made number ≡ made + 1
+numbered_next made number e = grind (arith, nat_tests, e)
+
+-- the number got is above those that were given
+pub numbered_above : (made number : ℕ) → made < numbered made number
+numbered_above made number = grind (arith, nat_tests)
 
 equal : (a b : ℕ) → (a == b) ≡ true → a ≡ b
 equal a b e = grind (arith, nat_tests)

@@ -1,5 +1,5 @@
 -- Groups of which it is known that they are live.
-use Rattle.std.proofs.Common.{Bool, ap, arith, false, refl, subst, sym, true, ◌∙◌, ◌≡◌, ℕ, ◌+◌, ◌≤◌, cond}
+use Rattle.std.proofs.Common.{Bool, arith, false, refl, subst, sym, true, ◌∙◌, ◌≡◌, ℕ, ◌+◌, ◌≤◌, cond}
 use Rattle.std.proofs.lemmas.Bool.Decides.{nat_tests}
 use Rattle.std.specs.Cmp.{nat_cmp_total, unsigned_tied}
 use Rattle.std.specs.FinMap as finite

@@ -1,5 +1,5 @@
 -- What a contract sees of the groups of a store, and which notices their calls give.
-use Rattle.std.specs.Prelude.{◌≡◌, ℕ, ◌≤◌, ◌==◌, List, [], ◌∷◌, map, Option, Some, None, Bool, true, false, is_some, IsSome, if◌then◌else◌, refl}
+use Rattle.std.specs.Prelude.{◌≡◌, ℕ, ◌+◌, ◌≤◌, ◌==◌, nat_lt, List, [], ◌∷◌, map, Option, Some, None, Bool, true, false, is_some, IsSome, if◌then◌else◌, refl}
 use Rattle.std.specs.Coded.{Coded, code_by, coded×, coded_ℕ}
 use Rattle.std.specs.FinMap as finite
 use Rattle.task_machine.specs.declared.records.Notice.{Notice}
@@ -28,6 +28,10 @@ groups_code =
 -- no live group has a number that wasn't given
 abbrev pub IsKnown : Counts → ℕ → Type 0
 IsKnown live made = (number : ℕ) → IsSome (finite.get live number) → number ≤ made
+
+-- the number of the next group, where this one is wanted: that one, if it is above those that were given
+abbrev pub numbered : (made number : ℕ) → ℕ
+numbered made number = if nat_lt made number then number else made + 1
 
 -- a notice of a group, which isn't told of a finished one or of none
 abbrev pub notice_at : Counts → NoticeKind → Option TaskGroupId → List Notice

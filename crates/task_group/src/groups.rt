@@ -3,7 +3,7 @@ ghost use Rattle.std.specs.FinMap as finite;
 ghost use Rattle.task_group.specs.Counts.{count_in, raised, lowered};
 ghost use Rattle.task_group.specs.Listeners.{nobody, Told, AnsweredErr, errors_of};
 ghost use Rattle.task_group.specs.Heard.{start_of};
-ghost use Rattle.task_group.specs.Groups.{notice_at, finish_at, finish_all, same_group, Switches};
+ghost use Rattle.task_group.specs.Groups.{notice_at, finish_at, finish_all, numbered, same_group, IsKnown, Switches};
 
 use crate::hook::{NoHook, TaskGroupHook};
 use crate::listeners::Listeners;
@@ -89,8 +89,7 @@ impl<H: TaskGroupHook> Groups<H> {
     ///
     /// `NoMemory` where there is none for it, or 2^64 - 1 is given, with all as before.
     pub fn prepare(&mut self, number: u64) -> Result<(), NoMemory>
-        ensures number { OnOk result (self.old.made < number → self.new.made ≡ number) }
-        ensures next { OnOk result (number ≤ self.old.made → self.new.made ≡ self.old.made + 1) }
+        ensures number { OnOk result (self.new.made ≡ numbered self.old.made number) }
         ensures ok { OnOk result (self.new ≡ record self.old { live = finite.insert self.old.live self.new.made 1; made = self.new.made }) }
         ensures err { OnErr result (self.new ≡ self.old) }
     {
@@ -130,19 +129,20 @@ impl<H: TaskGroupHook> Groups<H> {
     {
         let id = TaskGroupId { number: self.made };
         if self.listeners.tell(NoticeKind::Start, id).is_err() {
-            self.withdraw();
+            self.withdraw(id.number - 1);
             return Err(GroupError::HookFailed);
         }
         Ok(id)
     }
 
-    /// Takes back the group that was made last, which nobody is told: its number may be given again.
-    pub fn withdraw(&mut self)
-        requires { 0 < self.old.made }
-        ensures { self.new ≡ record self.old { live = finite.remove self.old.live self.old.made; made = self.old.made - 1 } }
+    /// Takes back the group that was made last, which nobody is told: from now on as many are counted as were before it,
+    /// and its number may be given again.
+    pub fn withdraw(&mut self, made: u64)
+        requires { IsKnown (finite.remove self.old.live self.old.made) made }
+        ensures { self.new ≡ record self.old { live = finite.remove self.old.live self.old.made; made = made } }
     {
         self.counts.remove(self.made);
-        self.made -= 1;
+        self.made = made;
     }
 
     /// One more task in the group; nothing where it is finished. A group has fewer than 2^32 tasks.

@@ -9,7 +9,8 @@ use Rattle.std.specs.Option.{option_map_or}
 use Rattle.std.specs.Prelude.{Err, IsSome, OnOk, false, List, None, Ok, Option, Result, Some, [], is_some, nat_lt, option_map, ℕ, ◌++◌, ◌+◌, ◌∷◌, ◌≡◌, ◌<◌, ◌≤◌}
 use Rattle.group_notices.proofs.MirrorLemmas.{mirror_more, mirror_same}
 use Rattle.group_notices.specs.Mirror.{Mirrors}
-use Rattle.task_group.specs.Groups.{Groups}
+use Rattle.task_group.proofs.GroupLemmas.{numbered_above, remove-above}
+use Rattle.task_group.specs.Groups.{Groups, IsKnown, numbered}
 use Rattle.task_group.specs.Heard.{Heard}
 use Rattle.task_group.specs.Listeners.{AnsweredErr, Listeners, Told}
 use Rattle.task_group.specs.declared.notice.GroupError.{GroupError}
@@ -92,6 +93,21 @@ pub start_made : (c : Component) (e : Callee) (words : List ℕ) (s : Core) → 
 unfolding main_started put_high push_high set_place on_thread call_made add_call add_thread add_group
 start_made c e words s = refl
 
+groups_is : (a b : Groups) → a.live ≡ b.live → a.made ≡ b.made → a.listeners ≡ b.listeners → a ≡ b
+groups_is a b live made listeners =
+    ap (λ l. record a { live = l }) live ∙ (ap (λ (k : ℕ). record b { made = k; listeners = a.listeners }) made ∙ ap (λ l. record b { listeners = l }) listeners)
+
+-- a group that was prepared is taken out of the live ones
+pub taken_back : (g m : Groups) (made number : ℕ) → IsKnown g.live made → made ≡ g.made → m ≡ record g { live = finite.insert g.live m.made 1; made = m.made } → m.made ≡ numbered g.made number →
+    finite.remove m.live m.made ≡ g.live
+taken_back g m made number known same ok next =
+    let above = numbered_above g.made number in
+    ap (λ (k : Groups). finite.remove k.live m.made) ok ∙ remove-above g.live made m.made 1 (omega (arith, same, next, above)) known
+
+-- the wanted number is got where it is above those that were given
+pub numbered_as : (made number : ℕ) → made < number → numbered made number ≡ number
+numbered_as made number less = grind (arith, nat_tests, less)
+
 -- a group of the next number was prepared and told of
 pub started_holds : (c : Component) (e : Callee) (words : List ℕ) (s t : Core) (g h : Groups) → t ≡ main_started c e words s → HoldsGroups g s → ((q : ℕ) → IsSome (finite.get g.live q) → q ≤ g.made) →
     h.live ≡ finite.insert g.live (s.made.groups + 1) 1 → h.made ≡ s.made.groups + 1 → is_some h.listeners.hook ≡ is_some g.listeners.hook → HoldsGroups h t
@@ -102,13 +118,13 @@ started_holds c e words s t g h is holds known live made hook = record {
   unhooked = hook ∙ holds.unhooked;
 }
 
--- a group that was prepared and taken back
-pub withdrawn_holds : (s : Core) (g h : Groups) → HoldsGroups g s → h.live ≡ g.live → h.made ≤ s.made.groups → h.listeners ≡ g.listeners → HoldsGroups h s
-withdrawn_holds s g h holds live made same = record {
-  made = made;
-  mirror = mirror_same s.groups g h live holds.mirror;
-  unhooked = ap (λ (l : Listeners). is_some l.hook) same ∙ holds.unhooked;
-}
+-- a group that was prepared and taken back leaves the groups as they were
+pub withdrawn : (g m h : Groups) (made number : ℕ) → IsKnown g.live made → made ≡ g.made → m ≡ record g { live = finite.insert g.live m.made 1; made = m.made } → m.made ≡ numbered g.made number →
+    h ≡ record m { live = finite.remove m.live m.made; made = made } → h ≡ g
+withdrawn g m h made number known same ok next is = groups_is h g
+    (ap (λ (k : Groups). k.live) is ∙ (taken_back g m made number known same ok next))
+    (ap (λ (k : Groups). k.made) is ∙ same)
+    (ap (λ (k : Groups). k.listeners) is ∙ ap (λ (k : Groups). k.listeners) ok)
 
 -- a store that is trapped has none
 pub trapped_holds : (s : Core) (g h : Groups) → HoldsGroups g s → Mirrors [] h → h.made ≡ g.made → is_some h.listeners.hook ≡ is_some g.listeners.hook → HoldsGroups h (set_trapped s)
@@ -151,10 +167,3 @@ finish_keeps g k s t Pending f h = subst (λ (u : StateView). HoldsGroups g u.co
 pub trapped_hosts : {T H : Type 0} (course : H → HostDef) (st : Store T H) (g : Groups) → HoldsHosts course st → HoldsHosts course (record st { state = on_core set_trapped st.state; groups = g })
 unfolding set_trapped
 trapped_hosts course st g h = record { each = h.each; first = h.first }
-
--- the number that was prepared is above those that were given
-pub is_above : (made number new : ℕ) → (made < number → new ≡ number) → (number ≤ made → new ≡ made + 1) → made < new
-is_above made number new more next = elim (decide (nat_lt made number)) [
-  | inl less ↦ let l : made < number = grind (arith, nat_tests, less) in let e = more l in omega (arith, l, e)
-  | inr other ↦ let l : number ≤ made = grind (arith, nat_tests, other) in let e = next l in omega (arith, l, e)
-]

@@ -1,4 +1,4 @@
-ghost use Rattle.std.specs.Prelude.{◌≡◌, ◌+◌, ◌<◌, ◌^◌, IfOk, IfSome, IsSome, None, OnErr, [], ◌∷◌, length};
+ghost use Rattle.std.specs.Prelude.{◌≡◌, ◌+◌, ◌<◌, ◌^◌, IfOk, IfSome, IsSome, None, OnErr, OnOk, [], ◌∷◌, false, is_some, length};
 ghost use Rattle.task_calls.specs.Calls.{Finishes, Starts};
 ghost use Rattle.task_calls.specs.Untrapped.{StartsUntrapped};
 ghost use Rattle.task_loop.specs.Calls.{callee_of, number_of_start};
@@ -6,7 +6,7 @@ ghost use Rattle.task_machine.specs.declared.records.Turn.{Turn};
 ghost use Rattle.task_rules.specs.MainOps.{start_refusal};
 ghost use Rattle.task_rules.specs.Scripts.{export_at};
 ghost use Rattle.task_machine.specs.declared.component.HostDef.{HostDef};
-ghost use Rattle.task_group.specs.Groups.{finish_all};
+ghost use Rattle.task_group.specs.Groups.{finish_all, numbered};
 ghost use Rattle.task_group.specs.Listeners.{Told};
 ghost use Rattle.task_machine.specs.declared.records.NoticeKind.{NoticeKind};
 ghost use Rattle.task_rules.specs.Notices.{told_of};
@@ -96,7 +96,9 @@ impl Func {
         ensures hosts { (course : H → HostDef) → HoldsHosts course store.old → HoldsHosts course store.new }
         ensures groups { HoldsGroups store.old.groups store.old.state.core → HoldsGroups store.new.groups store.new.state.core }
         ensures told { HoldsGroups store.old.groups store.old.state.core → IfOk result (λ call. Told (told_of NoticeKind.Start call.group ∷ []) store.old.groups.listeners store.new.groups.listeners) }
+        ensures counted { is_some store.old.groups.listeners.hook ≡ false → OnOk result (store.new.groups.made ≡ numbered store.old.groups.made (store.old.state.core.made.groups + 1)) }
         ensures refused { OnErr result (Told (finish_all store.old.groups.live) store.old.groups.listeners store.new.groups.listeners) }
+        ensures made { OnErr result (store.new.groups.made ≡ store.old.groups.made) }
         ensures rest { store.new ≡ record store.old { state = store.new.state; groups = store.new.groups } }
     {
         match self.start_untrapped(component, store, params) {
@@ -129,7 +131,8 @@ impl Func {
         ensures groups { HoldsGroups store.old.groups store.old.state.core → HoldsGroups store.new.groups store.new.state.core }
         ensures told { HoldsGroups store.old.groups store.old.state.core → IfOk result (λ call. Told (told_of NoticeKind.Start call.group ∷ []) store.old.groups.listeners store.new.groups.listeners) }
         ensures rest { store.new ≡ record store.old { state = store.new.state; groups = store.new.groups } }
-        ensures refused { OnErr result ((store.new.groups.live ≡ store.old.groups.live) × (store.new.groups.listeners ≡ store.old.groups.listeners)) }
+        ensures counted { is_some store.old.groups.listeners.hook ≡ false → OnOk result (store.new.groups.made ≡ numbered store.old.groups.made (store.old.state.core.made.groups + 1)) }
+        ensures refused { OnErr result (store.new.groups ≡ store.old.groups) }
     {
         match start_refusal(&store.state) {
             Some(trap) => Err(TaskError::Trap(trap)),
@@ -157,10 +160,11 @@ impl Func {
         ensures groups { HoldsGroups store.old.groups store.old.state.core → HoldsGroups store.new.groups store.new.state.core }
         ensures told { HoldsGroups store.old.groups store.old.state.core → IfOk result (λ call. Told (told_of NoticeKind.Start call.group ∷ []) store.old.groups.listeners store.new.groups.listeners) }
         ensures rest { store.new ≡ record store.old { state = store.new.state; groups = store.new.groups } }
-        ensures refused { OnErr result ((store.new.groups.live ≡ store.old.groups.live) × (store.new.groups.listeners ≡ store.old.groups.listeners)) }
+        ensures counted { is_some store.old.groups.listeners.hook ≡ false → OnOk result (store.new.groups.made ≡ numbered store.old.groups.made (store.old.state.core.made.groups + 1)) }
+        ensures refused { OnErr result (store.new.groups ≡ store.old.groups) }
     {
         let group = store.state.made().groups + 1;
-        let _made = store.groups.made();
+        let made = store.groups.made();
         let Ok(()) = store.groups.prepare(group) else {
             return Err(TaskError::NoMemory);
         };
@@ -170,7 +174,7 @@ impl Func {
                 Ok(FuncCallConcurrent { thread, group })
             }
             Err(e) => {
-                store.groups.withdraw();
+                store.groups.withdraw(made);
                 Err(e)
             }
         }

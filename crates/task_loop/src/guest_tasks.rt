@@ -48,7 +48,7 @@ fn make_with_group<T, H>(
         return Err(TaskError::Trap(Trap::TableFull));
     }
     let group = store.state.made().groups + 1;
-    let _made = store.groups.made();
+    let made = store.groups.made();
     let Ok(()) = store.groups.prepare(group) else {
         return Err(TaskError::NoMemory);
     };
@@ -58,7 +58,7 @@ fn make_with_group<T, H>(
             Ok(id)
         }
         Err(e) => {
-            store.groups.withdraw();
+            store.groups.withdraw(made);
             Err(e)
         }
     }

@@ -1,9 +1,8 @@
 use Rattle.std.proofs.Common.{ap, subst, sym, ◌∙◌}
 use Rattle.std.specs.Prelude.{Err}
 use Rattle.task_calls.proofs.ApartLemmas.{trap_in_order}
-use Rattle.task_group.specs.Counts.{Counts}
-use Rattle.task_group.specs.Groups.{finish_all}
-use Rattle.task_group.specs.Listeners.{Listeners, Told}
+use Rattle.task_group.specs.Groups.{Groups, finish_all}
+use Rattle.task_group.specs.Listeners.{Told}
 use Rattle.task_loop.proofs.StartLemmas.{refused_starts, trapped_holds, trapped_hosts}
 use Rattle.task_loop.proofs.call.Func.start_call_concurrent.Goals as goal
 use Rattle.task_loop.specs.Calls.{callee_of}
@@ -38,7 +37,7 @@ returns-in-Err-clause-groups g c = λ holds.
 
 pub returns-in-Err-clause-refused : goal.returns-in-Err-clause-refused
 returns-in-Err-clause-refused g c =
-    let new = c.set_trapped.new.self.groups.listeners in
-    let same = c.in-Err.ensures.refused in
-    subst (λ (l : Listeners). Told (finish_all c.args.store.now.groups.live) l new) same.1
-    (subst (λ (k : Counts). Told (finish_all k) c.start_untrapped.new.store.groups.listeners new) same.0 c.set_trapped.ensures.told)
+    subst (λ (k : Groups). Told (finish_all k.live) k.listeners c.set_trapped.new.self.groups.listeners) c.in-Err.ensures.refused c.set_trapped.ensures.told
+
+pub returns-in-Err-clause-made : goal.returns-in-Err-clause-made
+returns-in-Err-clause-made g c = c.set_trapped.ensures.made ∙ ap (λ (k : Groups). k.made) c.in-Err.ensures.refused

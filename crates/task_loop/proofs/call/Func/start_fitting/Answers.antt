@@ -2,9 +2,9 @@ use Rattle.std.proofs.Common.{ap, arith, subst, sym, ◌+◌, ◌-◌, ◌∙◌
 use Rattle.std.specs.FinMap as finite
 use Rattle.std.specs.Prelude.{Err, IsSome, None, Ok, Option, [], false, is_some, ℕ, ◌∷◌}
 use Rattle.task_calls.specs.Untrapped.{StartsUntrapped}
-use Rattle.task_group.proofs.GroupLemmas.{remove-above}
-use Rattle.task_group.specs.Groups.{Groups}
-use Rattle.task_loop.proofs.StartLemmas.{announced, is_above, started_holds, untrapped_holds, withdrawn_holds}
+use Rattle.task_group.specs.Counts.{Counts}
+use Rattle.task_group.specs.Groups.{Groups, IsKnown, numbered}
+use Rattle.task_loop.proofs.StartLemmas.{announced, numbered_as, started_holds, taken_back, untrapped_holds, withdrawn}
 use Rattle.task_loop.proofs.call.Func.start_fitting.Goals as goal
 use Rattle.task_machine.specs.declared.trap.Trap.{Trap}
 use Rattle.task_rules.specs.MainOps.{start_refusal}
@@ -35,7 +35,7 @@ returns-in-Ok-start_untrapped-clause-groups g c = λ holds.
     let ok = c.in-Ok.ensures.ok in
     let below = holds.made in
     let core_made = ap (λ m. m.groups) c.made-group.ensures in
-    let made : mid.made ≡ s.core.made.groups + 1 = c.in-Ok.ensures.number (omega (arith, below, core_made)) ∙ ap (λ k. k + 1) core_made in
+    let made : mid.made ≡ s.core.made.groups + 1 = c.in-Ok.ensures.number ∙ numbered_as g0.made _ (omega (arith, below, core_made)) ∙ ap (λ k. k + 1) core_made in
     let hook : is_some mid.listeners.hook ≡ false = ap (λ (k : Groups). is_some k.listeners.hook) ok ∙ holds.unhooked in
     let told = c.announce-told.ensures in
     let same = announced ((new.live ≡ mid.live) × (new.made ≡ mid.made)) c.announce-told.result _ mid.listeners new.listeners hook told.told told.failed.0 told.no_other told.groups in
@@ -55,35 +55,35 @@ returns-in-Ok-start_untrapped-clause-told g c = λ holds.
     let ok = c.in-Ok.ensures.ok in
     let below = holds.made in
     let core_made = ap (λ m. m.groups) c.made-group.ensures in
-    let made : mid.made ≡ s.core.made.groups + 1 = c.in-Ok.ensures.number (omega (arith, below, core_made)) ∙ ap (λ k. k + 1) core_made in
+    let made : mid.made ≡ s.core.made.groups + 1 = c.in-Ok.ensures.number ∙ numbered_as g0.made _ (omega (arith, below, core_made)) ∙ ap (λ k. k + 1) core_made in
     let hook : is_some mid.listeners.hook ≡ false = ap (λ (k : Groups). is_some k.listeners.hook) ok ∙ holds.unhooked in
     subst (λ (l : Listeners). Told (told_of notice.Start (c.made-group.result.groups + 1) ∷ []) l new.listeners) (ap (λ (k : Groups). k.listeners) ok)
     (subst (λ (k : ℕ). Told (told_of notice.Start k ∷ []) mid.listeners new.listeners) (made ∙ ap (λ k. k + 1) (sym core_made)) c.announce-told.ensures.told)
 
+pub returns-in-Ok-start_untrapped-clause-counted : goal.returns-in-Ok-start_untrapped-clause-counted
+returns-in-Ok-start_untrapped-clause-counted g c = λ none.
+    let g0 = c.args.store.now.groups in
+    let mid = c.prepare.new.self in
+    let new = c.announce-told.new.self in
+    let ok = c.in-Ok.ensures.ok in
+    let hook : is_some mid.listeners.hook ≡ false = ap (λ (k : Groups). is_some k.listeners.hook) ok ∙ none in
+    let told = c.announce-told.ensures in
+    let same = announced ((new.live ≡ mid.live) × (new.made ≡ mid.made)) c.announce-told.result _ mid.listeners new.listeners hook told.told told.failed.0 told.no_other told.groups in
+    same.1 ∙ (c.in-Ok.ensures.number ∙ ap (λ m. numbered g0.made (m.groups + 1)) c.made-group.ensures)
+
+pub withdraw-requires : goal.withdraw-requires
+withdraw-requires g c =
+    let g0 = c.args.store.now.groups in
+    subst (λ (k : Counts). IsKnown k c.made-made.result) (sym (taken_back g0 c.prepare.new.self c.made-made.result _ c.made-made.ensures.known c.made-made.ensures.value c.in-Ok.ensures.ok c.in-Ok.ensures.number)) c.made-made.ensures.known
+
 pub returns-in-Err-clause-groups : goal.returns-in-Err-clause-groups
 returns-in-Err-clause-groups g c = λ holds.
     let s = c.args.store.now.state in
-    let g0 = c.args.store.now.groups in
-    let mid = c.prepare.new.self in
     let new = c.withdraw.new.self in
-    let ok = c.in-Ok.ensures.ok in
-    let below = holds.made in
-    let core_made = ap (λ m. m.groups) c.made-group.ensures in
-    let made : mid.made ≡ s.core.made.groups + 1 = c.in-Ok.ensures.number (omega (arith, below, core_made)) ∙ ap (λ k. k + 1) core_made in
+    let same = withdrawn c.args.store.now.groups c.prepare.new.self new c.made-made.result _ c.made-made.ensures.known c.made-made.ensures.value c.in-Ok.ensures.ok c.in-Ok.ensures.number c.withdraw.ensures in
     let starts = subst (λ (o : Option Trap). StartsUntrapped c.args.component.now c.callee.result c.args.params.now s o (Err c.in-Err.e) c.start_untrapped.new.w) c.requires.fits c.in-Err.ensures.starts in
-    let known : (q : ℕ) → IsSome (finite.get g0.live q) → q ≤ g0.made = λ q there. subst (λ (k : ℕ). q ≤ k) c.made-made.ensures.value (c.made-made.ensures.known q there) in
-    let live : new.live ≡ g0.live = ap (λ (k : Groups). k.live) c.withdraw.ensures ∙ (ap (λ (k : Groups). finite.remove k.live mid.made) ok ∙ remove-above g0.live g0.made mid.made 1 (omega (arith, made, below)) known) in
-    let less : new.made ≡ mid.made - 1 = ap (λ (k : Groups). k.made) c.withdraw.ensures in
-    subst (λ (v : StateView). HoldsGroups new v.core) (sym starts.1)
-    (withdrawn_holds s.core g0 new holds live (omega (arith, made, less)) (ap (λ (k : Groups). k.listeners) c.withdraw.ensures ∙ ap (λ (k : Groups). k.listeners) ok))
+    subst (λ (v : StateView). HoldsGroups new v.core) (sym starts.1) (subst (λ (k : Groups). HoldsGroups k s.core) (sym same) holds)
 
 pub returns-in-Err-clause-refused : goal.returns-in-Err-clause-refused
 returns-in-Err-clause-refused g c =
-    let g0 = c.args.store.now.groups in
-    let mid = c.prepare.new.self in
-    let ok = c.in-Ok.ensures.ok in
-    let above = is_above g0.made (c.made-group.result.groups + 1) mid.made c.in-Ok.ensures.number c.in-Ok.ensures.next in
-    let known : (q : ℕ) → IsSome (finite.get g0.live q) → q ≤ g0.made = λ q there. subst (λ (k : ℕ). q ≤ k) c.made-made.ensures.value (c.made-made.ensures.known q there) in (
-      ap (λ (k : Groups). k.live) c.withdraw.ensures ∙ (ap (λ (k : Groups). finite.remove k.live mid.made) ok ∙ remove-above g0.live g0.made mid.made 1 above known),
-      ap (λ (k : Groups). k.listeners) c.withdraw.ensures ∙ ap (λ (k : Groups). k.listeners) ok,
-    )
+    withdrawn c.args.store.now.groups c.prepare.new.self c.withdraw.new.self c.made-made.result _ c.made-made.ensures.known c.made-made.ensures.value c.in-Ok.ensures.ok c.in-Ok.ensures.number c.withdraw.ensures
