@@ -31,7 +31,7 @@ open_for None = refl
 open_for (Some n) = refl
 
 -- in order, whichever the component is, no wake is lost
-sits_loses : (c : Component) (o : Option ℕ) (s : Core) → Sits c (turn_for o) s → NoWakeLost s
+pub sits_loses : (c : Component) (o : Option ℕ) (s : Core) → Sits c (turn_for o) s → NoWakeLost s
 unfolding OrderStands
 sits_loses c o s sits = order_stands c (state_at s Unscripted (turn_for o)) (sits.order Unscripted) (open_for o)
 

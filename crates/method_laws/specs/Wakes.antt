@@ -1,14 +1,23 @@
 -- An op that a host has the running thread do loses no wake, whichever op stands at the thread's place.
 use Rattle.op_dispatch.specs.Goes.{running_of}
-use Rattle.order_laws.specs.Anywhere.{MayAsk, is_asked}
-use Rattle.std.specs.Prelude.{IfSome, Some, true, ℕ, ◌≡◌, ◌⊎◌}
+use Rattle.method_laws.specs.Methods.{Rests}
+use Rattle.order_laws.specs.Anywhere.{MayAsk, host_row, is_asked}
+use Rattle.order_laws.specs.Pieces.{IsPrepared}
+use Rattle.state_calls.specs.declared.names.QualifiedThreadId.{QualifiedThreadId}
+use Rattle.std.specs.Prelude.{IfSome, List, None, Option, Some, false, true, ℕ, ◌≡◌, ◌⊎◌}
 use Rattle.task_calls.specs.Asks.{Did, IsAtPlace, row_of}
+use Rattle.task_calls.specs.Directs.{enters_row}
+use Rattle.task_calls.specs.Prepared.{starts_in}
+use Rattle.task_machine.specs.Read.{is_async_lifted}
+use Rattle.task_machine.specs.declared.component.Callee.{Callee}
 use Rattle.task_machine.specs.declared.component.Component.{Component}
+use Rattle.task_machine.specs.declared.component.HostDef.{HostDef}
 use Rattle.task_machine.specs.declared.op.Op.{Op}
 use Rattle.task_machine.specs.declared.records.Turn.TheVariants as turn
 use Rattle.task_ops.specs.declared.came.Came.{Came}
+use Rattle.task_rules.specs.Scripts.{export_kind}
 use Rattle.task_turns.specs.Turn.{Sits}
-use Rattle.task_words.specs.StateView.{StateView}
+use Rattle.task_words.specs.StateView.{StateView, thread_of, with_core, with_current}
 use Rattle.wake_laws.specs.Stands.{NoWakeLost}
 
 -- The op is the one at the running thread's place, by its row; or it names neither an export nor a host, and no op of the thread is under
@@ -20,3 +29,20 @@ MayBegin c o s = IsAtPlace c (row_of c o s.core) s ⊎ ((is_asked o ≡ true) ×
 unfoldable pub OpsLoseNone : Type 0
 OpsLoseNone = (c : Component) (o : Op) (n : ℕ) (r : Came) (s t : StateView) → running_of s ≡ Some n → Sits c (turn.Run n) s.core →
     MayBegin c o s → Did (row_of c o s.core) s r t → NoWakeLost t.core
+
+-- ---- Calls
+
+-- where the start of a call was queued that had been prepared
+unfoldable pub StartsLose : Type 0
+StartsLose = (c : Component) (n : ℕ) (s t : StateView) (id : QualifiedThreadId) → Rests c n s → MayAsk c n s.core →
+    IsPrepared n (thread_of s id.thread) s.core → t ≡ with_current None (with_core (starts_in n id s) s) → NoWakeLost t.core
+
+-- where an export was called directly, or that was refused
+unfoldable pub EntersLose : Type 0
+EntersLose = (c : Component) (n : ℕ) (e : Callee) (words : List ℕ) (r : Came) (s t : StateView) → Rests c n s → MayAsk c n s.core →
+    is_async_lifted (export_kind c e) ≡ false → Did (enters_row c e words s.core) s r t → NoWakeLost t.core
+
+-- where a host was called, or that was refused
+unfoldable pub HostsLose : Type 0
+HostsLose = (c : Component) (host : HostDef) (q : Option ℕ) (n : ℕ) (r : Came) (s t : StateView) → Rests c n s → MayAsk c n s.core →
+    Did (λ k ch. host_row q host k s.core) s r t → NoWakeLost t.core

@@ -1,4 +1,4 @@
-ghost use Rattle.method_laws.specs.Wakes.{OpsLoseNone};
+ghost use Rattle.method_laws.specs.Wakes.{EntersLose, HostsLose, OpsLoseNone, StartsLose};
 
 /// An op that a host has the running thread do loses no wake, as far as it came, where it is the op at the
 /// thread's place; or where no op of the thread is under way and it names neither an export nor a host,
@@ -6,4 +6,13 @@ ghost use Rattle.method_laws.specs.Wakes.{OpsLoseNone};
 #[tactic(auto, using(crate::proofs::WakeLemmas::ops_lose_none))]
 pub fn ops_lose_none()
     ensures { OpsLoseNone }
+{}
+
+/// A call that was started after it was prepared, a direct call and a call of a host lose no wake,
+/// whichever op stands at the thread's place; nor does a refusal.
+#[tactic(auto, using(crate::proofs::CallLemmas::starts_lose, crate::proofs::CallLemmas::enters_lose, crate::proofs::CallLemmas::hosts_lose))]
+pub fn calls_lose_none()
+    ensures start { StartsLose }
+    ensures enter { EntersLose }
+    ensures host { HostsLose }
 {}

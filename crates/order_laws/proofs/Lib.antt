@@ -24,4 +24,5 @@ mod PlaceWrites
 mod PlaceRows
 pub mod PlaceLaws
 pub mod PlaceOrder
+pub mod PlaceCalls
 mod ThereLemmas

@@ -55,7 +55,7 @@ module _ (c : Component) (o : Op) (n : ℕ) (s : Core) (ch : Choice) where
   tail_alike (Op.Call (CallOp.CallSyncHost r f)) on = absurd (cc)
   tail_alike k on = refl
 
-unending : (o : Op) → is_asked o ≡ true → ends_activation o ≡ false
+pub unending : (o : Op) → is_asked o ≡ true → ends_activation o ≡ false
 unending o on = grind arith
 
 -- ---- What the row leads to
@@ -121,7 +121,7 @@ next_place x t n q m l (Traps w) h same to = absurd (let over = ap (λ (v : Stat
 next_place x t n q m l (Fails i) h same to = absurd (let over = ap (λ (v : State). v.turn) h.1 in cc)
 next_place x t n q m l Never h same to = absurd h
 
-module _ (c : Component) (o : Op) (n : ℕ) (s : Core) (asked : is_asked o ≡ true) (may : MayAsk c n s) (h : Orderly c (Turn.Run n) s) where
+module _ (c : Component) (o : Op) (n : ℕ) (s : Core) (plain : ends_activation o ≡ false) (may : MayAsk c n s) (h : Orderly c (Turn.Run n) s) where
   abbrev pub d : Component
   d = tailed o c
 
@@ -129,7 +129,7 @@ module _ (c : Component) (o : Op) (n : ℕ) (s : Core) (asked : is_asked o ≡ t
   old = h Unscripted
 
   pub it : IsThere c o n s
-  it = goes_there c n o s (unending o asked) may.fresh may.serves h
+  it = goes_there c n o s plain may.fresh may.serves h
 
   abbrev pub q : ℕ
   q = last_of c it.thread s
@@ -146,35 +146,51 @@ module _ (c : Component) (o : Op) (n : ℕ) (s : Core) (asked : is_asked o ≡ t
   pub before : Orderly d (Turn.Run n) there
   before = subst (λ (u : Core). Orderly d (Turn.Run n) u) same_far it.order
 
+  pub op_is : op_of d n there ≡ o
+  op_is = ap (op_of d n) (sym same_far) ∙ it.op
+
   -- its number isn't that of the next thread
   pub not_next : (n == s.made.threads + 1) ≡ false
   not_next =
-      let low = (old.in_place.placed n).number (let runs = old.in_place.runs n refl in ap (λ (p : Option Place). is_some p) runs) in
+      let low = (old.in_place.placed n).number (let runs = old.in_place.runs n refl in ap (λ (x : Option Place). is_some x) runs) in
       grind (arith, nat_tests, low)
 
-  row : (ch : Choice) → did d n there ch ≡ relocated n q (op_row c n s ch o)
-  unfolding did
-  row ch = ap (op_row d n there ch) (ap (op_of d n) (sym same_far) ∙ it.op) ∙ (tail_alike c o n there ch o asked ∙ rows_alike n q c s may.fresh not_next ch o asked)
+-- the row at any place, in the component that has the op at the end of the script
+abbrev pub IsBlind : Component → Op → ℕ → Core → (Choice → Progress) → Type 0
+IsBlind c o n s row = (n == s.made.threads + 1) ≡ false → (q : ℕ) (ch : Choice) → op_row (tailed o c) n (set_position n q s) ch o ≡ relocated n q (row ch)
 
-  module _ (l : Label) (t : State) (progress : Progresses (state_in Unscripted (Turn.Run n) s) s n (op_row c n s (choice_of l) o) l t)
-      (on : is_open t.turn ≡ true) where
-    pub next : Leads (state_in Unscripted (Turn.Run n) s) t n q l (op_row c n s (choice_of l) o)
-    next = leads (state_in Unscripted (Turn.Run n) s) t n q l (op_row c n s (choice_of l) o) progress on
+module _ (c : Component) (o : Op) (n : ℕ) (s : Core) (plain : ends_activation o ≡ false) (may : MayAsk c n s) (h : Orderly c (Turn.Run n) s)
+    (p : Choice → Progress) (blind : IsBlind c o n s p) where
+  abbrev place : ℕ
+  place = q c o n s plain may h
+
+  row : (ch : Choice) → did (tailed o c) n (set_position n place s) ch ≡ relocated n place (p ch)
+  unfolding did
+  row ch = ap (op_row (tailed o c) n (set_position n place s) ch) (op_is c o n s plain may h) ∙ blind (not_next c o n s plain may h) place ch
+
+  module _ (l : Label) (t : State) (progress : Progresses (state_in Unscripted (Turn.Run n) s) s n (p (choice_of l)) l t) (on : is_open t.turn ≡ true) where
+    pub next : Leads (state_in Unscripted (Turn.Run n) s) t n place l (p (choice_of l))
+    next = leads (state_in Unscripted (Turn.Run n) s) t n place l (p (choice_of l)) progress on
 
     abbrev pub y : Main → State
-    y m = state_in m (Turn.Run n) there
+    y m = state_in m (Turn.Run n) (set_position n place s)
 
-    pub steps : (m : Main) → Step (setting_for d) (y m) l (goes_to (y m) next.core next.turn)
+    pub steps : (m : Main) → Step (setting_for (tailed o c)) (y m) l (goes_to (y m) next.core next.turn)
     unfolding Step
-    steps m = subst (λ (p : Progress). Progresses (y m) there n p l (goes_to (y m) next.core next.turn)) (sym (row (choice_of l))) (next.goes (y m))
+    steps m = subst (λ (x : Progress). Progresses (y m) (set_position n place s) n x l (goes_to (y m) next.core next.turn)) (sym (row (choice_of l))) (next.goes (y m))
 
-    pub after : (m : Main) → InOrder d (goes_to (y m) next.core next.turn)
-    after m = step_in_order (setting_for d) (y m) l _ (before m) (steps m)
+    pub after : (m : Main) → InOrder (tailed o c) (goes_to (y m) next.core next.turn)
+    after m = step_in_order (setting_for (tailed o c)) (y m) l _ (before c o n s plain may h m) (steps m)
 
-    loses_none : NoWakeLost t.core
+    pub loses_none : NoWakeLost t.core
     unfolding OrderStands at_turn
-    loses_none = stands_anywhere n next.place t.core (subst NoWakeLost next.is (order_stands d _ (after Unscripted) next.open_turn))
+    loses_none = stands_anywhere n next.place t.core (subst NoWakeLost next.is (order_stands (tailed o c) _ (after Unscripted) next.open_turn))
+
+-- the rows of ops that name neither an export nor a host
+pub asked_rows : (c : Component) (o : Op) (n : ℕ) (s : Core) → is_asked o ≡ true → MayAsk c n s → IsBlind c o n s (λ ch. op_row c n s ch o)
+asked_rows c o n s asked may other q ch = tail_alike c o n (set_position n q s) ch o asked ∙ rows_alike n q c s may.fresh other ch o asked
 
 pub rows_lose_none : RowsLoseNone
 unfolding RowsLoseNone
-rows_lose_none c o n s l t asked may order progress on = loses_none c o n s asked may order l t progress on
+rows_lose_none c o n s l t asked may order progress on =
+    loses_none c o n s (unending o asked) may order (λ ch. op_row c n s ch o) (asked_rows c o n s asked may) l t progress on

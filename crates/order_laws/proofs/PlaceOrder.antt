@@ -5,7 +5,7 @@ use Rattle.task_places.proofs.Laws.{[], after_word, along, ap, arith, at_place, 
 use Rattle.task_rules.proofs.Machine.{ap₂, NoWord, position_of, same_map, TaskOp, Then}
 use Rattle.order_laws.proofs.EndCounts.{moved_counted}
 use Rattle.order_laws.proofs.PieceLemmas.{piece_keeps, setting_for, walk_instances}
-use Rattle.order_laws.proofs.PlaceLaws.{Leads, after as steps_after, before as there_before, it as goes, next as leads_on, next_place, not_next, steps}
+use Rattle.order_laws.proofs.PlaceLaws.{asked_rows, unending, Leads, after as steps_after, before as there_before, it as goes, next as leads_on, next_place, not_next, steps}
 use Rattle.order_laws.proofs.PlaceRows.{rows_alike}
 use Rattle.order_laws.proofs.TailLemmas.{any_tailed, kinds_same, longer, names_same, op_past, op_tailed, order_as, tailed, with_tail}
 use Rattle.order_laws.proofs.ThereLemmas.{IsThere, last_of}
@@ -29,7 +29,7 @@ module _ (c : Component) (o : Op) (n : ℕ) (s : Core) (asked : is_asked o ≡ t
   on = ap (λ (p : Turn). is_open p) to
 
   abbrev it : IsThere c o n s
-  it = goes c o n s asked may h
+  it = goes c o n s (unending o asked) may h
 
   abbrev q : ℕ
   q = last_of c it.thread s
@@ -38,7 +38,7 @@ module _ (c : Component) (o : Op) (n : ℕ) (s : Core) (asked : is_asked o ≡ t
   there = set_position n q s
 
   abbrev next : Leads (state_in Unscripted (Turn.Run n) s) t n q l (op_row c n s (choice_of l) o)
-  next = leads_on c o n s asked may h l t progress on
+  next = leads_on c o n s (unending o asked) may h (λ ch. op_row c n s ch o) (asked_rows c o n s asked may) l t progress on
 
   abbrev w : Core
   w = next.core
@@ -48,15 +48,15 @@ module _ (c : Component) (o : Op) (n : ℕ) (s : Core) (asked : is_asked o ≡ t
 
   in_d : Orderly d (Turn.Run n) w
   unfolding at_turn
-  in_d m = subst (λ (p : Turn). InOrder d (goes_to (state_in m (Turn.Run n) there) w p)) (next.on n to).0 (steps_after c o n s asked may h l t progress on m)
+  in_d m = subst (λ (p : Turn). InOrder d (goes_to (state_in m (Turn.Run n) there) w p)) (next.on n to).0 (steps_after c o n s (unending o asked) may h (λ ch. op_row c n s ch o) (asked_rows c o n s asked may) l t progress on m)
 
   abbrev in_s : Orderly d (Turn.Run n) there
-  in_s = there_before c o n s asked may h
+  in_s = there_before c o n s (unending o asked) may h
 
   -- ---- Where threads are in their scripts
 
   walked : Walked (setting_for d) (state_in Unscripted (Turn.Run n) there) l (goes_to (state_in Unscripted (Turn.Run n) there) w next.turn)
-  walked = step_walks _ _ _ _ (steps c o n s asked may h l t progress on Unscripted)
+  walked = step_walks _ _ _ _ (steps c o n s (unending o asked) may h (λ ch. op_row c n s ch o) (asked_rows c o n s asked may) l t progress on Unscripted)
 
   abbrev a : Scene
   a = scene_of (setting_for d) (state_in Unscripted (Turn.Run n) there) l walked.next
@@ -237,7 +237,7 @@ module _ (c : Component) (o : Op) (n : ℕ) (s : Core) (asked : is_asked o ≡ t
 module _ (c : Component) (o : Op) (n : ℕ) (s : Core) (asked : is_asked o ≡ true) (may : MayAsk c n s) (h : Orderly c (Turn.Run n) s) where
   stays : set_position n (position_of n s) s ≡ s
   unfolding set_position on_thread
-  stays = let here = (goes c o n s asked may h).here in let r = (goes c o n s asked may h).thread in
+  stays = let here = (goes c o n s (unending o asked) may h).here in let r = (goes c o n s (unending o asked) may h).thread in
       ap (λ (ts : Records Thread). record s { threads = ts }) (same_map _ _ (λ i. by_number i n _
       (λ is. let same : record r { position = position_of n s } ≡ r = ap (λ (k : ℕ). record r { position = k }) (grind (arith, here)) in
       grind (arith, nat_tests, get-change, is, here, same)) (λ other. grind (arith, nat_tests, get-change, other))))
@@ -248,7 +248,7 @@ module _ (c : Component) (o : Op) (n : ℕ) (s : Core) (asked : is_asked o ≡ t
   goes_on m l t progress to =
       let k = position_of n s in
       next_place (state_in Unscripted (Turn.Run n) s) t n k m l (op_row c n s (choice_of l) o) progress
-      (ap (λ (u : Core). op_row c n u (choice_of l) o) (sym stays) ∙ rows_alike n k c s may.fresh (not_next c o n s asked may h) (choice_of l) o asked) to
+      (ap (λ (u : Core). op_row c n u (choice_of l) o) (sym stays) ∙ rows_alike n k c s may.fresh (not_next c o n s (unending o asked) may h) (choice_of l) o asked) to
 
 pub rows_keep_order : RowsKeepOrder
 unfolding RowsKeepOrder

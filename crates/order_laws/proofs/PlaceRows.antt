@@ -55,23 +55,23 @@ module _ (n q : ℕ) where
   abbrev next : Core → Core
   next s = set_position n (q + 1) s
 
-  done : (s : Core) → advanced n (at s) ≡ next (advanced n s)
+  pub done : (s : Core) → advanced n (at s) ≡ next (advanced n s)
   unfolding advanced moved_to set_how_far set_position on_thread
   done s = ap (λ (ts : Records Thread). record s { threads = ts }) (same_map _ _ (λ i. grind (arith, nat_tests, get-change)))
 
-  given : (r v : ℕ) (s : Core) → assigned n r v (at s) ≡ next (assigned n r v s)
+  pub given : (r v : ℕ) (s : Core) → assigned n r v (at s) ≡ next (assigned n r v s)
   unfolding assigned
   given r v s = simp (by_words, done)
 
-  replied : (r v : ℕ) (s : Core) → answered n r v (at s) ≡ next (answered n r v s)
+  pub replied : (r v : ℕ) (s : Core) → answered n r v (at s) ≡ next (answered n r v s)
   unfolding answered
   replied r v s = simp (by_words, given)
 
-  taken : (r : ℕ) (g : Gift) (v : Given) (s : Core) → received n r g v (at s) ≡ next (received n r g v s)
+  pub taken : (r : ℕ) (g : Gift) (v : Given) (s : Core) → received n r g v (at s) ≡ next (received n r g v s)
   unfolding received set_given
   taken r g v s = simp (same_parts, by_words, by_moves, done)
 
-ruleset ends = (done, given, replied, taken)
+pub ruleset ends = (done, given, replied, taken)
 
 -- ---- Tasks
 

@@ -129,7 +129,7 @@ module _ (n q : ℕ) where
 
   -- ---- Threads
 
-  on_other : (m : ℕ) (f : Thread → Thread) → ((t : Thread) → f (record t { position = q }) ≡ record (f t) { position = q }) → (s : Core) → on_thread m f (moved s) ≡ moved (on_thread m f s)
+  pub on_other : (m : ℕ) (f : Thread → Thread) → ((t : Thread) → f (record t { position = q }) ≡ record (f t) { position = q }) → (s : Core) → on_thread m f (moved s) ≡ moved (on_thread m f s)
   unfolding set_position on_thread
   on_other m f still s = ap (λ (ts : Records Thread). record s { threads = ts }) (same_map _ _ (λ i. grind (arith, nat_tests, get-change, still)))
 

@@ -1,4 +1,4 @@
-ghost use Rattle.order_laws.specs.Anywhere.{RowsKeepOrder, RowsLoseNone};
+ghost use Rattle.order_laws.specs.Anywhere.{EntersLoseNone, HostsLoseNone, RowsKeepOrder, RowsLoseNone, StartsLoseNone};
 
 /// A running thread that does an op which names neither an export nor a host, by its row, loses no wake,
 /// whichever op stands at its place, also at its script's end, and wherever other threads are.
@@ -12,4 +12,13 @@ pub fn rows_lose_none()
 #[tactic(auto, using(crate::proofs::PlaceOrder::rows_keep_order))]
 pub fn rows_keep_order()
     ensures { RowsKeepOrder }
+{}
+
+/// A running thread that has the start of a call queued which it prepared before, calls an export
+/// directly, or calls a host loses no wake, whichever op stands at its place.
+#[tactic(auto, using(crate::proofs::PlaceCalls::starts_lose_none, crate::proofs::PlaceCalls::enters_lose_none, crate::proofs::PlaceCalls::hosts_lose_none))]
+pub fn calls_lose_none()
+    ensures start { StartsLoseNone }
+    ensures enter { EntersLoseNone }
+    ensures host { HostsLoseNone }
 {}

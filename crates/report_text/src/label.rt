@@ -1,22 +1,24 @@
 //! What is printed of a label and of an outcome, each in one way. A line is written in place, and no
 //! label makes a string of its own.
-ghost use Rattle.std.specs.Prelude.{◌≡◌, ◌+◌, ◌≤◌, ◌<◌, ◌++◌, codes, decimal, length, take};
+ghost use Rattle.std.specs.Prelude.{◌≡◌, ◌+◌, ◌≤◌, ◌<◌, ◌++◌, codes, decimal, length, slice_index, take};
 ghost use Rattle.label_trace.specs.Labels.{label_of};
-ghost use Rattle.label_trace.specs.Opened.{call_of, data_of, handle_of, loop_of, main_of, own_of, set_of, take_of, task_of, thread_of};
-ghost use Rattle.task_rules.specs.Sets.{given_code, given_handle, given_result};
+ghost use Rattle.label_trace.specs.Opened.{all, call_of, data_of, handle_of, loop_of, main_of, own_of, set_of, take_of, task_of, thread_of};
+ghost use Rattle.task_machine.specs.Statuses.{status_code};
+ghost use Rattle.task_machine.specs.declared.words.Given.TheVariants as Given;
 ghost use Rattle.task_rules.specs.Texts.{mark_text, phase_text, given_text, own_given, wakes, polls, refused, main_text, future_text, loop_text, taken_text, event_text, take_text, op_text, answer_text, data_text, task_text, set_text, call_text, thread_text, label_text, line_text, outcome_text};
 
-use crate::piece::{answers, does, number, numbers, words};
+use crate::piece::{digits, number, numbers, small_number, thread_number, words};
 use label_trace::{
     CallKind, DataKind, HandleKind, Head, Kind, LoopKind, MainKind, OwnKind, SetKind, TakeKind,
     TaskKind, ThreadKind, first, later, listed,
 };
-use task_machine::{Given, Mark, Outcome, OwnEvent, Phase, Status, Trap};
+use task_machine::{Mark, Outcome, OwnEvent, Phase, Status, Trap};
 
 /// No line has more bytes than this.
 pub(crate) const LINE: usize = 160;
 
 // The thread that a step woke.
+#[inline(never)]
 fn wakes(out: &mut [u8], at: usize, woken: u64) -> usize
     requires { at + 27 ≤ length out.old }
     ensures end { result ≤ at + 27 }
@@ -24,16 +26,6 @@ fn wakes(out: &mut [u8], at: usize, woken: u64) -> usize
     ensures text { take result out.new ≡ wakes (take at out.old) woken }
 {
     number(out, at, b" wakes ", woken)
-}
-
-// The work that a step polled.
-fn polls(out: &mut [u8], at: usize, work: u64) -> usize
-    requires { at + 28 ≤ length out.old }
-    ensures end { result ≤ at + 28 }
-    ensures room { length out.new ≡ length out.old }
-    ensures text { take result out.new ≡ polls (take at out.old) work }
-{
-    number(out, at, b" future ", work)
 }
 
 fn refused(out: &mut [u8], at: usize, before: &[u8], start: u32, trap: Trap) -> usize
@@ -63,75 +55,46 @@ fn phase_word(phase: Phase) -> &'static [u8]
     }
 }
 
-// The word of a mark: of words that are known where a line is compiled, a few stores are made.
+// `take M`: of words that are known where a line is compiled, a few stores are made.
 #[inline(always)]
-fn mark_word(out: &mut [u8], at: usize, mark: Mark) -> usize
-    requires { at + 6 ≤ length out.old }
-    ensures end { result ≤ at + 6 }
+fn taken(out: &mut [u8], at: usize, mark: Mark) -> usize
+    requires { at + 11 ≤ length out.old }
+    ensures end { result ≤ at + 11 }
     ensures room { length out.new ≡ length out.old }
-    ensures text { take result out.new ≡ take at out.old ++ mark_text mark }
+    ensures text { take result out.new ≡ take at out.old ++ (codes "take " ++ mark_text mark) }
 {
     match mark {
-        Mark::Switch => words(out, at, b"switch"),
-        Mark::High => words(out, at, b"high"),
-        Mark::Low => words(out, at, b"low"),
+        Mark::Switch => words(out, at, b"take switch"),
+        Mark::High => words(out, at, b"take high"),
+        Mark::Low => words(out, at, b"take low"),
     }
 }
 
-fn event_code(event: Given) -> u64
-    ensures { result ≡ given_code event }
-{
-    match event {
-        Given::Nothing => 0,
-        Given::Subtask { .. } => 1,
-        Given::Cancelled => 6,
-    }
-}
-
-fn event_handle(event: Given) -> u64
-    ensures { result ≡ given_handle event }
-{
-    match event {
-        Given::Subtask { status: _, handle } => handle.into(),
-        _ => 0,
-    }
-}
-
-fn event_result(event: Given) -> u64
-    ensures { result ≡ given_result event }
-{
-    match event {
-        Given::Subtask { status, handle: _ } => status.number().into(),
-        _ => 0,
-    }
-}
-
-// ` C H V` of what was handed out.
+// `take M thread `.
 #[inline(always)]
-fn given(out: &mut [u8], at: usize, event: Given) -> usize
-    requires { at + 63 ≤ length out.old }
-    ensures end { result ≤ at + 63 }
+fn taken_thread(out: &mut [u8], at: usize, mark: Mark) -> usize
+    requires { at + 19 ≤ length out.old }
+    ensures end { result ≤ at + 19 }
     ensures room { length out.new ≡ length out.old }
-    ensures text { take result out.new ≡ take at out.old ++ given_text event }
+    ensures text { take result out.new ≡ take at out.old ++ (codes "take " ++ mark_text mark ++ codes " thread ") }
 {
-    let end = number(out, at, b" ", event_code(event));
-    numbers(
-        out,
-        end,
-        b" ",
-        event_handle(event),
-        b" ",
-        event_result(event),
-    )
+    match mark {
+        Mark::Switch => words(out, at, b"take switch thread "),
+        Mark::High => words(out, at, b"take high thread "),
+        Mark::Low => words(out, at, b"take low thread "),
+    }
 }
 
-fn own(event: OwnEvent) -> Given
-    ensures { result ≡ own_given event }
+// Words, the handle of a subtask, and its status, which has one digit.
+#[inline(always)]
+fn handed(out: &mut [u8], at: usize, before: &[u8], handle: u32, status: Status) -> usize
+    requires { at + length before.now + 22 ≤ length out.old }
+    ensures end { result ≤ at + length before.now + 22 }
+    ensures room { length out.new ≡ length out.old }
+    ensures text { take result out.new ≡ take at out.old ++ (before.now ++ decimal handle ++ codes " " ++ decimal (status_code status)) }
 {
-    match event {
-        OwnEvent::None => Given::Nothing,
-        OwnEvent::Cancelled => Given::Cancelled,
-    }
+    let end = number(out, at, before, handle.into());
+    small_number(out, end, b" ", status.number().into())
 }
 
 fn aborts(out: &mut [u8], at: usize, spawn: u32, phase: Phase) -> usize
@@ -145,6 +108,7 @@ fn aborts(out: &mut [u8], at: usize, spawn: u32, phase: Phase) -> usize
     words(out, end, phase_word(phase))
 }
 
+#[inline(never)]
 fn main_label(out: &mut [u8], at: usize, kind: MainKind, small: u32, value: u64) -> usize
     requires { at + LINE ≤ length out.old }
     ensures end { result < at + LINE }
@@ -172,12 +136,14 @@ fn polled(out: &mut [u8], at: usize, work: u64, what: &[u8]) -> usize
     ensures room { length out.new ≡ length out.old }
     ensures text { take result out.new ≡ take at out.old ++ future_text work what.now }
 {
-    let end = number(out, at, b"future ", work);
+    let end = words(out, at, b"future ");
+    let end = digits(out, end, work);
     words(out, end, what)
 }
 
-#[inline(always)]
-fn loop_label(out: &mut [u8], at: usize, kind: LoopKind, work: u64) -> usize
+// The labels of the loop that are seldom. They stand apart, so that all that is common fits into the loop that prints.
+#[inline(never)]
+fn seldom_label(out: &mut [u8], at: usize, kind: LoopKind, work: u64) -> usize
     requires { at + LINE ≤ length out.old }
     ensures end { result < at + LINE }
     ensures room { length out.new ≡ length out.old }
@@ -197,6 +163,21 @@ fn loop_label(out: &mut [u8], at: usize, kind: LoopKind, work: u64) -> usize
     }
 }
 
+#[inline(always)]
+fn loop_label(out: &mut [u8], at: usize, kind: LoopKind, small: u32, xs: &[u64]) -> usize
+    requires { at + LINE ≤ length out.old }
+    ensures end { result < at + LINE }
+    ensures room { length out.new ≡ length out.old }
+    ensures text { take result out.new ≡ take at out.old ++ loop_text (loop_of kind (slice_index (all small xs.now) 0)) }
+{
+    match kind {
+        LoopKind::MainPends => words(out, at, b"main pends"),
+        LoopKind::FuturePends => polled(out, at, first(small, xs), b" pends"),
+        LoopKind::Rest => words(out, at, b"rest"),
+        _ => seldom_label(out, at, kind, first(small, xs)),
+    }
+}
+
 // `take M`, whose entry it is, and its number.
 #[inline(always)]
 fn takes(out: &mut [u8], at: usize, mark: Mark, what: &[u8], entry: u64) -> usize
@@ -205,9 +186,20 @@ fn takes(out: &mut [u8], at: usize, mark: Mark, what: &[u8], entry: u64) -> usiz
     ensures room { length out.new ≡ length out.old }
     ensures text { take result out.new ≡ take at out.old ++ taken_text mark what.now entry }
 {
-    let end = words(out, at, b"take ");
-    let end = mark_word(out, end, mark);
+    let end = taken(out, at, mark);
     number(out, end, what, entry)
+}
+
+// `take M thread N`.
+#[inline(always)]
+fn takes_thread(out: &mut [u8], at: usize, mark: Mark, thread: u64) -> usize
+    requires { at + 39 ≤ length out.old }
+    ensures end { result ≤ at + 39 }
+    ensures room { length out.new ≡ length out.old }
+    ensures text { take result out.new ≡ take at out.old ++ taken_text mark (codes " thread ") thread }
+{
+    let end = taken_thread(out, at, mark);
+    digits(out, end, thread)
 }
 
 // The taken thread, and what came of it.
@@ -218,24 +210,13 @@ fn takes_and(out: &mut [u8], at: usize, mark: Mark, thread: u64, then: &[u8]) ->
     ensures room { length out.new ≡ length out.old }
     ensures text { take result out.new ≡ take at out.old ++ (taken_text mark (codes " thread ") thread ++ then.now) }
 {
-    let end = takes(out, at, mark, b" thread ", thread);
+    let end = takes_thread(out, at, mark, thread);
     words(out, end, then)
 }
 
-#[inline(always)]
-#[inline(always)]
-fn takes_event(out: &mut [u8], at: usize, mark: Mark, thread: u64, event: Given) -> usize
-    requires { at + 108 ≤ length out.old }
-    ensures end { result ≤ at + 108 }
-    ensures room { length out.new ≡ length out.old }
-    ensures text { take result out.new ≡ take at out.old ++ event_text mark thread event }
-{
-    let end = takes_and(out, at, mark, thread, b" event");
-    given(out, end, event)
-}
-
-#[inline(always)]
-fn take_label(
+// Takings that are seldom, apart as well.
+#[inline(never)]
+fn seldom_take(
     out: &mut [u8],
     at: usize,
     mark: Mark,
@@ -270,26 +251,50 @@ fn take_label(
 }
 
 #[inline(always)]
-fn own_label(out: &mut [u8], at: usize, mark: Mark, kind: OwnKind, thread: u64, woken: u64) -> usize
+fn take_label(
+    out: &mut [u8],
+    at: usize,
+    mark: Mark,
+    kind: TakeKind,
+    small: u32,
+    xs: &[u64],
+) -> usize
     requires { at + LINE ≤ length out.old }
     ensures end { result < at + LINE }
     ensures room { length out.new ≡ length out.old }
-    ensures text { take result out.new ≡ take at out.old ++ take_text (own_of mark kind thread woken) }
+    ensures text { take result out.new ≡ take at out.old ++ take_text (take_of mark kind (slice_index (all small xs.now) 0) (slice_index (all small xs.now) 1)) }
 {
+    let entry = first(small, xs);
     match kind {
-        OwnKind::Nothing => takes_event(out, at, mark, thread, Given::Nothing),
-        OwnKind::Cancelled => takes_event(out, at, mark, thread, Given::Cancelled),
+        TakeKind::Thread => takes_thread(out, at, mark, entry),
+        TakeKind::Held => takes_and(out, at, mark, entry, b" held"),
+        _ => seldom_take(out, at, mark, kind, entry, later(small, xs, 1)),
+    }
+}
+
+#[inline(always)]
+fn own_label(out: &mut [u8], at: usize, mark: Mark, kind: OwnKind, small: u32, xs: &[u64]) -> usize
+    requires { at + LINE ≤ length out.old }
+    ensures end { result < at + LINE }
+    ensures room { length out.new ≡ length out.old }
+    ensures text { take result out.new ≡ take at out.old ++ take_text (own_of mark kind (slice_index (all small xs.now) 0) (slice_index (all small xs.now) 1)) }
+{
+    let end = takes_thread(out, at, mark, first(small, xs));
+    match kind {
+        OwnKind::Nothing => words(out, end, b" event 0 0 0"),
+        OwnKind::Cancelled => words(out, end, b" event 6 0 0"),
         OwnKind::NothingWakes => {
-            let end = takes_event(out, at, mark, thread, Given::Nothing);
-            wakes(out, end, woken)
+            let end = words(out, end, b" event 0 0 0");
+            wakes(out, end, later(small, xs, 1))
         }
         OwnKind::CancelledWakes => {
-            let end = takes_event(out, at, mark, thread, Given::Cancelled);
-            wakes(out, end, woken)
+            let end = words(out, end, b" event 6 0 0");
+            wakes(out, end, later(small, xs, 1))
         }
     }
 }
 
+#[inline(always)]
 fn given_label(
     out: &mut [u8],
     at: usize,
@@ -303,121 +308,120 @@ fn given_label(
     ensures room { length out.new ≡ length out.old }
     ensures text { take result out.new ≡ take at out.old ++ event_text mark thread (Given.Subtask status handle) }
 {
-    takes_event(out, at, mark, thread, Given::Subtask { status, handle })
+    let end = takes_thread(out, at, mark, thread);
+    handed(out, end, b" event 1 ", handle, status)
 }
 
 #[inline(always)]
-fn data_label(out: &mut [u8], at: usize, kind: DataKind, thread: u64, value: u64) -> usize
+fn data_label(out: &mut [u8], at: usize, kind: DataKind, small: u32, xs: &[u64]) -> usize
     requires { at + LINE ≤ length out.old }
     ensures end { result < at + LINE }
     ensures room { length out.new ≡ length out.old }
-    ensures text { take result out.new ≡ take at out.old ++ data_text (data_of kind thread value) }
+    ensures text { take result out.new ≡ take at out.old ++ data_text (data_of kind (slice_index (all small xs.now) 0) (slice_index (all small xs.now) 1)) }
 {
+    let end = thread_number(out, at, first(small, xs));
     match kind {
-        DataKind::Set => answers(out, at, thread, b" set ", value),
-        DataKind::Add => answers(out, at, thread, b" add ", value),
-        DataKind::Handle => answers(out, at, thread, b" handle ", value),
-        DataKind::Load => answers(out, at, thread, b" load ", value),
-        DataKind::Store => answers(out, at, thread, b" store ", value),
-        DataKind::SkipEq => does(out, at, thread, b" skip_eq"),
+        DataKind::Set => number(out, end, b" set ", later(small, xs, 1)),
+        DataKind::Add => number(out, end, b" add ", later(small, xs, 1)),
+        DataKind::Handle => number(out, end, b" handle ", later(small, xs, 1)),
+        DataKind::Load => number(out, end, b" load ", later(small, xs, 1)),
+        DataKind::Store => number(out, end, b" store ", later(small, xs, 1)),
+        DataKind::SkipEq => words(out, end, b" skip_eq"),
     }
 }
 
 #[inline(always)]
-fn task_label(out: &mut [u8], at: usize, kind: TaskKind, thread: u64, second: u64) -> usize
+fn task_label(out: &mut [u8], at: usize, kind: TaskKind, small: u32, xs: &[u64]) -> usize
     requires { at + LINE ≤ length out.old }
     ensures end { result < at + LINE }
     ensures room { length out.new ≡ length out.old }
-    ensures text { take result out.new ≡ take at out.old ++ task_text (task_of kind thread second) }
+    ensures text { take result out.new ≡ take at out.old ++ task_text (task_of kind (slice_index (all small xs.now) 0) (slice_index (all small xs.now) 1)) }
 {
+    let end = thread_number(out, at, first(small, xs));
     match kind {
-        TaskKind::Ret => answers(out, at, thread, b" ret ", second),
-        TaskKind::TaskCancel => does(out, at, thread, b" task_cancel"),
+        TaskKind::Ret => number(out, end, b" ret ", later(small, xs, 1)),
+        TaskKind::TaskCancel => words(out, end, b" task_cancel"),
         TaskKind::TaskCancelWakes => {
-            let end = does(out, at, thread, b" task_cancel");
-            wakes(out, end, second)
+            let end = words(out, end, b" task_cancel");
+            wakes(out, end, later(small, xs, 1))
         }
-        TaskKind::Exit => does(out, at, thread, b" exit"),
+        TaskKind::Exit => words(out, end, b" exit"),
         TaskKind::ExitWakes => {
-            let end = does(out, at, thread, b" exit");
-            wakes(out, end, second)
+            let end = words(out, end, b" exit");
+            wakes(out, end, later(small, xs, 1))
         }
-        TaskKind::CbYield => does(out, at, thread, b" cb_yield"),
-        TaskKind::CbWait => does(out, at, thread, b" cb_wait"),
-        TaskKind::Code => does(out, at, thread, b" code"),
-        TaskKind::BpInc => does(out, at, thread, b" bp_inc"),
-        TaskKind::BpDec => does(out, at, thread, b" bp_dec"),
+        TaskKind::CbYield => words(out, end, b" cb_yield"),
+        TaskKind::CbWait => words(out, end, b" cb_wait"),
+        TaskKind::Code => words(out, end, b" code"),
+        TaskKind::BpInc => words(out, end, b" bp_inc"),
+        TaskKind::BpDec => words(out, end, b" bp_dec"),
     }
 }
 
-// `thread N`, what it does, and what it was handed.
-fn gets(out: &mut [u8], at: usize, thread: u64, what: &[u8], event: Given) -> usize
-    requires { at + length what.now + 90 ≤ length out.old }
-    ensures end { result ≤ at + length what.now + 90 }
+// ` wait`, the task's own event, and the thread that was woken.
+fn waits_and_wakes(out: &mut [u8], at: usize, event: OwnEvent, woken: u64) -> usize
+    requires { at + 60 ≤ length out.old }
+    ensures end { result ≤ at + 60 }
     ensures room { length out.new ≡ length out.old }
-    ensures text { take result out.new ≡ take at out.old ++ (op_text thread what.now ++ given_text event) }
+    ensures text { take result out.new ≡ take at out.old ++ wakes (codes " wait" ++ given_text (own_given event)) woken }
 {
-    let end = does(out, at, thread, what);
-    given(out, end, event)
-}
-
-#[inline(always)]
-fn set_label(out: &mut [u8], at: usize, kind: SetKind, thread: u64, woken: u64) -> usize
-    requires { at + LINE ≤ length out.old }
-    ensures end { result < at + LINE }
-    ensures room { length out.new ≡ length out.old }
-    ensures text { take result out.new ≡ take at out.old ++ set_text (set_of kind thread woken) }
-{
-    match kind {
-        SetKind::Drop => does(out, at, thread, b" set_drop"),
-        SetKind::WaitNothing => gets(out, at, thread, b" wait", Given::Nothing),
-        SetKind::WaitCancelled => gets(out, at, thread, b" wait", Given::Cancelled),
-        SetKind::WaitWakes(event) => {
-            let end = gets(out, at, thread, b" wait", own(event));
-            wakes(out, end, woken)
-        }
-        SetKind::PollNothing => gets(out, at, thread, b" poll", Given::Nothing),
-        SetKind::PollCancelled => gets(out, at, thread, b" poll", Given::Cancelled),
-        SetKind::Join => does(out, at, thread, b" join"),
-        SetKind::JoinWakes => {
-            let end = does(out, at, thread, b" join");
-            wakes(out, end, woken)
-        }
+    match event {
+        OwnEvent::None => number(out, at, b" wait 0 0 0 wakes ", woken),
+        OwnEvent::Cancelled => number(out, at, b" wait 6 0 0 wakes ", woken),
     }
 }
 
 #[inline(always)]
-fn call_label(
-    out: &mut [u8],
-    at: usize,
-    kind: CallKind,
-    thread: u64,
-    second: u64,
-    third: u64,
-) -> usize
+fn set_label(out: &mut [u8], at: usize, kind: SetKind, small: u32, xs: &[u64]) -> usize
     requires { at + LINE ≤ length out.old }
     ensures end { result < at + LINE }
     ensures room { length out.new ≡ length out.old }
-    ensures text { take result out.new ≡ take at out.old ++ label_text (call_of kind thread second third) }
+    ensures text { take result out.new ≡ take at out.old ++ set_text (set_of kind (slice_index (all small xs.now) 0) (slice_index (all small xs.now) 1)) }
 {
+    let end = thread_number(out, at, first(small, xs));
     match kind {
-        CallKind::Calls => answers(out, at, thread, b" calls thread ", second),
-        CallKind::Enters => answers(out, at, thread, b" enters thread ", second),
-        CallKind::CallSync => answers(out, at, thread, b" call_sync ", second),
-        CallKind::CallSyncPolls => {
-            let end = answers(out, at, thread, b" call_sync ", second);
-            polls(out, end, third)
-        }
-        CallKind::PausesPolls => {
-            let end = does(out, at, thread, b" pauses");
-            polls(out, end, second)
-        }
-        CallKind::Fails => answers(out, at, thread, b" fails ", second),
-        CallKind::Drop => does(out, at, thread, b" drop"),
-        CallKind::RetWakes => {
-            let end = answers(out, at, thread, b" ret ", second);
-            wakes(out, end, third)
-        }
+        SetKind::Drop => words(out, end, b" set_drop"),
+        SetKind::WaitNothing => words(out, end, b" wait 0 0 0"),
+        SetKind::WaitCancelled => words(out, end, b" wait 6 0 0"),
+        SetKind::WaitWakes(event) => waits_and_wakes(out, end, event, later(small, xs, 1)),
+        SetKind::PollNothing => words(out, end, b" poll 0 0 0"),
+        SetKind::PollCancelled => words(out, end, b" poll 6 0 0"),
+        SetKind::Join => words(out, end, b" join"),
+        SetKind::JoinWakes => number(out, end, b" join wakes ", later(small, xs, 1)),
+    }
+}
+
+#[inline(always)]
+fn call_label(out: &mut [u8], at: usize, kind: CallKind, small: u32, xs: &[u64]) -> usize
+    requires { at + LINE ≤ length out.old }
+    ensures end { result < at + LINE }
+    ensures room { length out.new ≡ length out.old }
+    ensures text { take result out.new ≡ take at out.old ++ label_text (call_of kind (slice_index (all small xs.now) 0) (slice_index (all small xs.now) 1) (slice_index (all small xs.now) 2)) }
+{
+    let end = thread_number(out, at, first(small, xs));
+    match kind {
+        CallKind::Calls => number(out, end, b" calls thread ", later(small, xs, 1)),
+        CallKind::Enters => number(out, end, b" enters thread ", later(small, xs, 1)),
+        CallKind::CallSync => number(out, end, b" call_sync ", later(small, xs, 1)),
+        CallKind::CallSyncPolls => numbers(
+            out,
+            end,
+            b" call_sync ",
+            later(small, xs, 1),
+            b" future ",
+            later(small, xs, 2),
+        ),
+        CallKind::PausesPolls => number(out, end, b" pauses future ", later(small, xs, 1)),
+        CallKind::Fails => number(out, end, b" fails ", later(small, xs, 1)),
+        CallKind::Drop => words(out, end, b" drop"),
+        CallKind::RetWakes => numbers(
+            out,
+            end,
+            b" ret ",
+            later(small, xs, 1),
+            b" wakes ",
+            later(small, xs, 2),
+        ),
     }
 }
 
@@ -428,67 +432,45 @@ fn thread_label(out: &mut [u8], at: usize, kind: ThreadKind, thread: u64) -> usi
     ensures room { length out.new ≡ length out.old }
     ensures text { take result out.new ≡ take at out.old ++ thread_text (thread_of kind thread) }
 {
+    let end = thread_number(out, at, thread);
     match kind {
-        ThreadKind::Pauses => does(out, at, thread, b" pauses"),
-        ThreadKind::ResumeLater => does(out, at, thread, b" resume_later"),
-        ThreadKind::Suspend => does(out, at, thread, b" suspend"),
-        ThreadKind::Yield => does(out, at, thread, b" yield"),
-        ThreadKind::SuspendThenResume => does(out, at, thread, b" suspend_then_resume"),
-        ThreadKind::YieldThenResume => does(out, at, thread, b" yield_then_resume"),
-        ThreadKind::SuspendThenPromote => does(out, at, thread, b" suspend_then_promote"),
-        ThreadKind::YieldThenPromote => does(out, at, thread, b" yield_then_promote"),
+        ThreadKind::Pauses => words(out, end, b" pauses"),
+        ThreadKind::ResumeLater => words(out, end, b" resume_later"),
+        ThreadKind::Suspend => words(out, end, b" suspend"),
+        ThreadKind::Yield => words(out, end, b" yield"),
+        ThreadKind::SuspendThenResume => words(out, end, b" suspend_then_resume"),
+        ThreadKind::YieldThenResume => words(out, end, b" yield_then_resume"),
+        ThreadKind::SuspendThenPromote => words(out, end, b" suspend_then_promote"),
+        ThreadKind::YieldThenPromote => words(out, end, b" yield_then_promote"),
     }
 }
 
 #[inline(always)]
-fn handle_label(
-    out: &mut [u8],
-    at: usize,
-    kind: HandleKind,
-    small: u32,
-    thread: u64,
-    third: u64,
-) -> usize
+fn handle_label(out: &mut [u8], at: usize, kind: HandleKind, small: u32, xs: &[u64]) -> usize
     requires { at + LINE ≤ length out.old }
     ensures end { result < at + LINE }
     ensures room { length out.new ≡ length out.old }
-    ensures text { take result out.new ≡ take at out.old ++ label_text (handle_of kind small thread third) }
+    ensures text { take result out.new ≡ take at out.old ++ label_text (handle_of kind small (slice_index xs.now 0) (slice_index xs.now 1)) }
 {
+    let end = thread_number(out, at, listed(xs, 0));
     let shown = u64::from(small);
     match kind {
-        HandleKind::SetNew => answers(out, at, thread, b" set_new ", shown),
-        HandleKind::Wait(status) => gets(
+        HandleKind::SetNew => number(out, end, b" set_new ", shown),
+        HandleKind::Wait(status) => handed(out, end, b" wait 1 ", small, status),
+        HandleKind::Poll(status) => handed(out, end, b" poll 1 ", small, status),
+        HandleKind::Call => number(out, end, b" call ", shown),
+        HandleKind::CallPolls => numbers(out, end, b" call ", shown, b" future ", listed(xs, 1)),
+        HandleKind::Cancel => number(out, end, b" cancel ", shown),
+        HandleKind::CancelSync => number(out, end, b" cancel_sync ", shown),
+        HandleKind::ThreadNew => numbers(
             out,
-            at,
-            thread,
-            b" wait",
-            Given::Subtask {
-                status,
-                handle: small,
-            },
+            end,
+            b" thread_new ",
+            shown,
+            b" thread ",
+            listed(xs, 1),
         ),
-        HandleKind::Poll(status) => gets(
-            out,
-            at,
-            thread,
-            b" poll",
-            Given::Subtask {
-                status,
-                handle: small,
-            },
-        ),
-        HandleKind::Call => answers(out, at, thread, b" call ", shown),
-        HandleKind::CallPolls => {
-            let end = answers(out, at, thread, b" call ", shown);
-            polls(out, end, third)
-        }
-        HandleKind::Cancel => answers(out, at, thread, b" cancel ", shown),
-        HandleKind::CancelSync => answers(out, at, thread, b" cancel_sync ", shown),
-        HandleKind::ThreadNew => {
-            let end = answers(out, at, thread, b" thread_new ", shown);
-            number(out, end, b" thread ", third)
-        }
-        HandleKind::ThreadIndex => answers(out, at, thread, b" thread_index ", shown),
+        HandleKind::ThreadIndex => number(out, end, b" thread_index ", shown),
     }
 }
 
@@ -504,37 +486,16 @@ fn any_label(out: &mut [u8], at: usize, head: Head, xs: &[u64]) -> usize
     let small = head.small;
     match head.kind {
         Kind::Main(kind) => main_label(out, at, kind, small, listed(xs, 0)),
-        Kind::Loop(kind) => loop_label(out, at, kind, first(small, xs)),
-        Kind::Take(mark, kind) => take_label(
-            out,
-            at,
-            mark,
-            kind,
-            first(small, xs),
-            later(small, xs, 1),
-        ),
-        Kind::Own(mark, kind) => own_label(
-            out,
-            at,
-            mark,
-            kind,
-            first(small, xs),
-            later(small, xs, 1),
-        ),
+        Kind::Loop(kind) => loop_label(out, at, kind, small, xs),
+        Kind::Take(mark, kind) => take_label(out, at, mark, kind, small, xs),
+        Kind::Own(mark, kind) => own_label(out, at, mark, kind, small, xs),
         Kind::Given(mark, status) => given_label(out, at, mark, status, small, listed(xs, 0)),
-        Kind::Data(kind) => data_label(out, at, kind, first(small, xs), later(small, xs, 1)),
-        Kind::Task(kind) => task_label(out, at, kind, first(small, xs), later(small, xs, 1)),
-        Kind::Set(kind) => set_label(out, at, kind, first(small, xs), later(small, xs, 1)),
-        Kind::Call(kind) => call_label(
-            out,
-            at,
-            kind,
-            first(small, xs),
-            later(small, xs, 1),
-            later(small, xs, 2),
-        ),
+        Kind::Data(kind) => data_label(out, at, kind, small, xs),
+        Kind::Task(kind) => task_label(out, at, kind, small, xs),
+        Kind::Set(kind) => set_label(out, at, kind, small, xs),
+        Kind::Call(kind) => call_label(out, at, kind, small, xs),
         Kind::Thread(kind) => thread_label(out, at, kind, first(small, xs)),
-        Kind::Handle(kind) => handle_label(out, at, kind, small, listed(xs, 0), listed(xs, 1)),
+        Kind::Handle(kind) => handle_label(out, at, kind, small, xs),
     }
 }
 

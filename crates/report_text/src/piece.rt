@@ -2,7 +2,6 @@
 //! before. The answer is the place behind the piece.
 ghost use Rattle.std.specs.Prelude.{◌≡◌, ◌+◌, ◌≤◌, ◌<◌, ◌++◌, codes, decimal, length, take};
 ghost use Rattle.report_text.specs.Pair.{four_text, pair_text};
-ghost use Rattle.task_rules.specs.Texts.{op_text, answer_text};
 
 // The two digits of each number below 100.
 static PAIRS: [u8; 200] =
@@ -61,9 +60,39 @@ fn four(out: &mut [u8], at: usize, number: u64) -> usize
     pair(out, end, number % 100)
 }
 
-// A number below 10,000. Most are: their digits are written one or two at a time, from the front.
+// A number below 100.
 #[inline(always)]
 #[tactic(auto, using(crate::proofs::Digits::decimal_two))]
+fn two_digits(out: &mut [u8], at: usize, number: u64) -> usize
+    requires small { number < 100 }
+    requires room { at + 2 ≤ length out.old }
+    ensures end { result ≤ at + 2 }
+    ensures room { length out.new ≡ length out.old }
+    ensures text { take result out.new ≡ take at out.old ++ decimal number }
+{
+    if number < 10 {
+        one_digit(out, at, number)
+    } else {
+        pair(out, at, number)
+    }
+}
+
+// A number of three or four digits.
+#[inline(always)]
+fn hundreds(out: &mut [u8], at: usize, number: u64) -> usize
+    requires large { 100 ≤ number }
+    requires small { number < 10000 }
+    requires room { at + 4 ≤ length out.old }
+    ensures end { result ≤ at + 4 }
+    ensures room { length out.new ≡ length out.old }
+    ensures text { take result out.new ≡ take at out.old ++ decimal number }
+{
+    let end = two_digits(out, at, number / 100);
+    pair(out, end, number % 100)
+}
+
+// A number below 10,000.
+#[inline(always)]
 fn few_digits(out: &mut [u8], at: usize, number: u64) -> usize
     requires small { number < 10000 }
     requires room { at + 4 ≤ length out.old }
@@ -71,31 +100,23 @@ fn few_digits(out: &mut [u8], at: usize, number: u64) -> usize
     ensures room { length out.new ≡ length out.old }
     ensures text { take result out.new ≡ take at out.old ++ decimal number }
 {
-    if number < 10 {
-        one_digit(out, at, number)
-    } else if number < 100 {
-        pair(out, at, number)
-    } else if number < 1_000 {
-        let end = one_digit(out, at, number / 100);
-        pair(out, end, number % 100)
+    if number < 100 {
+        two_digits(out, at, number)
     } else {
-        let end = pair(out, at, number / 100);
-        pair(out, end, number % 100)
+        hundreds(out, at, number)
     }
 }
 
-// A number below 10^8.
+// A number of five to eight digits.
 #[inline(always)]
-fn eight_digits(out: &mut [u8], at: usize, number: u64) -> usize
+fn thousands(out: &mut [u8], at: usize, number: u64) -> usize
+    requires large { 10000 ≤ number }
     requires small { number < 100000000 }
     requires room { at + 8 ≤ length out.old }
     ensures end { result ≤ at + 8 }
     ensures room { length out.new ≡ length out.old }
     ensures text { take result out.new ≡ take at out.old ++ decimal number }
 {
-    if number < 10_000 {
-        return few_digits(out, at, number);
-    }
     let end = few_digits(out, at, number / 10_000);
     four(out, end, number % 10_000)
 }
@@ -109,42 +130,104 @@ fn twelve_digits(out: &mut [u8], at: usize, number: u64) -> usize
     ensures room { length out.new ≡ length out.old }
     ensures text { take result out.new ≡ take at out.old ++ decimal number }
 {
-    if number < 100_000_000 {
-        return eight_digits(out, at, number);
+    if number < 10_000 {
+        return few_digits(out, at, number);
     }
-    let end = eight_digits(out, at, number / 10_000);
+    if number < 100_000_000 {
+        return thousands(out, at, number);
+    }
+    let end = thousands(out, at, number / 10_000);
     four(out, end, number % 10_000)
 }
 
-// A long number is rare: its digits stand apart from the lines. They are written in place, four at a time.
+// A number of nine digits and more is rare: its digits are written in place, four at a time.
 #[inline(never)]
 fn many_digits(out: &mut [u8], at: usize, number: u64) -> usize
-    requires { at + 20 ≤ length out.old }
+    requires large { 100000000 ≤ number }
+    requires room { at + 20 ≤ length out.old }
     ensures end { result ≤ at + 20 }
     ensures room { length out.new ≡ length out.old }
     ensures text { take result out.new ≡ take at out.old ++ decimal number }
 {
-    if number < 100_000_000 {
-        return eight_digits(out, at, number);
-    }
     let end = twelve_digits(out, at, number / 100_000_000);
     let end = four(out, end, number / 10_000 % 10_000);
     four(out, end, number % 10_000)
 }
 
+// A number of more digits than one.
+#[inline(always)]
+#[tactic(auto, using(crate::proofs::Digits::decimal_two))]
+fn more_digits(out: &mut [u8], at: usize, number: u64) -> usize
+    requires large { 10 ≤ number }
+    requires room { at + 20 ≤ length out.old }
+    ensures end { result ≤ at + 20 }
+    ensures room { length out.new ≡ length out.old }
+    ensures text { take result out.new ≡ take at out.old ++ decimal number }
+{
+    if number < 100 {
+        pair(out, at, number)
+    } else if number < 10_000 {
+        hundreds(out, at, number)
+    } else if number < 100_000_000 {
+        thousands(out, at, number)
+    } else {
+        many_digits(out, at, number)
+    }
+}
+
 // A number.
 #[inline(always)]
-fn digits(out: &mut [u8], at: usize, number: u64) -> usize
+pub(crate) fn digits(out: &mut [u8], at: usize, number: u64) -> usize
     requires { at + 20 ≤ length out.old }
     ensures end { result ≤ at + 20 }
     ensures room { length out.new ≡ length out.old }
     ensures text { take result out.new ≡ take at out.old ++ decimal number }
 {
-    if number < 10_000 {
-        few_digits(out, at, number)
+    if number < 10 {
+        one_digit(out, at, number)
     } else {
-        many_digits(out, at, number)
+        more_digits(out, at, number)
     }
+}
+
+// A number behind another one: it stands apart from the lines where it has more digits than one.
+#[inline(never)]
+fn apart(out: &mut [u8], at: usize, number: u64) -> usize
+    requires large { 10 ≤ number }
+    requires room { at + 20 ≤ length out.old }
+    ensures end { result ≤ at + 20 }
+    ensures room { length out.new ≡ length out.old }
+    ensures text { take result out.new ≡ take at out.old ++ decimal number }
+{
+    more_digits(out, at, number)
+}
+
+// A number behind another one.
+#[inline(always)]
+fn later_digits(out: &mut [u8], at: usize, number: u64) -> usize
+    requires { at + 20 ≤ length out.old }
+    ensures end { result ≤ at + 20 }
+    ensures room { length out.new ≡ length out.old }
+    ensures text { take result out.new ≡ take at out.old ++ decimal number }
+{
+    if number < 10 {
+        one_digit(out, at, number)
+    } else {
+        apart(out, at, number)
+    }
+}
+
+// Words and a number of one digit behind them.
+#[inline(always)]
+pub(crate) fn small_number(out: &mut [u8], at: usize, before: &[u8], number: u64) -> usize
+    requires small { number < 10 }
+    requires room { at + length before.now + 1 ≤ length out.old }
+    ensures end { result ≡ at + length before.now + 1 }
+    ensures room { length out.new ≡ length out.old }
+    ensures text { take result out.new ≡ take at out.old ++ (before.now ++ decimal number) }
+{
+    let end = words(out, at, before);
+    one_digit(out, end, number)
 }
 
 // Words and a number behind them. The words of each call are known where it is compiled.
@@ -156,7 +239,19 @@ pub(crate) fn number(out: &mut [u8], at: usize, before: &[u8], number: u64) -> u
     ensures text { take result out.new ≡ take at out.old ++ (before.now ++ decimal number) }
 {
     let end = words(out, at, before);
-    digits(out, end, number)
+    later_digits(out, end, number)
+}
+
+// `thread N`.
+#[inline(always)]
+pub(crate) fn thread_number(out: &mut [u8], at: usize, thread: u64) -> usize
+    requires { at + 27 ≤ length out.old }
+    ensures end { result ≤ at + 27 }
+    ensures room { length out.new ≡ length out.old }
+    ensures text { take result out.new ≡ take at out.old ++ (codes "thread " ++ decimal thread) }
+{
+    let end = words(out, at, b"thread ");
+    digits(out, end, thread)
 }
 
 #[inline(always)]
@@ -175,27 +270,4 @@ pub(crate) fn numbers(
 {
     let end = number(out, at, before, first);
     number(out, end, between, second)
-}
-
-// `thread N` and what it does.
-#[inline(always)]
-pub(crate) fn does(out: &mut [u8], at: usize, thread: u64, what: &[u8]) -> usize
-    requires { at + length what.now + 27 ≤ length out.old }
-    ensures end { result ≤ at + length what.now + 27 }
-    ensures room { length out.new ≡ length out.old }
-    ensures text { take result out.new ≡ take at out.old ++ op_text thread what.now }
-{
-    let end = number(out, at, b"thread ", thread);
-    words(out, end, what)
-}
-
-// `thread N`, what it does, and a number.
-#[inline(always)]
-pub(crate) fn answers(out: &mut [u8], at: usize, thread: u64, what: &[u8], answer: u64) -> usize
-    requires { at + length what.now + 47 ≤ length out.old }
-    ensures end { result ≤ at + length what.now + 47 }
-    ensures room { length out.new ≡ length out.old }
-    ensures text { take result out.new ≡ take at out.old ++ answer_text thread what.now answer }
-{
-    numbers(out, at, b"thread ", thread, what, answer)
 }

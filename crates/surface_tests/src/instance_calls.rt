@@ -21,7 +21,7 @@ use std::alloc::Global;
 use std::process::Abort;
 use task_loop::{
     Answer, Component, Func, Instance, Outcome, ResumeThread, Step, SuspensionTarget, TaskError,
-    Trace, run_concurrent,
+    TaskGroupId, Trace, run_concurrent,
 };
 use task_machine::{Callee, ExportKind, Goal, HostDef, Trap, Turn};
 use task_run::{Scenario, ScriptMain, read_scenario};
@@ -40,6 +40,10 @@ const DIRECT: &[u8] =
 // A thread of b calls two hosts, of which it cancels the second one. Both end while it yields; then it cancels the first one.
 const HOSTS: &[u8] =
     b"scenario 1\nhandles 100000\ntable 1000000\nidle wait\nhost dead never\nhost soon polls 1 value 9\ninstance a\nexport f callback 0\nret 0\nexit\ninstance b\nexport h stackful 0\ncall r4 r5 soon\ncall r4 r5 dead\ncancel r6 2\nyield\nyield\nyield\ncancel r6 1\nyield\nmain\nstart b.h\nfinish 1 r0\nanswer r0\nend\n";
+
+// The first thread of b calls a host and ends; the second one takes the end of that subtask, and drops it.
+const LEFT: &[u8] =
+    b"scenario 1\nhandles 100000\ntable 1000000\nidle wait\nhost soon polls 1 value 9\ninstance a\nexport f callback 0\nret 0\nexit\ninstance b\nexport h stackful 0\ncall r4 r5 soon\nret 0\nexport g stackful 0\nyield\nyield\nyield\ncancel r6 1\ndrop 1\nret 0\nmain\nstart b.h\nfinish 1 r0\nstart b.g\nfinish 2 r1\nanswer r0\nend\n";
 
 const A: Instance = Instance { index: 0 };
 
@@ -341,6 +345,15 @@ fn drops(rt: &impl Abort, alloc: Global) -> bool {
         .is_ok()
 }
 
+// What is left of a call's group is dropped by a thread of another one.
+fn finishes_a_group(rt: &impl Abort, alloc: Global) -> bool {
+    let mut at = running(rt, alloc, LEFT, 28, B, false);
+    let group = TaskGroupId { number: 1 };
+    let live = at.store.groups.count(group) == 1;
+    let dropped = B.subtask_drop(&at.scenario.component, &mut at.store, 1, 1);
+    live && dropped.is_ok() && at.store.groups.count(group) == 0
+}
+
 fn ends_as_cancelled(rt: &impl Abort, alloc: Global) -> bool {
     let mut at = running(rt, alloc, CALLER, 29, A, false);
     A.task_cancel(&at.scenario.component, &mut at.store).is_ok()
@@ -396,6 +409,7 @@ fn raises_backpressure(rt: &impl Abort, alloc: Global) -> bool {
 #[test]
 fn a_thread_cancels_and_is_cancelled(rt: HostRuntime) {
     assert!(rt; cancels(&rt, rt.alloc()) && drops(&rt, rt.alloc()));
+    assert!(rt; finishes_a_group(&rt, rt.alloc()));
     assert!(rt; ends_as_cancelled(&rt, rt.alloc()) && raises_backpressure(&rt, rt.alloc()));
 }
 

@@ -101,7 +101,7 @@ use Rattle.task_words.specs.StateView.{StateView, with_core, with_current}
 
 -- ---- A component in which each script up to some names has this op at each place up to one
 
-many : {X : Type 0} → ℕ → X → List X
+pub many : {X : Type 0} → ℕ → X → List X
 many zero x = x ∷ []
 many (suc n) x = x ∷ many n x
 
@@ -124,7 +124,7 @@ module _ (o : Op) (f : Callee) (w : Script) (p : ℕ) where
   abbrev instance_def : InstanceDef
   instance_def = record { exports = many f.export export_def; slots = many (slot_of w) (slot.Script ops) }
 
-  abbrev everywhere : Component
+  abbrev pub everywhere : Component
   everywhere = record { instances = many f.instance instance_def; hosts = [] }
 
   abbrev op_in : (List Op) → Op
@@ -142,16 +142,16 @@ module _ (o : Op) (f : Callee) (w : Script) (p : ℕ) where
       ap (λ (d : Option InstanceDef). slot_script (unwrap_or (option_and_then (λ (d : InstanceDef). slice_get d.slots x) d) slot.Empty)) (many_at f.instance instance_def)
       ∙ ap (λ (l : Option Slot). slot_script (unwrap_or l slot.Empty)) at
 
-  op_everywhere : op_in (script_in everywhere f w) ≡ o
+  pub op_everywhere : op_in (script_in everywhere f w) ≡ o
   op_everywhere = ap op_in (script_everywhere w refl) ∙ ap (λ (x : Option Op). unwrap_or x (op.Task task_op.Exit)) (many_at p o)
 
 -- ---- The rows that read no component
 
-abbrev is_new : Op → Bool
+abbrev pub is_new : Op → Bool
 is_new (op.Thread (thread_op.New r x v)) = true
 is_new o = false
 
-row_same : (c d : Component) (n : ℕ) (s : Core) (ch : Choice) (k : Op) → is_apart k ≡ true → is_new k ≡ false → op_row d n s ch k ≡ op_row c n s ch k
+pub row_same : (c d : Component) (n : ℕ) (s : Core) (ch : Choice) (k : Op) → is_apart k ≡ true → is_new k ≡ false → op_row d n s ch k ≡ op_row c n s ch k
 row_same c d n s ch (op.Data k) e new = absurd (cc)
 row_same c d n s ch (op.Task k) e new = refl
 row_same c d n s ch (op.Set k) e new = refl
@@ -458,7 +458,7 @@ module _ (left : ℕ → Option HeldWork) (s t : StateView) (h : HoldsWorks left
 -- ---- A direct call that is left
 
 -- one that stops hangs on no core before
-stops_base : (p : Progress) (s u t : Core) (l : Label) → Meets p u (came.Stops l) t → Meets p s (came.Stops l) t
+pub stops_base : (p : Progress) (s u t : Core) (l : Label) → Meets p u (came.Stops l) t → Meets p s (came.Stops l) t
 stops_base (Goes k new n) s u t l h = h
 stops_base (Stops k new) s u t l h = h
 stops_base (Traps why) s u t l h = let e = h.0 in absurd (cc)
@@ -467,7 +467,7 @@ stops_base Never s u t l h = h
 stops_base (Ordered ns next) s u t l h = (h.0, (h.1.0, stops_base (next h.0) s u t l h.1.1))
 
 module _ (n v : ℕ) (s : Core) where
-  abbrev written : Core
+  abbrev pub written : Core
   written = set_register n 0 v s
 
   written_works : written.works ≡ s.works
@@ -522,7 +522,7 @@ module _ (n v : ℕ) (s : Core) where
     awaited = written_awaited q.awaited;
   }
 
-  exit_is : (w : Option ℕ) → IsDirect n s → exit_row n w written ≡ direct_exit_row n written
+  pub exit_is : (w : Option ℕ) → IsDirect n s → exit_row n w written ≡ direct_exit_row n written
   exit_is w direct = ap (exit_row_for n w written) (written_explicit ∙ direct.implicit) ∙ ap (implicit_exit_row n w written) (ap is_direct written_goal ∙ direct.direct)
 
 module _ (left : ℕ → Option HeldWork) (s t : StateView) (h : HoldsWorks left s.core) (c : Component) (running : IsRunningIn c s) (v : ℕ) (direct : IsDirect running.number s.core) where

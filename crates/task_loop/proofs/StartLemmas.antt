@@ -16,7 +16,8 @@ use Rattle.task_group.specs.declared.notice.GroupError.{GroupError}
 use Rattle.task_group.specs.declared.notice.GroupError.TheVariants as error
 use Rattle.task_group.specs.declared.notice.TaskGroupId.{TaskGroupId}
 use Rattle.task_machine.specs.declared.records.Notice.{Notice}
-use Rattle.task_calls.specs.Calls.{Becomes, Finishes, Starts}
+use Rattle.task_calls.specs.Calls.{Finishes, Starts}
+use Rattle.task_words.specs.Becomes.{Becomes}
 use Rattle.task_calls.specs.Untrapped.{StartsUntrapped}
 use Rattle.state_calls.specs.declared.error.TaskError.{TaskError}
 use Rattle.task_machine.specs.Core.{Core}
@@ -123,7 +124,7 @@ pub refused_starts : (c : Component) (e : Callee) (words : List ℕ) (s u t : St
 refused_starts c e words s u t (Some w) why h is = (h.0, trapped_becomes s u t h.1 is)
 refused_starts c e words s u t None why h is = (h.0, trapped_becomes s u t h.1 is)
 
-none_errors : (o : Option Heard) → is_some o ≡ false → option_map_or (λ (h : Heard). h.errors) o 0 ≡ 0
+pub none_errors : (o : Option Heard) → is_some o ≡ false → option_map_or (λ (h : Heard). h.errors) o 0 ≡ 0
 none_errors None e = refl
 none_errors (Some h) e = absurd (cc)
 

@@ -1,6 +1,7 @@
 -- What the steps of a run tell the groups of the store.
 use Rattle.std.specs.Option.{option_map}
-use Rattle.std.specs.Prelude.{Bool, List, None, Option, Some, [], false, unwrap_or, ℕ, ◌++◌, ◌==◌, ◌≡◌}
+use Rattle.state_calls.specs.declared.names.QualifiedThreadId.{QualifiedThreadId}
+use Rattle.std.specs.Prelude.{Bool, List, None, Option, Some, [], false, if◌then◌else◌, unwrap_or, ℕ, ◌++◌, ◌+◌, ◌==◌, ◌∷◌, ◌≡◌}
 use Rattle.group_notices.specs.declared.tells.Asked.{Asked}
 use Rattle.group_notices.specs.Runs.{moment}
 use Rattle.task_group.specs.Groups.{Groups}
@@ -9,10 +10,12 @@ use Rattle.task_machine.specs.Core.{Core, Main}
 use Rattle.task_machine.specs.Read.{thread_group}
 use Rattle.task_machine.specs.declared.component.Component.{Component}
 use Rattle.task_machine.specs.declared.records.Notice.{Notice}
+use Rattle.task_machine.specs.declared.records.NoticeKind.TheVariants as notice
 use Rattle.task_machine.specs.declared.records.Turn.{Turn}
 use Rattle.task_machine.specs.declared.records.Turn.TheVariants as turn
-use Rattle.task_rules.specs.Notices.{finish_notices, moment_notices, running_group, start_notices}
+use Rattle.task_rules.specs.Notices.{finish_notices, moment_notices, of_live, running_group, start_notices, switch_notices, told_of}
 use Rattle.task_rules.specs.Stalled.{Setting}
+use Rattle.task_store.specs.Groups.{HoldsGroups}
 use Rattle.task_turns.specs.Turn.{Turned, running_of, state_at}
 use Rattle.task_turns.specs.declared.made.Made.{Made}
 use Rattle.task_turns.specs.declared.made.Stepped.{Stepped}
@@ -66,3 +69,36 @@ RunTold c n s old made t new = (x : Setting) → x.component ≡ c → (m : Main
 -- the group of the thread that runs in a store; None: none does
 abbrev pub current_group : StateView → Option ℕ
 current_group s = option_map (λ n. thread_group n s.core) (running_of s)
+
+-- ---- Calls between runs
+
+-- what is asked before a call that may finish this group
+abbrev pub asked_now : StateView → (staked : ℕ) → Asked
+asked_now s staked = record { running = current_group s; worked = None; staked = staked }
+
+-- What a call tells: where another group runs after it, or none, the old one is left and the new one entered; and each that it finished.
+abbrev pub call_notices : StateView → StateView → List Notice
+call_notices s t =
+    of_live s.core.groups (switch_notices (current_group s) (current_group t)) ++ finish_notices s.core.groups t.core.groups
+
+-- Where the groups stood for those of the core, they do so after the call, and were told what it gave.
+abbrev pub TellsGroups : StateView → Groups → StateView → Groups → Type 0
+TellsGroups s old t new = HoldsGroups old s.core → HoldsGroups new t.core × Told (call_notices s t) old.listeners new.listeners
+
+-- the next group starts
+abbrev pub start_of_group : Core → Notice
+start_of_group s = told_of notice.Start (s.made.groups + 1)
+
+-- what a new task tells: it starts a group where it has no caller
+abbrev pub begun_notices : Option QualifiedThreadId → Core → List Notice
+begun_notices (Some id) s = []
+begun_notices None s = start_of_group s ∷ []
+
+-- the groups with that
+abbrev pub groups_with : Option QualifiedThreadId → Core → List ℕ
+groups_with (Some id) s = s.groups
+groups_with None s = s.groups ++ (s.made.groups + 1) ∷ []
+
+-- the same where in a trapped store all groups are finished then
+abbrev pub begin_notices : Option QualifiedThreadId → Core → List Notice
+begin_notices f s = begun_notices f s ++ (if s.trapped then finish_notices (groups_with f s) [] else [])

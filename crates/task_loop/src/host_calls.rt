@@ -3,9 +3,11 @@ ghost use Rattle.std.specs.Prelude.{◌==◌, ◌≡◌, ◌<◌, ℕ, cond, is_
 ghost use Rattle.task_calls.specs.Answers.{at_once, number_in};
 ghost use Rattle.task_calls.specs.Asks.{Answers, CanAsk, IsAtPlace, IsRunningIn, turn_in};
 ghost use Rattle.task_calls.specs.Polled.{blocks_row, polls_row, value_in};
+ghost use Rattle.task_loop.specs.Told.{TellsGroups};
 ghost use Rattle.task_store.specs.Hosts.{HoldsHosts, held_by, settled};
 ghost use Rattle.task_turns.specs.Turn.{Sits};
 
+use crate::call_tells::{asked, tell_call};
 use crate::instance::Instance;
 use task_calls::{Step, TaskError, block_on_host, poll_host};
 use task_machine::Component;
@@ -48,13 +50,16 @@ impl Instance {
         ensures answers { Answers (polls_row register (H.course work) store.old.state.core) number_in store.old.state (at_once result) store.new.state }
         ensures order { IsAtPlace component.now (polls_row register (H.course work) store.old.state.core) store.old.state → Sits component.now (turn_in store.new.state) store.new.state.core }
         ensures hosts { HoldsHosts H.course store.new }
-        ensures rest { store.new ≡ record store.old { value = store.new.value; state = store.new.state; works = store.new.works } }
+        ensures groups { TellsGroups store.old.state store.old.groups store.new.state store.new.groups }
+        ensures rest { store.new ≡ record store.old { value = store.new.value; state = store.new.state; groups = store.new.groups; works = store.new.works } }
     {
+        let before = asked(&store.state);
         let host = work.left();
         let Ok(number) = store.hold_next(work) else {
             return Err(TaskError::NoMemory);
         };
         let answer = poll_host(component, &mut store.state, host, register);
+        tell_call(&store.state, &mut store.groups, &before);
         settle(store, number, &answer);
         answer
     }
@@ -75,13 +80,16 @@ impl Instance {
         ensures answers { Answers (blocks_row (H.course work) store.old.state.core) value_in store.old.state result store.new.state }
         ensures order { IsAtPlace component.now (blocks_row (H.course work) store.old.state.core) store.old.state → Sits component.now (turn_in store.new.state) store.new.state.core }
         ensures hosts { HoldsHosts H.course store.new }
-        ensures rest { store.new ≡ record store.old { value = store.new.value; state = store.new.state; works = store.new.works } }
+        ensures groups { TellsGroups store.old.state store.old.groups store.new.state store.new.groups }
+        ensures rest { store.new ≡ record store.old { value = store.new.value; state = store.new.state; groups = store.new.groups; works = store.new.works } }
     {
+        let before = asked(&store.state);
         let host = work.left();
         let Ok(number) = store.hold_next(work) else {
             return Err(TaskError::NoMemory);
         };
         let answer = block_on_host(component, &mut store.state, host);
+        tell_call(&store.state, &mut store.groups, &before);
         settle(store, number, &answer);
         answer
     }

@@ -11,9 +11,11 @@ ghost use Rattle.task_machine.specs.declared.op.Operand.{Operand};
 ghost use Rattle.task_rules.specs.Scripts.{op_of, value_of};
 ghost use Rattle.task_turns.specs.WellFormed.{IsWellFormed};
 ghost use Rattle.task_machine.specs.declared.component.HostDef.{HostDef};
+ghost use Rattle.task_loop.specs.Told.{TellsGroups};
 ghost use Rattle.task_store.specs.Hosts.{HoldsHosts};
 ghost use Rattle.task_turns.specs.Turn.{Sits, running_of};
 
+use crate::call_tells::{asked, tell_call};
 use task_calls::{TaskError, ask_nothing, pressure_op, task_return};
 use task_lends::{cancel_lends, return_lends};
 use task_machine::{Component, Op, TaskOp, Trap, Turn};
@@ -61,7 +63,8 @@ impl Instance {
         ensures returns { IfSome (running_of store.old.state) (λ n. UnlessLent (return_lends n (is_own_type ty encoding memory) store.old.state.core) (Returns n value (is_own_type ty encoding memory)) store.old.state result store.new.state) }
         ensures order { IfSome (running_of store.old.state) (λ n. (x : Operand) → op_of component.now n store.old.state.core ≡ Op.Task (TaskOp.Ret x) → value_of n store.old.state.core x ≡ value → Sits component.now (Turn.Run n) store.new.state.core) }
         ensures hosts { (course : H → HostDef) → HoldsHosts course store.old → HoldsHosts course store.new }
-        ensures rest { store.new ≡ record store.old { state = store.new.state } }
+        ensures groups { TellsGroups store.old.state store.old.groups store.new.state store.new.groups }
+        ensures rest { store.new ≡ record store.old { state = store.new.state; groups = store.new.groups } }
     {
         let Some(thread) = store.state.current() else {
             unreachable!()
@@ -71,7 +74,8 @@ impl Instance {
             return Err(TaskError::Trap(Trap::ScopeExit));
         }
         let number = store.state.number(thread);
-        task_return(
+        let before = asked(&store.state);
+        let answer = task_return(
             &mut store.state,
             component,
             number,
@@ -79,7 +83,9 @@ impl Instance {
             encoding,
             memory,
             value,
-        )
+        );
+        tell_call(&store.state, &mut store.groups, &before);
+        answer
     }
 
     /// The task ends as cancelled, once a cancel request was delivered to it. Refused with trap 2 where none was, else
@@ -94,7 +100,8 @@ impl Instance {
         ensures answers { IfSome (running_of store.old.state) (λ n. UnlessLent (cancel_lends n store.old.state.core) (RowAnswers (row_of component.now (Op.Task TaskOp.TaskCancel) store.old.state.core)) store.old.state result store.new.state) }
         ensures order { KeepsFit component.now (Op.Task TaskOp.TaskCancel) store.old.state store.new.state → Sits component.now (turn_in store.new.state) store.new.state.core }
         ensures hosts { (course : H → HostDef) → HoldsHosts course store.old → HoldsHosts course store.new }
-        ensures rest { store.new ≡ record store.old { state = store.new.state } }
+        ensures groups { TellsGroups store.old.state store.old.groups store.new.state store.new.groups }
+        ensures rest { store.new ≡ record store.old { state = store.new.state; groups = store.new.groups } }
     {
         let Some(thread) = store.state.current() else {
             unreachable!()
@@ -102,7 +109,10 @@ impl Instance {
         if cancel_lends(&store.state, thread) {
             return Err(TaskError::Trap(Trap::ScopeExit));
         }
-        ask_nothing(component, &mut store.state, Op::Task(TaskOp::TaskCancel))
+        let before = asked(&store.state);
+        let answer = ask_nothing(component, &mut store.state, Op::Task(TaskOp::TaskCancel));
+        tell_call(&store.state, &mut store.groups, &before);
+        answer
     }
 
     /// The count of the instance's backpressure is raised or lowered; falling to 0 it releases the held threads
@@ -120,9 +130,13 @@ impl Instance {
         ensures answers { Answers (row_of component.now (pressure_op up) store.old.state.core) nothing_in store.old.state (at_once result) store.new.state }
         ensures order { KeepsFit component.now (pressure_op up) store.old.state store.new.state → Sits component.now (turn_in store.new.state) store.new.state.core }
         ensures hosts { (course : H → HostDef) → HoldsHosts course store.old → HoldsHosts course store.new }
-        ensures rest { store.new ≡ record store.old { state = store.new.state } }
+        ensures groups { TellsGroups store.old.state store.old.groups store.new.state store.new.groups }
+        ensures rest { store.new ≡ record store.old { state = store.new.state; groups = store.new.groups } }
     {
         let _caller = caller;
-        ask_nothing(component, &mut store.state, pressure_op(up))
+        let before = asked(&store.state);
+        let answer = ask_nothing(component, &mut store.state, pressure_op(up));
+        tell_call(&store.state, &mut store.groups, &before);
+        answer
     }
 }

@@ -3,6 +3,8 @@
 
 mod call;
 mod call_concurrent;
+mod call_tells;
+mod guest_tasks;
 mod host_calls;
 mod instance;
 mod main_task;
@@ -16,6 +18,7 @@ mod waitables;
 
 pub use call::{Func, FuncCallConcurrent};
 pub use call_concurrent::CallConcurrent;
+pub use guest_tasks::{cleanup_thread, new_guest_task, set_thread};
 pub use instance::Instance;
 pub use main_task::MainTask;
 pub use polls::RunPoll;

@@ -17,11 +17,13 @@ ghost use Rattle.task_machine.specs.declared.records.Goal.{Goal};
 ghost use Rattle.task_rules.specs.Calls.{call_queues};
 ghost use Rattle.task_rules.specs.Scripts.{export_at, export_kind};
 ghost use Rattle.task_machine.specs.declared.component.HostDef.{HostDef};
+ghost use Rattle.task_loop.specs.Told.{TellsGroups};
 ghost use Rattle.task_store.specs.Hosts.{HoldsHosts};
 ghost use Rattle.task_turns.specs.Turn.{Sits, running_of};
 ghost use Rattle.task_words.specs.StateView.{StateView, with_core, with_current};
 
 use crate::call::Func;
+use crate::call_tells::{asked, asked_of, tell_call};
 use crate::instance::Instance;
 use task_calls::{
     QualifiedThreadId, Step, TaskError, ask_nothing, begin_number, cancel_op, enter_call,
@@ -50,10 +52,14 @@ impl Instance {
         ensures answers { Answers (row_of component.now (cancel_op async_ subtask) store.old.state.core) number_in store.old.state result store.new.state }
         ensures order { KeepsFit component.now (cancel_op async_ subtask) store.old.state store.new.state → Sits component.now (turn_in store.new.state) store.new.state.core }
         ensures hosts { (course : H → HostDef) → HoldsHosts course store.old → HoldsHosts course store.new }
-        ensures rest { store.new ≡ record store.old { state = store.new.state } }
+        ensures groups { TellsGroups store.old.state store.old.groups store.new.state store.new.groups }
+        ensures rest { store.new ≡ record store.old { state = store.new.state; groups = store.new.groups } }
     {
         let _caller = caller;
-        begin_number(component, &mut store.state, cancel_op(async_, subtask))
+        let before = asked(&store.state);
+        let answer = begin_number(component, &mut store.state, cancel_op(async_, subtask));
+        tell_call(&store.state, &mut store.groups, &before);
+        answer
     }
 
     /// The subtask leaves its set, and its handle is gone. Refused with trap 16 where the handle names no
@@ -72,16 +78,17 @@ impl Instance {
         ensures answers { Answers (row_of component.now (Op.Call (CallOp.Drop (Operand.Number subtask))) store.old.state.core) nothing_in store.old.state (at_once result) store.new.state }
         ensures order { KeepsFit component.now (Op.Call (CallOp.Drop (Operand.Number subtask))) store.old.state store.new.state → Sits component.now (turn_in store.new.state) store.new.state.core }
         ensures hosts { (course : H → HostDef) → HoldsHosts course store.old → HoldsHosts course store.new }
-        ensures rest { store.new ≡ record store.old { state = store.new.state } }
+        ensures groups { TellsGroups store.old.state store.old.groups store.new.state store.new.groups }
+        ensures rest { store.new ≡ record store.old { state = store.new.state; groups = store.new.groups } }
     {
         let _caller = caller;
-        ask_nothing(
-            component,
-            &mut store.state,
-            Op::Call(CallOp::Drop {
-                subtask: Operand::Number(u64::from(subtask)),
-            }),
-        )
+        let op = Op::Call(CallOp::Drop {
+            subtask: Operand::Number(u64::from(subtask)),
+        });
+        let before = asked_of(&store.state, &op);
+        let answer = ask_nothing(component, &mut store.state, op);
+        tell_call(&store.state, &mut store.groups, &before);
+        answer
     }
 
     /// A direct call's first half: the callee, of a sync or blocking export of an earlier instance, is made with as many
@@ -104,10 +111,14 @@ impl Instance {
         ensures live { IfOk result (λ id. IsLive store.new.state id) }
         ensures order { IsAtPlace component.now (enters_row component.now (callee_of callee) params.now store.old.state.core) store.old.state → Sits component.now (turn_in store.new.state) store.new.state.core }
         ensures hosts { (course : H → HostDef) → HoldsHosts course store.old → HoldsHosts course store.new }
-        ensures rest { store.new ≡ record store.old { state = store.new.state } }
+        ensures groups { TellsGroups store.old.state store.old.groups store.new.state store.new.groups }
+        ensures rest { store.new ≡ record store.old { state = store.new.state; groups = store.new.groups } }
     {
         let callee = callee.callee();
-        enter_call(component, &mut store.state, callee, params)
+        let before = asked(&store.state);
+        let answer = enter_call(component, &mut store.state, callee, params);
+        tell_call(&store.state, &mut store.groups, &before);
+        answer
     }
 
     /// A direct call's second half, by its first thread: its task ends as returned with the value, the thread ends, and
@@ -126,7 +137,8 @@ impl Instance {
         ensures answers { IfSome (running_of store.old.state) (λ n. UnlessLent (exit_lends n store.old.state.core) (RowAnswers (exits_row value store.old.state.core)) store.old.state result store.new.state) }
         ensures order { IsAtPlace component.now (exits_row value store.old.state.core) store.old.state → Sits component.now (turn_in store.new.state) store.new.state.core }
         ensures hosts { (course : H → HostDef) → HoldsHosts course store.old → HoldsHosts course store.new }
-        ensures rest { store.new ≡ record store.old { state = store.new.state } }
+        ensures groups { TellsGroups store.old.state store.old.groups store.new.state store.new.groups }
+        ensures rest { store.new ≡ record store.old { state = store.new.state; groups = store.new.groups } }
     {
         let Some(thread) = store.state.current() else {
             unreachable!()
@@ -134,7 +146,10 @@ impl Instance {
         if exit_lends(&store.state, thread) {
             return Err(TaskError::Trap(Trap::ScopeExit));
         }
-        exit_call(component, &mut store.state, value)
+        let before = asked(&store.state);
+        let answer = exit_call(component, &mut store.state, value);
+        tell_call(&store.state, &mut store.groups, &before);
+        answer
     }
 
     /// A call's first half, of an export of an earlier instance: it is made with as many words as the callee takes, and
@@ -159,17 +174,21 @@ impl Instance {
         requires queued { async_caller ≡ false → is_async_lifted (export_kind component.now (callee_of callee)) ≡ true }
         ensures prepares { IfSome (running_of store.old.state) (λ n. Prepares component.now n (callee_of callee) params.now (goal_for async_caller register) store.old.state (fits 3 store.old.state.core) result store.new.state) }
         ensures hosts { (course : H → HostDef) → HoldsHosts course store.old → HoldsHosts course store.new }
-        ensures rest { store.new ≡ record store.old { state = store.new.state } }
+        ensures groups { TellsGroups store.old.state store.old.groups store.new.state store.new.groups }
+        ensures rest { store.new ≡ record store.old { state = store.new.state; groups = store.new.groups } }
     {
         let callee = callee.callee();
-        prepare_call(
+        let before = asked(&store.state);
+        let answer = prepare_call(
             component,
             &mut store.state,
             callee,
             params,
             register,
             async_caller,
-        )
+        );
+        tell_call(&store.state, &mut store.groups, &before);
+        answer
     }
 
     /// A call's second half, of a call that the current thread has prepared: its start becomes the switch entry, and the
@@ -188,9 +207,13 @@ impl Instance {
         ensures starts { IfSome (running_of store.old.state) (λ n. store.new.state ≡ with_current None (with_core (starts_in n callee store.old.state) store.old.state)) }
         ensures whole { (c : Component) (n : ℕ) (e : Callee) (words : List ℕ) (g : Goal) (s : StateView) → running_of store.old.state ≡ Some n → Prepared c n e words g s store.old.state callee → store.new.state.core ≡ call_queues n e (export_kind c e) g words s.core }
         ensures hosts { (course : H → HostDef) → HoldsHosts course store.old → HoldsHosts course store.new }
-        ensures rest { store.new ≡ record store.old { state = store.new.state } }
+        ensures groups { TellsGroups store.old.state store.old.groups store.new.state store.new.groups }
+        ensures rest { store.new ≡ record store.old { state = store.new.state; groups = store.new.groups } }
     {
         let _component = component;
-        start_prepared(&mut store.state, callee)
+        let before = asked(&store.state);
+        let answer = start_prepared(&mut store.state, callee);
+        tell_call(&store.state, &mut store.groups, &before);
+        answer
     }
 }

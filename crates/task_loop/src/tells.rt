@@ -29,9 +29,9 @@ pub(crate) fn group_of(core: &TaskCore, turn: Turn) -> Option<u64>
     }
 }
 
-// The group of the thread that runs.
+/// The group of the thread that runs.
 #[inline(always)]
-fn group_now(core: &TaskCore) -> Option<u64>
+pub(crate) fn group_now(core: &TaskCore) -> Option<u64>
     ensures { result ≡ current_group core.now }
 {
     match core.current() {

@@ -4,9 +4,11 @@ ghost use Rattle.task_calls.specs.Answers.{at_once, event_in, nothing_in, number
 ghost use Rattle.task_calls.specs.Asks.{Answers, CanAsk, IsRunningIn, row_of, turn_in};
 ghost use Rattle.task_calls.specs.Elsewhere.{KeepsFit};
 ghost use Rattle.task_machine.specs.declared.component.HostDef.{HostDef};
+ghost use Rattle.task_loop.specs.Told.{TellsGroups};
 ghost use Rattle.task_store.specs.Hosts.{HoldsHosts};
 ghost use Rattle.task_turns.specs.Turn.{Sits};
 
+use crate::call_tells::{asked, tell_call};
 use crate::instance::Instance;
 use task_calls::{Step, TaskError, ask_event, ask_nothing, ask_number, begin_event};
 use task_machine::{Component, Op, Operand, SetOp};
@@ -27,10 +29,14 @@ impl Instance {
         ensures answers { Answers (row_of component.now (Op.Set (SetOp.New 0)) store.old.state.core) number_in store.old.state (at_once result) store.new.state }
         ensures order { KeepsFit component.now (Op.Set (SetOp.New 0)) store.old.state store.new.state → Sits component.now (turn_in store.new.state) store.new.state.core }
         ensures hosts { (course : H → HostDef) → HoldsHosts course store.old → HoldsHosts course store.new }
-        ensures rest { store.new ≡ record store.old { state = store.new.state } }
+        ensures groups { TellsGroups store.old.state store.old.groups store.new.state store.new.groups }
+        ensures rest { store.new ≡ record store.old { state = store.new.state; groups = store.new.groups } }
     {
         let _caller = caller;
-        ask_number(component, &mut store.state, Op::Set(SetOp::New { to: 0 }))
+        let before = asked(&store.state);
+        let answer = ask_number(component, &mut store.state, Op::Set(SetOp::New { to: 0 }));
+        tell_call(&store.state, &mut store.groups, &before);
+        answer
     }
 
     /// The set and its handle are gone. Refused with trap 16 where the handle names no set, with trap 8 where
@@ -48,16 +54,20 @@ impl Instance {
         ensures answers { Answers (row_of component.now (Op.Set (SetOp.Drop (Operand.Number set))) store.old.state.core) nothing_in store.old.state (at_once result) store.new.state }
         ensures order { KeepsFit component.now (Op.Set (SetOp.Drop (Operand.Number set))) store.old.state store.new.state → Sits component.now (turn_in store.new.state) store.new.state.core }
         ensures hosts { (course : H → HostDef) → HoldsHosts course store.old → HoldsHosts course store.new }
-        ensures rest { store.new ≡ record store.old { state = store.new.state } }
+        ensures groups { TellsGroups store.old.state store.old.groups store.new.state store.new.groups }
+        ensures rest { store.new ≡ record store.old { state = store.new.state; groups = store.new.groups } }
     {
         let _caller = caller;
-        ask_nothing(
+        let before = asked(&store.state);
+        let answer = ask_nothing(
             component,
             &mut store.state,
             Op::Set(SetOp::Drop {
                 set: Operand::Number(u64::from(set)),
             }),
-        )
+        );
+        tell_call(&store.state, &mut store.groups, &before);
+        answer
     }
 
     /// The task's own event, else that of the set's least ready member, is taken: its code, handle and result;
@@ -75,17 +85,21 @@ impl Instance {
         ensures answers { Answers (row_of component.now (Op.Set (SetOp.Poll 0 (Operand.Number set))) store.old.state.core) event_in store.old.state (at_once result) store.new.state }
         ensures order { KeepsFit component.now (Op.Set (SetOp.Poll 0 (Operand.Number set))) store.old.state store.new.state → Sits component.now (turn_in store.new.state) store.new.state.core }
         ensures hosts { (course : H → HostDef) → HoldsHosts course store.old → HoldsHosts course store.new }
-        ensures rest { store.new ≡ record store.old { state = store.new.state } }
+        ensures groups { TellsGroups store.old.state store.old.groups store.new.state store.new.groups }
+        ensures rest { store.new ≡ record store.old { state = store.new.state; groups = store.new.groups } }
     {
         let _caller = caller;
-        ask_event(
+        let before = asked(&store.state);
+        let answer = ask_event(
             component,
             &mut store.state,
             Op::Set(SetOp::Poll {
                 to: 0,
                 set: Operand::Number(u64::from(set)),
             }),
-        )
+        );
+        tell_call(&store.state, &mut store.groups, &before);
+        answer
     }
 
     /// As `waitable_set_poll`, but where nothing is there the strand stops until an event comes; `go_on` takes
@@ -103,17 +117,21 @@ impl Instance {
         ensures answers { Answers (row_of component.now (Op.Set (SetOp.Wait 0 (Operand.Number set))) store.old.state.core) event_in store.old.state result store.new.state }
         ensures order { KeepsFit component.now (Op.Set (SetOp.Wait 0 (Operand.Number set))) store.old.state store.new.state → Sits component.now (turn_in store.new.state) store.new.state.core }
         ensures hosts { (course : H → HostDef) → HoldsHosts course store.old → HoldsHosts course store.new }
-        ensures rest { store.new ≡ record store.old { state = store.new.state } }
+        ensures groups { TellsGroups store.old.state store.old.groups store.new.state store.new.groups }
+        ensures rest { store.new ≡ record store.old { state = store.new.state; groups = store.new.groups } }
     {
         let _caller = caller;
-        begin_event(
+        let before = asked(&store.state);
+        let answer = begin_event(
             component,
             &mut store.state,
             Op::Set(SetOp::Wait {
                 to: 0,
                 set: Operand::Number(u64::from(set)),
             }),
-        )
+        );
+        tell_call(&store.state, &mut store.groups, &before);
+        answer
     }
 
     /// The waitable leaves its set and joins the other one, or none where that is 0; if it has an event, a
@@ -133,16 +151,20 @@ impl Instance {
         ensures answers { Answers (row_of component.now (Op.Set (SetOp.Join (Operand.Number waitable) (Operand.Number set))) store.old.state.core) nothing_in store.old.state (at_once result) store.new.state }
         ensures order { KeepsFit component.now (Op.Set (SetOp.Join (Operand.Number waitable) (Operand.Number set))) store.old.state store.new.state → Sits component.now (turn_in store.new.state) store.new.state.core }
         ensures hosts { (course : H → HostDef) → HoldsHosts course store.old → HoldsHosts course store.new }
-        ensures rest { store.new ≡ record store.old { state = store.new.state } }
+        ensures groups { TellsGroups store.old.state store.old.groups store.new.state store.new.groups }
+        ensures rest { store.new ≡ record store.old { state = store.new.state; groups = store.new.groups } }
     {
         let _caller = caller;
-        ask_nothing(
+        let before = asked(&store.state);
+        let answer = ask_nothing(
             component,
             &mut store.state,
             Op::Set(SetOp::Join {
                 waitable: Operand::Number(u64::from(waitable)),
                 set: Operand::Number(u64::from(set)),
             }),
-        )
+        );
+        tell_call(&store.state, &mut store.groups, &before);
+        answer
     }
 }

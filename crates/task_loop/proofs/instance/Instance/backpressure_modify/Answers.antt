@@ -1,3 +1,6 @@
+use Rattle.group_laws.specs.Groups.{stake_of}
+use Rattle.task_loop.proofs.CallTellLemmas.{called}
+use Rattle.task_loop.proofs.LessenLemmas.{own, own_lessens, own_pressure}
 use Rattle.std.proofs.Common.{ap, ◌∙◌}
 use Rattle.task_calls.specs.Answers.{at_once, nothing_in}
 use Rattle.task_calls.specs.Elsewhere.{is_apart}
@@ -8,4 +11,10 @@ use Rattle.task_store.specs.Hosts.{held_by}
 pub returns-clause-hosts : goal.returns-clause-hosts
 returns-clause-hosts g c course h =
     let store = c.args.store.now in
-    asked_holds (held_by course store) store.state c.ask_nothing.new.w h c.args.component.now c.requires.running c.pressure_op.result nothing_in (at_once c.ask_nothing.result) (ap is_apart c.pressure_op.ensures.is ∙ apart_pressure c.args.up) c.ask_nothing.ensures.answers
+    asked_holds (held_by course store) store.state c.ask_nothing-answer.new.w h c.args.component.now c.requires.running c.pressure_op.result nothing_in (at_once c.ask_nothing-answer.result) (ap is_apart c.pressure_op.ensures.is ∙ apart_pressure c.args.up) c.ask_nothing-answer.ensures.answers
+
+pub returns-clause-groups : goal.returns-clause-groups
+returns-clause-groups g c holds =
+    let store = c.args.store.now in
+    called store.state c.ask_nothing-answer.new.w c.asked-before.result (own store.state) c.asked-before.ensures
+    (own_lessens store.state c.ask_nothing-answer.new.w c.args.component.now c.requires.running c.pressure_op.result nothing_in (at_once c.ask_nothing-answer.result) (ap is_apart c.pressure_op.ensures.is ∙ apart_pressure c.args.up) (ap (λ o. stake_of c.requires.running.number store.state.core o) c.pressure_op.ensures.is ∙ own_pressure c.args.up c.requires.running.number store.state.core) c.ask_nothing-answer.ensures.answers) store.groups c.tell_call.new.groups holds c.tell_call.ensures.told c.tell_call.ensures.mirrors c.tell_call.ensures.made c.tell_call.ensures.hook

@@ -1,4 +1,7 @@
 -- The host works stay where a direct call is entered.
+use Rattle.task_loop.proofs.CallTellLemmas.{called}
+use Rattle.task_loop.proofs.LessenLemmas.{entered_lessens, own}
+use Rattle.task_loop.proofs.LessenLemmas as lessen
 use Rattle.task_calls.specs.Answers.{at_once}
 use Rattle.task_calls.specs.Directs.{entered, enters_row, thread_in}
 use Rattle.task_loop.proofs.AskHoldLemmas.{by_answers, entered_holds}
@@ -10,9 +13,16 @@ pub returns-clause-hosts : goal.returns-clause-hosts
 returns-clause-hosts g c course h =
     let store = c.args.store.now in
     let s = store.state in
-    let t = c.enter_call.new.w in
+    let t = c.enter_call-answer.new.w in
     let q = c.requires.running in
     let e = c.callee-callee.result in
     let left = held_by course store in
-    by_answers left s t h (enters_row c.args.component.now e c.args.params.now s.core) thread_in (at_once (entered t c.enter_call.result)) q.number q.runs
-    (λ r d. entered_holds left s t h q.number e (export_kind c.args.component.now e) c.args.params.now r d.meets) c.enter_call.ensures.answers
+    by_answers left s t h (enters_row c.args.component.now e c.args.params.now s.core) thread_in (at_once (entered t c.enter_call-answer.result)) q.number q.runs
+    (λ r d. entered_holds left s t h q.number e (export_kind c.args.component.now e) c.args.params.now r d.meets) c.enter_call-answer.ensures.answers
+
+pub returns-clause-groups : goal.returns-clause-groups
+returns-clause-groups g c holds =
+    let store = c.args.store.now in
+    called store.state c.enter_call-answer.new.w c.asked-before.result (own store.state) c.asked-before.ensures
+    (lessen.by_answers store.state c.enter_call-answer.new.w (own store.state) (enters_row c.args.component.now c.callee-callee.result c.args.params.now store.state.core) thread_in (at_once (entered c.enter_call-answer.new.w c.enter_call-answer.result)) c.requires.running.number c.requires.running.runs
+    (λ r d. entered_lessens (own store.state) store.state c.enter_call-answer.new.w c.requires.running.number c.callee-callee.result (export_kind c.args.component.now c.callee-callee.result) c.args.params.now r d.meets) c.enter_call-answer.ensures.answers) store.groups c.tell_call.new.groups holds c.tell_call.ensures.told c.tell_call.ensures.mirrors c.tell_call.ensures.made c.tell_call.ensures.hook

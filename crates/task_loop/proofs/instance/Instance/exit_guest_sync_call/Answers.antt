@@ -1,4 +1,8 @@
 -- The host works stay where a direct call is left.
+use Rattle.task_loop.proofs.CallTellLemmas.{called, still_told}
+use Rattle.task_machine.specs.Read.{thread_group}
+use Rattle.task_loop.proofs.LessenLemmas.{Lessens, exited_lessens, own, own_is}
+use Rattle.task_loop.proofs.LessenLemmas as lessen
 use Rattle.std.proofs.Common.{subst}
 use Rattle.std.specs.Prelude.{IfSome, Option, ℕ}
 use Rattle.task_calls.specs.Answers.{at_once, nothing_in}
@@ -15,13 +19,13 @@ pub returns-clause-hosts : goal.returns-clause-hosts
 returns-clause-hosts g c course h =
     let store = c.args.store.now in
     let s = store.state in
-    let t = c.exit_call.new.w in
+    let t = c.exit_call-answer.new.w in
     let q = c.requires.running in
     let v = c.args.value in
     let left = held_by course store in
     let direct = subst (λ (o : Option ℕ). IfSome o (λ n. IsDirect n s.core)) q.runs c.requires.direct in
-    by_answers left s t h (exits_row v s.core) nothing_in (at_once c.exit_call.result) q.number q.runs
-    (λ r d. exited_holds left s t h c.args.component.now q v direct r d.meets d.stays) c.exit_call.ensures.answers
+    by_answers left s t h (exits_row v s.core) nothing_in (at_once c.exit_call-answer.result) q.number q.runs
+    (λ r d. exited_holds left s t h c.args.component.now q v direct r d.meets d.stays) c.exit_call-answer.ensures.answers
 
 pub returns-then-exit_lends-clause-answers : goal.returns-then-exit_lends-clause-answers
 returns-then-exit_lends-clause-answers g c =
@@ -34,4 +38,15 @@ returns-then-exit_lends-clause-order g c there = sits_still c.args.component.now
 pub returns-clause-answers : goal.returns-clause-answers
 returns-clause-answers g c =
     let s = c.args.store.now.state in
-    ended_unlent s c.in-Some.thread c.current.result c.current.ensures c.in-Some.is (λ n. exit_lends n s.core) (λ n. RowAnswers (exits_row c.args.value s.core)) c.exit_call.result c.exit_call.new.w (sym c.exit_lends.ensures ∙ c.if-exit_lends.false) c.exit_call.ensures.answers
+    ended_unlent s c.in-Some.thread c.current.result c.current.ensures c.in-Some.is (λ n. exit_lends n s.core) (λ n. RowAnswers (exits_row c.args.value s.core)) c.exit_call-answer.result c.exit_call-answer.new.w (sym c.exit_lends.ensures ∙ c.if-exit_lends.false) c.exit_call-answer.ensures.answers
+
+pub returns-clause-groups : goal.returns-clause-groups
+returns-clause-groups g c holds =
+    let store = c.args.store.now in
+    called store.state c.exit_call-answer.new.w c.asked-before.result (own store.state) c.asked-before.ensures
+    (subst (λ k. Lessens k store.state.core c.exit_call-answer.new.w.core) (sym (own_is store.state c.requires.running.number c.requires.running.runs))
+    (lessen.by_answers store.state c.exit_call-answer.new.w (thread_group c.requires.running.number store.state.core) (exits_row c.args.value store.state.core) nothing_in (at_once c.exit_call-answer.result) c.requires.running.number c.requires.running.runs
+    (λ r d. exited_lessens store.state c.exit_call-answer.new.w c.args.component.now c.requires.running c.args.value (subst (λ (o : Option ℕ). IfSome o (λ n. IsDirect n store.state.core)) c.requires.running.runs c.requires.direct) r d.meets d.stays) c.exit_call-answer.ensures.answers)) store.groups c.tell_call.new.groups holds c.tell_call.ensures.told c.tell_call.ensures.mirrors c.tell_call.ensures.made c.tell_call.ensures.hook
+
+pub returns-then-exit_lends-clause-groups : goal.returns-then-exit_lends-clause-groups
+returns-then-exit_lends-clause-groups g c holds = (holds, still_told c.args.store.now.state c.args.store.now.groups.listeners)

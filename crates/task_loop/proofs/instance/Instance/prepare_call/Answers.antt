@@ -1,4 +1,6 @@
 -- The host works stay where a call is prepared.
+use Rattle.task_loop.proofs.CallTellLemmas.{called}
+use Rattle.task_loop.proofs.LessenLemmas.{own, prepared_lessens}
 use Rattle.std.proofs.Common.{subst}
 use Rattle.std.specs.Prelude.{IfSome, Option, ℕ}
 use Rattle.task_calls.specs.Prepared.{Prepares, goal_for}
@@ -11,9 +13,16 @@ pub returns-clause-hosts : goal.returns-clause-hosts
 returns-clause-hosts g c course h =
     let store = c.args.store.now in
     let s = store.state in
-    let t = c.prepare_call.new.w in
+    let t = c.prepare_call-answer.new.w in
     let q = c.requires.running in
     let e = c.callee-callee.result in
     let aim = goal_for c.args.async_caller c.args.register in
-    prepared_holds (held_by course store) s t h c.args.component.now q.number e c.args.params.now aim (fits 3 s.core) c.prepare_call.result
-    (subst (λ (o : Option ℕ). IfSome o (λ n. Prepares c.args.component.now n e c.args.params.now aim s (fits 3 s.core) c.prepare_call.result t)) q.runs c.prepare_call.ensures)
+    prepared_holds (held_by course store) s t h c.args.component.now q.number e c.args.params.now aim (fits 3 s.core) c.prepare_call-answer.result
+    (subst (λ (o : Option ℕ). IfSome o (λ n. Prepares c.args.component.now n e c.args.params.now aim s (fits 3 s.core) c.prepare_call-answer.result t)) q.runs c.prepare_call-answer.ensures)
+
+pub returns-clause-groups : goal.returns-clause-groups
+returns-clause-groups g c holds =
+    let store = c.args.store.now in
+    called store.state c.prepare_call-answer.new.w c.asked-before.result (own store.state) c.asked-before.ensures
+    (prepared_lessens (own store.state) store.state c.prepare_call-answer.new.w c.args.component.now c.requires.running.number c.callee-callee.result c.args.params.now (goal_for c.args.async_caller c.args.register) (fits 3 store.state.core) c.prepare_call-answer.result
+    (subst (λ (o : Option ℕ). IfSome o (λ n. Prepares c.args.component.now n c.callee-callee.result c.args.params.now (goal_for c.args.async_caller c.args.register) store.state (fits 3 store.state.core) c.prepare_call-answer.result c.prepare_call-answer.new.w)) c.requires.running.runs c.prepare_call-answer.ensures)) store.groups c.tell_call.new.groups holds c.tell_call.ensures.told c.tell_call.ensures.mirrors c.tell_call.ensures.made c.tell_call.ensures.hook

@@ -1,4 +1,6 @@
 -- The host works stay where another thread is resumed.
+use Rattle.task_loop.proofs.CallTellLemmas.{called}
+use Rattle.task_loop.proofs.LessenLemmas.{own, resumed_lessens}
 use Rattle.std.proofs.Common.{subst}
 use Rattle.std.specs.Prelude.{IfSome, Option, ℕ}
 use Rattle.task_calls.specs.Resumes.{Resumed, resumed_by}
@@ -10,7 +12,14 @@ pub returns-clause-hosts : goal.returns-clause-hosts
 returns-clause-hosts g c course h =
     let store = c.args.store.now in
     let s = store.state in
-    let t = c.resume_thread.new.w in
+    let t = c.resume_thread-answer.new.w in
     let q = c.requires.running in
-    resumed_holds (held_by course store) s t h c.args.how q.number c.args.thread c.resume_thread.result
-    (subst (λ (o : Option ℕ). IfSome o (λ n. Resumed (resumed_by c.args.how n c.args.thread s.core) s c.resume_thread.result t)) q.runs c.resume_thread.ensures.resumed)
+    resumed_holds (held_by course store) s t h c.args.how q.number c.args.thread c.resume_thread-answer.result
+    (subst (λ (o : Option ℕ). IfSome o (λ n. Resumed (resumed_by c.args.how n c.args.thread s.core) s c.resume_thread-answer.result t)) q.runs c.resume_thread-answer.ensures.resumed)
+
+pub returns-clause-groups : goal.returns-clause-groups
+returns-clause-groups g c holds =
+    let store = c.args.store.now in
+    called store.state c.resume_thread-answer.new.w c.asked-before.result (own store.state) c.asked-before.ensures
+    (resumed_lessens (own store.state) store.state c.resume_thread-answer.new.w c.args.how c.requires.running.number c.args.thread c.resume_thread-answer.result
+    (subst (λ (o : Option ℕ). IfSome o (λ n. Resumed (resumed_by c.args.how n c.args.thread store.state.core) store.state c.resume_thread-answer.result c.resume_thread-answer.new.w)) c.requires.running.runs c.resume_thread-answer.ensures.resumed)) store.groups c.tell_call.new.groups holds c.tell_call.ensures.told c.tell_call.ensures.mirrors c.tell_call.ensures.made c.tell_call.ensures.hook

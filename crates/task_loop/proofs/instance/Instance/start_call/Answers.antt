@@ -1,4 +1,6 @@
 -- The host works stay where a prepared call is begun.
+use Rattle.task_loop.proofs.CallTellLemmas.{called}
+use Rattle.task_loop.proofs.LessenLemmas.{Lessens, own, started_lessens}
 use Rattle.std.specs.Prelude.{IfSome, IsSome, None, Option, Some, ℕ, ◌≡◌}
 use Rattle.task_calls.specs.Prepared.{starts_in}
 use Rattle.state_calls.specs.declared.names.QualifiedThreadId.{QualifiedThreadId}
@@ -16,4 +18,14 @@ by_running left s t id (Some n) some is h = started_holds left s t h n id is
 pub returns-clause-hosts : goal.returns-clause-hosts
 returns-clause-hosts g c course h =
     let store = c.args.store.now in
-    by_running (held_by course store) store.state c.start_prepared.new.w c.args.callee (running_of store.state) c.requires.runs c.start_prepared.ensures.starts h
+    by_running (held_by course store) store.state c.start_prepared-answer.new.w c.args.callee (running_of store.state) c.requires.runs c.start_prepared-answer.ensures.starts h
+
+by_started : (s t : StateView) (id : QualifiedThreadId) (o : Option ℕ) → IsSome o → IfSome o (λ n. t ≡ with_current None (with_core (starts_in n id s) s)) → Lessens (own s) s.core t.core
+by_started s t id None some is = absurd (cc)
+by_started s t id (Some n) some is = started_lessens (own s) s t n id is
+
+pub returns-clause-groups : goal.returns-clause-groups
+returns-clause-groups g c holds =
+    let store = c.args.store.now in
+    called store.state c.start_prepared-answer.new.w c.asked-before.result (own store.state) c.asked-before.ensures
+    (by_started store.state c.start_prepared-answer.new.w c.args.callee (running_of store.state) c.requires.runs c.start_prepared-answer.ensures.starts) store.groups c.tell_call.new.groups holds c.tell_call.ensures.told c.tell_call.ensures.mirrors c.tell_call.ensures.made c.tell_call.ensures.hook

@@ -1,3 +1,6 @@
+use Rattle.group_laws.specs.Groups.{stake_of}
+use Rattle.task_loop.proofs.CallTellLemmas.{called}
+use Rattle.task_loop.proofs.LessenLemmas.{own, own_lessens, own_suspension}
 use Rattle.std.proofs.Common.{ap, ◌∙◌}
 use Rattle.task_calls.specs.Answers.{nothing_in}
 use Rattle.task_calls.specs.Elsewhere.{is_apart}
@@ -8,4 +11,10 @@ use Rattle.task_store.specs.Hosts.{held_by}
 pub returns-clause-hosts : goal.returns-clause-hosts
 returns-clause-hosts g c course h =
     let store = c.args.store.now in
-    asked_holds (held_by course store) store.state c.begin_nothing.new.w h c.args.component.now c.requires.running c.suspension_op.result nothing_in c.begin_nothing.result (ap is_apart c.suspension_op.ensures.is ∙ apart_suspension c.args.yielding c.args.target) c.begin_nothing.ensures.answers
+    asked_holds (held_by course store) store.state c.begin_nothing-answer.new.w h c.args.component.now c.requires.running c.suspension_op.result nothing_in c.begin_nothing-answer.result (ap is_apart c.suspension_op.ensures.is ∙ apart_suspension c.args.yielding c.args.target) c.begin_nothing-answer.ensures.answers
+
+pub returns-clause-groups : goal.returns-clause-groups
+returns-clause-groups g c holds =
+    let store = c.args.store.now in
+    called store.state c.begin_nothing-answer.new.w c.asked-before.result (own store.state) c.asked-before.ensures
+    (own_lessens store.state c.begin_nothing-answer.new.w c.args.component.now c.requires.running c.suspension_op.result nothing_in c.begin_nothing-answer.result (ap is_apart c.suspension_op.ensures.is ∙ apart_suspension c.args.yielding c.args.target) (ap (λ o. stake_of c.requires.running.number store.state.core o) c.suspension_op.ensures.is ∙ own_suspension c.args.yielding c.args.target c.requires.running.number store.state.core) c.begin_nothing-answer.ensures.answers) store.groups c.tell_call.new.groups holds c.tell_call.ensures.told c.tell_call.ensures.mirrors c.tell_call.ensures.made c.tell_call.ensures.hook

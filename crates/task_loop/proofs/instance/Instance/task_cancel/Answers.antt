@@ -1,3 +1,5 @@
+use Rattle.task_loop.proofs.CallTellLemmas.{called, still_told}
+use Rattle.task_loop.proofs.LessenLemmas.{own, own_lessens}
 use Rattle.std.proofs.Common.{refl}
 use Rattle.task_calls.specs.Answers.{at_once, nothing_in}
 use Rattle.task_loop.proofs.AskHoldLemmas.{asked_holds}
@@ -14,7 +16,7 @@ use Rattle.std.proofs.Common.{sym, ◌∙◌}
 pub returns-clause-hosts : goal.returns-clause-hosts
 returns-clause-hosts g c course h =
     let store = c.args.store.now in
-    asked_holds (held_by course store) store.state c.ask_nothing.new.w h c.args.component.now c.requires.running (op.Task task_op.TaskCancel) nothing_in (at_once c.ask_nothing.result) refl c.ask_nothing.ensures.answers
+    asked_holds (held_by course store) store.state c.ask_nothing-answer.new.w h c.args.component.now c.requires.running (op.Task task_op.TaskCancel) nothing_in (at_once c.ask_nothing-answer.result) refl c.ask_nothing-answer.ensures.answers
 
 pub returns-then-cancel_lends-clause-answers : goal.returns-then-cancel_lends-clause-answers
 returns-then-cancel_lends-clause-answers g c =
@@ -27,4 +29,13 @@ returns-then-cancel_lends-clause-order g c fits = sits_still c.args.component.no
 pub returns-clause-answers : goal.returns-clause-answers
 returns-clause-answers g c =
     let s = c.args.store.now.state in
-    ended_unlent s c.in-Some.thread c.current.result c.current.ensures c.in-Some.is (λ n. cancel_lends n s.core) (λ n. RowAnswers (row_of c.args.component.now (op.Task task_op.TaskCancel) s.core)) c.ask_nothing.result c.ask_nothing.new.w (sym c.cancel_lends.ensures ∙ c.if-cancel_lends.false) c.ask_nothing.ensures.answers
+    ended_unlent s c.in-Some.thread c.current.result c.current.ensures c.in-Some.is (λ n. cancel_lends n s.core) (λ n. RowAnswers (row_of c.args.component.now (op.Task task_op.TaskCancel) s.core)) c.ask_nothing-answer.result c.ask_nothing-answer.new.w (sym c.cancel_lends.ensures ∙ c.if-cancel_lends.false) c.ask_nothing-answer.ensures.answers
+
+pub returns-clause-groups : goal.returns-clause-groups
+returns-clause-groups g c holds =
+    let store = c.args.store.now in
+    called store.state c.ask_nothing-answer.new.w c.asked-before.result (own store.state) c.asked-before.ensures
+    (own_lessens store.state c.ask_nothing-answer.new.w c.args.component.now c.requires.running (op.Task task_op.TaskCancel) nothing_in (at_once c.ask_nothing-answer.result) refl refl c.ask_nothing-answer.ensures.answers) store.groups c.tell_call.new.groups holds c.tell_call.ensures.told c.tell_call.ensures.mirrors c.tell_call.ensures.made c.tell_call.ensures.hook
+
+pub returns-then-cancel_lends-clause-groups : goal.returns-then-cancel_lends-clause-groups
+returns-then-cancel_lends-clause-groups g c holds = (holds, still_told c.args.store.now.state c.args.store.now.groups.listeners)

@@ -1,4 +1,6 @@
 -- The host works stay over a return.
+use Rattle.task_loop.proofs.CallTellLemmas.{called, still_told}
+use Rattle.task_loop.proofs.LessenLemmas.{Lessens, own, own_is, returned_lessens}
 use Rattle.std.proofs.Common.{ap, refl, subst, sym, ◌∙◌}
 use Rattle.std.specs.Option.{option_map}
 use Rattle.std.specs.Prelude.{Bool, IfSome, Option, Some, false, true, ℕ, ◌≡◌}
@@ -14,7 +16,9 @@ use Rattle.task_rules.specs.Scripts.{op_of, value_of}
 use Rattle.task_store.proofs.HostLemmas.{runs_works}
 use Rattle.task_store.specs.Hosts.{held_by}
 use Rattle.task_turns.specs.Turn.{Sits, running_of}
-use Rattle.task_words.specs.StateView.{thread_of}
+use Rattle.task_table.specs.declared.id.TableId.{TableId}
+use Rattle.task_wait.specs.declared.keys.ThreadKey.{ThreadKey}
+use Rattle.task_words.specs.StateView.{StateView, thread_of}
 use Rattle.task_lends.specs.Lends.{return_lends}
 use Rattle.task_loop.proofs.LentLemmas.{ended_unlent, refused_lent, runs_on}
 use Rattle.task_calls.specs.Calls.{Returns}
@@ -28,7 +32,7 @@ returns-clause-hosts g c course h =
     let sits : Sits c.args.component.now (turn.Run n) s.core = subst (λ (o : Option ℕ). IfSome o (λ k. Sits c.args.component.now (turn.Run k) s.core)) runs c.requires.order in
     let order = sits.order Unscripted in
     let there = runs_there n s.core (order.in_place.runs n refl) in
-    returned_holds (held_by course store) s c.task_return.new.w h c.args.component.now n c.args.value there.0 there.1 (runs_works c.args.component.now n s.core order) (is_own_type c.args.ty c.args.encoding c.args.memory) c.task_return.result c.task_return.ensures.returns
+    returned_holds (held_by course store) s c.task_return-answer.new.w h c.args.component.now n c.args.value there.0 there.1 (runs_works c.args.component.now n s.core order) (is_own_type c.args.ty c.args.encoding c.args.memory) c.task_return-answer.result c.task_return-answer.ensures.returns
 
 pub returns-then-return_lends-clause-returns : goal.returns-then-return_lends-clause-returns
 returns-then-return_lends-clause-returns g c =
@@ -49,5 +53,18 @@ returns-clause-returns g c =
     let s = c.args.store.now.state in
     let own = is_own_type c.args.ty c.args.encoding c.args.memory in
     let lends = subst (λ (b : Bool). return_lends (thread_of s c.in-Some.thread) b s.core ≡ false) c.is_own_type-own_type.ensures (sym c.return_lends.ensures ∙ c.if-return_lends.false) in
-    ended_unlent s c.in-Some.thread c.current.result c.current.ensures c.in-Some.is (λ n. return_lends n own s.core) (λ n. Returns n c.args.value own) c.task_return.result c.task_return.new.w lends
-    (subst (λ (k : ℕ). Returns k c.args.value own s c.task_return.result c.task_return.new.w) c.number-number.ensures c.task_return.ensures.returns)
+    ended_unlent s c.in-Some.thread c.current.result c.current.ensures c.in-Some.is (λ n. return_lends n own s.core) (λ n. Returns n c.args.value own) c.task_return-answer.result c.task_return-answer.new.w lends
+    (subst (λ (k : ℕ). Returns k c.args.value own s c.task_return-answer.result c.task_return-answer.new.w) c.number-number.ensures c.task_return-answer.ensures.returns)
+
+runs_by : (s : StateView) (id : TableId ThreadKey) (n : ℕ) (o : Option (TableId ThreadKey)) → o ≡ s.current → o ≡ Some id → n ≡ thread_of s id → running_of s ≡ Some n
+runs_by s id n o asked is number = ap (option_map (λ i. thread_of s i)) (sym asked ∙ is) ∙ ap (λ (k : ℕ). Some k) (sym number)
+
+pub returns-clause-groups : goal.returns-clause-groups
+returns-clause-groups g c holds =
+    let store = c.args.store.now in
+    called store.state c.task_return-answer.new.w c.asked-before.result (own store.state) c.asked-before.ensures
+    (subst (λ k. Lessens k store.state.core c.task_return-answer.new.w.core) (sym (own_is store.state c.number-number.result (runs_by store.state c.in-Some.thread c.number-number.result c.current.result c.current.ensures c.in-Some.is c.number-number.ensures)))
+    (let n = c.number-number.result in let runs = runs_by store.state c.in-Some.thread n c.current.result c.current.ensures c.in-Some.is c.number-number.ensures in let sits : Sits c.args.component.now (turn.Run n) store.state.core = subst (λ (o : Option ℕ). IfSome o (λ k. Sits c.args.component.now (turn.Run k) store.state.core)) runs c.requires.order in let there = runs_there n store.state.core ((sits.order Unscripted).in_place.runs n refl) in returned_lessens store.state c.task_return-answer.new.w c.args.component.now c.number-number.result c.args.value there.0 there.1 (is_own_type c.args.ty c.args.encoding c.args.memory) c.task_return-answer.result c.task_return-answer.ensures.returns)) store.groups c.tell_call.new.groups holds c.tell_call.ensures.told c.tell_call.ensures.mirrors c.tell_call.ensures.made c.tell_call.ensures.hook
+
+pub returns-then-return_lends-clause-groups : goal.returns-then-return_lends-clause-groups
+returns-then-return_lends-clause-groups g c holds = (holds, still_told c.args.store.now.state c.args.store.now.groups.listeners)

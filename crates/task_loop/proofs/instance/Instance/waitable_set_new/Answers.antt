@@ -1,3 +1,5 @@
+use Rattle.task_loop.proofs.CallTellLemmas.{called}
+use Rattle.task_loop.proofs.LessenLemmas.{own, own_lessens}
 use Rattle.std.proofs.Common.{refl}
 use Rattle.task_calls.specs.Answers.{at_once, number_in}
 use Rattle.task_loop.proofs.AskHoldLemmas.{asked_holds}
@@ -9,4 +11,10 @@ use Rattle.task_store.specs.Hosts.{held_by}
 pub returns-clause-hosts : goal.returns-clause-hosts
 returns-clause-hosts g c course h =
     let store = c.args.store.now in
-    asked_holds (held_by course store) store.state c.ask_number.new.w h c.args.component.now c.requires.running (op.Set (set_op.New 0)) number_in (at_once c.ask_number.result) refl c.ask_number.ensures.answers
+    asked_holds (held_by course store) store.state c.ask_number-answer.new.w h c.args.component.now c.requires.running (op.Set (set_op.New 0)) number_in (at_once c.ask_number-answer.result) refl c.ask_number-answer.ensures.answers
+
+pub returns-clause-groups : goal.returns-clause-groups
+returns-clause-groups g c holds =
+    let store = c.args.store.now in
+    called store.state c.ask_number-answer.new.w c.asked-before.result (own store.state) c.asked-before.ensures
+    (own_lessens store.state c.ask_number-answer.new.w c.args.component.now c.requires.running (op.Set (set_op.New 0)) number_in (at_once c.ask_number-answer.result) refl refl c.ask_number-answer.ensures.answers) store.groups c.tell_call.new.groups holds c.tell_call.ensures.told c.tell_call.ensures.mirrors c.tell_call.ensures.made c.tell_call.ensures.hook

@@ -1,0 +1,190 @@
+-- Tasks and threads that begin and end between runs: the host works and the groups of a store.
+use Rattle.group_notices.proofs.MirrorLemmas.{mirror_more, mirror_none}
+use Rattle.group_notices.proofs.TellLemmas.{all_told}
+use Rattle.group_notices.specs.Mirror.{Leads, Mirrors}
+use Rattle.group_notices.specs.declared.tells.Asked.{Asked}
+use Rattle.host_works.specs.Kept.{HeldWork}
+use Rattle.state_calls.specs.Currents.{entered, is_left, left_for, now_runs, number_in, runner}
+use Rattle.state_calls.specs.Ends.{Ends}
+use Rattle.state_calls.specs.declared.currents.CurrentThread.{CurrentThread}
+use Rattle.state_calls.specs.declared.error.TaskError.{TaskError}
+use Rattle.state_calls.specs.declared.error.TaskError.TheVariants as task_error
+use Rattle.state_calls.specs.declared.names.QualifiedThreadId.{QualifiedThreadId}
+use Rattle.std.proofs.Common.{ap, append-nil, arith, inl, refl, subst, sym, ◌∙◌}
+use Rattle.std.specs.FinMap as finite
+use Rattle.std.specs.Prelude.{Bool, Err, IsSome, List, None, Ok, Option, Result, Some, [], false, if◌then◌else◌, is_some, true, ℕ, ◌+◌, ◌++◌, ◌∷◌, ◌≡◌, ◌≤◌}
+use Rattle.task_calls.specs.Tasks.{Begins, task_begun, task_made}
+use Rattle.task_group.proofs.GroupLemmas.{told-append, told-none}
+use Rattle.task_group.specs.Groups.{Groups, finish_all}
+use Rattle.task_group.specs.Listeners.{Listeners, Told}
+use Rattle.task_loop.proofs.LessenLemmas.{ended_aside}
+use Rattle.task_loop.proofs.StartLemmas.{trapped_holds}
+use Rattle.task_loop.specs.Told.{begin_notices, begun_notices, groups_with}
+use Rattle.task_machine.specs.Core.{Core}
+use Rattle.task_machine.specs.Write.{add_call, add_group, add_thread, on_thread, set_place, set_trapped}
+use Rattle.task_machine.specs.declared.component.ExportKind.{ExportKind}
+use Rattle.task_machine.specs.declared.records.Place.TheVariants as place
+use Rattle.task_machine.specs.declared.records.Notice.{Notice}
+use Rattle.task_machine.specs.declared.trap.Trap.TheVariants as trap
+use Rattle.task_rules.specs.Calls.{call_made}
+use Rattle.task_rules.specs.Notices.{finish_notices}
+use Rattle.task_store.proofs.HostLemmas.{holds_same}
+use Rattle.task_store.specs.Groups.{HoldsGroups}
+use Rattle.task_store.specs.Hosts.{HoldsWorks}
+use Rattle.task_words.specs.StateView.{StateView}
+
+module _ (left : ℕ → Option HeldWork) where
+  as_before : (s t : StateView) → t ≡ s → HoldsWorks left s.core → HoldsWorks left t.core
+  as_before s t same h = subst (λ (v : StateView). HoldsWorks left v.core) (sym same) h
+
+  -- ---- Another thread
+
+  left_works : (n : ℕ) (b : Bool) (s : Core) → (if b then set_place n place.Suspended s else s).works ≡ s.works
+  unfolding set_place on_thread
+  left_works n true s = refl
+  left_works n false s = refl
+
+  left_for_works : (old new : Option ℕ) (s : Core) → (left_for old new s).works ≡ s.works
+  left_for_works None new s = refl
+  left_for_works (Some n) new s = left_works n (is_left n new s) s
+
+  entered_works : (new : Option ℕ) (s : Core) → (entered new s).works ≡ s.works
+  unfolding set_place on_thread
+  entered_works None s = refl
+  entered_works (Some n) s = refl
+
+  pub runs_holds : (s t : StateView) (c : CurrentThread) → t ≡ now_runs c s → HoldsWorks left s.core → HoldsWorks left t.core
+  runs_holds s t c is h =
+      holds_same s.core t.core left
+      (ap (λ (v : StateView). v.core.works) is ∙ (entered_works (number_in s c) (left_for (runner s) (number_in s c) s.core) ∙ left_for_works (runner s) (number_in s c) s.core)) h
+
+  -- ---- The end of a thread
+
+  pub ends_holds : (n : ℕ) (s t : StateView) (refused : Bool) (r : Result (Unit {0}) TaskError) → Ends n refused s r t → HoldsWorks left s.core → HoldsWorks left t.core
+  ends_holds n s t true r q h = as_before s t q.1 h
+  ends_holds n s t false r q h = holds_same s.core t.core left (ap (λ (u : Core). u.works) q.1.core ∙ (ended_aside n s.core).works) h
+
+  -- ---- A task that begins
+
+  made_works : (x : ExportKind) (i : ℕ) (f : Option QualifiedThreadId) (s : StateView) → (task_made x i f s).works ≡ s.core.works
+  unfolding call_made add_call add_thread add_group
+  made_works x i None s = refl
+  made_works x i (Some id) s = refl
+
+  begun_works : (b : Bool) (c : Core) → (if b then set_trapped c else c).works ≡ c.works
+  unfolding set_trapped
+  begun_works true c = refl
+  begun_works false c = refl
+
+  pub begins_holds : (x : ExportKind) (i : ℕ) (f : Option QualifiedThreadId) (s t : StateView) (room : Bool) (r : Result QualifiedThreadId TaskError) → Begins x i f s room r t → HoldsWorks left s.core → HoldsWorks left t.core
+  begins_holds x i f s t false r q h = as_before s t q.1 h
+  begins_holds x i f s t true (Ok id) q h =
+      holds_same s.core t.core left (ap (λ (u : Core). u.works) q.becomes.core ∙ (begun_works s.core.trapped (task_made x i f s) ∙ made_works x i f s)) h
+  begins_holds x i f s t true (Err why) q h = as_before s t q.1 h
+
+-- ---- The groups of a store in which a task begins
+
+pub made_groups : (x : ExportKind) (i : ℕ) (f : Option QualifiedThreadId) (s : StateView) → (task_made x i f s).groups ≡ groups_with f s.core
+unfolding call_made add_call add_thread add_group
+made_groups x i None s = refl
+made_groups x i (Some id) s = refl
+
+pub made_next : (x : ExportKind) (i : ℕ) (s : StateView) → (task_made x i None s).made.groups ≡ s.core.made.groups + 1
+unfolding call_made add_call add_thread add_group
+made_next x i s = refl
+
+made_as : (x : ExportKind) (i : ℕ) (id : QualifiedThreadId) (s : StateView) → (task_made x i (Some id) s).made.groups ≡ s.core.made.groups
+unfolding call_made add_call add_thread
+made_as x i id s = refl
+
+-- a task with a caller makes no group
+pub called_holds : (x : ExportKind) (i : ℕ) (id : QualifiedThreadId) (s : StateView) (g : Groups) → HoldsGroups g s.core → HoldsGroups g (task_made x i (Some id) s)
+called_holds x i id s g h = record {
+  made = subst (λ k. g.made ≤ k) (sym (made_as x i id s)) h.made;
+  mirror = subst (λ (gs : List ℕ). Mirrors gs g) (sym (made_groups x i (Some id) s)) h.mirror;
+  unhooked = h.unhooked;
+}
+
+-- a group of the next number was prepared and told of
+pub begun_holds : (x : ExportKind) (i : ℕ) (s : StateView) (g h : Groups) → HoldsGroups g s.core → ((q : ℕ) → IsSome (finite.get g.live q) → q ≤ g.made) →
+    h.live ≡ finite.insert g.live (s.core.made.groups + 1) 1 → h.made ≡ s.core.made.groups + 1 → is_some h.listeners.hook ≡ is_some g.listeners.hook → HoldsGroups h (task_made x i None s)
+begun_holds x i s g h holds known live made hook = record {
+  made = let m = made_next x i s in omega (arith, made, m);
+  mirror = subst (λ (gs : List ℕ). Mirrors gs h) (sym (made_groups x i None s))
+      (mirror_more s.core.groups g holds.mirror (s.core.made.groups + 1) h (λ q there. let a = known q there in let b = holds.made in omega (arith, a, b)) live);
+  unhooked = hook ∙ holds.unhooked;
+}
+
+made_trapped : (x : ExportKind) (i : ℕ) (f : Option QualifiedThreadId) (s : StateView) → (task_made x i f s).trapped ≡ s.core.trapped
+unfolding call_made add_call add_thread add_group
+made_trapped x i None s = refl
+made_trapped x i (Some id) s = refl
+
+module _ (x : ExportKind) (i : ℕ) (f : Option QualifiedThreadId) (s t : StateView) (is : t.core ≡ task_begun x i f s) where
+  begun_if : Bool → Core
+  begun_if b = if b then set_trapped (task_made x i f s) else task_made x i f s
+
+  trapped_is : (b : Bool) → s.core.trapped ≡ b → t.core.trapped ≡ b
+  unfolding begun_if set_trapped
+  trapped_is true e = ap (λ (c : Core). c.trapped) is ∙ ap (λ b. (begun_if b).trapped) e
+  trapped_is false e = ap (λ (c : Core). c.trapped) is ∙ (ap (λ b. (begun_if b).trapped) e ∙ (made_trapped x i f s ∙ e))
+
+  as_state : (b : Bool) → t.core.trapped ≡ b → s.core.trapped ≡ b
+  as_state b e = sym (trapped_is s.core.trapped refl) ∙ e
+
+  module _ (g : Groups) (holds : HoldsGroups g (task_made x i f s)) where
+    pub open_holds : t.core.trapped ≡ false → HoldsGroups g t.core
+    open_holds e = subst (HoldsGroups g) (sym (is ∙ ap (λ b. if b then set_trapped (task_made x i f s) else task_made x i f s) (as_state false e))) holds
+
+    pub shut_holds : (h : Groups) → t.core.trapped ≡ true → h.live ≡ finite.empty → h.made ≡ g.made → is_some h.listeners.hook ≡ is_some g.listeners.hook → HoldsGroups h t.core
+    shut_holds h e none made hook =
+        subst (HoldsGroups h) (sym (is ∙ ap (λ b. if b then set_trapped (task_made x i f s) else task_made x i f s) (as_state true e)))
+        (trapped_holds (task_made x i f s) g h holds (mirror_none h none) made hook)
+
+    pub open_told : (l : Listeners) → t.core.trapped ≡ false → Told (begun_notices f s.core) l g.listeners → Told (begin_notices f s.core) l g.listeners
+    open_told l e told =
+        subst (λ (ns : List Notice). Told ns l g.listeners)
+        (sym (append-nil (begun_notices f s.core)) ∙ sym (ap (λ b. begun_notices f s.core ++ (if b then finish_notices (groups_with f s.core) [] else [])) (as_state false e))) told
+
+    pub shut_told : (l : Listeners) (h : Groups) → t.core.trapped ≡ true → Told (begun_notices f s.core) l g.listeners → Told ([] ++ finish_all g.live) g.listeners h.listeners → Told (begin_notices f s.core) l h.listeners
+    shut_told l h e told all =
+        let gs = groups_with f s.core in
+        let m : Mirrors gs g = subst (λ (ks : List ℕ). Mirrors ks g) (made_groups x i f s) holds.mirror in
+        let a : Asked = record { running = None; worked = None; staked = 0 } in
+        let q : Leads a 0 gs [] = record { groups = inl refl; after = refl } in
+        subst (λ (ns : List Notice). Told ns l h.listeners) (sym (ap (λ b. begun_notices f s.core ++ (if b then finish_notices (groups_with f s.core) [] else [])) (as_state true e)))
+        (told-append (begun_notices f s.core) (finish_notices gs []) l g.listeners h.listeners told (all_told a 0 gs [] q g h m refl all))
+
+    -- told of once it was made, and finished in a trapped store
+    pub settled : (l : Listeners) (h : Groups) → Told (begun_notices f s.core) l g.listeners → (t.core.trapped ≡ false → h ≡ g) →
+        (t.core.trapped ≡ true → (h.live ≡ finite.empty) × (h.made ≡ g.made)) → (t.core.trapped ≡ true → Told (finish_all g.live) g.listeners h.listeners) →
+        HoldsGroups h t.core × Told (begin_notices f s.core) l h.listeners
+    settled l h told opens live all = by t.core.trapped refl
+      where
+        by : (b : Bool) → t.core.trapped ≡ b → HoldsGroups h t.core × Told (begin_notices f s.core) l h.listeners
+        by false e = subst (λ (k : Groups). HoldsGroups k t.core × Told (begin_notices f s.core) l k.listeners) (sym (opens e)) (open_holds e, open_told l e told)
+        by true e = let done = live e in (shut_holds h e done.0 done.1 (all e).same_hook, shut_told l h e told (all e))
+
+pub begun_core : (x : ExportKind) (i : ℕ) (f : Option QualifiedThreadId) (s t : StateView) (room : Bool) (id : QualifiedThreadId) → Begins x i f s room (Ok id) t → t.core ≡ task_begun x i f s
+begun_core x i f s t false id q = absurd (let e = q.0 in cc)
+begun_core x i f s t true id q = q.becomes.core
+
+pub begins_still : (x : ExportKind) (i : ℕ) (f : Option QualifiedThreadId) (s t : StateView) (room : Bool) (why : TaskError) → Begins x i f s room (Err why) t → t ≡ s
+begins_still x i f s t false why q = q.1
+begins_still x i f s t true why q = q.1
+
+-- a task with a caller
+pub called_made : (x : ExportKind) (i : ℕ) (f : Option QualifiedThreadId) (s : StateView) (g : Groups) → is_some f ≡ true → HoldsGroups g s.core → HoldsGroups g (task_made x i f s)
+called_made x i None s g e h = absurd (cc)
+called_made x i (Some id) s g e h = called_holds x i id s g h
+
+pub called_tells : (f : Option QualifiedThreadId) (s : Core) (l : Listeners) → is_some f ≡ true → Told (begun_notices f s) l l
+called_tells None s l e = absurd (cc)
+called_tells (Some id) s l e = told-none l
+
+-- a group whose entries don't fit, and one that no memory was there for
+pub begins_refused : (x : ExportKind) (i : ℕ) (f : Option QualifiedThreadId) (s : StateView) (room : Bool) → room ≡ false → Begins x i f s room (Err (task_error.Trap trap.TableFull)) s
+begins_refused x i f s room e = subst (λ b. Begins x i f s b (Err (task_error.Trap trap.TableFull)) s) (sym e) (refl, refl)
+
+pub begins_wanting : (x : ExportKind) (i : ℕ) (f : Option QualifiedThreadId) (s : StateView) (room : Bool) → room ≡ true → Begins x i f s room (Err task_error.NoMemory) s
+begins_wanting x i f s room e = subst (λ b. Begins x i f s b (Err task_error.NoMemory) s) (sym e) (refl, refl)

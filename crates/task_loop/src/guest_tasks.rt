@@ -1,0 +1,182 @@
+//! The calls of a store's state that begin or end a task, or have another thread run. The groups of the store are told so.
+ghost use Rattle.std.specs.Prelude.{[], ◌∷◌, ◌≡◌, ◌<◌, ◌^◌, IfOk, IfSome, IsSome, None, OnErr, OnOk, false, true};
+ghost use Rattle.std.specs.FinMap as finite;
+ghost use Rattle.state_calls.specs.Currents.{IsCurrent, LeavesNobody, LosesNoWake, MayRun, now_runs, number_in, runner};
+ghost use Rattle.state_calls.specs.Ends.{Ends, MayEnd};
+ghost use Rattle.state_calls.specs.Named.{IsLive};
+ghost use Rattle.task_calls.specs.Tasks.{Begins, entries_of, task_made};
+ghost use Rattle.task_group.specs.Groups.{finish_all};
+ghost use Rattle.task_group.specs.Listeners.{Told};
+ghost use Rattle.task_loop.specs.Told.{TellsGroups, asked_now, begin_notices, begun_notices, start_of_group};
+ghost use Rattle.task_machine.specs.Maps.{get};
+ghost use Rattle.task_machine.specs.Read.{fits, thread_group};
+ghost use Rattle.task_machine.specs.declared.component.HostDef.{HostDef};
+ghost use Rattle.task_rules.specs.Ends.{leaves_no_result};
+ghost use Rattle.task_store.specs.Groups.{HoldsGroups};
+ghost use Rattle.task_store.specs.Hosts.{HoldsHosts};
+ghost use Rattle.task_turns.specs.Turn.{given};
+ghost use Rattle.task_words.specs.StateView.{thread_of};
+ghost use Rattle.wake_laws.specs.Stands.{MayLeave, NoWakeLost};
+
+use crate::call_tells::{asked, tell_call};
+use crate::tells::group_now;
+use group_notices::Asked;
+use record_core::TaskCore;
+use state_calls::CurrentThread;
+use task_calls::{QualifiedThreadId, TaskError};
+use task_group::Groups;
+use task_machine::{ExportKind, Trap};
+use task_store::Store;
+use task_words::{ResultWords, ThreadWords, View};
+
+// Makes a call in a new group, which is prepared first, so that it can be taken back unseen.
+fn make_with_group<T, H>(
+    store: &mut Store<T, H>,
+    kind: ExportKind,
+    instance: u32,
+) -> Result<QualifiedThreadId, TaskError>
+    requires instance { IsSome (get store.old.state.core.instances instance) }
+    requires given { given store.old.state.core < 2 ^ 61 }
+    ensures begins { Begins kind instance None store.old.state (fits 4 store.old.state.core) result store.new.state }
+    ensures groups { HoldsGroups store.old.groups store.old.state.core → OnOk result (HoldsGroups store.new.groups (task_made kind instance None store.old.state)) }
+    ensures told { HoldsGroups store.old.groups store.old.state.core → OnOk result (Told (start_of_group store.old.state.core ∷ []) store.old.groups.listeners store.new.groups.listeners) }
+    ensures kept { HoldsGroups store.old.groups store.old.state.core → OnErr result (HoldsGroups store.new.groups store.old.state.core) }
+    ensures refused { OnErr result (store.new.groups.listeners ≡ store.old.groups.listeners) }
+    ensures rest { store.new ≡ record store.old { state = store.new.state; groups = store.new.groups } }
+{
+    if !store.state.fits(4) {
+        return Err(TaskError::Trap(Trap::TableFull));
+    }
+    let group = store.state.made().groups + 1;
+    let _made = store.groups.made();
+    let Ok(()) = store.groups.prepare(group) else {
+        return Err(TaskError::NoMemory);
+    };
+    match task_calls::new_guest_task(&mut store.state, kind, instance, None) {
+        Ok(id) => {
+            let _told = store.groups.announce();
+            Ok(id)
+        }
+        Err(e) => {
+            store.groups.withdraw();
+            Err(e)
+        }
+    }
+}
+
+// Makes a call, in the group of its caller's call or in a new one.
+fn make<T, H>(
+    store: &mut Store<T, H>,
+    kind: ExportKind,
+    instance: u32,
+    caller: Option<QualifiedThreadId>,
+) -> Result<QualifiedThreadId, TaskError>
+    requires instance { IsSome (get store.old.state.core.instances instance) }
+    requires caller { IfSome caller (λ id. IsLive store.old.state id) }
+    requires given { given store.old.state.core < 2 ^ 61 }
+    ensures begins { Begins kind instance caller store.old.state (fits (entries_of caller) store.old.state.core) result store.new.state }
+    ensures groups { HoldsGroups store.old.groups store.old.state.core → OnOk result (HoldsGroups store.new.groups (task_made kind instance caller store.old.state)) }
+    ensures told { HoldsGroups store.old.groups store.old.state.core → OnOk result (Told (begun_notices caller store.old.state.core) store.old.groups.listeners store.new.groups.listeners) }
+    ensures kept { HoldsGroups store.old.groups store.old.state.core → OnErr result (HoldsGroups store.new.groups store.old.state.core) }
+    ensures refused { OnErr result (store.new.groups.listeners ≡ store.old.groups.listeners) }
+    ensures rest { store.new ≡ record store.old { state = store.new.state; groups = store.new.groups } }
+{
+    match caller {
+        Some(_) => task_calls::new_guest_task(&mut store.state, kind, instance, caller),
+        None => make_with_group(store, kind, instance),
+    }
+}
+
+// In a trapped store all groups are finished.
+fn settle(core: &TaskCore, groups: &mut Groups)
+    ensures open { core.now.core.trapped ≡ false → groups.new ≡ groups.old }
+    ensures live { core.now.core.trapped ≡ true → (groups.new.live ≡ finite.empty) × (groups.new.made ≡ groups.old.made) }
+    ensures told { core.now.core.trapped ≡ true → Told (finish_all groups.old.live) groups.old.listeners groups.new.listeners }
+{
+    if core.trapped() {
+        groups.clean_up(None);
+    }
+}
+
+/// Makes a call of this kind, of the first export of an instance, and answers its first thread, as `new_guest_task` of the
+/// store's state does. It is of the group of the caller's call, or of a new one where it has no caller, which the groups are
+/// told. Refused with trap 18 exactly where its entries, 3 or 4 with the group, don't fit into the table; then, and where
+/// memory is wanting, nothing is changed and nothing is told. In a trapped store all groups are finished at once.
+pub fn new_guest_task<T, H>(
+    store: &mut Store<T, H>,
+    kind: ExportKind,
+    instance: u32,
+    caller: Option<QualifiedThreadId>,
+) -> Result<QualifiedThreadId, TaskError>
+    requires instance { IsSome (get store.old.state.core.instances instance) }
+    requires caller { IfSome caller (λ id. IsLive store.old.state id) }
+    requires given { given store.old.state.core < 2 ^ 61 }
+    ensures begins { Begins kind instance caller store.old.state (fits (entries_of caller) store.old.state.core) result store.new.state }
+    ensures hosts { (course : H → HostDef) → HoldsHosts course store.old → HoldsHosts course store.new }
+    ensures groups { HoldsGroups store.old.groups store.old.state.core → HoldsGroups store.new.groups store.new.state.core }
+    ensures told { HoldsGroups store.old.groups store.old.state.core → OnOk result (Told (begin_notices caller store.old.state.core) store.old.groups.listeners store.new.groups.listeners) }
+    ensures refused { OnErr result (store.new.groups.listeners ≡ store.old.groups.listeners) }
+    ensures rest { store.new ≡ record store.old { state = store.new.state; groups = store.new.groups } }
+{
+    match make(store, kind, instance, caller) {
+        Ok(id) => {
+            settle(&store.state, &mut store.groups);
+            Ok(id)
+        }
+        Err(e) => Err(e),
+    }
+}
+
+/// Another thread runs from now on, or none, and the thread that ran is answered, as `set_thread` of the store's state does. The
+/// groups are told of the exit from the one's group and of the enter into the other's.
+pub fn set_thread<T, H>(
+    store: &mut Store<T, H>,
+    thread: CurrentThread,
+) -> Result<CurrentThread, TaskError>
+    requires may { MayRun store.old.state thread }
+    requires leaves { LeavesNobody (runner store.old.state) (number_in store.old.state thread) store.old.state.core }
+    ensures answer { IfOk result (λ before. IsCurrent store.old.state before) }
+    ensures never { OnErr result ⊥ }
+    ensures new { store.new.state ≡ now_runs thread store.old.state }
+    ensures wakes { LosesNoWake (runner store.old.state) (number_in store.old.state thread) store.old.state.core → NoWakeLost store.old.state.core → NoWakeLost store.new.state.core }
+    ensures hosts { (course : H → HostDef) → HoldsHosts course store.old → HoldsHosts course store.new }
+    ensures groups { TellsGroups store.old.state store.old.groups store.new.state store.new.groups }
+    ensures rest { store.new ≡ record store.old { state = store.new.state; groups = store.new.groups } }
+{
+    let before = asked(&store.state);
+    let answer = state_calls::set_thread(&mut store.state, thread);
+    tell_call(&store.state, &mut store.groups, &before);
+    answer
+}
+
+// What is asked before the end of a thread.
+fn asked_end(core: &TaskCore, thread: QualifiedThreadId) -> Asked
+    ensures { result ≡ asked_now core.now (thread_group (thread_of core.now thread.thread) core.now.core) }
+{
+    Asked {
+        running: group_now(core),
+        worked: None,
+        staked: core.thread_group(thread.thread),
+    }
+}
+
+/// Ends a thread as `cleanup_thread` of the store's state does. The groups are told of the finish of its group, where nothing is
+/// left of that, and first of the exit from it, where the thread was the one that ran. Refused with trap 4 exactly where no
+/// thread would be left of a task that hasn't ended, and then nothing is changed and nothing is told.
+pub fn cleanup_thread<T, H>(
+    store: &mut Store<T, H>,
+    thread: QualifiedThreadId,
+) -> Result<(), TaskError>
+    requires live { IsLive store.old.state thread }
+    requires may { MayEnd (thread_of store.old.state thread.thread) store.old.state.core }
+    ensures ends { Ends (thread_of store.old.state thread.thread) (leaves_no_result (thread_of store.old.state thread.thread) store.old.state.core) store.old.state result store.new.state }
+    ensures wakes { MayLeave (thread_of store.old.state thread.thread) store.old.state.core → NoWakeLost store.old.state.core → NoWakeLost store.new.state.core }
+    ensures hosts { (course : H → HostDef) → HoldsHosts course store.old → HoldsHosts course store.new }
+    ensures groups { TellsGroups store.old.state store.old.groups store.new.state store.new.groups }
+    ensures rest { store.new ≡ record store.old { state = store.new.state; groups = store.new.groups } }
+{
+    let before = asked_end(&store.state, thread);
+    let answer = state_calls::cleanup_thread(&mut store.state, thread);
+    tell_call(&store.state, &mut store.groups, &before);
+    answer
+}
