@@ -33,17 +33,6 @@ impl<'a> Model for Labels<'a> {
 }
 
 impl<'a> Labels<'a> {
-    /// The same labels once more.
-    #[inline(always)]
-    pub fn again(&self) -> Labels<'a>
-        ensures { result ≡ self.now }
-    {
-        Labels {
-            heads: self.heads,
-            numbers: self.numbers,
-        }
-    }
-
     /// Takes the first label away, as the trace keeps it: its head, and its numbers in the list.
     #[inline(always)]
     pub fn take(&mut self) -> Option<(Head, &'a [u64])>

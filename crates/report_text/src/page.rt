@@ -42,26 +42,21 @@ impl Page {
 
     /// Adds lines of the labels that are left, up to a full page, and takes these labels away. Answers whether the
     /// page is full; else no labels are left.
-    #[inline(never)]
     pub fn fill(&mut self, labels: &mut Labels<'_>) -> bool
         ensures lines { self.new ++ lines_of labels.new ≡ self.old ++ lines_of labels.old }
         ensures full { result ≡ true → PAGE < length self.new }
         ensures done { result ≡ false → (labels.new ≡ []) × (length self.new ≤ PAGE) }
         ensures fewer { result ≡ true → length self.old ≤ PAGE → length labels.new < length labels.old }
     {
-        // In a copy of their own the labels that are left stay in registers while bytes are written.
-        let mut left = labels.again();
         let out = self.bytes.as_mut_slice();
         let mut at = self.used;
         'lines: while at <= PAGE {
-            let Some((head, numbers)) = Labels::take(&mut left) else {
-                *labels = left;
+            let Some((head, numbers)) = labels.take() else {
                 self.used = at;
                 return false;
             };
             at = label_line(out, at, head, numbers);
         }
-        *labels = left;
         self.used = at;
         true
     }

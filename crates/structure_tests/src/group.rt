@@ -200,6 +200,26 @@ fn no_hook(rt: HostRuntime) {
     assert!(rt; finished && first_starts(groups.notices(), 1));
 }
 
+// A list has what was kept before it was asked for, and what is kept later goes on behind that.
+#[test]
+fn shared_lists(rt: HostRuntime) {
+    let mut groups: Groups = Groups::new(rt.alloc());
+    assert!(rt; groups.keep_notices(3).is_ok());
+    let made = number_of(groups.make());
+    let early = match groups.share_notices(rt.alloc()) {
+        Ok(list) => list.notices().len(),
+        Err(_) => 0,
+    };
+    let entered = groups.switch(None, Some(id(made))).is_ok();
+    let late = match groups.share_notices(rt.alloc()) {
+        Ok(list) => list.notices().len(),
+        Err(_) => 0,
+    };
+    let left = groups.switch(Some(id(made)), None).is_ok();
+    assert!(rt; entered && left && early == 1 && late == 2);
+    assert!(rt; groups.notices().len() == 3 && first_starts(groups.notices(), made));
+}
+
 // Whether the first notice is that this group starts.
 fn first_starts(notices: Notices<'_>, number: u64) -> bool {
     let mut left = notices;

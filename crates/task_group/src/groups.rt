@@ -9,7 +9,7 @@ use crate::hook::{NoHook, TaskGroupHook};
 use crate::listeners::Listeners;
 use crate::live::Live;
 use crate::notice::{GroupError, TaskGroupId};
-use crate::notices::Notices;
+use crate::notices::{NoticeList, Notices};
 use std::alloc::Global;
 use std::marker::Model;
 use task_machine::{NoMemory, NoticeKind};
@@ -310,6 +310,15 @@ impl<H: TaskGroupHook> Groups<H> {
         ensures { result ≡ self.now.listeners.notices }
     {
         self.listeners.notices()
+    }
+
+    /// The notices that were kept, in a list of their own that shares their memory, so that none is copied: they stay kept.
+    /// `NoMemory` where there is none for the list.
+    pub fn share_notices(&mut self, alloc: Global) -> Result<NoticeList, NoMemory>
+        ensures list { IfOk result (λ list. list ≡ self.old.listeners.notices) }
+        ensures same { self.new ≡ self.old }
+    {
+        self.listeners.share_notices(alloc)
     }
 }
 

@@ -1,11 +1,11 @@
-ghost use Rattle.std.specs.Prelude.{◌≡◌, ◌↔◌, ◌∷◌, [], OnOk, OnErr, IsErr, Some, false, true};
+ghost use Rattle.std.specs.Prelude.{◌≡◌, ◌↔◌, ◌∷◌, [], IfOk, OnOk, OnErr, IsErr, Some, false, true};
 ghost use Rattle.task_group.specs.Heard.{notice_of};
 ghost use Rattle.task_group.specs.Listeners.{nobody, Told, AnsweredErr, errors_of};
 
 use crate::hook::{TaskGroupHook, tell};
 use crate::kept::Kept;
 use crate::notice::{HookError, TaskGroupId};
-use crate::notices::Notices;
+use crate::notices::{NoticeList, Notices};
 use std::alloc::Global;
 use std::marker::Model;
 use task_machine::{NoMemory, Notice, NoticeKind};
@@ -59,6 +59,13 @@ impl<H: TaskGroupHook> Listeners<H> {
         ensures { result ≡ self.now.notices }
     {
         self.kept.notices()
+    }
+
+    pub fn share_notices(&mut self, alloc: Global) -> Result<NoticeList, NoMemory>
+        ensures list { IfOk result (λ list. list ≡ self.old.notices) }
+        ensures same { self.new ≡ self.old }
+    {
+        self.kept.share(alloc)
     }
 
     // One notice to the list, where there is no hook, and it is kept as a word. Answers whether it was told; else nothing is.

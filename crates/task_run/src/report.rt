@@ -100,7 +100,7 @@ fn run(alloc: Global, scenario: &Scenario, steps: u32) -> Result<Report, NoMemor
         return Err(NoMemory);
     };
     run.end(&mut store);
-    let groups = NoticeList::copied(alloc, store.notices())?;
+    let groups = store.share_notices(alloc)?;
     Ok(Report {
         trace,
         outcome,

@@ -18,7 +18,7 @@ use crate::scopes::ComponentTasksNotConcurrent;
 use host_works::HostWorks;
 use record_core::TaskCore;
 use std::alloc::Global;
-use task_group::{Groups, Notices};
+use task_group::{Groups, NoticeList, Notices};
 use task_machine::{NoMemory, Trap};
 use task_words::ResultWords;
 
@@ -227,6 +227,16 @@ impl<T, H> Store<T, H> {
         ensures { result ≡ self.now.groups.listeners.notices }
     {
         self.groups.notices()
+    }
+
+    /// The notices that were kept, in a list of their own that shares their memory: they stay kept, and none is copied.
+    /// `NoMemory` where there is none for the list.
+    pub fn share_notices(&mut self, alloc: Global) -> Result<NoticeList, NoMemory>
+        requires { self.old.concurrent ≡ true }
+        ensures list { IfOk result (λ list. list ≡ self.old.groups.listeners.notices) }
+        ensures same { self.new ≡ self.old }
+    {
+        self.groups.share_notices(alloc)
     }
 
     /// Whether a run stands on the store.

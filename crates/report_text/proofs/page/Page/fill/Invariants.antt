@@ -1,4 +1,4 @@
-use Rattle.std.proofs.Common.{◌≡◌, ◌<◌, ◌≤◌, ◌++◌, ◌⊎◌, length, take}
+use Rattle.std.proofs.Common.{◌+◌, ◌≡◌, ◌<◌, ◌≤◌, ◌++◌, ◌⊎◌, ℕ, length, take}
 use Rattle.report_text.specs.Lines.{lines_of}
 use Rattle.report_text.proofs.page.Page.fill.Given as goal
 
@@ -6,10 +6,10 @@ abbrev pub invariant-lines : goal.invariant-lines
 invariant-lines l = record {
   room : length l.out ≡ 65696;
   used : l.at ≤ 65696;
-  lines : take l.at l.out ++ lines_of l.left ≡ l.fn.self ++ lines_of l.fn.labels;
-  left : length l.left ≤ length l.fn.labels;
-  begun : (l.at ≡ length l.fn.self) ⊎ (length l.left < length l.fn.labels);
+  lines : take l.at l.out ++ lines_of l.labels ≡ l.fn.self ++ lines_of l.fn.labels;
+  left : length l.labels ≤ length l.fn.labels;
+  begun : (l.at ≡ length l.fn.self) ⊎ (length l.labels < length l.fn.labels);
 }
 
 abbrev pub decreases-lines : goal.decreases-lines
-decreases-lines l = length l.left
+decreases-lines l = length l.labels
