@@ -77,6 +77,7 @@ impl<H> JoinedWork<H> {
     }
 
     /// Polls the work where its phase is `Running`; else it isn't polled.
+    #[inline(always)]
     pub fn poll<T>(&mut self, host: &mut T) -> Option<HostPoll>
     where
         H: AccessorTask<T>,

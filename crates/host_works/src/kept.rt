@@ -116,7 +116,8 @@ impl<H: HostWork> HostWorks<H> {
     }
 
     /// Polls the work with this number, and lets it go where it has ended with a value. One that isn't in phase `Running`
-    /// isn't polled, and is let go.
+    /// isn't polled, and is let go. It is in line of the loop that polls.
+    #[inline(always)]
     pub fn poll<T>(&mut self, number: u64, host: &mut T) -> Option<HostPoll>
     where
         H: AccessorTask<T>,
@@ -137,6 +138,7 @@ impl<H: HostWork> HostWorks<H> {
 }
 
 // Whether a work that answered this is over: it has ended with a value, or wasn't polled.
+#[inline(always)]
 fn is_over(answer: Option<HostPoll>) -> bool
     ensures { result ≡ is_over answer }
 {
