@@ -64,3 +64,9 @@ returns-in-Err-Trap-clause-told c w =
     subst (λ (ns : List Notice). Told ns s.groups.listeners t.groups.listeners)
     (refused_notices w.args.component.now (callee_of w.args.func) w.as_slice.result.now s.state t.state w.in-Some.number (start_refusal s.state.core) w.in-Err-Trap.trap starts s.groups w.requires.groups.mirror)
     w.in-Err-Trap.ensures.refused
+
+pub returns-in-Ok-clause-hosts : goal.returns-in-Ok-clause-hosts
+returns-in-Ok-clause-hosts c w = w.in-Ok.ensures.hosts c.H.HostWork.course w.requires.hosts
+
+pub returns-in-Err-Trap-clause-hosts : goal.returns-in-Err-Trap-clause-hosts
+returns-in-Err-Trap-clause-hosts c w = w.in-Err-Trap.ensures.hosts c.H.HostWork.course w.requires.hosts
