@@ -10,7 +10,7 @@ use Rattle.task_machine.specs.declared.records.NoticeKind.TheVariants as notice
 use Rattle.task_rules.specs.Notices.{told_of}
 use Rattle.task_turns.specs.declared.mains.MainStep.TheVariants as step
 use Rattle.std.specs.Prelude.{Err, Ok, [], ◌∷◌}
-use Rattle.std.proofs.Common.{subst, sym, ◌∙◌}
+use Rattle.std.proofs.Common.{refl, subst, sym, ◌∙◌}
 use Rattle.task_calls.specs.Calls.{Starts}
 use Rattle.state_calls.specs.declared.error.TaskError.{TaskError}
 use Rattle.task_rules.specs.MainOps.{start_refusal}
@@ -58,3 +58,22 @@ returns-in-Err-Trap-clause-told c =
     subst (λ (ns : List Notice). Told ns s.groups.listeners t.groups.listeners)
     (refused_notices c.args.component.now (callee_of c.args.func) (c.args.relay.now.word ∷ []) s.state t.state c.saturating_add-number.result (start_refusal s.state.core) c.in-Err-Trap.trap starts s.groups c.requires.groups.mirror)
     c.in-Err-Trap.ensures.refused
+
+pub returns-in-Ok-clause-hosts : goal.returns-in-Ok-clause-hosts
+returns-in-Ok-clause-hosts c = c.in-Ok.ensures.hosts _ c.requires.hosts
+
+pub returns-in-Err-Trap-clause-hosts : goal.returns-in-Err-Trap-clause-hosts
+returns-in-Err-Trap-clause-hosts c = c.in-Err-Trap.ensures.hosts _ c.requires.hosts
+
+pub returns-in-Err : goal.returns-in-Err
+returns-in-Err c = record {
+  same = refl;
+  stands = rw c.in-Err.ensures.rest refl;
+  hosts = c.in-Err.ensures.hosts _ c.requires.hosts;
+  groups = c.in-Err.ensures.groups c.requires.groups;
+  told = tt;
+  current = tt;
+  ok = tt;
+  does = tt;
+  err = refl;
+}

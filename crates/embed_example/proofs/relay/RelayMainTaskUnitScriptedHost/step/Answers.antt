@@ -29,3 +29,6 @@ returns-in-Some-clause-told c =
 
 pub returns-in_default-started-clause-told : goal.returns-in_default-started-clause-told
 returns-in_default-started-clause-told c = told-none _
+
+pub returns-in-Some-clause-hosts : goal.returns-in-Some-clause-hosts
+returns-in-Some-clause-hosts c = c.finish_call_concurrent.ensures.hosts _ c.requires.hosts
