@@ -1,4 +1,5 @@
 -- What came of the start is an op of main.
+use Rattle.host_works.specs.declared.scripted.ScriptedHost.{ScriptedHost}
 use Rattle.std.specs.Prelude.{List, ℕ}
 use Rattle.task_group.specs.Listeners.{Told}
 use Rattle.task_loop.proofs.MainToldLemmas.{refused_notices, started_notices}
@@ -60,16 +61,16 @@ returns-in-Err-Trap-clause-told c =
     c.in-Err-Trap.ensures.refused
 
 pub returns-in-Ok-clause-hosts : goal.returns-in-Ok-clause-hosts
-returns-in-Ok-clause-hosts c = c.in-Ok.ensures.hosts _ c.requires.hosts
+returns-in-Ok-clause-hosts c = c.in-Ok.ensures.hosts (λ (w : ScriptedHost). w.left) c.requires.hosts
 
 pub returns-in-Err-Trap-clause-hosts : goal.returns-in-Err-Trap-clause-hosts
-returns-in-Err-Trap-clause-hosts c = c.in-Err-Trap.ensures.hosts _ c.requires.hosts
+returns-in-Err-Trap-clause-hosts c = c.in-Err-Trap.ensures.hosts (λ (w : ScriptedHost). w.left) c.requires.hosts
 
 pub returns-in-Err : goal.returns-in-Err
 returns-in-Err c = record {
   same = refl;
   stands = rw c.in-Err.ensures.rest refl;
-  hosts = c.in-Err.ensures.hosts _ c.requires.hosts;
+  hosts = c.in-Err.ensures.hosts (λ (w : ScriptedHost). w.left) c.requires.hosts;
   groups = c.in-Err.ensures.groups c.requires.groups;
   told = tt;
   current = tt;

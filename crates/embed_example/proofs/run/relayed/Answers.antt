@@ -1,4 +1,5 @@
 -- The new store sits at main's turn, and what was driven begins there.
+use Rattle.host_works.specs.declared.scripted.ScriptedHost.{ScriptedHost}
 use Rattle.std.proofs.Common.{ap, arith, refl, subst, ◌∙◌}
 use Rattle.std.specs.Prelude.{Bool, []}
 use Rattle.task_machine.specs.Core.{Unscripted, fresh}
@@ -24,7 +25,7 @@ drive-requires-clause-given c = rw (c.run_concurrent.ensures.store, c.in_ok-stor
 
 pub drive-requires-clause-hosts : goal.drive-requires-clause-hosts
 drive-requires-clause-hosts c =
-    new_holds _ c.run_concurrent.new.store 2 100000 1000000 (rw c.run_concurrent.ensures.store c.in_ok-store.ensures.works) (rw (c.run_concurrent.ensures.store, c.in_ok-store.ensures.state) refl)
+    new(λ (w : ScriptedHost). w.left)holds (λ (w : ScriptedHost). w.left) c.run_concurrent.new.store 2 100000 1000000 (rw c.run_concurrent.ensures.store c.in_ok-store.ensures.works) (rw (c.run_concurrent.ensures.store, c.in_ok-store.ensures.state) refl)
 
 pub returns-clause-answers : goal.returns-clause-answers
 returns-clause-answers c v done =

@@ -1,3 +1,4 @@
+use Rattle.surface_tests.specs.declared.hosts.Counting.{Counting}
 use Rattle.std.proofs.Common.{arith, refl}
 use Rattle.surface_tests.proofs.hosts.drive.Goals as goal
 use Rattle.task_store.proofs.HostLemmas.{new_holds}
@@ -15,7 +16,7 @@ drive-driven-requires-clause-knows g c = c.new-main.ensures.knows c.run_concurre
 
 pub drive-driven-requires-clause-hosts : goal.drive-driven-requires-clause-hosts
 drive-driven-requires-clause-hosts g c =
-    new_holds _ c.run_concurrent.new.store 1 100000 1000000 (rw c.run_concurrent.ensures.store c.requires.works) (rw (c.run_concurrent.ensures.store, c.requires.fresh) refl)
+    new_holds (λ (w : Counting). w.left) c.run_concurrent.new.store 1 100000 1000000 (rw c.run_concurrent.ensures.store c.requires.works) (rw (c.run_concurrent.ensures.store, c.requires.fresh) refl)
 
 pub drive-driven-requires-clause-groups : goal.drive-driven-requires-clause-groups
 drive-driven-requires-clause-groups g c = rw c.run_concurrent.ensures.store c.requires.groups

@@ -1,4 +1,5 @@
 -- The scenario's opening state is in order, and a run keeps it so.
+use Rattle.host_works.specs.declared.scripted.ScriptedHost.{ScriptedHost}
 use Rattle.std.proofs.Common.{arith, refl, subst, ◌≡◌, ◌+◌, ◌*◌, ◌≤◌}
 use Rattle.std.specs.Prelude.{OnOk, Result}
 use Rattle.surface_tests.proofs.instance_calls.drive.Goals as goal
@@ -21,7 +22,7 @@ drive-driven-requires-clause-knows g c = c.new-main.ensures.knows c.run_concurre
 
 pub drive-driven-requires-clause-hosts : goal.drive-driven-requires-clause-hosts
 drive-driven-requires-clause-hosts g c =
-    new_holds _ c.run_concurrent.new.store 2 100000 1000000 (rw c.run_concurrent.ensures.store c.requires.works) (rw (c.run_concurrent.ensures.store, c.requires.fresh) refl)
+    new(λ (w : ScriptedHost). w.left)holds (λ (w : ScriptedHost). w.left) c.run_concurrent.new.store 2 100000 1000000 (rw c.run_concurrent.ensures.store c.requires.works) (rw (c.run_concurrent.ensures.store, c.requires.fresh) refl)
 
 pub returns-clause-given : goal.returns-clause-given
 returns-clause-given g c =

@@ -1,4 +1,5 @@
 -- The scenario's opening state is in order.
+use Rattle.host_works.specs.declared.scripted.ScriptedHost.{ScriptedHost}
 use Rattle.std.proofs.Common.{arith, refl}
 use Rattle.surface_tests.proofs.polls.ran_by_steps.Goals as goal
 use Rattle.task_store.proofs.HostLemmas.{new_holds}
@@ -16,7 +17,7 @@ polled_by_steps-requires-clause-knows g c = c.new-main.ensures.knows c.run_concu
 
 pub polled_by_steps-requires-clause-hosts : goal.polled_by_steps-requires-clause-hosts
 polled_by_steps-requires-clause-hosts g c =
-    new_holds _ c.run_concurrent.new.store 1 100000 1000000 (rw c.run_concurrent.ensures.store c.requires.works) (rw (c.run_concurrent.ensures.store, c.requires.fresh) refl)
+    new(λ (w : ScriptedHost). w.left)holds (λ (w : ScriptedHost). w.left) c.run_concurrent.new.store 1 100000 1000000 (rw c.run_concurrent.ensures.store c.requires.works) (rw (c.run_concurrent.ensures.store, c.requires.fresh) refl)
 
 pub polled_by_steps-requires-clause-groups : goal.polled_by_steps-requires-clause-groups
 polled_by_steps-requires-clause-groups g c = rw c.run_concurrent.ensures.store c.requires.groups

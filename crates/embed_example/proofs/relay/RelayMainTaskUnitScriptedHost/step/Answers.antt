@@ -1,4 +1,5 @@
 -- What came of a finish is an op of main, and main may answer.
+use Rattle.host_works.specs.declared.scripted.ScriptedHost.{ScriptedHost}
 use Rattle.std.proofs.Common.{ap, refl}
 use Rattle.std.specs.Prelude.{[]}
 use Rattle.task_group.proofs.GroupLemmas.{told-none}
@@ -31,4 +32,4 @@ pub returns-in_default-started-clause-told : goal.returns-in_default-started-cla
 returns-in_default-started-clause-told c = told-none _
 
 pub returns-in-Some-clause-hosts : goal.returns-in-Some-clause-hosts
-returns-in-Some-clause-hosts c = c.finish_call_concurrent.ensures.hosts _ c.requires.hosts
+returns-in-Some-clause-hosts c = c.finish_call_concurrent.ensures.hosts (λ (w : ScriptedHost). w.left) c.requires.hosts
