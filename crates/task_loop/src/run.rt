@@ -123,6 +123,10 @@ fn step_main<T, H: HostWork, M: MainTask<T, H>>(
     let Ok(step) = ask_main(component, store, main) else {
         return Err(NoMemory);
     };
+    // Most steps of a main pend: the label of this one is known here.
+    if let MainStep::Pends = step {
+        return put(trace, made_by_main(&store.state, MainStep::Pends));
+    }
     let made = made_by_main(&store.state, step);
     put(trace, made)
 }
