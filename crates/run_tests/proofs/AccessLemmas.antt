@@ -1,11 +1,26 @@
 -- In a store in which nothing was made few numbers were given.
-use Rattle.std.proofs.Common.{arith}
-use Rattle.std.specs.Prelude.{◌<◌, ◌^◌, ◌≡◌}
+use Rattle.host_works.specs.Kept.{HoldsNone}
+use Rattle.std.proofs.Common.{ap, arith, subst}
+use Rattle.std.specs.Prelude.{is_some, true, ◌<◌, ◌^◌, ◌≡◌}
 use Rattle.task_machine.specs.Core.{fresh}
+use Rattle.task_machine.specs.Maps.{get, get-empty}
+use Rattle.task_machine.specs.declared.component.HostDef.{HostDef}
+use Rattle.task_machine.specs.declared.records.Work.{Work}
 use Rattle.task_records.specs.Seen.{nothing}
+use Rattle.task_store.proofs.HostLemmas.{new_holds}
+use Rattle.task_store.specs.Hosts.{HoldsHosts, WorksNumbered}
+use Rattle.task_store.specs.declared.store.Store.{Store}
 use Rattle.task_turns.specs.Turn.{given}
 use Rattle.task_words.specs.StateView.{StateView}
 
 pub few_given : (s : StateView) → s ≡ nothing → given s.core < 2 ^ 61
 unfolding fresh
 few_given s is = rw is (omega arith)
+
+-- and no work is there
+pub none_numbered : (s : StateView) → s ≡ nothing → WorksNumbered s.core
+unfolding fresh
+none_numbered s is i there = absurd (let e = subst (λ (v : StateView). is_some (get v.core.works i) ≡ true) is there in let n = get-empty {X = Work} i in grind (arith, e, n))
+
+pub none_held : {T H : Type 0} (course : H → HostDef) (store : Store T H) → store.state ≡ nothing → HoldsNone store.works → HoldsHosts course store
+none_held course store state works = new_holds course store 0 100000 1000000 works (ap (λ (v : StateView). v.core) state)

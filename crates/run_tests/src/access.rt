@@ -1,12 +1,13 @@
 //! A store in a slot, and what an accessor does with it.
 ghost use Rattle.std.specs.Prelude.{◌≡◌, ◌<◌, ◌^◌};
+ghost use Rattle.host_works.specs.Kept.{HoldsNone};
 ghost use Rattle.task_records.specs.Seen.{nothing};
 ghost use Rattle.task_turns.specs.Turn.{given};
 
 use futures::task::Poll;
 use std::alloc::Global;
 use std::marker::PhantomData;
-use task_machine::{HostDef, Trap};
+use task_machine::{HostDef, Phase, Trap};
 use task_store::{
     Access, Accessor, AsAccessor, ComponentInstanceId, FromHost, Project, RuntimeInstance,
     ScriptedHost, SlotError, SpawnError, SpawnHandle, Store, StoreSlot, TryGet, Whole,
@@ -38,7 +39,8 @@ impl Project<Totals> for Spawned {
 type Counted = Store<Totals, ScriptedHost>;
 
 fn new_store(alloc: Global) -> Counted
-    ensures { result.state ≡ nothing }
+    ensures state { result.state ≡ nothing }
+    ensures works { HoldsNone result.works }
 {
     let value = Totals {
         spawned: 0,
@@ -121,11 +123,17 @@ fn an_accessor_spawns(rt: HostRuntime) {
     let mut store = new_store(rt.alloc());
     let accessor = Accessor::new(PhantomData::<Whole>);
     let mut slot = StoreSlot::set(&mut store);
-    let Ok(handle) = accessor.spawn(&mut slot, work()) else {
+    assert!(rt; accessor.spawn(&mut slot, work()).is_ok());
+}
+
+#[test]
+fn a_spawn_is_polled_and_aborted_by_its_handle(rt: HostRuntime) {
+    let mut store = new_store(rt.alloc());
+    let Ok(handle) = store.spawn(work()) else {
         panic!(rt; "a work")
     };
-    let polled = slot.get(|store, _slot| handle.poll(store));
-    assert!(rt; matches!(polled, Ok(Poll::Pending)));
+    assert!(rt; handle.poll(&mut store).is_pending());
+    assert!(rt; matches!(handle.abort(&mut store), Phase::Running));
 }
 
 #[test]

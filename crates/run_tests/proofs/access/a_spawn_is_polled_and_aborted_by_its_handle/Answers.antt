@@ -1,0 +1,14 @@
+use Rattle.host_works.specs.declared.scripted.ScriptedHost.{ScriptedHost}
+use Rattle.std.proofs.Common.{ap, subst, sym}
+use Rattle.run_tests.proofs.AccessLemmas.{few_given, none_held, none_numbered}
+use Rattle.run_tests.proofs.access.a_spawn_is_polled_and_aborted_by_its_handle.Goals as goal
+use Rattle.task_store.specs.Spawned.{IsSpawnedIn}
+
+pub spawn-requires : goal.spawn-requires
+spawn-requires g c = record { given = few_given _ c.new_store-store.ensures.state }
+
+pub poll-requires-clause-hosts : goal.poll-requires-clause-hosts
+poll-requires-clause-hosts g c = c.spawn.ensures.hosts (none_numbered _ c.new_store-store.ensures.state) (none_held (λ (w : ScriptedHost). w.left) c.new_store-store.result c.new_store-store.ensures.state c.new_store-store.ensures.works)
+
+pub abort-requires-clause-spawned : goal.abort-requires-clause-spawned
+abort-requires-clause-spawned g c = rw c.poll.ensures.rest c.in-Ok.ensures.spawned
