@@ -119,21 +119,17 @@ fn a_host_spawns_works_and_changes_its_value_by_an_accessor(rt: HostRuntime) {
 }
 
 #[test]
-fn an_accessor_spawns(rt: HostRuntime) {
-    let mut store = new_store(rt.alloc());
-    let accessor = Accessor::new(PhantomData::<Whole>);
-    let mut slot = StoreSlot::set(&mut store);
-    assert!(rt; accessor.spawn(&mut slot, work()).is_ok());
-}
-
-#[test]
-fn a_spawn_is_polled_and_aborted_by_its_handle(rt: HostRuntime) {
+fn an_accessor_and_a_store_spawn(rt: HostRuntime) {
     let mut store = new_store(rt.alloc());
     let Ok(handle) = store.spawn(work()) else {
         panic!(rt; "a work")
     };
     assert!(rt; handle.poll(&mut store).is_pending());
     assert!(rt; matches!(handle.abort(&mut store), Phase::Running));
+    let mut other = new_store(rt.alloc());
+    let accessor = Accessor::new(PhantomData::<Whole>);
+    let mut slot = StoreSlot::set(&mut other);
+    assert!(rt; accessor.spawn(&mut slot, work()).is_ok());
 }
 
 #[test]

@@ -25,7 +25,7 @@ drive-requires-clause-given c = rw (c.run_concurrent.ensures.store, c.in_ok-stor
 
 pub drive-requires-clause-hosts : goal.drive-requires-clause-hosts
 drive-requires-clause-hosts c =
-    new(λ (w : ScriptedHost). w.left)holds (λ (w : ScriptedHost). w.left) c.run_concurrent.new.store 2 100000 1000000 (rw c.run_concurrent.ensures.store c.in_ok-store.ensures.works) (rw (c.run_concurrent.ensures.store, c.in_ok-store.ensures.state) refl)
+    new_holds (λ (w : ScriptedHost). w.left) c.run_concurrent.new.store 2 100000 1000000 (rw c.run_concurrent.ensures.store c.in_ok-store.ensures.works) (rw (c.run_concurrent.ensures.store, c.in_ok-store.ensures.state) refl)
 
 pub returns-clause-answers : goal.returns-clause-answers
 returns-clause-answers c v done =

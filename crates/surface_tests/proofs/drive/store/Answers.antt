@@ -16,4 +16,4 @@ pub returns-clause-current : goal.returns-clause-current
 returns-clause-current g c = opens_current c.new_store.result.state c.new_store.ensures.state
 
 pub returns-clause-hosts : goal.returns-clause-hosts
-returns-clause-hosts g c = new(λ (w : ScriptedHost). w.left)holds (λ (w : ScriptedHost). w.left) c.new_store.result 1 100000 1000000 c.new_store.ensures.works (ap (λ (v : StateView). v.core) c.new_store.ensures.state)
+returns-clause-hosts g c = new_holds (λ (w : ScriptedHost). w.left) c.new_store.result 1 100000 1000000 c.new_store.ensures.works (ap (λ (v : StateView). v.core) c.new_store.ensures.state)

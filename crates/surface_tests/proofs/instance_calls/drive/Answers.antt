@@ -22,7 +22,7 @@ drive-driven-requires-clause-knows g c = c.new-main.ensures.knows c.run_concurre
 
 pub drive-driven-requires-clause-hosts : goal.drive-driven-requires-clause-hosts
 drive-driven-requires-clause-hosts g c =
-    new(λ (w : ScriptedHost). w.left)holds (λ (w : ScriptedHost). w.left) c.run_concurrent.new.store 2 100000 1000000 (rw c.run_concurrent.ensures.store c.requires.works) (rw (c.run_concurrent.ensures.store, c.requires.fresh) refl)
+    new_holds (λ (w : ScriptedHost). w.left) c.run_concurrent.new.store 2 100000 1000000 (rw c.run_concurrent.ensures.store c.requires.works) (rw (c.run_concurrent.ensures.store, c.requires.fresh) refl)
 
 pub returns-clause-given : goal.returns-clause-given
 returns-clause-given g c =

@@ -17,7 +17,7 @@ polled_by_steps-requires-clause-knows g c = c.new-main.ensures.knows c.run_concu
 
 pub polled_by_steps-requires-clause-hosts : goal.polled_by_steps-requires-clause-hosts
 polled_by_steps-requires-clause-hosts g c =
-    new(λ (w : ScriptedHost). w.left)holds (λ (w : ScriptedHost). w.left) c.run_concurrent.new.store 1 100000 1000000 (rw c.run_concurrent.ensures.store c.requires.works) (rw (c.run_concurrent.ensures.store, c.requires.fresh) refl)
+    new_holds (λ (w : ScriptedHost). w.left) c.run_concurrent.new.store 1 100000 1000000 (rw c.run_concurrent.ensures.store c.requires.works) (rw (c.run_concurrent.ensures.store, c.requires.fresh) refl)
 
 pub polled_by_steps-requires-clause-groups : goal.polled_by_steps-requires-clause-groups
 polled_by_steps-requires-clause-groups g c = rw c.run_concurrent.ensures.store c.requires.groups

@@ -32,7 +32,7 @@ drive-driven-requires-clause-knows c = c.new-main.ensures.knows c.run_concurrent
 
 pub drive-driven-requires-clause-hosts : goal.drive-driven-requires-clause-hosts
 drive-driven-requires-clause-hosts c =
-    new(λ (w : ScriptedHost). w.left)holds (λ (w : ScriptedHost). w.left) c.run_concurrent.new.store c.len.result c.args.scenario.now.handles c.args.scenario.now.table (rw (c.run_concurrent.ensures.store, c.in_ok-keep_notices.ensures.ok) c.in_ok-store.ensures.works) (rw (c.run_concurrent.ensures.store, c.in_ok-keep_notices.ensures.ok, c.in_ok-store.ensures.state) refl)
+    new_holds (λ (w : ScriptedHost). w.left) c.run_concurrent.new.store c.len.result c.args.scenario.now.handles c.args.scenario.now.table (rw (c.run_concurrent.ensures.store, c.in_ok-keep_notices.ensures.ok) c.in_ok-store.ensures.works) (rw (c.run_concurrent.ensures.store, c.in_ok-keep_notices.ensures.ok, c.in_ok-store.ensures.state) refl)
 
 pub keep_notices-requires-clause-first : goal.keep_notices-requires-clause-first
 keep_notices-requires-clause-first c = c.in_ok-store.ensures.groups.0

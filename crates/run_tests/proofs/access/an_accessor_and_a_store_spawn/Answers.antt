@@ -1,8 +1,6 @@
 use Rattle.host_works.specs.declared.scripted.ScriptedHost.{ScriptedHost}
-use Rattle.std.proofs.Common.{ap, subst, sym}
 use Rattle.run_tests.proofs.AccessLemmas.{few_given, none_held, none_numbered}
-use Rattle.run_tests.proofs.access.a_spawn_is_polled_and_aborted_by_its_handle.Goals as goal
-use Rattle.task_store.specs.Spawned.{IsSpawnedIn}
+use Rattle.run_tests.proofs.access.an_accessor_and_a_store_spawn.Goals as goal
 
 pub spawn-requires : goal.spawn-requires
 spawn-requires g c = record { given = few_given _ c.new_store-store.ensures.state }
@@ -12,3 +10,6 @@ poll-requires-clause-hosts g c = c.spawn.ensures.hosts (none_numbered _ c.new_st
 
 pub abort-requires-clause-spawned : goal.abort-requires-clause-spawned
 abort-requires-clause-spawned g c = rw c.poll.ensures.rest c.in-Ok.ensures.spawned
+
+pub spawn-2-requires : goal.spawn-2-requires
+spawn-2-requires g c = record { given = rw c.set-slot.ensures (few_given _ c.new_store-other.ensures.state) }
