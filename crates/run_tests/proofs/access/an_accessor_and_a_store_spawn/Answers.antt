@@ -11,5 +11,5 @@ poll-requires-clause-hosts g c = c.spawn.ensures.hosts (none_numbered _ c.new_st
 pub abort-requires-clause-spawned : goal.abort-requires-clause-spawned
 abort-requires-clause-spawned g c = rw c.poll.ensures.rest c.in-Ok.ensures.spawned
 
-pub spawn-2-requires : goal.spawn-2-requires
-spawn-2-requires g c = record { given = rw c.set-slot.ensures (few_given _ c.new_store-other.ensures.state) }
+pub spawn-requires-2 : goal.spawn-requires-2
+spawn-requires-2 g c = record { given = rw c.set-slot.ensures (few_given _ c.new_store-other.ensures.state) }

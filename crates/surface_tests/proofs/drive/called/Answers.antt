@@ -1,4 +1,5 @@
 -- A start gives two numbers, and no thread runs by it.
+use Rattle.host_works.specs.declared.scripted.ScriptedHost.{ScriptedHost}
 use Rattle.std.proofs.Common.{arith}
 use Rattle.task_machine.specs.declared.records.Turn.TheVariants as turn
 use Rattle.task_loop.proofs.StartLemmas.{start_current}
@@ -19,3 +20,6 @@ returns-clause-current g c = start_current _ _ _ _ _ _ _ c.requires.current c.in
 
 pub returns-clause-groups : goal.returns-clause-groups
 returns-clause-groups g c = c.start_call_concurrent.ensures.groups c.requires.groups
+
+pub returns-clause-hosts : goal.returns-clause-hosts
+returns-clause-hosts g c = c.start_call_concurrent.ensures.hosts (λ (w : ScriptedHost). w.left) c.requires.hosts

@@ -1,5 +1,4 @@
 -- Each start gives two numbers.
-use Rattle.host_works.specs.declared.scripted.ScriptedHost.{ScriptedHost}
 use Rattle.std.proofs.Common.{arith}
 use Rattle.surface_tests.proofs.DriveLemmas.{begun_given}
 use Rattle.surface_tests.proofs.polls.call_often.Goals as goal
@@ -16,7 +15,7 @@ calls-preserved g c =
       order = λ p sits. c.start_call_concurrent.ensures.order p (c.calls.invariant.order p sits);
       given = omega (arith, more, so_far);
       current = start_current _ _ _ _ _ _ _ c.calls.invariant.current c.in-Ok.ensures.starts;
-      hosts = c.start_call_concurrent.ensures.hosts (λ (w : ScriptedHost). w.left) c.calls.invariant.hosts;
+      hosts = c.start_call_concurrent.ensures.hosts g.H.HostWork.course c.calls.invariant.hosts;
       groups = c.start_call_concurrent.ensures.groups c.calls.invariant.groups;
       few = omega arith;
     }
