@@ -64,7 +64,7 @@ enum Ask {
     FirstMovesToSwitch,
     Stops,
     HasOneInstance,
-    BeginsAndRuns,
+    BeginsAndRuns(bool),
 }
 
 fn sets_and_takes(store: &mut Queued, task: CallId) -> bool
@@ -160,8 +160,8 @@ fn has_one_instance(store: &Queued) -> bool {
     is_open(instance(&store.state, 0)) && instance(&store.state, 1).is_none()
 }
 
-// A task is made while no thread runs, and then its thread runs.
-fn begins_and_runs(store: &mut Queued) -> bool
+// A task is made while no thread runs, and then its thread runs, by the call of the store or by that of its state.
+fn begins_and_runs(store: &mut Queued, of_store: bool) -> bool
     requires there { IsSome (get store.old.state.core.instances 0) }
     requires given { given store.old.state.core ≡ 2 }
 {
@@ -174,7 +174,11 @@ fn begins_and_runs(store: &mut Queued) -> bool
     let None = store.state.current() else {
         return false;
     };
-    let before = set_thread(&mut store.state, CurrentThread::Guest(id));
+    let before = if of_store {
+        task_loop::set_thread(store, CurrentThread::Guest(id))
+    } else {
+        set_thread(&mut store.state, CurrentThread::Guest(id))
+    };
     matches!(before, Ok(CurrentThread::None)) && store.state.current().is_some()
 }
 
@@ -196,7 +200,7 @@ fn answers(store: &mut Queued, id: QualifiedThreadId, ask: Ask) -> bool
         Ask::FirstMovesToSwitch => first_moves_to_switch(store),
         Ask::Stops => stops(store, id),
         Ask::HasOneInstance => has_one_instance(store),
-        Ask::BeginsAndRuns => begins_and_runs(store),
+        Ask::BeginsAndRuns(of_store) => begins_and_runs(store, of_store),
     }
 }
 
@@ -229,7 +233,8 @@ fn a_strand_stops_and_an_instance_is_read(rt: HostRuntime) {
 
 #[test]
 fn a_task_begins_and_runs(rt: HostRuntime) {
-    assert!(rt; holds(&rt, rt.alloc(), Ask::BeginsAndRuns));
+    assert!(rt; holds(&rt, rt.alloc(), Ask::BeginsAndRuns(false)));
+    assert!(rt; holds(&rt, rt.alloc(), Ask::BeginsAndRuns(true)));
 }
 
 #[test]

@@ -275,21 +275,26 @@ fn is_queued(store: &mut Store<(), ScriptedHost>, instance: Instance) -> bool
     queued.is_ok() && matches!(store.state.place(id.thread), Some(Place::Ready { .. }))
 }
 
-// The thread that was made is gone.
-fn ends(store: &mut Store<(), ScriptedHost>, instance: Instance) -> bool
+// The thread that was made is gone, by the call of the store or by that of its state.
+fn ends(store: &mut Store<(), ScriptedHost>, instance: Instance, of_store: bool) -> bool
     requires { Placed store.old.state.core }
 {
     let Some(id) = made_thread(store, instance) else {
         return false;
     };
-    cleanup_thread(&mut store.state, id).is_ok() && !is_live(&store.state, id)
+    let ended = if of_store {
+        task_loop::cleanup_thread(store, id)
+    } else {
+        cleanup_thread(&mut store.state, id)
+    };
+    ended.is_ok() && !is_live(&store.state, id)
 }
 
 #[derive(Clone, Copy)]
 enum OfThreads {
     HasAnIndex,
     IsQueued,
-    Ends,
+    Ends(bool),
     Makes,
     Yields,
     // In this way, and whether it answers so.
@@ -303,7 +308,7 @@ impl Asks for OfThreads {
         match self {
             OfThreads::HasAnIndex => matches!(instance.thread_index(component, store), Ok(1)),
             OfThreads::IsQueued => is_queued(store, instance),
-            OfThreads::Ends => ends(store, instance),
+            OfThreads::Ends(of_store) => ends(store, instance, *of_store),
             OfThreads::Makes => {
                 let thread = instance.thread_new_indirect(component, store, instance.index, 0, 5);
                 matches!(thread, Ok(2))
@@ -354,7 +359,8 @@ fn a_thread_makes_another_and_pauses(rt: HostRuntime) {
 #[test]
 fn a_thread_s_state_queues_and_ends_another(rt: HostRuntime) {
     assert!(rt; holds(&rt, rt.alloc(), &OfThreads::IsQueued, CALLER, 6, B));
-    assert!(rt; holds(&rt, rt.alloc(), &OfThreads::Ends, CALLER, 6, B));
+    assert!(rt; holds(&rt, rt.alloc(), &OfThreads::Ends(false), CALLER, 6, B));
+    assert!(rt; holds(&rt, rt.alloc(), &OfThreads::Ends(true), CALLER, 6, B));
 }
 
 // The export is there, takes so many words and is sync or isn't.
