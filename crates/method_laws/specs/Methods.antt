@@ -99,7 +99,7 @@ StartsKeep = (c : Component) (n : ℕ) (s t : StateView) (id : QualifiedThreadId
 
 -- ---- An op
 
--- where an op that names neither an export nor a host was done, whatever op stands at the thread's place, and goes on, or was refused
+-- where an op of is_asked was done, whatever op stands at the thread's place, and goes on, or was refused
 unfoldable pub AsksKeep : Type 0
 AsksKeep = (c : Component) (o : Op) (n : ℕ) (r : Came) (s t : StateView) → Rests c n s → is_asked o ≡ true → MayAsk c n s.core →
     position_of n s.core + 1 ≤ length (script_of c n s.core) → has_stopped r ≡ false → Did (row_of c o s.core) s r t → InTurn c t

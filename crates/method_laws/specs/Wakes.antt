@@ -20,8 +20,7 @@ use Rattle.task_turns.specs.Turn.{Sits}
 use Rattle.task_words.specs.StateView.{StateView, thread_of, with_core, with_current}
 use Rattle.wake_laws.specs.Stands.{NoWakeLost}
 
--- The op is the one at the running thread's place, by its row; or it names neither an export nor a host, and no op of the thread is under
--- way.
+-- The op is the one at the running thread's place, by its row; or it is one of is_asked, and no op of the thread is under way.
 abbrev pub MayBegin : Component → Op → StateView → Type 0
 MayBegin c o s = IsAtPlace c (row_of c o s.core) s ⊎ ((is_asked o ≡ true) × IfSome (running_of s) (λ n. MayAsk c n s.core))
 

@@ -32,8 +32,8 @@ pub fn calls_keep()
     ensures start { StartsKeep }
 {}
 
-/// An op that names neither an export nor a host, and goes on, keeps order, whichever op stands at the
-/// thread's place, and so does a refusal; at the script's end all of order is so, but that the thread may
+/// An op of `is_asked` (no export, no host, no end, not plain) that goes on keeps order, whichever op stands
+/// at the thread's place, and so does a refusal; at the script's end all of order is so, but that the thread may
 /// be one place past it.
 #[tactic(auto, using(crate::proofs::MethodLemmas::asks_keep, crate::proofs::MethodLemmas::asks_at_end))]
 pub fn asks_keep()
