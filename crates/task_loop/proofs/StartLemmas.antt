@@ -146,7 +146,7 @@ finish_keeps g k s t (Ready v) f h = subst (λ (u : StateView). HoldsGroups g u.
 finish_keeps g k s t Pending f h = subst (λ (u : StateView). HoldsGroups g u.core) (sym f.1) h
 
 -- a store that is trapped holds the same host works
-pub trapped_hosts : {T H : Type 0} (course : H → HostDef) (st : Store T H) (g : Groups) → HoldsHosts course st → HoldsHosts course (record st { state = on_core set_trapped st.state; groups = g })
+pub trapped_hosts : {T H G : Type 0} (course : H → HostDef) (st : Store T H G) (g : Groups) → HoldsHosts course st → HoldsHosts course (record st { state = on_core set_trapped st.state; groups = g })
 unfolding set_trapped
 trapped_hosts course st g h = record { there = h.there; ended = h.ended }
 

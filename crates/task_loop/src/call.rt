@@ -18,7 +18,7 @@ ghost use Rattle.task_turns.specs.Turn.{Sits, given};
 use crate::instance::Instance;
 use futures::task::Poll;
 use task_calls::{TaskError, finish_call, start_refusal, start_untrapped};
-use task_group::TaskGroupId;
+use task_group::{TaskGroupHook, TaskGroupId};
 use task_machine::{Callee, Component};
 use task_store::Store;
 use task_turns::export_def;
@@ -79,10 +79,10 @@ impl Func {
     /// runs when a run on the store takes it. Refused with trap 20 exactly where the store is
     /// trapped, and else with trap 18 exactly where its four entries don't fit into the table. Where
     /// it is refused, or memory is wanting, nothing is made, and the store is trapped.
-    pub fn start_call_concurrent<T, H>(
+    pub fn start_call_concurrent<T, H, G: TaskGroupHook>(
         self,
         component: &Component,
-        store: &mut Store<T, H>,
+        store: &mut Store<T, H, G>,
         params: &[u64],
     ) -> Result<FuncCallConcurrent, TaskError>
         requires covered { IsWellFormed component.now }
@@ -111,10 +111,10 @@ impl Func {
     /// Starts a call by the host as `start_call_concurrent` does, but traps nothing: refused with trap 20
     /// exactly where the store is trapped, and else with trap 18 exactly where its four entries don't
     /// fit into the table. Where it is refused, or memory is wanting, all is as before.
-    pub fn start_untrapped<T, H>(
+    pub fn start_untrapped<T, H, G: TaskGroupHook>(
         self,
         component: &Component,
-        store: &mut Store<T, H>,
+        store: &mut Store<T, H, G>,
         params: &[u64],
     ) -> Result<FuncCallConcurrent, TaskError>
         requires covered { IsWellFormed component.now }
@@ -138,10 +138,10 @@ impl Func {
     }
 
     // The same where it isn't refused. The group is prepared first, so that it can be taken back unseen.
-    fn start_fitting<T, H>(
+    fn start_fitting<T, H, G: TaskGroupHook>(
         self,
         component: &Component,
-        store: &mut Store<T, H>,
+        store: &mut Store<T, H, G>,
         params: &[u64],
     ) -> Result<FuncCallConcurrent, TaskError>
         requires covered { IsWellFormed component.now }
@@ -178,9 +178,9 @@ impl Func {
 
     /// The result of a call that has returned; pending where it hasn't, and then nothing is
     /// changed. A call is finished once.
-    pub fn finish_call_concurrent<T, H>(
+    pub fn finish_call_concurrent<T, H, G: TaskGroupHook>(
         self,
-        store: &mut Store<T, H>,
+        store: &mut Store<T, H, G>,
         call: &mut FuncCallConcurrent,
     ) -> Poll<u64>
         ensures finishes { Finishes call.old.thread store.old.state result store.new.state }

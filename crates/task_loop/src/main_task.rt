@@ -15,13 +15,14 @@ ghost use Rattle.task_turns.specs.Turn.{Sits, given, running_of};
 ghost use Rattle.task_words.specs.StateView.{StateView};
 
 use task_calls::TaskError;
+use task_group::TaskGroupHook;
 use task_machine::{Component, Turn};
 use task_store::{Access, HostWork, Whole};
 use task_turns::MainStep;
 
 /// The host's own task, which starts calls and waits for them. It is a script, or any other
 /// program: then its part says so, and its labels need only be lawful in the store.
-pub trait MainTask<T, H: HostWork> {
+pub trait MainTask<T, H: HostWork, G: TaskGroupHook> {
     // Main's part of the machine's state.
     ghost part: { Self → Main };
 
@@ -43,7 +44,7 @@ pub trait MainTask<T, H: HostWork> {
     /// its number stay. It answers no error but want of memory, after which nothing else is said of either.
     fn step(
         &mut self,
-        access: &mut Access<'_, T, Whole, H>,
+        access: &mut Access<'_, T, Whole, H, G>,
         component: &Component,
     ) -> Result<MainStep, TaskError>
         requires covered { IsWellFormed component.now }

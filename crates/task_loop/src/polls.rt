@@ -16,6 +16,7 @@ use crate::run::{RunConcurrent, next_mark};
 use crate::tells::group_of;
 use run_pace::Pace;
 use task_calls::TaskError;
+use task_group::TaskGroupHook;
 use task_machine::{Component, Mark, NoMemory, Outcome, Turn};
 use task_store::{AccessorTask, FromHost, Store};
 use task_turns::{Stepped, Trace, compute, is_idle};
@@ -66,10 +67,10 @@ impl RunConcurrent {
     ///
     /// What is asked of the store and of main is as for `drive`; and so is what is said where memory is wanting, and what the
     /// groups are told.
-    pub fn poll<T, H: AccessorTask<T> + FromHost, M: MainTask<T, H>>(
+    pub fn poll<T, H: AccessorTask<T> + FromHost, G: TaskGroupHook, M: MainTask<T, H, G>>(
         &mut self,
         component: &Component,
-        store: &mut Store<T, H>,
+        store: &mut Store<T, H, G>,
         main: &mut M,
         steps: u32,
         trace: &mut Trace,
@@ -108,10 +109,10 @@ impl RunConcurrent {
     }
 
     // Takes the turns.
-    fn poll_on<T, H: AccessorTask<T> + FromHost, M: MainTask<T, H>>(
+    fn poll_on<T, H: AccessorTask<T> + FromHost, G: TaskGroupHook, M: MainTask<T, H, G>>(
         &mut self,
         component: &Component,
-        store: &mut Store<T, H>,
+        store: &mut Store<T, H, G>,
         main: &mut M,
         steps: u32,
         trace: &mut Trace,

@@ -23,6 +23,7 @@ use crate::main_task::MainTask;
 use crate::tells::{group_of, tell_poll, tell_run, tell_work};
 use run_pace::Pace;
 use task_calls::TaskError;
+use task_group::TaskGroupHook;
 use task_machine::{Component, Mark, NoMemory, Outcome, Trap, Turn};
 use task_store::{Access, AccessorTask, FromHost, HostWork, StandingRun, Store};
 use task_turns::{
@@ -42,8 +43,8 @@ pub struct RunConcurrent {
 /// Begins a run on a store, with main. `trap_on_idle` says that the run ends as a deadlock where
 /// nothing can go on and main waits. Refused with trap 21 exactly where a run stands on the store,
 /// which isn't trapped by that, nor changed.
-pub fn run_concurrent<T, H>(
-    store: &mut Store<T, H>,
+pub fn run_concurrent<T, H, G: TaskGroupHook>(
+    store: &mut Store<T, H, G>,
     trap_on_idle: bool,
 ) -> Result<RunConcurrent, Trap>
     ensures refused { IfErr result (λ trap. (trap ≡ Trap.RecursiveRun) × (store.old.running ≡ true)) }
@@ -66,9 +67,9 @@ pub fn run_concurrent<T, H>(
 }
 
 // Lends the store to main for an op.
-fn ask_main<T, H: HostWork, M: MainTask<T, H>>(
+fn ask_main<T, H: HostWork, G: TaskGroupHook, M: MainTask<T, H, G>>(
     component: &Component,
-    store: &mut Store<T, H>,
+    store: &mut Store<T, H, G>,
     main: &mut M,
 ) -> Result<MainStep, TaskError>
     requires covered { IsWellFormed component.now }
@@ -95,9 +96,9 @@ fn ask_main<T, H: HostWork, M: MainTask<T, H>>(
 }
 
 // Takes an op of main, and adds what that shows to the trace.
-fn step_main<T, H: HostWork, M: MainTask<T, H>>(
+fn step_main<T, H: HostWork, G: TaskGroupHook, M: MainTask<T, H, G>>(
     component: &Component,
-    store: &mut Store<T, H>,
+    store: &mut Store<T, H, G>,
     main: &mut M,
     trace: &mut Trace,
 ) -> Result<Stepped, NoMemory>
@@ -140,9 +141,9 @@ fn put_called(trace: &mut Trace, made: Made) -> Result<Stepped, NoMemory>
 // The running thread, which has this number, takes a step. A host that it calls is polled, and its
 // work is held. The group that the step may finish is asked, where that of the thread was.
 #[inline(always)]
-fn step_thread<T, H: AccessorTask<T> + FromHost>(
+fn step_thread<T, H: AccessorTask<T> + FromHost, G: TaskGroupHook>(
     component: &Component,
-    store: &mut Store<T, H>,
+    store: &mut Store<T, H, G>,
     thread: u64,
     trace: &mut Trace,
     staked: &mut u64,
@@ -176,9 +177,9 @@ fn step_thread<T, H: AccessorTask<T> + FromHost>(
 // The running thread, which has this number, takes a step. A host that it calls is polled, and its
 // work is held. The groups of the store are told what the step gave. `running` is the group of the thread that runs.
 #[inline(always)]
-fn run_thread<T, H: AccessorTask<T> + FromHost>(
+fn run_thread<T, H: AccessorTask<T> + FromHost, G: TaskGroupHook>(
     component: &Component,
-    store: &mut Store<T, H>,
+    store: &mut Store<T, H, G>,
     thread: u64,
     trace: &mut Trace,
     running: &mut u64,
@@ -215,7 +216,7 @@ fn run_thread<T, H: AccessorTask<T> + FromHost>(
 }
 
 // The mark of the entry that is taken next in this turn.
-pub(crate) fn next_mark<T, H>(store: &Store<T, H>, turn: Turn) -> Option<Mark>
+pub(crate) fn next_mark<T, H, G: TaskGroupHook>(store: &Store<T, H, G>, turn: Turn) -> Option<Mark>
     ensures { result ≡ next_mark turn store.now.state.core }
 {
     match turn {
@@ -245,10 +246,10 @@ impl RunConcurrent {
     /// left; at the first call none runs. The run isn't over. Where main pended in the last call,
     /// its op pends still, which is so of each main that is no script. Where live works were polled,
     /// one is left to be polled, and where one ended, an entry stands.
-    pub fn drive<T, H: AccessorTask<T> + FromHost, M: MainTask<T, H>>(
+    pub fn drive<T, H: AccessorTask<T> + FromHost, G: TaskGroupHook, M: MainTask<T, H, G>>(
         &mut self,
         component: &Component,
-        store: &mut Store<T, H>,
+        store: &mut Store<T, H, G>,
         main: &mut M,
         steps: u32,
         trace: &mut Trace,
@@ -295,10 +296,10 @@ impl RunConcurrent {
     }
 
     // Takes the turns.
-    fn go_on<T, H: AccessorTask<T> + FromHost, M: MainTask<T, H>>(
+    fn go_on<T, H: AccessorTask<T> + FromHost, G: TaskGroupHook, M: MainTask<T, H, G>>(
         &mut self,
         component: &Component,
-        store: &mut Store<T, H>,
+        store: &mut Store<T, H, G>,
         main: &mut M,
         steps: u32,
         trace: &mut Trace,
@@ -369,10 +370,10 @@ impl RunConcurrent {
     // Makes a step, adds its label to the trace, and tells the groups of the store what it gave; none where nothing can go on
     // and that is no deadlock. `running` is the group of the thread that runs, 0 where none does.
     #[inline(always)]
-    pub(crate) fn turn<T, H: AccessorTask<T> + FromHost, M: MainTask<T, H>>(
+    pub(crate) fn turn<T, H: AccessorTask<T> + FromHost, G: TaskGroupHook, M: MainTask<T, H, G>>(
         &self,
         component: &Component,
-        store: &mut Store<T, H>,
+        store: &mut Store<T, H, G>,
         main: &mut M,
         trace: &mut Trace,
         running: &mut u64,
@@ -441,7 +442,7 @@ impl RunConcurrent {
     }
 
     /// Ends the run: it no longer stands on the store.
-    pub fn end<T, H>(self, store: &mut Store<T, H>)
+    pub fn end<T, H, G: TaskGroupHook>(self, store: &mut Store<T, H, G>)
         ensures { store.new ≡ record store.old { running = false } }
     {
         store.end_run(self.standing);

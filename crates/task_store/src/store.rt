@@ -18,7 +18,7 @@ use crate::scopes::ComponentTasksNotConcurrent;
 use host_works::HostWorks;
 use record_core::TaskCore;
 use std::alloc::Global;
-use task_group::{Groups, Notices};
+use task_group::{Groups, NoHook, Notices, TaskGroupHook};
 use task_machine::{NoMemory, Trap};
 use task_words::ResultWords;
 
@@ -41,7 +41,7 @@ pub struct StandingRun {
 }
 
 /// A store of a host's value `T` and host works of the type `H`.
-pub struct Store<T, H> {
+pub struct Store<T, H, G, G: TaskGroupHook = NoHook> {
     pub(crate) value: T,
     id: u64,
     pub(crate) concurrent: bool,
@@ -59,7 +59,7 @@ pub struct Store<T, H> {
 }
 
 // By hand, so that letting a store go is one call, proved once.
-impl<T: Drop, H: Drop> Drop for Store<T, H> {
+impl<T: Drop, H: Drop, G: TaskGroupHook> Drop for Store<T, H, G> {
     fn drop(self) {
         let Store {
             value: _,
@@ -75,7 +75,7 @@ impl<T: Drop, H: Drop> Drop for Store<T, H> {
     }
 }
 
-impl<T, H> Store<T, H> {
+impl<T, H, G: TaskGroupHook> Store<T, H, G> {
     /// A store in which nothing was made. `concurrent` says whether its calls may run beside one
     /// another, and `id` is the number by which the host knows it.
     pub fn new(alloc: Global, value: T, concurrent: bool, id: u64) -> Self
@@ -112,7 +112,7 @@ impl<T, H> Store<T, H> {
 
     /// The host's value, for writing.
     pub fn data_mut(&mut self) -> &mut T
-        ensures* writes_back { sem 𝓛 (LendsValue T.row H.row self.entry result) }
+        ensures* writes_back { sem 𝓛 (LendsValue T.row H.row G.row G.TaskGroupHook self.entry result) }
         ensures value { result.now ≡ self.old.value }
     {
         &mut self.value
