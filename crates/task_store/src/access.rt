@@ -45,7 +45,7 @@ impl<T> Project<T> for Whole {
 
 /// A store that is lent to a host's code, which looks at the part `P` of the host's value.
 #[derive(Drop)]
-pub struct Access<'a, T, P, H, G, G: TaskGroupHook = NoHook> {
+pub struct Access<'a, T, P, H, G: TaskGroupHook = NoHook> {
     pub store: &'a mut Store<T, H, G>,
     part: PhantomData<P>,
 }

@@ -1,4 +1,4 @@
-ghost use Rattle.std.specs.Prelude.{[], ◌≡◌, ◌+◌, ◌-◌, ◌<◌, ◌≤◌, ◌^◌, ◌↔◌, cond, false, min, true, IfErr, IfOk, IfSome, IsSome, OnErr, OnOk};
+ghost use Rattle.std.specs.Prelude.{[], ◌≡◌, ◌+◌, ◌-◌, ◌<◌, ◌≤◌, ◌^◌, ◌↔◌, cond, false, min, true, IfErr, IfOk, IfSome, IsSome, OnErr, OnOk, Some};
 ghost use Rattle.std.specs.Borrow.{sem};
 ghost use Rattle.group_notices.specs.Mirror.{Mirrors};
 ghost use Rattle.host_works.specs.Kept.{HoldsNone};
@@ -40,8 +40,8 @@ pub struct StandingRun {
     begun: (),
 }
 
-/// A store of a host's value `T` and host works of the type `H`.
-pub struct Store<T, H, G, G: TaskGroupHook = NoHook> {
+/// A store of a host's value `T` and host works of the type `H`. `G` is the type of the hook that is told of groups.
+pub struct Store<T, H, G: TaskGroupHook = NoHook> {
     pub(crate) value: T,
     id: u64,
     pub(crate) concurrent: bool,
@@ -51,7 +51,7 @@ pub struct Store<T, H, G, G: TaskGroupHook = NoHook> {
     /// The calls and threads of the store.
     pub state: TaskCore,
     /// The groups of the core, and who is told of them.
-    pub groups: Groups,
+    pub groups: Groups<G>,
     // The host works that haven't ended.
     pub(crate) works: HostWorks<H>,
     // Whether a run stands on the store.
@@ -208,6 +208,14 @@ impl<T, H, G: TaskGroupHook> Store<T, H, G> {
     {
         self.state.set_trapped();
         self.groups.clean_up(None);
+    }
+
+    /// Hands in the hook, in place of the one before. It is told of all groups from now on.
+    pub fn task_group_hook(&mut self, hook: G)
+        requires { G.listens ≡ true }
+        ensures { self.new ≡ record self.old { groups = record self.old.groups { listeners = record self.old.groups.listeners { hook = Some (G.heard hook) } } } }
+    {
+        self.groups.set_hook(hook);
     }
 
     /// Before the first group: from now on each notice of a group is kept, until `room` of them are. Where memory is
