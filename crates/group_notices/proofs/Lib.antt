@@ -1,4 +1,5 @@
 pub mod MirrorLemmas
 pub mod TellLemmas
 pub mod RunLemmas
+pub mod OnceLemmas
 pub mod QuietLemmas

@@ -1,5 +1,5 @@
 -- What groups that stand for those of a core have.
-use Rattle.std.proofs.Common.{ap, arith, refl, subst, sym, ◌∙◌, ◌≡◌}
+use Rattle.std.proofs.Common.{ap, arith, length, refl, suc, subst, sym, ◌∙◌, ◌≡◌}
 use Rattle.std.proofs.lemmas.Bool.Decides.{nat_tests}
 use Rattle.std.proofs.lemmas.List.Kept.{IsStrictlySortedBy-filter}
 use Rattle.std.specs.BTreeMap.{is_at}
@@ -47,6 +47,10 @@ sorted_more (x ∷ xs) n sorted below = (
   sorted_more xs n sorted.1 (λ q there. below q (grind (arith, nat_tests, there))),
 )
 
+length_keys : (es : List (ℕ × ℕ)) → length (keys_of es) ≡ length es
+length_keys [] = refl
+length_keys (e ∷ es) = ap suc (length_keys es)
+
 module _ (gs : List ℕ) (g : Groups) (m : Mirrors gs g) where
   same_live : g.live ≡ live_in (ones gs)
   same_live = finite.same_map nat_cmp_total finite.nat_cmp-IsAntisymmetric _ _ (λ q. m.live q ∙ (sym (found gs q) ∙ sym (get-live_in (ones gs) q)))
@@ -56,6 +60,10 @@ module _ (gs : List ℕ) (g : Groups) (m : Mirrors gs g) where
   keys_mirror =
       ap finite.keys same_live
       ∙ (keys-live_in (ones gs) (subst (IsStrictlySortedBy nat_cmp) (sym (keys-ones gs)) m.ordered) ∙ keys-ones gs)
+
+  -- and so many are live
+  pub len_mirror : finite.len g.live ≡ length gs
+  len_mirror = finite.len-entries g.live ∙ (sym (length_keys (finite.entries g.live)) ∙ ap length keys_mirror)
 
   pub count_mirror : (n : ℕ) → is_in gs n ≡ true → count_in g.live n ≡ 1
   count_mirror n there = ap (λ o. unwrap_or o 0) (m.live n ∙ ap (λ b. cond b (Some 1) None) there)

@@ -23,9 +23,9 @@ as_many g gs hs e (inr (inr less)) = elim (decide (is_in gs g)) [
   | inr out ↦ less ∙ without_absent g gs out
 ]
 
-module _ (a : Asked) (left : ℕ) (gs hs : List ℕ) (q : Leads a left gs hs) (same : left ≡ a.live) where
+module _ (a : Asked) (left : ℕ) (gs hs : List ℕ) (q : Leads a left gs hs) (same : left ≡ length gs) where
   kept : hs ≡ gs
-  kept = as_many a.staked gs hs (sym q.after ∙ (same ∙ q.before)) q.groups
+  kept = as_many a.staked gs hs (sym q.after ∙ same) q.groups
 
   pub kept_told : (l : Listeners) → Told (finish_notices gs hs) l l
   kept_told l =

@@ -148,16 +148,16 @@ module _ (a : Asked) (left : ℕ) (gs hs : List ℕ) (q : Leads a left gs hs) wh
     ]
   ]
 
-  pub one_gone : left ≢ 0 → left < a.live → (hs ≡ without a.staked gs) × (is_in gs a.staked ≡ true)
+  pub one_gone : left ≢ 0 → left < length gs → (hs ≡ without a.staked gs) × (is_in gs a.staked ≡ true)
   one_gone some fewer = elim (which some) [
-    | inl same ↦ absurd (let e = ap length same in let b = q.before in let c = q.after in omega (arith, e, b, c, fewer))
+    | inl same ↦ absurd (let e = ap length same in let c = q.after in omega (arith, e, c, fewer))
     | inr out ↦ out
   ]
 
-  pub none_gone : left ≢ 0 → (left < a.live → ⊥) → hs ≡ gs
+  pub none_gone : left ≢ 0 → (left < length gs → ⊥) → hs ≡ gs
   none_gone some still = elim (which some) [
     | inl same ↦ same
-    | inr out ↦ absurd (still (let e = ap length out.0 in let l = without_less a.staked gs out.1 in let b = q.before in let c = q.after in omega (arith, e, l, b, c)))
+    | inr out ↦ absurd (still (let e = ap length out.0 in let l = without_less a.staked gs out.1 in let c = q.after in omega (arith, e, l, c)))
   ]
 
   module _ (g h : Groups) (m : Mirrors gs g) where
@@ -169,23 +169,23 @@ module _ (a : Asked) (left : ℕ) (gs hs : List ℕ) (q : Leads a left gs hs) wh
     pub all_mirrored : left ≡ 0 → h.live ≡ finite.empty → Mirrors hs h
     all_mirrored e none = subst (λ ks. Mirrors ks h) (sym (none_left e)) (mirror_none h none)
 
-    pub one_told : left ≢ 0 → left < a.live → Told (finish_at g.live (record { number = a.staked })) g.listeners h.listeners → Told (finish_notices gs hs) g.listeners h.listeners
+    pub one_told : left ≢ 0 → left < length gs → Told (finish_at g.live (record { number = a.staked })) g.listeners h.listeners → Told (finish_notices gs hs) g.listeners h.listeners
     one_told some fewer told =
         let out = one_gone some fewer in
         let one : count_in g.live a.staked ≡ 1 = count_mirror gs g m a.staked out.1 in
         let P : List Notice → Type 0 = λ ns. Told ns g.listeners h.listeners in
         subst P (ap (λ n. finish_if n a.staked) one ∙ (sym (finish_one a.staked gs m.ordered out.1) ∙ ap (finish_notices gs) (sym out.0))) told
 
-    pub one_mirrored : left ≢ 0 → left < a.live → h.live ≡ lowered g.live a.staked → Mirrors hs h
+    pub one_mirrored : left ≢ 0 → left < length gs → h.live ≡ lowered g.live a.staked → Mirrors hs h
     one_mirrored some fewer low =
         let out = one_gone some fewer in subst (λ ks. Mirrors ks h) (sym out.0) (mirror_less gs g m a.staked h out.1 low)
 
-  pub same_told : left ≢ 0 → (left < a.live → ⊥) → (l : Listeners) → Told (finish_notices gs hs) l l
+  pub same_told : left ≢ 0 → (left < length gs → ⊥) → (l : Listeners) → Told (finish_notices gs hs) l l
   same_told some still l =
       let P : List Notice → Type 0 = λ ns. Told ns l l in
       subst P (sym (ap (finish_notices gs) (none_gone some still) ∙ finish_none gs)) (told-none l)
 
-  pub same_mirrored : left ≢ 0 → (left < a.live → ⊥) → (g : Groups) → Mirrors gs g → Mirrors hs g
+  pub same_mirrored : left ≢ 0 → (left < length gs → ⊥) → (g : Groups) → Mirrors gs g → Mirrors hs g
   same_mirrored some still g m = subst (λ ks. Mirrors ks g) (sym (none_gone some still)) m
 
 -- ---- The whole step

@@ -123,3 +123,7 @@ emptied es es' h e = nil_of_length es' (e ∙ zero_of (length es) h)
 pub if_none : {X : Type 0} (o : Option X) (P : Type 0) → P → IfNone o P
 if_none None P p = p
 if_none (Some x) P p = tt
+
+-- how many there are
+pub len-live_in : (es : List (ℕ × ℕ)) → IsStrictlySortedBy nat_cmp (keys_of es) → finite.len (live_in es) ≡ length es
+len-live_in es h = finite.len-entries (live_in es) ∙ ap length (entries-live_in es h)

@@ -9,9 +9,9 @@ use Rattle.std.proofs.lemmas.Bool.Decides.{nat_tests}
 use Rattle.std.proofs.lemmas.Grind.{common_steps}
 use Rattle.std.proofs.lemmas.List.{length-take, map-append}
 use Rattle.task_machine.specs.declared.records.Notice.{Notice}
-use Rattle.task_group.specs.Listeners.{Listeners, told_of, Told}
+use Rattle.task_group.specs.Listeners.{AnsweredErr, Listeners, told_of, Told, errors_of}
 use Rattle.task_group.specs.Counts.{Counts}
-use Rattle.task_group.specs.Groups.{IsKnown, finish_number}
+use Rattle.task_group.specs.Groups.{IsKnown, Switches, finish_number}
 
 pub some_of : {X : Type 0} (o : Option X) (n : ℕ) → n ≢ 0 → (o ≡ None → n ≡ 0) → IsSome o
 some_of None n ne h = absurd (ne (h refl))
@@ -110,6 +110,13 @@ told-none l = record {
   same_room = refl;
   errors = omega arith;
 }
+
+-- a switch that is an exit alone, or an enter alone
+pub exit_alone : (ns : List Notice) (a b : Listeners) → Told ns a b → Switches ns [] a b
+exit_alone ns a b told = record { between = b; exited = told; entered = λ calm. told-none b; stopped = λ err. refl }
+
+pub enter_alone : (ns : List Notice) (a b : Listeners) → Told ns a b → Switches [] ns a b
+enter_alone ns a b told = record { between = a; exited = told-none a; entered = λ calm. told; stopped = λ err. absurd (omega (arith, err)) }
 
 take-nil : (k : ℕ) → ◌≡◌ {A = List Notice} (take k []) []
 take-nil zero = refl

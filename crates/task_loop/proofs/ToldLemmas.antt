@@ -18,7 +18,7 @@ use Rattle.std.specs.Prelude.{Bool, Err, IfOk, IfSome, List, None, Ok, Option, R
 use Rattle.task_group.proofs.GroupLemmas.{told-append, told-none}
 use Rattle.task_group.specs.Groups.{Groups}
 use Rattle.task_group.specs.Listeners.{Told}
-use Rattle.task_loop.specs.Told.{RunTold, TurnTold, main_notices, notices_made, runs_on, turn_of}
+use Rattle.task_loop.specs.Told.{RunTold, TurnTold, current_group, main_notices, notices_made, runs_on, turn_of}
 use Rattle.task_machine.specs.Core.{Core, Main, State, Unscripted}
 use Rattle.task_machine.specs.Maps.{get}
 use Rattle.task_machine.specs.Read.{thread_group}
@@ -118,6 +118,14 @@ stays_in c n s t before after r =
     let later = some_is (get t.calls b.0.call) (ot.calls_there n b.0.call (ap (option_map (λ (h : Thread). h.call)) b.1)) in
     group_stays s t n r a.0 a.1 k.number k.call b.0 b.1 call.0 call.1 later.0 later.1
 
+-- the group of the thread that runs, by the turn
+pub current_is : (t : StateView) (p : Turn) → running_of t ≡ runs_in p → current_group t ≡ running_group t.core p
+current_is t (turn.Run n) e = ap (λ (o : Option ℕ). option_map (λ k. thread_group k t.core) o) e
+current_is t turn.Main e = ap (λ (o : Option ℕ). option_map (λ k. thread_group k t.core) o) e
+current_is t (turn.Futures n) e = ap (λ (o : Option ℕ). option_map (λ k. thread_group k t.core) o) e
+current_is t (turn.Take b) e = ap (λ (o : Option ℕ). option_map (λ k. thread_group k t.core) o) e
+current_is t turn.Over e = ap (λ (o : Option ℕ). option_map (λ k. thread_group k t.core) o) e
+
 -- ---- A step in another turn than main's
 
 module _ (x : Setting) (p : Turn) (main : is_main_turn p ≡ false) (m : Main) (s : StateView) (a : Asked) (asked : IsAsked x.component s.core p a)
@@ -137,9 +145,16 @@ module _ (x : Setting) (p : Turn) (main : is_main_turn p ≡ false) (m : Main) (
             (ap (λ (k : Turn). told_by a (running_group t.core k) s.core.groups t.core.groups) (sym at) ∙ leads.1) here;
       }
 
-  pub other_told : ((gs : List ℕ) → Mirrors gs old → Leads a (length t.core.groups) gs t.core.groups → Told (told_by a (running_group t.core (turn_of q)) gs t.core.groups) old.listeners new.listeners)
+  pub other_told : ((gs : List ℕ) → Mirrors gs old → Leads a (length t.core.groups) gs t.core.groups → Told (told_by a (current_group t) gs t.core.groups) old.listeners new.listeners)
       → Added (λ made. TurnTold x p m s old (Some made) n t new) q before after
-  other_told told = (made.0, (made.1.0, told_made told))
+  other_told told =
+      let runs = (made.1.1).running ∙ ap (λ (k : Turn). runs_in k) (stands_turn q before made.0 after made.1.0) in (
+        made.0,
+        (
+          made.1.0,
+          told_made (λ gs mirrors leads. subst (λ (o : Option ℕ). Told (told_by a o gs t.core.groups) old.listeners new.listeners) (current_is t (turn_of q) runs) (told gs mirrors leads)),
+        ),
+      )
 
   pub other_holds : ((gs : List ℕ) → Mirrors gs old → Leads a (length t.core.groups) gs t.core.groups → Mirrors t.core.groups new) → new.made ≡ old.made → is_some new.listeners.hook ≡ false → HoldsGroups new t.core
   other_holds mirrors same unhooked =

@@ -117,15 +117,16 @@ fn poll_at_once<G: TaskGroupHook>(core: &TaskCore, groups: &mut Groups<G>, worke
     ensures made { groups.new.made ≡ groups.old.made }
     ensures unhooked { is_some groups.new.listeners.hook ≡ false }
 {
+    if core.current().is_some() {
+        return tell_work(core, groups, worked);
+    }
     let asked = Asked {
         running: None,
         worked,
         staked: 0,
     };
-    if core.current().is_none() {
-        if tell_at_once(groups, &asked, None, core.groups()) {
-            return 0;
-        }
+    if tell_at_once(groups, &asked, None, core.groups()) {
+        return 0;
     }
     work_at_once(core, groups, worked)
 }
@@ -173,15 +174,16 @@ fn run_at_once<G: TaskGroupHook>(
     ensures made { groups.new.made ≡ groups.old.made }
     ensures unhooked { is_some groups.new.listeners.hook ≡ false }
 {
-    if goes_on(thread, stepped) {
-        let asked = Asked {
-            running: Some(running),
-            worked: None,
-            staked,
-        };
-        if tell_at_once(groups, &asked, Some(running), core.groups()) {
-            return running;
-        }
+    if !goes_on(thread, stepped) {
+        return tell_change(core, groups, running, staked);
+    }
+    let asked = Asked {
+        running: Some(running),
+        worked: None,
+        staked,
+    };
+    if tell_at_once(groups, &asked, Some(running), core.groups()) {
+        return running;
     }
     tell_change(core, groups, running, staked)
 }

@@ -25,7 +25,7 @@ returns-in-Shown-clause-makes g c =
     let n = c.args.thread in
     let before = c.args.trace.now in
     let after = c.step_run.new.trace in
-    let ran = subst (λ (r : RunStep). RunAdded (λ (q : Ran). (Makes comp (turn.Run n) s q.made t × IsFree q.made.turn) × RanPolls comp n s q t) r before after) c.in-Shown.is c.in_ok-stepped.ensures.ran in
+    let ran = subst (λ (r : RunStep). RunAdded (λ (q : Ran). (Makes comp (turn.Run n) s q.made t × IsFree q.made.turn) × RanPolls comp n s q t) r before after) c.in-Shown.is c.in-Ok.ensures.ran in
     added_as (λ (made : Made). (Makes comp (turn.Run n) s made t × IsFree made.turn) × RanPolls comp n s (record { made = made; polled = None; work = None }) t) (λ (made : Made). Makes comp (turn.Run n) s made t × IsFree made.turn) c.in-Shown.stepped before after
     (λ made h. h.0) ran
 
@@ -38,7 +38,7 @@ returns-in-Shown-clause-hosts g c =
     let n = c.args.thread in
     let before = c.args.trace.now in
     let after = c.step_run.new.trace in
-    let ran = subst (λ (r : RunStep). RunAdded (λ (q : Ran). (Makes comp (turn.Run n) s q.made t × IsFree q.made.turn) × RanPolls comp n s q t) r before after) c.in-Shown.is c.in_ok-stepped.ensures.ran in
+    let ran = subst (λ (r : RunStep). RunAdded (λ (q : Ran). (Makes comp (turn.Run n) s q.made t × IsFree q.made.turn) × RanPolls comp n s q t) r before after) c.in-Shown.is c.in-Ok.ensures.ran in
     let q : Ran = record { made = ran.0; polled = None; work = None } in
     held_run comp n s t q c.requires.order ran.1.1.0.0 ran.1.1.1 (held_by g.H.HostWork.course store) c.requires.hosts (held_by g.H.HostWork.course store) (λ i. refl)
 
@@ -48,7 +48,7 @@ put_called-requires g c =
     let t = c.step_run.new.w in
     let comp = c.args.component.now in
     let n = c.args.thread in
-    let ran = subst (λ (r : RunStep). RunAdded (λ (q : Ran). (Makes comp (turn.Run n) s q.made t × IsFree q.made.turn) × RanPolls comp n s q t) r c.args.trace.now c.step_run.new.trace) c.in-Called.is c.in_ok-stepped.ensures.ran in
+    let ran = subst (λ (r : RunStep). RunAdded (λ (q : Ran). (Makes comp (turn.Run n) s q.made t × IsFree q.made.turn) × RanPolls comp n s q t) r c.args.trace.now c.step_run.new.trace) c.in-Called.is c.in-Ok.ensures.ran in
     record { over = ran.0.0.0.over }
 
 pub returns-in_ok-call_host-in-Called-clause-makes : goal.returns-in_ok-call_host-in-Called-clause-makes
@@ -61,7 +61,7 @@ returns-in_ok-call_host-in-Called-clause-makes g c =
     let mid = c.step_run.new.trace in
     let after = c.put_called.new.trace in
     let made = c.in-Called.ran.made in
-    let ran = subst (λ (r : RunStep). RunAdded (λ (q : Ran). (Makes comp (turn.Run n) s q.made t × IsFree q.made.turn) × RanPolls comp n s q t) r before mid) c.in-Called.is c.in_ok-stepped.ensures.ran in
+    let ran = subst (λ (r : RunStep). RunAdded (λ (q : Ran). (Makes comp (turn.Run n) s q.made t × IsFree q.made.turn) × RanPolls comp n s q t) r before mid) c.in-Called.is c.in-Ok.ensures.ran in
     rw c.in_ok-call_host-in-Called.ensures.rest
     (ok_then (λ (q : Stepped). Stands q mid made after) (λ (q : Stepped). Added (λ (m : Made). Makes comp (turn.Run n) s m t × IsFree m.turn) q before after) c.put_called.result
     (λ q h. (made, (subst (λ l. Stands q l made after) ran.1 h, ran.0.0))) c.put_called.ensures.stands)
@@ -73,6 +73,6 @@ returns-in_ok-call_host-in-Called-clause-hosts g c =
     let t = c.step_run.new.w in
     let comp = c.args.component.now in
     let n = c.args.thread in
-    let ran = subst (λ (r : RunStep). RunAdded (λ (q : Ran). (Makes comp (turn.Run n) s q.made t × IsFree q.made.turn) × RanPolls comp n s q t) r c.args.trace.now c.step_run.new.trace) c.in-Called.is c.in_ok-stepped.ensures.ran in
+    let ran = subst (λ (r : RunStep). RunAdded (λ (q : Ran). (Makes comp (turn.Run n) s q.made t × IsFree q.made.turn) × RanPolls comp n s q t) r c.args.trace.now c.step_run.new.trace) c.in-Called.is c.in-Ok.ensures.ran in
     rw c.in_ok-call_host-in-Called.ensures.rest
     (on_ok c.put_called.result _ (held_run comp n s t c.in-Called.ran c.requires.order ran.0.0.0 ran.0.1 (held_by g.H.HostWork.course store) c.requires.hosts (held g.H.HostWork.course c.call_host.new.self.works) c.in_ok-call_host-in-Called.ensures.held))

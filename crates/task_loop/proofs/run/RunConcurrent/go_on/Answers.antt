@@ -61,7 +61,7 @@ returns-in-None-clause-ok g c =
     let after = c.turn.new.trace in
     let turned = none_as (λ (made : Option Made). Turned (setting_of c.args.component.now (script c.turns.main) c.turns.self.trap_on_idle) c.turns.self.turn m u made m' t) (λ (made : Option Made). Turned x c.turns.self.turn m u made m' t) None mid after
     (λ made. turned_same c.args.component.now (script c.turns.main) (script c.args.main.now) c.turns.self.trap_on_idle c.args.self.now.trap_on_idle c.turns.self.turn m u made m' t c.turns.invariant.script c.turns.invariant.idle)
-    (rw c.in-None.is at c.in_ok-turn.ensures.turned) in
+    (rw c.in-None.is at c.in-Ok.ensures.turned) in
     added_none x (state_at s.core (part c.args.main.now) c.args.self.now.turn) c.args.trace.now (given s.core) c.turns.self.turn m u mid c.turns.added c.turns.invariant.on m' t after c.args.steps (omega arith) turned
 
 pub returns-in-Some-Over-clause-ok : goal.returns-in-Some-Over-clause-ok
@@ -78,7 +78,7 @@ returns-in-Some-Over-clause-ok g c =
     let after = c.turn.new.trace in
     let turned = none_as (λ (made : Option Made). Turned (setting_of c.args.component.now (script c.turns.main) c.turns.self.trap_on_idle) c.turns.self.turn m u made m' t) (λ (made : Option Made). Turned x c.turns.self.turn m u made m' t) (Some (stepped.Over c.in-Some-Over.outcome)) mid after
     (λ made. turned_same c.args.component.now (script c.turns.main) (script c.args.main.now) c.turns.self.trap_on_idle c.args.self.now.trap_on_idle c.turns.self.turn m u made m' t c.turns.invariant.script c.turns.invariant.idle)
-    (subst (λ (o : Option Stepped). AddedOrNone (λ (made : Option Made). Turned (setting_of c.args.component.now (script c.turns.main) c.turns.self.trap_on_idle) c.turns.self.turn m u made m' t) o mid after) (c.in-Some-Over.is ∙ ap (λ (q : Stepped). Some q) c.in-Some-Over.field-0-is) c.in_ok-turn.ensures.turned) in
+    (subst (λ (o : Option Stepped). AddedOrNone (λ (made : Option Made). Turned (setting_of c.args.component.now (script c.turns.main) c.turns.self.trap_on_idle) c.turns.self.turn m u made m' t) o mid after) (c.in-Some-Over.is ∙ ap (λ (q : Stepped). Some q) c.in-Some-Over.field-0-is) c.in-Ok.ensures.turned) in
     added_ends x (state_at s.core (part c.args.main.now) c.args.self.now.turn) c.args.trace.now (given s.core) c.turns.self.turn m u mid c.turns.added c.turns.invariant.on m' t after c.in-Some-Over.outcome c.args.steps (omega arith) turned
 
 pub compute-requires-clause-order : goal.compute-requires-clause-order
@@ -95,7 +95,7 @@ compute-requires-clause-order g c =
     let after = c.turn.new.trace in
     let turned = none_as (λ (made : Option Made). Turned (setting_of c.args.component.now (script c.turns.main) c.turns.self.trap_on_idle) c.turns.self.turn m u made m' t) (λ (made : Option Made). Turned x c.turns.self.turn m u made m' t) (Some (stepped.Goes c.in-Some-Goes.turn c.in-Some-Goes.computed)) mid after
     (λ made. turned_same c.args.component.now (script c.turns.main) (script c.args.main.now) c.turns.self.trap_on_idle c.args.self.now.trap_on_idle c.turns.self.turn m u made m' t c.turns.invariant.script c.turns.invariant.idle)
-    (subst (λ (o : Option Stepped). AddedOrNone (λ (made : Option Made). Turned (setting_of c.args.component.now (script c.turns.main) c.turns.self.trap_on_idle) c.turns.self.turn m u made m' t) o mid after) (c.in-Some-Goes.is ∙ ap (λ (q : Stepped). Some q) c.in-Some-Goes.field-0-is) c.in_ok-turn.ensures.turned) in
+    (subst (λ (o : Option Stepped). AddedOrNone (λ (made : Option Made). Turned (setting_of c.args.component.now (script c.turns.main) c.turns.self.trap_on_idle) c.turns.self.turn m u made m' t) o mid after) (c.in-Some-Goes.is ∙ ap (λ (q : Stepped). Some q) c.in-Some-Goes.field-0-is) c.in-Ok.ensures.turned) in
     (added_more x (state_at s.core (part c.args.main.now) c.args.self.now.turn) c.args.trace.now (given s.core) c.turns.self.turn m u mid c.turns.added c.turns.invariant.on m' t after c.in-Some-Goes.turn c.in-Some-Goes.computed turned).at.order
 
 pub turns-preserved : goal.turns-preserved
@@ -112,7 +112,7 @@ turns-preserved g c =
     let after = c.turn.new.trace in
     let turned = none_as (λ (made : Option Made). Turned (setting_of c.args.component.now (script c.turns.main) c.turns.self.trap_on_idle) c.turns.self.turn m u made m' t) (λ (made : Option Made). Turned x c.turns.self.turn m u made m' t) (Some (stepped.Goes c.in-Some-Goes.turn c.in-Some-Goes.computed)) mid after
     (λ made. turned_same c.args.component.now (script c.turns.main) (script c.args.main.now) c.turns.self.trap_on_idle c.args.self.now.trap_on_idle c.turns.self.turn m u made m' t c.turns.invariant.script c.turns.invariant.idle)
-    (subst (λ (o : Option Stepped). AddedOrNone (λ (made : Option Made). Turned (setting_of c.args.component.now (script c.turns.main) c.turns.self.trap_on_idle) c.turns.self.turn m u made m' t) o mid after) (c.in-Some-Goes.is ∙ ap (λ (q : Stepped). Some q) c.in-Some-Goes.field-0-is) c.in_ok-turn.ensures.turned) in
+    (subst (λ (o : Option Stepped). AddedOrNone (λ (made : Option Made). Turned (setting_of c.args.component.now (script c.turns.main) c.turns.self.trap_on_idle) c.turns.self.turn m u made m' t) o mid after) (c.in-Some-Goes.is ∙ ap (λ (q : Stepped). Some q) c.in-Some-Goes.field-0-is) c.in-Ok.ensures.turned) in
     let on = added_more x (state_at s.core (part c.args.main.now) c.args.self.now.turn) c.args.trace.now (given s.core) c.turns.self.turn m u mid c.turns.added c.turns.invariant.on m' t after c.in-Some-Goes.turn c.in-Some-Goes.computed turned in
     let pace = c.args.self.now.pace in
     let b = c.turns.pace.passes in
@@ -122,26 +122,26 @@ turns-preserved g c =
     let o = state_at s.core (part c.args.main.now) c.args.self.now.turn in
     let first = c.args.store.now.groups in
     record {
-      script = c.in_ok-turn.ensures.script ∙ c.turns.invariant.script;
-      suits = c.in_ok-turn.ensures.suits;
-      knows = g.met.M.MainTask.stays c.turn.new.main t c.compute.new.w (last_by_works t c.compute.new.w c.in_ok-added-in-Some-Goes.ensures.works) c.in_ok-turn.ensures.knows;
-      hosts = holds_same t.core c.compute.new.w.core (held_by g.H.HostWork.course c.turn.new.store) c.in_ok-added-in-Some-Goes.ensures.works.works c.in_ok-turn.ensures.hosts;
+      script = c.in-Ok.ensures.script ∙ c.turns.invariant.script;
+      suits = c.in-Ok.ensures.suits;
+      knows = g.met.M.MainTask.stays c.turn.new.main t c.compute.new.w (last_by_works t c.compute.new.w c.in_ok-added-in-Some-Goes.ensures.works) c.in-Ok.ensures.knows;
+      hosts = holds_same t.core c.compute.new.w.core (held_by g.H.HostWork.course c.turn.new.store) c.in_ok-added-in-Some-Goes.ensures.works.works c.in-Ok.ensures.hosts;
       idle = c.turns.invariant.idle;
-      stands = c.in_ok-turn.ensures.stands ∙ c.turns.invariant.stands;
+      stands = c.in-Ok.ensures.stands ∙ c.turns.invariant.stands;
       on = c.in_ok-added-in-Some-Goes.ensures.on x refl (state_at s.core (part c.args.main.now) c.args.self.now.turn) c.args.trace.now (given s.core) m' on;
       does = does_computed g.M.MainTask.does c.args.main.now c.args.trace.now c.turn.new.main after c.args.component.now c.in-Some-Goes.turn t (c.turns.added + 1) c.compute.new.w c.compute.new.trace c.in_ok-added-in-Some-Goes.added
-          (does_added g.M.MainTask.does c.args.main.now c.args.trace.now c.turns.main mid (stepped.Goes c.in-Some-Goes.turn c.in-Some-Goes.computed) c.turn.new.main after c.turns.invariant.does (subst (λ (o : Option Stepped). AddedOrNone (λ (made : Option Made). DoesStep g.M.MainTask.does c.turns.main (step_of made) c.turn.new.main) o c.turns.trace c.turn.new.trace) (c.in-Some-Goes.is ∙ ap (λ (q : Stepped). Some q) c.in-Some-Goes.field-0-is) c.in_ok-turn.ensures.does))
+          (does_added g.M.MainTask.does c.args.main.now c.args.trace.now c.turns.main mid (stepped.Goes c.in-Some-Goes.turn c.in-Some-Goes.computed) c.turn.new.main after c.turns.invariant.does (subst (λ (o : Option Stepped). AddedOrNone (λ (made : Option Made). DoesStep g.M.MainTask.does c.turns.main (step_of made) c.turn.new.main) o c.turns.trace c.turn.new.trace) (c.in-Some-Goes.is ∙ ap (λ (q : Stepped). Some q) c.in-Some-Goes.field-0-is) c.in-Ok.ensures.does))
           c.in_ok-added-in-Some-Goes.ensures.computes;
       paced = driven_data pace.passes pace.since c.args.trace.now after c.past-pace.result.passes c.past-pace.result.since driven c.in_ok-added-in-Some-Goes.ensures.computes.labels c.compute.new.trace c.in_ok-added-in-Some-Goes.ensures.computes.computing c.in_ok-added-in-Some-Goes.ensures.computes.trace c.past-pace.ensures.passes;
       kept = c.turns.invariant.kept;
       few = c.in_ok-added-in-Some-Goes.ensures.few.1;
-      groups = holds_computed c.args.component.now t after (c.turns.added + 1) c.compute.new.w c.compute.new.trace c.in_ok-added-in-Some-Goes.added x refl c.in-Some-Goes.turn c.in_ok-added-in-Some-Goes.ensures.computes c.in_ok-added-in-Some-Goes.ensures.still c.turn.new.store.groups c.in_ok-turn.ensures.groups;
-      running = subst (λ (w : Option Stepped). IfSome w (λ q. c.turn.new.running ≡ group_running t.core (turn_of q))) (c.in-Some-Goes.is ∙ ap (λ (q : Stepped). Some q) c.in-Some-Goes.field-0-is) c.in_ok-turn.ensures.running
+      groups = holds_computed c.args.component.now t after (c.turns.added + 1) c.compute.new.w c.compute.new.trace c.in_ok-added-in-Some-Goes.added x refl c.in-Some-Goes.turn c.in_ok-added-in-Some-Goes.ensures.computes c.in_ok-added-in-Some-Goes.ensures.still c.turn.new.store.groups c.in-Ok.ensures.groups;
+      running = subst (λ (w : Option Stepped). IfSome w (λ q. c.turn.new.running ≡ group_running t.core (turn_of q))) (c.in-Some-Goes.is ∙ ap (λ (q : Stepped). Some q) c.in-Some-Goes.field-0-is) c.in-Ok.ensures.running
           ∙ ap (λ (o : Option ℕ). unwrap_or o 0) (sym (group_computed c.args.component.now t after (c.turns.added + 1) c.compute.new.w c.compute.new.trace c.in_ok-added-in-Some-Goes.added x refl c.in-Some-Goes.turn c.in_ok-added-in-Some-Goes.ensures.computes c.in_ok-added-in-Some-Goes.ensures.still));
       told = told_computed x o c.args.trace.now first c.in-Some-Goes.turn m' t after (c.turns.added + 1) c.compute.new.w c.compute.new.trace c.in_ok-added-in-Some-Goes.added c.turn.new.store.groups
           (told_more x o c.args.trace.now first c.turns.self.turn m u mid c.turns.store.groups m' t c.turn.new.store.groups (stepped.Goes c.in-Some-Goes.turn c.in-Some-Goes.computed) after c.turns.invariant.told
           (told_same c.args.component.now (script c.turns.main) (script c.args.main.now) c.turns.self.trap_on_idle c.args.self.now.trap_on_idle c.turns.self.turn m u c.turns.store.groups m' t c.turn.new.store.groups (Some (stepped.Goes c.in-Some-Goes.turn c.in-Some-Goes.computed)) mid after c.turns.invariant.script c.turns.invariant.idle
-          (subst (λ (w : Option Stepped). AddedOrNone (λ (made : Option Made). TurnTold (setting_of c.args.component.now (script c.turns.main) c.turns.self.trap_on_idle) c.turns.self.turn m u c.turns.store.groups made m' t c.turn.new.store.groups) w mid after) (c.in-Some-Goes.is ∙ ap (λ (q : Stepped). Some q) c.in-Some-Goes.field-0-is) c.in_ok-turn.ensures.told)))
+          (subst (λ (w : Option Stepped). AddedOrNone (λ (made : Option Made). TurnTold (setting_of c.args.component.now (script c.turns.main) c.turns.self.trap_on_idle) c.turns.self.turn m u c.turns.store.groups made m' t c.turn.new.store.groups) w mid after) (c.in-Some-Goes.is ∙ ap (λ (q : Stepped). Some q) c.in-Some-Goes.field-0-is) c.in-Ok.ensures.told)))
           c.in_ok-added-in-Some-Goes.ensures.computes c.in_ok-added-in-Some-Goes.ensures.still;
     }
 
@@ -165,14 +165,14 @@ returns-clause-ok g c =
 
 pub returns-in-None-clause-does : goal.returns-in-None-clause-does
 returns-in-None-clause-does g c =
-    does_still g.M.MainTask.does c.args.main.now c.args.trace.now c.turns.main c.turns.trace c.turn.new.main c.turn.new.trace c.turns.invariant.does (rw c.in-None.is at c.in_ok-turn.ensures.does)
+    does_still g.M.MainTask.does c.args.main.now c.args.trace.now c.turns.main c.turns.trace c.turn.new.main c.turn.new.trace c.turns.invariant.does (rw c.in-None.is at c.in-Ok.ensures.does)
 
 pub returns-in-Some-Over-clause-does : goal.returns-in-Some-Over-clause-does
 returns-in-Some-Over-clause-does g c =
-    does_added g.M.MainTask.does c.args.main.now c.args.trace.now c.turns.main c.turns.trace (stepped.Over c.in-Some-Over.outcome) c.turn.new.main c.turn.new.trace c.turns.invariant.does (subst (λ (o : Option Stepped). AddedOrNone (λ (made : Option Made). DoesStep g.M.MainTask.does c.turns.main (step_of made) c.turn.new.main) o c.turns.trace c.turn.new.trace) (c.in-Some-Over.is ∙ ap (λ (q : Stepped). Some q) c.in-Some-Over.field-0-is) c.in_ok-turn.ensures.does)
+    does_added g.M.MainTask.does c.args.main.now c.args.trace.now c.turns.main c.turns.trace (stepped.Over c.in-Some-Over.outcome) c.turn.new.main c.turn.new.trace c.turns.invariant.does (subst (λ (o : Option Stepped). AddedOrNone (λ (made : Option Made). DoesStep g.M.MainTask.does c.turns.main (step_of made) c.turn.new.main) o c.turns.trace c.turn.new.trace) (c.in-Some-Over.is ∙ ap (λ (q : Stepped). Some q) c.in-Some-Over.field-0-is) c.in-Ok.ensures.does)
 
-pub returns-in_err-turn-clause-err : goal.returns-in_err-turn-clause-err
-returns-in_err-turn-clause-err g c =
+pub returns-in_default-clause-err : goal.returns-in_default-clause-err
+returns-in_default-clause-err g c =
     let s = c.args.store.now.state in
     let part = g.M.MainTask.part in
     let script = g.M.MainTask.script in
@@ -193,7 +193,7 @@ returns-in_err-added-in-Some-Goes-clause-err g c =
     let after = c.turn.new.trace in
     let turned = none_as (λ (made : Option Made). Turned (setting_of c.args.component.now (script c.turns.main) c.turns.self.trap_on_idle) c.turns.self.turn m u made m' t) (λ (made : Option Made). Turned x c.turns.self.turn m u made m' t) (Some (stepped.Goes c.in-Some-Goes.turn c.in-Some-Goes.computed)) mid after
     (λ made. turned_same c.args.component.now (script c.turns.main) (script c.args.main.now) c.turns.self.trap_on_idle c.args.self.now.trap_on_idle c.turns.self.turn m u made m' t c.turns.invariant.script c.turns.invariant.idle)
-    (subst (λ (o : Option Stepped). AddedOrNone (λ (made : Option Made). Turned (setting_of c.args.component.now (script c.turns.main) c.turns.self.trap_on_idle) c.turns.self.turn m u made m' t) o mid after) (c.in-Some-Goes.is ∙ ap (λ (q : Stepped). Some q) c.in-Some-Goes.field-0-is) c.in_ok-turn.ensures.turned) in
+    (subst (λ (o : Option Stepped). AddedOrNone (λ (made : Option Made). Turned (setting_of c.args.component.now (script c.turns.main) c.turns.self.trap_on_idle) c.turns.self.turn m u made m' t) o mid after) (c.in-Some-Goes.is ∙ ap (λ (q : Stepped). Some q) c.in-Some-Goes.field-0-is) c.in-Ok.ensures.turned) in
     let on = added_more x (state_at s.core (part c.args.main.now) c.args.self.now.turn) c.args.trace.now (given s.core) c.turns.self.turn m u mid c.turns.added c.turns.invariant.on m' t after c.in-Some-Goes.turn c.in-Some-Goes.computed turned in
     on_err c.from_residual-in_err-added-in-Some-Goes.result _ (was_on_short x (state_at s.core (part c.args.main.now) c.args.self.now.turn) c.args.trace.now (given s.core) c.in-Some-Goes.turn m' t after c.compute.new.trace (c.turns.added + 1) c.args.steps on c.in_err-added-in-Some-Goes.ensures.err)
 
@@ -201,13 +201,13 @@ returns-in_err-added-in-Some-Goes-clause-err g c =
 
 pub returns-in-None-clause-pace : goal.returns-in-None-clause-pace
 returns-in-None-clause-pace g c =
-    let turned = rw c.in-None.is at c.in_ok-turn.ensures.does in
+    let turned = rw c.in-None.is at c.in-Ok.ensures.does in
     driven_still c.args.self.now.pace c.args.trace.now c.turns.trace c.turns.pace.passes c.turns.pace.since c.turns.invariant.paced outcome.Idle c.past-self.result c.turn.new.trace turned.1 c.past-self.ensures.since c.past-self.ensures.passes
 
 pub returns-in-Some-Over-clause-pace : goal.returns-in-Some-Over-clause-pace
 returns-in-Some-Over-clause-pace g c =
     driven_over c.args.self.now.pace c.args.trace.now c.turns.trace c.turns.pace.passes c.turns.pace.since c.turns.invariant.paced c.in-Some-Over.outcome c.new-self.result _ c.turn.new.trace
-    (subst (λ (o : Option Stepped). AddedOrNone (λ (made : Option Made). DoesStep g.M.MainTask.does c.turns.main (step_of made) c.turn.new.main) o c.turns.trace c.turn.new.trace) (c.in-Some-Over.is ∙ ap (λ (q : Stepped). Some q) c.in-Some-Over.field-0-is) c.in_ok-turn.ensures.does)
+    (subst (λ (o : Option Stepped). AddedOrNone (λ (made : Option Made). DoesStep g.M.MainTask.does c.turns.main (step_of made) c.turn.new.main) o c.turns.trace c.turn.new.trace) (c.in-Some-Over.is ∙ ap (λ (q : Stepped). Some q) c.in-Some-Over.field-0-is) c.in-Ok.ensures.does)
     c.new-self.ensures.since c.new-self.ensures.passes
 
 pub returns-then-is_idle-clause-pace : goal.returns-then-is_idle-clause-pace
@@ -218,8 +218,8 @@ pub returns-clause-pace : goal.returns-clause-pace
 returns-clause-pace g c =
     driven_to c.args.self.now.pace c.args.trace.now c.turns.trace c.turns.pace.passes c.turns.pace.since c.turns.invariant.paced outcome.OutOfSteps c.new-self-2.result c.new-self-2.ensures.since c.new-self-2.ensures.passes
 
-pub returns-in_err-turn-clause-kept : goal.returns-in_err-turn-clause-kept
-returns-in_err-turn-clause-kept g c = on_err c.from_residual.result _ c.turns.invariant.kept
+pub returns-in_default-clause-kept : goal.returns-in_default-clause-kept
+returns-in_default-clause-kept g c = on_err c.from_residual.result _ c.turns.invariant.kept
 
 pub returns-in_err-added-in-Some-Goes-clause-kept : goal.returns-in_err-added-in-Some-Goes-clause-kept
 returns-in_err-added-in-Some-Goes-clause-kept g c = on_err c.from_residual-in_err-added-in-Some-Goes.result _ c.turns.invariant.kept
@@ -240,7 +240,7 @@ returns-in-None-clause-told g c =
     let after = c.turn.new.trace in
     told_still x o c.args.trace.now c.args.store.now.groups c.turns.self.turn m u mid c.turns.store.groups m' t c.turn.new.store.groups after c.turns.invariant.told
     (told_same c.args.component.now (script c.turns.main) (script c.args.main.now) c.turns.self.trap_on_idle c.args.self.now.trap_on_idle c.turns.self.turn m u c.turns.store.groups m' t c.turn.new.store.groups None mid after c.turns.invariant.script c.turns.invariant.idle
-    (rw c.in-None.is at c.in_ok-turn.ensures.told))
+    (rw c.in-None.is at c.in-Ok.ensures.told))
 
 pub returns-in-Some-Over-clause-told : goal.returns-in-Some-Over-clause-told
 returns-in-Some-Over-clause-told g c =
@@ -257,4 +257,4 @@ returns-in-Some-Over-clause-told g c =
     let over = stepped.Over c.in-Some-Over.outcome in
     told_more x o c.args.trace.now c.args.store.now.groups c.turns.self.turn m u mid c.turns.store.groups m' t c.turn.new.store.groups over after c.turns.invariant.told
     (told_same c.args.component.now (script c.turns.main) (script c.args.main.now) c.turns.self.trap_on_idle c.args.self.now.trap_on_idle c.turns.self.turn m u c.turns.store.groups m' t c.turn.new.store.groups (Some over) mid after c.turns.invariant.script c.turns.invariant.idle
-    (subst (λ (w : Option Stepped). AddedOrNone (λ (made : Option Made). TurnTold (setting_of c.args.component.now (script c.turns.main) c.turns.self.trap_on_idle) c.turns.self.turn m u c.turns.store.groups made m' t c.turn.new.store.groups) w mid after) (c.in-Some-Over.is ∙ ap (λ (q : Stepped). Some q) c.in-Some-Over.field-0-is) c.in_ok-turn.ensures.told))
+    (subst (λ (w : Option Stepped). AddedOrNone (λ (made : Option Made). TurnTold (setting_of c.args.component.now (script c.turns.main) c.turns.self.trap_on_idle) c.turns.self.turn m u c.turns.store.groups made m' t c.turn.new.store.groups) w mid after) (c.in-Some-Over.is ∙ ap (λ (q : Stepped). Some q) c.in-Some-Over.field-0-is) c.in-Ok.ensures.told))

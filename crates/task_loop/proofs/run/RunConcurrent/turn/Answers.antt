@@ -8,8 +8,8 @@ use Rattle.group_notices.specs.Mirror.{Leads, Mirrors, told_by}
 use Rattle.group_notices.specs.Runs.{IsAsked}
 use Rattle.task_group.specs.Groups.{Groups}
 use Rattle.task_group.specs.Listeners.{Told}
-use Rattle.task_loop.proofs.ToldLemmas.{none_told, other_holds, other_told, told_turn, turns_runs}
-use Rattle.task_loop.specs.Told.{TurnTold, asked_beside, group_running, turn_of}
+use Rattle.task_loop.proofs.ToldLemmas.{current_is, none_told, other_holds, other_told, told_turn, turns_runs}
+use Rattle.task_loop.specs.Told.{TurnTold, asked_beside, current_group, group_running, turn_of}
 use Rattle.task_rules.specs.Notices.{running_group}
 use Rattle.task_store.specs.Groups.{HoldsGroups}
 use Rattle.task_loop.proofs.KnowsLemmas.{by_poll, by_run, by_take}
@@ -41,44 +41,44 @@ put-requires g c =
     let x = setting_of c.args.component.now (g.M.MainTask.script c.args.main.now) c.args.self.now.trap_on_idle in
     record { over = (c.poll_next-made.ensures.turns x (g.M.MainTask.part c.args.main.now) (rw c.in-Futures.is at c.requires.pends)).over }
 
-pub returns-in_ok-step_main-in-Main-clause-turned : goal.returns-in_ok-step_main-in-Main-clause-turned
-returns-in_ok-step_main-in-Main-clause-turned g c =
+pub returns-in-Ok-clause-turned : goal.returns-in-Ok-clause-turned
+returns-in-Ok-clause-turned g c =
     let x = λ (b : Bool). setting_of c.args.component.now (g.M.MainTask.script c.args.main.now) b in
     let m = g.M.MainTask.part c.args.main.now in
     let m' = g.M.MainTask.part c.step_main.new.main in
     let s = c.args.store.now.state in
     let t = c.step_main.new.store.state in
     rw c.in-Main.is
-    (added_as (λ (made : Made). (b : Bool) → Turns (x b) turn.Main m s made m' t) (λ (made : Made). Turns (x c.args.self.now.trap_on_idle) turn.Main m s made m' t) c.in_ok-step_main-in-Main.field-0 c.args.trace.now c.step_main.new.trace
-    (λ made h. h c.args.self.now.trap_on_idle) c.in_ok-step_main-in-Main.ensures.turns)
+    (added_as (λ (made : Made). (b : Bool) → Turns (x b) turn.Main m s made m' t) (λ (made : Made). Turns (x c.args.self.now.trap_on_idle) turn.Main m s made m' t) c.in-Ok.stepped c.args.trace.now c.step_main.new.trace
+    (λ made h. h c.args.self.now.trap_on_idle) c.in-Ok.ensures.turns)
 
-pub returns-in_ok-stepped-in-Run-clause-turned : goal.returns-in_ok-stepped-in-Run-clause-turned
-returns-in_ok-stepped-in-Run-clause-turned g c =
+pub returns-in-Ok-run_thread-clause-turned : goal.returns-in-Ok-run_thread-clause-turned
+returns-in-Ok-run_thread-clause-turned g c =
     let x = setting_of c.args.component.now (g.M.MainTask.script c.args.main.now) c.args.self.now.trap_on_idle in
     let m = g.M.MainTask.part c.args.main.now in
     let n = c.in-Run.thread in
     let s = c.args.store.now.state in
     let t = c.run_thread.new.store.state in
     rw c.in-Run.is
-    (added_as (λ (made : Made). Makes c.args.component.now (turn.Run n) s made t × IsFree made.turn) (λ (made : Made). Turns x (turn.Run n) m s made m t) c.in_ok-stepped-in-Run.stepped c.args.trace.now c.run_thread.new.trace
-    (λ made h. makes_turns x (turn.Run n) s made t h.0 m (h.1 x t.core m)) c.in_ok-stepped-in-Run.ensures.makes)
+    (added_as (λ (made : Made). Makes c.args.component.now (turn.Run n) s made t × IsFree made.turn) (λ (made : Made). Turns x (turn.Run n) m s made m t) c.in-Ok-run_thread.stepped c.args.trace.now c.run_thread.new.trace
+    (λ made h. makes_turns x (turn.Run n) s made t h.0 m (h.1 x t.core m)) c.in-Ok-run_thread.ensures.makes)
 
-pub returns-in_ok-stepped-in-Run-clause-knows : goal.returns-in_ok-stepped-in-Run-clause-knows
-returns-in_ok-stepped-in-Run-clause-knows g c =
+pub returns-in-Ok-run_thread-clause-knows : goal.returns-in-Ok-run_thread-clause-knows
+returns-in-Ok-run_thread-clause-knows g c =
     let main = c.args.main.now in
     let s = c.args.store.now.state in
     let t = c.run_thread.new.store.state in
     let x = setting_of c.args.component.now (g.M.MainTask.script main) c.args.self.now.trap_on_idle in
-    let made = c.in_ok-stepped-in-Run.ensures.makes in
-    by_run (g.M.MainTask.knows main) s t (λ last. g.met.M.MainTask.stays main s t last c.requires.knows) x (g.M.MainTask.part main) c.in-Run.thread made.0 made.1.1.0 c.in_ok-stepped-in-Run.ensures.works
+    let made = c.in-Ok-run_thread.ensures.makes in
+    by_run (g.M.MainTask.knows main) s t (λ last. g.met.M.MainTask.stays main s t last c.requires.knows) x (g.M.MainTask.part main) c.in-Run.thread made.0 made.1.1.0 c.in-Ok-run_thread.ensures.works
 
-pub returns-in_ok-stepped-in-Futures-clause-turned : goal.returns-in_ok-stepped-in-Futures-clause-turned
-returns-in_ok-stepped-in-Futures-clause-turned g c =
+pub returns-in-Ok-put-clause-turned : goal.returns-in-Ok-put-clause-turned
+returns-in-Ok-put-clause-turned g c =
     let x = setting_of c.args.component.now (g.M.MainTask.script c.args.main.now) c.args.self.now.trap_on_idle in
-    rw c.in-Futures.is (c.poll_next-made.result, (c.in_ok-stepped-in-Futures.ensures.stands, c.poll_next-made.ensures.turns x (g.M.MainTask.part c.args.main.now) (rw c.in-Futures.is at c.requires.pends)))
+    rw c.in-Futures.is (c.poll_next-made.result, (c.in-Ok-put.ensures.stands, c.poll_next-made.ensures.turns x (g.M.MainTask.part c.args.main.now) (rw c.in-Futures.is at c.requires.pends)))
 
-pub returns-in_ok-stepped-in-Futures-clause-knows : goal.returns-in_ok-stepped-in-Futures-clause-knows
-returns-in_ok-stepped-in-Futures-clause-knows g c =
+pub returns-in-Ok-put-clause-knows : goal.returns-in-Ok-put-clause-knows
+returns-in-Ok-put-clause-knows g c =
     let main = c.args.main.now in
     let part = g.M.MainTask.part main in
     let s = c.args.store.now.state in
@@ -86,43 +86,43 @@ returns-in_ok-stepped-in-Futures-clause-knows g c =
     let x = setting_of c.args.component.now (g.M.MainTask.script main) c.args.self.now.trap_on_idle in
     by_poll (g.M.MainTask.knows main) s t (λ last. g.met.M.MainTask.stays main s t last c.requires.knows) x part c.in-Futures.polled c.poll_next-made.result (c.poll_next-made.ensures.turns x part (rw c.in-Futures.is at c.requires.pends)) c.poll_next-made.ensures.works
 
-pub returns-in_ok-stepped-in-Futures-clause-does : goal.returns-in_ok-stepped-in-Futures-clause-does
-returns-in_ok-stepped-in-Futures-clause-does g c =
+pub returns-in-Ok-put-clause-does : goal.returns-in-Ok-put-clause-does
+returns-in-Ok-put-clause-does g c =
     let main = c.args.main.now in
     let part = g.M.MainTask.part main in
     let x = setting_of c.args.component.now (g.M.MainTask.script main) c.args.self.now.trap_on_idle in (
       c.poll_next-made.result,
       (
-        c.in_ok-stepped-in-Futures.ensures.stands,
+        c.in-Ok-put.ensures.stands,
         still g.M.MainTask.does main x part c.args.store.now.state c.poll_next-made.new.self.state (turn.Futures c.in-Futures.polled) refl c.poll_next-made.result
             (c.poll_next-made.ensures.turns x part (rw c.in-Futures.is at c.requires.pends)),
       ),
     )
 
-pub returns-in_ok-stepped-in-Run-clause-does : goal.returns-in_ok-stepped-in-Run-clause-does
-returns-in_ok-stepped-in-Run-clause-does g c =
+pub returns-in-Ok-run_thread-clause-does : goal.returns-in-Ok-run_thread-clause-does
+returns-in-Ok-run_thread-clause-does g c =
     let main = c.args.main.now in
     let does = g.M.MainTask.does in
     let x = setting_of c.args.component.now (g.M.MainTask.script main) c.args.self.now.trap_on_idle in
     let n = c.in-Run.thread in
     let s = c.args.store.now.state in
     let t = c.run_thread.new.store.state in
-    added_as (λ (made : Made). Makes c.args.component.now (turn.Run n) s made t × IsFree made.turn) (λ (made : Made). DoesStep does main (step_shown made.label) main) c.in_ok-stepped-in-Run.stepped c.args.trace.now c.run_thread.new.trace
-    (λ made h. still_run does main x (g.M.MainTask.part main) s t n made h.0) c.in_ok-stepped-in-Run.ensures.makes
+    added_as (λ (made : Made). Makes c.args.component.now (turn.Run n) s made t × IsFree made.turn) (λ (made : Made). DoesStep does main (step_shown made.label) main) c.in-Ok-run_thread.stepped c.args.trace.now c.run_thread.new.trace
+    (λ made h. still_run does main x (g.M.MainTask.part main) s t n made h.0) c.in-Ok-run_thread.ensures.makes
 
 -- ---- What is told
 
 pub run_thread-requires-clause-running : goal.run_thread-requires-clause-running
 run_thread-requires-clause-running g c = subst (λ (p : Turn). c.args.running.now ≡ group_running c.args.store.now.state.core p) c.in-Run.is c.requires.running
 
-pub returns-in_ok-step_main-in-Main-clause-running : goal.returns-in_ok-step_main-in-Main-clause-running
-returns-in_ok-step_main-in-Main-clause-running g c =
+pub returns-in-Ok-clause-running : goal.returns-in-Ok-clause-running
+returns-in-Ok-clause-running g c =
     let t = c.step_main.new.store.state.core in
     let none = subst (λ (p : Turn). c.args.running.now ≡ group_running c.args.store.now.state.core p) c.in-Main.is c.requires.running in
-    none ∙ sym (ap (λ (o : Option ℕ). unwrap_or o 0) c.in_ok-step_main-in-Main.ensures.idle)
+    none ∙ sym (ap (λ (o : Option ℕ). unwrap_or o 0) c.in-Ok.ensures.idle)
 
-pub returns-in_ok-step_main-in-Main-clause-told : goal.returns-in_ok-step_main-in-Main-clause-told
-returns-in_ok-step_main-in-Main-clause-told g c =
+pub returns-in-Ok-clause-told : goal.returns-in-Ok-clause-told
+returns-in-Ok-clause-told g c =
     let x = λ (b : Bool). setting_of c.args.component.now (g.M.MainTask.script c.args.main.now) b in
     let m = g.M.MainTask.part c.args.main.now in
     let n = g.M.MainTask.part c.step_main.new.main in
@@ -130,13 +130,13 @@ returns-in_ok-step_main-in-Main-clause-told g c =
     let t = c.step_main.new.store in
     rw c.in-Main.is
     (added_as (λ (made : Made). (b : Bool) → TurnTold (x b) turn.Main m s.state s.groups (Some made) n t.state t.groups) (λ (made : Made). TurnTold (x c.args.self.now.trap_on_idle) turn.Main m s.state s.groups (Some made) n t.state t.groups)
-    c.in_ok-step_main-in-Main.field-0 c.args.trace.now c.step_main.new.trace (λ made h. h c.args.self.now.trap_on_idle) c.in_ok-step_main-in-Main.ensures.told)
+    c.in-Ok.stepped c.args.trace.now c.step_main.new.trace (λ made h. h c.args.self.now.trap_on_idle) c.in-Ok.ensures.told)
 
-pub returns-in_ok-stepped-in-Run-clause-told : goal.returns-in_ok-stepped-in-Run-clause-told
-returns-in_ok-stepped-in-Run-clause-told g c =
+pub returns-in-Ok-run_thread-clause-told : goal.returns-in-Ok-run_thread-clause-told
+returns-in-Ok-run_thread-clause-told g c =
     let x = setting_of c.args.component.now (g.M.MainTask.script c.args.main.now) c.args.self.now.trap_on_idle in
     let m = g.M.MainTask.part c.args.main.now in
-    rw c.in-Run.is (told_turn x c.in-Run.thread m c.args.store.now.state c.args.store.now.groups c.run_thread.new.store.state c.run_thread.new.store.groups c.in_ok-stepped-in-Run.stepped c.args.trace.now c.run_thread.new.trace c.in_ok-stepped-in-Run.ensures.told)
+    rw c.in-Run.is (told_turn x c.in-Run.thread m c.args.store.now.state c.args.store.now.groups c.run_thread.new.store.state c.run_thread.new.store.groups c.in-Ok-run_thread.stepped c.args.trace.now c.run_thread.new.trace c.in-Ok-run_thread.ensures.told)
 
 -- ---- An entry is taken
 
@@ -151,7 +151,7 @@ returns-in-None-clause-turned g c =
     let after = c.take.new.trace in
     let pends = rw c.in-Take.is at c.requires.pends in
     let turned = none_as (λ (made : Option Made). TurnedBeside c.args.component.now c.args.self.now.trap_on_idle p s made t) (λ (made : Option Made). Turned x p m s made m t) None before after
-    (λ made k. k x refl refl m pends) (rw c.in-None.is at c.in_ok-take-in-Take.ensures.turned) in
+    (λ made k. k x refl refl m pends) (rw c.in-None.is at c.in-Ok-take.ensures.turned) in
     rw c.in-Take.is turned
 
 pub returns-in-None-clause-knows : goal.returns-in-None-clause-knows
@@ -165,7 +165,7 @@ returns-in-None-clause-knows g c =
     let after = c.take.new.trace in
     let pends = rw c.in-Take.is at c.requires.pends in
     let main = c.args.main.now in
-    subst (λ r. OnOk r (g.M.MainTask.knows main t)) c.in_ok-take-in-Take.was
+    subst (λ r. OnOk r (g.M.MainTask.knows main t)) c.in-Ok-take.is
     (by_take (g.M.MainTask.knows main) s t (λ last. g.met.M.MainTask.stays main s t last c.requires.knows) x c.args.self.now.trap_on_idle c.in-Take.ended m c.take.result before after refl pends c.take.ensures.turned c.take.ensures.works)
 
 pub returns-in-None-clause-hosts : goal.returns-in-None-clause-hosts
@@ -179,7 +179,7 @@ returns-in-None-clause-hosts g c =
     let after = c.take.new.trace in
     let pends = rw c.in-Take.is at c.requires.pends in
     let store = c.args.store.now in
-    subst (λ r. OnOk r (HoldsWorks (held_by g.H.HostWork.course store) t.core)) c.in_ok-take-in-Take.was
+    subst (λ r. OnOk r (HoldsWorks (held_by g.H.HostWork.course store) t.core)) c.in-Ok-take.is
     (held_taken x c.args.self.now.trap_on_idle c.in-Take.ended m s t (held_by g.H.HostWork.course store) c.take.result before after
     (subst (λ (p : Turn). Sits c.args.component.now p s.core) c.in-Take.is c.requires.at.order) refl pends c.take.ensures.turned c.requires.hosts)
 
@@ -195,7 +195,7 @@ returns-in-None-clause-does g c =
     let pends = rw c.in-Take.is at c.requires.pends in
     let main = c.args.main.now in
     subst (λ (o : Option Stepped). AddedOrNone (λ (made : Option Made). DoesStep g.M.MainTask.does main (step_of made) main) o before after) c.in-None.is
-    (subst (λ r. IfOk r (λ (o : Option Stepped). AddedOrNone (λ (made : Option Made). DoesStep g.M.MainTask.does main (step_of made) main) o before after)) c.in_ok-take-in-Take.was
+    (subst (λ r. IfOk r (λ (o : Option Stepped). AddedOrNone (λ (made : Option Made). DoesStep g.M.MainTask.does main (step_of made) main) o before after)) c.in-Ok-take.is
     (still_taken g.M.MainTask.does main x m s t c.args.self.now.trap_on_idle c.in-Take.ended c.take.result before after refl pends c.take.ensures.turned))
 
 pub returns-in-Some-clause-turned : goal.returns-in-Some-clause-turned
@@ -209,7 +209,7 @@ returns-in-Some-clause-turned g c =
     let after = c.take.new.trace in
     let pends = rw c.in-Take.is at c.requires.pends in
     let turned = none_as (λ (made : Option Made). TurnedBeside c.args.component.now c.args.self.now.trap_on_idle p s made t) (λ (made : Option Made). Turned x p m s made m t) (Some c.in-Some.stepped) before after
-    (λ made k. k x refl refl m pends) (rw c.in-Some.is at c.in_ok-take-in-Take.ensures.turned) in
+    (λ made k. k x refl refl m pends) (rw c.in-Some.is at c.in-Ok-take.ensures.turned) in
     rw c.in-Take.is turned
 
 pub returns-in-Some-clause-knows : goal.returns-in-Some-clause-knows
@@ -223,7 +223,7 @@ returns-in-Some-clause-knows g c =
     let after = c.take.new.trace in
     let pends = rw c.in-Take.is at c.requires.pends in
     let main = c.args.main.now in
-    subst (λ r. OnOk r (g.M.MainTask.knows main t)) c.in_ok-take-in-Take.was
+    subst (λ r. OnOk r (g.M.MainTask.knows main t)) c.in-Ok-take.is
     (by_take (g.M.MainTask.knows main) s t (λ last. g.met.M.MainTask.stays main s t last c.requires.knows) x c.args.self.now.trap_on_idle c.in-Take.ended m c.take.result before after refl pends c.take.ensures.turned c.take.ensures.works)
 
 pub returns-in-Some-clause-hosts : goal.returns-in-Some-clause-hosts
@@ -237,7 +237,7 @@ returns-in-Some-clause-hosts g c =
     let after = c.take.new.trace in
     let pends = rw c.in-Take.is at c.requires.pends in
     let store = c.args.store.now in
-    subst (λ r. OnOk r (HoldsWorks (held_by g.H.HostWork.course store) t.core)) c.in_ok-take-in-Take.was
+    subst (λ r. OnOk r (HoldsWorks (held_by g.H.HostWork.course store) t.core)) c.in-Ok-take.is
     (held_taken x c.args.self.now.trap_on_idle c.in-Take.ended m s t (held_by g.H.HostWork.course store) c.take.result before after
     (subst (λ (p : Turn). Sits c.args.component.now p s.core) c.in-Take.is c.requires.at.order) refl pends c.take.ensures.turned c.requires.hosts)
 
@@ -253,7 +253,7 @@ returns-in-Some-clause-does g c =
     let pends = rw c.in-Take.is at c.requires.pends in
     let main = c.args.main.now in
     subst (λ (o : Option Stepped). AddedOrNone (λ (made : Option Made). DoesStep g.M.MainTask.does main (step_of made) main) o before after) c.in-Some.is
-    (subst (λ r. IfOk r (λ (o : Option Stepped). AddedOrNone (λ (made : Option Made). DoesStep g.M.MainTask.does main (step_of made) main) o before after)) c.in_ok-take-in-Take.was
+    (subst (λ r. IfOk r (λ (o : Option Stepped). AddedOrNone (λ (made : Option Made). DoesStep g.M.MainTask.does main (step_of made) main) o before after)) c.in-Ok-take.is
     (still_taken g.M.MainTask.does main x m s t c.args.self.now.trap_on_idle c.in-Take.ended c.take.result before after refl pends c.take.ensures.turned))
 
 pub returns-in-None-clause-groups : goal.returns-in-None-clause-groups
@@ -267,7 +267,7 @@ returns-in-None-clause-groups g c =
     let after = c.take.new.trace in
     let pends = rw c.in-Take.is at c.requires.pends in
     let turned = none_as (λ (made : Option Made). TurnedBeside c.args.component.now c.args.self.now.trap_on_idle p s made t) (λ (made : Option Made). Turned x p m s made m t) None before after
-    (λ made k. k x refl refl m pends) (rw c.in-None.is at c.in_ok-take-in-Take.ensures.turned) in
+    (λ made k. k x refl refl m pends) (rw c.in-None.is at c.in-Ok-take.ensures.turned) in
     subst (λ (v : StateView). HoldsGroups c.args.store.now.groups v.core) (sym turned.0.1.1) c.requires.groups
 
 pub returns-in-None-clause-told : goal.returns-in-None-clause-told
@@ -281,11 +281,11 @@ returns-in-None-clause-told g c =
     let after = c.take.new.trace in
     let pends = rw c.in-Take.is at c.requires.pends in
     let turned = none_as (λ (made : Option Made). TurnedBeside c.args.component.now c.args.self.now.trap_on_idle p s made t) (λ (made : Option Made). Turned x p m s made m t) None before after
-    (λ made k. k x refl refl m pends) (rw c.in-None.is at c.in_ok-take-in-Take.ensures.turned) in
+    (λ made k. k x refl refl m pends) (rw c.in-None.is at c.in-Ok-take.ensures.turned) in
     rw c.in-Take.is (none_told x p m s c.args.store.now.groups m t c.args.store.now.groups before after refl turned)
 
-pub tell_work-requires-in-Some-clause-runs : goal.tell_work-requires-in-Some-clause-runs
-tell_work-requires-in-Some-clause-runs g c =
+pub returns-in-Some-clause-running : goal.returns-in-Some-clause-running
+returns-in-Some-clause-running g c =
     let x = setting_of c.args.component.now (g.M.MainTask.script c.args.main.now) c.args.self.now.trap_on_idle in
     let m = g.M.MainTask.part c.args.main.now in
     let p = turn.Take c.in-Take.ended in
@@ -295,8 +295,8 @@ tell_work-requires-in-Some-clause-runs g c =
     let after = c.take.new.trace in
     let pends = rw c.in-Take.is at c.requires.pends in
     let turned = none_as (λ (made : Option Made). TurnedBeside c.args.component.now c.args.self.now.trap_on_idle p s made t) (λ (made : Option Made). Turned x p m s made m t) (Some c.in-Some.stepped) before after
-    (λ made k. k x refl refl m pends) (rw c.in-Some.is at c.in_ok-take-in-Take.ensures.turned) in
-    turns_runs x p m s m t c.in-Some.stepped before after turned
+    (λ made k. k x refl refl m pends) (rw c.in-Some.is at c.in-Ok-take.ensures.turned) in
+    c.tell_work-in-Some.ensures.running ∙ ap (λ (o : Option ℕ). unwrap_or o 0) (current_is t (turn_of c.in-Some.stepped) (turns_runs x p m s m t c.in-Some.stepped before after turned))
 
 pub returns-in-Some-clause-groups : goal.returns-in-Some-clause-groups
 returns-in-Some-clause-groups g c =
@@ -309,9 +309,9 @@ returns-in-Some-clause-groups g c =
     let after = c.take.new.trace in
     let pends = rw c.in-Take.is at c.requires.pends in
     let turned = none_as (λ (made : Option Made). TurnedBeside c.args.component.now c.args.self.now.trap_on_idle p s made t) (λ (made : Option Made). Turned x p m s made m t) (Some c.in-Some.stepped) before after
-    (λ made k. k x refl refl m pends) (rw c.in-Some.is at c.in_ok-take-in-Take.ensures.turned) in
-    let a = asked_beside c.take.new.worked c.groups-live-in-Take.result in
-    let asked : IsAsked c.args.component.now s.core p a = record { running = refl; worked = c.take.ensures.worked; staked = refl; live = c.groups-live-in-Take.ensures } in
+    (λ made k. k x refl refl m pends) (rw c.in-Some.is at c.in-Ok-take.ensures.turned) in
+    let a = asked_beside c.take.new.worked in
+    let asked : IsAsked c.args.component.now s.core p a = record { running = refl; worked = c.take.ensures.worked; staked = refl } in
     let tells = c.tell_work-in-Some.ensures in
     other_holds x p refl m s a asked c.args.store.now.groups c.requires.groups m t c.tell_work-in-Some.new.groups c.in-Some.stepped before after turned tells.mirrors tells.made tells.unhooked
 
@@ -326,16 +326,16 @@ returns-in-Some-clause-told g c =
     let after = c.take.new.trace in
     let pends = rw c.in-Take.is at c.requires.pends in
     let turned = none_as (λ (made : Option Made). TurnedBeside c.args.component.now c.args.self.now.trap_on_idle p s made t) (λ (made : Option Made). Turned x p m s made m t) (Some c.in-Some.stepped) before after
-    (λ made k. k x refl refl m pends) (rw c.in-Some.is at c.in_ok-take-in-Take.ensures.turned) in
-    let a = asked_beside c.take.new.worked c.groups-live-in-Take.result in
-    let asked : IsAsked c.args.component.now s.core p a = record { running = refl; worked = c.take.ensures.worked; staked = refl; live = c.groups-live-in-Take.ensures } in
+    (λ made k. k x refl refl m pends) (rw c.in-Some.is at c.in-Ok-take.ensures.turned) in
+    let a = asked_beside c.take.new.worked in
+    let asked : IsAsked c.args.component.now s.core p a = record { running = refl; worked = c.take.ensures.worked; staked = refl } in
     let tells = c.tell_work-in-Some.ensures in
     rw c.in-Take.is (other_told x p refl m s a asked c.args.store.now.groups c.requires.groups m t c.tell_work-in-Some.new.groups c.in-Some.stepped before after turned tells.told)
 
 -- ---- A work is polled
 
-pub tell_work-requires-clause-runs : goal.tell_work-requires-clause-runs
-tell_work-requires-clause-runs g c =
+pub returns-in-Ok-put-clause-running : goal.returns-in-Ok-put-clause-running
+returns-in-Ok-put-clause-running g c =
     let x = setting_of c.args.component.now (g.M.MainTask.script c.args.main.now) c.args.self.now.trap_on_idle in
     let m = g.M.MainTask.part c.args.main.now in
     let p = turn.Futures c.in-Futures.polled in
@@ -343,13 +343,13 @@ tell_work-requires-clause-runs g c =
     let t = c.poll_next-made.new.self.state in
     let before = c.args.trace.now in
     let after = c.put.new.trace in
-    let q = c.in_ok-stepped-in-Futures.stepped in
+    let q = c.in-Ok-put.stepped in
     let turns = c.poll_next-made.ensures.turns x m (rw c.in-Futures.is at c.requires.pends) in
-    let made : Added (λ (k : Made). Turns x p m s k m t) q before after = (c.poll_next-made.result, (c.in_ok-stepped-in-Futures.ensures.stands, turns)) in
-    turns_runs x p m s m t q before after made
+    let made : Added (λ (k : Made). Turns x p m s k m t) q before after = (c.poll_next-made.result, (c.in-Ok-put.ensures.stands, turns)) in
+    c.tell_poll.ensures.running ∙ ap (λ (o : Option ℕ). unwrap_or o 0) (current_is t (turn_of q) (turns_runs x p m s m t q before after made))
 
-pub returns-in_ok-stepped-in-Futures-clause-groups : goal.returns-in_ok-stepped-in-Futures-clause-groups
-returns-in_ok-stepped-in-Futures-clause-groups g c =
+pub returns-in-Ok-put-clause-groups : goal.returns-in-Ok-put-clause-groups
+returns-in-Ok-put-clause-groups g c =
     let x = setting_of c.args.component.now (g.M.MainTask.script c.args.main.now) c.args.self.now.trap_on_idle in
     let m = g.M.MainTask.part c.args.main.now in
     let p = turn.Futures c.in-Futures.polled in
@@ -357,19 +357,19 @@ returns-in_ok-stepped-in-Futures-clause-groups g c =
     let t = c.poll_next-made.new.self.state in
     let before = c.args.trace.now in
     let after = c.put.new.trace in
-    let q = c.in_ok-stepped-in-Futures.stepped in
+    let q = c.in-Ok-put.stepped in
     let turns = c.poll_next-made.ensures.turns x m (rw c.in-Futures.is at c.requires.pends) in
-    let made : Added (λ (k : Made). Turns x p m s k m t) q before after = (c.poll_next-made.result, (c.in_ok-stepped-in-Futures.ensures.stands, turns)) in
-    let a = asked_beside c.poll_next-made.new.worked c.groups-live.result in
-    let asked : IsAsked c.args.component.now s.core p a = record { running = refl; worked = c.poll_next-made.ensures.worked; staked = refl; live = c.groups-live.ensures } in
+    let made : Added (λ (k : Made). Turns x p m s k m t) q before after = (c.poll_next-made.result, (c.in-Ok-put.ensures.stands, turns)) in
+    let a = asked_beside c.poll_next-made.new.worked in
+    let asked : IsAsked c.args.component.now s.core p a = record { running = refl; worked = c.poll_next-made.ensures.worked; staked = refl } in
     let same : c.poll_next-made.new.self.groups ≡ c.args.store.now.groups = ap (λ k. k.groups) c.poll_next-made.ensures.rest in
-    let new = c.tell_work.new.groups in
+    let new = c.tell_poll.new.groups in
     other_holds x p refl m s a asked c.args.store.now.groups c.requires.groups m t new q before after made
-    (subst (λ (k : Groups). (gs : List ℕ) → Mirrors gs k → Leads a (length t.core.groups) gs t.core.groups → Mirrors t.core.groups new) same c.tell_work.ensures.mirrors)
-    (c.tell_work.ensures.made ∙ ap (λ (k : Groups). k.made) same) c.tell_work.ensures.unhooked
+    (subst (λ (k : Groups). (gs : List ℕ) → Mirrors gs k → Leads a (length t.core.groups) gs t.core.groups → Mirrors t.core.groups new) same c.tell_poll.ensures.mirrors)
+    (c.tell_poll.ensures.made ∙ ap (λ (k : Groups). k.made) same) c.tell_poll.ensures.unhooked
 
-pub returns-in_ok-stepped-in-Futures-clause-told : goal.returns-in_ok-stepped-in-Futures-clause-told
-returns-in_ok-stepped-in-Futures-clause-told g c =
+pub returns-in-Ok-put-clause-told : goal.returns-in-Ok-put-clause-told
+returns-in-Ok-put-clause-told g c =
     let x = setting_of c.args.component.now (g.M.MainTask.script c.args.main.now) c.args.self.now.trap_on_idle in
     let m = g.M.MainTask.part c.args.main.now in
     let p = turn.Futures c.in-Futures.polled in
@@ -377,13 +377,13 @@ returns-in_ok-stepped-in-Futures-clause-told g c =
     let t = c.poll_next-made.new.self.state in
     let before = c.args.trace.now in
     let after = c.put.new.trace in
-    let q = c.in_ok-stepped-in-Futures.stepped in
+    let q = c.in-Ok-put.stepped in
     let turns = c.poll_next-made.ensures.turns x m (rw c.in-Futures.is at c.requires.pends) in
-    let made : Added (λ (k : Made). Turns x p m s k m t) q before after = (c.poll_next-made.result, (c.in_ok-stepped-in-Futures.ensures.stands, turns)) in
-    let a = asked_beside c.poll_next-made.new.worked c.groups-live.result in
-    let asked : IsAsked c.args.component.now s.core p a = record { running = refl; worked = c.poll_next-made.ensures.worked; staked = refl; live = c.groups-live.ensures } in
+    let made : Added (λ (k : Made). Turns x p m s k m t) q before after = (c.poll_next-made.result, (c.in-Ok-put.ensures.stands, turns)) in
+    let a = asked_beside c.poll_next-made.new.worked in
+    let asked : IsAsked c.args.component.now s.core p a = record { running = refl; worked = c.poll_next-made.ensures.worked; staked = refl } in
     let same : c.poll_next-made.new.self.groups ≡ c.args.store.now.groups = ap (λ k. k.groups) c.poll_next-made.ensures.rest in
-    let new = c.tell_work.new.groups in
+    let new = c.tell_poll.new.groups in
     rw c.in-Futures.is
     (other_told x p refl m s a asked c.args.store.now.groups c.requires.groups m t new q before after made
-    (subst (λ (k : Groups). (gs : List ℕ) → Mirrors gs k → Leads a (length t.core.groups) gs t.core.groups → Told (told_by a (running_group t.core (turn_of q)) gs t.core.groups) k.listeners new.listeners) same c.tell_work.ensures.told))
+    (subst (λ (k : Groups). (gs : List ℕ) → Mirrors gs k → Leads a (length t.core.groups) gs t.core.groups → Told (told_by a (current_group t) gs t.core.groups) k.listeners new.listeners) same c.tell_poll.ensures.told))
