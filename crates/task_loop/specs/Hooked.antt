@@ -1,7 +1,7 @@
 -- What a run comes to where the hook that is told of groups answers an error.
 use Rattle.state_calls.specs.declared.error.TaskError.{TaskError}
 use Rattle.state_calls.specs.declared.error.TaskError.TheVariants as task_error
-use Rattle.std.specs.Prelude.{Err, List, Ok, Result, ◌++◌, ◌<◌, ◌≡◌, ◌≤◌, ◌⊎◌, ℕ, length}
+use Rattle.std.specs.Prelude.{Err, List, Ok, Result, ◌++◌, ◌<◌, ◌≡◌, ◌≤◌, ◌⊎◌, ℕ, is_some, length}
 use Rattle.task_group.specs.Listeners.{AnsweredErr, Listeners}
 use Rattle.task_machine.specs.Core.{Main, State}
 use Rattle.task_machine.specs.declared.label.Label.{Label}
@@ -18,7 +18,7 @@ use Rattle.task_words.specs.StateView.{StateView}
 
 -- main's op answers no other error than want of memory, and that the hook failed
 abbrev pub FailsMain : TaskError → Listeners → Listeners → Type 0
-FailsMain e old new = (e ≡ task_error.NoMemory) ⊎ ((e ≡ task_error.Trap trap.HookFailed) × AnsweredErr old new)
+FailsMain e old new = (e ≡ task_error.NoMemory) ⊎ ((e ≡ task_error.Trap trap.HookFailed) × (AnsweredErr old new × (is_some new.hook ≡ is_some old.hook)))
 
 -- unless the hook failed
 abbrev pub Unfailed : {A : Type 0} → Result A TaskError → Type 0 → Type 0
@@ -43,4 +43,5 @@ pub record WasRun (x : Setting) (s : State) (before after : List Label) (steps :
 -- The hook answered an error in this turn: nothing was added, or the label of a step, which the groups were told in part.
 pub record StopsTurn (x : Setting) (p : Turn) (m : Main) (s : StateView) (before after : List Label) (old new : Listeners) : Type 0 where
   pub answered : AnsweredErr old new
+  pub hook : is_some new.hook ≡ is_some old.hook
   pub added : (after ≡ before) ⊎ ((q : Stepped) × ((n : Main) × ((t : StateView) × Added (λ made. Turns x p m s made n t) q before after)))

@@ -1,5 +1,5 @@
 //! Polls of a run: it goes on until it yields, so that a host can do other things in between.
-ghost use Rattle.std.specs.Prelude.{[], ◌≡◌, ◌≤◌, ◌^◌, Err, false, IfOk, OnOk, true};
+ghost use Rattle.std.specs.Prelude.{[], ◌≡◌, ◌≤◌, ◌^◌, Err, false, IfOk, OnOk, true, is_some};
 ghost use Rattle.group_notices.specs.Runs.{HasTold};
 ghost use Rattle.label_laws.specs.Own.{next_mark, rests_by};
 ghost use Rattle.group_notices.specs.Mirror.{Mirrors};
@@ -102,7 +102,7 @@ impl RunConcurrent {
         ensures err { result ≡ Err TaskError.NoMemory → store.new.state.core.trapped ≡ true }
         ensures added { result ≡ Err TaskError.NoMemory → WasGoing (setting_of component.now (M.script main.old) self.old.trap_on_idle) (state_at store.old.state.core (M.part main.old) self.old.turn) trace.old trace.new steps }
         ensures failed { result ≡ Err (TaskError.Trap Trap.HookFailed) → WasRun (setting_of component.now (M.script main.old) self.old.trap_on_idle) (state_at store.old.state.core (M.part main.old) self.old.turn) trace.old trace.new steps }
-        ensures answered { result ≡ Err (TaskError.Trap Trap.HookFailed) → AnsweredErr store.old.groups.listeners store.new.groups.listeners }
+        ensures answered { result ≡ Err (TaskError.Trap Trap.HookFailed) → AnsweredErr store.old.groups.listeners store.new.groups.listeners × (is_some store.new.groups.listeners.hook ≡ is_some store.old.groups.listeners.hook) }
         ensures trapped { result ≡ Err (TaskError.Trap Trap.HookFailed) → store.new.state.core.trapped ≡ true }
         ensures finished { result ≡ Err (TaskError.Trap Trap.HookFailed) → Mirrors [] store.new.groups }
     {
@@ -148,7 +148,7 @@ impl RunConcurrent {
         ensures does { OnOk result (DoesAdded M.does main.old trace.old main.new trace.new) }
         ensures err { result ≡ Err Halt.NoMemory → WasGoing (setting_of component.now (M.script main.old) self.old.trap_on_idle) (state_at store.old.state.core (M.part main.old) self.old.turn) trace.old trace.new steps }
         ensures failed { result ≡ Err Halt.HookFailed → WasRun (setting_of component.now (M.script main.old) self.old.trap_on_idle) (state_at store.old.state.core (M.part main.old) self.old.turn) trace.old trace.new steps }
-        ensures answered { result ≡ Err Halt.HookFailed → AnsweredErr store.old.groups.listeners store.new.groups.listeners }
+        ensures answered { result ≡ Err Halt.HookFailed → AnsweredErr store.old.groups.listeners store.new.groups.listeners × (is_some store.new.groups.listeners.hook ≡ is_some store.old.groups.listeners.hook) }
         ensures wanting { IfOk result (λ r. r ≡ Err TaskError.NoMemory → ⊥) }
         ensures ok { IfOk result (λ r. Paused (setting_of component.now (M.script main.old) self.old.trap_on_idle) (state_at store.old.state.core (M.part main.old) self.old.turn) trace.old (given store.old.state.core) self.old.pace steps r self.new.turn (M.part main.new) store.new.state trace.new self.new.pace) }
     {

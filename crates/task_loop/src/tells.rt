@@ -118,7 +118,7 @@ fn poll_at_once<G: TaskGroupHook>(core: &TaskCore, groups: &mut Groups<G>, worke
     ensures unhooked { is_some groups.new.listeners.hook ≡ false }
 {
     if core.current().is_some() {
-        return tell_work(core, groups, worked);
+        return work_at_once(core, groups, worked);
     }
     let asked = Asked {
         running: None,
@@ -205,9 +205,9 @@ fn tell_hook<G: TaskGroupHook>(
     ensures hook { is_some groups.new.listeners.hook ≡ is_some groups.old.listeners.hook }
 {
     let running = group_now(core);
-    if tell_step(groups, &asked, running, core.groups()).is_err() {
+    let Ok(()) = tell_step(groups, &asked, running, core.groups()) else {
         return Err(HookError);
-    }
+    };
     Ok(running.unwrap_or(0))
 }
 
