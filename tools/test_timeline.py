@@ -3,6 +3,7 @@
 import html.parser
 import os
 import pathlib
+import re
 import shutil
 import subprocess
 import tempfile
@@ -20,6 +21,15 @@ def drawn(report, text):
     """The run of the report, and its columns."""
     run = timeline.Run(report.splitlines())
     return run, run.columns(timeline.Follower(text, run).names)
+
+
+def seen_in_browser(page, place=''):
+    """What stands on the page once its script has run."""
+    with tempfile.TemporaryDirectory() as folder:
+        file = os.path.join(folder, 'run.html')
+        pathlib.Path(file).write_text(page, encoding='utf-8')
+        return subprocess.run([BROWSER, '--headless', '--no-sandbox', '--disable-gpu', '--dump-dom', f'file://{file}{place}'],
+                              capture_output=True, text=True, timeout=120, check=True).stdout
 
 
 class Timeline(unittest.TestCase):
@@ -68,16 +78,37 @@ class Timeline(unittest.TestCase):
         self.assertLess(len(page), 3_000_000)
         if BROWSER is None:
             self.skipTest('there is no browser')
-        with tempfile.TemporaryDirectory() as folder:
-            file = os.path.join(folder, 'run.html')
-            pathlib.Path(file).write_text(page, encoding='utf-8')
-            seen = subprocess.run([BROWSER, '--headless', '--no-sandbox', '--disable-gpu', '--dump-dom', f'file://{file}'],
-                                  capture_output=True, text=True, timeout=120, check=True).stdout
+        seen = seen_in_browser(page)
         self.assertIn('>done 1<', seen)
         for _, title, _, _ in timeline.groups(self.columns)[1]:
             self.assertIn(f'rotate(-90)">{title}</text>', seen)
         self.assertIn(f'{self.run_drawn.labels[0]}</text>', seen)
         self.assertLess(seen.count('<text'), 1000)
+
+    def test_the_filter_keeps_the_labels_that_name_its_threads(self):
+        if BROWSER is None:
+            self.skipTest('there is no browser')
+        thread = self.columns[0][0]
+        seen = seen_in_browser(timeline.page(self.run_drawn, self.columns), f'#{thread}')
+        names = re.compile(rf'(?:thread|wakes) {thread}(?!\d)')
+        kept = [label for label in self.run_drawn.labels if names.search(label)]
+        self.assertIn(f'>{len(kept)} of {len(self.run_drawn.labels)} labels, 1 of {len(self.columns)} threads<', seen)
+        shown = re.findall(r'</tspan> ([^<]*)</text>', seen.split('<script>')[0])
+        self.assertTrue(shown)
+        self.assertEqual(shown, kept[:len(shown)])
+
+    def test_of_many_threads_those_that_move_in_sight_have_columns(self):
+        if BROWSER is None:
+            self.skipTest('there is no browser')
+        starts = [f'main start {number} thread {number}' for number in range(1, 501)]
+        turns = [f'take high thread {number}\nthread {number} exit' for number in range(1, 501)]
+        run = timeline.Run([*starts, *'\n'.join(turns).split('\n'), 'idle'])
+        page = timeline.page(run, run.columns({}))
+        seen = seen_in_browser(page.replace('choose();\n</script>', 'choose(); view.scrollTop = 1000 * TALL; draw();\n</script>'))
+        heads = [int(number) for number in re.findall(r'text-anchor="middle" fill="#666">(\d+)</text>', seen.split('<script>')[0])]
+        self.assertIn(260, heads)
+        self.assertNotIn(1, heads)
+        self.assertNotIn(500, heads)
 
 
 if __name__ == '__main__':

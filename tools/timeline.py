@@ -11,7 +11,8 @@ A column is grouped with those of its call and its instance. With --text, the sc
 the tool then follows each thread through its script, by the answers in the labels. Grey is an entry at a mark, blue runs, white is
 stopped (it waits, is suspended, blocked or behind another), yellow is held; an arrow goes to a thread that is made, or that is woken;
 a bar across a column's end is where its thread has ended. The page keeps labels and names in sight, and shows of many threads those
-alone that are alive in the rows in sight.
+alone that the rows in sight name or that change there, or all that are alive there. Its filter can stand in its address, as in
+run.html#1,4-7.
 """
 import argparse
 import html
@@ -79,6 +80,8 @@ class Run:
             self.make(int(made[1]), int(made[1]), 'queued', row)
         elif taken := TAKEN.match(label):
             thread, rest = int(taken[1]), taken[2]
+            if rest == ' held':
+                self.close(thread, row)
             self.turn(thread, 'held' if rest == ' held' else 'stopped' if rest == ' again' else 'runs', row)
         elif called := CALLED.match(label):
             caller, callee = int(called[1]), int(called[3])
@@ -119,7 +122,9 @@ class Run:
 
 
 def groups(columns):
-    """Neighbours of one instance, and of one call: the name of each group, its first column and how many they are."""
+    """Neighbours of one instance, and of one call: the name of each group, its first column and how many they are.
+
+    An instance whose name is too long for its columns is named with each of its calls."""
     instances, calls = [], []
     for place, (_, call, name) in enumerate(columns):
         instance, _, export = name.partition('.')
@@ -128,6 +133,12 @@ def groups(columns):
                 found[-1][3] += 1
             else:
                 found.append([key, title, place, 1])
+    for group in instances:
+        if LETTER * len(group[1]) > WIDE * group[3] - 8:
+            for call in calls:
+                if group[2] <= call[2] < group[2] + group[3]:
+                    call[1] = f'{group[1]}.{call[1]}'
+            group[1] = ''
     return instances, calls
 
 
@@ -278,6 +289,9 @@ def picture(run, columns):
     tall, wide = top + TALL * (len(run.labels) + 2), LEFT + WIDE * len(columns) + 40
     parts = [f'<svg xmlns="http://www.w3.org/2000/svg" width="{wide}" height="{tall}" font-family="monospace" font-size="11">',
              '<rect width="100%" height="100%" fill="white"/>', ARROW, *heads(columns, top)]
+    for place, (state, colour) in enumerate(COLOURS.items()):
+        parts.append(f'<rect x="{8 + 72 * place}" y="6" width="12" height="12" fill="{colour}" stroke="#9aa0aa"/>')
+        parts.append(f'<text x="{24 + 72 * place}" y="16" fill="#666">{state}</text>')
     for thread, state, since, until in run.bars:
         parts.append(f'<rect x="{at[thread] - 6}" y="{top + TALL * since}" width="12" height="{TALL * (until - since)}" '
                      f'fill="{COLOURS[state]}" stroke="#9aa0aa"/>')
@@ -305,12 +319,14 @@ header { padding: 6px 10px; border-bottom: 1px solid #ccc } svg { font: 11px mon
 .key { padding: 1px 6px; margin-left: 8px; border: 1px solid #9aa0aa }
 </style></head><body>
 <header><b id="outcome"></b> <span id="size"></span> &nbsp; threads: <input id="filter" placeholder="all, or 1 4-7">
-<label><input id="near" type="checkbox">only those alive in sight</label> KEYS</header>
+columns: <select id="near"><option value="all">all</option><option value="alive">alive in sight</option>
+<option value="moves">that move in sight</option></select> KEYS</header>
 <div id="view"><svg id="heads"></svg><div id="space" style="position:relative"><svg id="rows" style="position:absolute;left:0"></svg></div></div>
 <script>
 const run = DATA, TALL = SIZE_TALL, WIDE = SIZE_WIDE, LEFT = SIZE_LEFT, LETTER = SIZE_LETTER, colours = COLOURS_HERE;
 const view = document.getElementById('view'), rows = document.getElementById('rows'), heads = document.getElementById('heads');
 const plain = text => text.replace(/&/g, '&amp;').replace(/</g, '&lt;');
+const named = row => (run.labels[row].match(/(?:thread|wakes) \\d+/g) || []).map(word => Number(word.split(' ')[1]));
 const ends = new Map(run.ends.map(([thread, row]) => [row, thread]));
 let at = new Map(), kept = [], shown = [], top_ = 0;
 function wanted(words) {
@@ -328,10 +344,15 @@ function groups(columns, key, title) {
 }
 function names(columns) {
   const instance = column => column[2].split('.')[0], call = column => column[2].split('.')[1] || 'call ' + column[1];
-  const calls = groups(columns, column => column[1], call);
+  const instances = groups(columns, instance, instance), calls = groups(columns, column => column[1], call);
+  for (const group of instances) if (LETTER * group.title.length > WIDE * group.many - 8) {
+    for (const called of calls) if (group.place <= called.place && called.place < group.place + group.many)
+      called.title = group.title + '.' + called.title;
+    group.title = '';
+  }
   top_ = Math.round(44 + LETTER * Math.max(0, ...calls.map(group => group.title.length)));
   let drawn = '';
-  for (const group of groups(columns, instance, instance)) if (group.title) {
+  for (const group of instances) if (group.title) {
     const x = LEFT + WIDE * group.place - 10;
     drawn += `<rect x="${x}" y="4" width="${WIDE * group.many - 6}" height="15" fill="#eef1f5"/>` +
       `<text x="${Math.max(x + 3, view.scrollLeft + LEFT - 8)}" y="15" font-weight="bold">${plain(group.title)}</text>`;
@@ -351,20 +372,18 @@ function choose() {
   const keeps = wanted(document.getElementById('filter').value);
   kept = run.columns.filter(column => keeps(column[0]));
   const names_kept = new Set(kept.map(column => column[0])), all = kept.length === run.columns.length;
-  shown = run.labels.map((label, row) => row).filter(row => all || (run.labels[row].match(/(?:thread|wakes) \\d+/g) || [])
-    .some(word => names_kept.has(Number(word.split(' ')[1]))));
+  shown = run.labels.map((label, row) => row).filter(row => all || named(row).some(thread => names_kept.has(thread)));
   document.getElementById('space').style.height = TALL * (shown.length + 1) + 'px';
   document.getElementById('size').textContent =
     `${shown.length} of ${run.labels.length} labels, ${kept.length} of ${run.columns.length} threads`;
   draw();
 }
-function place_columns(first, last) {
-  let columns = kept;
-  if (document.getElementById('near').checked) {
-    const alive = new Set();
-    for (const [thread, state, since, until] of run.bars) if (since <= last && first < until) alive.add(thread);
-    columns = kept.filter(column => alive.has(column[0]));
-  }
+function place_columns(sight) {
+  const near = document.getElementById('near').value, first = sight[0], last = sight[sight.length - 1];
+  const near_ones = new Set(sight.flatMap(named));
+  for (const [thread, state, since, until] of run.bars)
+    if (since <= last && first < until && (near === 'alive' || first < since || until <= last)) near_ones.add(thread);
+  const columns = near === 'all' ? kept : kept.filter(column => near_ones.has(column[0]));
   at = new Map(columns.map((column, place) => [column[0], LEFT + WIDE * place]));
   for (const drawn of [heads, rows]) drawn.setAttribute('width', LEFT + WIDE * columns.length + 40);
   const over = names(columns), left = view.scrollLeft;
@@ -375,7 +394,7 @@ function draw() {
   const first = Math.max(0, Math.floor((view.scrollTop - top_) / TALL) - 5), many = Math.ceil(view.clientHeight / TALL) + 60;
   const part = shown.slice(first, first + many), left = view.scrollLeft, tall = part.length * TALL + 10;
   const sight = shown.slice(Math.floor(view.scrollTop / TALL), Math.ceil((view.scrollTop + view.clientHeight) / TALL));
-  if (sight.length) place_columns(sight[0], sight[sight.length - 1]);
+  if (sight.length) place_columns(sight);
   const seen = x => left + LEFT - WIDE < x && x < left + view.clientWidth + WIDE;
   rows.style.top = first * TALL + 'px'; rows.setAttribute('height', tall);
   let drawn = 'ARROW_HERE';
@@ -398,7 +417,8 @@ function draw() {
     drawn += `<text x="${left + 8}" y="${place.get(row) + 13}"><tspan fill="#999">${row + 1}</tspan> ${plain(run.labels[row])}</text>`;
   rows.innerHTML = drawn;
 }
-document.getElementById('near').checked = run.columns.length > 40;
+document.getElementById('near').value = run.columns.length > 40 ? 'moves' : 'all';
+document.getElementById('filter').value = decodeURIComponent(location.hash.slice(1));
 document.getElementById('near').addEventListener('change', draw);
 document.getElementById('outcome').textContent = run.outcome;
 document.getElementById('filter').addEventListener('input', choose);

@@ -34,6 +34,7 @@ pub fn has_interesting(parts: &CoreParts) -> bool
     0 < parts.kept.interesting
 }
 
+/// How many threads, works, sets and groups were made so far.
 #[tactic(auto, unfolding(task_records::specs::Seen::seen))]
 pub fn made(parts: &CoreParts) -> Made
     ensures { result ≡ (seen parts.now).core.made }
@@ -41,6 +42,7 @@ pub fn made(parts: &CoreParts) -> Made
     parts.made
 }
 
+/// Whether the store is trapped.
 #[tactic(auto, unfolding(task_records::specs::Seen::seen))]
 pub fn trapped(parts: &CoreParts) -> bool
     ensures { result ≡ (seen parts.now).core.trapped }
@@ -48,6 +50,7 @@ pub fn trapped(parts: &CoreParts) -> bool
     parts.trapped
 }
 
+/// The host no longer waits for the call; the count of interesting tasks falls with it.
 pub fn set_uninteresting(parts: &mut CoreParts, call: CallId)
     requires { IsSound parts.old }
     ensures sound { IsSound parts.new }
@@ -70,6 +73,7 @@ pub fn current(parts: &CoreParts) -> Option<ThreadId>
     parts.current
 }
 
+/// This thread runs, or none does.
 pub fn set_current(parts: &mut CoreParts, thread: Option<ThreadId>)
     requires { IsSound parts.old }
     ensures sound { IsSound parts.new }

@@ -10,6 +10,7 @@ use task_machine::{Course, Phase, Stage, Work};
 use task_records::CoreParts;
 use task_words::WorkId;
 
+/// Whether a work is live, so that the loop polls it.
 pub fn has_live_work(parts: &CoreParts) -> bool
     requires { IsSound parts.now }
     ensures { result ≡ has_live_work (seen parts.now).core }
@@ -73,6 +74,7 @@ pub fn set_course(parts: &mut CoreParts, work: WorkId, course: Course)
     }
 }
 
+/// The phase of the work's join handle is this one.
 pub fn set_phase(parts: &mut CoreParts, work: WorkId, phase: Phase)
     requires { IsSound parts.old }
     ensures sound { IsSound parts.new }

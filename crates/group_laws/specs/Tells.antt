@@ -79,7 +79,8 @@ DataRunsTellNothing =
 abbrev pub RunsTellOn : Type 0
 RunsTellOn =
     (x : Setting) (s : State) (ls : List Label) (m : State) (ks : List Label) (t : State) (run : Run x s ls m) (more : Run x m ks t) →
-    (both : Run x s (ls ++ ks) t) × (notices (history x s (ls ++ ks) t both) ≡ notices (history x s ls m run) ++ notices (history x m ks t more))
+    (both : Run x s (ls ++ ks) t) ×
+    (notices (history x s (ls ++ ks) t both) ≡ notices (history x s ls m run) ++ notices (history x m ks t more))
 
 -- a start by main, made or refused
 abbrev pub is_start_op : MainLabel → Bool

@@ -155,8 +155,8 @@ pub fn tell_at_once<H: TaskGroupHook>(
     if asked.worked.is_some() {
         return false;
     }
-    if left != groups.len() {
-        return false;
+    if left == groups.len() {
+        return groups.switch_at_once(name(asked.running), name(running));
     }
-    groups.switch_at_once(name(asked.running), name(running))
+    false
 }

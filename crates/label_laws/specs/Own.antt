@@ -74,7 +74,8 @@ TakesNext _ s m = ⊥
 
 -- a label of a taking stands at a turn of takings, and shows the mark of the entry that was next
 abbrev pub TakingsShowMarks : Type 0
-TakingsShowMarks = (x : Setting) (s : State) (l : Label) (t : State) → Step x s l t → (m : Mark) → mark_taken l ≡ Some m → TakesNext s.turn s.core m
+TakingsShowMarks = (x : Setting) (s : State) (l : Label) (t : State) → Step x s l t → (m : Mark) → mark_taken l ≡ Some m →
+    TakesNext s.turn s.core m
 
 -- ---- What a step shows of the entry that is next
 

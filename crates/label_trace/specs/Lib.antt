@@ -1,3 +1,4 @@
 pub mod Opened
 pub mod Labels
 pub mod Parts
+pub mod Marks

@@ -2,6 +2,7 @@
 #![tactic(auto)]
 
 mod kinds;
+mod marks;
 mod open;
 mod pack;
 mod parts;

@@ -3,7 +3,8 @@ ghost use Rattle.op_dispatch.specs.Fits.{HasInstances, call_op_fits, is_host_cal
 ghost use Rattle.op_dispatch.specs.Goes.{GoesOn, given};
 ghost use Rattle.op_dispatch.specs.Polls.{Polls};
 ghost use Rattle.op_dispatch.specs.Runner.{Runner, UnderWay, called_call, called_work, given_answer};
-ghost use Rattle.std.specs.Prelude.{◌≡◌, ◌+◌, ◌<◌, ◌≤◌, ◌^◌, IfOk, IfSome, IsSome, OnErr, OnOk, false, is_some, length, option_map, true};
+ghost use Rattle.std.specs.Prelude.{◌≡◌, ◌+◌, ◌<◌, ◌≤◌, ◌^◌, IfOk, IfSome, IsSome, None, OnErr, OnOk, false, is_some, length, option_map, true};
+ghost use Rattle.subtask_ops.specs.Refused.{mode_of};
 ghost use Rattle.task_machine.specs.Maps.{get};
 ghost use Rattle.task_machine.specs.Read.{how_far_of, instance_of, position_of, registers_of};
 ghost use Rattle.task_machine.specs.declared.op.CallOp.{CallOp};
@@ -12,7 +13,7 @@ ghost use Rattle.task_ops.specs.Came.{Meets};
 ghost use Rattle.task_ops.specs.Stays.{StaysAfter};
 ghost use Rattle.task_ops.specs.Works.{KeepsWorks, NamesWorks};
 ghost use Rattle.task_rules.specs.Calls.{call_host_row, call_row, call_sync_host_row, call_sync_row};
-ghost use Rattle.task_rules.specs.Cancels.{subtask_row};
+ghost use Rattle.task_rules.specs.Cancels.{cancel_row, subtask_row};
 ghost use Rattle.task_rules.specs.Scripts.{values_in};
 ghost use Rattle.task_words.specs.StateView.{call_of, thread_of, work_of};
 
@@ -21,7 +22,7 @@ use crate::scripts::{export_kind, host_def};
 use cancel_ops::cancels;
 use subtask_ops::{
     answer_call, begin_call, begin_call_sync, call_host, call_sync_host, drop_subtask,
-    go_on_calling, go_on_calling_host, go_on_calling_sync, operand_values,
+    go_on_calling, go_on_calling_host, go_on_calling_sync, read_operands,
 };
 use task_machine::{CallOp, Callee, Component, Goal, NoMemory, Operand};
 use task_ops::{Came, value_of};
@@ -88,10 +89,40 @@ fn call<W: Words>(
     if let Some(call) = called(w, thread) {
         return go_on_calling(w, thread, to, call);
     }
-    let words = operand_values(w, thread, params);
+    let mut words = [0; 16];
+    read_operands(w, thread, params, &mut words);
     let kind = export_kind(component, callee);
     let goal = Goal::Register { register };
     begin_call(w, thread, callee, kind, goal, &words[..params.len()])
+}
+
+// `call_sync R F X*`, as it begins. It is apart, as the words that are passed stand in memory.
+#[inline(always)]
+fn begins_sync<W: Words>(
+    component: &Component,
+    w: &mut W,
+    thread: ThreadId,
+    to: u8,
+    callee: Callee,
+    params: &[Operand],
+) -> Result<Came, NoMemory>
+    requires runner { Runner thread (W.view w.old) }
+    requires words { length params.now ≤ 16 }
+    requires there { IsSome (get (W.view w.old).core.instances callee.instance) }
+    requires few { given (W.view w.old).core < 2 ^ 61 }
+    requires unanswered { given_answer (how_far_of (thread_of (W.view w.old) thread) (W.view w.old).core) ≡ None }
+    requires uncalled { called_call (how_far_of (thread_of (W.view w.old) thread) (W.view w.old).core) ≡ None }
+    ensures meets { IfOk result (λ came. Meets (call_sync_row component.now (thread_of (W.view w.old) thread) to callee (values_in (registers_of (thread_of (W.view w.old) thread) (W.view w.old).core) params.now) (W.view w.old).core (how_far_of (thread_of (W.view w.old) thread) (W.view w.old).core)) (W.view w.old).core came (W.view w.new).core) }
+    ensures goes { IfOk result (λ came. GoesOn came (W.view w.new)) }
+    ensures stays { IfOk result (λ came. StaysAfter came (W.view w.old) (W.view w.new)) }
+    ensures works { OnOk result (KeepsWorks (W.view w.old) (W.view w.new)) }
+    ensures err { OnErr result (W.view w.new ≡ W.view w.old) }
+{
+    let _to = to;
+    let mut words = [0; 16];
+    read_operands(w, thread, params, &mut words);
+    let kind = export_kind(component, callee);
+    begin_call_sync(w, thread, callee, kind, &words[..params.len()])
 }
 
 // `call_sync R F X*`
@@ -120,9 +151,7 @@ fn call_sync<W: Words>(
     if let Some(call) = called(w, thread) {
         return Ok(go_on_calling_sync(w, thread, to, call));
     }
-    let words = operand_values(w, thread, params);
-    let kind = export_kind(component, callee);
-    begin_call_sync(w, thread, callee, kind, &words[..params.len()])
+    begins_sync(component, w, thread, to, callee, params)
 }
 
 // `call R Q H`
@@ -219,6 +248,26 @@ pub fn do_host_call<W: Words>(
     }
 }
 
+// `cancel R X`, or `cancel_sync R X` where it is sync. It is apart, as what it comes to stands in memory.
+#[inline(always)]
+fn cancel<W: Words>(
+    w: &mut W,
+    thread: ThreadId,
+    to: u8,
+    handle: u64,
+    sync: bool,
+) -> Result<Came, NoMemory>
+    requires runner { Runner thread (W.view w.old) }
+    requires position { position_of (thread_of (W.view w.old) thread) (W.view w.old).core + 1 < 2 ^ 32 }
+    ensures meets { IfOk result (λ came. Meets (cancel_row (mode_of sync) (thread_of (W.view w.old) thread) to handle (W.view w.old).core (how_far_of (thread_of (W.view w.old) thread) (W.view w.old).core)) (W.view w.old).core came (W.view w.new).core) }
+    ensures goes { IfOk result (λ came. GoesOn came (W.view w.new)) }
+    ensures stays { IfOk result (λ came. StaysAfter came (W.view w.old) (W.view w.new)) }
+    ensures works { OnOk result (KeepsWorks (W.view w.old) (W.view w.new)) }
+    ensures err { OnErr result (W.view w.new ≡ W.view w.old) }
+{
+    Ok(cancels(w, thread, to, handle, sync))
+}
+
 /// An op on subtasks that calls no host. Where memory is wanting, all is as before.
 #[inline(always)]
 pub(crate) fn do_plain_call<W: Words>(
@@ -260,11 +309,11 @@ pub(crate) fn do_plain_call<W: Words>(
         }
         CallOp::Cancel { to, subtask } => {
             let handle = value_of(w, thread, *subtask);
-            Ok(cancels(w, thread, *to, handle, false))
+            cancel(w, thread, *to, handle, false)
         }
         CallOp::CancelSync { to, subtask } => {
             let handle = value_of(w, thread, *subtask);
-            Ok(cancels(w, thread, *to, handle, true))
+            cancel(w, thread, *to, handle, true)
         }
         CallOp::Drop { subtask } => {
             let handle = value_of(w, thread, *subtask);

@@ -56,6 +56,7 @@ fn halts<W: Words>(w: &mut W, thread: ThreadId, yielding: bool, label: ThreadLab
 }
 
 // `suspend_then_resume X` and `yield_then_resume X`
+#[inline(always)]
 fn resumes<W: Words>(
     w: &mut W,
     thread: ThreadId,

@@ -10,3 +10,12 @@ pub mod TailLemmas
 pub mod AnywhereLemmas
 pub mod ReadLemmas
 pub mod BorrowLemmas
+pub mod EventLaws
+pub mod WaitLemmas
+pub mod WorkEnds
+pub mod LiveLemmas
+pub mod RestLemmas
+pub mod LineLemmas
+pub mod StepMoves
+pub mod RunMoves
+pub mod AnswerLemmas

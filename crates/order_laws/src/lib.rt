@@ -1,14 +1,30 @@
-//! Laws of what a host does between the steps of a run: to a running thread's state, and to its calls' counts of borrows.
+//! Laws of runs: what a host does between the steps, to a running thread's state and to its calls' counts of borrows, keeps
+//! order; a call or a work tells a status once, a later one is a higher one, and the end of a work is told as it was written;
+//! turns take entries in a stated order, and come to something where they take none; main's answer leaves a core in which no
+//! wake is lost. Each function here is the statement of a law, about the rules that `task_rules` defines.
 #![tactic(auto)]
 
+mod answers;
 mod borrows;
 mod calls;
 mod ends;
+mod events;
 mod pieces;
+mod rests;
+mod takes;
 mod walked;
+mod works;
 
+pub use answers::answers_lose_none;
 pub use borrows::borrows_keep_order;
 pub use calls::{calls_keep, enters_keep, prepares_keep, starts_keep};
 pub use ends::{exits_keep, returns_keep};
+pub use events::{events_are_reached, runs_tell_higher, starts_wait_unstarted, steps_tell_higher};
 pub use pieces::first_keeps;
+pub use rests::rests_lower_polls;
+pub use takes::{runs_move_entries, runs_take_in_turn, steps_move_entries};
 pub use walked::walked_in_order;
+pub use works::{
+    no_work_end_is_covered, work_ends_are_handed_as_told, work_ends_are_said,
+    work_ends_are_told_as_recorded, written_work_ends_are_new,
+};

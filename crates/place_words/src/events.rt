@@ -128,6 +128,7 @@ fn set_work_event(parts: &mut CoreParts, work: WorkId, event: Option<Status>)
     }
 }
 
+/// The status that is to be handed out of a subtask is this one, or none.
 pub fn set_event(parts: &mut CoreParts, subtask: SubtaskId, event: Option<Status>)
     requires { IsSound parts.old }
     ensures sound { IsSound parts.new }

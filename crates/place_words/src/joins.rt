@@ -129,6 +129,7 @@ fn set_work_join(parts: &mut CoreParts, work: WorkId, join: JoinId)
     }
 }
 
+/// The subtask is joined to this set, to the own set of a thread, or to none.
 pub fn set_join(parts: &mut CoreParts, subtask: SubtaskId, join: JoinId)
     requires { IsSound parts.old }
     ensures sound { IsSound parts.new }

@@ -20,12 +20,16 @@ ghost use Rattle.task_words.specs.Names.{how_far_in, place_in, why_in};
 ghost use Rattle.task_words.specs.StateView.{on_core, set_of, thread_of};
 
 use crate::moves::{put, put_counted, put_stand, put_stand_counted};
-use crate::targets::{chain_at, held_chain, named_how_far, named_place, named_why, under_chain};
+use crate::targets::{
+    chain_at, held_chain, named_how_far, named_place, named_why, under_chain, waiters_chain,
+};
+use count_words::set_number;
 use record_words::number;
 use task_machine::{Delivery, Mark, Place, Why};
 use task_records::{CoreParts, named_set};
 use task_words::{HowFarId, PlaceId, SetId, ThreadId, WhyId};
 
+/// Where the thread is, by the numbers of what that names.
 pub fn place(parts: &CoreParts, thread: ThreadId) -> Option<Place>
     requires { IsSound parts.now }
     ensures { result ≡ place_of (thread_of (seen parts.now) thread) (seen parts.now).core }
@@ -109,6 +113,36 @@ fn queue(parts: &mut CoreParts, thread: ThreadId, mark: Mark, why: WhyId)
     );
 }
 
+// The thread is held with this entry from now on.
+#[inline(always)]
+fn hold_for(parts: &mut CoreParts, thread: ThreadId, why: WhyId)
+    requires { IsSound parts.old }
+    ensures sound { IsSound parts.new }
+    ensures new { seen parts.new ≡ on_core (set_place (thread_of (seen parts.old) thread) (places.Held (why_in (seen parts.old).tags why))) (seen parts.old) }
+{
+    if let Some(found) = task_records::thread(parts, thread) {
+        let (named, beside) = named_why(parts, why);
+        let chain = held_chain(parts, found.instance);
+        put(parts, thread, Place::Held { why: named }, beside, chain);
+    }
+}
+
+// The thread waits on the set from now on.
+#[inline(never)]
+fn wait_on(parts: &mut CoreParts, thread: ThreadId, set: SetId, by_callback: bool)
+    requires { IsSound parts.old }
+    ensures sound { IsSound parts.new }
+    ensures new { seen parts.new ≡ on_core (set_place (thread_of (seen parts.old) thread) (places.Waiting (set_of (seen parts.old) set) by_callback)) (seen parts.old) }
+{
+    let number = set_number(parts, set);
+    let chain = waiters_chain(parts, set);
+    let place = Place::Waiting {
+        set: number,
+        by_callback,
+    };
+    put(parts, thread, place, set.rep(), chain);
+}
+
 /// The thread is suspended from now on.
 #[inline(always)]
 pub fn suspend(parts: &mut CoreParts, thread: ThreadId)
@@ -144,6 +178,8 @@ pub fn set_place(parts: &mut CoreParts, thread: ThreadId, place: PlaceId)
     match place {
         PlaceId::Running => run(parts, thread),
         PlaceId::Ready { mark, why } => queue(parts, thread, mark, why),
+        PlaceId::Held(why) => hold_for(parts, thread, why),
+        PlaceId::Waiting { set, by_callback } => wait_on(parts, thread, set, by_callback),
         other => put_at(parts, thread, other),
     }
 }
@@ -197,6 +233,29 @@ fn stand_unchained(
     put_stand(parts, thread, place, beside, point, awaited, None);
 }
 
+// The thread waits on the set, and is at any point of its op, from now on.
+#[inline(never)]
+fn stand_waiting(
+    parts: &mut CoreParts,
+    thread: ThreadId,
+    set: SetId,
+    by_callback: bool,
+    how_far: HowFarId,
+)
+    requires { IsSound parts.old }
+    ensures sound { IsSound parts.new }
+    ensures new { seen parts.new ≡ on_core (on_thread (thread_of (seen parts.old) thread) (to_stand (places.Waiting (set_of (seen parts.old) set) by_callback) (how_far_in (seen parts.old).tags how_far))) (seen parts.old) }
+{
+    let number = set_number(parts, set);
+    let chain = waiters_chain(parts, set);
+    let (point, awaited) = named_how_far(parts, how_far);
+    let place = Place::Waiting {
+        set: number,
+        by_callback,
+    };
+    put_stand(parts, thread, place, set.rep(), point, awaited, chain);
+}
+
 /// The thread is at this place from now on, and has come so far in its op: the two words in one look-up.
 #[inline(always)]
 pub fn stand_at(parts: &mut CoreParts, thread: ThreadId, place: PlaceId, how_far: HowFarId)
@@ -214,6 +273,9 @@ pub fn stand_at(parts: &mut CoreParts, thread: ThreadId, place: PlaceId, how_far
             stand_unchained(parts, thread, Place::Ready { mark, why }, beside, how_far);
         }
         PlaceId::Under(callee) => stand_under(parts, thread, callee, how_far),
+        PlaceId::Waiting { set, by_callback } => {
+            stand_waiting(parts, thread, set, by_callback, how_far)
+        }
         other => stand_anywhere(parts, thread, other, how_far),
     }
 }

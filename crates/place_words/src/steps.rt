@@ -17,6 +17,7 @@ use task_machine::Given;
 use task_records::CoreParts;
 use task_words::{HowFarId, ThreadId};
 
+/// The thread has come so far in its op.
 #[inline(always)]
 pub fn set_how_far(parts: &mut CoreParts, thread: ThreadId, how_far: HowFarId)
     requires { IsSound parts.old }

@@ -150,7 +150,7 @@ pub(crate) fn held_chain(parts: &CoreParts, instance: u32) -> Option<usize>
     }
 }
 
-fn waiters_chain(parts: &CoreParts, set: SetId) -> Option<usize>
+pub(crate) fn waiters_chain(parts: &CoreParts, set: SetId) -> Option<usize>
     requires { IsSound parts.now }
     ensures { place_chain (bare (parts_of parts.now)) (WaitsOn (set_of (seen parts.now) set)) ≡ result }
 {

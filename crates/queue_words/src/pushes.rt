@@ -10,6 +10,7 @@ use crate::seats::{entry_of, high_chains, host_entry_of, live_thread, live_work,
 use task_records::{CoreParts, Follower};
 use task_words::{ThreadId, WorkId};
 
+/// This thread has the entry at switch, or none has.
 pub fn set_switch(parts: &mut CoreParts, thread: Option<ThreadId>)
     requires sound { IsSound parts.old }
     requires live { IfSome thread (λ id. 0 < thread_of (seen parts.old) id) }
@@ -31,6 +32,7 @@ pub fn set_switch(parts: &mut CoreParts, thread: Option<ThreadId>)
     }
 }
 
+/// The thread's entry is put at the end of high.
 #[inline(always)]
 pub fn push_high(parts: &mut CoreParts, thread: ThreadId)
     requires sound { IsSound parts.old }
@@ -67,6 +69,7 @@ pub fn push_high_first(parts: &mut CoreParts, thread: ThreadId)
     parts.shelves.push_front(shelf, queued.shelf, queued);
 }
 
+/// The thread's entry is put at the end of low.
 #[inline(always)]
 pub fn push_low(parts: &mut CoreParts, thread: ThreadId)
     requires sound { IsSound parts.old }

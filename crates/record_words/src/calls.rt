@@ -9,7 +9,8 @@ ghost use Rattle.task_rules.specs.Takes.{starting_is_published};
 ghost use Rattle.task_words.specs.StateView.{call_of, on_core, thread_of};
 
 use task_machine::{CallEnd, Callee, ExportKind, Goal, OwnEvent};
-use task_records::{CoreParts, task_of};
+use task_records::CoreParts;
+use task_wait::GuestTaskKey;
 use task_words::{CallId, ThreadId};
 
 /// The number of a call; 0 where the id names none.
@@ -23,6 +24,7 @@ pub fn call_number(parts: &CoreParts, call: CallId) -> u64
     }
 }
 
+/// The export that the call is of.
 pub fn callee(parts: &CoreParts, call: CallId) -> Callee
     requires { IsSound parts.now }
     ensures { result ≡ callee_of (call_of (seen parts.now) call) (seen parts.now).core }
@@ -36,6 +38,7 @@ pub fn callee(parts: &CoreParts, call: CallId) -> Callee
     }
 }
 
+/// The kind of the call's export.
 pub fn kind(parts: &CoreParts, call: CallId) -> ExportKind
     requires { IsSound parts.now }
     ensures { result ≡ kind_of (call_of (seen parts.now) call) (seen parts.now).core }
@@ -46,6 +49,7 @@ pub fn kind(parts: &CoreParts, call: CallId) -> ExportKind
     }
 }
 
+/// Where the call's result goes.
 pub fn goal(parts: &CoreParts, call: CallId) -> Goal
     requires { IsSound parts.now }
     ensures { result ≡ goal_of (call_of (seen parts.now) call) (seen parts.now).core }
@@ -56,6 +60,7 @@ pub fn goal(parts: &CoreParts, call: CallId) -> Goal
     }
 }
 
+/// How the call has ended, if it has.
 pub fn end_of(parts: &CoreParts, call: CallId) -> Option<CallEnd>
     requires { IsSound parts.now }
     ensures { result ≡ end_of (call_of (seen parts.now) call) (seen parts.now).core }
@@ -66,6 +71,7 @@ pub fn end_of(parts: &CoreParts, call: CallId) -> Option<CallEnd>
     }
 }
 
+/// Whether the call's start has run.
 pub fn was_started(parts: &CoreParts, call: CallId) -> bool
     requires { IsSound parts.now }
     ensures { result ≡ was_started (call_of (seen parts.now) call) (seen parts.now).core }
@@ -76,6 +82,7 @@ pub fn was_started(parts: &CoreParts, call: CallId) -> bool
     }
 }
 
+/// Whether the caller was told that the call is Starting.
 pub fn starting_is_published(parts: &CoreParts, call: CallId) -> bool
     requires { IsSound parts.now }
     ensures { result ≡ starting_is_published (call_of (seen parts.now) call) (seen parts.now).core }
@@ -86,6 +93,7 @@ pub fn starting_is_published(parts: &CoreParts, call: CallId) -> bool
     }
 }
 
+/// The task's own event, if one is there.
 pub fn own_event(parts: &CoreParts, call: CallId) -> Option<OwnEvent>
     requires { IsSound parts.now }
     ensures { result ≡ own_event_of (call_of (seen parts.now) call) (seen parts.now).core }
@@ -96,6 +104,7 @@ pub fn own_event(parts: &CoreParts, call: CallId) -> Option<OwnEvent>
     }
 }
 
+/// Whether a cancel request has come to the task.
 pub fn cancel_was_delivered(parts: &CoreParts, call: CallId) -> bool
     requires { IsSound parts.now }
     ensures { result ≡ cancel_was_delivered (call_of (seen parts.now) call) (seen parts.now).core }
@@ -147,9 +156,16 @@ pub fn thread_group(parts: &CoreParts, thread: ThreadId) -> u64
     requires { IsSound parts.now }
     ensures { result ≡ thread_group (thread_of (seen parts.now) thread) (seen parts.now).core }
 {
-    call_group(parts, task_of(parts, thread))
+    match task_records::thread(parts, thread) {
+        Some(entry) => match parts.calls.item_at::<GuestTaskKey>(entry.task) {
+            Some(item) => item.call.group,
+            None => 0,
+        },
+        None => 0,
+    }
 }
 
+/// The call's start has run.
 pub fn set_started(parts: &mut CoreParts, call: CallId)
     requires { IsSound parts.old }
     ensures sound { IsSound parts.new }
@@ -160,6 +176,7 @@ pub fn set_started(parts: &mut CoreParts, call: CallId)
     }
 }
 
+/// The caller was told that the call is Starting.
 pub fn set_starting_published(parts: &mut CoreParts, call: CallId)
     requires { IsSound parts.old }
     ensures sound { IsSound parts.new }
@@ -170,6 +187,7 @@ pub fn set_starting_published(parts: &mut CoreParts, call: CallId)
     }
 }
 
+/// The call has ended so.
 pub fn set_end(parts: &mut CoreParts, call: CallId, end_of_call: CallEnd)
     requires { IsSound parts.old }
     ensures sound { IsSound parts.new }
@@ -180,6 +198,7 @@ pub fn set_end(parts: &mut CoreParts, call: CallId, end_of_call: CallEnd)
     }
 }
 
+/// The task's own event is this one, or none.
 pub fn set_own_event(parts: &mut CoreParts, call: CallId, event: Option<OwnEvent>)
     requires { IsSound parts.old }
     ensures sound { IsSound parts.new }
@@ -190,6 +209,7 @@ pub fn set_own_event(parts: &mut CoreParts, call: CallId, event: Option<OwnEvent
     }
 }
 
+/// A cancel request has come to the task.
 pub fn set_cancel_delivered(parts: &mut CoreParts, call: CallId)
     requires { IsSound parts.old }
     ensures sound { IsSound parts.new }
@@ -200,6 +220,7 @@ pub fn set_cancel_delivered(parts: &mut CoreParts, call: CallId)
     }
 }
 
+/// The call's first thread has ended.
 pub fn set_exited(parts: &mut CoreParts, call: CallId)
     requires { IsSound parts.old }
     ensures sound { IsSound parts.new }
@@ -210,6 +231,7 @@ pub fn set_exited(parts: &mut CoreParts, call: CallId)
     }
 }
 
+/// The result of a `call_sync` that its caller is to take, or none.
 pub fn set_result(parts: &mut CoreParts, call: CallId, value: Option<u64>)
     requires { IsSound parts.old }
     ensures sound { IsSound parts.new }

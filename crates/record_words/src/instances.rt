@@ -15,6 +15,7 @@ pub fn has_instance(parts: &CoreParts, instance: u32) -> bool
     task_records::instance(parts, instance).is_some()
 }
 
+/// The instance's count of backpressure, 0 to 65535; 0 where there is no such instance.
 pub fn backpressure(parts: &CoreParts, instance: u32) -> u16
     ensures { result ≡ backpressure_of instance (seen parts.now).core }
 {
@@ -24,6 +25,7 @@ pub fn backpressure(parts: &CoreParts, instance: u32) -> u16
     }
 }
 
+/// Whether the instance keeps entries out (`do_not_enter`); not where there is no such instance.
 pub fn may_not_enter(parts: &CoreParts, instance: u32) -> bool
     ensures { result ≡ may_not_enter instance (seen parts.now).core }
 {
@@ -33,6 +35,7 @@ pub fn may_not_enter(parts: &CoreParts, instance: u32) -> bool
     }
 }
 
+/// Whether a thread of the instance may not stop (`do_not_suspend`); not where there is no such instance.
 pub fn may_not_suspend(parts: &CoreParts, instance: u32) -> bool
     ensures { result ≡ may_not_suspend instance (seen parts.now).core }
 {
@@ -42,6 +45,7 @@ pub fn may_not_suspend(parts: &CoreParts, instance: u32) -> bool
     }
 }
 
+/// One of the instance's words, 0 to 15; 0 where there is none.
 pub fn word(parts: &CoreParts, instance: u32, word: u8) -> u64
     ensures { result ≡ word_of instance word (seen parts.now).core }
 {
@@ -51,6 +55,7 @@ pub fn word(parts: &CoreParts, instance: u32, word: u8) -> u64
     }
 }
 
+/// The instance's count of backpressure is this one.
 pub fn set_backpressure(parts: &mut CoreParts, instance: u32, count: u16)
     requires { IsSound parts.old }
     ensures sound { IsSound parts.new }
@@ -62,6 +67,7 @@ pub fn set_backpressure(parts: &mut CoreParts, instance: u32, count: u16)
     }
 }
 
+/// The instance keeps entries out from now on, or no longer.
 pub fn set_do_not_enter(parts: &mut CoreParts, instance: u32, flag: bool)
     requires { IsSound parts.old }
     ensures sound { IsSound parts.new }
@@ -73,6 +79,7 @@ pub fn set_do_not_enter(parts: &mut CoreParts, instance: u32, flag: bool)
     }
 }
 
+/// No thread of the instance may stop from now on, or may again.
 pub fn set_do_not_suspend(parts: &mut CoreParts, instance: u32, flag: bool)
     requires { IsSound parts.old }
     ensures sound { IsSound parts.new }
@@ -84,6 +91,7 @@ pub fn set_do_not_suspend(parts: &mut CoreParts, instance: u32, flag: bool)
     }
 }
 
+/// One of the instance's words, 0 to 15, is written.
 pub fn set_word(parts: &mut CoreParts, instance: u32, word: u8, value: u64)
     requires { IsSound parts.old }
     ensures sound { IsSound parts.new }

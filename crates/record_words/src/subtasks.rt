@@ -9,6 +9,7 @@ use task_machine::{Stage, Status};
 use task_records::CoreParts;
 use task_words::{CallId, SubtaskId, WorkId};
 
+/// The status of a subtask that was not handed out yet, if there is one.
 pub fn event(parts: &CoreParts, subtask: SubtaskId) -> Option<Status>
     requires { IsSound parts.now }
     ensures { result ≡ event_of (subtask_in (seen parts.now).tags subtask) (seen parts.now).core }
@@ -25,6 +26,7 @@ pub fn event(parts: &CoreParts, subtask: SubtaskId) -> Option<Status>
     }
 }
 
+/// The handle that names the subtask, if it has one.
 pub fn subtask_handle(parts: &CoreParts, subtask: SubtaskId) -> Option<u32>
     requires { IsSound parts.now }
     ensures { result ≡ subtask_handle (subtask_in (seen parts.now).tags subtask) (seen parts.now).core }
@@ -41,6 +43,7 @@ pub fn subtask_handle(parts: &CoreParts, subtask: SubtaskId) -> Option<u32>
     }
 }
 
+/// Whether the call or the work has ended.
 pub fn has_ended(parts: &CoreParts, subtask: SubtaskId) -> bool
     requires { IsSound parts.now }
     ensures { result ≡ subtask_ended (subtask_in (seen parts.now).tags subtask) (seen parts.now).core }
@@ -77,6 +80,7 @@ fn set_work_handle(parts: &mut CoreParts, work: WorkId, handle: Option<u32>)
     }
 }
 
+/// The handle that names the subtask is this one, or none.
 pub fn set_subtask_handle(parts: &mut CoreParts, subtask: SubtaskId, handle: Option<u32>)
     requires { IsSound parts.old }
     ensures sound { IsSound parts.new }

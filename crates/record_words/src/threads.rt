@@ -22,6 +22,7 @@ pub fn number(parts: &CoreParts, thread: ThreadId) -> u64
     }
 }
 
+/// The instance of the thread's call.
 pub fn instance_of(parts: &CoreParts, thread: ThreadId) -> u32
     requires { IsSound parts.now }
     ensures { result ≡ instance_of (thread_of (seen parts.now) thread) (seen parts.now).core }
@@ -32,6 +33,7 @@ pub fn instance_of(parts: &CoreParts, thread: ThreadId) -> u32
     }
 }
 
+/// One of the thread's registers, 0 to 15.
 pub fn register(parts: &CoreParts, thread: ThreadId, register: u8) -> u64
     requires { IsSound parts.now }
     ensures { result ≡ register_of (thread_of (seen parts.now) thread) register (seen parts.now).core }
@@ -54,6 +56,7 @@ pub fn registers(parts: &CoreParts, thread: ThreadId) -> [u64; 16]
     }
 }
 
+/// The place in its script at which the thread is, from 0; the script's length at its end.
 pub fn position(parts: &CoreParts, thread: ThreadId) -> u32
     requires { IsSound parts.now }
     ensures { result ≡ position_of (thread_of (seen parts.now) thread) (seen parts.now).core }
@@ -82,6 +85,7 @@ pub fn at(parts: &CoreParts, thread: ThreadId) -> ThreadAt
     }
 }
 
+/// Whether the thread isn't the first one of its call.
 pub fn is_explicit(parts: &CoreParts, thread: ThreadId) -> bool
     requires { IsSound parts.now }
     ensures { result ≡ is_explicit (thread_of (seen parts.now) thread) (seen parts.now).core }
@@ -92,6 +96,7 @@ pub fn is_explicit(parts: &CoreParts, thread: ThreadId) -> bool
     }
 }
 
+/// The thread's handle in its instance, if it has one.
 pub fn thread_handle(parts: &CoreParts, thread: ThreadId) -> Option<u32>
     requires { IsSound parts.now }
     ensures { result ≡ thread_handle_of (thread_of (seen parts.now) thread) (seen parts.now).core }
@@ -102,6 +107,7 @@ pub fn thread_handle(parts: &CoreParts, thread: ThreadId) -> Option<u32>
     }
 }
 
+/// The thread's instance's flag `do_not_suspend` as it was before the thread's start, if that was saved.
 pub fn saved_own(parts: &CoreParts, thread: ThreadId) -> Option<bool>
     requires { IsSound parts.now }
     ensures { result ≡ saved_own_of (thread_of (seen parts.now) thread) (seen parts.now).core }
@@ -112,6 +118,7 @@ pub fn saved_own(parts: &CoreParts, thread: ThreadId) -> Option<bool>
     }
 }
 
+/// The callee's flag `do_not_suspend` as it was before the thread's call, if that was saved.
 pub fn saved_callee(parts: &CoreParts, thread: ThreadId) -> Option<bool>
     requires { IsSound parts.now }
     ensures { result ≡ saved_callee_of (thread_of (seen parts.now) thread) (seen parts.now).core }
@@ -122,6 +129,7 @@ pub fn saved_callee(parts: &CoreParts, thread: ThreadId) -> Option<bool>
     }
 }
 
+/// One of the thread's registers, 0 to 15, is written.
 pub fn set_register(parts: &mut CoreParts, thread: ThreadId, register: u8, value: u64)
     requires { IsSound parts.old }
     ensures sound { IsSound parts.new }
@@ -132,6 +140,7 @@ pub fn set_register(parts: &mut CoreParts, thread: ThreadId, register: u8, value
     }
 }
 
+/// The flag of the thread's own instance is kept, or no longer.
 pub fn set_saved_own(parts: &mut CoreParts, thread: ThreadId, flag: Option<bool>)
     requires { IsSound parts.old }
     ensures sound { IsSound parts.new }
@@ -142,6 +151,7 @@ pub fn set_saved_own(parts: &mut CoreParts, thread: ThreadId, flag: Option<bool>
     }
 }
 
+/// The flag of the callee's instance is kept, or no longer.
 pub fn set_saved_callee(parts: &mut CoreParts, thread: ThreadId, flag: Option<bool>)
     requires { IsSound parts.old }
     ensures sound { IsSound parts.new }

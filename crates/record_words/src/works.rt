@@ -20,6 +20,7 @@ pub fn work_number(parts: &CoreParts, work: WorkId) -> u64
     }
 }
 
+/// How the work goes on, with the polls that are left and its end, or how it has ended.
 pub fn course(parts: &CoreParts, work: WorkId) -> Course
     requires { IsSound parts.now }
     ensures { result ≡ course_of (work_of (seen parts.now) work) (seen parts.now).core }
@@ -30,6 +31,7 @@ pub fn course(parts: &CoreParts, work: WorkId) -> Course
     }
 }
 
+/// The phase of the work's join handle.
 pub fn phase(parts: &CoreParts, work: WorkId) -> Phase
     requires { IsSound parts.now }
     ensures { result ≡ phase_of (work_of (seen parts.now) work) (seen parts.now).core }
@@ -51,6 +53,7 @@ pub fn work_group(parts: &CoreParts, work: WorkId) -> Option<u64>
     }
 }
 
+/// Whether the work was cancelled by its caller.
 pub fn was_cancelled(parts: &CoreParts, work: WorkId) -> bool
     requires { IsSound parts.now }
     ensures { result ≡ was_cancelled (work_of (seen parts.now) work) (seen parts.now).core }
@@ -61,6 +64,7 @@ pub fn was_cancelled(parts: &CoreParts, work: WorkId) -> bool
     }
 }
 
+/// The work was cancelled by its caller.
 pub fn set_cancelled(parts: &mut CoreParts, work: WorkId)
     requires { IsSound parts.old }
     ensures sound { IsSound parts.new }

@@ -1,5 +1,5 @@
 -- A suspended thread is gone, as the word takes it away.
-use Rattle.task_records.proofs.Core.{[], ap, ap₂, AreHandlesNamed, arith, bare, bare_call, bare_thread, Bool, Call, call_key, call_number, callers_chain, callers_in, callers_of, callers_row, cases_eq, chained, cond, Core, core_of, deleted, deletion, deletion_refused, Each, EachEntry, Entry, entry_of, eq-eqb, Err, false, filings_at, follower, FreeNode, get, get-change_same, get-remove, GuestTaskKey, High, inl, inr, is_entry_of, is_free, is_made, IsApart, IsBehindNobody, IsCallKept, IsLinks, IsSome, IsSound, IsTable, IsWhole, item_at, item_of, keeps_set, KeepsBut, kinds, List, list_any, list_of, loose_call, loose_thread, lost_thread, Low, map, mapped, mapped-deleted, mapped-with_entry, ne_eqb, None, Ok, on_item, on_thread, one_if, Option, option_map, OwnsHandle, Parts, parts_of, passing, Place, place_at, place_filing, place_of, Placed, Records, records, refl, remove, remove-change_same, remove_thread, Renames, ResourceTableError, Result, Row, row, same_map, same_Some, seen, set_number, set_place, slice_get, Some, SoundTable, Spot, subst, switch_entries, sym, Table, table_use, TableId, Tag, Thread, thread_entry, thread_key, thread_of, ThreadKey, threads_of, times, true, UnderOf, uninterested, Unmade, values, with_entry, work_number, ℕ, ◌+◌, ◌-◌, ◌<◌, ◌==◌, ◌||◌, ◌∙◌, ◌∷◌, ◌≡◌, ◌≤◌}
+use Rattle.task_records.proofs.Core.{[], ap, ap₂, AreHandlesNamed, arith, bare, bare_call, bare_thread, Bool, Call, call_key, call_number, callers_chain, callers_in, callers_of, callers_row, cases_eq, chained, cond, Core, core_of, deleted, deletion, deletion_refused, Each, EachEntry, Entry, entry_of, eq-eqb, Err, false, filings_at, follower, FreeNode, get, get-change_same, get-remove, GuestTaskKey, High, inl, inr, is_entry_of, is_free, is_made, IsApart, IsBehindNobody, IsCallKept, IsLinks, IsSome, IsSound, IsTable, IsWhole, item_at, item_of, keeps_set, KeepsBut, kinds, List, list_any, list_of, loose_call, loose_thread, lost_thread, Low, map, mapped, mapped-deleted, mapped-with_entry, ne_eqb, None, Ok, on_item, on_thread, one_if, Option, option_map, OwnsHandle, Parts, parts_of, passing, Place, place_at, place_filing, place_of, Placed, Records, records, refl, remove, remove-change_same, remove_thread, Renames, ResourceTableError, Result, Row, row, same_map, same_Some, seen, set_number, set_place, slice_get, Some, SoundTable, Spot, subst, switch_entries, sym, Table, table_use, TableId, Tag, Thread, thread_entry, thread_key, thread_of, ThreadKey, threads_of, times, true, UnderOf, uninterested, Unmade, values, with_entry, work_number, ℕ, ◌+◌, ◌-◌, ◌⊎◌, ◌<◌, ◌==◌, ◌||◌, ◌∙◌, ◌∷◌, ◌≡◌, ◌≤◌}
 use Rattle.task_records.specs.declared.{calls.GuestTask.GuestTask, parts.CoreParts.CoreParts, parts.Kept.Kept, single.Single.Single, threads.Follower.Follower, threads.GuestThread.GuestThread, threads.Queued.Queued}
 use Rattle.task_rules.specs.Places.{entries}
 use Rattle.place_words.proofs.FiledLemmas.{kept_under}
@@ -117,7 +117,7 @@ module _ (a : CoreParts) (sound : IsSound a) (id : TableId ThreadKey) (g : Guest
   bare_stands : (q : Placed (Single GuestThread)) × ((place_at bared.threads id.rep ≡ Some q) × ((q.serial ≡ id.serial) × (q.entry ≡ entry_of (bare_thread g))))
   bare_stands = item_stands number machine bared.threads a.made.threads threads_sound id.rep id.serial (bare_thread g) bare_is
 
-  module _ (apart : IsApart (thread_of (seen a) id) (seen a).core) (rests : place_of (thread_of (seen a) id) (seen a).core ≡ Some Place.Suspended) where
+  module _ (apart : IsApart (thread_of (seen a) id) (seen a).core) (rests : (place_of (thread_of (seen a) id) (seen a).core ≡ Some Place.Suspended) ⊎ (place_of (thread_of (seen a) id) (seen a).core ≡ Some Place.Running)) where
     named : g.number ≡ thread_of (seen a) id
     named = thread_named a id g is
 
@@ -140,11 +140,14 @@ module _ (a : CoreParts) (sound : IsSound a) (id : TableId ThreadKey) (g : Guest
     unfolding seen
     not_switch f at = unlike (g.number == f.number) (sym (ap (λ o. switch_entries g.number (option_map (λ (x : Follower). x.number) o)) at) ∙ (ap (λ n. switch_entries n (seen a).core.queues.switch) named ∙ apart.switch))
 
-    suspended : g.thread.place ≡ Place.Suspended
-    suspended = same_Some g.thread.place Place.Suspended (ap (option_map (λ (t : Thread). t.place)) (thread_read a sound id g is) ∙ rests)
+    stands : (p : Place) → place_of (thread_of (seen a) id) (seen a).core ≡ Some p → g.thread.place ≡ p
+    stands p at = same_Some g.thread.place p (ap (option_map (λ (t : Thread). t.place)) (thread_read a sound id g is) ∙ at)
 
     unkept : (x : ℕ) → keeps_set x (loose_thread g.thread) g.thread.place ≡ false
-    unkept x = ap (keeps_set x (loose_thread g.thread)) suspended
+    unkept x = elim rests [
+      | inl at ↦ ap (keeps_set x (loose_thread g.thread)) (stands Place.Suspended at)
+      | inr at ↦ ap (keeps_set x (loose_thread g.thread)) (stands Place.Running at)
+    ]
 
     pub under_live : IsSome (list_of a.places g.under)
     under_live = whole.chained.places.live (UnderOf g.number) g.under (kept_under number machine (λ (x : GuestThread). x.under) bared.threads a.made.threads threads_sound id.rep id.serial (bare_thread g) bare_is)

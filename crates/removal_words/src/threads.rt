@@ -1,4 +1,4 @@
-ghost use Rattle.std.specs.Prelude.{◌≡◌, ◌<◌, ℕ, IsSome, None, Ok, Some};
+ghost use Rattle.std.specs.Prelude.{◌≡◌, ◌⊎◌, ◌<◌, ℕ, IsSome, None, Ok, Some, true};
 ghost use Rattle.task_machine.specs.Maps.{get};
 ghost use Rattle.task_machine.specs.Moves.{freed_thread_handle};
 ghost use Rattle.task_machine.specs.Read.{instance_of, place_of, thread_at, thread_handle_of};
@@ -13,7 +13,8 @@ ghost use Rattle.task_words.specs.Apart.{IsApart};
 ghost use Rattle.task_words.specs.StateView.{KeepsBut, lost_thread, on_core, thread_of};
 
 use crate::chains::{close, close_seats, drop_seat};
-use place_words::suspend;
+use place_words::{place, suspend};
+use task_machine::Place;
 use task_records::{CoreParts, GuestTask, GuestThread, task_of};
 use task_words::{CallId, ThreadId};
 
@@ -36,12 +37,13 @@ fn with_call(parts: &CoreParts, thread: ThreadId) -> (GuestThread, CallId, Guest
     }
 }
 
-// A thread that is suspended is gone.
+// A thread that is suspended or runs is gone.
+#[inline(always)]
 fn drop_thread(parts: &mut CoreParts, thread: ThreadId)
     requires sound { IsSound parts.old }
     requires live { 0 < thread_of (seen parts.old) thread }
     requires apart { IsApart (thread_of (seen parts.old) thread) (seen parts.old).core }
-    requires place { place_of (thread_of (seen parts.old) thread) (seen parts.old).core ≡ Some places.Suspended }
+    requires place { (place_of (thread_of (seen parts.old) thread) (seen parts.old).core ≡ Some places.Suspended) ⊎ (place_of (thread_of (seen parts.old) thread) (seen parts.old).core ≡ Some places.Running) }
     ensures sound { IsSound parts.new }
     ensures core { (seen parts.new).core ≡ remove_thread (thread_of (seen parts.old) thread) (seen parts.old).core }
     ensures current { (seen parts.new).current ≡ (seen parts.old).current }
@@ -74,8 +76,21 @@ fn drop_thread(parts: &mut CoreParts, thread: ThreadId)
     parts.table_places.give(found.set_entry);
 }
 
-/// A thread is gone, as it stands, and no thread is behind it any more.
-pub fn remove_thread(parts: &mut CoreParts, thread: ThreadId)
+// Whether the thread runs.
+#[inline(always)]
+fn runs(parts: &CoreParts, thread: ThreadId) -> bool
+    requires { IsSound parts.now }
+    ensures { result ≡ true → place_of (thread_of (seen parts.now) thread) (seen parts.now).core ≡ Some places.Running }
+{
+    match place(parts, thread) {
+        Some(Place::Running) => true,
+        _ => false,
+    }
+}
+
+// A thread is gone, wherever it stands. It is out of line, as most threads end where they run.
+#[inline(never)]
+fn remove_other(parts: &mut CoreParts, thread: ThreadId)
     requires sound { IsSound parts.old }
     requires live { 0 < thread_of (seen parts.old) thread }
     requires apart { IsApart (thread_of (seen parts.old) thread) (seen parts.old).core }
@@ -86,6 +101,23 @@ pub fn remove_thread(parts: &mut CoreParts, thread: ThreadId)
 {
     suspend(parts, thread);
     drop_thread(parts, thread);
+}
+
+/// A thread is gone, as it stands, and no thread is behind it any more.
+pub fn remove_thread(parts: &mut CoreParts, thread: ThreadId)
+    requires sound { IsSound parts.old }
+    requires live { 0 < thread_of (seen parts.old) thread }
+    requires apart { IsApart (thread_of (seen parts.old) thread) (seen parts.old).core }
+    ensures sound { IsSound parts.new }
+    ensures core { (seen parts.new).core ≡ remove_thread (thread_of (seen parts.old) thread) (seen parts.old).core }
+    ensures current { (seen parts.new).current ≡ (seen parts.old).current }
+    ensures tags { KeepsBut (lost_thread (thread_of (seen parts.old) thread)) (seen parts.old).tags (seen parts.new).tags }
+{
+    if runs(parts, thread) {
+        drop_thread(parts, thread);
+    } else {
+        remove_other(parts, thread);
+    }
 }
 
 // Takes back the handle of a thread that is gone.

@@ -1,8 +1,9 @@
 -- How many entries were taken since a run last yielded, where it is polled on.
 use Rattle.label_laws.specs.Own.{mark_taken}
 use Rattle.run_pace.specs.Pace.{counted, counted_past, is_unyielded, passes_after, since_after, since_driven, unless_yielded, yields_before}
-use Rattle.std.proofs.Common.{ap, refl, ◌∙◌}
-use Rattle.std.specs.Prelude.{Bool, List, None, Option, Some, [], false, not, true, ℕ, ◌&&◌, ◌++◌, ◌∷◌, ◌≡◌}
+use Rattle.std.proofs.Common.{ap, arith, drop, refl, suc, sym, take, zero, ◌<◌, ◌∙◌}
+use Rattle.std.proofs.lemmas.List.{drop-map, get_or-drop}
+use Rattle.std.specs.Prelude.{Bool, List, None, Option, Some, [], false, length, map, not, slice_index_or, true, ℕ, ◌&&◌, ◌++◌, ◌+◌, ◌∷◌, ◌≡◌}
 use Rattle.task_machine.specs.declared.label.Label.{Label}
 use Rattle.task_machine.specs.declared.words.Mark.{Mark}
 
@@ -38,3 +39,20 @@ pub passes_both : (b : Bool) (ls ks : List Label) → passes_after b (ls ++ ks) 
 passes_both b [] ks = refl
 passes_both b (l ∷ ls) [] = refl
 passes_both b (l ∷ ls) (k ∷ ks) = refl
+
+-- a label more
+pub driven_next : (ls : List Label) (n : ℕ) (b : Bool) (k : ℕ) → n < length ls →
+    (since_driven b k (take (suc n) ls) ≡ counted_past (passes_after b (take n ls)) (since_driven b k (take n ls)) (slice_index_or (map mark_taken ls) n None)) × (passes_after b (take (suc n) ls) ≡ false)
+driven_next [] n b k within = absurd (omega arith)
+driven_next (l ∷ ls) zero b k within = (refl, refl)
+driven_next (l ∷ ls) (suc n) b k within =
+    let j = counted_past b k (mark_taken l) in
+    ((driven_next ls n false j (omega arith)).0 ∙ ap (λ (q : Bool). counted_past q (since_driven false j (take n ls)) (slice_index_or (map mark_taken ls) n None)) (no_more (take n ls)), refl)
+  where
+    no_more : (ls : List Label) → passes_after false ls ≡ false
+    no_more [] = refl
+    no_more (m ∷ ls) = refl
+
+-- the mark of the label at a place of those from a place on
+pub mark_from : (ls : List Label) (from n : ℕ) → slice_index_or (map mark_taken (drop from ls)) n None ≡ slice_index_or (map mark_taken ls) (from + n) None
+mark_from ls from n = ap (λ (ms : List (Option Mark)). slice_index_or ms n None) (sym (drop-map mark_taken from ls)) ∙ get_or-drop from (map mark_taken ls) n None

@@ -1,6 +1,7 @@
-ghost use Rattle.std.specs.Prelude.{◌≡◌, ◌≤◌, false, true};
-ghost use Rattle.run_pace.specs.Pace.{counted, counted_past, yields_before};
+ghost use Rattle.std.specs.Prelude.{◌≡◌, ◌≤◌, drop, false, true};
+ghost use Rattle.run_pace.specs.Pace.{counted, counted_past, since_driven, yields_before};
 
+use label_trace::Trace;
 use task_machine::Mark;
 
 /// How far a run has come since it last yielded.
@@ -76,5 +77,16 @@ impl Pace {
             return Pace::yielded(true).after(mark);
         }
         self.after(mark)
+    }
+    /// That after the steps whose labels stand in the trace from this place on, where the run is polled on wherever it yields.
+    pub fn driven(self, trace: &Trace, from: usize) -> Self
+        ensures since { result.since ≡ since_driven self.passes self.since (drop from trace.now) }
+        ensures passes { result.passes ≡ false }
+    {
+        let mut pace = self;
+        'labels: for place in from..trace.len() {
+            pace = pace.past(trace.mark(place));
+        }
+        pace.past(None)
     }
 }

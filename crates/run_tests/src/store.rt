@@ -7,6 +7,8 @@ fn store(alloc: Global, concurrent: bool) -> Store<u8, u8> {
 
 #[test]
 fn a_store_has_its_limits(rt: HostRuntime) {
+    let mut alone = store(rt.alloc(), false);
+    assert!(rt; alone.concurrent_resource_table().is_none());
     let mut store = store(rt.alloc(), true);
     assert!(rt; store.max_component_handles() == 100_000);
     store.set_max_component_handles(7);
@@ -23,12 +25,6 @@ fn a_table_has_the_capacity_of_its_store(rt: HostRuntime) {
         panic!(rt; "a table")
     };
     assert!(rt; table.max_capacity == 4 && table.len == 0);
-}
-
-#[test]
-fn a_store_without_concurrency_has_no_table(rt: HostRuntime) {
-    let mut store = store(rt.alloc(), false);
-    assert!(rt; store.concurrent_resource_table().is_none());
 }
 
 #[test]

@@ -50,7 +50,8 @@ params_of instances f = option_map (λ e. e.params) (slice_get (exports_of insta
 abbrev pub CallStands : List HostText → List InstanceText → CallOp → Type 0
 CallStands hosts earlier (call_op.Call r q f xs) =
     (register_fits r && register_fits q && list_all operand_fits xs ≡ true) × (params_of earlier f ≡ Some (length xs))
-CallStands hosts earlier (call_op.CallSync r f xs) = (register_fits r && list_all operand_fits xs ≡ true) × (params_of earlier f ≡ Some (length xs))
+CallStands hosts earlier (call_op.CallSync r f xs) =
+    (register_fits r && list_all operand_fits xs ≡ true) × (params_of earlier f ≡ Some (length xs))
 CallStands hosts earlier (call_op.CallHost r q h) = (register_fits r && register_fits q ≡ true) × (h < length hosts)
 CallStands hosts earlier (call_op.CallSyncHost r h) = (register_fits r ≡ true) × (h < length hosts)
 CallStands hosts earlier o = subtask_op_fits o ≡ true

@@ -261,7 +261,8 @@ unfoldable pub after_answer : State → Operand → Option State
 after_answer s x = main_open s >>= λ p. Some (state.Answered p.0 p.1 x [])
 
 unfoldable pub after_aborter : State → List ℕ → Option State
-after_aborter (state.Answered b ops x before) ks = if aborter_opens ops before ks then Some (state.Answered b ops x (before ++ ks ∷ [])) else None
+after_aborter (state.Answered b ops x before) ks =
+    if aborter_opens ops before ks then Some (state.Answered b ops x (before ++ ks ∷ [])) else None
 after_aborter _ ks = None
 
 abbrev pub whole : Body → List MainOpText → Operand → List (List ℕ) → ScenarioText

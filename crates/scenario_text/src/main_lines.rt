@@ -25,13 +25,24 @@ const ABORTS: usize = 16;
 
 /// The ops of main, which contracts see as their list. What a line asks of those before it is kept, so
 /// that none is looked at again.
-#[derive(Drop)]
 pub struct MainLines {
     ops: Seq<MainOpText>,
     starts: usize,
     spawns: usize,
     // Of each start whether an op finishes it.
     finished: Vec<bool>,
+}
+
+// By hand, as that of a state is.
+impl Drop for MainLines {
+    fn drop(self) {
+        let MainLines {
+            ops: _,
+            starts: _,
+            spawns: _,
+            finished: _,
+        } = self;
+    }
 }
 
 impl Model for MainLines {
@@ -63,7 +74,13 @@ impl MainLines {
     pub fn into_ops(self) -> Seq<MainOpText>
         ensures { result ≡ self }
     {
-        self.ops
+        let MainLines {
+            ops,
+            starts: _,
+            spawns: _,
+            finished: _,
+        } = self;
+        ops
     }
 
     /// Whether an op may follow these, if nothing else forbids it.

@@ -20,7 +20,6 @@ use text_lines::{
 };
 
 /// The head, the hosts, and the instances that are closed.
-#[derive(Drop)]
 pub struct Body {
     pub handles: u32,
     pub table: u32,
@@ -29,12 +28,63 @@ pub struct Body {
     pub instances: Seq<InstanceText>,
 }
 
+// Drops by hand, here and below, so that letting such a value go is one call, proved once: what a derive writes is proved anew at each
+// place where one ends.
+impl Drop for Body {
+    fn drop(self) {
+        let Body {
+            handles: _,
+            table: _,
+            idle: _,
+            hosts: _,
+            instances: _,
+        } = self;
+    }
+}
+
+impl Body {
+    ghost use Rattle.scenario_text.specs.State.{whole};
+
+    // The whole text, which ends with these lines of main.
+    fn whole(self, main: MainLines, answer: Operand, aborters: Seq<Seq<u32>>) -> ScenarioText
+        ensures { result ≡ whole self main answer aborters }
+    {
+        let Body {
+            handles,
+            table,
+            idle,
+            hosts,
+            instances,
+        } = self;
+        let main = main.into_ops();
+        ScenarioText {
+            handles,
+            table,
+            idle,
+            hosts,
+            instances,
+            main,
+            answer,
+            aborters,
+        }
+    }
+}
+
 /// The line with which an export opens.
-#[derive(Drop)]
 pub struct Opening {
     pub name: Name,
     pub kind: ExportKind,
     pub params: u32,
+}
+
+impl Drop for Opening {
+    fn drop(self) {
+        let Opening {
+            name: _,
+            kind: _,
+            params: _,
+        } = self;
+    }
 }
 
 impl Opening {
@@ -43,10 +93,11 @@ impl Opening {
     fn export(self, start: Seq<Op>, react: Option<Seq<Op>>) -> ExportText
         ensures { result ≡ export_from self start react }
     {
+        let Opening { name, kind, params } = self;
         ExportText {
-            name: self.name,
-            kind: self.kind,
-            params: self.params,
+            name,
+            kind,
+            params,
             start,
             react,
         }
@@ -174,7 +225,6 @@ pub enum State {
     Ended(ScenarioText),
 }
 
-// By hand, so that letting a state go is one call, proved once: what a derive writes is proved anew at each place where one ends.
 impl Drop for State {
     fn drop(self) {
         match self {
@@ -478,16 +528,9 @@ impl State {
         ensures { Gives result (after_end self) }
     {
         match self {
-            State::Answered(body, main, answer, aborters) => Ok(State::Ended(ScenarioText {
-                handles: body.handles,
-                table: body.table,
-                idle: body.idle,
-                hosts: body.hosts,
-                instances: body.instances,
-                main: main.into_ops(),
-                answer,
-                aborters,
-            })),
+            State::Answered(body, main, answer, aborters) => {
+                Ok(State::Ended(body.whole(main, answer, aborters)))
+            }
             _ => Err(LineError::Bad),
         }
     }

@@ -35,6 +35,7 @@ pub struct CallNodes {
 }
 
 // The nodes and chains that a thread is to have. Where memory is wanting, all is as before.
+#[inline(always)]
 pub fn new_thread_nodes(parts: &mut CoreParts) -> Result<ThreadNodes, NoMemory>
     requires { IsSound parts.old }
     ensures sound { IsSound parts.new }

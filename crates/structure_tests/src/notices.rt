@@ -1,4 +1,4 @@
-use group_notices::{Asked, tell_step};
+use group_notices::{Asked, tell_at_once, tell_step};
 use std::process::Abort;
 use task_group::{Groups, NoticeKind, Notices};
 
@@ -34,6 +34,18 @@ fn asked(running: Option<u64>, staked: u64) -> Asked {
         worked: None,
         staked,
     }
+}
+
+#[test]
+fn a_notice_is_told_at_once_where_that_is_all(rt: HostRuntime) {
+    let mut groups: Groups = Groups::new(rt.alloc());
+    assert!(&rt; groups.keep_notices(4).is_ok());
+    assert!(&rt; groups.make().is_ok());
+    assert!(&rt; groups.len() == 1);
+    assert!(&rt; tell_at_once(&mut groups, &asked(None, 0), Some(1), 1));
+    last(&rt, &groups, 2, b'e');
+    assert!(&rt; !tell_at_once(&mut groups, &asked(Some(1), 1), None, 0));
+    last(&rt, &groups, 2, b'e');
 }
 
 #[test]

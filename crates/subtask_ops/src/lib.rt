@@ -23,7 +23,7 @@ pub use directs::{answer_call, begin_call_sync, enter};
 pub use drops::drop_subtask;
 pub use hosts::{call_host, call_sync_host, go_on_calling_host};
 pub use joins::join;
-pub use operands::operand_values;
+pub use operands::read_operands;
 pub use resumes::{go_on_awaiting, go_on_cancelling};
 pub use returns::{go_on_calling, go_on_calling_sync};
 pub use takes::take_host;

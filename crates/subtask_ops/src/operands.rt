@@ -8,14 +8,12 @@ use task_machine::Operand;
 use task_ops::value_of;
 use task_words::{ThreadId, Words};
 
-/// The values of a call's operands, at most 16, in the first words.
-pub fn operand_values<W: Words>(w: &W, thread: ThreadId, operands: &[Operand]) -> [u64; 16]
+/// Writes the values of a call's operands, at most 16, into the first words.
+pub fn read_operands<W: Words>(w: &W, thread: ThreadId, operands: &[Operand], words: &mut [u64; 16])
     requires { length operands.now ≤ 16 }
-    ensures { take (length operands.now) result ≡ values_in (registers_of (thread_of (W.view w.now) thread) (W.view w.now).core) operands.now }
+    ensures { take (length operands.now) words.new ≡ values_in (registers_of (thread_of (W.view w.now) thread) (W.view w.now).core) operands.now }
 {
-    let mut words = [0; 16];
     for place in 0..operands.len() {
         words[place] = value_of(w, thread, operands[place]);
     }
-    words
 }

@@ -277,6 +277,7 @@ impl SeatLinks {
 
     /// Puts a node into a chain, where its seat belongs; it leaves the chain that it was in. Where its seat is the
     /// least or the greatest of the chain, that takes constant time, else logarithmic time.
+    #[inline(always)]
     pub fn file(&mut self, node: Node, chain: usize, seat: Seat)
         requires made { is_made self.old node.index ≡ true }
         requires live { IsSome (list_of self.old chain) }

@@ -32,7 +32,8 @@ pub record CanStart (n : ℕ) (id : QualifiedThreadId) (s : StateView) : Type 0 
   pub new : place_of (thread_of s id.thread) s.core ≡ Some place.New
 
 -- The call was made by n, whose result goes to g, and the id names its thread, which has the next number.
-pub record Prepared (c : Component) (n : ℕ) (e : Callee) (words : List ℕ) (g : Goal) (s t : StateView) (id : QualifiedThreadId) : Type 0 where
+pub record Prepared (c : Component) (n : ℕ) (e : Callee) (words : List ℕ) (g : Goal) (s t : StateView)
+    (id : QualifiedThreadId) : Type 0 where
   pub becomes : Becomes (call_made (caller.Thread n) e (export_kind c e) g (thread_group n s.core) words s.core) s t
   pub can : CanStart n id t
   pub number : thread_of t id.thread ≡ next_thread s.core

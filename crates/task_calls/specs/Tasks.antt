@@ -27,7 +27,8 @@ first_export i = record { instance = i; export = 0 }
 -- the core with a call more of this kind and this instance, in the group of the caller's call or in a new one
 abbrev pub task_made : ExportKind → ℕ → Option QualifiedThreadId → StateView → Core
 task_made x i (Some id) s =
-    call_made (caller.Thread (thread_of s id.thread)) (first_export i) x goal.Nowhere (thread_group (thread_of s id.thread) s.core) [] s.core
+    call_made (caller.Thread (thread_of s id.thread)) (first_export i) x goal.Nowhere (thread_group (thread_of s id.thread) s.core)
+    [] s.core
 task_made x i None s = call_made caller.Main (first_export i) x goal.Nowhere (s.core.made.groups + 1) [] (add_group s.core)
 
 -- in a trapped store all groups are finished, and so is a new one

@@ -221,6 +221,7 @@ impl<H: TaskGroupHook> Groups<H> {
         ensures same { IsTrue (same_group old new) → self.new ≡ self.old }
         ensures told { result ≡ true → same_group old new ≡ false → Switches (notice_at self.old.live NoticeKind.Exit old) (notice_at self.old.live NoticeKind.Enter new) self.old.listeners self.new.listeners }
         ensures calm { result ≡ true → errors_of self.new.listeners ≡ errors_of self.old.listeners }
+        ensures nothing { IsTrue (same_group old new) → result ≡ true }
         ensures none { result ≡ false → self.new ≡ self.old }
     {
         match (old, new) {

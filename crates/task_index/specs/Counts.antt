@@ -1,4 +1,5 @@
--- Numbers that a machine counts in its records, and that code keeps: the use of the table, live handles, the calls of a group, interesting tasks.
+-- Numbers that a machine counts in its records, and that code keeps: the use of the table, live handles, the calls of a group, interesting
+-- tasks.
 use Rattle.std.specs.Prelude.{ℕ, Bool, count_by, if◌then◌else◌, Option, Some, None}
 use Rattle.task_machine.specs.Maps.{Records, insert, remove}
 

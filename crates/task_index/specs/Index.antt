@@ -1,4 +1,5 @@
--- Lists that a machine reads off its records by a test: the waiters of a set, its ready members, the held threads of an instance, what is blocked on a call. Each is a chain, and an entry's node is in the chain of the key that the entry has.
+-- Lists that a machine reads off its records by a test: the waiters of a set, its ready members, the held threads of an instance, what is
+-- blocked on a call. Each is a chain, and an entry's node is in the chain of the key that the entry has.
 --     Filing, IsIndex            what an entry says of the index, and that the chains say the same
 --     Refiles                    what a call makes of the links when one node is filed anew
 --     filings                    what the entries of a table say
@@ -31,7 +32,8 @@ module _ {K P : Type 0} (chain : K → Option ℕ) where
   abbrev pub link_for : Filing K P → Option (ℕ × P)
   link_for f = option_map (λ c. (c, f.value)) (option_and_then chain f.key)
 
-  -- Each key's chain is live and its own. Each entry has a node of its own, which has just the link that the entry says, and no other node has a link.
+  -- Each key's chain is live and its own. Each entry has a node of its own, which has just the link that the entry says, and no other node
+  -- has a link.
   pub record IsIndex (links : List (Spot P)) (filing : ℕ → Option (Filing K P)) : Type 0 where
     pub live : (k : K) (c : ℕ) → chain k ≡ Some c → IsSome (list_of links c)
     pub own_chain : (j k : K) (c : ℕ) → chain j ≡ Some c → chain k ≡ Some c → j ≡ k
@@ -55,8 +57,10 @@ module _ {E K P : Type 0} (says : ℕ → ℕ → E → Option (Filing K P)) whe
 
   -- The entries with this key are just those whose records pass the test.
   pub record Tests {X : Type 0} (record_key : E → Option (ℕ × X)) (k : K) (test : ℕ × X → Bool) : Type 0 where
-    pub passes : (rep serial : ℕ) (e : E) (f : Filing K P) → says rep serial e ≡ Some f → f.key ≡ Some k → (x : ℕ × X) × ((record_key e ≡ Some x) × (test x ≡ true))
-    pub filed : (rep serial : ℕ) (e : E) (x : ℕ × X) → record_key e ≡ Some x → test x ≡ true → (f : Filing K P) × ((says rep serial e ≡ Some f) × (f.key ≡ Some k))
+    pub passes : (rep serial : ℕ) (e : E) (f : Filing K P) → says rep serial e ≡ Some f → f.key ≡ Some k →
+        (x : ℕ × X) × ((record_key e ≡ Some x) × (test x ≡ true))
+    pub filed : (rep serial : ℕ) (e : E) (x : ℕ × X) → record_key e ≡ Some x → test x ≡ true →
+        (f : Filing K P) × ((says rep serial e ≡ Some f) × (f.key ≡ Some k))
 
   -- The value is that of an entry whose record passes, and the machine has this record under the number that the entry's id names.
   pub record PassesAt {X : Type 0} (t : Table E) (record_key : E → Option (ℕ × X)) (test : ℕ × X → Bool) (v : P) : Type 0 where

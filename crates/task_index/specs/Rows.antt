@@ -29,8 +29,10 @@ module _ {P : Type 0} where
   abbrev pub part : {G K : Type 0} → (G → P → Bool) → (K → List P) → G × K → List P
   part in_group list k = filter (in_group k.0) (list k.1)
 
--- Each key's chain is live and its own, and has the key's list, each value with its node; each value of a list is one that is known; each link is to some key's chain.
-pub record IsRows {K P : Type 0} (chain : K → Option ℕ) (node : P → ℕ) (Known : P → Type 0) (links : List (Spot P)) (list : K → List P) : Type 0 where
+-- Each key's chain is live and its own, and has the key's list, each value with its node; each value of a list is one that is known; each
+-- link is to some key's chain.
+pub record IsRows {K P : Type 0} (chain : K → Option ℕ) (node : P → ℕ) (Known : P → Type 0) (links : List (Spot P))
+    (list : K → List P) : Type 0 where
   pub live : (k : K) (c : ℕ) → chain k ≡ Some c → IsSome (list_of links c)
   pub own_chain : (j k : K) (c : ℕ) → chain j ≡ Some c → chain k ≡ Some c → j ≡ k
   pub has_list : (k : K) (c : ℕ) → chain k ≡ Some c → entries links c ≡ with_nodes node (list k)

@@ -26,7 +26,8 @@ pub data MakesWork (x : Setting) (s : State) : Type 0 where
   Spawns : s.turn ≡ turn.Main → MakesWork x s
   CallsHost : (n : ℕ) → s.turn ≡ turn.Run n → queues_work (how_far_of n s.core) (op_of x.component n s.core) ≡ true → MakesWork x s
 
--- Where each work has a number that was given, a work that is there after a step was made before it, or is made in it, with the next number.
+-- Where each work has a number that was given, a work that is there after a step was made before it, or is made in it, with the next
+-- number.
 unfoldable pub WorksAreCalled : Type 0
 WorksAreCalled = (x : Setting) (s : State) (l : Label) (t : State) → Step x s l t →
     ((i : ℕ) → is_some (get s.core.works i) ≡ true → i ≤ s.core.made.works) →

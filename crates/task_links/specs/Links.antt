@@ -37,7 +37,8 @@ module _ {P : Type 0} where
   from_parts-to_parts (LinkedNode chain value) = refl
 
   abbrev pub links_code : Coded P → Coded (List (Spot P))
-  links_code code = coded_list (code_by (Parts P) (coded⊎ (coded_list (coded× coded_ℕ code)) (coded⊎ coded_bool (coded× coded_ℕ code))) to_parts from_parts from_parts-to_parts)
+  links_code code =
+      coded_list (code_by (Parts P) (coded⊎ (coded_list (coded× coded_ℕ code)) (coded⊎ coded_bool (coded× coded_ℕ code))) to_parts from_parts from_parts-to_parts)
 
   -- what a number names
   abbrev pub spot_at : List (Spot P) → ℕ → Spot P
@@ -188,7 +189,8 @@ NamesSame old new = (n : ℕ) → spot_at new n ≡ spot_at old n
 -- What holds of every `Links`: no node is twice in it, and a node's link is to the chain whose list it is in.
 pub record IsLinks {P : Type 0} (links : List (Spot P)) : Type 0 where
   pub once : (chain : ℕ) → Apart (entries links chain)
-  pub listed : (node chain : ℕ) (value : P) → link_of links node ≡ Some (chain, value) → IsSome (list_of links chain) × In node (entries links chain)
+  pub listed : (node chain : ℕ) (value : P) → link_of links node ≡ Some (chain, value) →
+      IsSome (list_of links chain) × In node (entries links chain)
   pub entered : (node chain : ℕ) → In node (entries links chain) → (value : P) × (link_of links node ≡ Some (chain, value))
 
 -- This chain has this list now and this node that link; every other chain keeps its list, and every other node its link, or stays free.

@@ -1,4 +1,5 @@
--- How a `Links` lays out its chains: each is a ring of next and previous names that begins and ends at the chain's own. No public clause cites this module.
+-- How a `Links` lays out its chains: each is a ring of next and previous names that begins and ends at the chain's own. No public clause
+-- cites this module.
 use Rattle.std.specs.Prelude.{◌≡◌, ℕ, zero, suc, ◌+◌, ◌<◌, ◌≤◌, ◌==◌, if◌then◌else◌, Bool, true, false, List, [], ◌∷◌, length, map, slice_index_or, slice_get, count_by, Vec, vec_capacity, option_map, Option, Some, None}
 use Rattle.std.specs.Global.{Global}
 pub use Rattle.task_links.specs.Links.{In, Apart}
@@ -60,7 +61,8 @@ module _ {P : Type 0} where
   -- from one name to another by the nodes of the list, which are in this chain
   abbrev pub Path : List ℕ → List ℕ → List (Role P) → ℕ → ℕ → List (ℕ × P) → ℕ → Type 0
   Path next previous rs chain from [] to = (at next from ≡ to) × (at previous to ≡ from)
-  Path next previous rs chain from (e ∷ es) to = (at next from ≡ e.0) × ((at previous e.0 ≡ from) × ((role_at rs e.0 ≡ Linked chain e.1) × Path next previous rs chain e.0 es to))
+  Path next previous rs chain from (e ∷ es) to =
+      (at next from ≡ e.0) × ((at previous e.0 ≡ from) × ((role_at rs e.0 ≡ Linked chain e.1) × Path next previous rs chain e.0 es to))
 
   -- what a name newly stands for
   abbrev pub new_spot : Role P → Spot P
@@ -127,7 +129,8 @@ pub record AreRings {P : Type 0} (next previous : List ℕ) (rs : List (Role P))
   pub as_many_next : length next ≡ length rs
   pub as_many_previous : length previous ≡ length rs
   pub rings : (chain : ℕ) → role_at rs chain ≡ Chain → IsRing next previous rs chain (ring_list next rs chain)
-  pub owned : (node chain : ℕ) (value : P) → role_at rs node ≡ Linked chain value → (role_at rs chain ≡ Chain) × In node (ring_list next rs chain)
+  pub owned : (node chain : ℕ) (value : P) → role_at rs node ≡ Linked chain value →
+      (role_at rs chain ≡ Chain) × In node (ring_list next rs chain)
 
 -- The rings stand, each unused name is kept once, and a name that is given back needs no memory.
 pub record IsSound {P : Type 0} (next previous : List ℕ) (rs : List (Role P)) (unused : List ℕ) (room : ℕ) : Type 0 where

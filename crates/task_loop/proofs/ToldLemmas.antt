@@ -58,7 +58,9 @@ use Rattle.task_turns.specs.declared.made.Stepped.{Stepped}
 use Rattle.task_turns.specs.declared.made.Stepped.TheVariants as stepped
 use Rattle.task_turns.specs.declared.mains.MainStep.{MainStep}
 use Rattle.task_turns.specs.declared.mains.MainStep.TheVariants as step
-use Rattle.task_words.specs.StateView.{StateView}
+use Rattle.task_table.specs.declared.id.TableId.{TableId}
+use Rattle.task_wait.specs.declared.keys.ThreadKey.{ThreadKey}
+use Rattle.task_words.specs.StateView.{StateView, thread_of}
 
 -- ---- Main's step
 
@@ -125,6 +127,14 @@ current_is t turn.Main e = ap (λ (o : Option ℕ). option_map (λ k. thread_gro
 current_is t (turn.Futures n) e = ap (λ (o : Option ℕ). option_map (λ k. thread_group k t.core) o) e
 current_is t (turn.Take b) e = ap (λ (o : Option ℕ). option_map (λ k. thread_group k t.core) o) e
 current_is t turn.Over e = ap (λ (o : Option ℕ). option_map (λ k. thread_group k t.core) o) e
+
+-- none runs
+pub idle_group : (t : StateView) → is_some t.current ≡ false → current_group t ≡ None
+idle_group t e = by t.current e
+  where
+    by : (o : Option (TableId ThreadKey)) → is_some o ≡ false → option_map (λ k. thread_group k t.core) (option_map (thread_of t) o) ≡ None
+    by None e = refl
+    by (Some id) e = absurd (cc)
 
 -- ---- A step in another turn than main's
 

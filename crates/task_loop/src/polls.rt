@@ -15,7 +15,7 @@ ghost use Rattle.task_turns.specs.Turn.{IsAtTurn, IsSettled, PendsIn, Sits, give
 ghost use Rattle.task_turns.specs.WellFormed.{IsWellFormed};
 
 use crate::main_task::MainTask;
-use crate::run::{Halt, RunConcurrent, next_mark};
+use crate::run::{Halt, RunConcurrent};
 use crate::tells::group_of;
 use run_pace::Pace;
 use task_calls::TaskError;
@@ -23,6 +23,7 @@ use task_group::TaskGroupHook;
 use task_machine::{Component, Mark, Outcome, Trap, Turn};
 use task_store::{AccessorTask, FromHost, Store};
 use task_turns::{Stepped, Trace, compute, is_idle};
+use task_words::QueueWords;
 
 /// What a poll of a run has come to, where the run has neither trapped nor failed.
 #[derive(Clone, Copy)]
@@ -48,6 +49,19 @@ fn answer_of(outcome: Outcome) -> Result<RunPoll, TaskError>
         Outcome::HostFailed(work) => Err(TaskError::HostFailed(work)),
         Outcome::Idle => Ok(RunPoll::Idle),
         Outcome::OutOfSteps => Ok(RunPoll::Yielded),
+    }
+}
+
+// The mark of the entry that is taken next in this turn.
+fn next_mark<T, H, G: TaskGroupHook>(store: &Store<T, H, G>, turn: Turn) -> Option<Mark>
+    ensures { result ≡ next_mark turn store.now.state.core }
+{
+    match turn {
+        Turn::Take { ended: _ } => match store.state.next_entry() {
+            Some((mark, _)) => Some(mark),
+            None => None,
+        },
+        _ => None,
     }
 }
 

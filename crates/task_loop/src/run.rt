@@ -11,7 +11,6 @@ ghost use Rattle.task_rules.specs.Notices.{running_group};
 ghost use Rattle.task_rules.specs.Stalled.{Setting};
 ghost use Rattle.task_rules.specs.Outcome.{outcome_of_label};
 ghost use Rattle.task_store.specs.Groups.{HoldsGroups};
-ghost use Rattle.label_laws.specs.Own.{next_mark};
 ghost use Rattle.task_loop.specs.Hooked.{FailsMain, StopsTurn, Undisturbed, WasRun, hook_failed};
 ghost use Rattle.task_loop.specs.Paces.{Paces};
 ghost use Rattle.task_loop.specs.Standing.{standing};
@@ -28,12 +27,11 @@ use crate::tells::{group_of, tell_poll, tell_run, tell_work};
 use run_pace::Pace;
 use task_calls::TaskError;
 use task_group::TaskGroupHook;
-use task_machine::{Component, Mark, NoMemory, Outcome, Trap, Turn};
+use task_machine::{Component, NoMemory, Outcome, Trap, Turn};
 use task_store::{Access, AccessorTask, FromHost, HostWork, StandingRun, Store};
 use task_turns::{
     Made, MainStep, RunStep, Stepped, Trace, compute, is_idle, made_by_main, put, step_run, take,
 };
-use task_words::QueueWords;
 
 /// A run of the event loop on a store.
 #[derive(Drop)]
@@ -239,19 +237,6 @@ fn run_thread<T, H: AccessorTask<T> + FromHost, G: TaskGroupHook>(
     Ok(stepped)
 }
 
-// The mark of the entry that is taken next in this turn.
-pub(crate) fn next_mark<T, H, G: TaskGroupHook>(store: &Store<T, H, G>, turn: Turn) -> Option<Mark>
-    ensures { result ≡ next_mark turn store.now.state.core }
-{
-    match turn {
-        Turn::Take { ended: _ } => match store.state.next_entry() {
-            Some((mark, _)) => Some(mark),
-            None => None,
-        },
-        _ => None,
-    }
-}
-
 impl RunConcurrent {
     /// Goes on with the run until it is over, until it has added `steps` labels to the trace, or
     /// until nothing can go on and that is no deadlock. The labels that it adds are those of a run
@@ -314,8 +299,15 @@ impl RunConcurrent {
         ensures trapped { result ≡ Ok hook_failed → store.new.state.core.trapped ≡ true }
         ensures finished { result ≡ Ok hook_failed → Mirrors [] store.new.groups }
     {
+        let from = trace.len();
         match self.go_on(component, store, main, steps, trace) {
-            Ok(outcome) => Ok(outcome),
+            Ok(outcome) => {
+                self.pace = match outcome {
+                    Outcome::Idle => self.pace.driven(trace, from),
+                    _ => Pace::new(),
+                };
+                Ok(outcome)
+            }
             Err(Halt::NoMemory) => {
                 store.set_trapped();
                 Err(NoMemory)
@@ -354,35 +346,27 @@ impl RunConcurrent {
         ensures told { OnOk result (HasTold (setting_of component.now (M.script main.old) self.old.trap_on_idle) (state_at store.old.state.core (M.part main.old) self.old.turn) trace.old (state_at store.new.state.core (M.part main.new) self.new.turn) trace.new store.old.groups store.new.groups) }
         ensures stands { standing store.new ≡ standing store.old }
         ensures does { OnOk result (DoesAdded M.does main.old trace.old main.new trace.new) }
-        ensures pace { IfOk result (λ outcome. Paces self.old.pace trace.old trace.new outcome self.new.pace) }
-        ensures kept { OnErr result (self.new.pace ≡ self.old.pace) }
+        ensures pace { self.new.pace ≡ self.old.pace }
         ensures err { result ≡ Err Halt.NoMemory → WasGoing (setting_of component.now (M.script main.old) self.old.trap_on_idle) (state_at store.old.state.core (M.part main.old) self.old.turn) trace.old trace.new steps }
         ensures failed { result ≡ Err Halt.HookFailed → WasRun (setting_of component.now (M.script main.old) self.old.trap_on_idle) (state_at store.old.state.core (M.part main.old) self.old.turn) trace.old trace.new steps }
         ensures answered { result ≡ Err Halt.HookFailed → AnsweredErr store.old.groups.listeners store.new.groups.listeners × (is_some store.new.groups.listeners.hook ≡ is_some store.old.groups.listeners.hook) }
         ensures ok { IfOk result (λ outcome. Drove (setting_of component.now (M.script main.old) self.old.trap_on_idle) (state_at store.old.state.core (M.part main.old) self.old.turn) trace.old (given store.old.state.core) self.new.turn (M.part main.new) store.new.state trace.new steps outcome) }
     {
-        let mut pace = self.pace;
         let mut added = 0;
         let mut running = group_of(&store.state, self.turn).unwrap_or(0);
         'turns: while added < steps {
-            let next = next_mark(store, self.turn);
             let stepped = match self.turn(component, store, main, trace, &mut running) {
                 Ok(stepped) => stepped,
                 Err(halt) => return Err(halt),
             };
             match stepped {
-                None => {
-                    self.pace = pace.past(None);
-                    return Ok(Outcome::Idle);
-                }
+                None => return Ok(Outcome::Idle),
                 Some(Stepped::Over(outcome)) => {
                     self.turn = Turn::Over;
-                    self.pace = Pace::new();
                     return Ok(outcome);
                 }
                 Some(Stepped::Goes { turn, computed }) => {
                     self.turn = turn;
-                    pace = pace.past(next);
                     let all = compute(
                         component,
                         &mut store.state,
@@ -400,10 +384,8 @@ impl RunConcurrent {
             }
         }
         if is_idle(&store.state, self.turn, self.trap_on_idle) {
-            self.pace = pace.past(None);
             return Ok(Outcome::Idle);
         }
-        self.pace = Pace::new();
         Ok(Outcome::OutOfSteps)
     }
 
@@ -462,8 +444,7 @@ impl RunConcurrent {
             Turn::Take { ended } => {
                 let mut worked = None;
                 let idle = self.trap_on_idle;
-                let Ok(taken) =
-                    take(component, &mut store.state, ended, idle, trace, &mut worked)
+                let Ok(taken) = take(component, &mut store.state, ended, idle, trace, &mut worked)
                 else {
                     return Err(Halt::NoMemory);
                 };

@@ -21,7 +21,8 @@ use Rattle.task_machine.specs.Maps.{Records, records_code}
 use Rattle.task_machine.specs.Core.{Table, Queues, Core}
 
 abbrev pub table_code : {X : Type 0} → Coded X → Coded (Table X)
-table_code {X = X} x = code_by (Records X × List ℕ) (coded× (records_code x) (coded_list coded_ℕ)) (λ t. (t.live, t.freed)) (λ p. record { live = p.0; freed = p.1 }) (λ _. refl)
+table_code {X = X} x =
+    code_by (Records X × List ℕ) (coded× (records_code x) (coded_list coded_ℕ)) (λ t. (t.live, t.freed)) (λ p. record { live = p.0; freed = p.1 }) (λ _. refl)
 
 abbrev pub queues_code : Coded Queues
 queues_code =
@@ -33,24 +34,30 @@ queues_code =
 
 -- what threads, calls, works, sets and instances have
 abbrev Maps : Type 0
-Maps = Records Call × (Records Thread × (Records (List ℕ) × (Records Work × (Records Set × (Records Instance × (Records (Table Named) × Records (Table ℕ)))))))
+Maps = Records Call × (Records Thread × (Records (List ℕ) × (Records Work ×
+    (Records Set × (Records Instance × (Records (Table Named) × Records (Table ℕ)))))))
 
 maps_code : Coded Maps
 maps_code =
-    coded× (records_code call.the_row.coded) (coded× (records_code thread.the_row.coded) (coded× (records_code (coded_list coded_ℕ)) (coded× (records_code work.the_row.coded)
-    (coded× (records_code set.the_row.coded) (coded× (records_code instance.the_row.coded) (coded× (records_code (table_code named.the_row.coded)) (records_code (table_code coded_ℕ))))))))
+    coded× (records_code call.the_row.coded) (coded× (records_code thread.the_row.coded) (coded× (records_code (coded_list coded_ℕ))
+    (coded× (records_code work.the_row.coded) (coded× (records_code set.the_row.coded) (coded× (records_code instance.the_row.coded)
+    (coded× (records_code (table_code named.the_row.coded)) (records_code (table_code coded_ℕ))))))))
 
 -- the rest of a core
 abbrev Rest : Type 0
 Rest = Queues × (Records ℕ × (List ℕ × (Bool × (ℕ × (ℕ × Made)))))
 
 rest_code : Coded Rest
-rest_code = coded× queues_code (coded× (records_code coded_ℕ) (coded× (coded_list coded_ℕ) (coded× coded_bool (coded× coded_ℕ (coded× coded_ℕ made.the_row.coded)))))
+rest_code =
+    coded× queues_code (coded× (records_code coded_ℕ) (coded× (coded_list coded_ℕ) (coded× coded_bool (coded× coded_ℕ (coded× coded_ℕ made.the_row.coded)))))
 
 pub core_code : Coded Core
 core_code =
     code_by (Maps × Rest) (coded× maps_code rest_code)
-    (λ s. ((s.calls, (s.threads, (s.callers, (s.works, (s.sets, (s.instances, (s.handles, s.thread_handles))))))), (s.queues, (s.results, (s.groups, (s.trapped, (s.handle_limit, (s.capacity, s.made))))))))
+    (λ s. (
+      (s.calls, (s.threads, (s.callers, (s.works, (s.sets, (s.instances, (s.handles, s.thread_handles))))))),
+      (s.queues, (s.results, (s.groups, (s.trapped, (s.handle_limit, (s.capacity, s.made)))))),
+    ))
     (λ p. record {
       calls = p.0.0;
       threads = p.0.1.0;

@@ -58,7 +58,8 @@ is_sorted-prop false = λ x y. absurd x
 -- two maps of one list are one
 pub same_list : {X : Type 0} (m k : Records X) → m.list ≡ k.list → m ≡ k
 same_list {X = X} m k e =
-    subst (λ (es : List (ℕ × X)). (p : T (is_sorted nat_cmp es)) → m ≡ record { list = es; sorted = p }) e (λ p i. record { list = m.list; sorted = is_sorted-prop _ m.sorted p i }) k.sorted
+    subst (λ (es : List (ℕ × X)). (p : T (is_sorted nat_cmp es)) → m ≡ record { list = es; sorted = p }) e
+    (λ p i. record { list = m.list; sorted = is_sorted-prop _ m.sorted p i }) k.sorted
 
 abbrev pub records_code : {X : Type 0} → Coded X → Coded (Records X)
 records_code x =
@@ -82,7 +83,8 @@ module _ {X : Type 0} where
   unfolding get remove
   get-remove m n q =
       find-where_key nat_cmp (other_than n) q (λ x t. ap (λ r. not (is_eq r)) (sym (alike_right nat_cmp_total q x n t))) m.list
-      ∙ cond-not (eq_by_cmp nat_cmp n q) _ _ ∙ ap (λ b. cond b None (find nat_cmp q m.list)) ((eq_by_cmp_equiv nat_cmp_total).symm n q ∙ unsigned_tied q n)
+      ∙ cond-not (eq_by_cmp nat_cmp n q) _ _
+      ∙ ap (λ b. cond b None (find nat_cmp q m.list)) ((eq_by_cmp_equiv nat_cmp_total).symm n q ∙ unsigned_tied q n)
 
   -- maps that have the same at each number are one
   pub same_map : (m k : Records X) → ((q : ℕ) → get m q ≡ get k q) → m ≡ k
@@ -91,4 +93,5 @@ module _ {X : Type 0} where
 
   pub get-from_entries : (es : List (ℕ × X)) (q : ℕ) → get (from_entries es) q ≡ find nat_cmp q es
   get-from_entries [] q = get-empty q
-  get-from_entries (e ∷ es) q = get-insert (from_entries es) e.0 e.1 q ∙ ap₂ (λ b o. cond b (Some e.1) o) (sym (unsigned_tied q e.0)) (get-from_entries es q)
+  get-from_entries (e ∷ es) q = get-insert (from_entries es) e.0 e.1 q
+      ∙ ap₂ (λ b o. cond b (Some e.1) o) (sym (unsigned_tied q e.0)) (get-from_entries es q)

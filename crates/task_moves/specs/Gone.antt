@@ -12,7 +12,9 @@ lost_both n k = record nothing_lost { thread = n; call = k }
 
 -- Each id that named something names it still, unless that is lost.
 pub record KeepsLive (lost : Lost) (old new : Tags) : Type 0 where
-  pub threads : (id : TableId ThreadKey) → 0 < thread_number old id → thread_number old id ≢ lost.thread → thread_number new id ≡ thread_number old id
-  pub calls : (id : TableId GuestTaskKey) → 0 < call_number old id → call_number old id ≢ lost.call → call_number new id ≡ call_number old id
+  pub threads : (id : TableId ThreadKey) → 0 < thread_number old id → thread_number old id ≢ lost.thread →
+      thread_number new id ≡ thread_number old id
+  pub calls : (id : TableId GuestTaskKey) → 0 < call_number old id → call_number old id ≢ lost.call →
+      call_number new id ≡ call_number old id
   pub sets : (id : TableId SetKey) → 0 < set_number old id → set_number new id ≡ set_number old id
   pub works : (id : TableId HostTaskKey) → 0 < work_number old id → work_number new id ≡ work_number old id

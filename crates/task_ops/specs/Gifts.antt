@@ -25,7 +25,8 @@ handle_in _ = None
 
 -- Each ready member of the set has a handle, which names it in the instance.
 abbrev pub MembersNamed : ℕ → ℕ → Core → Type 0
-MembersNamed i x s = (sub : Subtask) → is_ready_member x sub s ≡ true → (h : ℕ) × ((subtask_handle sub s ≡ Some h) × (subtask_at i h s ≡ Some sub))
+MembersNamed i x s = (sub : Subtask) → is_ready_member x sub s ≡ true →
+    (h : ℕ) × ((subtask_handle sub s ≡ Some h) × (subtask_at i h s ≡ Some sub))
 
 -- what the handle of the gift names in the instance is the member
 abbrev pub IsNamedIn : ℕ → Tags → Gift → Core → Type 0

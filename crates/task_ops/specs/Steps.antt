@@ -47,13 +47,15 @@ core_after n (came.Fails i) t = struck n t
 -- each op that meets its row is a step of the machine
 abbrev pub MeetingIsStep : Type 0
 MeetingIsStep =
-    (x : Setting) (s : State) (n : ℕ) (r : Came) (t : Core) → s.turn ≡ turn.Run n → Meets (did x.component n s.core (choice_of (label_of n r))) s.core r t →
+    (x : Setting) (s : State) (n : ℕ) (r : Came) (t : Core) → s.turn ≡ turn.Run n →
+    Meets (did x.component n s.core (choice_of (label_of n r))) s.core r t →
     Step x s (label_of n r) (goes_to s (core_after n r t) (turn_after r))
 
 -- each taking that meets its row, from the core that the entry has left, is a step of the machine
 abbrev pub TakingIsStep : Type 0
 TakingIsStep =
-    (x : Setting) (s : State) (ended : Bool) (e : Mark × Entry) (r : Came) (t : Core) → s.turn ≡ turn.Take ended → next_entry s.core ≡ Some e →
+    (x : Setting) (s : State) (ended : Bool) (e : Mark × Entry) (r : Came) (t : Core) → s.turn ≡ turn.Take ended →
+    next_entry s.core ≡ Some e →
     Meets (take_row e.0 (choice_of (label_of (entry_number e.1) r)) (popped e.0 s.core) e.1) (popped e.0 s.core) r t →
     Step x s (label_of (entry_number e.1) r) (goes_to s (core_after (entry_number e.1) r t) (turn_after r))
 
@@ -73,5 +75,6 @@ main_after s p o (acted.Answers v) t = goes_to s t turn.Over
 -- each op of main's script that meets its row is a step of the machine
 abbrev pub ActingIsStep : Type 0
 ActingIsStep =
-    (x : Setting) (s : State) (p : MainPlace) (o : MainOpDef) (r : Acted) (t : Core) → s.turn ≡ turn.Main → s.main ≡ Scripted p → op_at x.script p ≡ Some o →
+    (x : Setting) (s : State) (p : MainPlace) (o : MainOpDef) (r : Acted) (t : Core) → s.turn ≡ turn.Main → s.main ≡ Scripted p →
+    op_at x.script p ≡ Some o →
     MainMeets (main_row x.component (line_of p o) s.core (act_of p o)) s.core r t → Step x s (main_label_of r) (main_after s p o r t)

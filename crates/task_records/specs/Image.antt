@@ -91,7 +91,11 @@ core_of p = record {
   instances = by_place (map (λ i. i.instance) p.instances);
   handles = by_place (map (λ i. handle_table named_of i.handles) p.instances);
   thread_handles = by_place (map (λ i. handle_table thread_of i.thread_handles) p.instances);
-  queues = record { switch = option_map (λ f. f.number) p.switch; high = map (λ q. q.entry) (chained p.marks p.high); low = map (λ q. q.entry) (chained p.marks p.low) };
+  queues = record {
+    switch = option_map (λ f. f.number) p.switch;
+    high = map (λ q. q.entry) (chained p.marks p.high);
+    low = map (λ q. q.entry) (chained p.marks p.low);
+  };
   results = given_results p.results;
   groups = filter (nat_lt p.finished) (numbers (records group_key p.groups.places));
   trapped = p.trapped;

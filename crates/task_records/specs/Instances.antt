@@ -38,7 +38,8 @@ module _ {X Y : Type 0} (f : X → Y) where
 
   -- the map of a table's handles, with f of what they stand for
   unfoldable pub records_by : fin.FinMap nat_cmp X → Records Y
-  records_by m = record { list = mapped f (fin.entries m); sorted = subst T (sym (is_sorted-mapped (fin.entries m))) (fin.entries_sorted m) }
+  records_by m =
+      record { list = mapped f (fin.entries m); sorted = subst T (sym (is_sorted-mapped (fin.entries m))) (fin.entries_sorted m) }
 
   -- the machine's table of these handles
   abbrev pub handle_table : Handles X → Table Y

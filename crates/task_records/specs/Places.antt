@@ -1,4 +1,5 @@
--- The lists that the machine finds by a test of its records, as indexes: who waits on a set, is held in an instance, is under a thread or blocked on a subtask; the ready members of a set; the live works.
+-- The lists that the machine finds by a test of its records, as indexes: who waits on a set, is held in an instance, is under a thread or
+-- blocked on a subtask; the ready members of a set; the live works.
 use Rattle.std.specs.Ordering.{nat_cmp, ordering_then}
 use Rattle.std.specs.Prelude.{ℕ, List, Option, Some, None, slice_get, option_map, if◌then◌else◌}
 use Rattle.std.specs.declared.cmp.Ordering.{Ordering}
@@ -46,7 +47,8 @@ abbrev pub member_seat : ℕ → ℕ → Seat
 member_seat entry rep = record { task = entry; thread = 0; place = rep }
 
 abbrev pub place_filing : ℕ → ℕ → Single GuestThread → Option (Filing Where Seat)
-place_filing rep serial g = Some (record { node = g.item.node.index; key = where_at g.item.instance g.item.thread.place; value = thread_seat rep g.item })
+place_filing rep serial g =
+    Some (record { node = g.item.node.index; key = where_at g.item.instance g.item.thread.place; value = thread_seat rep g.item })
 
 abbrev pub place_chain : Parts → Where → Option ℕ
 place_chain p (WaitsOn x) = found_record waiters_key x p.sets.places
@@ -61,10 +63,12 @@ ready_in (Some e) (join.Set x) = Some x
 ready_in _ _ = None
 
 abbrev pub ready_call : ℕ → ℕ → Single GuestTask → Option (Filing ℕ Seat)
-ready_call rep serial g = Some (record { node = g.item.ready.index; key = ready_in g.item.call.event g.item.call.join; value = member_seat g.item.entry rep })
+ready_call rep serial g =
+    Some (record { node = g.item.ready.index; key = ready_in g.item.call.event g.item.call.join; value = member_seat g.item.entry rep })
 
 abbrev pub ready_work : ℕ → ℕ → Single HostWork → Option (Filing ℕ Seat)
-ready_work rep serial w = Some (record { node = w.item.ready.index; key = ready_in w.item.work.event w.item.work.join; value = member_seat w.item.entry rep })
+ready_work rep serial w =
+    Some (record { node = w.item.ready.index; key = ready_in w.item.work.event w.item.work.join; value = member_seat w.item.entry rep })
 
 abbrev pub ready_call_chain : Parts → ℕ → Option ℕ
 ready_call_chain p x = found_record ready_calls_key x p.sets.places
@@ -77,7 +81,8 @@ abbrev pub live_value : ℕ → HostWork → LiveWork
 live_value rep w = record { number = w.number; place = rep }
 
 abbrev pub live_work : ℕ → ℕ → Single HostWork → Option (Filing (Unit {0}) LiveWork)
-live_work rep serial w = Some (record { node = w.item.live.index; key = if is_stage_live w.item.work.stage then Some tt else None; value = live_value rep w.item })
+live_work rep serial w =
+    Some (record { node = w.item.live.index; key = if is_stage_live w.item.work.stage then Some tt else None; value = live_value rep w.item })
 
 abbrev pub live_chain : Parts → Unit {0} → Option ℕ
 live_chain p one = p.live

@@ -79,4 +79,5 @@ IsFollower p f = seated follower p.threads f.place ≡ Some f
 -- Each entry of the table has a node that is made, and its own.
 pub record HaveNodes {E P : Type 0} (node : E → ℕ) (t : Table (Single E)) (links : List (Spot P)) : Type 0 where
   pub made : (rep : ℕ) (p : Placed (Single E)) → place_at t rep ≡ Some p → is_made links (node p.entry.item) ≡ true
-  pub own : (r s : ℕ) (p q : Placed (Single E)) → place_at t r ≡ Some p → place_at t s ≡ Some q → node p.entry.item ≡ node q.entry.item → r ≡ s
+  pub own : (r s : ℕ) (p q : Placed (Single E)) → place_at t r ≡ Some p → place_at t s ≡ Some q →
+      node p.entry.item ≡ node q.entry.item → r ≡ s

@@ -60,7 +60,18 @@ bare_thread g = record g { thread = loose_thread g.thread }
 -- of calls and works two fields are only counted
 abbrev pub loose_call : Call → Call
 loose_call c =
-    record c { kind = kind.Sync; started = false; starting_published = false; «end» = None; own_event = None; cancel_delivered = false; exited = false; result = None; handle = None; borrows = 0 }
+    record c {
+      kind = kind.Sync;
+      started = false;
+      starting_published = false;
+      «end» = None;
+      own_event = None;
+      cancel_delivered = false;
+      exited = false;
+      result = None;
+      handle = None;
+      borrows = 0;
+    }
 
 abbrev pub uninterested : Call → Call
 uninterested c = record c { interesting = false }
@@ -121,7 +132,8 @@ pub record HaveRowNodes (p : Parts) : Type 0 where
   pub shelves : HaveNodes (λ (g : GuestThread). g.shelf.index) p.threads p.shelves
   pub callers : HaveNodes (λ (g : GuestThread). g.caller.index) p.threads p.behind
   pub works : HaveNodes (λ (w : HostWork). w.mark.index) p.works p.marks
-  pub apart : (r s : ℕ) (q : Placed (Single GuestThread)) (w : Placed (Single HostWork)) → place_at p.threads r ≡ Some q → place_at p.works s ≡ Some w → q.entry.item.mark.index ≡ w.entry.item.mark.index → ⊥
+  pub apart : (r s : ℕ) (q : Placed (Single GuestThread)) (w : Placed (Single HostWork)) → place_at p.threads r ≡ Some q →
+      place_at p.works s ≡ Some w → q.entry.item.mark.index ≡ w.entry.item.mark.index → ⊥
 
 -- Kept numbers, the groups that the trap finished, the rows of a core that has instances or host works, and room for results.
 pub record AreCounted (p : Parts) : Type 0 where

@@ -44,6 +44,9 @@ take_whole [] (suc k) few = refl
 take_whole (n ∷ ns) zero few = absurd (omega (arith, few))
 take_whole (n ∷ ns) (suc k) few = ap (λ (ms : List Notice). n ∷ ms) (take_whole ns k (omega (arith, few)))
 
+less_none : (k : ℕ) → k - 0 ≡ k
+less_none k = omega arith
+
 abbrev told_of_run : (x : ScenarioDef) (ls : List Label) (t : State) → Run (setting_of x) (opens x) ls t → List Notice
 told_of_run x ls t run = notices (history (setting_of x) (opens x) ls t run)
 
@@ -59,7 +62,7 @@ room_suffices x ls t run steps few =
     omega (arith, all, none, few)
 
 -- a run was driven, and its notices were told
-DrivesTold : (old new : Groups) (t : State) (after : List Label) (steps : ℕ) (o : Outcome) → Setting → State → List Label → Type 0
+abbrev DrivesTold : (old new : Groups) (t : State) (after : List Label) (steps : ℕ) (o : Outcome) → Setting → State → List Label → Type 0
 DrivesTold old new t after steps o y s before =
     (d : Drives y s before t after steps o) × Told (notices (history y s d.added t d.run)) old.listeners new.listeners
 
@@ -84,7 +87,7 @@ headline x keeps y s t before after steps o core old new setting start none imag
       once = keeps.once after t run;
       alone = keeps.alone after t run;
       told = both.1.kept ∙ (ap (λ (l : Listeners). l.notices ++ take (l.room - length l.notices) (told_of_run x after t run)) room
-          ∙ take_whole (told_of_run x after t run) (2 * steps + 512) (room_suffices x after t run steps (subst (λ (ls : List Label). length ls ≤ steps) (sym d.trace) d.few)));
+          ∙ (ap (λ (k : ℕ). take k (told_of_run x after t run)) (less_none (2 * steps + 512)) ∙ take_whole (told_of_run x after t run) (2 * steps + 512) (room_suffices x after t run steps (subst (λ (ls : List Label). length ls ≤ steps) (sym d.trace) d.few))));
     }
 
 -- a run has what it needs of a scenario that a text stands for

@@ -34,7 +34,8 @@ machine_ops ops = map machine_op ops
 -- Each export that the script calls is the component's, and takes as many words, and each host that it spawns is there.
 pub record SuitsOps (ops : List MainOp) (c : Component) : Type 0 where
   pub spawns : (i h : ℕ) → slice_get ops i ≡ Some (op.Spawn h) → IsSome (slice_get c.hosts h)
-  pub starts : (i : ℕ) (f : Func) (xs : List Operand) → slice_get ops i ≡ Some (op.Start f xs) → (e : ExportDef) × ((export_at c (callee_of f) ≡ Some e) × (length xs ≡ e.params))
+  pub starts : (i : ℕ) (f : Func) (xs : List Operand) → slice_get ops i ≡ Some (op.Start f xs) →
+      (e : ExportDef) × ((export_at c (callee_of f) ≡ Some e) × (length xs ≡ e.params))
 
 abbrev pub started_of : Start → Started
 started_of (start.Called n) = Began n
@@ -42,7 +43,8 @@ started_of (start.Refused why) = Refused why
 
 -- where the script is
 abbrev pub place_of : ScriptMain → MainPlace
-place_of m = record { position = m.at; registers = m.registers; starts = map started_of m.starts.items; spawns = map (λ h. h.number) m.spawns.items }
+place_of m =
+    record { position = m.at; registers = m.registers; starts = map started_of m.starts.items; spawns = map (λ h. h.number) m.spawns.items }
 
 abbrev pub part_of : ScriptMain → Main
 part_of m = Scripted (place_of m)

@@ -68,13 +68,15 @@ EndsAt end status = (end.status ≡ status) × IsNone end.report
 -- How `run n` ended of a text that was read whole, one line a status: `old` and `new` are what the sink holds.
 pub data TextEnded (n : ℕ) (all : List ℕ) (old new : Option (List ℕ)) (end : ToolEnd) : Type 0 where
   -- 0: the report of a run of the scenario that the text stands for is written
-  Reported : (r : Report) → end.status ≡ 0 → end.report ≡ Some r → IsReportOf all n r → Appends old new (texts.text r.trace r.outcome) → TextEnded n all old new end
+  Reported : (r : Report) → end.status ≡ 0 → end.report ≡ Some r → IsReportOf all n r → Appends old new (texts.text r.trace r.outcome) →
+      TextEnded n all old new end
   -- 1: memory was wanting
   NoneReported : EndsAt end 1 → TextEnded n all old new end
   -- 3: the text is outside the grammar, and its bad line is written
   SaidBadLine : EndsAt end 3 → (line : ℕ) → IsBadLine all line → Appends old new (bad_line_text line) → TextEnded n all old new end
   -- 5: a front of the one or the other is written
-  ReportCut : EndsAt end 5 → (r : Report) → IsReportOf all n r → IsFront old new (texts.text r.trace r.outcome) → TextEnded n all old new end
+  ReportCut : EndsAt end 5 → (r : Report) → IsReportOf all n r → IsFront old new (texts.text r.trace r.outcome) →
+      TextEnded n all old new end
   BadLineCut : EndsAt end 5 → (line : ℕ) → IsBadLine all line → IsFront old new (bad_line_text line) → TextEnded n all old new end
 
 -- The text is all that the source gave, where it tells that, and is no longer than a text may be.
@@ -86,11 +88,14 @@ pub data RunEnded (n : ℕ) (before after old new : Option (List ℕ)) (end : To
   -- 0, 1, 3 or 5 of all that there was to read
   ReadWhole : (text : List ℕ) → IsAllOf before after text → TextEnded n text old new end → RunEnded n before after old new end
   -- 6: more was read than a text may have, and the line that says so is written
-  SaidTooLong : EndsAt end 6 → ((all : List ℕ) → before ≡ Some all → IsTooLong all after) → Appends old new too_long_text → RunEnded n before after old new end
+  SaidTooLong : EndsAt end 6 → ((all : List ℕ) → before ≡ Some all → IsTooLong all after) → Appends old new too_long_text →
+      RunEnded n before after old new end
   -- 5: a front of that line is written
-  TooLongCut : EndsAt end 5 → ((all : List ℕ) → before ≡ Some all → IsTooLong all after) → IsFront old new too_long_text → RunEnded n before after old new end
+  TooLongCut : EndsAt end 5 → ((all : List ℕ) → before ≡ Some all → IsTooLong all after) → IsFront old new too_long_text →
+      RunEnded n before after old new end
   -- 1 or 4: memory was wanting, or the source failed, after some bytes were read
-  Unread : EndsAt end 1 ⊎ EndsAt end 4 → ((all : List ℕ) → before ≡ Some all → (taken : List ℕ) × IsTaken all taken after) → RunEnded n before after old new end
+  Unread : EndsAt end 1 ⊎ EndsAt end 4 → ((all : List ℕ) → before ≡ Some all → (taken : List ℕ) × IsTaken all taken after) →
+      RunEnded n before after old new end
 
 -- How `make n` ended.
 pub data MakeEnded (n : ℕ) (old new : Option (List ℕ)) (end : ToolEnd) : Type 0 where
@@ -100,7 +105,8 @@ pub data MakeEnded (n : ℕ) (old new : Option (List ℕ)) (end : ToolEnd) : Typ
 
 -- How `big n k` ended: the report is of a run of the generated scenario.
 pub data BigEnded (n k : ℕ) (old new : Option (List ℕ)) (end : ToolEnd) : Type 0 where
-  Summed : (r : Report) → end.status ≡ 0 → end.report ≡ Some r → IsReportOf (gen n) k r → Appends old new (summary r.trace r.outcome) → BigEnded n k old new end
+  Summed : (r : Report) → end.status ≡ 0 → end.report ≡ Some r → IsReportOf (gen n) k r → Appends old new (summary r.trace r.outcome) →
+      BigEnded n k old new end
   NoneSummed : EndsAt end 1 → BigEnded n k old new end
   SummaryCut : EndsAt end 5 → (r : Report) → IsReportOf (gen n) k r → IsFront old new (summary r.trace r.outcome) → BigEnded n k old new end
 

@@ -6,6 +6,7 @@ use Rattle.std.specs.Prelude.{Bool, IsSome, None, Option, Some, cond, false, is_
 use Rattle.host_works.specs.Course.{left_after, told}
 use Rattle.host_works.specs.Kept.{HoldsNone, held}
 use Rattle.host_works.specs.declared.kept.HostWorks.{HostWorks}
+use Rattle.host_works.specs.declared.work.HostPoll.{HostPoll}
 use Rattle.task_laws.proofs.CourseLemmas.{courses_stay, works_are_called}
 use Rattle.task_laws.specs.Courses.{CallsHost, CoursesStay, MakesWork, SameCourse, Spawns, WorksAreCalled}
 use Rattle.task_machine.proofs.CommuteLemmas.{get-change}
@@ -29,6 +30,7 @@ use Rattle.task_machine.specs.declared.records.WorkCaller.{WorkCaller}
 use Rattle.task_machine.specs.declared.records.WorkCaller.TheVariants as callers
 use Rattle.task_machine.specs.declared.words.Phase.{Phase}
 use Rattle.task_machine.specs.declared.words.Phase.TheVariants as phases
+use Rattle.task_ops.specs.Polled.{TellsPoll}
 use Rattle.task_rules.specs.Calls.{new_work, work_queued}
 use Rattle.task_rules.specs.Laws.{LaterBy}
 use Rattle.task_rules.specs.MainOps.{main_aborted}
@@ -39,7 +41,7 @@ use Rattle.task_rules.specs.Step.{FuturesStep, Polled, Step}
 use Rattle.task_rules.specs.Turns.{at_turn, nothing_stands, settled_futures, settled_take}
 use Rattle.task_rules.specs.Works.{Ends, FailsNow, Poll, StillPends, course_for, followed, has_end, next_polled, poll_ends, poll_of, poll_pends, polled_again, polled_course, polled_in}
 use Rattle.task_store.specs.Hosts.{HoldsHosts, HoldsWorks, WorksNumbered, held_by}
-use Rattle.task_store.specs.Polled.{Fits, Tells, is_over, polled_core}
+use Rattle.task_store.specs.Polled.{Fits, Tells, is_over, polled_core, told_of}
 use Rattle.task_store.specs.declared.store.Store.{Store}
 use Rattle.task_turns.specs.Turn.{IsSettled, state_at}
 
@@ -303,6 +305,34 @@ module _ (i : ℕ) (s : Core) (left right : ℕ → Option HostDef) where
     others = λ j e. is j ∙ rw (apart i j e) refl;
     fits = going_fits d.0 going d.1 was (is i ∙ (own (option_and_then left_after (left i)) ∙ ap (λ (o : Option HostDef). option_and_then left_after o) was));
   }
+
+-- a work that is polled tells what the machine finds
+told_again : (polls value : Option ℕ) → let d : HostDef = record { polls = polls; value = value } in TellsPoll (told_of (told d)) (polled_again d polls)
+told_again None v = refl
+told_again (Some zero) None = refl
+told_again (Some zero) (Some v) = refl
+told_again (Some (suc n)) v = refl
+
+pub tells_answer : (i : ℕ) (s : Core) (left : ℕ → Option HostDef) (answer : HostPoll) → is_over i s ≡ false → HoldsWorks left s → option_map told (left i) ≡ Some answer → TellsPoll (told_of answer) (poll_of i s)
+unfolding poll_of
+tells_answer i s left answer going h is = by (phase_of i s) going
+  where
+    d : HostDef
+    d = (going_on i s left left going).0
+
+    goes : course_of i s ≡ courses.Goes d
+    goes = (going_on i s left left going).1
+
+    same : told d ≡ answer
+    same = let was = ap (λ (o : Option HostDef). option_map told o) (h.there i d goes) in cc
+
+    polled : TellsPoll (told_of answer) (polled_course (course_of i s))
+    polled = rw (goes, ← same) (told_again d.polls d.value)
+
+    by : (p : Phase) → (is_aborted p || has_end (course_of i s)) ≡ false → TellsPoll (told_of answer) (polled_in p (course_of i s))
+    by phases.AbortRequested h = absurd (cc)
+    by phases.Running h = polled
+    by phases.Complete h = polled
 
 -- after the poll of the next work
 pub holds_next : (x : Setting) (s t : Core) (n i : ℕ) (l : Label) (p : Turn) (left right : ℕ → Option HostDef) → next_polled n s ≡ Some i →

@@ -17,4 +17,5 @@ module _ (T P H G : RattleType) (g : Ghosts G.Denot) where
   -- the value of that store is what this makes of it and of the last value that was left in the part lent
   abbrev pub LendsPart : (D : RattleType) → MutBor access_row.Denot → MutBor D.Denot → (T.Denot → D.Denot → T.Denot) → Fml
   LendsPart D a r with_part =
-      Lends access_row D a r (λ part. let s = a.now.store.now in record a.now { store = record a.now.store { now = record s { value = with_part s.value part } } })
+      Lends access_row D a r (λ part. let s = a.now.store.now in
+      record a.now { store = record a.now.store { now = record s { value = with_part s.value part } } })

@@ -49,7 +49,8 @@ module _ {T H : Type 0} where
     pub holds : P left
 
   -- the call is refused, and the slot is as before; or P holds of the store, of what the call gave, and of what it left in the store
-  abbrev pub Gets : {R : Type 0} → Held T H → Result R SlotError → Held T H → (MutBor (Store T H NoHook) → R → MutBor (Store T H NoHook) → Type 0) → Type 0
+  abbrev pub Gets : {R : Type 0} → Held T H → Result R SlotError → Held T H → (MutBor (Store T H NoHook) → R → MutBor (Store T H NoHook) → Type 0) →
+      Type 0
   Gets helds.Absent r new P = (r ≡ Err errors.Absent) × (new ≡ helds.Absent)
   Gets helds.Taken r new P = (r ≡ Err errors.Taken) × (new ≡ helds.Taken)
   Gets {R} (helds.Store store) r new P = (v : R) × (r ≡ Ok v) × Stays store new (P store v)
@@ -71,4 +72,5 @@ module _ {T H : Type 0} where
   Tries helds.Absent new P = (new ≡ helds.Absent) × (z : TryGet T H) × P founds.None absent z
   Tries helds.Taken new P = (new ≡ helds.Taken) × (z : TryGet T H) × P founds.Taken taken z
   Tries (helds.Store store) new P =
-      (shown : MutBor (Store T H NoHook)) × (z : TryGet T H) × (shown.now ≡ store.now) × P (founds.Some shown) taken z × Stays store new (λ left. Leaves shown.ghost_name z left.now)
+      (shown : MutBor (Store T H NoHook)) × (z : TryGet T H) × (shown.now ≡ store.now) × P (founds.Some shown) taken z ×
+      Stays store new (λ left. Leaves shown.ghost_name z left.now)

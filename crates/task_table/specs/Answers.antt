@@ -41,7 +41,8 @@ module _ {E C P : Type 0} where
   abbrev pub pair_refusal : (E → Option C) → (E → Option P) → Option (Placed E) → Option (Placed E) → Option ResourceTableError
   pair_refusal child_in parent_in None p = Some NotPresent
   pair_refusal child_in parent_in (Some c) None = Some NotPresent
-  pair_refusal child_in parent_in (Some c) (Some p) = if is_some (child_in c.entry) && is_some (parent_in p.entry) then None else Some WrongType
+  pair_refusal child_in parent_in (Some c) (Some p) =
+      if is_some (child_in c.entry) && is_some (parent_in p.entry) then None else Some WrongType
 
 module _ {E : Type 0} where
   -- the place of the parent, if there is an entry and it has one

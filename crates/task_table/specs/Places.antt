@@ -48,7 +48,8 @@ module _ {E : Type 0} where
 
   -- each slot counts the entries whose parent it is, and one more at this place
   abbrev pub IsCountedBut : List (Place E) → Option ℕ → Type 0
-  IsCountedBut ps more = (rep : ℕ) → children_at ps rep ≡ count_by (is_child_of rep) (map placed_in ps) + (if is_number rep more then 1 else 0)
+  IsCountedBut ps more = (rep : ℕ) →
+      children_at ps rep ≡ count_by (is_child_of rep) (map placed_in ps) + (if is_number rep more then 1 else 0)
 
   -- each slot counts the entries whose parent it is
   abbrev pub IsCounted : List (Place E) → Type 0

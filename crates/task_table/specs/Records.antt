@@ -1,4 +1,5 @@
--- The records that the entries of a table hold, by their numbers. A key tells of an entry its number and its record, and None where the entry is of another kind.
+-- The records that the entries of a table hold, by their numbers. A key tells of an entry its number and its record, and None where the
+-- entry is of another kind.
 --     records key places                 the map of the records
 --     found_record key n places          the record of number n
 --     number_of key t rep serial         the number of the entry that an id finds

@@ -1,12 +1,14 @@
 -- Steps whose labels are in the trace.
 use Rattle.op_dispatch.specs.Polls.{polled_host}
-use Rattle.std.proofs.Common.{inl, refl, subst, sym, ◌∙◌}
-use Rattle.std.specs.Prelude.{Bool, Err, IfOk, List, None, Ok, Option, Result, Some, false, true, ℕ, ◌+◌, ◌<◌, ◌≡◌, ◌≤◌}
+use Rattle.std.proofs.Common.{ap, inl, refl, subst, sym, ◌∙◌}
+use Rattle.std.specs.Prelude.{Bool, Err, IfOk, IfSome, List, None, Ok, Option, Result, Some, false, option_map, ℕ, ◌+◌, ◌<◌, ◌≡◌, ◌≤◌}
 use Rattle.task_machine.specs.Core.{Core, Main, State}
 use Rattle.task_machine.specs.Labels.{choice_of}
 use Rattle.task_machine.specs.Read.{how_far_of, next_entry, place_of}
 use Rattle.task_machine.specs.declared.component.Component.{Component}
 use Rattle.task_machine.specs.declared.label.Label.{Label}
+use Rattle.task_machine.specs.declared.label.Label.TheVariants as label
+use Rattle.task_machine.specs.declared.label.TakeLabel.TheVariants as take_label
 use Rattle.task_machine.specs.declared.memory.NoMemory.{NoMemory}
 use Rattle.task_machine.specs.declared.op.Op.{Op}
 use Rattle.task_machine.specs.declared.outcome.Outcome.{Outcome}
@@ -19,26 +21,30 @@ use Rattle.task_ops.specs.Came.{Meets}
 use Rattle.task_ops.specs.Stays.{StaysAfter}
 use Rattle.task_ops.specs.Steps.{label_of}
 use Rattle.task_ops.specs.declared.came.Came.{Came}
+use Rattle.task_ops.specs.declared.came.Came.TheVariants as came
 use Rattle.task_rules.specs.Progress.{Progress}
 use Rattle.task_rules.specs.Scripts.{op_of}
 use Rattle.task_rules.specs.Stalled.{Setting}
-use Rattle.task_rules.specs.Step.{did, op_row}
-use Rattle.task_rules.specs.Takes.{popped, thread_taken}
+use Rattle.task_rules.specs.Step.{Step, did, op_row}
+use Rattle.task_rules.specs.Takes.{host_row, popped, pushed, thread_taken}
 use Rattle.task_table.specs.declared.id.TableId.{TableId}
 use Rattle.task_turns.proofs.DriveLemmas.{on_ends, on_more, on_turned_none}
 use Rattle.task_turns.proofs.IdleLemmas.{after_free, free_at}
-use Rattle.task_turns.proofs.RunLemmas.{ran_at, took}
+use Rattle.task_turns.proofs.RunLemmas.{host_over, ran_at, took, took_host, took_push}
 use Rattle.task_turns.specs.Drive.{Drove, IsOn}
 use Rattle.task_turns.specs.Ran.{RanPolls}
 use Rattle.task_turns.specs.Stepped.{Added, AddedOrNone, RowRan, RowShown, RowStep, RunAdded, Shown, StepPolls, made_by}
-use Rattle.task_turns.specs.Turn.{IsFree, Makes, Turned, Turns, is_open}
+use Rattle.task_turns.specs.Turn.{IsFree, Makes, Turned, Turns, is_open, running_of, runs_in, state_at}
 use Rattle.task_turns.specs.declared.made.Made.{Made}
 use Rattle.task_turns.specs.declared.made.RunStep.{RunStep}
 use Rattle.task_turns.specs.declared.made.RunStep.TheVariants as run_step
 use Rattle.task_turns.specs.declared.made.Stepped.{Stepped}
 use Rattle.task_turns.specs.declared.made.Stepped.TheVariants as stepped
+use Rattle.task_wait.specs.declared.keys.HostTaskKey.{HostTaskKey}
 use Rattle.task_wait.specs.declared.keys.ThreadKey.{ThreadKey}
-use Rattle.task_words.specs.StateView.{StateView, thread_of}
+use Rattle.task_words.specs.Names.{entry_in}
+use Rattle.task_words.specs.StateView.{StateView, on_core, thread_of, work_of}
+use Rattle.task_words.specs.declared.names.EntryId.{EntryId}
 
 -- a turn in which nothing more is made
 pub closed : (p : Turn) → is_open p ≡ false → p ≡ turn.Over
@@ -124,6 +130,47 @@ take_added c ended mark id n s u v t r stepped before after number base next mee
       over = shown.over;
     } in
     (made, (shown.stands, (makes, after_free r)))
+
+-- ---- An entry that was taken
+
+-- what the word took stood first
+pub next_is : (s : StateView) (r : Option (Mark × EntryId)) (mark : Mark) (e : EntryId) → option_map (λ (x : Mark × EntryId). (x.0, entry_in s.tags x.1)) r ≡ next_entry s.core → r ≡ Some (mark, e) → next_entry s.core ≡ Some (mark, entry_in s.tags e)
+next_is s r mark e next is = sym next ∙ ap (option_map (λ (x : Mark × EntryId). (x.0, entry_in s.tags x.1))) is
+
+-- and has left its mark
+pub left_is : (s u : StateView) (r : Option (Mark × EntryId)) (mark : Mark) (e : EntryId) → IfSome r (λ x. u ≡ on_core (popped x.0) s) → r ≡ Some (mark, e) → u ≡ on_core (popped mark) s
+left_is s u r mark e left is = subst (λ (o : Option (Mark × EntryId)). IfSome o (λ x. u ≡ on_core (popped x.0) s)) is left
+
+-- what the taking of a push shows
+abbrev pub push_made : Mark → ℕ → Made
+push_made mark i = record { label = label.Take (take_label.Push mark i); turn = turn.Main }
+
+module _ (c : Component) (ended : Bool) (mark : Mark) (id : TableId HostTaskKey) (s u t : StateView) (made : Made) (none : s.current ≡ None) (left : u ≡ on_core (popped mark) s) where
+  -- a push that was taken is a step
+  pub push_makes : next_entry s.core ≡ Some (mark, entry.Push (work_of s id)) → made ≡ push_made mark (work_of u id) → t ≡ on_core (pushed (work_of u id)) u
+      → Makes c (turn.Take ended) s made t × IsFree made.turn
+  push_makes next is new =
+      let whole = new ∙ ap (λ (v : StateView). on_core (pushed (work_of v id)) v) left in
+      let makes : Makes c (turn.Take ended) s (push_made mark (work_of s id)) t = record {
+        step = took_push c ended mark (work_of s id) s t next (ap (λ (v : StateView). v.core) whole);
+        running = ap running_of whole ∙ ap (option_map (λ k. thread_of s k)) none;
+        over = refl;
+      } in
+      subst (λ (m : Made). Makes c (turn.Take ended) s m t × IsFree m.turn) (sym (is ∙ ap (λ (v : StateView). push_made mark (work_of v id)) left)) (makes, λ x k m. tt)
+
+  -- so is the entry of an ended host work
+  pub host_makes : next_entry s.core ≡ Some (mark, entry.Host (work_of s id)) → Meets (host_row mark (work_of u id) (choice_of made.label).woken u.core) u.core (came.Stops made.label) t.core → t.current ≡ u.current → made.turn ≡ turn.Main
+      → Makes c (turn.Take ended) s made t × IsFree made.turn
+  host_makes next meets current turn_is =
+      let i = work_of s id in
+      let named = subst (λ k. Meets (host_row mark k (choice_of made.label).woken u.core) u.core (came.Stops made.label) t.core) (ap (λ (v : StateView). work_of v id) left) meets in
+      let makes : Makes c (turn.Take ended) s made t = record {
+        step = λ x component m. subst (λ (p : Turn). Step x (state_at s.core m (turn.Take ended)) made.label (state_at t.core m p)) (sym turn_is)
+            (took_host c ended mark i s u t (came.Stops made.label) made.label (ap (λ (v : StateView). v.core) left) next named refl x component m);
+        running = ap (option_map (λ k. thread_of t k)) (current ∙ (ap (λ (v : StateView). v.current) left ∙ none)) ∙ sym (ap runs_in turn_is);
+        over = host_over mark i (choice_of made.label).woken u.core t.core (came.Stops made.label) made.label named refl ∙ sym (ap is_open turn_is);
+      } in
+      (makes, free_at _ _ turn_is (λ x k m. tt))
 
 -- ---- A run that is driven
 

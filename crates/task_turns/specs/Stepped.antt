@@ -24,8 +24,10 @@ use Rattle.task_words.specs.StateView.{StateView, thread_of}
 
 -- The label of the step was added, and what is left to tell is whose turn it is then, or the outcome that the label gives.
 abbrev pub Stands : Stepped → List Label → Made → List Label → Type 0
-Stands (stepped.Goes p computed) before made after = (after ≡ before ++ made.label ∷ []) × ((made.turn ≡ p) × (outcome_of_label made.label ≡ None))
-Stands (stepped.Over o) before made after = (after ≡ before ++ made.label ∷ []) × ((made.turn ≡ turn.Over) × (outcome_of_label made.label ≡ Some o))
+Stands (stepped.Goes p computed) before made after =
+    (after ≡ before ++ made.label ∷ []) × ((made.turn ≡ p) × (outcome_of_label made.label ≡ None))
+Stands (stepped.Over o) before made after =
+    (after ≡ before ++ made.label ∷ []) × ((made.turn ≡ turn.Over) × (outcome_of_label made.label ≡ Some o))
 
 -- Such a step was made as this says of it.
 abbrev pub Added : (Made → Type 0) → Stepped → List Label → List Label → Type 0
@@ -41,7 +43,8 @@ abbrev pub made_by : ℕ → Came → Made
 made_by n r = record { label = label_of n r; turn = turn_after r }
 
 -- What the op came to is in the trace, and the strand is gone where it trapped.
-pub record Shown (id : TableId ThreadKey) (r : Came) (s : StateView) (before : List Label) (stepped : Stepped) (t : StateView) (after : List Label) : Type 0 where
+pub record Shown (id : TableId ThreadKey) (r : Came) (s : StateView) (before : List Label) (stepped : Stepped) (t : StateView)
+    (after : List Label) : Type 0 where
   pub stands : Stands stepped before (made_by (thread_of s id) r) after
   pub core : t.core ≡ core_after (thread_of s id) r s.core
   pub running : running_of t ≡ runs_in (turn_after r)
@@ -49,7 +52,8 @@ pub record Shown (id : TableId ThreadKey) (r : Came) (s : StateView) (before : L
   pub over : is_none (outcome_of_label (label_of (thread_of s id) r)) ≡ is_open (turn_after r)
 
 -- The op of the thread came to what its row says, and what it shows is in the trace.
-pub record RowShown (row : Came → Progress) (id : TableId ThreadKey) (s : StateView) (before : List Label) (stepped : Stepped) (t : StateView) (after : List Label) : Type 0 where
+pub record RowShown (row : Came → Progress) (id : TableId ThreadKey) (s : StateView) (before : List Label) (stepped : Stepped)
+    (t : StateView) (after : List Label) : Type 0 where
   pub came : Came
   pub left : StateView
   pub meets : Meets (row came) s.core came left.core
@@ -70,7 +74,8 @@ pub record RowRan (row : Came → Progress) (id : TableId ThreadKey) (s : StateV
 
 -- A step of the running thread was made as this says of it: it polled no host and its label was added, or nothing was added.
 abbrev pub RunAdded : (Ran → Type 0) → RunStep → List Label → List Label → Type 0
-RunAdded P (run_step.Shown stepped) before after = Added (λ made. P (record { made = made; polled = None; work = None })) stepped before after
+RunAdded P (run_step.Shown stepped) before after =
+    Added (λ made. P (record { made = made; polled = None; work = None })) stepped before after
 RunAdded P (run_step.Called ran) before after = P ran × (after ≡ before)
 
 -- either of these

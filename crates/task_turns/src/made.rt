@@ -10,7 +10,9 @@ ghost use Rattle.task_turns.specs.Turn.{CanStrike, GoesOn, is_going, is_open, ru
 ghost use Rattle.task_words.specs.StateView.{thread_of};
 
 use label_trace::Trace;
-use task_machine::{CallLabel, HostDef, Label, LoopLabel, MainLabel, NoMemory, Outcome, Turn};
+use task_machine::{
+    CallLabel, HostDef, Label, LoopLabel, MainLabel, NoMemory, Outcome, Trap, Turn,
+};
 use task_ops::{Came, strike};
 use task_words::{ThreadId, Words, WorkId};
 
@@ -165,6 +167,40 @@ fn show_fall<W: Words>(
     put(trace, made)
 }
 
+// Adds what a trap shows to the trace. It is inlined, so that what a trap needs in memory is made where one comes.
+#[inline(always)]
+fn show_trap<W: Words>(
+    w: &mut W,
+    thread: ThreadId,
+    trace: &mut Trace,
+    trap: Trap,
+) -> Result<Stepped, NoMemory>
+    requires strikes { CanStrike (Came.Traps trap) (thread_of (W.view w.old) thread) (W.view w.old).core }
+    requires goes { GoesOn (Came.Traps trap) (W.view w.old) }
+    ensures shown { IfOk result (λ stepped. Shown thread (Came.Traps trap) (W.view w.old) trace.old stepped (W.view w.new) trace.new) }
+    ensures works { KeepsWorks (W.view w.old) (W.view w.new) }
+    ensures err { OnErr result (trace.new ≡ trace.old) }
+{
+    show_fall(w, thread, trace, Came::Traps(trap))
+}
+
+// The same of a host that failed.
+#[inline(always)]
+fn show_failure<W: Words>(
+    w: &mut W,
+    thread: ThreadId,
+    trace: &mut Trace,
+    work: u64,
+) -> Result<Stepped, NoMemory>
+    requires strikes { CanStrike (Came.Fails work) (thread_of (W.view w.old) thread) (W.view w.old).core }
+    requires goes { GoesOn (Came.Fails work) (W.view w.old) }
+    ensures shown { IfOk result (λ stepped. Shown thread (Came.Fails work) (W.view w.old) trace.old stepped (W.view w.new) trace.new) }
+    ensures works { KeepsWorks (W.view w.old) (W.view w.new) }
+    ensures err { OnErr result (trace.new ≡ trace.old) }
+{
+    show_fall(w, thread, trace, Came::Fails(work))
+}
+
 /// Adds what an op that came to this shows to the trace. A strand that trapped is taken away. `computed` says that
 /// the op was on registers and words. It is inlined, so that a label is packed where it is made.
 #[inline(always)]
@@ -201,7 +237,7 @@ pub(crate) fn show<W: Words>(
                 computed,
             })
         }
-        Came::Traps(trap) => show_fall(w, thread, trace, Came::Traps(trap)),
-        Came::Fails(work) => show_fall(w, thread, trace, Came::Fails(work)),
+        Came::Traps(trap) => show_trap(w, thread, trace, trap),
+        Came::Fails(work) => show_failure(w, thread, trace, work),
     }
 }

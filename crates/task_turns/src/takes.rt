@@ -1,21 +1,25 @@
 //! The taking of an entry of a thread.
 ghost use Rattle.group_laws.specs.Tells.{entry_group};
-ghost use Rattle.std.specs.Prelude.{◌≡◌, Bool, IfOk, None, OnErr, OnOk, Some};
+ghost use Rattle.std.specs.Prelude.{◌≡◌, ◌<◌, Bool, IfOk, None, OnErr, OnOk, Some};
 ghost use Rattle.task_machine.specs.Labels.{choice_of};
 ghost use Rattle.task_machine.specs.Moves.{why_of};
 ghost use Rattle.task_machine.specs.Read.{admits, next_entry, place_of};
 ghost use Rattle.task_machine.specs.declared.component.Component.{Component};
-ghost use Rattle.task_machine.specs.declared.records.Entry.TheVariants as entries;
+ghost use Rattle.task_machine.specs.declared.label.Label.TheVariants as labels;
+ghost use Rattle.task_machine.specs.declared.label.TakeLabel.TheVariants as take_labels;
+ghost use Rattle.task_machine.specs.declared.records.Subtask.TheVariants as subtasks;
 ghost use Rattle.task_machine.specs.declared.records.Why.TheVariants as whys;
+ghost use Rattle.task_moves.specs.Idle.{IsJoinThere};
 ghost use Rattle.task_ops.specs.Came.{Meets};
 ghost use Rattle.task_ops.specs.Stays.{StaysAfter};
 ghost use Rattle.task_ops.specs.Steps.{label_of};
 ghost use Rattle.task_ops.specs.Works.{KeepsWorks};
-ghost use Rattle.task_rules.specs.Takes.{delivery_row, popped, thread_taken};
-ghost use Rattle.task_turns.specs.Stepped.{Added, AddedOrNone};
+ghost use Rattle.task_rules.specs.Places.{Placed};
+ghost use Rattle.task_rules.specs.Takes.{delivery_row, host_row, pushed, thread_taken};
+ghost use Rattle.task_turns.specs.Stepped.{AddedOrNone, RowShown};
 ghost use Rattle.task_turns.specs.Taken.{FindsSet, Taken};
-ghost use Rattle.task_turns.specs.Turn.{IsFree, Makes, Shows, Sits, Took};
-ghost use Rattle.task_words.specs.StateView.{thread_of, work_of};
+ghost use Rattle.task_turns.specs.Turn.{Shows, Sits, Took};
+ghost use Rattle.task_words.specs.StateView.{on_core, thread_of, with_current, work_of};
 
 use crate::made::{Made, Stepped, put, show};
 use label_trace::Trace;
@@ -141,6 +145,8 @@ pub fn step_take<W: Words>(
     ensures works { OnOk result (KeepsWorks (W.view w.old) (W.view w.new)) }
     ensures err { OnErr result (trace.new ≡ trace.old) }
 {
+    let _component = component;
+    w.none_is_zero();
     match w.take_next() {
         None => Ok(None),
         Some((mark, EntryId::Thread(thread))) => {

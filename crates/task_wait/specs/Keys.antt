@@ -28,4 +28,5 @@ serial (Transmit id) = id.serial
 
 -- by the kind, then by the id's place, then by its serial
 abbrev pub waitable_order : Waitable → Waitable → Ordering
-waitable_order a b = ordering_then (nat_cmp (kind_number a) (kind_number b)) (ordering_then (nat_cmp (place a) (place b)) (nat_cmp (serial a) (serial b)))
+waitable_order a b =
+    ordering_then (nat_cmp (kind_number a) (kind_number b)) (ordering_then (nat_cmp (place a) (place b)) (nat_cmp (serial a) (serial b)))

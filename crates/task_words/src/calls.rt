@@ -22,30 +22,39 @@ pub trait CallWords: View {
     fn call_number(&self, call: CallId) -> u64
         ensures { result ≡ call_of (Self.view self.now) call };
 
+    /// The export that the call is of.
     fn callee(&self, call: CallId) -> Callee
         ensures { result ≡ callee_of (call_of (Self.view self.now) call) (Self.view self.now).core };
 
+    /// The kind of the call's export.
     fn kind(&self, call: CallId) -> ExportKind
         ensures { result ≡ kind_of (call_of (Self.view self.now) call) (Self.view self.now).core };
 
+    /// Where the call's result goes.
     fn goal(&self, call: CallId) -> Goal
         ensures { result ≡ goal_of (call_of (Self.view self.now) call) (Self.view self.now).core };
 
+    /// Who made the call: main, or a thread, whose id names nothing where it is gone.
     fn caller(&self, call: CallId) -> CallerId
         ensures { caller_in (Self.view self.now).tags result ≡ live_caller (caller_of (call_of (Self.view self.now) call) (Self.view self.now).core) (Self.view self.now).core };
 
+    /// How the call has ended, if it has.
     fn end_of(&self, call: CallId) -> Option<CallEnd>
         ensures { result ≡ end_of (call_of (Self.view self.now) call) (Self.view self.now).core };
 
+    /// Whether the call's start has run.
     fn was_started(&self, call: CallId) -> bool
         ensures { result ≡ was_started (call_of (Self.view self.now) call) (Self.view self.now).core };
 
+    /// Whether the caller was told that the call is Starting.
     fn starting_is_published(&self, call: CallId) -> bool
         ensures { result ≡ starting_is_published (call_of (Self.view self.now) call) (Self.view self.now).core };
 
+    /// The task's own event, if one is there.
     fn own_event(&self, call: CallId) -> Option<OwnEvent>
         ensures { result ≡ own_event_of (call_of (Self.view self.now) call) (Self.view self.now).core };
 
+    /// Whether a cancel request has come to the task.
     fn cancel_was_delivered(&self, call: CallId) -> bool
         ensures { result ≡ cancel_was_delivered (call_of (Self.view self.now) call) (Self.view self.now).core };
 
@@ -69,27 +78,35 @@ pub trait CallWords: View {
     fn is_finished(&self, call: CallId) -> bool
         ensures { result ≡ option_map_or is_finished (get (Self.view self.now).core.calls (call_of (Self.view self.now) call)) false };
 
+    /// The call's start has run.
     fn set_started(&mut self, call: CallId)
         ensures { Self.view self.new ≡ on_core (set_started (call_of (Self.view self.old) call)) (Self.view self.old) };
 
+    /// The caller was told that the call is Starting.
     fn set_starting_published(&mut self, call: CallId)
         ensures { Self.view self.new ≡ on_core (set_starting_published (call_of (Self.view self.old) call)) (Self.view self.old) };
 
+    /// The call has ended so.
     fn set_end(&mut self, call: CallId, end_of_call: CallEnd)
         ensures { Self.view self.new ≡ on_core (set_end (call_of (Self.view self.old) call) end_of_call) (Self.view self.old) };
 
+    /// The task's own event is this one, or none.
     fn set_own_event(&mut self, call: CallId, event: Option<OwnEvent>)
         ensures { Self.view self.new ≡ on_core (set_own_event (call_of (Self.view self.old) call) event) (Self.view self.old) };
 
+    /// A cancel request has come to the task.
     fn set_cancel_delivered(&mut self, call: CallId)
         ensures { Self.view self.new ≡ on_core (set_cancel_delivered (call_of (Self.view self.old) call)) (Self.view self.old) };
 
+    /// The call's first thread has ended.
     fn set_exited(&mut self, call: CallId)
         ensures { Self.view self.new ≡ on_core (set_exited (call_of (Self.view self.old) call)) (Self.view self.old) };
 
+    /// The host no longer waits for the call; the count of interesting tasks falls with it.
     fn set_uninteresting(&mut self, call: CallId)
         ensures { Self.view self.new ≡ on_core (set_uninteresting (call_of (Self.view self.old) call)) (Self.view self.old) };
 
+    /// The result of a `call_sync` that its caller is to take, or none.
     fn set_result(&mut self, call: CallId, value: Option<u64>)
         ensures { Self.view self.new ≡ on_core (set_result (call_of (Self.view self.old) call) value) (Self.view self.old) };
 

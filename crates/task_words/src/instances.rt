@@ -12,27 +12,35 @@ use task_machine::NoMemory;
 
 /// Instances: their flags, counters and words, and what their handles name.
 pub trait InstanceWords: View {
+    /// The instance's count of backpressure, 0 to 65535; 0 where there is no such instance.
     fn backpressure(&self, instance: u32) -> u16
         ensures { result ≡ backpressure_of instance (Self.view self.now).core };
 
+    /// Whether the instance keeps entries out (`do_not_enter`); not where there is no such instance.
     fn may_not_enter(&self, instance: u32) -> bool
         ensures { result ≡ may_not_enter instance (Self.view self.now).core };
 
+    /// Whether a thread of the instance may not stop (`do_not_suspend`); not where there is no such instance.
     fn may_not_suspend(&self, instance: u32) -> bool
         ensures { result ≡ may_not_suspend instance (Self.view self.now).core };
 
+    /// One of the instance's words, 0 to 15; 0 where there is none.
     fn word(&self, instance: u32, word: u8) -> u64
         ensures { result ≡ word_of instance word (Self.view self.now).core };
 
+    /// The instance's count of backpressure is this one.
     fn set_backpressure(&mut self, instance: u32, count: u16)
         ensures { Self.view self.new ≡ on_core (set_backpressure instance count) (Self.view self.old) };
 
+    /// The instance keeps entries out from now on, or no longer.
     fn set_do_not_enter(&mut self, instance: u32, flag: bool)
         ensures { Self.view self.new ≡ on_core (set_do_not_enter instance flag) (Self.view self.old) };
 
+    /// No thread of the instance may stop from now on, or may again.
     fn set_do_not_suspend(&mut self, instance: u32, flag: bool)
         ensures { Self.view self.new ≡ on_core (set_do_not_suspend instance flag) (Self.view self.old) };
 
+    /// One of the instance's words, 0 to 15, is written.
     fn set_word(&mut self, instance: u32, word: u8, value: u64)
         ensures { Self.view self.new ≡ on_core (set_word instance word value) (Self.view self.old) };
 

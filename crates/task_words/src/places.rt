@@ -17,6 +17,7 @@ use task_machine::{Mark, Place, Why};
 
 /// Where threads are, and who is behind, under or waiting for whom.
 pub trait PlaceWords: View {
+    /// Where the thread is, by the numbers of what that names.
     fn place(&self, thread: ThreadId) -> Option<Place>
         ensures { result ≡ place_of (thread_of (Self.view self.now) thread) (Self.view self.now).core };
 
@@ -28,6 +29,7 @@ pub trait PlaceWords: View {
     fn delivered_set(&self, thread: ThreadId) -> Option<SetId>
         ensures { option_map (λ id. set_of (Self.view self.now) id) result ≡ option_map (λ x. live_set x (Self.view self.now).core) (delivered_set (why_of (thread_of (Self.view self.now) thread) (Self.view self.now).core)) };
 
+    /// The thread is at this place; its entry at a mark, if that has one, is put there apart.
     fn set_place(&mut self, thread: ThreadId, place: PlaceId)
         ensures { Self.view self.new ≡ on_core (set_place (thread_of (Self.view self.old) thread) (place_in (Self.view self.old).tags place)) (Self.view self.old) };
 

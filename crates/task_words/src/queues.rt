@@ -38,10 +38,12 @@ pub trait QueueWords: View {
         ensures taken { IfSome result (λ e. Self.view self.new ≡ on_core (popped e.0) (Self.view self.old)) }
         ensures none { is_none result ≡ true → Self.view self.new ≡ Self.view self.old };
 
+    /// This thread has the entry at switch, or none has.
     fn set_switch(&mut self, thread: Option<ThreadId>)
         requires { IfSome thread (λ id. 0 < thread_of (Self.view self.old) id) }
         ensures { Self.view self.new ≡ on_core (set_switch (option_map (λ id. thread_of (Self.view self.old) id) thread)) (Self.view self.old) };
 
+    /// The thread's entry is put at the end of high.
     fn push_high(&mut self, thread: ThreadId)
         requires live { 0 < thread_of (Self.view self.old) thread }
         requires unqueued { IsUnqueued (thread_of (Self.view self.old) thread) (Self.view self.old).core }
@@ -53,6 +55,7 @@ pub trait QueueWords: View {
         requires unqueued { IsUnqueued (thread_of (Self.view self.old) thread) (Self.view self.old).core }
         ensures { Self.view self.new ≡ on_core (push_high_first (entries.Thread (thread_of (Self.view self.old) thread))) (Self.view self.old) };
 
+    /// The thread's entry is put at the end of low.
     fn push_low(&mut self, thread: ThreadId)
         requires live { 0 < thread_of (Self.view self.old) thread }
         requires unqueued { IsUnqueued (thread_of (Self.view self.old) thread) (Self.view self.old).core }

@@ -22,9 +22,11 @@ pub trait ResultWords: View {
     fn result(&self, call: u64) -> Option<u64>
         ensures { result ≡ get (Self.view self.now).core.results call };
 
+    /// The result of main's call of this number is taken: it is there no more.
     fn take_result(&mut self, call: u64)
         ensures { Self.view self.new ≡ on_core (take_result call) (Self.view self.old) };
 
+    /// Whether the store is trapped.
     fn trapped(&self) -> bool
         ensures { result ≡ (Self.view self.now).core.trapped };
 
@@ -44,6 +46,7 @@ pub trait ResultWords: View {
     fn some_may_not_suspend(&self) -> bool
         ensures { result ≡ some_may_not_suspend (Self.view self.now).core };
 
+    /// How many threads, works, sets and groups were made so far.
     fn made(&self) -> Made
         ensures { result ≡ (Self.view self.now).core.made };
 }

@@ -12,10 +12,12 @@ use task_machine::NoMemory;
 
 /// Waitable sets, their members and what keeps them.
 pub trait SetWords: View {
+    /// Whether a subtask is joined to the set.
     fn has_member(&self, set: SetId) -> bool
         requires { 0 < set_of (Self.view self.now) set }
         ensures { result ≡ has_member (set_of (Self.view self.now) set) (Self.view self.now).core };
 
+    /// Whether a subtask that is joined to the set has an event.
     fn has_ready_member(&self, set: SetId) -> bool
         requires { 0 < set_of (Self.view self.now) set }
         ensures { result ≡ has_ready_member (set_of (Self.view self.now) set) (Self.view self.now).core };

@@ -29,6 +29,7 @@ pub trait ThreadWords: View {
         ensures is { call_of (Self.view self.now) result ≡ task_of (thread_of (Self.view self.now) thread) (Self.view self.now).core }
         ensures live { 0 < thread_of (Self.view self.now) thread → 0 < call_of (Self.view self.now) result };
 
+    /// The instance of the thread's call.
     fn instance_of(&self, thread: ThreadId) -> u32
         ensures { result ≡ instance_of (thread_of (Self.view self.now) thread) (Self.view self.now).core };
 
@@ -36,6 +37,7 @@ pub trait ThreadWords: View {
     fn thread_group(&self, thread: ThreadId) -> u64
         ensures { result ≡ thread_group (thread_of (Self.view self.now) thread) (Self.view self.now).core };
 
+    /// One of the thread's registers, 0 to 15.
     fn register(&self, thread: ThreadId, register: u8) -> u64
         ensures { result ≡ register_of (thread_of (Self.view self.now) thread) register (Self.view self.now).core };
 
@@ -44,6 +46,7 @@ pub trait ThreadWords: View {
         requires { 0 < thread_of (Self.view self.now) thread }
         ensures { result ≡ registers_of (thread_of (Self.view self.now) thread) (Self.view self.now).core };
 
+    /// The place in its script at which the thread is, from 0; the script's length at its end.
     fn position(&self, thread: ThreadId) -> u32
         ensures { result ≡ position_of (thread_of (Self.view self.now) thread) (Self.view self.now).core };
 
@@ -54,9 +57,11 @@ pub trait ThreadWords: View {
         ensures script { (t : Thread) → get (Self.view self.now).core.threads (thread_of (Self.view self.now) thread) ≡ Some t → result.script ≡ t.script }
         ensures position { result.position ≡ position_of (thread_of (Self.view self.now) thread) (Self.view self.now).core };
 
+    /// How far the thread has come in its op; what that names is no id of anything where it is gone.
     fn how_far(&self, thread: ThreadId) -> HowFarId
         ensures { how_far_in (Self.view self.now).tags result ≡ live_how_far (how_far_of (thread_of (Self.view self.now) thread) (Self.view self.now).core) (Self.view self.now).core };
 
+    /// Whether the thread isn't the first one of its call.
     fn is_explicit(&self, thread: ThreadId) -> bool
         ensures { result ≡ is_explicit (thread_of (Self.view self.now) thread) (Self.view self.now).core };
 
@@ -64,24 +69,31 @@ pub trait ThreadWords: View {
     fn is_last_thread(&self, thread: ThreadId) -> bool
         ensures { result ≡ is_last_thread (thread_of (Self.view self.now) thread) (Self.view self.now).core };
 
+    /// The thread's handle in its instance, if it has one.
     fn thread_handle(&self, thread: ThreadId) -> Option<u32>
         ensures { result ≡ thread_handle_of (thread_of (Self.view self.now) thread) (Self.view self.now).core };
 
+    /// The thread's instance's flag `do_not_suspend` as it was before the thread's start, if that was saved.
     fn saved_own(&self, thread: ThreadId) -> Option<bool>
         ensures { result ≡ saved_own_of (thread_of (Self.view self.now) thread) (Self.view self.now).core };
 
+    /// The callee's flag `do_not_suspend` as it was before the thread's call, if that was saved.
     fn saved_callee(&self, thread: ThreadId) -> Option<bool>
         ensures { result ≡ saved_callee_of (thread_of (Self.view self.now) thread) (Self.view self.now).core };
 
+    /// One of the thread's registers, 0 to 15, is written.
     fn set_register(&mut self, thread: ThreadId, register: u8, value: u64)
         ensures { Self.view self.new ≡ on_core (set_register (thread_of (Self.view self.old) thread) register value) (Self.view self.old) };
 
+    /// The thread has come so far in its op.
     fn set_how_far(&mut self, thread: ThreadId, how_far: HowFarId)
         ensures { Self.view self.new ≡ on_core (set_how_far (thread_of (Self.view self.old) thread) (how_far_in (Self.view self.old).tags how_far)) (Self.view self.old) };
 
+    /// The flag of the thread's own instance is kept, or no longer.
     fn set_saved_own(&mut self, thread: ThreadId, flag: Option<bool>)
         ensures { Self.view self.new ≡ on_core (set_saved_own (thread_of (Self.view self.old) thread) flag) (Self.view self.old) };
 
+    /// The flag of the callee's instance is kept, or no longer.
     fn set_saved_callee(&mut self, thread: ThreadId, flag: Option<bool>)
         ensures { Self.view self.new ≡ on_core (set_saved_callee (thread_of (Self.view self.old) thread) flag) (Self.view self.old) };
 

@@ -21,6 +21,7 @@ pub trait View {
     fn current(&self) -> Option<ThreadId>
         ensures { result ≡ (view self.now).current };
 
+    /// This thread runs, or none does.
     fn set_current(&mut self, thread: Option<ThreadId>)
         ensures { view self.new ≡ with_current thread (view self.old) };
 

@@ -21,12 +21,15 @@ pub trait WorkWords: View {
     fn work_number(&self, work: WorkId) -> u64
         ensures { result ≡ work_of (Self.view self.now) work };
 
+    /// How the work goes on, with the polls that are left and its end, or how it has ended.
     fn course(&self, work: WorkId) -> Course
         ensures { result ≡ course_of (work_of (Self.view self.now) work) (Self.view self.now).core };
 
+    /// The phase of the work's join handle.
     fn phase(&self, work: WorkId) -> Phase
         ensures { result ≡ phase_of (work_of (Self.view self.now) work) (Self.view self.now).core };
 
+    /// Who has made the work: a spawn, or a thread, whose id names nothing where it is gone.
     fn work_caller(&self, work: WorkId) -> WorkCallerId
         ensures { work_caller_in (Self.view self.now).tags result ≡ live_work_caller (work_caller_of (work_of (Self.view self.now) work) (Self.view self.now).core) (Self.view self.now).core };
 
@@ -34,6 +37,7 @@ pub trait WorkWords: View {
     fn work_group(&self, work: WorkId) -> Option<u64>
         ensures { result ≡ work_group (work_of (Self.view self.now) work) (Self.view self.now).core };
 
+    /// Whether the work was cancelled by its caller.
     fn was_cancelled(&self, work: WorkId) -> bool
         ensures { result ≡ was_cancelled (work_of (Self.view self.now) work) (Self.view self.now).core };
 
@@ -41,6 +45,7 @@ pub trait WorkWords: View {
     fn next_polled(&self, polled: u64) -> Option<WorkId>
         ensures { option_map (λ id. work_of (Self.view self.now) id) result ≡ next_polled polled (Self.view self.now).core };
 
+    /// Whether a work is live, so that the loop polls it.
     fn has_live_work(&self) -> bool
         ensures { result ≡ has_live_work (Self.view self.now).core };
 
@@ -48,12 +53,15 @@ pub trait WorkWords: View {
     fn has_moving_work(&self) -> bool
         ensures { result ≡ has_moving_work (Self.view self.now).core };
 
+    /// The work goes on so, or has ended so.
     fn set_course(&mut self, work: WorkId, course: Course)
         ensures { Self.view self.new ≡ on_core (set_course (work_of (Self.view self.old) work) course) (Self.view self.old) };
 
+    /// The phase of the work's join handle is this one.
     fn set_phase(&mut self, work: WorkId, phase: Phase)
         ensures { Self.view self.new ≡ on_core (set_phase (work_of (Self.view self.old) work) phase) (Self.view self.old) };
 
+    /// The work is at this stage: at its first poll, queued, live, finishing or ended.
     fn set_stage(&mut self, work: WorkId, stage: Stage)
         ensures { Self.view self.new ≡ on_core (set_stage (work_of (Self.view self.old) work) stage) (Self.view self.old) };
 
@@ -65,6 +73,7 @@ pub trait WorkWords: View {
         ensures new { (left : Left) → poll_of (work_of (Self.view self.old) work) (Self.view self.old).core ≡ StillPends left → Self.view self.new ≡ on_core (poll_pends (work_of (Self.view self.old) work) left) (Self.view self.old) }
         ensures more { result ≡ is_some (next_polled (work_of (Self.view self.old) work) (Self.view self.new).core) };
 
+    /// The work was cancelled by its caller.
     fn set_cancelled(&mut self, work: WorkId)
         ensures { Self.view self.new ≡ on_core (set_cancelled (work_of (Self.view self.old) work)) (Self.view self.old) };
 

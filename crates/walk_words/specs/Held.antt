@@ -27,7 +27,8 @@ pub record IsUntouched (n : ℕ) (s t : Core) : Type 0 where
 
 -- A release of all that are admitted is one of those that are left, from here on.
 pub record Releases {P : Type 0} (i : ℕ) (s : StateView) (all : List ℕ) (a : CoreParts) (left : List (ℕ × P)) : Type 0 where
-  pub again : on_core (released (filter (is_admitted i s.core) (map (λ e. of_node a e.0) left))) (seen a) ≡ on_core (released (filter (is_admitted i s.core) all)) s
+  pub again : on_core (released (filter (is_admitted i s.core) (map (λ e. of_node a e.0) left))) (seen a) ≡
+      on_core (released (filter (is_admitted i s.core) all)) s
   pub calls : (seen a).core.calls ≡ s.core.calls
   pub instances : (seen a).core.instances ≡ s.core.instances
   pub once : Once (map (λ e. of_node a e.0) left)

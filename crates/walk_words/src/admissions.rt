@@ -17,6 +17,7 @@ use task_records::{CoreParts, task_of};
 use task_words::ThreadId;
 
 // Whether a start of the thread may begin.
+#[inline(always)]
 fn admits_start(parts: &CoreParts, thread: ThreadId) -> bool
     requires { IsSound parts.now }
     ensures { result ≡ admits (thread_of (seen parts.now) thread) (seen parts.now).core whys.Start }
@@ -31,6 +32,7 @@ fn admits_start(parts: &CoreParts, thread: ThreadId) -> bool
 }
 
 // Whether such an entry of the thread may begin.
+#[inline(always)]
 fn admits(parts: &CoreParts, thread: ThreadId, why: Why) -> bool
     requires { IsSound parts.now }
     ensures { result ≡ admits (thread_of (seen parts.now) thread) (seen parts.now).core why }

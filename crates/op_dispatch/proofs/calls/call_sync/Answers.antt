@@ -1,11 +1,11 @@
-use Rattle.op_dispatch.proofs.CallLemmas.{answered_at, begins_sync}
+use Rattle.op_dispatch.proofs.CallLemmas.{answered_at}
 use Rattle.op_dispatch.proofs.GoesLemmas.{row_goes, same_goes}
 use Rattle.op_dispatch.proofs.RowLemmas.{ShowsAs}
 use Rattle.op_dispatch.proofs.StayLemmas.{same_stays}
 use Rattle.op_dispatch.proofs.SubtaskRows.{sync_status_shows}
 use Rattle.op_dispatch.proofs.calls.call_sync.Goals as goal
 use Rattle.std.proofs.Common.{refl, subst, sym}
-use Rattle.std.specs.Prelude.{[], length, take}
+use Rattle.std.specs.Prelude.{[]}
 use Rattle.task_machine.specs.Read.{how_far_of, registers_of}
 use Rattle.task_machine.specs.declared.records.HowFar.{HowFar}
 use Rattle.task_machine.specs.declared.records.HowFar.TheVariants as how_far
@@ -48,11 +48,3 @@ returns-in-Some-called-clause-goes g c =
     let n = thread_of s c.args.thread in
     let k = call_of s c.in-Some-called.call in
     row_goes c.args.thread (call_sync_status n c.args.to k s.core (status_found k s.core)) s (v c.go_on_calling_sync.new.w) c.go_on_calling_sync.result (sync_status_shows n s.core c.args.to k (status_found k s.core)) c.go_on_calling_sync.ensures.meets c.requires.runner.current c.go_on_calling_sync.ensures.current c.go_on_calling_sync.ensures.thread
-
-pub returns-clause-meets : goal.returns-clause-meets
-returns-clause-meets g c =
-    let v = g.W.View.view in
-    let s = v c.args.w.now in
-    let n = thread_of s c.args.thread in
-    begins_sync c.args.component.now n c.args.to c.args.callee (take (length c.args.params.now) c.operand_values-words.result) (values_in (registers_of n s.core) c.args.params.now) (how_far_of n s.core) s.core (v c.begin_call_sync.new.w).core c.export_kind-kind.result
-    c.export_kind-kind.ensures c.operand_values-words.ensures (sym c.in_default.ensures) (sym c.in_default-called.ensures.is) c.begin_call_sync.result c.begin_call_sync.ensures.meets

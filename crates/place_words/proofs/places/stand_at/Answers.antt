@@ -1,4 +1,4 @@
-use Rattle.task_records.proofs.Core.{ap, on_core, on_thread, Place, refl, seen, set_how_far, set_place, sym, thread_of, ◌∙◌}
+use Rattle.task_records.proofs.Core.{ap, on_core, on_thread, Place, refl, seen, set_how_far, set_of, set_place, sym, thread_of, ◌∙◌}
 use Rattle.place_words.proofs.StepLemmas.{stood}
 use Rattle.place_words.proofs.places.stand_at.Goals as goal
 use Rattle.place_words.specs.Moved.{to_stand}
@@ -35,6 +35,15 @@ returns-in-Under-clause-new c =
     c.stand_under.ensures.new
     ∙ (ap (λ x. record s { core = x }) (stood n (Place.Under (thread_of s c.in-Under.callee)) h s.core)
     ∙ ap (λ p. on_core (λ x. set_how_far n h (set_place n (place_in s.tags p) x)) s) (sym c.in-Under.is))
+
+pub returns-in-Waiting-clause-new : goal.returns-in-Waiting-clause-new
+returns-in-Waiting-clause-new c =
+    let s = seen c.args.parts.now in
+    let n = thread_of s c.args.thread in
+    let h = how_far_in s.tags c.args.how_far in
+    c.stand_waiting.ensures.new
+    ∙ (ap (λ x. record s { core = x }) (stood n (Place.Waiting (set_of s c.in-Waiting.set) c.in-Waiting.by_callback) h s.core)
+    ∙ ap (λ p. on_core (λ x. set_how_far n h (set_place n (place_in s.tags p) x)) s) (sym c.in-Waiting.is))
 
 pub returns-in_default-clause-new : goal.returns-in_default-clause-new
 returns-in_default-clause-new c =

@@ -14,6 +14,9 @@ drive-requires-clause-order g c = rw (c.in-Ok.ensures.turn, c.run_concurrent.ens
 pub drive-requires-clause-hosts : goal.drive-requires-clause-hosts
 drive-requires-clause-hosts g c = rw c.run_concurrent.ensures.store c.call_often.ensures.hosts
 
+pub drive-requires-clause-groups : goal.drive-requires-clause-groups
+drive-requires-clause-groups g c = rw c.run_concurrent.ensures.store c.call_often.ensures.groups
+
 pub call_often-requires-2-clause-current : goal.call_often-requires-2-clause-current
 call_often-requires-2-clause-current g c =
     let taking = idle_turn _ _ _ _ _ _ _ (rw c.in-Ok-Idle.is at c.drive.ensures.ok) c.in-Ok-Idle.field-0-is in

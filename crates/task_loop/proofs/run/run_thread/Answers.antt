@@ -18,8 +18,8 @@ pub tell_run-told-requires-clause-stays : goal.tell_run-told-requires-clause-sta
 tell_run-told-requires-clause-stays g c =
     run_stays c.args.component.now c.args.thread c.args.store.now.state c.step_thread.new.store.state c.in-Ok.stepped c.args.trace.now c.step_thread.new.trace c.in-Ok.ensures.makes c.args.running.now c.requires.order c.requires.running
 
-pub returns-in-Ok-clause-groups : goal.returns-in-Ok-clause-groups
-returns-in-Ok-clause-groups g c =
+pub returns-clause-groups : goal.returns-clause-groups
+returns-clause-groups g c =
     let s = c.args.store.now.state in
     let t = c.step_thread.new.store.state in
     let a = asked_in c.args.running.now c.step_thread.new.staked in
@@ -29,8 +29,8 @@ returns-in-Ok-clause-groups g c =
     (subst (λ (k : Groups). (gs : List ℕ) → Mirrors gs k → Leads a (length t.core.groups) gs t.core.groups → Mirrors t.core.groups new) c.in-Ok.ensures.groups c.in-Ok-tell_run.ensures.mirrors)
     (c.tell_run-told.ensures.made ∙ ap (λ (k : Groups). k.made) c.in-Ok.ensures.groups)
 
-pub returns-in-Ok-clause-told : goal.returns-in-Ok-clause-told
-returns-in-Ok-clause-told g c =
+pub returns-clause-told : goal.returns-clause-told
+returns-clause-told g c =
     let s = c.args.store.now.state in
     let t = c.step_thread.new.store.state in
     let q = c.in-Ok.stepped in

@@ -39,7 +39,7 @@ keep_notices-requires-clause-first c = c.in_ok-store.ensures.groups.0
 pub drive-driven-requires-clause-groups : goal.drive-driven-requires-clause-groups
 drive-driven-requires-clause-groups c =
     rw (c.run_concurrent.ensures.store, c.in_ok-keep_notices.ensures.ok, c.in_ok-store.ensures.state)
-    (new_groups c.in_ok-store.store.groups c.keep_notices.args.room c.len.result c.args.scenario.now.handles c.args.scenario.now.table c.in_ok-store.ensures.groups.0 c.in_ok-store.ensures.groups.1 c.in_ok-store.ensures.mirror)
+    (new_groups c.in_ok-store.store.groups (2 * c.args.steps + 512) c.len.result c.args.scenario.now.handles c.args.scenario.now.table c.in_ok-store.ensures.groups.0 c.in_ok-store.ensures.groups.1 c.in_ok-store.ensures.mirror)
 
 pub returns-clause-free : goal.returns-clause-free
 returns-clause-free c = rw c.end.ensures refl
@@ -52,7 +52,7 @@ pub returns-clause-ran : goal.returns-clause-ran
 returns-clause-ran c =
     -- the list that was copied is the one that the groups kept
     subst (λ (ns : List Notice). IsRunOf (machine_scenario c.args.scenario.now) c.args.steps c.drive-driven.new.trace c.in-Ok-driven.outcome c.end.new.store.state.core ns)
-    (sym (c.in-Ok-extend_from_slice.ensures.items ∙ rw (c.new-groups.ensures, c.notices.ensures, c.end.ensures) refl))
+    (sym (c.in_ok-groups.ensures ∙ rw (c.notices.ensures, c.end.ensures) refl))
     (headline (machine_scenario c.args.scenario.now) (scenario_keeps c.args.scenario.now c.requires) _ _ _ _ _ c.args.steps c.in-Ok-driven.outcome _ c.run_concurrent.new.store.groups c.drive-driven.new.store.groups
     (ap (λ (b : Bool). loop.setting_of c.args.scenario.now.component (script_of c.new-main.result) b) c.in-Ok.ensures.idle
     ∙ ap (λ i. record { component = c.args.scenario.now.component; script = script_of c.new-main.result; idle = i }) c.traps_on_idle.ensures

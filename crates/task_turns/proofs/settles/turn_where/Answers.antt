@@ -1,9 +1,9 @@
 -- The turn that a settled one of futures is.
-use Rattle.std.proofs.Common.{ap, refl, sym, ◌∙◌}
-use Rattle.std.specs.Prelude.{Bool, None, Option, Some, false, is_some, true, ℕ, ◌≡◌}
+use Rattle.std.proofs.Common.{refl, sym, ◌∙◌}
+use Rattle.std.specs.Prelude.{None, Option, Some, false, is_some, true, ℕ, ◌≡◌}
 use Rattle.task_machine.specs.Core.{Core}
 use Rattle.task_machine.specs.declared.records.Turn.TheVariants as turn
-use Rattle.task_rules.specs.Turns.{settled_futures, settled_turn}
+use Rattle.task_rules.specs.Turns.{settled_futures}
 use Rattle.task_rules.specs.Works.{next_polled}
 use Rattle.task_turns.proofs.settles.turn_where.Goals as goal
 

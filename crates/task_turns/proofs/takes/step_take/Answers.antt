@@ -1,20 +1,186 @@
-use Rattle.task_turns.proofs.IdleLemmas.{free_at}
-use Rattle.task_turns.proofs.TakenLemmas.{finds}
+use Rattle.std.proofs.Common.{ap, subst, sym, ◌∙◌}
+use Rattle.std.specs.Prelude.{Option, Some, option_map, ◌<◌}
+use Rattle.group_laws.specs.Tells.{entry_group}
+use Rattle.task_machine.specs.declared.records.Entry.{Entry}
+use Rattle.task_machine.specs.declared.records.Subtask.TheVariants as subtask
+use Rattle.task_machine.specs.declared.words.Mark.{Mark}
+use Rattle.task_moves.specs.Idle.{IsJoinThere}
+use Rattle.task_rules.specs.Places.{Placed}
+use Rattle.task_turns.proofs.StakeLemmas.{worked_is}
+use Rattle.task_turns.proofs.SteppedLemmas.{host_makes, left_is, next_is, push_makes, take_added}
+use Rattle.task_turns.proofs.TakenLemmas.{finds, host_joined, host_live, host_placed, taken}
 use Rattle.task_turns.proofs.takes.step_take.Goals as goal
+use Rattle.task_turns.specs.Taken.{FindsSet, Taken}
+use Rattle.task_words.specs.Names.{entry_in}
+use Rattle.task_words.specs.StateView.{StateView, thread_of, with_current, work_of}
+use Rattle.task_words.specs.declared.names.EntryId.{EntryId}
+use Rattle.task_words.specs.declared.names.EntryId.TheVariants as entries
+
+-- ---- A thread
+
+pub step_thread-requires-clause-taken : goal.step_thread-requires-clause-taken
+step_thread-requires-clause-taken g c =
+    let v = g.W.View.view in
+    let s = v c.args.w.now in
+    let u = v c.take_next.new.self in
+    let q = c.in-Some-default-Thread in
+    let at = q.is ∙ ap (λ (e : EntryId). Some (q.mark, e)) q.field-0-1-is in
+    let next = next_is s c.take_next.result q.mark (entries.Thread q.thread) c.take_next.ensures.next at in
+    subst (λ (x : StateView). Taken q.mark (thread_of x q.thread) x.core) (sym (left_is s u c.take_next.result q.mark (entries.Thread q.thread) c.take_next.ensures.taken at))
+    (taken c.args.component.now c.args.ended s.core c.requires.order c.none_is_zero.ensures.threads q.mark (thread_of s q.thread) next)
 
 pub step_thread-requires-clause-finds : goal.step_thread-requires-clause-finds
-step_thread-requires-clause-finds g c = finds c.args.component.now c.args.ended _ c.requires.order _ _
+step_thread-requires-clause-finds g c =
+    let v = g.W.View.view in
+    let s = v c.args.w.now in
+    let u = v c.take_next.new.self in
+    let q = c.in-Some-default-Thread in
+    let at = q.is ∙ ap (λ (e : EntryId). Some (q.mark, e)) q.field-0-1-is in
+    subst (λ (x : StateView). FindsSet (thread_of x q.thread) x.core) (sym (left_is s u c.take_next.result q.mark (entries.Thread q.thread) c.take_next.ensures.taken at))
+    (finds c.args.component.now c.args.ended s.core c.requires.order q.mark (thread_of s q.thread))
 
-pub put-requires-in-Some-default-Host : goal.put-requires-in-Some-default-Host
-put-requires-in-Some-default-Host g c = record { over = c.step_host-made.ensures.makes.over }
+pub returns-in_ok-stepped-in-Some-default-Thread-clause-took : goal.returns-in_ok-stepped-in-Some-default-Thread-clause-took
+returns-in_ok-stepped-in-Some-default-Thread-clause-took g c =
+    let v = g.W.View.view in
+    let s = v c.args.w.now in
+    let u = v c.take_next.new.self in
+    let q = c.in-Some-default-Thread in
+    let at = q.is ∙ ap (λ (e : EntryId). Some (q.mark, e)) q.field-0-1-is in
+    let next = next_is s c.take_next.result q.mark (entries.Thread q.thread) c.take_next.ensures.next at in
+    let left = left_is s u c.take_next.result q.mark (entries.Thread q.thread) c.take_next.ensures.taken at in
+    let h = c.in_ok-stepped-in-Some-default-Thread.ensures.shown in
+    take_added c.args.component.now c.args.ended q.mark q.thread (thread_of s q.thread) s (with_current (Some q.thread) u) h.left (v c.step_thread.new.w) h.came c.in_ok-stepped-in-Some-default-Thread.stepped c.args.trace.now c.step_thread.new.trace
+    (ap (λ (x : StateView). thread_of x q.thread) left) (ap (λ (x : StateView). x.core) left) next h.meets h.stays h.shown
+
+-- ---- A push
 
 pub put-requires : goal.put-requires
-put-requires g c = record { over = (c.step_push-made.ensures.makes c.args.component.now c.args.ended).over }
+put-requires g c =
+    let v = g.W.View.view in
+    let s = v c.args.w.now in
+    let u = v c.take_next.new.self in
+    let q = c.in-Some-default-Push in
+    let at = q.is ∙ ap (λ (e : EntryId). Some (q.mark, e)) q.field-0-1-is in
+    let makes = push_makes c.args.component.now c.args.ended q.mark q.work s u (v c.step_push-made.new.w) c.step_push-made.result c.requires.current (left_is s u c.take_next.result q.mark (entries.Push q.work) c.take_next.ensures.taken at)
+    (next_is s c.take_next.result q.mark (entries.Push q.work) c.take_next.ensures.next at) c.step_push-made.ensures.made c.step_push-made.ensures.new in
+    record { over = makes.0.over }
 
 pub returns-in_ok-stepped-in-Some-default-Push-clause-took : goal.returns-in_ok-stepped-in-Some-default-Push-clause-took
 returns-in_ok-stepped-in-Some-default-Push-clause-took g c =
-    (c.step_push-made.result, (c.in_ok-stepped-in-Some-default-Push.ensures.stands, (c.step_push-made.ensures.makes c.args.component.now c.args.ended, free_at _ _ c.step_push-made.ensures.turn (λ x s m. tt))))
+    let v = g.W.View.view in
+    let s = v c.args.w.now in
+    let u = v c.take_next.new.self in
+    let q = c.in-Some-default-Push in
+    let at = q.is ∙ ap (λ (e : EntryId). Some (q.mark, e)) q.field-0-1-is in
+    let makes = push_makes c.args.component.now c.args.ended q.mark q.work s u (v c.step_push-made.new.w) c.step_push-made.result c.requires.current (left_is s u c.take_next.result q.mark (entries.Push q.work) c.take_next.ensures.taken at)
+    (next_is s c.take_next.result q.mark (entries.Push q.work) c.take_next.ensures.next at) c.step_push-made.ensures.made c.step_push-made.ensures.new in
+    (c.step_push-made.result, (c.in_ok-stepped-in-Some-default-Push.ensures.stands, makes))
+
+-- ---- An ended host work
+
+pub step_host-made-requires-clause-live : goal.step_host-made-requires-clause-live
+step_host-made-requires-clause-live g c =
+    let v = g.W.View.view in
+    let s = v c.args.w.now in
+    let u = v c.take_next.new.self in
+    let q = c.in-Some-default-Host in
+    let at = q.is ∙ ap (λ (e : EntryId). Some (q.mark, e)) q.field-0-1-is in
+    let next = next_is s c.take_next.result q.mark (entries.Host q.work) c.take_next.ensures.next at in
+    subst (λ (x : StateView). 0 < work_of x q.work) (sym (left_is s u c.take_next.result q.mark (entries.Host q.work) c.take_next.ensures.taken at))
+    (host_live c.args.component.now c.args.ended s.core c.requires.order c.none_is_zero.ensures.works q.mark (work_of s q.work) next)
+
+pub step_host-made-requires-clause-placed : goal.step_host-made-requires-clause-placed
+step_host-made-requires-clause-placed g c =
+    let v = g.W.View.view in
+    let s = v c.args.w.now in
+    let u = v c.take_next.new.self in
+    let q = c.in-Some-default-Host in
+    let at = q.is ∙ ap (λ (e : EntryId). Some (q.mark, e)) q.field-0-1-is in
+    let next = next_is s c.take_next.result q.mark (entries.Host q.work) c.take_next.ensures.next at in
+    subst (λ (x : StateView). Placed x.core) (sym (left_is s u c.take_next.result q.mark (entries.Host q.work) c.take_next.ensures.taken at))
+    (host_placed c.args.component.now c.args.ended s.core c.requires.order c.none_is_zero.ensures.works q.mark (work_of s q.work) next)
+
+pub step_host-made-requires-clause-there : goal.step_host-made-requires-clause-there
+step_host-made-requires-clause-there g c =
+    let v = g.W.View.view in
+    let s = v c.args.w.now in
+    let u = v c.take_next.new.self in
+    let q = c.in-Some-default-Host in
+    let at = q.is ∙ ap (λ (e : EntryId). Some (q.mark, e)) q.field-0-1-is in
+    subst (λ (x : StateView). IsJoinThere (subtask.Host (work_of x q.work)) x.core) (sym (left_is s u c.take_next.result q.mark (entries.Host q.work) c.take_next.ensures.taken at))
+    (host_joined c.args.component.now c.args.ended s.core c.requires.order c.none_is_zero.ensures.works q.mark (work_of s q.work))
+
+pub put-requires-in-Some-default-Host : goal.put-requires-in-Some-default-Host
+put-requires-in-Some-default-Host g c =
+    let v = g.W.View.view in
+    let s = v c.args.w.now in
+    let u = v c.take_next.new.self in
+    let q = c.in-Some-default-Host in
+    let at = q.is ∙ ap (λ (e : EntryId). Some (q.mark, e)) q.field-0-1-is in
+    let makes = host_makes c.args.component.now c.args.ended q.mark q.work s u (v c.step_host-made.new.w) c.step_host-made.result c.requires.current (left_is s u c.take_next.result q.mark (entries.Host q.work) c.take_next.ensures.taken at)
+    (next_is s c.take_next.result q.mark (entries.Host q.work) c.take_next.ensures.next at) c.step_host-made.ensures.meets c.step_host-made.ensures.current c.step_host-made.ensures.turn in
+    record { over = makes.0.over }
 
 pub returns-in_ok-stepped-in-Some-default-Host-clause-took : goal.returns-in_ok-stepped-in-Some-default-Host-clause-took
 returns-in_ok-stepped-in-Some-default-Host-clause-took g c =
-    (c.step_host-made.result, (c.in_ok-stepped-in-Some-default-Host.ensures.stands, (c.step_host-made.ensures.makes, free_at _ _ c.step_host-made.ensures.turn (λ x s m. tt))))
+    let v = g.W.View.view in
+    let s = v c.args.w.now in
+    let u = v c.take_next.new.self in
+    let q = c.in-Some-default-Host in
+    let at = q.is ∙ ap (λ (e : EntryId). Some (q.mark, e)) q.field-0-1-is in
+    let makes = host_makes c.args.component.now c.args.ended q.mark q.work s u (v c.step_host-made.new.w) c.step_host-made.result c.requires.current (left_is s u c.take_next.result q.mark (entries.Host q.work) c.take_next.ensures.taken at)
+    (next_is s c.take_next.result q.mark (entries.Host q.work) c.take_next.ensures.next at) c.step_host-made.ensures.meets c.step_host-made.ensures.current c.step_host-made.ensures.turn in
+    (c.step_host-made.result, (c.in_ok-stepped-in-Some-default-Host.ensures.stands, makes))
+
+-- ---- The group that is worked on
+
+pub returns-in-None-clause-worked : goal.returns-in-None-clause-worked
+returns-in-None-clause-worked g c =
+    let s = g.W.View.view c.args.w.now in
+    c.requires.unworked ∙ ap (λ (o : Option (Mark × Entry)). entry_group o s.core) (sym (ap (option_map (λ (x : Mark × EntryId). (x.0, entry_in s.tags x.1))) c.in-None.is) ∙ c.take_next.ensures.next)
+
+pub returns-in_ok-stepped-in-Some-default-Thread-clause-worked : goal.returns-in_ok-stepped-in-Some-default-Thread-clause-worked
+returns-in_ok-stepped-in-Some-default-Thread-clause-worked g c =
+    let s = g.W.View.view c.args.w.now in
+    let q = c.in-Some-default-Thread in
+    let at = q.is ∙ ap (λ (e : EntryId). Some (q.mark, e)) q.field-0-1-is in
+    c.requires.unworked ∙ ap (λ (o : Option (Mark × Entry)). entry_group o s.core) (sym (next_is s c.take_next.result q.mark (entries.Thread q.thread) c.take_next.ensures.next at))
+
+pub returns-in_err-stepped-in-Some-default-Thread-clause-worked : goal.returns-in_err-stepped-in-Some-default-Thread-clause-worked
+returns-in_err-stepped-in-Some-default-Thread-clause-worked g c =
+    let s = g.W.View.view c.args.w.now in
+    let q = c.in-Some-default-Thread in
+    let at = q.is ∙ ap (λ (e : EntryId). Some (q.mark, e)) q.field-0-1-is in
+    c.requires.unworked ∙ ap (λ (o : Option (Mark × Entry)). entry_group o s.core) (sym (next_is s c.take_next.result q.mark (entries.Thread q.thread) c.take_next.ensures.next at))
+
+pub returns-in_ok-stepped-in-Some-default-Push-clause-worked : goal.returns-in_ok-stepped-in-Some-default-Push-clause-worked
+returns-in_ok-stepped-in-Some-default-Push-clause-worked g c =
+    let s = g.W.View.view c.args.w.now in
+    let q = c.in-Some-default-Push in
+    let at = q.is ∙ ap (λ (e : EntryId). Some (q.mark, e)) q.field-0-1-is in
+    c.requires.unworked ∙ ap (λ (o : Option (Mark × Entry)). entry_group o s.core) (sym (next_is s c.take_next.result q.mark (entries.Push q.work) c.take_next.ensures.next at))
+
+pub returns-in_err-stepped-in-Some-default-Push-clause-worked : goal.returns-in_err-stepped-in-Some-default-Push-clause-worked
+returns-in_err-stepped-in-Some-default-Push-clause-worked g c =
+    let s = g.W.View.view c.args.w.now in
+    let q = c.in-Some-default-Push in
+    let at = q.is ∙ ap (λ (e : EntryId). Some (q.mark, e)) q.field-0-1-is in
+    c.requires.unworked ∙ ap (λ (o : Option (Mark × Entry)). entry_group o s.core) (sym (next_is s c.take_next.result q.mark (entries.Push q.work) c.take_next.ensures.next at))
+
+pub returns-in_ok-stepped-in-Some-default-Host-clause-worked : goal.returns-in_ok-stepped-in-Some-default-Host-clause-worked
+returns-in_ok-stepped-in-Some-default-Host-clause-worked g c =
+    let v = g.W.View.view in
+    let s = v c.args.w.now in
+    let u = v c.take_next.new.self in
+    let q = c.in-Some-default-Host in
+    let at = q.is ∙ ap (λ (e : EntryId). Some (q.mark, e)) q.field-0-1-is in
+    c.work_group.ensures ∙ worked_is s u q.mark q.work (left_is s u c.take_next.result q.mark (entries.Host q.work) c.take_next.ensures.taken at) (next_is s c.take_next.result q.mark (entries.Host q.work) c.take_next.ensures.next at)
+
+pub returns-in_err-stepped-in-Some-default-Host-clause-worked : goal.returns-in_err-stepped-in-Some-default-Host-clause-worked
+returns-in_err-stepped-in-Some-default-Host-clause-worked g c =
+    let v = g.W.View.view in
+    let s = v c.args.w.now in
+    let u = v c.take_next.new.self in
+    let q = c.in-Some-default-Host in
+    let at = q.is ∙ ap (λ (e : EntryId). Some (q.mark, e)) q.field-0-1-is in
+    c.work_group.ensures ∙ worked_is s u q.mark q.work (left_is s u c.take_next.result q.mark (entries.Host q.work) c.take_next.ensures.taken at) (next_is s c.take_next.result q.mark (entries.Host q.work) c.take_next.ensures.next at)

@@ -4,11 +4,6 @@ use Rattle.std.specs.Prelude.{IfSome, None, Option, Some, unwrap_or, ℕ, ◌+�
 use Rattle.task_loop.proofs.DoesLemmas.{on_err}
 use Rattle.task_turns.proofs.DoesLemmas.{does_added, does_computed, does_none, does_still}
 use Rattle.task_turns.proofs.DriveLemmas.{on_begins, on_out_at, on_rests, turned_same, was_on, was_on_short}
-use Rattle.label_laws.specs.Own.{next_mark}
-use Rattle.run_pace.specs.Pace.{counted_past}
-use Rattle.task_loop.proofs.DrivenLemmas.{driven_data, driven_goes, driven_none, driven_over, driven_still, driven_to}
-use Rattle.task_machine.specs.declared.outcome.Outcome.TheVariants as outcome
-use Rattle.task_machine.specs.declared.words.Mark.{Mark}
 use Rattle.task_turns.proofs.SteppedLemmas.{added_ends, added_more, added_none, none_as}
 use Rattle.task_store.proofs.HostLemmas.{holds_same}
 use Rattle.task_store.specs.Hosts.{held_by}
@@ -39,7 +34,6 @@ turns-init g c =
       stands = refl;
       on = on_begins x before c.args.self.now.turn (part c.args.main.now) s c.requires.at c.requires.pends;
       does = does_none g.M.MainTask.does c.args.main.now before;
-      paced = driven_none c.args.self.now.pace.passes c.args.self.now.pace.since c.args.trace.now;
       kept = refl;
       few = omega arith;
       groups = c.requires.groups;
@@ -78,7 +72,7 @@ returns-in-Some-Over-clause-ok g c =
     let after = c.turn.new.trace in
     let turned = none_as (λ (made : Option Made). Turned (setting_of c.args.component.now (script c.turns.main) c.turns.self.trap_on_idle) c.turns.self.turn m u made m' t) (λ (made : Option Made). Turned x c.turns.self.turn m u made m' t) (Some (stepped.Over c.in-Some-Over.outcome)) mid after
     (λ made. turned_same c.args.component.now (script c.turns.main) (script c.args.main.now) c.turns.self.trap_on_idle c.args.self.now.trap_on_idle c.turns.self.turn m u made m' t c.turns.invariant.script c.turns.invariant.idle)
-    (subst (λ (o : Option Stepped). AddedOrNone (λ (made : Option Made). Turned (setting_of c.args.component.now (script c.turns.main) c.turns.self.trap_on_idle) c.turns.self.turn m u made m' t) o mid after) (c.in-Some-Over.is ∙ ap (λ (q : Stepped). Some q) c.in-Some-Over.field-0-is) c.in-Ok.ensures.turned) in
+    (subst (λ (o : Option Stepped). AddedOrNone (λ (made : Option Made). Turned (setting_of c.args.component.now (script c.turns.main) c.turns.self.trap_on_idle) c.turns.self.turn m u made m' t) o mid after) (c.in-Some-Over.is ∙ ap (λ (q : Stepped). Some q) (rw c.in-Some-Over.is at c.in-Some-Over.field-0-is)) c.in-Ok.ensures.turned) in
     added_ends x (state_at s.core (part c.args.main.now) c.args.self.now.turn) c.args.trace.now (given s.core) c.turns.self.turn m u mid c.turns.added c.turns.invariant.on m' t after c.in-Some-Over.outcome c.args.steps (omega arith) turned
 
 pub compute-requires-clause-order : goal.compute-requires-clause-order
@@ -95,7 +89,7 @@ compute-requires-clause-order g c =
     let after = c.turn.new.trace in
     let turned = none_as (λ (made : Option Made). Turned (setting_of c.args.component.now (script c.turns.main) c.turns.self.trap_on_idle) c.turns.self.turn m u made m' t) (λ (made : Option Made). Turned x c.turns.self.turn m u made m' t) (Some (stepped.Goes c.in-Some-Goes.turn c.in-Some-Goes.computed)) mid after
     (λ made. turned_same c.args.component.now (script c.turns.main) (script c.args.main.now) c.turns.self.trap_on_idle c.args.self.now.trap_on_idle c.turns.self.turn m u made m' t c.turns.invariant.script c.turns.invariant.idle)
-    (subst (λ (o : Option Stepped). AddedOrNone (λ (made : Option Made). Turned (setting_of c.args.component.now (script c.turns.main) c.turns.self.trap_on_idle) c.turns.self.turn m u made m' t) o mid after) (c.in-Some-Goes.is ∙ ap (λ (q : Stepped). Some q) c.in-Some-Goes.field-0-is) c.in-Ok.ensures.turned) in
+    (subst (λ (o : Option Stepped). AddedOrNone (λ (made : Option Made). Turned (setting_of c.args.component.now (script c.turns.main) c.turns.self.trap_on_idle) c.turns.self.turn m u made m' t) o mid after) (c.in-Some-Goes.is ∙ ap (λ (q : Stepped). Some q) (rw c.in-Some-Goes.is at c.in-Some-Goes.field-0-is)) c.in-Ok.ensures.turned) in
     (added_more x (state_at s.core (part c.args.main.now) c.args.self.now.turn) c.args.trace.now (given s.core) c.turns.self.turn m u mid c.turns.added c.turns.invariant.on m' t after c.in-Some-Goes.turn c.in-Some-Goes.computed turned).at.order
 
 pub turns-preserved : goal.turns-preserved
@@ -112,13 +106,8 @@ turns-preserved g c =
     let after = c.turn.new.trace in
     let turned = none_as (λ (made : Option Made). Turned (setting_of c.args.component.now (script c.turns.main) c.turns.self.trap_on_idle) c.turns.self.turn m u made m' t) (λ (made : Option Made). Turned x c.turns.self.turn m u made m' t) (Some (stepped.Goes c.in-Some-Goes.turn c.in-Some-Goes.computed)) mid after
     (λ made. turned_same c.args.component.now (script c.turns.main) (script c.args.main.now) c.turns.self.trap_on_idle c.args.self.now.trap_on_idle c.turns.self.turn m u made m' t c.turns.invariant.script c.turns.invariant.idle)
-    (subst (λ (o : Option Stepped). AddedOrNone (λ (made : Option Made). Turned (setting_of c.args.component.now (script c.turns.main) c.turns.self.trap_on_idle) c.turns.self.turn m u made m' t) o mid after) (c.in-Some-Goes.is ∙ ap (λ (q : Stepped). Some q) c.in-Some-Goes.field-0-is) c.in-Ok.ensures.turned) in
+    (subst (λ (o : Option Stepped). AddedOrNone (λ (made : Option Made). Turned (setting_of c.args.component.now (script c.turns.main) c.turns.self.trap_on_idle) c.turns.self.turn m u made m' t) o mid after) (c.in-Some-Goes.is ∙ ap (λ (q : Stepped). Some q) (rw c.in-Some-Goes.is at c.in-Some-Goes.field-0-is)) c.in-Ok.ensures.turned) in
     let on = added_more x (state_at s.core (part c.args.main.now) c.args.self.now.turn) c.args.trace.now (given s.core) c.turns.self.turn m u mid c.turns.added c.turns.invariant.on m' t after c.in-Some-Goes.turn c.in-Some-Goes.computed turned in
-    let pace = c.args.self.now.pace in
-    let b = c.turns.pace.passes in
-    let k = c.turns.pace.since in
-    let since = c.past-pace.ensures.since ∙ ap (λ (o : Option Mark). counted_past b k o) c.next_mark-next.ensures in
-    let driven = driven_goes pace.passes pace.since c.args.trace.now mid b k c.turns.invariant.paced x c.turns.self.turn m u m' t after c.in-Some-Goes.turn c.in-Some-Goes.computed turned c.past-pace.result.passes c.past-pace.result.since c.past-pace.ensures.passes since in
     let o = state_at s.core (part c.args.main.now) c.args.self.now.turn in
     let first = c.args.store.now.groups in
     record {
@@ -130,18 +119,17 @@ turns-preserved g c =
       stands = c.in-Ok.ensures.stands ∙ c.turns.invariant.stands;
       on = c.in_ok-added-in-Some-Goes.ensures.on x refl (state_at s.core (part c.args.main.now) c.args.self.now.turn) c.args.trace.now (given s.core) m' on;
       does = does_computed g.M.MainTask.does c.args.main.now c.args.trace.now c.turn.new.main after c.args.component.now c.in-Some-Goes.turn t (c.turns.added + 1) c.compute.new.w c.compute.new.trace c.in_ok-added-in-Some-Goes.added
-          (does_added g.M.MainTask.does c.args.main.now c.args.trace.now c.turns.main mid (stepped.Goes c.in-Some-Goes.turn c.in-Some-Goes.computed) c.turn.new.main after c.turns.invariant.does (subst (λ (o : Option Stepped). AddedOrNone (λ (made : Option Made). DoesStep g.M.MainTask.does c.turns.main (step_of made) c.turn.new.main) o c.turns.trace c.turn.new.trace) (c.in-Some-Goes.is ∙ ap (λ (q : Stepped). Some q) c.in-Some-Goes.field-0-is) c.in-Ok.ensures.does))
+          (does_added g.M.MainTask.does c.args.main.now c.args.trace.now c.turns.main mid (stepped.Goes c.in-Some-Goes.turn c.in-Some-Goes.computed) c.turn.new.main after c.turns.invariant.does (subst (λ (o : Option Stepped). AddedOrNone (λ (made : Option Made). DoesStep g.M.MainTask.does c.turns.main (step_of made) c.turn.new.main) o c.turns.trace c.turn.new.trace) (c.in-Some-Goes.is ∙ ap (λ (q : Stepped). Some q) (rw c.in-Some-Goes.is at c.in-Some-Goes.field-0-is)) c.in-Ok.ensures.does))
           c.in_ok-added-in-Some-Goes.ensures.computes;
-      paced = driven_data pace.passes pace.since c.args.trace.now after c.past-pace.result.passes c.past-pace.result.since driven c.in_ok-added-in-Some-Goes.ensures.computes.labels c.compute.new.trace c.in_ok-added-in-Some-Goes.ensures.computes.computing c.in_ok-added-in-Some-Goes.ensures.computes.trace c.past-pace.ensures.passes;
       kept = c.turns.invariant.kept;
       few = c.in_ok-added-in-Some-Goes.ensures.few.1;
       groups = holds_computed c.args.component.now t after (c.turns.added + 1) c.compute.new.w c.compute.new.trace c.in_ok-added-in-Some-Goes.added x refl c.in-Some-Goes.turn c.in_ok-added-in-Some-Goes.ensures.computes c.in_ok-added-in-Some-Goes.ensures.still c.turn.new.store.groups c.in-Ok.ensures.groups;
-      running = subst (λ (w : Option Stepped). IfSome w (λ q. c.turn.new.running ≡ group_running t.core (turn_of q))) (c.in-Some-Goes.is ∙ ap (λ (q : Stepped). Some q) c.in-Some-Goes.field-0-is) c.in-Ok.ensures.running
+      running = subst (λ (w : Option Stepped). IfSome w (λ q. c.turn.new.running ≡ group_running t.core (turn_of q))) (c.in-Some-Goes.is ∙ ap (λ (q : Stepped). Some q) (rw c.in-Some-Goes.is at c.in-Some-Goes.field-0-is)) c.in-Ok.ensures.running
           ∙ ap (λ (o : Option ℕ). unwrap_or o 0) (sym (group_computed c.args.component.now t after (c.turns.added + 1) c.compute.new.w c.compute.new.trace c.in_ok-added-in-Some-Goes.added x refl c.in-Some-Goes.turn c.in_ok-added-in-Some-Goes.ensures.computes c.in_ok-added-in-Some-Goes.ensures.still));
       told = told_computed x o c.args.trace.now first c.in-Some-Goes.turn m' t after (c.turns.added + 1) c.compute.new.w c.compute.new.trace c.in_ok-added-in-Some-Goes.added c.turn.new.store.groups
           (told_more x o c.args.trace.now first c.turns.self.turn m u mid c.turns.store.groups m' t c.turn.new.store.groups (stepped.Goes c.in-Some-Goes.turn c.in-Some-Goes.computed) after c.turns.invariant.told
           (told_same c.args.component.now (script c.turns.main) (script c.args.main.now) c.turns.self.trap_on_idle c.args.self.now.trap_on_idle c.turns.self.turn m u c.turns.store.groups m' t c.turn.new.store.groups (Some (stepped.Goes c.in-Some-Goes.turn c.in-Some-Goes.computed)) mid after c.turns.invariant.script c.turns.invariant.idle
-          (subst (λ (w : Option Stepped). AddedOrNone (λ (made : Option Made). TurnTold (setting_of c.args.component.now (script c.turns.main) c.turns.self.trap_on_idle) c.turns.self.turn m u c.turns.store.groups made m' t c.turn.new.store.groups) w mid after) (c.in-Some-Goes.is ∙ ap (λ (q : Stepped). Some q) c.in-Some-Goes.field-0-is) c.in-Ok.ensures.told)))
+          (subst (λ (w : Option Stepped). AddedOrNone (λ (made : Option Made). TurnTold (setting_of c.args.component.now (script c.turns.main) c.turns.self.trap_on_idle) c.turns.self.turn m u c.turns.store.groups made m' t c.turn.new.store.groups) w mid after) (c.in-Some-Goes.is ∙ ap (λ (q : Stepped). Some q) (rw c.in-Some-Goes.is at c.in-Some-Goes.field-0-is)) c.in-Ok.ensures.told)))
           c.in_ok-added-in-Some-Goes.ensures.computes c.in_ok-added-in-Some-Goes.ensures.still;
     }
 
@@ -169,7 +157,7 @@ returns-in-None-clause-does g c =
 
 pub returns-in-Some-Over-clause-does : goal.returns-in-Some-Over-clause-does
 returns-in-Some-Over-clause-does g c =
-    does_added g.M.MainTask.does c.args.main.now c.args.trace.now c.turns.main c.turns.trace (stepped.Over c.in-Some-Over.outcome) c.turn.new.main c.turn.new.trace c.turns.invariant.does (subst (λ (o : Option Stepped). AddedOrNone (λ (made : Option Made). DoesStep g.M.MainTask.does c.turns.main (step_of made) c.turn.new.main) o c.turns.trace c.turn.new.trace) (c.in-Some-Over.is ∙ ap (λ (q : Stepped). Some q) c.in-Some-Over.field-0-is) c.in-Ok.ensures.does)
+    does_added g.M.MainTask.does c.args.main.now c.args.trace.now c.turns.main c.turns.trace (stepped.Over c.in-Some-Over.outcome) c.turn.new.main c.turn.new.trace c.turns.invariant.does (subst (λ (o : Option Stepped). AddedOrNone (λ (made : Option Made). DoesStep g.M.MainTask.does c.turns.main (step_of made) c.turn.new.main) o c.turns.trace c.turn.new.trace) (c.in-Some-Over.is ∙ ap (λ (q : Stepped). Some q) (rw c.in-Some-Over.is at c.in-Some-Over.field-0-is)) c.in-Ok.ensures.does)
 
 pub returns-in_default-clause-err : goal.returns-in_default-clause-err
 returns-in_default-clause-err g c =
@@ -177,7 +165,7 @@ returns-in_default-clause-err g c =
     let part = g.M.MainTask.part in
     let script = g.M.MainTask.script in
     let x = setting_of c.args.component.now (script c.args.main.now) c.args.self.now.trap_on_idle in
-    on_err c.from_residual.result _ (was_on x (state_at s.core (part c.args.main.now) c.args.self.now.turn) c.args.trace.now (given s.core) c.turns.self.turn (part c.turns.main) c.turns.store.state c.turns.trace c.turn.new.trace c.turns.added c.args.steps c.turns.invariant.on c.turns.invariant.few c.in_err-turn.ensures.err)
+    was_on x (state_at s.core (part c.args.main.now) c.args.self.now.turn) c.args.trace.now (given s.core) c.turns.self.turn (part c.turns.main) c.turns.store.state c.turns.trace c.turn.new.trace c.turns.added c.args.steps c.turns.invariant.on c.turns.invariant.few c.in_default.ensures.err
 
 pub returns-in_err-added-in-Some-Goes-clause-err : goal.returns-in_err-added-in-Some-Goes-clause-err
 returns-in_err-added-in-Some-Goes-clause-err g c =
@@ -193,36 +181,9 @@ returns-in_err-added-in-Some-Goes-clause-err g c =
     let after = c.turn.new.trace in
     let turned = none_as (λ (made : Option Made). Turned (setting_of c.args.component.now (script c.turns.main) c.turns.self.trap_on_idle) c.turns.self.turn m u made m' t) (λ (made : Option Made). Turned x c.turns.self.turn m u made m' t) (Some (stepped.Goes c.in-Some-Goes.turn c.in-Some-Goes.computed)) mid after
     (λ made. turned_same c.args.component.now (script c.turns.main) (script c.args.main.now) c.turns.self.trap_on_idle c.args.self.now.trap_on_idle c.turns.self.turn m u made m' t c.turns.invariant.script c.turns.invariant.idle)
-    (subst (λ (o : Option Stepped). AddedOrNone (λ (made : Option Made). Turned (setting_of c.args.component.now (script c.turns.main) c.turns.self.trap_on_idle) c.turns.self.turn m u made m' t) o mid after) (c.in-Some-Goes.is ∙ ap (λ (q : Stepped). Some q) c.in-Some-Goes.field-0-is) c.in-Ok.ensures.turned) in
+    (subst (λ (o : Option Stepped). AddedOrNone (λ (made : Option Made). Turned (setting_of c.args.component.now (script c.turns.main) c.turns.self.trap_on_idle) c.turns.self.turn m u made m' t) o mid after) (c.in-Some-Goes.is ∙ ap (λ (q : Stepped). Some q) (rw c.in-Some-Goes.is at c.in-Some-Goes.field-0-is)) c.in-Ok.ensures.turned) in
     let on = added_more x (state_at s.core (part c.args.main.now) c.args.self.now.turn) c.args.trace.now (given s.core) c.turns.self.turn m u mid c.turns.added c.turns.invariant.on m' t after c.in-Some-Goes.turn c.in-Some-Goes.computed turned in
-    on_err c.from_residual-in_err-added-in-Some-Goes.result _ (was_on_short x (state_at s.core (part c.args.main.now) c.args.self.now.turn) c.args.trace.now (given s.core) c.in-Some-Goes.turn m' t after c.compute.new.trace (c.turns.added + 1) c.args.steps on c.in_err-added-in-Some-Goes.ensures.err)
-
--- ---- The pace
-
-pub returns-in-None-clause-pace : goal.returns-in-None-clause-pace
-returns-in-None-clause-pace g c =
-    let turned = rw c.in-None.is at c.in-Ok.ensures.does in
-    driven_still c.args.self.now.pace c.args.trace.now c.turns.trace c.turns.pace.passes c.turns.pace.since c.turns.invariant.paced outcome.Idle c.past-self.result c.turn.new.trace turned.1 c.past-self.ensures.since c.past-self.ensures.passes
-
-pub returns-in-Some-Over-clause-pace : goal.returns-in-Some-Over-clause-pace
-returns-in-Some-Over-clause-pace g c =
-    driven_over c.args.self.now.pace c.args.trace.now c.turns.trace c.turns.pace.passes c.turns.pace.since c.turns.invariant.paced c.in-Some-Over.outcome c.new-self.result _ c.turn.new.trace
-    (subst (λ (o : Option Stepped). AddedOrNone (λ (made : Option Made). DoesStep g.M.MainTask.does c.turns.main (step_of made) c.turn.new.main) o c.turns.trace c.turn.new.trace) (c.in-Some-Over.is ∙ ap (λ (q : Stepped). Some q) c.in-Some-Over.field-0-is) c.in-Ok.ensures.does)
-    c.new-self.ensures.since c.new-self.ensures.passes
-
-pub returns-then-is_idle-clause-pace : goal.returns-then-is_idle-clause-pace
-returns-then-is_idle-clause-pace g c =
-    driven_to c.args.self.now.pace c.args.trace.now c.turns.trace c.turns.pace.passes c.turns.pace.since c.turns.invariant.paced outcome.Idle c.past-self-then-is_idle.result c.past-self-then-is_idle.ensures.since c.past-self-then-is_idle.ensures.passes
-
-pub returns-clause-pace : goal.returns-clause-pace
-returns-clause-pace g c =
-    driven_to c.args.self.now.pace c.args.trace.now c.turns.trace c.turns.pace.passes c.turns.pace.since c.turns.invariant.paced outcome.OutOfSteps c.new-self-2.result c.new-self-2.ensures.since c.new-self-2.ensures.passes
-
-pub returns-in_default-clause-kept : goal.returns-in_default-clause-kept
-returns-in_default-clause-kept g c = on_err c.from_residual.result _ c.turns.invariant.kept
-
-pub returns-in_err-added-in-Some-Goes-clause-kept : goal.returns-in_err-added-in-Some-Goes-clause-kept
-returns-in_err-added-in-Some-Goes-clause-kept g c = on_err c.from_residual-in_err-added-in-Some-Goes.result _ c.turns.invariant.kept
+    on_err c.from_residual.result _ (was_on_short x (state_at s.core (part c.args.main.now) c.args.self.now.turn) c.args.trace.now (given s.core) c.in-Some-Goes.turn m' t after c.compute.new.trace (c.turns.added + 1) c.args.steps on c.in_err-added-in-Some-Goes.ensures.err)
 
 -- ---- What was told
 
@@ -257,4 +218,4 @@ returns-in-Some-Over-clause-told g c =
     let over = stepped.Over c.in-Some-Over.outcome in
     told_more x o c.args.trace.now c.args.store.now.groups c.turns.self.turn m u mid c.turns.store.groups m' t c.turn.new.store.groups over after c.turns.invariant.told
     (told_same c.args.component.now (script c.turns.main) (script c.args.main.now) c.turns.self.trap_on_idle c.args.self.now.trap_on_idle c.turns.self.turn m u c.turns.store.groups m' t c.turn.new.store.groups (Some over) mid after c.turns.invariant.script c.turns.invariant.idle
-    (subst (λ (w : Option Stepped). AddedOrNone (λ (made : Option Made). TurnTold (setting_of c.args.component.now (script c.turns.main) c.turns.self.trap_on_idle) c.turns.self.turn m u c.turns.store.groups made m' t c.turn.new.store.groups) w mid after) (c.in-Some-Over.is ∙ ap (λ (q : Stepped). Some q) c.in-Some-Over.field-0-is) c.in-Ok.ensures.told))
+    (subst (λ (w : Option Stepped). AddedOrNone (λ (made : Option Made). TurnTold (setting_of c.args.component.now (script c.turns.main) c.turns.self.trap_on_idle) c.turns.self.turn m u c.turns.store.groups made m' t c.turn.new.store.groups) w mid after) (c.in-Some-Over.is ∙ ap (λ (q : Stepped). Some q) (rw c.in-Some-Over.is at c.in-Some-Over.field-0-is)) c.in-Ok.ensures.told))

@@ -2,7 +2,6 @@
 use Rattle.std.proofs.Common.{◌≡◌, ◌≤◌, ◌-◌}
 use Rattle.group_notices.specs.Runs.{HasTold}
 use Rattle.task_store.specs.Groups.{HoldsGroups}
-use Rattle.task_loop.proofs.DrivenLemmas.{Driven}
 use Rattle.task_loop.specs.Standing.{standing}
 use Rattle.task_loop.specs.Told.{group_running}
 use Rattle.task_store.specs.Hosts.{HoldsHosts}
@@ -21,7 +20,6 @@ invariant-turns g l = record {
   stands : standing l.store ≡ standing l.initial.store;
   on : IsOn (setting_of l.component (g.M.MainTask.script l.initial.main) l.initial.self.trap_on_idle) (state_at l.initial.store.state.core (g.M.MainTask.part l.initial.main) l.initial.self.turn) l.initial.trace (given l.initial.store.state.core) l.self.turn (g.M.MainTask.part l.main) l.store.state l.trace l.added;
   does : DoesAdded g.M.MainTask.does l.initial.main l.initial.trace l.main l.trace;
-  paced : Driven l.initial.self.pace.passes l.initial.self.pace.since l.initial.trace l.trace l.pace.passes l.pace.since;
   kept : l.self.pace ≡ l.initial.self.pace;
   few : l.added ≤ l.steps;
   groups : HoldsGroups l.store.groups l.store.state.core;

@@ -296,7 +296,7 @@ returns-in-Some-clause-running g c =
     let pends = rw c.in-Take.is at c.requires.pends in
     let turned = none_as (λ (made : Option Made). TurnedBeside c.args.component.now c.args.self.now.trap_on_idle p s made t) (λ (made : Option Made). Turned x p m s made m t) (Some c.in-Some.stepped) before after
     (λ made k. k x refl refl m pends) (rw c.in-Some.is at c.in-Ok-take.ensures.turned) in
-    c.tell_work-in-Some.ensures.running ∙ ap (λ (o : Option ℕ). unwrap_or o 0) (current_is t (turn_of c.in-Some.stepped) (turns_runs x p m s m t c.in-Some.stepped before after turned))
+    c.tell_work.ensures.running ∙ ap (λ (o : Option ℕ). unwrap_or o 0) (current_is t (turn_of c.in-Some.stepped) (turns_runs x p m s m t c.in-Some.stepped before after turned))
 
 pub returns-in-Some-clause-groups : goal.returns-in-Some-clause-groups
 returns-in-Some-clause-groups g c =
@@ -312,8 +312,8 @@ returns-in-Some-clause-groups g c =
     (λ made k. k x refl refl m pends) (rw c.in-Some.is at c.in-Ok-take.ensures.turned) in
     let a = asked_beside c.take.new.worked in
     let asked : IsAsked c.args.component.now s.core p a = record { running = refl; worked = c.take.ensures.worked; staked = refl } in
-    let tells = c.tell_work-in-Some.ensures in
-    other_holds x p refl m s a asked c.args.store.now.groups c.requires.groups m t c.tell_work-in-Some.new.groups c.in-Some.stepped before after turned tells.mirrors tells.made tells.unhooked
+    let tells = c.tell_work.ensures in
+    other_holds x p refl m s a asked c.args.store.now.groups c.requires.groups m t c.tell_work.new.groups c.in-Some.stepped before after turned tells.mirrors tells.made tells.unhooked
 
 pub returns-in-Some-clause-told : goal.returns-in-Some-clause-told
 returns-in-Some-clause-told g c =
@@ -329,8 +329,8 @@ returns-in-Some-clause-told g c =
     (λ made k. k x refl refl m pends) (rw c.in-Some.is at c.in-Ok-take.ensures.turned) in
     let a = asked_beside c.take.new.worked in
     let asked : IsAsked c.args.component.now s.core p a = record { running = refl; worked = c.take.ensures.worked; staked = refl } in
-    let tells = c.tell_work-in-Some.ensures in
-    rw c.in-Take.is (other_told x p refl m s a asked c.args.store.now.groups c.requires.groups m t c.tell_work-in-Some.new.groups c.in-Some.stepped before after turned tells.told)
+    let tells = c.tell_work.ensures in
+    rw c.in-Take.is (other_told x p refl m s a asked c.args.store.now.groups c.requires.groups m t c.tell_work.new.groups c.in-Some.stepped before after turned tells.told)
 
 -- ---- A work is polled
 

@@ -1,0 +1,32 @@
+//! The marks of the entries that a run took, by the heads of its labels alone.
+ghost use Rattle.label_laws.specs.Own.{mark_taken};
+ghost use Rattle.label_trace.specs.Marks.{mark_in};
+ghost use Rattle.std.specs.Prelude.{◌≡◌, None, map, slice_index_or};
+
+use crate::kinds::Kind;
+use crate::trace::Trace;
+use task_machine::Mark;
+
+// The mark that a label of this kind shows.
+fn mark_of(kind: Kind) -> Option<Mark>
+    ensures { result ≡ mark_in kind }
+{
+    match kind {
+        Kind::Take(mark, _) | Kind::Own(mark, _) | Kind::Given(mark, _) => Some(mark),
+        _ => None,
+    }
+}
+
+impl Trace {
+    /// The mark at which the entry stood that the label at this place, from 0, shows as taken. None where that is no label of a
+    /// taking, and past the last label. Its numbers aren't read.
+    #[inline(always)]
+    pub fn mark(&self, place: usize) -> Option<Mark>
+        ensures { result ≡ slice_index_or (map mark_taken self.now) place None }
+    {
+        match self.heads.get(place) {
+            Some(head) => mark_of(head.kind),
+            None => None,
+        }
+    }
+}

@@ -1,0 +1,264 @@
+-- A turn that rests has lowered the polls that are left of some work.
+use Rattle.label_laws.proofs.TakingLemmas.{IsTaken, take_shows}
+use Rattle.label_laws.specs.Own.{Shows}
+use Rattle.order_laws.proofs.LiveLemmas.{moving_found, next_above, next_least}
+use Rattle.order_laws.specs.Rests.{AllPending, LowersPolls, RestsLowerPolls, is_pending, with_polls}
+use Rattle.std.proofs.Common.{ap, arith, inl, inr, refl, subst, sym, ⊎_elim, ◌∙◌}
+use Rattle.std.proofs.lemmas.Bool.Decides.{nat_tests}
+use Rattle.std.specs.Option.{option_map}
+use Rattle.std.specs.Prelude.{Bool, List, None, Option, Some, [], cond, false, is_none, suc, true, zero, ℕ, ◌++◌, ◌<◌, ◌==◌, ◌≡◌, ◌≤◌, ◌∷◌, ◌⊎◌}
+use Rattle.task_machine.proofs.CommuteLemmas.{get-change}
+use Rattle.task_machine.specs.Core.{Core, Main, MainPlace, Scripted, State, Unscripted}
+use Rattle.task_machine.specs.Labels.{choice_of}
+use Rattle.task_machine.specs.Maps.{get}
+use Rattle.task_machine.specs.Read.{course_of, is_aborted, is_live, is_never, next_entry}
+use Rattle.task_machine.specs.Write.{on_work, set_course}
+use Rattle.task_machine.specs.declared.component.HostDef.{HostDef}
+use Rattle.task_machine.specs.declared.label.Label.{Label}
+use Rattle.task_machine.specs.declared.label.Label.TheVariants as label
+use Rattle.task_machine.specs.declared.label.LoopLabel.TheVariants as loop_label
+use Rattle.task_machine.specs.declared.records.Course.{Course}
+use Rattle.task_machine.specs.declared.records.Course.TheVariants as course
+use Rattle.task_machine.specs.declared.records.Entry.{Entry}
+use Rattle.task_machine.specs.declared.records.Turn.{Turn}
+use Rattle.task_machine.specs.declared.records.Turn.TheVariants as turn
+use Rattle.task_machine.specs.declared.records.Work.{Work}
+use Rattle.task_machine.specs.declared.scenario.MainOpDef.{MainOpDef}
+use Rattle.task_machine.specs.declared.words.Mark.{Mark}
+use Rattle.task_machine.specs.declared.words.Phase.{Phase}
+use Rattle.task_machine.specs.declared.words.Phase.TheVariants as phase
+use Rattle.task_rules.proofs.StandLemmas.{is_eq_of}
+use Rattle.task_rules.specs.MainOps.{Answers, Does, MainProgress, Pends, act_of, line_of, main_row, op_at}
+use Rattle.task_rules.specs.Progress.{Fails, Goes, Never, Ordered, Progress, Stops, Traps}
+use Rattle.task_rules.specs.Run.{Run}
+use Rattle.task_rules.specs.Stalled.{Setting, is_unended_take, may_deadlock}
+use Rattle.task_rules.specs.Step.{DeadlockStep, EmptyFor, FuturesStep, MainProgresses, MainStep, Polled, Progresses, RestStep, ScriptStep, Step, TakeStep, TurnStep, entry_number}
+use Rattle.task_rules.specs.Takes.{popped, take_row}
+use Rattle.task_rules.specs.Turns.{at_turn, goes_to, nothing_stands, settled_futures, settled_take, settled_turn}
+use Rattle.task_rules.specs.Works.{Ends, FailsNow, Poll, StillPends, has_moving_work, is_moving, next_polled, poll_of, poll_pends, polled_again, polled_course, polled_in}
+
+abbrev pends : ℕ → Label
+pends i = label.Loop (loop_label.FuturePends i)
+
+abbrev rest : Label
+rest = label.Loop loop_label.Rest
+
+-- ---- Labels
+
+-- it shows that a work pends, or that the turn rests
+abbrev is_quiet : Label → Bool
+is_quiet (label.Loop (loop_label.FuturePends i)) = true
+is_quiet (label.Loop loop_label.Rest) = true
+is_quiet _ = false
+
+pending_quiet : (l : Label) → is_pending l ≡ true → is_quiet l ≡ true
+pending_quiet (label.Loop (loop_label.FuturePends i)) h = refl
+pending_quiet l h = grind (arith, h)
+
+-- a taking isn't quiet
+taken_loud : (m : Mark) (l : Label) → IsTaken m l → is_quiet l ≡ false
+taken_loud m (label.Take l) h = refl
+taken_loud m l h = grind (arith, h)
+
+loud : (m : Mark) (s : State) (base : Core) (n : ℕ) (p : Progress) → Shows (IsTaken m) p → (l : Label) (t : State) → Progresses s base n p l t → is_quiet l ≡ false
+loud m s base n (Goes k new j) h l t is = ap is_quiet is.0 ∙ taken_loud m k h
+loud m s base n (Stops k new) h l t is = ap is_quiet is.0 ∙ taken_loud m k h
+loud m s base n (Ordered held next) h l t is = loud m s base n (next is.0) (h is.0) l t is.1.1
+loud m s base n (Traps x) h l t is = ap is_quiet is.0
+loud m s base n (Fails i) h l t is = ap is_quiet is.0
+loud m s base n Never h l t is = absurd is
+
+deadlock_loud : (s : State) (b : Bool) (l : Label) (t : State) → DeadlockStep s b l t → is_quiet l ≡ false
+deadlock_loud s true l t is = ap is_quiet is.0
+deadlock_loud s false l t is = absurd is
+
+-- a quiet step of a taking rests
+rests : (s : State) (b : Bool) (l : Label) (t : State) → RestStep s b l t → (l ≡ rest) × (t ≡ goes_to s s.core turn.Main)
+rests s true l t is = is
+rests s false l t is = absurd is
+
+quiet_take : (x : Setting) (s : State) (o : Option (Mark × Entry)) (l : Label) (t : State) → TakeStep x s o l t → is_quiet l ≡ true →
+    (has_moving_work s.core ≡ true) × ((l ≡ rest) × (t ≡ goes_to s s.core turn.Main))
+quiet_take x s (Some e) l t is quiet =
+    let base = popped e.0 s.core in
+    let no = loud e.0 s base (entry_number e.1) (take_row e.0 (choice_of l) base e.1) (take_shows e.0 (choice_of l) base e.1) l t is in
+    absurd (cc)
+quiet_take x s None l t is quiet = by (has_moving_work s.core) refl is
+  where
+    by : (b : Bool) → has_moving_work s.core ≡ b → EmptyFor x s b l t → (has_moving_work s.core ≡ true) × ((l ≡ rest) × (t ≡ goes_to s s.core turn.Main))
+    by true has e = (has, rests s (is_unended_take s.turn) l t e)
+    by false has e = let no = deadlock_loud s (may_deadlock x s) l t e in absurd (cc)
+
+-- ---- Polls
+
+-- what a poll that pends finds
+abbrev Found : HostDef → Course → Type 0
+Found host c = (is_none host.polls ≡ true) ⊎ ((p : ℕ) × ((v : Option ℕ) × ((c ≡ course.Goes (with_polls (suc p) v)) × (host ≡ with_polls p v))))
+
+abbrev endless : Option ℕ → HostDef
+endless v = record { polls = None; value = v }
+
+by_polls : (host : HostDef) (polls value : Option ℕ) → (let d : HostDef = record { polls = polls; value = value } in polled_again d polls ≡ StillPends host) →
+    (let d : HostDef = record { polls = polls; value = value } in Found host (course.Goes d))
+by_polls host None v e = let same : endless v ≡ host = cc in inl (ap (λ (h : HostDef). is_none h.polls) (sym same))
+by_polls host (Some zero) None e = absurd (cc)
+by_polls host (Some zero) (Some v) e = absurd (cc)
+by_polls host (Some (suc p)) v e = let same : with_polls p v ≡ host = cc in inr (p, (v, (refl, sym same)))
+
+by_course : (host : HostDef) (c : Course) → polled_course c ≡ StillPends host → Found host c
+by_course host (course.Goes d) e = by_polls host d.polls d.value e
+by_course host (course.Value v) e = absurd (cc)
+by_course host course.NoValue e = absurd (cc)
+
+found : (host : HostDef) (p : Phase) (c : Course) → polled_in p c ≡ StillPends host → (is_aborted p ≡ false) × Found host c
+found host phase.AbortRequested c e = absurd (cc)
+found host phase.Running c e = (refl, by_course host c e)
+found host phase.Complete c e = (refl, by_course host c e)
+
+-- ---- The works that were polled in the turn
+
+module _ (x : Setting) (b : Core) where
+  record Done (i : ℕ) (w : Work) : Type 0 where
+    asked : is_aborted w.phase ≡ false
+    lowered : (is_never w.course ≡ true) ⊎ ((p : ℕ) × ((v : Option ℕ) × ((course_of i b ≡ course.Goes (with_polls (suc p) v)) × (w.course ≡ course.Goes (with_polls p v)))))
+
+  -- those up to n were polled, and the others are as they were
+  record UpTo (n : ℕ) (s : Core) : Type 0 where
+    done : (i : ℕ) (w : Work) → get s.works i ≡ Some w → is_live w ≡ true → i ≤ n → Done i w
+    same : (i : ℕ) → n < i → get s.works i ≡ get b.works i
+
+  none_yet : get b.works 0 ≡ None → UpTo 0 b
+  none_yet none = record {
+    done = λ i w at live below. absurd (let is : i ≡ 0 = omega (arith, below) in let there : get b.works 0 ≡ Some w = subst (λ (k : ℕ). get b.works k ≡ Some w) is at in cc);
+    same = λ i above. refl;
+  }
+
+  module _ (n i : ℕ) (host : HostDef) (s : Core) (up : UpTo n s) (next : next_polled n s ≡ Some i) (poll : poll_of i s ≡ StillPends host) where
+    above : n < i
+    above = next_above n i s next
+
+    changed : (j : ℕ) → get (poll_pends i host s).works j ≡ cond (j == i) (option_map (λ (w : Work). record w { course = course.Goes host }) (get s.works j)) (get s.works j)
+    unfolding poll_pends set_course on_work
+    changed j = grind (arith, nat_tests, get-change)
+
+    own : (w : Work) → get s.works i ≡ Some w → Done i (record w { course = course.Goes host })
+    unfolding poll_of
+    own w at =
+        let in_ : polled_in w.phase w.course ≡ StillPends host = grind (arith, at, poll) in
+        let f = found host w.phase w.course in_ in
+        let here : course_of i b ≡ w.course = (let e = up.same i above in grind (arith, at, e)) in
+        record {
+          asked = f.0;
+          lowered = ⊎_elim (λ never. inl never) (λ q. inr (q.0, (q.1.0, (here ∙ q.1.1.0, ap (λ (h : HostDef). course.Goes h) q.1.1.1)))) f.1;
+        }
+
+    done_then : (j : ℕ) (w : Work) → get (poll_pends i host s).works j ≡ Some w → is_live w ≡ true → j ≤ i → Done j w
+    done_then j w at live below = by (j == i) refl (sym (changed j) ∙ at)
+      where
+        at_i : (o : Option Work) → get s.works i ≡ o → option_map (λ (v : Work). record v { course = course.Goes host }) o ≡ Some w → Done i w
+        at_i None is e = absurd (cc)
+        at_i (Some v) is e = let same : record v { course = course.Goes host } ≡ w = cc in subst (Done i) same (own v is)
+
+        before : get s.works j ≡ Some w → (j == i) ≡ false → Done j w
+        before is apart = by_order (grind (arith, nat_tests, apart, below))
+          where
+            by_order : (j ≤ n) ⊎ ((n < j) × (j < i)) → Done j w
+            by_order o = ⊎_elim (λ low. up.done j w is live low)
+                (λ mid. absurd (let q = next_least n j s w is live mid.0 in let same : Some q.0 ≡ Some i = sym q.1.0 ∙ next in let is_i : q.0 ≡ i = cc in let low = q.1.1 in let less = mid.1 in omega (arith, is_i, low, less))) o
+
+        by : (t : Bool) → (j == i) ≡ t → cond t (option_map (λ (v : Work). record v { course = course.Goes host }) (get s.works j)) (get s.works j) ≡ Some w → Done j w
+        by true is e =
+            let same = is_eq_of j i is in
+            subst (λ (k : ℕ). Done k w) (sym same) (at_i (get s.works i) refl (subst (λ (k : ℕ). option_map (λ (v : Work). record v { course = course.Goes host }) (get s.works k) ≡ Some w) same e))
+        by false is e = before e is
+
+    pended : UpTo i (poll_pends i host s)
+    pended = record {
+      done = done_then;
+      same = λ j past. changed j ∙ (let apart : (j == i) ≡ false = grind (arith, nat_tests, past) in let e = up.same j (let a = above in omega (arith, a, past)) in rw apart e);
+    }
+
+  -- ---- The steps of the turn
+
+  Turns : ℕ → State → Type 0
+  Turns n s = UpTo n s.core × (s.turn ≡ settled_turn s.core (turn.Futures n))
+
+  polled_step : (n i : ℕ) (s : State) (p : Poll) (l : Label) (t : State) → Turns n s → next_polled n s.core ≡ Some i → poll_of i s.core ≡ p → Polled s i p l t → is_quiet l ≡ true →
+      (is_pending l ≡ true) × Turns i t
+  unfolding Turns at_turn
+  polled_step n i s (StillPends host) l t on next is step quiet =
+      let core : t.core ≡ poll_pends i host s.core = ap (λ (u : State). u.core) step.1 in
+      let turns : t.turn ≡ settled_turn (poll_pends i host s.core) (turn.Futures i) = ap (λ (u : State). u.turn) step.1 in
+      (ap is_pending step.0, (subst (UpTo i) (sym core) (pended n i host s.core on.0 next is), turns ∙ ap (λ (c : Core). settled_turn c (turn.Futures i)) (sym core)))
+  polled_step n i s (Ends v) l t on next is step quiet = let no = ap is_quiet step.0 in absurd (cc)
+  polled_step n i s FailsNow l t on next is step quiet = let no = ap is_quiet step.0 in absurd (cc)
+
+  -- where the works were polled up to n, the next quiet step polls the next one, or rests
+  quiet_step : (n : ℕ) (s : State) (l : Label) (t : State) → Turns n s → is_quiet l ≡ true → Step x s l t →
+      ((is_pending l ≡ true) × ((i : ℕ) × Turns i t)) ⊎ ((next_polled n s.core ≡ None) × ((has_moving_work s.core ≡ true) × ((l ≡ rest) × (t.core ≡ s.core))))
+  unfolding Step Turns at_turn
+  quiet_step n s l t on quiet step = by (next_polled n s.core) refl (subst (λ (u : Turn). TurnStep x s u l t) on.1 step)
+    where
+      takes : (b : Bool) → TurnStep x s (settled_take false b) l t → (has_moving_work s.core ≡ true) × ((l ≡ rest) × (t ≡ goes_to s s.core turn.Main))
+      takes true k = quiet_take x s (next_entry s.core) l t k quiet
+      takes false k = quiet_take x s (next_entry s.core) l t k quiet
+
+      by : (o : Option ℕ) → next_polled n s.core ≡ o → TurnStep x s (settled_futures n s.core o) l t →
+          ((is_pending l ≡ true) × ((i : ℕ) × Turns i t)) ⊎ ((next_polled n s.core ≡ None) × ((has_moving_work s.core ≡ true) × ((l ≡ rest) × (t.core ≡ s.core))))
+      by (Some i) is k =
+          let q = polled_step n i s (poll_of i s.core) l t on is refl (subst (λ (o : Option ℕ). FuturesStep s o l t) is k) quiet in
+          inl (q.0, (i, q.1))
+      by None is k = let q = takes (nothing_stands s.core) k in inr (is, (q.0, (q.1.0, ap (λ (u : State). u.core) q.1.1)))
+
+  -- the turn rests
+  lowers : (n : ℕ) (s : Core) → UpTo n s → next_polled n s ≡ None → has_moving_work s ≡ true → LowersPolls b s
+  lowers n s up none has = by (m.1.1.1)
+    where
+      m : (i : ℕ) × ((w : Work) × ((get s.works i ≡ Some w) × (is_moving w ≡ true)))
+      m = moving_found s has
+
+      live : is_live m.1.0 ≡ true
+      live = let h = m.1.1.1 in grind (arith, h)
+
+      low : m.0 ≤ n
+      low = by_order (grind arith)
+        where
+          by_order : (m.0 ≤ n) ⊎ (n < m.0) → m.0 ≤ n
+          by_order o = ⊎_elim (λ k. k) (λ k. absurd (let q = next_least n m.0 s m.1.0 m.1.1.0 live k in let e = sym none ∙ q.1.0 in cc)) o
+
+      by : is_moving m.1.0 ≡ true → LowersPolls b s
+      by moving =
+          let d = up.done m.0 m.1.0 m.1.1.0 live low in
+          ⊎_elim
+          (λ never. absurd (let a = d.asked in grind (arith, moving, never, a)))
+          (λ q. record { work = m.0; polls = q.0; value = q.1.0; before = q.1.1.0; after = (let at = m.1.1.0 in let is = q.1.1.1 in grind (arith, at, is)) }) d.lowered
+
+  runs : (ls : List Label) (n : ℕ) (s t : State) → Turns n s → AllPending ls → Run x s (ls ++ rest ∷ []) t → LowersPolls b t.core
+  unfolding Turns
+  runs [] n s t on all r = ⊎_elim (λ q. absurd (let no = q.0 in cc))
+      (λ q. subst (LowersPolls b) (sym (ap (λ (u : State). u.core) r.1.1 ∙ q.1.1.1)) (lowers n s.core on.0 q.0 q.1.0)) (quiet_step n s rest r.0 on refl r.1.0)
+  runs (l ∷ ls) n s t on all r = ⊎_elim (λ q. runs ls q.1.0 r.0 t q.1.1 all.1 r.1.1)
+      (λ q. absurd (let no = ap is_pending q.1.1.0 in let yes = all.0 in cc)) (quiet_step n s l r.0 on (pending_quiet l all.0) r.1.0)
+
+-- ---- Main pends
+
+main_progress : (s : State) (p : MainPlace) (o : MainOpDef) (q : MainProgress) (t : State) → MainProgresses s p o q (label.Loop loop_label.MainPends) t → t ≡ goes_to s s.core (turn.Futures 0)
+main_progress s p o (Does k new) t is = let no = is.0 in absurd (cc)
+main_progress s p o Pends t is = is.1
+main_progress s p o (Answers v) t is = let no = is.0 in absurd (cc)
+
+main_script : (x : Setting) (s : State) (p : MainPlace) (o : Option MainOpDef) (t : State) → ScriptStep x s p o (label.Loop loop_label.MainPends) t → t ≡ goes_to s s.core (turn.Futures 0)
+main_script x s p None t is = is.1
+main_script x s p (Some o) t is = main_progress s p o (main_row x.component (line_of p o) s.core (act_of p o)) t is
+
+main_pends : (x : Setting) (s : State) (m : Main) (t : State) → MainStep x s m (label.Loop loop_label.MainPends) t → t ≡ goes_to s s.core (turn.Futures 0)
+main_pends x s (Scripted p) t is = main_script x s p (op_at x.script p) t is
+main_pends x s Unscripted t is = is
+
+pub rests_lower_polls : RestsLowerPolls
+unfolding RestsLowerPolls Step at_turn Turns
+rests_lower_polls x s t ls is none all r =
+    let pended = main_pends x s s.main r.0 (subst (λ (u : Turn). TurnStep x s u (label.Loop loop_label.MainPends) r.0) is r.1.0) in
+    let core : r.0.core ≡ s.core = ap (λ (u : State). u.core) pended in
+    let turns : r.0.turn ≡ settled_turn s.core (turn.Futures 0) = ap (λ (u : State). u.turn) pended in
+    runs x s.core ls 0 r.0 t (subst (UpTo x s.core 0) (sym core) (none_yet x s.core none), turns ∙ ap (λ (c : Core). settled_turn c (turn.Futures 0)) (sym core)) all r.1.1

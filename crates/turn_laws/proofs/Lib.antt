@@ -1,5 +1,0 @@
-pub mod LiveLemmas
-pub mod RestLemmas
-pub mod LineLemmas
-pub mod StepMoves
-pub mod RunMoves
