@@ -19,10 +19,10 @@ pub record HoldsWorks (left : ℕ → Option HostDef) (s : Core) : Type 0 where
   pub ended : (i : ℕ) (w : Work) → get s.works i ≡ Some w → has_end w.course ≡ true → left i ≡ None
 
 -- what the work with this number that the store holds is still to do
-abbrev pub held_by : {T H : Type 0} → (H → HostDef) → Store T H → ℕ → Option HostDef
+abbrev pub held_by : {T H G : Type 0} → (H → HostDef) → Store T H G → ℕ → Option HostDef
 held_by course store i = held course store.works i
 
-abbrev pub HoldsHosts : {T H : Type 0} → (H → HostDef) → Store T H → Type 0
+abbrev pub HoldsHosts : {T H G : Type 0} → (H → HostDef) → Store T H G → Type 0
 HoldsHosts course store = HoldsWorks (held_by course store) store.state.core
 
 -- each work that is there has a number that was given

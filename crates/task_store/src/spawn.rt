@@ -9,6 +9,7 @@ ghost use Rattle.task_words.specs.StateView.{on_core, work_of};
 
 use crate::store::Store;
 use futures::task::Poll;
+use task_group::TaskGroupHook;
 use task_machine::Phase;
 use task_words::{WorkId, WorkWords};
 
@@ -38,7 +39,7 @@ impl SpawnHandle {
     }
 
     // The id of the work, none where it is gone.
-    fn work<T, H>(&self, store: &Store<T, H>) -> Option<WorkId>
+    fn work<T, H, G: TaskGroupHook>(&self, store: &Store<T, H, G>) -> Option<WorkId>
         requires { IsSpawnedIn self.now store.now.state }
         ensures some { IfSome result (λ id. work_of store.now.state id ≡ self.now.number) }
         ensures none { IfNone result (get store.now.state.core.works self.now.number ≡ None) }
@@ -53,7 +54,7 @@ impl SpawnHandle {
     /// Asks that the work end, and answers the phase that it found: `Running` becomes
     /// `AbortRequested`, and the others stay. The work ends when its next poll is due, without a
     /// value, and isn't polled again.
-    pub fn abort<T, H>(&self, store: &mut Store<T, H>) -> Phase
+    pub fn abort<T, H, G: TaskGroupHook>(&self, store: &mut Store<T, H, G>) -> Phase
         requires { IsSpawnedIn self.now store.old.state }
         ensures phase { result ≡ phase_of self.now.number store.old.state.core }
         ensures state { store.new ≡ record store.old { state = on_core (main_aborted self.now.number) store.old.state } }
@@ -67,7 +68,7 @@ impl SpawnHandle {
     }
 
     /// Ready exactly where the work has ended.
-    pub fn poll<T, H>(&self, store: &Store<T, H>) -> Poll<()>
+    pub fn poll<T, H, G: TaskGroupHook>(&self, store: &Store<T, H, G>) -> Poll<()>
         requires { IsSpawnedIn self.now store.now.state }
         ensures { result ≡ poll_of_phase (phase_of self.now.number store.now.state.core) }
     {
