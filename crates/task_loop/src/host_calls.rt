@@ -61,8 +61,9 @@ impl Instance {
             return Err(TaskError::NoMemory);
         };
         let answer = poll_host(component, &mut store.state, host, register);
-        tell_call(&store.state, &mut store.groups, &before);
+        let told = tell_call(&store.state, &mut store.groups, &before);
         settle(store, number, &answer);
+        told?;
         answer
     }
 
@@ -91,8 +92,9 @@ impl Instance {
             return Err(TaskError::NoMemory);
         };
         let answer = block_on_host(component, &mut store.state, host);
-        tell_call(&store.state, &mut store.groups, &before);
+        let told = tell_call(&store.state, &mut store.groups, &before);
         settle(store, number, &answer);
+        told?;
         answer
     }
 }

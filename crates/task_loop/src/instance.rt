@@ -85,7 +85,7 @@ impl Instance {
             memory,
             value,
         );
-        tell_call(&store.state, &mut store.groups, &before);
+        tell_call(&store.state, &mut store.groups, &before)?;
         answer
     }
 
@@ -112,7 +112,7 @@ impl Instance {
         }
         let before = asked(&store.state);
         let answer = ask_nothing(component, &mut store.state, Op::Task(TaskOp::TaskCancel));
-        tell_call(&store.state, &mut store.groups, &before);
+        tell_call(&store.state, &mut store.groups, &before)?;
         answer
     }
 
@@ -137,7 +137,7 @@ impl Instance {
         let _caller = caller;
         let before = asked(&store.state);
         let answer = ask_nothing(component, &mut store.state, pressure_op(up));
-        tell_call(&store.state, &mut store.groups, &before);
+        tell_call(&store.state, &mut store.groups, &before)?;
         answer
     }
 }

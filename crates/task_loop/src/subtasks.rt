@@ -59,7 +59,7 @@ impl Instance {
         let _caller = caller;
         let before = asked(&store.state);
         let answer = begin_number(component, &mut store.state, cancel_op(async_, subtask));
-        tell_call(&store.state, &mut store.groups, &before);
+        tell_call(&store.state, &mut store.groups, &before)?;
         answer
     }
 
@@ -88,7 +88,7 @@ impl Instance {
         });
         let before = asked_of(&store.state, &op);
         let answer = ask_nothing(component, &mut store.state, op);
-        tell_call(&store.state, &mut store.groups, &before);
+        tell_call(&store.state, &mut store.groups, &before)?;
         answer
     }
 
@@ -118,7 +118,7 @@ impl Instance {
         let callee = callee.callee();
         let before = asked(&store.state);
         let answer = enter_call(component, &mut store.state, callee, params);
-        tell_call(&store.state, &mut store.groups, &before);
+        tell_call(&store.state, &mut store.groups, &before)?;
         answer
     }
 
@@ -149,7 +149,7 @@ impl Instance {
         }
         let before = asked(&store.state);
         let answer = exit_call(component, &mut store.state, value);
-        tell_call(&store.state, &mut store.groups, &before);
+        tell_call(&store.state, &mut store.groups, &before)?;
         answer
     }
 
@@ -188,7 +188,7 @@ impl Instance {
             register,
             async_caller,
         );
-        tell_call(&store.state, &mut store.groups, &before);
+        tell_call(&store.state, &mut store.groups, &before)?;
         answer
     }
 
@@ -214,7 +214,7 @@ impl Instance {
         let _component = component;
         let before = asked(&store.state);
         let answer = start_prepared(&mut store.state, callee);
-        tell_call(&store.state, &mut store.groups, &before);
+        tell_call(&store.state, &mut store.groups, &before)?;
         answer
     }
 }

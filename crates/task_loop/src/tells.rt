@@ -56,7 +56,12 @@ fn goes_on(thread: u64, stepped: &Stepped) -> bool
 
 // Tells the groups what a step gave, before which this was asked, and after which a thread of the group `running` runs.
 #[inline(always)]
-fn tell<G: TaskGroupHook>(core: &TaskCore, groups: &mut Groups<G>, asked: &Asked, running: Option<u64>)
+fn tell<G: TaskGroupHook>(
+    core: &TaskCore,
+    groups: &mut Groups<G>,
+    asked: &Asked,
+    running: Option<u64>,
+)
     requires unhooked { is_some groups.old.listeners.hook ≡ false }
     ensures told { (gs : List ℕ) → Mirrors gs groups.old → Leads asked.now (length core.now.core.groups) gs core.now.core.groups → Told (told_by asked.now running gs core.now.core.groups) groups.old.listeners groups.new.listeners }
     ensures mirrors { (gs : List ℕ) → Mirrors gs groups.old → Leads asked.now (length core.now.core.groups) gs core.now.core.groups → Mirrors core.now.core.groups groups.new }
@@ -87,7 +92,11 @@ fn tell_all<G: TaskGroupHook>(core: &TaskCore, groups: &mut Groups<G>, asked: As
 // where none does. `worked` is the group of the work that was worked on. It is out of line, so that the loop keeps its own
 // values in registers. There is no hook.
 #[inline(never)]
-fn work_at_once<G: TaskGroupHook>(core: &TaskCore, groups: &mut Groups<G>, worked: Option<u64>) -> u64
+fn work_at_once<G: TaskGroupHook>(
+    core: &TaskCore,
+    groups: &mut Groups<G>,
+    worked: Option<u64>,
+) -> u64
     requires unhooked { is_some groups.old.listeners.hook ≡ false }
     ensures running { result ≡ unwrap_or (current_group core.now) 0 }
     ensures told { (gs : List ℕ) → Mirrors gs groups.old → Leads (asked_beside worked) (length core.now.core.groups) gs core.now.core.groups → Told (told_by (asked_beside worked) (current_group core.now) gs core.now.core.groups) groups.old.listeners groups.new.listeners }
@@ -109,7 +118,11 @@ fn work_at_once<G: TaskGroupHook>(core: &TaskCore, groups: &mut Groups<G>, worke
 
 // The same of a poll of a work, after which no thread runs mostly, and which is of no group where main spawned it.
 #[inline(always)]
-fn poll_at_once<G: TaskGroupHook>(core: &TaskCore, groups: &mut Groups<G>, worked: Option<u64>) -> u64
+fn poll_at_once<G: TaskGroupHook>(
+    core: &TaskCore,
+    groups: &mut Groups<G>,
+    worked: Option<u64>,
+) -> u64
     requires unhooked { is_some groups.old.listeners.hook ≡ false }
     ensures running { result ≡ unwrap_or (current_group core.now) 0 }
     ensures told { (gs : List ℕ) → Mirrors gs groups.old → Leads (asked_beside worked) (length core.now.core.groups) gs core.now.core.groups → Told (told_by (asked_beside worked) (current_group core.now) gs core.now.core.groups) groups.old.listeners groups.new.listeners }
@@ -133,7 +146,12 @@ fn poll_at_once<G: TaskGroupHook>(core: &TaskCore, groups: &mut Groups<G>, worke
 
 // The same of a step of a thread of the group `running`. `staked` is the group that the step may have finished.
 #[inline(never)]
-fn tell_change<G: TaskGroupHook>(core: &TaskCore, groups: &mut Groups<G>, running: u64, staked: u64) -> u64
+fn tell_change<G: TaskGroupHook>(
+    core: &TaskCore,
+    groups: &mut Groups<G>,
+    running: u64,
+    staked: u64,
+) -> u64
     requires unhooked { is_some groups.old.listeners.hook ≡ false }
     ensures running { result ≡ unwrap_or (current_group core.now) 0 }
     ensures told { (gs : List ℕ) → Mirrors gs groups.old → Leads (asked_in running staked) (length core.now.core.groups) gs core.now.core.groups → Told (told_by (asked_in running staked) (current_group core.now) gs core.now.core.groups) groups.old.listeners groups.new.listeners }

@@ -41,7 +41,7 @@ impl Instance {
             &mut store.state,
             Op::Thread(ThreadOp::Index { to: 0 }),
         );
-        tell_call(&store.state, &mut store.groups, &before);
+        tell_call(&store.state, &mut store.groups, &before)?;
         answer
     }
 
@@ -76,7 +76,7 @@ impl Instance {
                 context: Operand::Number(context),
             }),
         );
-        tell_call(&store.state, &mut store.groups, &before);
+        tell_call(&store.state, &mut store.groups, &before)?;
         answer
     }
 
@@ -104,7 +104,7 @@ impl Instance {
         let _caller = caller;
         let before = asked(&store.state);
         let answer = begin_nothing(component, &mut store.state, suspension_op(yielding, target));
-        tell_call(&store.state, &mut store.groups, &before);
+        tell_call(&store.state, &mut store.groups, &before)?;
         answer
     }
 
@@ -133,7 +133,7 @@ impl Instance {
         let _caller = caller;
         let before = asked(&store.state);
         let answer = resume_thread(component, &mut store.state, thread, how);
-        tell_call(&store.state, &mut store.groups, &before);
+        tell_call(&store.state, &mut store.groups, &before)?;
         answer
     }
 
@@ -155,7 +155,7 @@ impl Instance {
     {
         let before = asked_here(component, &store.state);
         let answer = go_on(component, &mut store.state);
-        tell_call(&store.state, &mut store.groups, &before);
+        tell_call(&store.state, &mut store.groups, &before)?;
         answer
     }
 }

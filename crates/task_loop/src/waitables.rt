@@ -36,7 +36,7 @@ impl Instance {
         let _caller = caller;
         let before = asked(&store.state);
         let answer = ask_number(component, &mut store.state, Op::Set(SetOp::New { to: 0 }));
-        tell_call(&store.state, &mut store.groups, &before);
+        tell_call(&store.state, &mut store.groups, &before)?;
         answer
     }
 
@@ -67,7 +67,7 @@ impl Instance {
                 set: Operand::Number(u64::from(set)),
             }),
         );
-        tell_call(&store.state, &mut store.groups, &before);
+        tell_call(&store.state, &mut store.groups, &before)?;
         answer
     }
 
@@ -99,7 +99,7 @@ impl Instance {
                 set: Operand::Number(u64::from(set)),
             }),
         );
-        tell_call(&store.state, &mut store.groups, &before);
+        tell_call(&store.state, &mut store.groups, &before)?;
         answer
     }
 
@@ -131,7 +131,7 @@ impl Instance {
                 set: Operand::Number(u64::from(set)),
             }),
         );
-        tell_call(&store.state, &mut store.groups, &before);
+        tell_call(&store.state, &mut store.groups, &before)?;
         answer
     }
 
@@ -165,7 +165,7 @@ impl Instance {
                 set: Operand::Number(u64::from(set)),
             }),
         );
-        tell_call(&store.state, &mut store.groups, &before);
+        tell_call(&store.state, &mut store.groups, &before)?;
         answer
     }
 }
