@@ -2,6 +2,7 @@
 use Rattle.std.specs.Prelude.{Bool, IsSome, None, Option, Some, false, is_some, true, ℕ, ◌<◌, ◌≡◌, ◌||◌}
 use Rattle.subtask_ops.specs.Named.{NamedCallsThere}
 use Rattle.task_laws.specs.Order.{StartsAwaited, StartsThere, WorksQueued}
+use Rattle.task_laws.specs.Wakes.{NoneAdmitted}
 use Rattle.task_machine.specs.Core.{Core}
 use Rattle.task_machine.specs.Maps.{get}
 use Rattle.task_machine.specs.Read.{goal_of, how_far_of, instance_of, is_direct, is_explicit, task_of, under_of}
@@ -68,7 +69,7 @@ pub record UnderWay (n : ℕ) (s : Core) : Type 0 where
 
 -- The thread runs, and what its ops name is there: sets and calls by their handles, the set that its call is joined to, the thread under the
 -- first one of a direct call, and the first thread of a call whose start hasn't run. Ready members are named in the instances of their
--- sets, and waiters of one set are of one instance.
+-- sets, waiters of one set are of one instance, and no held thread is admitted.
 pub record Runner (id : TableId ThreadKey) (s : StateView) : Type 0 where
   pub thread : Thread
   pub here : get s.core.threads (thread_of s id) ≡ Some thread
@@ -86,3 +87,4 @@ pub record Runner (id : TableId ThreadKey) (s : StateView) : Type 0 where
   pub starts : StartsAwaited s.core
   pub waiting : StartsThere s.core
   pub works : WorksQueued s.core
+  pub held : NoneAdmitted s.core

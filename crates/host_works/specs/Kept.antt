@@ -1,14 +1,58 @@
--- The works that are kept.
-use Rattle.std.specs.HashMap.{get}
-use Rattle.std.specs.Option.{option_map}
-use Rattle.std.specs.Prelude.{[], Option, nat_eq, ℕ, ◌≡◌}
+-- The works that are held.
+use Rattle.host_works.specs.Course.{one_fewer, told}
+use Rattle.host_works.specs.Joined.{joined_phase, joined_work}
 use Rattle.host_works.specs.declared.kept.HostWorks.{HostWorks}
+use Rattle.host_works.specs.declared.work.HostPoll.{HostPoll}
+use Rattle.host_works.specs.declared.work.HostPoll.TheVariants as polls
+use Rattle.std.specs.HashMap.{get}
+use Rattle.std.specs.Option.{option_and_then, option_map, option_map_or}
+use Rattle.std.specs.Prelude.{[], Bool, None, Option, Some, false, nat_eq, true, ℕ, ◌≡◌}
+use Rattle.task_abort.specs.PhaseLog.{after}
+use Rattle.task_abort.specs.declared.log.PhaseCall.TheVariants.{Abort}
 use Rattle.task_machine.specs.declared.component.HostDef.{HostDef}
+use Rattle.task_machine.specs.declared.words.Phase.{Phase}
+use Rattle.task_machine.specs.declared.words.Phase.TheVariants as phases
 
--- what the work with this number is still to do, none where none is kept
-abbrev pub held : {H : Type 0} → (H → HostDef) → HostWorks H → ℕ → Option HostDef
-held course kept i = option_map course (get nat_eq kept.works i)
+-- What a work that is held is still to do, and the phase of its cell.
+pub record HeldWork : Type 0 where
+  pub left : HostDef
+  pub phase : Phase
 
--- none is kept
+abbrev pub Found : HostDef → Phase → HeldWork
+Found d p = record { left = d; phase = p }
+
+-- the work with this number, none where none is held
+abbrev pub held : {H : Type 0} → (H → HostDef) → HostWorks H → ℕ → Option HeldWork
+held course kept i = option_map (λ joined. Found (course (joined_work joined)) (joined_phase joined)) (get nat_eq kept.works i)
+
+-- none is held
 abbrev pub HoldsNone : {H : Type 0} → HostWorks H → Type 0
 HoldsNone kept = kept.works.entries ≡ []
+
+-- one that isn't held is over
+abbrev pub found_phase : Option HeldWork → Phase
+found_phase o = option_map_or (λ (w : HeldWork). w.phase) o phases.Complete
+
+abbrev pub after_abort : Option HeldWork → Option HeldWork
+after_abort o = option_map (λ (w : HeldWork). record w { phase = after Abort w.phase }) o
+
+-- what a poll answers: nothing of a work that isn't running
+abbrev pub answer_in : Phase → HostDef → Option HostPoll
+answer_in phases.Running d = Some (told d)
+answer_in p d = None
+
+abbrev pub answers : Option HeldWork → Option HostPoll
+answers o = option_and_then (λ (w : HeldWork). answer_in w.phase w.left) o
+
+abbrev pub is_over : Option HostPoll → Bool
+is_over None = true
+is_over (Some (polls.Value v)) = true
+is_over (Some a) = false
+
+abbrev pub unless_over : Bool → HeldWork → Option HeldWork
+unless_over true w = None
+unless_over false w = Some (record w { left = one_fewer w.left })
+
+-- what is held of it then
+abbrev pub after_poll : Option HeldWork → Option HeldWork
+after_poll o = option_and_then (λ (w : HeldWork). unless_over (is_over (answer_in w.phase w.left)) w) o

@@ -1,21 +1,24 @@
 //! The works that a store keeps.
-ghost use Rattle.std.specs.Prelude.{◌≡◌, ◌==◌, ℕ, IfNone, IfSome, IsSome, None, OnErr, OnOk, Some, cond, nat_eq, option_map, option_and_then, slice_get};
+ghost use Rattle.std.specs.Prelude.{◌≡◌, ◌↔◌, ◌==◌, ℕ, IfNone, IfSome, None, OnErr, OnOk, Some, cond, nat_eq, slice_get};
 ghost use Rattle.indexmap.specs.IndexMap.{get};
-ghost use Rattle.host_works.specs.Course.{left_after, told};
-ghost use Rattle.host_works.specs.Kept.{HoldsNone, held};
+ghost use Rattle.host_works.specs.Kept.{Found, HoldsNone, after_abort, after_poll, answers, found_phase, held, is_over};
+ghost use Rattle.task_machine.specs.declared.words.Phase.TheVariants as phases;
 
+use crate::joined::JoinedWork;
 use crate::work::{AccessorTask, HostPoll, HostWork};
+use futures::task::Poll;
 use indexmap::IndexMap;
 use std::alloc::Global;
-use task_machine::NoMemory;
+use task_machine::{NoMemory, Phase};
 
-/// The host works that haven't ended, by the numbers that labels have for them. A call costs the
+/// The host works that haven't ended, by the numbers that labels have for them, each with its cell. A call costs the
 /// same however many there are.
 #[derive(Drop)]
 pub struct HostWorks<H> {
-    works: IndexMap<u64, H>,
+    works: IndexMap<u64, JoinedWork<H>>,
     // Where the next work to be polled mostly stands: works are polled in the order in which they came.
     next: usize,
+    alloc: Global,
 }
 
 impl<H> HostWorks<H> {
@@ -26,34 +29,42 @@ impl<H> HostWorks<H> {
         HostWorks {
             works: IndexMap::new(alloc),
             next: 0,
+            alloc,
         }
     }
 }
 
 impl<H: HostWork> HostWorks<H> {
-    /// Keeps a work under its number. Where memory is wanting, the works are as before.
+    /// Keeps a work under its number, with a cell in phase `Running`. Where memory is wanting, the works are as before. It
+    /// is out of line, as it takes memory three times.
+    #[inline(never)]
     pub fn keep(&mut self, number: u64, work: H) -> Result<(), NoMemory>
-        ensures ok { OnOk result ((i : ℕ) → held H.course self.new i ≡ cond (number == i) (Some (H.course work)) (held H.course self.old i)) }
+        ensures ok { OnOk result ((i : ℕ) → held H.course self.new i ≡ cond (number == i) (Some (Found (H.course work) phases.Running)) (held H.course self.old i)) }
         ensures err { OnErr result ((i : ℕ) → held H.course self.new i ≡ held H.course self.old i) }
     {
-        match self.works.insert(number, work) {
+        let joined = JoinedWork::new(self.alloc, work)?;
+        match self.works.insert(number, joined) {
             Ok(_) => Ok(()),
             Err(_) => Err(NoMemory),
         }
     }
 
-    /// Lets a work go, if it is there.
+    /// Lets a work go, if it is there: it is over. It is out of line, as a work is polled many times and ends once.
+    #[cold]
+    #[inline(never)]
     pub fn let_go(&mut self, number: u64)
         ensures { (i : ℕ) → held H.course self.new i ≡ cond (number == i) None (held H.course self.old i) }
     {
-        let _gone = self.works.swap_remove(&number);
+        if let Some(joined) = self.works.swap_remove(&number) {
+            let _phase = joined.finish();
+        }
     }
 
     // Where the work with this number stands, looked up by the number.
     #[cold]
     #[inline(never)]
     fn search(&self, number: u64) -> Option<usize>
-        ensures some { IfSome result (λ i. (work : H) × (slice_get self.now.works.entries i ≡ Some (number, work))) }
+        ensures some { IfSome result (λ i. (work : JoinedWork H) × (slice_get self.now.works.entries i ≡ Some (number, work))) }
         ensures none { IfNone result (get nat_eq self.now.works number ≡ None) }
     {
         match self.works.get_full(&number) {
@@ -65,7 +76,7 @@ impl<H: HostWork> HostWorks<H> {
     // Where the work with this number stands. It is looked up only where that isn't the place that is mostly next.
     #[inline(always)]
     fn place_of(&self, number: u64) -> Option<usize>
-        ensures some { IfSome result (λ i. (work : H) × (slice_get self.now.works.entries i ≡ Some (number, work))) }
+        ensures some { IfSome result (λ i. (work : JoinedWork H) × (slice_get self.now.works.entries i ≡ Some (number, work))) }
         ensures none { IfNone result (get nat_eq self.now.works number ≡ None) }
     {
         match self.works.get_index(self.next) {
@@ -74,26 +85,60 @@ impl<H: HostWork> HostWorks<H> {
         }
     }
 
-    /// Polls the work with this number, which is there, and lets it go where it has ended with
-    /// a value.
-    pub fn poll<T>(&mut self, number: u64, host: &mut T) -> HostPoll
+    /// Asks that the work with this number end, and answers the phase that it found; `Complete` where it isn't held.
+    #[cold]
+    #[inline(never)]
+    pub fn abort(&mut self, number: u64) -> Phase
+        ensures found { result ≡ found_phase (held H.course self.old number) }
+        ensures held { (i : ℕ) → held H.course self.new i ≡ cond (number == i) (after_abort (held H.course self.old number)) (held H.course self.old i) }
+    {
+        let Some(place) = self.search(number) else {
+            return Phase::Complete;
+        };
+        match self.works.get_index_mut(place) {
+            Some(joined) => joined.abort(),
+            None => unreachable!(),
+        }
+    }
+
+    /// Ready exactly where the work with this number is over.
+    pub fn poll_handle(&mut self, number: u64) -> Poll<()>
+        ensures answer { (result ≡ Poll.Ready tt) ↔ (found_phase (held H.course self.old number) ≡ phases.Complete) }
+        ensures held { (i : ℕ) → held H.course self.new i ≡ held H.course self.old i }
+    {
+        let Some(place) = self.search(number) else {
+            return Poll::Ready(());
+        };
+        match self.works.get_index_mut(place) {
+            Some(joined) => joined.poll_handle(),
+            None => unreachable!(),
+        }
+    }
+
+    /// Polls the work with this number, and lets it go where it has ended with a value. One that isn't in phase `Running`
+    /// isn't polled, and is let go.
+    pub fn poll<T>(&mut self, number: u64, host: &mut T) -> Option<HostPoll>
     where
         H: AccessorTask<T>,
-        requires there { IsSome (held H.course self.old number) }
-        ensures answer { option_map told (held H.course self.old number) ≡ Some result }
-        ensures left { (i : ℕ) → held H.course self.new i ≡ cond (number == i) (option_and_then left_after (held H.course self.old number)) (held H.course self.old i) }
+        ensures answer { result ≡ answers (held H.course self.old number) }
+        ensures left { (i : ℕ) → held H.course self.new i ≡ cond (number == i) (after_poll (held H.course self.old number)) (held H.course self.old i) }
     {
-        let Some(place) = self.place_of(number) else {
-            unreachable!()
-        };
+        let place = self.place_of(number)?;
         self.next = place.saturating_add(1);
         let answer = match self.works.get_index_mut(place) {
-            Some(work) => work.poll(host),
+            Some(joined) => joined.poll(host),
             None => unreachable!(),
         };
-        if matches!(answer, HostPoll::Value(_)) {
+        if is_over(answer) {
             self.let_go(number);
         }
         answer
     }
+}
+
+// Whether a work that answered this is over: it has ended with a value, or wasn't polled.
+fn is_over(answer: Option<HostPoll>) -> bool
+    ensures { result ≡ is_over answer }
+{
+    matches!(answer, None | Some(HostPoll::Value(_)))
 }

@@ -9,7 +9,8 @@ ghost use Rattle.task_records.specs.Seen.{IsSound, parts_of, seen};
 ghost use Rattle.task_records.specs.Sound.{bare};
 ghost use Rattle.task_table.specs.Changes.{deleted, next_place, pushed};
 ghost use Rattle.task_table.specs.Table.{IsTable};
-ghost use Rattle.task_words.specs.StateView.{Keeps, set_of};
+ghost use Rattle.task_words.specs.Becomes.{Becomes, Makes, names_set};
+ghost use Rattle.task_words.specs.StateView.{set_of};
 
 use handle_words::insert_handle;
 use node_words::{make_place_chain, make_ready_call_chain, make_ready_work_chain};
@@ -29,10 +30,8 @@ fn push_set(parts: &mut CoreParts, set: WaitSet) -> Result<SetId, NoMemory>
     requires members { set.members ≡ 0 }
     requires entries { set.entries ≡ 0 }
     ensures sound { IsSound parts.new }
+    ensures new { OnOk result (Becomes (add_set set.set (seen parts.old).core) (seen parts.old) (seen parts.new)) }
     ensures set { IfOk result (λ id. set_of (seen parts.new) id ≡ (seen parts.old).core.made.sets + 1) }
-    ensures core { OnOk result ((seen parts.new).core ≡ add_set set.set (seen parts.old).core) }
-    ensures current { (seen parts.new).current ≡ (seen parts.old).current }
-    ensures tags { Keeps (seen parts.old).tags (seen parts.new).tags }
     ensures rep { IfOk result (λ id. id.rep ≡ next_place parts.old.sets) }
     ensures pushed { OnOk result (parts.new.sets ≡ pushed (entry_of set) parts.old.sets) }
     ensures only { OnOk result (parts.new ≡ record parts.old { sets = parts.new.sets; made = record parts.old.made { sets = parts.old.made.sets + 1 }; kept = record parts.old.kept { used = parts.old.kept.used + 1 } }) }
@@ -77,11 +76,7 @@ fn name_set(parts: &mut CoreParts, instance: u32, set: WaitSet) -> Result<SetId,
     requires members { set.members ≡ 0 }
     requires entries { set.entries ≡ 0 }
     ensures sound { IsSound parts.new }
-    ensures set { IfOk result (λ id. set_of (seen parts.new) id ≡ (seen parts.old).core.made.sets + 1) }
-    ensures core { OnOk result ((seen parts.new).core ≡ give_handle instance (names.Set ((seen parts.old).core.made.sets + 1)) (add_set set.set (seen parts.old).core)) }
-    ensures current { (seen parts.new).current ≡ (seen parts.old).current }
-    ensures tags { Keeps (seen parts.old).tags (seen parts.new).tags }
-    ensures err { OnErr result (seen parts.new ≡ seen parts.old) }
+    ensures new { Makes (names_set ((seen parts.old).core.made.sets + 1)) (give_handle instance (names.Set ((seen parts.old).core.made.sets + 1)) (add_set set.set (seen parts.old).core)) (seen parts.old) result (seen parts.new) }
 {
     let number = set.number;
     match push_set(parts, set) {
@@ -137,11 +132,7 @@ fn open_set_at(parts: &mut CoreParts, instance: u32, entry: u32) -> Result<SetId
     requires few { (seen parts.old).core.made.sets + 1 < 2 ^ 64 }
     requires room { fits 1 (seen parts.old).core ≡ true }
     ensures sound { IsSound parts.new }
-    ensures set { IfOk result (λ id. set_of (seen parts.new) id ≡ (seen parts.old).core.made.sets + 1) }
-    ensures core { OnOk result ((seen parts.new).core ≡ give_handle instance (names.Set ((seen parts.old).core.made.sets + 1)) (add_set (record { instance = instance }) (seen parts.old).core)) }
-    ensures current { (seen parts.new).current ≡ (seen parts.old).current }
-    ensures tags { Keeps (seen parts.old).tags (seen parts.new).tags }
-    ensures err { OnErr result (seen parts.new ≡ seen parts.old) }
+    ensures new { Makes (names_set ((seen parts.old).core.made.sets + 1)) (give_handle instance (names.Set ((seen parts.old).core.made.sets + 1)) (add_set (record { instance = instance }) (seen parts.old).core)) (seen parts.old) result (seen parts.new) }
 {
     match new_set(parts, instance, entry) {
         Ok(set) => name_set(parts, instance, set),
@@ -157,11 +148,7 @@ pub fn open_set(parts: &mut CoreParts, instance: u32) -> Result<SetId, NoMemory>
     requires few { (seen parts.old).core.made.sets + 1 < 2 ^ 64 }
     requires room { fits 1 (seen parts.old).core ≡ true }
     ensures sound { IsSound parts.new }
-    ensures set { IfOk result (λ id. set_of (seen parts.new) id ≡ (seen parts.old).core.made.sets + 1) }
-    ensures core { OnOk result ((seen parts.new).core ≡ give_handle instance (names.Set ((seen parts.old).core.made.sets + 1)) (add_set (record { instance = instance }) (seen parts.old).core)) }
-    ensures current { (seen parts.new).current ≡ (seen parts.old).current }
-    ensures tags { Keeps (seen parts.old).tags (seen parts.new).tags }
-    ensures err { OnErr result (seen parts.new ≡ seen parts.old) }
+    ensures new { Makes (names_set ((seen parts.old).core.made.sets + 1)) (give_handle instance (names.Set ((seen parts.old).core.made.sets + 1)) (add_set (record { instance = instance }) (seen parts.old).core)) (seen parts.old) result (seen parts.new) }
 {
     let entry = parts.table_places.take()?;
     match open_set_at(parts, instance, entry) {

@@ -1,17 +1,25 @@
 -- Each method's relation leads from a core in order to one, by the laws of pieces.
-use Rattle.method_laws.specs.Methods.{EntersKeep, ExitsKeep, InTurn, PreparesKeep, PreparesMake, Rests, ResumesKeep, ReturnsAtEnd, ReturnsKeep, StartsKeep}
+use Rattle.method_laws.proofs.WakeLemmas.{meets_progresses}
+use Rattle.method_laws.specs.Methods.{AsksAtEnd, AsksKeep, EntersKeep, ExitsKeep, InTurn, PreparesKeep, PreparesMake, Rests, ResumesKeep, ReturnsAtEnd, ReturnsKeep, StartsKeep}
 use Rattle.op_dispatch.specs.Goes.{running_of}
 use Rattle.order_laws.proofs.AnywhereLemmas.{prepare_anywhere}
 use Rattle.order_laws.proofs.CallLemmas.{enter_keeps, prepare_makes}
 use Rattle.order_laws.proofs.EndLemmas.{exit_keeps, register_keeps, return_at_end, return_keeps}
+use Rattle.order_laws.proofs.PlaceOrder.{rows_keep_order}
+use Rattle.order_laws.specs.Anywhere.{MayAsk, RowsKeepOrder, is_asked}
 use Rattle.order_laws.proofs.PieceLemmas.{promote_keeps, resume_keeps}
 use Rattle.order_laws.proofs.StartLemmas.{own_task, start_keeps}
-use Rattle.order_laws.specs.Pieces.{EnterKeeps, ExitKeeps, IsPrepared, KeepsOrder, PrepareAnywhere, PrepareMakes, PromoteKeeps, RegisterKeeps, ResumeKeeps, ReturnAtEnd, ReturnKeeps, StartKeeps}
+use Rattle.order_laws.specs.Pieces.{EnterKeeps, ExitKeeps, IsPrepared, KeepsOrder, Orderly, PrepareAnywhere, PrepareMakes, PromoteKeeps, RegisterKeeps, ResumeKeeps, ReturnAtEnd, ReturnKeeps, SameInstances, StartKeeps}
 use Rattle.state_calls.specs.declared.error.TaskError.{TaskError}
 use Rattle.std.specs.Prelude.{Err, Ok, Result}
 use Rattle.subtask_ops.specs.Starts.{call_starts}
 use Rattle.task_calls.proofs.AskLemmas.{order_still, running_is}
-use Rattle.task_calls.specs.Asks.{Did, Does, turn_for, turn_in}
+use Rattle.task_calls.specs.Answers.{has_stopped}
+use Rattle.task_calls.specs.Asks.{Did, Does, row_of, turn_for, turn_in}
+use Rattle.task_machine.specs.declared.op.Op.{Op}
+use Rattle.task_machine.specs.Core.{State}
+use Rattle.task_rules.specs.Turns.{at_turn, goes_to}
+use Rattle.std.proofs.Common.{le_refl}
 use Rattle.task_calls.specs.Calls.{Returned}
 use Rattle.task_calls.specs.Directs.{IsDirect, enters_row, exits_row}
 use Rattle.task_calls.specs.Prepared.{goal_for}
@@ -36,7 +44,7 @@ use Rattle.task_rules.specs.Progress.{may, Traps}
 use Rattle.task_rules.specs.Scripts.{export_kind}
 use Rattle.task_rules.specs.Task.{ret_done}
 use Rattle.task_rules.specs.Threads.{has_yielded, resume_why}
-use Rattle.task_turns.specs.Turn.{Sits}
+use Rattle.task_turns.specs.Turn.{Sits, state_at}
 use Rattle.task_words.specs.StateView.{StateView, thread_of, with_core}
 
 kept : (c : Component) (p q : Turn) (s t : Core) → KeepsOrder c p s q t → Sits c p s → Sits c q t
@@ -279,3 +287,40 @@ starts_keep c n s t id h ready op is =
     subst (InTurn c) (sym is)
     (subst (λ (k : ℕ). Sits c Turn.Main (call_starts n m k (callee_of k s.core).instance (kind_of k s.core) s.core)) (sym same)
     (kept c (Turn.Run n) Turn.Main s.core (call_starts n m m (callee_of m s.core).instance (kind_of m s.core) s.core) (start_keeps c n m s.core ready op) h.order))
+
+-- ---- An op
+
+module _ (c : Component) (o : Op) (n m : ℕ) (l : Label) (s t : StateView) (h : Rests c n s) (asked : is_asked o ≡ true) (may : MayAsk c n s.core)
+    (does : Does (row_of c o s.core n) n s (Came.Goes l m) t) where
+  abbrev first : State
+  first = state_at s.core Unscripted (Turn.Run n)
+
+  went : (m ≡ n) × ((t.core ≡ set_position n (position_of n s.core + 1) t.core) ×
+      ((p : ℕ) → p ≤ length (script_of c n s.core) → Orderly c (Turn.Run n) (set_position n p t.core) × SameInstances s.core (set_position n p t.core)))
+  unfolding RowsKeepOrder at_turn
+  went = rows_keep_order c o n m s.core l (goes_to first t.core (Turn.Run m)) asked may h.order.order (meets_progresses first n _ (Came.Goes l m) t.core does.meets refl) refl
+
+  at_any : (p : ℕ) → p ≤ length (script_of c n s.core) → Sits c (Turn.Run m) (set_position n p t.core)
+  at_any p within = subst (λ (k : ℕ). Sits c (Turn.Run k) (set_position n p t.core)) (sym went.0)
+      (kept c (Turn.Run n) (Turn.Run n) s.core (set_position n p t.core) (λ order. went.1.1 p within) h.order)
+
+  asked_within : position_of n s.core + 1 ≤ length (script_of c n s.core) → InTurn c t
+  asked_within within = then_runs c n m t does.running (subst (Sits c (Turn.Run m)) (sym went.1.0) (at_any (position_of n s.core + 1) within))
+
+  asked_at_end : Sits c (turn_in t) (set_position n (length (script_of c n s.core)) t.core)
+  asked_at_end = subst (λ (k : Option ℕ). Sits c (turn_for k) (set_position n (length (script_of c n s.core)) t.core)) (sym does.running)
+      (at_any (length (script_of c n s.core)) (le_refl _))
+
+pub asks_keep : AsksKeep
+unfolding AsksKeep
+asks_keep c o n r s t h asked may within stopped did = by r (running_is s n h.runs (λ k. Does (row_of c o s.core k) k s r t) did) stopped
+  where
+    by : (r : Came) → Does (row_of c o s.core n) n s r t → has_stopped r ≡ false → InTurn c t
+    by (Came.Goes l m) does on = asked_within c o n m l s t h asked may does within
+    by (Came.Stops l) does on = absurd (cc)
+    by (Came.Traps why) does on = stays c n s t h does.stays
+    by (Came.Fails i) does on = stays c n s t h does.stays
+
+pub asks_at_end : AsksAtEnd
+unfolding AsksAtEnd
+asks_at_end c o n m l s t h asked may did = asked_at_end c o n m l s t h asked may (running_is s n h.runs (λ k. Does (row_of c o s.core k) k s (Came.Goes l m) t) did)

@@ -2,10 +2,11 @@
 use Rattle.op_dispatch.specs.Goes.{running_of}
 use Rattle.state_calls.specs.declared.error.TaskError.{TaskError}
 use Rattle.state_calls.specs.declared.names.QualifiedThreadId.{QualifiedThreadId}
+use Rattle.order_laws.specs.Anywhere.{MayAsk, is_asked}
 use Rattle.order_laws.specs.Pieces.{IsPrepared}
 use Rattle.std.specs.Prelude.{Bool, List, None, Ok, Result, Some, false, is_some, length, true, ℕ, ◌+◌, ◌≡◌, ◌≤◌}
-use Rattle.task_calls.specs.Answers.{nothing_in}
-use Rattle.task_calls.specs.Asks.{Answers, turn_in}
+use Rattle.task_calls.specs.Answers.{has_stopped, nothing_in}
+use Rattle.task_calls.specs.Asks.{Answers, Did, row_of, turn_in}
 use Rattle.task_calls.specs.Calls.{Returns}
 use Rattle.task_calls.specs.Directs.{IsDirect, enters_row, exits_row, thread_in}
 use Rattle.task_calls.specs.Prepared.{Prepared, Prepares, goal_for, starts_in}
@@ -19,6 +20,10 @@ use Rattle.task_machine.specs.declared.component.Callee.{Callee}
 use Rattle.task_machine.specs.declared.component.Component.{Component}
 use Rattle.task_machine.specs.declared.records.HowFar.TheVariants as how_far
 use Rattle.task_machine.specs.declared.records.Turn.TheVariants as turn
+use Rattle.task_machine.specs.declared.label.Label.{Label}
+use Rattle.task_machine.specs.declared.op.Op.{Op}
+use Rattle.task_ops.specs.declared.came.Came.{Came}
+use Rattle.task_ops.specs.declared.came.Came.TheVariants as came
 use Rattle.task_rules.specs.OpParts.{callee_of_op, is_sync_call}
 use Rattle.task_rules.specs.Scripts.{export_at, export_kind, op_of, script_of}
 use Rattle.task_turns.specs.Turn.{Sits}
@@ -91,3 +96,15 @@ unfoldable pub StartsKeep : Type 0
 StartsKeep = (c : Component) (n : ℕ) (s t : StateView) (id : QualifiedThreadId) → Rests c n s →
     IsPrepared n (thread_of s id.thread) s.core → is_some (callee_of_op (op_of c n s.core)) ≡ true →
     t ≡ with_current None (with_core (starts_in n id s) s) → InTurn c t
+
+-- ---- An op
+
+-- where an op that names neither an export nor a host was done, whatever op stands at the thread's place, and goes on, or was refused
+unfoldable pub AsksKeep : Type 0
+AsksKeep = (c : Component) (o : Op) (n : ℕ) (r : Came) (s t : StateView) → Rests c n s → is_asked o ≡ true → MayAsk c n s.core →
+    position_of n s.core + 1 ≤ length (script_of c n s.core) → has_stopped r ≡ false → Did (row_of c o s.core) s r t → InTurn c t
+
+-- at the script's end, too, all of order is so, but that the thread may be one place past it
+unfoldable pub AsksAtEnd : Type 0
+AsksAtEnd = (c : Component) (o : Op) (n m : ℕ) (l : Label) (s t : StateView) → Rests c n s → is_asked o ≡ true → MayAsk c n s.core →
+    Did (row_of c o s.core) s (came.Goes l m) t → Sits c (turn_in t) (set_position n (length (script_of c n s.core)) t.core)

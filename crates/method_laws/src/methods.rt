@@ -1,5 +1,5 @@
 ghost use Rattle.method_laws.specs.Methods.{EntersKeep, ExitsKeep, PreparesKeep, PreparesMake};
-ghost use Rattle.method_laws.specs.Methods.{ResumesKeep, ReturnsAtEnd, ReturnsKeep, StartsKeep};
+ghost use Rattle.method_laws.specs.Methods.{AsksAtEnd, AsksKeep, ResumesKeep, ReturnsAtEnd, ReturnsKeep, StartsKeep};
 
 /// A thread that has another one go on first, by its handle, keeps order, and so does a refusal.
 #[tactic(auto, using(crate::proofs::MethodLemmas::resumes_keep))]
@@ -30,4 +30,13 @@ pub fn calls_keep()
     ensures prepare { PreparesKeep }
     ensures prepared { PreparesMake }
     ensures start { StartsKeep }
+{}
+
+/// An op that names neither an export nor a host, and goes on, keeps order, whichever op stands at the
+/// thread's place, and so does a refusal; at the script's end all of order is so, but that the thread may
+/// be one place past it.
+#[tactic(auto, using(crate::proofs::MethodLemmas::asks_keep, crate::proofs::MethodLemmas::asks_at_end))]
+pub fn asks_keep()
+    ensures within { AsksKeep }
+    ensures at_end { AsksAtEnd }
 {}

@@ -3,18 +3,19 @@ ghost use Rattle.std.specs.Prelude.{◌≡◌, ◌+◌, ◌<◌, ◌^◌, IfOk, 
 ghost use Rattle.task_machine.specs.Maps.{get};
 ghost use Rattle.task_machine.specs.declared.component.Component.{Component};
 ghost use Rattle.task_machine.specs.Read.{how_far_of, instance_of, position_of};
+ghost use Rattle.task_rules.specs.Data.{advanced};
+ghost use Rattle.task_rules.specs.Scripts.{value_of};
 ghost use Rattle.task_ops.specs.Came.{Meets};
 ghost use Rattle.task_ops.specs.Halting.{halt_of};
 ghost use Rattle.task_ops.specs.Stays.{StaysAfter};
 ghost use Rattle.task_ops.specs.Works.{KeepsWorks};
-ghost use Rattle.task_rules.specs.Data.{advanced};
 ghost use Rattle.task_rules.specs.Threads.{halt_row, halting, then_promote_row, then_resume_row, thread_row};
 ghost use Rattle.op_dispatch.specs.Runner.{Runner, is_halting, is_resumed};
 ghost use Rattle.op_dispatch.specs.Goes.{GoesOn, given};
 ghost use Rattle.task_words.specs.StateView.{on_core, thread_of};
 
 use crate::scripts::slot_line;
-use task_machine::{Component, Label, NoMemory, ThreadLabel, ThreadOp, Trap};
+use task_machine::{Component, Label, NoMemory, Operand, ThreadLabel, ThreadOp, Trap};
 use task_ops::{
     Came, halt, halt_then_promote, halt_then_resume, resume_later, thread_index, thread_new,
     value_of,
@@ -60,13 +61,13 @@ fn halts<W: Words>(w: &mut W, thread: ThreadId, yielding: bool, label: ThreadLab
 fn resumes<W: Words>(
     w: &mut W,
     thread: ThreadId,
-    other: u64,
+    other: Operand,
     yielding: bool,
     label: ThreadLabel,
 ) -> Came
     requires runner { Runner thread (W.view w.old) }
     requires position { position_of (thread_of (W.view w.old) thread) (W.view w.old).core + 1 < 2 ^ 32 }
-    ensures meets { Meets (halting (thread_of (W.view w.old) thread) (W.view w.old).core label (λ l. then_resume_row (halt_of yielding) (thread_of (W.view w.old) thread) other (W.view w.old).core)) (W.view w.old).core result (W.view w.new).core }
+    ensures meets { Meets (halting (thread_of (W.view w.old) thread) (W.view w.old).core label (λ l. then_resume_row (halt_of yielding) (thread_of (W.view w.old) thread) (value_of (thread_of (W.view w.old) thread) (W.view w.old).core other) (W.view w.old).core)) (W.view w.old).core result (W.view w.new).core }
     ensures tags { (W.view w.new).tags ≡ (W.view w.old).tags }
     ensures current { (W.view w.new).current ≡ (W.view w.old).current }
     ensures works { KeepsWorks (W.view w.old) (W.view w.new) }
@@ -74,6 +75,7 @@ fn resumes<W: Words>(
     if is_resumed(w, thread) {
         return finish(w, thread, label);
     }
+    let other = value_of(w, thread, other);
     halt_then_resume(w, thread, other, yielding)
 }
 
@@ -82,13 +84,13 @@ fn resumes<W: Words>(
 fn promotes<W: Words>(
     w: &mut W,
     thread: ThreadId,
-    other: u64,
+    other: Operand,
     yielding: bool,
     label: ThreadLabel,
 ) -> Came
     requires runner { Runner thread (W.view w.old) }
     requires position { position_of (thread_of (W.view w.old) thread) (W.view w.old).core + 1 < 2 ^ 32 }
-    ensures meets { Meets (halting (thread_of (W.view w.old) thread) (W.view w.old).core label (λ l. then_promote_row (halt_of yielding) (thread_of (W.view w.old) thread) other l (W.view w.old).core)) (W.view w.old).core result (W.view w.new).core }
+    ensures meets { Meets (halting (thread_of (W.view w.old) thread) (W.view w.old).core label (λ l. then_promote_row (halt_of yielding) (thread_of (W.view w.old) thread) (value_of (thread_of (W.view w.old) thread) (W.view w.old).core other) l (W.view w.old).core)) (W.view w.old).core result (W.view w.new).core }
     ensures tags { (W.view w.new).tags ≡ (W.view w.old).tags }
     ensures current { (W.view w.new).current ≡ (W.view w.old).current }
     ensures works { KeepsWorks (W.view w.old) (W.view w.new) }
@@ -96,6 +98,7 @@ fn promotes<W: Words>(
     if is_resumed(w, thread) {
         return finish(w, thread, label);
     }
+    let other = value_of(w, thread, other);
     halt_then_promote(w, thread, other, yielding, Label::Thread(label))
 }
 
@@ -113,40 +116,34 @@ fn do_halting_op<W: Words>(w: &mut W, thread: ThreadId, op: ThreadOp) -> Came
     match op {
         ThreadOp::Suspend => halts(w, thread, false, ThreadLabel::Suspend(number)),
         ThreadOp::Yield => halts(w, thread, true, ThreadLabel::Yield(number)),
-        ThreadOp::SuspendThenResume { thread: other } => {
-            let other = value_of(w, thread, other);
-            resumes(
-                w,
-                thread,
-                other,
-                false,
-                ThreadLabel::SuspendThenResume(number),
-            )
-        }
-        ThreadOp::YieldThenResume { thread: other } => {
-            let other = value_of(w, thread, other);
-            resumes(w, thread, other, true, ThreadLabel::YieldThenResume(number))
-        }
-        ThreadOp::SuspendThenPromote { thread: other } => {
-            let other = value_of(w, thread, other);
-            promotes(
-                w,
-                thread,
-                other,
-                false,
-                ThreadLabel::SuspendThenPromote(number),
-            )
-        }
-        ThreadOp::YieldThenPromote { thread: other } => {
-            let other = value_of(w, thread, other);
-            promotes(
-                w,
-                thread,
-                other,
-                true,
-                ThreadLabel::YieldThenPromote(number),
-            )
-        }
+        ThreadOp::SuspendThenResume { thread: other } => resumes(
+            w,
+            thread,
+            other,
+            false,
+            ThreadLabel::SuspendThenResume(number),
+        ),
+        ThreadOp::YieldThenResume { thread: other } => resumes(
+            w,
+            thread,
+            other,
+            true,
+            ThreadLabel::YieldThenResume(number),
+        ),
+        ThreadOp::SuspendThenPromote { thread: other } => promotes(
+            w,
+            thread,
+            other,
+            false,
+            ThreadLabel::SuspendThenPromote(number),
+        ),
+        ThreadOp::YieldThenPromote { thread: other } => promotes(
+            w,
+            thread,
+            other,
+            true,
+            ThreadLabel::YieldThenPromote(number),
+        ),
         _ => unreachable!(),
     }
 }

@@ -3,21 +3,22 @@
 use Rattle.order_laws.proofs.CallLemmas.{prepare_keeps}
 use Rattle.order_laws.proofs.EndCounts.{moved_counted}
 use Rattle.order_laws.proofs.PieceLemmas.{piece_keeps}
-use Rattle.order_laws.proofs.TailLemmas.{IsScriptThere, kinds_same, longer, op_last, order_as, tailed, tailed_codes, tailed_fits, tailed_there, with_tail}
-use Rattle.order_laws.specs.Pieces.{KeepsOrder, Orderly, PrepareAnywhere, PrepareKeeps, SameInstances, state_in}
+use Rattle.order_laws.proofs.TailLemmas.{kinds_same, longer, order_as, tailed}
+use Rattle.order_laws.proofs.ThereLemmas.{IsThere, goes_there, last_of}
+use Rattle.order_laws.specs.Pieces.{Orderly, PrepareAnywhere, PrepareKeeps, SameInstances, state_in}
 use Rattle.std.proofs.Common.{ap₂}
 use Rattle.task_laws.specs.Order.{ThreadFits, has_one_on_top, names_script}
 use Rattle.task_machine.specs.Maps.{same_map}
-use Rattle.task_machine.specs.Read.{call_instance, thread_group}
+use Rattle.task_machine.specs.Read.{thread_group}
 use Rattle.task_machine.specs.declared.component.Callee.{Callee}
 use Rattle.task_machine.specs.declared.op.CallOp.{CallOp}
 use Rattle.task_machine.specs.declared.records.Caller.{Caller}
 use Rattle.task_machine.specs.declared.records.Goal.{Goal}
-use Rattle.task_places.proofs.Laws.{Bool, Component, Core, ExportKind, Fits, HowFar, InOrder, List, None, Op, Option, Place, Records, Script, Some, Thread, Turn, Unscripted, [], add_call, add_thread, ap, arith, at_place, by_number, call_made, callee_of, can_come, false, fresh, get, get-change, get-insert, how_far_of, is_direct, is_explicit, is_some, is_sync_call, length, moved_to, nat_tests, new_thread, on_thread, op_at_place, op_of, op_there, option_map_or, plain, refl, registers_for, script_in, script_of, set_how_far, set_position, subst, sym, task_of, true, unwrap_or, ℕ, ◌+◌, ◌==◌, ◌∙◌, ◌≡◌, ◌≤◌}
+use Rattle.task_places.proofs.Laws.{Component, Core, ExportKind, Fits, HowFar, InOrder, List, None, Op, Option, Place, Records, Script, Some, Thread, Turn, Unscripted, [], add_call, add_thread, ap, arith, by_number, call_made, callee_of, can_come, false, fresh, get, get-change, get-insert, how_far_of, is_direct, is_explicit, is_some, is_sync_call, length, moved_to, nat_tests, new_thread, on_thread, op_at_place, plain, refl, registers_for, script_in, script_of, set_how_far, set_position, subst, sym, task_of, true, unwrap_or, ℕ, ◌+◌, ◌==◌, ◌∙◌, ◌≡◌, ◌≤◌}
 use Rattle.task_rules.specs.Allowed.{is_for_main}
 use Rattle.task_rules.specs.Chains.{NoWord, Then}
 use Rattle.task_rules.specs.OpParts.{callee_of_op}
-use Rattle.task_rules.specs.Scripts.{export_at, export_kind, script_of_thread}
+use Rattle.task_rules.specs.Scripts.{export_at, export_kind}
 use Rattle.task_rules.specs.Words.{Advance}
 
 module _ (c : Component) (n : ℕ) (e : Callee) (g : Goal) (words : List ℕ) (s : Core) (fresh : how_far_of n s ≡ HowFar.Fresh)
@@ -32,81 +33,30 @@ module _ (c : Component) (n : ℕ) (e : Callee) (g : Goal) (words : List ℕ) (s
   abbrev old : InOrder c (state_in Unscripted (Turn.Run n) s)
   old = h Unscripted
 
-  -- the thread that runs
-  mine : (r : Thread) × ((get s.threads n ≡ Some r) × Unit {0})
-  mine = let r = at_place (λ (r : Thread). true) (get s.threads n) (let at = old.in_place.runs n refl in grind (arith, at)) in (r.0, (r.1.0, tt))
+  it : IsThere c o n s
+  it = goes_there c n o s refl fresh there h
 
   abbrev r : Thread
-  r = mine.0
+  r = it.thread
 
   at : get s.threads n ≡ Some r
-  at = mine.1.0
+  at = it.here
 
   abbrev f : Callee
   f = callee_of r.call s
 
-  export_there : r.explicit ≡ false → is_some (export_at c f) ≡ true
-  export_there is =
-      let here = at in
-      let explicit : is_explicit n s ≡ false = grind (arith, here, is) in
-      let task : task_of n s ≡ r.call = grind (arith, here) in
-      subst (λ (k : ℕ). is_some (export_at c (callee_of k s)) ≡ true) task (there explicit)
-
-  script_there : IsScriptThere o c f r.script
-  script_there = by r.explicit refl r.script (old.fits n r at).script
-    where
-      by : (b : Bool) → r.explicit ≡ b → (w : Script) → names_script c (call_instance r.call s) r.explicit w ≡ true → IsScriptThere o c f w
-      by true is (Script.Slot x) names = subst (λ (b : Bool). names_script c (call_instance r.call s) b (Script.Slot x) ≡ true) is names
-      by true is Script.Start names = absurd (let e = subst (λ (b : Bool). names_script c (call_instance r.call s) b Script.Start ≡ true) is names in cc)
-      by true is Script.React names = absurd (let e = subst (λ (b : Bool). names_script c (call_instance r.call s) b Script.React ≡ true) is names in cc)
-      by false is (Script.Slot x) names = absurd (let e = subst (λ (b : Bool). names_script c (call_instance r.call s) b (Script.Slot x) ≡ true) is names in cc)
-      by false is Script.Start names = export_there is
-      by false is Script.React names = export_there is
-
-  -- its place, and that of the op that calls
   abbrev p : ℕ
   p = r.position
 
-  abbrev last : ℕ
-  last = length (script_in c f r.script) + 1
-
   abbrev moved : Core
-  moved = moved_to n last s
-
-  script_old : script_of c n s ≡ script_in c f r.script
-  unfolding script_of
-  script_old = ap (λ (q : Option Thread). option_map_or (script_of_thread c s) q []) at
-
-  script_new : script_of d n s ≡ with_tail o (script_in c f r.script)
-  unfolding script_of
-  script_new = ap (λ (q : Option Thread). option_map_or (script_of_thread d s) q []) at ∙ tailed_there o c f r.script script_there
-
-  -- the component has the op, and so the core is in order for it
-  before : Orderly d (Turn.Run n) s
-  before m = order_as c d (state_in m (Turn.Run n) s) (tailed_codes o refl c old.codes) (kinds_same o c) (tailed_fits o c s old.fits) (h m)
-
-  moves : KeepsOrder d (Turn.Run n) s (Turn.Run n) moved
-  unfolding moved_to
-  moves = piece_keeps d n s moved
-      (λ m. Then s (Advance n last) NoWord (refl, (refl, (refl, subst (λ (ops : List Op). last ≤ length ops) (sym script_new) (let more = longer o (script_in c f r.script) in omega (arith, more))))))
-      (moved_counted n last s fresh (old.awake refl).counted)
-
-  moved_thread : get moved.threads n ≡ Some (record r { position = last; how_far = HowFar.Fresh })
-  unfolding moved_to set_how_far set_position on_thread
-  moved_thread = let here = at in grind (arith, nat_tests, get-change, here)
-
-  calls_there : callee_of_op (op_of d n moved) ≡ Some e
-  unfolding moved_to set_how_far set_position on_thread
-  calls_there =
-      let z : Thread = record r { position = last; how_far = HowFar.Fresh } in
-      ap callee_of_op (op_there d moved n z moved_thread ∙ (ap (λ (ops : List Op). op_at_place ops last) (tailed_there o c f r.script script_there) ∙ op_last o (script_in c f r.script)))
+  moved = moved_to n (last_of c r s) s
 
   abbrev made : Core
   made = call_made (Caller.Thread n) e (export_kind d e) g (thread_group n moved) words moved
 
   makes : Orderly d (Turn.Run n) made
   unfolding PrepareKeeps
-  makes = (prepare_keeps d n e g words moved calls_there apart plain (moves before).0).0
+  makes = (prepare_keeps d n e g words moved (ap callee_of_op it.op) apart plain it.order).0
 
   abbrev new : Core
   new = call_made (Caller.Thread n) e (export_kind c e) g (thread_group n s) words s
@@ -137,7 +87,7 @@ module _ (c : Component) (n : ℕ) (e : Callee) (g : Goal) (words : List ℕ) (s
           refl,
           (
             refl,
-            subst (λ (ops : List Op). p ≤ length ops) (sym (made_script ∙ script_new))
+            subst (λ (ops : List Op). p ≤ length ops) (sym (made_script ∙ it.ops))
                 (let more = longer o (script_in c f r.script) in let within = (old.fits n r at).position in omega (arith, more, within)),
           ),
         ),

@@ -19,3 +19,9 @@ pub mod LineLemmas
 pub mod StepMoves
 pub mod RunMoves
 pub mod AnswerLemmas
+mod PlaceReads
+mod PlaceWrites
+mod PlaceRows
+pub mod PlaceLaws
+pub mod PlaceOrder
+mod ThereLemmas

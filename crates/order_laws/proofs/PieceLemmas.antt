@@ -35,7 +35,7 @@ same_main (Scripted p) t = λ k. inl (k, refl)
 same_main Unscripted t = tt
 
 -- the words of a walk make no instance, and take none away
-walk_instances : {a : Scene} {s t : Core} → Walk a s t → SameInstances s t
+pub walk_instances : {a : Scene} {s t : Core} → Walk a s t → SameInstances s t
 walk_instances {s = s} c = record {
   instances = λ i. along (λ u. is_some (get u.instances i) ≡ is_some (get s.instances i)) (λ w u ok same. instance_stays w u i ∙ same) refl c;
   handles = λ i. along (λ u. is_some (get u.handles i) ≡ is_some (get s.handles i)) (λ w u ok same. table_stays w u i ∙ same) refl c;

@@ -25,7 +25,7 @@ module _ (o : Op) where
   abbrev export_with : ExportDef → ExportDef
   export_with e = record e { start = with_tail e.start; react = with_tail e.react }
 
-  abbrev slot_with : Slot → Slot
+  abbrev pub slot_with : Slot → Slot
   slot_with (slot.Script ops) = slot.Script (with_tail ops)
   slot_with k = k
 
@@ -38,7 +38,7 @@ module _ (o : Op) where
   -- ---- Scripts
 
   -- a script has the ops more, or is none
-  abbrev Tailed : List Op → List Op → Type 0
+  abbrev pub Tailed : List Op → List Op → Type 0
   Tailed new old = (new ≡ with_tail old) ⊎ ((new ≡ []) × (old ≡ []))
 
   export_of : (c : Component) (f : Callee) → export_at (tailed c) f ≡ option_map export_with (export_at c f)
@@ -50,7 +50,7 @@ module _ (o : Op) where
       by None = refl
       by (Some i) = slice_get-map export_with i.exports f.export
 
-  slot_of : (c : Component) (i x : ℕ) → slot_at (tailed c) i x ≡ slot_with (slot_at c i x)
+  pub slot_of : (c : Component) (i x : ℕ) → slot_at (tailed c) i x ≡ slot_with (slot_at c i x)
   slot_of c i x = ap (λ (d : Option InstanceDef). unwrap_or (option_and_then (λ (d : InstanceDef). slice_get d.slots x) d) slot.Empty) (slice_get-map instance_with c.instances i)
       ∙ by (slice_get c.instances i)
     where
@@ -93,7 +93,7 @@ module _ (o : Op) where
       by slot.Empty there = absurd (cc)
       by slot.Bad there = absurd (cc)
 
-  any_tailed : (c : Component) (f : Callee) (w : Script) → Tailed (script_in (tailed c) f w) (script_in c f w)
+  pub any_tailed : (c : Component) (f : Callee) (w : Script) → Tailed (script_in (tailed c) f w) (script_in c f w)
   any_tailed c f script.Start = subst (λ (e : Option ExportDef). Tailed (option_map_or (λ (d : ExportDef). d.start) e []) (script_in c f script.Start)) (sym (export_of c f)) (by (export_at c f))
     where
       by : (e : Option ExportDef) → Tailed (option_map_or (λ (d : ExportDef). d.start) (option_map export_with e) []) (option_map_or (λ (d : ExportDef). d.start) e [])
@@ -123,11 +123,16 @@ module _ (o : Op) where
   op_last [] = refl
   op_last (k ∷ ops) = let e : suc (length ops + 1) ≡ suc (length ops) + 1 = omega arith in subst (λ (p : ℕ). op_at_place (with_tail (k ∷ ops)) p ≡ o) e (op_last ops)
 
+  -- and then its end
+  pub op_past : (ops : List Op) → op_at_place (with_tail ops) (length ops + 2) ≡ Op.Task task.Exit
+  op_past [] = refl
+  op_past (k ∷ ops) = let e : suc (length ops + 2) ≡ suc (length ops) + 2 = omega arith in subst (λ (p : ℕ). op_at_place (with_tail (k ∷ ops)) p ≡ Op.Task task.Exit) e (op_past ops)
+
   pub longer : (ops : List Op) → length (with_tail ops) ≡ length ops + 2
   longer [] = refl
   longer (k ∷ ops) = omega (arith, longer ops)
 
-  op_tailed : (new old : List Op) (p : ℕ) → Tailed new old → p ≤ length old → (op_at_place new p ≡ op_at_place old p) × (length old ≤ length new)
+  pub op_tailed : (new old : List Op) (p : ℕ) → Tailed new old → p ≤ length old → (op_at_place new p ≡ op_at_place old p) × (length old ≤ length new)
   op_tailed new old p (inl e) low = (ap (λ (ops : List Op). op_at_place ops p) e ∙ op_before old p low, let more = ap (λ (ops : List Op). length ops) e ∙ longer old in omega (arith, more))
   op_tailed new old p (inr e) low = (ap (λ (ops : List Op). op_at_place ops p) (e.0 ∙ sym e.1), let same = ap (λ (ops : List Op). length ops) (e.0 ∙ sym e.1) in omega (arith, same))
 
@@ -162,7 +167,7 @@ module _ (o : Op) where
 
   -- ---- Order
 
-  names_same : (c : Component) (i : ℕ) (explicit : Bool) (w : Script) → names_script (tailed c) i explicit w ≡ names_script c i explicit w
+  pub names_same : (c : Component) (i : ℕ) (explicit : Bool) (w : Script) → names_script (tailed c) i explicit w ≡ names_script c i explicit w
   names_same c i true (script.Slot x) = ap is_script (slot_of c i x) ∙ by (slot_at c i x)
     where
       by : (k : Slot) → is_script (slot_with k) ≡ is_script k

@@ -5,6 +5,7 @@
 #![tactic(auto)]
 
 mod answers;
+mod anywhere;
 mod borrows;
 mod calls;
 mod ends;
@@ -16,6 +17,7 @@ mod walked;
 mod works;
 
 pub use answers::answers_lose_none;
+pub use anywhere::{rows_keep_order, rows_lose_none};
 pub use borrows::borrows_keep_order;
 pub use calls::{calls_keep, enters_keep, prepares_keep, starts_keep};
 pub use ends::{exits_keep, returns_keep};

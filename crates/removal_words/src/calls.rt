@@ -12,7 +12,8 @@ ghost use Rattle.task_records.specs.Seen.{IsSound, seen};
 ghost use Rattle.task_records.specs.declared.calls.GuestTask.{GuestTask};
 ghost use Rattle.task_table.specs.Answers.{item_at};
 ghost use Rattle.task_table.specs.Records.{number_of};
-ghost use Rattle.task_words.specs.StateView.{KeepsBut, call_of, lost_call, on_core};
+ghost use Rattle.task_words.specs.Becomes.{BecomesBut};
+ghost use Rattle.task_words.specs.StateView.{call_of, lost_call, on_core};
 
 use crate::chains::{close_seats, drop_seat};
 use crate::groups::{group_there, one_if, settle_group};
@@ -32,9 +33,7 @@ fn drop_call(parts: &mut CoreParts, call: CallId) -> TableId<GroupKey>
     requires last { has_thread (call_of (seen parts.old) call) (seen parts.old).core ≡ false }
     requires join { join_of (subtasks.Guest (call_of (seen parts.old) call)) (seen parts.old).core ≡ joins.Nowhere }
     ensures sound { IsSound parts.new }
-    ensures core { (seen parts.new).core ≡ remove_call (call_of (seen parts.old) call) (seen parts.old).core }
-    ensures current { (seen parts.new).current ≡ (seen parts.old).current }
-    ensures tags { KeepsBut (lost_call (call_of (seen parts.old) call)) (seen parts.old).tags (seen parts.new).tags }
+    ensures new { BecomesBut (lost_call (call_of (seen parts.old) call)) (remove_call (call_of (seen parts.old) call) (seen parts.old).core) (seen parts.old) (seen parts.new) }
     ensures group { number_of group_key parts.new.groups result.rep result.serial ≡ call_group (call_of (seen parts.old) call) (seen parts.old).core }
     ensures positive { 0 < call_group (call_of (seen parts.old) call) (seen parts.old).core }
     ensures places { (g : GuestTask) → Ok g ≡ item_at item_of parts.old.calls call.rep call.serial → parts.new.table_places ≡ given g.entry parts.old.table_places }
@@ -101,9 +100,7 @@ pub fn delete_call(parts: &mut CoreParts, call: CallId)
     requires live { 0 < call_of (seen parts.old) call }
     requires last { has_thread (call_of (seen parts.old) call) (seen parts.old).core ≡ false }
     ensures sound { IsSound parts.new }
-    ensures core { (seen parts.new).core ≡ group_settled (call_group (call_of (seen parts.old) call) (seen parts.old).core) (remove_call (call_of (seen parts.old) call) (seen parts.old).core) }
-    ensures current { (seen parts.new).current ≡ (seen parts.old).current }
-    ensures tags { KeepsBut (lost_call (call_of (seen parts.old) call)) (seen parts.old).tags (seen parts.new).tags }
+    ensures new { BecomesBut (lost_call (call_of (seen parts.old) call)) (group_settled (call_group (call_of (seen parts.old) call) (seen parts.old).core) (remove_call (call_of (seen parts.old) call) (seen parts.old).core)) (seen parts.old) (seen parts.new) }
 {
     leave_set(parts, call);
     let number = call_number(parts, call);

@@ -6,7 +6,8 @@ ghost use Rattle.task_records.specs.Kinds.{item_of};
 ghost use Rattle.task_records.specs.Seen.{IsSound, seen};
 ghost use Rattle.task_records.specs.declared.sets.WaitSet.{WaitSet};
 ghost use Rattle.task_table.specs.Answers.{item_at};
-ghost use Rattle.task_words.specs.StateView.{KeepsBut, lost_set, on_core, set_of};
+ghost use Rattle.task_words.specs.Becomes.{BecomesBut};
+ghost use Rattle.task_words.specs.StateView.{lost_set, on_core, set_of};
 
 use crate::chains::close_seats;
 use task_records::CoreParts;
@@ -17,9 +18,7 @@ fn remove_set(parts: &mut CoreParts, set: SetId)
     requires sound { IsSound parts.old }
     requires live { 0 < set_of (seen parts.old) set }
     ensures sound { IsSound parts.new }
-    ensures core { (seen parts.new).core ≡ remove_set (set_of (seen parts.old) set) (seen parts.old).core }
-    ensures current { (seen parts.new).current ≡ (seen parts.old).current }
-    ensures tags { KeepsBut (lost_set (set_of (seen parts.old) set)) (seen parts.old).tags (seen parts.new).tags }
+    ensures new { BecomesBut (lost_set (set_of (seen parts.old) set)) (remove_set (set_of (seen parts.old) set) (seen parts.old).core) (seen parts.old) (seen parts.new) }
     ensures places { (x : WaitSet) → Ok x ≡ item_at item_of parts.old.sets set.rep set.serial → parts.new.table_places ≡ given x.entry parts.old.table_places }
 {
     let found = match task_records::set(parts, set) {
@@ -56,9 +55,7 @@ pub fn close_set(parts: &mut CoreParts, instance: u32, handle: u32, set: SetId)
     requires live { 0 < set_of (seen parts.old) set }
     requires names { IsSome (set_at instance handle (seen parts.old).core) }
     ensures sound { IsSound parts.new }
-    ensures core { (seen parts.new).core ≡ remove_set (set_of (seen parts.old) set) (free_handle instance handle (seen parts.old).core) }
-    ensures current { (seen parts.new).current ≡ (seen parts.old).current }
-    ensures tags { KeepsBut (lost_set (set_of (seen parts.old) set)) (seen parts.old).tags (seen parts.new).tags }
+    ensures new { BecomesBut (lost_set (set_of (seen parts.old) set)) (remove_set (set_of (seen parts.old) set) (free_handle instance handle (seen parts.old).core)) (seen parts.old) (seen parts.new) }
 {
     free_set_handle(parts, instance, handle);
     remove_set(parts, set);

@@ -10,7 +10,8 @@ ghost use Rattle.table_order.specs.Places.{given};
 ghost use Rattle.task_records.specs.declared.threads.GuestThread.{GuestThread};
 ghost use Rattle.task_table.specs.Answers.{item_at};
 ghost use Rattle.task_words.specs.Apart.{IsApart};
-ghost use Rattle.task_words.specs.StateView.{KeepsBut, lost_thread, on_core, thread_of};
+ghost use Rattle.task_words.specs.Becomes.{BecomesBut};
+ghost use Rattle.task_words.specs.StateView.{lost_thread, on_core, thread_of};
 
 use crate::chains::{close, close_seats, drop_seat};
 use place_words::{place, suspend};
@@ -45,9 +46,7 @@ fn drop_thread(parts: &mut CoreParts, thread: ThreadId)
     requires apart { IsApart (thread_of (seen parts.old) thread) (seen parts.old).core }
     requires place { (place_of (thread_of (seen parts.old) thread) (seen parts.old).core ≡ Some places.Suspended) ⊎ (place_of (thread_of (seen parts.old) thread) (seen parts.old).core ≡ Some places.Running) }
     ensures sound { IsSound parts.new }
-    ensures core { (seen parts.new).core ≡ remove_thread (thread_of (seen parts.old) thread) (seen parts.old).core }
-    ensures current { (seen parts.new).current ≡ (seen parts.old).current }
-    ensures tags { KeepsBut (lost_thread (thread_of (seen parts.old) thread)) (seen parts.old).tags (seen parts.new).tags }
+    ensures new { BecomesBut (lost_thread (thread_of (seen parts.old) thread)) (remove_thread (thread_of (seen parts.old) thread) (seen parts.old).core) (seen parts.old) (seen parts.new) }
     ensures places { (g : GuestThread) → Ok g ≡ item_at item_of parts.old.threads thread.rep thread.serial → parts.new.table_places ≡ given g.set_entry (given g.entry parts.old.table_places) }
 {
     let (found, task, call) = with_call(parts, thread);
@@ -95,9 +94,7 @@ fn remove_other(parts: &mut CoreParts, thread: ThreadId)
     requires live { 0 < thread_of (seen parts.old) thread }
     requires apart { IsApart (thread_of (seen parts.old) thread) (seen parts.old).core }
     ensures sound { IsSound parts.new }
-    ensures core { (seen parts.new).core ≡ remove_thread (thread_of (seen parts.old) thread) (seen parts.old).core }
-    ensures current { (seen parts.new).current ≡ (seen parts.old).current }
-    ensures tags { KeepsBut (lost_thread (thread_of (seen parts.old) thread)) (seen parts.old).tags (seen parts.new).tags }
+    ensures new { BecomesBut (lost_thread (thread_of (seen parts.old) thread)) (remove_thread (thread_of (seen parts.old) thread) (seen parts.old).core) (seen parts.old) (seen parts.new) }
 {
     suspend(parts, thread);
     drop_thread(parts, thread);
@@ -109,9 +106,7 @@ pub fn remove_thread(parts: &mut CoreParts, thread: ThreadId)
     requires live { 0 < thread_of (seen parts.old) thread }
     requires apart { IsApart (thread_of (seen parts.old) thread) (seen parts.old).core }
     ensures sound { IsSound parts.new }
-    ensures core { (seen parts.new).core ≡ remove_thread (thread_of (seen parts.old) thread) (seen parts.old).core }
-    ensures current { (seen parts.new).current ≡ (seen parts.old).current }
-    ensures tags { KeepsBut (lost_thread (thread_of (seen parts.old) thread)) (seen parts.old).tags (seen parts.new).tags }
+    ensures new { BecomesBut (lost_thread (thread_of (seen parts.old) thread)) (remove_thread (thread_of (seen parts.old) thread) (seen parts.old).core) (seen parts.old) (seen parts.new) }
 {
     if runs(parts, thread) {
         drop_thread(parts, thread);
@@ -140,9 +135,7 @@ pub fn retire_thread(parts: &mut CoreParts, thread: ThreadId)
     requires live { 0 < thread_of (seen parts.old) thread }
     requires apart { IsApart (thread_of (seen parts.old) thread) (seen parts.old).core }
     ensures sound { IsSound parts.new }
-    ensures core { (seen parts.new).core ≡ remove_thread (thread_of (seen parts.old) thread) (freed_thread_handle (instance_of (thread_of (seen parts.old) thread) (seen parts.old).core) (thread_handle_of (thread_of (seen parts.old) thread) (seen parts.old).core) (seen parts.old).core) }
-    ensures current { (seen parts.new).current ≡ (seen parts.old).current }
-    ensures tags { KeepsBut (lost_thread (thread_of (seen parts.old) thread)) (seen parts.old).tags (seen parts.new).tags }
+    ensures new { BecomesBut (lost_thread (thread_of (seen parts.old) thread)) (remove_thread (thread_of (seen parts.old) thread) (freed_thread_handle (instance_of (thread_of (seen parts.old) thread) (seen parts.old).core) (thread_handle_of (thread_of (seen parts.old) thread) (seen parts.old).core) (seen parts.old).core)) (seen parts.old) (seen parts.new) }
 {
     let (instance, handle) = match task_records::thread(parts, thread) {
         Some(found) => (found.instance, found.thread.handle),

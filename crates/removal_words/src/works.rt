@@ -12,7 +12,8 @@ ghost use Rattle.task_records.specs.declared.works.HostWork.{HostWork};
 ghost use Rattle.task_rules.specs.Calls.{work_deleted, work_group};
 ghost use Rattle.task_table.specs.Answers.{item_at};
 ghost use Rattle.task_words.specs.Apart.{work_entries};
-ghost use Rattle.task_words.specs.StateView.{KeepsBut, lost_work, work_of};
+ghost use Rattle.task_words.specs.Becomes.{BecomesBut};
+ghost use Rattle.task_words.specs.StateView.{lost_work, work_of};
 
 use crate::chains::{close_seats, drop_seat};
 use crate::groups::{lower_group, one_if, settle_group};
@@ -41,9 +42,7 @@ fn drop_work(parts: &mut CoreParts, work: WorkId) -> Option<TableId<GroupKey>>
     requires join { join_of (subtasks.Host (work_of (seen parts.old) work)) (seen parts.old).core ≡ joins.Nowhere }
     requires stage { stage_of (work_of (seen parts.old) work) (seen parts.old).core ≡ stages.Ended }
     ensures sound { IsSound parts.new }
-    ensures core { (seen parts.new).core ≡ remove_work (work_of (seen parts.old) work) (seen parts.old).core }
-    ensures current { (seen parts.new).current ≡ (seen parts.old).current }
-    ensures tags { KeepsBut (lost_work (work_of (seen parts.old) work)) (seen parts.old).tags (seen parts.new).tags }
+    ensures new { BecomesBut (lost_work (work_of (seen parts.old) work)) (remove_work (work_of (seen parts.old) work) (seen parts.old).core) (seen parts.old) (seen parts.new) }
     ensures group { IsNamedBy parts.new.groups (work_group (work_of (seen parts.old) work) (seen parts.old).core) result }
     ensures places { (w : HostWork) → Ok w ≡ item_at item_of parts.old.works work.rep work.serial → parts.new.table_places ≡ (if is_host_call w.work then given w.entry parts.old.table_places else parts.old.table_places) }
 {
@@ -76,9 +75,7 @@ pub fn delete_work(parts: &mut CoreParts, work: WorkId)
     requires live { 0 < work_of (seen parts.old) work }
     requires unqueued { work_entries (work_of (seen parts.old) work) (seen parts.old).core.queues.high ≡ 0 }
     ensures sound { IsSound parts.new }
-    ensures core { (seen parts.new).core ≡ work_deleted (work_of (seen parts.old) work) (seen parts.old).core }
-    ensures current { (seen parts.new).current ≡ (seen parts.old).current }
-    ensures tags { KeepsBut (lost_work (work_of (seen parts.old) work)) (seen parts.old).tags (seen parts.new).tags }
+    ensures new { BecomesBut (lost_work (work_of (seen parts.old) work)) (work_deleted (work_of (seen parts.old) work) (seen parts.old).core) (seen parts.old) (seen parts.new) }
 {
     set_join(parts, SubtaskId::Host(work), JoinId::Nowhere);
     set_stage(parts, work, Stage::Ended);

@@ -3,10 +3,9 @@ use Rattle.std.specs.Prelude.{Bool, Err, None, Ok, Result, [], false, true, ℕ,
 use Rattle.state_calls.specs.declared.error.TaskError.{TaskError}
 use Rattle.state_calls.specs.declared.error.TaskError.TheVariants as task_error
 use Rattle.task_machine.specs.Core.{Core}
-use Rattle.task_machine.specs.Moves.{ended}
-use Rattle.task_machine.specs.Read.{callers_of, task_of, under_of}
+use Rattle.task_machine.specs.Read.{callers_of, under_of}
 use Rattle.task_machine.specs.declared.trap.Trap.TheVariants as trap
-use Rattle.task_moves.specs.Gone.{KeepsLive, lost_both}
+use Rattle.task_moves.specs.Gone.{HasEnded}
 use Rattle.task_words.specs.Apart.{IsApart}
 use Rattle.task_words.specs.StateView.{StateView}
 
@@ -15,12 +14,6 @@ pub record MayEnd (n : ℕ) (s : Core) : Type 0 where
   pub apart : IsApart n s
   pub callers : callers_of n s ≡ []
   pub under : under_of n s ≡ None
-
--- The thread has ended, and what that settles is done; its ids and, if it is gone, those of its call name nothing.
-pub record HasEnded (n : ℕ) (s t : StateView) : Type 0 where
-  pub core : t.core ≡ ended n s.core
-  pub current : t.current ≡ s.current
-  pub tags : KeepsLive (lost_both n (task_of n s.core)) s.tags t.tags
 
 -- Where it would leave a task that hasn't ended without a thread, that is refused, and nothing is changed; else it has ended.
 abbrev pub Ends : ℕ → (refused : Bool) → StateView → Result (Unit {0}) TaskError → StateView → Type 0

@@ -14,7 +14,8 @@ ghost use Rattle.task_records.specs.Seen.{IsSound, parts_of, seen};
 ghost use Rattle.task_records.specs.Sound.{bare};
 ghost use Rattle.task_rules.specs.Calls.{call_made, next_thread, with_thread_handle};
 ghost use Rattle.task_table.specs.Answers.{item_at};
-ghost use Rattle.task_words.specs.StateView.{Keeps, call_of, thread_of};
+ghost use Rattle.task_words.specs.Becomes.{Becomes, Makes, names_call};
+ghost use Rattle.task_words.specs.StateView.{call_of, thread_of};
 
 use crate::entries::{Entries, give_strand, take_strand};
 use crate::groups::{drop_group, push_group};
@@ -49,11 +50,9 @@ pub fn add_strand(
     requires result { request.goal ≡ goals.Main → HasRoom (parts.old.made.threads + 1) parts.old.results }
     requires loose { AreStrandLoose (bare (parts_of parts.old)) nodes.0 nodes.1 }
     ensures sound { IsSound parts.new }
+    ensures new { OnOk result (Becomes (call_made request.caller request.callee request.kind request.goal group.number words.now (seen parts.old).core) (seen parts.old) (seen parts.new)) }
     ensures thread { IfOk result (λ ids. thread_of (seen parts.new) ids.0 ≡ (seen parts.old).core.made.threads + 1) }
     ensures call { IfOk result (λ ids. call_of (seen parts.new) ids.1 ≡ (seen parts.old).core.made.threads + 1) }
-    ensures core { OnOk result ((seen parts.new).core ≡ call_made request.caller request.callee request.kind request.goal group.number words.now (seen parts.old).core) }
-    ensures current { OnOk result ((seen parts.new).current ≡ (seen parts.old).current) }
-    ensures tags { OnOk result (Keeps (seen parts.old).tags (seen parts.new).tags) }
     ensures pushes { IfOk result (λ ids. PushesStrand parts.old parts.new id group ids.0 ids.1) }
     ensures err { OnErr result (IsRestored (parts_of parts.old) (parts_of parts.new)) }
 {
@@ -117,12 +116,7 @@ fn add_main_strand(
     requires result { request.goal ≡ goals.Main → HasRoom (parts.old.made.threads + 1) parts.old.results }
     requires loose { AreStrandLoose (bare (parts_of parts.old)) nodes.0 nodes.1 }
     ensures sound { IsSound parts.new }
-    ensures thread { IfOk result (λ ids. thread_of (seen parts.new) ids.0 ≡ (seen parts.old).core.made.threads + 1) }
-    ensures call { IfOk result (λ ids. call_of (seen parts.new) ids.1 ≡ (seen parts.old).core.made.threads + 1) }
-    ensures core { OnOk result ((seen parts.new).core ≡ call_made request.caller request.callee request.kind request.goal ((seen parts.old).core.made.groups + 1) words.now (add_group (seen parts.old).core)) }
-    ensures current { OnOk result ((seen parts.new).current ≡ (seen parts.old).current) }
-    ensures tags { OnOk result (Keeps (seen parts.old).tags (seen parts.new).tags) }
-    ensures err { OnErr result (seen parts.new ≡ seen parts.old) }
+    ensures new { Makes (names_call ((seen parts.old).core.made.threads + 1)) (call_made request.caller request.callee request.kind request.goal ((seen parts.old).core.made.groups + 1) words.now (add_group (seen parts.old).core)) (seen parts.old) result (seen parts.new) }
 {
     let number = parts.made.groups + 1;
     match push_group(parts) {
@@ -156,12 +150,7 @@ fn make_call_by_main_with(
     requires groups { (seen parts.old).core.made.groups + 1 < 2 ^ 64 }
     requires room { fits 4 (seen parts.old).core ≡ true }
     ensures sound { IsSound parts.new }
-    ensures thread { IfOk result (λ ids. thread_of (seen parts.new) ids.0 ≡ next_thread (seen parts.old).core) }
-    ensures call { IfOk result (λ ids. call_of (seen parts.new) ids.1 ≡ next_thread (seen parts.old).core) }
-    ensures core { OnOk result ((seen parts.new).core ≡ call_made callers.Main callee kind goal ((seen parts.old).core.made.groups + 1) words.now (add_group (seen parts.old).core)) }
-    ensures current { (seen parts.new).current ≡ (seen parts.old).current }
-    ensures tags { Keeps (seen parts.old).tags (seen parts.new).tags }
-    ensures err { OnErr result (seen parts.new ≡ seen parts.old) }
+    ensures new { Makes (names_call (next_thread (seen parts.old).core)) (call_made callers.Main callee kind goal ((seen parts.old).core.made.groups + 1) words.now (add_group (seen parts.old).core)) (seen parts.old) result (seen parts.new) }
 {
     let request = Request {
         caller: Caller::Main,
@@ -197,12 +186,7 @@ pub fn make_call_by_main(
     requires groups { (seen parts.old).core.made.groups + 1 < 2 ^ 64 }
     requires room { fits 4 (seen parts.old).core ≡ true }
     ensures sound { IsSound parts.new }
-    ensures thread { IfOk result (λ ids. thread_of (seen parts.new) ids.0 ≡ next_thread (seen parts.old).core) }
-    ensures call { IfOk result (λ ids. call_of (seen parts.new) ids.1 ≡ next_thread (seen parts.old).core) }
-    ensures core { OnOk result ((seen parts.new).core ≡ call_made callers.Main callee kind goal ((seen parts.old).core.made.groups + 1) words.now (add_group (seen parts.old).core)) }
-    ensures current { (seen parts.new).current ≡ (seen parts.old).current }
-    ensures tags { Keeps (seen parts.old).tags (seen parts.new).tags }
-    ensures err { OnErr result (seen parts.new ≡ seen parts.old) }
+    ensures new { Makes (names_call (next_thread (seen parts.old).core)) (call_made callers.Main callee kind goal ((seen parts.old).core.made.groups + 1) words.now (add_group (seen parts.old).core)) (seen parts.old) result (seen parts.new) }
 {
     let number = parts.made.groups + 1;
     take_group(&mut parts.table_places, &mut parts.group_entries, number)?;
@@ -242,12 +226,7 @@ pub fn add_named_strand(
     requires result { request.goal ≡ goals.Main → HasRoom (parts.old.made.threads + 1) parts.old.results }
     requires loose { AreStrandLoose (bare (parts_of parts.old)) nodes.0 nodes.1 }
     ensures sound { IsSound parts.new }
-    ensures thread { IfOk result (λ ids. thread_of (seen parts.new) ids.0 ≡ next_thread (seen parts.old).core) }
-    ensures call { IfOk result (λ ids. call_of (seen parts.new) ids.1 ≡ next_thread (seen parts.old).core) }
-    ensures core { OnOk result ((seen parts.new).core ≡ with_thread_handle request.callee.instance (next_thread (seen parts.old).core) (call_made request.caller request.callee request.kind request.goal group.number words.now (seen parts.old).core)) }
-    ensures current { OnOk result ((seen parts.new).current ≡ (seen parts.old).current) }
-    ensures tags { OnOk result (Keeps (seen parts.old).tags (seen parts.new).tags) }
-    ensures err { OnErr result (seen parts.new ≡ seen parts.old) }
+    ensures new { Makes (names_call (next_thread (seen parts.old).core)) (with_thread_handle request.callee.instance (next_thread (seen parts.old).core) (call_made request.caller request.callee request.kind request.goal group.number words.now (seen parts.old).core)) (seen parts.old) result (seen parts.new) }
 {
     match add_strand(parts, id, group, request, words, nodes) {
         Ok((first, task)) => match name_thread(parts, first) {

@@ -1,4 +1,4 @@
-ghost use Rattle.std.specs.Prelude.{◌≡◌, ◌+◌, ◌-◌, ◌<◌, ◌≤◌, ◌^◌, IfOk, None, Ok, OnErr, OnOk, is_some, length, true, ℕ};
+ghost use Rattle.std.specs.Prelude.{◌≡◌, ◌+◌, ◌-◌, ◌<◌, ◌≤◌, ◌^◌, IfOk, None, Ok, OnErr, OnOk, is_some, length, true};
 ghost use Rattle.strand_words.specs.Loose.{AreThreadLoose};
 ghost use Rattle.strand_words.specs.Member.{IsMember};
 ghost use Rattle.strand_words.specs.Pushed.{PushesThread};
@@ -14,7 +14,8 @@ ghost use Rattle.task_rules.specs.Scripts.{registers_for};
 ghost use Rattle.task_table.specs.Answers.{item_at};
 ghost use Rattle.task_table.specs.Changes.{deleted, with_entry};
 ghost use Rattle.task_table.specs.Table.{IsTable};
-ghost use Rattle.task_words.specs.StateView.{Keeps, call_of, thread_of};
+ghost use Rattle.task_words.specs.Becomes.{Becomes, Makes, names_thread};
+ghost use Rattle.task_words.specs.StateView.{call_of, thread_of};
 
 use crate::entries::{Entries, give_thread, take_thread};
 use crate::nodes::{ThreadNodes, new_thread_nodes};
@@ -71,10 +72,8 @@ fn push_thread(
     requires loose { AreThreadLoose (bare (parts_of parts.old)) (record { node = thread.node; mark = thread.mark; shelf = thread.shelf; caller = thread.caller; callers = thread.callers; under = thread.under }) }
     requires unnamed { thread.thread.handle ≡ None }
     ensures sound { IsSound parts.new }
+    ensures new { OnOk result (Becomes (add_thread thread.thread (seen parts.old).core) (seen parts.old) (seen parts.new)) }
     ensures thread { IfOk result (λ id. thread_of (seen parts.new) id ≡ next_thread (seen parts.old).core) }
-    ensures core { OnOk result ((seen parts.new).core ≡ add_thread thread.thread (seen parts.old).core) }
-    ensures current { OnOk result ((seen parts.new).current ≡ (seen parts.old).current) }
-    ensures tags { OnOk result (Keeps (seen parts.old).tags (seen parts.new).tags) }
     ensures pushes { IfOk result (λ id. PushesThread parts.old parts.new task call id) }
     ensures err { OnErr result (parts.new ≡ parts.old) }
 {
@@ -128,11 +127,7 @@ fn add_member(
     requires room { fits 2 (seen parts.old).core ≡ true }
     requires loose { AreThreadLoose (bare (parts_of parts.old)) nodes }
     ensures sound { IsSound parts.new }
-    ensures thread { IfOk result (λ id. thread_of (seen parts.new) id ≡ next_thread (seen parts.old).core) }
-    ensures core { OnOk result ((seen parts.new).core ≡ with_thread_handle (call_instance (call_of (seen parts.old) task) (seen parts.old).core) (next_thread (seen parts.old).core) (add_thread (new_thread (call_of (seen parts.old) task) true (scripts.Slot slot) (registers_for words.now) None) (seen parts.old).core)) }
-    ensures current { OnOk result ((seen parts.new).current ≡ (seen parts.old).current) }
-    ensures tags { OnOk result (Keeps (seen parts.old).tags (seen parts.new).tags) }
-    ensures err { OnErr result (seen parts.new ≡ seen parts.old) }
+    ensures new { Makes (names_thread (next_thread (seen parts.old).core)) (with_thread_handle (call_instance (call_of (seen parts.old) task) (seen parts.old).core) (next_thread (seen parts.old).core) (add_thread (new_thread (call_of (seen parts.old) task) true (scripts.Slot slot) (registers_for words.now) None) (seen parts.old).core)) (seen parts.old) result (seen parts.new) }
 {
     let call = match task_records::call(parts, task) {
         Some(found) => *found,
@@ -169,11 +164,7 @@ fn make_thread_with(
     requires few { (seen parts.old).core.made.threads + 1 < 2 ^ 64 }
     requires room { fits 2 (seen parts.old).core ≡ true }
     ensures sound { IsSound parts.new }
-    ensures thread { IfOk result (λ id. thread_of (seen parts.new) id ≡ next_thread (seen parts.old).core) }
-    ensures core { OnOk result ((i : ℕ) → i ≡ call_instance (call_of (seen parts.old) task) (seen parts.old).core → (seen parts.new).core ≡ with_thread_handle i (next_thread (seen parts.old).core) (add_thread (new_thread (call_of (seen parts.old) task) true (scripts.Slot slot) (registers_for words.now) None) (seen parts.old).core)) }
-    ensures current { (seen parts.new).current ≡ (seen parts.old).current }
-    ensures tags { Keeps (seen parts.old).tags (seen parts.new).tags }
-    ensures err { OnErr result (seen parts.new ≡ seen parts.old) }
+    ensures new { Makes (names_thread (next_thread (seen parts.old).core)) (with_thread_handle (call_instance (call_of (seen parts.old) task) (seen parts.old).core) (next_thread (seen parts.old).core) (add_thread (new_thread (call_of (seen parts.old) task) true (scripts.Slot slot) (registers_for words.now) None) (seen parts.old).core)) (seen parts.old) result (seen parts.new) }
 {
     match new_thread_nodes(parts) {
         Ok(nodes) => match add_member(parts, task, slot, words, entries, nodes) {
@@ -200,11 +191,7 @@ pub fn make_thread(
     requires few { (seen parts.old).core.made.threads + 1 < 2 ^ 64 }
     requires room { fits 2 (seen parts.old).core ≡ true }
     ensures sound { IsSound parts.new }
-    ensures thread { IfOk result (λ id. thread_of (seen parts.new) id ≡ next_thread (seen parts.old).core) }
-    ensures core { OnOk result ((i : ℕ) → i ≡ call_instance (call_of (seen parts.old) task) (seen parts.old).core → (seen parts.new).core ≡ with_thread_handle i (next_thread (seen parts.old).core) (add_thread (new_thread (call_of (seen parts.old) task) true (scripts.Slot slot) (registers_for words.now) None) (seen parts.old).core)) }
-    ensures current { (seen parts.new).current ≡ (seen parts.old).current }
-    ensures tags { Keeps (seen parts.old).tags (seen parts.new).tags }
-    ensures err { OnErr result (seen parts.new ≡ seen parts.old) }
+    ensures new { Makes (names_thread (next_thread (seen parts.old).core)) (with_thread_handle (call_instance (call_of (seen parts.old) task) (seen parts.old).core) (next_thread (seen parts.old).core) (add_thread (new_thread (call_of (seen parts.old) task) true (scripts.Slot slot) (registers_for words.now) None) (seen parts.old).core)) (seen parts.old) result (seen parts.new) }
 {
     let call = match task_records::call(parts, task) {
         Some(found) => found.entry,

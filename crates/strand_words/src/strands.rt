@@ -13,7 +13,8 @@ ghost use Rattle.task_table.specs.Answers.{item_at};
 ghost use Rattle.task_table.specs.Changes.{deleted, next_place, with_entry};
 ghost use Rattle.task_table.specs.Records.{number_of};
 ghost use Rattle.task_table.specs.Table.{IsTable, children_of};
-ghost use Rattle.task_words.specs.StateView.{Keeps, call_of, thread_of};
+ghost use Rattle.task_words.specs.Becomes.{Becomes};
+ghost use Rattle.task_words.specs.StateView.{call_of, thread_of};
 
 use task_machine::NoMemory;
 use task_records::{CoreParts, GuestTask, GuestThread, Single, TaskGroup};
@@ -102,11 +103,9 @@ pub fn push_strand(
     requires unnamed { thread.thread.handle ≡ None }
     requires interests { call.call.interesting ≡ true }
     ensures sound { IsSound parts.new }
+    ensures new { OnOk result (Becomes (add_thread thread.thread (add_call call.number call.call (seen parts.old).core)) (seen parts.old) (seen parts.new)) }
     ensures thread { IfOk result (λ ids. thread_of (seen parts.new) ids.0 ≡ parts.old.made.threads + 1) }
     ensures call { IfOk result (λ ids. call_of (seen parts.new) ids.1 ≡ parts.old.made.threads + 1) }
-    ensures core { OnOk result ((seen parts.new).core ≡ add_thread thread.thread (add_call call.number call.call (seen parts.old).core)) }
-    ensures current { OnOk result ((seen parts.new).current ≡ (seen parts.old).current) }
-    ensures tags { OnOk result (Keeps (seen parts.old).tags (seen parts.new).tags) }
     ensures pushes { IfOk result (λ ids. PushesStrand parts.old parts.new id group ids.0 ids.1) }
     ensures err { OnErr result (IsRestored (parts_of parts.old) (parts_of parts.new)) }
 {

@@ -1,4 +1,4 @@
-ghost use Rattle.std.specs.Prelude.{◌≡◌, ◌+◌, ◌<◌, ◌≤◌, ◌^◌, IfOk, IsSome, Ok, OnErr, OnOk, length, true};
+ghost use Rattle.std.specs.Prelude.{◌≡◌, ◌+◌, ◌<◌, ◌≤◌, ◌^◌, IsSome, Ok, length, true};
 ghost use Rattle.task_machine.specs.Maps.{get};
 ghost use Rattle.task_machine.specs.Read.{fits, thread_group};
 ghost use Rattle.task_machine.specs.declared.records.Caller.TheVariants as callers;
@@ -7,7 +7,8 @@ ghost use Rattle.task_records.specs.Kinds.{item_of};
 ghost use Rattle.task_records.specs.Seen.{IsSound, seen};
 ghost use Rattle.task_rules.specs.Calls.{call_made, next_thread, with_thread_handle};
 ghost use Rattle.task_table.specs.Answers.{item_at};
-ghost use Rattle.task_words.specs.StateView.{Keeps, call_of, thread_of};
+ghost use Rattle.task_words.specs.Becomes.{Makes, names_call};
+ghost use Rattle.task_words.specs.StateView.{thread_of};
 
 use crate::calls::{add_named_strand, add_strand, prepare};
 use crate::entries::{Entries, give_strand, take_strand};
@@ -56,12 +57,7 @@ fn make_call_with(
     requires few { (seen parts.old).core.made.threads + 1 < 2 ^ 64 }
     requires room { fits 3 (seen parts.old).core ≡ true }
     ensures sound { IsSound parts.new }
-    ensures thread { IfOk result (λ ids. thread_of (seen parts.new) ids.0 ≡ next_thread (seen parts.old).core) }
-    ensures call { IfOk result (λ ids. call_of (seen parts.new) ids.1 ≡ next_thread (seen parts.old).core) }
-    ensures core { OnOk result ((seen parts.new).core ≡ call_made (callers.Thread (thread_of (seen parts.old) thread)) callee kind goal (thread_group (thread_of (seen parts.old) thread) (seen parts.old).core) words.now (seen parts.old).core) }
-    ensures current { (seen parts.new).current ≡ (seen parts.old).current }
-    ensures tags { Keeps (seen parts.old).tags (seen parts.new).tags }
-    ensures err { OnErr result (seen parts.new ≡ seen parts.old) }
+    ensures new { Makes (names_call (next_thread (seen parts.old).core)) (call_made (callers.Thread (thread_of (seen parts.old) thread)) callee kind goal (thread_group (thread_of (seen parts.old) thread) (seen parts.old).core) words.now (seen parts.old).core) (seen parts.old) result (seen parts.new) }
 {
     let request = Request {
         caller: Caller::Thread {
@@ -103,12 +99,7 @@ pub fn make_call(
     requires few { (seen parts.old).core.made.threads + 1 < 2 ^ 64 }
     requires room { fits 3 (seen parts.old).core ≡ true }
     ensures sound { IsSound parts.new }
-    ensures thread { IfOk result (λ ids. thread_of (seen parts.new) ids.0 ≡ next_thread (seen parts.old).core) }
-    ensures call { IfOk result (λ ids. call_of (seen parts.new) ids.1 ≡ next_thread (seen parts.old).core) }
-    ensures core { OnOk result ((seen parts.new).core ≡ call_made (callers.Thread (thread_of (seen parts.old) thread)) callee kind goal (thread_group (thread_of (seen parts.old) thread) (seen parts.old).core) words.now (seen parts.old).core) }
-    ensures current { (seen parts.new).current ≡ (seen parts.old).current }
-    ensures tags { Keeps (seen parts.old).tags (seen parts.new).tags }
-    ensures err { OnErr result (seen parts.new ≡ seen parts.old) }
+    ensures new { Makes (names_call (next_thread (seen parts.old).core)) (call_made (callers.Thread (thread_of (seen parts.old) thread)) callee kind goal (thread_group (thread_of (seen parts.old) thread) (seen parts.old).core) words.now (seen parts.old).core) (seen parts.old) result (seen parts.new) }
 {
     let entries = take_strand(&mut parts.table_places)?;
     match make_call_with(parts, thread, callee, kind, goal, words, entries) {
@@ -136,12 +127,7 @@ fn make_direct_call_with(
     requires few { (seen parts.old).core.made.threads + 1 < 2 ^ 64 }
     requires room { fits 3 (seen parts.old).core ≡ true }
     ensures sound { IsSound parts.new }
-    ensures thread { IfOk result (λ ids. thread_of (seen parts.new) ids.0 ≡ next_thread (seen parts.old).core) }
-    ensures call { IfOk result (λ ids. call_of (seen parts.new) ids.1 ≡ next_thread (seen parts.old).core) }
-    ensures core { OnOk result ((seen parts.new).core ≡ with_thread_handle callee.instance (next_thread (seen parts.old).core) (call_made (callers.Thread (thread_of (seen parts.old) thread)) callee kind goals.Direct (thread_group (thread_of (seen parts.old) thread) (seen parts.old).core) words.now (seen parts.old).core)) }
-    ensures current { (seen parts.new).current ≡ (seen parts.old).current }
-    ensures tags { Keeps (seen parts.old).tags (seen parts.new).tags }
-    ensures err { OnErr result (seen parts.new ≡ seen parts.old) }
+    ensures new { Makes (names_call (next_thread (seen parts.old).core)) (with_thread_handle callee.instance (next_thread (seen parts.old).core) (call_made (callers.Thread (thread_of (seen parts.old) thread)) callee kind goals.Direct (thread_group (thread_of (seen parts.old) thread) (seen parts.old).core) words.now (seen parts.old).core)) (seen parts.old) result (seen parts.new) }
 {
     let request = Request {
         caller: Caller::Thread {
@@ -182,12 +168,7 @@ pub fn make_direct_call(
     requires few { (seen parts.old).core.made.threads + 1 < 2 ^ 64 }
     requires room { fits 3 (seen parts.old).core ≡ true }
     ensures sound { IsSound parts.new }
-    ensures thread { IfOk result (λ ids. thread_of (seen parts.new) ids.0 ≡ next_thread (seen parts.old).core) }
-    ensures call { IfOk result (λ ids. call_of (seen parts.new) ids.1 ≡ next_thread (seen parts.old).core) }
-    ensures core { OnOk result ((seen parts.new).core ≡ with_thread_handle callee.instance (next_thread (seen parts.old).core) (call_made (callers.Thread (thread_of (seen parts.old) thread)) callee kind goals.Direct (thread_group (thread_of (seen parts.old) thread) (seen parts.old).core) words.now (seen parts.old).core)) }
-    ensures current { (seen parts.new).current ≡ (seen parts.old).current }
-    ensures tags { Keeps (seen parts.old).tags (seen parts.new).tags }
-    ensures err { OnErr result (seen parts.new ≡ seen parts.old) }
+    ensures new { Makes (names_call (next_thread (seen parts.old).core)) (with_thread_handle callee.instance (next_thread (seen parts.old).core) (call_made (callers.Thread (thread_of (seen parts.old) thread)) callee kind goals.Direct (thread_group (thread_of (seen parts.old) thread) (seen parts.old).core) words.now (seen parts.old).core)) (seen parts.old) result (seen parts.new) }
 {
     let entries = take_strand(&mut parts.table_places)?;
     match make_direct_call_with(parts, thread, callee, kind, words, entries) {

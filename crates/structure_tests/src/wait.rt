@@ -104,8 +104,8 @@ impl Room {
 #[test]
 fn the_least_of_a_set_comes_first(rt: HostRuntime) {
     let mut room = Room {
-        ready: Links::new(rt.alloc()),
-        waiting: Links::new(rt.alloc()),
+        ready: Links::new(rt.alloc(), guest(0)),
+        waiting: Links::new(rt.alloc(), waiter(0)),
     };
     let set = WaitableSet::new(true, &mut room.ready, &mut room.waiting);
     let mut set = made(&rt, set);
@@ -176,7 +176,7 @@ fn value_of(link: Option<(Node, u32)>) -> u32 {
 
 #[test]
 fn links_are_lists_over_nodes(rt: HostRuntime) {
-    let mut links: Links<u32> = Links::new(rt.alloc());
+    let mut links: Links<u32> = Links::new(rt.alloc(), 0);
     let chain = made(&rt, links.make_chain());
     let first = made(&rt, links.make_node());
     let middle = made(&rt, links.make_node());

@@ -1,5 +1,5 @@
 //! Calls of exports whose start is queued, as they begin.
-ghost use Rattle.std.specs.Prelude.{◌≡◌, ◌+◌, ◌<◌, ◌≤◌, ◌^◌, IfOk, IsSome, OnErr, OnOk, Some, length, true};
+ghost use Rattle.std.specs.Prelude.{◌≡◌, ◌+◌, ◌<◌, ◌≤◌, ◌^◌, IfOk, IsSome, OnErr, Some, length, true};
 ghost use Rattle.task_machine.specs.Maps.{get};
 ghost use Rattle.task_machine.specs.Read.{fits, place_of};
 ghost use Rattle.subtask_ops.specs.Starts.{call_starts};
@@ -10,6 +10,7 @@ ghost use Rattle.task_ops.specs.Running.{IsRunning};
 ghost use Rattle.task_ops.specs.Stays.{StaysAfter};
 ghost use Rattle.task_rules.specs.Calls.{call_begins, call_clears_flag, call_queues, next_thread};
 ghost use Rattle.task_rules.specs.Scripts.{export_kind};
+ghost use Rattle.task_words.specs.Becomes.{Makes, names_thread};
 ghost use Rattle.task_words.specs.StateView.{Keeps, call_of, on_core, thread_of};
 
 use task_machine::{CallLabel, Callee, ExportKind, Goal, Label, Trap};
@@ -65,11 +66,7 @@ fn queue_start<W: Words>(
     requires words { length words.now ≤ 16 }
     requires few { (W.view w.old).core.made.threads + 1 < 2 ^ 64 }
     requires room { fits 3 (W.view w.old).core ≡ true }
-    ensures thread { IfOk result (λ id. thread_of (W.view w.new) id ≡ next_thread (W.view w.old).core) }
-    ensures core { OnOk result ((W.view w.new).core ≡ call_queues (thread_of (W.view w.old) thread) callee kind goal words.now (W.view w.old).core) }
-    ensures tags { Keeps (W.view w.old).tags (W.view w.new).tags }
-    ensures current { (W.view w.new).current ≡ (W.view w.old).current }
-    ensures err { OnErr result (W.view w.new ≡ W.view w.old) }
+    ensures { Makes (names_thread (next_thread (W.view w.old).core)) (call_queues (thread_of (W.view w.old) thread) callee kind goal words.now (W.view w.old).core) (W.view w.old) result (W.view w.new) }
 {
     let (other, call) = w.make_call(thread, callee, kind, goal, words)?;
     start_made(w, thread, other, call, callee.instance, kind);

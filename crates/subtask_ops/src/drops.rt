@@ -9,6 +9,7 @@ ghost use Rattle.task_ops.specs.Stays.{StaysAfter};
 ghost use Rattle.task_rules.specs.Cancels.{drop_row, dropped, subtask_settled};
 ghost use Rattle.task_words.specs.Apart.{work_entries};
 ghost use Rattle.task_words.specs.Names.{subtask_in};
+ghost use Rattle.task_words.specs.Becomes.{BecomesBut};
 ghost use Rattle.task_words.specs.StateView.{KeepsBut, thread_of, work_of};
 ghost use Rattle.task_ops.specs.Works.{NamesWorks};
 
@@ -21,9 +22,7 @@ use task_words::{JoinId, SubtaskId, ThreadId, Words, WorkId};
 // A work is gone, if it is there.
 fn delete_work<W: Words>(w: &mut W, work: WorkId)
     requires unqueued { work_entries (work_of (W.view w.old) work) (W.view w.old).core.queues.high ≡ 0 }
-    ensures core { (W.view w.new).core ≡ subtask_settled (subtasks.Host (work_of (W.view w.old) work)) (W.view w.old).core }
-    ensures current { (W.view w.new).current ≡ (W.view w.old).current }
-    ensures tags { KeepsBut (lost_subtask (subtasks.Host (work_of (W.view w.old) work))) (W.view w.old).tags (W.view w.new).tags }
+    ensures { BecomesBut (lost_subtask (subtasks.Host (work_of (W.view w.old) work))) (subtask_settled (subtasks.Host (work_of (W.view w.old) work)) (W.view w.old).core) (W.view w.old) (W.view w.new) }
 {
     w.none_is_zero();
     if w.work_number(work) > 0 {
@@ -35,9 +34,7 @@ fn delete_work<W: Words>(w: &mut W, work: WorkId)
 fn settle<W: Words>(w: &mut W, subtask: SubtaskId)
     requires live { (k : ℕ) → subtask_in (W.view w.old).tags subtask ≡ subtasks.Guest k → 0 < k }
     requires unqueued { (i : ℕ) → subtask_in (W.view w.old).tags subtask ≡ subtasks.Host i → work_entries i (W.view w.old).core.queues.high ≡ 0 }
-    ensures core { (W.view w.new).core ≡ subtask_settled (subtask_in (W.view w.old).tags subtask) (W.view w.old).core }
-    ensures current { (W.view w.new).current ≡ (W.view w.old).current }
-    ensures tags { KeepsBut (lost_subtask (subtask_in (W.view w.old).tags subtask)) (W.view w.old).tags (W.view w.new).tags }
+    ensures { BecomesBut (lost_subtask (subtask_in (W.view w.old).tags subtask)) (subtask_settled (subtask_in (W.view w.old).tags subtask) (W.view w.old).core) (W.view w.old) (W.view w.new) }
 {
     match subtask {
         SubtaskId::Guest(call) => settle_call(w, call),

@@ -1,5 +1,5 @@
 //! Calls of hosts.
-ghost use Rattle.std.specs.Prelude.{◌≡◌, ◌+◌, ◌<◌, ◌^◌, IfOk, None, OnErr, OnOk, false, option_map, true, ℕ};
+ghost use Rattle.std.specs.Prelude.{◌≡◌, ◌+◌, ◌<◌, ◌^◌, IfOk, None, OnErr, false, option_map, true, ℕ};
 ghost use Rattle.subtask_ops.specs.Queued.{GoesOnWith, queued_work};
 ghost use Rattle.task_machine.specs.Maps.{get};
 ghost use Rattle.task_machine.specs.Read.{at_handle_limit, fits, instance_of, new_handle, position_of};
@@ -13,6 +13,7 @@ ghost use Rattle.task_ops.specs.Running.{IsRunning};
 ghost use Rattle.task_ops.specs.Stays.{StaysAfter};
 ghost use Rattle.task_rules.specs.Calls.{Later, call_host_polled, call_sync_host_polled, call_sync_host_row, call_sync_host_stops, first_poll, host_answered, host_pending, host_ready, next_work};
 ghost use Rattle.task_words.specs.Apart.{work_entries};
+ghost use Rattle.task_words.specs.Becomes.{Makes, names_work};
 ghost use Rattle.task_words.specs.StateView.{Keeps, KeepsBut, lost_work, on_core, thread_of, work_of};
 
 use crate::returns::stop_blocked;
@@ -146,11 +147,7 @@ fn stop_on_host<W: Words>(w: &mut W, thread: ThreadId, host: HostDef) -> Result<
     requires running { IsRunning (thread_of (W.view w.old) thread) (W.view w.old).core }
     requires few { (W.view w.old).core.made.works + 1 < 2 ^ 64 }
     requires room { fits 1 (W.view w.old).core ≡ true }
-    ensures work { IfOk result (λ id. work_of (W.view w.new) id ≡ next_work (W.view w.old).core) }
-    ensures core { OnOk result ((W.view w.new).core ≡ call_sync_host_stops (thread_of (W.view w.old) thread) host (W.view w.old).core) }
-    ensures tags { Keeps (W.view w.old).tags (W.view w.new).tags }
-    ensures current { (W.view w.new).current ≡ (W.view w.old).current }
-    ensures err { OnErr result (W.view w.new ≡ W.view w.old) }
+    ensures { Makes (names_work (next_work (W.view w.old).core)) (call_sync_host_stops (thread_of (W.view w.old) thread) host (W.view w.old).core) (W.view w.old) result (W.view w.new) }
 {
     let instance = w.instance_of(thread);
     let work = w.queue_sync_call(thread, host)?;

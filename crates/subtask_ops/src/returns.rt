@@ -10,6 +10,7 @@ ghost use Rattle.task_ops.specs.Running.{IsRunning};
 ghost use Rattle.task_ops.specs.Stays.{StaysAfter};
 ghost use Rattle.task_rules.specs.Calls.{answered, call_answered, call_pending, call_resumes, call_returned, call_status, call_stops, call_sync_status, call_sync_stops, status_found};
 ghost use Rattle.task_words.specs.Names.{subtask_in};
+ghost use Rattle.task_words.specs.Becomes.{BecomesBut};
 ghost use Rattle.task_words.specs.StateView.{KeepsBut, call_of, lost_call, on_core, thread_of};
 
 use task_machine::{CallLabel, Label, Status, ThreadLabel, Trap};
@@ -79,9 +80,7 @@ fn take_return<W: Words>(w: &mut W, thread: ThreadId, to: u8, call: CallId)
     requires live { 0 < thread_of (W.view w.old) thread }
     requires call { 0 < call_of (W.view w.old) call }
     requires position { position_of (thread_of (W.view w.old) thread) (W.view w.old).core + 1 < 2 ^ 32 }
-    ensures core { (W.view w.new).core ≡ call_returned (thread_of (W.view w.old) thread) to (call_of (W.view w.old) call) (W.view w.old).core }
-    ensures current { (W.view w.new).current ≡ (W.view w.old).current }
-    ensures tags { KeepsBut (lost_call (call_of (W.view w.old) call)) (W.view w.old).tags (W.view w.new).tags }
+    ensures { BecomesBut (lost_call (call_of (W.view w.old) call)) (call_returned (thread_of (W.view w.old) thread) to (call_of (W.view w.old) call) (W.view w.old).core) (W.view w.old) (W.view w.new) }
 {
     resume(w, thread, call);
     settle_call(w, call);

@@ -4,7 +4,8 @@ ghost use Rattle.task_machine.specs.Moves.{less_switch, unqueued, withdrawn};
 ghost use Rattle.task_machine.specs.Read.{place_of};
 ghost use Rattle.task_machine.specs.Write.{set_switch};
 ghost use Rattle.task_rules.specs.Places.{HasPlace, is_fresh};
-ghost use Rattle.task_words.specs.StateView.{KeepsBut, call_of, lost_thread, on_core, thread_of};
+ghost use Rattle.task_words.specs.Becomes.{BecomesBut};
+ghost use Rattle.task_words.specs.StateView.{call_of, lost_thread, on_core, thread_of};
 
 use task_machine::CallEnd;
 use task_words::{CallId, ThreadId, Words};
@@ -38,9 +39,7 @@ pub(crate) fn withdraw<W: Words>(w: &mut W, call: CallId, first: ThreadId)
     requires first { thread_of (W.view w.old) first ≡ call_of (W.view w.old) call }
     requires place { HasPlace (call_of (W.view w.old) call) (W.view w.old).core }
     requires fresh { is_fresh (place_of (call_of (W.view w.old) call) (W.view w.old).core) ≡ true }
-    ensures core { (W.view w.new).core ≡ withdrawn (call_of (W.view w.old) call) (W.view w.old).core }
-    ensures current { (W.view w.new).current ≡ (W.view w.old).current }
-    ensures tags { KeepsBut (lost_thread (call_of (W.view w.old) call)) (W.view w.old).tags (W.view w.new).tags }
+    ensures { BecomesBut (lost_thread (call_of (W.view w.old) call)) (withdrawn (call_of (W.view w.old) call) (W.view w.old).core) (W.view w.old) (W.view w.new) }
 {
     take_out(w, first);
     w.remove_thread(first);

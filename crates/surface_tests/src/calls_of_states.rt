@@ -144,9 +144,7 @@ fn a_task_begins(rt: HostRuntime) {
 #[test]
 fn a_task_begins_a_group(rt: HostRuntime) {
     let mut store = queued(&rt, rt.alloc());
-    let group = TaskGroupId {
-        number: store.groups.made() + 1,
-    };
+    let group = TaskGroupId { number: 2 };
     let Ok(id) = task_loop::new_guest_task(&mut store, ExportKind::Callback, 0, None) else {
         panic!(rt; "a task")
     };

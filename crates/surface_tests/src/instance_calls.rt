@@ -1,8 +1,6 @@
 //! The calls of an instance, each by a thread of a scenario that was run so far.
 ghost use Rattle.host_works.specs.Kept.{HoldsNone};
 ghost use Rattle.std.specs.Prelude.{◌≡◌, ◌<◌, ◌≤◌, IfSome, IsSome, false, length, true};
-ghost use Rattle.state_calls.specs.Ends.{MayEnd};
-ghost use Rattle.state_calls.specs.Named.{IsLive};
 ghost use Rattle.task_calls.specs.Asks.{CanAsk, HasPaused, IsRunningIn};
 ghost use Rattle.task_calls.specs.Directs.{IsDirect};
 ghost use Rattle.task_loop.specs.Calls.{callee_of};
@@ -15,22 +13,20 @@ ghost use Rattle.task_run.specs.Runnable.{IsRunnable};
 ghost use Rattle.task_store.specs.Groups.{HoldsGroups};
 ghost use Rattle.task_store.specs.Hosts.{HoldsHosts};
 ghost use Rattle.task_turns.specs.Turn.{Sits, given, running_of};
-ghost use Rattle.task_words.specs.StateView.{thread_of, with_core};
+ghost use Rattle.task_words.specs.StateView.{with_core};
 
 use op_dispatch::export_def;
 use record_core::{CallContext, Scope};
-use state_calls::{CurrentThread, is_live};
 use std::alloc::Global;
 use std::process::Abort;
 use task_loop::{
-    Answer, Component, Func, Instance, Outcome, QualifiedThreadId, ResumeThread, Step,
-    SuspensionTarget, TaskError, TaskGroupId, Trace, cleanup_thread, run_concurrent, set_thread,
+    Answer, Component, Func, Instance, Outcome, ResumeThread, Step, SuspensionTarget, TaskError,
+    TaskGroupId, Trace, run_concurrent,
 };
-use task_machine::{Callee, ExportKind, Goal, HostDef, Place, Trap, Turn};
-use task_moves::foot_of;
+use task_machine::{Callee, ExportKind, Goal, HostDef, Trap, Turn};
 use task_run::{Scenario, ScriptMain, read_scenario};
 use task_store::{FromHost, HostWork, ScriptedHost, Store};
-use task_words::{CallWords, HowFarId, InstanceWords, PlaceWords, ThreadWords, View};
+use task_words::{CallWords, HowFarId, ThreadWords, View};
 
 // A thread of b makes a set, calls a host that never answers, makes a thread, cancels the call, waits for its end, drops it,
 // and then calls and cancels a callback of a, which is told so.
@@ -361,55 +357,6 @@ fn finishes_a_group(rt: &impl Abort, alloc: Global) -> bool {
 fn ends_as_cancelled(rt: &impl Abort, alloc: Global) -> bool {
     let mut at = running(rt, alloc, CALLER, 29, A, false);
     A.task_cancel(&at.scenario.component, &mut at.store).is_ok()
-}
-
-// The thread has no entry, and none is behind it or under it.
-fn may_end(store: &Store<(), ScriptedHost>, id: QualifiedThreadId) -> bool
-    requires running { (c : Component) × IsRunningIn c store.now.state }
-    requires live { IsLive store.now.state id }
-    ensures { result ≡ true → MayEnd (thread_of store.now.state id.thread) store.now.state.core }
-{
-    if store.state.has_callers(id.thread) || store.state.under(id.thread).is_some() {
-        return false;
-    }
-    matches!(store.state.place(id.thread), Some(Place::New))
-}
-
-// A thread that wasn't started ends.
-fn ends_a_thread(rt: &impl Abort, alloc: Global) -> bool {
-    let mut at = running(rt, alloc, CALLER, 6, B, false);
-    let Some(thread) = at.store.state.thread_at(1, 2) else {
-        return false;
-    };
-    let task = at.store.state.task_of(thread);
-    let id = QualifiedThreadId { task, thread };
-    if !is_live(&at.store.state, id) || !may_end(&at.store, id) {
-        return false;
-    }
-    cleanup_thread(&mut at.store, id).is_ok()
-}
-
-// The thread that runs is suspended, and nobody is behind its foot.
-fn stops_running(rt: &impl Abort, alloc: Global) -> bool {
-    let mut at = running(rt, alloc, CALLER, 3, B, false);
-    let Some(thread) = at.store.state.current() else {
-        return false;
-    };
-    let task = at.store.state.task_of(thread);
-    if !is_live(&at.store.state, QualifiedThreadId { task, thread }) {
-        return false;
-    }
-    let foot = foot_of(&at.store.state, thread);
-    if at.store.state.has_callers(foot) {
-        return false;
-    }
-    let before = set_thread(&mut at.store, CurrentThread::None);
-    matches!(before, Ok(CurrentThread::Guest(_)))
-}
-
-#[test]
-fn a_thread_ends_or_is_left(rt: HostRuntime) {
-    assert!(rt; ends_a_thread(&rt, rt.alloc()) && stops_running(&rt, rt.alloc()));
 }
 
 // The running thread's task lends so many things.

@@ -1,5 +1,5 @@
 -- Chains that stand in the order of seats stay so where a node goes, or where one comes to its place.
-use Rattle.std.proofs.Common.{inl, inr, ◌≡◌, ℕ, ◌||◌, Bool, true, false, List, [], ◌∷◌, ◌++◌, Option, Some, None, IsSome, refl, sym, ap, subst, ◌∙◌}
+use Rattle.std.proofs.Common.{cond, inl, inr, ◌≡◌, ℕ, ◌||◌, Bool, true, false, List, [], ◌∷◌, ◌++◌, Option, Some, None, IsSome, refl, sym, ap, subst, ◌∙◌}
 use Rattle.std.proofs.lemmas.Bool.{cases_eq}
 use Rattle.std.specs.Cmp.{IsTotalOrder}
 use Rattle.std.proofs.lemmas.Option.{same_Some}
@@ -12,7 +12,7 @@ use Rattle.task_links.proofs.ReadLemmas.{entries-linked_other, entries-unlinked_
 use Rattle.task_links.proofs.Paths.{before-at, split}
 use Rattle.task_links.specs.Links.{Apart, AreLinked, before, in_list, preceding, IsLinks, Spot, entries, head_of, is_made, link_of, linked, list_of, removed, removed_by, unlinked, without}
 use Rattle.task_wait.proofs.OrderLemmas.{IsAscending-without, IsLeast-first}
-use Rattle.task_wait.specs.Sets.{IsAscending, IsLeast}
+use Rattle.task_wait.specs.Sets.{IsAscending, IsLeast, place_of}
 use Rattle.task_wait.specs.Walks.{IsWalk}
 
 module _ (links new : List (Spot Seat)) (n : ℕ) where
@@ -63,6 +63,15 @@ module _ {P : Type 0} (cmp : P → P → Ordering) (order : IsTotalOrder cmp) wh
   pub IsAscending-front : (e : ℕ × P) (l : List (ℕ × P)) → comes_first cmp e.1 (head_of l) ≡ true → IsAscending cmp l → IsAscending cmp (e ∷ l)
   IsAscending-front e [] first up = absurd (cc)
   IsAscending-front e (f ∷ fs) first up = (none_below e.1 f.1 first (f ∷ fs) (IsLeast-first cmp order (f ∷ fs) up), up)
+
+  -- what comes after all of an ascending list doesn't come before its first
+  pub last_not_first : (v : P) (l : List (ℕ × P)) → place_of (λ o. is_lt (cmp o v)) l ≡ None → IsAscending cmp l → comes_first cmp v (head_of l) ≡ false
+  last_not_first v [] last up = refl
+  last_not_first v (f ∷ fs) last up = by (is_lt (cmp v f.1)) refl
+    where
+      by : (t : Bool) → is_lt (cmp v f.1) ≡ t → t ≡ false
+      by false is = refl
+      by true is = absurd (let bad = subst (λ t. cond t (place_of (λ o. is_lt (cmp o v)) fs) (Some f.0) ≡ None) (none_below v f.1 is (f ∷ fs) (IsLeast-first cmp order (f ∷ fs) up)) last in cc)
 
   -- what isn't below a value that isn't below another isn't below that other
   not_below : (k e v : P) → is_lt (cmp k e) ≡ false → is_lt (cmp e v) ≡ false → is_lt (cmp k v) ≡ false

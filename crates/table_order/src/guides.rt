@@ -10,7 +10,7 @@
 ghost use Rattle.std.specs.Prelude.{IfSome, IsSome};
 ghost use Rattle.task_links.specs.Links.{link_of};
 
-use crate::seat_links::Seat;
+use crate::seat_links::{NOWHERE, Seat};
 use std::alloc::Global;
 use std::collections::BTreeMap;
 use task_links::{Links, Node};
@@ -23,6 +23,13 @@ struct Stop {
     node: Node,
     below: Node,
 }
+
+const NO_STOP: Stop = Stop {
+    chain: 0,
+    seat: NOWHERE,
+    node: Node { index: 0 },
+    below: Node { index: 0 },
+};
 
 /// A node's stops, of which the upper ones are there as its name wants.
 #[derive(Clone, Copy)]
@@ -214,7 +221,7 @@ impl Guides {
     /// No stop.
     pub(crate) fn new(alloc: Global) -> Guides {
         Guides {
-            stops: Links::new(alloc),
+            stops: Links::new(alloc, NO_STOP),
             lanes: None,
             towers: BTreeMap::new(alloc),
         }

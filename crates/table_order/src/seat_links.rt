@@ -24,6 +24,13 @@ pub struct Seat {
     pub place: u32,
 }
 
+/// The seat of nothing.
+pub(crate) const NOWHERE: Seat = Seat {
+    task: 0,
+    thread: 0,
+    place: 0,
+};
+
 // Whether a value is less than the first of a live chain.
 fn comes_first<P: Copy + Ord>(links: &Links<P>, chain: usize, value: P) -> bool
     requires { IsSome (list_of links.now chain) }
@@ -152,12 +159,12 @@ fn put_at_end<P: Copy + Ord>(links: &mut Links<P>, chain: usize, node: Node, val
     ensures order { IsAscending P.cmp (entries links.new chain) }
     ensures between { result ≡ false → comes_first P.cmp value (head_of (entries links.old chain)) ≡ false }
 {
-    if comes_first(links, chain, value) {
-        links.push_front(chain, node, value);
-        return true;
-    }
     if comes_last(links, chain, value) {
         links.push_back(chain, node, value);
+        return true;
+    }
+    if comes_first(links, chain, value) {
+        links.push_front(chain, node, value);
         return true;
     }
     false
@@ -203,7 +210,7 @@ impl SeatLinks {
         ensures { result ≡ [] }
     {
         SeatLinks {
-            links: Links::new(alloc),
+            links: Links::new(alloc, NOWHERE),
             guides: Guides::new(alloc),
         }
     }

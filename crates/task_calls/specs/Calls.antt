@@ -4,7 +4,6 @@ use Rattle.futures.specs.declared.task.Poll.{Poll}
 use Rattle.futures.specs.declared.task.Poll.TheVariants.{Ready, Pending}
 use Rattle.state_calls.specs.declared.error.TaskError.{TaskError}
 use Rattle.state_calls.specs.declared.error.TaskError.TheVariants as task_error
-use Rattle.task_machine.specs.Core.{Core}
 use Rattle.task_machine.specs.Maps.{get}
 use Rattle.task_machine.specs.Write.{set_trapped, take_result}
 use Rattle.task_machine.specs.declared.component.Callee.{Callee}
@@ -16,13 +15,8 @@ use Rattle.task_rules.specs.Calls.{next_thread}
 use Rattle.task_rules.specs.MainOps.{main_started}
 use Rattle.task_rules.specs.Progress.{Goes, Progress, Traps}
 use Rattle.task_rules.specs.Task.{ret_bad_row, ret_row}
-use Rattle.task_words.specs.StateView.{Keeps, StateView, on_core, with_core}
-
--- The core is this, the same thread runs, and each id names what it named.
-pub record Becomes (c : Core) (s t : StateView) : Type 0 where
-  pub core : t.core ≡ c
-  pub current : t.current ≡ s.current
-  pub tags : Keeps s.tags t.tags
+use Rattle.task_words.specs.Becomes.{Becomes}
+use Rattle.task_words.specs.StateView.{StateView, on_core, with_core}
 
 -- A start with these words: refused for this cause, or memory is wanting, and then the store is trapped and nothing else is changed; else
 -- the call is made, and its thread has the next number.

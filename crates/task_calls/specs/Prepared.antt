@@ -5,7 +5,7 @@ use Rattle.state_calls.specs.declared.error.TaskError.{TaskError}
 use Rattle.state_calls.specs.declared.error.TaskError.TheVariants as task_error
 use Rattle.state_calls.specs.declared.names.QualifiedThreadId.{QualifiedThreadId}
 use Rattle.subtask_ops.specs.Starts.{call_starts}
-use Rattle.task_calls.specs.Calls.{Becomes}
+use Rattle.task_words.specs.Becomes.{Becomes}
 use Rattle.task_machine.specs.Core.{Core}
 use Rattle.task_machine.specs.Read.{callee_of, kind_of, place_of, task_of, thread_group}
 use Rattle.task_machine.specs.declared.component.Callee.{Callee}

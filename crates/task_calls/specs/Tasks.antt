@@ -1,7 +1,7 @@
 -- What a call whose thread is New comes to.
 use Rattle.std.specs.Prelude.{◌+◌, ◌<◌, ◌≡◌, Bool, Err, None, Ok, Option, Result, Some, [], false, if◌then◌else◌, true, ℕ}
 use Rattle.state_calls.specs.Named.{IsLive}
-use Rattle.task_calls.specs.Calls.{Becomes}
+use Rattle.task_words.specs.Becomes.{Becomes}
 use Rattle.state_calls.specs.declared.error.TaskError.{TaskError}
 use Rattle.state_calls.specs.declared.error.TaskError.TheVariants as task_error
 use Rattle.state_calls.specs.declared.names.QualifiedThreadId.{QualifiedThreadId}

@@ -2,12 +2,12 @@
 use Rattle.std.proofs.Common.{◌≡◌, ℕ, ◌<◌, List, [], ◌∷◌, ◌++◌, length, map, set, get_or, sym, ap, subst, ◌∙◌}
 use Rattle.std.proofs.lemmas.List.{length-map, map-set, map_push, get_or-map, set-get_or}
 use Rattle.task_links.specs.declared.links.Cell.{Cell}
-use Rattle.task_links.specs.Rings.{next_names, previous_names, roles_in}
+use Rattle.task_links.specs.Rings.{cell_role, next_names, previous_names, roles_in}
 
 module _ {P : Type 0} (cs : List (Cell P)) where
   -- a name with a role has a cell
   pub in_cells : (n : ℕ) → n < length (roles_in cs) → n < length cs
-  in_cells n inside = subst (λ m. n < m) (length-map cs (λ (c : Cell P). c.role)) inside
+  in_cells n inside = subst (λ m. n < m) (length-map cs cell_role) inside
 
   module _ (n : ℕ) (read : Cell P) (inside : n < length cs) (is : read ≡ get_or cs n read) where
     pub part_read : {X : Type 0} (f : Cell P → X) (d : X) → f read ≡ get_or (map f cs) n d
@@ -25,5 +25,5 @@ module _ {P : Type 0} (cs : List (Cell P)) where
     pub previous_pushed : previous_names (cs ++ cell ∷ []) ≡ previous_names cs ++ cell.previous ∷ []
     previous_pushed = map_push (λ (c : Cell P). c.previous) cs cell
 
-    pub roles_pushed : roles_in (cs ++ cell ∷ []) ≡ roles_in cs ++ cell.role ∷ []
-    roles_pushed = map_push (λ (c : Cell P). c.role) cs cell
+    pub roles_pushed : roles_in (cs ++ cell ∷ []) ≡ roles_in cs ++ cell_role cell ∷ []
+    roles_pushed = map_push cell_role cs cell

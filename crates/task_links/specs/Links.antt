@@ -38,7 +38,9 @@ module _ {P : Type 0} where
 
   abbrev pub links_code : Coded P → Coded (List (Spot P))
   links_code code =
-      coded_list (code_by (Parts P) (coded⊎ (coded_list (coded× coded_ℕ code)) (coded⊎ coded_bool (coded× coded_ℕ code))) to_parts from_parts from_parts-to_parts)
+      coded_list
+      (code_by (Parts P) (coded⊎ (coded_list (coded× coded_ℕ code)) (coded⊎ coded_bool (coded× coded_ℕ code))) to_parts from_parts
+      from_parts-to_parts)
 
   -- what a number names
   abbrev pub spot_at : List (Spot P) → ℕ → Spot P

@@ -7,6 +7,8 @@ use Rattle.task_links.specs.Links.{Spot, Unmade, ChainOf, FreeNode, LinkedNode}
 use Rattle.task_links.specs.declared.links.Cell.{Cell}
 use Rattle.task_links.specs.declared.links.Role.{Role}
 use Rattle.task_links.specs.declared.links.Role.TheVariants.{Unused, Chain, Free, Linked}
+use Rattle.task_links.specs.declared.links.Use.{Use}
+use Rattle.task_links.specs.declared.links.Use.TheVariants as use_of
 
 abbrev pub at : List ℕ → ℕ → ℕ
 at xs n = slice_index_or xs n 0
@@ -19,8 +21,18 @@ module _ {P : Type 0} where
   abbrev pub previous_names : List (Cell P) → List ℕ
   previous_names cs = map (λ c. c.previous) cs
 
+  abbrev pub role_as : Use → ℕ → P → Role P
+  role_as use_of.Nothing chain value = Unused
+  role_as use_of.Chain chain value = Chain
+  role_as use_of.FreeNode chain value = Free
+  role_as use_of.LinkedNode chain value = Linked chain value
+
+  -- only a linked node's chain and value say something
+  abbrev pub cell_role : Cell P → Role P
+  cell_role c = role_as c.used c.chain c.value
+
   abbrev pub roles_in : List (Cell P) → List (Role P)
-  roles_in cs = map (λ c. c.role) cs
+  roles_in cs = map cell_role cs
 
   abbrev pub role_at : List (Role P) → ℕ → Role P
   role_at rs n = slice_index_or rs n Unused

@@ -1,7 +1,8 @@
 ghost use Rattle.std.specs.Prelude.{◌≡◌, ◌⊎◌, ◌<◌, ◌≤◌, ◌++◌, ◌∷◌, [], ◌↔◌, true, Some, slice_set, slice_index_or, length, IsSome, is_some, IfOk, OnOk, OnErr, vec_capacity};
 ghost use Rattle.std.specs.Option.{option_map};
 ghost use Rattle.task_links.specs.Links.{spot_at, Unmade, ChainOf, FreeNode, Renames, AreLinked, IsLinks, entries, is_free, is_made, link_of, list_of, linked, removed, inserted, head_of, following, last_of, preceding};
-ghost use Rattle.task_links.specs.Rings.{HasRoom, IsSound, entry_at, next_names, previous_names, shown, role_at, role_is_chain, role_is_free, role_is_node, roles_in};
+ghost use Rattle.task_links.specs.declared.links.Role.TheVariants as Role;
+ghost use Rattle.task_links.specs.Rings.{HasRoom, IsSound, cell_role, entry_at, next_names, previous_names, shown, role_at, role_is_chain, role_is_free, role_is_node, roles_in};
 
 use std::alloc::{AllocError, Global};
 use std::marker::Model;
@@ -27,14 +28,26 @@ pub(crate) enum Role<P> {
     Linked(usize, P),
 }
 
-/// A name's neighbours in its ring, and what it stands for.
+/// What a name is used for.
+#[derive(Clone, Copy)]
+pub(crate) enum Use {
+    Nothing,
+    Chain,
+    FreeNode,
+    LinkedNode,
+}
+
+/// A name's neighbours in its ring, and what it stands for. Its chain and value say something of a linked node alone, so
+/// that they are written where a node is linked, and nowhere else.
 #[derive(Clone, Copy)]
 pub(crate) struct Cell<P> {
     /// The name after it, the chain's own after the last.
     pub(crate) next: usize,
     /// The name before it, the chain's own before the first.
     pub(crate) previous: usize,
-    pub(crate) role: Role<P>,
+    pub(crate) used: Use,
+    pub(crate) chain: usize,
+    pub(crate) value: P,
 }
 
 /// Lists over nodes that were made before: a finite map from chains to lists of nodes with values, and the nodes that are in none.
@@ -45,6 +58,8 @@ pub struct Links<P> {
     cells: Vec<Cell<P>>,
     // The unused names. It has room for each name.
     unused: Vec<usize>,
+    // What stands in a new cell, in the place of a value.
+    blank: P,
 }
 
 impl<P> Model for Links<P> {
@@ -80,13 +95,26 @@ fn previous_of<P: Copy>(cells: &Vec<Cell<P>>, index: usize) -> usize
     cells[index].previous
 }
 
+// What a cell says of its name.
+#[inline(always)]
+fn cell_role<P: Copy>(cell: &Cell<P>) -> Role<P>
+    ensures { result ≡ cell_role cell.now }
+{
+    match cell.used {
+        Use::Nothing => Role::Unused,
+        Use::Chain => Role::Chain,
+        Use::FreeNode => Role::Free,
+        Use::LinkedNode => Role::Linked(cell.chain, cell.value),
+    }
+}
+
 // What a name in use stands for.
 #[inline(always)]
 fn role_in<P: Copy>(cells: &Vec<Cell<P>>, index: usize) -> Role<P>
     requires { index < length cells.now.items }
     ensures { result ≡ role_at (roles_in cells.now.items) index }
 {
-    cells[index].role
+    cell_role(&cells[index])
 }
 
 // What a name stands for.
@@ -94,7 +122,7 @@ fn role_of<P: Copy>(cells: &Vec<Cell<P>>, index: usize) -> Role<P>
     ensures { result ≡ role_at (roles_in cells.now.items) index }
 {
     match cells.get(index) {
-        Some(cell) => cell.role,
+        Some(cell) => cell_role(cell),
         None => Role::Unused,
     }
 }
@@ -123,15 +151,40 @@ fn set_previous<P: Copy>(cells: &mut Vec<Cell<P>>, index: usize, previous: usize
     cells[index].previous = previous;
 }
 
-// Writes what a name stands for.
+// A name stands for a free node.
 #[inline(always)]
-fn set_role<P: Copy>(cells: &mut Vec<Cell<P>>, index: usize, role: Role<P>)
+fn set_free<P: Copy>(cells: &mut Vec<Cell<P>>, index: usize)
     requires { index < length cells.old.items }
     ensures next { next_names cells.new.items ≡ next_names cells.old.items }
     ensures previous { previous_names cells.new.items ≡ previous_names cells.old.items }
-    ensures roles { roles_in cells.new.items ≡ slice_set (roles_in cells.old.items) index role }
+    ensures roles { roles_in cells.new.items ≡ slice_set (roles_in cells.old.items) index Role.Free }
 {
-    cells[index].role = role;
+    cells[index].used = Use::FreeNode;
+}
+
+// A name stands for nothing.
+#[inline(always)]
+fn set_unused<P: Copy>(cells: &mut Vec<Cell<P>>, index: usize)
+    requires { index < length cells.old.items }
+    ensures next { next_names cells.new.items ≡ next_names cells.old.items }
+    ensures previous { previous_names cells.new.items ≡ previous_names cells.old.items }
+    ensures roles { roles_in cells.new.items ≡ slice_set (roles_in cells.old.items) index Role.Unused }
+{
+    cells[index].used = Use::Nothing;
+}
+
+// A name stands for a chain, whose ring is itself.
+#[inline(always)]
+fn set_chain<P: Copy>(cells: &mut Vec<Cell<P>>, index: usize)
+    requires { index < length cells.old.items }
+    ensures next { next_names cells.new.items ≡ slice_set (next_names cells.old.items) index index }
+    ensures previous { previous_names cells.new.items ≡ slice_set (previous_names cells.old.items) index index }
+    ensures roles { roles_in cells.new.items ≡ slice_set (roles_in cells.old.items) index Role.Chain }
+{
+    let cell = &mut cells[index];
+    cell.next = index;
+    cell.previous = index;
+    cell.used = Use::Chain;
 }
 
 // Writes all of a name.
@@ -141,25 +194,34 @@ fn set_cell<P: Copy>(cells: &mut Vec<Cell<P>>, index: usize, cell: Cell<P>)
     ensures long { length cells.new.items ≡ length cells.old.items }
     ensures next { next_names cells.new.items ≡ slice_set (next_names cells.old.items) index cell.next }
     ensures previous { previous_names cells.new.items ≡ slice_set (previous_names cells.old.items) index cell.previous }
-    ensures roles { roles_in cells.new.items ≡ slice_set (roles_in cells.old.items) index cell.role }
+    ensures roles { roles_in cells.new.items ≡ slice_set (roles_in cells.old.items) index (cell_role cell) }
 {
     cells[index] = cell;
 }
 
 // Puts a free node between two neighbours of a ring.
-fn link<P: Copy>(cells: &mut Vec<Cell<P>>, before: usize, after: usize, node: usize, role: Role<P>)
+fn link<P: Copy>(
+    cells: &mut Vec<Cell<P>>,
+    before: usize,
+    after: usize,
+    node: usize,
+    chain: usize,
+    value: P,
+)
     requires before { before < length cells.old.items }
     requires after { after < length cells.old.items }
     requires node { node < length cells.old.items }
     ensures next { next_names cells.new.items ≡ slice_set (slice_set (next_names cells.old.items) before node) node after }
     ensures previous { previous_names cells.new.items ≡ slice_set (slice_set (previous_names cells.old.items) node before) after node }
-    ensures roles { roles_in cells.new.items ≡ slice_set (roles_in cells.old.items) node role }
+    ensures roles { roles_in cells.new.items ≡ slice_set (roles_in cells.old.items) node (Role.Linked chain value) }
 {
     set_next(cells, before, node);
     let cell = Cell {
         next: after,
         previous: before,
-        role,
+        used: Use::LinkedNode,
+        chain,
+        value,
     };
     set_cell(cells, node, cell);
     set_previous(cells, after, node);
@@ -220,7 +282,7 @@ fn reserve<P>(cells: &mut Vec<Cell<P>>, unused: &mut Vec<usize>) -> Result<(), A
 
 // Gives an unused name, else a new one, to a chain.
 #[inline(always)]
-fn name_chain<P: Copy>(cells: &mut Vec<Cell<P>>, unused: &mut Vec<usize>) -> usize
+fn name_chain<P: Copy>(cells: &mut Vec<Cell<P>>, unused: &mut Vec<usize>, blank: P) -> usize
     requires sound { IsSound (next_names cells.old.items) (previous_names cells.old.items) (roles_in cells.old.items) unused.old.items (vec_capacity unused.old) }
     requires room { HasRoom cells.old unused.old }
     ensures sound { IsSound (next_names cells.new.items) (previous_names cells.new.items) (roles_in cells.new.items) unused.new.items (vec_capacity unused.new) }
@@ -228,12 +290,7 @@ fn name_chain<P: Copy>(cells: &mut Vec<Cell<P>>, unused: &mut Vec<usize>) -> usi
 {
     match unused.pop() {
         Some(index) => {
-            let cell = Cell {
-                next: index,
-                previous: index,
-                role: Role::Chain,
-            };
-            set_cell(cells, index, cell);
+            set_chain(cells, index);
             index
         }
         None => {
@@ -241,7 +298,9 @@ fn name_chain<P: Copy>(cells: &mut Vec<Cell<P>>, unused: &mut Vec<usize>) -> usi
             cells.push_reserved(Cell {
                 next: index,
                 previous: index,
-                role: Role::Chain,
+                used: Use::Chain,
+                chain: 0,
+                value: blank,
             });
             index
         }
@@ -250,7 +309,7 @@ fn name_chain<P: Copy>(cells: &mut Vec<Cell<P>>, unused: &mut Vec<usize>) -> usi
 
 // Gives an unused name, else a new one, to a free node. What comes after and before a free node says nothing.
 #[inline(always)]
-fn name_node<P: Copy>(cells: &mut Vec<Cell<P>>, unused: &mut Vec<usize>) -> usize
+fn name_node<P: Copy>(cells: &mut Vec<Cell<P>>, unused: &mut Vec<usize>, blank: P) -> usize
     requires sound { IsSound (next_names cells.old.items) (previous_names cells.old.items) (roles_in cells.old.items) unused.old.items (vec_capacity unused.old) }
     requires room { HasRoom cells.old unused.old }
     ensures sound { IsSound (next_names cells.new.items) (previous_names cells.new.items) (roles_in cells.new.items) unused.new.items (vec_capacity unused.new) }
@@ -258,7 +317,7 @@ fn name_node<P: Copy>(cells: &mut Vec<Cell<P>>, unused: &mut Vec<usize>) -> usiz
 {
     match unused.pop() {
         Some(index) => {
-            set_role(cells, index, Role::Free);
+            set_free(cells, index);
             index
         }
         None => {
@@ -266,7 +325,9 @@ fn name_node<P: Copy>(cells: &mut Vec<Cell<P>>, unused: &mut Vec<usize>) -> usiz
             cells.push_reserved(Cell {
                 next: index,
                 previous: index,
-                role: Role::Free,
+                used: Use::FreeNode,
+                chain: 0,
+                value: blank,
             });
             index
         }
@@ -274,13 +335,14 @@ fn name_node<P: Copy>(cells: &mut Vec<Cell<P>>, unused: &mut Vec<usize>) -> usiz
 }
 
 impl<P: Copy> Links<P> {
-    /// No chain and no node.
-    pub fn new(alloc: Global) -> Links<P>
+    /// No chain and no node. The value stands where no node has one; nothing is said of it, and nothing gives it.
+    pub fn new(alloc: Global, blank: P) -> Links<P>
         ensures { result ≡ [] }
     {
         Links {
             cells: Vec::new(alloc),
             unused: Vec::new(alloc),
+            blank,
         }
     }
 
@@ -289,7 +351,7 @@ impl<P: Copy> Links<P> {
         requires { (spot_at self.old index ≡ ChainOf []) ⊎ (spot_at self.old index ≡ FreeNode) }
         ensures { Renames self.old self.new index (spot_at self.old index) Unmade }
     {
-        set_role(&mut self.cells, index, Role::Unused);
+        set_unused(&mut self.cells, index);
         self.unused.push_reserved(index);
     }
 
@@ -303,7 +365,7 @@ impl<P: Copy> Links<P> {
         if room.is_err() {
             return Err(NoMemory);
         }
-        Ok(name_chain(&mut self.cells, &mut self.unused))
+        Ok(name_chain(&mut self.cells, &mut self.unused, self.blank))
     }
 
     /// Drops a live chain that is empty.
@@ -324,7 +386,7 @@ impl<P: Copy> Links<P> {
         if room.is_err() {
             return Err(NoMemory);
         }
-        let index = name_node(&mut self.cells, &mut self.unused);
+        let index = name_node(&mut self.cells, &mut self.unused, self.blank);
         Ok(Node { index })
     }
 
@@ -343,13 +405,7 @@ impl<P: Copy> Links<P> {
         ensures { self.new ≡ linked chain node.index value (entries self.old chain ++ (node.index, value) ∷ []) self.old }
     {
         let last = previous_of(&self.cells, chain);
-        link(
-            &mut self.cells,
-            last,
-            chain,
-            node.index,
-            Role::Linked(chain, value),
-        );
+        link(&mut self.cells, last, chain, node.index, chain, value);
     }
 
     /// Puts a free node at the front of a live chain.
@@ -359,13 +415,7 @@ impl<P: Copy> Links<P> {
         ensures { self.new ≡ linked chain node.index value ((node.index, value) ∷ entries self.old chain) self.old }
     {
         let first = next_of(&self.cells, chain);
-        link(
-            &mut self.cells,
-            chain,
-            first,
-            node.index,
-            Role::Linked(chain, value),
-        );
+        link(&mut self.cells, chain, first, node.index, chain, value);
     }
 
     /// Takes a node out of its chain, and gives the chain and the node's value; the node is then free. `None` where it is in no chain.
@@ -381,7 +431,7 @@ impl<P: Copy> Links<P> {
                 let after = next_of(&self.cells, node.index);
                 set_next(&mut self.cells, before, after);
                 set_previous(&mut self.cells, after, before);
-                set_role(&mut self.cells, node.index, Role::Free);
+                set_free(&mut self.cells, node.index);
                 Some((chain, value))
             }
             _ => None,
@@ -397,13 +447,7 @@ impl<P: Copy> Links<P> {
         match role_in(&self.cells, at.index) {
             Role::Linked(chain, _) => {
                 let before = previous_of(&self.cells, at.index);
-                link(
-                    &mut self.cells,
-                    before,
-                    at.index,
-                    node.index,
-                    Role::Linked(chain, value),
-                );
+                link(&mut self.cells, before, at.index, node.index, chain, value);
             }
             _ => unreachable!(),
         }

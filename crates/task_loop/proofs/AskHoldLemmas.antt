@@ -1,5 +1,10 @@
 -- What a store holds of host works stays over an op that an instance has its running thread do.
+use Rattle.cell_laws.specs.Cells.{Runs, RunsWorks}
+use Rattle.host_works.specs.Kept.{HeldWork}
 use Rattle.std.proofs.lemmas.Bool.Decides.{nat_tests}
+use Rattle.task_laws.specs.Order.{HostsAwaited, WorksKnown, WorksTold}
+use Rattle.task_machine.specs.Read.{is_stage_ended}
+use Rattle.task_machine.specs.declared.records.Stage.TheVariants as stage
 use Rattle.std.proofs.Common.{ap, arith, inl, inr, refl, subst, sym, ⊎_elim, ◌∙◌}
 use Rattle.std.specs.Option.{option_map_or}
 use Rattle.std.specs.Prelude.{Bool, Err, IfSome, List, None, Ok, Option, Result, Some, [], false, if◌then◌else◌, is_some, not, option_and_then, option_map, slice_get, suc, true, unwrap_or, zero, ℕ, ◌<◌, ◌==◌, ◌≡◌, ◌≤◌, ◌∷◌, ◌⊎◌}
@@ -33,7 +38,6 @@ use Rattle.task_machine.specs.declared.component.Component.{Component}
 use Rattle.task_machine.specs.declared.component.ExportDef.{ExportDef}
 use Rattle.task_machine.specs.declared.component.ExportKind.{ExportKind}
 use Rattle.task_machine.specs.declared.component.ExportKind.TheVariants as kind
-use Rattle.task_machine.specs.declared.component.HostDef.{HostDef}
 use Rattle.task_machine.specs.declared.component.InstanceDef.{InstanceDef}
 use Rattle.task_machine.specs.declared.component.Slot.{Slot}
 use Rattle.task_machine.specs.declared.component.Slot.TheVariants as slot
@@ -88,7 +92,7 @@ use Rattle.task_rules.specs.Task.{ret_done, ret_row}
 use Rattle.task_rules.specs.Threads.{has_yielded, resume_later_found, resume_later_row, resume_why, resumed_later, thread_made, thread_new_label, thread_new_row}
 use Rattle.task_rules.specs.Turns.{goes_to}
 use Rattle.task_rules.specs.Words.{Promote, Put}
-use Rattle.task_store.proofs.HostLemmas.{holds_quiet, holds_same}
+use Rattle.task_store.proofs.HostLemmas.{holds_quiet, holds_same, running_stays, runs_works}
 use Rattle.task_store.specs.Hosts.{HoldsWorks, WorksNumbered}
 use Rattle.task_turns.proofs.KeptLemmas.{setting}
 use Rattle.task_turns.proofs.RunLemmas.{settled}
@@ -97,7 +101,7 @@ use Rattle.task_words.specs.StateView.{StateView, with_core, with_current}
 
 -- ---- A component in which each script up to some names has this op at each place up to one
 
-many : {X : Type 0} → ℕ → X → List X
+pub many : {X : Type 0} → ℕ → X → List X
 many zero x = x ∷ []
 many (suc n) x = x ∷ many n x
 
@@ -201,7 +205,7 @@ made_works : (n r x v : ℕ) (s : Core) → (thread_made n r x v s).works ≡ s.
 unfolding thread_made assigned advanced moved_to set_position on_thread set_register set_how_far with_thread_handle add_thread set_thread_handle give_thread_handle
 made_works n r x v s = refl
 
-module _ (left : ℕ → Option HostDef) (s t : StateView) (n : ℕ) (numbered : WorksNumbered s.core) (h : HoldsWorks left s.core) where
+module _ (left : ℕ → Option HeldWork) (s t : StateView) (n : ℕ) (works : RunsWorks n s.core) (h : HoldsWorks left s.core) where
   abbrev before : State
   before = state_at s.core Unscripted (turn.Run n)
 
@@ -213,7 +217,9 @@ module _ (left : ℕ → Option HostDef) (s t : StateView) (n : ℕ) (numbered :
       cc
 
   stepped : (d : Component) (r : Came) (l : Label) (p : Turn) → queues_work (how_far_of n s.core) (op_of d n s.core) ≡ false → Step (setting d) before l (state_at t.core Unscripted p) → HoldsWorks left t.core
-  stepped d r l p quiet step = holds_quiet (setting d) before l (state_at t.core Unscripted p) step (λ k e. cc) numbered left (none_made d quiet) h
+  stepped d r l p quiet step =
+      let after = state_at t.core Unscripted p in
+      holds_quiet (setting d) before l after step (Runs n) works.made (running_stays (setting d) before l after n works step refl left h) left h (none_made d quiet)
 
   -- the op at the place of a component
   pub at_place : (d : Component) (r : Came) → queues_work (how_far_of n s.core) (op_of d n s.core) ≡ false → Meets (did d n s.core (choice_of (label_of n r))) s.core r t.core → StaysAfter r s t → HoldsWorks left t.core
@@ -266,7 +272,7 @@ module _ (left : ℕ → Option HostDef) (s t : StateView) (n : ℕ) (numbered :
 
 -- ---- By what was answered
 
-module _ (left : ℕ → Option HostDef) (s t : StateView) (h : HoldsWorks left s.core) where
+module _ (left : ℕ → Option HeldWork) (s t : StateView) (h : HoldsWorks left s.core) where
   still : t ≡ s → HoldsWorks left t.core
   still same = subst (λ (v : StateView). HoldsWorks left v.core) (sym same) h
 
@@ -279,8 +285,8 @@ module _ (left : ℕ → Option HostDef) (s t : StateView) (h : HoldsWorks left 
   by_answers row f (Err (task_error.HostFailed i)) n runs by_row answers = by_row answers.0 (subst (λ (o : Option ℕ). IfSome o (λ k. Does (row k) k s answers.0 t)) runs answers.1.0)
 
   module _ (c : Component) (running : IsRunningIn c s) where
-    numbered : WorksNumbered s.core
-    numbered = (running.order.order Unscripted).works.made
+    works : RunsWorks running.number s.core
+    works = runs_works c running.number s.core (running.order.order Unscripted)
 
     thread : (r : Thread) × (get s.core.threads running.number ≡ Some r)
     thread = runs_there running.number s.core ((running.order.order Unscripted).in_place.runs running.number refl)
@@ -288,7 +294,7 @@ module _ (left : ℕ → Option HostDef) (s t : StateView) (h : HoldsWorks left 
     -- an op that names neither an export nor a host
     pub asked_holds : {A : Type 0} (o : Op) (f : Label → A) (a : Result (Answer A) TaskError) → is_apart o ≡ true → Answers (row_of c o s.core) f s a t → HoldsWorks left t.core
     asked_holds o f a apart answers =
-        by_answers (row_of c o s.core) f a running.number running.runs (λ r d. did_apart left s t running.number numbered h thread.0 thread.1 c o r apart d.meets d.stays) answers
+        by_answers (row_of c o s.core) f a running.number running.runs (λ r d. did_apart left s t running.number works h thread.0 thread.1 c o r apart d.meets d.stays) answers
 
     -- the op at the place, that has paused
     pub gone_on_holds : {A : Type 0} (f : Label → A) (a : Result (Answer A) TaskError) (i : ℕ) → HasPaused i s → Answers (row_at c s.core) f s a t → HoldsWorks left t.core
@@ -297,7 +303,7 @@ module _ (left : ℕ → Option HostDef) (s t : StateView) (h : HoldsWorks left 
         let far = (subst (λ (o : Option ℕ). IfSome o (λ k. (instance_of k s.core ≡ i) × (how_far_of k s.core ≡ how_far.Fresh → ⊥))) running.runs paused).1 in
         let fits = (running.order.order Unscripted).fits n thread.0 thread.1 in
         let can : can_come (op_of c n s.core) (how_far_of n s.core) ≡ true = let e = op_there c s.core n thread.0 thread.1 in let op = fits.op in let at = thread.1 in grind (arith) in
-        by_answers (row_at c s.core) f a n running.runs (λ r d. at_place left s t n numbered h c r (paused_none (op_of c n s.core) (how_far_of n s.core) can far) d.meets d.stays) answers
+        by_answers (row_at c s.core) f a n running.runs (λ r d. at_place left s t n works h c r (paused_none (op_of c n s.core) (how_far_of n s.core) can far) d.meets d.stays) answers
 
 pub apart_pressure : (up : Bool) → is_apart (pressure_op up) ≡ true
 apart_pressure true = refl
@@ -317,7 +323,7 @@ apart_suspension false (target.Promote x) = refl
 
 -- ---- The calls that stand for no one op
 
-module _ (left : ℕ → Option HostDef) (s t : StateView) (h : HoldsWorks left s.core) where
+module _ (left : ℕ → Option HeldWork) (s t : StateView) (h : HoldsWorks left s.core) where
   by_works : (u : Core) → t.core ≡ u → u.works ≡ s.core.works → HoldsWorks left t.core
   by_works u is works = holds_same s.core t.core left (ap (λ (c : Core). c.works) is ∙ works) h
 
@@ -436,10 +442,10 @@ module _ (left : ℕ → Option HostDef) (s t : StateView) (h : HoldsWorks left 
   shown n v None = refl
   shown n v (Some k) = refl
 
-  module _ (c : Component) (n v : ℕ) (there : Thread) (at : get s.core.threads n ≡ Some there) (numbered : WorksNumbered s.core) where
+  module _ (c : Component) (n v : ℕ) (there : Thread) (at : get s.core.threads n ≡ Some there) (works : RunsWorks n s.core) where
     pub returned_holds : (b : Bool) (r : Result (Unit {0}) TaskError) → Returns n v b s r t → HoldsWorks left t.core
     returned_holds true r q = ⊎_elim by_same
-        (λ met. did_apart left s t n numbered h there at c (op.Task (task_op.Ret (operand.Number v))) (came.Goes (ret_label n v q.0) n) refl
+        (λ met. did_apart left s t n works h there at c (op.Task (task_op.Ret (operand.Number v))) (came.Goes (ret_label n v q.0) n) refl
         (subst (λ (w : Option ℕ). Meets (ret_row n v w s.core) s.core (came.Goes (ret_label n v q.0) n) t.core) (sym (shown n v q.0)) met) tt)
         (went (has_ended (task_of n s.core) s.core) (not (is_async_lifted (kind_of (task_of n s.core) s.core))) (may_tell (task_of n s.core) q.0 s.core)
         trap.TaskCancelOrReturnTwice trap.TaskReturnInvalid (ret_label n v q.0) (ret_done n v q.0 s.core) n r q.1)
@@ -483,10 +489,43 @@ module _ (n v : ℕ) (s : Core) where
   written_numbered : WorksNumbered s → WorksNumbered written
   written_numbered numbered i there = subst (λ (m : Made). i ≤ m.works) (sym written_made) (numbered i (subst (λ (m : Records Work). is_some (get m i) ≡ true) written_works there))
 
+  written_far : (m : ℕ) → how_far_of m written ≡ how_far_of m s
+  unfolding set_register on_thread
+  written_far m = grind (arith, nat_tests, get-change)
+
+  written_known : WorksKnown s → WorksKnown written
+  unfolding set_register on_thread
+  written_known q = record {
+    there = λ i h j e. q.there i h j e;
+    once = λ i l h g j e f. q.once i l h g j e f;
+    async = λ h j e. q.async h j e;
+    called = λ m j far. q.called m j (sym (written_far m) ∙ far);
+  }
+
+  written_told : WorksTold s → WorksTold written
+  unfolding set_register on_thread
+  written_told q i w at = let t = q i w at in record { late = t.late; told = t.told; finishing = t.finishing }
+
+  written_awaited : HostsAwaited s → HostsAwaited written
+  written_awaited q m i far =
+      let old = q m i (sym (written_far m) ∙ far) in (
+        subst (λ (c : Made). i ≤ c.works) (sym written_made) old.0,
+        ⊎_elim (λ at. inl ((set_register_untouched n 0 v s).places m ∙ at)) (λ over. inr (subst (λ (r : Records Work). is_stage_ended (option_map_or (λ (w : Work). w.stage) (get r i) stage.Ended) ≡ true) (sym written_works) over)) old.1,
+      )
+
+  written_runs : RunsWorks n s → RunsWorks n written
+  written_runs q = record {
+    runs = (set_register_untouched n 0 v s).places n ∙ q.runs;
+    made = written_numbered q.made;
+    known = written_known q.known;
+    told = written_told q.told;
+    awaited = written_awaited q.awaited;
+  }
+
   pub exit_is : (w : Option ℕ) → IsDirect n s → exit_row n w written ≡ direct_exit_row n written
   exit_is w direct = ap (exit_row_for n w written) (written_explicit ∙ direct.implicit) ∙ ap (implicit_exit_row n w written) (ap is_direct written_goal ∙ direct.direct)
 
-module _ (left : ℕ → Option HostDef) (s t : StateView) (h : HoldsWorks left s.core) (c : Component) (running : IsRunningIn c s) (v : ℕ) (direct : IsDirect running.number s.core) where
+module _ (left : ℕ → Option HeldWork) (s t : StateView) (h : HoldsWorks left s.core) (c : Component) (running : IsRunningIn c s) (v : ℕ) (direct : IsDirect running.number s.core) where
   moved : StateView
   moved = with_core (written running.number v s.core) s
 
@@ -496,7 +535,7 @@ module _ (left : ℕ → Option HostDef) (s t : StateView) (h : HoldsWorks left 
       let n = running.number in
       let u = written n v s.core in
       let there = runs_there n u ((set_register_untouched n 0 v s.core).places n ∙ (running.order.order Unscripted).in_place.runs n refl) in
-      did_apart left moved t n (written_numbered n v s.core (running.order.order Unscripted).works.made) (holds_same s.core u left (written_works n v s.core) h) there.0 there.1 c (op.Task task_op.Exit) r refl
+      did_apart left moved t n (written_runs n v s.core (runs_works c n s.core (running.order.order Unscripted))) (holds_same s.core u left (written_works n v s.core) h) there.0 there.1 c (op.Task task_op.Exit) r refl
       (subst (λ (p : Progress). Meets p u r t.core) (sym (exit_is n v s.core (choice_of (label_of n r)).woken direct)) met) stays
 
   pub exited_holds : (r : Came) → Meets (exits_row v s.core running.number (choice_of (label_of running.number r))) s.core r t.core → StaysAfter r s t → HoldsWorks left t.core

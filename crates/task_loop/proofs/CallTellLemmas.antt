@@ -6,13 +6,16 @@ use Rattle.group_notices.specs.declared.tells.Asked.{Asked}
 use Rattle.std.proofs.Common.{ap, ap₂, append-nil, arith, refl, subst, sym, ◌∙◌}
 use Rattle.std.proofs.lemmas.Bool.Decides.{nat_tests}
 use Rattle.std.specs.Option.{option_map_or}
-use Rattle.std.specs.Prelude.{Bool, List, None, Option, Some, [], false, if◌then◌else◌, is_some, length, true, ℕ, ◌++◌, ◌==◌, ◌≡◌, ◌≤◌, ◌⊎◌}
+use Rattle.std.specs.Prelude.{Bool, Err, IsErr, List, None, Ok, OnOk, Option, Result, Some, [], false, if◌then◌else◌, is_some, length, true, ℕ, ◌++◌, ◌==◌, ◌≡◌, ◌≤◌, ◌⊎◌}
 use Rattle.task_group.proofs.GroupLemmas.{told-none}
 use Rattle.task_group.specs.Groups.{Groups}
-use Rattle.task_group.specs.Listeners.{Listeners, Told}
+use Rattle.task_group.specs.Listeners.{AnsweredErr, Listeners, Told}
+use Rattle.task_group.specs.declared.notice.GroupError.{GroupError}
 use Rattle.task_loop.proofs.LessenLemmas.{Lessens}
+use Rattle.task_loop.proofs.StartLemmas.{none_errors}
 use Rattle.task_loop.specs.Told.{asked_now, call_notices, current_group}
 use Rattle.task_machine.specs.declared.records.Notice.{Notice}
+use Rattle.task_machine.specs.declared.records.NoticeKind.TheVariants as notice
 use Rattle.task_rules.specs.Notices.{finish_notices, group_notice, of_live, same_group, switch_notices}
 use Rattle.task_store.specs.Groups.{HoldsGroups}
 use Rattle.task_words.specs.StateView.{StateView}
@@ -47,10 +50,19 @@ same_number n = grind (arith, nat_tests)
 
 no_switch : (o : Option ℕ) → switch_notices o o ≡ []
 no_switch None = refl
-no_switch (Some g) = ap (λ (b : Bool). if b then [] else group_notice _ (Some g) ++ group_notice _ (Some g)) (same_number g)
+no_switch (Some g) = ap (λ (b : Bool). if b then [] else group_notice notice.Exit (Some g) ++ group_notice notice.Enter (Some g)) (same_number g)
 
 -- where nothing is changed, nothing is told
 pub still_told : (s : StateView) (l : Listeners) → Told (call_notices s s) l l
 still_told s l =
     subst (λ (ns : List Notice). Told ns l l)
     (sym (ap₂ (λ (ns ms : List Notice). of_live s.core.groups ns ++ ms) (no_switch (current_group s)) (finish_none s.core.groups))) (told-none l)
+
+-- without a hook what is answered is no error of it
+pub unhooked_ok : (P : Type 0) (r : Result (Unit {0}) GroupError) (a b : Listeners) → is_some a.hook ≡ false → is_some b.hook ≡ is_some a.hook → (IsErr r → AnsweredErr a b) → OnOk r P → P
+unhooked_ok P (Ok x) a b none same failed h = h
+unhooked_ok P (Err e) a b none same failed h =
+    let before = none_errors a.hook none in
+    let after = none_errors b.hook (same ∙ none) in
+    let lt : AnsweredErr a b = failed refl in
+    absurd (omega (arith, before, after, lt))

@@ -3,16 +3,18 @@ use Rattle.group_notices.proofs.MirrorLemmas.{mirror_more, mirror_none}
 use Rattle.group_notices.proofs.TellLemmas.{all_told}
 use Rattle.group_notices.specs.Mirror.{Leads, Mirrors}
 use Rattle.group_notices.specs.declared.tells.Asked.{Asked}
+use Rattle.host_works.specs.Kept.{HeldWork}
 use Rattle.state_calls.specs.Currents.{entered, is_left, left_for, now_runs, number_in, runner}
 use Rattle.state_calls.specs.Ends.{Ends}
 use Rattle.state_calls.specs.declared.currents.CurrentThread.{CurrentThread}
 use Rattle.state_calls.specs.declared.error.TaskError.{TaskError}
+use Rattle.state_calls.specs.declared.error.TaskError.TheVariants as task_error
 use Rattle.state_calls.specs.declared.names.QualifiedThreadId.{QualifiedThreadId}
 use Rattle.std.proofs.Common.{ap, append-nil, arith, inl, refl, subst, sym, ◌∙◌}
 use Rattle.std.specs.FinMap as finite
 use Rattle.std.specs.Prelude.{Bool, Err, IsSome, List, None, Ok, Option, Result, Some, [], false, if◌then◌else◌, is_some, true, ℕ, ◌+◌, ◌++◌, ◌∷◌, ◌≡◌, ◌≤◌}
 use Rattle.task_calls.specs.Tasks.{Begins, task_begun, task_made}
-use Rattle.task_group.proofs.GroupLemmas.{told-append}
+use Rattle.task_group.proofs.GroupLemmas.{told-append, told-none}
 use Rattle.task_group.specs.Groups.{Groups, finish_all}
 use Rattle.task_group.specs.Listeners.{Listeners, Told}
 use Rattle.task_loop.proofs.LessenLemmas.{ended_aside}
@@ -21,9 +23,9 @@ use Rattle.task_loop.specs.Told.{begin_notices, begun_notices, groups_with}
 use Rattle.task_machine.specs.Core.{Core}
 use Rattle.task_machine.specs.Write.{add_call, add_group, add_thread, on_thread, set_place, set_trapped}
 use Rattle.task_machine.specs.declared.component.ExportKind.{ExportKind}
-use Rattle.task_machine.specs.declared.component.HostDef.{HostDef}
 use Rattle.task_machine.specs.declared.records.Place.TheVariants as place
 use Rattle.task_machine.specs.declared.records.Notice.{Notice}
+use Rattle.task_machine.specs.declared.trap.Trap.TheVariants as trap
 use Rattle.task_rules.specs.Calls.{call_made}
 use Rattle.task_rules.specs.Notices.{finish_notices}
 use Rattle.task_store.proofs.HostLemmas.{holds_same}
@@ -31,7 +33,7 @@ use Rattle.task_store.specs.Groups.{HoldsGroups}
 use Rattle.task_store.specs.Hosts.{HoldsWorks}
 use Rattle.task_words.specs.StateView.{StateView}
 
-module _ (left : ℕ → Option HostDef) where
+module _ (left : ℕ → Option HeldWork) where
   as_before : (s t : StateView) → t ≡ s → HoldsWorks left s.core → HoldsWorks left t.core
   as_before s t same h = subst (λ (v : StateView). HoldsWorks left v.core) (sym same) h
 
@@ -152,3 +154,37 @@ module _ (x : ExportKind) (i : ℕ) (f : Option QualifiedThreadId) (s t : StateV
         let q : Leads a 0 gs [] = record { groups = inl refl; after = refl } in
         subst (λ (ns : List Notice). Told ns l h.listeners) (sym (ap (λ b. begun_notices f s.core ++ (if b then finish_notices (groups_with f s.core) [] else [])) (as_state true e)))
         (told-append (begun_notices f s.core) (finish_notices gs []) l g.listeners h.listeners told (all_told a 0 gs [] q g h m refl all))
+
+    -- told of once it was made, and finished in a trapped store
+    pub settled : (l : Listeners) (h : Groups) → Told (begun_notices f s.core) l g.listeners → (t.core.trapped ≡ false → h ≡ g) →
+        (t.core.trapped ≡ true → (h.live ≡ finite.empty) × (h.made ≡ g.made)) → (t.core.trapped ≡ true → Told (finish_all g.live) g.listeners h.listeners) →
+        HoldsGroups h t.core × Told (begin_notices f s.core) l h.listeners
+    settled l h told opens live all = by t.core.trapped refl
+      where
+        by : (b : Bool) → t.core.trapped ≡ b → HoldsGroups h t.core × Told (begin_notices f s.core) l h.listeners
+        by false e = subst (λ (k : Groups). HoldsGroups k t.core × Told (begin_notices f s.core) l k.listeners) (sym (opens e)) (open_holds e, open_told l e told)
+        by true e = let done = live e in (shut_holds h e done.0 done.1 (all e).same_hook, shut_told l h e told (all e))
+
+pub begun_core : (x : ExportKind) (i : ℕ) (f : Option QualifiedThreadId) (s t : StateView) (room : Bool) (id : QualifiedThreadId) → Begins x i f s room (Ok id) t → t.core ≡ task_begun x i f s
+begun_core x i f s t false id q = absurd (let e = q.0 in cc)
+begun_core x i f s t true id q = q.becomes.core
+
+pub begins_still : (x : ExportKind) (i : ℕ) (f : Option QualifiedThreadId) (s t : StateView) (room : Bool) (why : TaskError) → Begins x i f s room (Err why) t → t ≡ s
+begins_still x i f s t false why q = q.1
+begins_still x i f s t true why q = q.1
+
+-- a task with a caller
+pub called_made : (x : ExportKind) (i : ℕ) (f : Option QualifiedThreadId) (s : StateView) (g : Groups) → is_some f ≡ true → HoldsGroups g s.core → HoldsGroups g (task_made x i f s)
+called_made x i None s g e h = absurd (cc)
+called_made x i (Some id) s g e h = called_holds x i id s g h
+
+pub called_tells : (f : Option QualifiedThreadId) (s : Core) (l : Listeners) → is_some f ≡ true → Told (begun_notices f s) l l
+called_tells None s l e = absurd (cc)
+called_tells (Some id) s l e = told-none l
+
+-- a group whose entries don't fit, and one that no memory was there for
+pub begins_refused : (x : ExportKind) (i : ℕ) (f : Option QualifiedThreadId) (s : StateView) (room : Bool) → room ≡ false → Begins x i f s room (Err (task_error.Trap trap.TableFull)) s
+begins_refused x i f s room e = subst (λ b. Begins x i f s b (Err (task_error.Trap trap.TableFull)) s) (sym e) (refl, refl)
+
+pub begins_wanting : (x : ExportKind) (i : ℕ) (f : Option QualifiedThreadId) (s : StateView) (room : Bool) → room ≡ true → Begins x i f s room (Err task_error.NoMemory) s
+begins_wanting x i f s room e = subst (λ b. Begins x i f s b (Err task_error.NoMemory) s) (sym e) (refl, refl)

@@ -1,10 +1,13 @@
 -- What the store holds of host works stays over turns in which it polls none.
 use Rattle.std.proofs.Common.{ap, arith, inl, inr, refl, subst, sym, ◌∙◌}
+use Rattle.cell_laws.specs.Cells.{Runs, StaysWork, Takes}
 use Rattle.host_works.specs.Course.{one_fewer}
+use Rattle.host_works.specs.Kept.{HeldWork}
 use Rattle.op_dispatch.specs.Polls.{polled_host}
 use Rattle.std.specs.Option.{option_map}
 use Rattle.std.specs.Prelude.{[], Bool, Err, IfOk, List, None, Ok, OnOk, Option, Result, Some, cond, suc, true, zero, ℕ, ◌+◌, ◌==◌, ◌≡◌, ◌-◌}
 use Rattle.task_machine.specs.Core.{Main, State, Unscripted}
+use Rattle.task_machine.specs.Maps.{get}
 use Rattle.task_machine.specs.Read.{course_of, how_far_of}
 use Rattle.task_machine.specs.declared.component.Component.{Component}
 use Rattle.task_machine.specs.declared.component.HostDef.{HostDef}
@@ -24,8 +27,8 @@ use Rattle.task_rules.specs.Calls.{Later, first_poll}
 use Rattle.task_rules.specs.OpParts.{queues_work}
 use Rattle.task_rules.specs.Scripts.{op_of}
 use Rattle.task_rules.specs.Stalled.{Setting}
-use Rattle.task_store.proofs.HostLemmas.{holds_as, holds_made, holds_quiet, holds_unmade}
-use Rattle.task_store.specs.Hosts.{HoldsWorks, held_after_call}
+use Rattle.task_store.proofs.HostLemmas.{holds_as, holds_made, holds_quiet, holds_unmade, running_stays, runs_works, taken_stays}
+use Rattle.task_store.specs.Hosts.{HoldsWorks, held_after_call, running}
 use Rattle.task_table.specs.declared.id.TableId.{TableId}
 use Rattle.task_turns.specs.Ran.{RanPolls, WorkMade}
 use Rattle.task_turns.specs.Stepped.{AddedOrNone}
@@ -41,7 +44,7 @@ taking_makes_none : (x : Setting) (s : State) (ended : Bool) → s.turn ≡ turn
 taking_makes_none x s ended is (Spawns main) = cc
 taking_makes_none x s ended is (CallsHost n runs queues) = cc
 
-pub held_taken : (x : Setting) (b ended : Bool) (m : Main) (s t : StateView) (left : ℕ → Option HostDef) (r : Result (Option Stepped) NoMemory) (before after : List Label) → Sits x.component (turn.Take ended) s.core →
+pub held_taken : (x : Setting) (b ended : Bool) (m : Main) (s t : StateView) (left : ℕ → Option HeldWork) (r : Result (Option Stepped) NoMemory) (before after : List Label) → Sits x.component (turn.Take ended) s.core →
     x.idle ≡ idle_line_of b → PendsIn x s.core m (turn.Take ended) → IfOk r (λ o. AddedOrNone (λ made. TurnedBeside x.component b (turn.Take ended) s made t) o before after) → HoldsWorks left s.core → OnOk r (HoldsWorks left t.core)
 held_taken x b ended m s t left (Err e) before after sits idle pends turned h = tt
 held_taken x b ended m s t left (Ok None) before after sits idle pends turned h =
@@ -50,8 +53,10 @@ held_taken x b ended m s t left (Ok None) before after sits idle pends turned h 
 held_taken x b ended m s t left (Ok (Some q)) before after sits idle pends turned h =
     let made = turned.0 in
     let k : Turned x (turn.Take ended) m s (Some made) m t = turned.1.1 x refl idle m pends in
-    holds_quiet x (state_at s.core m (turn.Take ended)) made.label (state_at t.core m made.turn) k.step (λ n e. cc) (sits.order m).works.made left
-    (taking_makes_none x (state_at s.core m (turn.Take ended)) ended refl) h
+    let a = state_at s.core m (turn.Take ended) in
+    let b = state_at t.core m made.turn in
+    holds_quiet x a made.label b k.step (Takes ended) (sits.order m).works.made (taken_stays x a made.label b ended (sits.order m) k.step refl left h) left h
+    (taking_makes_none x a ended refl)
 
 -- ---- Ops of the running thread
 
@@ -78,7 +83,7 @@ first_left d l first = by d.polls d.value first
         ap (λ (k : ℕ). let e : HostDef = record { polls = Some k; value = v } in e) down ∙ same_left rest l h
 
 module _ (c : Component) (n : ℕ) (s t : StateView) (ran : Ran) (sits : Sits c (turn.Run n) s.core) (makes : Makes c (turn.Run n) s ran.made t) (polls : RanPolls c n s ran t)
-    (left : ℕ → Option HostDef) (h : HoldsWorks left s.core) where
+    (left : ℕ → Option HeldWork) (h : HoldsWorks left s.core) where
   x : Setting
   x = record { component = c; script = []; idle = idle_line.Wait }
 
@@ -92,22 +97,28 @@ module _ (c : Component) (n : ℕ) (s t : StateView) (ran : Ran) (sits : Sits c 
       let same : n ≡ k = cc in
       polls_first c (how_far_of k s.core) (op_of c k s.core) queues (subst (λ (i : ℕ). polled_host c (how_far_of i s.core) (op_of c i s.core) ≡ None) same (sym polls.polled ∙ none))
 
-  unmade : WorkMade ran.polled None s t → HoldsWorks left t.core
-  unfolding x before
-  unmade (inl none) = holds_quiet x before ran.made.label (state_at t.core Unscripted ran.made.turn) (makes.step x refl Unscripted) (λ k e. cc) (sits.order Unscripted).works.made left (makes_none none) h
-  unmade (inr gone) = holds_unmade x before ran.made.label (state_at t.core Unscripted ran.made.turn) (makes.step x refl Unscripted) (λ k e. cc) (sits.order Unscripted).works.made left gone h
+  after : State
+  after = state_at t.core Unscripted ran.made.turn
 
-  made_held : (id : TableId HostTaskKey) (right : ℕ → Option HostDef) → WorkMade ran.polled (Some id) s t → ((i : ℕ) → right i ≡ held_after_call (Some (work_of t id)) ran.polled left i) → HoldsWorks right t.core
-  unfolding x before
+  stays : (i : ℕ) → StaysWork (get s.core.works i) (get t.core.works i)
+  unfolding x before after
+  stays = running_stays x before ran.made.label after n (runs_works c n s.core (sits.order Unscripted)) (makes.step x refl Unscripted) refl left h
+
+  unmade : WorkMade ran.polled None s t → HoldsWorks left t.core
+  unfolding x before after
+  unmade (inl none) = holds_quiet x before ran.made.label after (makes.step x refl Unscripted) (Runs n) (sits.order Unscripted).works.made stays left h (makes_none none)
+  unmade (inr gone) = holds_unmade x before ran.made.label after (makes.step x refl Unscripted) (Runs n) (sits.order Unscripted).works.made stays left h gone
+
+  made_held : (id : TableId HostTaskKey) (right : ℕ → Option HeldWork) → WorkMade ran.polled (Some id) s t → ((i : ℕ) → right i ≡ held_after_call (Some (work_of t id)) ran.polled left i) → HoldsWorks right t.core
+  unfolding x before after
   made_held id right m is =
       let d = m.0 in let l = m.1.0 in let polled = m.1.1.0 in let first = m.1.1.1.0 in let number = m.1.1.1.1.0 in let goes = m.1.1.1.1.1 in
-      holds_made x before ran.made.label (state_at t.core Unscripted ran.made.turn) (makes.step x refl Unscripted) (λ k e. cc) (sits.order Unscripted).works.made left l right
+      holds_made x before ran.made.label after (makes.step x refl Unscripted) (Runs n) (sits.order Unscripted).works.made stays left h l right
       (subst (λ (k : ℕ). course_of k t.core ≡ courses.Goes l) number goes)
-      (λ i. is i ∙ (ap (λ (o : Option HostDef). held_after_call (Some (work_of t id)) o left i) polled ∙ (ap (λ (k : ℕ). cond (k == i) (Some (one_fewer d)) (left i)) number
-      ∙ ap (λ (e : HostDef). cond (s.core.made.works + 1 == i) (Some e) (left i)) (first_left d l first))))
-      h
+      (λ i. is i ∙ (ap (λ (o : Option HostDef). held_after_call (Some (work_of t id)) o left i) polled ∙ (ap (λ (k : ℕ). cond (k == i) (running (one_fewer d)) (left i)) number
+      ∙ ap (λ (e : HostDef). cond (s.core.made.works + 1 == i) (running e) (left i)) (first_left d l first))))
 
-  pub held_run : (right : ℕ → Option HostDef) → ((i : ℕ) → right i ≡ held_after_call (option_map (λ id. work_of t id) ran.work) ran.polled left i) → HoldsWorks right t.core
+  pub held_run : (right : ℕ → Option HeldWork) → ((i : ℕ) → right i ≡ held_after_call (option_map (λ id. work_of t id) ran.work) ran.polled left i) → HoldsWorks right t.core
   held_run right is = by ran.work refl
     where
       by : (w : Option (TableId HostTaskKey)) → ran.work ≡ w → HoldsWorks right t.core

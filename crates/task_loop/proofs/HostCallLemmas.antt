@@ -3,7 +3,7 @@ use Rattle.std.proofs.Common.{ap, arith, refl, subst, sym, ◌∙◌}
 use Rattle.std.proofs.lemmas.Bool.Decides.{nat_tests}
 use Rattle.std.specs.Option.{option_map}
 use Rattle.std.specs.Prelude.{Bool, Err, IfSome, IsSome, Ok, None, Option, Result, Some, cond, false, is_ok, is_some, not, suc, true, zero, ℕ, ◌+◌, ◌-◌, ◌==◌, ◌≡◌, ◌≤◌}
-use Rattle.host_works.specs.Course.{left_after, one_fewer}
+use Rattle.host_works.specs.Kept.{HeldWork, after_poll}
 use Rattle.op_dispatch.proofs.CallLemmas.{host_makes_none, sync_host_makes_none}
 use Rattle.state_calls.specs.declared.error.TaskError.{TaskError}
 use Rattle.state_calls.specs.declared.error.TaskError.TheVariants as task_error
@@ -42,8 +42,8 @@ use Rattle.task_rules.specs.Calls.{AtOnce, Failing, FirstPoll, Later, call_host_
 use Rattle.task_rules.specs.Data.{advanced, assigned, moved_to}
 use Rattle.task_rules.specs.Progress.{Goes, Progress, Stops, trap_if}
 use Rattle.task_rules.specs.Words.{Stop}
-use Rattle.task_store.proofs.HostLemmas.{holds_as, holds_below, holds_courses, holds_queued, holds_same}
-use Rattle.task_store.specs.Hosts.{HoldsWorks, WorksNumbered, settled}
+use Rattle.task_store.proofs.HostLemmas.{holds_as, holds_below, holds_queued, holds_same, holds_told, says}
+use Rattle.task_store.specs.Hosts.{HoldsWorks, WorksNumbered, running, settled}
 use Rattle.task_turns.specs.Turn.{running_of}
 use Rattle.task_words.specs.StateView.{StateView}
 
@@ -55,25 +55,25 @@ same_value v w h = cc
 same_later : (d l : HostDef) → Later d ≡ Later l → d ≡ l
 same_later d l h = cc
 
-after_value : (d : HostDef) (v : ℕ) → first_poll d ≡ AtOnce v → left_after d ≡ None
+after_value : (d : HostDef) (v : ℕ) → first_poll d ≡ AtOnce v → after_poll (running d) ≡ None
 after_value d v first = by d.polls d.value first
   where
-    by : (polls value : Option ℕ) → (let e : HostDef = record { polls = polls; value = value } in first_poll e ≡ AtOnce v) → (let e : HostDef = record { polls = polls; value = value } in left_after e ≡ None)
+    by : (polls value : Option ℕ) → (let e : HostDef = record { polls = polls; value = value } in first_poll e ≡ AtOnce v) → (let e : HostDef = record { polls = polls; value = value } in after_poll (running e) ≡ None)
     by None w h = absurd (cc)
     by (Some zero) None h = absurd (cc)
     by (Some zero) (Some w) h = refl
     by (Some (suc n)) w h = absurd (cc)
 
-after_later : (d l : HostDef) → first_poll d ≡ Later l → left_after d ≡ Some l
+after_later : (d l : HostDef) → first_poll d ≡ Later l → after_poll (running d) ≡ running l
 after_later d l first = by d.polls d.value first
   where
-    by : (polls value : Option ℕ) → (let e : HostDef = record { polls = polls; value = value } in first_poll e ≡ Later l) → (let e : HostDef = record { polls = polls; value = value } in left_after e ≡ Some l)
-    by None v h = ap (λ (e : HostDef). Some e) (same_later (record { polls = None; value = v }) l h)
+    by : (polls value : Option ℕ) → (let e : HostDef = record { polls = polls; value = value } in first_poll e ≡ Later l) → (let e : HostDef = record { polls = polls; value = value } in after_poll (running e) ≡ running l)
+    by None v h = ap (λ (e : HostDef). running e) (same_later (record { polls = None; value = v }) l h)
     by (Some zero) None h = absurd (cc)
     by (Some zero) (Some v) h = absurd (cc)
     by (Some (suc n)) v h =
         let down : suc n - 1 ≡ n = omega arith in
-        ap (λ (k : ℕ). let e : HostDef = record { polls = Some k; value = v } in Some e) down ∙ ap (λ (e : HostDef). Some e) (same_later (record { polls = Some n; value = v }) l h)
+        ap (λ (k : ℕ). let e : HostDef = record { polls = Some k; value = v } in running e) down ∙ ap (λ (e : HostDef). running e) (same_later (record { polls = Some n; value = v }) l h)
 
 -- ---- The works after a call
 
@@ -84,30 +84,29 @@ stops_works : (n : ℕ) (sub : Subtask) (s : Core) → (call_stops n sub s).work
 unfolding call_stops set_how_far set_place on_thread
 stops_works n sub s = shifted_works (placing_shifted (Stop (foot_of n s)) s)
 
-pending_courses : (n r q v : ℕ) (host : HostDef) (s : Core) (j : ℕ) → option_map (λ (w : Work). w.course) (get (host_pending n r q v host s).works j) ≡ option_map (λ (w : Work). w.course) (get (work_queued (callers.Async n q) host (Some (thread_group n s)) s).works j)
+pending_says : (n r q v : ℕ) (host : HostDef) (s : Core) (j : ℕ) → option_map says (get (host_pending n r q v host s).works j) ≡ option_map says (get (work_queued (callers.Async n q) host (Some (thread_group n s)) s).works j)
 unfolding host_pending with_handle set_subtask_handle give_handle on_work assigned advanced moved_to set_how_far set_position on_thread set_register
-pending_courses n r q v host s j = grind (arith, nat_tests, get-change)
+pending_says n r q v host s j = grind (arith, nat_tests, get-change)
 
-module _ (s : Core) (left right : ℕ → Option HostDef) (numbered : WorksNumbered s) (h : HoldsWorks left s) where
+module _ (s : Core) (left right : ℕ → Option HeldWork) (numbered : WorksNumbered s) (h : HoldsWorks left s) where
   -- none was made
   unmade : (t : Core) → t.works ≡ s.works → ((i : ℕ) → right i ≡ cond (next_work s == i) None (left i)) → HoldsWorks right t
-  unmade t works is = holds_same s t right works (holds_below s left right numbered (λ i below. let e = is i in grind (arith, nat_tests)) h)
+  unmade t works is = holds_same s t right works (holds_below s left right numbered is h)
 
-  pending : (n q v : ℕ) (host : HostDef) → ((i : ℕ) → right i ≡ cond (next_work s == i) (Some host) (left i)) → HoldsWorks right (host_pending n 0 q v host s)
+  pending : (n q v : ℕ) (host : HostDef) → ((i : ℕ) → right i ≡ cond (next_work s == i) (running host) (left i)) → HoldsWorks right (host_pending n 0 q v host s)
   pending n q v host is =
       let f = callers.Async n q in let g = Some (thread_group n s) in
-      holds_courses (work_queued f host g s) (host_pending n 0 q v host s) right (pending_courses n 0 q v host s) (holds_queued f host g s left right numbered is h)
+      holds_told (work_queued f host g s) (host_pending n 0 q v host s) right (pending_says n 0 q v host s) (holds_queued f host g s left right is h)
 
-  stopped : (n : ℕ) (host : HostDef) → ((i : ℕ) → right i ≡ cond (next_work s == i) (Some host) (left i)) → HoldsWorks right (call_sync_host_stops n host s)
+  stopped : (n : ℕ) (host : HostDef) → ((i : ℕ) → right i ≡ cond (next_work s == i) (running host) (left i)) → HoldsWorks right (call_sync_host_stops n host s)
   unfolding call_sync_host_stops
   stopped n host is =
       let u = checked (instance_of n s) s in let f = callers.Sync n in let g = Some (thread_group n s) in
       let moved = shifts_shifted (checked_shifts (instance_of n s) s) in
       let works = shifted_works moved in
       let made = shifted_made moved in
-      let there : WorksNumbered u = λ i e. subst (λ (k : ℕ). i ≤ k) (sym (ap (λ (m : Made). m.works) made)) (numbered i (subst (λ (m : Records Work). is_some (get m i) ≡ true) works e)) in
-      let next : (i : ℕ) → right i ≡ cond (next_work u == i) (Some host) (left i) = λ i. is i ∙ ap (λ (m : Made). cond (m.works + 1 == i) (Some host) (left i)) (sym made) in
-      let queued = holds_queued f host g u left right there next (holds_same s u left works h) in
+      let next : (i : ℕ) → right i ≡ cond (next_work u == i) (running host) (left i) = λ i. is i ∙ ap (λ (m : Made). cond (m.works + 1 == i) (running host) (left i)) (sym made) in
+      let queued = holds_queued f host g u left right next (holds_same s u left works h) in
       holds_same (work_queued f host g u) (call_stops n (subtask.Host (next_work s)) (work_queued f host g u)) right (stops_works n (subtask.Host (next_work s)) (work_queued f host g u)) queued
 
 -- ---- By what was answered
@@ -124,7 +123,7 @@ not_trapped f r a why e is = let t = e ∙ ap (answered f) is in cc
 not_failed : {A : Type 0} (f : Label → A) (r : Came) (a : Step A) (i : ℕ) → Ok a ≡ answered f r → r ≡ came.Fails i → ⊥
 not_failed f r a i e is = let t = e ∙ ap (answered f) is in cc
 
-module _ (host : HostDef) (s t : StateView) (n : ℕ) (runs : running_of s ≡ Some n) (left right : ℕ → Option HostDef) (numbered : WorksNumbered s.core) (h : HoldsWorks left s.core) where
+module _ (host : HostDef) (s t : StateView) (n : ℕ) (runs : running_of s ≡ Some n) (left right : ℕ → Option HeldWork) (numbered : WorksNumbered s.core) (h : HoldsWorks left s.core) where
   does_of : (row : ℕ → Choice → Progress) (r : Came) → Did row s r t → Does (row n) n s r t
   does_of row r did = subst (λ (o : Option ℕ). IfSome o (λ k. Does (row k) k s r t)) runs did
 
@@ -135,9 +134,9 @@ module _ (host : HostDef) (s t : StateView) (n : ℕ) (runs : running_of s ≡ S
   refused : {A : Type 0} (f : Label → A) (row : ℕ → Choice → Progress) (why : TaskError) (r : Came) → Did row s r t → Err why ≡ answered f r → ((i : ℕ) → right i ≡ cond (next_work s.core == i) None (left i)) → HoldsWorks right t.core
   refused f row why r did e is = as_before (refused_same f r why s t e (does_of row r did).stays) is
 
-  module _ (is : (i : ℕ) → right i ≡ cond (next_work s.core == i) (left_after host) (left i)) where
-    after : (o : Option HostDef) → left_after host ≡ o → (i : ℕ) → right i ≡ cond (next_work s.core == i) o (left i)
-    after o e i = is i ∙ ap (λ (x : Option HostDef). cond (next_work s.core == i) x (left i)) e
+  module _ (is : (i : ℕ) → right i ≡ cond (next_work s.core == i) (after_poll (running host)) (left i)) where
+    after : (o : Option HeldWork) → after_poll (running host) ≡ o → (i : ℕ) → right i ≡ cond (next_work s.core == i) o (left i)
+    after o e i = is i ∙ ap (λ (x : Option HeldWork). cond (next_work s.core == i) x (left i)) e
 
     polled : (q : ℕ) (a : Step ℕ) (r : Came) → Ok a ≡ answered number_in r → (p : FirstPoll) → first_poll host ≡ p → Meets (call_host_polled n 0 q s.core p) s.core r t.core → HoldsWorks right t.core
     polled q a r e (AtOnce v) first met = unmade s.core left right numbered h t.core (host_makes_none s.core t.core n 0 q (AtOnce v) r met refl) (after None (after_value host v first))
@@ -153,7 +152,7 @@ module _ (host : HostDef) (s t : StateView) (n : ℕ) (runs : running_of s ≡ S
         by : (b c : Bool) → Meets (trap_if b trap.TableFull (trap_if c trap.HandleLimit done)) s.core r t.core → HoldsWorks right t.core
         by true c m = absurd (not_trapped number_in r a trap.TableFull e m.0)
         by false true m = absurd (not_trapped number_in r a trap.HandleLimit e m.0)
-        by false false m = subst (HoldsWorks right) (sym m.1) (pending s.core left right numbered h n q v d (after (Some d) (after_later host d first)))
+        by false false m = subst (HoldsWorks right) (sym m.1) (pending s.core left right numbered h n q v d (after (running d) (after_later host d first)))
 
     blocked : (a : Step ℕ) (r : Came) → Ok a ≡ answered value_in r → (p : FirstPoll) → first_poll host ≡ p → Meets (call_sync_host_polled n 0 s.core p) s.core r t.core → HoldsWorks right t.core
     blocked a r e (AtOnce v) first met = unmade s.core left right numbered h t.core (sync_host_makes_none s.core t.core n 0 (AtOnce v) r met refl) (after None (after_value host v first))
@@ -166,17 +165,17 @@ module _ (host : HostDef) (s t : StateView) (n : ℕ) (runs : running_of s ≡ S
         by : (b c : Bool) → Meets (trap_if b trap.TableFull (trap_if c trap.CannotBlockSyncTask done)) s.core r t.core → HoldsWorks right t.core
         by true c m = absurd (not_trapped value_in r a trap.TableFull e m.0)
         by false true m = absurd (not_trapped value_in r a trap.CannotBlockSyncTask e m.0)
-        by false false m = subst (HoldsWorks right) (sym m.1) (stopped s.core left right numbered h n d (after (Some d) (after_later host d first)))
+        by false false m = subst (HoldsWorks right) (sym m.1) (stopped s.core left right numbered h n d (after (running d) (after_later host d first)))
 
   -- what is held after a call that goes on
-  pub polled_holds : (q : ℕ) (a : Result ℕ TaskError) → Answers (polls_row q host s.core) number_in s (at_once a) t → ((i : ℕ) → right i ≡ cond (next_work s.core == i) (settled (is_ok a) (Some host)) (left i)) → HoldsWorks right t.core
+  pub polled_holds : (q : ℕ) (a : Result ℕ TaskError) → Answers (polls_row q host s.core) number_in s (at_once a) t → ((i : ℕ) → right i ≡ cond (next_work s.core == i) (settled (is_ok a) (running host)) (left i)) → HoldsWorks right t.core
   polled_holds q (Ok v) answers is = let did = answers.1.0 in polled is q (step.Done v) answers.0 answers.1.1 (first_poll host) refl (does_of (polls_row q host s.core) answers.0 did).meets
   polled_holds q (Err task_error.NoMemory) answers is = as_before answers is
   polled_holds q (Err (task_error.Trap w)) answers is = refused number_in (polls_row q host s.core) (task_error.Trap w) answers.0 answers.1.0 answers.1.1 is
   polled_holds q (Err (task_error.HostFailed i)) answers is = refused number_in (polls_row q host s.core) (task_error.HostFailed i) answers.0 answers.1.0 answers.1.1 is
 
   -- and after one that waits for its value
-  pub blocked_holds : (a : Result (Step ℕ) TaskError) → Answers (blocks_row host s.core) value_in s a t → ((i : ℕ) → right i ≡ cond (next_work s.core == i) (settled (is_ok a) (Some host)) (left i)) → HoldsWorks right t.core
+  pub blocked_holds : (a : Result (Step ℕ) TaskError) → Answers (blocks_row host s.core) value_in s a t → ((i : ℕ) → right i ≡ cond (next_work s.core == i) (settled (is_ok a) (running host)) (left i)) → HoldsWorks right t.core
   blocked_holds (Ok v) answers is = let did = answers.1.0 in blocked is v answers.0 answers.1.1 (first_poll host) refl (does_of (blocks_row host s.core) answers.0 did).meets
   blocked_holds (Err task_error.NoMemory) answers is = as_before answers is
   blocked_holds (Err (task_error.Trap w)) answers is = refused value_in (blocks_row host s.core) (task_error.Trap w) answers.0 answers.1.0 answers.1.1 is
@@ -184,30 +183,27 @@ module _ (host : HostDef) (s t : StateView) (n : ℕ) (runs : running_of s ≡ S
 
 -- ---- What the store holds beside the call
 
-own : (k : ℕ) (o p : Option HostDef) → cond (k == k) o p ≡ o
+own : (k : ℕ) (o p : Option HeldWork) → cond (k == k) o p ≡ o
 own k o p = grind (arith, nat_tests)
 
-over : (b : Bool) (o p q : Option HostDef) → cond b o (cond b p q) ≡ cond b o q
+over : (b : Bool) (o p q : Option HeldWork) → cond b o (cond b p q) ≡ cond b o q
 over true o p q = refl
 over false o p q = refl
 
 -- the work is held under the number that it was given
-pub own_held : (k n : ℕ) (d : HostDef) (left held : ℕ → Option HostDef) → n ≡ k → ((i : ℕ) → held i ≡ cond (k == i) (Some d) (left i)) → held n ≡ Some d
-own_held k n d left held same is = ap held same ∙ (is k ∙ own k (Some d) (left k))
-
-pub is_held : (k n : ℕ) (d : HostDef) (left held : ℕ → Option HostDef) → n ≡ k → ((i : ℕ) → held i ≡ cond (k == i) (Some d) (left i)) → IsSome (held n)
-is_held k n d left held same is = subst (λ (o : Option HostDef). IsSome o) (sym (own_held k n d left held same is)) refl
+pub own_held : (k n : ℕ) (d : HostDef) (left held : ℕ → Option HeldWork) → n ≡ k → ((i : ℕ) → held i ≡ cond (k == i) (running d) (left i)) → held n ≡ running d
+own_held k n d left held same is = ap held same ∙ (is k ∙ own k (running d) (left k))
 
 -- what is held at last
-pub after_settled : (k n : ℕ) (d : HostDef) (b : Bool) (left held right : ℕ → Option HostDef) → n ≡ k → ((i : ℕ) → held i ≡ cond (k == i) (Some d) (left i)) →
-    ((i : ℕ) → right i ≡ cond (n == i) (settled b (held n)) (held i)) → (i : ℕ) → right i ≡ cond (k == i) (settled b (Some d)) (left i)
+pub after_settled : (k n : ℕ) (d : HostDef) (b : Bool) (left held right : ℕ → Option HeldWork) → n ≡ k → ((i : ℕ) → held i ≡ cond (k == i) (running d) (left i)) →
+    ((i : ℕ) → right i ≡ cond (n == i) (settled b (held n)) (held i)) → (i : ℕ) → right i ≡ cond (k == i) (settled b (running d)) (left i)
 after_settled k n d b left held right same is after i =
     after i
-    ∙ (ap (λ (o : Option HostDef). cond (n == i) (settled b o) (held i)) (own_held k n d left held same is)
-    ∙ (ap (λ (m : ℕ). cond (m == i) (settled b (Some d)) (held i)) same
-    ∙ (ap (λ (o : Option HostDef). cond (k == i) (settled b (Some d)) o) (is i)
-    ∙ over (k == i) (settled b (Some d)) (Some d) (left i))))
+    ∙ (ap (λ (o : Option HeldWork). cond (n == i) (settled b o) (held i)) (own_held k n d left held same is)
+    ∙ (ap (λ (m : ℕ). cond (m == i) (settled b (running d)) (held i)) same
+    ∙ (ap (λ (o : Option HeldWork). cond (k == i) (settled b (running d)) o) (is i)
+    ∙ over (k == i) (settled b (running d)) (running d) (left i))))
 
 -- where memory is wanting
-pub after_none : (s : Core) (left right : ℕ → Option HostDef) → ((i : ℕ) → right i ≡ left i) → HoldsWorks left s → HoldsWorks right s
+pub after_none : (s : Core) (left right : ℕ → Option HeldWork) → ((i : ℕ) → right i ≡ left i) → HoldsWorks left s → HoldsWorks right s
 after_none s left right is h = holds_as s left right is h

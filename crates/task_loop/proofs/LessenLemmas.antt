@@ -9,7 +9,7 @@ use Rattle.state_calls.specs.declared.currents.CurrentThread.{CurrentThread}
 use Rattle.state_calls.specs.declared.error.TaskError.{TaskError}
 use Rattle.state_calls.specs.declared.error.TaskError.TheVariants as task_error
 use Rattle.state_calls.specs.declared.names.QualifiedThreadId.{QualifiedThreadId}
-use Rattle.std.proofs.Common.{ap, inl, inr, le_refl, refl, subst, sym, ⊎_elim, ◌∙◌}
+use Rattle.std.proofs.Common.{ap, arith, inl, inr, le_refl, refl, subst, sym, ⊎_elim, ◌∙◌}
 use Rattle.std.proofs.lemmas.Bool.Decides.{nat_tests}
 use Rattle.std.specs.Option.{option_map_or}
 use Rattle.std.specs.Prelude.{Bool, Err, IfSome, List, None, Ok, Option, Result, Some, [], false, if◌then◌else◌, is_some, not, option_map, true, unwrap_or, ℕ, ◌==◌, ◌≡◌, ◌≤◌, ◌⊎◌}
@@ -38,7 +38,7 @@ use Rattle.task_machine.specs.Maps.{get}
 use Rattle.task_machine.specs.Moves.{behind_one, call_settled, checked, departed, ended, exited_if, first_entry, freed_thread_handle, group_settled, interest_settled, is_deletable, is_finished, is_group_done, passes_check, promoted, promoted_first, promoted_unless, put_switch}
 use Rattle.task_machine.specs.Read.{at_handle_limit, call_group, callee_of, fits, foot_of, has_ended, instance_of, is_async_lifted, is_explicit, kind_of, new_handle, task_of, thread_at, thread_group, thread_handle_of}
 use Rattle.task_machine.specs.Statuses.{packed}
-use Rattle.task_machine.specs.Write.{add_call, add_thread, count_work, free_thread_handle, give_handle, give_thread_handle, on_call, on_instance, on_thread, on_work, push_high, remove_call, remove_group, remove_thread, set_callers, set_do_not_suspend, set_exited, set_how_far, set_place, set_position, set_register, set_saved_callee, set_saved_own, set_started, set_subtask_handle, set_thread_handle, set_uninteresting}
+use Rattle.task_machine.specs.Write.{add_call, add_thread, add_work, count_work, free_thread_handle, give_handle, give_thread_handle, on_call, on_instance, on_thread, on_work, push_high, remove_call, remove_group, remove_thread, set_callers, set_do_not_suspend, set_exited, set_how_far, set_place, set_position, set_register, set_saved_callee, set_saved_own, set_started, set_subtask_handle, set_thread_handle, set_uninteresting}
 use Rattle.task_machine.specs.declared.component.Callee.{Callee}
 use Rattle.task_machine.specs.declared.component.Component.{Component}
 use Rattle.task_machine.specs.declared.component.ExportKind.{ExportKind}
@@ -409,7 +409,7 @@ unfolding host_ready assigned advanced moved_to set_position on_thread set_regis
 ready_same n r q v s = record { groups = refl; made = refl }
 
 pending_same : (n r q v : ℕ) (host : HostDef) (s : Core) → Same s (host_pending n r q v host s)
-unfolding host_pending assigned advanced moved_to set_position on_thread set_register set_how_far with_handle set_subtask_handle give_handle on_work work_queued push_high
+unfolding host_pending assigned advanced moved_to set_position on_thread set_register set_how_far with_handle set_subtask_handle give_handle on_work work_queued push_high add_work count_work
 pending_same n r q v host s = record { groups = refl; made = refl }
 
 answered_same : (n r v : ℕ) (s : Core) → Same s (host_answered n r v s)
@@ -429,7 +429,7 @@ unfolding call_stops set_how_far set_place on_thread
 stopped_same n sub s = let h = placing_shifted (Stop (foot_of n s)) s in record { groups = (same_shifted h).groups; made = (same_shifted h).made }
 
 queued_same : (n : ℕ) (host : HostDef) (o : Option ℕ) (s : Core) → Same s (work_queued (callers.Sync n) host o s)
-unfolding work_queued push_high
+unfolding work_queued push_high add_work count_work
 queued_same n host o s = record { groups = refl; made = refl }
 
 host_stops_same : (n : ℕ) (host : HostDef) (s : Core) → Same s (call_sync_host_stops n host s)

@@ -16,7 +16,8 @@ use Rattle.task_group.specs.declared.notice.GroupError.{GroupError}
 use Rattle.task_group.specs.declared.notice.GroupError.TheVariants as error
 use Rattle.task_group.specs.declared.notice.TaskGroupId.{TaskGroupId}
 use Rattle.task_machine.specs.declared.records.Notice.{Notice}
-use Rattle.task_calls.specs.Calls.{Becomes, Finishes, Starts}
+use Rattle.task_calls.specs.Calls.{Finishes, Starts}
+use Rattle.task_words.specs.Becomes.{Becomes}
 use Rattle.task_calls.specs.Untrapped.{StartsUntrapped}
 use Rattle.state_calls.specs.declared.error.TaskError.{TaskError}
 use Rattle.task_machine.specs.Core.{Core}
@@ -24,6 +25,7 @@ use Rattle.task_machine.specs.Moves.{put_high}
 use Rattle.task_machine.specs.Write.{add_call, add_group, add_thread, on_thread, push_high, set_place, set_trapped, take_result}
 use Rattle.task_machine.specs.declared.component.Callee.{Callee}
 use Rattle.task_machine.specs.declared.component.Component.{Component}
+use Rattle.host_works.specs.Kept.{HeldWork}
 use Rattle.task_machine.specs.declared.component.HostDef.{HostDef}
 use Rattle.task_machine.specs.declared.trap.Trap.{Trap}
 use Rattle.task_rules.specs.Calls.{call_made}
@@ -53,7 +55,7 @@ trapped_becomes s u t same is = grind arith
 
 -- ---- What a store holds of host works
 
-module _ (left : ℕ → Option HostDef) where
+module _ (left : ℕ → Option HeldWork) where
   start_works : (c : Component) (e : Callee) (words : List ℕ) (s : Core) → (main_started c e words s).works ≡ s.works
   unfolding main_started put_high push_high set_place on_thread call_made add_call add_thread add_group
   start_works c e words s = refl
@@ -119,7 +121,7 @@ pub refused_starts : (c : Component) (e : Callee) (words : List ℕ) (s u t : St
 refused_starts c e words s u t (Some w) why h is = (h.0, trapped_becomes s u t h.1 is)
 refused_starts c e words s u t None why h is = (h.0, trapped_becomes s u t h.1 is)
 
-none_errors : (o : Option Heard) → is_some o ≡ false → option_map_or (λ (h : Heard). h.errors) o 0 ≡ 0
+pub none_errors : (o : Option Heard) → is_some o ≡ false → option_map_or (λ (h : Heard). h.errors) o 0 ≡ 0
 none_errors None e = refl
 none_errors (Some h) e = absurd (cc)
 
@@ -145,7 +147,7 @@ finish_keeps g k s t Pending f h = subst (λ (u : StateView). HoldsGroups g u.co
 -- a store that is trapped holds the same host works
 pub trapped_hosts : {T H G : Type 0} (course : H → HostDef) (st : Store T H G) (g : Groups) → HoldsHosts course st → HoldsHosts course (record st { state = on_core set_trapped st.state; groups = g })
 unfolding set_trapped
-trapped_hosts course st g h = record { there = h.there; ended = h.ended }
+trapped_hosts course st g h = record { each = h.each; first = h.first }
 
 -- the number that was prepared is above those that were given
 pub is_above : (made number new : ℕ) → (made < number → new ≡ number) → (number ≤ made → new ≡ made + 1) → made < new

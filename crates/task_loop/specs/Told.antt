@@ -76,7 +76,7 @@ current_group s = option_map (λ n. thread_group n s.core) (running_of s)
 abbrev pub asked_now : StateView → (staked : ℕ) → Asked
 asked_now s staked = record { running = current_group s; worked = None; staked = staked }
 
--- What a call tells: where a thread of another group runs after it, or none, the old one is left and the new one entered; and what it finished.
+-- What a call tells: where another group runs after it, or none, the old one is left and the new one entered; and each that it finished.
 abbrev pub call_notices : StateView → StateView → List Notice
 call_notices s t =
     of_live s.core.groups (switch_notices (current_group s) (current_group t)) ++ finish_notices s.core.groups t.core.groups

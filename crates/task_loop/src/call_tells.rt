@@ -49,6 +49,7 @@ pub(crate) fn asked_here(component: &Component, core: &TaskCore) -> Asked
     requires { IsRunningIn component.now core.now }
     ensures { IfSome (running_of core.now) (λ n. result ≡ asked_now core.now (stake component.now n core.now.core)) }
 {
+    core.none_is_zero();
     let Some(thread) = core.current() else {
         unreachable!()
     };

@@ -1,9 +1,11 @@
 //! The calls of a store's state that begin or end a task, or have another thread run. The groups of the store are told so.
-ghost use Rattle.std.specs.Prelude.{[], ◌∷◌, ◌≡◌, ◌<◌, ◌^◌, IfOk, IfSome, IsSome, OnErr, OnOk, None};
+ghost use Rattle.std.specs.Prelude.{[], ◌∷◌, ◌≡◌, ◌<◌, ◌^◌, IfOk, IfSome, IsSome, None, OnErr, OnOk, false, true};
+ghost use Rattle.std.specs.FinMap as finite;
 ghost use Rattle.state_calls.specs.Currents.{IsCurrent, LeavesNobody, LosesNoWake, MayRun, now_runs, number_in, runner};
 ghost use Rattle.state_calls.specs.Ends.{Ends, MayEnd};
 ghost use Rattle.state_calls.specs.Named.{IsLive};
 ghost use Rattle.task_calls.specs.Tasks.{Begins, entries_of, task_made};
+ghost use Rattle.task_group.specs.Groups.{finish_all};
 ghost use Rattle.task_group.specs.Listeners.{Told};
 ghost use Rattle.task_loop.specs.Told.{TellsGroups, asked_now, begin_notices, begun_notices, start_of_group};
 ghost use Rattle.task_machine.specs.Maps.{get};
@@ -22,7 +24,7 @@ use group_notices::Asked;
 use record_core::TaskCore;
 use state_calls::CurrentThread;
 use task_calls::{QualifiedThreadId, TaskError};
-use task_group::TaskGroupHook;
+use task_group::{Groups, TaskGroupHook};
 use task_machine::{ExportKind, Trap};
 use task_store::Store;
 use task_words::{ResultWords, ThreadWords, View};
@@ -42,6 +44,9 @@ fn make_with_group<T, H, G: TaskGroupHook>(
     ensures refused { OnErr result (store.new.groups.listeners ≡ store.old.groups.listeners) }
     ensures rest { store.new ≡ record store.old { state = store.new.state; groups = store.new.groups } }
 {
+    if !store.state.fits(4) {
+        return Err(TaskError::Trap(Trap::TableFull));
+    }
     let group = store.state.made().groups + 1;
     let _made = store.groups.made();
     let Ok(()) = store.groups.prepare(group) else {
@@ -85,6 +90,17 @@ fn make<T, H, G: TaskGroupHook>(
     }
 }
 
+// In a trapped store all groups are finished.
+fn settle<G: TaskGroupHook>(core: &TaskCore, groups: &mut Groups<G>)
+    ensures open { core.now.core.trapped ≡ false → groups.new ≡ groups.old }
+    ensures live { core.now.core.trapped ≡ true → (groups.new.live ≡ finite.empty) × (groups.new.made ≡ groups.old.made) }
+    ensures told { core.now.core.trapped ≡ true → Told (finish_all groups.old.live) groups.old.listeners groups.new.listeners }
+{
+    if core.trapped() {
+        groups.clean_up(None);
+    }
+}
+
 /// Makes a call of this kind, of the first export of an instance, and answers its first thread, as `new_guest_task` of the
 /// store's state does. It is of the group of the caller's call, or of a new one where it has no caller, which the groups are
 /// told. Refused with trap 18 exactly where its entries, 3 or 4 with the group, don't fit into the table; then, and where
@@ -105,11 +121,13 @@ pub fn new_guest_task<T, H, G: TaskGroupHook>(
     ensures refused { OnErr result (store.new.groups.listeners ≡ store.old.groups.listeners) }
     ensures rest { store.new ≡ record store.old { state = store.new.state; groups = store.new.groups } }
 {
-    let id = make(store, kind, instance, caller)?;
-    if store.trapped() {
-        store.groups.clean_up(None);
+    match make(store, kind, instance, caller) {
+        Ok(id) => {
+            settle(&store.state, &mut store.groups);
+            Ok(id)
+        }
+        Err(e) => Err(e),
     }
-    Ok(id)
 }
 
 /// Another thread runs from now on, or none, and the thread that ran is answered, as `set_thread` of the store's state does. The

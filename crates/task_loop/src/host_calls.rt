@@ -1,5 +1,5 @@
 //! Calls of hosts by an instance, of works that the host makes.
-ghost use Rattle.std.specs.Prelude.{◌==◌, ◌≡◌, ◌<◌, ℕ, IsSome, cond, is_ok};
+ghost use Rattle.std.specs.Prelude.{◌==◌, ◌≡◌, ◌<◌, ℕ, cond, is_ok};
 ghost use Rattle.task_calls.specs.Answers.{at_once, number_in};
 ghost use Rattle.task_calls.specs.Asks.{Answers, CanAsk, IsAtPlace, IsRunningIn, turn_in};
 ghost use Rattle.task_calls.specs.Polled.{blocks_row, polls_row, value_in};
@@ -21,7 +21,6 @@ fn settle<T, H: AccessorTask<T>, G: TaskGroupHook, A>(
     number: u64,
     answer: &Result<A, TaskError>,
 )
-    requires { IsSome (held_by H.course store.old number) }
     ensures left { (i : ℕ) → held_by H.course store.new i ≡ cond (number == i) (settled (is_ok answer.now) (held_by H.course store.old number)) (held_by H.course store.old i) }
     ensures rest { store.new ≡ record store.old { value = store.new.value; works = store.new.works } }
 {

@@ -1,12 +1,15 @@
 //! Polls of a run: it goes on until it yields, so that a host can do other things in between.
-ghost use Rattle.std.specs.Prelude.{[], ◌≡◌, ◌≤◌, ◌^◌, Err, false, IfOk, OnOk, true, is_some};
+ghost use Rattle.std.specs.Prelude.{[], ◌≡◌, ◌≤◌, ◌^◌, Err, false, IfOk, None, OnErr, OnOk, true, is_some};
 ghost use Rattle.group_notices.specs.Runs.{HasTold};
 ghost use Rattle.label_laws.specs.Own.{next_mark, rests_by};
+ghost use Rattle.run_pace.specs.Pace.{counted};
 ghost use Rattle.group_notices.specs.Mirror.{Mirrors};
 ghost use Rattle.task_group.specs.Listeners.{AnsweredErr};
 ghost use Rattle.task_loop.specs.Hooked.{WasRun};
 ghost use Rattle.task_loop.specs.RunPolls.{Answered, Paused, run_answer};
+ghost use Rattle.task_loop.specs.declared.polls.RunPoll.TheVariants as answers;
 ghost use Rattle.task_loop.specs.Standing.{standing};
+ghost use Rattle.task_machine.specs.declared.records.Turn.TheVariants as turns;
 ghost use Rattle.task_store.specs.Groups.{HoldsGroups};
 ghost use Rattle.task_store.specs.Hosts.{HoldsHosts};
 ghost use Rattle.task_turns.specs.Does.{DoesAdded};
@@ -134,6 +137,29 @@ impl RunConcurrent {
         }
     }
 
+    // Nothing can go on. No entry was taken by that.
+    fn idles(&mut self) -> RunPoll
+        ensures answer { result ≡ answers.Idle }
+        ensures new { self.new ≡ record self.old { pace = self.new.pace } }
+        ensures since { self.new.pace.since ≡ counted self.old.pace.since None }
+        ensures passes { self.new.pace.passes ≡ false }
+    {
+        self.pace = self.pace.after(None);
+        RunPoll::Idle
+    }
+
+    // The run is over, and has come to this.
+    fn ends(&mut self, outcome: Outcome) -> Result<RunPoll, TaskError>
+        ensures answer { result ≡ run_answer outcome }
+        ensures new { self.new ≡ record self.old { turn = turns.Over; pace = self.new.pace } }
+        ensures since { self.new.pace.since ≡ counted self.old.pace.since None }
+        ensures passes { self.new.pace.passes ≡ false }
+    {
+        self.turn = Turn::Over;
+        self.pace = self.pace.after(None);
+        answer_of(outcome)
+    }
+
     // Takes the turns.
     fn poll_on<T, H: AccessorTask<T> + FromHost, G: TaskGroupHook, M: MainTask<T, H, G>>(
         &mut self,
@@ -175,20 +201,9 @@ impl RunConcurrent {
                 return Ok(Ok(RunPoll::Yielded));
             }
             let rests = rests(self.turn, next);
-            let stepped = match self.turn(component, store, main, trace, &mut running) {
-                Ok(stepped) => stepped,
-                Err(halt) => return Err(halt),
-            };
-            match stepped {
-                None => {
-                    self.pace = self.pace.after(None);
-                    return Ok(Ok(RunPoll::Idle));
-                }
-                Some(Stepped::Over(outcome)) => {
-                    self.turn = Turn::Over;
-                    self.pace = self.pace.after(None);
-                    return Ok(answer_of(outcome));
-                }
+            match self.turn(component, store, main, trace, &mut running)? {
+                None => return Ok(Ok(self.idles())),
+                Some(Stepped::Over(outcome)) => return Ok(self.ends(outcome)),
                 Some(Stepped::Goes { turn, computed }) => {
                     self.turn = turn;
                     self.pace = self.pace.after(next);
@@ -212,8 +227,7 @@ impl RunConcurrent {
             }
         }
         if is_idle(&store.state, self.turn, self.trap_on_idle) {
-            self.pace = self.pace.after(None);
-            return Ok(Ok(RunPoll::Idle));
+            return Ok(Ok(self.idles()));
         }
         self.pace = Pace::yielded(false);
         Ok(Ok(RunPoll::Yielded))

@@ -4,12 +4,13 @@ ghost use Rattle.group_notices.specs.Mirror.{Mirrors};
 ghost use Rattle.group_notices.specs.Runs.{HasTold};
 ghost use Rattle.task_group.specs.Listeners.{AnsweredErr, Told};
 ghost use Rattle.task_loop.specs.Told.{RunTold, TurnTold, group_running, main_notices, turn_of};
+ghost use Rattle.op_dispatch.specs.Fits.{calls_host};
 ghost use Rattle.task_machine.specs.Read.{thread_group};
 ghost use Rattle.task_ops.specs.Works.{NamesWorks};
 ghost use Rattle.task_machine.specs.Core.{Main};
 ghost use Rattle.task_rules.specs.Notices.{running_group};
 ghost use Rattle.task_rules.specs.Stalled.{Setting};
-ghost use Rattle.task_rules.specs.Outcome.{outcome_of_label};
+ghost use Rattle.task_rules.specs.Scripts.{op_of};
 ghost use Rattle.task_store.specs.Groups.{HoldsGroups};
 ghost use Rattle.task_loop.specs.Hooked.{FailsMain, StopsTurn, Undisturbed, WasRun, hook_failed};
 ghost use Rattle.task_loop.specs.Paces.{Paces};
@@ -19,7 +20,7 @@ ghost use Rattle.task_turns.specs.WellFormed.{IsWellFormed};
 ghost use Rattle.task_turns.specs.Does.{DoesAdded, DoesStep, step_of, step_shown};
 ghost use Rattle.task_turns.specs.Drive.{Drives, Drove, WasGoing};
 ghost use Rattle.task_turns.specs.Main.{Steps};
-ghost use Rattle.task_turns.specs.Stepped.{Added, AddedOrNone, Stands};
+ghost use Rattle.task_turns.specs.Stepped.{Added, AddedOrNone};
 ghost use Rattle.task_turns.specs.Turn.{IsAtTurn, IsFree, IsSettled, Makes, PendsIn, Sits, Turned, Turns, given, goes_on, is_open, running_of, runs_in, setting_of, state_at};
 
 use crate::main_task::MainTask;
@@ -30,7 +31,8 @@ use task_group::TaskGroupHook;
 use task_machine::{Component, NoMemory, Outcome, Trap, Turn};
 use task_store::{Access, AccessorTask, FromHost, HostWork, StandingRun, Store};
 use task_turns::{
-    Made, MainStep, RunStep, Stepped, Trace, compute, is_idle, made_by_main, put, step_run, take,
+    MainStep, RunStep, Stepped, Trace, compute, is_idle, made_by_main, put, step_call, step_run,
+    take,
 };
 
 /// A run of the event loop on a store.
@@ -145,14 +147,31 @@ fn step_main<T, H: HostWork, G: TaskGroupHook, M: MainTask<T, H, G>>(
     Ok(stepped)
 }
 
-// Adds the label of a step that called a host. It is out of line, as few steps do so.
+// The running thread, which has this number, does its op, which calls a host: that is polled, and its work is held. It is out
+// of line, as few ops do so.
 #[inline(never)]
-fn put_called(trace: &mut Trace, made: Made) -> Result<Stepped, NoMemory>
-    requires over { is_none (outcome_of_label made.label) ≡ is_open made.turn }
-    ensures stands { IfOk result (λ stepped. Stands stepped trace.old made trace.new) }
+fn call_host<T, H: AccessorTask<T> + FromHost, G: TaskGroupHook>(
+    component: &Component,
+    store: &mut Store<T, H, G>,
+    thread: u64,
+    trace: &mut Trace,
+) -> Result<Stepped, NoMemory>
+    requires covered { IsWellFormed component.now }
+    requires order { Sits component.now (Turn.Run thread) store.old.state.core }
+    requires current { running_of store.old.state ≡ Some thread }
+    requires given { given store.old.state.core + 4 < 2 ^ 61 }
+    requires calls { calls_host (op_of component.now thread store.old.state.core) ≡ true }
+    requires hosts { HoldsHosts H.course store.old }
+    ensures stands { standing store.new ≡ standing store.old }
+    ensures makes { IfOk result (λ stepped. Added (λ made. Makes component.now (Turn.Run thread) store.old.state made store.new.state × IsFree made.turn) stepped trace.old trace.new) }
+    ensures works { OnOk result (NamesWorks store.old.state store.new.state) }
+    ensures hosts { OnOk result (HoldsHosts H.course store.new) }
+    ensures groups { OnOk result (store.new.groups ≡ store.old.groups) }
     ensures err { OnErr result (trace.new ≡ trace.old) }
 {
-    put(trace, made)
+    let ran = step_call(component, &mut store.state, thread)?;
+    store.call_host(ran.polled, ran.work)?;
+    put(trace, ran.made)
 }
 
 // The running thread, which has this number, takes a step. A host that it calls is polled, and its
@@ -184,10 +203,7 @@ fn step_thread<T, H: AccessorTask<T> + FromHost, G: TaskGroupHook>(
     };
     match step {
         RunStep::Shown(stepped) => Ok(stepped),
-        RunStep::Called(ran) => {
-            store.call_host(ran.polled, ran.work)?;
-            put_called(trace, ran.made)
-        }
+        RunStep::Calls => call_host(component, store, thread, trace),
     }
 }
 

@@ -13,7 +13,9 @@ use Rattle.task_machine.specs.declared.component.Callee.{Callee}
 use Rattle.task_machine.specs.declared.records.Call.{Call}
 use Rattle.task_moves.proofs.TellLemmas.{map_or_is}
 use Rattle.task_words.specs.Apart.{IsApart}
-use Rattle.task_words.specs.StateView.{KeepsBut, StateView, call_of, lost_thread, on_core, thread_of}
+use Rattle.task_moves.specs.Gone.{HasEnded, KeepsLive, lost_both}
+use Rattle.task_words.specs.Becomes.{BecomesBut}
+use Rattle.task_words.specs.StateView.{KeepsBut, StateView, call_of, lost_call, lost_thread, on_core, set_number, thread_number, thread_of, work_number}
 
 exited_instance : (b : Bool) (k n : ℕ) (s : Core) → instance_of n (exited_if b k s) ≡ instance_of n s
 unfolding set_exited on_call
@@ -40,10 +42,10 @@ positive n live e = absurd (none (subst (λ k. 0 < k) e live))
     none h = omega (arith, h)
 
 -- the call keeps its id where the thread is gone
-pub call_kept : (n : ℕ) (k : TableId GuestTaskKey) (t u : StateView) → 0 < call_of t k → KeepsBut (lost_thread n) t.tags u.tags → call_of u k ≡ call_of t k
+call_kept : (n : ℕ) (k : TableId GuestTaskKey) (t u : StateView) → 0 < call_of t k → KeepsBut (lost_thread n) t.tags u.tags → call_of u k ≡ call_of t k
 call_kept n k t u live keeps = keeps.calls k (positive (call_of t k) live)
 
-pub ended_is : (n : TableId ThreadKey) (k : TableId GuestTaskKey) (s t u v x : StateView) → call_of s k ≡ task_of (thread_of s n) s.core → t ≡ on_core (exited_if (is_explicit (thread_of s n) s.core) (call_of s k)) s → u.core ≡ remove_thread (thread_of t n) (freed_thread_handle (instance_of (thread_of t n) t.core) (thread_handle_of (thread_of t n) t.core) t.core) → call_of u k ≡ call_of t k → v ≡ on_core (interest_settled (call_of u k)) u → x.core ≡ call_settled (call_of v k) v.core → x.core ≡ ended (thread_of s n) s.core
+ended_is : (n : TableId ThreadKey) (k : TableId GuestTaskKey) (s t u v x : StateView) → call_of s k ≡ task_of (thread_of s n) s.core → t ≡ on_core (exited_if (is_explicit (thread_of s n) s.core) (call_of s k)) s → u.core ≡ remove_thread (thread_of t n) (freed_thread_handle (instance_of (thread_of t n) t.core) (thread_handle_of (thread_of t n) t.core) t.core) → call_of u k ≡ call_of t k → v ≡ on_core (interest_settled (call_of u k)) u → x.core ≡ call_settled (call_of v k) v.core → x.core ≡ ended (thread_of s n) s.core
 unfolding ended
 ended_is n k s t u v x task a b kept d e =
     let N = thread_of s n in
@@ -54,3 +56,33 @@ ended_is n k s t u v x task a b kept d e =
     let gone = b ∙ (ap₂ (λ (j : ℕ) (c : Core). remove_thread j (freed_thread_handle (instance_of j c) (thread_handle_of j c) c)) (ap (λ (y : StateView). thread_of y n) a) core_t
     ∙ ap₂ (λ (i : ℕ) (h : Option ℕ). remove_thread N (freed_thread_handle i h over)) (exited_instance (is_explicit N s.core) K N s.core) (exited_handle (is_explicit N s.core) K N s.core)) in
     e ∙ (ap (λ (y : StateView). call_settled (call_of y k) y.core) d ∙ ap₂ (λ (j : ℕ) (c : Core). call_settled j (interest_settled j c)) (kept ∙ named) gone)
+
+-- what is lost is the thread's name and the call's
+ended_names : (n : TableId ThreadKey) (k : TableId GuestTaskKey) (call : ℕ) (s u x : StateView) → KeepsBut (lost_thread (thread_of s n)) s.tags u.tags → KeepsBut (lost_call (call_of u k)) u.tags x.tags → call_of u k ≡ call → KeepsLive (lost_both (thread_of s n) call) s.tags x.tags
+ended_names n k call s u x one two named = record {
+  threads = λ id live other. two.threads id (still (thread_number u.tags id) _ (one.threads id other) live) ∙ one.threads id other;
+  calls = λ id live other.
+      let same = one.calls id (positive _ live) in
+      two.calls id (λ e. other (sym same ∙ (e ∙ named))) ∙ same;
+  sets = λ id live.
+      let same = one.sets id (positive _ live) in
+      two.sets id (still (set_number u.tags id) _ same live) ∙ same;
+  works = λ id live.
+      let same = one.works id (positive _ live) in
+      two.works id (still (work_number u.tags id) _ same live) ∙ same;
+}
+  where
+    still : (i j : ℕ) → i ≡ j → 0 < j → i ≢ 0
+    still i j e live = positive i (subst (λ k. 0 < k) (sym e) live)
+
+pub has_ended : (n : TableId ThreadKey) (k : TableId GuestTaskKey) (s t u v x : StateView) → call_of s k ≡ task_of (thread_of s n) s.core → 0 < call_of s k → t ≡ on_core (exited_if (is_explicit (thread_of s n) s.core) (call_of s k)) s → BecomesBut (lost_thread (thread_of t n)) (remove_thread (thread_of t n) (freed_thread_handle (instance_of (thread_of t n) t.core) (thread_handle_of (thread_of t n) t.core) t.core)) t u → v ≡ on_core (interest_settled (call_of u k)) u → BecomesBut (lost_call (call_of v k)) (call_settled (call_of v k) v.core) v x → HasEnded (thread_of s n) s x
+has_ended n k s t u v x task live a gone d settled =
+    let kept = call_kept _ k t u (subst (λ (y : StateView). 0 < call_of y k) (sym a) live) gone.tags in
+    record {
+      core = ended_is n k s t u v x task a gone.core kept d settled.core;
+      current = settled.current ∙ (ap (λ (y : StateView). y.current) d ∙ (gone.current ∙ ap (λ (y : StateView). y.current) a));
+      tags = ended_names n k (task_of (thread_of s n) s.core) s u x
+          (subst (λ (y : StateView). KeepsBut (lost_thread (thread_of y n)) y.tags u.tags) a gone.tags)
+          (subst (λ (y : StateView). KeepsBut (lost_call (call_of y k)) y.tags x.tags) d settled.tags)
+          (kept ∙ (ap (λ (y : StateView). call_of y k) a ∙ task));
+    }

@@ -5,7 +5,10 @@ use Rattle.task_wait.specs.declared.keys.GuestTaskKey.{GuestTaskKey}
 use Rattle.task_wait.specs.declared.keys.HostTaskKey.{HostTaskKey}
 use Rattle.task_wait.specs.declared.keys.SetKey.{SetKey}
 use Rattle.task_wait.specs.declared.keys.ThreadKey.{ThreadKey}
-use Rattle.task_words.specs.StateView.{Lost, Tags, call_number, nothing_lost, set_number, thread_number, work_number}
+use Rattle.task_machine.specs.Moves.{ended}
+use Rattle.task_machine.specs.Read.{task_of}
+use Rattle.task_words.specs.Becomes.{Turns}
+use Rattle.task_words.specs.StateView.{Lost, StateView, Tags, call_number, nothing_lost, set_number, thread_number, work_number}
 
 abbrev pub lost_both : ℕ → ℕ → Lost
 lost_both n k = record nothing_lost { thread = n; call = k }
@@ -18,3 +21,7 @@ pub record KeepsLive (lost : Lost) (old new : Tags) : Type 0 where
       call_number new id ≡ call_number old id
   pub sets : (id : TableId SetKey) → 0 < set_number old id → set_number new id ≡ set_number old id
   pub works : (id : TableId HostTaskKey) → 0 < work_number old id → work_number new id ≡ work_number old id
+
+-- The thread has ended, and what that settles is done; its ids and, if it is gone, those of its call name nothing.
+abbrev pub HasEnded : ℕ → StateView → StateView → Type 0
+HasEnded n s = Turns (KeepsLive (lost_both n (task_of n s.core))) (ended n s.core) s

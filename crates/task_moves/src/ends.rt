@@ -1,8 +1,8 @@
 //! The end of a thread.
 ghost use Rattle.std.specs.Prelude.{◌≡◌, ◌<◌};
-ghost use Rattle.task_machine.specs.Moves.{ended, exited_if};
+ghost use Rattle.task_machine.specs.Moves.{exited_if};
 ghost use Rattle.task_machine.specs.Read.{is_explicit, task_of};
-ghost use Rattle.task_moves.specs.Gone.{KeepsLive, lost_both};
+ghost use Rattle.task_moves.specs.Gone.{HasEnded};
 ghost use Rattle.task_words.specs.Apart.{IsApart};
 ghost use Rattle.task_words.specs.StateView.{call_of, on_core, thread_of};
 
@@ -25,9 +25,7 @@ pub fn end_thread_in<W: Words>(w: &mut W, thread: ThreadId, call: CallId)
     requires named { 0 < call_of (W.view w.old) call }
     requires call { call_of (W.view w.old) call ≡ task_of (thread_of (W.view w.old) thread) (W.view w.old).core }
     requires apart { IsApart (thread_of (W.view w.old) thread) (W.view w.old).core }
-    ensures core { (W.view w.new).core ≡ ended (thread_of (W.view w.old) thread) (W.view w.old).core }
-    ensures current { (W.view w.new).current ≡ (W.view w.old).current }
-    ensures tags { KeepsLive (lost_both (thread_of (W.view w.old) thread) (task_of (thread_of (W.view w.old) thread) (W.view w.old).core)) (W.view w.old).tags (W.view w.new).tags }
+    ensures { HasEnded (thread_of (W.view w.old) thread) (W.view w.old) (W.view w.new) }
 {
     exit_task(w, thread, call);
     w.retire_thread(thread);
@@ -40,9 +38,7 @@ pub fn end_thread_in<W: Words>(w: &mut W, thread: ThreadId, call: CallId)
 pub fn end_thread<W: Words>(w: &mut W, thread: ThreadId)
     requires live { 0 < thread_of (W.view w.old) thread }
     requires apart { IsApart (thread_of (W.view w.old) thread) (W.view w.old).core }
-    ensures core { (W.view w.new).core ≡ ended (thread_of (W.view w.old) thread) (W.view w.old).core }
-    ensures current { (W.view w.new).current ≡ (W.view w.old).current }
-    ensures tags { KeepsLive (lost_both (thread_of (W.view w.old) thread) (task_of (thread_of (W.view w.old) thread) (W.view w.old).core)) (W.view w.old).tags (W.view w.new).tags }
+    ensures { HasEnded (thread_of (W.view w.old) thread) (W.view w.old) (W.view w.new) }
 {
     let call = w.task_of(thread);
     end_thread_in(w, thread, call);

@@ -1,7 +1,8 @@
 //! What the end of a thread settles.
 ghost use Rattle.std.specs.Prelude.{◌≡◌, ◌<◌};
 ghost use Rattle.task_machine.specs.Moves.{call_settled, interest_settled};
-ghost use Rattle.task_words.specs.StateView.{KeepsBut, call_of, lost_call, on_core};
+ghost use Rattle.task_words.specs.Becomes.{BecomesBut};
+ghost use Rattle.task_words.specs.StateView.{call_of, lost_call, on_core};
 
 use task_words::{CallId, Words};
 
@@ -20,9 +21,7 @@ pub fn settle_interest<W: Words>(w: &mut W, call: CallId)
 #[inline(always)]
 pub fn settle_call<W: Words>(w: &mut W, call: CallId)
     requires { 0 < call_of (W.view w.old) call }
-    ensures core { (W.view w.new).core ≡ call_settled (call_of (W.view w.old) call) (W.view w.old).core }
-    ensures current { (W.view w.new).current ≡ (W.view w.old).current }
-    ensures tags { KeepsBut (lost_call (call_of (W.view w.old) call)) (W.view w.old).tags (W.view w.new).tags }
+    ensures { BecomesBut (lost_call (call_of (W.view w.old) call)) (call_settled (call_of (W.view w.old) call) (W.view w.old).core) (W.view w.old) (W.view w.new) }
 {
     if w.is_deletable(call) {
         w.delete_call(call);

@@ -1,15 +1,23 @@
 -- Backpressure, by its count.
-use Rattle.std.proofs.Common.{ap, ap₂, refl, subst, sym, ◌∙◌}
-use Rattle.std.specs.Prelude.{IsPermutation, List, [], suc, zero, ℕ, ◌+◌, ◌-◌, ◌<◌, ◌≡◌}
+use Rattle.std.proofs.Common.{ap, ap₂, arith, cond, refl, subst, sym, ◌∙◌}
+use Rattle.std.proofs.lemmas.Bool.Decides.{nat_tests}
+use Rattle.std.proofs.lemmas.List.Sorted.{IsPermutation-refl}
+use Rattle.std.specs.Prelude.{◌&&◌, Bool, IsPermutation, List, [], false, filter, None, Option, option_and_then, Some, suc, true, zero, ℕ, ◌+◌, ◌-◌, ◌==◌, ◌<◌, ◌≡◌, ◌∷◌}
+use Rattle.task_laws.specs.Wakes.{NoneAdmitted}
 use Rattle.task_table.specs.declared.id.TableId.{TableId}
 use Rattle.task_wait.specs.declared.keys.ThreadKey.{ThreadKey}
+use Rattle.task_machine.proofs.CommuteLemmas.{get-change}
 use Rattle.task_machine.specs.Core.{Core}
+use Rattle.task_machine.specs.Maps.{numbers}
 use Rattle.task_machine.specs.Moves.{released}
-use Rattle.task_machine.specs.Read.{admitted_held, backpressure_of, instance_of, position_of}
-use Rattle.task_machine.specs.Write.{set_backpressure}
+use Rattle.task_machine.specs.Read.{admits, admitted_held, backpressure_of, held_why, instance_of, is_held_admitted, may_not_enter, place_of, position_of}
+use Rattle.task_machine.specs.Write.{on_instance, set_backpressure}
 use Rattle.task_machine.specs.declared.label.Label.TheVariants as label
 use Rattle.task_machine.specs.declared.label.TaskLabel.TheVariants as task_label
+use Rattle.task_machine.specs.declared.records.Place.{Place}
 use Rattle.task_machine.specs.declared.records.Place.TheVariants as place
+use Rattle.task_machine.specs.declared.records.Why.{Why}
+use Rattle.task_machine.specs.declared.records.Why.TheVariants as why
 use Rattle.task_ops.specs.Came.{Meets}
 use Rattle.task_ops.specs.declared.came.Came.TheVariants as came
 use Rattle.task_ops.proofs.PositionLemmas.{position_pressure, position_released}
@@ -36,6 +44,58 @@ pub opened_position : (n : TableId ThreadKey) (i k b : ℕ) (s t u : StateView) 
 opened_position n i k b s t u small e o =
     let kept = ap (λ (v : StateView). position_of (thread_of v n) v.core) o.1.1 ∙ (position_released (thread_of t n) o.0 t.core ∙ (ap (λ (v : StateView). position_of (thread_of v n) v.core) e ∙ position_pressure (thread_of s n) i k s.core)) in
     subst (λ (p : ℕ). p + 1 < b) (sym kept) small
+
+-- ---- An instance that keeps entries out
+
+and_parts : (a b : Bool) → (a && b) ≡ true → (a ≡ true) × (b ≡ true)
+and_parts true b is = (refl, is)
+and_parts false b is = absurd (cc)
+
+same_flag : (i k : ℕ) (s : Core) → may_not_enter i (set_backpressure i k s) ≡ may_not_enter i s
+unfolding set_backpressure on_instance
+same_flag i k s = grind (arith, nat_tests, get-change)
+
+held_place : (o : Option Place) (w : Why) → option_and_then held_why o ≡ Some w → o ≡ Some (place.Held w)
+held_place o w is = grind arith
+
+-- an entry of a thread there that wasn't admitted isn't yet, whatever the count
+still_out : (i k : ℕ) (s : Core) (n : ℕ) (w : Why) → admits n s w ≡ false → may_not_enter i s ≡ true → (instance_of n s == i) ≡ true →
+    admits n (set_backpressure i k s) w ≡ true → ⊥
+unfolding set_backpressure on_instance
+still_out i k s n why.Start was out home is = absurd (grind (arith, nat_tests, get-change))
+still_out i k s n (why.Delivery d) was out home is = absurd (grind (arith, nat_tests, get-change))
+still_out i k s n why.Resumption was out home is = absurd (cc)
+
+none_admitted : (i k : ℕ) (s : Core) → NoneAdmitted s → may_not_enter i s ≡ true → (n : ℕ) →
+    is_held_admitted i (set_backpressure i k s) n (option_and_then held_why (place_of n s)) ≡ true → ⊥
+unfolding set_backpressure on_instance
+none_admitted i k s q out n is = by (option_and_then held_why (place_of n s)) refl is
+  where
+    by : (o : Option Why) → option_and_then held_why (place_of n s) ≡ o → is_held_admitted i (set_backpressure i k s) n o ≡ true → ⊥
+    by None at is = absurd (cc)
+    by (Some w) at is = let both = and_parts (instance_of n s == i) _ is in still_out i k s n w (q n w (held_place (place_of n s) w at)) out both.0 both.1
+
+none_passes : (test : ℕ → Bool) (ns : List ℕ) → ((n : ℕ) → test n ≡ true → ⊥) → filter test ns ≡ []
+none_passes test [] none = refl
+none_passes test (n ∷ ns) none = by (none_passes test ns none) (test n) refl
+  where
+    by : filter test ns ≡ [] → (t : Bool) → test n ≡ t → cond t (n ∷ filter test ns) (filter test ns) ≡ []
+    by rest true is = absurd (none n is)
+    by rest false is = rest
+
+none_held : (i k : ℕ) (s : Core) → NoneAdmitted s → may_not_enter i s ≡ true → admitted_held i (set_backpressure i k s) ≡ []
+unfolding admitted_held set_backpressure on_instance
+none_held i k s q out = none_passes _ (numbers s.threads) (none_admitted i k s q out)
+
+pub none_let_in : (i k : ℕ) (s t : StateView) → NoneAdmitted s.core → t ≡ on_core (set_backpressure i k) s → may_not_enter i t.core ≡ true →
+    admitted_held i t.core ≡ []
+none_let_in i k s t q e out =
+    ap (λ (v : StateView). admitted_held i v.core) e
+    ∙ none_held i k s.core q (sym (same_flag i k s.core) ∙ (sym (ap (λ (v : StateView). may_not_enter i v.core) e) ∙ out))
+
+pub released_none : (i : ℕ) (s : StateView) → admitted_held i s.core ≡ [] → Opened i s s
+unfolding released
+released_none i s none = ([], (subst (λ l. IsPermutation l []) (sym none) (IsPermutation-refl []), refl))
 
 same_came : (m n : ℕ) → m ≡ n → came.Goes (label.Task (task_label.BpDec m)) m ≡ came.Goes (label.Task (task_label.BpDec n)) n
 same_came m n e = ap (λ (k : ℕ). came.Goes (label.Task (task_label.BpDec k)) k) e

@@ -8,7 +8,7 @@ use Rattle.task_machine.specs.Core.{Core}
 use Rattle.task_machine.specs.Write.{add_thread, give_thread_handle, giving, set_thread_handle}
 use Rattle.task_machine.specs.Maps.{change, get, get-insert}
 use Rattle.task_machine.specs.Moves.{promoted_unless, put_switch}
-use Rattle.task_machine.specs.Read.{at_handle_limit, fits, how_far_of, instance_of, is_explicit, is_ready_to_resume, is_yielded, new_thread_handle, place_of, position_of, task_of, thread_at}
+use Rattle.task_machine.specs.Read.{at_handle_limit, call_instance, fits, how_far_of, instance_of, is_explicit, is_ready_to_resume, is_yielded, new_thread_handle, place_of, position_of, task_of, thread_at}
 use Rattle.task_machine.specs.declared.seq.Seq.{Seq}
 use Rattle.task_machine.specs.declared.component.Slot.{Slot}
 use Rattle.task_machine.specs.declared.component.Slot.TheVariants as slot
@@ -347,11 +347,11 @@ new_row_is n r x v ops s room limit =
     ap (λ b. trap_if (not b) trap.TableFull (trap_if (at_handle_limit s) trap.HandleLimit (Goes (thread_new_label n s) (thread_made n r x v s) n))) room
     ∙ ap (λ b. trap_if b trap.HandleLimit (Goes (thread_new_label n s) (thread_made n r x v s) n)) limit
 
-pub thread_new_meets : (n : TableId ThreadKey) (r x v k h w m o : ℕ) (line : Slot) (ops : Seq Op) (s t u : StateView) → line ≡ slot.Script ops → fits 2 s.core ≡ true → at_handle_limit s.core ≡ false → 0 < thread_of s n → Keeps s.tags t.tags → k ≡ task_of (thread_of s n) s.core → h ≡ new_thread_handle (instance_of (thread_of s n) s.core) s.core → w ≡ h → m ≡ thread_of s n → o ≡ next_thread s.core → t.core ≡ with_thread (instance_of (thread_of s n) s.core) k x v s.core → u ≡ on_core (assigned (thread_of t n) r w) t → Meets (thread_new_row (thread_of s n) r x v s.core line) s.core (came.Goes (label.Thread (thread_label.New h m o)) m) u.core
+pub thread_new_meets : (n : TableId ThreadKey) (r x v k h w m o : ℕ) (line : Slot) (ops : Seq Op) (s t u : StateView) → line ≡ slot.Script ops → fits 2 s.core ≡ true → at_handle_limit s.core ≡ false → 0 < thread_of s n → Keeps s.tags t.tags → k ≡ task_of (thread_of s n) s.core → h ≡ new_thread_handle (instance_of (thread_of s n) s.core) s.core → w ≡ h → m ≡ thread_of s n → o ≡ next_thread s.core → t.core ≡ with_thread (call_instance k s.core) k x v s.core → u ≡ on_core (assigned (thread_of t n) r w) t → Meets (thread_new_row (thread_of s n) r x v s.core line) s.core (came.Goes (label.Thread (thread_label.New h m o)) m) u.core
 unfolding thread_made
 thread_new_meets n r x v k h w m o line ops s t u is room limit live keeps task handle same number other e d =
     let N = thread_of s n in
     let I = instance_of N s.core in
-    let core = ap (λ (y : StateView). y.core) d ∙ (ap₂ (λ (j : ℕ) (c : Core). assigned j r w c) (keeps.threads n live) e ∙ ap₂ (λ (j g : ℕ). assigned N r g (with_thread I j x v s.core)) task (same ∙ handle)) in
+    let core = ap (λ (y : StateView). y.core) d ∙ (ap₂ (λ (j : ℕ) (c : Core). assigned j r w c) (keeps.threads n live) e ∙ ap₂ (λ (j g : ℕ). assigned N r g (with_thread (call_instance j s.core) j x v s.core)) task (same ∙ handle)) in
     let came_is = ap₂ (λ (g j : ℕ). came.Goes (label.Thread (thread_label.New g j o)) j) handle number ∙ ap (λ (j : ℕ). came.Goes (label.Thread (thread_label.New (new_thread_handle I s.core) N j)) N) other in
     subst (λ (p : Progress). Meets p s.core (came.Goes (label.Thread (thread_label.New h m o)) m) u.core) (sym (ap (thread_new_row N r x v s.core) is ∙ new_row_is N r x v ops s.core room limit)) (came_is, core)

@@ -1,5 +1,6 @@
 //! Backpressure.
 ghost use Rattle.std.specs.Prelude.{◌≡◌, ◌+◌, ◌<◌, ◌^◌};
+ghost use Rattle.task_laws.specs.Wakes.{NoneAdmitted};
 ghost use Rattle.task_machine.specs.Read.{position_of};
 ghost use Rattle.task_ops.specs.Came.{Meets};
 ghost use Rattle.task_ops.specs.Running.{IsRunning};
@@ -29,10 +30,11 @@ pub fn raise<W: Words>(w: &mut W, thread: ThreadId) -> Came
     Came::Goes(Label::Task(TaskLabel::BpInc(number)), number)
 }
 
-/// `bp_dec`
+/// `bp_dec`. Where the instance keeps entries out, none of its held threads is admitted, and these aren't looked at.
 #[tactic(auto, using(crate::proofs::PositionLemmas::position_pressure))]
 pub fn lower<W: Words>(w: &mut W, thread: ThreadId) -> Came
     requires running { IsRunning (thread_of (W.view w.old) thread) (W.view w.old).core }
+    requires held { NoneAdmitted (W.view w.old).core }
     requires position { position_of (thread_of (W.view w.old) thread) (W.view w.old).core + 1 < 2 ^ 32 }
     ensures meets { Meets (dec_row (thread_of (W.view w.old) thread) (W.view w.old).core) (W.view w.old).core result (W.view w.new).core }
     ensures tags { (W.view w.new).tags ≡ (W.view w.old).tags }
@@ -47,6 +49,10 @@ pub fn lower<W: Words>(w: &mut W, thread: ThreadId) -> Came
     let label = Label::Task(TaskLabel::BpDec(number));
     w.set_backpressure(instance, count - 1);
     if count == 1 {
+        if w.may_not_enter(instance) {
+            w.advance(thread);
+            return Came::Goes(label, number);
+        }
         w.release(instance);
         w.advance(thread);
         return Came::Goes(label, number);

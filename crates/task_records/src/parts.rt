@@ -15,7 +15,7 @@ use std::collections::BTreeMap;
 use table_order::{SeatLinks, TablePlaces};
 use task_handles::HandleCounter;
 use task_links::{Links, Node};
-use task_machine::Made;
+use task_machine::{Entry, Made};
 use task_table::{ResourceTable, TableId};
 use task_wait::ThreadKey;
 
@@ -96,6 +96,28 @@ const NOTHING_KEPT: Kept = Kept {
     moving: 0,
 };
 
+// What stands in the chains' cells before they have a value.
+const NO_NODE: Node = Node { index: 0 };
+
+const NO_WORK: LiveWork = LiveWork {
+    number: 0,
+    place: 0,
+};
+
+const NO_THREAD: Follower = Follower {
+    number: 0,
+    place: 0,
+    node: NO_NODE,
+};
+
+const NO_ENTRY: Queued = Queued {
+    entry: Entry::Thread { thread: 0 },
+    place: 0,
+    instance: None,
+    mark: NO_NODE,
+    shelf: NO_NODE,
+};
+
 // A table for one kind of record, whose places are as many as there can be.
 fn records<T>(alloc: Global) -> ResourceTable<Single<T>>
     ensures empty { result ≡ with_capacity 4294967295 new_table }
@@ -125,11 +147,11 @@ impl CoreParts {
             places: SeatLinks::new(alloc),
             ready_calls: SeatLinks::new(alloc),
             ready_works: SeatLinks::new(alloc),
-            polled: Links::new(alloc),
+            polled: Links::new(alloc, NO_WORK),
             polled_last: None,
-            marks: Links::new(alloc),
-            shelves: Links::new(alloc),
-            behind: Links::new(alloc),
+            marks: Links::new(alloc, NO_ENTRY),
+            shelves: Links::new(alloc, NO_ENTRY),
+            behind: Links::new(alloc, NO_THREAD),
             high: None,
             low: None,
             live: None,

@@ -19,21 +19,25 @@ fn copy_hosts(alloc: Global, hosts: &Seq<HostDef>) -> Result<Seq<HostDef>, Alloc
 fn copy_call(alloc: Global, op: &CallOp) -> Result<CallOp, AllocError>
     ensures { IfOk result (λ c. c ≡ op.now) }
 {
-    Ok(match op {
+    Ok(match *op {
         CallOp::Call {
             to,
             result: register,
             callee,
-            params,
+            ref params,
         } => CallOp::Call {
-            to: *to,
-            result: *register,
-            callee: *callee,
+            to,
+            result: register,
+            callee,
             params: copy_operands(alloc, params)?,
         },
-        CallOp::CallSync { to, callee, params } => CallOp::CallSync {
-            to: *to,
-            callee: *callee,
+        CallOp::CallSync {
+            to,
+            callee,
+            ref params,
+        } => CallOp::CallSync {
+            to,
+            callee,
             params: copy_operands(alloc, params)?,
         },
         CallOp::CallHost {
@@ -41,23 +45,14 @@ fn copy_call(alloc: Global, op: &CallOp) -> Result<CallOp, AllocError>
             result: register,
             host,
         } => CallOp::CallHost {
-            to: *to,
-            result: *register,
-            host: *host,
+            to,
+            result: register,
+            host,
         },
-        CallOp::CallSyncHost { to, host } => CallOp::CallSyncHost {
-            to: *to,
-            host: *host,
-        },
-        CallOp::Cancel { to, subtask } => CallOp::Cancel {
-            to: *to,
-            subtask: *subtask,
-        },
-        CallOp::CancelSync { to, subtask } => CallOp::CancelSync {
-            to: *to,
-            subtask: *subtask,
-        },
-        CallOp::Drop { subtask } => CallOp::Drop { subtask: *subtask },
+        CallOp::CallSyncHost { to, host } => CallOp::CallSyncHost { to, host },
+        CallOp::Cancel { to, subtask } => CallOp::Cancel { to, subtask },
+        CallOp::CancelSync { to, subtask } => CallOp::CancelSync { to, subtask },
+        CallOp::Drop { subtask } => CallOp::Drop { subtask },
     })
 }
 

@@ -309,11 +309,13 @@ fn spawn_work<T, H: AccessorTask<T> + FromHost, G: TaskGroupHook>(
 }
 
 // The phase of the work, which an abort is asked for; it is complete where there is no such spawn.
-fn abort<T, H, G: TaskGroupHook>(access: &mut Access<'_, T, Whole, H, G>, work: Option<SpawnHandle>) -> Phase
-    requires { IfSome work (λ h. IsSpawnedIn h access.old.store.now.state) }
+fn abort<T, H: HostWork, G: TaskGroupHook>(access: &mut Access<'_, T, Whole, H, G>, work: Option<SpawnHandle>) -> Phase
+    requires spawned { IfSome work (λ h. IsSpawnedIn h access.old.store.now.state) }
+    requires hosts { HoldsHosts H.course access.old.store.now }
     ensures same { access.new.store.ghost_name ≡ access.old.store.ghost_name }
     ensures phase { result ≡ phase_of (number_in work) access.old.store.now.state.core }
-    ensures store { access.new.store.now ≡ record access.old.store.now { state = on_core (main_aborted (number_in work)) access.old.store.now.state } }
+    ensures store { access.new.store.now ≡ record access.old.store.now { works = access.new.store.now.works; state = on_core (main_aborted (number_in work)) access.old.store.now.state } }
+    ensures hosts { HoldsHosts H.course access.new.store.now }
 {
     access.store.state.none_is_zero();
     match work {
@@ -353,9 +355,16 @@ fn abort_work<T, H: HostWork, G: TaskGroupHook>(
 }
 
 // Whether the work has ended; it has where there is no such spawn.
-fn is_complete<T, H, G: TaskGroupHook>(access: &Access<'_, T, Whole, H, G>, work: Option<SpawnHandle>) -> bool
-    requires { IfSome work (λ h. IsSpawnedIn h access.now.store.now.state) }
-    ensures { result ≡ is_complete (phase_of (number_in work) access.now.store.now.state.core) }
+fn is_complete<T, H: HostWork, G: TaskGroupHook>(
+    access: &mut Access<'_, T, Whole, H, G>,
+    work: Option<SpawnHandle>,
+) -> bool
+    requires spawned { IfSome work (λ h. IsSpawnedIn h access.old.store.now.state) }
+    requires hosts { HoldsHosts H.course access.old.store.now }
+    ensures same { access.new.store.ghost_name ≡ access.old.store.ghost_name }
+    ensures answer { result ≡ is_complete (phase_of (number_in work) access.old.store.now.state.core) }
+    ensures store { access.new.store.now ≡ record access.old.store.now { works = access.new.store.now.works } }
+    ensures hosts { HoldsHosts H.course access.new.store.now }
 {
     access.store.state.none_is_zero();
     match work {
@@ -366,18 +375,25 @@ fn is_complete<T, H, G: TaskGroupHook>(access: &Access<'_, T, Whole, H, G>, work
 
 // Main waits until the work of a spawn has ended.
 #[tactic(auto, using(std::proofs::lemmas::Option::slice_get_within))]
-fn await_work<T, H, G: TaskGroupHook>(
+fn await_work<T, H: HostWork, G: TaskGroupHook>(
     main: &mut ScriptMain<'_>,
-    access: &Access<'_, T, Whole, H, G>,
+    access: &mut Access<'_, T, Whole, H, G>,
     component: &Component,
     spawn: u32,
 ) -> MainStep
+    requires hosts { HoldsHosts H.course access.old.store.now }
     requires op { slice_get main.old.ops.now main.old.at ≡ Some (main_op.Await spawn) }
-    requires knows { KnowsSpawns main.old access.now.store.now.state }
+    requires knows { KnowsSpawns main.old access.old.store.now.state }
+    ensures same { access.new.store.ghost_name ≡ access.old.store.ghost_name }
+    ensures stands { standing access.new.store.now ≡ standing access.old.store.now }
     ensures ops { main.new.ops ≡ main.old.ops }
     ensures spawns { main.new.spawns ≡ main.old.spawns }
+    ensures current { running_of access.new.store.now.state ≡ running_of access.old.store.now.state }
+    ensures hosts { HoldsHosts H.course access.new.store.now }
+    ensures names { KeepsWorks access.old.store.now.state access.new.store.now.state }
+    ensures groups { access.new.store.now.groups ≡ access.old.store.now.groups }
     ensures unstarted { is_start (label_of_step result) ≡ false }
-    ensures ok { Steps component.now (script_of main.old) (part_of main.old) access.now.store.now.state.core result (part_of main.new) access.now.store.now.state.core }
+    ensures ok { Steps component.now (script_of main.old) (part_of main.old) access.old.store.now.state.core result (part_of main.new) access.new.store.now.state.core }
 {
     let _component = component;
     let at = main.next_place();

@@ -1,26 +1,29 @@
 -- The host works that a store holds, over the steps of the machine.
 use Rattle.std.proofs.Common.{ap, arith, inl, inr, refl, subst, sym, ⊎_elim, ◌∙◌}
 use Rattle.std.proofs.lemmas.Bool.Decides.{nat_tests}
-use Rattle.std.specs.Option.{option_and_then, option_map, option_map_or}
-use Rattle.std.specs.Prelude.{Bool, IsSome, None, Option, Some, cond, false, is_some, suc, true, zero, ℕ, ◌+◌, ◌==◌, ◌||◌, ◌≡◌, ◌≤◌, ◌⊎◌}
-use Rattle.host_works.specs.Course.{left_after, told}
-use Rattle.host_works.specs.Kept.{HoldsNone, held}
+use Rattle.std.specs.Option.{option_map, option_map_or}
+use Rattle.std.specs.Prelude.{Bool, None, Option, Some, cond, false, is_some, suc, true, zero, ℕ, ◌+◌, ◌-◌, ◌==◌, ◌||◌, ◌≡◌, ◌≤◌, ◌⊎◌}
+use Rattle.cell_laws.proofs.StayLemmas.{works_stay_running, works_stay_taken}
+use Rattle.cell_laws.specs.Cells.{IsInside, Runs, RunsWorks, StaysWork, Takes, WorksStayRunning, WorksStayTaken, is_spawned, phase_told}
+use Rattle.host_works.specs.Course.{one_fewer, told}
+use Rattle.host_works.specs.Kept.{Found, HeldWork, HoldsNone, after_abort, after_poll, answers, found_phase, held}
 use Rattle.host_works.specs.declared.kept.HostWorks.{HostWorks}
 use Rattle.host_works.specs.declared.work.HostPoll.{HostPoll}
 use Rattle.task_laws.proofs.CourseLemmas.{courses_stay, works_are_called}
-use Rattle.task_laws.specs.Courses.{CallsHost, CoursesStay, MakesWork, SameCourse, Spawns, WorksAreCalled}
+use Rattle.task_laws.specs.Courses.{CoursesStay, MakesWork, SameCourse, WorksAreCalled}
+use Rattle.task_laws.specs.Order.{InOrder}
 use Rattle.task_machine.proofs.CommuteLemmas.{get-change}
 use Rattle.task_rules.proofs.StandLemmas.{is_eq_of}
-use Rattle.task_machine.specs.Core.{Core, Main, State, Unscripted, fresh}
+use Rattle.task_machine.specs.Core.{Core, State, Unscripted, fresh}
 use Rattle.task_machine.specs.Maps.{Records, change, get, get-empty, get-insert}
 use Rattle.task_machine.specs.Moves.{put_high, unblocked}
-use Rattle.task_machine.specs.Read.{blocked_on, course_of, how_far_of, is_aborted, phase_of, work_caller_of}
+use Rattle.task_machine.specs.Read.{blocked_on, course_of, is_aborted, phase_of, work_caller_of}
 use Rattle.task_machine.specs.Write.{add_work, count_work, on_thread, on_work, push_high, set_course, set_phase, set_place, set_stage, set_trapped}
+use Rattle.task_machine.specs.declared.component.Component.{Component}
 use Rattle.task_machine.specs.declared.component.HostDef.{HostDef}
 use Rattle.task_machine.specs.declared.label.Label.{Label}
 use Rattle.task_machine.specs.declared.records.Course.{Course}
 use Rattle.task_machine.specs.declared.records.Course.TheVariants as courses
-use Rattle.task_machine.specs.declared.records.Stage.{Stage}
 use Rattle.task_machine.specs.declared.records.Stage.TheVariants as stages
 use Rattle.task_machine.specs.declared.records.Subtask.TheVariants as subtasks
 use Rattle.task_machine.specs.declared.records.Turn.{Turn}
@@ -32,115 +35,275 @@ use Rattle.task_machine.specs.declared.words.Phase.{Phase}
 use Rattle.task_machine.specs.declared.words.Phase.TheVariants as phases
 use Rattle.task_ops.specs.Polled.{TellsPoll}
 use Rattle.task_rules.specs.Calls.{new_work, work_queued}
+use Rattle.task_rules.specs.Cancels.{aborted_phase}
 use Rattle.task_rules.specs.Laws.{LaterBy}
-use Rattle.task_rules.specs.MainOps.{main_aborted}
-use Rattle.task_rules.specs.OpParts.{queues_work}
-use Rattle.task_rules.specs.Scripts.{op_of}
+use Rattle.task_rules.specs.MainOps.{is_complete, main_aborted}
 use Rattle.task_rules.specs.Stalled.{Setting}
 use Rattle.task_rules.specs.Step.{FuturesStep, Polled, Step}
-use Rattle.task_rules.specs.Turns.{at_turn, nothing_stands, settled_futures, settled_take}
+use Rattle.task_rules.specs.Turns.{at_turn}
 use Rattle.task_rules.specs.Works.{Ends, FailsNow, Poll, StillPends, course_for, followed, has_end, next_polled, poll_ends, poll_of, poll_pends, polled_again, polled_course, polled_in}
-use Rattle.task_store.specs.Hosts.{HoldsHosts, HoldsWorks, WorksNumbered, held_by}
-use Rattle.task_store.specs.Polled.{Fits, Tells, is_over, polled_core, told_of}
+use Rattle.task_store.specs.Hosts.{HoldsAt, HoldsHosts, HoldsWork, HoldsWorks, WorksNumbered, held_by, held_of, running}
+use Rattle.task_store.specs.Polled.{after_polled, is_over, polled_core, told_of}
 use Rattle.task_store.specs.declared.store.Store.{Store}
-use Rattle.task_turns.specs.Turn.{IsSettled, state_at}
+use Rattle.task_turns.specs.Turn.{state_at}
+
+-- ---- What of a record says what is held
+
+abbrev pub Says : Type 0
+Says = WorkCaller × (Phase × Course)
+
+abbrev pub says : Work → Says
+says w = (w.caller, (w.phase, w.course))
+
+abbrev pub HoldsSaid : Option HeldWork → Option Says → Type 0
+HoldsSaid o None = o ≡ None
+HoldsSaid o (Some t) = HoldsWork o t.0 t.1.0 t.1.1
+
+to_said : (o : Option HeldWork) (m : Option Work) → HoldsAt o m → HoldsSaid o (option_map says m)
+to_said o None h = h
+to_said o (Some w) h = h
+
+from_said : (o : Option HeldWork) (m : Option Work) → HoldsSaid o (option_map says m) → HoldsAt o m
+from_said o None h = h
+from_said o (Some w) h = h
+
+-- a record that says the same
+alike : (o : Option HeldWork) (m n : Option Work) → option_map says n ≡ option_map says m → HoldsAt o m → HoldsAt o n
+alike o m n same h = from_said o n (subst (λ (t : Option Says). HoldsSaid o t) (sym same) (to_said o m h))
+
+none_said : (m n : Option Work) → option_map says n ≡ option_map says m → m ≡ None → n ≡ None
+none_said None None same is = refl
+none_said None (Some w) same is = absurd (cc)
+none_said (Some v) n same is = absurd (cc)
+
+-- each record says the same
+pub holds_told : (s t : Core) (left : ℕ → Option HeldWork) → ((j : ℕ) → option_map says (get t.works j) ≡ option_map says (get s.works j)) → HoldsWorks left s → HoldsWorks left t
+holds_told s t left same h = record {
+  each = λ j. alike (left j) (get s.works j) (get t.works j) (same j) (h.each j);
+  first = none_said (get s.works 0) (get t.works 0) (same 0) h.first;
+}
+
+-- what is held is the same, and so are the works
+pub holds_as : (s : Core) (left right : ℕ → Option HeldWork) → ((i : ℕ) → right i ≡ left i) → HoldsWorks left s → HoldsWorks right s
+holds_as s left right is h = record {
+  each = λ i. subst (λ (o : Option HeldWork). HoldsAt o (get s.works i)) (sym (is i)) (h.each i);
+  first = h.first;
+}
+
+pub holds_same : (s t : Core) (left : ℕ → Option HeldWork) → t.works ≡ s.works → HoldsWorks left s → HoldsWorks left t
+holds_same s t left e h = holds_told s t left (λ j. ap (λ (m : Records Work). option_map says (get m j)) e) h
 
 -- ---- Steps that poll no work
 
-module _ (s t : Core) (left : ℕ → Option HostDef) (right : ℕ → Option HostDef) (same : (i : ℕ) → i ≤ s.made.works → LaterBy SameCourse (get s.works i) (get t.works i))
-    (other : (i : ℕ) → i ≤ s.made.works → right i ≡ left i)
-    (new : (i : ℕ) (w : Work) → get t.works i ≡ Some w → (i ≤ s.made.works) ⊎ ((d : HostDef) × ((w.course ≡ courses.Goes d) × (right i ≡ Some d)))) where
-  there_after : HoldsWorks left s → (i : ℕ) (d : HostDef) → course_of i t ≡ courses.Goes d → right i ≡ Some d
-  there_after h i d goes = by (get t.works i) refl goes
-    where
-      was : (w : Work) → get t.works i ≡ Some w → i ≤ s.made.works → w.course ≡ courses.Goes d → course_of i s ≡ courses.Goes d
-      was w at below goes = let q = same i below in grind (arith)
-
-      by : (o : Option Work) → get t.works i ≡ o → option_map_or (λ (w : Work). w.course) o courses.NoValue ≡ courses.Goes d → right i ≡ Some d
-      by None at goes = absurd (cc)
-      by (Some w) at goes = ⊎_elim (λ below. other i below ∙ h.there i d (was w at below goes)) (λ n. let e = n.1.0 in let f = n.1.1 in cc) (new i w at)
-
-  ended_after : HoldsWorks left s → (i : ℕ) (w : Work) → get t.works i ≡ Some w → has_end w.course ≡ true → right i ≡ None
-  ended_after h i w at has = ⊎_elim old (λ n. absurd (let e = ap has_end n.1.0 in cc)) (new i w at)
-    where
-      by : (o : Option Work) → get s.works i ≡ o → i ≤ s.made.works → LaterBy SameCourse o (get t.works i) → left i ≡ None
-      by None is below q = absurd (subst (λ (p : Option Work). LaterBy SameCourse None p) at q)
-      by (Some v) is below q = let r = subst (λ (p : Option Work). LaterBy SameCourse (Some v) p) at q in h.ended i v is (sym (ap has_end r.course) ∙ has)
-
-      old : i ≤ s.made.works → right i ≡ None
-      old below = other i below ∙ by (get s.works i) refl below (same i below)
-
-  pub holds_after : HoldsWorks left s → HoldsWorks right t
-  holds_after h = record { there = there_after h; ended = ended_after h }
-
--- what is held is the same, and so are the works
-pub holds_as : (s : Core) (left right : ℕ → Option HostDef) → ((i : ℕ) → right i ≡ left i) → HoldsWorks left s → HoldsWorks right s
-holds_as s left right is h = record {
-  there = λ i d goes. is i ∙ h.there i d goes;
-  ended = λ i w at has. is i ∙ h.ended i w at has;
-}
-
-pub holds_same : (s t : Core) (left : ℕ → Option HostDef) → t.works ≡ s.works → HoldsWorks left s → HoldsWorks left t
-holds_same s t left e h = record {
-  there = λ i d goes. h.there i d (sym (ap (λ (m : Records Work). option_map_or (λ (w : Work). w.course) (get m i) courses.NoValue) e) ∙ goes);
-  ended = λ i w at has. h.ended i w (sym (ap (λ (m : Records Work). get m i) e) ∙ at) has;
-}
-
--- the course of what is there
-course_there : (i : ℕ) (s : Core) (d : HostDef) → course_of i s ≡ courses.Goes d → option_map (λ (w : Work). w.course) (get s.works i) ≡ Some (courses.Goes d)
-course_there i s d goes = by (get s.works i) refl goes
+-- a work that a step leaves, as the law of steps says
+stays_held : (o : Option HeldWork) (p q : Option Work) → (p ≡ None → q ≡ None) → StaysWork p q → HoldsAt o p → HoldsAt o q
+stays_held o None None none stays h = h
+stays_held o None (Some w) none stays h = absurd (let e = none refl in cc)
+stays_held o (Some v) None none stays h = h.held ∙ gone v.course (phase_told v.caller v.phase) stays
   where
-    by : (o : Option Work) → get s.works i ≡ o → option_map_or (λ (w : Work). w.course) o courses.NoValue ≡ courses.Goes d → option_map (λ (w : Work). w.course) o ≡ Some (courses.Goes d)
-    by None at e = absurd (cc)
-    by (Some w) at e = ap (λ (c : Course). Some c) e
-
-there_course : (i : ℕ) (s : Core) (d : HostDef) → option_map (λ (w : Work). w.course) (get s.works i) ≡ Some (courses.Goes d) → course_of i s ≡ courses.Goes d
-there_course i s d e = by (get s.works i) refl e
+    gone : (c : Course) (p : Phase) → has_end c ≡ true → held_of c p ≡ None
+    gone (courses.Goes d) p is = absurd (cc)
+    gone (courses.Value v) p is = refl
+    gone courses.NoValue p is = refl
+stays_held o (Some v) (Some w) none stays h = record {
+  held = h.held ∙ (ap (λ (c : Course). held_of c (phase_told v.caller v.phase)) (sym stays.course) ∙ ap (λ (p : Phase). held_of w.course p) (sym stays.cell));
+  spawned = λ is. completes stays.caller stays.cell stays.course is;
+}
   where
-    by : (o : Option Work) → get s.works i ≡ o → option_map (λ (w : Work). w.course) o ≡ Some (courses.Goes d) → option_map_or (λ (w : Work). w.course) o courses.NoValue ≡ courses.Goes d
-    by None at e = absurd (cc)
-    by (Some w) at e = cc
+    by_cell : (f : WorkCaller) (p q : Phase) → is_spawned f ≡ true → phase_told f p ≡ phase_told f q → p ≡ q
+    by_cell callers.Spawn p q is e = e
+    by_cell (callers.Async n r) p q is e = absurd (cc)
+    by_cell (callers.Sync n) p q is e = absurd (cc)
 
-some_course : (o : Option Work) (c : Course) → option_map (λ (w : Work). w.course) o ≡ Some c → (w : Work) × ((o ≡ Some w) × (w.course ≡ c))
-some_course None c e = absurd (cc)
-some_course (Some w) c e = (w, (refl, cc))
+    completes : w.caller ≡ v.caller → phase_told w.caller w.phase ≡ phase_told v.caller v.phase → w.course ≡ v.course → is_spawned w.caller ≡ true → is_complete w.phase ≡ has_end w.course
+    completes caller cell course is =
+        let spawn : is_spawned v.caller ≡ true = sym (ap is_spawned caller) ∙ is in
+        let same : w.phase ≡ v.phase = by_cell v.caller w.phase v.phase spawn (sym (ap (λ (f : WorkCaller). phase_told f w.phase) caller) ∙ cell) in
+        ap is_complete same ∙ (h.spawned spawn ∙ sym (ap has_end course))
 
--- each work is to do the same
-pub holds_courses : (s t : Core) (left : ℕ → Option HostDef) → ((j : ℕ) → option_map (λ (w : Work). w.course) (get t.works j) ≡ option_map (λ (w : Work). w.course) (get s.works j)) → HoldsWorks left s → HoldsWorks left t
-holds_courses s t left same h = record {
-  there = λ j d goes. h.there j d (there_course j s d (sym (same j) ∙ course_there j t d goes));
-  ended = λ j w at has. let v = some_course (get s.works j) w.course (sym (same j) ∙ ap (λ (o : Option Work). option_map (λ (u : Work). u.course) o) at) in h.ended j v.0 v.1.0 (ap has_end v.1.1 ∙ has);
+new_held : (d : HostDef) (w : Work) → w.course ≡ courses.Goes d → is_spawned w.caller ≡ false → HoldsWork (running d) w.caller w.phase w.course
+new_held d w goes call = record {
+  held = sym (ap (λ (c : Course). held_of c (phase_told w.caller w.phase)) goes ∙ ap (λ (p : Phase). Some (Found d p)) (told_call w.caller w.phase call));
+  spawned = λ is. absurd (let e = sym is ∙ call in cc);
+}
+  where
+    told_call : (f : WorkCaller) (p : Phase) → is_spawned f ≡ false → phase_told f p ≡ phases.Running
+    told_call callers.Spawn p is = absurd (cc)
+    told_call (callers.Async n q) p is = refl
+    told_call (callers.Sync n) p is = refl
+
+-- no work has the next number
+next_free : (s : Core) → WorksNumbered s → get s.works (s.made.works + 1) ≡ None
+next_free s numbered = by (get s.works (s.made.works + 1)) refl
+  where
+    by : (o : Option Work) → get s.works (s.made.works + 1) ≡ o → get s.works (s.made.works + 1) ≡ None
+    by None at = at
+    by (Some w) at = absurd (let below = numbered (s.made.works + 1) (ap (λ (o : Option Work). is_some o) at) in omega (arith, below))
+
+-- where a thread runs
+pub runs_works : (c : Component) (n : ℕ) (s : Core) → InOrder c (state_at s Unscripted (turn.Run n)) → RunsWorks n s
+runs_works c n s order = record {
+  runs = order.in_place.runs n refl;
+  made = order.works.made;
+  known = order.works_known;
+  told = order.works_told;
+  awaited = order.awaited;
 }
 
-aborted_courses : (i j : ℕ) (s : Core) → option_map (λ (w : Work). w.course) (get (main_aborted i s).works j) ≡ option_map (λ (w : Work). w.course) (get s.works j)
-unfolding main_aborted set_phase on_work
-aborted_courses i j s = grind (arith, nat_tests, get-change)
+pub running_stays : (x : Setting) (s : State) (l : Label) (t : State) (n : ℕ) → RunsWorks n s.core → Step x s l t → s.turn ≡ turn.Run n → (left : ℕ → Option HeldWork) → HoldsWorks left s.core →
+    (i : ℕ) → StaysWork (get s.core.works i) (get t.core.works i)
+unfolding WorksStayRunning
+running_stays x s l t n works step is left h i = works_stay_running x s l t n works step is h.first i
 
-pub holds_aborted : (i : ℕ) (s : Core) (left : ℕ → Option HostDef) → HoldsWorks left s → HoldsWorks left (main_aborted i s)
-holds_aborted i s left h = holds_courses s (main_aborted i s) left (λ j. aborted_courses i j s) h
+-- where an entry is taken
+pub taken_stays : (x : Setting) (s : State) (l : Label) (t : State) (ended : Bool) → InOrder x.component s → Step x s l t → s.turn ≡ turn.Take ended → (left : ℕ → Option HeldWork) → HoldsWorks left s.core →
+    (i : ℕ) → StaysWork (get s.core.works i) (get t.core.works i)
+unfolding WorksStayTaken
+taken_stays x s l t ended order step is left h i = works_stay_taken x s l t ended order step is h.first i
 
--- a step of a turn in which no work is polled and none is made
-module _ (x : Setting) (s : State) (l : Label) (t : State) (step : Step x s l t) (quiet : (n : ℕ) → s.turn ≡ turn.Futures n → ⊥)
-    (numbered : (i : ℕ) → is_some (get s.core.works i) ≡ true → i ≤ s.core.made.works) (left : ℕ → Option HostDef) where
-  pub holds_quiet : (MakesWork x s → ⊥) → HoldsWorks left s.core → HoldsWorks left t.core
-  unfolding CoursesStay WorksAreCalled
-  holds_quiet none h = holds_after s.core t.core left left (courses_stay x s l t step quiet) (λ i below. refl)
-      (λ i w at. ⊎_elim (λ old. inl old) (λ made. absurd (none made.1)) (works_are_called x s l t step numbered i (ap (λ (o : Option Work). is_some o) at))) h
+module _ (x : Setting) (s : State) (l : Label) (t : State) (step : Step x s l t) (inside : IsInside s.turn) (numbered : WorksNumbered s.core)
+    (stays : (i : ℕ) → StaysWork (get s.core.works i) (get t.core.works i)) (left : ℕ → Option HeldWork) (h : HoldsWorks left s.core) where
+  quiet : (p : Turn) → IsInside p → (n : ℕ) → p ≡ turn.Futures n → ⊥
+  quiet _ (Runs n) k e = cc
+  quiet _ (Takes ended) k e = cc
+
+  -- what is new has the next number
+  next_only : (i : ℕ) → get s.core.works i ≡ None → (get t.core.works i ≡ None) ⊎ ((i ≡ s.core.made.works + 1) × MakesWork x s)
+  unfolding WorksAreCalled CoursesStay
+  next_only i none = by (get t.core.works i) refl
+    where
+      by : (o : Option Work) → get t.core.works i ≡ o → (get t.core.works i ≡ None) ⊎ ((i ≡ s.core.made.works + 1) × MakesWork x s)
+      by None at = inl at
+      by (Some w) at = ⊎_elim (λ below. absurd (comes (subst (λ (o : Option Work). LaterBy SameCourse o (get t.core.works i)) none (courses_stay x s l t step (quiet s.turn inside) i below)))) (λ made. inr made)
+          (works_are_called x s l t step numbered i (ap (λ (o : Option Work). is_some o) at))
+        where
+          comes : LaterBy SameCourse None (get t.core.works i) → ⊥
+          comes q = subst (λ (o : Option Work). LaterBy SameCourse None o) at q
+
+  first_still : get t.core.works 0 ≡ None
+  first_still = ⊎_elim (λ none. none) (λ made. absurd (let e = made.0 in omega (arith, e))) (next_only 0 h.first)
+
+  stay_at : (i : ℕ) → (get s.core.works i ≡ None → get t.core.works i ≡ None) → HoldsAt (left i) (get t.core.works i)
+  stay_at i none = stays_held (left i) (get s.core.works i) (get t.core.works i) none (stays i) (h.each i)
+
+  pub holds_quiet : (MakesWork x s → ⊥) → HoldsWorks left t.core
+  holds_quiet none = record {
+    each = λ i. stay_at i (λ e. ⊎_elim (λ gone. gone) (λ made. absurd (none made.1)) (next_only i e));
+    first = first_still;
+  }
 
   -- the work with the next number isn't there
-  pub holds_unmade : get t.core.works (s.core.made.works + 1) ≡ None → HoldsWorks left s.core → HoldsWorks left t.core
-  unfolding CoursesStay WorksAreCalled
-  holds_unmade none h = holds_after s.core t.core left left (courses_stay x s l t step quiet) (λ i below. refl)
-      (λ i w at. ⊎_elim (λ old. inl old) (λ made. absurd (let e = made.0 in let f = subst (λ (k : ℕ). get t.core.works k ≡ Some w) e at in cc)) (works_are_called x s l t step numbered i (ap (λ (o : Option Work). is_some o) at))) h
+  pub holds_unmade : get t.core.works (s.core.made.works + 1) ≡ None → HoldsWorks left t.core
+  holds_unmade none = record {
+    each = λ i. stay_at i (λ e. ⊎_elim (λ gone. gone) (λ made. ap (λ (k : ℕ). get t.core.works k) made.0 ∙ none) (next_only i e));
+    first = first_still;
+  }
+
+  next_none : get s.core.works (s.core.made.works + 1) ≡ None
+  next_none = next_free s.core numbered
 
   -- it is there, and held
-  pub holds_made : (d : HostDef) (right : ℕ → Option HostDef) → course_of (s.core.made.works + 1) t.core ≡ courses.Goes d →
-      ((i : ℕ) → right i ≡ cond (s.core.made.works + 1 == i) (Some d) (left i)) → HoldsWorks left s.core → HoldsWorks right t.core
-  unfolding CoursesStay WorksAreCalled
-  holds_made d right goes is h = holds_after s.core t.core left right (courses_stay x s l t step quiet)
-      (λ i below. let e = is i in grind (arith, nat_tests))
-      (λ i w at. ⊎_elim (λ old. inl old) (λ made. inr (d, (let e = made.0 in let f = subst (λ (k : ℕ). get t.core.works k ≡ Some w) e at in grind (arith), let e = is i in let f = made.0 in grind (arith, nat_tests))))
-      (works_are_called x s l t step numbered i (ap (λ (o : Option Work). is_some o) at))) h
+  pub holds_made : (d : HostDef) (right : ℕ → Option HeldWork) → course_of (s.core.made.works + 1) t.core ≡ courses.Goes d →
+      ((i : ℕ) → right i ≡ cond (s.core.made.works + 1 == i) (running d) (left i)) → HoldsWorks right t.core
+  holds_made d right goes is = record { each = λ i. each_at i (i == s.core.made.works + 1) refl; first = first_still }
+    where
+      own : right (s.core.made.works + 1) ≡ running d
+      own = is (s.core.made.works + 1) ∙ grind (arith, nat_tests)
+
+      at_next : (o : Option Work) → get t.core.works (s.core.made.works + 1) ≡ o → StaysWork None o → option_map_or (λ (w : Work). w.course) o courses.NoValue ≡ courses.Goes d → HoldsAt (running d) o
+      at_next None at call goes = absurd (cc)
+      at_next (Some w) at call goes = new_held d w goes call
+
+      next : HoldsAt (right (s.core.made.works + 1)) (get t.core.works (s.core.made.works + 1))
+      next = subst (λ (o : Option HeldWork). HoldsAt o (get t.core.works (s.core.made.works + 1))) (sym own)
+          (at_next (get t.core.works (s.core.made.works + 1)) refl (subst (λ (o : Option Work). StaysWork o (get t.core.works (s.core.made.works + 1))) next_none (stays (s.core.made.works + 1))) goes)
+
+      other : (i : ℕ) → (i == s.core.made.works + 1) ≡ false → HoldsAt (right i) (get t.core.works i)
+      other i apart =
+          let same : right i ≡ left i = let e = is i in grind (arith, nat_tests, apart) in
+          subst (λ (o : Option HeldWork). HoldsAt o (get t.core.works i)) (sym same)
+          (stay_at i (λ e. ⊎_elim (λ gone. gone) (λ made. absurd (let n = made.0 in grind (arith, nat_tests, apart))) (next_only i e)))
+
+      each_at : (i : ℕ) (b : Bool) → (i == s.core.made.works + 1) ≡ b → HoldsAt (right i) (get t.core.works i)
+      each_at i true same = let e = is_eq_of i (s.core.made.works + 1) same in subst (λ (k : ℕ). HoldsAt (right k) (get t.core.works k)) (sym e) next
+      each_at i false apart = other i apart
+
+-- ---- Aborts
+
+abort_told : (w : Work) → is_spawned w.caller ≡ true → after_abort (held_of w.course (phase_told w.caller w.phase)) ≡ held_of w.course (phase_told w.caller (aborted_phase w.phase))
+abort_told w spawn = by w.caller w.course w.phase spawn
+  where
+    by : (f : WorkCaller) (c : Course) (p : Phase) → is_spawned f ≡ true → after_abort (held_of c (phase_told f p)) ≡ held_of c (phase_told f (aborted_phase p))
+    by callers.Spawn (courses.Goes d) phases.Running is = refl
+    by callers.Spawn (courses.Goes d) phases.AbortRequested is = refl
+    by callers.Spawn (courses.Goes d) phases.Complete is = refl
+    by callers.Spawn (courses.Value v) p is = refl
+    by callers.Spawn courses.NoValue p is = refl
+    by (callers.Async n q) c p is = absurd (cc)
+    by (callers.Sync n) c p is = absurd (cc)
+
+still_complete : (p : Phase) → is_complete (aborted_phase p) ≡ is_complete p
+still_complete phases.Running = refl
+still_complete phases.AbortRequested = refl
+still_complete phases.Complete = refl
+
+abbrev aborted_at : Option Work → Option Work
+aborted_at o = option_map (λ (w : Work). record w { phase = aborted_phase w.phase }) o
+
+aborted_works : (i j : ℕ) (s : Core) → get (main_aborted i s).works j ≡ cond (j == i) (aborted_at (get s.works i)) (get s.works j)
+unfolding main_aborted set_phase on_work
+aborted_works i j s = grind (arith, nat_tests, get-change)
+
+-- main aborts a spawned work, and its cell is told
+pub holds_aborted : (i : ℕ) (s : Core) (left right : ℕ → Option HeldWork) → work_caller_of i s ≡ callers.Spawn → ((j : ℕ) → right j ≡ cond (i == j) (after_abort (left i)) (left j)) →
+    HoldsWorks left s → HoldsWorks right (main_aborted i s)
+holds_aborted i s left right caller is h = record {
+  each = λ j. at j (j == i) refl;
+  first = zero (0 == i) refl;
+}
+  where
+    own : (o : Option Work) → option_map_or (λ (w : Work). w.caller) o callers.Spawn ≡ callers.Spawn → HoldsAt (left i) o → HoldsAt (after_abort (left i)) (aborted_at o)
+    own None spawn q = ap after_abort q
+    own (Some w) spawn q = let told : is_spawned w.caller ≡ true = ap is_spawned spawn in record {
+      held = ap after_abort q.held ∙ abort_told w told;
+      spawned = λ is. still_complete w.phase ∙ q.spawned told;
+    }
+
+    at : (j : ℕ) (b : Bool) → (j == i) ≡ b → HoldsAt (right j) (get (main_aborted i s).works j)
+    at j false apart =
+        let there : get (main_aborted i s).works j ≡ get s.works j = aborted_works i j s ∙ rw apart refl in
+        let same : right j ≡ left j = let e = is j in grind (arith, nat_tests, apart) in
+        subst (λ (o : Option Work). HoldsAt (right j) o) (sym there) (subst (λ (o : Option HeldWork). HoldsAt o (get s.works j)) (sym same) (h.each j))
+    at j true one =
+        let k : j ≡ i = is_eq_of j i one in
+        let there : get (main_aborted i s).works j ≡ aborted_at (get s.works i) = aborted_works i j s ∙ rw one refl in
+        let same : right j ≡ after_abort (left i) = let e = is j in grind (arith, nat_tests, one) in
+        subst (λ (o : Option Work). HoldsAt (right j) o) (sym there) (subst (λ (o : Option HeldWork). HoldsAt o (aborted_at (get s.works i))) (sym same) (own (get s.works i) caller (h.each i)))
+
+    zero : (b : Bool) → (0 == i) ≡ b → get (main_aborted i s).works 0 ≡ None
+    zero false apart = aborted_works i 0 s ∙ rw apart h.first
+    zero true one = aborted_works i 0 s ∙ rw one (ap aborted_at (ap (λ (k : ℕ). get s.works k) (sym (is_eq_of 0 i one)) ∙ h.first))
+
+-- the cell of a spawned work is in the phase that its record says; where none is held, that is complete
+pub found_is : (i : ℕ) (s : Core) (left : ℕ → Option HeldWork) → work_caller_of i s ≡ callers.Spawn → HoldsWorks left s → found_phase (left i) ≡ phase_of i s
+found_is i s left caller h = by (get s.works i) caller (h.each i)
+  where
+    over : (p : Phase) → is_complete p ≡ true → phases.Complete ≡ p
+    over phases.Running is = absurd (cc)
+    over phases.AbortRequested is = absurd (cc)
+    over phases.Complete is = refl
+
+    told : (c : Course) (p : Phase) → is_complete p ≡ has_end c → found_phase (held_of c p) ≡ p
+    told (courses.Goes d) p is = refl
+    told (courses.Value v) p is = over p is
+    told courses.NoValue p is = over p is
+
+    spawn : (w : Work) → w.caller ≡ callers.Spawn → phase_told w.caller w.phase ≡ w.phase
+    spawn w is = ap (λ (f : WorkCaller). phase_told f w.phase) is
+
+    by : (o : Option Work) → option_map_or (λ (w : Work). w.caller) o callers.Spawn ≡ callers.Spawn → HoldsAt (left i) o → found_phase (left i) ≡ option_map_or (λ (w : Work). w.phase) o phases.Complete
+    by None is q = ap found_phase q
+    by (Some w) is q = ap found_phase (q.held ∙ ap (λ (p : Phase). held_of w.course p) (spawn w is)) ∙ told w.course w.phase (q.spawned (ap is_spawned is))
 
 -- ---- Polls
 
@@ -154,215 +317,310 @@ pub core_polled : (x : Setting) (s : State) (l : Label) (t : State) (n i : ℕ) 
 unfolding Step at_turn
 core_polled x s l t n i is next step = core_of s i (poll_of i s.core) l t (subst (λ (o : Option ℕ). FuturesStep s o l t) next (rw is at step))
 
--- what follows a work's end changes no course
-still_course : (f : WorkCaller) (i j : ℕ) (s : Core) → option_map (λ (w : Work). w.course) (get (followed f i s).works j) ≡ option_map (λ (w : Work). w.course) (get s.works j)
+-- what the record of a polled work says then
+abbrev pub said_after : Poll → Option Says → Option Says
+said_after (StillPends host) o = option_map (λ (t : Says). (t.0, (t.1.0, courses.Goes host))) o
+said_after (Ends v) o = option_map (λ (t : Says). (t.0, (phases.Complete, course_for v))) o
+said_after FailsNow o = o
+
+-- what follows a work's end changes nothing of that
+still_said : (f : WorkCaller) (i j : ℕ) (s : Core) → option_map says (get (followed f i s).works j) ≡ option_map says (get s.works j)
 unfolding set_stage on_work push_high put_high set_place on_thread
-still_course callers.Spawn i j s = grind (arith, nat_tests, get-change)
-still_course (callers.Async n q) i j s = grind (arith, nat_tests, get-change)
-still_course (callers.Sync n) i j s = by (blocked_on (subtasks.Host i) s)
+still_said callers.Spawn i j s = grind (arith, nat_tests, get-change)
+still_said (callers.Async n q) i j s = grind (arith, nat_tests, get-change)
+still_said (callers.Sync n) i j s = by (blocked_on (subtasks.Host i) s)
   where
-    by : (o : Option ℕ) → option_map (λ (w : Work). w.course) (get (unblocked o (set_stage i stages.Ended s)).works j) ≡ option_map (λ (w : Work). w.course) (get s.works j)
+    by : (o : Option ℕ) → option_map says (get (unblocked o (set_stage i stages.Ended s)).works j) ≡ option_map says (get s.works j)
     by None = grind (arith, nat_tests, get-change)
     by (Some n) = grind (arith, nat_tests, get-change)
 
-abbrev pub course_after : ℕ → Poll → ℕ → Option Course → Option Course
-course_after i (StillPends host) j o = cond (j == i) (option_map (λ c. courses.Goes host) o) o
-course_after i (Ends v) j o = cond (j == i) (option_map (λ c. course_for v) o) o
-course_after i FailsNow j o = o
+same_said : (b : Bool) (o : Option Says) → cond b o o ≡ o
+same_said true o = refl
+same_said false o = refl
 
-pub courses_after : (i j : ℕ) (p : Poll) (s : Core) → option_map (λ (w : Work). w.course) (get (polled_core i p s).works j) ≡ course_after i p j (option_map (λ (w : Work). w.course) (get s.works j))
+pub said_polled : (i j : ℕ) (p : Poll) (s : Core) → option_map says (get (polled_core i p s).works j) ≡ cond (j == i) (said_after p (option_map says (get s.works j))) (option_map says (get s.works j))
 unfolding poll_pends poll_ends set_course set_phase on_work set_trapped
-courses_after i j (StillPends host) s = grind (arith, nat_tests, get-change)
-courses_after i j (Ends v) s = still_course (work_caller_of i s) i j (set_phase i phases.Complete (set_course i (course_for v) s)) ∙ grind (arith, nat_tests, get-change)
-courses_after i j FailsNow s = refl
-
--- ---- What is held after a poll
-
-after_goes : (v : Option ℕ) (d : HostDef) → course_for v ≡ courses.Goes d → ⊥
-after_goes None d e = cc
-after_goes (Some v) d e = cc
-
-after_ends : (v : Option ℕ) → has_end (course_for v) ≡ true
-after_ends None = refl
-after_ends (Some v) = refl
-
-module _ (i : ℕ) (s : Core) (left right : ℕ → Option HostDef) (others : (j : ℕ) → (j == i) ≡ false → right j ≡ left j) (h : HoldsWorks left s) where
-  same_there : (j : ℕ) (d : HostDef) → (j == i) ≡ false → option_map (λ (w : Work). w.course) (get s.works j) ≡ Some (courses.Goes d) → right j ≡ Some d
-  same_there j d apart e = others j apart ∙ h.there j d (there_course j s d e)
-
-  there_by : (p : Poll) → Fits p (right i) (left i) → (j : ℕ) (d : HostDef) (b : Bool) → (j == i) ≡ b → course_after i p j (option_map (λ (w : Work). w.course) (get s.works j)) ≡ Some (courses.Goes d) → right j ≡ Some d
-  there_by p fits j d false apart e = same_there j d apart (unchanged p e)
-    where
-      unchanged : (p : Poll) → course_after i p j (option_map (λ (w : Work). w.course) (get s.works j)) ≡ Some (courses.Goes d) → option_map (λ (w : Work). w.course) (get s.works j) ≡ Some (courses.Goes d)
-      unchanged (StillPends host) e = rw apart at e
-      unchanged (Ends v) e = rw apart at e
-      unchanged FailsNow e = e
-  there_by (StillPends host) fits j d true is e = ap right (is_eq_of j i is) ∙ (fits ∙ by (get s.works j) (rw is at e))
-    where
-      by : (o : Option Work) → option_map (λ c. courses.Goes host) (option_map (λ (w : Work). w.course) o) ≡ Some (courses.Goes d) → Some host ≡ Some d
-      by None e = absurd (cc)
-      by (Some w) e = cc
-  there_by (Ends v) fits j d true is e = absurd (by (get s.works j) (rw is at e))
-    where
-      by : (o : Option Work) → option_map (λ c. course_for v) (option_map (λ (w : Work). w.course) o) ≡ Some (courses.Goes d) → ⊥
-      by None e = cc
-      by (Some w) e = after_goes v d cc
-  there_by FailsNow fits j d true is e = let same = is_eq_of j i is in ap right same ∙ (fits ∙ (ap left (sym same) ∙ h.there j d (there_course j s d e)))
-
-  ended_by : (p : Poll) → Fits p (right i) (left i) → (j : ℕ) (c : Course) (b : Bool) → (j == i) ≡ b → course_after i p j (option_map (λ (w : Work). w.course) (get s.works j)) ≡ Some c → has_end c ≡ true → right j ≡ None
-  ended_by p fits j c false apart e has = others j apart ∙ (let w = some_course (get s.works j) c (unchanged p e) in h.ended j w.0 w.1.0 (ap has_end w.1.1 ∙ has))
-    where
-      unchanged : (p : Poll) → course_after i p j (option_map (λ (w : Work). w.course) (get s.works j)) ≡ Some c → option_map (λ (w : Work). w.course) (get s.works j) ≡ Some c
-      unchanged (StillPends host) e = rw apart at e
-      unchanged (Ends v) e = rw apart at e
-      unchanged FailsNow e = e
-  ended_by (StillPends host) fits j c true is e has = absurd (by (get s.works j) (rw is at e))
-    where
-      by : (o : Option Work) → option_map (λ k. courses.Goes host) (option_map (λ (w : Work). w.course) o) ≡ Some c → ⊥
-      by None e = cc
-      by (Some w) e = let same : courses.Goes host ≡ c = cc in let no = ap has_end same ∙ has in cc
-  ended_by (Ends v) fits j c true is e has = ap right (is_eq_of j i is) ∙ fits
-  ended_by FailsNow fits j c true is e has =
-      let same = is_eq_of j i is in let w = some_course (get s.works j) c e in
-      ap right same ∙ (fits ∙ (ap left (sym same) ∙ h.ended j w.0 w.1.0 (ap has_end w.1.1 ∙ has)))
-
-  pub holds_polled : (p : Poll) → Fits p (right i) (left i) → HoldsWorks right (polled_core i p s)
-  holds_polled p fits = record {
-    there = λ j d goes. there_by p fits j d (j == i) refl (sym (courses_after i j p s) ∙ course_there j (polled_core i p s) d goes);
-    ended = λ j w at has. ended_by p fits j w.course (j == i) refl (sym (courses_after i j p s) ∙ ap (λ (o : Option Work). option_map (λ (v : Work). v.course) o) at) has;
-  }
-
--- a poll of a work that goes on fits
-fits_by : (polls value : Option ℕ) → let d : HostDef = record { polls = polls; value = value } in Fits (polled_again d polls) (left_after d) (Some d)
-fits_by None v = refl
-fits_by (Some zero) None = refl
-fits_by (Some zero) (Some v) = refl
-fits_by (Some (suc n)) v = ap (λ (k : ℕ). let d : HostDef = record { polls = Some k; value = v } in Some d) (omega arith)
-
-pub fits_goes : (d : HostDef) → Fits (polled_again d d.polls) (left_after d) (Some d)
-fits_goes d = fits_by d.polls d.value
-
--- ---- What a work tells
+said_polled i j (StillPends host) s = grind (arith, nat_tests, get-change)
+said_polled i j (Ends v) s = still_said (work_caller_of i s) i j (set_phase i phases.Complete (set_course i (course_for v) s)) ∙ grind (arith, nat_tests, get-change)
+said_polled i j FailsNow s = sym (same_said (j == i) (option_map says (get s.works j)))
 
 apart : (i j : ℕ) → (j == i) ≡ false → (i == j) ≡ false
 apart i j e = grind (arith, nat_tests, e)
+
+-- what is held of the others stays, and what is held of the work is what its record says then
+module _ (i : ℕ) (s : Core) (p : Poll) (left right : ℕ → Option HeldWork) (o : Option HeldWork) (is : (j : ℕ) → right j ≡ cond (i == j) o (left j)) (h : HoldsWorks left s) where
+  polled_at : HoldsSaid o (said_after p (option_map says (get s.works i))) → (j : ℕ) (b : Bool) → (j == i) ≡ b → HoldsAt (right j) (get (polled_core i p s).works j)
+  polled_at own j false other = from_said (right j) (get (polled_core i p s).works j)
+      (subst (λ (t : Option Says). HoldsSaid (right j) t) (sym (said_polled i j p s ∙ rw other refl))
+      (subst (λ (k : Option HeldWork). HoldsSaid k (option_map says (get s.works j))) (sym (is j ∙ rw (apart i j other) refl)) (to_said (left j) (get s.works j) (h.each j))))
+  polled_at own j true one =
+      let k : j ≡ i = is_eq_of j i one in
+      let mine : right j ≡ o = let e = is j in grind (arith, nat_tests, one) in
+      from_said (right j) (get (polled_core i p s).works j)
+      (subst (λ (t : Option Says). HoldsSaid (right j) t) (sym (said_polled i j p s ∙ rw one refl))
+      (subst (λ (k : Option HeldWork). HoldsSaid k (said_after p (option_map says (get s.works j)))) (sym mine)
+      (subst (λ (n : ℕ). HoldsSaid o (said_after p (option_map says (get s.works n)))) (sym k) own)))
+
+  none_after : (q : Poll) (m : Option Says) → m ≡ None → said_after q m ≡ None
+  none_after (StillPends host) m e = ap (λ (k : Option Says). option_map (λ (t : Says). (t.0, (t.1.0, courses.Goes host))) k) e
+  none_after (Ends v) m e = ap (λ (k : Option Says). option_map (λ (t : Says). (t.0, (phases.Complete, course_for v))) k) e
+  none_after FailsNow m e = e
+
+  none_cond : (b : Bool) (k m : Option Says) → k ≡ None → m ≡ None → cond b k m ≡ None
+  none_cond true k m e f = e
+  none_cond false k m e f = f
+
+  said_none : (m : Option Work) → option_map says m ≡ None → m ≡ None
+  said_none None e = refl
+  said_none (Some w) e = absurd (cc)
+
+  pub holds_polled : HoldsSaid o (said_after p (option_map says (get s.works i))) → HoldsWorks right (polled_core i p s)
+  holds_polled own =
+      let none : option_map says (get s.works 0) ≡ None = ap (λ (m : Option Work). option_map says m) h.first in
+      record {
+        each = λ j. polled_at own j (j == i) refl;
+        first = said_none (get (polled_core i p s).works 0) (said_polled i 0 p s ∙ none_cond (0 == i) (said_after p (option_map says (get s.works 0))) (option_map says (get s.works 0)) (none_after p (option_map says (get s.works 0)) none) none);
+      }
+
+-- ---- What a work tells
+
+ends_complete : (v : Option ℕ) → true ≡ has_end (course_for v)
+ends_complete None = refl
+ends_complete (Some v) = refl
+
+ends_unheld : (v : Option ℕ) (p : Phase) → None ≡ held_of (course_for v) p
+ends_unheld None p = refl
+ends_unheld (Some v) p = refl
 
 or_end : (b : Bool) → (b || true) ≡ false → ⊥
 or_end true h = cc
 or_end false h = cc
 
-module _ (i : ℕ) (s : Core) (left right : ℕ → Option HostDef) where
-  over_fits : is_over i s ≡ true → right i ≡ None → Fits (poll_of i s) (right i) (left i)
+module _ (i : ℕ) (s : Core) (left right : ℕ → Option HeldWork) (h : HoldsWorks left s) where
+  -- one that was aborted, or has ended, ends now
+  over_ends : is_over i s ≡ true → (v : Option ℕ) × (poll_of i s ≡ Ends v)
   unfolding poll_of
-  over_fits over none = by (phase_of i s) (course_of i s) over
+  over_ends over = by (phase_of i s) (course_of i s) over
     where
-      by : (p : Phase) (c : Course) → (is_aborted p || has_end c) ≡ true → Fits (polled_in p c) (right i) (left i)
-      by phases.AbortRequested c h = none
+      by : (p : Phase) (c : Course) → (is_aborted p || has_end c) ≡ true → (v : Option ℕ) × (polled_in p c ≡ Ends v)
+      by phases.AbortRequested c h = (None, refl)
       by phases.Running (courses.Goes d) h = absurd (cc)
-      by phases.Running (courses.Value v) h = none
-      by phases.Running courses.NoValue h = none
+      by phases.Running (courses.Value v) h = (Some v, refl)
+      by phases.Running courses.NoValue h = (None, refl)
       by phases.Complete (courses.Goes d) h = absurd (cc)
-      by phases.Complete (courses.Value v) h = none
-      by phases.Complete courses.NoValue h = none
+      by phases.Complete (courses.Value v) h = (Some v, refl)
+      by phases.Complete courses.NoValue h = (None, refl)
 
-  own : (o : Option HostDef) → cond (i == i) o (left i) ≡ o
-  own o = grind (arith, nat_tests)
+  ended_said : (v : Option ℕ) (m : Option Says) → HoldsSaid None (said_after (Ends v) m)
+  ended_said v None = refl
+  ended_said v (Some t) = record { held = ends_unheld v (phase_told t.0 phases.Complete); spawned = λ is. ends_complete v }
 
-  -- one that was aborted, or has ended, is let go
-  pub tells_over : is_over i s ≡ true → ((j : ℕ) → right j ≡ cond (i == j) None (left j)) → Tells i s left right
-  tells_over over is = record {
-    others = λ j e. is j ∙ rw (apart i j e) refl;
-    fits = over_fits over (is i ∙ own None);
-  }
+  -- and is let go
+  pub over_held : is_over i s ≡ true → ((j : ℕ) → right j ≡ cond (i == j) None (left j)) → HoldsWorks right (after_polled i s)
+  over_held over is = let e = over_ends over in
+      subst (λ (p : Poll). HoldsWorks right (polled_core i p s)) (sym e.1) (holds_polled i s (Ends e.0) left right None is h (ended_said e.0 (option_map says (get s.works i))))
 
-  -- one that isn't goes on
-  going_on : is_over i s ≡ false → (d : HostDef) × (course_of i s ≡ courses.Goes d)
-  going_on going = by (course_of i s) refl going
+  -- one that isn't is to do something, and is held, in its cell, as running
+  record Going : Type 0 where
+    work : Work
+    host : HostDef
+    at : get s.works i ≡ Some work
+    goes : work.course ≡ courses.Goes host
+    unasked : is_aborted work.phase ≡ false
+    spawned : is_spawned work.caller ≡ true → is_complete work.phase ≡ false
+    held : left i ≡ running host
+
+  cell_runs : (f : WorkCaller) (p : Phase) → is_aborted p ≡ false → (is_spawned f ≡ true → is_complete p ≡ false) → phase_told f p ≡ phases.Running
+  cell_runs callers.Spawn phases.Running a c = refl
+  cell_runs callers.Spawn phases.AbortRequested a c = absurd (cc)
+  cell_runs callers.Spawn phases.Complete a c = absurd (let e = c refl in cc)
+  cell_runs (callers.Async n q) p a c = refl
+  cell_runs (callers.Sync n) p a c = refl
+
+  going_of : (w : Work) (d : HostDef) → get s.works i ≡ Some w → w.course ≡ courses.Goes d → is_aborted w.phase ≡ false → Going
+  going_of w d at goes unasked =
+      let q : HoldsWork (left i) w.caller w.phase w.course = subst (λ (o : Option Work). HoldsAt (left i) o) at (h.each i) in
+      let spawned : is_spawned w.caller ≡ true → is_complete w.phase ≡ false = λ is. q.spawned is ∙ ap has_end goes in
+      record {
+        work = w;
+        host = d;
+        at = at;
+        goes = goes;
+        unasked = unasked;
+        spawned = spawned;
+        held = q.held ∙ (ap (λ (c : Course). held_of c (phase_told w.caller w.phase)) goes ∙ ap (λ (p : Phase). Some (Found d p)) (cell_runs w.caller w.phase unasked spawned));
+      }
+
+  going : is_over i s ≡ false → Going
+  going h = by (get s.works i) refl h
     where
-      by : (c : Course) → course_of i s ≡ c → (is_aborted (phase_of i s) || has_end c) ≡ false → (d : HostDef) × (course_of i s ≡ courses.Goes d)
-      by (courses.Goes d) e h = (d, e)
-      by (courses.Value v) e h = absurd (or_end (is_aborted (phase_of i s)) h)
-      by courses.NoValue e h = absurd (or_end (is_aborted (phase_of i s)) h)
+      both : (w : Work) (p : Phase) (c : Course) → w.phase ≡ p → w.course ≡ c → get s.works i ≡ Some w → (is_aborted p || has_end c) ≡ false → Going
+      both w p (courses.Goes d) phase course at e = going_of w d at course (ap is_aborted phase ∙ first p e)
+        where
+          first : (p : Phase) → (is_aborted p || false) ≡ false → is_aborted p ≡ false
+          first phases.Running e = refl
+          first phases.AbortRequested e = absurd (cc)
+          first phases.Complete e = refl
+      both w p (courses.Value v) phase course at e = absurd (or_end (is_aborted p) e)
+      both w p courses.NoValue phase course at e = absurd (or_end (is_aborted p) e)
 
-  pub held_going : is_over i s ≡ false → HoldsWorks left s → IsSome (left i)
-  held_going going h = let d = going_on going in subst (λ (o : Option HostDef). IsSome o) (sym (h.there i d.0 d.1)) refl
+      by : (o : Option Work) → get s.works i ≡ o → (is_aborted (option_map_or (λ (w : Work). w.phase) o phases.Complete) || has_end (option_map_or (λ (w : Work). w.course) o courses.NoValue)) ≡ false → Going
+      by None at e = absurd (cc)
+      by (Some w) at e = both w w.phase w.course refl refl at e
 
-  going_fits : (d : HostDef) → is_over i s ≡ false → course_of i s ≡ courses.Goes d → left i ≡ Some d → right i ≡ left_after d → Fits (poll_of i s) (right i) (left i)
+  polled_of : (g : Going) → poll_of i s ≡ polled_again g.host g.host.polls
   unfolding poll_of
-  going_fits d going goes was is = by (phase_of i s) going
+  polled_of g = ap (λ (o : Option Work). polled_in (option_map_or (λ (w : Work). w.phase) o phases.Complete) (option_map_or (λ (w : Work). w.course) o courses.NoValue)) g.at
+      ∙ (ap (λ (c : Course). polled_in g.work.phase c) g.goes ∙ by g.work.phase g.unasked)
     where
-      polled : Fits (polled_course (course_of i s)) (right i) (left i)
-      polled = rw (goes, was, is) (fits_goes d)
+      by : (p : Phase) → is_aborted p ≡ false → polled_in p (courses.Goes g.host) ≡ polled_again g.host g.host.polls
+      by phases.Running is = refl
+      by phases.AbortRequested is = absurd (cc)
+      by phases.Complete is = refl
 
-      by : (p : Phase) → (is_aborted p || has_end (course_of i s)) ≡ false → Fits (polled_in p (course_of i s)) (right i) (left i)
-      by phases.AbortRequested h = absurd (cc)
-      by phases.Running h = polled
-      by phases.Complete h = polled
+  -- what is held after its poll
+  after_said : (polls value : Option ℕ) (f : WorkCaller) (p : Phase) → phase_told f p ≡ phases.Running → (is_spawned f ≡ true → is_complete p ≡ false) →
+      (let d : HostDef = record { polls = polls; value = value } in HoldsSaid (after_poll (running d)) (said_after (polled_again d polls) (Some (f, (p, courses.Goes d)))))
+  after_said None v f p cell c = record { held = ap (λ (q : Phase). let d : HostDef = record { polls = None; value = v } in Some (Found d q)) (sym cell); spawned = c }
+  after_said (Some zero) None f p cell c = record { held = ap (λ (q : Phase). let d : HostDef = record { polls = Some 0; value = None } in Some (Found d q)) (sym cell); spawned = c }
+  after_said (Some zero) (Some v) f p cell c = record { held = refl; spawned = λ is. refl }
+  after_said (Some (suc n)) v f p cell c =
+      let down : suc n - 1 ≡ n = omega arith in
+      record { held = ap (λ (k : ℕ). let d : HostDef = record { polls = Some k; value = v } in running d) down ∙ ap (λ (q : Phase). let d : HostDef = record { polls = Some n; value = v } in Some (Found d q)) (sym cell); spawned = c }
 
-  -- and is polled
-  pub tells_polled : is_over i s ≡ false → HoldsWorks left s → ((j : ℕ) → right j ≡ cond (i == j) (option_and_then left_after (left i)) (left j)) → Tells i s left right
-  tells_polled going h is = let d = going_on going in let was = h.there i d.0 d.1 in record {
-    others = λ j e. is j ∙ rw (apart i j e) refl;
-    fits = going_fits d.0 going d.1 was (is i ∙ (own (option_and_then left_after (left i)) ∙ ap (λ (o : Option HostDef). option_and_then left_after o) was));
-  }
+  pub going_held : is_over i s ≡ false → ((j : ℕ) → right j ≡ cond (i == j) (after_poll (left i)) (left j)) → HoldsWorks right (after_polled i s)
+  going_held over is =
+      let g = going over in
+      let p = polled_again g.host g.host.polls in
+      let own : HoldsSaid (after_poll (running g.host)) (said_after p (Some (g.work.caller, (g.work.phase, courses.Goes g.host)))) =
+      after_said g.host.polls g.host.value g.work.caller g.work.phase (cell_runs g.work.caller g.work.phase g.unasked g.spawned) g.spawned in
+      let said : option_map says (get s.works i) ≡ Some (g.work.caller, (g.work.phase, courses.Goes g.host)) =
+      ap (λ (o : Option Work). option_map says o) g.at ∙ ap (λ (c : Course). Some (g.work.caller, (g.work.phase, c))) g.goes in
+      subst (λ (q : Poll). HoldsWorks right (polled_core i q s)) (sym (polled_of g))
+      (holds_polled i s p left right (after_poll (left i)) is h
+      (subst (λ (t : Option Says). HoldsSaid (after_poll (left i)) (said_after p t)) (sym said)
+      (subst (λ (o : Option HeldWork). HoldsSaid (after_poll o) (said_after p (Some (g.work.caller, (g.work.phase, courses.Goes g.host))))) (sym g.held) own)))
 
--- a work that is polled tells what the machine finds
-told_again : (polls value : Option ℕ) → let d : HostDef = record { polls = polls; value = value } in TellsPoll (told_of (told d)) (polled_again d polls)
-told_again None v = refl
-told_again (Some zero) None = refl
-told_again (Some zero) (Some v) = refl
-told_again (Some (suc n)) v = refl
+  -- a work that is polled tells what the machine finds
+  told_again : (polls value : Option ℕ) → let d : HostDef = record { polls = polls; value = value } in TellsPoll (told_of (told d)) (polled_again d polls)
+  told_again None v = refl
+  told_again (Some zero) None = refl
+  told_again (Some zero) (Some v) = refl
+  told_again (Some (suc n)) v = refl
 
-pub tells_answer : (i : ℕ) (s : Core) (left : ℕ → Option HostDef) (answer : HostPoll) → is_over i s ≡ false → HoldsWorks left s → option_map told (left i) ≡ Some answer → TellsPoll (told_of answer) (poll_of i s)
-unfolding poll_of
-tells_answer i s left answer going h is = by (phase_of i s) going
-  where
-    d : HostDef
-    d = (going_on i s left left going).0
+  pub going_tells : is_over i s ≡ false → (answer : HostPoll) → Some answer ≡ answers (left i) → TellsPoll (told_of answer) (poll_of i s)
+  going_tells over answer is =
+      let g = going over in
+      let same : told g.host ≡ answer = let e = is ∙ ap answers g.held in cc in
+      subst (λ (p : Poll). TellsPoll (told_of answer) p) (sym (polled_of g))
+      (subst (λ (a : HostPoll). TellsPoll (told_of a) (polled_again g.host g.host.polls)) same (told_again g.host.polls g.host.value))
 
-    goes : course_of i s ≡ courses.Goes d
-    goes = (going_on i s left left going).1
+  -- one that wasn't aborted is polled just where it hasn't ended
+  pub unpolled_over : is_aborted (phase_of i s) ≡ false → None ≡ answers (left i) → has_end (course_of i s) ≡ true
+  unpolled_over unasked none = by (has_end (course_of i s)) refl
+    where
+      over : (b : Bool) → has_end (course_of i s) ≡ b → is_over i s ≡ b
+      over b e = ap (λ (c : Bool). c || has_end (course_of i s)) unasked ∙ e
 
-    same : told d ≡ answer
-    same = let was = ap (λ (o : Option HostDef). option_map told o) (h.there i d goes) in cc
+      by : (b : Bool) → has_end (course_of i s) ≡ b → has_end (course_of i s) ≡ true
+      by true e = e
+      by false e = let g = going (over false e) in absurd (let n = none ∙ ap answers g.held in cc)
 
-    polled : TellsPoll (told_of answer) (polled_course (course_of i s))
-    polled = rw (goes, ← same) (told_again d.polls d.value)
+  pub polled_goes : is_aborted (phase_of i s) ≡ false → (answer : HostPoll) → Some answer ≡ answers (left i) → is_over i s ≡ false
+  polled_goes unasked answer is = by (get s.works i) (h.each i)
+    where
+      goes : (c : Course) (p : Phase) → left i ≡ held_of c p → has_end c ≡ false
+      goes (courses.Goes d) p e = refl
+      goes (courses.Value v) p e = absurd (let n = is ∙ ap answers e in cc)
+      goes courses.NoValue p e = absurd (let n = is ∙ ap answers e in cc)
 
-    by : (p : Phase) → (is_aborted p || has_end (course_of i s)) ≡ false → TellsPoll (told_of answer) (polled_in p (course_of i s))
-    by phases.AbortRequested h = absurd (cc)
-    by phases.Running h = polled
-    by phases.Complete h = polled
+      by : (o : Option Work) → HoldsAt (left i) o → (is_aborted (phase_of i s) || has_end (option_map_or (λ (w : Work). w.course) o courses.NoValue)) ≡ false
+      by None e = absurd (let n = is ∙ ap answers e in cc)
+      by (Some w) e = ap (λ (b : Bool). b || has_end w.course) unasked ∙ goes w.course (phase_told w.caller w.phase) e.held
+
+  -- what the poll of a work comes to, by its phase
+  pub aborted_ends : is_aborted (phase_of i s) ≡ true → poll_of i s ≡ Ends None
+  unfolding poll_of
+  aborted_ends is = by (phase_of i s) is
+    where
+      by : (p : Phase) → is_aborted p ≡ true → polled_in p (course_of i s) ≡ Ends None
+      by phases.Running is = absurd (cc)
+      by phases.AbortRequested is = refl
+      by phases.Complete is = absurd (cc)
+
+  pub unaborted_polls : is_aborted (phase_of i s) ≡ false → poll_of i s ≡ polled_course (course_of i s)
+  unfolding poll_of
+  unaborted_polls is = by (phase_of i s) is
+    where
+      by : (p : Phase) → is_aborted p ≡ false → polled_in p (course_of i s) ≡ polled_course (course_of i s)
+      by phases.Running is = refl
+      by phases.AbortRequested is = absurd (cc)
+      by phases.Complete is = refl
+
+  -- one that isn't held stays so
+  pub unheld_over : is_aborted (phase_of i s) ≡ false → None ≡ answers (left i) → ((j : ℕ) → right j ≡ cond (i == j) (after_poll (left i)) (left j)) → HoldsWorks right (after_polled i s)
+  unheld_over unasked none is =
+      let ended = unpolled_over unasked none in
+      over_held (ap (λ (b : Bool). b || has_end (course_of i s)) unasked ∙ ended) (λ j. is j ∙ ap (λ (o : Option HeldWork). cond (i == j) (after_poll o) (left j)) (unheld ended))
+    where
+      unheld : has_end (course_of i s) ≡ true → left i ≡ None
+      unheld ended = by (get s.works i) ended (h.each i)
+        where
+          gone : (c : Course) (p : Phase) → has_end c ≡ true → held_of c p ≡ None
+          gone (courses.Goes d) p is = absurd (cc)
+          gone (courses.Value v) p is = refl
+          gone courses.NoValue p is = refl
+
+          by : (o : Option Work) → has_end (option_map_or (λ (w : Work). w.course) o courses.NoValue) ≡ true → HoldsAt (left i) o → left i ≡ None
+          by None e q = q
+          by (Some w) e q = q.held ∙ gone w.course (phase_told w.caller w.phase) e
 
 -- after the poll of the next work
-pub holds_next : (x : Setting) (s t : Core) (n i : ℕ) (l : Label) (p : Turn) (left right : ℕ → Option HostDef) → next_polled n s ≡ Some i →
-    Step x (state_at s Unscripted (turn.Futures n)) l (state_at t Unscripted p) → Tells i s left right → HoldsWorks left s → HoldsWorks right t
-holds_next x s t n i l p left right next step tells h =
-    subst (λ (u : Core). HoldsWorks right u) (sym (core_polled x (state_at s Unscripted (turn.Futures n)) l (state_at t Unscripted p) n i refl next step)) (holds_polled i s left right tells.others h (poll_of i s) tells.fits)
+pub holds_next : (x : Setting) (s t : Core) (n i : ℕ) (l : Label) (p : Turn) (right : ℕ → Option HeldWork) → next_polled n s ≡ Some i →
+    Step x (state_at s Unscripted (turn.Futures n)) l (state_at t Unscripted p) → HoldsWorks right (after_polled i s) → HoldsWorks right t
+holds_next x s t n i l p right next step h =
+    subst (λ (u : Core). HoldsWorks right u) (sym (core_polled x (state_at s Unscripted (turn.Futures n)) l (state_at t Unscripted p) n i refl next step)) h
 
 -- ---- Spawns
 
 -- a work is made, and held
-pub holds_queued : (f : WorkCaller) (d : HostDef) (group : Option ℕ) (s : Core) (left right : ℕ → Option HostDef) → WorksNumbered s →
-    ((i : ℕ) → right i ≡ cond (s.made.works + 1 == i) (Some d) (left i)) → HoldsWorks left s → HoldsWorks right (work_queued f d group s)
+pub holds_queued : (f : WorkCaller) (d : HostDef) (group : Option ℕ) (s : Core) (left right : ℕ → Option HeldWork) →
+    ((i : ℕ) → right i ≡ cond (s.made.works + 1 == i) (running d) (left i)) → HoldsWorks left s → HoldsWorks right (work_queued f d group s)
 unfolding work_queued push_high add_work count_work
-holds_queued f d group s left right numbered is = holds_after s (work_queued f d group s) left right
-    (λ i below. let e = get-insert s.works (s.made.works + 1) (new_work f d group) i in grind (arith, nat_tests, e))
-    (λ i below. let e = is i in grind (arith, nat_tests))
-    (λ i w at. by i w (i == s.made.works + 1) refl (sym (get-insert s.works (s.made.works + 1) (new_work f d group) i) ∙ at))
-  where
-    by : (i : ℕ) (w : Work) (b : Bool) → (i == s.made.works + 1) ≡ b → cond (i == s.made.works + 1) (Some (new_work f d group)) (get s.works i) ≡ Some w →
-        (i ≤ s.made.works) ⊎ ((e : HostDef) × ((w.course ≡ courses.Goes e) × (right i ≡ Some e)))
-    by i w true e at = let a : Some (new_work f d group) ≡ Some w = rw e at at in
-        inr (d, (let c = ap (λ (o : Option Work). option_map (λ (v : Work). v.course) o) a in cc, let r = is i in let same = is_eq_of i (s.made.works + 1) e in grind (arith, nat_tests)))
-    by i w false e at = inl (numbered i (let a : get s.works i ≡ Some w = rw e at at in ap (λ (o : Option Work). is_some o) a))
-
--- what is held of other numbers than were given doesn't count
-pub holds_below : (s : Core) (left right : ℕ → Option HostDef) → WorksNumbered s → ((i : ℕ) → i ≤ s.made.works → right i ≡ left i) → HoldsWorks left s → HoldsWorks right s
-holds_below s left right numbered is h = record {
-  there = λ i d goes. is i (numbered i (ap (λ (o : Option Work). is_some o) (some_course (get s.works i) (courses.Goes d) (course_there i s d goes)).1.0)) ∙ h.there i d goes;
-  ended = λ i w at has. is i (numbered i (ap (λ (o : Option Work). is_some o) at)) ∙ h.ended i w at has;
+holds_queued f d group s left right is h = record {
+  each = λ i. at i (i == s.made.works + 1) refl;
+  first = get-insert s.works (s.made.works + 1) (new_work f d group) 0 ∙ (let e = h.first in grind (arith, nat_tests));
 }
+  where
+    told_new : (f : WorkCaller) → phase_told f phases.Running ≡ phases.Running
+    told_new callers.Spawn = refl
+    told_new (callers.Async n q) = refl
+    told_new (callers.Sync n) = refl
+
+    at : (i : ℕ) (b : Bool) → (i == s.made.works + 1) ≡ b → HoldsAt (right i) (get (work_queued f d group s).works i)
+    at i true one =
+        let there : get (work_queued f d group s).works i ≡ Some (new_work f d group) = get-insert s.works (s.made.works + 1) (new_work f d group) i ∙ rw one refl in
+        let same : right i ≡ running d = let e = is i in grind (arith, nat_tests, one) in
+        subst (λ (o : Option Work). HoldsAt (right i) o) (sym there) (record {
+          held = same ∙ ap (λ (p : Phase). Some (Found d p)) (sym (told_new f));
+          spawned = λ is. refl;
+        })
+    at i false other =
+        let there : get (work_queued f d group s).works i ≡ get s.works i = get-insert s.works (s.made.works + 1) (new_work f d group) i ∙ rw other refl in
+        let same : right i ≡ left i = let e = is i in grind (arith, nat_tests, other) in
+        subst (λ (o : Option Work). HoldsAt (right i) o) (sym there) (subst (λ (o : Option HeldWork). HoldsAt o (get s.works i)) (sym same) (h.each i))
+
+-- none is made, and what was held for it is let go
+pub holds_below : (s : Core) (left right : ℕ → Option HeldWork) → WorksNumbered s → ((i : ℕ) → right i ≡ cond (s.made.works + 1 == i) None (left i)) → HoldsWorks left s → HoldsWorks right s
+holds_below s left right numbered is h = record { each = λ i. at i (i == s.made.works + 1) refl; first = h.first }
+  where
+    at : (i : ℕ) (b : Bool) → (i == s.made.works + 1) ≡ b → HoldsAt (right i) (get s.works i)
+    at i true one =
+        let none : get s.works i ≡ None = ap (λ (k : ℕ). get s.works k) (is_eq_of i (s.made.works + 1) one) ∙ next_free s numbered in
+        subst (λ (o : Option Work). HoldsAt (right i) o) (sym none) (let e = is i in grind (arith, nat_tests, one))
+    at i false other =
+        let same : right i ≡ left i = let e = is i in grind (arith, nat_tests, other) in
+        subst (λ (o : Option HeldWork). HoldsAt o (get s.works i)) (sym same) (h.each i)
 
 -- ---- A new store
 
@@ -373,6 +631,6 @@ none_held course kept i none = rw none refl
 pub new_holds : {T H G : Type 0} (course : H → HostDef) (store : Store T H G) (instances handles capacity : ℕ) → HoldsNone store.works → store.state.core ≡ fresh instances handles capacity → HoldsHosts course store
 unfolding fresh
 new_holds course store instances handles capacity none core = subst (λ (s : Core). HoldsWorks (held_by course store) s) (sym core) (record {
-  there = λ i d goes. absurd (let e = get-empty {X = Work} i in grind (arith, e));
-  ended = λ i w at has. none_held course store.works i none;
+  each = λ i. subst (λ (o : Option Work). HoldsAt (held_by course store i) o) (sym (get-empty {X = Work} i)) (none_held course store.works i none);
+  first = get-empty {X = Work} 0;
 })

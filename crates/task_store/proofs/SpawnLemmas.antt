@@ -1,12 +1,12 @@
 -- Spawned works that are gone.
-use Rattle.std.proofs.Common.{ap, arith, inl, le_refl, subst, sym}
+use Rattle.std.proofs.Common.{ap, ap₂, arith, inl, le_refl, refl, subst, sym, ◌∙◌}
 use Rattle.std.proofs.lemmas.Bool.Decides.{nat_tests}
 use Rattle.std.specs.Option.{option_map_or}
-use Rattle.std.specs.Prelude.{None, Option, ℕ, ◌+◌, ◌<◌, ◌≡◌, ◌≤◌}
+use Rattle.std.specs.Prelude.{None, Option, ℕ, ◌↔◌, ◌+◌, ◌<◌, ◌≡◌, ◌≤◌}
 use Rattle.task_machine.proofs.CommuteLemmas.{get-change}
 use Rattle.task_machine.specs.Core.{Core}
-use Rattle.task_machine.specs.Maps.{Records, change, get, same_map}
-use Rattle.task_machine.specs.Read.{phase_of}
+use Rattle.task_machine.specs.Maps.{Records, change, get, get-insert, same_map}
+use Rattle.task_machine.specs.Read.{phase_of, work_caller_of}
 use Rattle.task_machine.specs.Write.{add_work, count_work, on_work, push_high, set_phase}
 use Rattle.task_machine.specs.declared.component.HostDef.{HostDef}
 use Rattle.task_machine.specs.declared.records.Work.{Work}
@@ -15,7 +15,10 @@ use Rattle.task_machine.specs.declared.words.Phase.TheVariants as phases
 use Rattle.task_rules.specs.Calls.{next_work, work_queued}
 use Rattle.task_rules.specs.Cancels.{aborted_phase}
 use Rattle.task_rules.specs.MainOps.{main_aborted}
-use Rattle.task_store.specs.Spawned.{IsSpawnedIn}
+use Rattle.futures.specs.declared.task.Poll.{Poll}
+use Rattle.futures.specs.declared.task.Poll.TheVariants as polls
+use Rattle.task_machine.specs.declared.words.Phase.{Phase}
+use Rattle.task_store.specs.Spawned.{IsSpawnedIn, poll_of_phase}
 use Rattle.task_store.specs.declared.spawn.SpawnHandle.{SpawnHandle}
 use Rattle.task_words.specs.StateView.{StateView, work_of}
 
@@ -30,11 +33,32 @@ gone_aborted i s none = ap (λ (ws : Records Work). record s { works = ws }) (ab
 pub gone_complete : (i : ℕ) (s : Core) → get s.works i ≡ None → phase_of i s ≡ phases.Complete
 gone_complete i s none = ap (λ (o : Option Work). option_map_or (λ (w : Work). w.phase) o phases.Complete) none
 
+-- a work that was just queued is main's
+queued_caller : (d : HostDef) (s : Core) → work_caller_of (next_work s) (work_queued callers.Spawn d None s) ≡ callers.Spawn
+unfolding work_queued push_high add_work count_work
+queued_caller d s = grind (arith, nat_tests, get-insert)
+
 -- a work that was just queued is spawned
 pub spawned_in : (h : SpawnHandle) (s : Core) (d : HostDef) (t : StateView) → h.number ≡ next_work s → work_of t h.work ≡ h.number → t.core ≡ work_queued callers.Spawn d None s → IsSpawnedIn h t
 unfolding work_queued push_high add_work count_work
 spawned_in h s d t number named core = record {
   some = subst (λ (n : ℕ). 0 < n) (sym number) (omega arith);
   made = subst (λ (n : ℕ). n ≤ t.core.made.works) (sym number) (subst (λ (u : Core). s.made.works + 1 ≤ u.made.works) (sym core) (le_refl _));
+  caller = ap₂ (λ (k : ℕ) (u : Core). work_caller_of k u) number core ∙ queued_caller d s;
   named = inl named;
 }
+
+complete_ready : (p : Phase) → p ≡ phases.Complete → ◌≡◌ {A = Poll (Unit {0})} (polls.Ready tt) (poll_of_phase p)
+complete_ready phases.Running is = absurd (cc)
+complete_ready phases.AbortRequested is = absurd (cc)
+complete_ready phases.Complete is = refl
+
+other_pending : (p : Phase) → (p ≡ phases.Complete → ⊥) → ◌≡◌ {A = Poll (Unit {0})} polls.Pending (poll_of_phase p)
+other_pending phases.Running never = refl
+other_pending phases.AbortRequested never = refl
+other_pending phases.Complete never = absurd (never refl)
+
+-- ready just where the phase is complete
+pub poll_is : (r : Poll (Unit {0})) (p : Phase) → (r ≡ polls.Ready tt) ↔ (p ≡ phases.Complete) → r ≡ poll_of_phase p
+poll_is (polls.Ready u) p h = complete_ready p (h.0 refl)
+poll_is polls.Pending p h = other_pending p (λ is. let e = h.1 is in cc)

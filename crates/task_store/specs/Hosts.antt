@@ -1,25 +1,43 @@
 -- The host works that a store holds.
-use Rattle.host_works.specs.Course.{left_after, one_fewer}
-use Rattle.host_works.specs.Kept.{held}
-use Rattle.std.specs.Option.{option_and_then}
+use Rattle.cell_laws.specs.Cells.{is_spawned, phase_told}
+use Rattle.host_works.specs.Course.{one_fewer}
+use Rattle.host_works.specs.Kept.{Found, HeldWork, after_poll, held}
 use Rattle.std.specs.Prelude.{◌==◌, ◌≡◌, ◌≤◌, Bool, None, Option, Some, cond, false, is_some, true, ℕ}
 use Rattle.task_machine.specs.Core.{Core}
 use Rattle.task_machine.specs.Maps.{get}
-use Rattle.task_machine.specs.Read.{course_of}
 use Rattle.task_machine.specs.declared.component.HostDef.{HostDef}
+use Rattle.task_machine.specs.declared.records.Course.{Course}
 use Rattle.task_machine.specs.declared.records.Course.TheVariants as courses
 use Rattle.task_machine.specs.declared.records.Work.{Work}
+use Rattle.task_machine.specs.declared.records.WorkCaller.{WorkCaller}
+use Rattle.task_machine.specs.declared.words.Phase.{Phase}
+use Rattle.task_machine.specs.declared.words.Phase.TheVariants as phases
+use Rattle.task_rules.specs.MainOps.{is_complete}
 use Rattle.task_rules.specs.Works.{has_end}
 use Rattle.task_store.specs.declared.store.Store.{Store}
 
--- What the works that are held are still to do is what the core says of them: each work that is to be polled is held, and one that has
--- ended isn't.
-pub record HoldsWorks (left : ℕ → Option HostDef) (s : Core) : Type 0 where
-  pub there : (i : ℕ) (d : HostDef) → course_of i s ≡ courses.Goes d → left i ≡ Some d
-  pub ended : (i : ℕ) (w : Work) → get s.works i ≡ Some w → has_end w.course ≡ true → left i ≡ None
+-- one that has ended isn't held
+abbrev pub held_of : Course → Phase → Option HeldWork
+held_of (courses.Goes d) p = Some (Found d p)
+held_of _ p = None
 
--- what the work with this number that the store holds is still to do
-abbrev pub held_by : {T H G : Type 0} → (H → HostDef) → Store T H G → ℕ → Option HostDef
+-- What is held of a work is what its record says: what it is still to do, and the phase of its cell. A spawned work is complete just
+-- where it has ended.
+pub record HoldsWork (o : Option HeldWork) (f : WorkCaller) (p : Phase) (c : Course) : Type 0 where
+  pub held : o ≡ held_of c (phase_told f p)
+  pub spawned : is_spawned f ≡ true → is_complete p ≡ has_end c
+
+abbrev pub HoldsAt : Option HeldWork → Option Work → Type 0
+HoldsAt o None = o ≡ None
+HoldsAt o (Some w) = HoldsWork o w.caller w.phase w.course
+
+-- Just the works that haven't ended are held. No work has the number 0.
+pub record HoldsWorks (held : ℕ → Option HeldWork) (s : Core) : Type 0 where
+  pub each : (i : ℕ) → HoldsAt (held i) (get s.works i)
+  pub first : get s.works 0 ≡ None
+
+-- what the store holds of the work with this number
+abbrev pub held_by : {T H G : Type 0} → (H → HostDef) → Store T H G → ℕ → Option HeldWork
 held_by course store i = held course store.works i
 
 abbrev pub HoldsHosts : {T H G : Type 0} → (H → HostDef) → Store T H G → Type 0
@@ -29,13 +47,17 @@ HoldsHosts course store = HoldsWorks (held_by course store) store.state.core
 abbrev pub WorksNumbered : Core → Type 0
 WorksNumbered s = (i : ℕ) → is_some (get s.works i) ≡ true → i ≤ s.made.works
 
+-- a work that is still to do this, and that nobody has aborted
+abbrev pub running : HostDef → Option HeldWork
+running d = Some (Found d phases.Running)
+
 -- what is held once a call has polled this host, and its work k, if one was made, goes on
-abbrev pub held_after_call : Option ℕ → Option HostDef → (ℕ → Option HostDef) → ℕ → Option HostDef
+abbrev pub held_after_call : Option ℕ → Option HostDef → (ℕ → Option HeldWork) → ℕ → Option HeldWork
 held_after_call None d left i = left i
 held_after_call (Some k) None left i = left i
-held_after_call (Some k) (Some d) left i = cond (k == i) (Some (one_fewer d)) (left i)
+held_after_call (Some k) (Some d) left i = cond (k == i) (running (one_fewer d)) (left i)
 
 -- what is held of a work once its call polled it first and was made, or was refused
-abbrev pub settled : Bool → Option HostDef → Option HostDef
-settled true o = option_and_then left_after o
+abbrev pub settled : Bool → Option HeldWork → Option HeldWork
+settled true o = after_poll o
 settled false o = None

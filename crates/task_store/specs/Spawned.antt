@@ -4,16 +4,19 @@ use Rattle.futures.specs.declared.task.Poll.TheVariants as polls
 use Rattle.std.proofs.Common.{inl, inr, le_trans, subst, sym, ⊎_elim, ◌∙◌}
 use Rattle.std.specs.Prelude.{◌≡◌, ◌<◌, ◌≤◌, ◌⊎◌, ℕ, None}
 use Rattle.task_machine.specs.Maps.{get}
+use Rattle.task_machine.specs.Read.{work_caller_of}
+use Rattle.task_machine.specs.declared.records.WorkCaller.TheVariants as callers
 use Rattle.task_machine.specs.declared.words.Phase.{Phase}
 use Rattle.task_machine.specs.declared.words.Phase.TheVariants as phases
 use Rattle.task_store.specs.declared.spawn.SpawnHandle.{SpawnHandle}
 use Rattle.task_turns.specs.Later.{WorksLast}
 use Rattle.task_words.specs.StateView.{StateView, work_of}
 
--- the spawn was made in the state: its id names its work, or that is gone
+-- The spawn was made in the state: its number is that of a spawned work, and its id names that, or it is gone.
 pub record IsSpawnedIn (h : SpawnHandle) (s : StateView) : Type 0 where
   pub some : 0 < h.number
   pub made : h.number ≤ s.core.made.works
+  pub caller : work_caller_of h.number s.core ≡ callers.Spawn
   pub named : (work_of s h.work ≡ h.number) ⊎ (get s.core.works h.number ≡ None)
 
 -- what a poll of a spawn answers
@@ -26,6 +29,7 @@ pub spawned_later : (h : SpawnHandle) (s t : StateView) → WorksLast s t → Is
 spawned_later h s t last q = record {
   some = q.some;
   made = le_trans q.made last.made;
+  caller = last.callers h.number q.made q.caller;
   named = ⊎_elim by_name (λ none. inr (last.gone h.number q.made none)) q.named;
 }
   where

@@ -1,6 +1,6 @@
 //! The host works of a store: those of guests' calls, and those that a host spawns.
 ghost use Rattle.group_laws.specs.Tells.{worked_group};
-ghost use Rattle.std.specs.Prelude.{◌||◌, ◌==◌, ◌≡◌, ◌<◌, ◌^◌, ℕ, IfErr, IfOk, IfSome, IsSome, None, OnErr, OnOk, Some, cond, is_some, option_map, true};
+ghost use Rattle.std.specs.Prelude.{◌||◌, ◌==◌, ◌≡◌, ◌<◌, ◌^◌, ℕ, IfErr, IfOk, IfSome, None, OnErr, OnOk, Some, cond, is_some, option_map, true};
 ghost use Rattle.task_laws.specs.Order.{WorksQueued};
 ghost use Rattle.task_machine.specs.Core.{Main};
 ghost use Rattle.task_machine.specs.Read.{is_aborted};
@@ -11,9 +11,9 @@ ghost use Rattle.task_ops.specs.Works.{KeepsWorks};
 ghost use Rattle.task_rules.specs.Calls.{next_work, work_queued};
 ghost use Rattle.task_rules.specs.Places.{Placed};
 ghost use Rattle.task_rules.specs.Stalled.{Setting};
-ghost use Rattle.task_rules.specs.Works.{has_end, poll_of, polled_in};
-ghost use Rattle.task_store.specs.Hosts.{HoldsHosts, WorksNumbered, held_after_call, held_by, settled};
-ghost use Rattle.task_store.specs.Polled.{Tells, told_of};
+ghost use Rattle.task_rules.specs.Works.{has_end, poll_of, polled_course};
+ghost use Rattle.task_store.specs.Hosts.{HoldsHosts, HoldsWorks, WorksNumbered, held_after_call, held_by, running, settled};
+ghost use Rattle.task_store.specs.Polled.{after_polled, told_of};
 ghost use Rattle.task_store.specs.Spawned.{IsSpawnedIn};
 ghost use Rattle.task_turns.specs.Turn.{IsSettled, PendsIn, Turns, given};
 ghost use Rattle.task_words.specs.StateView.{Keeps, work_of};
@@ -28,16 +28,21 @@ use task_ops::Told;
 use task_turns::{Made, poll};
 use task_words::{ResultWords, WorkId, WorkWords};
 
-// What a work tells that isn't polled, as it was aborted or has ended; none where it is polled.
-fn untold(phase: Phase, course: Course) -> Option<Told>
-    ensures is { is_some result ≡ (is_aborted phase || has_end course) }
-    ensures told { IfSome result (λ told. TellsPoll told (polled_in phase course)) }
+// Whether an abort was asked for.
+fn is_aborted(phase: Phase) -> bool
+    ensures { result ≡ is_aborted phase }
 {
-    match (phase, course) {
-        (Phase::AbortRequested, _) => Some(Told::Ends(None)),
-        (_, Course::Goes { host: _ }) => None,
-        (_, Course::Value { value }) => Some(Told::Ends(Some(value))),
-        (_, Course::NoValue) => Some(Told::Ends(None)),
+    matches!(phase, Phase::AbortRequested)
+}
+
+// What a work tells that has ended.
+fn told_at_end(course: Course) -> Told
+    requires { has_end course ≡ true }
+    ensures { TellsPoll result (polled_course course) }
+{
+    match course {
+        Course::Value { value } => Told::Ends(Some(value)),
+        _ => Told::Ends(None),
     }
 }
 
@@ -83,20 +88,24 @@ impl<T, H: AccessorTask<T>, G: TaskGroupHook> Store<T, H, G> {
         }
     }
 
-    // Polls the work, which has this number, and answers what it tells. One that was aborted is let go, and isn't polled.
+    // Polls the work, which has this number, and answers what it tells. One that was aborted is let go, and isn't polled;
+    // one that isn't held has ended.
     #[inline(always)]
     fn tell(&mut self, work: WorkId, number: u64) -> Told
         requires hosts { HoldsHosts H.course self.old }
         requires number { number ≡ work_of self.old.state work }
         ensures answer { TellsPoll result (poll_of (work_of self.old.state work) self.old.state.core) }
-        ensures told { Tells (work_of self.old.state work) self.old.state.core (held_by H.course self.old) (held_by H.course self.new) }
+        ensures told { HoldsWorks (held_by H.course self.new) (after_polled (work_of self.old.state work) self.old.state.core) }
         ensures rest { self.new ≡ record self.old { value = self.new.value; works = self.new.works } }
     {
-        if let Some(told) = untold(self.state.phase(work), self.state.course(work)) {
+        if is_aborted(self.state.phase(work)) {
             self.works.let_go(number);
-            return told;
+            return Told::Ends(None);
         }
-        told_of(self.works.poll(number, &mut self.value))
+        match self.works.poll(number, &mut self.value) {
+            Some(answer) => told_of(answer),
+            None => told_at_end(self.state.course(work)),
+        }
     }
 
     /// Polls the live work that is next, past those with numbers up to `polled`. Its group is asked.
@@ -128,7 +137,7 @@ impl<T, H: AccessorTask<T>, G: TaskGroupHook> Store<T, H, G> {
     pub fn hold_next(&mut self, work: H) -> Result<u64, NoMemory>
         requires given { given self.old.state.core < 2 ^ 61 }
         ensures number { IfOk result (λ i. i ≡ next_work self.old.state.core) }
-        ensures ok { OnOk result ((i : ℕ) → held_by H.course self.new i ≡ cond (next_work self.old.state.core == i) (Some (H.course work)) (held_by H.course self.old i)) }
+        ensures ok { OnOk result ((i : ℕ) → held_by H.course self.new i ≡ cond (next_work self.old.state.core == i) (running (H.course work)) (held_by H.course self.old i)) }
         ensures err { OnErr result ((i : ℕ) → held_by H.course self.new i ≡ held_by H.course self.old i) }
         ensures rest { self.new ≡ record self.old { works = self.new.works } }
     {
@@ -137,11 +146,10 @@ impl<T, H: AccessorTask<T>, G: TaskGroupHook> Store<T, H, G> {
         Ok(number)
     }
 
-    /// What becomes of the work with this number, which is held, once its call was made or refused: it is polled where
+    /// What becomes of the work with this number once its call was made or refused: it is polled where
     /// `polled` says so, and let go where the call wasn't made.
     pub fn settle_held(&mut self, number: u64, polled: bool, made: bool)
-        requires there { IsSome (held_by H.course self.old number) }
-        requires polled { made ≡ true → polled ≡ true }
+        requires { made ≡ true → polled ≡ true }
         ensures left { (i : ℕ) → held_by H.course self.new i ≡ cond (number == i) (settled made (held_by H.course self.old number)) (held_by H.course self.old i) }
         ensures rest { self.new ≡ record self.old { value = self.new.value; works = self.new.works } }
     {

@@ -4,11 +4,13 @@ ghost use Rattle.task_machine.specs.Maps.{get};
 ghost use Rattle.task_machine.specs.Read.{phase_of};
 ghost use Rattle.task_rules.specs.Cancels.{aborted_phase};
 ghost use Rattle.task_rules.specs.MainOps.{main_aborted};
+ghost use Rattle.task_store.specs.Hosts.{HoldsHosts};
 ghost use Rattle.task_store.specs.Spawned.{IsSpawnedIn, poll_of_phase};
 ghost use Rattle.task_words.specs.StateView.{on_core, work_of};
 
 use crate::store::Store;
 use futures::task::Poll;
+use host_works::HostWork;
 use task_group::TaskGroupHook;
 use task_machine::Phase;
 use task_words::{WorkId, WorkWords};
@@ -54,30 +56,29 @@ impl SpawnHandle {
     /// Asks that the work end, and answers the phase that it found: `Running` becomes
     /// `AbortRequested`, and the others stay. The work ends when its next poll is due, without a
     /// value, and isn't polled again.
-    pub fn abort<T, H, G: TaskGroupHook>(&self, store: &mut Store<T, H, G>) -> Phase
-        requires { IsSpawnedIn self.now store.old.state }
+    pub fn abort<T, H: HostWork, G: TaskGroupHook>(&self, store: &mut Store<T, H, G>) -> Phase
+        requires spawned { IsSpawnedIn self.now store.old.state }
+        requires hosts { HoldsHosts H.course store.old }
+        ensures hosts { HoldsHosts H.course store.new }
         ensures phase { result ≡ phase_of self.now.number store.old.state.core }
-        ensures state { store.new ≡ record store.old { state = on_core (main_aborted self.now.number) store.old.state } }
+        ensures state { store.new ≡ record store.old { works = store.new.works; state = on_core (main_aborted self.now.number) store.old.state } }
     {
         let Some(work) = self.work(store) else {
             return Phase::Complete;
         };
-        let phase = store.state.phase(work);
+        let phase = store.works.abort(self.number);
         store.state.set_phase(work, after_abort(phase));
         phase
     }
 
     /// Ready exactly where the work has ended.
-    pub fn poll<T, H, G: TaskGroupHook>(&self, store: &Store<T, H, G>) -> Poll<()>
-        requires { IsSpawnedIn self.now store.now.state }
-        ensures { result ≡ poll_of_phase (phase_of self.now.number store.now.state.core) }
+    pub fn poll<T, H: HostWork, G: TaskGroupHook>(&self, store: &mut Store<T, H, G>) -> Poll<()>
+        requires spawned { IsSpawnedIn self.now store.old.state }
+        requires hosts { HoldsHosts H.course store.old }
+        ensures answer { result ≡ poll_of_phase (phase_of self.now.number store.old.state.core) }
+        ensures rest { store.new ≡ record store.old { works = store.new.works } }
+        ensures hosts { HoldsHosts H.course store.new }
     {
-        let Some(work) = self.work(store) else {
-            return Poll::Ready(());
-        };
-        match store.state.phase(work) {
-            Phase::Complete => Poll::Ready(()),
-            _ => Poll::Pending,
-        }
+        store.works.poll_handle(self.number)
     }
 }

@@ -187,6 +187,7 @@ module _ (c : Component) (n : ℕ) (s : StateView) (sits : Sits c (turn.Run n) s
     starts = order.starts;
     waiting = (order.awake refl).starts_there;
     works = order.works;
+    held = order.held;
   }
 
   -- the thread that runs, by its id

@@ -1,11 +1,13 @@
 -- Steps whose labels are in the trace.
+use Rattle.op_dispatch.specs.Fits.{calls_host}
 use Rattle.op_dispatch.specs.Polls.{polled_host}
 use Rattle.std.proofs.Common.{ap, inl, refl, subst, sym, ◌∙◌}
-use Rattle.std.specs.Prelude.{Bool, Err, IfOk, IfSome, List, None, Ok, Option, Result, Some, false, option_map, ℕ, ◌+◌, ◌<◌, ◌≡◌, ◌≤◌}
+use Rattle.std.specs.Prelude.{Bool, Err, IfOk, IfSome, List, None, Ok, Option, Result, Some, false, option_map, true, ℕ, ◌+◌, ◌<◌, ◌≡◌, ◌≤◌}
 use Rattle.task_machine.specs.Core.{Core, Main, State}
 use Rattle.task_machine.specs.Labels.{choice_of}
 use Rattle.task_machine.specs.Read.{how_far_of, next_entry, place_of}
 use Rattle.task_machine.specs.declared.component.Component.{Component}
+use Rattle.task_machine.specs.declared.component.HostDef.{HostDef}
 use Rattle.task_machine.specs.declared.label.Label.{Label}
 use Rattle.task_machine.specs.declared.label.Label.TheVariants as label
 use Rattle.task_machine.specs.declared.label.TakeLabel.TheVariants as take_label
@@ -32,10 +34,11 @@ use Rattle.task_turns.proofs.DriveLemmas.{on_ends, on_more, on_turned_none}
 use Rattle.task_turns.proofs.IdleLemmas.{after_free, free_at}
 use Rattle.task_turns.proofs.RunLemmas.{host_over, ran_at, took, took_host, took_push}
 use Rattle.task_turns.specs.Drive.{Drove, IsOn}
-use Rattle.task_turns.specs.Ran.{RanPolls}
-use Rattle.task_turns.specs.Stepped.{Added, AddedOrNone, RowRan, RowShown, RowStep, RunAdded, Shown, StepPolls, made_by}
+use Rattle.task_turns.specs.Ran.{RanPolls, WorkMade}
+use Rattle.task_turns.specs.Stepped.{Added, AddedOrNone, CallsHost, RowRan, RowShown, RowStep, RunAdded, Shown, StepPolls, made_by}
 use Rattle.task_turns.specs.Turn.{IsFree, Makes, Turned, Turns, is_open, running_of, runs_in, state_at}
 use Rattle.task_turns.specs.declared.made.Made.{Made}
+use Rattle.task_turns.specs.declared.made.Ran.{Ran}
 use Rattle.task_turns.specs.declared.made.RunStep.{RunStep}
 use Rattle.task_turns.specs.declared.made.RunStep.TheVariants as run_step
 use Rattle.task_turns.specs.declared.made.Stepped.{Stepped}
@@ -102,21 +105,30 @@ module _ (id : TableId ThreadKey) (s t : StateView) where
       record { came = h.came; left = h.left; meets = same h.came h.left.core h.meets; stays = h.stays; label = h.label; turn = h.turn; core = h.core; running = h.running; over = h.over }
 
 -- what an op by its row came to is a step of the running thread
-pub run_steps : (c : Component) (id : TableId ThreadKey) (n : ℕ) (s t : StateView) → thread_of s id ≡ n → (before after : List Label) (r : Result RunStep NoMemory) (o : Op)
-    → polled_host c (how_far_of (thread_of s id) s.core) (op_of c (thread_of s id) s.core) ≡ polled_host c (how_far_of (thread_of s id) s.core) o
-    → ((came : Came) (u : Core) → Meets (op_row c (thread_of s id) s.core (choice_of (label_of (thread_of s id) came)) o) s.core came u → Meets (did c (thread_of s id) s.core (choice_of (label_of (thread_of s id) came))) s.core came u)
-    → IfOk r (λ step. RowStep (λ came. op_row c (thread_of s id) s.core (choice_of (label_of (thread_of s id) came)) o) id s before step t after)
-    → IfOk r (λ step. StepPolls (polled_host c (how_far_of (thread_of s id) s.core) o) s step t)
-    → IfOk r (λ step. RunAdded (λ ran. (Makes c (turn.Run n) s ran.made t × IsFree ran.made.turn) × RanPolls c n s ran t) step before after)
-run_steps c id n s t number before after (Err e) o is same step polls = tt
-run_steps c id n s t number before after (Ok (run_step.Shown q)) o is same step polls =
-    unpolled id s t q before after c n (λ made. Makes c (turn.Run n) s made t × IsFree made.turn)
-    (subst (λ k. polled_host c (how_far_of k s.core) (op_of c k s.core) ≡ None) number (is ∙ polls))
-    (run_added id s t q before after c n number (row_as id s t q before after (λ came. op_row c (thread_of s id) s.core (choice_of (label_of (thread_of s id) came)) o) (λ came. did c (thread_of s id) s.core (choice_of (label_of (thread_of s id) came))) same step))
-run_steps c id n s t number before after (Ok (run_step.Called ran)) o is same step polls =
-    let did_it = row_ran_as id s t (λ came. op_row c (thread_of s id) s.core (choice_of (label_of (thread_of s id) came)) o) (λ came. did c (thread_of s id) s.core (choice_of (label_of (thread_of s id) came))) ran.made same step.0 in
-    let polled : RanPolls c n s ran t = record { polled = subst (λ k. ran.polled ≡ polled_host c (how_far_of k s.core) (op_of c k s.core)) number (polls.0 ∙ sym is); work = polls.1 } in
-    ((ran_made id s t c n number ran.made did_it, polled), step.1)
+module _ (c : Component) (id : TableId ThreadKey) (n : ℕ) (s t : StateView) (number : thread_of s id ≡ n) (o : Op) (is : op_of c (thread_of s id) s.core ≡ o)
+    (same : (came : Came) (u : Core) → Meets (op_row c (thread_of s id) s.core (choice_of (label_of (thread_of s id) came)) o) s.core came u → Meets (did c (thread_of s id) s.core (choice_of (label_of (thread_of s id) came))) s.core came u) where
+  polled_at : (host : Option HostDef) → host ≡ polled_host c (how_far_of (thread_of s id) s.core) o → host ≡ polled_host c (how_far_of n s.core) (op_of c n s.core)
+  polled_at host e = subst (λ k. host ≡ polled_host c (how_far_of k s.core) (op_of c k s.core)) number (e ∙ sym (ap (polled_host c (how_far_of (thread_of s id) s.core)) is))
+
+  pub run_steps : (before after : List Label) (r : Result RunStep NoMemory)
+      → IfOk r (λ step. RowStep (λ came. op_row c (thread_of s id) s.core (choice_of (label_of (thread_of s id) came)) o) id s before step t after)
+      → IfOk r (λ step. StepPolls (polled_host c (how_far_of (thread_of s id) s.core) o) o step)
+      → IfOk r (λ step. RunAdded (λ ran. (Makes c (turn.Run n) s ran.made t × IsFree ran.made.turn) × RanPolls c n s ran t) (CallsHost c n s t) step before after)
+  run_steps before after (Err e) step polls = tt
+  run_steps before after (Ok (run_step.Shown q)) step polls =
+      unpolled id s t q before after c n (λ made. Makes c (turn.Run n) s made t × IsFree made.turn) (sym (polled_at None (sym polls)))
+      (run_added id s t q before after c n number (row_as id s t q before after (λ came. op_row c (thread_of s id) s.core (choice_of (label_of (thread_of s id) came)) o) (λ came. did c (thread_of s id) s.core (choice_of (label_of (thread_of s id) came))) same step))
+  run_steps before after (Ok run_step.Calls) step polls =
+      ((step.0, subst (λ k. calls_host (op_of c k s.core) ≡ true) number (ap calls_host is ∙ polls)), step.1)
+
+  -- so is what one came to that calls a host
+  pub call_steps : (r : Result Ran NoMemory) → IfOk r (λ ran. RowRan (λ came. op_row c (thread_of s id) s.core (choice_of (label_of (thread_of s id) came)) o) id s ran.made t)
+      → IfOk r (λ ran. ran.polled ≡ polled_host c (how_far_of (thread_of s id) s.core) o) → IfOk r (λ ran. WorkMade ran.polled ran.work s t)
+      → IfOk r (λ ran. (Makes c (turn.Run n) s ran.made t × IsFree ran.made.turn) × RanPolls c n s ran t)
+  call_steps (Err e) row polled work = tt
+  call_steps (Ok ran) row polled work =
+      let did_it = row_ran_as id s t (λ came. op_row c (thread_of s id) s.core (choice_of (label_of (thread_of s id) came)) o) (λ came. did c (thread_of s id) s.core (choice_of (label_of (thread_of s id) came))) ran.made same row in
+      (ran_made id s t c n number ran.made did_it, record { polled = polled_at ran.polled polled; work = work })
 
 -- a taking that met its row made a step
 pub take_added : (c : Component) (ended : Bool) (mark : Mark) (id : TableId ThreadKey) (n : ℕ) (s u v t : StateView) (r : Came) (stepped : Stepped) (before after : List Label) → thread_of u id ≡ n → u.core ≡ popped mark s.core

@@ -1,8 +1,11 @@
 -- A step whose label is in the trace.
 use Rattle.std.specs.Prelude.{List, None, Option, Some, [], is_none, true, ℕ, ◌++◌, ◌≡◌, ◌∷◌}
+use Rattle.op_dispatch.specs.Fits.{calls_host}
 use Rattle.task_machine.specs.Core.{Core}
+use Rattle.task_machine.specs.declared.component.Component.{Component}
 use Rattle.task_machine.specs.declared.component.HostDef.{HostDef}
 use Rattle.task_machine.specs.declared.label.Label.{Label}
+use Rattle.task_machine.specs.declared.op.Op.{Op}
 use Rattle.task_machine.specs.declared.records.Turn.TheVariants as turn
 use Rattle.task_ops.specs.Came.{Meets}
 use Rattle.task_ops.specs.Stays.{StaysAfter}
@@ -10,8 +13,8 @@ use Rattle.task_ops.specs.Steps.{core_after, label_of, turn_after}
 use Rattle.task_ops.specs.declared.came.Came.{Came}
 use Rattle.task_rules.specs.Outcome.{outcome_of_label}
 use Rattle.task_rules.specs.Progress.{Progress}
+use Rattle.task_rules.specs.Scripts.{op_of}
 use Rattle.task_table.specs.declared.id.TableId.{TableId}
-use Rattle.task_turns.specs.Ran.{WorkMade}
 use Rattle.task_turns.specs.Turn.{is_going, is_open, running_of, runs_in}
 use Rattle.task_turns.specs.declared.made.Made.{Made}
 use Rattle.task_turns.specs.declared.made.Ran.{Ran}
@@ -72,18 +75,23 @@ pub record RowRan (row : Came → Progress) (id : TableId ThreadKey) (s : StateV
   pub running : running_of t ≡ runs_in made.turn
   pub over : is_none (outcome_of_label made.label) ≡ is_open made.turn
 
--- A step of the running thread was made as this says of it: it polled no host and its label was added, or nothing was added.
-abbrev pub RunAdded : (Ran → Type 0) → RunStep → List Label → List Label → Type 0
-RunAdded P (run_step.Shown stepped) before after =
+-- A step of the running thread was made as this says of it: it polled no host and its label was added. Or nothing was done, which is so
+-- as this says.
+abbrev pub RunAdded : (Ran → Type 0) → Type 0 → RunStep → List Label → List Label → Type 0
+RunAdded P Q (run_step.Shown stepped) before after =
     Added (λ made. P (record { made = made; polled = None; work = None })) stepped before after
-RunAdded P (run_step.Called ran) before after = P ran × (after ≡ before)
+RunAdded P Q run_step.Calls before after = Q × (after ≡ before)
+
+-- All is as before, and the op at the thread's place calls a host.
+abbrev pub CallsHost : Component → ℕ → StateView → StateView → Type 0
+CallsHost c n s t = (t ≡ s) × (calls_host (op_of c n s.core) ≡ true)
 
 -- either of these
 abbrev pub RowStep : (Came → Progress) → TableId ThreadKey → StateView → List Label → RunStep → StateView → List Label → Type 0
 RowStep row id s before (run_step.Shown stepped) t after = RowShown row id s before stepped t after
-RowStep row id s before (run_step.Called ran) t after = RowRan row id s ran.made t × (after ≡ before)
+RowStep row id s before run_step.Calls t after = (t ≡ s) × (after ≡ before)
 
--- A step that polled this host first says so, and which work was made.
-abbrev pub StepPolls : Option HostDef → StateView → RunStep → StateView → Type 0
-StepPolls host s (run_step.Shown stepped) t = host ≡ None
-StepPolls host s (run_step.Called ran) t = (ran.polled ≡ host) × WorkMade ran.polled ran.work s t
+-- A step polls this host first where its op, which isn't done, calls one; else it polls none.
+abbrev pub StepPolls : Option HostDef → Op → RunStep → Type 0
+StepPolls host o (run_step.Shown stepped) = host ≡ None
+StepPolls host o run_step.Calls = calls_host o ≡ true

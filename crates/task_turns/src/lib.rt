@@ -22,7 +22,7 @@ pub use made::{Made, Ran, RunStep, Stepped, put};
 pub use mains::{MainStep, made_by_main};
 pub use op_dispatch::{export_def, script_ops};
 pub use rests::{step_deadlock, step_rest};
-pub use runs::{run_op, step_run};
+pub use runs::{run_op, step_call, step_run};
 pub use settles::{turn_after_end, turn_after_polls};
 pub use stretches::stretch;
 pub use takes::step_take;

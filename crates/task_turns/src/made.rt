@@ -40,13 +40,13 @@ pub struct Ran {
     pub work: Option<WorkId>,
 }
 
-/// A step of the running thread that was made, by where its label is.
+/// What came of a step of the running thread.
 #[derive(Clone, Copy)]
 pub enum RunStep {
-    /// It polled no host, and its label is in the trace.
+    /// It was made, polled no host, and its label is in the trace.
     Shown(Stepped),
-    /// Its op calls a host, and its label is still to be added.
-    Called(Ran),
+    /// Its op calls a host, and isn't done.
+    Calls,
 }
 
 // The outcome that a label gives.

@@ -17,7 +17,7 @@ ghost use Rattle.task_ops.specs.Works.{KeepsWorks, NamesWorks};
 ghost use Rattle.task_rules.specs.Scripts.{op_of, script_of};
 ghost use Rattle.task_rules.specs.Step.{did, op_row};
 ghost use Rattle.task_turns.specs.Ran.{RanPolls, WorkMade};
-ghost use Rattle.task_turns.specs.Stepped.{RowRan, RowShown, RowStep, RunAdded, StepPolls};
+ghost use Rattle.task_turns.specs.Stepped.{CallsHost, RowRan, RowShown, RowStep, RunAdded, StepPolls};
 ghost use Rattle.task_turns.specs.Turn.{GoesOn, IsFree, Makes, Sits, given, running_of};
 ghost use Rattle.task_turns.specs.WellFormed.{IsWellFormed};
 ghost use Rattle.task_words.specs.StateView.{thread_of};
@@ -145,7 +145,32 @@ fn run_host<W: Words>(
     })
 }
 
-// An op of the thread's script, which ends at `end`, is done. It is inlined, so that a step that calls no host is not copied.
+// The op of the thread's script, which ends at `end`, is a call of a host.
+fn run_called<W: Words>(
+    component: &Component,
+    w: &mut W,
+    thread: ThreadId,
+    op: &Op,
+    end: u32,
+) -> Result<Ran, NoMemory>
+    requires runner { Runner thread (W.view w.old) }
+    requires calls { calls_host op.now ≡ true }
+    requires within { position_of (thread_of (W.view w.old) thread) (W.view w.old).core < end }
+    requires few { given (W.view w.old).core < 2 ^ 61 }
+    ensures ran { IfOk result (λ ran. RowRan (λ came. op_row component.now (thread_of (W.view w.old) thread) (W.view w.old).core (choice_of (label_of (thread_of (W.view w.old) thread) came)) op.now) thread (W.view w.old) ran.made (W.view w.new)) }
+    ensures polled { IfOk result (λ ran. ran.polled ≡ polled_host component.now (how_far_of (thread_of (W.view w.old) thread) (W.view w.old).core) op.now) }
+    ensures work { IfOk result (λ ran. WorkMade ran.polled ran.work (W.view w.old) (W.view w.new)) }
+    ensures works { OnOk result (NamesWorks (W.view w.old) (W.view w.new)) }
+{
+    let _end = end;
+    match op {
+        Op::Call(call) => run_host(component, w, thread, call),
+        _ => unreachable!(),
+    }
+}
+
+// An op of the thread's script, which ends at `end`, is done, unless it calls a host. It is inlined, so that a step isn't
+// copied.
 #[inline(always)]
 fn run_by<W: Words>(
     component: &Component,
@@ -165,17 +190,14 @@ fn run_by<W: Words>(
     requires handles { is_some (get (W.view w.old).core.handles (instance_of (thread_of (W.view w.old) thread) (W.view w.old).core)) ≡ true }
     requires few { given (W.view w.old).core < 2 ^ 61 }
     ensures step { IfOk result (λ step. RowStep (λ came. op_row component.now (thread_of (W.view w.old) thread) (W.view w.old).core (choice_of (label_of (thread_of (W.view w.old) thread) came)) op.now) thread (W.view w.old) trace.old step (W.view w.new) trace.new) }
-    ensures polls { IfOk result (λ step. StepPolls (polled_host component.now (how_far_of (thread_of (W.view w.old) thread) (W.view w.old).core) op.now) (W.view w.old) step (W.view w.new)) }
+    ensures polls { IfOk result (λ step. StepPolls (polled_host component.now (how_far_of (thread_of (W.view w.old) thread) (W.view w.old).core) op.now) op.now step) }
     ensures works { OnOk result (NamesWorks (W.view w.old) (W.view w.new)) }
     ensures staked { staked.new ≡ stake_of (thread_of (W.view w.old) thread) (W.view w.old).core op.now }
     ensures err { OnErr result (trace.new ≡ trace.old) }
 {
     *staked = stake_of(w, thread, op, *staked);
     match op {
-        Op::Call(call) if is_host_call(call) => {
-            let ran = run_host(component, w, thread, call)?;
-            Ok(RunStep::Called(ran))
-        }
+        Op::Call(call) if is_host_call(call) => Ok(RunStep::Calls),
         Op::Data(data) => {
             let stepped = run_data(component, w, thread, *data, end, trace)?;
             Ok(RunStep::Shown(stepped))
@@ -187,10 +209,9 @@ fn run_by<W: Words>(
     }
 }
 
-/// The running thread, which has this number, does its op. What that shows is added to the trace, but where the op
-/// calls a host: then the step, the host that was polled first, and the work that was made are answered. Where memory
-/// is wanting, nothing is added, and nothing is said of the state. The group that the step may finish is asked, where that
-/// of the thread was.
+/// The running thread, which has this number, does its op, and what that shows is added to the trace. Where the op calls a
+/// host nothing is done, since that is asked for by `step_call`. Where memory is wanting, nothing is added, and nothing is
+/// said of the state. The group that the step may finish is asked, where that of the thread was.
 #[inline(always)]
 pub fn step_run<W: Words>(
     component: &Component,
@@ -205,7 +226,7 @@ pub fn step_run<W: Words>(
     requires runs { running_of (W.view w.old) ≡ Some number }
     requires few { given (W.view w.old).core < 2 ^ 61 }
     ensures staked { staked.new ≡ stake component.now number (W.view w.old).core }
-    ensures ran { IfOk result (λ ran. RunAdded (λ ran. (Makes component.now (Turn.Run number) (W.view w.old) ran.made (W.view w.new) × IsFree ran.made.turn) × RanPolls component.now number (W.view w.old) ran (W.view w.new)) ran trace.old trace.new) }
+    ensures ran { IfOk result (λ step. RunAdded (λ ran. (Makes component.now (Turn.Run number) (W.view w.old) ran.made (W.view w.new) × IsFree ran.made.turn) × RanPolls component.now number (W.view w.old) ran (W.view w.new)) (CallsHost component.now number (W.view w.old) (W.view w.new)) step trace.old trace.new) }
     ensures works { OnOk result (NamesWorks (W.view w.old) (W.view w.new)) }
     ensures err { OnErr result (trace.new ≡ trace.old) }
 {
@@ -221,5 +242,31 @@ pub fn step_run<W: Words>(
             let stepped = run_exit(w, thread, trace)?;
             Ok(RunStep::Shown(stepped))
         }
+    }
+}
+
+/// The running thread, which has this number, does its op, which calls a host: the step, the host that was polled first, and
+/// the work that was made are answered, and the label is still to be added. Where memory is wanting, nothing is said of the
+/// state. It is out of line, so that what it answers is there only where a host is called.
+#[inline(never)]
+pub fn step_call<W: Words>(component: &Component, w: &mut W, number: u64) -> Result<Ran, NoMemory>
+    requires covered { IsWellFormed component.now }
+    requires order { Sits component.now (Turn.Run number) (W.view w.old).core }
+    requires runs { running_of (W.view w.old) ≡ Some number }
+    requires calls { calls_host (op_of component.now number (W.view w.old).core) ≡ true }
+    requires few { given (W.view w.old).core < 2 ^ 61 }
+    ensures ran { IfOk result (λ ran. (Makes component.now (Turn.Run number) (W.view w.old) ran.made (W.view w.new) × IsFree ran.made.turn) × RanPolls component.now number (W.view w.old) ran (W.view w.new)) }
+    ensures works { OnOk result (NamesWorks (W.view w.old) (W.view w.new)) }
+{
+    let _number = number;
+    w.none_is_zero();
+    let Some(thread) = w.current() else {
+        unreachable!()
+    };
+    let point = w.at(thread);
+    let body = script_ops(component, point.callee, point.script);
+    match op_at(body, point.position) {
+        Some(op) => run_called(component, w, thread, op, body.len() as u32),
+        None => unreachable!(),
     }
 }

@@ -1,4 +1,5 @@
 pub mod StateView
+pub mod Becomes
 pub mod Names
 pub mod Live
 pub mod Apart

@@ -1,4 +1,4 @@
-ghost use Rattle.std.specs.Prelude.{◌≡◌, ◌+◌, ◌<◌, ◌≤◌, ◌^◌, IfOk, IsSome, OnErr, OnOk, false, length, true};
+ghost use Rattle.std.specs.Prelude.{◌≡◌, ◌+◌, ◌<◌, ◌≤◌, ◌^◌, IsSome, false, length, true};
 ghost use Rattle.std.specs.Option.{option_map_or};
 ghost use Rattle.task_machine.specs.Maps.{get};
 ghost use Rattle.task_machine.specs.Moves.{group_settled, is_deletable, is_finished};
@@ -10,7 +10,8 @@ ghost use Rattle.task_rules.specs.Calls.{call_made, next_thread, with_thread_han
 ghost use Rattle.task_rules.specs.Takes.{starting_is_published};
 ghost use Rattle.task_words.specs.Live.{live_caller, live_thread};
 ghost use Rattle.task_words.specs.Names.{caller_in};
-ghost use Rattle.task_words.specs.StateView.{Keeps, KeepsBut, call_of, lost_call, on_core, thread_of};
+ghost use Rattle.task_words.specs.Becomes.{BecomesBut, Makes, names_call};
+ghost use Rattle.task_words.specs.StateView.{call_of, lost_call, on_core, thread_of};
 
 use crate::names::{CallId, CallerId, ThreadId};
 use crate::view::View;
@@ -125,12 +126,7 @@ pub trait CallWords: View {
         requires words { length words.now ≤ 16 }
         requires few { (Self.view self.old).core.made.threads + 1 < 2 ^ 64 }
         requires room { fits 3 (Self.view self.old).core ≡ true }
-        ensures thread { IfOk result (λ ids. thread_of (Self.view self.new) ids.0 ≡ next_thread (Self.view self.old).core) }
-        ensures call { IfOk result (λ ids. call_of (Self.view self.new) ids.1 ≡ next_thread (Self.view self.old).core) }
-        ensures core { OnOk result ((Self.view self.new).core ≡ call_made (callers.Thread (thread_of (Self.view self.old) thread)) callee kind goal (thread_group (thread_of (Self.view self.old) thread) (Self.view self.old).core) words.now (Self.view self.old).core) }
-        ensures current { (Self.view self.new).current ≡ (Self.view self.old).current }
-        ensures tags { Keeps (Self.view self.old).tags (Self.view self.new).tags }
-        ensures err { OnErr result (Self.view self.new ≡ Self.view self.old) };
+        ensures { Makes (names_call (next_thread (Self.view self.old).core)) (call_made (callers.Thread (thread_of (Self.view self.old) thread)) callee kind goal (thread_group (thread_of (Self.view self.old) thread) (Self.view self.old).core) words.now (Self.view self.old).core) (Self.view self.old) result (Self.view self.new) };
 
     /// Makes a direct call by a thread, and gives the call's first thread its handle. Where memory
     /// is wanting, all is as before.
@@ -147,12 +143,7 @@ pub trait CallWords: View {
         requires few { (Self.view self.old).core.made.threads + 1 < 2 ^ 64 }
         requires room { fits 3 (Self.view self.old).core ≡ true }
         requires limit { at_handle_limit (Self.view self.old).core ≡ false }
-        ensures thread { IfOk result (λ ids. thread_of (Self.view self.new) ids.0 ≡ next_thread (Self.view self.old).core) }
-        ensures call { IfOk result (λ ids. call_of (Self.view self.new) ids.1 ≡ next_thread (Self.view self.old).core) }
-        ensures core { OnOk result ((Self.view self.new).core ≡ with_thread_handle callee.instance (next_thread (Self.view self.old).core) (call_made (callers.Thread (thread_of (Self.view self.old) thread)) callee kind goals.Direct (thread_group (thread_of (Self.view self.old) thread) (Self.view self.old).core) words.now (Self.view self.old).core)) }
-        ensures current { (Self.view self.new).current ≡ (Self.view self.old).current }
-        ensures tags { Keeps (Self.view self.old).tags (Self.view self.new).tags }
-        ensures err { OnErr result (Self.view self.new ≡ Self.view self.old) };
+        ensures { Makes (names_call (next_thread (Self.view self.old).core)) (with_thread_handle callee.instance (next_thread (Self.view self.old).core) (call_made (callers.Thread (thread_of (Self.view self.old) thread)) callee kind goals.Direct (thread_group (thread_of (Self.view self.old) thread) (Self.view self.old).core) words.now (Self.view self.old).core)) (Self.view self.old) result (Self.view self.new) };
 
     /// Makes a group, a call without a calling thread in it, and the call's first thread. Where its
     /// result is for main there is room for it. Where memory is wanting, all is as before.
@@ -168,18 +159,11 @@ pub trait CallWords: View {
         requires few { (Self.view self.old).core.made.threads + 1 < 2 ^ 64 }
         requires groups { (Self.view self.old).core.made.groups + 1 < 2 ^ 64 }
         requires room { fits 4 (Self.view self.old).core ≡ true }
-        ensures thread { IfOk result (λ ids. thread_of (Self.view self.new) ids.0 ≡ next_thread (Self.view self.old).core) }
-        ensures call { IfOk result (λ ids. call_of (Self.view self.new) ids.1 ≡ next_thread (Self.view self.old).core) }
-        ensures core { OnOk result ((Self.view self.new).core ≡ call_made callers.Main callee kind goal ((Self.view self.old).core.made.groups + 1) words.now (add_group (Self.view self.old).core)) }
-        ensures current { (Self.view self.new).current ≡ (Self.view self.old).current }
-        ensures tags { Keeps (Self.view self.old).tags (Self.view self.new).tags }
-        ensures err { OnErr result (Self.view self.new ≡ Self.view self.old) };
+        ensures { Makes (names_call (next_thread (Self.view self.old).core)) (call_made callers.Main callee kind goal ((Self.view self.old).core.made.groups + 1) words.now (add_group (Self.view self.old).core)) (Self.view self.old) result (Self.view self.new) };
 
     /// A call is gone, and its group is finished, if nothing of it is left.
     fn delete_call(&mut self, call: CallId)
         requires live { 0 < call_of (Self.view self.old) call }
         requires last { has_thread (call_of (Self.view self.old) call) (Self.view self.old).core ≡ false }
-        ensures core { (Self.view self.new).core ≡ group_settled (call_group (call_of (Self.view self.old) call) (Self.view self.old).core) (remove_call (call_of (Self.view self.old) call) (Self.view self.old).core) }
-        ensures current { (Self.view self.new).current ≡ (Self.view self.old).current }
-        ensures tags { KeepsBut (lost_call (call_of (Self.view self.old) call)) (Self.view self.old).tags (Self.view self.new).tags };
+        ensures { BecomesBut (lost_call (call_of (Self.view self.old) call)) (group_settled (call_group (call_of (Self.view self.old) call) (Self.view self.old).core) (remove_call (call_of (Self.view self.old) call) (Self.view self.old).core)) (Self.view self.old) (Self.view self.new) };
 }

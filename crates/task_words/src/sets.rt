@@ -1,10 +1,11 @@
-ghost use Rattle.std.specs.Prelude.{◌≡◌, ◌+◌, ◌<◌, ◌^◌, IfNone, IfOk, IfSome, IsSome, OnErr, OnOk, false, is_some, true};
+ghost use Rattle.std.specs.Prelude.{◌≡◌, ◌+◌, ◌<◌, ◌^◌, IfNone, IfSome, IsSome, false, is_some, true};
 ghost use Rattle.task_machine.specs.Maps.{get};
 ghost use Rattle.task_machine.specs.Read.{at_handle_limit, fits, has_member, has_ready_member, has_waiters, is_ready_member, set_at};
 ghost use Rattle.task_machine.specs.Write.{add_set, free_handle, give_handle, remove_set};
 ghost use Rattle.task_machine.specs.declared.records.Named.TheVariants as names;
 ghost use Rattle.task_words.specs.Names.{subtask_in};
-ghost use Rattle.task_words.specs.StateView.{Keeps, KeepsBut, lost_set, set_of};
+ghost use Rattle.task_words.specs.Becomes.{BecomesBut, Makes, names_set};
+ghost use Rattle.task_words.specs.StateView.{lost_set, set_of};
 
 use crate::names::{SetId, SubtaskId};
 use crate::view::View;
@@ -39,11 +40,7 @@ pub trait SetWords: View {
         requires few { (Self.view self.old).core.made.sets + 1 < 2 ^ 64 }
         requires room { fits 1 (Self.view self.old).core ≡ true }
         requires limit { at_handle_limit (Self.view self.old).core ≡ false }
-        ensures set { IfOk result (λ id. set_of (Self.view self.new) id ≡ (Self.view self.old).core.made.sets + 1) }
-        ensures core { OnOk result ((Self.view self.new).core ≡ give_handle instance (names.Set ((Self.view self.old).core.made.sets + 1)) (add_set (record { instance = instance }) (Self.view self.old).core)) }
-        ensures current { (Self.view self.new).current ≡ (Self.view self.old).current }
-        ensures tags { Keeps (Self.view self.old).tags (Self.view self.new).tags }
-        ensures err { OnErr result (Self.view self.new ≡ Self.view self.old) };
+        ensures { Makes (names_set ((Self.view self.old).core.made.sets + 1)) (give_handle instance (names.Set ((Self.view self.old).core.made.sets + 1)) (add_set (record { instance = instance }) (Self.view self.old).core)) (Self.view self.old) result (Self.view self.new) };
 
     /// A set without members and waiters is gone, and its handle in the instance.
     fn close_set(&mut self, instance: u32, handle: u32, set: SetId)
@@ -51,7 +48,5 @@ pub trait SetWords: View {
         requires names { IsSome (set_at instance handle (Self.view self.old).core) }
         requires members { has_member (set_of (Self.view self.old) set) (Self.view self.old).core ≡ false }
         requires waiters { has_waiters (set_of (Self.view self.old) set) (Self.view self.old).core ≡ false }
-        ensures core { (Self.view self.new).core ≡ remove_set (set_of (Self.view self.old) set) (free_handle instance handle (Self.view self.old).core) }
-        ensures current { (Self.view self.new).current ≡ (Self.view self.old).current }
-        ensures tags { KeepsBut (lost_set (set_of (Self.view self.old) set)) (Self.view self.old).tags (Self.view self.new).tags };
+        ensures { BecomesBut (lost_set (set_of (Self.view self.old) set)) (remove_set (set_of (Self.view self.old) set) (free_handle instance handle (Self.view self.old).core)) (Self.view self.old) (Self.view self.new) };
 }

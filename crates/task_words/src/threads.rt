@@ -1,4 +1,4 @@
-ghost use Rattle.std.specs.Prelude.{◌≡◌, ◌+◌, ◌<◌, ◌≤◌, ◌^◌, IfOk, None, OnErr, OnOk, Some, false, is_some, length, true, ℕ};
+ghost use Rattle.std.specs.Prelude.{◌≡◌, ◌+◌, ◌<◌, ◌≤◌, ◌^◌, None, Some, false, is_some, length, true};
 ghost use Rattle.task_machine.specs.Maps.{get};
 ghost use Rattle.task_machine.specs.Moves.{freed_thread_handle};
 ghost use Rattle.task_machine.specs.Read.{at_handle_limit, call_instance, callee_of, fits, how_far_of, instance_of, is_explicit, is_last_thread, position_of, register_of, registers_of, saved_callee_of, saved_own_of, task_of, thread_group, thread_handle_of};
@@ -12,7 +12,8 @@ ghost use Rattle.task_words.specs.Apart.{IsApart};
 ghost use Rattle.task_words.specs.Context.{activating, with_context};
 ghost use Rattle.task_words.specs.Live.{live_how_far};
 ghost use Rattle.task_words.specs.Names.{how_far_in};
-ghost use Rattle.task_words.specs.StateView.{Keeps, KeepsBut, call_of, lost_thread, on_core, thread_of};
+ghost use Rattle.task_words.specs.Becomes.{BecomesBut, Makes, names_thread};
+ghost use Rattle.task_words.specs.StateView.{call_of, lost_thread, on_core, thread_of};
 
 use crate::names::{CallId, HowFarId, ThreadAt, ThreadId};
 use crate::view::View;
@@ -129,25 +130,17 @@ pub trait ThreadWords: View {
         requires few { (Self.view self.old).core.made.threads + 1 < 2 ^ 64 }
         requires room { fits 2 (Self.view self.old).core ≡ true }
         requires limit { at_handle_limit (Self.view self.old).core ≡ false }
-        ensures thread { IfOk result (λ id. thread_of (Self.view self.new) id ≡ next_thread (Self.view self.old).core) }
-        ensures core { OnOk result ((i : ℕ) → i ≡ call_instance (call_of (Self.view self.old) task) (Self.view self.old).core → (Self.view self.new).core ≡ with_thread_handle i (next_thread (Self.view self.old).core) (add_thread (new_thread (call_of (Self.view self.old) task) true (scripts.Slot slot) (registers_for words.now) None) (Self.view self.old).core)) }
-        ensures current { (Self.view self.new).current ≡ (Self.view self.old).current }
-        ensures tags { Keeps (Self.view self.old).tags (Self.view self.new).tags }
-        ensures err { OnErr result (Self.view self.new ≡ Self.view self.old) };
+        ensures { Makes (names_thread (next_thread (Self.view self.old).core)) (with_thread_handle (call_instance (call_of (Self.view self.old) task) (Self.view self.old).core) (next_thread (Self.view self.old).core) (add_thread (new_thread (call_of (Self.view self.old) task) true (scripts.Slot slot) (registers_for words.now) None) (Self.view self.old).core)) (Self.view self.old) result (Self.view self.new) };
 
     /// A thread gives back its handle and is gone.
     fn retire_thread(&mut self, thread: ThreadId)
         requires live { 0 < thread_of (Self.view self.old) thread }
         requires apart { IsApart (thread_of (Self.view self.old) thread) (Self.view self.old).core }
-        ensures core { (Self.view self.new).core ≡ remove_thread (thread_of (Self.view self.old) thread) (freed_thread_handle (instance_of (thread_of (Self.view self.old) thread) (Self.view self.old).core) (thread_handle_of (thread_of (Self.view self.old) thread) (Self.view self.old).core) (Self.view self.old).core) }
-        ensures current { (Self.view self.new).current ≡ (Self.view self.old).current }
-        ensures tags { KeepsBut (lost_thread (thread_of (Self.view self.old) thread)) (Self.view self.old).tags (Self.view self.new).tags };
+        ensures { BecomesBut (lost_thread (thread_of (Self.view self.old) thread)) (remove_thread (thread_of (Self.view self.old) thread) (freed_thread_handle (instance_of (thread_of (Self.view self.old) thread) (Self.view self.old).core) (thread_handle_of (thread_of (Self.view self.old) thread) (Self.view self.old).core) (Self.view self.old).core)) (Self.view self.old) (Self.view self.new) };
 
     /// A thread is gone, as it stands, and no thread is behind it any more.
     fn remove_thread(&mut self, thread: ThreadId)
         requires live { 0 < thread_of (Self.view self.old) thread }
         requires apart { IsApart (thread_of (Self.view self.old) thread) (Self.view self.old).core }
-        ensures core { (Self.view self.new).core ≡ remove_thread (thread_of (Self.view self.old) thread) (Self.view self.old).core }
-        ensures current { (Self.view self.new).current ≡ (Self.view self.old).current }
-        ensures tags { KeepsBut (lost_thread (thread_of (Self.view self.old) thread)) (Self.view self.old).tags (Self.view self.new).tags };
+        ensures { BecomesBut (lost_thread (thread_of (Self.view self.old) thread)) (remove_thread (thread_of (Self.view self.old) thread) (Self.view self.old).core) (Self.view self.old) (Self.view self.new) };
 }

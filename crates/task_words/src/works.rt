@@ -1,4 +1,4 @@
-ghost use Rattle.std.specs.Prelude.{◌≡◌, ◌+◌, ◌<◌, ◌^◌, IfOk, None, OnErr, OnOk, Some, false, is_some, option_map, true};
+ghost use Rattle.std.specs.Prelude.{◌≡◌, ◌+◌, ◌<◌, ◌^◌, None, OnOk, Some, false, is_some, option_map, true};
 ghost use Rattle.task_machine.specs.Read.{at_handle_limit, course_of, fits, instance_of, is_stage_live, new_handle, phase_of, stage_of, thread_group, was_cancelled, work_caller_of};
 ghost use Rattle.task_machine.specs.Write.{count_work, set_cancelled, set_course, set_phase, set_stage};
 ghost use Rattle.task_machine.specs.declared.component.HostDef.{HostDef as Left};
@@ -9,7 +9,8 @@ ghost use Rattle.task_rules.specs.Works.{StillPends, has_live_work, has_moving_w
 ghost use Rattle.task_words.specs.Apart.{work_entries};
 ghost use Rattle.task_words.specs.Live.{live_work_caller};
 ghost use Rattle.task_words.specs.Names.{work_caller_in};
-ghost use Rattle.task_words.specs.StateView.{Keeps, KeepsBut, lost_work, on_core, thread_of, work_of};
+ghost use Rattle.task_words.specs.Becomes.{BecomesBut, Makes, names_work};
+ghost use Rattle.task_words.specs.StateView.{lost_work, on_core, thread_of, work_of};
 
 use crate::names::{ThreadId, WorkCallerId, WorkId};
 use crate::view::View;
@@ -85,11 +86,7 @@ pub trait WorkWords: View {
     /// Makes a spawned work, and its push. Where memory is wanting, all is as before.
     fn queue_spawn(&mut self, host: HostDef) -> Result<WorkId, NoMemory>
         requires { (Self.view self.old).core.made.works + 1 < 2 ^ 64 }
-        ensures work { IfOk result (λ id. work_of (Self.view self.new) id ≡ next_work (Self.view self.old).core) }
-        ensures core { OnOk result ((Self.view self.new).core ≡ work_queued work_callers.Spawn host None (Self.view self.old).core) }
-        ensures current { (Self.view self.new).current ≡ (Self.view self.old).current }
-        ensures tags { Keeps (Self.view self.old).tags (Self.view self.new).tags }
-        ensures err { OnErr result (Self.view self.new ≡ Self.view self.old) };
+        ensures { Makes (names_work (next_work (Self.view self.old).core)) (work_queued work_callers.Spawn host None (Self.view self.old).core) (Self.view self.old) result (Self.view self.new) };
 
     /// Makes the work of a thread's `call_sync`, in the thread's group, and its push. Where memory
     /// is wanting, all is as before.
@@ -97,11 +94,7 @@ pub trait WorkWords: View {
         requires live { 0 < thread_of (Self.view self.old) thread }
         requires few { (Self.view self.old).core.made.works + 1 < 2 ^ 64 }
         requires room { fits 1 (Self.view self.old).core ≡ true }
-        ensures work { IfOk result (λ id. work_of (Self.view self.new) id ≡ next_work (Self.view self.old).core) }
-        ensures core { OnOk result ((Self.view self.new).core ≡ work_queued (work_callers.Sync (thread_of (Self.view self.old) thread)) host (Some (thread_group (thread_of (Self.view self.old) thread) (Self.view self.old).core)) (Self.view self.old).core) }
-        ensures current { (Self.view self.new).current ≡ (Self.view self.old).current }
-        ensures tags { Keeps (Self.view self.old).tags (Self.view self.new).tags }
-        ensures err { OnErr result (Self.view self.new ≡ Self.view self.old) };
+        ensures { Makes (names_work (next_work (Self.view self.old).core)) (work_queued (work_callers.Sync (thread_of (Self.view self.old) thread)) host (Some (thread_group (thread_of (Self.view self.old) thread) (Self.view self.old).core)) (Self.view self.old).core) (Self.view self.old) result (Self.view self.new) };
 
     /// Makes the work of a thread's `call`, in the thread's group, with its push, and gives it a
     /// handle in the thread's instance. Where memory is wanting, all is as before.
@@ -115,18 +108,12 @@ pub trait WorkWords: View {
         requires few { (Self.view self.old).core.made.works + 1 < 2 ^ 64 }
         requires room { fits 1 (Self.view self.old).core ≡ true }
         requires limit { at_handle_limit (Self.view self.old).core ≡ false }
-        ensures work { IfOk result (λ id. work_of (Self.view self.new) id ≡ next_work (Self.view self.old).core) }
-        ensures small { OnOk result (new_handle (instance_of (thread_of (Self.view self.old) thread) (Self.view self.old).core) (Self.view self.old).core < 2 ^ 28) }
-        ensures core { OnOk result ((Self.view self.new).core ≡ with_handle (instance_of (thread_of (Self.view self.old) thread) (Self.view self.old).core) (subtasks.Host (next_work (Self.view self.old).core)) (work_queued (work_callers.Async (thread_of (Self.view self.old) thread) register) host (Some (thread_group (thread_of (Self.view self.old) thread) (Self.view self.old).core)) (Self.view self.old).core)) }
-        ensures current { (Self.view self.new).current ≡ (Self.view self.old).current }
-        ensures tags { Keeps (Self.view self.old).tags (Self.view self.new).tags }
-        ensures err { OnErr result (Self.view self.new ≡ Self.view self.old) };
+        ensures new { Makes (names_work (next_work (Self.view self.old).core)) (with_handle (instance_of (thread_of (Self.view self.old) thread) (Self.view self.old).core) (subtasks.Host (next_work (Self.view self.old).core)) (work_queued (work_callers.Async (thread_of (Self.view self.old) thread) register) host (Some (thread_group (thread_of (Self.view self.old) thread) (Self.view self.old).core)) (Self.view self.old).core)) (Self.view self.old) result (Self.view self.new) }
+        ensures small { OnOk result (new_handle (instance_of (thread_of (Self.view self.old) thread) (Self.view self.old).core) (Self.view self.old).core < 2 ^ 28) };
 
     /// A work is gone, and its group is finished, if nothing of it is left.
     fn delete_work(&mut self, work: WorkId)
         requires live { 0 < work_of (Self.view self.old) work }
         requires unqueued { work_entries (work_of (Self.view self.old) work) (Self.view self.old).core.queues.high ≡ 0 }
-        ensures core { (Self.view self.new).core ≡ work_deleted (work_of (Self.view self.old) work) (Self.view self.old).core }
-        ensures current { (Self.view self.new).current ≡ (Self.view self.old).current }
-        ensures tags { KeepsBut (lost_work (work_of (Self.view self.old) work)) (Self.view self.old).tags (Self.view self.new).tags };
+        ensures { BecomesBut (lost_work (work_of (Self.view self.old) work)) (work_deleted (work_of (Self.view self.old) work) (Self.view self.old).core) (Self.view self.old) (Self.view self.new) };
 }

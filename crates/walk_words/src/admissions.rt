@@ -16,19 +16,17 @@ use task_machine::{ExportKind, Place, Why};
 use task_records::{CoreParts, task_of};
 use task_words::ThreadId;
 
-// Whether a start of the thread may begin.
+// Whether a start of the thread may begin. The instance is asked first: where it is open, no record of a call is looked at.
 #[inline(always)]
 fn admits_start(parts: &CoreParts, thread: ThreadId) -> bool
     requires { IsSound parts.now }
     ensures { result ≡ admits (thread_of (seen parts.now) thread) (seen parts.now).core whys.Start }
 {
-    if is_explicit(parts, thread)
-        || matches!(kind(parts, task_of(parts, thread)), ExportKind::Sync)
-    {
+    let instance = instance_of(parts, thread);
+    if !may_not_enter(parts, instance) && backpressure(parts, instance) == 0 {
         return true;
     }
-    let instance = instance_of(parts, thread);
-    !may_not_enter(parts, instance) && backpressure(parts, instance) == 0
+    is_explicit(parts, thread) || matches!(kind(parts, task_of(parts, thread)), ExportKind::Sync)
 }
 
 // Whether such an entry of the thread may begin.

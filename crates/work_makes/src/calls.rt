@@ -1,4 +1,4 @@
-ghost use Rattle.std.specs.Prelude.{◌≡◌, ◌+◌, ◌-◌, ◌<◌, ◌^◌, IfOk, IsSome, Ok, OnErr, OnOk, Some, false, length, true};
+ghost use Rattle.std.specs.Prelude.{◌≡◌, ◌+◌, ◌-◌, ◌<◌, ◌^◌, IsSome, Ok, OnErr, OnOk, Some, length, true};
 ghost use Rattle.task_machine.specs.Read.{fits, instance_of, new_handle, thread_group};
 ghost use Rattle.task_machine.specs.declared.records.Subtask.TheVariants as subtasks;
 ghost use Rattle.task_machine.specs.declared.records.WorkCaller.TheVariants as callers;
@@ -10,7 +10,8 @@ ghost use Rattle.task_rules.specs.Calls.{next_work, with_handle, work_queued};
 ghost use Rattle.task_table.specs.Answers.{item_at};
 ghost use Rattle.task_table.specs.Changes.{deleted, with_entry};
 ghost use Rattle.task_table.specs.Table.{IsTable};
-ghost use Rattle.task_words.specs.StateView.{Keeps, on_core, thread_of, work_of};
+ghost use Rattle.task_words.specs.Becomes.{Makes, names_work};
+ghost use Rattle.task_words.specs.StateView.{on_core, thread_of, work_of};
 ghost use Rattle.work_makes.specs.Loose.{AreWorkLoose};
 ghost use Rattle.work_makes.specs.Raised.{group_name};
 
@@ -91,12 +92,8 @@ fn call_work(
     requires high { IsSome parts.old.high }
     requires live { IsSome parts.old.live }
     ensures sound { IsSound parts.new }
-    ensures work { IfOk result (λ id. work_of (seen parts.new) id ≡ next_work (seen parts.old).core) }
+    ensures new { Makes (names_work (next_work (seen parts.old).core)) (with_handle instance (subtasks.Host (next_work (seen parts.old).core)) (work_queued request.caller request.host (group_name (Some group)) (seen parts.old).core)) (seen parts.old) result (seen parts.new) }
     ensures small { OnOk result (new_handle instance (seen parts.old).core < 2 ^ 28) }
-    ensures core { OnOk result ((seen parts.new).core ≡ with_handle instance (subtasks.Host (next_work (seen parts.old).core)) (work_queued request.caller request.host (group_name (Some group)) (seen parts.old).core)) }
-    ensures current { (seen parts.new).current ≡ (seen parts.old).current }
-    ensures tags { Keeps (seen parts.old).tags (seen parts.new).tags }
-    ensures err { OnErr result (seen parts.new ≡ seen parts.old) }
 {
     let number = parts.made.works + 1;
     let work = record_for(number, request, Some(group), nodes);
@@ -128,12 +125,8 @@ fn queue_call_at(
     requires few { (seen parts.old).core.made.works + 1 < 2 ^ 64 }
     requires room { fits 1 (seen parts.old).core ≡ true }
     ensures sound { IsSound parts.new }
-    ensures work { IfOk result (λ id. work_of (seen parts.new) id ≡ next_work (seen parts.old).core) }
+    ensures new { Makes (names_work (next_work (seen parts.old).core)) (with_handle (instance_of (thread_of (seen parts.old) thread) (seen parts.old).core) (subtasks.Host (next_work (seen parts.old).core)) (work_queued (callers.Async (thread_of (seen parts.old) thread) register) host (Some (thread_group (thread_of (seen parts.old) thread) (seen parts.old).core)) (seen parts.old).core)) (seen parts.old) result (seen parts.new) }
     ensures small { OnOk result (new_handle (instance_of (thread_of (seen parts.old) thread) (seen parts.old).core) (seen parts.old).core < 2 ^ 28) }
-    ensures core { OnOk result ((seen parts.new).core ≡ with_handle (instance_of (thread_of (seen parts.old) thread) (seen parts.old).core) (subtasks.Host (next_work (seen parts.old).core)) (work_queued (callers.Async (thread_of (seen parts.old) thread) register) host (Some (thread_group (thread_of (seen parts.old) thread) (seen parts.old).core)) (seen parts.old).core)) }
-    ensures current { (seen parts.new).current ≡ (seen parts.old).current }
-    ensures tags { Keeps (seen parts.old).tags (seen parts.new).tags }
-    ensures err { OnErr result (seen parts.new ≡ seen parts.old) }
 {
     let caller = WorkCaller::Async {
         thread: number(parts, thread),
@@ -175,12 +168,8 @@ pub fn queue_call(
     requires few { (seen parts.old).core.made.works + 1 < 2 ^ 64 }
     requires room { fits 1 (seen parts.old).core ≡ true }
     ensures sound { IsSound parts.new }
-    ensures work { IfOk result (λ id. work_of (seen parts.new) id ≡ next_work (seen parts.old).core) }
+    ensures new { Makes (names_work (next_work (seen parts.old).core)) (with_handle (instance_of (thread_of (seen parts.old) thread) (seen parts.old).core) (subtasks.Host (next_work (seen parts.old).core)) (work_queued (callers.Async (thread_of (seen parts.old) thread) register) host (Some (thread_group (thread_of (seen parts.old) thread) (seen parts.old).core)) (seen parts.old).core)) (seen parts.old) result (seen parts.new) }
     ensures small { OnOk result (new_handle (instance_of (thread_of (seen parts.old) thread) (seen parts.old).core) (seen parts.old).core < 2 ^ 28) }
-    ensures core { OnOk result ((seen parts.new).core ≡ with_handle (instance_of (thread_of (seen parts.old) thread) (seen parts.old).core) (subtasks.Host (next_work (seen parts.old).core)) (work_queued (callers.Async (thread_of (seen parts.old) thread) register) host (Some (thread_group (thread_of (seen parts.old) thread) (seen parts.old).core)) (seen parts.old).core)) }
-    ensures current { (seen parts.new).current ≡ (seen parts.old).current }
-    ensures tags { Keeps (seen parts.old).tags (seen parts.new).tags }
-    ensures err { OnErr result (seen parts.new ≡ seen parts.old) }
 {
     let entry = parts.table_places.take()?;
     match queue_call_at(parts, thread, register, host, entry) {

@@ -1,11 +1,12 @@
-ghost use Rattle.std.specs.Prelude.{◌≡◌, ◌+◌, ◌<◌, ◌^◌, IfOk, IsSome, None, OnErr, OnOk, Some, is_some, true};
+ghost use Rattle.std.specs.Prelude.{◌≡◌, ◌+◌, ◌<◌, ◌^◌, IsSome, None, Some, is_some, true};
 ghost use Rattle.task_machine.specs.Read.{fits, thread_group};
 ghost use Rattle.task_machine.specs.declared.records.WorkCaller.TheVariants as callers;
 ghost use Rattle.task_records.specs.Names.{AtPlace, work_caller_target};
 ghost use Rattle.task_records.specs.Seen.{IsSound, parts_of, seen};
 ghost use Rattle.task_records.specs.Sound.{bare};
 ghost use Rattle.task_rules.specs.Calls.{next_work, work_queued};
-ghost use Rattle.task_words.specs.StateView.{Keeps, thread_of, work_of};
+ghost use Rattle.task_words.specs.Becomes.{Makes, names_work};
+ghost use Rattle.task_words.specs.StateView.{thread_of};
 ghost use Rattle.work_makes.specs.Loose.{AreWorkLoose};
 ghost use Rattle.work_makes.specs.Raised.{IsHere, group_name};
 
@@ -38,11 +39,7 @@ fn queue_work(
     requires high { IsSome parts.old.high }
     requires live { IsSome parts.old.live }
     ensures sound { IsSound parts.new }
-    ensures work { IfOk result (λ id. work_of (seen parts.new) id ≡ next_work (seen parts.old).core) }
-    ensures core { OnOk result ((seen parts.new).core ≡ work_queued request.caller request.host (group_name group) (seen parts.old).core) }
-    ensures current { (seen parts.new).current ≡ (seen parts.old).current }
-    ensures tags { Keeps (seen parts.old).tags (seen parts.new).tags }
-    ensures err { OnErr result (seen parts.new ≡ seen parts.old) }
+    ensures new { Makes (names_work (next_work (seen parts.old).core)) (work_queued request.caller request.host (group_name group) (seen parts.old).core) (seen parts.old) result (seen parts.new) }
 {
     let number = parts.made.works + 1;
     let work = record_for(number, request, group, nodes);
@@ -60,11 +57,7 @@ pub fn queue_spawn(parts: &mut CoreParts, host: HostDef) -> Result<WorkId, NoMem
     requires sound { IsSound parts.old }
     requires few { (seen parts.old).core.made.works + 1 < 2 ^ 64 }
     ensures sound { IsSound parts.new }
-    ensures work { IfOk result (λ id. work_of (seen parts.new) id ≡ next_work (seen parts.old).core) }
-    ensures core { OnOk result ((seen parts.new).core ≡ work_queued callers.Spawn host None (seen parts.old).core) }
-    ensures current { (seen parts.new).current ≡ (seen parts.old).current }
-    ensures tags { Keeps (seen parts.old).tags (seen parts.new).tags }
-    ensures err { OnErr result (seen parts.new ≡ seen parts.old) }
+    ensures new { Makes (names_work (next_work (seen parts.old).core)) (work_queued callers.Spawn host None (seen parts.old).core) (seen parts.old) result (seen parts.new) }
 {
     let request = WorkRequest {
         caller: WorkCaller::Spawn,
@@ -93,11 +86,7 @@ fn queue_sync_call_at(
     requires few { (seen parts.old).core.made.works + 1 < 2 ^ 64 }
     requires room { fits 1 (seen parts.old).core ≡ true }
     ensures sound { IsSound parts.new }
-    ensures work { IfOk result (λ id. work_of (seen parts.new) id ≡ next_work (seen parts.old).core) }
-    ensures core { OnOk result ((seen parts.new).core ≡ work_queued (callers.Sync (thread_of (seen parts.old) thread)) host (Some (thread_group (thread_of (seen parts.old) thread) (seen parts.old).core)) (seen parts.old).core) }
-    ensures current { (seen parts.new).current ≡ (seen parts.old).current }
-    ensures tags { Keeps (seen parts.old).tags (seen parts.new).tags }
-    ensures err { OnErr result (seen parts.new ≡ seen parts.old) }
+    ensures new { Makes (names_work (next_work (seen parts.old).core)) (work_queued (callers.Sync (thread_of (seen parts.old) thread)) host (Some (thread_group (thread_of (seen parts.old) thread) (seen parts.old).core)) (seen parts.old).core) (seen parts.old) result (seen parts.new) }
 {
     let caller = WorkCaller::Sync {
         thread: number(parts, thread),
@@ -133,11 +122,7 @@ pub fn queue_sync_call(
     requires few { (seen parts.old).core.made.works + 1 < 2 ^ 64 }
     requires room { fits 1 (seen parts.old).core ≡ true }
     ensures sound { IsSound parts.new }
-    ensures work { IfOk result (λ id. work_of (seen parts.new) id ≡ next_work (seen parts.old).core) }
-    ensures core { OnOk result ((seen parts.new).core ≡ work_queued (callers.Sync (thread_of (seen parts.old) thread)) host (Some (thread_group (thread_of (seen parts.old) thread) (seen parts.old).core)) (seen parts.old).core) }
-    ensures current { (seen parts.new).current ≡ (seen parts.old).current }
-    ensures tags { Keeps (seen parts.old).tags (seen parts.new).tags }
-    ensures err { OnErr result (seen parts.new ≡ seen parts.old) }
+    ensures new { Makes (names_work (next_work (seen parts.old).core)) (work_queued (callers.Sync (thread_of (seen parts.old) thread)) host (Some (thread_group (thread_of (seen parts.old) thread) (seen parts.old).core)) (seen parts.old).core) (seen parts.old) result (seen parts.new) }
 {
     let entry = parts.table_places.take()?;
     match queue_sync_call_at(parts, thread, host, entry) {

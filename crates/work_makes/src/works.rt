@@ -6,7 +6,8 @@ ghost use Rattle.task_records.specs.Sound.{bare, bare_work};
 ghost use Rattle.task_records.specs.declared.calls.TaskGroup.{TaskGroup};
 ghost use Rattle.removal_words.specs.Counted.{IsIn};
 ghost use Rattle.task_words.specs.Apart.{work_entries};
-ghost use Rattle.task_words.specs.StateView.{Keeps, work_of};
+ghost use Rattle.task_words.specs.Becomes.{Becomes};
+ghost use Rattle.task_words.specs.StateView.{work_of};
 ghost use Rattle.work_makes.specs.Loose.{AreWorkLoose, nodes_of};
 ghost use Rattle.work_makes.specs.Raised.{IsHere, IsWorkNext, PushesWork, group_name, raised};
 
@@ -55,10 +56,8 @@ pub(crate) fn push_work(
     requires high { IsSome parts.old.high }
     requires live { IsSome parts.old.live }
     ensures sound { IsSound parts.new }
+    ensures new { OnOk result (Becomes (add_work work.number work.work (count_work (seen parts.old).core)) (seen parts.old) (seen parts.new)) }
     ensures work { IfOk result (λ id. work_of (seen parts.new) id ≡ (seen parts.old).core.made.works + 1) }
-    ensures core { OnOk result ((seen parts.new).core ≡ add_work work.number work.work (count_work (seen parts.old).core)) }
-    ensures current { (seen parts.new).current ≡ (seen parts.old).current }
-    ensures tags { Keeps (seen parts.old).tags (seen parts.new).tags }
     ensures unqueued { OnOk result (work_entries ((seen parts.old).core.made.works + 1) (seen parts.new).core.queues.high ≡ 0) }
     ensures pushes { IfOk result (λ id. PushesWork parts.old parts.new work group id.rep (if is_host_call work.work then 1 else 0)) }
     ensures err { OnErr result (parts.new ≡ parts.old) }

@@ -11,12 +11,11 @@ returns-in-Ok-clause-sound c = set_sound c.args.parts.now c.requires.sound c.arg
 pub returns-in-Ok-clause-set : goal.returns-in-Ok-clause-set
 returns-in-Ok-clause-set c = set_named c.args.parts.now c.requires.sound c.args.set c.requires.next c.push.new.self c.in-Ok.ensures.pushed c.in-Ok.id c.in-Ok.ensures.rep c.in-Ok.ensures.serial
 
-pub returns-in-Ok-clause-core : goal.returns-in-Ok-clause-core
-returns-in-Ok-clause-core c = set_core c.args.parts.now c.requires.sound c.args.set c.requires.next c.push.new.self c.in-Ok.ensures.pushed
-
-pub returns-in-Ok-clause-current : goal.returns-in-Ok-clause-current
+pub returns-in-Ok-clause-new : goal.returns-in-Ok-clause-new
 unfolding seen
-returns-in-Ok-clause-current c = refl
-
-pub returns-in-Ok-clause-tags : goal.returns-in-Ok-clause-tags
-returns-in-Ok-clause-tags c = set_tags c.args.parts.now c.requires.sound c.args.set c.requires.next c.push.new.self c.in-Ok.ensures.pushed
+returns-in-Ok-clause-new c =
+    record {
+      core = set_core c.args.parts.now c.requires.sound c.args.set c.requires.next c.push.new.self c.in-Ok.ensures.pushed;
+      current = refl;
+      tags = set_tags c.args.parts.now c.requires.sound c.args.set c.requires.next c.push.new.self c.in-Ok.ensures.pushed;
+    }

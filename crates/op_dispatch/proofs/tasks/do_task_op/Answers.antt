@@ -22,3 +22,6 @@ pub returns-in-TaskCancel-clause-stays : goal.returns-in-TaskCancel-clause-stays
 returns-in-TaskCancel-clause-stays g c =
     let v = g.W.View.view in
     same_stays _ (v c.args.w.now) (v c.task_cancel.new.w) c.task_cancel.result c.task_cancel.ensures.meets c.task_cancel.ensures.tags c.task_cancel.ensures.current
+
+pub lower-requires-clause-held : goal.lower-requires-clause-held
+lower-requires-clause-held g c = c.requires.runner.held

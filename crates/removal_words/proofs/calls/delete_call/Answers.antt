@@ -22,22 +22,21 @@ group_on a b only id = ap (λ (x : CoreParts). number_of group_key x.groups id.r
 
 pub leave_room-requires-clause-gone : goal.leave_room-requires-clause-gone
 leave_room-requires-clause-gone c =
-    ap (λ (s : Core). get s.calls c.call_number-number.result) c.drop_call-group.ensures.core
+    ap (λ (s : Core). get s.calls c.call_number-number.result) c.drop_call-group.ensures.new.core
     ∙ (ap (get (remove_call (call_of (seen c.leave_set.new.parts) c.args.call) (seen c.leave_set.new.parts).core).calls) c.call_number-number.ensures ∙ call_gone _ _)
 
 pub settle_group-requires-clause-live : goal.settle_group-requires-clause-live
 settle_group-requires-clause-live c = subst (λ (n : ℕ). 0 < n) (sym (group_on c.drop_call-group.new.parts c.leave_room.new.parts c.leave_room.ensures.only c.drop_call-group.result ∙ c.drop_call-group.ensures.group)) c.drop_call-group.ensures.positive
 
-pub returns-clause-core : goal.returns-clause-core
-returns-clause-core c =
-    ap (λ (v : StateView). v.core) c.settle_group.ensures.new
-    ∙ (ap₂ group_settled (group_on c.drop_call-group.new.parts c.leave_room.new.parts c.leave_room.ensures.only c.drop_call-group.result ∙ c.drop_call-group.ensures.group ∙ (ap (λ (v : StateView). call_group (call_of v c.args.call) v.core) c.leave_set.ensures.new ∙ call_group_left _ _ _))
-    (ap (λ (v : StateView). v.core) c.leave_room.ensures.seen ∙ c.drop_call-group.ensures.core ∙ (ap (λ (v : StateView). remove_call (call_of v c.args.call) v.core) c.leave_set.ensures.new ∙ call_removed _ _ _)))
-
-pub returns-clause-current : goal.returns-clause-current
-returns-clause-current c = ap (λ (v : StateView). v.current) c.settle_group.ensures.new ∙ (ap (λ (v : StateView). v.current) c.leave_room.ensures.seen ∙ c.drop_call-group.ensures.current ∙ ap (λ (v : StateView). v.current) c.leave_set.ensures.new)
-
-pub returns-clause-tags : goal.returns-clause-tags
-returns-clause-tags c =
-    subst (λ (t : Tags). KeepsBut (lost_call (call_of (seen c.args.parts.now) c.args.call)) (seen c.args.parts.now).tags t) (sym (ap (λ (v : StateView). v.tags) c.settle_group.ensures.new ∙ ap (λ (v : StateView). v.tags) c.leave_room.ensures.seen))
-    (subst (λ (v : StateView). KeepsBut (lost_call (call_of v c.args.call)) v.tags (seen c.drop_call-group.new.parts).tags) c.leave_set.ensures.new c.drop_call-group.ensures.tags)
+pub returns-clause-new : goal.returns-clause-new
+returns-clause-new c =
+    record {
+      core =
+          ap (λ (v : StateView). v.core) c.settle_group.ensures.new
+          ∙ (ap₂ group_settled (group_on c.drop_call-group.new.parts c.leave_room.new.parts c.leave_room.ensures.only c.drop_call-group.result ∙ c.drop_call-group.ensures.group ∙ (ap (λ (v : StateView). call_group (call_of v c.args.call) v.core) c.leave_set.ensures.new ∙ call_group_left _ _ _))
+          (ap (λ (v : StateView). v.core) c.leave_room.ensures.seen ∙ c.drop_call-group.ensures.new.core ∙ (ap (λ (v : StateView). remove_call (call_of v c.args.call) v.core) c.leave_set.ensures.new ∙ call_removed _ _ _)));
+      current = ap (λ (v : StateView). v.current) c.settle_group.ensures.new ∙ (ap (λ (v : StateView). v.current) c.leave_room.ensures.seen ∙ c.drop_call-group.ensures.new.current ∙ ap (λ (v : StateView). v.current) c.leave_set.ensures.new);
+      tags =
+          subst (λ (t : Tags). KeepsBut (lost_call (call_of (seen c.args.parts.now) c.args.call)) (seen c.args.parts.now).tags t) (sym (ap (λ (v : StateView). v.tags) c.settle_group.ensures.new ∙ ap (λ (v : StateView). v.tags) c.leave_room.ensures.seen))
+          (subst (λ (v : StateView). KeepsBut (lost_call (call_of v c.args.call)) v.tags (seen c.drop_call-group.new.parts).tags) c.leave_set.ensures.new c.drop_call-group.ensures.new.tags);
+    }

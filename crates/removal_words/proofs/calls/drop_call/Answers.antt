@@ -34,23 +34,20 @@ returns-clause-sound c =
     c.close_seats.new.links c.drop_seat.new.links c.close_seats.ensures c.drop_seat.ensures (c.args.parts.now.kept.interesting - c.one_if.result) (let few = interest_counted c.args.parts.now c.requires.sound c.args.call c.in-Some.found.now c.in-Some.ensures.item in let one : c.one_if.result ≡ cond {A = ℕ} c.in-Some.found.now.call.interesting 1 0 = c.one_if.ensures in omega arith)
     c.delete.new.self c.in-Ok-delete.ensures.ok c.delete.ensures.sound
 
-pub returns-clause-core : goal.returns-clause-core
+pub returns-clause-new : goal.returns-clause-new
 unfolding seen
-returns-clause-core c =
-    removed_core c.args.parts.now c.requires.sound c.args.call c.in-Some.found.now c.in-Some.ensures.item c.group_there.result.0 c.group_there.result.1 c.group_there.ensures.item (c.group_there.ensures.number ∙ (call_names c.args.parts.now c.requires.sound c.args.call c.in-Some.found.now c.in-Some.ensures.item).group) c.requires.last c.requires.join
-    c.close_seats.new.links c.drop_seat.new.links c.close_seats.ensures c.drop_seat.ensures (c.args.parts.now.kept.interesting - c.one_if.result) (let few = interest_counted c.args.parts.now c.requires.sound c.args.call c.in-Some.found.now c.in-Some.ensures.item in let one : c.one_if.result ≡ cond {A = ℕ} c.in-Some.found.now.call.interesting 1 0 = c.one_if.ensures in omega arith)
-    c.delete.new.self c.in-Ok-delete.ensures.ok
-
-pub returns-clause-current : goal.returns-clause-current
-unfolding seen
-returns-clause-current c = refl
-
-pub returns-clause-tags : goal.returns-clause-tags
-unfolding seen
-returns-clause-tags c =
-    removed_tags c.args.parts.now c.requires.sound c.args.call c.in-Some.found.now c.in-Some.ensures.item c.group_there.result.0 c.group_there.result.1 c.group_there.ensures.item (c.group_there.ensures.number ∙ (call_names c.args.parts.now c.requires.sound c.args.call c.in-Some.found.now c.in-Some.ensures.item).group) c.requires.last c.requires.join
-    c.close_seats.new.links c.drop_seat.new.links c.close_seats.ensures c.drop_seat.ensures (c.args.parts.now.kept.interesting - c.one_if.result) (let few = interest_counted c.args.parts.now c.requires.sound c.args.call c.in-Some.found.now c.in-Some.ensures.item in let one : c.one_if.result ≡ cond {A = ℕ} c.in-Some.found.now.call.interesting 1 0 = c.one_if.ensures in omega arith)
-    c.delete.new.self c.in-Ok-delete.ensures.ok
+returns-clause-new c =
+    record {
+      core =
+          removed_core c.args.parts.now c.requires.sound c.args.call c.in-Some.found.now c.in-Some.ensures.item c.group_there.result.0 c.group_there.result.1 c.group_there.ensures.item (c.group_there.ensures.number ∙ (call_names c.args.parts.now c.requires.sound c.args.call c.in-Some.found.now c.in-Some.ensures.item).group) c.requires.last c.requires.join
+          c.close_seats.new.links c.drop_seat.new.links c.close_seats.ensures c.drop_seat.ensures (c.args.parts.now.kept.interesting - c.one_if.result) (let few = interest_counted c.args.parts.now c.requires.sound c.args.call c.in-Some.found.now c.in-Some.ensures.item in let one : c.one_if.result ≡ cond {A = ℕ} c.in-Some.found.now.call.interesting 1 0 = c.one_if.ensures in omega arith)
+          c.delete.new.self c.in-Ok-delete.ensures.ok;
+      current = refl;
+      tags =
+          removed_tags c.args.parts.now c.requires.sound c.args.call c.in-Some.found.now c.in-Some.ensures.item c.group_there.result.0 c.group_there.result.1 c.group_there.ensures.item (c.group_there.ensures.number ∙ (call_names c.args.parts.now c.requires.sound c.args.call c.in-Some.found.now c.in-Some.ensures.item).group) c.requires.last c.requires.join
+          c.close_seats.new.links c.drop_seat.new.links c.close_seats.ensures c.drop_seat.ensures (c.args.parts.now.kept.interesting - c.one_if.result) (let few = interest_counted c.args.parts.now c.requires.sound c.args.call c.in-Some.found.now c.in-Some.ensures.item in let one : c.one_if.result ≡ cond {A = ℕ} c.in-Some.found.now.call.interesting 1 0 = c.one_if.ensures in omega arith)
+          c.delete.new.self c.in-Ok-delete.ensures.ok;
+    }
 
 pub returns-clause-group : goal.returns-clause-group
 returns-clause-group c = group_named c.args.parts.now c.requires.sound c.args.call c.in-Some.found.now c.in-Some.ensures.item c.group_there.result.0 c.group_there.result.1 c.group_there.ensures.item (c.group_there.ensures.number ∙ (call_names c.args.parts.now c.requires.sound c.args.call c.in-Some.found.now c.in-Some.ensures.item).group)

@@ -24,17 +24,14 @@ pub returns-clause-sound : goal.returns-clause-sound
 unfolding IsSound
 returns-clause-sound c = removed_sound c.args.parts.now c.requires.sound c.args.set c.in-Some.found.now c.in-Some.ensures.item _ _ _ c.close_seats.ensures c.close_seats-2.ensures c.close_seats-3.ensures _ c.in-Ok.ensures.ok c.delete.ensures.sound
 
-pub returns-clause-core : goal.returns-clause-core
+pub returns-clause-new : goal.returns-clause-new
 unfolding seen
-returns-clause-core c = removed_core c.args.parts.now c.requires.sound c.args.set c.in-Some.found.now c.in-Some.ensures.item _ _ _ c.close_seats.ensures c.close_seats-2.ensures c.close_seats-3.ensures _ c.in-Ok.ensures.ok
-
-pub returns-clause-current : goal.returns-clause-current
-unfolding seen
-returns-clause-current c = refl
-
-pub returns-clause-tags : goal.returns-clause-tags
-unfolding seen
-returns-clause-tags c = removed_tags c.args.parts.now c.requires.sound c.args.set c.in-Some.found.now c.in-Some.ensures.item _ _ _ c.close_seats.ensures c.close_seats-2.ensures c.close_seats-3.ensures _ c.in-Ok.ensures.ok
+returns-clause-new c =
+    record {
+      core = removed_core c.args.parts.now c.requires.sound c.args.set c.in-Some.found.now c.in-Some.ensures.item _ _ _ c.close_seats.ensures c.close_seats-2.ensures c.close_seats-3.ensures _ c.in-Ok.ensures.ok;
+      current = refl;
+      tags = removed_tags c.args.parts.now c.requires.sound c.args.set c.in-Some.found.now c.in-Some.ensures.item _ _ _ c.close_seats.ensures c.close_seats-2.ensures c.close_seats-3.ensures _ c.in-Ok.ensures.ok;
+    }
 
 pub returns-clause-places : goal.returns-clause-places
 returns-clause-places c x is = c.give.ensures ∙ ap (λ (y : WaitSet). given y.entry c.args.parts.now.table_places) (same_item c.in-Some.ensures.item is)

@@ -41,25 +41,22 @@ returns-clause-sound c =
     (removed_sound c.args.parts.now c.requires.sound c.args.thread c.with_call.result.0 c.with_call.ensures.thread c.with_call.result.1 c.with_call.result.2 c.with_call.ensures.call c.with_call.ensures.of c.requires.apart c.requires.place
     c.close_seats.new.links c.drop_seat.new.links c.close_seats.ensures c.drop_seat.ensures c.drop_node-2.new.self c.drop_node-2.ensures c.drop_node-3.new.self c.drop_node-3.ensures c.close.new.links c.drop_node.new.self c.close.ensures c.drop_node.ensures c.delete.new.self c.in-Ok-delete.ensures.ok c.delete.ensures.sound)
 
-pub returns-clause-core : goal.returns-clause-core
+pub returns-clause-new : goal.returns-clause-new
 unfolding seen
-returns-clause-core c =
-    let a = c.args.parts.now in
-    ap (λ (x : GuestTask). (seen (record a { threads = c.delete.new.self; calls = with_entry c.with_call.result.1.rep (entry_of (record x { threads = c.with_call.result.2.threads - 1 })) a.calls; places = c.drop_seat.new.links; marks = c.drop_node-2.new.self; shelves = c.drop_node-3.new.self; behind = c.drop_node.new.self; kept = record a.kept { used = a.kept.used - 2 } })).core) (sym (same_item c.with_call.ensures.call c.in-Ok.ensures.value))
-    ∙ removed_core c.args.parts.now c.requires.sound c.args.thread c.with_call.result.0 c.with_call.ensures.thread c.with_call.result.1 c.with_call.result.2 c.with_call.ensures.call c.with_call.ensures.of c.requires.apart c.requires.place
-    c.close_seats.new.links c.drop_seat.new.links c.close_seats.ensures c.drop_seat.ensures c.drop_node-2.new.self c.drop_node-2.ensures c.drop_node-3.new.self c.drop_node-3.ensures c.close.new.links c.drop_node.new.self c.close.ensures c.drop_node.ensures c.delete.new.self c.in-Ok-delete.ensures.ok
-
-pub returns-clause-current : goal.returns-clause-current
-unfolding seen
-returns-clause-current c = refl
-
-pub returns-clause-tags : goal.returns-clause-tags
-unfolding seen
-returns-clause-tags c =
-    let a = c.args.parts.now in
-    subst (λ (x : GuestTask). KeepsBut (lost_thread (thread_of (seen a) c.args.thread)) (seen a).tags (seen (record a { threads = c.delete.new.self; calls = with_entry c.with_call.result.1.rep (entry_of (record x { threads = c.with_call.result.2.threads - 1 })) a.calls; places = c.drop_seat.new.links; marks = c.drop_node-2.new.self; shelves = c.drop_node-3.new.self; behind = c.drop_node.new.self; kept = record a.kept { used = a.kept.used - 2 } })).tags) (same_item c.with_call.ensures.call c.in-Ok.ensures.value)
-    (removed_tags c.args.parts.now c.requires.sound c.args.thread c.with_call.result.0 c.with_call.ensures.thread c.with_call.result.1 c.with_call.result.2 c.with_call.ensures.call c.with_call.ensures.of c.requires.apart c.requires.place
-    c.close_seats.new.links c.drop_seat.new.links c.close_seats.ensures c.drop_seat.ensures c.drop_node-2.new.self c.drop_node-2.ensures c.drop_node-3.new.self c.drop_node-3.ensures c.close.new.links c.drop_node.new.self c.close.ensures c.drop_node.ensures c.delete.new.self c.in-Ok-delete.ensures.ok)
+returns-clause-new c =
+    record {
+      core =
+          let a = c.args.parts.now in
+          ap (λ (x : GuestTask). (seen (record a { threads = c.delete.new.self; calls = with_entry c.with_call.result.1.rep (entry_of (record x { threads = c.with_call.result.2.threads - 1 })) a.calls; places = c.drop_seat.new.links; marks = c.drop_node-2.new.self; shelves = c.drop_node-3.new.self; behind = c.drop_node.new.self; kept = record a.kept { used = a.kept.used - 2 } })).core) (sym (same_item c.with_call.ensures.call c.in-Ok.ensures.value))
+          ∙ removed_core c.args.parts.now c.requires.sound c.args.thread c.with_call.result.0 c.with_call.ensures.thread c.with_call.result.1 c.with_call.result.2 c.with_call.ensures.call c.with_call.ensures.of c.requires.apart c.requires.place
+          c.close_seats.new.links c.drop_seat.new.links c.close_seats.ensures c.drop_seat.ensures c.drop_node-2.new.self c.drop_node-2.ensures c.drop_node-3.new.self c.drop_node-3.ensures c.close.new.links c.drop_node.new.self c.close.ensures c.drop_node.ensures c.delete.new.self c.in-Ok-delete.ensures.ok;
+      current = refl;
+      tags =
+          let a = c.args.parts.now in
+          subst (λ (x : GuestTask). KeepsBut (lost_thread (thread_of (seen a) c.args.thread)) (seen a).tags (seen (record a { threads = c.delete.new.self; calls = with_entry c.with_call.result.1.rep (entry_of (record x { threads = c.with_call.result.2.threads - 1 })) a.calls; places = c.drop_seat.new.links; marks = c.drop_node-2.new.self; shelves = c.drop_node-3.new.self; behind = c.drop_node.new.self; kept = record a.kept { used = a.kept.used - 2 } })).tags) (same_item c.with_call.ensures.call c.in-Ok.ensures.value)
+          (removed_tags c.args.parts.now c.requires.sound c.args.thread c.with_call.result.0 c.with_call.ensures.thread c.with_call.result.1 c.with_call.result.2 c.with_call.ensures.call c.with_call.ensures.of c.requires.apart c.requires.place
+          c.close_seats.new.links c.drop_seat.new.links c.close_seats.ensures c.drop_seat.ensures c.drop_node-2.new.self c.drop_node-2.ensures c.drop_node-3.new.self c.drop_node-3.ensures c.close.new.links c.drop_node.new.self c.close.ensures c.drop_node.ensures c.delete.new.self c.in-Ok-delete.ensures.ok);
+    }
 
 pub returns-clause-places : goal.returns-clause-places
 returns-clause-places c g is = c.give-2.ensures ∙ (ap (given c.with_call.result.0.set_entry) c.give.ensures ∙ ap (λ (h : GuestThread). given h.set_entry (given h.entry c.args.parts.now.table_places)) (same_item c.with_call.ensures.thread is))

@@ -38,25 +38,22 @@ returns-clause-sound c =
     (let few = use_counted c.args.parts.now c.requires.sound c.args.work c.in-Some.found.now c.in-Some.ensures.item in let one : c.one_if.result ≡ cond {A = ℕ} (is_host_call c.in-Some.found.now.work) 1 0 = c.one_if.ensures ∙ ap (λ b. cond b 1 0) c.is_some.ensures in omega arith)
     c.delete.new.self c.in-Ok.ensures.ok c.delete.ensures.sound
 
-pub returns-clause-core : goal.returns-clause-core
+pub returns-clause-new : goal.returns-clause-new
 unfolding seen
-returns-clause-core c =
-    removed_core c.args.parts.now c.requires.sound c.args.work c.in-Some.found.now c.in-Some.ensures.item c.requires.unqueued c.requires.join c.requires.stage c.lower_group-group.new.groups c.lower_group-group.result c.lower_group-group.ensures
-    c.close_seats.new.links c.drop_seat.new.links c.drop_node.new.self c.close_seats.ensures c.drop_seat.ensures c.drop_node.ensures c.drop_node-2.new.self c.drop_node-2.ensures (c.args.parts.now.kept.used - c.one_if.result)
-    (let few = use_counted c.args.parts.now c.requires.sound c.args.work c.in-Some.found.now c.in-Some.ensures.item in let one : c.one_if.result ≡ cond {A = ℕ} (is_host_call c.in-Some.found.now.work) 1 0 = c.one_if.ensures ∙ ap (λ b. cond b 1 0) c.is_some.ensures in omega arith)
-    c.delete.new.self c.in-Ok.ensures.ok
-
-pub returns-clause-current : goal.returns-clause-current
-unfolding seen
-returns-clause-current c = refl
-
-pub returns-clause-tags : goal.returns-clause-tags
-unfolding seen
-returns-clause-tags c =
-    removed_tags c.args.parts.now c.requires.sound c.args.work c.in-Some.found.now c.in-Some.ensures.item c.requires.unqueued c.requires.join c.requires.stage c.lower_group-group.new.groups c.lower_group-group.result c.lower_group-group.ensures
-    c.close_seats.new.links c.drop_seat.new.links c.drop_node.new.self c.close_seats.ensures c.drop_seat.ensures c.drop_node.ensures c.drop_node-2.new.self c.drop_node-2.ensures (c.args.parts.now.kept.used - c.one_if.result)
-    (let few = use_counted c.args.parts.now c.requires.sound c.args.work c.in-Some.found.now c.in-Some.ensures.item in let one : c.one_if.result ≡ cond {A = ℕ} (is_host_call c.in-Some.found.now.work) 1 0 = c.one_if.ensures ∙ ap (λ b. cond b 1 0) c.is_some.ensures in omega arith)
-    c.delete.new.self c.in-Ok.ensures.ok
+returns-clause-new c =
+    record {
+      core =
+          removed_core c.args.parts.now c.requires.sound c.args.work c.in-Some.found.now c.in-Some.ensures.item c.requires.unqueued c.requires.join c.requires.stage c.lower_group-group.new.groups c.lower_group-group.result c.lower_group-group.ensures
+          c.close_seats.new.links c.drop_seat.new.links c.drop_node.new.self c.close_seats.ensures c.drop_seat.ensures c.drop_node.ensures c.drop_node-2.new.self c.drop_node-2.ensures (c.args.parts.now.kept.used - c.one_if.result)
+          (let few = use_counted c.args.parts.now c.requires.sound c.args.work c.in-Some.found.now c.in-Some.ensures.item in let one : c.one_if.result ≡ cond {A = ℕ} (is_host_call c.in-Some.found.now.work) 1 0 = c.one_if.ensures ∙ ap (λ b. cond b 1 0) c.is_some.ensures in omega arith)
+          c.delete.new.self c.in-Ok.ensures.ok;
+      current = refl;
+      tags =
+          removed_tags c.args.parts.now c.requires.sound c.args.work c.in-Some.found.now c.in-Some.ensures.item c.requires.unqueued c.requires.join c.requires.stage c.lower_group-group.new.groups c.lower_group-group.result c.lower_group-group.ensures
+          c.close_seats.new.links c.drop_seat.new.links c.drop_node.new.self c.close_seats.ensures c.drop_seat.ensures c.drop_node.ensures c.drop_node-2.new.self c.drop_node-2.ensures (c.args.parts.now.kept.used - c.one_if.result)
+          (let few = use_counted c.args.parts.now c.requires.sound c.args.work c.in-Some.found.now c.in-Some.ensures.item in let one : c.one_if.result ≡ cond {A = ℕ} (is_host_call c.in-Some.found.now.work) 1 0 = c.one_if.ensures ∙ ap (λ b. cond b 1 0) c.is_some.ensures in omega arith)
+          c.delete.new.self c.in-Ok.ensures.ok;
+    }
 
 pub returns-clause-group : goal.returns-clause-group
 returns-clause-group c = group_named c.args.parts.now c.requires.sound c.args.work c.in-Some.found.now c.in-Some.ensures.item c.requires.unqueued c.requires.join c.requires.stage c.lower_group-group.new.groups c.lower_group-group.result c.lower_group-group.ensures

@@ -1,5 +1,5 @@
 use Rattle.make_words.proofs.RestoreLemmas.{image_restored, item_restored, sound_restored}
-use Rattle.task_records.proofs.Core.{add_group, ap, arith, bare, call_made, fits, get, IsSome, IsSound, parts_of, seen, StateView, subst, sym, true, ◌+◌, ◌<◌, ◌^◌, ◌∙◌, ◌≡◌}
+use Rattle.task_records.proofs.Core.{add_group, ap, arith, bare, call_made, fits, get, IsSome, IsSound, Keeps, parts_of, seen, StateView, subst, sym, true, ◌+◌, ◌<◌, ◌^◌, ◌∙◌, ◌≡◌}
 use Rattle.task_records.specs.declared.{parts.CoreParts.CoreParts}
 use Rattle.strand_words.proofs.MainLemmas.{fits_fewer, fits_grouped, group_restored, strand_loose_beside}
 use Rattle.strand_words.proofs.calls.add_main_strand.Goals as goal
@@ -36,19 +36,18 @@ add_strand-requires-clause-loose c =
 pub drop_group-requires-clause-item : goal.drop_group-requires-clause-item
 drop_group-requires-clause-item c = c.in-Ok.ensures.group ∙ sym (item_restored c.push_group.new.parts.groups c.add_strand.new.parts.groups c.in-Err-add_strand.ensures.err.groups c.in-Ok.id.rep c.in-Ok.id.serial)
 
-pub returns-in-Ok-add_strand-clause-thread : goal.returns-in-Ok-add_strand-clause-thread
-unfolding add_group
-returns-in-Ok-add_strand-clause-thread c = c.in-Ok-add_strand.ensures.thread ∙ ap (λ (v : StateView). v.core.made.threads + 1) c.in-Ok.ensures.new
-
-pub returns-in-Ok-add_strand-clause-call : goal.returns-in-Ok-add_strand-clause-call
-unfolding add_group
-returns-in-Ok-add_strand-clause-call c = c.in-Ok-add_strand.ensures.call ∙ ap (λ (v : StateView). v.core.made.threads + 1) c.in-Ok.ensures.new
-
-pub returns-in-Ok-add_strand-clause-core : goal.returns-in-Ok-add_strand-clause-core
-unfolding seen
-returns-in-Ok-add_strand-clause-core c =
-    let q = c.args.request in
-    c.in-Ok-add_strand.ensures.core ∙ ap (λ (v : StateView). call_made q.caller q.callee q.kind q.goal (c.args.parts.now.made.groups + 1) c.args.words.now v.core) c.in-Ok.ensures.new
+pub returns-in-Ok-add_strand-clause-new : goal.returns-in-Ok-add_strand-clause-new
+unfolding seen add_group
+returns-in-Ok-add_strand-clause-new c = (
+  (c.in-Ok-add_strand.ensures.thread ∙ ap (λ (v : StateView). v.core.made.threads + 1) c.in-Ok.ensures.new, c.in-Ok-add_strand.ensures.call ∙ ap (λ (v : StateView). v.core.made.threads + 1) c.in-Ok.ensures.new),
+  record {
+    core =
+        let q = c.args.request in
+        c.in-Ok-add_strand.ensures.new.core ∙ ap (λ (v : StateView). call_made q.caller q.callee q.kind q.goal (c.args.parts.now.made.groups + 1) c.args.words.now v.core) c.in-Ok.ensures.new;
+    current = c.in-Ok-add_strand.ensures.new.current ∙ ap (λ (v : StateView). v.current) c.in-Ok.ensures.new;
+    tags = subst (λ (v : StateView). Keeps v.tags (seen c.add_strand.new.parts).tags) c.in-Ok.ensures.new c.in-Ok-add_strand.ensures.new.tags;
+  },
+)
 
 pub returns-in-Err-add_strand-clause-sound : goal.returns-in-Err-add_strand-clause-sound
 unfolding IsSound
@@ -57,8 +56,8 @@ returns-in-Err-add_strand-clause-sound c =
     (group_restored c.args.parts.now c.push_group.new.parts c.add_strand.new.parts c.drop_group.new.parts c.requires.sound _ c.in-Ok.id.rep c.in-Ok.ensures.only c.in-Ok.ensures.pushed c.in-Err-add_strand.ensures.err c.drop_group.ensures.only c.drop_group.ensures.deleted c.in-Ok.ensures.rep c.drop_group.ensures.table)
     c.requires.sound
 
-pub returns-in-Err-add_strand-clause-err : goal.returns-in-Err-add_strand-clause-err
+pub returns-in-Err-add_strand-clause-new : goal.returns-in-Err-add_strand-clause-new
 unfolding seen
-returns-in-Err-add_strand-clause-err c =
+returns-in-Err-add_strand-clause-new c =
     image_restored (parts_of c.args.parts.now) (parts_of c.drop_group.new.parts)
     (group_restored c.args.parts.now c.push_group.new.parts c.add_strand.new.parts c.drop_group.new.parts c.requires.sound _ c.in-Ok.id.rep c.in-Ok.ensures.only c.in-Ok.ensures.pushed c.in-Err-add_strand.ensures.err c.drop_group.ensures.only c.drop_group.ensures.deleted c.in-Ok.ensures.rep c.drop_group.ensures.table)

@@ -24,12 +24,17 @@ pub returns-in-Ok-clause-call : goal.returns-in-Ok-clause-call
 unfolding seen
 returns-in-Ok-clause-call c = c.in-Ok.ensures.call
 
-pub returns-in-Ok-clause-core : goal.returns-in-Ok-clause-core
+pub returns-in-Ok-clause-new : goal.returns-in-Ok-clause-new
 unfolding call_made seen
-returns-in-Ok-clause-core c =
-    let call = c.call_record-call.ensures in
-    let thread = c.thread_record-thread.ensures in
-    c.in-Ok.ensures.core
-    ∙ request_core c.args.parts.now c.args.request c.args.group.number (registers_for c.args.words.now) c.call_record-call.result c.thread_record-thread.result
-    (ap (λ (d : GuestTask). d.number) call) (ap (λ (d : GuestTask). d.call) call ∙ c.new_call-call.ensures) (ap (λ (d : GuestTask). d.maker) call) (ap (λ (d : GuestTask). d.threads) call)
-    (ap (λ (h : GuestThread). h.number) thread) (ap (λ (h : GuestThread). h.thread) thread ∙ c.new_thread-thread.ensures) (ap (λ (h : GuestThread). h.instance) thread) (seen c.args.parts.now).core
+returns-in-Ok-clause-new c =
+    record {
+      core =
+          let call = c.call_record-call.ensures in
+          let thread = c.thread_record-thread.ensures in
+          c.in-Ok.ensures.new.core
+          ∙ request_core c.args.parts.now c.args.request c.args.group.number (registers_for c.args.words.now) c.call_record-call.result c.thread_record-thread.result
+          (ap (λ (d : GuestTask). d.number) call) (ap (λ (d : GuestTask). d.call) call ∙ c.new_call-call.ensures) (ap (λ (d : GuestTask). d.maker) call) (ap (λ (d : GuestTask). d.threads) call)
+          (ap (λ (h : GuestThread). h.number) thread) (ap (λ (h : GuestThread). h.thread) thread ∙ c.new_thread-thread.ensures) (ap (λ (h : GuestThread). h.instance) thread) (seen c.args.parts.now).core;
+      current = c.in-Ok.ensures.new.current;
+      tags = c.in-Ok.ensures.new.tags;
+    }

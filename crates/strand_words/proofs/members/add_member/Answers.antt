@@ -1,5 +1,5 @@
 use Rattle.make_words.proofs.RestoreLemmas.{image_restored, sound_restored}
-use Rattle.task_records.proofs.Core.{add_thread, ap, arith, call_of, IsSound, item_at, item_of, new_thread, None, Parts, parts_of, registers_for, Script, seen, StateView, sym, Table, Thread, thread_of, true, ℕ, ◌+◌, ◌<◌, ◌^◌, ◌∙◌}
+use Rattle.task_records.proofs.Core.{add_thread, ap, arith, call_of, IsSound, item_at, item_of, Keeps, new_thread, None, Parts, parts_of, registers_for, Script, seen, StateView, subst, sym, Table, Thread, thread_of, true, ℕ, ◌+◌, ◌<◌, ◌^◌, ◌∙◌}
 use Rattle.task_records.specs.declared.{calls.GuestTask.GuestTask, single.Single.Single, threads.GuestThread.GuestThread}
 use Rattle.strand_words.proofs.MemberAddLemmas.{member_restored, threads_few}
 use Rattle.strand_words.proofs.RequestLemmas.{member_instance, request_member}
@@ -27,18 +27,22 @@ drop_member-requires-clause-call c =
 pub drop_member-requires-clause-few : goal.drop_member-requires-clause-few
 drop_member-requires-clause-few c = threads_few c.args.parts.now c.requires.sound c.args.task c.in-Some.found.now c.in-Some.ensures.item c.thread_record-thread.result
 
-pub returns-in-Ok-name_thread-clause-thread : goal.returns-in-Ok-name_thread-clause-thread
-returns-in-Ok-name_thread-clause-thread c = ap (λ (v : StateView). thread_of v c.in-Ok.new) c.in-Ok-name_thread.ensures.new ∙ c.in-Ok.ensures.thread
-
-pub returns-in-Ok-name_thread-clause-core : goal.returns-in-Ok-name_thread-clause-core
-returns-in-Ok-name_thread-clause-core c =
-    let s = (seen c.args.parts.now).core in
-    let n = call_of (seen c.args.parts.now) c.args.task in
-    ap (λ (v : StateView). v.core) c.in-Ok-name_thread.ensures.new
-    ∙ named_core _ _ _ _ _
-    (c.in-Ok.ensures.core ∙ ap (λ (t : Thread). add_thread t s) (ap (λ (h : GuestThread). h.thread) c.thread_record-thread.ensures ∙ (c.new_thread-thread.ensures ∙ ap (λ (k : ℕ). new_thread k true (Script.Slot c.args.slot) (registers_for c.args.words.now) None) c.in-Some.ensures.number)))
-    c.in-Ok.ensures.thread
-    (member_instance (new_thread n true (Script.Slot c.args.slot) (registers_for c.args.words.now) None) s)
+pub returns-in-Ok-name_thread-clause-new : goal.returns-in-Ok-name_thread-clause-new
+returns-in-Ok-name_thread-clause-new c = (
+  ap (λ (v : StateView). thread_of v c.in-Ok.new) c.in-Ok-name_thread.ensures.new ∙ c.in-Ok.ensures.thread,
+  record {
+    core =
+        let s = (seen c.args.parts.now).core in
+        let n = call_of (seen c.args.parts.now) c.args.task in
+        ap (λ (v : StateView). v.core) c.in-Ok-name_thread.ensures.new
+        ∙ named_core _ _ _ _ _
+        (c.in-Ok.ensures.new.core ∙ ap (λ (t : Thread). add_thread t s) (ap (λ (h : GuestThread). h.thread) c.thread_record-thread.ensures ∙ (c.new_thread-thread.ensures ∙ ap (λ (k : ℕ). new_thread k true (Script.Slot c.args.slot) (registers_for c.args.words.now) None) c.in-Some.ensures.number)))
+        c.in-Ok.ensures.thread
+        (member_instance (new_thread n true (Script.Slot c.args.slot) (registers_for c.args.words.now) None) s);
+    current = ap (λ (v : StateView). v.current) c.in-Ok-name_thread.ensures.new ∙ c.in-Ok.ensures.new.current;
+    tags = subst (λ (v : StateView). Keeps (seen c.args.parts.now).tags v.tags) (sym c.in-Ok-name_thread.ensures.new) c.in-Ok.ensures.new.tags;
+  },
+)
 
 pub returns-in-Err-name_thread-clause-sound : goal.returns-in-Err-name_thread-clause-sound
 unfolding IsSound
@@ -48,9 +52,9 @@ returns-in-Err-name_thread-clause-sound c =
     (member_restored c.args.parts.now c.push_thread.new.parts c.name_thread.new.parts c.drop_member.new.parts c.requires.sound c.in-Ok.ensures.sound c.args.task c.in-Some.found.now c.in-Some.ensures.item c.in-Ok.new c.in-Ok.ensures.pushes c.in-Err-name_thread.ensures.same d.only d.threads d.calls d.table)
     c.requires.sound
 
-pub returns-in-Err-name_thread-clause-err : goal.returns-in-Err-name_thread-clause-err
+pub returns-in-Err-name_thread-clause-new : goal.returns-in-Err-name_thread-clause-new
 unfolding seen
-returns-in-Err-name_thread-clause-err c =
+returns-in-Err-name_thread-clause-new c =
     let d = c.drop_member.ensures in
     image_restored (parts_of c.args.parts.now) (parts_of c.drop_member.new.parts)
     (member_restored c.args.parts.now c.push_thread.new.parts c.name_thread.new.parts c.drop_member.new.parts c.requires.sound c.in-Ok.ensures.sound c.args.task c.in-Some.found.now c.in-Some.ensures.item c.in-Ok.new c.in-Ok.ensures.pushes c.in-Err-name_thread.ensures.same d.only d.threads d.calls d.table)

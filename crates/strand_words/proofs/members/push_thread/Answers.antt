@@ -22,21 +22,20 @@ returns-in-Ok-clause-thread c =
     as_member a c.requires.sound c.args.task c.args.call c.requires.call c.args.thread _ _ c.in-Ok.ensures.pushed (c.put_call.ensures ∙ ap (λ (d : GuestTask). with_entry c.args.task.rep (record { item = d }) a.calls) c.one_thread_more-more.ensures) (λ b. thread_of (seen b) c.in-Ok.new ≡ a.made.threads + 1)
     (member_named a c.requires.sound c.args.task c.args.call c.requires.call c.args.thread c.requires.member c.requires.loose c.in-Ok.new c.in-Ok.ensures.rep c.in-Ok.ensures.serial)
 
-pub returns-in-Ok-clause-core : goal.returns-in-Ok-clause-core
-returns-in-Ok-clause-core c =
-    let a = c.args.parts.now in
-    as_member a c.requires.sound c.args.task c.args.call c.requires.call c.args.thread _ _ c.in-Ok.ensures.pushed (c.put_call.ensures ∙ ap (λ (d : GuestTask). with_entry c.args.task.rep (record { item = d }) a.calls) c.one_thread_more-more.ensures) (λ b. (seen b).core ≡ add_thread c.args.thread.thread (seen a).core)
-    (member_core a c.requires.sound c.args.task c.args.call c.requires.call c.args.thread c.requires.member c.requires.loose)
-
-pub returns-in-Ok-clause-current : goal.returns-in-Ok-clause-current
+pub returns-in-Ok-clause-new : goal.returns-in-Ok-clause-new
 unfolding seen
-returns-in-Ok-clause-current c = refl
-
-pub returns-in-Ok-clause-tags : goal.returns-in-Ok-clause-tags
-returns-in-Ok-clause-tags c =
-    let a = c.args.parts.now in
-    as_member a c.requires.sound c.args.task c.args.call c.requires.call c.args.thread _ _ c.in-Ok.ensures.pushed (c.put_call.ensures ∙ ap (λ (d : GuestTask). with_entry c.args.task.rep (record { item = d }) a.calls) c.one_thread_more-more.ensures) (λ b. Keeps (seen a).tags (seen b).tags)
-    (member_tags a c.requires.sound c.args.task c.args.call c.requires.call c.args.thread c.requires.member c.requires.loose)
+returns-in-Ok-clause-new c =
+    record {
+      core =
+          let a = c.args.parts.now in
+          as_member a c.requires.sound c.args.task c.args.call c.requires.call c.args.thread _ _ c.in-Ok.ensures.pushed (c.put_call.ensures ∙ ap (λ (d : GuestTask). with_entry c.args.task.rep (record { item = d }) a.calls) c.one_thread_more-more.ensures) (λ b. (seen b).core ≡ add_thread c.args.thread.thread (seen a).core)
+          (member_core a c.requires.sound c.args.task c.args.call c.requires.call c.args.thread c.requires.member c.requires.loose);
+      current = refl;
+      tags =
+          let a = c.args.parts.now in
+          as_member a c.requires.sound c.args.task c.args.call c.requires.call c.args.thread _ _ c.in-Ok.ensures.pushed (c.put_call.ensures ∙ ap (λ (d : GuestTask). with_entry c.args.task.rep (record { item = d }) a.calls) c.one_thread_more-more.ensures) (λ b. Keeps (seen a).tags (seen b).tags)
+          (member_tags a c.requires.sound c.args.task c.args.call c.requires.call c.args.thread c.requires.member c.requires.loose);
+    }
 
 pub returns-in-Err-clause-sound : goal.returns-in-Err-clause-sound
 returns-in-Err-clause-sound c = subst (λ (t : Table (Single GuestThread)). IsSound (record c.args.parts.now { threads = t })) (sym c.in-Err.ensures.err) c.requires.sound

@@ -60,29 +60,28 @@ returns-in-Ok-push-clause-call c =
     as_made a c.requires.sound k g c.args.id c.args.group c.requires.group _ _ _ is_t is_c c.one_more.ensures (λ b. call_of (seen b) c.in-Ok.task ≡ a.made.threads + 1)
     (call_named a c.requires.sound k g c.args.id c.args.group c.requires.group c.requires.strand c.requires.loose c.in-Ok.task c.in-Ok.ensures.rep c.in-Ok.ensures.serial)
 
-pub returns-in-Ok-push-clause-core : goal.returns-in-Ok-push-clause-core
-returns-in-Ok-push-clause-core c =
-    let a = c.args.parts.now in
-    let g = record c.args.thread { task = next_place a.calls } in
-    let k = record c.args.call { first = next_place a.threads } in
-    let is_c : c.push.new.self ≡ pushed (record { item = k }) a.calls = c.in-Ok.ensures.pushed ∙ ap (λ (n : ℕ). pushed (record { item = record c.args.call { first = n } }) a.calls) c.in-Some.ensures.some in
-    let is_t : c.push-in-Ok.new.self ≡ pushed (record { item = g }) a.threads = c.in-Ok-push.ensures.pushed ∙ ap (λ (n : ℕ). pushed (record { item = record c.args.thread { task = n } }) a.threads) (c.rep.ensures ∙ c.in-Ok.ensures.rep) in
-    as_made a c.requires.sound k g c.args.id c.args.group c.requires.group _ _ _ is_t is_c c.one_more.ensures (λ b. (seen b).core ≡ add_thread c.args.thread.thread (add_call c.args.call.number c.args.call.call (seen a).core))
-    (strand_core a c.requires.sound k g c.args.id c.args.group c.requires.group c.requires.strand c.requires.loose)
-
-pub returns-in-Ok-push-clause-current : goal.returns-in-Ok-push-clause-current
+pub returns-in-Ok-push-clause-new : goal.returns-in-Ok-push-clause-new
 unfolding seen
-returns-in-Ok-push-clause-current c = refl
-
-pub returns-in-Ok-push-clause-tags : goal.returns-in-Ok-push-clause-tags
-returns-in-Ok-push-clause-tags c =
-    let a = c.args.parts.now in
-    let g = record c.args.thread { task = next_place a.calls } in
-    let k = record c.args.call { first = next_place a.threads } in
-    let is_c : c.push.new.self ≡ pushed (record { item = k }) a.calls = c.in-Ok.ensures.pushed ∙ ap (λ (n : ℕ). pushed (record { item = record c.args.call { first = n } }) a.calls) c.in-Some.ensures.some in
-    let is_t : c.push-in-Ok.new.self ≡ pushed (record { item = g }) a.threads = c.in-Ok-push.ensures.pushed ∙ ap (λ (n : ℕ). pushed (record { item = record c.args.thread { task = n } }) a.threads) (c.rep.ensures ∙ c.in-Ok.ensures.rep) in
-    as_made a c.requires.sound k g c.args.id c.args.group c.requires.group _ _ _ is_t is_c c.one_more.ensures (λ b. Keeps (seen a).tags (seen b).tags)
-    (strand_tags a c.requires.sound k g c.args.id c.args.group c.requires.group c.requires.strand c.requires.loose)
+returns-in-Ok-push-clause-new c =
+    record {
+      core =
+          let a = c.args.parts.now in
+          let g = record c.args.thread { task = next_place a.calls } in
+          let k = record c.args.call { first = next_place a.threads } in
+          let is_c : c.push.new.self ≡ pushed (record { item = k }) a.calls = c.in-Ok.ensures.pushed ∙ ap (λ (n : ℕ). pushed (record { item = record c.args.call { first = n } }) a.calls) c.in-Some.ensures.some in
+          let is_t : c.push-in-Ok.new.self ≡ pushed (record { item = g }) a.threads = c.in-Ok-push.ensures.pushed ∙ ap (λ (n : ℕ). pushed (record { item = record c.args.thread { task = n } }) a.threads) (c.rep.ensures ∙ c.in-Ok.ensures.rep) in
+          as_made a c.requires.sound k g c.args.id c.args.group c.requires.group _ _ _ is_t is_c c.one_more.ensures (λ b. (seen b).core ≡ add_thread c.args.thread.thread (add_call c.args.call.number c.args.call.call (seen a).core))
+          (strand_core a c.requires.sound k g c.args.id c.args.group c.requires.group c.requires.strand c.requires.loose);
+      current = refl;
+      tags =
+          let a = c.args.parts.now in
+          let g = record c.args.thread { task = next_place a.calls } in
+          let k = record c.args.call { first = next_place a.threads } in
+          let is_c : c.push.new.self ≡ pushed (record { item = k }) a.calls = c.in-Ok.ensures.pushed ∙ ap (λ (n : ℕ). pushed (record { item = record c.args.call { first = n } }) a.calls) c.in-Some.ensures.some in
+          let is_t : c.push-in-Ok.new.self ≡ pushed (record { item = g }) a.threads = c.in-Ok-push.ensures.pushed ∙ ap (λ (n : ℕ). pushed (record { item = record c.args.thread { task = n } }) a.threads) (c.rep.ensures ∙ c.in-Ok.ensures.rep) in
+          as_made a c.requires.sound k g c.args.id c.args.group c.requires.group _ _ _ is_t is_c c.one_more.ensures (λ b. Keeps (seen a).tags (seen b).tags)
+          (strand_tags a c.requires.sound k g c.args.id c.args.group c.requires.group c.requires.strand c.requires.loose);
+    }
 
 pub returns-in-Err-push-clause-err : goal.returns-in-Err-push-clause-err
 unfolding IsSound

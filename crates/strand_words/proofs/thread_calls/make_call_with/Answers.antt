@@ -1,5 +1,5 @@
 use Rattle.make_words.proofs.RestoreLemmas.{image_restored}
-use Rattle.task_records.proofs.Core.{ap, AtPlace, Keeps, parts_of, refl, seen, StateView, subst, sym, thread_of, ThreadOf, ℕ, ◌∙◌}
+use Rattle.task_records.proofs.Core.{ap, AtPlace, parts_of, seen, StateView, subst, sym, thread_of, ThreadOf, ℕ, ◌∙◌}
 use Rattle.strand_words.proofs.thread_calls.make_call_with.Goals as goal
 use Rattle.task_records.proofs.HomeLemmas.{thread_at_place}
 
@@ -9,12 +9,6 @@ add_strand-requires-clause-caller c =
     subst (λ (m : ℕ). AtPlace (parts_of b) m (ThreadOf c.number.result)) (sym c.rep.ensures)
     (subst (λ (n : ℕ). AtPlace (parts_of b) c.args.thread.rep (ThreadOf n)) (ap (λ (v : StateView). thread_of v c.args.thread) c.in-Ok.ensures.seen ∙ sym c.number.ensures) (thread_at_place b c.in-Ok.ensures.sound c.args.thread))
 
-pub returns-in-Err-add_strand-clause-err : goal.returns-in-Err-add_strand-clause-err
+pub returns-in-Err-add_strand-clause-new : goal.returns-in-Err-add_strand-clause-new
 unfolding seen
-returns-in-Err-add_strand-clause-err c = image_restored (parts_of c.prepare.new.parts) (parts_of c.add_strand.new.parts) c.in-Err-add_strand.ensures.err ∙ c.in-Ok.ensures.seen
-
-pub returns-in-Err-add_strand-clause-current : goal.returns-in-Err-add_strand-clause-current
-returns-in-Err-add_strand-clause-current c = ap (λ (v : StateView). v.current) (returns-in-Err-add_strand-clause-err c)
-
-pub returns-in-Err-add_strand-clause-tags : goal.returns-in-Err-add_strand-clause-tags
-returns-in-Err-add_strand-clause-tags c = subst (λ (v : StateView). Keeps (seen c.args.parts.now).tags v.tags) (sym (returns-in-Err-add_strand-clause-err c)) (record { threads = λ id live. refl; calls = λ id live. refl; sets = λ id live. refl; works = λ id live. refl })
+returns-in-Err-add_strand-clause-new c = image_restored (parts_of c.prepare.new.parts) (parts_of c.add_strand.new.parts) c.in-Err-add_strand.ensures.err ∙ c.in-Ok.ensures.seen

@@ -2,4 +2,4 @@ use Rattle.subtask_ops.proofs.HostLemmas.{goes_on_stopped}
 use Rattle.subtask_ops.proofs.hosts.call_sync_pending_host.Goals as goal
 
 pub returns-clause-course : goal.returns-clause-course
-returns-clause-course g c = goes_on_stopped c.in_ok-work.work _ c.args.host _ (g.W.View.view c.stop_on_host.new.w) c.in_ok-work.ensures.work c.in_ok-work.ensures.core
+returns-clause-course g c = goes_on_stopped c.in_ok-work.work _ c.args.host _ (g.W.View.view c.stop_on_host.new.w) c.in_ok-work.ensures.0 c.in_ok-work.ensures.1.core

@@ -1,7 +1,7 @@
-use Rattle.std.proofs.Common.{ap}
+use Rattle.std.proofs.Common.{ap, subst, sym, ◌∙◌}
 use Rattle.subtask_ops.proofs.ReturnLemmas.{below_after_resume, below_after_settle, live_after, returned_is}
 use Rattle.subtask_ops.proofs.returns.take_return.Goals as goal
-use Rattle.task_words.specs.StateView.{StateView}
+use Rattle.task_words.specs.StateView.{KeepsBut, StateView, call_of, lost_call}
 
 pub answer-requires : goal.answer-requires
 answer-requires g c =
@@ -10,8 +10,17 @@ answer-requires g c =
     below_after_settle c.args.thread _ _ (v c.resume.new.w) (v c.settle_call.new.w) live c.settle_call.ensures.tags c.settle_call.ensures.core
     (below_after_resume c.args.thread c.args.call _ (v c.args.w.now) _ c.resume.ensures c.requires.position)
 
-pub returns-clause-core : goal.returns-clause-core
-returns-clause-core g c =
+pub returns : goal.returns
+returns g c =
     let v = g.W.View.view in
-    let live = live_after c.args.thread (v c.args.w.now) (v c.resume.new.w) (ap (λ (y : StateView). y.tags) c.resume.ensures) c.requires.live in
-    returned_is c.args.thread c.args.call c.args.to _ (v c.args.w.now) (v c.resume.new.w) (v c.settle_call.new.w) _ live c.resume.ensures c.settle_call.ensures.tags c.settle_call.ensures.core c.answer.ensures
+    let now = λ (y : StateView). y.current in
+    let s = v c.args.w.now in
+    let settled = c.settle_call.ensures in
+    let live = live_after c.args.thread s (v c.resume.new.w) (ap (λ (y : StateView). y.tags) c.resume.ensures) c.requires.live in
+    record {
+      core = returned_is c.args.thread c.args.call c.args.to _ s (v c.resume.new.w) (v c.settle_call.new.w) _ live c.resume.ensures settled.tags settled.core c.answer.ensures;
+      current = ap now c.answer.ensures ∙ (settled.current ∙ ap now c.resume.ensures);
+      tags =
+          subst (λ (y : StateView). KeepsBut (lost_call (call_of s c.args.call)) s.tags y.tags) (sym c.answer.ensures)
+          (subst (λ (y : StateView). KeepsBut (lost_call (call_of y c.args.call)) y.tags (v c.settle_call.new.w).tags) c.resume.ensures settled.tags);
+    }

@@ -1,5 +1,5 @@
 use Rattle.std.proofs.Common.{◌∷◌, ap, cond, sym, subst, ◌∙◌}
-use Rattle.table_order.proofs.OrderedLemmas.{IsAscending-front}
+use Rattle.table_order.proofs.OrderedLemmas.{IsAscending-front, last_not_first}
 use Rattle.table_order.proofs.seat_links.put_at_end.Goals as goal
 use Rattle.task_links.proofs.ReadLemmas.{entries-linked_same, made_free}
 use Rattle.task_links.specs.Links.{entries, linked}
@@ -16,7 +16,7 @@ pub returns-then-comes_last-clause-links : goal.returns-then-comes_last-clause-l
 returns-then-comes_last-clause-links g c =
     c.push_back.ensures
     ∙ (ap (λ o. linked c.args.chain c.args.node.index c.args.value (placed_at o (c.args.node.index, c.args.value) (entries c.args.links.now c.args.chain)) c.args.links.now) (sym (c.comes_last.ensures.last c.if-comes_last.true))
-    ∙ ap (λ t. linked c.args.chain c.args.node.index c.args.value (cond t ((c.args.node.index, c.args.value) ∷ entries c.args.links.now c.args.chain) (placed g.P.Ord.cmp (c.args.node.index, c.args.value) (entries c.args.links.now c.args.chain))) c.args.links.now) (sym (sym c.comes_first.ensures ∙ c.if-comes_first.false)))
+    ∙ ap (λ t. linked c.args.chain c.args.node.index c.args.value (cond t ((c.args.node.index, c.args.value) ∷ entries c.args.links.now c.args.chain) (placed g.P.Ord.cmp (c.args.node.index, c.args.value) (entries c.args.links.now c.args.chain))) c.args.links.now) (sym (last_not_first g.P.Ord.cmp g.met.P.Ord.total c.args.value (entries c.args.links.now c.args.chain) (c.comes_last.ensures.last c.if-comes_last.true) c.requires.order)))
 
 pub returns-then-comes_last-clause-order : goal.returns-then-comes_last-clause-order
 returns-then-comes_last-clause-order g c =

@@ -46,10 +46,10 @@ returns g c =
     let kind = found_kind comp f c.in-Some-export_def.def.now c.in-Some-export_def.ensures in
     let room : fits 3 s.core ≡ true = (let a = c.fits.ensures in let n = c.if-not-fits.false in grind arith) in
     let core : t.core ≡ call_made (caller.Thread q.number) f (export_kind comp f) to (thread_group q.number s.core) words s.core =
-    e.core
+    e.1.core
     ∙ (ap (λ (k : ℕ). call_made (caller.Thread k) f c.in-Some-export_def.def.now.kind c.goal_for-goal.result (thread_group k s.core) words s.core) number
     ∙ (ap (λ (x : ExportKind). call_made (caller.Thread q.number) f x c.goal_for-goal.result (thread_group q.number s.core) words s.core) (sym kind)
     ∙ ap (λ (y : Goal). call_made (caller.Thread q.number) f (export_kind comp f) y (thread_group q.number s.core) words s.core) c.goal_for-goal.ensures)) in
     subst (λ (o : Option ℕ). IfSome o (λ n. Prepares comp n f words to s (fits 3 s.core) (Ok id) t)) (sym q.runs)
     (subst (λ (b : Bool). Prepares comp q.number f words to s b (Ok id) t) (sym room)
-    (prepared comp q.number f words to s t id (subst (λ k. IsRunning k s.core) number running) e.thread e.call core e.current e.tags))
+    (prepared comp q.number f words to s t id (subst (λ k. IsRunning k s.core) number running) e.0.0 e.0.1 core e.1.current e.1.tags))

@@ -1,3 +1,4 @@
+use Rattle.task_links.specs.Rings.{cell_role}
 use Rattle.std.proofs.lemmas.List.{map-set}
 use Rattle.task_links.proofs.links.set_cell.Goals as goal
 
@@ -8,4 +9,4 @@ pub returns-clause-previous : goal.returns-clause-previous
 returns-clause-previous g c = map-set (λ cell. cell.previous) c.args.cells.now.items c.args.index _
 
 pub returns-clause-roles : goal.returns-clause-roles
-returns-clause-roles g c = map-set (λ cell. cell.role) c.args.cells.now.items c.args.index _
+returns-clause-roles g c = map-set cell_role c.args.cells.now.items c.args.index _

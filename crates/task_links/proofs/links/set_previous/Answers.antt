@@ -1,3 +1,4 @@
+use Rattle.task_links.specs.Rings.{cell_role}
 use Rattle.std.proofs.Common.{refl}
 use Rattle.std.proofs.lemmas.List.{map-set}
 use Rattle.task_links.proofs.Cells.{part_kept}
@@ -10,4 +11,4 @@ pub returns-clause-previous : goal.returns-clause-previous
 returns-clause-previous g c = map-set (λ cell. cell.previous) c.args.cells.now.items c.args.index _
 
 pub returns-clause-roles : goal.returns-clause-roles
-returns-clause-roles g c = part_kept c.args.cells.now.items c.args.index c.index_mut.result.now c.requires c.index_mut.ensures.value (λ cell. cell.role) _ refl
+returns-clause-roles g c = part_kept c.args.cells.now.items c.args.index c.index_mut.result.now c.requires c.index_mut.ensures.value cell_role _ refl

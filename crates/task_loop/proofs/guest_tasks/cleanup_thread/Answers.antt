@@ -8,12 +8,12 @@ use Rattle.task_loop.proofs.guest_tasks.cleanup_thread.Goals as goal
 use Rattle.task_store.specs.Hosts.{held_by}
 
 pub returns-clause-hosts : goal.returns-clause-hosts
-returns-clause-hosts c course h =
+returns-clause-hosts g c course h =
     let store = c.args.store.now in
     ends_holds (held_by course store) (thread_of store.state c.args.thread.thread) store.state c.cleanup_thread-answer.new.w (leaves_no_result (thread_of store.state c.args.thread.thread) store.state.core) c.cleanup_thread-answer.result c.cleanup_thread-answer.ensures.ends h
 
 pub returns-clause-groups : goal.returns-clause-groups
-returns-clause-groups c holds =
+returns-clause-groups g c holds =
     let store = c.args.store.now in
     called store.state c.cleanup_thread-answer.new.w c.asked_end-before.result (thread_group (thread_of store.state c.args.thread.thread) store.state.core) c.asked_end-before.ensures
     (ends_lessens (thread_of store.state c.args.thread.thread) store.state c.cleanup_thread-answer.new.w (leaves_no_result (thread_of store.state c.args.thread.thread) store.state.core) c.cleanup_thread-answer.result c.cleanup_thread-answer.ensures.ends) store.groups c.tell_call.new.groups holds c.tell_call.ensures.told c.tell_call.ensures.mirrors c.tell_call.ensures.made c.tell_call.ensures.hook

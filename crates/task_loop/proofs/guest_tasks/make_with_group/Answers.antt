@@ -1,18 +1,19 @@
 -- A task in a new group, which was prepared and told of, or taken back.
 use Rattle.std.proofs.Common.{ap, arith, subst, sym, ◌+◌, ◌-◌, ◌∙◌, ◌≡◌, ◌≤◌}
 use Rattle.std.specs.FinMap as finite
-use Rattle.std.specs.Prelude.{Err, IsSome, None, Ok, false, is_some, ℕ, ◌∷◌, []}
+use Rattle.task_machine.specs.Read.{fits}
+use Rattle.std.specs.Prelude.{IsSome, None, false, is_some, ℕ, ◌∷◌, []}
 use Rattle.task_group.proofs.GroupLemmas.{remove-above}
 use Rattle.task_group.specs.Groups.{Groups}
 use Rattle.task_group.specs.Listeners.{Listeners, Told}
-use Rattle.task_loop.proofs.GuestTaskLemmas.{begun_holds}
+use Rattle.task_loop.proofs.GuestTaskLemmas.{begins_refused, begins_wanting, begun_holds}
 use Rattle.task_loop.proofs.StartLemmas.{announced, withdrawn_holds}
 use Rattle.task_loop.proofs.guest_tasks.make_with_group.Goals as goal
 use Rattle.task_machine.specs.declared.records.NoticeKind.TheVariants as notice
 use Rattle.task_rules.specs.Notices.{told_of}
 
 pub returns-in-Ok-new_guest_task-clause-groups : goal.returns-in-Ok-new_guest_task-clause-groups
-returns-in-Ok-new_guest_task-clause-groups c = λ holds.
+returns-in-Ok-new_guest_task-clause-groups g c = λ holds.
     let s = c.args.store.now.state in
     let g0 = c.args.store.now.groups in
     let mid = c.prepare.new.self in
@@ -28,3 +29,43 @@ returns-in-Ok-new_guest_task-clause-groups c = λ holds.
     (λ q there. subst (λ (k : ℕ). q ≤ k) c.made-made.ensures.value (c.made-made.ensures.known q there))
     (same.0 ∙ (ap (λ (k : Groups). k.live) ok ∙ ap (λ (k : ℕ). finite.insert g0.live k 1) made)) (same.1 ∙ made)
     (told.told.same_hook ∙ ap (λ (k : Groups). is_some k.listeners.hook) ok)
+
+pub returns-in-Ok-new_guest_task-clause-told : goal.returns-in-Ok-new_guest_task-clause-told
+returns-in-Ok-new_guest_task-clause-told g c = λ holds.
+    let s = c.args.store.now.state in
+    let mid = c.prepare.new.self in
+    let new = c.announce-told.new.self in
+    let ok = c.in-Ok.ensures.ok in
+    let below = holds.made in
+    let core_made = ap (λ m. m.groups) c.made-group.ensures in
+    let made : mid.made ≡ s.core.made.groups + 1 = c.in-Ok.ensures.number (omega (arith, below, core_made)) ∙ ap (λ k. k + 1) core_made in
+    subst (λ (l : Listeners). Told (told_of notice.Start (s.core.made.groups + 1) ∷ []) l new.listeners) (ap (λ (k : Groups). k.listeners) ok)
+    (subst (λ (k : ℕ). Told (told_of notice.Start k ∷ []) mid.listeners new.listeners) made c.announce-told.ensures.told)
+
+pub returns-in-Err-clause-kept : goal.returns-in-Err-clause-kept
+returns-in-Err-clause-kept g c = λ holds.
+    let s = c.args.store.now.state in
+    let g0 = c.args.store.now.groups in
+    let mid = c.prepare.new.self in
+    let new = c.withdraw.new.self in
+    let ok = c.in-Ok.ensures.ok in
+    let below = holds.made in
+    let core_made = ap (λ m. m.groups) c.made-group.ensures in
+    let made : mid.made ≡ s.core.made.groups + 1 = c.in-Ok.ensures.number (omega (arith, below, core_made)) ∙ ap (λ k. k + 1) core_made in
+    let known : (q : ℕ) → IsSome (finite.get g0.live q) → q ≤ g0.made = λ q there. subst (λ (k : ℕ). q ≤ k) c.made-made.ensures.value (c.made-made.ensures.known q there) in
+    let live : new.live ≡ g0.live = ap (λ (k : Groups). k.live) c.withdraw.ensures ∙ (ap (λ (k : Groups). finite.remove k.live mid.made) ok ∙ remove-above g0.live g0.made mid.made 1 (omega (arith, made, below)) known) in
+    let less : new.made ≡ mid.made - 1 = ap (λ (k : Groups). k.made) c.withdraw.ensures in
+    withdrawn_holds s.core g0 new holds live (omega (arith, made, less)) (ap (λ (k : Groups). k.listeners) c.withdraw.ensures ∙ ap (λ (k : Groups). k.listeners) ok)
+
+pub returns-in-Err-clause-refused : goal.returns-in-Err-clause-refused
+returns-in-Err-clause-refused g c = ap (λ (k : Groups). k.listeners) c.withdraw.ensures ∙ ap (λ (k : Groups). k.listeners) c.in-Ok.ensures.ok
+
+pub returns-then-not-fits-clause-begins : goal.returns-then-not-fits-clause-begins
+returns-then-not-fits-clause-begins g c =
+    let s = c.args.store.now.state in
+    begins_refused c.args.kind c.args.instance None s (fits 4 s.core) (sym c.fits.ensures ∙ c.if-not-fits.true)
+
+pub returns-in_default-clause-begins : goal.returns-in_default-clause-begins
+returns-in_default-clause-begins g c =
+    let s = c.args.store.now.state in
+    begins_wanting c.args.kind c.args.instance None s (fits 4 s.core) (sym c.fits.ensures ∙ c.if-not-fits.false)

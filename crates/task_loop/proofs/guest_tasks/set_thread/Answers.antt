@@ -5,12 +5,12 @@ use Rattle.task_loop.proofs.guest_tasks.set_thread.Goals as goal
 use Rattle.task_store.specs.Hosts.{held_by}
 
 pub returns-clause-hosts : goal.returns-clause-hosts
-returns-clause-hosts c course h =
+returns-clause-hosts g c course h =
     let store = c.args.store.now in
     runs_holds (held_by course store) store.state c.set_thread-answer.new.w c.args.thread c.set_thread-answer.ensures.new h
 
 pub returns-clause-groups : goal.returns-clause-groups
-returns-clause-groups c holds =
+returns-clause-groups g c holds =
     let store = c.args.store.now in
     called store.state c.set_thread-answer.new.w c.asked-before.result (own store.state) c.asked-before.ensures
     (runs_lessens (own store.state) store.state c.set_thread-answer.new.w c.args.thread c.set_thread-answer.ensures.new) store.groups c.tell_call.new.groups holds c.tell_call.ensures.told c.tell_call.ensures.mirrors c.tell_call.ensures.made c.tell_call.ensures.hook

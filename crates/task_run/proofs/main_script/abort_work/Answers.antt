@@ -13,11 +13,9 @@ use Rattle.task_run.proofs.ScriptLemmas.{did_by_row, pends_by_row}
 use Rattle.task_run.proofs.SpawnLemmas.{aborted_row, spawn_known}
 use Rattle.task_store.specs.declared.store.Store.{Store}
 use Rattle.task_run.proofs.main_script.abort_work.Goals as goal
-use Rattle.task_store.proofs.HostLemmas.{holds_aborted}
-use Rattle.task_store.specs.Hosts.{HoldsHosts, held_by}
 
-pub abort-phase-requires : goal.abort-phase-requires
-abort-phase-requires g c = spawn_known c.args.main.now c.args.access.now.store.now.state (c.args.spawn - 1) c.spawned-work.result c.spawned-work.ensures.is c.requires.knows
+pub abort-phase-requires-clause-spawned : goal.abort-phase-requires-clause-spawned
+abort-phase-requires-clause-spawned g c = spawn_known c.args.main.now c.args.access.now.store.now.state (c.args.spawn - 1) c.spawned-work.result c.spawned-work.ensures.is c.requires.knows
 
 pub returns-clause-ok : goal.returns-clause-ok
 returns-clause-ok g c =
@@ -26,6 +24,3 @@ returns-clause-ok g c =
     let core = ap (λ st. st.state.core) c.abort-phase.ensures.store in
     let row = aborted_row s.core (spawned_at p c.args.spawn) (number_in c.spawned-work.result) c.args.spawn c.abort-phase.result c.abort-phase.new.access.store.now.state.core c.spawned-work.ensures.number c.abort-phase.ensures.phase core in
     rw c.next_place-at.ensures (did_by_row c.args.component.now (script_of c.args.main.now) p s.core (machine.Abort c.args.spawn) (slice_get-map machine_op c.args.main.now.ops.now c.args.main.now.at ∙ ap (option_map machine_op) c.requires.op) (main_label.Abort c.abort-phase.result c.args.spawn) _ row tt)
-
-pub returns-clause-hosts : goal.returns-clause-hosts
-returns-clause-hosts g c = rw c.abort-phase.ensures.store (holds_aborted (number_in c.spawned-work.result) c.args.access.now.store.now.state.core (held_by g.H.HostWork.course c.args.access.now.store.now) c.requires.hosts)

@@ -70,9 +70,10 @@ returns-in-Some-op_at-clause-ran g c =
     let number = number_at c.args.number s c.requires.runs c.in-Some.thread (sym c.current.ensures ∙ c.in-Some.is) in
     let o = c.in-Some-op_at.op.now in
     let e = sym (ap option_copied c.in-Some-op_at.is) ∙ c.op_at.ensures in
-    let is = ap (polled_host comp (how_far_of n s.core)) (op_is c.args.component.now n s.core q.thread q.here c.script_ops-script.result.now c.at-point.result.callee (task_of n s.core) c.at-point.result.position c.at-point.result.script c.at-point.ensures.callee refl (c.at-point.ensures.script q.thread q.here) c.script_ops-script.ensures c.at-point.ensures.position (Some o) e) in
-    run_steps comp c.in-Some.thread c.args.number s t number c.args.trace.now c.run_by.new.trace c.run_by.result o is
-    (λ r u h. row_at c.args.component.now n s.core q.thread q.here c.script_ops-script.result.now c.at-point.result.callee (task_of n s.core) c.at-point.result.position c.at-point.result.script c.at-point.ensures.callee refl (c.at-point.ensures.script q.thread q.here) c.script_ops-script.ensures c.at-point.ensures.position (Some o) e r u h) c.run_by.ensures.step c.run_by.ensures.polls
+    let is = op_is c.args.component.now n s.core q.thread q.here c.script_ops-script.result.now c.at-point.result.callee (task_of n s.core) c.at-point.result.position c.at-point.result.script c.at-point.ensures.callee refl (c.at-point.ensures.script q.thread q.here) c.script_ops-script.ensures c.at-point.ensures.position (Some o) e in
+    run_steps comp c.in-Some.thread c.args.number s t number o is
+    (λ r u h. row_at c.args.component.now n s.core q.thread q.here c.script_ops-script.result.now c.at-point.result.callee (task_of n s.core) c.at-point.result.position c.at-point.result.script c.at-point.ensures.callee refl (c.at-point.ensures.script q.thread q.here) c.script_ops-script.ensures c.at-point.ensures.position (Some o) e r u h)
+    c.args.trace.now c.run_by.new.trace c.run_by.result c.run_by.ensures.step c.run_by.ensures.polls
 
 pub returns-in_ok-stepped-in-None-clause-ran : goal.returns-in_ok-stepped-in-None-clause-ran
 returns-in_ok-stepped-in-None-clause-ran g c =

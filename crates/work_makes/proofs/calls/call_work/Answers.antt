@@ -1,5 +1,5 @@
 use Rattle.make_words.proofs.RestoreLemmas.{image_restored, sound_restored}
-use Rattle.task_records.proofs.Core.{add_work, ap, ap₂, arith, cond, Core, count_work, Entry, image, is_host_call, IsSound, item_at, item_of, Keeps, new_handle, Parts, parts_of, push_high, refl, seen, Some, StateView, subst, Subtask, sym, Table, with_handle, work_entries, work_of, work_queued, ℕ, ◌+◌, ◌<◌, ◌^◌, ◌∙◌, ◌≡◌}
+use Rattle.task_records.proofs.Core.{add_work, ap, ap₂, arith, cond, Core, count_work, Entry, image, is_host_call, IsSound, item_at, item_of, Keeps, new_handle, Parts, parts_of, push_high, seen, Some, StateView, subst, Subtask, sym, Table, with_handle, work_entries, work_of, work_queued, ℕ, ◌+◌, ◌<◌, ◌^◌, ◌∙◌, ◌≡◌}
 use Rattle.task_records.specs.declared.{calls.TaskGroup.TaskGroup, parts.CoreParts.CoreParts, single.Single.Single, works.HostWork.HostWork}
 use Rattle.strand_words.proofs.StrandUndoLemmas.{item_written}
 use Rattle.work_makes.proofs.WorkAddLemmas.{record_next}
@@ -36,18 +36,27 @@ drop_work-requires-clause-item c =
 pub returns-in-Ok-name_work-clause-small : goal.returns-in-Ok-name_work-clause-small
 unfolding new_handle add_work count_work
 returns-in-Ok-name_work-clause-small c =
-    subst (λ (n : ℕ). n < 2 ^ 28) (ap (new_handle c.args.instance) c.in-Ok.ensures.core) c.in-Ok-name_work.ensures.small
+    subst (λ (n : ℕ). n < 2 ^ 28) (ap (new_handle c.args.instance) c.in-Ok.ensures.new.core) c.in-Ok-name_work.ensures.small
 
-pub returns-in-Ok-name_work-clause-core : goal.returns-in-Ok-name_work-clause-core
+pub returns-in-Ok-name_work-clause-new : goal.returns-in-Ok-name_work-clause-new
 unfolding seen work_queued
-returns-in-Ok-name_work-clause-core c =
-    let s = (seen c.args.parts.now).core in
-    let i = c.args.instance in
-    ap (λ (v : StateView). v.core) c.queue_push.ensures.new
-    ∙ (ap (λ (v : StateView). push_high (Entry.Push (work_of v c.in-Ok.new)) v.core) c.in-Ok-name_work.ensures.new
-    ∙ (ap₂ (λ (n : ℕ) (x : Core). push_high (Entry.Push n) (with_handle i (Subtask.Host n) x)) c.in-Ok.ensures.work c.in-Ok.ensures.core
-    ∙ (ap (λ (w : HostWork). push_high (Entry.Push (s.made.works + 1)) (with_handle i (Subtask.Host (s.made.works + 1)) (add_work w.number w.work (count_work s)))) c.record_for-work.ensures
-    ∙ push_after_handle _ i (s.made.works + 1) _)))
+returns-in-Ok-name_work-clause-new c = (
+  ap (λ (v : StateView). work_of v c.in-Ok.new) c.queue_push.ensures.new ∙ (ap (λ (v : StateView). work_of v c.in-Ok.new) c.in-Ok-name_work.ensures.new ∙ c.in-Ok.ensures.work),
+  record {
+    core =
+        let s = (seen c.args.parts.now).core in
+        let i = c.args.instance in
+        ap (λ (v : StateView). v.core) c.queue_push.ensures.new
+        ∙ (ap (λ (v : StateView). push_high (Entry.Push (work_of v c.in-Ok.new)) v.core) c.in-Ok-name_work.ensures.new
+        ∙ (ap₂ (λ (n : ℕ) (x : Core). push_high (Entry.Push n) (with_handle i (Subtask.Host n) x)) c.in-Ok.ensures.work c.in-Ok.ensures.new.core
+        ∙ (ap (λ (w : HostWork). push_high (Entry.Push (s.made.works + 1)) (with_handle i (Subtask.Host (s.made.works + 1)) (add_work w.number w.work (count_work s)))) c.record_for-work.ensures
+        ∙ push_after_handle _ i (s.made.works + 1) _)));
+    current = ap (λ (v : StateView). v.current) c.queue_push.ensures.new ∙ (ap (λ (v : StateView). v.current) c.in-Ok-name_work.ensures.new ∙ c.in-Ok.ensures.new.current);
+    tags =
+        subst (λ (v : StateView). Keeps (seen c.args.parts.now).tags v.tags) (sym c.queue_push.ensures.new)
+        (subst (λ (v : StateView). Keeps (seen c.args.parts.now).tags v.tags) (sym c.in-Ok-name_work.ensures.new) c.in-Ok.ensures.new.tags);
+  },
+)
 
 pub returns-in-Err-name_work-clause-sound : goal.returns-in-Err-name_work-clause-sound
 unfolding IsSound
@@ -60,9 +69,9 @@ returns-in-Err-name_work-clause-sound c =
     let back = work_restored a c.push_work.new.parts c.name_work.new.parts c.drop_work.new.parts c.requires.sound c.in-Ok.ensures.sound id group c.requires.here c.record_for-work.result c.in-Ok.new.rep made c.in-Err-name_work.ensures.same d.only d.works d.groups d.table in
     sound_restored (parts_of a) (parts_of c.drop_work.new.parts) back c.requires.sound
 
-pub returns-in-Err-name_work-clause-err : goal.returns-in-Err-name_work-clause-err
+pub returns-in-Err-name_work-clause-new : goal.returns-in-Err-name_work-clause-new
 unfolding seen
-returns-in-Err-name_work-clause-err c =
+returns-in-Err-name_work-clause-new c =
     let a = c.args.parts.now in
     let d = c.drop_work.ensures in
     let id = c.args.group.0 in
@@ -70,9 +79,3 @@ returns-in-Err-name_work-clause-err c =
     let made = subst (λ (n : ℕ). PushesWork a c.push_work.new.parts c.record_for-work.result (Some (id, group)) c.in-Ok.new.rep n) (ap (λ (w : HostWork). cond {A = ℕ} (is_host_call w.work) 1 0) c.record_for-work.ensures) c.in-Ok.ensures.pushes in
     let back = work_restored a c.push_work.new.parts c.name_work.new.parts c.drop_work.new.parts c.requires.sound c.in-Ok.ensures.sound id group c.requires.here c.record_for-work.result c.in-Ok.new.rep made c.in-Err-name_work.ensures.same d.only d.works d.groups d.table in
     image_restored (parts_of a) (parts_of c.drop_work.new.parts) back
-
-pub returns-in-Err-name_work-clause-current : goal.returns-in-Err-name_work-clause-current
-returns-in-Err-name_work-clause-current c = ap (λ (v : StateView). v.current) (returns-in-Err-name_work-clause-err c)
-
-pub returns-in-Err-name_work-clause-tags : goal.returns-in-Err-name_work-clause-tags
-returns-in-Err-name_work-clause-tags c = subst (λ (v : StateView). Keeps (seen c.args.parts.now).tags v.tags) (sym (returns-in-Err-name_work-clause-err c)) (record { threads = λ id live. refl; calls = λ id live. refl; sets = λ id live. refl; works = λ id live. refl })

@@ -1,48 +1,50 @@
 -- The work at its place is polled, and the others are as before.
-use Rattle.host_works.proofs.KeptLemmas.{left_ended, left_going, lent, told_there}
+use Rattle.host_works.proofs.KeptLemmas.{answer_by, answer_there, goes_on, left_going, left_over, lent}
 use Rattle.host_works.proofs.kept.HostWorks.poll.Goals as goal
-use Rattle.host_works.proofs.kept.HostWorks.poll.Goals.{in-Value, in_default-matches}
+use Rattle.host_works.specs.Joined.{joined_phase, joined_work}
+use Rattle.std.proofs.Common.{sym, ◌∙◌}
 
-pub returns-then-matches-clause-answer : goal.returns-then-matches-clause-answer
-returns-then-matches-clause-answer g c =
+pub returns-then-is_over-clause-answer : goal.returns-then-is_over-clause-answer
+returns-then-is_over-clause-answer g c =
     let course = g.H.HostWork.course in
     let kept = c.args.self.now in
-    let at = c.in-Some.ensures.some in
-    let w = c.in-Some-get_index_mut.work.now in
-    let unique = c.in-Some-get_index_mut.ensures.unique in
-    told_there course kept c.args.number c.in-Some.place at.0 unique at.1 w c.poll-answer.result (lent course kept c.args.number c.in-Some.place at.0 unique at.1 w c.in-Some-get_index_mut.ensures.value) c.poll-answer.ensures.answer
+    let at = c.in_ok-place.ensures.some in
+    let w = c.in-Some.joined.now in
+    let unique = c.in-Some.ensures.unique in
+    let same = lent course kept c.args.number c.in_ok-place.place at.0 unique at.1 w c.in-Some.ensures.value in
+    let is = answer_by _ c.poll-answer.result (joined_phase w) (course (joined_work w)) c.poll-answer.ensures.none c.poll-answer.ensures.runs c.poll-answer.ensures.answer in
+    answer_there course kept c.args.number c.in_ok-place.place at.0 unique at.1 w c.poll-answer.new.self c.saturating_add-self.result same c.poll-answer.result is
 
-pub returns-then-matches-clause-left : goal.returns-then-matches-clause-left
-returns-then-matches-clause-left g c =
+pub returns-then-is_over-clause-left : goal.returns-then-is_over-clause-left
+returns-then-is_over-clause-left g c =
     let course = g.H.HostWork.course in
     let kept = c.args.self.now in
-    let at = c.in-Some.ensures.some in
-    let w = c.in-Some-get_index_mut.work.now in
-    let unique = c.in-Some-get_index_mut.ensures.unique in
-    elim c.match-matches.branch [
-      | in-Value k ↦ left_ended course kept c.args.number c.in-Some.place at.0 unique at.1 w c.poll-answer.new.self c.saturating_add-self.result (lent course kept c.args.number c.in-Some.place at.0 unique at.1 w c.in-Some-get_index_mut.ensures.value) c.poll-answer.ensures.left
-          c.poll-answer.result k.in-Value.field-0 c.poll-answer.ensures.answer k.in-Value.is c.let_go.new.self c.let_go.ensures
-      | in_default-matches k ↦ absurd (cc)
-    ]
+    let at = c.in_ok-place.ensures.some in
+    let w = c.in-Some.joined.now in
+    let unique = c.in-Some.ensures.unique in
+    let same = lent course kept c.args.number c.in_ok-place.place at.0 unique at.1 w c.in-Some.ensures.value in
+    let is = answer_by _ c.poll-answer.result (joined_phase w) (course (joined_work w)) c.poll-answer.ensures.none c.poll-answer.ensures.runs c.poll-answer.ensures.answer in
+    left_over course kept c.args.number c.in_ok-place.place at.0 unique at.1 w c.poll-answer.new.self c.saturating_add-self.result same c.poll-answer.result is (sym c.is_over.ensures ∙ c.if-is_over.true) c.let_go.new.self c.let_go.ensures
 
-pub returns-else-matches-clause-answer : goal.returns-else-matches-clause-answer
-returns-else-matches-clause-answer g c =
+pub returns-else-is_over-clause-answer : goal.returns-else-is_over-clause-answer
+returns-else-is_over-clause-answer g c =
     let course = g.H.HostWork.course in
     let kept = c.args.self.now in
-    let at = c.in-Some.ensures.some in
-    let w = c.in-Some-get_index_mut.work.now in
-    let unique = c.in-Some-get_index_mut.ensures.unique in
-    told_there course kept c.args.number c.in-Some.place at.0 unique at.1 w c.poll-answer.result (lent course kept c.args.number c.in-Some.place at.0 unique at.1 w c.in-Some-get_index_mut.ensures.value) c.poll-answer.ensures.answer
+    let at = c.in_ok-place.ensures.some in
+    let w = c.in-Some.joined.now in
+    let unique = c.in-Some.ensures.unique in
+    let same = lent course kept c.args.number c.in_ok-place.place at.0 unique at.1 w c.in-Some.ensures.value in
+    let is = answer_by _ c.poll-answer.result (joined_phase w) (course (joined_work w)) c.poll-answer.ensures.none c.poll-answer.ensures.runs c.poll-answer.ensures.answer in
+    answer_there course kept c.args.number c.in_ok-place.place at.0 unique at.1 w c.poll-answer.new.self c.saturating_add-self.result same c.poll-answer.result is
 
-pub returns-else-matches-clause-left : goal.returns-else-matches-clause-left
-returns-else-matches-clause-left g c =
+pub returns-else-is_over-clause-left : goal.returns-else-is_over-clause-left
+returns-else-is_over-clause-left g c =
     let course = g.H.HostWork.course in
     let kept = c.args.self.now in
-    let at = c.in-Some.ensures.some in
-    let w = c.in-Some-get_index_mut.work.now in
-    let unique = c.in-Some-get_index_mut.ensures.unique in
-    elim c.match-matches.branch [
-      | in-Value k ↦ absurd (cc)
-      | in_default-matches k ↦ left_going course kept c.args.number c.in-Some.place at.0 unique at.1 w c.poll-answer.new.self c.saturating_add-self.result (lent course kept c.args.number c.in-Some.place at.0 unique at.1 w c.in-Some-get_index_mut.ensures.value) c.poll-answer.ensures.left
-          c.poll-answer.result c.poll-answer.ensures.answer k.in_default-matches.not-Value
-    ]
+    let at = c.in_ok-place.ensures.some in
+    let w = c.in-Some.joined.now in
+    let unique = c.in-Some.ensures.unique in
+    let same = lent course kept c.args.number c.in_ok-place.place at.0 unique at.1 w c.in-Some.ensures.value in
+    let is = answer_by _ c.poll-answer.result (joined_phase w) (course (joined_work w)) c.poll-answer.ensures.none c.poll-answer.ensures.runs c.poll-answer.ensures.answer in
+    left_going course kept c.args.number c.in_ok-place.place at.0 unique at.1 w c.poll-answer.new.self c.saturating_add-self.result same c.poll-answer.result is (sym c.is_over.ensures ∙ c.if-is_over.false)
+    (goes_on _ c.poll-answer.result (sym c.is_over.ensures ∙ c.if-is_over.false) c.poll-answer.ensures.left) c.poll-answer.ensures.phase

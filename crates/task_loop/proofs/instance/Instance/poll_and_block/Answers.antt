@@ -49,5 +49,5 @@ returns-clause-groups g c holds =
     let told = called s t c.asked-before.result (own s) c.asked-before.ensures less held.groups c.tell_call.new.groups (subst (λ (k : Groups). HoldsGroups k s.core) (sym same) holds) c.tell_call.ensures.told c.tell_call.ensures.mirrors c.tell_call.ensures.made c.tell_call.ensures.hook in
     rw c.settle.ensures.rest (subst (λ (k : Groups). HoldsGroups c.tell_call.new.groups t.core × Told (call_notices s t) k.listeners c.tell_call.new.groups.listeners) same told)
 
-pub returns-in-Err-clause-groups : goal.returns-in-Err-clause-groups
-returns-in-Err-clause-groups g c holds = (holds, still_told c.args.store.now.state c.args.store.now.groups.listeners)
+pub returns-in_default-clause-groups : goal.returns-in_default-clause-groups
+returns-in_default-clause-groups g c holds = rw c.hold_next.ensures.rest (holds, still_told c.args.store.now.state c.args.store.now.groups.listeners)

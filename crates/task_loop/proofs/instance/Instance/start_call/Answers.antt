@@ -6,12 +6,12 @@ use Rattle.task_calls.specs.Prepared.{starts_in}
 use Rattle.state_calls.specs.declared.names.QualifiedThreadId.{QualifiedThreadId}
 use Rattle.task_loop.proofs.AskHoldLemmas.{started_holds}
 use Rattle.task_loop.proofs.instance.Instance.start_call.Goals as goal
-use Rattle.task_machine.specs.declared.component.HostDef.{HostDef}
+use Rattle.host_works.specs.Kept.{HeldWork}
 use Rattle.task_store.specs.Hosts.{HoldsWorks, held_by}
 use Rattle.task_turns.specs.Turn.{running_of}
 use Rattle.task_words.specs.StateView.{StateView, with_core, with_current}
 
-by_running : (left : ℕ → Option HostDef) (s t : StateView) (id : QualifiedThreadId) (o : Option ℕ) → IsSome o → IfSome o (λ n. t ≡ with_current None (with_core (starts_in n id s) s)) → HoldsWorks left s.core → HoldsWorks left t.core
+by_running : (left : ℕ → Option HeldWork) (s t : StateView) (id : QualifiedThreadId) (o : Option ℕ) → IsSome o → IfSome o (λ n. t ≡ with_current None (with_core (starts_in n id s) s)) → HoldsWorks left s.core → HoldsWorks left t.core
 by_running left s t id None some is h = absurd (cc)
 by_running left s t id (Some n) some is h = started_holds left s t h n id is
 

@@ -13,6 +13,7 @@ use Rattle.task_machine.specs.declared.op.Operand.{Operand}
 use Rattle.task_machine.specs.declared.op.TaskOp.TheVariants as task_op
 use Rattle.task_machine.specs.declared.records.Turn.TheVariants as turn
 use Rattle.task_rules.specs.Scripts.{op_of, value_of}
+use Rattle.task_store.proofs.HostLemmas.{runs_works}
 use Rattle.task_store.specs.Hosts.{held_by}
 use Rattle.task_turns.specs.Turn.{Sits, running_of}
 use Rattle.task_table.specs.declared.id.TableId.{TableId}
@@ -31,7 +32,7 @@ returns-clause-hosts g c course h =
     let sits : Sits c.args.component.now (turn.Run n) s.core = subst (λ (o : Option ℕ). IfSome o (λ k. Sits c.args.component.now (turn.Run k) s.core)) runs c.requires.order in
     let order = sits.order Unscripted in
     let there = runs_there n s.core (order.in_place.runs n refl) in
-    returned_holds (held_by course store) s c.task_return-answer.new.w h c.args.component.now n c.args.value there.0 there.1 order.works.made (is_own_type c.args.ty c.args.encoding c.args.memory) c.task_return-answer.result c.task_return-answer.ensures.returns
+    returned_holds (held_by course store) s c.task_return-answer.new.w h c.args.component.now n c.args.value there.0 there.1 (runs_works c.args.component.now n s.core order) (is_own_type c.args.ty c.args.encoding c.args.memory) c.task_return-answer.result c.task_return-answer.ensures.returns
 
 pub returns-then-return_lends-clause-returns : goal.returns-then-return_lends-clause-returns
 returns-then-return_lends-clause-returns g c =

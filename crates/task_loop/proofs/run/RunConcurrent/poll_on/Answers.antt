@@ -8,6 +8,7 @@ use Rattle.task_loop.proofs.DoesLemmas.{on_err}
 use Rattle.task_loop.proofs.PausedLemmas.{idle_turned, idles, paced_data, paced_none, poll_ends, poll_goes, poll_rests, used_up, yields_now}
 use Rattle.task_loop.proofs.RunPollLemmas.{outcome_there}
 use Rattle.task_loop.proofs.ToldLemmas.{group_computed, holds_computed, told_computed, told_more, told_same, told_still}
+use Rattle.task_loop.specs.declared.run.RunConcurrent.{RunConcurrent}
 use Rattle.task_loop.specs.Told.{TurnTold, group_running, turn_of}
 use Rattle.task_machine.specs.declared.words.Mark.{Mark}
 use Rattle.task_store.proofs.HostLemmas.{holds_same}
@@ -88,7 +89,9 @@ returns-in-None-clause-ok g c =
     let turned = none_as (λ (made : Option Made). Turned (setting_of c.args.component.now (script c.turns.main) c.turns.self.trap_on_idle) p m u made m' t) (λ (made : Option Made). Turned x p m u made m' t) None mid after
     (λ made. turned_same c.args.component.now (script c.turns.main) (script c.args.main.now) c.turns.self.trap_on_idle c.args.self.now.trap_on_idle p m u made m' t c.turns.invariant.script c.turns.invariant.idle)
     (rw c.in-None.is at c.in_ok-turn.ensures.turned) in
-    idle_turned x from before (given s.core) pace c.args.steps p m u mid c.turns.added b k c.turns.invariant.on c.turns.invariant.paced m' t after c.after-self.result (omega arith) turned c.after-self.ensures.since c.after-self.ensures.passes
+    rw c.idles.ensures.answer
+    (rw (ap (λ (k : RunConcurrent). k.turn) c.idles.ensures.new)
+    (idle_turned x from before (given s.core) pace c.args.steps p m u mid c.turns.added b k c.turns.invariant.on c.turns.invariant.paced m' t after c.idles.new.self.pace (omega arith) turned c.idles.ensures.since c.idles.ensures.passes))
 
 pub returns-in-None-clause-does : goal.returns-in-None-clause-does
 returns-in-None-clause-does g c =
@@ -115,19 +118,20 @@ returns-in-Some-Over-clause-ok g c =
     let turned = none_as (λ (made : Option Made). Turned (setting_of c.args.component.now (script c.turns.main) c.turns.self.trap_on_idle) p m u made m' t) (λ (made : Option Made). Turned x p m u made m' t) (Some (stepped.Over c.in-Some-Over.outcome)) mid after
     (λ made. turned_same c.args.component.now (script c.turns.main) (script c.args.main.now) c.turns.self.trap_on_idle c.args.self.now.trap_on_idle p m u made m' t c.turns.invariant.script c.turns.invariant.idle)
     (subst (λ (o : Option Stepped). AddedOrNone (λ (made : Option Made). Turned (setting_of c.args.component.now (script c.turns.main) c.turns.self.trap_on_idle) p m u made m' t) o mid after) (c.in-Some-Over.is ∙ ap (λ (q : Stepped). Some q) c.in-Some-Over.field-0-is) c.in_ok-turn.ensures.turned) in
-    rw c.answer_of.ensures
-    (poll_ends x from before (given s.core) pace c.args.steps p m u mid c.turns.added b k c.turns.invariant.on c.turns.invariant.paced m' t after c.after-self-in-Some-Over.result c.in-Some-Over.outcome (omega arith) turned c.after-self-in-Some-Over.ensures.since c.after-self-in-Some-Over.ensures.passes)
+    rw c.ends.ensures.answer
+    (rw (ap (λ (k : RunConcurrent). k.turn) c.ends.ensures.new)
+    (poll_ends x from before (given s.core) pace c.args.steps p m u mid c.turns.added b k c.turns.invariant.on c.turns.invariant.paced m' t after c.ends.new.self.pace c.in-Some-Over.outcome (omega arith) turned c.ends.ensures.since c.ends.ensures.passes))
 
 pub returns-in-Some-Over-clause-wanting : goal.returns-in-Some-Over-clause-wanting
 returns-in-Some-Over-clause-wanting g c =
-    rw c.answer_of.ensures (outcome_there c.in-Some-Over.outcome)
+    rw c.ends.ensures.answer (outcome_there c.in-Some-Over.outcome)
 
 pub returns-in-Some-Over-clause-does : goal.returns-in-Some-Over-clause-does
 returns-in-Some-Over-clause-does g c =
     does_added g.M.MainTask.does c.args.main.now c.args.trace.now c.turns.main c.turns.trace (stepped.Over c.in-Some-Over.outcome) c.turn.new.main c.turn.new.trace c.turns.invariant.does (subst (λ (o : Option Stepped). AddedOrNone (λ (made : Option Made). DoesStep g.M.MainTask.does c.turns.main (step_of made) c.turn.new.main) o c.turns.trace c.turn.new.trace) (c.in-Some-Over.is ∙ ap (λ (q : Stepped). Some q) c.in-Some-Over.field-0-is) c.in_ok-turn.ensures.does)
 
-pub after-self-requires-in-Some-Goes : goal.after-self-requires-in-Some-Goes
-after-self-requires-in-Some-Goes g c =
+pub after-self-requires : goal.after-self-requires
+after-self-requires g c =
     let stays = subst (λ (o : Option Mark). yields_before c.turns.self.pace.passes c.turns.self.pace.since o ≡ false) c.next_mark-next.ensures (sym c.yields.ensures ∙ c.if-yields.false) in
     subst (λ (o : Option Mark). yields_before c.turns.self.pace.passes c.turns.self.pace.since o ≡ false) (sym c.next_mark-next.ensures) stays
 
@@ -154,8 +158,8 @@ returns-then-rests-clause-ok g c =
     (subst (λ (o : Option Stepped). AddedOrNone (λ (made : Option Made). Turned (setting_of c.args.component.now (script c.turns.main) c.turns.self.trap_on_idle) p m u made m' t) o mid after) (c.in-Some-Goes.is ∙ ap (λ (q : Stepped). Some q) c.in-Some-Goes.field-0-is) c.in_ok-turn.ensures.turned) in
     let stays = subst (λ (o : Option Mark). yields_before b k o ≡ false) c.next_mark-next.ensures (sym c.yields.ensures ∙ c.if-yields.false) in
     let rests = subst (λ (o : Option Mark). rests_by p o ≡ true) c.next_mark-next.ensures (sym c.rests-rests.ensures ∙ c.if-rests.true) in
-    let since = c.after-self-in-Some-Goes.ensures.since ∙ ap (λ (o : Option Mark). counted k o) c.next_mark-next.ensures in
-    poll_rests x from before (given s.core) pace c.args.steps p m u mid c.turns.added b k c.turns.invariant.on c.turns.invariant.paced m' t after c.in-Some-Goes.turn c.in-Some-Goes.computed turned stays c.after-self-in-Some-Goes.result (omega arith) rests since c.after-self-in-Some-Goes.ensures.passes
+    let since = c.after-self.ensures.since ∙ ap (λ (o : Option Mark). counted k o) c.next_mark-next.ensures in
+    poll_rests x from before (given s.core) pace c.args.steps p m u mid c.turns.added b k c.turns.invariant.on c.turns.invariant.paced m' t after c.in-Some-Goes.turn c.in-Some-Goes.computed turned stays c.after-self.result (omega arith) rests since c.after-self.ensures.passes
 
 pub returns-then-rests-clause-does : goal.returns-then-rests-clause-does
 returns-then-rests-clause-does g c =
@@ -208,9 +212,9 @@ turns-preserved g c =
     (subst (λ (o : Option Stepped). AddedOrNone (λ (made : Option Made). Turned (setting_of c.args.component.now (script c.turns.main) c.turns.self.trap_on_idle) p m u made m' t) o mid after) (c.in-Some-Goes.is ∙ ap (λ (q : Stepped). Some q) c.in-Some-Goes.field-0-is) c.in_ok-turn.ensures.turned) in
     let stays = subst (λ (o : Option Mark). yields_before b k o ≡ false) c.next_mark-next.ensures (sym c.yields.ensures ∙ c.if-yields.false) in
     let rests = subst (λ (o : Option Mark). rests_by p o ≡ false) c.next_mark-next.ensures (sym c.rests-rests.ensures ∙ c.if-rests.false) in
-    let since = c.after-self-in-Some-Goes.ensures.since ∙ ap (λ (o : Option Mark). counted k o) c.next_mark-next.ensures in
+    let since = c.after-self.ensures.since ∙ ap (λ (o : Option Mark). counted k o) c.next_mark-next.ensures in
     let on = added_more x from before (given s.core) p m u mid c.turns.added c.turns.invariant.on m' t after c.in-Some-Goes.turn c.in-Some-Goes.computed turned in
-    let more = poll_goes x from before (given s.core) pace c.args.steps p m u mid c.turns.added b k c.turns.invariant.on c.turns.invariant.paced m' t after c.in-Some-Goes.turn c.in-Some-Goes.computed turned stays c.after-self-in-Some-Goes.result.passes c.after-self-in-Some-Goes.result.since rests since c.after-self-in-Some-Goes.ensures.passes in
+    let more = poll_goes x from before (given s.core) pace c.args.steps p m u mid c.turns.added b k c.turns.invariant.on c.turns.invariant.paced m' t after c.in-Some-Goes.turn c.in-Some-Goes.computed turned stays c.after-self.result.passes c.after-self.result.since rests since c.after-self.ensures.passes in
     let computed = c.in_ok-added-in-Some-Goes.ensures.computes in
     record {
       script = c.in_ok-turn.ensures.script ∙ c.turns.invariant.script;
@@ -223,7 +227,7 @@ turns-preserved g c =
       does = does_computed g.M.MainTask.does c.args.main.now before c.turn.new.main after c.args.component.now c.in-Some-Goes.turn t (c.turns.added + 1) c.compute.new.w c.compute.new.trace c.in_ok-added-in-Some-Goes.added
           (does_added g.M.MainTask.does c.args.main.now before c.turns.main mid (stepped.Goes c.in-Some-Goes.turn c.in-Some-Goes.computed) c.turn.new.main after c.turns.invariant.does (subst (λ (o : Option Stepped). AddedOrNone (λ (made : Option Made). DoesStep g.M.MainTask.does c.turns.main (step_of made) c.turn.new.main) o c.turns.trace c.turn.new.trace) (c.in-Some-Goes.is ∙ ap (λ (q : Stepped). Some q) c.in-Some-Goes.field-0-is) c.in_ok-turn.ensures.does))
           computed;
-      paced = paced_data pace.passes pace.since before after c.after-self-in-Some-Goes.result.passes c.after-self-in-Some-Goes.result.since more computed.labels c.compute.new.trace computed.computing computed.trace c.after-self-in-Some-Goes.ensures.passes;
+      paced = paced_data pace.passes pace.since before after c.after-self.result.passes c.after-self.result.since more computed.labels c.compute.new.trace computed.computing computed.trace c.after-self.ensures.passes;
       few = c.in_ok-added-in-Some-Goes.ensures.few.1;
       groups = holds_computed c.args.component.now t after (c.turns.added + 1) c.compute.new.w c.compute.new.trace c.in_ok-added-in-Some-Goes.added x refl c.in-Some-Goes.turn computed c.in_ok-added-in-Some-Goes.ensures.still c.turn.new.store.groups c.in_ok-turn.ensures.groups;
       running = subst (λ (w : Option Stepped). IfSome w (λ q. c.turn.new.running ≡ group_running t.core (turn_of q))) (c.in-Some-Goes.is ∙ ap (λ (q : Stepped). Some q) c.in-Some-Goes.field-0-is) c.in_ok-turn.ensures.running
@@ -293,7 +297,9 @@ returns-then-is_idle-clause-ok g c =
     let k = c.turns.self.pace.since in
     let on = c.turns.invariant.on in
     let rests = c.is_idle.ensures x on.at.order (ap idle_line_of (sym c.turns.invariant.idle)) m on.pends ∙ c.if-is_idle.true in
-    idles x from before (given s.core) pace c.args.steps p m u mid c.turns.added b k c.turns.invariant.on c.turns.invariant.paced c.after-self-then-is_idle.result (omega arith) rests c.after-self-then-is_idle.ensures.since c.after-self-then-is_idle.ensures.passes
+    rw c.idles-then-is_idle.ensures.answer
+    (rw (ap (λ (k : RunConcurrent). k.turn) c.idles-then-is_idle.ensures.new)
+    (idles x from before (given s.core) pace c.args.steps p m u mid c.turns.added b k c.turns.invariant.on c.turns.invariant.paced c.idles-then-is_idle.new.self.pace (omega arith) rests c.idles-then-is_idle.ensures.since c.idles-then-is_idle.ensures.passes))
 
 pub returns-clause-ok : goal.returns-clause-ok
 returns-clause-ok g c =
@@ -329,9 +335,10 @@ returns-in-None-clause-told g c =
     let t = c.turn.new.store.state in
     let m' = part c.turn.new.main in
     let after = c.turn.new.trace in
-    told_still x from c.args.trace.now c.args.store.now.groups p m u mid c.turns.store.groups m' t c.turn.new.store.groups after c.turns.invariant.told
+    rw (ap (λ (k : RunConcurrent). k.turn) c.idles.ensures.new)
+    (told_still x from c.args.trace.now c.args.store.now.groups p m u mid c.turns.store.groups m' t c.turn.new.store.groups after c.turns.invariant.told
     (told_same c.args.component.now (script c.turns.main) (script c.args.main.now) c.turns.self.trap_on_idle c.args.self.now.trap_on_idle p m u c.turns.store.groups m' t c.turn.new.store.groups None mid after c.turns.invariant.script c.turns.invariant.idle
-    (rw c.in-None.is at c.in_ok-turn.ensures.told))
+    (rw c.in-None.is at c.in_ok-turn.ensures.told)))
 
 pub returns-in-Some-Over-clause-told : goal.returns-in-Some-Over-clause-told
 returns-in-Some-Over-clause-told g c =
@@ -347,9 +354,10 @@ returns-in-Some-Over-clause-told g c =
     let m' = part c.turn.new.main in
     let after = c.turn.new.trace in
     let over = stepped.Over c.in-Some-Over.outcome in
-    told_more x from c.args.trace.now c.args.store.now.groups p m u mid c.turns.store.groups m' t c.turn.new.store.groups over after c.turns.invariant.told
+    rw (ap (λ (k : RunConcurrent). k.turn) c.ends.ensures.new)
+    (told_more x from c.args.trace.now c.args.store.now.groups p m u mid c.turns.store.groups m' t c.turn.new.store.groups over after c.turns.invariant.told
     (told_same c.args.component.now (script c.turns.main) (script c.args.main.now) c.turns.self.trap_on_idle c.args.self.now.trap_on_idle p m u c.turns.store.groups m' t c.turn.new.store.groups (Some over) mid after c.turns.invariant.script c.turns.invariant.idle
-    (subst (λ (w : Option Stepped). AddedOrNone (λ (made : Option Made). TurnTold (setting_of c.args.component.now (script c.turns.main) c.turns.self.trap_on_idle) p m u c.turns.store.groups made m' t c.turn.new.store.groups) w mid after) (c.in-Some-Over.is ∙ ap (λ (q : Stepped). Some q) c.in-Some-Over.field-0-is) c.in_ok-turn.ensures.told))
+    (subst (λ (w : Option Stepped). AddedOrNone (λ (made : Option Made). TurnTold (setting_of c.args.component.now (script c.turns.main) c.turns.self.trap_on_idle) p m u c.turns.store.groups made m' t c.turn.new.store.groups) w mid after) (c.in-Some-Over.is ∙ ap (λ (q : Stepped). Some q) c.in-Some-Over.field-0-is) c.in_ok-turn.ensures.told)))
 
 pub returns-then-rests-clause-told : goal.returns-then-rests-clause-told
 returns-then-rests-clause-told g c =

@@ -51,7 +51,7 @@ returns-in-Some-Abort-clause-knows c w =
 pub returns-in-Some-Await-clause-knows : goal.returns-in-Some-Await-clause-knows
 returns-in-Some-Await-clause-knows c w =
     let main = w.args.self.now in
-    knows_still w.args.component.now (script_of main) main w.await_work.new.main w.args.access.now.store.now.state w.args.access.now.store.now.state w.await_work.result w.await_work.ensures.spawns w.await_work.ensures.ok (λ id live. refl) w.requires.knows
+    knows_still w.args.component.now (script_of main) main w.await_work.new.main w.args.access.now.store.now.state w.await_work.new.access.store.now.state w.await_work.result w.await_work.ensures.spawns w.await_work.ensures.ok w.await_work.ensures.names w.requires.knows
 
 pub returns-in-Some-Finish-clause-groups : goal.returns-in-Some-Finish-clause-groups
 returns-in-Some-Finish-clause-groups c w =
@@ -127,15 +127,15 @@ pub returns-in-Some-Await-clause-groups : goal.returns-in-Some-Await-clause-grou
 returns-in-Some-Await-clause-groups c w =
     let main = w.args.self.now in
     let s = w.args.access.now.store.now in
-    let t = w.args.access.now.store.now in
-    holds_step w.args.component.now (script_of main) (part_of main) s.state.core (part_of w.await_work.new.main) t.state.core s.groups t.groups refl w.await_work.result w.await_work.ensures.ok w.await_work.ensures.unstarted w.requires.groups
+    let t = w.await_work.new.access.store.now in
+    holds_step w.args.component.now (script_of main) (part_of main) s.state.core (part_of w.await_work.new.main) t.state.core s.groups t.groups w.await_work.ensures.groups w.await_work.result w.await_work.ensures.ok w.await_work.ensures.unstarted w.requires.groups
 
 pub returns-in-Some-Await-clause-told : goal.returns-in-Some-Await-clause-told
 returns-in-Some-Await-clause-told c w =
     let main = w.args.self.now in
     let s = w.args.access.now.store.now in
-    let t = w.args.access.now.store.now in
-    told_step w.args.component.now (script_of main) (part_of main) s.state.core (part_of w.await_work.new.main) t.state.core s.groups t.groups refl w.await_work.result w.await_work.ensures.ok w.await_work.ensures.unstarted
+    let t = w.await_work.new.access.store.now in
+    told_step w.args.component.now (script_of main) (part_of main) s.state.core (part_of w.await_work.new.main) t.state.core s.groups t.groups w.await_work.ensures.groups w.await_work.result w.await_work.ensures.ok w.await_work.ensures.unstarted
 
 pub returns-in-Some-Answer-clause-told : goal.returns-in-Some-Answer-clause-told
 returns-in-Some-Answer-clause-told c w = told-none w.args.access.now.store.now.groups.listeners

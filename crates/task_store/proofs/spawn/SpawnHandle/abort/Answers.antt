@@ -1,5 +1,6 @@
 use Rattle.std.proofs.Common.{IfNone, ap, subst, sym, ◌∙◌}
 use Rattle.std.specs.Prelude.{None, Option, ◌≡◌}
+use Rattle.host_works.specs.Kept.{held}
 use Rattle.task_machine.specs.Core.{Core}
 use Rattle.task_machine.specs.Maps.{get}
 use Rattle.task_machine.specs.Read.{phase_of}
@@ -7,8 +8,10 @@ use Rattle.task_machine.specs.Write.{set_phase}
 use Rattle.task_machine.specs.declared.words.Phase.{Phase}
 use Rattle.task_rules.specs.Cancels.{aborted_phase}
 use Rattle.task_rules.specs.MainOps.{main_aborted}
+use Rattle.task_store.proofs.HostLemmas.{found_is, holds_aborted}
 use Rattle.task_store.proofs.SpawnLemmas.{gone_aborted}
 use Rattle.task_store.proofs.spawn.SpawnHandle.abort.Goals as goal
+use Rattle.task_store.specs.Hosts.{HoldsWorks, held_by}
 use Rattle.task_store.specs.declared.store.Store.{Store}
 use Rattle.task_words.specs.StateView.{StateView, on_core, with_core, work_of}
 
@@ -18,12 +21,29 @@ returns-in_default-clause-state g c =
     let none = c.in_default.ensures.none in
     ap (λ (d : Core). record store { state = with_core d store.state }) (sym (gone_aborted c.args.self.now.number store.state.core none))
 
-pub returns-clause-state : goal.returns-clause-state
+pub returns-clause-phase : goal.returns-clause-phase
+returns-clause-phase g c =
+    let store = c.args.store.now in
+    c.abort-phase.ensures.found ∙ found_is c.args.self.now.number store.state.core (held_by g.H.HostWork.course store) c.requires.spawned.caller c.requires.hosts
+
+-- the state after the abort
+pub aborted : goal.returns-clause-state
 unfolding main_aborted
-returns-clause-state g c =
+aborted g c =
     let store = c.args.store.now in
     let s = store.state in
     let number = c.in-Some.ensures.some in
-    let phase = c.after_abort.ensures ∙ ap aborted_phase c.phase-phase.ensures in
+    let found = c.abort-phase.ensures.found ∙ found_is c.args.self.now.number s.core (held_by g.H.HostWork.course store) c.requires.spawned.caller c.requires.hosts in
+    let phase = c.after_abort.ensures ∙ ap aborted_phase (found ∙ ap (λ n. phase_of n s.core) (sym number)) in
     let state = c.set_phase.ensures ∙ ap (λ (p : Phase). on_core (set_phase (work_of s c.in-Some.work) p) s) phase ∙ ap (λ n. on_core (set_phase n (aborted_phase (phase_of n s.core))) s) number in
-    ap (λ (v : StateView). record store { state = v }) state
+    ap (λ (v : StateView). record store { works = c.abort-phase.new.self; state = v }) state
+
+pub returns-clause-state : goal.returns-clause-state
+returns-clause-state = aborted
+
+pub returns-clause-hosts : goal.returns-clause-hosts
+returns-clause-hosts g c =
+    let store = c.args.store.now in
+    let state = ap (λ k. k.state.core) (aborted g c) in
+    subst (λ (s : Core). HoldsWorks (held g.H.HostWork.course c.abort-phase.new.self) s) (sym state)
+    (holds_aborted c.args.self.now.number store.state.core (held_by g.H.HostWork.course store) (held g.H.HostWork.course c.abort-phase.new.self) c.requires.spawned.caller c.abort-phase.ensures.held c.requires.hosts)

@@ -5,7 +5,6 @@ use Rattle.task_machine.specs.declared.scenario.IdleLine.TheVariants as idle_lin
 use Rattle.task_rules.specs.Stalled.{Setting}
 use Rattle.task_store.proofs.HostLemmas.{holds_next}
 use Rattle.task_store.proofs.store.Store.poll_next.Goals as goal
-use Rattle.task_store.specs.Hosts.{held_by}
 use Rattle.host_works.specs.Kept.{held}
 use Rattle.task_words.specs.StateView.{work_of}
 
@@ -26,5 +25,5 @@ returns-clause-hosts g c =
     let store = c.args.self.now in
     let x : Setting = record { component = record { instances = []; hosts = [] }; script = []; idle = idle_line.Wait } in
     let turns = c.poll.ensures.turns x Unscripted refl in
-    holds_next x store.state.core c.poll.new.w.core c.args.polled (work_of store.state c.in-Some.work) c.poll.result.label c.poll.result.turn (held_by g.H.HostWork.course store) (held g.H.HostWork.course c.tell-told.new.self.works)
-    (sym c.in-Some.ensures) (rw c.tell-told.ensures.rest at turns.step) c.tell-told.ensures.told c.requires.hosts
+    holds_next x store.state.core c.poll.new.w.core c.args.polled (work_of store.state c.in-Some.work) c.poll.result.label c.poll.result.turn (held g.H.HostWork.course c.tell-told.new.self.works)
+    (sym c.in-Some.ensures) (rw c.tell-told.ensures.rest at turns.step) c.tell-told.ensures.told

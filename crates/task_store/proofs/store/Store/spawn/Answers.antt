@@ -8,7 +8,7 @@ use Rattle.task_machine.specs.declared.records.WorkCaller.TheVariants as work_ca
 use Rattle.task_store.proofs.HostLemmas.{holds_queued}
 use Rattle.task_store.proofs.SpawnLemmas.{spawned_in}
 use Rattle.task_store.proofs.store.Store.spawn.Goals as goal
-use Rattle.task_store.specs.Hosts.{HoldsWorks, held_by}
+use Rattle.task_store.specs.Hosts.{HoldsWorks, held_by, running}
 
 pub returns-in-Ok-queue_spawn-clause-hosts : goal.returns-in-Ok-queue_spawn-clause-hosts
 returns-in-Ok-queue_spawn-clause-hosts g c numbered h =
@@ -17,12 +17,12 @@ returns-in-Ok-queue_spawn-clause-hosts g c numbered h =
     let d = c.left-left.result in
     let left = held_by g.H.HostWork.course store in
     let right = held g.H.HostWork.course c.keep.new.self in
-    let is : (i : ℕ) → right i ≡ cond (s.made.works + 1 == i) (Some d) (left i) =
-    λ i. c.in-Ok.ensures.ok i ∙ ap₂ (λ k e. cond (k == i) (Some e) (left i)) (ap (λ (m : Made). m.works + 1) c.made-number.ensures) (sym c.left-left.ensures) in
-    subst (λ (u : Core). HoldsWorks right u) (sym c.in-Ok-queue_spawn.ensures.core) (holds_queued work_callers.Spawn d None s left right numbered is h)
+    let is : (i : ℕ) → right i ≡ cond (s.made.works + 1 == i) (running d) (left i) =
+    λ i. c.in-Ok.ensures.ok i ∙ ap₂ (λ k e. cond (k == i) (running e) (left i)) (ap (λ (m : Made). m.works + 1) c.made-number.ensures) (sym c.left-left.ensures) in
+    subst (λ (u : Core). HoldsWorks right u) (sym c.in-Ok-queue_spawn.ensures.1.core) (holds_queued work_callers.Spawn d None s left right is h)
 
 pub returns-in-Ok-queue_spawn-clause-spawned : goal.returns-in-Ok-queue_spawn-clause-spawned
 returns-in-Ok-queue_spawn-clause-spawned g c =
     let s = c.args.self.now.state.core in
     let number = ap (λ (m : Made). m.works + 1) c.made-number.ensures in
-    spawned_in _ s c.left-left.result c.queue_spawn.new.self number (c.in-Ok-queue_spawn.ensures.work ∙ sym number) c.in-Ok-queue_spawn.ensures.core
+    spawned_in _ s c.left-left.result c.queue_spawn.new.self number (c.in-Ok-queue_spawn.ensures.0 ∙ sym number) c.in-Ok-queue_spawn.ensures.1.core

@@ -1,43 +1,76 @@
-use Rattle.std.proofs.Common.{ap, ap₂, subst, sym, ◌∙◌}
-use Rattle.std.specs.Prelude.{Bool, false, is_some, true, ℕ, ◌||◌, ◌≡◌}
+use Rattle.std.proofs.Common.{ap, refl, subst, sym, ◌∙◌}
+use Rattle.std.specs.Prelude.{Bool, None, Some, false, true, ℕ, ◌≡◌, ◌||◌}
 use Rattle.host_works.specs.Kept.{held}
-use Rattle.task_machine.specs.Core.{Core}
 use Rattle.task_machine.specs.Read.{course_of, is_aborted, phase_of}
 use Rattle.task_machine.specs.declared.records.Course.{Course}
 use Rattle.task_machine.specs.declared.words.Phase.{Phase}
-use Rattle.task_store.specs.Hosts.{held_by}
-use Rattle.task_store.specs.Polled.{is_over}
-use Rattle.task_words.specs.StateView.{work_of}
-use Rattle.task_rules.specs.Works.{has_end, poll_of}
-use Rattle.task_store.proofs.HostLemmas.{held_going, tells_answer, tells_over, tells_polled}
+use Rattle.task_ops.specs.Polled.{TellsPoll}
+use Rattle.task_ops.specs.declared.works.Told.TheVariants as told
+use Rattle.task_rules.specs.Works.{Poll, has_end, poll_of, polled_course}
+use Rattle.task_store.proofs.HostLemmas.{aborted_ends, going_held, going_tells, over_held, polled_goes, unaborted_polls, unheld_over, unpolled_over}
 use Rattle.task_store.proofs.store.Store.tell.Goals as goal
+use Rattle.task_store.specs.Hosts.{held_by}
+use Rattle.task_words.specs.StateView.{work_of}
+
+pub returns-then-is_aborted-clause-answer : goal.returns-then-is_aborted-clause-answer
+returns-then-is_aborted-clause-answer g c =
+    let s = c.args.self.now.state.core in
+    let n = work_of c.args.self.now.state c.args.work in
+    let left = held_by g.H.HostWork.course c.args.self.now in
+    let asked = ap is_aborted (sym c.phase.ensures) ∙ (sym c.is_aborted.ensures ∙ c.if-is_aborted.true) in
+    subst (λ (p : Poll). TellsPoll (told.Ends None) p) (sym (aborted_ends n s left left c.requires.hosts asked)) refl
+
+pub returns-then-is_aborted-clause-told : goal.returns-then-is_aborted-clause-told
+returns-then-is_aborted-clause-told g c =
+    let s = c.args.self.now.state.core in
+    let n = work_of c.args.self.now.state c.args.work in
+    let asked = ap is_aborted (sym c.phase.ensures) ∙ (sym c.is_aborted.ensures ∙ c.if-is_aborted.true) in
+    over_held n s (held_by g.H.HostWork.course c.args.self.now) (held g.H.HostWork.course c.let_go.new.self) c.requires.hosts
+    (ap (λ (b : Bool). b || has_end (course_of n s)) asked) (rw c.requires.number at c.let_go.ensures)
 
 pub returns-in-Some-clause-answer : goal.returns-in-Some-clause-answer
-unfolding poll_of
-returns-in-Some-clause-answer g c = rw (c.phase.ensures, c.course.ensures) at (rw c.in-Some.is at c.untold.ensures.told)
-
--- what the work is, by what was read of it
-over : (p : Phase) (c : Course) (i : ℕ) (s : Core) (b : Bool) → p ≡ phase_of i s → c ≡ course_of i s → b ≡ (is_aborted p || has_end c) → is_over i s ≡ b
-over p c i s b phase course is = ap₂ (λ (p : Phase) (c : Course). is_aborted p || has_end c) (sym phase) (sym course) ∙ sym is
+returns-in-Some-clause-answer g c =
+    let s = c.args.self.now.state.core in
+    let n = work_of c.args.self.now.state c.args.work in
+    let left = held_by g.H.HostWork.course c.args.self.now in
+    let unasked = ap is_aborted (sym c.phase.ensures) ∙ (sym c.is_aborted.ensures ∙ c.if-is_aborted.false) in
+    let is = sym c.in-Some.is ∙ (rw c.requires.number at c.poll.ensures.answer) in
+    rw c.told_of.ensures
+    (going_tells n s left left c.requires.hosts (polled_goes n s left left c.requires.hosts unasked c.in-Some.answer is) c.in-Some.answer is)
 
 pub returns-in-Some-clause-told : goal.returns-in-Some-clause-told
 returns-in-Some-clause-told g c =
     let s = c.args.self.now.state.core in
     let n = work_of c.args.self.now.state c.args.work in
-    tells_over n s (held_by g.H.HostWork.course c.args.self.now) (held g.H.HostWork.course c.let_go.new.self)
-    (over c.phase.result c.course.result n s true c.phase.ensures c.course.ensures c.in-Some.ensures.is) (rw c.requires.number at c.let_go.ensures)
+    let left = held_by g.H.HostWork.course c.args.self.now in
+    let unasked = ap is_aborted (sym c.phase.ensures) ∙ (sym c.is_aborted.ensures ∙ c.if-is_aborted.false) in
+    let is = sym c.in-Some.is ∙ (rw c.requires.number at c.poll.ensures.answer) in
+    going_held n s left (held g.H.HostWork.course c.poll.new.self) c.requires.hosts
+    (polled_goes n s left left c.requires.hosts unasked c.in-Some.answer is) (rw c.requires.number at c.poll.ensures.left)
 
-pub returns-clause-answer : goal.returns-clause-answer
-returns-clause-answer g c =
+pub told_at_end-requires : goal.told_at_end-requires
+told_at_end-requires g c =
     let s = c.args.self.now.state.core in
     let n = work_of c.args.self.now.state c.args.work in
-    rw c.told_of.ensures
-    (tells_answer n s (held_by g.H.HostWork.course c.args.self.now) c.poll.result
-    (over c.phase.result c.course.result n s false c.phase.ensures c.course.ensures c.in_default.ensures.is) c.requires.hosts (rw c.requires.number at c.poll.ensures.answer))
+    let left = held_by g.H.HostWork.course c.args.self.now in
+    let unasked = ap is_aborted (sym c.phase.ensures) ∙ (sym c.is_aborted.ensures ∙ c.if-is_aborted.false) in
+    let none = sym c.in-None.is ∙ (rw c.requires.number at c.poll.ensures.answer) in
+    ap has_end c.course.ensures ∙ unpolled_over n s left left c.requires.hosts unasked none
 
-pub returns-clause-told : goal.returns-clause-told
-returns-clause-told g c =
+pub returns-in-None-clause-answer : goal.returns-in-None-clause-answer
+returns-in-None-clause-answer g c =
     let s = c.args.self.now.state.core in
     let n = work_of c.args.self.now.state c.args.work in
-    tells_polled n s (held_by g.H.HostWork.course c.args.self.now) (held g.H.HostWork.course c.poll.new.self)
-    (over c.phase.result c.course.result n s false c.phase.ensures c.course.ensures c.in_default.ensures.is) c.requires.hosts (rw c.requires.number at c.poll.ensures.left)
+    let left = held_by g.H.HostWork.course c.args.self.now in
+    let unasked = ap is_aborted (sym c.phase.ensures) ∙ (sym c.is_aborted.ensures ∙ c.if-is_aborted.false) in
+    subst (λ (p : Poll). TellsPoll c.told_at_end.result p) (sym (unaborted_polls n s left left c.requires.hosts unasked))
+    (subst (λ (q : Course). TellsPoll c.told_at_end.result (polled_course q)) c.course.ensures c.told_at_end.ensures)
+
+pub returns-in-None-clause-told : goal.returns-in-None-clause-told
+returns-in-None-clause-told g c =
+    let s = c.args.self.now.state.core in
+    let n = work_of c.args.self.now.state c.args.work in
+    let left = held_by g.H.HostWork.course c.args.self.now in
+    let unasked = ap is_aborted (sym c.phase.ensures) ∙ (sym c.is_aborted.ensures ∙ c.if-is_aborted.false) in
+    let none = sym c.in-None.is ∙ (rw c.requires.number at c.poll.ensures.answer) in
+    unheld_over n s left (held g.H.HostWork.course c.poll.new.self) c.requires.hosts unasked none (rw c.requires.number at c.poll.ensures.left)

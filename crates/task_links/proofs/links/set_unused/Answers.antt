@@ -1,7 +1,8 @@
+use Rattle.task_links.specs.Rings.{cell_role}
 use Rattle.std.proofs.Common.{refl}
 use Rattle.std.proofs.lemmas.List.{map-set}
 use Rattle.task_links.proofs.Cells.{part_kept}
-use Rattle.task_links.proofs.links.set_role.Goals as goal
+use Rattle.task_links.proofs.links.set_unused.Goals as goal
 
 pub returns-clause-next : goal.returns-clause-next
 returns-clause-next g c = part_kept c.args.cells.now.items c.args.index c.index_mut.result.now c.requires c.index_mut.ensures.value (λ cell. cell.next) _ refl
@@ -10,4 +11,4 @@ pub returns-clause-previous : goal.returns-clause-previous
 returns-clause-previous g c = part_kept c.args.cells.now.items c.args.index c.index_mut.result.now c.requires c.index_mut.ensures.value (λ cell. cell.previous) _ refl
 
 pub returns-clause-roles : goal.returns-clause-roles
-returns-clause-roles g c = map-set (λ cell. cell.role) c.args.cells.now.items c.args.index _
+returns-clause-roles g c = map-set cell_role c.args.cells.now.items c.args.index _

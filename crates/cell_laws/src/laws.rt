@@ -1,0 +1,28 @@
+//! The law of the cells of host works, the contract of a function.
+ghost use Rattle.cell_laws.specs.Cells.{CellsStay, CellsStayInside, WorksStayRunning, WorksStayTaken};
+
+/// At each turn but that of futures the cell of each work that was made before keeps its phase, but for one that main
+/// aborts. So a store whose works are in their cells has only to tell a cell of an abort by main, and of the polls.
+#[tactic(auto, using(crate::proofs::CellLemmas::cells_stay))]
+pub fn cells_stay()
+    ensures { CellsStay }
+{}
+
+/// Where a thread runs, or an entry is taken, that is so whatever main is.
+#[tactic(auto, using(crate::proofs::CellLemmas::cells_stay_inside))]
+pub fn cells_stay_inside()
+    ensures { CellsStayInside }
+{}
+
+/// Where a thread runs, each work is as it was, or had ended and is gone, and one that is new is a guest's call: so a
+/// store that holds just the works that haven't ended, in their cells, has only to hold what is made.
+#[tactic(auto, using(crate::proofs::StayLemmas::works_stay_running))]
+pub fn works_stay_running()
+    ensures { WorksStayRunning }
+{}
+
+/// The same where an entry is taken.
+#[tactic(auto, using(crate::proofs::StayLemmas::works_stay_taken))]
+pub fn works_stay_taken()
+    ensures { WorksStayTaken }
+{}

@@ -1,0 +1,6 @@
+//! Which steps leave the phase that the cell of a host work has.
+#![tactic(auto)]
+
+mod laws;
+
+pub use laws::{cells_stay, cells_stay_inside, works_stay_running, works_stay_taken};

@@ -1,0 +1,94 @@
+//! A work that a store holds, with the ends of its cell and the store's pass.
+ghost use Rattle.std.specs.Prelude.{◌≡◌};
+ghost use Rattle.task_abort.specs.Cells.{handle_cell, pass_cell, view_of, work_cell};
+ghost use Rattle.task_abort.specs.PhaseLog.{IsFirst};
+
+use crate::work::{AccessorTask, HostPoll};
+use futures::task::Poll;
+use std::alloc::Global;
+use task_abort::{Abortable, JoinHandle, JoinPass};
+use task_machine::{NoMemory, Phase};
+
+/// A work that a store holds, with both ends of its cell. The store's pass is the cell's first, and is never split, so
+/// that each call on it answers the phase that the calls before have left.
+#[derive(Drop)]
+pub struct JoinedWork<H> {
+    pub(crate) work: Abortable<H>,
+    pub(crate) handle: JoinHandle,
+    pub(crate) pass: JoinPass,
+    ghost own: { pass_cell pass ≡ work_cell work },
+    ghost shared: { pass_cell pass ≡ handle_cell handle },
+    ghost first: { IsFirst (view_of pass) },
+}
+
+impl<H: Drop> JoinedWork<H> {
+    ghost use Rattle.std.specs.Prelude.{IfOk};
+    ghost use Rattle.host_works.specs.Joined.{joined_phase, joined_work};
+    ghost use Rattle.task_machine.specs.declared.words.Phase.TheVariants as phases;
+
+    /// A cell for the work, in phase `Running`.
+    pub fn new(alloc: Global, work: H) -> Result<JoinedWork<H>, NoMemory>
+        ensures work { IfOk result (λ joined. joined_work joined ≡ work) }
+        ensures phase { IfOk result (λ joined. joined_phase joined ≡ phases.Running) }
+    {
+        match JoinHandle::run(alloc, work) {
+            Ok((handle, work, pass)) => Ok(JoinedWork { work, handle, pass }),
+            Err(_) => Err(NoMemory),
+        }
+    }
+
+    /// The work is over: its phase is `Complete`, and it is let go. Answers the phase before.
+    pub fn finish(self) -> Phase
+        ensures { result ≡ joined_phase self }
+    {
+        let JoinedWork {
+            work,
+            handle: _,
+            mut pass,
+        } = self;
+        work.finish(&mut pass)
+    }
+}
+
+impl<H> JoinedWork<H> {
+    ghost use Rattle.std.specs.Prelude.{◌↔◌, ◌≢◌, IfNone, IfSome};
+    ghost use Rattle.host_works.specs.Course.{one_fewer, told};
+    ghost use Rattle.host_works.specs.Joined.{joined_phase, joined_work};
+    ghost use Rattle.task_abort.specs.PhaseLog.{after};
+    ghost use Rattle.task_abort.specs.declared.log.PhaseCall.TheVariants.{Abort};
+    ghost use Rattle.task_machine.specs.declared.words.Phase.TheVariants as phases;
+
+    /// Asks that the work end, and answers the phase that it found.
+    pub fn abort(&mut self) -> Phase
+        ensures found { result ≡ joined_phase self.old }
+        ensures phase { joined_phase self.new ≡ after Abort (joined_phase self.old) }
+        ensures work { joined_work self.new ≡ joined_work self.old }
+    {
+        self.handle.abort(&mut self.pass)
+    }
+
+    /// Ready exactly where the work is over.
+    pub fn poll_handle(&mut self) -> Poll<()>
+        ensures answer { (result ≡ Poll.Ready tt) ↔ (joined_phase self.old ≡ phases.Complete) }
+        ensures phase { joined_phase self.new ≡ joined_phase self.old }
+        ensures work { joined_work self.new ≡ joined_work self.old }
+    {
+        self.handle.poll_handle(&mut self.pass)
+    }
+
+    /// Polls the work where its phase is `Running`; else it isn't polled.
+    pub fn poll<T>(&mut self, host: &mut T) -> Option<HostPoll>
+    where
+        H: AccessorTask<T>,
+        ensures none { IfNone result ((joined_phase self.old ≢ phases.Running) × (joined_work self.new ≡ joined_work self.old)) }
+        ensures runs { IfSome result (λ answer. joined_phase self.old ≡ phases.Running) }
+        ensures answer { IfSome result (λ answer. answer ≡ told (H.course (joined_work self.old))) }
+        ensures left { IfSome result (λ answer. H.course (joined_work self.new) ≡ one_fewer (H.course (joined_work self.old))) }
+        ensures phase { joined_phase self.new ≡ joined_phase self.old }
+    {
+        match self.work.running(&mut self.pass) {
+            Some(work) => Some(work.poll(host)),
+            None => None,
+        }
+    }
+}

@@ -1,0 +1,14 @@
+-- The groups after the call are those of the core.
+use Rattle.std.proofs.Common.{length, subst, sym, ◌≡◌}
+use Rattle.std.specs.Prelude.{List, ℕ}
+use Rattle.group_notices.specs.Mirror.{Leads, Mirrors}
+use Rattle.task_loop.proofs.CallTellLemmas.{unhooked_ok}
+use Rattle.task_loop.proofs.call_tells.tell_call.Goals as goal
+
+pub returns-clause-mirrors : goal.returns-clause-mirrors
+returns-clause-mirrors c none gs mirror leads =
+    let t = c.args.core.now in
+    let q = c.tell_step-told.ensures in
+    let new = c.tell_step-told.new.groups in
+    let mirrored = unhooked_ok ((ks hs : List ℕ) → Mirrors ks c.args.groups.now → Leads c.args.asked.now c.groups.result ks hs → Mirrors hs new) c.tell_step-told.result c.args.groups.now.listeners new.listeners none q.hook q.failed q.mirrors in
+    mirrored gs t.core.groups mirror (subst (λ (k : ℕ). Leads c.args.asked.now k gs t.core.groups) (sym c.groups.ensures) leads)

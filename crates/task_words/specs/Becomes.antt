@@ -1,0 +1,41 @@
+-- What a word that makes or removes something comes to.
+use Rattle.std.specs.Prelude.{Err, Ok, Result, ℕ, ◌≡◌}
+use Rattle.task_table.specs.declared.id.TableId.{TableId}
+use Rattle.task_wait.specs.declared.keys.GuestTaskKey.{GuestTaskKey}
+use Rattle.task_wait.specs.declared.keys.HostTaskKey.{HostTaskKey}
+use Rattle.task_wait.specs.declared.keys.SetKey.{SetKey}
+use Rattle.task_wait.specs.declared.keys.ThreadKey.{ThreadKey}
+use Rattle.task_machine.specs.Core.{Core}
+use Rattle.task_words.specs.StateView.{Keeps, KeepsBut, Lost, StateView, Tags, call_of, set_of, thread_of, work_of}
+
+-- The core is this, the same thread runs, and the names of before are kept so.
+pub record Turns (AreKept : Tags → Tags → Type 0) (c : Core) (s t : StateView) : Type 0 where
+  pub core : t.core ≡ c
+  pub current : t.current ≡ s.current
+  pub tags : AreKept s.tags t.tags
+
+-- The core is this, the same thread runs, and each id names what it named.
+abbrev pub Becomes : Core → StateView → StateView → Type 0
+Becomes = Turns Keeps
+
+-- The same, but for what is lost.
+abbrev pub BecomesBut : Lost → Core → StateView → StateView → Type 0
+BecomesBut lost = Turns (KeepsBut lost)
+
+-- Something is made whose ids are named so, and the core is this; or memory is wanting, and all is as before.
+abbrev pub Makes : {A E : Type 0} → (A → StateView → Type 0) → Core → StateView → Result A E → StateView → Type 0
+Makes IsNamed c s (Ok ids) t = IsNamed ids t × Becomes c s t
+Makes IsNamed c s (Err _) t = t ≡ s
+
+-- The ids of a call and of its first thread, which have one number.
+abbrev pub names_call : ℕ → TableId ThreadKey × TableId GuestTaskKey → StateView → Type 0
+names_call n ids t = (thread_of t ids.0 ≡ n) × (call_of t ids.1 ≡ n)
+
+abbrev pub names_thread : ℕ → TableId ThreadKey → StateView → Type 0
+names_thread n id t = thread_of t id ≡ n
+
+abbrev pub names_set : ℕ → TableId SetKey → StateView → Type 0
+names_set x id t = set_of t id ≡ x
+
+abbrev pub names_work : ℕ → TableId HostTaskKey → StateView → Type 0
+names_work i id t = work_of t id ≡ i
