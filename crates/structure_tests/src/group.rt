@@ -51,6 +51,12 @@ impl Recorder<'_> {
 impl TaskGroupHook for Recorder<'_> {
     ghost heard = { λ r. record { told = None; errors = r.errors } };
 
+    ghost listens = { true };
+
+    fn listens() -> bool {
+        true
+    }
+
     fn handle_start(&mut self, id: TaskGroupId) -> Result<(), HookError> {
         self.answer(NoticeKind::Start, id)
     }

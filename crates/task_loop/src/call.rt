@@ -1,4 +1,4 @@
-ghost use Rattle.std.specs.Prelude.{◌≡◌, ◌+◌, ◌<◌, ◌^◌, IfOk, IfSome, IsSome, None, OnErr, OnOk, [], ◌∷◌, false, is_some, length};
+ghost use Rattle.std.specs.Prelude.{◌≡◌, ◌+◌, ◌<◌, ◌^◌, Err, IfOk, IfSome, IsSome, None, OnErr, OnOk, [], ◌∷◌, false, is_some, length};
 ghost use Rattle.task_calls.specs.Calls.{Finishes, Starts};
 ghost use Rattle.task_calls.specs.Untrapped.{StartsUntrapped};
 ghost use Rattle.task_loop.specs.Calls.{callee_of, number_of_start};
@@ -7,7 +7,10 @@ ghost use Rattle.task_rules.specs.MainOps.{start_refusal};
 ghost use Rattle.task_rules.specs.Scripts.{export_at};
 ghost use Rattle.task_machine.specs.declared.component.HostDef.{HostDef};
 ghost use Rattle.task_group.specs.Groups.{finish_all, numbered};
-ghost use Rattle.task_group.specs.Listeners.{Told};
+ghost use Rattle.task_group.specs.Listeners.{AnsweredErr, Told};
+ghost use Rattle.task_loop.specs.Hooked.{Unfailed};
+ghost use Rattle.task_machine.specs.Write.{set_trapped};
+ghost use Rattle.task_words.specs.StateView.{on_core};
 ghost use Rattle.task_machine.specs.declared.records.NoticeKind.{NoticeKind};
 ghost use Rattle.task_rules.specs.Notices.{told_of};
 ghost use Rattle.task_store.specs.Groups.{HoldsGroups};
@@ -18,8 +21,8 @@ ghost use Rattle.task_turns.specs.Turn.{Sits, given};
 use crate::instance::Instance;
 use futures::task::Poll;
 use task_calls::{TaskError, finish_call, start_refusal, start_untrapped};
-use task_group::TaskGroupId;
-use task_machine::{Callee, Component};
+use task_group::{TaskGroupHook, TaskGroupId};
+use task_machine::{Callee, Component, Trap};
 use task_store::Store;
 use task_turns::export_def;
 use task_words::ResultWords;
@@ -79,10 +82,10 @@ impl Func {
     /// runs when a run on the store takes it. Refused with trap 20 exactly where the store is
     /// trapped, and else with trap 18 exactly where its four entries don't fit into the table. Where
     /// it is refused, or memory is wanting, nothing is made, and the store is trapped.
-    pub fn start_call_concurrent<T, H>(
+    pub fn start_call_concurrent<T, H, G: TaskGroupHook>(
         self,
         component: &Component,
-        store: &mut Store<T, H>,
+        store: &mut Store<T, H, G>,
         params: &[u64],
     ) -> Result<FuncCallConcurrent, TaskError>
         requires covered { IsWellFormed component.now }
@@ -90,15 +93,16 @@ impl Func {
         requires params { IfSome (export_at component.now (callee_of self)) (λ e. length params.now ≡ e.params) }
         requires order { (p : Turn) × Sits component.now p store.old.state.core }
         requires given { given store.old.state.core < 2 ^ 61 }
-        ensures starts { Starts component.now (callee_of self) params.now store.old.state (start_refusal store.old.state.core) (number_of_start result) store.new.state }
+        ensures starts { Unfailed result (Starts component.now (callee_of self) params.now store.old.state (start_refusal store.old.state.core) (number_of_start result) store.new.state) }
+        ensures hooked { result ≡ Err (TaskError.Trap Trap.HookFailed) → (store.new.state ≡ on_core set_trapped store.old.state) × AnsweredErr store.old.groups.listeners store.new.groups.listeners }
         ensures group { IfOk result (λ call. call.group ≡ store.old.state.core.made.groups + 1) }
         ensures order { (p : Turn) → Sits component.now p store.old.state.core → Sits component.now p store.new.state.core }
         ensures hosts { (course : H → HostDef) → HoldsHosts course store.old → HoldsHosts course store.new }
         ensures groups { HoldsGroups store.old.groups store.old.state.core → HoldsGroups store.new.groups store.new.state.core }
         ensures told { HoldsGroups store.old.groups store.old.state.core → IfOk result (λ call. Told (told_of NoticeKind.Start call.group ∷ []) store.old.groups.listeners store.new.groups.listeners) }
         ensures counted { is_some store.old.groups.listeners.hook ≡ false → OnOk result (store.new.groups.made ≡ numbered store.old.groups.made (store.old.state.core.made.groups + 1)) }
-        ensures refused { OnErr result (Told (finish_all store.old.groups.live) store.old.groups.listeners store.new.groups.listeners) }
-        ensures made { OnErr result (store.new.groups.made ≡ store.old.groups.made) }
+        ensures refused { is_some store.old.groups.listeners.hook ≡ false → OnErr result (Told (finish_all store.old.groups.live) store.old.groups.listeners store.new.groups.listeners) }
+        ensures made { is_some store.old.groups.listeners.hook ≡ false → OnErr result (store.new.groups.made ≡ store.old.groups.made) }
         ensures rest { store.new ≡ record store.old { state = store.new.state; groups = store.new.groups } }
     {
         match self.start_untrapped(component, store, params) {
@@ -113,10 +117,10 @@ impl Func {
     /// Starts a call by the host as `start_call_concurrent` does, but traps nothing: refused with trap 20
     /// exactly where the store is trapped, and else with trap 18 exactly where its four entries don't
     /// fit into the table. Where it is refused, or memory is wanting, all is as before.
-    pub fn start_untrapped<T, H>(
+    pub fn start_untrapped<T, H, G: TaskGroupHook>(
         self,
         component: &Component,
-        store: &mut Store<T, H>,
+        store: &mut Store<T, H, G>,
         params: &[u64],
     ) -> Result<FuncCallConcurrent, TaskError>
         requires covered { IsWellFormed component.now }
@@ -124,7 +128,8 @@ impl Func {
         requires params { IfSome (export_at component.now (callee_of self)) (λ e. length params.now ≡ e.params) }
         requires order { (p : Turn) × Sits component.now p store.old.state.core }
         requires given { given store.old.state.core < 2 ^ 61 }
-        ensures starts { StartsUntrapped component.now (callee_of self) params.now store.old.state (start_refusal store.old.state.core) (number_of_start result) store.new.state }
+        ensures starts { Unfailed result (StartsUntrapped component.now (callee_of self) params.now store.old.state (start_refusal store.old.state.core) (number_of_start result) store.new.state) }
+        ensures hooked { result ≡ Err (TaskError.Trap Trap.HookFailed) → (store.new.state ≡ store.old.state) × AnsweredErr store.old.groups.listeners store.new.groups.listeners }
         ensures group { IfOk result (λ call. call.group ≡ store.old.state.core.made.groups + 1) }
         ensures order { (p : Turn) → Sits component.now p store.old.state.core → Sits component.now p store.new.state.core }
         ensures hosts { (course : H → HostDef) → HoldsHosts course store.old → HoldsHosts course store.new }
@@ -132,7 +137,8 @@ impl Func {
         ensures told { HoldsGroups store.old.groups store.old.state.core → IfOk result (λ call. Told (told_of NoticeKind.Start call.group ∷ []) store.old.groups.listeners store.new.groups.listeners) }
         ensures rest { store.new ≡ record store.old { state = store.new.state; groups = store.new.groups } }
         ensures counted { is_some store.old.groups.listeners.hook ≡ false → OnOk result (store.new.groups.made ≡ numbered store.old.groups.made (store.old.state.core.made.groups + 1)) }
-        ensures refused { OnErr result (store.new.groups ≡ store.old.groups) }
+        ensures refused { is_some store.old.groups.listeners.hook ≡ false → OnErr result (store.new.groups ≡ store.old.groups) }
+        ensures live { OnErr result (store.new.groups.live ≡ store.old.groups.live) }
     {
         match start_refusal(&store.state) {
             Some(trap) => Err(TaskError::Trap(trap)),
@@ -141,10 +147,10 @@ impl Func {
     }
 
     // The same where it isn't refused. The group is prepared first, so that it can be taken back unseen.
-    fn start_fitting<T, H>(
+    fn start_fitting<T, H, G: TaskGroupHook>(
         self,
         component: &Component,
-        store: &mut Store<T, H>,
+        store: &mut Store<T, H, G>,
         params: &[u64],
     ) -> Result<FuncCallConcurrent, TaskError>
         requires covered { IsWellFormed component.now }
@@ -153,7 +159,8 @@ impl Func {
         requires order { (p : Turn) × Sits component.now p store.old.state.core }
         requires fits { start_refusal store.old.state.core ≡ None }
         requires given { given store.old.state.core < 2 ^ 61 }
-        ensures starts { StartsUntrapped component.now (callee_of self) params.now store.old.state (start_refusal store.old.state.core) (number_of_start result) store.new.state }
+        ensures starts { Unfailed result (StartsUntrapped component.now (callee_of self) params.now store.old.state (start_refusal store.old.state.core) (number_of_start result) store.new.state) }
+        ensures hooked { result ≡ Err (TaskError.Trap Trap.HookFailed) → (store.new.state ≡ store.old.state) × AnsweredErr store.old.groups.listeners store.new.groups.listeners }
         ensures group { IfOk result (λ call. call.group ≡ store.old.state.core.made.groups + 1) }
         ensures order { (p : Turn) → Sits component.now p store.old.state.core → Sits component.now p store.new.state.core }
         ensures hosts { (course : H → HostDef) → HoldsHosts course store.old → HoldsHosts course store.new }
@@ -161,8 +168,12 @@ impl Func {
         ensures told { HoldsGroups store.old.groups store.old.state.core → IfOk result (λ call. Told (told_of NoticeKind.Start call.group ∷ []) store.old.groups.listeners store.new.groups.listeners) }
         ensures rest { store.new ≡ record store.old { state = store.new.state; groups = store.new.groups } }
         ensures counted { is_some store.old.groups.listeners.hook ≡ false → OnOk result (store.new.groups.made ≡ numbered store.old.groups.made (store.old.state.core.made.groups + 1)) }
-        ensures refused { OnErr result (store.new.groups ≡ store.old.groups) }
+        ensures refused { is_some store.old.groups.listeners.hook ≡ false → OnErr result (store.new.groups ≡ store.old.groups) }
+        ensures live { OnErr result (store.new.groups.live ≡ store.old.groups.live) }
     {
+        if store.groups.is_hooked() {
+            return self.start_hooked(component, store, params);
+        }
         let group = store.state.made().groups + 1;
         let made = store.groups.made();
         let Ok(()) = store.groups.prepare(group) else {
@@ -180,11 +191,52 @@ impl Func {
         }
     }
 
+    // The same where a hook is told. It is told of the group before the call is made, as it may refuse it. Where memory is
+    // wanting then, the group is finished at once.
+    fn start_hooked<T, H, G: TaskGroupHook>(
+        self,
+        component: &Component,
+        store: &mut Store<T, H, G>,
+        params: &[u64],
+    ) -> Result<FuncCallConcurrent, TaskError>
+        requires covered { IsWellFormed component.now }
+        requires there { IsSome (export_at component.now (callee_of self)) }
+        requires params { IfSome (export_at component.now (callee_of self)) (λ e. length params.now ≡ e.params) }
+        requires order { (p : Turn) × Sits component.now p store.old.state.core }
+        requires fits { start_refusal store.old.state.core ≡ None }
+        requires given { given store.old.state.core < 2 ^ 61 }
+        ensures starts { Unfailed result (StartsUntrapped component.now (callee_of self) params.now store.old.state (start_refusal store.old.state.core) (number_of_start result) store.new.state) }
+        ensures hooked { result ≡ Err (TaskError.Trap Trap.HookFailed) → (store.new.state ≡ store.old.state) × AnsweredErr store.old.groups.listeners store.new.groups.listeners }
+        ensures group { IfOk result (λ call. call.group ≡ store.old.state.core.made.groups + 1) }
+        ensures order { (p : Turn) → Sits component.now p store.old.state.core → Sits component.now p store.new.state.core }
+        ensures hosts { (course : H → HostDef) → HoldsHosts course store.old → HoldsHosts course store.new }
+        ensures groups { HoldsGroups store.old.groups store.old.state.core → HoldsGroups store.new.groups store.new.state.core }
+        ensures told { HoldsGroups store.old.groups store.old.state.core → IfOk result (λ call. Told (told_of NoticeKind.Start call.group ∷ []) store.old.groups.listeners store.new.groups.listeners) }
+        ensures rest { store.new ≡ record store.old { state = store.new.state; groups = store.new.groups } }
+        ensures refused { OnErr result (store.new.groups.live ≡ store.old.groups.live) }
+    {
+        let group = store.state.made().groups + 1;
+        let _made = store.groups.made();
+        let Ok(()) = store.groups.prepare(group) else {
+            return Err(TaskError::NoMemory);
+        };
+        if store.groups.announce().is_err() {
+            return Err(TaskError::Trap(Trap::HookFailed));
+        }
+        match start_untrapped(&mut store.state, component, self.callee(), params) {
+            Ok(thread) => Ok(FuncCallConcurrent { thread, group }),
+            Err(e) => {
+                let _finished = store.groups.decrement(TaskGroupId { number: group });
+                Err(e)
+            }
+        }
+    }
+
     /// The result of a call that has returned; pending where it hasn't, and then nothing is
     /// changed. A call is finished once.
-    pub fn finish_call_concurrent<T, H>(
+    pub fn finish_call_concurrent<T, H, G: TaskGroupHook>(
         self,
-        store: &mut Store<T, H>,
+        store: &mut Store<T, H, G>,
         call: &mut FuncCallConcurrent,
     ) -> Poll<u64>
         ensures finishes { Finishes call.old.thread store.old.state result store.new.state }

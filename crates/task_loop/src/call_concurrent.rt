@@ -15,6 +15,7 @@ use crate::call::{Func, FuncCallConcurrent};
 use futures::task::Poll;
 use std::alloc::Global;
 use task_calls::TaskError;
+use task_group::TaskGroupHook;
 use task_machine::{Component, NoMemory};
 use task_store::Store;
 
@@ -55,9 +56,9 @@ impl Func {
 }
 
 // The result of a call that was started.
-fn finish<T, H>(
+fn finish<T, H, G: TaskGroupHook>(
     func: Func,
-    store: &mut Store<T, H>,
+    store: &mut Store<T, H, G>,
     call: &mut FuncCallConcurrent,
 ) -> Poll<Result<u64, TaskError>>
     ensures finishes { FinishesWith call.old.thread store.old.state result store.new.state }
@@ -77,10 +78,10 @@ impl CallConcurrent {
     /// Starts the call at the first poll, as `Func::start_call_concurrent` does, with its refusals, and
     /// then finishes it: ready with the result where it has returned, and else pending. It isn't polled
     /// again once it was ready.
-    pub fn poll<T, H>(
+    pub fn poll<T, H, G: TaskGroupHook>(
         &mut self,
         component: &Component,
-        store: &mut Store<T, H>,
+        store: &mut Store<T, H, G>,
     ) -> Poll<Result<u64, TaskError>>
         requires covered { IsWellFormed component.now }
         requires there { IsSome (export_at component.now (callee_of self.old.func)) }

@@ -12,8 +12,9 @@ use group_notices::{Asked, tell_step};
 use group_stakes::stake_of;
 use op_dispatch::{op_at, script_ops};
 use record_core::TaskCore;
-use task_group::Groups;
-use task_machine::{Component, Op};
+use task_calls::TaskError;
+use task_group::{Groups, TaskGroupHook};
+use task_machine::{Component, Op, Trap};
 use task_words::{ThreadWords, View};
 
 /// What is asked before a call that may finish the group of the thread that runs, and no other.
@@ -62,12 +63,19 @@ pub(crate) fn asked_here(component: &Component, core: &TaskCore) -> Asked
 
 /// Tells the groups of a store what a call gave, before which this was asked, as the loop tells them what a step gives. It takes
 /// time that grows with the logarithm of the number of live groups.
-pub(crate) fn tell_call(core: &TaskCore, groups: &mut Groups, asked: &Asked)
+pub(crate) fn tell_call<G: TaskGroupHook>(
+    core: &TaskCore,
+    groups: &mut Groups<G>,
+    asked: &Asked,
+) -> Result<(), TaskError>
     ensures told { is_some groups.old.listeners.hook ≡ false → (gs : List ℕ) → Mirrors gs groups.old → Leads asked.now (length core.now.core.groups) gs core.now.core.groups → Told (told_by asked.now (current_group core.now) gs core.now.core.groups) groups.old.listeners groups.new.listeners }
     ensures mirrors { is_some groups.old.listeners.hook ≡ false → (gs : List ℕ) → Mirrors gs groups.old → Leads asked.now (length core.now.core.groups) gs core.now.core.groups → Mirrors core.now.core.groups groups.new }
     ensures made { groups.new.made ≡ groups.old.made }
     ensures hook { is_some groups.new.listeners.hook ≡ is_some groups.old.listeners.hook }
 {
     let running = group_now(core);
-    let _told = tell_step(groups, asked, running, core.groups());
+    match tell_step(groups, asked, running, core.groups()) {
+        Ok(()) => Ok(()),
+        Err(_) => Err(TaskError::Trap(Trap::HookFailed)),
+    }
 }

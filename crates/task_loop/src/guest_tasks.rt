@@ -24,14 +24,14 @@ use group_notices::Asked;
 use record_core::TaskCore;
 use state_calls::CurrentThread;
 use task_calls::{QualifiedThreadId, TaskError};
-use task_group::Groups;
+use task_group::{Groups, TaskGroupHook};
 use task_machine::{ExportKind, Trap};
 use task_store::Store;
 use task_words::{ResultWords, ThreadWords, View};
 
 // Makes a call in a new group, which is prepared first, so that it can be taken back unseen.
-fn make_with_group<T, H>(
-    store: &mut Store<T, H>,
+fn make_with_group<T, H, G: TaskGroupHook>(
+    store: &mut Store<T, H, G>,
     kind: ExportKind,
     instance: u32,
 ) -> Result<QualifiedThreadId, TaskError>
@@ -54,7 +54,10 @@ fn make_with_group<T, H>(
     };
     match task_calls::new_guest_task(&mut store.state, kind, instance, None) {
         Ok(id) => {
-            let _told = store.groups.announce();
+            if store.groups.announce().is_err() {
+                // TODO: the call was made by then; with a hook the group is to be told first (start_hooked of call.rt).
+                return Err(TaskError::Trap(Trap::HookFailed));
+            }
             Ok(id)
         }
         Err(e) => {
@@ -65,8 +68,8 @@ fn make_with_group<T, H>(
 }
 
 // Makes a call, in the group of its caller's call or in a new one.
-fn make<T, H>(
-    store: &mut Store<T, H>,
+fn make<T, H, G: TaskGroupHook>(
+    store: &mut Store<T, H, G>,
     kind: ExportKind,
     instance: u32,
     caller: Option<QualifiedThreadId>,
@@ -88,7 +91,7 @@ fn make<T, H>(
 }
 
 // In a trapped store all groups are finished.
-fn settle(core: &TaskCore, groups: &mut Groups)
+fn settle<G: TaskGroupHook>(core: &TaskCore, groups: &mut Groups<G>)
     ensures open { core.now.core.trapped ≡ false → groups.new ≡ groups.old }
     ensures live { core.now.core.trapped ≡ true → (groups.new.live ≡ finite.empty) × (groups.new.made ≡ groups.old.made) }
     ensures told { core.now.core.trapped ≡ true → Told (finish_all groups.old.live) groups.old.listeners groups.new.listeners }
@@ -102,8 +105,8 @@ fn settle(core: &TaskCore, groups: &mut Groups)
 /// store's state does. It is of the group of the caller's call, or of a new one where it has no caller, which the groups are
 /// told. Refused with trap 18 exactly where its entries, 3 or 4 with the group, don't fit into the table; then, and where
 /// memory is wanting, nothing is changed and nothing is told. In a trapped store all groups are finished at once.
-pub fn new_guest_task<T, H>(
-    store: &mut Store<T, H>,
+pub fn new_guest_task<T, H, G: TaskGroupHook>(
+    store: &mut Store<T, H, G>,
     kind: ExportKind,
     instance: u32,
     caller: Option<QualifiedThreadId>,
@@ -129,8 +132,8 @@ pub fn new_guest_task<T, H>(
 
 /// Another thread runs from now on, or none, and the thread that ran is answered, as `set_thread` of the store's state does. The
 /// groups are told of the exit from the one's group and of the enter into the other's.
-pub fn set_thread<T, H>(
-    store: &mut Store<T, H>,
+pub fn set_thread<T, H, G: TaskGroupHook>(
+    store: &mut Store<T, H, G>,
     thread: CurrentThread,
 ) -> Result<CurrentThread, TaskError>
     requires may { MayRun store.old.state thread }
@@ -145,7 +148,7 @@ pub fn set_thread<T, H>(
 {
     let before = asked(&store.state);
     let answer = state_calls::set_thread(&mut store.state, thread);
-    tell_call(&store.state, &mut store.groups, &before);
+    tell_call(&store.state, &mut store.groups, &before)?;
     answer
 }
 
@@ -163,8 +166,8 @@ fn asked_end(core: &TaskCore, thread: QualifiedThreadId) -> Asked
 /// Ends a thread as `cleanup_thread` of the store's state does. The groups are told of the finish of its group, where nothing is
 /// left of that, and first of the exit from it, where the thread was the one that ran. Refused with trap 4 exactly where no
 /// thread would be left of a task that hasn't ended, and then nothing is changed and nothing is told.
-pub fn cleanup_thread<T, H>(
-    store: &mut Store<T, H>,
+pub fn cleanup_thread<T, H, G: TaskGroupHook>(
+    store: &mut Store<T, H, G>,
     thread: QualifiedThreadId,
 ) -> Result<(), TaskError>
     requires live { IsLive store.old.state thread }
@@ -177,6 +180,6 @@ pub fn cleanup_thread<T, H>(
 {
     let before = asked_end(&store.state, thread);
     let answer = state_calls::cleanup_thread(&mut store.state, thread);
-    tell_call(&store.state, &mut store.groups, &before);
+    tell_call(&store.state, &mut store.groups, &before)?;
     answer
 }

@@ -10,13 +10,14 @@ ghost use Rattle.task_turns.specs.Turn.{Sits};
 use crate::call_tells::{asked, tell_call};
 use crate::instance::Instance;
 use task_calls::{Step, TaskError, block_on_host, poll_host};
+use task_group::TaskGroupHook;
 use task_machine::Component;
 use task_store::{AccessorTask, Store};
 
 // The work was polled where its call was made or refused, and is held where it was made and hasn't ended. Where memory was
 // wanting, it wasn't polled.
-fn settle<T, H: AccessorTask<T>, A>(
-    store: &mut Store<T, H>,
+fn settle<T, H: AccessorTask<T>, G: TaskGroupHook, A>(
+    store: &mut Store<T, H, G>,
     number: u64,
     answer: &Result<A, TaskError>,
 )
@@ -36,10 +37,10 @@ impl Instance {
     /// store holds the work and polls it until it ends. Refused, after the poll, by the work's failure; with trap 18
     /// where an entry more doesn't fit into the table; and with trap 17 where no handle may be given. Where memory is
     /// wanting, the work isn't polled.
-    pub fn first_poll<T, H: AccessorTask<T>>(
+    pub fn first_poll<T, H: AccessorTask<T>, G: TaskGroupHook>(
         self,
         component: &Component,
-        store: &mut Store<T, H>,
+        store: &mut Store<T, H, G>,
         work: H,
         register: u8,
     ) -> Result<u32, TaskError>
@@ -59,8 +60,9 @@ impl Instance {
             return Err(TaskError::NoMemory);
         };
         let answer = poll_host(component, &mut store.state, host, register);
-        tell_call(&store.state, &mut store.groups, &before);
+        let told = tell_call(&store.state, &mut store.groups, &before);
         settle(store, number, &answer);
+        told?;
         answer
     }
 
@@ -68,10 +70,10 @@ impl Instance {
     /// Else the strand stops, and the store holds the work and polls it until it ends; then `go_on` answers the value.
     /// Refused, after the poll, by the work's failure; with trap 18 where an entry more doesn't fit into the table;
     /// and with trap 9 where the thread may not block. Where memory is wanting, the work isn't polled.
-    pub fn poll_and_block<T, H: AccessorTask<T>>(
+    pub fn poll_and_block<T, H: AccessorTask<T>, G: TaskGroupHook>(
         self,
         component: &Component,
-        store: &mut Store<T, H>,
+        store: &mut Store<T, H, G>,
         work: H,
     ) -> Result<Step<u64>, TaskError>
         requires running { IsRunningIn component.now store.old.state }
@@ -89,8 +91,9 @@ impl Instance {
             return Err(TaskError::NoMemory);
         };
         let answer = block_on_host(component, &mut store.state, host);
-        tell_call(&store.state, &mut store.groups, &before);
+        let told = tell_call(&store.state, &mut store.groups, &before);
         settle(store, number, &answer);
+        told?;
         answer
     }
 }

@@ -17,6 +17,7 @@ ghost use Rattle.task_turns.specs.Turn.{Sits, running_of};
 
 use crate::call_tells::{asked, tell_call};
 use task_calls::{TaskError, ask_nothing, pressure_op, task_return};
+use task_group::TaskGroupHook;
 use task_lends::{cancel_lends, return_lends};
 use task_machine::{Component, Op, TaskOp, Trap, Turn};
 use task_store::Store;
@@ -47,10 +48,10 @@ impl Instance {
     /// are those of the lifted function where all three are 0. Refused with trap 1 exactly where the
     /// task has ended, and else with trap 3 where they aren't 0 or the function isn't async-lifted, and else with
     /// trap 19 where the task still lends something (`call_context` of the state). Nothing is changed then.
-    pub fn task_return<T, H>(
+    pub fn task_return<T, H, G: TaskGroupHook>(
         self,
         component: &Component,
-        store: &mut Store<T, H>,
+        store: &mut Store<T, H, G>,
         ty: u32,
         encoding: u32,
         memory: u32,
@@ -84,16 +85,16 @@ impl Instance {
             memory,
             value,
         );
-        tell_call(&store.state, &mut store.groups, &before);
+        tell_call(&store.state, &mut store.groups, &before)?;
         answer
     }
 
     /// The task ends as cancelled, once a cancel request was delivered to it. Refused with trap 2 where none was, else
     /// with trap 1 where the task has ended, and else with trap 19 where it still lends something. Nothing is changed then.
-    pub fn task_cancel<T, H>(
+    pub fn task_cancel<T, H, G: TaskGroupHook>(
         self,
         component: &Component,
-        store: &mut Store<T, H>,
+        store: &mut Store<T, H, G>,
     ) -> Result<(), TaskError>
         requires running { IsRunningIn component.now store.old.state }
         requires asks { CanAsk self.index store.old.state }
@@ -111,16 +112,16 @@ impl Instance {
         }
         let before = asked(&store.state);
         let answer = ask_nothing(component, &mut store.state, Op::Task(TaskOp::TaskCancel));
-        tell_call(&store.state, &mut store.groups, &before);
+        tell_call(&store.state, &mut store.groups, &before)?;
         answer
     }
 
     /// The count of the instance's backpressure is raised or lowered; falling to 0 it releases the held threads
     /// that are admitted then. Refused with trap 10 where it would leave 0 to 65535.
-    pub fn backpressure_modify<T, H>(
+    pub fn backpressure_modify<T, H, G: TaskGroupHook>(
         self,
         component: &Component,
-        store: &mut Store<T, H>,
+        store: &mut Store<T, H, G>,
         caller: u32,
         up: bool,
     ) -> Result<(), TaskError>
@@ -136,7 +137,7 @@ impl Instance {
         let _caller = caller;
         let before = asked(&store.state);
         let answer = ask_nothing(component, &mut store.state, pressure_op(up));
-        tell_call(&store.state, &mut store.groups, &before);
+        tell_call(&store.state, &mut store.groups, &before)?;
         answer
     }
 }

@@ -29,6 +29,7 @@ use task_calls::{
     QualifiedThreadId, Step, TaskError, ask_nothing, begin_number, cancel_op, enter_call,
     exit_call, prepare_call, start_prepared,
 };
+use task_group::TaskGroupHook;
 use task_lends::exit_lends;
 use task_machine::{CallOp, Component, Op, Operand, Trap};
 use task_store::Store;
@@ -38,10 +39,10 @@ impl Instance {
     /// Asks a subtask to end, and answers its end: 2 or 4, 3 for a call whose start was withdrawn, or 4294967295
     /// where it hasn't ended and `async_` is set; else the strand stops until the end comes. Where the callee is
     /// to go on first, the strand stops, too. Refused with trap 16, 7, 5 and 9 as `cancel` and `cancel_sync` are.
-    pub fn subtask_cancel<T, H>(
+    pub fn subtask_cancel<T, H, G: TaskGroupHook>(
         self,
         component: &Component,
-        store: &mut Store<T, H>,
+        store: &mut Store<T, H, G>,
         caller: u32,
         async_: bool,
         subtask: u32,
@@ -58,17 +59,17 @@ impl Instance {
         let _caller = caller;
         let before = asked(&store.state);
         let answer = begin_number(component, &mut store.state, cancel_op(async_, subtask));
-        tell_call(&store.state, &mut store.groups, &before);
+        tell_call(&store.state, &mut store.groups, &before)?;
         answer
     }
 
     /// The subtask leaves its set, and its handle is gone. Refused with trap 16 where the handle names no
     /// subtask, with trap 7 where it stands in the set of a sync call, and with trap 6 where it hasn't ended or
     /// its end wasn't taken, in this order.
-    pub fn subtask_drop<T, H>(
+    pub fn subtask_drop<T, H, G: TaskGroupHook>(
         self,
         component: &Component,
-        store: &mut Store<T, H>,
+        store: &mut Store<T, H, G>,
         caller: u32,
         subtask: u32,
     ) -> Result<(), TaskError>
@@ -87,17 +88,17 @@ impl Instance {
         });
         let before = asked_of(&store.state, &op);
         let answer = ask_nothing(component, &mut store.state, op);
-        tell_call(&store.state, &mut store.groups, &before);
+        tell_call(&store.state, &mut store.groups, &before)?;
         answer
     }
 
     /// A direct call's first half: the callee, of a sync or blocking export of an earlier instance, is made with as many
     /// words as it takes, and its thread, which is answered, runs on top of the current one. Refused with trap 18 where
     /// its three entries don't fit into the table, and else with trap 17 where no handle may be given.
-    pub fn enter_guest_sync_call<T, H>(
+    pub fn enter_guest_sync_call<T, H, G: TaskGroupHook>(
         self,
         component: &Component,
-        store: &mut Store<T, H>,
+        store: &mut Store<T, H, G>,
         callee: Func,
         params: &[u64],
     ) -> Result<QualifiedThreadId, TaskError>
@@ -117,7 +118,7 @@ impl Instance {
         let callee = callee.callee();
         let before = asked(&store.state);
         let answer = enter_call(component, &mut store.state, callee, params);
-        tell_call(&store.state, &mut store.groups, &before);
+        tell_call(&store.state, &mut store.groups, &before)?;
         answer
     }
 
@@ -125,10 +126,10 @@ impl Instance {
     /// the one under it runs; the caller's op is under way, and `go_on` takes it to its answer. Refused with trap 9
     /// where the export is blocking and a check of its instance fails, and else with trap 19 where the task still lends
     /// something (`call_context` of the state). Nothing is changed then.
-    pub fn exit_guest_sync_call<T, H>(
+    pub fn exit_guest_sync_call<T, H, G: TaskGroupHook>(
         self,
         component: &Component,
-        store: &mut Store<T, H>,
+        store: &mut Store<T, H, G>,
         value: u64,
     ) -> Result<(), TaskError>
         requires running { IsRunningIn component.now store.old.state }
@@ -148,7 +149,7 @@ impl Instance {
         }
         let before = asked(&store.state);
         let answer = exit_call(component, &mut store.state, value);
-        tell_call(&store.state, &mut store.groups, &before);
+        tell_call(&store.state, &mut store.groups, &before)?;
         answer
     }
 
@@ -156,10 +157,10 @@ impl Instance {
     /// its first thread, which is New, is answered. The result of an async caller's call goes to the register, 0 to 15.
     /// Refused with trap 18 exactly where its three entries don't fit into the table. Where it is refused, or memory is
     /// wanting, nothing is changed.
-    pub fn prepare_call<T, H>(
+    pub fn prepare_call<T, H, G: TaskGroupHook>(
         self,
         component: &Component,
-        store: &mut Store<T, H>,
+        store: &mut Store<T, H, G>,
         callee: Func,
         params: &[u64],
         register: u8,
@@ -187,17 +188,17 @@ impl Instance {
             register,
             async_caller,
         );
-        tell_call(&store.state, &mut store.groups, &before);
+        tell_call(&store.state, &mut store.groups, &before)?;
         answer
     }
 
     /// A call's second half, of a call that the current thread has prepared: its start becomes the switch entry, and the
     /// current thread goes behind the callee's, as `call` does where it begins. The strand has stopped, which is
     /// answered; `go_on` takes the call further once the current thread is resumed.
-    pub fn start_call<T, H>(
+    pub fn start_call<T, H, G: TaskGroupHook>(
         self,
         component: &Component,
-        store: &mut Store<T, H>,
+        store: &mut Store<T, H, G>,
         callee: QualifiedThreadId,
     ) -> Result<Step<u64>, TaskError>
         requires asks { CanAsk self.index store.old.state }
@@ -213,7 +214,7 @@ impl Instance {
         let _component = component;
         let before = asked(&store.state);
         let answer = start_prepared(&mut store.state, callee);
-        tell_call(&store.state, &mut store.groups, &before);
+        tell_call(&store.state, &mut store.groups, &before)?;
         answer
     }
 }

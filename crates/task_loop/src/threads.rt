@@ -16,15 +16,16 @@ use task_calls::{
     Answer, ResumeThread, Step, SuspensionTarget, TaskError, ask_number, begin_nothing, go_on,
     resume_thread, suspension_op,
 };
+use task_group::TaskGroupHook;
 use task_machine::{Component, Op, Operand, ThreadOp};
 use task_store::Store;
 
 impl Instance {
     /// The handle of the running thread.
-    pub fn thread_index<T, H>(
+    pub fn thread_index<T, H, G: TaskGroupHook>(
         self,
         component: &Component,
-        store: &mut Store<T, H>,
+        store: &mut Store<T, H, G>,
     ) -> Result<u32, TaskError>
         requires running { IsRunningIn component.now store.old.state }
         requires asks { CanAsk self.index store.old.state }
@@ -40,17 +41,17 @@ impl Instance {
             &mut store.state,
             Op::Thread(ThreadOp::Index { to: 0 }),
         );
-        tell_call(&store.state, &mut store.groups, &before);
+        tell_call(&store.state, &mut store.groups, &before)?;
         answer
     }
 
     /// A thread more of the task, which isn't started, with the context in r0; answers its handle. Refused with
     /// trap 13 where the slot has no line, with trap 14 where it is a bad one, with trap 18 where its two entries
     /// don't fit into the table, and with trap 17 where no handle may be given, in this order. A slot above 255 is as 255.
-    pub fn thread_new_indirect<T, H>(
+    pub fn thread_new_indirect<T, H, G: TaskGroupHook>(
         self,
         component: &Component,
-        store: &mut Store<T, H>,
+        store: &mut Store<T, H, G>,
         caller: u32,
         slot: u32,
         context: u64,
@@ -75,7 +76,7 @@ impl Instance {
                 context: Operand::Number(context),
             }),
         );
-        tell_call(&store.state, &mut store.groups, &before);
+        tell_call(&store.state, &mut store.groups, &before)?;
         answer
     }
 
@@ -83,10 +84,10 @@ impl Instance {
     /// resumed becomes the switch entry; one to be promoted moves there, if it has yielded. Else a check comes
     /// first, and where it fails a suspension is refused with trap 9 and a yield is done at once. Refused with
     /// trap 16 where the target names no thread, and with trap 11 where it can't be resumed.
-    pub fn suspension_intrinsic<T, H>(
+    pub fn suspension_intrinsic<T, H, G: TaskGroupHook>(
         self,
         component: &Component,
-        store: &mut Store<T, H>,
+        store: &mut Store<T, H, G>,
         caller: u32,
         yielding: bool,
         target: SuspensionTarget,
@@ -103,7 +104,7 @@ impl Instance {
         let _caller = caller;
         let before = asked(&store.state);
         let answer = begin_nothing(component, &mut store.state, suspension_op(yielding, target));
-        tell_call(&store.state, &mut store.groups, &before);
+        tell_call(&store.state, &mut store.groups, &before)?;
         answer
     }
 
@@ -112,10 +113,10 @@ impl Instance {
     /// goes on where it is, and may suspend or yield next. Answers false exactly where a thread that is to be promoted hasn't
     /// yielded, and nothing is changed then. Refused with trap 16 where the handle names no thread, and with trap 11 where that
     /// is the current one, or one that isn't to be promoted and is neither suspended nor unstarted; nothing is changed then.
-    pub fn resume_thread<T, H>(
+    pub fn resume_thread<T, H, G: TaskGroupHook>(
         self,
         component: &Component,
-        store: &mut Store<T, H>,
+        store: &mut Store<T, H, G>,
         caller: u32,
         thread: u32,
         how: ResumeThread,
@@ -132,17 +133,17 @@ impl Instance {
         let _caller = caller;
         let before = asked(&store.state);
         let answer = resume_thread(component, &mut store.state, thread, how);
-        tell_call(&store.state, &mut store.groups, &before);
+        tell_call(&store.state, &mut store.groups, &before)?;
         answer
     }
 
     /// The op of the current thread that has paused is taken further; it is the one at the thread's place. Its answer is
     /// an event for a wait, nothing for a suspension, else one number; its registers are written as the op says.
     /// Refused as its row says; nothing is changed then.
-    pub fn go_on<T, H>(
+    pub fn go_on<T, H, G: TaskGroupHook>(
         self,
         component: &Component,
-        store: &mut Store<T, H>,
+        store: &mut Store<T, H, G>,
     ) -> Result<Step<Answer>, TaskError>
         requires running { IsRunningIn component.now store.old.state }
         requires paused { HasPaused self.index store.old.state }
@@ -154,7 +155,7 @@ impl Instance {
     {
         let before = asked_here(component, &store.state);
         let answer = go_on(component, &mut store.state);
-        tell_call(&store.state, &mut store.groups, &before);
+        tell_call(&store.state, &mut store.groups, &before)?;
         answer
     }
 }

@@ -18,7 +18,7 @@ use crate::call::{Func, FuncCallConcurrent};
 use futures::task::Poll;
 use std::marker::PhantomData;
 use task_calls::TaskError;
-use task_group::TaskGroupId;
+use task_group::{TaskGroupHook, TaskGroupId};
 use task_machine::Component;
 use task_store::Store;
 
@@ -99,10 +99,10 @@ impl<P: Words, R: FromWord> TypedFunc<P, R> {
     }
 
     // Starts a call with the words of these parameters.
-    fn start_with<T, H>(
+    fn start_with<T, H, G: TaskGroupHook>(
         &self,
         component: &Component,
-        store: &mut Store<T, H>,
+        store: &mut Store<T, H, G>,
         params: &P,
     ) -> Result<TypedFuncCallConcurrent<P, R>, TaskError>
         requires covered { IsWellFormed component.now }
@@ -134,10 +134,10 @@ impl<P: Words, R: FromWord> TypedFunc<P, R> {
     /// trap 20 exactly where the store is trapped, and else with trap 18 exactly where its four entries
     /// don't fit into the table. Where it is refused, or memory is wanting, all is as before: the store
     /// isn't trapped by that.
-    pub fn start_call_concurrent<T, H>(
+    pub fn start_call_concurrent<T, H, G: TaskGroupHook>(
         &self,
         component: &Component,
-        store: &mut Store<T, H>,
+        store: &mut Store<T, H, G>,
         params: P,
     ) -> Result<TypedFuncCallConcurrent<P, R>, TaskError>
         requires covered { IsWellFormed component.now }
@@ -158,9 +158,9 @@ impl<P: Words, R: FromWord> TypedFunc<P, R> {
 
     /// The result of a call that has returned; pending where it hasn't, and then nothing is changed. A
     /// call is finished once.
-    pub fn finish_call_concurrent<T, H>(
+    pub fn finish_call_concurrent<T, H, G: TaskGroupHook>(
         &self,
-        store: &mut Store<T, H>,
+        store: &mut Store<T, H, G>,
         call: &mut TypedFuncCallConcurrent<P, R>,
     ) -> Poll<R>
         ensures finishes { (answer : Poll ℕ) × (IsResult R.from answer result × Finishes call.old.call.thread store.old.state answer store.new.state) }
@@ -200,9 +200,9 @@ pub struct TypedCallConcurrent<P, R> {
 }
 
 // The result of a call that was started.
-fn finish<T, H, P: Words, R: FromWord>(
+fn finish<T, H, G: TaskGroupHook, P: Words, R: FromWord>(
     func: &TypedFunc<P, R>,
-    store: &mut Store<T, H>,
+    store: &mut Store<T, H, G>,
     call: &mut TypedFuncCallConcurrent<P, R>,
 ) -> Poll<Result<R, TaskError>>
     ensures finishes { FinishesTyped R.from call.old.call.thread store.old.state result store.new.state }
@@ -222,10 +222,10 @@ impl<P: Words, R: FromWord> TypedCallConcurrent<P, R> {
     /// Starts the call at the first poll, as `TypedFunc::start_call_concurrent` does, with its refusals,
     /// and then finishes it: ready with the result where it has returned, and else pending. It isn't
     /// polled again once it was ready.
-    pub fn poll<T, H>(
+    pub fn poll<T, H, G: TaskGroupHook>(
         &mut self,
         component: &Component,
-        store: &mut Store<T, H>,
+        store: &mut Store<T, H, G>,
     ) -> Poll<Result<R, TaskError>>
         requires covered { IsWellFormed component.now }
         requires there { IsSome (export_at component.now (callee_of self.old.func.func)) }
