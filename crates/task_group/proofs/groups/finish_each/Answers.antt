@@ -24,4 +24,4 @@ returns-clause-told g c =
     finish_done _ _ inv.0 _ _ inv.1 inv.2 (c.in_default.ensures.numbers ∙ ap finite.keys c.in_default.ensures.none ∙ keys-empty)
 
 pub returns-clause-failed : goal.returns-clause-failed
-returns-clause-failed g c = let inv = c.loop-number.invariant in failed_is c.loop-number.calm _ _ inv.3 inv.4
+returns-clause-failed g c = let inv = c.loop-number.invariant in failed_is c.loop-number.calm c.args.listeners.now c.loop-number.listeners inv.3 inv.4
