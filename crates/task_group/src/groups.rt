@@ -54,10 +54,11 @@ impl<H: TaskGroupHook> Groups<H> {
         }
     }
 
-    /// Whether there is a hook.
+    /// Whether there is a hook, which there isn't of a type that doesn't listen.
     #[inline(always)]
     pub fn is_hooked(&self) -> bool
-        ensures { result ≡ is_some self.now.listeners.hook }
+        ensures hook { result ≡ is_some self.now.listeners.hook }
+        ensures listens { result ≡ true → H.listens ≡ true }
     {
         self.listeners.is_hooked()
     }

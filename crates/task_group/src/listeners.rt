@@ -49,7 +49,8 @@ impl<H: TaskGroupHook> Listeners<H> {
     // Whether there is a hook. Of a type of which there is none, that is known where this is compiled.
     #[inline(always)]
     pub fn is_hooked(&self) -> bool
-        ensures { result ≡ is_some self.now.hook }
+        ensures hook { result ≡ is_some self.now.hook }
+        ensures listens { result ≡ true → H.listens ≡ true }
     {
         H::listens() && self.hook.is_some()
     }

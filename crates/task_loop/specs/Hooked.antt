@@ -1,7 +1,8 @@
 -- What a run comes to where the hook that is told of groups answers an error.
 use Rattle.state_calls.specs.declared.error.TaskError.{TaskError}
 use Rattle.state_calls.specs.declared.error.TaskError.TheVariants as task_error
-use Rattle.std.specs.Prelude.{Err, List, Ok, Result, ◌++◌, ◌<◌, ◌≡◌, ◌≤◌, ◌⊎◌, ℕ, is_some, length}
+use Rattle.group_notices.specs.Mirror.{Mirrors}
+use Rattle.std.specs.Prelude.{Bool, Err, List, Ok, Result, [], false, is_some, length, true, ℕ, ◌++◌, ◌<◌, ◌≡◌, ◌≤◌, ◌⊎◌}
 use Rattle.task_group.specs.Listeners.{AnsweredErr, Listeners}
 use Rattle.task_machine.specs.Core.{Main, State}
 use Rattle.task_machine.specs.declared.label.Label.{Label}
@@ -10,6 +11,7 @@ use Rattle.task_machine.specs.declared.outcome.Outcome.TheVariants as outcome
 use Rattle.task_machine.specs.declared.trap.Trap.TheVariants as trap
 use Rattle.task_rules.specs.Run.{Run}
 use Rattle.task_rules.specs.Stalled.{Setting}
+use Rattle.task_store.specs.declared.store.Store.{Store}
 use Rattle.task_turns.specs.Stepped.{Added}
 use Rattle.task_turns.specs.Turn.{Turns}
 use Rattle.task_turns.specs.declared.made.Stepped.{Stepped}
@@ -20,17 +22,34 @@ use Rattle.task_words.specs.StateView.{StateView}
 abbrev pub FailsMain : TaskError → Listeners → Listeners → Type 0
 FailsMain e old new = (e ≡ task_error.NoMemory) ⊎ ((e ≡ task_error.Trap trap.HookFailed) × (AnsweredErr old new × (is_some new.hook ≡ is_some old.hook)))
 
--- unless the hook failed
-abbrev pub Unfailed : {A : Type 0} → Result A TaskError → Type 0 → Type 0
-Unfailed r P = (r ≡ Err (task_error.Trap trap.HookFailed) → ⊥) → P
+-- unless the hook failed, which it can't where none listens
+abbrev pub Unfailed : {A : Type 0} → (listens : Bool) → Result A TaskError → Type 0 → Type 0
+Unfailed false r P = P
+Unfailed true r P = (r ≡ Err (task_error.Trap trap.HookFailed) → ⊥) → P
 
--- no step of the machine comes to this: it is what is answered where the hook failed
+-- so it is, or the hook failed, which it can't where none listens
+abbrev pub OrFailed : (listens : Bool) → (failed : Type 0) → Type 0 → Type 0
+OrFailed false F P = P
+OrFailed true F P = P ⊎ F
+
+-- this is answered where the hook failed
 abbrev pub hook_failed : Outcome
 hook_failed = outcome.Trap trap.HookFailed
 
--- unless memory is wanting, or the hook failed
-abbrev pub Undisturbed : {E : Type 0} → Result Outcome E → Type 0 → Type 0
-Undisturbed {E} r P = (o : Outcome) → r ≡ Ok o → (o ≡ hook_failed → ⊥) → P
+-- The hook answered an error in this call. The store is trapped, and all its groups are finished.
+pub record HookStops {T H G : Type 0} (s t : Store T H G) : Type 0 where
+  pub answered : AnsweredErr s.groups.listeners t.groups.listeners
+  pub hook : is_some t.groups.listeners.hook ≡ is_some s.groups.listeners.hook
+  pub trapped : t.state.core.trapped ≡ true
+  pub finished : Mirrors [] t.groups
+
+-- which a drive answers so
+abbrev pub StopsDrive : {T H G E : Type 0} → Result Outcome E → Store T H G → Store T H G → Type 0
+StopsDrive r s t = (r ≡ Ok hook_failed) × HookStops s t
+
+-- and a poll so
+abbrev pub StopsPoll : {T H G R : Type 0} → Result R TaskError → Store T H G → Store T H G → Type 0
+StopsPoll r s t = (r ≡ Err (task_error.Trap trap.HookFailed)) × HookStops s t
 
 -- The labels that were added are those of a run of at most so many, to a state that is lost.
 pub record WasRun (x : Setting) (s : State) (before after : List Label) (steps : ℕ) : Type 0 where

@@ -16,7 +16,6 @@ use Rattle.task_machine.specs.declared.outcome.Outcome.{Outcome}
 use Rattle.task_machine.specs.declared.outcome.Outcome.TheVariants as outcome
 use Rattle.task_machine.specs.declared.records.Turn.{Turn}
 use Rattle.task_machine.specs.declared.records.Turn.TheVariants as turn
-use Rattle.task_machine.specs.declared.trap.Trap.TheVariants as trap
 use Rattle.task_machine.specs.declared.words.Mark.{Mark}
 use Rattle.task_rules.specs.Outcome.{is_at_rest, outcome_of_label}
 use Rattle.task_rules.specs.Run.{Run}
@@ -78,10 +77,9 @@ since_left _ since = since
 
 -- ---- What a poll leaves
 
--- unless memory is wanting, or the hook that is told of groups failed
+-- unless memory is wanting
 abbrev pub Answered : Result RunPoll TaskError → Type 0 → Type 0
 Answered (Err task_error.NoMemory) P = Unit {0}
-Answered (Err (task_error.Trap trap.HookFailed)) P = Unit {0}
 Answered _ P = P
 
 -- the run can go on after this answer

@@ -93,7 +93,7 @@ impl Func {
         requires params { IfSome (export_at component.now (callee_of self)) (λ e. length params.now ≡ e.params) }
         requires order { (p : Turn) × Sits component.now p store.old.state.core }
         requires given { given store.old.state.core < 2 ^ 61 }
-        ensures starts { Unfailed result (Starts component.now (callee_of self) params.now store.old.state (start_refusal store.old.state.core) (number_of_start result) store.new.state) }
+        ensures starts { Unfailed G.listens result (Starts component.now (callee_of self) params.now store.old.state (start_refusal store.old.state.core) (number_of_start result) store.new.state) }
         ensures hooked { result ≡ Err (TaskError.Trap Trap.HookFailed) → (store.new.state ≡ on_core set_trapped store.old.state) × AnsweredErr store.old.groups.listeners store.new.groups.listeners }
         ensures group { IfOk result (λ call. call.group ≡ store.old.state.core.made.groups + 1) }
         ensures order { (p : Turn) → Sits component.now p store.old.state.core → Sits component.now p store.new.state.core }
@@ -128,7 +128,7 @@ impl Func {
         requires params { IfSome (export_at component.now (callee_of self)) (λ e. length params.now ≡ e.params) }
         requires order { (p : Turn) × Sits component.now p store.old.state.core }
         requires given { given store.old.state.core < 2 ^ 61 }
-        ensures starts { Unfailed result (StartsUntrapped component.now (callee_of self) params.now store.old.state (start_refusal store.old.state.core) (number_of_start result) store.new.state) }
+        ensures starts { Unfailed G.listens result (StartsUntrapped component.now (callee_of self) params.now store.old.state (start_refusal store.old.state.core) (number_of_start result) store.new.state) }
         ensures hooked { result ≡ Err (TaskError.Trap Trap.HookFailed) → (store.new.state ≡ store.old.state) × AnsweredErr store.old.groups.listeners store.new.groups.listeners }
         ensures group { IfOk result (λ call. call.group ≡ store.old.state.core.made.groups + 1) }
         ensures order { (p : Turn) → Sits component.now p store.old.state.core → Sits component.now p store.new.state.core }
@@ -159,7 +159,7 @@ impl Func {
         requires order { (p : Turn) × Sits component.now p store.old.state.core }
         requires fits { start_refusal store.old.state.core ≡ None }
         requires given { given store.old.state.core < 2 ^ 61 }
-        ensures starts { Unfailed result (StartsUntrapped component.now (callee_of self) params.now store.old.state (start_refusal store.old.state.core) (number_of_start result) store.new.state) }
+        ensures starts { Unfailed G.listens result (StartsUntrapped component.now (callee_of self) params.now store.old.state (start_refusal store.old.state.core) (number_of_start result) store.new.state) }
         ensures hooked { result ≡ Err (TaskError.Trap Trap.HookFailed) → (store.new.state ≡ store.old.state) × AnsweredErr store.old.groups.listeners store.new.groups.listeners }
         ensures group { IfOk result (λ call. call.group ≡ store.old.state.core.made.groups + 1) }
         ensures order { (p : Turn) → Sits component.now p store.old.state.core → Sits component.now p store.new.state.core }
@@ -205,7 +205,7 @@ impl Func {
         requires order { (p : Turn) × Sits component.now p store.old.state.core }
         requires fits { start_refusal store.old.state.core ≡ None }
         requires given { given store.old.state.core < 2 ^ 61 }
-        ensures starts { Unfailed result (StartsUntrapped component.now (callee_of self) params.now store.old.state (start_refusal store.old.state.core) (number_of_start result) store.new.state) }
+        ensures starts { Unfailed G.listens result (StartsUntrapped component.now (callee_of self) params.now store.old.state (start_refusal store.old.state.core) (number_of_start result) store.new.state) }
         ensures hooked { result ≡ Err (TaskError.Trap Trap.HookFailed) → (store.new.state ≡ store.old.state) × AnsweredErr store.old.groups.listeners store.new.groups.listeners }
         ensures group { IfOk result (λ call. call.group ≡ store.old.state.core.made.groups + 1) }
         ensures order { (p : Turn) → Sits component.now p store.old.state.core → Sits component.now p store.new.state.core }

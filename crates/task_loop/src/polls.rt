@@ -3,9 +3,8 @@ ghost use Rattle.std.specs.Prelude.{[], ◌≡◌, ◌≤◌, ◌^◌, Err, fals
 ghost use Rattle.group_notices.specs.Runs.{HasTold};
 ghost use Rattle.label_laws.specs.Own.{next_mark, rests_by};
 ghost use Rattle.run_pace.specs.Pace.{counted};
-ghost use Rattle.group_notices.specs.Mirror.{Mirrors};
 ghost use Rattle.task_group.specs.Listeners.{AnsweredErr};
-ghost use Rattle.task_loop.specs.Hooked.{WasRun};
+ghost use Rattle.task_loop.specs.Hooked.{OrFailed, StopsPoll, WasRun};
 ghost use Rattle.task_loop.specs.RunPolls.{Answered, Paused, run_answer};
 ghost use Rattle.task_loop.specs.declared.polls.RunPoll.TheVariants as answers;
 ghost use Rattle.task_loop.specs.Standing.{standing};
@@ -107,22 +106,20 @@ impl RunConcurrent {
         requires settled { IsSettled store.old.state.core self.old.turn }
         requires pends { PendsIn (setting_of component.now (M.script main.old) self.old.trap_on_idle) store.old.state.core (M.part main.old) self.old.turn }
         ensures script { M.script main.new ≡ M.script main.old }
-        ensures suits { Answered result (M.suits main.new component.now) }
-        ensures knows { Answered result (M.knows main.new store.new.state) }
-        ensures hosts { Answered result (HoldsHosts H.course store.new) }
-        ensures groups { Answered result (HoldsGroups store.new.groups store.new.state.core) }
-        ensures told { Answered result (HasTold (setting_of component.now (M.script main.old) self.old.trap_on_idle) (state_at store.old.state.core (M.part main.old) self.old.turn) trace.old (state_at store.new.state.core (M.part main.new) self.new.turn) trace.new store.old.groups store.new.groups) }
+        ensures suits { OrFailed G.listens (StopsPoll result store.old store.new) (Answered result (M.suits main.new component.now)) }
+        ensures knows { OrFailed G.listens (StopsPoll result store.old store.new) (Answered result (M.knows main.new store.new.state)) }
+        ensures hosts { OrFailed G.listens (StopsPoll result store.old store.new) (Answered result (HoldsHosts H.course store.new)) }
+        ensures groups { OrFailed G.listens (StopsPoll result store.old store.new) (Answered result (HoldsGroups store.new.groups store.new.state.core)) }
+        ensures told { OrFailed G.listens (StopsPoll result store.old store.new) (Answered result (HasTold (setting_of component.now (M.script main.old) self.old.trap_on_idle) (state_at store.old.state.core (M.part main.old) self.old.turn) trace.old (state_at store.new.state.core (M.part main.new) self.new.turn) trace.new store.old.groups store.new.groups)) }
         ensures idle { self.new.trap_on_idle ≡ self.old.trap_on_idle }
         ensures stands { standing store.new ≡ standing store.old }
-        ensures does { Answered result (DoesAdded M.does main.old trace.old main.new trace.new) }
-        ensures polled { Answered result (Paused (setting_of component.now (M.script main.old) self.old.trap_on_idle) (state_at store.old.state.core (M.part main.old) self.old.turn) trace.old (given store.old.state.core) self.old.pace steps result self.new.turn (M.part main.new) store.new.state trace.new self.new.pace) }
+        ensures does { OrFailed G.listens (StopsPoll result store.old store.new) (Answered result (DoesAdded M.does main.old trace.old main.new trace.new)) }
+        ensures polled { OrFailed G.listens (StopsPoll result store.old store.new) (Answered result (Paused (setting_of component.now (M.script main.old) self.old.trap_on_idle) (state_at store.old.state.core (M.part main.old) self.old.turn) trace.old (given store.old.state.core) self.old.pace steps result self.new.turn (M.part main.new) store.new.state trace.new self.new.pace)) }
         ensures err { result ≡ Err TaskError.NoMemory → store.new.state.core.trapped ≡ true }
         ensures added { result ≡ Err TaskError.NoMemory → WasGoing (setting_of component.now (M.script main.old) self.old.trap_on_idle) (state_at store.old.state.core (M.part main.old) self.old.turn) trace.old trace.new steps }
-        ensures failed { result ≡ Err (TaskError.Trap Trap.HookFailed) → WasRun (setting_of component.now (M.script main.old) self.old.trap_on_idle) (state_at store.old.state.core (M.part main.old) self.old.turn) trace.old trace.new steps }
-        ensures answered { result ≡ Err (TaskError.Trap Trap.HookFailed) → AnsweredErr store.old.groups.listeners store.new.groups.listeners × (is_some store.new.groups.listeners.hook ≡ is_some store.old.groups.listeners.hook) }
-        ensures trapped { result ≡ Err (TaskError.Trap Trap.HookFailed) → store.new.state.core.trapped ≡ true }
-        ensures finished { result ≡ Err (TaskError.Trap Trap.HookFailed) → Mirrors [] store.new.groups }
+        ensures run { Answered result (WasRun (setting_of component.now (M.script main.old) self.old.trap_on_idle) (state_at store.old.state.core (M.part main.old) self.old.turn) trace.old trace.new steps) }
     {
+        let _hooked = store.groups.is_hooked();
         match self.poll_on(component, store, main, steps, trace) {
             Ok(answer) => answer,
             Err(Halt::NoMemory) => {

@@ -1,6 +1,5 @@
 ghost use Rattle.std.specs.Prelude.{◌≡◌, ◌*◌, ◌+◌, ◌<◌, ◌≤◌, ◌^◌, IfErr, IfOk, IfSome, None, OnErr, OnOk, Some, false, is_none, true, Bool, Err, Ok, [], is_some};
 ghost use Rattle.group_laws.specs.Groups.{stake};
-ghost use Rattle.group_notices.specs.Mirror.{Mirrors};
 ghost use Rattle.group_notices.specs.Runs.{HasTold};
 ghost use Rattle.task_group.specs.Listeners.{AnsweredErr, Told};
 ghost use Rattle.task_loop.specs.Told.{RunTold, TurnTold, group_running, main_notices, turn_of};
@@ -12,7 +11,7 @@ ghost use Rattle.task_rules.specs.Notices.{running_group};
 ghost use Rattle.task_rules.specs.Stalled.{Setting};
 ghost use Rattle.task_rules.specs.Scripts.{op_of};
 ghost use Rattle.task_store.specs.Groups.{HoldsGroups};
-ghost use Rattle.task_loop.specs.Hooked.{FailsMain, StopsTurn, Undisturbed, WasRun, hook_failed};
+ghost use Rattle.task_loop.specs.Hooked.{FailsMain, OrFailed, StopsDrive, StopsTurn, WasRun};
 ghost use Rattle.task_loop.specs.Paces.{Paces};
 ghost use Rattle.task_loop.specs.Standing.{standing};
 ghost use Rattle.task_store.specs.Hosts.{HoldsHosts};
@@ -299,30 +298,28 @@ impl RunConcurrent {
         requires settled { IsSettled store.old.state.core self.old.turn }
         requires pends { PendsIn (setting_of component.now (M.script main.old) self.old.trap_on_idle) store.old.state.core (M.part main.old) self.old.turn }
         ensures script { M.script main.new ≡ M.script main.old }
-        ensures suits { Undisturbed result (M.suits main.new component.now) }
-        ensures knows { Undisturbed result (M.knows main.new store.new.state) }
-        ensures hosts { Undisturbed result (HoldsHosts H.course store.new) }
+        ensures suits { OrFailed G.listens (StopsDrive result store.old store.new) (OnOk result (M.suits main.new component.now)) }
+        ensures knows { OrFailed G.listens (StopsDrive result store.old store.new) (OnOk result (M.knows main.new store.new.state)) }
+        ensures hosts { OrFailed G.listens (StopsDrive result store.old store.new) (OnOk result (HoldsHosts H.course store.new)) }
         ensures idle { self.new.trap_on_idle ≡ self.old.trap_on_idle }
-        ensures groups { Undisturbed result (HoldsGroups store.new.groups store.new.state.core) }
-        ensures told { Undisturbed result (HasTold (setting_of component.now (M.script main.old) self.old.trap_on_idle) (state_at store.old.state.core (M.part main.old) self.old.turn) trace.old (state_at store.new.state.core (M.part main.new) self.new.turn) trace.new store.old.groups store.new.groups) }
+        ensures groups { OrFailed G.listens (StopsDrive result store.old store.new) (OnOk result (HoldsGroups store.new.groups store.new.state.core)) }
+        ensures told { OrFailed G.listens (StopsDrive result store.old store.new) (OnOk result (HasTold (setting_of component.now (M.script main.old) self.old.trap_on_idle) (state_at store.old.state.core (M.part main.old) self.old.turn) trace.old (state_at store.new.state.core (M.part main.new) self.new.turn) trace.new store.old.groups store.new.groups)) }
         ensures stands { standing store.new ≡ standing store.old }
-        ensures ok { IfOk result (λ outcome. (outcome ≡ hook_failed → ⊥) → Drives (setting_of component.now (M.script main.old) self.old.trap_on_idle) (state_at store.old.state.core (M.part main.old) self.old.turn) trace.old (state_at store.new.state.core (M.part main.new) self.new.turn) trace.new steps outcome) }
-        ensures unfinished { IfOk result (λ outcome. (outcome ≡ hook_failed → ⊥) → is_open self.new.turn ≡ goes_on outcome) }
-        ensures order { Undisturbed result (Sits component.now self.new.turn store.new.state.core) }
-        ensures settled { Undisturbed result (IsSettled store.new.state.core self.new.turn) }
-        ensures given { Undisturbed result (given store.new.state.core ≤ given store.old.state.core + 2 * steps) }
-        ensures current { Undisturbed result (running_of store.new.state ≡ runs_in self.new.turn) }
-        ensures pends { Undisturbed result (PendsIn (setting_of component.now (M.script main.old) self.old.trap_on_idle) store.new.state.core (M.part main.new) self.new.turn) }
-        ensures does { Undisturbed result (DoesAdded M.does main.old trace.old main.new trace.new) }
-        ensures pace { IfOk result (λ outcome. (outcome ≡ hook_failed → ⊥) → Paces self.old.pace trace.old trace.new outcome self.new.pace) }
+        ensures ok { OrFailed G.listens (StopsDrive result store.old store.new) (IfOk result (λ outcome. Drives (setting_of component.now (M.script main.old) self.old.trap_on_idle) (state_at store.old.state.core (M.part main.old) self.old.turn) trace.old (state_at store.new.state.core (M.part main.new) self.new.turn) trace.new steps outcome)) }
+        ensures unfinished { OrFailed G.listens (StopsDrive result store.old store.new) (IfOk result (λ outcome. is_open self.new.turn ≡ goes_on outcome)) }
+        ensures order { OrFailed G.listens (StopsDrive result store.old store.new) (OnOk result (Sits component.now self.new.turn store.new.state.core)) }
+        ensures settled { OrFailed G.listens (StopsDrive result store.old store.new) (OnOk result (IsSettled store.new.state.core self.new.turn)) }
+        ensures given { OrFailed G.listens (StopsDrive result store.old store.new) (OnOk result (given store.new.state.core ≤ given store.old.state.core + 2 * steps)) }
+        ensures current { OrFailed G.listens (StopsDrive result store.old store.new) (OnOk result (running_of store.new.state ≡ runs_in self.new.turn)) }
+        ensures pends { OrFailed G.listens (StopsDrive result store.old store.new) (OnOk result (PendsIn (setting_of component.now (M.script main.old) self.old.trap_on_idle) store.new.state.core (M.part main.new) self.new.turn)) }
+        ensures does { OrFailed G.listens (StopsDrive result store.old store.new) (OnOk result (DoesAdded M.does main.old trace.old main.new trace.new)) }
+        ensures pace { OrFailed G.listens (StopsDrive result store.old store.new) (IfOk result (λ outcome. Paces self.old.pace trace.old trace.new outcome self.new.pace)) }
         ensures kept { OnErr result (self.new.pace ≡ self.old.pace) }
         ensures err { OnErr result (store.new.state.core.trapped ≡ true) }
         ensures added { OnErr result (WasGoing (setting_of component.now (M.script main.old) self.old.trap_on_idle) (state_at store.old.state.core (M.part main.old) self.old.turn) trace.old trace.new steps) }
-        ensures failed { result ≡ Ok hook_failed → WasRun (setting_of component.now (M.script main.old) self.old.trap_on_idle) (state_at store.old.state.core (M.part main.old) self.old.turn) trace.old trace.new steps }
-        ensures answered { result ≡ Ok hook_failed → AnsweredErr store.old.groups.listeners store.new.groups.listeners × (is_some store.new.groups.listeners.hook ≡ is_some store.old.groups.listeners.hook) }
-        ensures trapped { result ≡ Ok hook_failed → store.new.state.core.trapped ≡ true }
-        ensures finished { result ≡ Ok hook_failed → Mirrors [] store.new.groups }
+        ensures run { OnOk result (WasRun (setting_of component.now (M.script main.old) self.old.trap_on_idle) (state_at store.old.state.core (M.part main.old) self.old.turn) trace.old trace.new steps) }
     {
+        let _hooked = store.groups.is_hooked();
         let from = trace.len();
         match self.go_on(component, store, main, steps, trace) {
             Ok(outcome) => {

@@ -6,7 +6,7 @@ use Rattle.task_group.specs.Groups.{Groups}
 use Rattle.task_group.specs.Listeners.{Told}
 use Rattle.task_loop.proofs.ToldLemmas.{current_is}
 use Rattle.task_loop.specs.Told.{asked_in, current_group, turn_of}
-use Rattle.task_loop.proofs.tells.tell_run.Goals as goal
+use Rattle.task_loop.proofs.tells.run_at_once.Goals as goal
 
 pub returns-then-not-goes_on-clause-running : goal.returns-then-not-goes_on-clause-running
 returns-then-not-goes_on-clause-running c = c.tell_change.ensures.running ∙ ap (λ (o : Option ℕ). unwrap_or o 0) (current_is c.args.core.now (turn_of c.args.stepped.now) c.requires.runs)
