@@ -1,20 +1,24 @@
 -- What is told at most, one after another.
-use Rattle.std.proofs.Common.{ap, append-nil, append_assoc, arith, inl, inr, refl, subst, sym, ⊎_elim, ◌∙◌}
+use Rattle.std.proofs.Common.{ap, append-nil, append_assoc, arith, inl, inr, refl, subst, sym, ◌∙◌}
 use Rattle.std.proofs.Math.Nat.{eq-or-lt_of_le}
 use Rattle.std.proofs.lemmas.Bool.Decides.{nat_tests}
 use Rattle.std.specs.FinMap as finite
-use Rattle.std.specs.Prelude.{Bool, IsTrue, List, None, Option, Some, [], false, if◌then◌else◌, nat_lt, true, ℕ, ◌++◌, ◌<◌, ◌==◌, ◌≡◌, ◌≢◌, ◌⊎◌}
+use Rattle.std.specs.Prelude.{Bool, Err, List, None, Ok, OnOk, Option, Result, [], false, if◌then◌else◌, true, ℕ, ◌++◌, ◌<◌, ◌≡◌, ◌≢◌, ◌⊎◌}
 use Rattle.group_notices.proofs.TellLemmas.{Says}
 use Rattle.group_notices.specs.Mirror.{named}
-use Rattle.group_notices.specs.Most.{TellsAtMost, ToldFirst, counts_left, finished, step_notices, switched, worked_on}
+use Rattle.group_notices.specs.Most.{TellsAtMost, ToldFirst, counts_left, finished, switched, worked_on}
 use Rattle.group_notices.specs.declared.tells.Asked.{Asked}
 use Rattle.task_group.proofs.GroupLemmas.{told-append, told-none}
 use Rattle.task_group.specs.Counts.{Counts, lowered}
 use Rattle.task_group.specs.Groups.{Groups, Switches, finish_all, finish_at, notice_at}
 use Rattle.task_group.specs.Groups as groups
-use Rattle.task_group.specs.Listeners.{AnsweredErr, Listeners, Told, errors_of}
+use Rattle.task_group.specs.Listeners.{AnsweredErr, Listeners, Told}
 use Rattle.task_machine.specs.declared.records.Notice.{Notice}
 use Rattle.task_machine.specs.declared.records.NoticeKind.TheVariants as notice
+
+pub on_ok : {T E P : Type 0} (r : Result T E) → P → OnOk r P
+on_ok (Ok x) p = p
+on_ok (Err e) p = tt
 
 -- ---- A first part
 
@@ -46,6 +50,9 @@ module _ (old new : Option ℕ) (g h : Groups) (says : Says (named old) (named n
   abbrev either : Bool → List Notice
   either b = if b then [] else notice_at g.live notice.Exit (named old) ++ notice_at g.live notice.Enter (named new)
 
+  abbrev exits : List Notice
+  exits = notice_at g.live notice.Exit (named old)
+
   all_by : (b : Bool) → groups.same_group (named old) (named new) ≡ b → (AnsweredErr g.listeners h.listeners → ⊥) → Told (either b) g.listeners h.listeners
   all_by true is none = subst (λ (k : Groups). Told [] g.listeners k.listeners) (sym (says.0 is)) (told-none g.listeners)
   all_by false is none =
@@ -64,7 +71,8 @@ module _ (old new : Option ℕ) (g h : Groups) (says : Says (named old) (named n
       let s = says.1 is in
       elim (eq-or-lt_of_le s.exited.errors) [
         | inl e ↦ first_then _ _ g.listeners s.between h.listeners s.exited (first_all _ s.between h.listeners (s.entered (sym e)))
-        | inr lt ↦ first_only _ _ g.listeners h.listeners (subst (λ (l : Listeners). ToldFirst _ g.listeners l) (sym (s.stopped lt)) (first_all _ g.listeners s.between s.exited))
+        | inr lt ↦ first_only exits (notice_at g.live notice.Enter (named new)) g.listeners h.listeners
+            (subst (λ (l : Listeners). ToldFirst exits g.listeners l) (sym (s.stopped lt)) (first_all exits g.listeners s.between s.exited))
       ]
 
   pub switched_first : ToldFirst (switched g.live old new) g.listeners h.listeners

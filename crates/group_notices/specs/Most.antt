@@ -29,7 +29,7 @@ counts_left live staked left = if left == 0 then finite.empty else if nat_lt lef
 
 -- of a step before which this was asked, after which a thread of this group runs, and so many are to be left
 abbrev pub step_notices : Asked → Option ℕ → (left : ℕ) → Counts → List Notice
-step_notices a running left live = switched live a.running running ++ worked_on live a.worked ++ finished live a.staked left
+step_notices a running left live = switched live a.running running ++ (worked_on live a.worked ++ finished live a.staked left)
 
 -- A first part of the notices was told.
 pub record ToldFirst (all : List Notice) (old new : Listeners) : Type 0 where

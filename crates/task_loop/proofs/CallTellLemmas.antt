@@ -7,8 +7,7 @@ use Rattle.group_notices.specs.Most.{TellsAtMost}
 use Rattle.group_notices.specs.declared.tells.Asked.{Asked}
 use Rattle.std.proofs.Common.{ap, ap₂, append-nil, arith, inl, refl, subst, sym, ◌∙◌}
 use Rattle.std.proofs.lemmas.Bool.Decides.{nat_tests}
-use Rattle.std.specs.Option.{option_map_or}
-use Rattle.std.specs.Prelude.{Bool, Err, IsErr, List, None, Ok, OnOk, Option, Result, Some, [], false, if◌then◌else◌, is_some, length, true, ℕ, ◌++◌, ◌==◌, ◌≡◌, ◌≤◌, ◌⊎◌}
+use Rattle.std.specs.Prelude.{Bool, Err, IsErr, List, None, Ok, OnOk, Option, Result, Some, [], false, if◌then◌else◌, is_some, length, true, ℕ, ◌++◌, ◌==◌, ◌≡◌, ◌⊎◌}
 use Rattle.task_group.proofs.GroupLemmas.{told-none}
 use Rattle.task_group.specs.Groups.{Groups}
 use Rattle.task_group.specs.Listeners.{AnsweredErr, Listeners, Told}
@@ -18,7 +17,7 @@ use Rattle.task_loop.proofs.StartLemmas.{none_errors}
 use Rattle.task_loop.specs.Told.{TellsMost, asked_now, call_notices, current_group}
 use Rattle.task_machine.specs.declared.records.Notice.{Notice}
 use Rattle.task_machine.specs.declared.records.NoticeKind.TheVariants as notice
-use Rattle.task_rules.specs.Notices.{finish_notices, group_notice, of_live, same_group, switch_notices}
+use Rattle.task_rules.specs.Notices.{finish_notices, group_notice, of_live, switch_notices}
 use Rattle.task_store.specs.Groups.{HoldsGroups}
 use Rattle.task_words.specs.StateView.{StateView}
 

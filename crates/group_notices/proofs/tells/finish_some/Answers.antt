@@ -2,10 +2,10 @@ use Rattle.std.proofs.Common.{arith, length, ◌∙◌, ◌≡◌}
 use Rattle.group_notices.proofs.MirrorLemmas.{len_mirror}
 use Rattle.group_notices.proofs.TellLemmas.{all_mirrored, all_told, one_mirrored, one_told, same_mirrored, same_told}
 use Rattle.group_notices.proofs.tells.finish_some.Goals as goal
-use Rattle.group_notices.proofs.MostLemmas.{fewer_first, fewer_left, first_none, zero_first, zero_left}
+use Rattle.group_notices.proofs.MostLemmas.{on_ok, zero_first, zero_left}
 
 pub returns-then-left-eq0-clause-told : goal.returns-then-left-eq0-clause-told
-returns-then-left-eq0-clause-told g c = λ gs hs m q. all_told c.args.asked c.args.left gs hs q c.args.groups.now c.finish_all.new.self m c.if-left-eq0.true c.finish_all.ensures.told
+returns-then-left-eq0-clause-told g c = on_ok c.finish_all.result (λ gs hs m q. all_told c.args.asked c.args.left gs hs q c.args.groups.now c.finish_all.new.self m c.if-left-eq0.true c.finish_all.ensures.told)
 
 pub returns-then-left-eq0-clause-mirrors : goal.returns-then-left-eq0-clause-mirrors
 returns-then-left-eq0-clause-mirrors g c = λ gs hs m q. all_mirrored c.args.asked c.args.left gs hs q c.args.groups.now c.finish_all.new.self m c.if-left-eq0.true c.finish_all.ensures.live

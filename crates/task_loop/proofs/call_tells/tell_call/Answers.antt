@@ -1,5 +1,5 @@
 -- The groups after the call are those of the core.
-use Rattle.std.proofs.Common.{length, subst, sym, ◌≡◌}
+use Rattle.std.proofs.Common.{subst, sym}
 use Rattle.std.specs.Prelude.{List, Option, ℕ}
 use Rattle.group_notices.specs.Most.{TellsAtMost}
 use Rattle.task_loop.specs.Told.{current_group}
@@ -16,7 +16,7 @@ returns-clause-mirrors c none gs mirror leads =
     mirrored gs t.core.groups mirror (subst (λ (k : ℕ). Leads c.args.asked.now k gs t.core.groups) (sym c.groups.ensures) leads)
 
 pub returns-clause-most : goal.returns-clause-most
-returns-clause-most g c =
+returns-clause-most c =
     let t = c.args.core.now in
     let old = c.args.groups.now in
     let new = c.tell_step-told.new.groups in

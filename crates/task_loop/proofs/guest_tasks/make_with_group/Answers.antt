@@ -1,8 +1,8 @@
 -- A task in a new group, which was prepared and told of, or taken back.
-use Rattle.std.proofs.Common.{ap, arith, subst, sym, ◌+◌, ◌-◌, ◌∙◌, ◌≡◌, ◌≤◌}
+use Rattle.std.proofs.Common.{ap, arith, subst, sym, ◌+◌, ◌∙◌, ◌≡◌, ◌≤◌}
 use Rattle.std.specs.FinMap as finite
 use Rattle.task_machine.specs.Read.{fits}
-use Rattle.std.specs.Prelude.{IsSome, None, false, is_some, ℕ, ◌∷◌, []}
+use Rattle.std.specs.Prelude.{None, false, is_some, ℕ, ◌∷◌, []}
 use Rattle.task_group.specs.Counts.{Counts}
 use Rattle.task_group.specs.Groups.{Groups, IsKnown, numbered}
 use Rattle.task_group.specs.Listeners.{Listeners, Told}
