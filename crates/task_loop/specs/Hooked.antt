@@ -37,7 +37,12 @@ abbrev pub Unheard : (listens : Bool) → Listeners → Listeners → Type 0 →
 Unheard false old new P = P
 Unheard true old new P = (AnsweredErr old new → ⊥) → P
 
--- the same of a call on a store
+-- where there is no hook, which is so where none listens
+abbrev pub Unhooked : (listens : Bool) → Listeners → Type 0 → Type 0
+Unhooked false l P = P
+Unhooked true l P = is_some l.hook ≡ false → P
+
+-- unless the hook answered an error in a call on a store
 abbrev pub Calm : {T H G : Type 0} → (listens : Bool) → Store T H G → Store T H G → Type 0 → Type 0
 Calm listens s t P = Unheard listens s.groups.listeners t.groups.listeners P
 

@@ -69,7 +69,7 @@ pub(crate) fn asked_here(component: &Component, core: &TaskCore) -> Asked
 /// Tells the groups of a store what a call gives, before which this was asked, after which a thread of the group `running` runs, or
 /// none, and `left` groups are live, as the loop tells them what a step gives. It hands on what the call answers, or refusal 22 where
 /// the hook answered an error. It takes time that grows with the logarithm of the number of live groups.
-pub(crate) fn tell_change<G: TaskGroupHook, A>(
+pub(crate) fn tell_change<G: TaskGroupHook, A: Drop>(
     groups: &mut Groups<G>,
     asked: &Asked,
     running: Option<u64>,
@@ -90,7 +90,7 @@ pub(crate) fn tell_change<G: TaskGroupHook, A>(
 }
 
 /// The same of a call that was made.
-pub(crate) fn tell_call<G: TaskGroupHook, A>(
+pub(crate) fn tell_call<G: TaskGroupHook, A: Drop>(
     core: &TaskCore,
     groups: &mut Groups<G>,
     asked: &Asked,
