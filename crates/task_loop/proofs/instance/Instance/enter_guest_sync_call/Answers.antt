@@ -35,7 +35,7 @@ returns-clause-most g c =
     most_told store.state c.enter_call-answer.new.w c.asked-before.result (own store.state) c.asked-before.ensures store.groups c.tell_call.new.groups c.tell_call.ensures.most
 
 pub returns-clause-answers : goal.returns-clause-answers
-returns-clause-answers g c = unheard_map g.G.TaskGroupHook.listens _ _ _ _ (λ is. rw (is, sym c.callee-callee.ensures) c.enter_call-answer.ensures.answers) c.tell_call.ensures.answer
+returns-clause-answers g c = unheard_map g.G.TaskGroupHook.listens _ _ _ _ (λ is. rw is (rw (sym c.callee-callee.ensures) c.enter_call-answer.ensures.answers)) c.tell_call.ensures.answer
 
 pub returns-clause-live : goal.returns-clause-live
 returns-clause-live g c = unheard_map g.G.TaskGroupHook.listens _ _ _ _ (λ is. rw is c.enter_call-answer.ensures.live) c.tell_call.ensures.answer

@@ -34,4 +34,4 @@ returns-clause-most g c =
     most_told store.state c.prepare_call-answer.new.w c.asked-before.result (own store.state) c.asked-before.ensures store.groups c.tell_call.new.groups c.tell_call.ensures.most
 
 pub returns-clause-prepares : goal.returns-clause-prepares
-returns-clause-prepares g c = unheard_map g.G.TaskGroupHook.listens _ _ _ _ (λ is. rw (is, sym c.callee-callee.ensures) c.prepare_call-answer.ensures) c.tell_call.ensures.answer
+returns-clause-prepares g c = unheard_map g.G.TaskGroupHook.listens _ _ _ _ (λ is. rw is (rw (sym c.callee-callee.ensures) c.prepare_call-answer.ensures)) c.tell_call.ensures.answer

@@ -31,4 +31,4 @@ returns-clause-most g c =
     most_told store.state c.ask_nothing-answer.new.w c.asked_of-before.result (stake_of c.requires.running.number store.state.core (op.Call (call_op.Drop (operand.Number c.from.result)))) (subst (λ (o : Option ℕ). IfSome o (λ n. c.asked_of-before.result ≡ asked_now store.state (stake_of n store.state.core (op.Call (call_op.Drop (operand.Number c.from.result)))))) c.requires.running.runs c.asked_of-before.ensures) store.groups c.tell_call.new.groups c.tell_call.ensures.most
 
 pub returns-clause-answers : goal.returns-clause-answers
-returns-clause-answers g c = unheard_map g.G.TaskGroupHook.listens _ _ _ _ (λ is. rw (is, sym c.from.ensures) c.ask_nothing-answer.ensures.answers) c.tell_call.ensures.answer
+returns-clause-answers g c = unheard_map g.G.TaskGroupHook.listens _ _ _ _ (λ is. rw is (rw (sym c.from.ensures) c.ask_nothing-answer.ensures.answers)) c.tell_call.ensures.answer

@@ -27,4 +27,4 @@ returns-clause-most g c =
     most_told store.state c.begin_event-answer.new.w c.asked-before.result (own store.state) c.asked-before.ensures store.groups c.tell_call.new.groups c.tell_call.ensures.most
 
 pub returns-clause-answers : goal.returns-clause-answers
-returns-clause-answers g c = unheard_map g.G.TaskGroupHook.listens _ _ _ _ (λ is. rw (is, sym c.from.ensures) c.begin_event-answer.ensures.answers) c.tell_call.ensures.answer
+returns-clause-answers g c = unheard_map g.G.TaskGroupHook.listens _ _ _ _ (λ is. rw is (rw (sym c.from.ensures) c.begin_event-answer.ensures.answers)) c.tell_call.ensures.answer
