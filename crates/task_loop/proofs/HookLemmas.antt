@@ -152,7 +152,7 @@ pub unfailed : (b : Bool) {A : Type 0} (r : Result A TaskError) (P : Type 0) →
 unfailed false r P other h = h
 unfailed true r P other h = h other
 
-pub or_refused : (b : Bool) {A R : Type 0} (e : TaskError) (P Q : Type 0) → Unfailed {A} b (Err e) P → (P → Q) → OrFailed b (◌≡◌ {A = Poll (Result R TaskError)} (Ready (Err e)) (Ready (Err (task_error.Trap trap.HookFailed)))) Q
+pub or_refused : (b : Bool) {A R : Type 0} (e : TaskError) (P Q : Type 0) → Unfailed {A = A} b (Err e) P → (P → Q) → OrFailed b (◌≡◌ {A = Poll (Result R TaskError)} (Ready (Err e)) (Ready (Err (task_error.Trap trap.HookFailed)))) Q
 or_refused false e P Q h f = f h
 or_refused true (task_error.Trap trap.HookFailed) P Q h f = inr refl
 or_refused true _ P Q h f = inl (f (h (λ is. absurd (cc))))
