@@ -5,12 +5,17 @@ use Rattle.futures.specs.declared.task.Poll.TheVariants.{Ready}
 use Rattle.group_notices.specs.Mirror.{Mirrors}
 use Rattle.state_calls.specs.declared.error.TaskError.{TaskError}
 use Rattle.state_calls.specs.declared.error.TaskError.TheVariants as task_error
+use Rattle.std.proofs.lemmas.Bool.Decides.{nat_tests}
+use Rattle.std.specs.Cmp.{nat_cmp_total}
+use Rattle.std.specs.FinMap as finite
 use Rattle.std.specs.Option.{option_map_or}
-use Rattle.std.specs.Prelude.{Bool, Err, List, None, Ok, Result, [], Option, Some, false, is_some, length, true, ℕ, ◌+◌, ◌<◌, ◌≤◌, ◌⊎◌}
+use Rattle.std.specs.Ordering.{eq_by_cmp, nat_cmp}
+use Rattle.std.specs.Prelude.{Bool, Err, List, None, Ok, Option, Result, Some, [], cond, false, if◌then◌else◌, is_some, length, nat_lt, true, unwrap_or, ℕ, ◌+◌, ◌-◌, ◌<◌, ◌≤◌, ◌⊎◌}
+use Rattle.task_group.specs.Counts.{Counts, count_in, lowered, lowered_from}
 use Rattle.task_group.specs.Groups.{Groups}
 use Rattle.task_group.specs.Heard.{Heard}
 use Rattle.task_group.specs.Listeners.{AnsweredErr, Listeners, Told, errors_of}
-use Rattle.task_loop.specs.Hooked.{HookStops, OrFailed, StopsTurn, Unfailed, WasRun}
+use Rattle.task_loop.specs.Hooked.{HookStops, OrFailed, StopsTurn, Unfailed, Unheard, WasRun}
 use Rattle.task_loop.specs.RunPolls.{Answered}
 use Rattle.task_loop.specs.declared.polls.RunPoll.{RunPoll}
 use Rattle.task_machine.specs.Core.{Main, State}
@@ -88,6 +93,52 @@ pub stops_same : (c : Component) (ops ops' : List MainOpDef) (b b' : Bool) → o
 stops_same c ops ops' b b' same idle p m s before after old new stops =
     subst (λ (o : List MainOpDef). StopsTurn (setting_of c o b') p m s before after old new) same
     (subst (λ (k : Bool). StopsTurn (setting_of c ops k) p m s before after old new) idle stops)
+
+-- ---- A group that is taken back
+
+none_twice : (b : Bool) (o : Option ℕ) → cond b None (cond b None o) ≡ cond b None o
+none_twice true o = refl
+none_twice false o = refl
+
+removed_twice : (live : Counts) (n : ℕ) → finite.remove (finite.remove live n) n ≡ finite.remove live n
+removed_twice live n = finite.same_map nat_cmp_total finite.nat_cmp-IsAntisymmetric _ _ (λ q.
+    finite.get-remove nat_cmp_total (finite.remove live n) n q
+    ∙ (ap (λ (o : Option ℕ). cond (eq_by_cmp nat_cmp q n) None o) (finite.get-remove nat_cmp_total live n q)
+        ∙ (none_twice (eq_by_cmp nat_cmp q n) (finite.get live q) ∙ sym (finite.get-remove nat_cmp_total live n q))))
+
+not_more : (count : ℕ) (b : Bool) → nat_lt 1 count ≡ b → count ≤ 1 → b ≡ false
+not_more count true e le = absurd (grind (arith, nat_tests, e, le))
+not_more count false e le = refl
+
+-- one of a single task is lowered and gone
+lowered_out : (live : Counts) (n : ℕ) (o : Option ℕ) → finite.get live n ≡ o → unwrap_or o 0 ≤ 1 → finite.remove (lowered_from live n o) n ≡ finite.remove live n
+lowered_out live n None e le = refl
+lowered_out live n (Some count) e le =
+    ap (λ (b : Bool). finite.remove (if b then finite.insert live n (count - 1) else finite.remove live n) n) (not_more count (nat_lt 1 count) refl le) ∙ removed_twice live n
+
+pub taken_out : (old new : Groups) (k : ℕ) → k ≡ old.made → new.live ≡ lowered old.live k → new.made ≡ old.made → count_in old.live old.made ≤ 1 → finite.remove new.live new.made ≡ finite.remove old.live old.made
+taken_out old new k is low made once =
+    ap (λ (m : ℕ). finite.remove new.live m) made
+    ∙ (ap (λ (l : Counts). finite.remove l old.made) (low ∙ ap (λ (m : ℕ). lowered old.live m) is) ∙ lowered_out old.live old.made (finite.get old.live old.made) refl once)
+
+-- ---- What is so unless the hook answered an error
+
+pub always_calm : (b : Bool) (x y : Listeners) (P : Type 0) → P → Unheard b x y P
+always_calm false x y P p = p
+always_calm true x y P p = λ none. p
+
+pub unheard_map : (b : Bool) (x y : Listeners) (P Q : Type 0) → (P → Q) → Unheard b x y P → Unheard b x y Q
+unheard_map false x y P Q f p = f p
+unheard_map true x y P Q f p = λ none. f (p none)
+
+-- where nobody listens there is no hook
+pub silent : (listens hooked : Bool) (x y : Listeners) → (hooked ≡ true → listens ≡ true) → hooked ≡ is_some x.hook → is_some y.hook ≡ is_some x.hook → listens ≡ false → AnsweredErr x y → ⊥
+silent listens true x y hears is same quiet = let yes = hears refl in absurd (cc)
+silent listens false x y hears is same quiet = unanswered x y (sym is) (same ∙ sym is)
+
+pub unheard_by : (b : Bool) (x y : Listeners) (P : Type 0) → (b ≡ false → AnsweredErr x y → ⊥) → ((AnsweredErr x y → ⊥) → P) → Unheard b x y P
+unheard_by false x y P quiet gives = gives (quiet refl)
+unheard_by true x y P quiet gives = gives
 
 -- ---- The turns that were made before
 

@@ -32,6 +32,24 @@ abbrev pub OrFailed : (listens : Bool) → (failed : Type 0) → Type 0 → Type
 OrFailed false F P = P
 OrFailed true F P = P ⊎ F
 
+-- unless the hook answered an error, which it can't where none listens
+abbrev pub Unheard : (listens : Bool) → Listeners → Listeners → Type 0 → Type 0
+Unheard false old new P = P
+Unheard true old new P = (AnsweredErr old new → ⊥) → P
+
+-- where there is no hook, which is so where none listens
+abbrev pub Unhooked : (listens : Bool) → Listeners → Type 0 → Type 0
+Unhooked false l P = P
+Unhooked true l P = is_some l.hook ≡ false → P
+
+-- unless the hook answered an error in a call on a store
+abbrev pub Calm : {T H G : Type 0} → (listens : Bool) → Store T H G → Store T H G → Type 0 → Type 0
+Calm listens s t P = Unheard listens s.groups.listeners t.groups.listeners P
+
+-- where it answered one, the call is refused
+abbrev pub HookFails : {T H G A : Type 0} → Store T H G → Store T H G → Result A TaskError → Type 0
+HookFails s t r = AnsweredErr s.groups.listeners t.groups.listeners → r ≡ Err (task_error.Trap trap.HookFailed)
+
 -- this is answered where the hook failed
 abbrev pub hook_failed : Outcome
 hook_failed = outcome.Trap trap.HookFailed

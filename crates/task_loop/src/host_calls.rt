@@ -3,7 +3,8 @@ ghost use Rattle.std.specs.Prelude.{◌==◌, ◌≡◌, ◌<◌, ℕ, cond, is_
 ghost use Rattle.task_calls.specs.Answers.{at_once, number_in};
 ghost use Rattle.task_calls.specs.Asks.{Answers, CanAsk, IsAtPlace, IsRunningIn, turn_in};
 ghost use Rattle.task_calls.specs.Polled.{blocks_row, polls_row, value_in};
-ghost use Rattle.task_loop.specs.Told.{TellsGroups};
+ghost use Rattle.task_loop.specs.Hooked.{Calm, HookFails};
+ghost use Rattle.task_loop.specs.Told.{TellsGroups, TellsMost};
 ghost use Rattle.task_store.specs.Hosts.{HoldsHosts, held_by, settled};
 ghost use Rattle.task_turns.specs.Turn.{Sits};
 
@@ -48,10 +49,12 @@ impl Instance {
         requires asks { CanAsk self.index store.old.state }
         requires register { register < 16 }
         requires hosts { HoldsHosts H.course store.old }
-        ensures answers { Answers (polls_row register (H.course work) store.old.state.core) number_in store.old.state (at_once result) store.new.state }
+        ensures answers { Calm G.listens store.old store.new (Answers (polls_row register (H.course work) store.old.state.core) number_in store.old.state (at_once result) store.new.state) }
         ensures order { IsAtPlace component.now (polls_row register (H.course work) store.old.state.core) store.old.state → Sits component.now (turn_in store.new.state) store.new.state.core }
         ensures hosts { HoldsHosts H.course store.new }
-        ensures groups { TellsGroups store.old.state store.old.groups store.new.state store.new.groups }
+        ensures groups { Calm G.listens store.old store.new (TellsGroups store.old.state store.old.groups store.new.state store.new.groups) }
+        ensures failed { HookFails store.old store.new result }
+        ensures most { TellsMost store.old.state store.old.groups store.new.state store.new.groups }
         ensures rest { store.new ≡ record store.old { value = store.new.value; state = store.new.state; groups = store.new.groups; works = store.new.works } }
     {
         let before = asked(&store.state);
@@ -60,10 +63,8 @@ impl Instance {
             return Err(TaskError::NoMemory);
         };
         let answer = poll_host(component, &mut store.state, host, register);
-        let told = tell_call(&store.state, &mut store.groups, &before);
         settle(store, number, &answer);
-        told?;
-        answer
+        tell_call(&store.state, &mut store.groups, &before, answer)
     }
 
     /// Calls a host and waits for its value: the work is polled once, and the value is answered where it has ended.
@@ -79,10 +80,12 @@ impl Instance {
         requires running { IsRunningIn component.now store.old.state }
         requires asks { CanAsk self.index store.old.state }
         requires hosts { HoldsHosts H.course store.old }
-        ensures answers { Answers (blocks_row (H.course work) store.old.state.core) value_in store.old.state result store.new.state }
+        ensures answers { Calm G.listens store.old store.new (Answers (blocks_row (H.course work) store.old.state.core) value_in store.old.state result store.new.state) }
         ensures order { IsAtPlace component.now (blocks_row (H.course work) store.old.state.core) store.old.state → Sits component.now (turn_in store.new.state) store.new.state.core }
         ensures hosts { HoldsHosts H.course store.new }
-        ensures groups { TellsGroups store.old.state store.old.groups store.new.state store.new.groups }
+        ensures groups { Calm G.listens store.old store.new (TellsGroups store.old.state store.old.groups store.new.state store.new.groups) }
+        ensures failed { HookFails store.old store.new result }
+        ensures most { TellsMost store.old.state store.old.groups store.new.state store.new.groups }
         ensures rest { store.new ≡ record store.old { value = store.new.value; state = store.new.state; groups = store.new.groups; works = store.new.works } }
     {
         let before = asked(&store.state);
@@ -91,9 +94,7 @@ impl Instance {
             return Err(TaskError::NoMemory);
         };
         let answer = block_on_host(component, &mut store.state, host);
-        let told = tell_call(&store.state, &mut store.groups, &before);
         settle(store, number, &answer);
-        told?;
-        answer
+        tell_call(&store.state, &mut store.groups, &before, answer)
     }
 }

@@ -17,7 +17,8 @@ ghost use Rattle.task_machine.specs.declared.records.Goal.{Goal};
 ghost use Rattle.task_rules.specs.Calls.{call_queues};
 ghost use Rattle.task_rules.specs.Scripts.{export_at, export_kind};
 ghost use Rattle.task_machine.specs.declared.component.HostDef.{HostDef};
-ghost use Rattle.task_loop.specs.Told.{TellsGroups};
+ghost use Rattle.task_loop.specs.Hooked.{Calm, HookFails};
+ghost use Rattle.task_loop.specs.Told.{TellsGroups, TellsMost};
 ghost use Rattle.task_store.specs.Hosts.{HoldsHosts};
 ghost use Rattle.task_turns.specs.Turn.{Sits, running_of};
 ghost use Rattle.task_words.specs.StateView.{StateView, with_core, with_current};
@@ -50,17 +51,18 @@ impl Instance {
         requires running { IsRunningIn component.now store.old.state }
         requires asks { CanAsk self.index store.old.state }
         requires caller { caller ≡ self.index }
-        ensures answers { Answers (row_of component.now (cancel_op async_ subtask) store.old.state.core) number_in store.old.state result store.new.state }
+        ensures answers { Calm G.listens store.old store.new (Answers (row_of component.now (cancel_op async_ subtask) store.old.state.core) number_in store.old.state result store.new.state) }
         ensures order { KeepsFit component.now (cancel_op async_ subtask) store.old.state store.new.state → Sits component.now (turn_in store.new.state) store.new.state.core }
         ensures hosts { (course : H → HostDef) → HoldsHosts course store.old → HoldsHosts course store.new }
-        ensures groups { TellsGroups store.old.state store.old.groups store.new.state store.new.groups }
+        ensures groups { Calm G.listens store.old store.new (TellsGroups store.old.state store.old.groups store.new.state store.new.groups) }
+        ensures failed { HookFails store.old store.new result }
+        ensures most { TellsMost store.old.state store.old.groups store.new.state store.new.groups }
         ensures rest { store.new ≡ record store.old { state = store.new.state; groups = store.new.groups } }
     {
         let _caller = caller;
         let before = asked(&store.state);
         let answer = begin_number(component, &mut store.state, cancel_op(async_, subtask));
-        tell_call(&store.state, &mut store.groups, &before)?;
-        answer
+        tell_call(&store.state, &mut store.groups, &before, answer)
     }
 
     /// The subtask leaves its set, and its handle is gone. Refused with trap 16 where the handle names no
@@ -76,10 +78,12 @@ impl Instance {
         requires running { IsRunningIn component.now store.old.state }
         requires asks { CanAsk self.index store.old.state }
         requires caller { caller ≡ self.index }
-        ensures answers { Answers (row_of component.now (Op.Call (CallOp.Drop (Operand.Number subtask))) store.old.state.core) nothing_in store.old.state (at_once result) store.new.state }
+        ensures answers { Calm G.listens store.old store.new (Answers (row_of component.now (Op.Call (CallOp.Drop (Operand.Number subtask))) store.old.state.core) nothing_in store.old.state (at_once result) store.new.state) }
         ensures order { KeepsFit component.now (Op.Call (CallOp.Drop (Operand.Number subtask))) store.old.state store.new.state → Sits component.now (turn_in store.new.state) store.new.state.core }
         ensures hosts { (course : H → HostDef) → HoldsHosts course store.old → HoldsHosts course store.new }
-        ensures groups { TellsGroups store.old.state store.old.groups store.new.state store.new.groups }
+        ensures groups { Calm G.listens store.old store.new (TellsGroups store.old.state store.old.groups store.new.state store.new.groups) }
+        ensures failed { HookFails store.old store.new result }
+        ensures most { TellsMost store.old.state store.old.groups store.new.state store.new.groups }
         ensures rest { store.new ≡ record store.old { state = store.new.state; groups = store.new.groups } }
     {
         let _caller = caller;
@@ -88,8 +92,7 @@ impl Instance {
         });
         let before = asked_of(&store.state, &op);
         let answer = ask_nothing(component, &mut store.state, op);
-        tell_call(&store.state, &mut store.groups, &before)?;
-        answer
+        tell_call(&store.state, &mut store.groups, &before, answer)
     }
 
     /// A direct call's first half: the callee, of a sync or blocking export of an earlier instance, is made with as many
@@ -108,18 +111,19 @@ impl Instance {
         requires there { IsSome (export_at component.now (callee_of callee)) }
         requires params { IfSome (export_at component.now (callee_of callee)) (λ e. length params.now ≡ e.params) }
         requires direct { is_async_lifted (export_kind component.now (callee_of callee)) ≡ false }
-        ensures answers { Answers (enters_row component.now (callee_of callee) params.now store.old.state.core) thread_in store.old.state (at_once (entered store.new.state result)) store.new.state }
-        ensures live { IfOk result (λ id. IsLive store.new.state id) }
+        ensures answers { Calm G.listens store.old store.new (Answers (enters_row component.now (callee_of callee) params.now store.old.state.core) thread_in store.old.state (at_once (entered store.new.state result)) store.new.state) }
+        ensures live { Calm G.listens store.old store.new (IfOk result (λ id. IsLive store.new.state id)) }
         ensures order { IsAtPlace component.now (enters_row component.now (callee_of callee) params.now store.old.state.core) store.old.state → Sits component.now (turn_in store.new.state) store.new.state.core }
         ensures hosts { (course : H → HostDef) → HoldsHosts course store.old → HoldsHosts course store.new }
-        ensures groups { TellsGroups store.old.state store.old.groups store.new.state store.new.groups }
+        ensures groups { Calm G.listens store.old store.new (TellsGroups store.old.state store.old.groups store.new.state store.new.groups) }
+        ensures failed { HookFails store.old store.new result }
+        ensures most { TellsMost store.old.state store.old.groups store.new.state store.new.groups }
         ensures rest { store.new ≡ record store.old { state = store.new.state; groups = store.new.groups } }
     {
         let callee = callee.callee();
         let before = asked(&store.state);
         let answer = enter_call(component, &mut store.state, callee, params);
-        tell_call(&store.state, &mut store.groups, &before)?;
-        answer
+        tell_call(&store.state, &mut store.groups, &before, answer)
     }
 
     /// A direct call's second half, by its first thread: its task ends as returned with the value, the thread ends, and
@@ -135,10 +139,12 @@ impl Instance {
         requires running { IsRunningIn component.now store.old.state }
         requires asks { CanAsk self.index store.old.state }
         requires direct { IfSome (running_of store.old.state) (λ n. IsDirect n store.old.state.core) }
-        ensures answers { IfSome (running_of store.old.state) (λ n. UnlessLent (exit_lends n store.old.state.core) (RowAnswers (exits_row value store.old.state.core)) store.old.state result store.new.state) }
+        ensures answers { Calm G.listens store.old store.new (IfSome (running_of store.old.state) (λ n. UnlessLent (exit_lends n store.old.state.core) (RowAnswers (exits_row value store.old.state.core)) store.old.state result store.new.state)) }
         ensures order { IsAtPlace component.now (exits_row value store.old.state.core) store.old.state → Sits component.now (turn_in store.new.state) store.new.state.core }
         ensures hosts { (course : H → HostDef) → HoldsHosts course store.old → HoldsHosts course store.new }
-        ensures groups { TellsGroups store.old.state store.old.groups store.new.state store.new.groups }
+        ensures groups { Calm G.listens store.old store.new (TellsGroups store.old.state store.old.groups store.new.state store.new.groups) }
+        ensures failed { HookFails store.old store.new result }
+        ensures most { TellsMost store.old.state store.old.groups store.new.state store.new.groups }
         ensures rest { store.new ≡ record store.old { state = store.new.state; groups = store.new.groups } }
     {
         let Some(thread) = store.state.current() else {
@@ -149,8 +155,7 @@ impl Instance {
         }
         let before = asked(&store.state);
         let answer = exit_call(component, &mut store.state, value);
-        tell_call(&store.state, &mut store.groups, &before)?;
-        answer
+        tell_call(&store.state, &mut store.groups, &before, answer)
     }
 
     /// A call's first half, of an export of an earlier instance: it is made with as many words as the callee takes, and
@@ -173,9 +178,11 @@ impl Instance {
         requires params { IfSome (export_at component.now (callee_of callee)) (λ e. length params.now ≡ e.params) }
         requires register { register < 16 }
         requires queued { async_caller ≡ false → is_async_lifted (export_kind component.now (callee_of callee)) ≡ true }
-        ensures prepares { IfSome (running_of store.old.state) (λ n. Prepares component.now n (callee_of callee) params.now (goal_for async_caller register) store.old.state (fits 3 store.old.state.core) result store.new.state) }
+        ensures prepares { Calm G.listens store.old store.new (IfSome (running_of store.old.state) (λ n. Prepares component.now n (callee_of callee) params.now (goal_for async_caller register) store.old.state (fits 3 store.old.state.core) result store.new.state)) }
         ensures hosts { (course : H → HostDef) → HoldsHosts course store.old → HoldsHosts course store.new }
-        ensures groups { TellsGroups store.old.state store.old.groups store.new.state store.new.groups }
+        ensures groups { Calm G.listens store.old store.new (TellsGroups store.old.state store.old.groups store.new.state store.new.groups) }
+        ensures failed { HookFails store.old store.new result }
+        ensures most { TellsMost store.old.state store.old.groups store.new.state store.new.groups }
         ensures rest { store.new ≡ record store.old { state = store.new.state; groups = store.new.groups } }
     {
         let callee = callee.callee();
@@ -188,8 +195,7 @@ impl Instance {
             register,
             async_caller,
         );
-        tell_call(&store.state, &mut store.groups, &before)?;
-        answer
+        tell_call(&store.state, &mut store.groups, &before, answer)
     }
 
     /// A call's second half, of a call that the current thread has prepared: its start becomes the switch entry, and the
@@ -204,17 +210,18 @@ impl Instance {
         requires asks { CanAsk self.index store.old.state }
         requires runs { IsSome (running_of store.old.state) }
         requires prepared { IfSome (running_of store.old.state) (λ n. CanStart n callee store.old.state) }
-        ensures answer { result ≡ Ok Step.Pause }
+        ensures answer { Calm G.listens store.old store.new (result ≡ Ok Step.Pause) }
         ensures starts { IfSome (running_of store.old.state) (λ n. store.new.state ≡ with_current None (with_core (starts_in n callee store.old.state) store.old.state)) }
         ensures whole { (c : Component) (n : ℕ) (e : Callee) (words : List ℕ) (g : Goal) (s : StateView) → running_of store.old.state ≡ Some n → Prepared c n e words g s store.old.state callee → store.new.state.core ≡ call_queues n e (export_kind c e) g words s.core }
         ensures hosts { (course : H → HostDef) → HoldsHosts course store.old → HoldsHosts course store.new }
-        ensures groups { TellsGroups store.old.state store.old.groups store.new.state store.new.groups }
+        ensures groups { Calm G.listens store.old store.new (TellsGroups store.old.state store.old.groups store.new.state store.new.groups) }
+        ensures failed { HookFails store.old store.new result }
+        ensures most { TellsMost store.old.state store.old.groups store.new.state store.new.groups }
         ensures rest { store.new ≡ record store.old { state = store.new.state; groups = store.new.groups } }
     {
         let _component = component;
         let before = asked(&store.state);
         let answer = start_prepared(&mut store.state, callee);
-        tell_call(&store.state, &mut store.groups, &before)?;
-        answer
+        tell_call(&store.state, &mut store.groups, &before, answer)
     }
 }

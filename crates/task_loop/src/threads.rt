@@ -6,7 +6,8 @@ ghost use Rattle.task_calls.specs.Elsewhere.{KeepsFit};
 ghost use Rattle.task_calls.specs.Intrinsics.{suspension_op};
 ghost use Rattle.task_calls.specs.Resumes.{Resumed, resumed_by};
 ghost use Rattle.task_machine.specs.declared.component.HostDef.{HostDef};
-ghost use Rattle.task_loop.specs.Told.{TellsGroups};
+ghost use Rattle.task_loop.specs.Hooked.{Calm, HookFails};
+ghost use Rattle.task_loop.specs.Told.{TellsGroups, TellsMost};
 ghost use Rattle.task_store.specs.Hosts.{HoldsHosts};
 ghost use Rattle.task_turns.specs.Turn.{Sits, running_of};
 
@@ -29,10 +30,12 @@ impl Instance {
     ) -> Result<u32, TaskError>
         requires running { IsRunningIn component.now store.old.state }
         requires asks { CanAsk self.index store.old.state }
-        ensures answers { Answers (row_of component.now (Op.Thread (ThreadOp.Index 0)) store.old.state.core) number_in store.old.state (at_once result) store.new.state }
+        ensures answers { Calm G.listens store.old store.new (Answers (row_of component.now (Op.Thread (ThreadOp.Index 0)) store.old.state.core) number_in store.old.state (at_once result) store.new.state) }
         ensures order { KeepsFit component.now (Op.Thread (ThreadOp.Index 0)) store.old.state store.new.state → Sits component.now (turn_in store.new.state) store.new.state.core }
         ensures hosts { (course : H → HostDef) → HoldsHosts course store.old → HoldsHosts course store.new }
-        ensures groups { TellsGroups store.old.state store.old.groups store.new.state store.new.groups }
+        ensures groups { Calm G.listens store.old store.new (TellsGroups store.old.state store.old.groups store.new.state store.new.groups) }
+        ensures failed { HookFails store.old store.new result }
+        ensures most { TellsMost store.old.state store.old.groups store.new.state store.new.groups }
         ensures rest { store.new ≡ record store.old { state = store.new.state; groups = store.new.groups } }
     {
         let before = asked(&store.state);
@@ -41,8 +44,7 @@ impl Instance {
             &mut store.state,
             Op::Thread(ThreadOp::Index { to: 0 }),
         );
-        tell_call(&store.state, &mut store.groups, &before)?;
-        answer
+        tell_call(&store.state, &mut store.groups, &before, answer)
     }
 
     /// A thread more of the task, which isn't started, with the context in r0; answers its handle. Refused with
@@ -59,10 +61,12 @@ impl Instance {
         requires running { IsRunningIn component.now store.old.state }
         requires asks { CanAsk self.index store.old.state }
         requires caller { caller ≡ self.index }
-        ensures answers { Answers (row_of component.now (Op.Thread (ThreadOp.New 0 (min slot 255) (Operand.Number context))) store.old.state.core) number_in store.old.state (at_once result) store.new.state }
+        ensures answers { Calm G.listens store.old store.new (Answers (row_of component.now (Op.Thread (ThreadOp.New 0 (min slot 255) (Operand.Number context))) store.old.state.core) number_in store.old.state (at_once result) store.new.state) }
         ensures order { KeepsFit component.now (Op.Thread (ThreadOp.New 0 (min slot 255) (Operand.Number context))) store.old.state store.new.state → Sits component.now (turn_in store.new.state) store.new.state.core }
         ensures hosts { (course : H → HostDef) → HoldsHosts course store.old → HoldsHosts course store.new }
-        ensures groups { TellsGroups store.old.state store.old.groups store.new.state store.new.groups }
+        ensures groups { Calm G.listens store.old store.new (TellsGroups store.old.state store.old.groups store.new.state store.new.groups) }
+        ensures failed { HookFails store.old store.new result }
+        ensures most { TellsMost store.old.state store.old.groups store.new.state store.new.groups }
         ensures rest { store.new ≡ record store.old { state = store.new.state; groups = store.new.groups } }
     {
         let _caller = caller;
@@ -76,8 +80,7 @@ impl Instance {
                 context: Operand::Number(context),
             }),
         );
-        tell_call(&store.state, &mut store.groups, &before)?;
-        answer
+        tell_call(&store.state, &mut store.groups, &before, answer)
     }
 
     /// The strand stops: its thread is suspended, or where it yields it has a low entry. A target that is to be
@@ -95,17 +98,18 @@ impl Instance {
         requires running { IsRunningIn component.now store.old.state }
         requires asks { CanAsk self.index store.old.state }
         requires caller { caller ≡ self.index }
-        ensures answers { Answers (row_of component.now (suspension_op yielding target) store.old.state.core) nothing_in store.old.state result store.new.state }
+        ensures answers { Calm G.listens store.old store.new (Answers (row_of component.now (suspension_op yielding target) store.old.state.core) nothing_in store.old.state result store.new.state) }
         ensures order { KeepsFit component.now (suspension_op yielding target) store.old.state store.new.state → Sits component.now (turn_in store.new.state) store.new.state.core }
         ensures hosts { (course : H → HostDef) → HoldsHosts course store.old → HoldsHosts course store.new }
-        ensures groups { TellsGroups store.old.state store.old.groups store.new.state store.new.groups }
+        ensures groups { Calm G.listens store.old store.new (TellsGroups store.old.state store.old.groups store.new.state store.new.groups) }
+        ensures failed { HookFails store.old store.new result }
+        ensures most { TellsMost store.old.state store.old.groups store.new.state store.new.groups }
         ensures rest { store.new ≡ record store.old { state = store.new.state; groups = store.new.groups } }
     {
         let _caller = caller;
         let before = asked(&store.state);
         let answer = begin_nothing(component, &mut store.state, suspension_op(yielding, target));
-        tell_call(&store.state, &mut store.groups, &before)?;
-        answer
+        tell_call(&store.state, &mut store.groups, &before, answer)
     }
 
     /// The thread of this instance that the handle names goes on: next, where it has yielded and is to be promoted, or where it is
@@ -124,17 +128,18 @@ impl Instance {
         requires running { IsRunningIn component.now store.old.state }
         requires asks { CanAsk self.index store.old.state }
         requires caller { caller ≡ self.index }
-        ensures resumed { IfSome (running_of store.old.state) (λ n. Resumed (resumed_by how n thread store.old.state.core) store.old.state result store.new.state) }
+        ensures resumed { Calm G.listens store.old store.new (IfSome (running_of store.old.state) (λ n. Resumed (resumed_by how n thread store.old.state.core) store.old.state result store.new.state)) }
         ensures order { how ≡ ResumeThread.ResumeLater → KeepsFit component.now (Op.Thread (ThreadOp.ResumeLater (Operand.Number thread))) store.old.state store.new.state → Sits component.now (turn_in store.new.state) store.new.state.core }
         ensures hosts { (course : H → HostDef) → HoldsHosts course store.old → HoldsHosts course store.new }
-        ensures groups { TellsGroups store.old.state store.old.groups store.new.state store.new.groups }
+        ensures groups { Calm G.listens store.old store.new (TellsGroups store.old.state store.old.groups store.new.state store.new.groups) }
+        ensures failed { HookFails store.old store.new result }
+        ensures most { TellsMost store.old.state store.old.groups store.new.state store.new.groups }
         ensures rest { store.new ≡ record store.old { state = store.new.state; groups = store.new.groups } }
     {
         let _caller = caller;
         let before = asked(&store.state);
         let answer = resume_thread(component, &mut store.state, thread, how);
-        tell_call(&store.state, &mut store.groups, &before)?;
-        answer
+        tell_call(&store.state, &mut store.groups, &before, answer)
     }
 
     /// The op of the current thread that has paused is taken further; it is the one at the thread's place. Its answer is
@@ -147,15 +152,16 @@ impl Instance {
     ) -> Result<Step<Answer>, TaskError>
         requires running { IsRunningIn component.now store.old.state }
         requires paused { HasPaused self.index store.old.state }
-        ensures answers { Answers (row_at component.now store.old.state.core) answer_in store.old.state result store.new.state }
+        ensures answers { Calm G.listens store.old store.new (Answers (row_at component.now store.old.state.core) answer_in store.old.state result store.new.state) }
         ensures order { Sits component.now (turn_in store.new.state) store.new.state.core }
         ensures hosts { (course : H → HostDef) → HoldsHosts course store.old → HoldsHosts course store.new }
-        ensures groups { TellsGroups store.old.state store.old.groups store.new.state store.new.groups }
+        ensures groups { Calm G.listens store.old store.new (TellsGroups store.old.state store.old.groups store.new.state store.new.groups) }
+        ensures failed { HookFails store.old store.new result }
+        ensures most { TellsMost store.old.state store.old.groups store.new.state store.new.groups }
         ensures rest { store.new ≡ record store.old { state = store.new.state; groups = store.new.groups } }
     {
         let before = asked_here(component, &store.state);
         let answer = go_on(component, &mut store.state);
-        tell_call(&store.state, &mut store.groups, &before)?;
-        answer
+        tell_call(&store.state, &mut store.groups, &before, answer)
     }
 }

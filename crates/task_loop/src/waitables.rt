@@ -4,7 +4,8 @@ ghost use Rattle.task_calls.specs.Answers.{at_once, event_in, nothing_in, number
 ghost use Rattle.task_calls.specs.Asks.{Answers, CanAsk, IsRunningIn, row_of, turn_in};
 ghost use Rattle.task_calls.specs.Elsewhere.{KeepsFit};
 ghost use Rattle.task_machine.specs.declared.component.HostDef.{HostDef};
-ghost use Rattle.task_loop.specs.Told.{TellsGroups};
+ghost use Rattle.task_loop.specs.Hooked.{Calm, HookFails};
+ghost use Rattle.task_loop.specs.Told.{TellsGroups, TellsMost};
 ghost use Rattle.task_store.specs.Hosts.{HoldsHosts};
 ghost use Rattle.task_turns.specs.Turn.{Sits};
 
@@ -27,17 +28,18 @@ impl Instance {
         requires running { IsRunningIn component.now store.old.state }
         requires asks { CanAsk self.index store.old.state }
         requires caller { caller ≡ self.index }
-        ensures answers { Answers (row_of component.now (Op.Set (SetOp.New 0)) store.old.state.core) number_in store.old.state (at_once result) store.new.state }
+        ensures answers { Calm G.listens store.old store.new (Answers (row_of component.now (Op.Set (SetOp.New 0)) store.old.state.core) number_in store.old.state (at_once result) store.new.state) }
         ensures order { KeepsFit component.now (Op.Set (SetOp.New 0)) store.old.state store.new.state → Sits component.now (turn_in store.new.state) store.new.state.core }
         ensures hosts { (course : H → HostDef) → HoldsHosts course store.old → HoldsHosts course store.new }
-        ensures groups { TellsGroups store.old.state store.old.groups store.new.state store.new.groups }
+        ensures groups { Calm G.listens store.old store.new (TellsGroups store.old.state store.old.groups store.new.state store.new.groups) }
+        ensures failed { HookFails store.old store.new result }
+        ensures most { TellsMost store.old.state store.old.groups store.new.state store.new.groups }
         ensures rest { store.new ≡ record store.old { state = store.new.state; groups = store.new.groups } }
     {
         let _caller = caller;
         let before = asked(&store.state);
         let answer = ask_number(component, &mut store.state, Op::Set(SetOp::New { to: 0 }));
-        tell_call(&store.state, &mut store.groups, &before)?;
-        answer
+        tell_call(&store.state, &mut store.groups, &before, answer)
     }
 
     /// The set and its handle are gone. Refused with trap 16 where the handle names no set, with trap 8 where
@@ -52,10 +54,12 @@ impl Instance {
         requires running { IsRunningIn component.now store.old.state }
         requires asks { CanAsk self.index store.old.state }
         requires caller { caller ≡ self.index }
-        ensures answers { Answers (row_of component.now (Op.Set (SetOp.Drop (Operand.Number set))) store.old.state.core) nothing_in store.old.state (at_once result) store.new.state }
+        ensures answers { Calm G.listens store.old store.new (Answers (row_of component.now (Op.Set (SetOp.Drop (Operand.Number set))) store.old.state.core) nothing_in store.old.state (at_once result) store.new.state) }
         ensures order { KeepsFit component.now (Op.Set (SetOp.Drop (Operand.Number set))) store.old.state store.new.state → Sits component.now (turn_in store.new.state) store.new.state.core }
         ensures hosts { (course : H → HostDef) → HoldsHosts course store.old → HoldsHosts course store.new }
-        ensures groups { TellsGroups store.old.state store.old.groups store.new.state store.new.groups }
+        ensures groups { Calm G.listens store.old store.new (TellsGroups store.old.state store.old.groups store.new.state store.new.groups) }
+        ensures failed { HookFails store.old store.new result }
+        ensures most { TellsMost store.old.state store.old.groups store.new.state store.new.groups }
         ensures rest { store.new ≡ record store.old { state = store.new.state; groups = store.new.groups } }
     {
         let _caller = caller;
@@ -67,8 +71,7 @@ impl Instance {
                 set: Operand::Number(u64::from(set)),
             }),
         );
-        tell_call(&store.state, &mut store.groups, &before)?;
-        answer
+        tell_call(&store.state, &mut store.groups, &before, answer)
     }
 
     /// The task's own event, else that of the set's least ready member, is taken: its code, handle and result;
@@ -83,10 +86,12 @@ impl Instance {
         requires running { IsRunningIn component.now store.old.state }
         requires asks { CanAsk self.index store.old.state }
         requires caller { caller ≡ self.index }
-        ensures answers { Answers (row_of component.now (Op.Set (SetOp.Poll 0 (Operand.Number set))) store.old.state.core) event_in store.old.state (at_once result) store.new.state }
+        ensures answers { Calm G.listens store.old store.new (Answers (row_of component.now (Op.Set (SetOp.Poll 0 (Operand.Number set))) store.old.state.core) event_in store.old.state (at_once result) store.new.state) }
         ensures order { KeepsFit component.now (Op.Set (SetOp.Poll 0 (Operand.Number set))) store.old.state store.new.state → Sits component.now (turn_in store.new.state) store.new.state.core }
         ensures hosts { (course : H → HostDef) → HoldsHosts course store.old → HoldsHosts course store.new }
-        ensures groups { TellsGroups store.old.state store.old.groups store.new.state store.new.groups }
+        ensures groups { Calm G.listens store.old store.new (TellsGroups store.old.state store.old.groups store.new.state store.new.groups) }
+        ensures failed { HookFails store.old store.new result }
+        ensures most { TellsMost store.old.state store.old.groups store.new.state store.new.groups }
         ensures rest { store.new ≡ record store.old { state = store.new.state; groups = store.new.groups } }
     {
         let _caller = caller;
@@ -99,8 +104,7 @@ impl Instance {
                 set: Operand::Number(u64::from(set)),
             }),
         );
-        tell_call(&store.state, &mut store.groups, &before)?;
-        answer
+        tell_call(&store.state, &mut store.groups, &before, answer)
     }
 
     /// As `waitable_set_poll`, but where nothing is there the strand stops until an event comes; `go_on` takes
@@ -115,10 +119,12 @@ impl Instance {
         requires running { IsRunningIn component.now store.old.state }
         requires asks { CanAsk self.index store.old.state }
         requires caller { caller ≡ self.index }
-        ensures answers { Answers (row_of component.now (Op.Set (SetOp.Wait 0 (Operand.Number set))) store.old.state.core) event_in store.old.state result store.new.state }
+        ensures answers { Calm G.listens store.old store.new (Answers (row_of component.now (Op.Set (SetOp.Wait 0 (Operand.Number set))) store.old.state.core) event_in store.old.state result store.new.state) }
         ensures order { KeepsFit component.now (Op.Set (SetOp.Wait 0 (Operand.Number set))) store.old.state store.new.state → Sits component.now (turn_in store.new.state) store.new.state.core }
         ensures hosts { (course : H → HostDef) → HoldsHosts course store.old → HoldsHosts course store.new }
-        ensures groups { TellsGroups store.old.state store.old.groups store.new.state store.new.groups }
+        ensures groups { Calm G.listens store.old store.new (TellsGroups store.old.state store.old.groups store.new.state store.new.groups) }
+        ensures failed { HookFails store.old store.new result }
+        ensures most { TellsMost store.old.state store.old.groups store.new.state store.new.groups }
         ensures rest { store.new ≡ record store.old { state = store.new.state; groups = store.new.groups } }
     {
         let _caller = caller;
@@ -131,8 +137,7 @@ impl Instance {
                 set: Operand::Number(u64::from(set)),
             }),
         );
-        tell_call(&store.state, &mut store.groups, &before)?;
-        answer
+        tell_call(&store.state, &mut store.groups, &before, answer)
     }
 
     /// The waitable leaves its set and joins the other one, or none where that is 0; if it has an event, a
@@ -149,10 +154,12 @@ impl Instance {
         requires running { IsRunningIn component.now store.old.state }
         requires asks { CanAsk self.index store.old.state }
         requires caller { caller ≡ self.index }
-        ensures answers { Answers (row_of component.now (Op.Set (SetOp.Join (Operand.Number waitable) (Operand.Number set))) store.old.state.core) nothing_in store.old.state (at_once result) store.new.state }
+        ensures answers { Calm G.listens store.old store.new (Answers (row_of component.now (Op.Set (SetOp.Join (Operand.Number waitable) (Operand.Number set))) store.old.state.core) nothing_in store.old.state (at_once result) store.new.state) }
         ensures order { KeepsFit component.now (Op.Set (SetOp.Join (Operand.Number waitable) (Operand.Number set))) store.old.state store.new.state → Sits component.now (turn_in store.new.state) store.new.state.core }
         ensures hosts { (course : H → HostDef) → HoldsHosts course store.old → HoldsHosts course store.new }
-        ensures groups { TellsGroups store.old.state store.old.groups store.new.state store.new.groups }
+        ensures groups { Calm G.listens store.old store.new (TellsGroups store.old.state store.old.groups store.new.state store.new.groups) }
+        ensures failed { HookFails store.old store.new result }
+        ensures most { TellsMost store.old.state store.old.groups store.new.state store.new.groups }
         ensures rest { store.new ≡ record store.old { state = store.new.state; groups = store.new.groups } }
     {
         let _caller = caller;
@@ -165,7 +172,6 @@ impl Instance {
                 set: Operand::Number(u64::from(set)),
             }),
         );
-        tell_call(&store.state, &mut store.groups, &before)?;
-        answer
+        tell_call(&store.state, &mut store.groups, &before, answer)
     }
 }
