@@ -1,7 +1,5 @@
 -- Where a hook answers an error, and where it can't.
 use Rattle.std.proofs.Common.{ap, arith, inl, inr, refl, subst, sym, ◌∙◌, ◌≡◌}
-use Rattle.futures.specs.declared.task.Poll.{Poll}
-use Rattle.futures.specs.declared.task.Poll.TheVariants.{Ready}
 use Rattle.group_notices.specs.Mirror.{Mirrors}
 use Rattle.state_calls.specs.declared.error.TaskError.{TaskError}
 use Rattle.state_calls.specs.declared.error.TaskError.TheVariants as task_error
@@ -202,11 +200,6 @@ module _ {T H G : Type 0} (listens hooked : Bool) (s m t : Store T H G) (is : ho
 pub unfailed : (b : Bool) {A : Type 0} (r : Result A TaskError) (P : Type 0) → (r ≡ Err (task_error.Trap trap.HookFailed) → ⊥) → Unfailed b r P → P
 unfailed false r P other h = h
 unfailed true r P other h = h other
-
-pub or_refused : (b : Bool) {A R : Type 0} (e : TaskError) (P Q : Type 0) → Unfailed {A = A} b (Err e) P → (P → Q) → OrFailed b (◌≡◌ {A = Poll (Result R TaskError)} (Ready (Err e)) (Ready (Err (task_error.Trap trap.HookFailed)))) Q
-or_refused false e P Q h f = f h
-or_refused true (task_error.Trap trap.HookFailed) P Q h f = inr refl
-or_refused true _ P Q h f = inl (f (h (λ is. absurd (cc))))
 
 -- ---- Polls
 

@@ -85,7 +85,7 @@ impl RunConcurrent {
     /// then. Entries that `drive` took count too.
     ///
     /// What is asked of the store and of main is as for `drive`; and so is what is said where memory is wanting, and what the
-    /// groups are told.
+    /// groups are told. Where the hook that is told of them answers an error, the poll answers trap 22, as `drive` does.
     pub fn poll<T, H: AccessorTask<T> + FromHost, G: TaskGroupHook, M: MainTask<T, H, G>>(
         &mut self,
         component: &Component,

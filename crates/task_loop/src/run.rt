@@ -283,6 +283,10 @@ impl RunConcurrent {
     /// lost. Whether a run stands on the store, whether it is concurrent and its number stay. The groups of the store are told
     /// the notices of that run, in their order.
     ///
+    /// Where the hook that is told of the groups answers an error, the outcome is trap 22, which adds no label of its own: the
+    /// store is trapped, its groups are finished, the run is over, and the labels that were added are those of a run to a state
+    /// that is lost. A store without a hook never comes to that.
+    ///
     /// It yields wherever `poll` does, and goes on. So entries that it took count for the next poll where it has come to
     /// idleness, since the last of these yields. None counts where its steps were used up, since it has yielded then, nor
     /// where the run is over. Where memory is wanting, the count is as before.
