@@ -1,4 +1,4 @@
-ghost use Rattle.std.specs.Prelude.{◌≡◌, ◌+◌, ◌<◌, ◌^◌, Err, IfOk, IfSome, IsSome, None, OnErr, OnOk, [], ◌∷◌, false, is_some, length};
+ghost use Rattle.std.specs.Prelude.{◌≡◌, ◌+◌, ◌<◌, ◌^◌, Err, IfOk, IfSome, IsSome, None, OnErr, OnOk, [], ◌∷◌, false, is_some, length, true};
 ghost use Rattle.task_calls.specs.Calls.{Finishes, Starts};
 ghost use Rattle.task_calls.specs.Untrapped.{StartsUntrapped};
 ghost use Rattle.task_loop.specs.Calls.{callee_of, number_of_start};
@@ -8,7 +8,7 @@ ghost use Rattle.task_rules.specs.Scripts.{export_at};
 ghost use Rattle.task_machine.specs.declared.component.HostDef.{HostDef};
 ghost use Rattle.task_group.specs.Groups.{finish_all, numbered};
 ghost use Rattle.task_group.specs.Listeners.{AnsweredErr, Told};
-ghost use Rattle.task_loop.specs.Hooked.{Unfailed};
+ghost use Rattle.task_loop.specs.Hooked.{HookFails, Unfailed, Unhooked};
 ghost use Rattle.task_machine.specs.Write.{set_trapped};
 ghost use Rattle.task_words.specs.StateView.{on_core};
 ghost use Rattle.task_machine.specs.declared.records.NoticeKind.{NoticeKind};
@@ -18,6 +18,7 @@ ghost use Rattle.task_store.specs.Hosts.{HoldsHosts};
 ghost use Rattle.task_turns.specs.WellFormed.{IsWellFormed};
 ghost use Rattle.task_turns.specs.Turn.{Sits, given};
 
+use crate::call_tells::take_back;
 use crate::instance::Instance;
 use futures::task::Poll;
 use task_calls::{TaskError, finish_call, start_refusal, start_untrapped};
@@ -80,8 +81,9 @@ impl Func {
 
     /// Starts a call by the host with as many words as the export takes. The call is queued, and
     /// runs when a run on the store takes it. Refused with trap 20 exactly where the store is
-    /// trapped, and else with trap 18 exactly where its four entries don't fit into the table. Where
-    /// it is refused, or memory is wanting, nothing is made, and the store is trapped.
+    /// trapped, else with trap 18 exactly where its four entries don't fit into the table, and else with
+    /// trap 22 exactly where the hook answered an error. Where it is refused, or memory is wanting, nothing
+    /// is made, and the store is trapped.
     pub fn start_call_concurrent<T, H, G: TaskGroupHook>(
         self,
         component: &Component,
@@ -100,9 +102,10 @@ impl Func {
         ensures hosts { (course : H → HostDef) → HoldsHosts course store.old → HoldsHosts course store.new }
         ensures groups { HoldsGroups store.old.groups store.old.state.core → HoldsGroups store.new.groups store.new.state.core }
         ensures told { HoldsGroups store.old.groups store.old.state.core → IfOk result (λ call. Told (told_of NoticeKind.Start call.group ∷ []) store.old.groups.listeners store.new.groups.listeners) }
-        ensures counted { is_some store.old.groups.listeners.hook ≡ false → OnOk result (store.new.groups.made ≡ numbered store.old.groups.made (store.old.state.core.made.groups + 1)) }
-        ensures refused { is_some store.old.groups.listeners.hook ≡ false → OnErr result (Told (finish_all store.old.groups.live) store.old.groups.listeners store.new.groups.listeners) }
-        ensures made { is_some store.old.groups.listeners.hook ≡ false → OnErr result (store.new.groups.made ≡ store.old.groups.made) }
+        ensures counted { Unhooked G.listens store.old.groups.listeners (OnOk result (store.new.groups.made ≡ numbered store.old.groups.made (store.old.state.core.made.groups + 1))) }
+        ensures refused { Unhooked G.listens store.old.groups.listeners (OnErr result (Told (finish_all store.old.groups.live) store.old.groups.listeners store.new.groups.listeners)) }
+        ensures trapped { OnErr result (IfSome (start_refusal store.old.state.core) (λ trap. Told (finish_all store.old.groups.live) store.old.groups.listeners store.new.groups.listeners)) }
+        ensures made { Unhooked G.listens store.old.groups.listeners (OnErr result (store.new.groups.made ≡ store.old.groups.made)) }
         ensures rest { store.new ≡ record store.old { state = store.new.state; groups = store.new.groups } }
     {
         match self.start_untrapped(component, store, params) {
@@ -115,8 +118,9 @@ impl Func {
     }
 
     /// Starts a call by the host as `start_call_concurrent` does, but traps nothing: refused with trap 20
-    /// exactly where the store is trapped, and else with trap 18 exactly where its four entries don't
-    /// fit into the table. Where it is refused, or memory is wanting, all is as before.
+    /// exactly where the store is trapped, else with trap 18 exactly where its four entries don't fit into
+    /// the table, and else with trap 22 exactly where the hook answered an error. Where it is refused, or
+    /// memory is wanting, all is as before, but for what a hook was told.
     pub fn start_untrapped<T, H, G: TaskGroupHook>(
         self,
         component: &Component,
@@ -136,8 +140,10 @@ impl Func {
         ensures groups { HoldsGroups store.old.groups store.old.state.core → HoldsGroups store.new.groups store.new.state.core }
         ensures told { HoldsGroups store.old.groups store.old.state.core → IfOk result (λ call. Told (told_of NoticeKind.Start call.group ∷ []) store.old.groups.listeners store.new.groups.listeners) }
         ensures rest { store.new ≡ record store.old { state = store.new.state; groups = store.new.groups } }
-        ensures counted { is_some store.old.groups.listeners.hook ≡ false → OnOk result (store.new.groups.made ≡ numbered store.old.groups.made (store.old.state.core.made.groups + 1)) }
-        ensures refused { is_some store.old.groups.listeners.hook ≡ false → OnErr result (store.new.groups ≡ store.old.groups) }
+        ensures counted { Unhooked G.listens store.old.groups.listeners (OnOk result (store.new.groups.made ≡ numbered store.old.groups.made (store.old.state.core.made.groups + 1))) }
+        ensures refused { Unhooked G.listens store.old.groups.listeners (OnErr result (store.new.groups ≡ store.old.groups)) }
+        ensures trapped { OnErr result (IfSome (start_refusal store.old.state.core) (λ trap. store.new.groups ≡ store.old.groups)) }
+        ensures failed { HookFails store.old store.new result }
         ensures live { OnErr result (store.new.groups.live ≡ store.old.groups.live) }
     {
         match start_refusal(&store.state) {
@@ -167,8 +173,9 @@ impl Func {
         ensures groups { HoldsGroups store.old.groups store.old.state.core → HoldsGroups store.new.groups store.new.state.core }
         ensures told { HoldsGroups store.old.groups store.old.state.core → IfOk result (λ call. Told (told_of NoticeKind.Start call.group ∷ []) store.old.groups.listeners store.new.groups.listeners) }
         ensures rest { store.new ≡ record store.old { state = store.new.state; groups = store.new.groups } }
-        ensures counted { is_some store.old.groups.listeners.hook ≡ false → OnOk result (store.new.groups.made ≡ numbered store.old.groups.made (store.old.state.core.made.groups + 1)) }
-        ensures refused { is_some store.old.groups.listeners.hook ≡ false → OnErr result (store.new.groups ≡ store.old.groups) }
+        ensures counted { Unhooked G.listens store.old.groups.listeners (OnOk result (store.new.groups.made ≡ numbered store.old.groups.made (store.old.state.core.made.groups + 1))) }
+        ensures refused { Unhooked G.listens store.old.groups.listeners (OnErr result (store.new.groups ≡ store.old.groups)) }
+        ensures failed { HookFails store.old store.new result }
         ensures live { OnErr result (store.new.groups.live ≡ store.old.groups.live) }
     {
         if store.groups.is_hooked() {
@@ -192,7 +199,7 @@ impl Func {
     }
 
     // The same where a hook is told. It is told of the group before the call is made, as it may refuse it. Where memory is
-    // wanting then, the group is finished at once.
+    // wanting then, the group finishes at once.
     fn start_hooked<T, H, G: TaskGroupHook>(
         self,
         component: &Component,
@@ -205,6 +212,7 @@ impl Func {
         requires order { (p : Turn) × Sits component.now p store.old.state.core }
         requires fits { start_refusal store.old.state.core ≡ None }
         requires given { given store.old.state.core < 2 ^ 61 }
+        requires listens { G.listens ≡ true }
         ensures starts { Unfailed G.listens result (StartsUntrapped component.now (callee_of self) params.now store.old.state (start_refusal store.old.state.core) (number_of_start result) store.new.state) }
         ensures hooked { result ≡ Err (TaskError.Trap Trap.HookFailed) → (store.new.state ≡ store.old.state) × AnsweredErr store.old.groups.listeners store.new.groups.listeners }
         ensures group { IfOk result (λ call. call.group ≡ store.old.state.core.made.groups + 1) }
@@ -213,10 +221,11 @@ impl Func {
         ensures groups { HoldsGroups store.old.groups store.old.state.core → HoldsGroups store.new.groups store.new.state.core }
         ensures told { HoldsGroups store.old.groups store.old.state.core → IfOk result (λ call. Told (told_of NoticeKind.Start call.group ∷ []) store.old.groups.listeners store.new.groups.listeners) }
         ensures rest { store.new ≡ record store.old { state = store.new.state; groups = store.new.groups } }
-        ensures refused { OnErr result (store.new.groups.live ≡ store.old.groups.live) }
+        ensures failed { HookFails store.old store.new result }
+        ensures live { OnErr result (store.new.groups.live ≡ store.old.groups.live) }
     {
         let group = store.state.made().groups + 1;
-        let _made = store.groups.made();
+        let made = store.groups.made();
         let Ok(()) = store.groups.prepare(group) else {
             return Err(TaskError::NoMemory);
         };
@@ -225,10 +234,7 @@ impl Func {
         }
         match start_untrapped(&mut store.state, component, self.callee(), params) {
             Ok(thread) => Ok(FuncCallConcurrent { thread, group }),
-            Err(e) => {
-                let _finished = store.groups.decrement(TaskGroupId { number: group });
-                Err(e)
-            }
+            Err(e) => Err(take_back(&mut store.groups, made, e)),
         }
     }
 
