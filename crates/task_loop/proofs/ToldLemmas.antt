@@ -199,7 +199,7 @@ group_on x p q m n s t l sits step r is on =
 
 module _ (c : Component) (n : ℕ) (s t : StateView) (q : Stepped) (before after : List Label)
     (made : Added (λ made. Makes c (turn.Run n) s made t × IsFree made.turn) q before after) where
-  run_turns : (x : Setting) → x.component ≡ c → (m : Main) → Turns x (turn.Run n) m s made.0 m t
+  pub run_turns : (x : Setting) → x.component ≡ c → (m : Main) → Turns x (turn.Run n) m s made.0 m t
   run_turns x is m =
       makes_turns x (turn.Run n) s made.0 t (subst (λ (k : Component). Makes k (turn.Run n) s made.0 t) (sym is) (made.1.1).0) m ((made.1.1).1 x t.core m)
 

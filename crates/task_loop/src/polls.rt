@@ -85,7 +85,7 @@ impl RunConcurrent {
     /// then. Entries that `drive` took count too.
     ///
     /// What is asked of the store and of main is as for `drive`; and so is what is said where memory is wanting, and what the
-    /// groups are told.
+    /// groups are told. Where the hook that is told of them answers an error, the poll answers trap 22, as `drive` does.
     pub fn poll<T, H: AccessorTask<T> + FromHost, G: TaskGroupHook, M: MainTask<T, H, G>>(
         &mut self,
         component: &Component,
@@ -191,6 +191,7 @@ impl RunConcurrent {
     {
         let mut added = 0;
         let mut running = group_of(&store.state, self.turn).unwrap_or(0);
+        let mut why = Halt::NoMemory;
         'turns: while added < steps {
             let next = next_mark(store, self.turn);
             if self.pace.yields(next) {
@@ -198,7 +199,11 @@ impl RunConcurrent {
                 return Ok(Ok(RunPoll::Yielded));
             }
             let rests = rests(self.turn, next);
-            match self.turn(component, store, main, trace, &mut running)? {
+            let Ok(stepped) = self.turn(component, store, main, trace, &mut running, &mut why)
+            else {
+                return Err(why);
+            };
+            match stepped {
                 None => return Ok(Ok(self.idles())),
                 Some(Stepped::Over(outcome)) => return Ok(self.ends(outcome)),
                 Some(Stepped::Goes { turn, computed }) => {

@@ -77,6 +77,10 @@ pub(crate) enum Halt {
     HookFailed,
 }
 
+/// The turns stop before the run is over. Why they do is told beside, so that each turn's answer stays small.
+#[derive(Clone, Copy)]
+pub(crate) struct Halted;
+
 // Lends the store to main for an op.
 fn ask_main<T, H: HostWork, G: TaskGroupHook, M: MainTask<T, H, G>>(
     component: &Component,
@@ -113,7 +117,8 @@ fn step_main<T, H: HostWork, G: TaskGroupHook, M: MainTask<T, H, G>>(
     store: &mut Store<T, H, G>,
     main: &mut M,
     trace: &mut Trace,
-) -> Result<Stepped, Halt>
+    why: &mut Halt,
+) -> Result<Stepped, Halted>
     requires covered { IsWellFormed component.now }
     requires at { IsAtTurn component.now Turn.Main store.old.state }
     requires suits { M.suits main.old component.now }
@@ -121,6 +126,7 @@ fn step_main<T, H: HostWork, G: TaskGroupHook, M: MainTask<T, H, G>>(
     requires hosts { HoldsHosts H.course store.old }
     requires groups { HoldsGroups store.old.groups store.old.state.core }
     requires given { given store.old.state.core + 4 < 2 ^ 61 }
+    requires why { why.old ≡ Halt.NoMemory }
     ensures stands { standing store.new ≡ standing store.old }
     ensures script { M.script main.new ≡ M.script main.old }
     ensures suits { OnOk result (M.suits main.new component.now) }
@@ -131,25 +137,29 @@ fn step_main<T, H: HostWork, G: TaskGroupHook, M: MainTask<T, H, G>>(
     ensures groups { OnOk result (HoldsGroups store.new.groups store.new.state.core) }
     ensures told { IfOk result (λ stepped. Added (λ made. (trap_on_idle : Bool) → TurnTold (setting_of component.now (M.script main.old) trap_on_idle) Turn.Main (M.part main.old) store.old.state store.old.groups (Some made) (M.part main.new) store.new.state store.new.groups) stepped trace.old trace.new) }
     ensures idle { IfOk result (λ stepped. running_group store.new.state.core (turn_of stepped) ≡ None) }
+    ensures why { OnOk result (why.new ≡ Halt.NoMemory) }
     ensures err { OnErr result (trace.new ≡ trace.old) }
-    ensures failed { result ≡ Err Halt.HookFailed → AnsweredErr store.old.groups.listeners store.new.groups.listeners × (is_some store.new.groups.listeners.hook ≡ is_some store.old.groups.listeners.hook) }
+    ensures failed { OnErr result (why.new ≡ Halt.HookFailed → AnsweredErr store.old.groups.listeners store.new.groups.listeners × (is_some store.new.groups.listeners.hook ≡ is_some store.old.groups.listeners.hook)) }
 {
     let step = match ask_main(component, store, main) {
         Ok(step) => step,
-        Err(TaskError::Trap(_)) => return Err(Halt::HookFailed),
-        Err(_) => return Err(Halt::NoMemory),
+        Err(TaskError::Trap(_)) => {
+            *why = Halt::HookFailed;
+            return Err(Halted);
+        }
+        Err(_) => return Err(Halted),
     };
     // Most steps of a main pend: the label of this one is known here.
     if let MainStep::Pends = step {
         let pends = made_by_main(&store.state, MainStep::Pends);
         let Ok(stepped) = put(trace, pends) else {
-            return Err(Halt::NoMemory);
+            return Err(Halted);
         };
         return Ok(stepped);
     }
     let made = made_by_main(&store.state, step);
     let Ok(stepped) = put(trace, made) else {
-        return Err(Halt::NoMemory);
+        return Err(Halted);
     };
     Ok(stepped)
 }
@@ -223,7 +233,8 @@ fn run_thread<T, H: AccessorTask<T> + FromHost, G: TaskGroupHook>(
     thread: u64,
     trace: &mut Trace,
     running: &mut u64,
-) -> Result<Stepped, Halt>
+    why: &mut Halt,
+) -> Result<Stepped, Halted>
     requires covered { IsWellFormed component.now }
     requires order { Sits component.now (Turn.Run thread) store.old.state.core }
     requires current { running_of store.old.state ≡ Some thread }
@@ -231,6 +242,7 @@ fn run_thread<T, H: AccessorTask<T> + FromHost, G: TaskGroupHook>(
     requires running { running.old ≡ thread_group thread store.old.state.core }
     requires hosts { HoldsHosts H.course store.old }
     requires groups { HoldsGroups store.old.groups store.old.state.core }
+    requires why { why.old ≡ Halt.NoMemory }
     ensures stands { standing store.new ≡ standing store.old }
     ensures makes { IfOk result (λ stepped. Added (λ made. Makes component.now (Turn.Run thread) store.old.state made store.new.state × IsFree made.turn) stepped trace.old trace.new) }
     ensures works { OnOk result (NamesWorks store.old.state store.new.state) }
@@ -238,12 +250,13 @@ fn run_thread<T, H: AccessorTask<T> + FromHost, G: TaskGroupHook>(
     ensures groups { OnOk result (HoldsGroups store.new.groups store.new.state.core) }
     ensures running { IfOk result (λ stepped. running.new ≡ group_running store.new.state.core (turn_of stepped)) }
     ensures told { IfOk result (λ stepped. Added (λ made. RunTold component.now thread store.old.state store.old.groups made store.new.state store.new.groups) stepped trace.old trace.new) }
-    ensures err { result ≡ Err Halt.NoMemory → trace.new ≡ trace.old }
-    ensures failed { result ≡ Err Halt.HookFailed → (x : Setting) → x.component ≡ component.now → (m : Main) → StopsTurn x (Turn.Run thread) m store.old.state trace.old trace.new store.old.groups.listeners store.new.groups.listeners }
+    ensures why { OnOk result (why.new ≡ Halt.NoMemory) }
+    ensures err { OnErr result (why.new ≡ Halt.NoMemory → trace.new ≡ trace.old) }
+    ensures failed { OnErr result (why.new ≡ Halt.HookFailed → (x : Setting) → x.component ≡ component.now → (m : Main) → StopsTurn x (Turn.Run thread) m store.old.state trace.old trace.new store.old.groups.listeners store.new.groups.listeners) }
 {
     let mut staked = *running;
     let Ok(stepped) = step_thread(component, store, thread, trace, &mut staked) else {
-        return Err(Halt::NoMemory);
+        return Err(Halted);
     };
     let told = tell_run(
         &store.state,
@@ -254,7 +267,8 @@ fn run_thread<T, H: AccessorTask<T> + FromHost, G: TaskGroupHook>(
         staked,
     );
     let Ok(next) = told else {
-        return Err(Halt::HookFailed);
+        *why = Halt::HookFailed;
+        return Err(Halted);
     };
     *running = next;
     Ok(stepped)
@@ -268,6 +282,10 @@ impl RunConcurrent {
     /// memory is wanting, the store is trapped, and the labels that were added are those of such a run to a state that is
     /// lost. Whether a run stands on the store, whether it is concurrent and its number stay. The groups of the store are told
     /// the notices of that run, in their order.
+    ///
+    /// Where the hook that is told of the groups answers an error, the outcome is trap 22, which adds no label of its own: the
+    /// store is trapped, its groups are finished, the run is over, and the labels that were added are those of a run to a state
+    /// that is lost. A store without a hook never comes to that.
     ///
     /// It yields wherever `poll` does, and goes on. So entries that it took count for the next poll where it has come to
     /// idleness, since the last of these yields. None counts where its steps were used up, since it has yielded then, nor
@@ -375,10 +393,11 @@ impl RunConcurrent {
     {
         let mut added = 0;
         let mut running = group_of(&store.state, self.turn).unwrap_or(0);
+        let mut why = Halt::NoMemory;
         'turns: while added < steps {
-            let stepped = match self.turn(component, store, main, trace, &mut running) {
-                Ok(stepped) => stepped,
-                Err(halt) => return Err(halt),
+            let Ok(stepped) = self.turn(component, store, main, trace, &mut running, &mut why)
+            else {
+                return Err(why);
             };
             match stepped {
                 None => return Ok(Outcome::Idle),
@@ -411,7 +430,7 @@ impl RunConcurrent {
     }
 
     // Makes a step, adds its label to the trace, and tells the groups of the store what it gave; none where nothing can go on
-    // and that is no deadlock. `running` is the group of the thread that runs, 0 where none does.
+    // and that is no deadlock. `running` is the group of the thread that runs, 0 where none does. Where the turns stop, `why` says why.
     #[inline(always)]
     pub(crate) fn turn<T, H: AccessorTask<T> + FromHost, G: TaskGroupHook, M: MainTask<T, H, G>>(
         &self,
@@ -420,7 +439,8 @@ impl RunConcurrent {
         main: &mut M,
         trace: &mut Trace,
         running: &mut u64,
-    ) -> Result<Option<Stepped>, Halt>
+        why: &mut Halt,
+    ) -> Result<Option<Stepped>, Halted>
         requires covered { IsWellFormed component.now }
         requires at { IsAtTurn component.now self.now.turn store.old.state }
         requires suits { M.suits main.old component.now }
@@ -430,6 +450,7 @@ impl RunConcurrent {
         requires running { running.old ≡ group_running store.old.state.core self.now.turn }
         requires given { given store.old.state.core + 4 < 2 ^ 61 }
         requires pends { PendsIn (setting_of component.now (M.script main.old) self.now.trap_on_idle) store.old.state.core (M.part main.old) self.now.turn }
+        requires why { why.old ≡ Halt.NoMemory }
         ensures script { M.script main.new ≡ M.script main.old }
         ensures suits { OnOk result (M.suits main.new component.now) }
         ensures knows { OnOk result (M.knows main.new store.new.state) }
@@ -440,24 +461,26 @@ impl RunConcurrent {
         ensures groups { OnOk result (HoldsGroups store.new.groups store.new.state.core) }
         ensures running { IfOk result (λ stepped. IfSome stepped (λ stepped. running.new ≡ group_running store.new.state.core (turn_of stepped))) }
         ensures told { IfOk result (λ stepped. AddedOrNone (λ made. TurnTold (setting_of component.now (M.script main.old) self.now.trap_on_idle) self.now.turn (M.part main.old) store.old.state store.old.groups made (M.part main.new) store.new.state store.new.groups) stepped trace.old trace.new) }
-        ensures err { result ≡ Err Halt.NoMemory → trace.new ≡ trace.old }
-        ensures failed { result ≡ Err Halt.HookFailed → StopsTurn (setting_of component.now (M.script main.old) self.now.trap_on_idle) self.now.turn (M.part main.old) store.old.state trace.old trace.new store.old.groups.listeners store.new.groups.listeners }
+        ensures why { OnOk result (why.new ≡ Halt.NoMemory) }
+        ensures err { OnErr result (why.new ≡ Halt.NoMemory → trace.new ≡ trace.old) }
+        ensures failed { OnErr result (why.new ≡ Halt.HookFailed → StopsTurn (setting_of component.now (M.script main.old) self.now.trap_on_idle) self.now.turn (M.part main.old) store.old.state trace.old trace.new store.old.groups.listeners store.new.groups.listeners) }
     {
         match self.turn {
             Turn::Main => {
-                match step_main(component, store, main, trace) {
-                    Ok(stepped) => Ok(Some(stepped)),
-                    Err(halt) => Err(halt),
-                }
+                let Ok(stepped) = step_main(component, store, main, trace, why) else {
+                    return Err(Halted);
+                };
+                Ok(Some(stepped))
             }
             Turn::Futures { polled } => {
                 let mut worked = None;
                 let made = store.poll_next(polled, &mut worked);
                 let Ok(stepped) = put(trace, made) else {
-                    return Err(Halt::NoMemory);
+                    return Err(Halted);
                 };
                 let Ok(next) = tell_poll(&store.state, &mut store.groups, worked) else {
-                    return Err(Halt::HookFailed);
+                    *why = Halt::HookFailed;
+                    return Err(Halted);
                 };
                 *running = next;
                 Ok(Some(stepped))
@@ -467,13 +490,14 @@ impl RunConcurrent {
                 let idle = self.trap_on_idle;
                 let Ok(taken) = take(component, &mut store.state, ended, idle, trace, &mut worked)
                 else {
-                    return Err(Halt::NoMemory);
+                    return Err(Halted);
                 };
                 match taken {
                     None => Ok(None),
                     Some(stepped) => {
                         let Ok(next) = tell_work(&store.state, &mut store.groups, worked) else {
-                            return Err(Halt::HookFailed);
+                            *why = Halt::HookFailed;
+                            return Err(Halted);
                         };
                         *running = next;
                         Ok(Some(stepped))
@@ -481,10 +505,10 @@ impl RunConcurrent {
                 }
             }
             Turn::Run { thread } => {
-                match run_thread(component, store, thread, trace, running) {
-                    Ok(stepped) => Ok(Some(stepped)),
-                    Err(halt) => Err(halt),
-                }
+                let Ok(stepped) = run_thread(component, store, thread, trace, running, why) else {
+                    return Err(Halted);
+                };
+                Ok(Some(stepped))
             }
             Turn::Over => unreachable!(),
         }
