@@ -132,9 +132,7 @@ fn make_direct_call_with(
     ensures new { Makes (names_call (next_thread (seen parts.old).core)) (with_thread_handle callee.instance (next_thread (seen parts.old).core) (call_made (callers.Thread (thread_of (seen parts.old) thread)) callee kind goals.Direct (thread_group (thread_of (seen parts.old) thread) (seen parts.old).core) words.now (seen parts.old).core)) (seen parts.old) result (seen parts.new) }
 {
     let request = Request {
-        caller: Caller::Thread {
-            thread: number,
-        },
+        caller: Caller::Thread { thread: number },
         maker: thread.rep(),
         callee,
         kind,
