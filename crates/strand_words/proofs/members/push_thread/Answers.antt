@@ -4,7 +4,7 @@ use Rattle.strand_words.proofs.MemberAddLemmas.{as_member, member_core, member_n
 use Rattle.strand_words.proofs.members.push_thread.Goals as goal
 
 pub overflow_add-threads : goal.overflow_add-threads
-overflow_add-threads c = threads_few c.args.parts.now c.requires.sound c.args.task c.args.call c.requires.call c.args.thread
+overflow_add-threads c = let few = threads_few c.args.parts.now c.requires.sound c.args.task c.args.call c.requires.call c.args.thread in omega arith
 
 pub overflow_add-parts-in-Ok : goal.overflow_add-parts-in-Ok
 overflow_add-parts-in-Ok c = let few : c.args.parts.now.kept.used + 2 < 2 ^ 64 = member_used c.args.parts.now c.requires.sound c.requires.room in omega arith
