@@ -3,3 +3,4 @@ pub mod TellLemmas
 pub mod RunLemmas
 pub mod OnceLemmas
 pub mod QuietLemmas
+pub mod MostLemmas

@@ -1,27 +1,21 @@
 -- What runs have told.
-use Rattle.std.proofs.Common.{ap, ap₂, append-nil, append_assoc, arith, refl, subst, sym, ◌∙◌, ◌≡◌, length}
-use Rattle.std.specs.List.{list_all}
-use Rattle.std.specs.Prelude.{List, None, Option, [], true, ℕ, ◌++◌, ◌∷◌, ◌⊎◌}
+use Rattle.std.proofs.Common.{ap, ap₂, append-nil, append_assoc, refl, subst, sym, ◌∙◌, ◌≡◌}
+use Rattle.std.specs.Prelude.{List, None, Option, [], ℕ, ◌++◌, ◌∷◌, ◌⊎◌}
 use Rattle.group_laws.proofs.RunTells.{data_runs_tell_nothing, runs_tell_on}
 use Rattle.group_laws.proofs.StepTells.{notices_told, steps_tell}
 use Rattle.group_laws.specs.Groups.{OneLess}
-use Rattle.group_laws.specs.Tells.{staked, worked_group}
-use Rattle.group_notices.specs.Mirror.{Leads, told_by}
-use Rattle.group_notices.specs.Runs.{AskedTold, DataTold, HasTold, IsAsked, MainTold, NothingTold, StepTold, moment}
-use Rattle.group_notices.specs.declared.tells.Asked.{Asked}
+use Rattle.group_notices.specs.Runs.{AskedTold, DataTold, HasTold, MainTold, NothingTold, StepTold, moment}
 use Rattle.task_group.proofs.GroupLemmas.{told-append, told-none}
 use Rattle.task_group.specs.Groups.{Groups}
 use Rattle.task_group.specs.Listeners.{Told}
-use Rattle.task_machine.specs.Core.{Core, State}
+use Rattle.task_machine.specs.Core.{State}
 use Rattle.task_machine.specs.declared.label.Label.{Label}
 use Rattle.task_machine.specs.declared.records.Notice.{Notice}
 use Rattle.task_machine.specs.declared.records.Turn.{Turn}
-use Rattle.task_machine.specs.declared.records.Turn.TheVariants as turn
 use Rattle.task_rules.specs.History.{history}
-use Rattle.task_rules.specs.Notices.{around, finish_notices, moment_notices, notices, of_live, running_group, start_notices, switch_notices, work_notices}
+use Rattle.task_rules.specs.Notices.{around, finish_notices, moment_notices, notices, of_live, running_group, start_notices, switch_notices}
 use Rattle.task_rules.specs.Run.{Run}
 use Rattle.task_rules.specs.Stalled.{Setting}
-use Rattle.task_rules.specs.Step.{Step}
 
 pub nothing_told : NothingTold
 nothing_told x s before g = record { added = []; trace = sym (append-nil before); run = refl; told = told-none g.listeners }

@@ -1,2 +1,3 @@
 pub mod Mirror
 pub mod Runs
+pub mod Most

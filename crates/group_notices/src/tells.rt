@@ -1,5 +1,6 @@
-ghost use Rattle.std.specs.Prelude.{◌≡◌, ◌≤◌, List, ℕ, None, IsErr, OnOk, false, is_some, true};
+ghost use Rattle.std.specs.Prelude.{◌≡◌, ◌≢◌, ◌≤◌, ◌⊎◌, List, ℕ, None, Err, IsErr, OnOk, false, is_some, true};
 ghost use Rattle.group_notices.specs.Mirror.{Leads, Mirrors, named, told_by};
+ghost use Rattle.group_notices.specs.Most.{TellsAtMost, ToldFirst, counts_left, finished, switched, worked_on};
 ghost use Rattle.task_group.specs.Listeners.{AnsweredErr, Told, errors_of};
 ghost use Rattle.task_rules.specs.Notices.{around, finish_notices, of_live, switch_notices};
 
@@ -34,6 +35,10 @@ fn switch<H: TaskGroupHook>(
     ensures live { (groups.new.live ≡ groups.old.live) × (groups.new.made ≡ groups.old.made) }
     ensures told { OnOk result ((gs : List ℕ) → Mirrors gs groups.old → Told (of_live gs (switch_notices old new)) groups.old.listeners groups.new.listeners) }
     ensures failed { IsErr result → AnsweredErr groups.old.listeners groups.new.listeners }
+    ensures calm { OnOk result (errors_of groups.new.listeners ≡ errors_of groups.old.listeners) }
+    ensures no_other { result ≢ Err GroupError.NoMemory }
+    ensures all { OnOk result (Told (switched groups.old.live old new) groups.old.listeners groups.new.listeners) }
+    ensures most { ToldFirst (switched groups.old.live old new) groups.old.listeners groups.new.listeners }
     ensures errors { errors_of groups.old.listeners ≤ errors_of groups.new.listeners }
     ensures hook { is_some groups.new.listeners.hook ≡ is_some groups.old.listeners.hook }
 {
@@ -46,6 +51,10 @@ fn work_on<H: TaskGroupHook>(groups: &mut Groups<H>, group: Option<u64>) -> Resu
     ensures live { (groups.new.live ≡ groups.old.live) × (groups.new.made ≡ groups.old.made) }
     ensures told { OnOk result ((gs : List ℕ) → Mirrors gs groups.old → Told (of_live gs (around group)) groups.old.listeners groups.new.listeners) }
     ensures failed { IsErr result → AnsweredErr groups.old.listeners groups.new.listeners }
+    ensures calm { OnOk result (errors_of groups.new.listeners ≡ errors_of groups.old.listeners) }
+    ensures no_other { result ≢ Err GroupError.NoMemory }
+    ensures all { OnOk result (Told (worked_on groups.old.live group) groups.old.listeners groups.new.listeners) }
+    ensures most { ToldFirst (worked_on groups.old.live group) groups.old.listeners groups.new.listeners }
     ensures errors { errors_of groups.old.listeners ≤ errors_of groups.new.listeners }
     ensures hook { is_some groups.new.listeners.hook ≡ is_some groups.old.listeners.hook }
 {
@@ -59,6 +68,10 @@ fn work<H: TaskGroupHook>(groups: &mut Groups<H>, group: Option<u64>) -> Result<
     ensures live { (groups.new.live ≡ groups.old.live) × (groups.new.made ≡ groups.old.made) }
     ensures told { OnOk result ((gs : List ℕ) → Mirrors gs groups.old → Told (of_live gs (around group)) groups.old.listeners groups.new.listeners) }
     ensures failed { IsErr result → AnsweredErr groups.old.listeners groups.new.listeners }
+    ensures calm { OnOk result (errors_of groups.new.listeners ≡ errors_of groups.old.listeners) }
+    ensures no_other { result ≢ Err GroupError.NoMemory }
+    ensures all { OnOk result (Told (worked_on groups.old.live group) groups.old.listeners groups.new.listeners) }
+    ensures most { ToldFirst (worked_on groups.old.live group) groups.old.listeners groups.new.listeners }
     ensures errors { errors_of groups.old.listeners ≤ errors_of groups.new.listeners }
     ensures hook { is_some groups.new.listeners.hook ≡ is_some groups.old.listeners.hook }
 {
@@ -79,12 +92,15 @@ fn finish_some<H: TaskGroupHook>(
     ensures told { OnOk result ((gs hs : List ℕ) → Mirrors gs groups.old → Leads asked left gs hs → Told (finish_notices gs hs) groups.old.listeners groups.new.listeners) }
     ensures mirrors { (gs hs : List ℕ) → Mirrors gs groups.old → Leads asked left gs hs → Mirrors hs groups.new }
     ensures failed { IsErr result → AnsweredErr groups.old.listeners groups.new.listeners }
+    ensures calm { OnOk result (errors_of groups.new.listeners ≡ errors_of groups.old.listeners) }
+    ensures no_other { result ≢ Err GroupError.NoMemory }
+    ensures counts { (groups.new.live ≡ groups.old.live) ⊎ (groups.new.live ≡ counts_left groups.old.live asked.staked left) }
+    ensures most { ToldFirst (finished groups.old.live asked.staked left) groups.old.listeners groups.new.listeners }
     ensures errors { errors_of groups.old.listeners ≤ errors_of groups.new.listeners }
     ensures hook { is_some groups.new.listeners.hook ≡ is_some groups.old.listeners.hook }
 {
     if left == 0 {
-        groups.clean_up(None);
-        return Ok(());
+        return groups.finish_all();
     }
     if left < groups.len() {
         groups.decrement(TaskGroupId {
@@ -105,6 +121,10 @@ fn finish<H: TaskGroupHook>(
     ensures told { OnOk result ((gs hs : List ℕ) → Mirrors gs groups.old → Leads asked.now left gs hs → Told (finish_notices gs hs) groups.old.listeners groups.new.listeners) }
     ensures mirrors { (gs hs : List ℕ) → Mirrors gs groups.old → Leads asked.now left gs hs → Mirrors hs groups.new }
     ensures failed { IsErr result → AnsweredErr groups.old.listeners groups.new.listeners }
+    ensures calm { OnOk result (errors_of groups.new.listeners ≡ errors_of groups.old.listeners) }
+    ensures no_other { result ≢ Err GroupError.NoMemory }
+    ensures counts { (groups.new.live ≡ groups.old.live) ⊎ (groups.new.live ≡ counts_left groups.old.live asked.now.staked left) }
+    ensures most { ToldFirst (finished groups.old.live asked.now.staked left) groups.old.listeners groups.new.listeners }
     ensures errors { errors_of groups.old.listeners ≤ errors_of groups.new.listeners }
     ensures hook { is_some groups.new.listeners.hook ≡ is_some groups.old.listeners.hook }
 {
@@ -115,9 +135,10 @@ fn finish<H: TaskGroupHook>(
 }
 
 /// Tells groups, which stand for those of a core, what a step gave: before it this was asked, after it a
-/// thread of the group `running` runs, or none, and `left` groups are live. An error is the hook's; after it the
-/// rest isn't told. It takes time that grows with the logarithm of the number of live groups, and where
-/// all are finished with that number. It is inlined, as most steps give nothing.
+/// thread of the group `running` runs, or none, and `left` groups are live. An error is the hook's, and where it
+/// answers one, so does this; after one at an exit or an enter the rest isn't told. It takes time that grows with
+/// the logarithm of the number of live groups, and where all are finished with that number. It is inlined, as most
+/// steps give nothing.
 #[inline(always)]
 pub fn tell_step<H: TaskGroupHook>(
     groups: &mut Groups<H>,
@@ -129,6 +150,9 @@ pub fn tell_step<H: TaskGroupHook>(
     ensures told { OnOk result ((gs hs : List ℕ) → Mirrors gs groups.old → Leads asked.now left gs hs → Told (told_by asked.now running gs hs) groups.old.listeners groups.new.listeners) }
     ensures mirrors { OnOk result ((gs hs : List ℕ) → Mirrors gs groups.old → Leads asked.now left gs hs → Mirrors hs groups.new) }
     ensures failed { IsErr result → AnsweredErr groups.old.listeners groups.new.listeners }
+    ensures calm { OnOk result (errors_of groups.new.listeners ≡ errors_of groups.old.listeners) }
+    ensures no_other { result ≢ Err GroupError.NoMemory }
+    ensures most { TellsAtMost asked.now running left groups.old groups.new }
     ensures errors { errors_of groups.old.listeners ≤ errors_of groups.new.listeners }
     ensures hook { is_some groups.new.listeners.hook ≡ is_some groups.old.listeners.hook }
 {

@@ -172,6 +172,7 @@ fn fails_at(rt: &impl Abort, alloc: Global, kind: u64, first: u64, want: u64) {
     made(rt, &mut groups, first.wrapping_mul(2));
     let answers = (switches(&mut groups, Some(1), 2), lowers(&mut groups, 1));
     assert!(rt; answers == fails_elsewhere(kind));
+    assert!(rt; groups.finish_all().is_ok() == (kind != FINISH));
     assert!(rt; told.get() == want);
 }
 
@@ -186,9 +187,9 @@ fn fails_elsewhere(kind: u64) -> (bool, bool) {
 #[test]
 fn failing_hooks(rt: HostRuntime) {
     fails_at(&rt, rt.alloc(), START, 0, 11_11);
-    fails_at(&rt, rt.alloc(), ENTER, 1, 11_12_31_22_41);
-    fails_at(&rt, rt.alloc(), EXIT, 1, 11_12_31_41);
-    fails_at(&rt, rt.alloc(), FINISH, 1, 11_12_31_22_41);
+    fails_at(&rt, rt.alloc(), ENTER, 1, 11_12_31_22_41_42);
+    fails_at(&rt, rt.alloc(), EXIT, 1, 11_12_31_41_42);
+    fails_at(&rt, rt.alloc(), FINISH, 1, 11_12_31_22_41_42);
 }
 
 #[test]

@@ -1,6 +1,7 @@
 -- The numbers of live groups, and notices that are told one after another.
-use Rattle.std.proofs.Common.{◌≡◌, ◌≢◌, ℕ, zero, suc, ◌+◌, ◌-◌, ◌<◌, ◌≤◌, List, [], ◌∷◌, ◌++◌, length, map, take, refl, sym, ap, subst, ◌∙◌, arith, Bool, true, false, cond, append_assoc, append-nil, length-append}
-use Rattle.std.specs.Prelude.{Option, Some, None, IsSome, is_some, ◌==◌}
+use Rattle.std.proofs.Common.{◌≡◌, ◌≢◌, ℕ, zero, suc, ◌+◌, ◌-◌, ◌<◌, ◌≤◌, List, [], ◌∷◌, ◌++◌, length, map, take, refl, sym, ap, subst, ◌∙◌, arith, Bool, true, false, cond, append_assoc, append-nil, inl, inr, length-append}
+use Rattle.std.proofs.Math.Nat.{eq-or-lt_of_le}
+use Rattle.std.specs.Prelude.{Option, Some, None, IsSome, is_some, ◌==◌, ◌↔◌}
 use Rattle.std.specs.Option.{option_map}
 use Rattle.std.specs.Ordering.{nat_cmp, eq_by_cmp}
 use Rattle.std.specs.Cmp.{nat_cmp_total, unsigned_tied}
@@ -9,7 +10,7 @@ use Rattle.std.proofs.lemmas.Bool.Decides.{nat_tests}
 use Rattle.std.proofs.lemmas.Grind.{common_steps}
 use Rattle.std.proofs.lemmas.List.{length-take, map-append}
 use Rattle.task_machine.specs.declared.records.Notice.{Notice}
-use Rattle.task_group.specs.Listeners.{Listeners, told_of, Told}
+use Rattle.task_group.specs.Listeners.{AnsweredErr, Listeners, told_of, Told, errors_of}
 use Rattle.task_group.specs.Counts.{Counts}
 use Rattle.task_group.specs.Groups.{IsKnown, Switches, finish_number, numbered}
 
@@ -153,6 +154,18 @@ told-append ns ms a b c first second = record {
   same_room = second.same_room ∙ first.same_room;
   errors = omega (arith, first.errors, second.errors);
 }
+
+-- where the hook answered no error, it has answered as many as before
+pub still_calm : {ns : List Notice} (a b : Listeners) → Told ns a b → (AnsweredErr a b → ⊥) → errors_of b ≡ errors_of a
+still_calm a b told none = elim (eq-or-lt_of_le told.errors) [
+  | inl e ↦ sym e
+  | inr lt ↦ absurd (none lt)
+]
+
+-- the flag says whether it answered none
+pub failed_is : (b : Bool) (x y : Listeners) → (b ≡ true → errors_of y ≡ errors_of x) → (b ≡ false → AnsweredErr x y) → (b ≡ false) ↔ AnsweredErr x y
+failed_is true x y same err = (λ e. absurd (cc), λ lt. let e = same refl in absurd (omega (arith, e, lt)))
+failed_is false x y same err = (err, λ lt. refl)
 
 module _ (keys₀ keys₁ done : List ℕ) (a b : Listeners) (split : keys₀ ≡ done ++ keys₁) (told : Told (map finish_number done) a b) where
   -- one more group is finished

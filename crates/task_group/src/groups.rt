@@ -267,7 +267,24 @@ impl<H: TaskGroupHook> Groups<H> {
         ensures told { Told (notice_at self.old.live NoticeKind.Exit current ++ finish_all self.old.live) self.old.listeners self.new.listeners }
     {
         let _ = self.tell_if_live(NoticeKind::Exit, current);
-        finish_each(&mut self.counts, &mut self.listeners);
+        let _ = finish_each(&mut self.counts, &mut self.listeners);
+    }
+
+    /// Finishes all groups, as `clean_up` does where none is current, but tells of the hook's errors.
+    ///
+    /// `HookFailed` exactly where the hook answered an error; all are told of, and finished, all the same.
+    pub fn finish_all(&mut self) -> Result<(), GroupError>
+        ensures live { self.new.live ≡ finite.empty }
+        ensures made { self.new.made ≡ self.old.made }
+        ensures told { Told (finish_all self.old.live) self.old.listeners self.new.listeners }
+        ensures failed { (result ≡ Err GroupError.HookFailed) ↔ AnsweredErr self.old.listeners self.new.listeners }
+        ensures no_other { result ≢ Err GroupError.NoMemory }
+    {
+        if finish_each(&mut self.counts, &mut self.listeners) {
+            Ok(())
+        } else {
+            Err(GroupError::HookFailed)
+        }
     }
 
     /// How many tasks the group has, 0 for a finished one.
@@ -334,12 +351,20 @@ fn is_same(old: Option<TaskGroupId>, new: Option<TaskGroupId>) -> bool
     }
 }
 
-// Each live group is finished, in order of number.
-fn finish_each<H: TaskGroupHook>(counts: &mut Live, listeners: &mut Listeners<H>)
+// Each live group is finished, in order of number. Answers whether the hook answered no error.
+fn finish_each<H: TaskGroupHook>(counts: &mut Live, listeners: &mut Listeners<H>) -> bool
     ensures live { counts.new ≡ finite.empty }
     ensures told { Told (finish_all counts.old) listeners.old listeners.new }
+    ensures failed { (result ≡ false) ↔ AnsweredErr listeners.old listeners.new }
 {
+    let mut calm = true;
     while let Some(number) = counts.pop_first() {
-        let _ = listeners.tell(NoticeKind::Finish, TaskGroupId { number });
+        if listeners
+            .tell(NoticeKind::Finish, TaskGroupId { number })
+            .is_err()
+        {
+            calm = false;
+        }
     }
+    calm
 }

@@ -1,22 +1,23 @@
 -- What the groups of a store are told of a call between runs.
 use Rattle.group_laws.proofs.ListLemmas.{finish_none}
 use Rattle.group_laws.specs.Groups.{OneLess}
+use Rattle.group_notices.proofs.MostLemmas.{first_none}
 use Rattle.group_notices.specs.Mirror.{Leads, Mirrors, told_by}
+use Rattle.group_notices.specs.Most.{TellsAtMost}
 use Rattle.group_notices.specs.declared.tells.Asked.{Asked}
-use Rattle.std.proofs.Common.{ap, ap₂, append-nil, arith, refl, subst, sym, ◌∙◌}
+use Rattle.std.proofs.Common.{ap, ap₂, append-nil, arith, inl, refl, subst, sym, ◌∙◌}
 use Rattle.std.proofs.lemmas.Bool.Decides.{nat_tests}
-use Rattle.std.specs.Option.{option_map_or}
-use Rattle.std.specs.Prelude.{Bool, Err, IsErr, List, None, Ok, OnOk, Option, Result, Some, [], false, if◌then◌else◌, is_some, length, true, ℕ, ◌++◌, ◌==◌, ◌≡◌, ◌≤◌, ◌⊎◌}
+use Rattle.std.specs.Prelude.{Bool, Err, IsErr, List, None, Ok, OnOk, Option, Result, Some, [], false, if◌then◌else◌, is_some, length, true, ℕ, ◌++◌, ◌==◌, ◌≡◌, ◌⊎◌}
 use Rattle.task_group.proofs.GroupLemmas.{told-none}
 use Rattle.task_group.specs.Groups.{Groups}
 use Rattle.task_group.specs.Listeners.{AnsweredErr, Listeners, Told}
 use Rattle.task_group.specs.declared.notice.GroupError.{GroupError}
 use Rattle.task_loop.proofs.LessenLemmas.{Lessens}
 use Rattle.task_loop.proofs.StartLemmas.{none_errors}
-use Rattle.task_loop.specs.Told.{asked_now, call_notices, current_group}
+use Rattle.task_loop.specs.Told.{TellsMost, asked_now, call_notices, current_group}
 use Rattle.task_machine.specs.declared.records.Notice.{Notice}
 use Rattle.task_machine.specs.declared.records.NoticeKind.TheVariants as notice
-use Rattle.task_rules.specs.Notices.{finish_notices, group_notice, of_live, same_group, switch_notices}
+use Rattle.task_rules.specs.Notices.{finish_notices, group_notice, of_live, switch_notices}
 use Rattle.task_store.specs.Groups.{HoldsGroups}
 use Rattle.task_words.specs.StateView.{StateView}
 
@@ -66,3 +67,12 @@ unhooked_ok P (Err e) a b none same failed h =
     let after = none_errors b.hook (same ∙ none) in
     let lt : AnsweredErr a b = failed refl in
     absurd (omega (arith, before, after, lt))
+
+-- ---- Whatever the groups stood for
+
+pub most_told : (s t : StateView) (a : Asked) (g : ℕ) → a ≡ asked_now s g → (old new : Groups) → TellsAtMost a (current_group t) (length t.core.groups) old new → TellsMost s old t new
+most_told s t a g asks old new most = (g, subst (λ (b : Asked). TellsAtMost b (current_group t) (length t.core.groups) old new) asks most)
+
+-- nothing is changed
+pub most_still : (s : StateView) (g : Groups) → TellsMost s g s g
+most_still s g = (0, record { made = refl; live = inl refl; told = first_none _ g.listeners })

@@ -15,19 +15,21 @@ use Rattle.std.specs.FinMap as finite
 use Rattle.std.specs.Prelude.{Bool, Err, IsSome, List, None, Ok, Option, Result, Some, [], false, if◌then◌else◌, is_some, true, ℕ, ◌+◌, ◌++◌, ◌∷◌, ◌≡◌, ◌≤◌}
 use Rattle.task_calls.specs.Tasks.{Begins, task_begun, task_made}
 use Rattle.task_group.proofs.GroupLemmas.{told-append, told-none}
-use Rattle.task_group.specs.Groups.{Groups, finish_all}
+use Rattle.task_group.specs.Counts.{Counts}
+use Rattle.task_group.specs.Groups.{Groups, finish_all, numbered}
 use Rattle.task_group.specs.Listeners.{Listeners, Told}
 use Rattle.task_loop.proofs.LessenLemmas.{ended_aside}
 use Rattle.task_loop.proofs.StartLemmas.{trapped_holds}
-use Rattle.task_loop.specs.Told.{begin_notices, begun_notices, groups_with}
+use Rattle.task_loop.specs.Told.{BeginsGroup, BeginsOver, begin_notices, begun_at, begun_notices, counts_with, groups_with, made_with}
 use Rattle.task_machine.specs.Core.{Core}
 use Rattle.task_machine.specs.Write.{add_call, add_group, add_thread, on_thread, set_place, set_trapped}
 use Rattle.task_machine.specs.declared.component.ExportKind.{ExportKind}
 use Rattle.task_machine.specs.declared.records.Place.TheVariants as place
 use Rattle.task_machine.specs.declared.records.Notice.{Notice}
+use Rattle.task_machine.specs.declared.records.NoticeKind.TheVariants as notice
 use Rattle.task_machine.specs.declared.trap.Trap.TheVariants as trap
 use Rattle.task_rules.specs.Calls.{call_made}
-use Rattle.task_rules.specs.Notices.{finish_notices}
+use Rattle.task_rules.specs.Notices.{finish_notices, told_of}
 use Rattle.task_store.proofs.HostLemmas.{holds_same}
 use Rattle.task_store.specs.Groups.{HoldsGroups}
 use Rattle.task_store.specs.Hosts.{HoldsWorks}
@@ -115,6 +117,21 @@ begun_holds x i s g h holds known live made hook = record {
   unhooked = hook ∙ holds.unhooked;
 }
 
+-- whatever the groups stood for: the new one was told of
+pub begins_new : (s : Core) (g m h : Groups) → m ≡ record g { live = finite.insert g.live m.made 1; made = m.made } → m.made ≡ numbered g.made (s.made.groups + 1) → (h.live ≡ m.live) × (h.made ≡ m.made) →
+    Told (told_of notice.Start m.made ∷ []) m.listeners h.listeners → BeginsGroup None s g h
+begins_new s g m h ok number same told = record {
+  made = same.1 ∙ number;
+  live = same.0 ∙ (ap (λ (k : Groups). k.live) ok ∙ ap (λ (k : ℕ). finite.insert g.live k 1) (sym same.1));
+  told = subst (λ (k : ℕ). Told (told_of notice.Start k ∷ []) g.listeners h.listeners) (sym same.1)
+      (subst (λ (l : Listeners). Told (told_of notice.Start m.made ∷ []) l h.listeners) (ap (λ (k : Groups). k.listeners) ok) told);
+}
+
+-- a task with a caller begins none
+pub called_begins : (f : Option QualifiedThreadId) (s : Core) (g : Groups) → is_some f ≡ true → BeginsGroup f s g g
+called_begins None s g e = absurd (cc)
+called_begins (Some id) s g e = record { made = refl; live = refl; told = told-none g.listeners }
+
 made_trapped : (x : ExportKind) (i : ℕ) (f : Option QualifiedThreadId) (s : StateView) → (task_made x i f s).trapped ≡ s.core.trapped
 unfolding call_made add_call add_thread add_group
 made_trapped x i None s = refl
@@ -131,6 +148,34 @@ module _ (x : ExportKind) (i : ℕ) (f : Option QualifiedThreadId) (s t : StateV
 
   as_state : (b : Bool) → t.core.trapped ≡ b → s.core.trapped ≡ b
   as_state b e = sym (trapped_is s.core.trapped refl) ∙ e
+
+  module _ (old g : Groups) (begun : BeginsGroup f s.core old g) (h : Groups) where
+    abbrev Over : Bool → Type 0
+    Over b =
+        (h.live ≡ (if b then finite.empty else counts_with f h.made old.live))
+        × Told (begun_at f h.made ++ (if b then finish_all (counts_with f h.made old.live) else [])) old.listeners h.listeners
+
+    over_told : h.made ≡ g.made → Told (finish_all g.live) g.listeners h.listeners → Told (begun_at f h.made ++ finish_all (counts_with f h.made old.live)) old.listeners h.listeners
+    over_told made all =
+        subst (λ (k : ℕ). Told (begun_at f k ++ finish_all (counts_with f k old.live)) old.listeners h.listeners) (sym made)
+        (told-append (begun_at f g.made) _ old.listeners g.listeners h.listeners begun.told
+        (subst (λ (live : Counts). Told (finish_all live) g.listeners h.listeners) begun.live all))
+
+    -- told of once it was made, and finished in a trapped store
+    pub begins_over : (t.core.trapped ≡ false → h ≡ g) → (t.core.trapped ≡ true → (h.live ≡ finite.empty) × (h.made ≡ g.made)) →
+        (t.core.trapped ≡ true → Told (finish_all g.live) g.listeners h.listeners) → BeginsOver f s.core old h
+    begins_over opens live all = record { made = made s.core.trapped refl; live = (by s.core.trapped refl).0; told = (by s.core.trapped refl).1 }
+      where
+        by : (b : Bool) → s.core.trapped ≡ b → Over b
+        by true e = let shut = trapped_is true e in let done = live shut in (done.0, over_told done.1 (all shut))
+        by false e =
+            let same : h ≡ g = opens (trapped_is false e) in
+            subst (λ (k : Groups). (k.live ≡ counts_with f k.made old.live) × Told (begun_at f k.made ++ []) old.listeners k.listeners) (sym same)
+            (begun.live, subst (λ (ns : List Notice). Told ns old.listeners g.listeners) (sym (append-nil (begun_at f g.made))) begun.told)
+
+        made : (b : Bool) → s.core.trapped ≡ b → h.made ≡ made_with f s.core old.made
+        made true e = (live (trapped_is true e)).1 ∙ begun.made
+        made false e = ap (λ (k : Groups). k.made) (opens (trapped_is false e)) ∙ begun.made
 
   module _ (g : Groups) (holds : HoldsGroups g (task_made x i f s)) where
     pub open_holds : t.core.trapped ≡ false → HoldsGroups g t.core

@@ -1,10 +1,13 @@
 -- What the steps of a run tell the groups of the store.
+use Rattle.std.specs.FinMap as finite
 use Rattle.std.specs.Option.{option_map}
 use Rattle.state_calls.specs.declared.names.QualifiedThreadId.{QualifiedThreadId}
-use Rattle.std.specs.Prelude.{Bool, List, None, Option, Some, [], false, if◌then◌else◌, unwrap_or, ℕ, ◌++◌, ◌+◌, ◌==◌, ◌∷◌, ◌≡◌}
+use Rattle.std.specs.Prelude.{Bool, List, None, Option, Some, [], false, if◌then◌else◌, length, unwrap_or, ℕ, ◌++◌, ◌+◌, ◌==◌, ◌∷◌, ◌≡◌}
 use Rattle.group_notices.specs.declared.tells.Asked.{Asked}
+use Rattle.group_notices.specs.Most.{TellsAtMost}
 use Rattle.group_notices.specs.Runs.{moment}
-use Rattle.task_group.specs.Groups.{Groups}
+use Rattle.task_group.specs.Counts.{Counts}
+use Rattle.task_group.specs.Groups.{Groups, finish_all, numbered}
 use Rattle.task_group.specs.Listeners.{Told}
 use Rattle.task_machine.specs.Core.{Core, Main}
 use Rattle.task_machine.specs.Read.{thread_group}
@@ -85,6 +88,10 @@ call_notices s t =
 abbrev pub TellsGroups : StateView → Groups → StateView → Groups → Type 0
 TellsGroups s old t new = HoldsGroups old s.core → HoldsGroups new t.core × Told (call_notices s t) old.listeners new.listeners
 
+-- Whatever they stood for: none was made, none finished but as the call has it, and no other notices were told than its own.
+abbrev pub TellsMost : StateView → Groups → StateView → Groups → Type 0
+TellsMost s old t new = (staked : ℕ) × TellsAtMost (asked_now s staked) (current_group t) (length t.core.groups) old new
+
 -- the next group starts
 abbrev pub start_of_group : Core → Notice
 start_of_group s = told_of notice.Start (s.made.groups + 1)
@@ -102,3 +109,31 @@ groups_with None s = s.groups ++ (s.made.groups + 1) ∷ []
 -- the same where in a trapped store all groups are finished then
 abbrev pub begin_notices : Option QualifiedThreadId → Core → List Notice
 begin_notices f s = begun_notices f s ++ (if s.trapped then finish_notices (groups_with f s) [] else [])
+
+-- ---- Whatever the groups stood for
+
+-- how many were made, with the one that a task without a caller begins
+abbrev pub made_with : Option QualifiedThreadId → Core → (made : ℕ) → ℕ
+made_with (Some id) s made = made
+made_with None s made = numbered made (s.made.groups + 1)
+
+-- the counts with that one, which was made last
+abbrev pub counts_with : Option QualifiedThreadId → (made : ℕ) → Counts → Counts
+counts_with (Some id) made live = live
+counts_with None made live = finite.insert live made 1
+
+abbrev pub begun_at : Option QualifiedThreadId → (made : ℕ) → List Notice
+begun_at (Some id) made = []
+begun_at None made = told_of notice.Start made ∷ []
+
+-- A group was begun where the task has no caller.
+pub record BeginsGroup (f : Option QualifiedThreadId) (s : Core) (old new : Groups) : Type 0 where
+  pub made : new.made ≡ made_with f s old.made
+  pub live : new.live ≡ counts_with f new.made old.live
+  pub told : Told (begun_at f new.made) old.listeners new.listeners
+
+-- The same, where in a trapped store all groups are finished then.
+pub record BeginsOver (f : Option QualifiedThreadId) (s : Core) (old new : Groups) : Type 0 where
+  pub made : new.made ≡ made_with f s old.made
+  pub live : new.live ≡ (if s.trapped then finite.empty else counts_with f new.made old.live)
+  pub told : Told (begun_at f new.made ++ (if s.trapped then finish_all (counts_with f new.made old.live) else [])) old.listeners new.listeners

@@ -2,6 +2,7 @@
 ghost use Rattle.std.specs.Prelude.{◌≡◌, IfSome, List, false, is_some, length, unwrap_or, ℕ};
 ghost use Rattle.group_laws.specs.Groups.{stake, stake_of};
 ghost use Rattle.group_notices.specs.Mirror.{Leads, Mirrors, told_by};
+ghost use Rattle.group_notices.specs.Most.{TellsAtMost};
 ghost use Rattle.task_calls.specs.Asks.{IsRunningIn};
 ghost use Rattle.task_group.specs.Listeners.{Told};
 ghost use Rattle.task_loop.specs.Told.{asked_now, current_group};
@@ -65,6 +66,7 @@ pub(crate) fn asked_here(component: &Component, core: &TaskCore) -> Asked
 pub(crate) fn tell_call(core: &TaskCore, groups: &mut Groups, asked: &Asked)
     ensures told { is_some groups.old.listeners.hook ≡ false → (gs : List ℕ) → Mirrors gs groups.old → Leads asked.now (length core.now.core.groups) gs core.now.core.groups → Told (told_by asked.now (current_group core.now) gs core.now.core.groups) groups.old.listeners groups.new.listeners }
     ensures mirrors { is_some groups.old.listeners.hook ≡ false → (gs : List ℕ) → Mirrors gs groups.old → Leads asked.now (length core.now.core.groups) gs core.now.core.groups → Mirrors core.now.core.groups groups.new }
+    ensures most { TellsAtMost asked.now (current_group core.now) (length core.now.core.groups) groups.old groups.new }
     ensures made { groups.new.made ≡ groups.old.made }
     ensures hook { is_some groups.new.listeners.hook ≡ is_some groups.old.listeners.hook }
 {

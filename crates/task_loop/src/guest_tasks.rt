@@ -1,5 +1,5 @@
 //! The calls of a store's state that begin or end a task, or have another thread run. The groups of the store are told so.
-ghost use Rattle.std.specs.Prelude.{[], ◌∷◌, ◌≡◌, ◌<◌, ◌^◌, IfOk, IfSome, IsSome, None, OnErr, OnOk, false, true};
+ghost use Rattle.std.specs.Prelude.{[], ◌∷◌, ◌≡◌, ◌<◌, ◌^◌, IfOk, IfSome, IsSome, None, OnErr, OnOk, false, is_some, true};
 ghost use Rattle.std.specs.FinMap as finite;
 ghost use Rattle.state_calls.specs.Currents.{IsCurrent, LeavesNobody, LosesNoWake, MayRun, now_runs, number_in, runner};
 ghost use Rattle.state_calls.specs.Ends.{Ends, MayEnd};
@@ -7,7 +7,7 @@ ghost use Rattle.state_calls.specs.Named.{IsLive};
 ghost use Rattle.task_calls.specs.Tasks.{Begins, entries_of, task_made};
 ghost use Rattle.task_group.specs.Groups.{finish_all};
 ghost use Rattle.task_group.specs.Listeners.{Told};
-ghost use Rattle.task_loop.specs.Told.{TellsGroups, asked_now, begin_notices, begun_notices, start_of_group};
+ghost use Rattle.task_loop.specs.Told.{BeginsGroup, BeginsOver, TellsGroups, TellsMost, asked_now, begin_notices, begun_notices, start_of_group};
 ghost use Rattle.task_machine.specs.Maps.{get};
 ghost use Rattle.task_machine.specs.Read.{fits, thread_group};
 ghost use Rattle.task_machine.specs.declared.component.HostDef.{HostDef};
@@ -41,7 +41,8 @@ fn make_with_group<T, H>(
     ensures groups { HoldsGroups store.old.groups store.old.state.core → OnOk result (HoldsGroups store.new.groups (task_made kind instance None store.old.state)) }
     ensures told { HoldsGroups store.old.groups store.old.state.core → OnOk result (Told (start_of_group store.old.state.core ∷ []) store.old.groups.listeners store.new.groups.listeners) }
     ensures kept { HoldsGroups store.old.groups store.old.state.core → OnErr result (HoldsGroups store.new.groups store.old.state.core) }
-    ensures refused { OnErr result (store.new.groups.listeners ≡ store.old.groups.listeners) }
+    ensures refused { OnErr result (store.new.groups ≡ store.old.groups) }
+    ensures begun { is_some store.old.groups.listeners.hook ≡ false → OnOk result (BeginsGroup None store.old.state.core store.old.groups store.new.groups) }
     ensures rest { store.new ≡ record store.old { state = store.new.state; groups = store.new.groups } }
 {
     if !store.state.fits(4) {
@@ -78,7 +79,8 @@ fn make<T, H>(
     ensures groups { HoldsGroups store.old.groups store.old.state.core → OnOk result (HoldsGroups store.new.groups (task_made kind instance caller store.old.state)) }
     ensures told { HoldsGroups store.old.groups store.old.state.core → OnOk result (Told (begun_notices caller store.old.state.core) store.old.groups.listeners store.new.groups.listeners) }
     ensures kept { HoldsGroups store.old.groups store.old.state.core → OnErr result (HoldsGroups store.new.groups store.old.state.core) }
-    ensures refused { OnErr result (store.new.groups.listeners ≡ store.old.groups.listeners) }
+    ensures refused { OnErr result (store.new.groups ≡ store.old.groups) }
+    ensures begun { is_some store.old.groups.listeners.hook ≡ false → OnOk result (BeginsGroup caller store.old.state.core store.old.groups store.new.groups) }
     ensures rest { store.new ≡ record store.old { state = store.new.state; groups = store.new.groups } }
 {
     match caller {
@@ -115,7 +117,8 @@ pub fn new_guest_task<T, H>(
     ensures hosts { (course : H → HostDef) → HoldsHosts course store.old → HoldsHosts course store.new }
     ensures groups { HoldsGroups store.old.groups store.old.state.core → HoldsGroups store.new.groups store.new.state.core }
     ensures told { HoldsGroups store.old.groups store.old.state.core → OnOk result (Told (begin_notices caller store.old.state.core) store.old.groups.listeners store.new.groups.listeners) }
-    ensures refused { OnErr result (store.new.groups.listeners ≡ store.old.groups.listeners) }
+    ensures begun { is_some store.old.groups.listeners.hook ≡ false → OnOk result (BeginsOver caller store.old.state.core store.old.groups store.new.groups) }
+    ensures refused { OnErr result (store.new.groups ≡ store.old.groups) }
     ensures rest { store.new ≡ record store.old { state = store.new.state; groups = store.new.groups } }
 {
     match make(store, kind, instance, caller) {
@@ -141,6 +144,7 @@ pub fn set_thread<T, H>(
     ensures wakes { LosesNoWake (runner store.old.state) (number_in store.old.state thread) store.old.state.core → NoWakeLost store.old.state.core → NoWakeLost store.new.state.core }
     ensures hosts { (course : H → HostDef) → HoldsHosts course store.old → HoldsHosts course store.new }
     ensures groups { TellsGroups store.old.state store.old.groups store.new.state store.new.groups }
+    ensures most { TellsMost store.old.state store.old.groups store.new.state store.new.groups }
     ensures rest { store.new ≡ record store.old { state = store.new.state; groups = store.new.groups } }
 {
     let before = asked(&store.state);
@@ -173,6 +177,7 @@ pub fn cleanup_thread<T, H>(
     ensures wakes { MayLeave (thread_of store.old.state thread.thread) store.old.state.core → NoWakeLost store.old.state.core → NoWakeLost store.new.state.core }
     ensures hosts { (course : H → HostDef) → HoldsHosts course store.old → HoldsHosts course store.new }
     ensures groups { TellsGroups store.old.state store.old.groups store.new.state store.new.groups }
+    ensures most { TellsMost store.old.state store.old.groups store.new.state store.new.groups }
     ensures rest { store.new ≡ record store.old { state = store.new.state; groups = store.new.groups } }
 {
     let before = asked_end(&store.state, thread);

@@ -3,7 +3,7 @@ ghost use Rattle.std.specs.Prelude.{◌==◌, ◌≡◌, ◌<◌, ℕ, cond, is_
 ghost use Rattle.task_calls.specs.Answers.{at_once, number_in};
 ghost use Rattle.task_calls.specs.Asks.{Answers, CanAsk, IsAtPlace, IsRunningIn, turn_in};
 ghost use Rattle.task_calls.specs.Polled.{blocks_row, polls_row, value_in};
-ghost use Rattle.task_loop.specs.Told.{TellsGroups};
+ghost use Rattle.task_loop.specs.Told.{TellsGroups, TellsMost};
 ghost use Rattle.task_store.specs.Hosts.{HoldsHosts, held_by, settled};
 ghost use Rattle.task_turns.specs.Turn.{Sits};
 
@@ -51,6 +51,7 @@ impl Instance {
         ensures order { IsAtPlace component.now (polls_row register (H.course work) store.old.state.core) store.old.state → Sits component.now (turn_in store.new.state) store.new.state.core }
         ensures hosts { HoldsHosts H.course store.new }
         ensures groups { TellsGroups store.old.state store.old.groups store.new.state store.new.groups }
+        ensures most { TellsMost store.old.state store.old.groups store.new.state store.new.groups }
         ensures rest { store.new ≡ record store.old { value = store.new.value; state = store.new.state; groups = store.new.groups; works = store.new.works } }
     {
         let before = asked(&store.state);
@@ -81,6 +82,7 @@ impl Instance {
         ensures order { IsAtPlace component.now (blocks_row (H.course work) store.old.state.core) store.old.state → Sits component.now (turn_in store.new.state) store.new.state.core }
         ensures hosts { HoldsHosts H.course store.new }
         ensures groups { TellsGroups store.old.state store.old.groups store.new.state store.new.groups }
+        ensures most { TellsMost store.old.state store.old.groups store.new.state store.new.groups }
         ensures rest { store.new ≡ record store.old { value = store.new.value; state = store.new.state; groups = store.new.groups; works = store.new.works } }
     {
         let before = asked(&store.state);

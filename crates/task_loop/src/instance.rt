@@ -11,7 +11,7 @@ ghost use Rattle.task_machine.specs.declared.op.Operand.{Operand};
 ghost use Rattle.task_rules.specs.Scripts.{op_of, value_of};
 ghost use Rattle.task_turns.specs.WellFormed.{IsWellFormed};
 ghost use Rattle.task_machine.specs.declared.component.HostDef.{HostDef};
-ghost use Rattle.task_loop.specs.Told.{TellsGroups};
+ghost use Rattle.task_loop.specs.Told.{TellsGroups, TellsMost};
 ghost use Rattle.task_store.specs.Hosts.{HoldsHosts};
 ghost use Rattle.task_turns.specs.Turn.{Sits, running_of};
 
@@ -64,6 +64,7 @@ impl Instance {
         ensures order { IfSome (running_of store.old.state) (λ n. (x : Operand) → op_of component.now n store.old.state.core ≡ Op.Task (TaskOp.Ret x) → value_of n store.old.state.core x ≡ value → Sits component.now (Turn.Run n) store.new.state.core) }
         ensures hosts { (course : H → HostDef) → HoldsHosts course store.old → HoldsHosts course store.new }
         ensures groups { TellsGroups store.old.state store.old.groups store.new.state store.new.groups }
+        ensures most { TellsMost store.old.state store.old.groups store.new.state store.new.groups }
         ensures rest { store.new ≡ record store.old { state = store.new.state; groups = store.new.groups } }
     {
         let Some(thread) = store.state.current() else {
@@ -101,6 +102,7 @@ impl Instance {
         ensures order { KeepsFit component.now (Op.Task TaskOp.TaskCancel) store.old.state store.new.state → Sits component.now (turn_in store.new.state) store.new.state.core }
         ensures hosts { (course : H → HostDef) → HoldsHosts course store.old → HoldsHosts course store.new }
         ensures groups { TellsGroups store.old.state store.old.groups store.new.state store.new.groups }
+        ensures most { TellsMost store.old.state store.old.groups store.new.state store.new.groups }
         ensures rest { store.new ≡ record store.old { state = store.new.state; groups = store.new.groups } }
     {
         let Some(thread) = store.state.current() else {
@@ -131,6 +133,7 @@ impl Instance {
         ensures order { KeepsFit component.now (pressure_op up) store.old.state store.new.state → Sits component.now (turn_in store.new.state) store.new.state.core }
         ensures hosts { (course : H → HostDef) → HoldsHosts course store.old → HoldsHosts course store.new }
         ensures groups { TellsGroups store.old.state store.old.groups store.new.state store.new.groups }
+        ensures most { TellsMost store.old.state store.old.groups store.new.state store.new.groups }
         ensures rest { store.new ≡ record store.old { state = store.new.state; groups = store.new.groups } }
     {
         let _caller = caller;

@@ -17,7 +17,7 @@ ghost use Rattle.task_machine.specs.declared.records.Goal.{Goal};
 ghost use Rattle.task_rules.specs.Calls.{call_queues};
 ghost use Rattle.task_rules.specs.Scripts.{export_at, export_kind};
 ghost use Rattle.task_machine.specs.declared.component.HostDef.{HostDef};
-ghost use Rattle.task_loop.specs.Told.{TellsGroups};
+ghost use Rattle.task_loop.specs.Told.{TellsGroups, TellsMost};
 ghost use Rattle.task_store.specs.Hosts.{HoldsHosts};
 ghost use Rattle.task_turns.specs.Turn.{Sits, running_of};
 ghost use Rattle.task_words.specs.StateView.{StateView, with_core, with_current};
@@ -53,6 +53,7 @@ impl Instance {
         ensures order { KeepsFit component.now (cancel_op async_ subtask) store.old.state store.new.state → Sits component.now (turn_in store.new.state) store.new.state.core }
         ensures hosts { (course : H → HostDef) → HoldsHosts course store.old → HoldsHosts course store.new }
         ensures groups { TellsGroups store.old.state store.old.groups store.new.state store.new.groups }
+        ensures most { TellsMost store.old.state store.old.groups store.new.state store.new.groups }
         ensures rest { store.new ≡ record store.old { state = store.new.state; groups = store.new.groups } }
     {
         let _caller = caller;
@@ -79,6 +80,7 @@ impl Instance {
         ensures order { KeepsFit component.now (Op.Call (CallOp.Drop (Operand.Number subtask))) store.old.state store.new.state → Sits component.now (turn_in store.new.state) store.new.state.core }
         ensures hosts { (course : H → HostDef) → HoldsHosts course store.old → HoldsHosts course store.new }
         ensures groups { TellsGroups store.old.state store.old.groups store.new.state store.new.groups }
+        ensures most { TellsMost store.old.state store.old.groups store.new.state store.new.groups }
         ensures rest { store.new ≡ record store.old { state = store.new.state; groups = store.new.groups } }
     {
         let _caller = caller;
@@ -112,6 +114,7 @@ impl Instance {
         ensures order { IsAtPlace component.now (enters_row component.now (callee_of callee) params.now store.old.state.core) store.old.state → Sits component.now (turn_in store.new.state) store.new.state.core }
         ensures hosts { (course : H → HostDef) → HoldsHosts course store.old → HoldsHosts course store.new }
         ensures groups { TellsGroups store.old.state store.old.groups store.new.state store.new.groups }
+        ensures most { TellsMost store.old.state store.old.groups store.new.state store.new.groups }
         ensures rest { store.new ≡ record store.old { state = store.new.state; groups = store.new.groups } }
     {
         let callee = callee.callee();
@@ -138,6 +141,7 @@ impl Instance {
         ensures order { IsAtPlace component.now (exits_row value store.old.state.core) store.old.state → Sits component.now (turn_in store.new.state) store.new.state.core }
         ensures hosts { (course : H → HostDef) → HoldsHosts course store.old → HoldsHosts course store.new }
         ensures groups { TellsGroups store.old.state store.old.groups store.new.state store.new.groups }
+        ensures most { TellsMost store.old.state store.old.groups store.new.state store.new.groups }
         ensures rest { store.new ≡ record store.old { state = store.new.state; groups = store.new.groups } }
     {
         let Some(thread) = store.state.current() else {
@@ -175,6 +179,7 @@ impl Instance {
         ensures prepares { IfSome (running_of store.old.state) (λ n. Prepares component.now n (callee_of callee) params.now (goal_for async_caller register) store.old.state (fits 3 store.old.state.core) result store.new.state) }
         ensures hosts { (course : H → HostDef) → HoldsHosts course store.old → HoldsHosts course store.new }
         ensures groups { TellsGroups store.old.state store.old.groups store.new.state store.new.groups }
+        ensures most { TellsMost store.old.state store.old.groups store.new.state store.new.groups }
         ensures rest { store.new ≡ record store.old { state = store.new.state; groups = store.new.groups } }
     {
         let callee = callee.callee();
@@ -208,6 +213,7 @@ impl Instance {
         ensures whole { (c : Component) (n : ℕ) (e : Callee) (words : List ℕ) (g : Goal) (s : StateView) → running_of store.old.state ≡ Some n → Prepared c n e words g s store.old.state callee → store.new.state.core ≡ call_queues n e (export_kind c e) g words s.core }
         ensures hosts { (course : H → HostDef) → HoldsHosts course store.old → HoldsHosts course store.new }
         ensures groups { TellsGroups store.old.state store.old.groups store.new.state store.new.groups }
+        ensures most { TellsMost store.old.state store.old.groups store.new.state store.new.groups }
         ensures rest { store.new ≡ record store.old { state = store.new.state; groups = store.new.groups } }
     {
         let _component = component;

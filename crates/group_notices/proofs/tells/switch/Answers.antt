@@ -1,5 +1,7 @@
 use Rattle.group_notices.proofs.TellLemmas.{err_failed, ok_calm, says_named, switch_errors, switch_hook, switch_told}
 use Rattle.group_notices.proofs.tells.switch.Goals as goal
+use Rattle.group_notices.proofs.MostLemmas.{switched_all, switched_first}
+use Rattle.task_group.proofs.GroupLemmas.{still_calm}
 
 pub returns-clause-told : goal.returns-clause-told
 returns-clause-told g c =
@@ -24,3 +26,22 @@ returns-clause-hook g c =
     let e = c.switch.ensures in
     let q = says_named c.args.old c.args.new _ _ c.args.groups.now c.switch.new.self c.name.ensures c.name-2.ensures (e.same, e.told) in
     switch_hook c.args.old c.args.new c.args.groups.now c.switch.new.self q.0 q.1
+
+pub returns-clause-all : goal.returns-clause-all
+returns-clause-all g c =
+    let e = c.switch.ensures in
+    let q = says_named c.args.old c.args.new _ _ c.args.groups.now c.switch.new.self c.name.ensures c.name-2.ensures (e.same, e.told) in
+    ok_calm c.args.groups.now.listeners c.switch.new.self.listeners c.switch.result e.failed.1 _ (switched_all c.args.old c.args.new c.args.groups.now c.switch.new.self q)
+
+pub returns-clause-most : goal.returns-clause-most
+returns-clause-most g c =
+    let e = c.switch.ensures in
+    switched_first c.args.old c.args.new c.args.groups.now c.switch.new.self
+    (says_named c.args.old c.args.new _ _ c.args.groups.now c.switch.new.self c.name.ensures c.name-2.ensures (e.same, e.told))
+
+pub returns-clause-calm : goal.returns-clause-calm
+returns-clause-calm g c =
+    let e = c.switch.ensures in
+    let q = says_named c.args.old c.args.new _ _ c.args.groups.now c.switch.new.self c.name.ensures c.name-2.ensures (e.same, e.told) in
+    ok_calm c.args.groups.now.listeners c.switch.new.self.listeners c.switch.result e.failed.1 _
+    (λ none. still_calm _ _ (switched_all c.args.old c.args.new c.args.groups.now c.switch.new.self q none) none)

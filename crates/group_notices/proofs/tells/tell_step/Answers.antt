@@ -4,6 +4,7 @@ use Rattle.group_notices.proofs.MirrorLemmas.{mirror_same}
 use Rattle.group_notices.proofs.TellLemmas.{step_told}
 use Rattle.group_notices.specs.Mirror.{Mirrors}
 use Rattle.group_notices.proofs.tells.tell_step.Goals as goal
+use Rattle.group_notices.proofs.MostLemmas.{comes_last, stops_first, stops_later}
 
 pub returns-clause-told : goal.returns-clause-told
 returns-clause-told g c =
@@ -24,3 +25,17 @@ returns-clause-mirrors g c =
     by : {T E P : Type 0} (r : Result T E) → P → OnOk r P
     by (Ok x) p = p
     by (Err e) p = tt
+
+pub returns-in_err-switch-clause-most : goal.returns-in_err-switch-clause-most
+returns-in_err-switch-clause-most g c =
+    stops_first c.args.asked.now c.args.running c.args.left c.args.groups.now c.switch.new.groups c.switch.ensures.live c.switch.ensures.most
+
+pub returns-in_err-work-clause-most : goal.returns-in_err-work-clause-most
+returns-in_err-work-clause-most g c =
+    stops_later c.args.asked.now c.args.running c.args.left c.args.groups.now c.switch.new.groups c.switch.ensures.live
+    c.work.new.groups c.work.ensures.live c.in_ok-switch.ensures.all c.work.ensures.most
+
+pub returns-clause-most : goal.returns-clause-most
+returns-clause-most g c =
+    comes_last c.args.asked.now c.args.running c.args.left c.args.groups.now c.switch.new.groups c.switch.ensures.live
+    c.work.new.groups c.work.ensures.live c.in_ok-switch.ensures.all c.finish.new.groups c.in_ok-work.ensures.all c.finish.ensures.made (c.finish.ensures.counts, c.finish.ensures.most)

@@ -1,4 +1,4 @@
-use Rattle.task_loop.proofs.CallTellLemmas.{called}
+use Rattle.task_loop.proofs.CallTellLemmas.{called, most_told}
 use Rattle.task_loop.proofs.GuestTaskLemmas.{ends_holds}
 use Rattle.task_loop.proofs.LessenLemmas.{ends_lessens}
 use Rattle.task_machine.specs.Read.{thread_group}
@@ -17,3 +17,8 @@ returns-clause-groups g c holds =
     let store = c.args.store.now in
     called store.state c.cleanup_thread-answer.new.w c.asked_end-before.result (thread_group (thread_of store.state c.args.thread.thread) store.state.core) c.asked_end-before.ensures
     (ends_lessens (thread_of store.state c.args.thread.thread) store.state c.cleanup_thread-answer.new.w (leaves_no_result (thread_of store.state c.args.thread.thread) store.state.core) c.cleanup_thread-answer.result c.cleanup_thread-answer.ensures.ends) store.groups c.tell_call.new.groups holds c.tell_call.ensures.told c.tell_call.ensures.mirrors c.tell_call.ensures.made c.tell_call.ensures.hook
+
+pub returns-clause-most : goal.returns-clause-most
+returns-clause-most g c =
+    let store = c.args.store.now in
+    most_told store.state c.cleanup_thread-answer.new.w c.asked_end-before.result (thread_group (thread_of store.state c.args.thread.thread) store.state.core) c.asked_end-before.ensures store.groups c.tell_call.new.groups c.tell_call.ensures.most

@@ -1,10 +1,15 @@
 use Rattle.std.proofs.Common.{ap}
 use Rattle.std.specs.Prelude.{is_some}
 use Rattle.task_loop.proofs.DoesLemmas.{on_ok}
-use Rattle.task_loop.proofs.GuestTaskLemmas.{called_made}
+use Rattle.task_loop.proofs.GuestTaskLemmas.{called_begins, called_made}
 use Rattle.task_loop.proofs.guest_tasks.make.Goals as goal
 
 pub returns-in-Some-clause-groups : goal.returns-in-Some-clause-groups
 returns-in-Some-clause-groups g c = λ holds.
     let store = c.args.store.now in
     on_ok c.new_guest_task.result _ (called_made c.args.kind c.args.instance c.args.caller store.state store.groups (ap is_some c.in-Some.is) holds)
+
+pub returns-in-Some-clause-begun : goal.returns-in-Some-clause-begun
+returns-in-Some-clause-begun g c = λ none.
+    let store = c.args.store.now in
+    on_ok c.new_guest_task.result _ (called_begins c.args.caller store.state.core store.groups (ap is_some c.in-Some.is))

@@ -1,12 +1,12 @@
 -- A task in a new group, which was prepared and told of, or taken back.
-use Rattle.std.proofs.Common.{ap, arith, subst, sym, ◌+◌, ◌-◌, ◌∙◌, ◌≡◌, ◌≤◌}
+use Rattle.std.proofs.Common.{ap, arith, subst, sym, ◌+◌, ◌∙◌, ◌≡◌, ◌≤◌}
 use Rattle.std.specs.FinMap as finite
 use Rattle.task_machine.specs.Read.{fits}
-use Rattle.std.specs.Prelude.{IsSome, None, false, is_some, ℕ, ◌∷◌, []}
+use Rattle.std.specs.Prelude.{None, false, is_some, ℕ, ◌∷◌, []}
 use Rattle.task_group.specs.Counts.{Counts}
-use Rattle.task_group.specs.Groups.{Groups, IsKnown}
+use Rattle.task_group.specs.Groups.{Groups, IsKnown, numbered}
 use Rattle.task_group.specs.Listeners.{Listeners, Told}
-use Rattle.task_loop.proofs.GuestTaskLemmas.{begins_refused, begins_wanting, begun_holds}
+use Rattle.task_loop.proofs.GuestTaskLemmas.{begins_new, begins_refused, begins_wanting, begun_holds}
 use Rattle.task_loop.proofs.StartLemmas.{announced, numbered_as, taken_back, withdrawn}
 use Rattle.task_store.specs.Groups.{HoldsGroups}
 use Rattle.task_loop.proofs.guest_tasks.make_with_group.Goals as goal
@@ -58,7 +58,18 @@ returns-in-Err-clause-kept g c = λ holds.
 
 pub returns-in-Err-clause-refused : goal.returns-in-Err-clause-refused
 returns-in-Err-clause-refused g c =
-    ap (λ (k : Groups). k.listeners) (withdrawn c.args.store.now.groups c.prepare.new.self c.withdraw.new.self c.made-made.result _ c.made-made.ensures.known c.made-made.ensures.value c.in-Ok.ensures.ok c.in-Ok.ensures.number c.withdraw.ensures)
+    withdrawn c.args.store.now.groups c.prepare.new.self c.withdraw.new.self c.made-made.result _ c.made-made.ensures.known c.made-made.ensures.value c.in-Ok.ensures.ok c.in-Ok.ensures.number c.withdraw.ensures
+
+pub returns-in-Ok-new_guest_task-clause-begun : goal.returns-in-Ok-new_guest_task-clause-begun
+returns-in-Ok-new_guest_task-clause-begun g c = λ none.
+    let g0 = c.args.store.now.groups in
+    let mid = c.prepare.new.self in
+    let new = c.announce-told.new.self in
+    let ok = c.in-Ok.ensures.ok in
+    let hook : is_some mid.listeners.hook ≡ false = ap (λ (k : Groups). is_some k.listeners.hook) ok ∙ none in
+    let told = c.announce-told.ensures in
+    let same = announced ((new.live ≡ mid.live) × (new.made ≡ mid.made)) c.announce-told.result _ mid.listeners new.listeners hook told.told told.failed.0 told.no_other told.groups in
+    begins_new c.args.store.now.state.core g0 mid new ok (c.in-Ok.ensures.number ∙ ap (λ m. numbered g0.made (m.groups + 1)) c.made-group.ensures) same told.told
 
 pub returns-then-not-fits-clause-begins : goal.returns-then-not-fits-clause-begins
 returns-then-not-fits-clause-begins g c =

@@ -1,7 +1,7 @@
 use Rattle.std.specs.Prelude.{Err, Ok}
 use Rattle.std.proofs.Common.{subst, sym}
 use Rattle.task_calls.specs.Tasks.{entries_of}
-use Rattle.task_loop.proofs.GuestTaskLemmas.{begins_holds, begins_still, begun_core, settled}
+use Rattle.task_loop.proofs.GuestTaskLemmas.{begins_holds, begins_over, begins_still, begun_core, settled}
 use Rattle.task_loop.proofs.guest_tasks.new_guest_task.Goals as goal
 use Rattle.task_machine.specs.Read.{fits}
 use Rattle.task_store.specs.Groups.{HoldsGroups}
@@ -38,3 +38,10 @@ returns-in-Err-clause-groups g c = λ holds.
     let made = c.make.new.store in
     let still = begins_still c.args.kind c.args.instance c.args.caller store.state made.state (fits (entries_of c.args.caller) store.state.core) c.in-Err.e c.in-Err.ensures.begins in
     subst (λ (v : StateView). HoldsGroups made.groups v.core) (sym still) (c.in-Err.ensures.kept holds)
+
+pub returns-in-Ok-clause-begun : goal.returns-in-Ok-clause-begun
+returns-in-Ok-clause-begun g c = λ none.
+    let store = c.args.store.now in
+    let made = c.make.new.store in
+    let is = begun_core c.args.kind c.args.instance c.args.caller store.state made.state (fits (entries_of c.args.caller) store.state.core) c.in-Ok.id c.in-Ok.ensures.begins in
+    begins_over c.args.kind c.args.instance c.args.caller store.state made.state is store.groups made.groups (c.in-Ok.ensures.begun none) c.settle.new.groups c.settle.ensures.open c.settle.ensures.live c.settle.ensures.told

@@ -1,5 +1,5 @@
 -- The host works stay where a direct call is entered.
-use Rattle.task_loop.proofs.CallTellLemmas.{called}
+use Rattle.task_loop.proofs.CallTellLemmas.{called, most_told}
 use Rattle.task_loop.proofs.LessenLemmas.{entered_lessens, own}
 use Rattle.task_loop.proofs.LessenLemmas as lessen
 use Rattle.task_calls.specs.Answers.{at_once}
@@ -26,3 +26,8 @@ returns-clause-groups g c holds =
     called store.state c.enter_call-answer.new.w c.asked-before.result (own store.state) c.asked-before.ensures
     (lessen.by_answers store.state c.enter_call-answer.new.w (own store.state) (enters_row c.args.component.now c.callee-callee.result c.args.params.now store.state.core) thread_in (at_once (entered c.enter_call-answer.new.w c.enter_call-answer.result)) c.requires.running.number c.requires.running.runs
     (λ r d. entered_lessens (own store.state) store.state c.enter_call-answer.new.w c.requires.running.number c.callee-callee.result (export_kind c.args.component.now c.callee-callee.result) c.args.params.now r d.meets) c.enter_call-answer.ensures.answers) store.groups c.tell_call.new.groups holds c.tell_call.ensures.told c.tell_call.ensures.mirrors c.tell_call.ensures.made c.tell_call.ensures.hook
+
+pub returns-clause-most : goal.returns-clause-most
+returns-clause-most g c =
+    let store = c.args.store.now in
+    most_told store.state c.enter_call-answer.new.w c.asked-before.result (own store.state) c.asked-before.ensures store.groups c.tell_call.new.groups c.tell_call.ensures.most

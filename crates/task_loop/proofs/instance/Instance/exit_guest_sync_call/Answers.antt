@@ -1,5 +1,5 @@
 -- The host works stay where a direct call is left.
-use Rattle.task_loop.proofs.CallTellLemmas.{called, still_told}
+use Rattle.task_loop.proofs.CallTellLemmas.{called, most_still, most_told, still_told}
 use Rattle.task_machine.specs.Read.{thread_group}
 use Rattle.task_loop.proofs.LessenLemmas.{Lessens, exited_lessens, own, own_is}
 use Rattle.task_loop.proofs.LessenLemmas as lessen
@@ -50,3 +50,11 @@ returns-clause-groups g c holds =
 
 pub returns-then-exit_lends-clause-groups : goal.returns-then-exit_lends-clause-groups
 returns-then-exit_lends-clause-groups g c holds = (holds, still_told c.args.store.now.state c.args.store.now.groups.listeners)
+
+pub returns-clause-most : goal.returns-clause-most
+returns-clause-most g c =
+    let store = c.args.store.now in
+    most_told store.state c.exit_call-answer.new.w c.asked-before.result (own store.state) c.asked-before.ensures store.groups c.tell_call.new.groups c.tell_call.ensures.most
+
+pub returns-then-exit_lends-clause-most : goal.returns-then-exit_lends-clause-most
+returns-then-exit_lends-clause-most g c = most_still c.args.store.now.state c.args.store.now.groups

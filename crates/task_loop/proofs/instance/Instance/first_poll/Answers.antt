@@ -1,9 +1,9 @@
 use Rattle.task_group.specs.Groups.{Groups}
 use Rattle.task_group.specs.Listeners.{Told}
-use Rattle.task_loop.proofs.CallTellLemmas.{called, still_told}
+use Rattle.task_loop.proofs.CallTellLemmas.{called, most_still, most_told, still_told}
 use Rattle.task_loop.proofs.LessenLemmas.{polled_lessens, own}
 use Rattle.task_loop.proofs.LessenLemmas as lessen
-use Rattle.task_loop.specs.Told.{call_notices}
+use Rattle.task_loop.specs.Told.{TellsMost, call_notices}
 use Rattle.task_store.specs.Groups.{HoldsGroups}
 use Rattle.std.proofs.Common.{ap, subst, sym}
 use Rattle.std.specs.Prelude.{is_ok, ◌≡◌}
@@ -52,3 +52,16 @@ returns-clause-groups g c holds =
 
 pub returns-in_default-clause-groups : goal.returns-in_default-clause-groups
 returns-in_default-clause-groups g c holds = rw c.hold_next.ensures.rest (holds, still_told c.args.store.now.state c.args.store.now.groups.listeners)
+
+pub returns-clause-most : goal.returns-clause-most
+returns-clause-most g c =
+    let store = c.args.store.now in
+    let s = store.state in
+    let t = c.poll_host-answer.new.w in
+    let held = c.hold_next.new.self in
+    let same : held.groups ≡ store.groups = ap (λ u. u.groups) c.in-Ok.ensures.rest in
+    let most = most_told s t c.asked-before.result (own s) c.asked-before.ensures held.groups c.tell_call.new.groups c.tell_call.ensures.most in
+    rw c.settle.ensures.rest (subst (λ (k : Groups). TellsMost s k t c.tell_call.new.groups) same most)
+
+pub returns-in_default-clause-most : goal.returns-in_default-clause-most
+returns-in_default-clause-most g c = rw c.hold_next.ensures.rest (most_still c.args.store.now.state c.args.store.now.groups)

@@ -1,4 +1,4 @@
-use Rattle.task_loop.proofs.CallTellLemmas.{called}
+use Rattle.task_loop.proofs.CallTellLemmas.{called, most_told}
 use Rattle.group_laws.specs.Groups.{stake}
 use Rattle.std.proofs.Common.{subst}
 use Rattle.std.specs.Prelude.{IfSome, Option, ℕ, ◌≡◌}
@@ -19,3 +19,8 @@ returns-clause-groups g c holds =
     let store = c.args.store.now in
     called store.state c.go_on-answer.new.w c.asked_here-before.result (stake c.args.component.now c.requires.running.number store.state.core) (subst (λ (o : Option ℕ). IfSome o (λ n. c.asked_here-before.result ≡ asked_now store.state (stake c.args.component.now n store.state.core))) c.requires.running.runs c.asked_here-before.ensures)
     (here_lessens store.state c.go_on-answer.new.w c.args.component.now c.requires.running answer_in c.go_on-answer.result c.go_on-answer.ensures.answers) store.groups c.tell_call.new.groups holds c.tell_call.ensures.told c.tell_call.ensures.mirrors c.tell_call.ensures.made c.tell_call.ensures.hook
+
+pub returns-clause-most : goal.returns-clause-most
+returns-clause-most g c =
+    let store = c.args.store.now in
+    most_told store.state c.go_on-answer.new.w c.asked_here-before.result (stake c.args.component.now c.requires.running.number store.state.core) (subst (λ (o : Option ℕ). IfSome o (λ n. c.asked_here-before.result ≡ asked_now store.state (stake c.args.component.now n store.state.core))) c.requires.running.runs c.asked_here-before.ensures) store.groups c.tell_call.new.groups c.tell_call.ensures.most

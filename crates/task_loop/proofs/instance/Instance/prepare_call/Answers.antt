@@ -1,5 +1,5 @@
 -- The host works stay where a call is prepared.
-use Rattle.task_loop.proofs.CallTellLemmas.{called}
+use Rattle.task_loop.proofs.CallTellLemmas.{called, most_told}
 use Rattle.task_loop.proofs.LessenLemmas.{own, prepared_lessens}
 use Rattle.std.proofs.Common.{subst}
 use Rattle.std.specs.Prelude.{IfSome, Option, ℕ}
@@ -26,3 +26,8 @@ returns-clause-groups g c holds =
     called store.state c.prepare_call-answer.new.w c.asked-before.result (own store.state) c.asked-before.ensures
     (prepared_lessens (own store.state) store.state c.prepare_call-answer.new.w c.args.component.now c.requires.running.number c.callee-callee.result c.args.params.now (goal_for c.args.async_caller c.args.register) (fits 3 store.state.core) c.prepare_call-answer.result
     (subst (λ (o : Option ℕ). IfSome o (λ n. Prepares c.args.component.now n c.callee-callee.result c.args.params.now (goal_for c.args.async_caller c.args.register) store.state (fits 3 store.state.core) c.prepare_call-answer.result c.prepare_call-answer.new.w)) c.requires.running.runs c.prepare_call-answer.ensures)) store.groups c.tell_call.new.groups holds c.tell_call.ensures.told c.tell_call.ensures.mirrors c.tell_call.ensures.made c.tell_call.ensures.hook
+
+pub returns-clause-most : goal.returns-clause-most
+returns-clause-most g c =
+    let store = c.args.store.now in
+    most_told store.state c.prepare_call-answer.new.w c.asked-before.result (own store.state) c.asked-before.ensures store.groups c.tell_call.new.groups c.tell_call.ensures.most

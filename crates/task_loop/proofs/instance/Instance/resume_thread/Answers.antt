@@ -1,5 +1,5 @@
 -- The host works stay where another thread is resumed.
-use Rattle.task_loop.proofs.CallTellLemmas.{called}
+use Rattle.task_loop.proofs.CallTellLemmas.{called, most_told}
 use Rattle.task_loop.proofs.LessenLemmas.{own, resumed_lessens}
 use Rattle.std.proofs.Common.{subst}
 use Rattle.std.specs.Prelude.{IfSome, Option, ℕ}
@@ -23,3 +23,8 @@ returns-clause-groups g c holds =
     called store.state c.resume_thread-answer.new.w c.asked-before.result (own store.state) c.asked-before.ensures
     (resumed_lessens (own store.state) store.state c.resume_thread-answer.new.w c.args.how c.requires.running.number c.args.thread c.resume_thread-answer.result
     (subst (λ (o : Option ℕ). IfSome o (λ n. Resumed (resumed_by c.args.how n c.args.thread store.state.core) store.state c.resume_thread-answer.result c.resume_thread-answer.new.w)) c.requires.running.runs c.resume_thread-answer.ensures.resumed)) store.groups c.tell_call.new.groups holds c.tell_call.ensures.told c.tell_call.ensures.mirrors c.tell_call.ensures.made c.tell_call.ensures.hook
+
+pub returns-clause-most : goal.returns-clause-most
+returns-clause-most g c =
+    let store = c.args.store.now in
+    most_told store.state c.resume_thread-answer.new.w c.asked-before.result (own store.state) c.asked-before.ensures store.groups c.tell_call.new.groups c.tell_call.ensures.most

@@ -1,5 +1,5 @@
 -- The host works stay where a prepared call is begun.
-use Rattle.task_loop.proofs.CallTellLemmas.{called}
+use Rattle.task_loop.proofs.CallTellLemmas.{called, most_told}
 use Rattle.task_loop.proofs.LessenLemmas.{Lessens, own, started_lessens}
 use Rattle.std.specs.Prelude.{IfSome, IsSome, None, Option, Some, ℕ, ◌≡◌}
 use Rattle.task_calls.specs.Prepared.{starts_in}
@@ -29,3 +29,8 @@ returns-clause-groups g c holds =
     let store = c.args.store.now in
     called store.state c.start_prepared-answer.new.w c.asked-before.result (own store.state) c.asked-before.ensures
     (by_started store.state c.start_prepared-answer.new.w c.args.callee (running_of store.state) c.requires.runs c.start_prepared-answer.ensures.starts) store.groups c.tell_call.new.groups holds c.tell_call.ensures.told c.tell_call.ensures.mirrors c.tell_call.ensures.made c.tell_call.ensures.hook
+
+pub returns-clause-most : goal.returns-clause-most
+returns-clause-most g c =
+    let store = c.args.store.now in
+    most_told store.state c.start_prepared-answer.new.w c.asked-before.result (own store.state) c.asked-before.ensures store.groups c.tell_call.new.groups c.tell_call.ensures.most

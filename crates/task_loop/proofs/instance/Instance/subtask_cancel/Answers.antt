@@ -1,5 +1,5 @@
 use Rattle.group_laws.specs.Groups.{stake_of}
-use Rattle.task_loop.proofs.CallTellLemmas.{called}
+use Rattle.task_loop.proofs.CallTellLemmas.{called, most_told}
 use Rattle.task_loop.proofs.LessenLemmas.{own, own_cancel, own_lessens}
 use Rattle.std.proofs.Common.{ap, ◌∙◌}
 use Rattle.task_calls.specs.Answers.{number_in}
@@ -18,3 +18,8 @@ returns-clause-groups g c holds =
     let store = c.args.store.now in
     called store.state c.begin_number-answer.new.w c.asked-before.result (own store.state) c.asked-before.ensures
     (own_lessens store.state c.begin_number-answer.new.w c.args.component.now c.requires.running c.cancel_op.result number_in c.begin_number-answer.result (ap is_apart c.cancel_op.ensures.is ∙ apart_cancel c.args.async_ c.args.subtask) (ap (λ o. stake_of c.requires.running.number store.state.core o) c.cancel_op.ensures.is ∙ own_cancel c.args.async_ c.args.subtask c.requires.running.number store.state.core) c.begin_number-answer.ensures.answers) store.groups c.tell_call.new.groups holds c.tell_call.ensures.told c.tell_call.ensures.mirrors c.tell_call.ensures.made c.tell_call.ensures.hook
+
+pub returns-clause-most : goal.returns-clause-most
+returns-clause-most g c =
+    let store = c.args.store.now in
+    most_told store.state c.begin_number-answer.new.w c.asked-before.result (own store.state) c.asked-before.ensures store.groups c.tell_call.new.groups c.tell_call.ensures.most

@@ -1,5 +1,5 @@
 use Rattle.group_laws.specs.Groups.{stake_of}
-use Rattle.task_loop.proofs.CallTellLemmas.{called}
+use Rattle.task_loop.proofs.CallTellLemmas.{called, most_told}
 use Rattle.task_loop.proofs.LessenLemmas.{own, own_lessens, own_suspension}
 use Rattle.std.proofs.Common.{ap, ◌∙◌}
 use Rattle.task_calls.specs.Answers.{nothing_in}
@@ -18,3 +18,8 @@ returns-clause-groups g c holds =
     let store = c.args.store.now in
     called store.state c.begin_nothing-answer.new.w c.asked-before.result (own store.state) c.asked-before.ensures
     (own_lessens store.state c.begin_nothing-answer.new.w c.args.component.now c.requires.running c.suspension_op.result nothing_in c.begin_nothing-answer.result (ap is_apart c.suspension_op.ensures.is ∙ apart_suspension c.args.yielding c.args.target) (ap (λ o. stake_of c.requires.running.number store.state.core o) c.suspension_op.ensures.is ∙ own_suspension c.args.yielding c.args.target c.requires.running.number store.state.core) c.begin_nothing-answer.ensures.answers) store.groups c.tell_call.new.groups holds c.tell_call.ensures.told c.tell_call.ensures.mirrors c.tell_call.ensures.made c.tell_call.ensures.hook
+
+pub returns-clause-most : goal.returns-clause-most
+returns-clause-most g c =
+    let store = c.args.store.now in
+    most_told store.state c.begin_nothing-answer.new.w c.asked-before.result (own store.state) c.asked-before.ensures store.groups c.tell_call.new.groups c.tell_call.ensures.most

@@ -1,4 +1,4 @@
-use Rattle.task_loop.proofs.CallTellLemmas.{called, still_told}
+use Rattle.task_loop.proofs.CallTellLemmas.{called, most_still, most_told, still_told}
 use Rattle.task_loop.proofs.LessenLemmas.{own, own_lessens}
 use Rattle.std.proofs.Common.{refl}
 use Rattle.task_calls.specs.Answers.{at_once, nothing_in}
@@ -39,3 +39,11 @@ returns-clause-groups g c holds =
 
 pub returns-then-cancel_lends-clause-groups : goal.returns-then-cancel_lends-clause-groups
 returns-then-cancel_lends-clause-groups g c holds = (holds, still_told c.args.store.now.state c.args.store.now.groups.listeners)
+
+pub returns-clause-most : goal.returns-clause-most
+returns-clause-most g c =
+    let store = c.args.store.now in
+    most_told store.state c.ask_nothing-answer.new.w c.asked-before.result (own store.state) c.asked-before.ensures store.groups c.tell_call.new.groups c.tell_call.ensures.most
+
+pub returns-then-cancel_lends-clause-most : goal.returns-then-cancel_lends-clause-most
+returns-then-cancel_lends-clause-most g c = most_still c.args.store.now.state c.args.store.now.groups

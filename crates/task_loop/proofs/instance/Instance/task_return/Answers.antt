@@ -1,5 +1,5 @@
 -- The host works stay over a return.
-use Rattle.task_loop.proofs.CallTellLemmas.{called, still_told}
+use Rattle.task_loop.proofs.CallTellLemmas.{called, most_still, most_told, still_told}
 use Rattle.task_loop.proofs.LessenLemmas.{Lessens, own, own_is, returned_lessens}
 use Rattle.std.proofs.Common.{ap, refl, subst, sym, ◌∙◌}
 use Rattle.std.specs.Option.{option_map}
@@ -68,3 +68,11 @@ returns-clause-groups g c holds =
 
 pub returns-then-return_lends-clause-groups : goal.returns-then-return_lends-clause-groups
 returns-then-return_lends-clause-groups g c holds = (holds, still_told c.args.store.now.state c.args.store.now.groups.listeners)
+
+pub returns-clause-most : goal.returns-clause-most
+returns-clause-most g c =
+    let store = c.args.store.now in
+    most_told store.state c.task_return-answer.new.w c.asked-before.result (own store.state) c.asked-before.ensures store.groups c.tell_call.new.groups c.tell_call.ensures.most
+
+pub returns-then-return_lends-clause-most : goal.returns-then-return_lends-clause-most
+returns-then-return_lends-clause-most g c = most_still c.args.store.now.state c.args.store.now.groups

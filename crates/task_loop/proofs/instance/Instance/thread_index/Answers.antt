@@ -1,4 +1,4 @@
-use Rattle.task_loop.proofs.CallTellLemmas.{called}
+use Rattle.task_loop.proofs.CallTellLemmas.{called, most_told}
 use Rattle.task_loop.proofs.LessenLemmas.{own, own_lessens}
 use Rattle.std.proofs.Common.{refl}
 use Rattle.task_calls.specs.Answers.{at_once, number_in}
@@ -18,3 +18,8 @@ returns-clause-groups g c holds =
     let store = c.args.store.now in
     called store.state c.ask_number-answer.new.w c.asked-before.result (own store.state) c.asked-before.ensures
     (own_lessens store.state c.ask_number-answer.new.w c.args.component.now c.requires.running (op.Thread (thread_op.Index 0)) number_in (at_once c.ask_number-answer.result) refl refl c.ask_number-answer.ensures.answers) store.groups c.tell_call.new.groups holds c.tell_call.ensures.told c.tell_call.ensures.mirrors c.tell_call.ensures.made c.tell_call.ensures.hook
+
+pub returns-clause-most : goal.returns-clause-most
+returns-clause-most g c =
+    let store = c.args.store.now in
+    most_told store.state c.ask_number-answer.new.w c.asked-before.result (own store.state) c.asked-before.ensures store.groups c.tell_call.new.groups c.tell_call.ensures.most

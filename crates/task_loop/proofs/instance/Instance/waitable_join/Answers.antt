@@ -1,4 +1,4 @@
-use Rattle.task_loop.proofs.CallTellLemmas.{called}
+use Rattle.task_loop.proofs.CallTellLemmas.{called, most_told}
 use Rattle.task_loop.proofs.LessenLemmas.{own, own_lessens}
 use Rattle.std.proofs.Common.{refl}
 use Rattle.task_calls.specs.Answers.{at_once, nothing_in}
@@ -19,3 +19,8 @@ returns-clause-groups g c holds =
     let store = c.args.store.now in
     called store.state c.ask_nothing-answer.new.w c.asked-before.result (own store.state) c.asked-before.ensures
     (own_lessens store.state c.ask_nothing-answer.new.w c.args.component.now c.requires.running (op.Set (set_op.Join (operand.Number c.from.result) (operand.Number c.from-2.result))) nothing_in (at_once c.ask_nothing-answer.result) refl refl c.ask_nothing-answer.ensures.answers) store.groups c.tell_call.new.groups holds c.tell_call.ensures.told c.tell_call.ensures.mirrors c.tell_call.ensures.made c.tell_call.ensures.hook
+
+pub returns-clause-most : goal.returns-clause-most
+returns-clause-most g c =
+    let store = c.args.store.now in
+    most_told store.state c.ask_nothing-answer.new.w c.asked-before.result (own store.state) c.asked-before.ensures store.groups c.tell_call.new.groups c.tell_call.ensures.most

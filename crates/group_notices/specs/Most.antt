@@ -1,0 +1,45 @@
+-- What a step tells of groups at most, whatever these stand for.
+use Rattle.std.specs.FinMap as finite
+use Rattle.std.specs.Prelude.{List, Option, [], if◌then◌else◌, nat_lt, ℕ, ◌++◌, ◌==◌, ◌≡◌, ◌⊎◌, None}
+use Rattle.group_notices.specs.Mirror.{named}
+use Rattle.group_notices.specs.declared.tells.Asked.{Asked}
+use Rattle.task_group.specs.Counts.{Counts, lowered}
+use Rattle.task_group.specs.Groups.{Groups, finish_all, finish_at, notice_at, same_group}
+use Rattle.task_group.specs.Listeners.{Listeners, Told}
+use Rattle.task_machine.specs.declared.records.Notice.{Notice}
+use Rattle.task_machine.specs.declared.records.NoticeKind.TheVariants as notice
+
+-- the exit from the one group and the enter into the other, of live ones
+abbrev pub switched : Counts → Option ℕ → Option ℕ → List Notice
+switched live old new =
+    if same_group (named old) (named new) then [] else notice_at live notice.Exit (named old) ++ notice_at live notice.Enter (named new)
+
+-- the enter into the group of a work, and the exit from it
+abbrev pub worked_on : Counts → Option ℕ → List Notice
+worked_on live o = switched live None o ++ switched live o None
+
+-- where so many are to be left: all finish, or the one at stake, or none
+abbrev pub finished : Counts → (staked left : ℕ) → List Notice
+finished live staked left =
+    if left == 0 then finish_all live else if nat_lt left (finite.len live) then finish_at live (record { number = staked }) else []
+
+-- the counts after that
+abbrev pub counts_left : Counts → (staked left : ℕ) → Counts
+counts_left live staked left = if left == 0 then finite.empty else if nat_lt left (finite.len live) then lowered live staked else live
+
+-- of a step before which this was asked, after which a thread of this group runs, and so many are to be left
+abbrev pub step_notices : Asked → Option ℕ → (left : ℕ) → Counts → List Notice
+step_notices a running left live = switched live a.running running ++ (worked_on live a.worked ++ finished live a.staked left)
+
+-- A first part of the notices was told.
+pub record ToldFirst (all : List Notice) (old new : Listeners) : Type 0 where
+  pub first : List Notice
+  pub rest : List Notice
+  pub parts : first ++ rest ≡ all
+  pub told : Told first old new
+
+-- No group was made, none finished but as the step has it, and no other notices were told than its own, in order.
+pub record TellsAtMost (a : Asked) (running : Option ℕ) (left : ℕ) (old new : Groups) : Type 0 where
+  pub made : new.made ≡ old.made
+  pub live : (new.live ≡ old.live) ⊎ (new.live ≡ counts_left old.live a.staked left)
+  pub told : ToldFirst (step_notices a running left old.live) old.listeners new.listeners
