@@ -27,8 +27,8 @@ abbrev is_lead : ℕ → List ℕ → Bool
 is_lead n l = cond (ltb n 10)
     (eqb (get_or l 3 0) 49 && eqb (get_or l 0 0) (48 + n))
     (cond (ltb n 100)
-      (eqb (get_or l 3 0) 50 && (eqb (get_or l 0 0) (48 + n / 10) && eqb (get_or l 1 0) (48 + n % 10)))
-      (eqb (get_or l 3 0) 51 && (eqb (get_or l 0 0) (48 + n / 100) && (eqb (get_or l 1 0) (48 + n / 10 % 10) && eqb (get_or l 2 0) (48 + n % 10)))))
+    (eqb (get_or l 3 0) 50 && (eqb (get_or l 0 0) (48 + n / 10) && eqb (get_or l 1 0) (48 + n % 10)))
+    (eqb (get_or l 3 0) 51 && (eqb (get_or l 0 0) (48 + n / 100) && (eqb (get_or l 1 0) (48 + n / 10 % 10) && eqb (get_or l 2 0) (48 + n % 10)))))
 
 abbrev is_three : ℕ → List ℕ → Bool
 is_three n l = eqb (get_or l 0 0) (48 + n / 100) && (eqb (get_or l 1 0) (48 + n / 10 % 10) && eqb (get_or l 2 0) (48 + n % 10))
@@ -50,44 +50,47 @@ Lead n a b c d = (48 ≤ d) × (d ≤ 51) × (take (d - 48) (a ∷ b ∷ c ∷ d
 leads : (n a b c d : ℕ) (one two : Bool) → ltb n 10 ≡ one → ltb n 100 ≡ two → n < 1000 → T (cond one (eqb d 49 && eqb a (48 + n)) (cond two (eqb d 50 && (eqb a (48 + n / 10) && eqb b (48 + n % 10))) (eqb d 51 && (eqb a (48 + n / 100) && (eqb b (48 + n / 10 % 10) && eqb c (48 + n % 10)))))) → Lead n a b c d
 leads n a b c d true two o w h t =
     let small : n < 10 = ltb→lt n 10 (rw o tt) in
-    let e = eqb→eq _ _ (and_l _ _ t) in
-    let f = eqb→eq _ _ (and_r _ _ t) in
+    let e : d ≡ 49 = eqb→eq d 49 (and_l _ _ t) in
+    let f : a ≡ 48 + n = eqb→eq a (48 + n) (and_r _ _ t) in
     (omega (arith, e), omega (arith, e), rw (e, f, decimal_digit n small) refl)
 leads n a b c d false true o w h t =
     let small : n < 100 = ltb→lt n 100 (rw w tt) in
     let large : 10 ≤ n = nltb→le n 10 (rw o tt) in
-    let e = eqb→eq _ _ (and_l _ _ t) in
+    let e : d ≡ 50 = eqb→eq d 50 (and_l _ _ t) in
     let r = and_r _ _ t in
-    let f = eqb→eq _ _ (and_l _ _ r) in
-    let g = eqb→eq _ _ (and_r _ _ r) in
+    let f : a ≡ 48 + n / 10 = eqb→eq a (48 + n / 10) (and_l _ _ r) in
+    let g : b ≡ 48 + n % 10 = eqb→eq b (48 + n % 10) (and_r _ _ r) in
     (omega (arith, e), omega (arith, e), rw (e, f, g, decimal_two n large small) refl)
 leads n a b c d false false o w h t =
     let large : 100 ≤ n = nltb→le n 100 (rw w tt) in
-    let e = eqb→eq _ _ (and_l _ _ t) in
+    let e : d ≡ 51 = eqb→eq d 51 (and_l _ _ t) in
     let r = and_r _ _ t in
-    let f = eqb→eq _ _ (and_l _ _ r) in
+    let f : a ≡ 48 + n / 100 = eqb→eq a (48 + n / 100) (and_l _ _ r) in
     let s = and_r _ _ r in
-    let g = eqb→eq _ _ (and_l _ _ s) in
-    let k = eqb→eq _ _ (and_r _ _ s) in
+    let g : b ≡ 48 + n / 10 % 10 = eqb→eq b (48 + n / 10 % 10) (and_l _ _ s) in
+    let k : c ≡ 48 + n % 10 = eqb→eq c (48 + n % 10) (and_r _ _ s) in
     (omega (arith, e), omega (arith, e), rw (e, f, g, k, decimal_three n large h) refl)
 
 -- the table has the digits of each number below 1,000, and how many they are
 pub LEADS_at : (n : ℕ) → n < 1000 → Lead n (get_or LEADS (n * 4) 0) (get_or LEADS (n * 4 + 1) 0) (get_or LEADS (n * 4 + 2) 0) (get_or LEADS (n * 4 + 3) 0)
 LEADS_at n h =
     let t = entry is_lead 1000 0 n LEADS tt h in
+    let y : 0 + n ≡ n = omega arith in
     let z : n * 4 + 0 ≡ n * 4 = omega arith in
-    let u = rw (get_or-drop (n * 4) LEADS 0 0, get_or-drop (n * 4) LEADS 1 0, get_or-drop (n * 4) LEADS 2 0, get_or-drop (n * 4) LEADS 3 0, z) at t in
+    let u = rw (y, get_or-drop (n * 4) LEADS 0 0, get_or-drop (n * 4) LEADS 1 0, get_or-drop (n * 4) LEADS 2 0, get_or-drop (n * 4) LEADS 3 0, z) at t in
     leads n _ _ _ _ (ltb n 10) (ltb n 100) refl refl h u
 
 -- the other table has three digits of each
 pub THREES_at : (n : ℕ) → n < 1000 → get_or THREES (n * 4) 0 ∷ get_or THREES (n * 4 + 1) 0 ∷ get_or THREES (n * 4 + 2) 0 ∷ [] ≡ three_text n
 THREES_at n h =
     let t = entry is_three 1000 0 n THREES tt h in
+    let y : 0 + n ≡ n = omega arith in
     let z : n * 4 + 0 ≡ n * 4 = omega arith in
-    let e = ap (λ (x : ℕ). get_or THREES x 0) (sym z) ∙ sym (get_or-drop (n * 4) THREES 0 0) ∙ eqb→eq _ _ (and_l _ _ t) in
-    let r = and_r _ _ t in
-    let f = sym (get_or-drop (n * 4) THREES 1 0) ∙ eqb→eq _ _ (and_l _ _ r) in
-    let g = sym (get_or-drop (n * 4) THREES 2 0) ∙ eqb→eq _ _ (and_r _ _ r) in
+    let u = rw (y, get_or-drop (n * 4) THREES 0 0, get_or-drop (n * 4) THREES 1 0, get_or-drop (n * 4) THREES 2 0, z) at t in
+    let e : get_or THREES (n * 4) 0 ≡ 48 + n / 100 = eqb→eq _ _ (and_l _ _ u) in
+    let r = and_r _ _ u in
+    let f : get_or THREES (n * 4 + 1) 0 ≡ 48 + n / 10 % 10 = eqb→eq _ _ (and_l _ _ r) in
+    let g : get_or THREES (n * 4 + 2) 0 ≡ 48 + n % 10 = eqb→eq _ _ (and_r _ _ r) in
     rw (e, f, g) refl
 
 -- ---- Numbers of more digits
@@ -123,7 +126,7 @@ decimal_at_most n le = length-decimal-le 20 n (omega arith) (omega (arith, le)) 
 pub ends : (old new : List ℕ) (at end n : ℕ) → at ≤ length old → end ≤ length new → n < 2 ^ 64 → take end new ≡ take at old ++ decimal n → end ≤ at + 20
 ends old new at end n from to small e =
     let long : end ≡ at + length (decimal n) =
-      sym (length-take-le end new to) ∙ ap (λ (l : List ℕ). length l) e ∙ length-append (take at old) (decimal n) ∙ ap (λ (k : ℕ). k + length (decimal n)) (length-take-le at old from) in
+    sym (length-take-le end new to) ∙ ap (λ (l : List ℕ). length l) e ∙ length-append (take at old) (decimal n) ∙ ap (λ (k : ℕ). k + length (decimal n)) (length-take-le at old from) in
     let few = decimal_at_most n small in
     omega (arith, long, few)
 
