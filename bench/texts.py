@@ -57,6 +57,11 @@ def held_calls(count):
     return text(*exports, *main(*("start a.f",) * count))
 
 
+def barred_calls(count):
+    """So many calls of one instance, of which the first keeps the others out by backpressure, and yields on."""
+    return text("instance a", "export f callback 0", "bp_inc", "cb_yield", "react", "cb_yield", *main(*("start a.f",) * count))
+
+
 def waiters(count):
     """So many threads wait on one set, and a subtask wakes one after the other."""
     scripts = ("host h polls 1 value 1", "instance a", "thread 0", *("wait r5 1",) * 2000)
@@ -124,6 +129,7 @@ def depth(count):
 def growing():
     """Name, a smaller and a larger text of each kind whose steps may cost more as it grows, and the labels that make them up."""
     yield "held calls, 16 and 256", held_calls(16), held_calls(256), 20_000
+    yield "calls that backpressure holds, 16 and 256", barred_calls(16), barred_calls(256), 20_000
     yield "waiters, 100 and 2,000", waiters(100), waiters(2000), 20_000
     yield "waiters of whom two are woken, 100 and 2,000", woken_pairs(100), woken_pairs(2000), 20_000
     yield "waiters from both ends, 250 and 1,000", waiters_from_both_ends(250), waiters_from_both_ends(1000), 0

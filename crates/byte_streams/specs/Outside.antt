@@ -1,5 +1,6 @@
 -- What reads and writes do, and when they fail.
-use Rattle.std.specs.Prelude.{◌≡◌, ℕ, ◌<◌, ◌≤◌, ◌^◌, ◌-◌, ◌⊎◌, Bool, true, false, List, [], ◌++◌, length, take, drop, Option, Some, None}
+use Rattle.std.specs.List.{list_any}
+use Rattle.std.specs.Prelude.{◌≡◌, ℕ, ◌<◌, ◌≤◌, ◌^◌, ◌+◌, ◌-◌, ◌==◌, ◌⊎◌, Bool, true, false, List, [], ◌++◌, if◌then◌else◌, length, min, take, drop, Option, Some, None}
 use Rattle.byte_streams.specs.declared.outside.Read.{Read}
 use Rattle.byte_streams.specs.declared.outside.Read.TheVariants as read
 use Rattle.byte_streams.specs.declared.outside.Wrote.{Wrote}
@@ -32,3 +33,23 @@ IsWritten old new piece wrote.Failed = new ≡ old
 abbrev pub kept_told : Bool → List ℕ → Option (List ℕ)
 kept_told true kept = None
 kept_told false kept = Some kept
+
+-- ---- Over memory
+
+-- the number of the next call, which stays at its type's end
+abbrev pub next_call : ℕ → ℕ
+next_call calls = min (calls + 1) (2 ^ 32 - 1)
+
+-- whether the call of this number is one of those that fail
+abbrev pub is_to_fail : List ℕ → ℕ → Bool
+is_to_fail fail call = list_any (λ n. n == call) fail
+
+-- What a read gives of so many bytes that are left, `piece` at most, into so much room: it fails where it is to.
+abbrev pub read_of : Bool → ℕ → ℕ → ℕ → Read
+read_of true left piece room = read.Failed
+read_of false left piece room = if min (min left piece) room == 0 then read.End else read.Got (min (min left piece) room)
+
+-- What a write takes of so many bytes, `piece` at most, into so much room: it fails where it is to, and where there is no room.
+abbrev pub write_of : Bool → ℕ → ℕ → ℕ → Wrote
+write_of true room piece given = wrote.Failed
+write_of false room piece given = if min (min room piece) given == 0 then wrote.Failed else wrote.Took (min (min room piece) given)

@@ -1,5 +1,5 @@
-ghost use Rattle.std.specs.Prelude.{◌≡◌, ◌<◌, ◌≤◌, ◌++◌, [], IfOk, List, Option, Some, drop, length, vec_capacity, vec_len};
-ghost use Rattle.byte_streams.specs.Outside.{HasRisen, IsWritten};
+ghost use Rattle.std.specs.Prelude.{◌≡◌, ◌-◌, ◌<◌, ◌≤◌, ◌++◌, [], IfOk, List, Option, Some, drop, length, vec_capacity, vec_len};
+ghost use Rattle.byte_streams.specs.Outside.{HasRisen, IsRead, IsWritten, is_to_fail, next_call, read_of, write_of};
 
 use crate::outside::{Read, Sink, Source, Wrote};
 use std::alloc::Global;
@@ -25,6 +25,9 @@ impl MemorySource {
         requires { 0 < piece }
         ensures left { ⟦<MemorySource as Source>⟧.left result ≡ Some bytes.items }
         ensures faults { ⟦<MemorySource as Source>⟧.faults result ≡ 0 }
+        ensures piece { result.piece ≡ piece }
+        ensures fail { result.fail ≡ fail }
+        ensures calls { result.calls ≡ 0 }
     {
         MemorySource {
             bytes,
@@ -42,7 +45,17 @@ impl Source for MemorySource {
 
     ghost left = { λ s. Some (drop s.at s.bytes.items) };
 
-    fn read(&mut self, buf: &mut [u8]) -> Read {
+    fn read(&mut self, buf: &mut [u8]) -> Read
+        requires { 0 < length buf.old }
+        ensures count { self.old.faults ≤ self.new.faults }
+        ensures cause { result ≡ Read.Failed → HasRisen self.old.faults self.new.faults }
+        ensures read { IsRead (Some (drop self.old.at self.old.bytes.items)) (Some (drop self.new.at self.new.bytes.items)) buf.new result }
+        // It gives at most `piece` bytes, and fails at just the calls that are listed.
+        ensures answer { result ≡ read_of (is_to_fail self.old.fail.items (next_call self.old.calls)) (vec_len self.old.bytes - self.old.at) self.old.piece (length buf.old) }
+        ensures calls { self.new.calls ≡ next_call self.old.calls }
+        ensures piece { self.new.piece ≡ self.old.piece }
+        ensures fail { self.new.fail ≡ self.old.fail }
+    {
         self.calls = self.calls.saturating_add(1);
         if self.fail.contains(&self.calls) {
             self.faults = self.faults.saturating_add(1);
@@ -70,6 +83,7 @@ pub struct MemorySink {
     faults: u64,
     ghost piece_is_some: { 0 < piece },
     ghost room_is_there: { capacity ≤ vec_capacity bytes },
+    ghost kept_is_inside: { vec_len bytes ≤ capacity },
 }
 
 impl MemorySink {
@@ -85,6 +99,9 @@ impl MemorySink {
         ensures held { IfOk result (λ sink. ⟦<MemorySink as Sink>⟧.held sink ≡ Some []) }
         ensures room { IfOk result (λ sink. sink.capacity ≡ capacity) }
         ensures faults { IfOk result (λ sink. ⟦<MemorySink as Sink>⟧.faults sink ≡ 0) }
+        ensures piece { IfOk result (λ sink. sink.piece ≡ piece) }
+        ensures fail { IfOk result (λ sink. sink.fail ≡ fail) }
+        ensures calls { IfOk result (λ sink. sink.calls ≡ 0) }
     {
         let Ok(bytes) = Vec::with_capacity(alloc, capacity) else {
             return Err(NoMemory);
@@ -117,23 +134,24 @@ impl Sink for MemorySink {
         ensures count { self.old.faults ≤ self.new.faults }
         ensures cause { result ≡ Wrote.Failed → HasRisen self.old.faults self.new.faults }
         ensures written { IsWritten (Some self.old.bytes.items) (Some self.new.bytes.items) bytes.now result }
-        // Its room stays, and where that is full it fails.
+        // It takes at most `piece` bytes, and fails at just the calls that are listed and where its room is full.
+        ensures answer { result ≡ write_of (is_to_fail self.old.fail.items (next_call self.old.calls)) (self.old.capacity - vec_len self.old.bytes) self.old.piece (length bytes.now) }
+        ensures calls { self.new.calls ≡ next_call self.old.calls }
         ensures room { self.new.capacity ≡ self.old.capacity }
+        ensures piece { self.new.piece ≡ self.old.piece }
+        ensures fail { self.new.fail ≡ self.old.fail }
         ensures full { self.old.capacity ≤ length self.old.bytes.items → result ≡ Wrote.Failed }
     {
         self.calls = self.calls.saturating_add(1);
-        let room = self.capacity.saturating_sub(self.bytes.len());
+        let room = self.capacity - self.bytes.len();
         let count = room.min(self.piece).min(bytes.len());
         if count == 0 || self.fail.contains(&self.calls) {
             self.faults = self.faults.saturating_add(1);
             return Wrote::Failed;
         }
-        match self.bytes.extend_from_slice(&bytes[..count]) {
-            Ok(()) => Wrote::Took(count),
-            Err(_) => {
-                self.faults = self.faults.saturating_add(1);
-                Wrote::Failed
-            }
-        }
+        let Ok(()) = self.bytes.extend_from_slice(&bytes[..count]) else {
+            unreachable!()
+        };
+        Wrote::Took(count)
     }
 }

@@ -1,6 +1,6 @@
 //! A source and a sink over memory that never fail.
-ghost use Rattle.std.specs.Prelude.{◌≡◌, ◌<◌, ◌≤◌, ◌++◌, [], false, min, IfOk, List, Option, ℕ, Some, drop, length, take, vec_capacity, vec_len};
-ghost use Rattle.byte_streams.specs.Outside.{HasRisen, IsWritten, kept_told};
+ghost use Rattle.std.specs.Prelude.{◌≡◌, ◌-◌, ◌<◌, ◌≤◌, ◌++◌, [], false, min, IfOk, List, Option, ℕ, Some, drop, length, take, vec_capacity, vec_len};
+ghost use Rattle.byte_streams.specs.Outside.{HasRisen, IsRead, IsWritten, kept_told, read_of};
 
 use crate::outside::{Read, Sink, Source, Wrote};
 use std::alloc::Global;
@@ -22,6 +22,7 @@ impl SureSource {
         requires { 0 < piece }
         ensures left { ⟦<SureSource as Source>⟧.left result ≡ Some bytes.items }
         ensures faults { ⟦<SureSource as Source>⟧.faults result ≡ 0 }
+        ensures piece { result.piece ≡ piece }
     {
         SureSource {
             bytes,
@@ -36,7 +37,15 @@ impl Source for SureSource {
 
     ghost left = { λ s. Some (drop s.at s.bytes.items) };
 
-    fn read(&mut self, buf: &mut [u8]) -> Read {
+    fn read(&mut self, buf: &mut [u8]) -> Read
+        requires { 0 < length buf.old }
+        ensures count { 0 ≤ 0 }
+        ensures cause { result ≡ Read.Failed → HasRisen 0 0 }
+        ensures read { IsRead (Some (drop self.old.at self.old.bytes.items)) (Some (drop self.new.at self.new.bytes.items)) buf.new result }
+        // It gives at most `piece` bytes, and doesn't fail.
+        ensures answer { result ≡ read_of false (vec_len self.old.bytes - self.old.at) self.old.piece (length buf.old) }
+        ensures piece { self.new.piece ≡ self.old.piece }
+    {
         let count = (self.bytes.len() - self.at).min(self.piece).min(buf.len());
         if count == 0 {
             return Read::End;

@@ -1,12 +1,12 @@
 -- A work that a store holds, with its cell.
 use Rattle.host_works.specs.declared.joined.JoinedWork.{JoinedWork}
-use Rattle.task_abort.specs.Cells.{view_of, work_of}
+use Rattle.task_abort.specs.Cells.{own_view}
 use Rattle.task_abort.specs.PhaseLog.{phase}
 use Rattle.task_machine.specs.declared.words.Phase.{Phase}
 
 abbrev pub joined_work : {H : Type 0} → JoinedWork H → H
-joined_work joined = work_of joined.work
+joined_work joined = joined.work
 
 -- what the calls on the store's pass have left, which are all calls on the cell
 abbrev pub joined_phase : {H : Type 0} → JoinedWork H → Phase
-joined_phase joined = phase (view_of joined.pass).seen
+joined_phase joined = phase (own_view joined.cell).seen

@@ -1,24 +1,18 @@
 //! A work that a store holds, with the ends of its cell and the store's pass.
 ghost use Rattle.std.specs.Prelude.{◌≡◌};
-ghost use Rattle.task_abort.specs.Cells.{handle_cell, pass_cell, view_of, work_cell};
-ghost use Rattle.task_abort.specs.PhaseLog.{IsFirst};
 
 use crate::work::{AccessorTask, HostPoll};
 use futures::task::Poll;
 use std::alloc::Global;
-use task_abort::{Abortable, JoinHandle, JoinPass};
+use task_abort::OwnCell;
 use task_machine::{NoMemory, Phase};
 
-/// A work that a store holds, with both ends of its cell. The store's pass is the cell's first, and is never split, so
-/// that each call on it answers the phase that the calls before have left.
+/// A work that a store holds, with its cell. The store has both ends of the cell and its first pass, which is never
+/// split, so that each call on it answers the phase that the calls before have left.
 #[derive(Drop)]
 pub struct JoinedWork<H> {
-    pub(crate) work: Abortable<H>,
-    pub(crate) handle: JoinHandle,
-    pub(crate) pass: JoinPass,
-    ghost own: { pass_cell pass ≡ work_cell work },
-    ghost shared: { pass_cell pass ≡ handle_cell handle },
-    ghost first: { IsFirst (view_of pass) },
+    pub(crate) work: H,
+    pub(crate) cell: OwnCell,
 }
 
 impl<H: Drop> JoinedWork<H> {
@@ -31,22 +25,16 @@ impl<H: Drop> JoinedWork<H> {
         ensures work { IfOk result (λ joined. joined_work joined ≡ work) }
         ensures phase { IfOk result (λ joined. joined_phase joined ≡ phases.Running) }
     {
-        match JoinHandle::run(alloc, work) {
-            Ok((handle, work, pass)) => Ok(JoinedWork { work, handle, pass }),
-            Err(_) => Err(NoMemory),
-        }
+        let cell = OwnCell::new(alloc)?;
+        Ok(JoinedWork { work, cell })
     }
 
     /// The work is over: its phase is `Complete`, and it is let go. Answers the phase before.
     pub fn finish(self) -> Phase
         ensures { result ≡ joined_phase self }
     {
-        let JoinedWork {
-            work,
-            handle: _,
-            mut pass,
-        } = self;
-        work.finish(&mut pass)
+        let mut cell = self.cell;
+        cell.finish()
     }
 }
 
@@ -64,7 +52,7 @@ impl<H> JoinedWork<H> {
         ensures phase { joined_phase self.new ≡ after Abort (joined_phase self.old) }
         ensures work { joined_work self.new ≡ joined_work self.old }
     {
-        self.handle.abort(&mut self.pass)
+        self.cell.abort()
     }
 
     /// Ready exactly where the work is over.
@@ -73,7 +61,7 @@ impl<H> JoinedWork<H> {
         ensures phase { joined_phase self.new ≡ joined_phase self.old }
         ensures work { joined_work self.new ≡ joined_work self.old }
     {
-        self.handle.poll_handle(&mut self.pass)
+        self.cell.poll_handle()
     }
 
     /// Polls the work where its phase is `Running`; else it isn't polled.
@@ -87,9 +75,9 @@ impl<H> JoinedWork<H> {
         ensures left { IfSome result (λ answer. H.course (joined_work self.new) ≡ one_fewer (H.course (joined_work self.old))) }
         ensures phase { joined_phase self.new ≡ joined_phase self.old }
     {
-        match self.work.running(&mut self.pass) {
-            Some(work) => Some(work.poll(host)),
-            None => None,
+        if !self.cell.running() {
+            return None;
         }
+        Some(self.work.poll(host))
     }
 }

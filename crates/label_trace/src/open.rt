@@ -35,14 +35,14 @@ impl<'a> Model for Labels<'a> {
 impl<'a> Labels<'a> {
     /// Takes the first label away, as the trace keeps it: its head, and its numbers in the list.
     #[inline(always)]
-    pub fn take(&mut self) -> Option<(Head, &'a [u64])>
-        ensures { MatchOption result ((self.old ≡ []) × (self.new ≡ [])) (λ p. self.old ≡ label_of p.0 p.1.now ∷ self.new) }
+    pub fn take(&mut self) -> Option<(&'a Head, &'a [u64])>
+        ensures { MatchOption result ((self.old ≡ []) × (self.new ≡ [])) (λ p. self.old ≡ label_of p.0.now p.1.now ∷ self.new) }
     {
         let (head, heads) = self.heads.split_first()?;
         let (own, numbers) = self.numbers.split_at(head.count.into());
         self.heads = heads;
         self.numbers = numbers;
-        Some((*head, own))
+        Some((head, own))
     }
 }
 
@@ -57,7 +57,7 @@ impl<'a> Iterator for Labels<'a> {
 
     fn next(&mut self) -> Option<Label> {
         let (head, numbers) = self.take()?;
-        Some(open(head, numbers))
+        Some(open(*head, numbers))
     }
 }
 

@@ -24,6 +24,11 @@ module _ (a : CoreParts) where
   unfolding seen
   none_yet = get-by_place_past (size (seen a).core.instances) (map (λ (x : InstanceRecord). x.instance) a.instances.items) (length-map a.instances.items (λ (x : InstanceRecord). x.instance) ∙ instance_count)
 
+  pub none_named : get (seen a).core.handles (size (seen a).core.instances) ≡ None
+  unfolding seen
+  none_named = get-by_place_past (size (seen a).core.instances) (map (λ (x : InstanceRecord). handle_table named_of x.handles) a.instances.items)
+      (length-map a.instances.items (λ (x : InstanceRecord). handle_table named_of x.handles) ∙ instance_count)
+
   module _ (r : InstanceRecord) (instance : r.instance ≡ untouched) (handles : r.handles ≡ none_given) (threads : r.thread_handles ≡ none_given) (v : Vec InstanceRecord Global) (is : v.items ≡ a.instances.items ++ r ∷ []) where
     abbrev more : CoreParts
     more = record a { instances = v }

@@ -67,6 +67,7 @@ pub fn add_instance(parts: &mut CoreParts) -> Result<u32, NoMemory>
     ensures sound { IsSound parts.new }
     ensures number { IfOk result (λ i. i ≡ size (seen parts.old).core.instances) }
     ensures fresh { IfOk result (λ i. get (seen parts.old).core.instances i ≡ None) }
+    ensures unnamed { IfOk result (λ i. get (seen parts.old).core.handles i ≡ None) }
     ensures new { OnOk result (seen parts.new ≡ on_core with_instance (seen parts.old)) }
     ensures err { OnErr result (seen parts.new ≡ seen parts.old) }
 {

@@ -1,6 +1,6 @@
 -- Each method's relation leads from a core in order to one, by the laws of pieces.
 use Rattle.method_laws.proofs.WakeLemmas.{meets_progresses}
-use Rattle.method_laws.specs.Methods.{AsksAtEnd, AsksKeep, EntersKeep, ExitsKeep, InTurn, PreparesKeep, PreparesMake, Rests, ResumesKeep, ReturnsAtEnd, ReturnsKeep, StartsKeep}
+use Rattle.method_laws.specs.Methods.{AsksAtEnd, AsksKeep, EntersKeep, ExitsKeep, InTurn, PreparesKeep, PreparesMake, Rests, ResumesKeep, ReturnsAtEnd, ReturnsKeep, StartsKeep, TasksKeep}
 use Rattle.op_dispatch.specs.Goes.{running_of}
 use Rattle.order_laws.proofs.AnywhereLemmas.{prepare_anywhere}
 use Rattle.order_laws.proofs.CallLemmas.{enter_keeps, prepare_makes}
@@ -11,8 +11,9 @@ use Rattle.order_laws.proofs.PieceLemmas.{promote_keeps, resume_keeps}
 use Rattle.order_laws.proofs.StartLemmas.{own_task, start_keeps}
 use Rattle.order_laws.specs.Pieces.{EnterKeeps, ExitKeeps, IsPrepared, KeepsOrder, Orderly, PrepareAnywhere, PrepareMakes, PromoteKeeps, RegisterKeeps, ResumeKeeps, ReturnAtEnd, ReturnKeeps, SameInstances, StartKeeps}
 use Rattle.state_calls.specs.declared.error.TaskError.{TaskError}
-use Rattle.std.specs.Prelude.{Err, Ok, Result}
+use Rattle.std.specs.Prelude.{Err, Ok, Result, [], if◌then◌else◌}
 use Rattle.subtask_ops.specs.Starts.{call_starts}
+use Rattle.task_calls.proofs.ApartLemmas.{trap_in_order}
 use Rattle.task_calls.proofs.AskLemmas.{order_still, running_is}
 use Rattle.task_calls.specs.Answers.{has_stopped}
 use Rattle.task_calls.specs.Asks.{Did, Does, row_of, turn_for, turn_in}
@@ -24,13 +25,16 @@ use Rattle.task_calls.specs.Calls.{Returned}
 use Rattle.task_calls.specs.Directs.{IsDirect, enters_row, exits_row}
 use Rattle.task_calls.specs.Prepared.{goal_for}
 use Rattle.task_calls.specs.Resumes.{Resumed}
+use Rattle.task_calls.specs.Tasks.{first_export}
 use Rattle.task_calls.specs.declared.intrinsics.ResumeThread.{ResumeThread}
 use Rattle.task_machine.specs.Labels.{exit_label, ret_label}
 use Rattle.task_machine.specs.Moves.{checked, ended, passes_check, promoted_unless}
 use Rattle.task_machine.specs.Read.{fits, has_ended, is_async_lifted, position_of, register_of, thread_at, thread_group}
+use Rattle.task_machine.specs.Write.{set_trapped}
 use Rattle.task_machine.specs.declared.component.Callee.{Callee}
 use Rattle.task_machine.specs.declared.label.CallLabel.{CallLabel}
 use Rattle.task_machine.specs.declared.records.Caller.{Caller}
+use Rattle.task_machine.specs.declared.records.Goal.{Goal}
 use Rattle.task_ops.specs.Came.{Meets}
 use Rattle.task_ops.specs.Halting.{GoesFirst, or_refused, promoted_found, promoted_if, refused_if, resumed_found}
 use Rattle.task_ops.specs.declared.came.Came.{Came}
@@ -269,6 +273,31 @@ prepares_keep c n q b true e words s t (Ok id) h there p =
     let g = goal_apart b q in
     subst (Sits c (Turn.Run n)) (sym p.becomes.core)
     (kept c (Turn.Run n) (Turn.Run n) s.core (call_made (Caller.Thread n) e (export_kind c e) (goal_for b q) (thread_group n s.core) words s.core) (prepare_anywhere c n e (goal_for b q) words s.core h.fresh there g.0 g.1) h.order)
+
+-- ---- A task
+
+pub tasks_keep : TasksKeep
+unfolding TasksKeep PrepareAnywhere
+tasks_keep c n i f s t false r h named there p = subst (λ (v : StateView). Sits c (Turn.Run n) v.core) (sym p.1) h.order
+tasks_keep c n i f s t true (Err why) h named there p = subst (λ (v : StateView). Sits c (Turn.Run n) v.core) (sym p.1) h.order
+tasks_keep c n i f s t true (Ok id) h named there p =
+    subst (Sits c (Turn.Run n)) (sym p.becomes.core) (begun s.core.trapped)
+  where
+    e : Callee
+    e = first_export i
+
+    of_thread : ℕ → Core
+    of_thread m = call_made (Caller.Thread m) e (export_kind c e) Goal.Nowhere (thread_group m s.core) [] s.core
+
+    made : Sits c (Turn.Run n) (of_thread (thread_of s f.thread))
+    made = subst (λ (m : ℕ). Sits c (Turn.Run n) (of_thread m)) (sym named)
+        (kept c (Turn.Run n) (Turn.Run n) s.core (of_thread n) (prepare_anywhere c n e Goal.Nowhere [] s.core h.fresh there refl refl) h.order)
+
+    begun : (b : Bool) → Sits c (Turn.Run n) (if b then set_trapped (of_thread (thread_of s f.thread)) else of_thread (thread_of s f.thread))
+    begun true = trap_in_order c (Turn.Run n) (of_thread (thread_of s f.thread)) made
+    begun false = made
+
+-- ---- What was prepared
 
 pub prepares_make : PreparesMake
 unfolding PreparesMake PrepareMakes

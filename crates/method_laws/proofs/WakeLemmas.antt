@@ -1,14 +1,18 @@
--- An op loses no wake: it is the one at its thread's place, and keeps order, or its row loses none wherever the thread is.
-use Rattle.method_laws.specs.Wakes.{MayBegin, OpsLoseNone}
+-- An op loses no wake. The one at its thread's place keeps order; the row of one of is_asked loses none wherever the thread is; and for one
+-- that is done in place of the one there, order is kept for a component in which it stands there.
+use Rattle.method_laws.specs.Wakes.{BeginsThere, MayBegin, OpsLoseNone}
 use Rattle.op_dispatch.specs.Goes.{running_of}
 use Rattle.order_laws.proofs.PlaceLaws.{rows_lose_none}
 use Rattle.order_laws.specs.Anywhere.{MayAsk, RowsLoseNone, is_asked}
 use Rattle.std.proofs.Common.{refl, subst, sym, ⊎_elim}
-use Rattle.std.specs.Prelude.{None, Option, Some, true, ℕ, ◌≡◌}
-use Rattle.task_calls.proofs.AskLemmas.{Runs, order_then, running_is}
+use Rattle.std.specs.Prelude.{None, Option, Some, false, true, ℕ, ◌<◌, ◌≡◌}
+use Rattle.task_calls.proofs.AskLemmas.{Runs, if_running_is, order_then, running_is}
+use Rattle.task_calls.proofs.PlaceLemmas.{did_other, order_alike, with_op, with_op_alike, with_op_codes, with_op_instances}
 use Rattle.task_calls.specs.Asks.{Does, after, row_of, runs_after, turn_for}
+use Rattle.task_calls.specs.Elsewhere.{is_apart}
 use Rattle.task_machine.specs.Core.{Core, State, Unscripted}
-use Rattle.task_machine.specs.Labels.{choice_of}
+use Rattle.task_machine.specs.Labels.{Choice, choice_of}
+use Rattle.task_machine.specs.Read.{callee_of}
 use Rattle.task_machine.specs.declared.component.Component.{Component}
 use Rattle.task_machine.specs.declared.op.Op.{Op}
 use Rattle.task_machine.specs.declared.records.Turn.TheVariants as turn
@@ -18,8 +22,10 @@ use Rattle.task_ops.specs.Steps.{label_of, turn_after}
 use Rattle.task_ops.specs.declared.came.Came.{Came}
 use Rattle.task_ops.specs.declared.came.Came.TheVariants as came
 use Rattle.task_places.proofs.Laws.{is_open}
+use Rattle.task_rules.specs.OpParts.{ends_activation}
 use Rattle.task_rules.specs.Progress.{Fails, Goes, Never, Ordered, Progress, Stops, Traps}
-use Rattle.task_rules.specs.Step.{Progresses}
+use Rattle.task_rules.specs.Scripts.{op_of_thread}
+use Rattle.task_rules.specs.Step.{Progresses, did}
 use Rattle.task_rules.specs.Turns.{at_turn, goes_to}
 use Rattle.task_turns.specs.Turn.{Sits, is_going, state_at}
 use Rattle.task_words.specs.StateView.{StateView}
@@ -69,11 +75,31 @@ module _ (c : Component) (o : Op) (n : ℕ) (s t : StateView) (runs : running_of
   asked on may (came.Traps why) meets stays = subst (λ (v : StateView). NoWakeLost v.core) (sym stays) (sits_loses c (Some n) s.core sits)
   asked on may (came.Fails i) meets stays = subst (λ (v : StateView). NoWakeLost v.core) (sym stays) (sits_loses c (Some n) s.core sits)
 
+  -- for a component with the op at the thread's place, order is kept
+  begun : (r : Came) → Does (row_of c o s.core n) n s r t → is_apart o ≡ true → ends_activation o ≡ false → BeginsThere c o n s.core → NoWakeLost t.core
+  begun r does apart plain is =
+      let f = callee_of is.thread.call s.core in
+      let w = is.thread.script in
+      let p = is.thread.position in
+      let d = with_op c f w p o in
+      let same = with_op_instances c f w p o in
+      let before : Sits d (turn.Run n) s.core = record {
+        order = λ m. order_alike f w p (op_of_thread c s.core is.thread) o c d (with_op_alike c f w p o is.within)
+            (with_op_codes c f w p o plain (sits.order Unscripted).codes) (state_at s.core m (turn.Run n)) is.before (sits.order m);
+        there = λ i below. sits.there i (subst (λ l. i < l) same below);
+        handles = λ i below. sits.handles i (subst (λ l. i < l) same below);
+      } in
+      let row = λ (ch : Choice). did_other c o n s.core is.thread is.here is.within apart ch in
+      loses_before r t (sits_loses d (running_of (after r t)) (after r t).core
+      (order_then d n r s t runs (went n r t does.running) does.stays (row_of c o s.core) before does.meets
+      (if_running_is s n runs (λ j. (ch : Choice) → did d j s.core ch ≡ row_of c o s.core j ch) row)))
+
   loses : (r : Came) → Does (row_of c o s.core n) n s r t → MayBegin c o s → NoWakeLost t.core
   loses r does = ⊎_elim
       (λ at. loses_before r t (sits_loses c (running_of (after r t)) (after r t).core
       (order_then c n r s t runs (went n r t does.running) does.stays (row_of c o s.core) sits does.meets at)))
-      (λ k. asked k.0 (running_is s n runs (λ j. MayAsk c j s.core) k.1) r does.meets does.stays)
+      (⊎_elim (λ k. asked k.0 (running_is s n runs (λ j. MayAsk c j s.core) k.1) r does.meets does.stays)
+      (λ k. begun r does k.0 k.1.0 (running_is s n runs (λ j. BeginsThere c o j s.core) k.1.1)))
 
 pub ops_lose_none : OpsLoseNone
 unfolding OpsLoseNone

@@ -11,6 +11,7 @@ use Rattle.task_calls.specs.Calls.{Returns}
 use Rattle.task_calls.specs.Directs.{IsDirect, enters_row, exits_row, thread_in}
 use Rattle.task_calls.specs.Prepared.{Prepared, Prepares, goal_for, starts_in}
 use Rattle.task_calls.specs.Resumes.{Resumed, resumed_by}
+use Rattle.task_calls.specs.Tasks.{Begins, first_export}
 use Rattle.task_calls.specs.declared.answers.Step.{Step}
 use Rattle.task_calls.specs.declared.intrinsics.ResumeThread.{ResumeThread}
 use Rattle.task_calls.specs.declared.intrinsics.ResumeThread.TheVariants as resume
@@ -96,6 +97,15 @@ unfoldable pub StartsKeep : Type 0
 StartsKeep = (c : Component) (n : ℕ) (s t : StateView) (id : QualifiedThreadId) → Rests c n s →
     IsPrepared n (thread_of s id.thread) s.core → is_some (callee_of_op (op_of c n s.core)) ≡ true →
     t ≡ with_current None (with_core (starts_in n id s) s) → InTurn c t
+
+-- ---- A task
+
+-- where a call whose thread is New was made for the running thread, of the kind that the component has for the first export of that
+-- instance, or that is refused, if the export that the thread serves is one of the component
+unfoldable pub TasksKeep : Type 0
+TasksKeep = (c : Component) (n i : ℕ) (caller : QualifiedThreadId) (s t : StateView) (room : Bool) (r : Result QualifiedThreadId TaskError) →
+    Rests c n s → thread_of s caller.thread ≡ n → (is_explicit n s.core ≡ false → is_some (export_at c (callee_of (task_of n s.core) s.core)) ≡ true) →
+    Begins (export_kind c (first_export i)) i (Some caller) s room r t → Sits c (turn.Run n) t.core
 
 -- ---- An op
 

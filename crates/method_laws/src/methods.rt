@@ -1,5 +1,5 @@
 ghost use Rattle.method_laws.specs.Methods.{EntersKeep, ExitsKeep, PreparesKeep, PreparesMake};
-ghost use Rattle.method_laws.specs.Methods.{AsksAtEnd, AsksKeep, ResumesKeep, ReturnsAtEnd, ReturnsKeep, StartsKeep};
+ghost use Rattle.method_laws.specs.Methods.{AsksAtEnd, AsksKeep, ResumesKeep, ReturnsAtEnd, ReturnsKeep, StartsKeep, TasksKeep};
 
 /// A thread that has another one go on first, by its handle, keeps order, and so does a refusal.
 #[tactic(auto, using(crate::proofs::MethodLemmas::resumes_keep))]
@@ -39,4 +39,11 @@ pub fn calls_keep()
 pub fn asks_keep()
     ensures within { AsksKeep }
     ensures at_end { AsksAtEnd }
+{}
+
+/// A call whose thread is New keeps order, where it is made for the running thread and has the kind of its
+/// export, and so does a refusal.
+#[tactic(auto, using(crate::proofs::MethodLemmas::tasks_keep))]
+pub fn tasks_keep()
+    ensures { TasksKeep }
 {}

@@ -3,7 +3,9 @@ ghost use Rattle.method_laws.specs.Wakes.{EntersLose, HostsLose, OpsLoseNone, St
 /// An op that a host has the running thread do loses no wake, as far as it came, where it is the op at the
 /// thread's place. It loses none either where no op of the thread is under way and it is one of `is_asked`
 /// (no export, no host, no end, not plain), whichever op stands at that place, also at a script's end and
-/// beside threads inside other ops there.
+/// beside threads inside other ops there. And any op that names neither an export nor a host and ends no
+/// activation, as an exit or one already under way, loses none where no thread is inside an op at that place
+/// of the script, or the op there can come as far.
 #[tactic(auto, using(crate::proofs::WakeLemmas::ops_lose_none))]
 pub fn ops_lose_none()
     ensures { OpsLoseNone }

@@ -9,22 +9,23 @@ ghost use Rattle.task_rules.specs.Ends.{exit_row, kind_exit_row};
 ghost use Rattle.task_machine.specs.Read.{kind_of, task_of};
 ghost use Rattle.op_dispatch.specs.Runner.{Runner};
 ghost use Rattle.op_dispatch.specs.Goes.{GoesOn};
-ghost use Rattle.task_words.specs.StateView.{thread_of};
+ghost use Rattle.task_words.specs.StateView.{call_of, thread_of};
 
 use task_machine::{ExportKind, Goal, Label, TaskLabel};
 use task_ops::{Came, end_activation, exit_blocking, exit_direct, exit_sync, exit_thread};
-use task_words::{ThreadId, Words};
+use task_words::{CallId, ThreadId, Words};
 
-// The exit of the first thread of a call that isn't direct, by the kind of its export.
+// The exit of the first thread of this call, which isn't direct, by the kind of its export.
 #[inline(always)]
-fn exit_by_kind<W: Words>(w: &mut W, thread: ThreadId) -> Came
-    requires { Runner thread (W.view w.old) }
+fn exit_by_kind<W: Words>(w: &mut W, thread: ThreadId, call: CallId) -> Came
+    requires runner { Runner thread (W.view w.old) }
+    requires call { call_of (W.view w.old) call ≡ task_of (thread_of (W.view w.old) thread) (W.view w.old).core }
     ensures meets { Meets (kind_exit_row (thread_of (W.view w.old) thread) (choice_of (label_of (thread_of (W.view w.old) thread) result)).woken (W.view w.old).core (kind_of (task_of (thread_of (W.view w.old) thread) (W.view w.old).core) (W.view w.old).core)) (W.view w.old).core result (W.view w.new).core }
     ensures goes { GoesOn result (W.view w.new) }
     ensures stays { StaysAfter result (W.view w.old) (W.view w.new) }
     ensures works { KeepsWorks (W.view w.old) (W.view w.new) }
 {
-    match w.kind(w.task_of(thread)) {
+    match w.kind(call) {
         ExportKind::Sync => exit_sync(w, thread),
         ExportKind::Blocking => exit_blocking(w, thread),
         ExportKind::Stackful => exit_thread(w, thread),
@@ -47,8 +48,9 @@ pub fn exit<W: Words>(w: &mut W, thread: ThreadId) -> Came
     if w.is_explicit(thread) {
         return exit_thread(w, thread);
     }
-    if matches!(w.goal(w.task_of(thread)), Goal::Direct) {
-        return exit_direct(w, thread);
+    let call = w.task_of(thread);
+    if matches!(w.goal(call), Goal::Direct) {
+        return exit_direct(w, thread, call);
     }
-    exit_by_kind(w, thread)
+    exit_by_kind(w, thread, call)
 }

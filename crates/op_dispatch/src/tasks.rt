@@ -6,7 +6,7 @@ ghost use Rattle.task_ops.specs.Came.{Meets};
 ghost use Rattle.task_ops.specs.Stays.{StaysAfter};
 ghost use Rattle.task_ops.specs.Steps.{label_of};
 ghost use Rattle.task_ops.specs.Works.{KeepsWorks};
-ghost use Rattle.task_rules.specs.Ends.{code_row};
+ghost use Rattle.task_rules.specs.Ends.{code_row, exit_row};
 ghost use Rattle.task_rules.specs.Outcome.{outcome_of_label};
 ghost use Rattle.task_rules.specs.Task.{task_row};
 ghost use Rattle.op_dispatch.specs.Runner.{Runner};
@@ -46,6 +46,18 @@ fn ends_waiting<W: Words>(w: &mut W, thread: ThreadId, label: Label, set: u64) -
     ends(w, thread, label, 16 * set + 2)
 }
 
+// `exit`. It is apart, as what it comes to stands in memory.
+#[inline(always)]
+fn exits<W: Words>(w: &mut W, thread: ThreadId) -> Came
+    requires { Runner thread (W.view w.old) }
+    ensures meets { Meets (exit_row (thread_of (W.view w.old) thread) (choice_of (label_of (thread_of (W.view w.old) thread) result)).woken (W.view w.old).core) (W.view w.old).core result (W.view w.new).core }
+    ensures goes { GoesOn result (W.view w.new) }
+    ensures stays { StaysAfter result (W.view w.old) (W.view w.new) }
+    ensures works { KeepsWorks (W.view w.old) (W.view w.new) }
+{
+    exit(w, thread)
+}
+
 /// An op that ends the task or the activation, or changes backpressure.
 pub(crate) fn do_task_op<W: Words>(w: &mut W, thread: ThreadId, op: TaskOp) -> Came
     requires runner { Runner thread (W.view w.old) }
@@ -63,7 +75,7 @@ pub(crate) fn do_task_op<W: Words>(w: &mut W, thread: ThreadId, op: TaskOp) -> C
         }
         TaskOp::RetBad { value: _ } => ret_bad(w, thread),
         TaskOp::TaskCancel => task_cancel(w, thread),
-        TaskOp::Exit => exit(w, thread),
+        TaskOp::Exit => exits(w, thread),
         TaskOp::CbYield => ends(w, thread, Label::Task(TaskLabel::CbYield(number)), 1),
         TaskOp::CbWait { set } => {
             let set = value_of(w, thread, set);

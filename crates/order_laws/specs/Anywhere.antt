@@ -35,7 +35,7 @@ is_asked_task task_op.BpInc = true
 is_asked_task task_op.BpDec = true
 is_asked_task _ = false
 
--- an op that names neither an export nor a host, and ends neither the thread nor an activation
+-- an op that names neither an export nor a host, ends neither the thread nor an activation, and isn't plain
 abbrev pub is_asked : Op → Bool
 is_asked (op.Task o) = is_asked_task o
 is_asked (op.Set o) = true

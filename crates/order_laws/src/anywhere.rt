@@ -1,7 +1,8 @@
 ghost use Rattle.order_laws.specs.Anywhere.{EntersLoseNone, HostsLoseNone, RowsKeepOrder, RowsLoseNone, StartsLoseNone};
 
-/// A running thread that does an op which names neither an export nor a host, by its row, loses no wake,
-/// whichever op stands at its place, also at its script's end, and wherever other threads are.
+/// A running thread that does an op of `is_asked` (no export, no host, no end of the thread or of an
+/// activation, not plain) by its row, where no op of it is under way, loses no wake, whichever op stands at
+/// its place, also at its script's end, and wherever other threads are.
 #[tactic(auto, using(crate::proofs::PlaceLaws::rows_lose_none))]
 pub fn rows_lose_none()
     ensures { RowsLoseNone }

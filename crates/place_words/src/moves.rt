@@ -166,7 +166,7 @@ fn stands_alone(place: &Place) -> bool
     ensures { result ≡ true → StandsAlone place.now }
 {
     match place {
-        Place::Running => true,
+        Place::New | Place::Running | Place::Suspended => true,
         Place::Ready { why, .. } => is_for_no_set(why),
         _ => false,
     }
@@ -216,6 +216,20 @@ pub(crate) fn put_counted(
     }
 }
 
+// The same, out of line: few threads are taken from where they are in a chain or a set counts them.
+#[inline(never)]
+fn put_away(parts: &mut CoreParts, id: ThreadId, place: Place, beside: u32, chain: Option<usize>)
+    requires sound { IsSound parts.old }
+    requires place { AtPlace (parts_of parts.old) beside (place_target place) }
+    requires chain { (g : GuestThread) → Ok g ≡ item_at item_of parts.old.threads id.rep id.serial → option_and_then (place_chain (bare (parts_of parts.old))) (where_at g.instance place) ≡ chain }
+    ensures sound { IsSound parts.new }
+    ensures new { seen parts.new ≡ on_core (set_place (thread_of (seen parts.old) id) place) (seen parts.old) }
+    ensures threads { (g : GuestThread) → Ok g ≡ item_at item_of parts.old.threads id.rep id.serial → parts.new.threads ≡ with_entry id.rep (entry_of (placed g place beside)) parts.old.threads }
+    ensures left { (g : GuestThread) → Ok g ≡ item_at item_of parts.old.threads id.rep id.serial → chain ≡ None → parts.new.places ≡ removed g.node.index parts.old.places }
+{
+    put_counted(parts, id, place, beside, chain);
+}
+
 /// The thread is at another place from now on, in the chain in which it is filed there. An id that names no thread
 /// changes nothing.
 #[inline(always)]
@@ -244,7 +258,7 @@ pub(crate) fn put(
             one_more(&mut parts.sets, to);
             file_in(&mut parts.places, node, chain, seat);
         } else {
-            put_counted(parts, id, place, beside, chain);
+            put_away(parts, id, place, beside, chain);
         }
     }
 }

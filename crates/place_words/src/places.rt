@@ -86,14 +86,14 @@ pub fn delivered_set(parts: &CoreParts, thread: ThreadId) -> Option<SetId>
     }
 }
 
-// The thread runs from now on.
+// The thread runs from now on: seldom one that stood where no set counts it.
 #[inline(always)]
 fn run(parts: &mut CoreParts, thread: ThreadId)
     requires { IsSound parts.old }
     ensures sound { IsSound parts.new }
     ensures new { seen parts.new ≡ on_core (set_place (thread_of (seen parts.old) thread) places.Running) (seen parts.old) }
 {
-    put(parts, thread, Place::Running, 0, None);
+    put_counted(parts, thread, Place::Running, 0, None);
 }
 
 // The thread has an entry at the mark from now on.
@@ -323,7 +323,7 @@ pub fn unhold(parts: &mut CoreParts, thread: ThreadId)
     match found.thread.place {
         Place::Held { why } => {
             let mark = Mark::High;
-            put(parts, thread, Place::Ready { mark, why }, beside, None);
+            put_counted(parts, thread, Place::Ready { mark, why }, beside, None);
         }
         _ => unreachable!(),
     }

@@ -1,8 +1,8 @@
 //! Instances, and the limits of a store.
-ghost use Rattle.std.specs.Prelude.{◌≡◌, ◌<◌, ◌≤◌, IfOk, OnErr, OnOk};
+ghost use Rattle.std.specs.Prelude.{◌≡◌, ◌<◌, ◌≤◌, IfOk, None, OnErr, OnOk};
 ghost use Rattle.count_words.specs.Limits.{with_capacity, with_handle_limit};
 ghost use Rattle.make_words.specs.Instances.{with_instance};
-ghost use Rattle.task_machine.specs.Maps.{size};
+ghost use Rattle.task_machine.specs.Maps.{get, size};
 ghost use Rattle.task_machine.specs.Read.{table_use};
 ghost use Rattle.task_words.specs.StateView.{on_core};
 
@@ -15,6 +15,8 @@ impl TaskCore {
     pub fn add_instance(&mut self) -> Result<u32, NoMemory>
         requires { size self.old.core.instances < 4294967295 }
         ensures number { IfOk result (λ i. i ≡ size self.old.core.instances) }
+        ensures fresh { IfOk result (λ i. get self.old.core.instances i ≡ None) }
+        ensures unnamed { IfOk result (λ i. get self.old.core.handles i ≡ None) }
         ensures ok { OnOk result (self.new ≡ on_core with_instance self.old) }
         ensures err { OnErr result (self.new ≡ self.old) }
     {

@@ -1,5 +1,6 @@
 -- The call that stands at the place that a thread keeps is the thread's.
 use Rattle.task_records.proofs.Core.{ap, arith, Call, call_group, call_key, cond, eq-eqb, found, get, HasNumber, IsSound, item_at, item_in, item_of, key_in, None, number_in, of_serial, Ok, Option, option_and_then, option_map_or, place_at, Placed, records, refl, same_Some, seen, Some, sym, ℕ, ◌<◌, ◌∙◌, ◌≡◌}
+use Rattle.task_machine.specs.Read.{callee_of, no_callee}
 use Rattle.task_records.proofs.KindLemmas.{item_number, item_read}
 use Rattle.task_records.specs.declared.{calls.GuestTask.GuestTask, parts.CoreParts.CoreParts, single.Single.Single}
 
@@ -33,3 +34,6 @@ module _ (a : CoreParts) (place n : ℕ) (has : HasNumber call_key a.calls place
 
     pub group_at : r.call.group ≡ call_group n (seen a).core
     group_at = ap (λ (o : Option Call). option_map_or (λ (k : Call). k.group) o 0) call_is
+
+    pub callee_at : r.call.callee ≡ callee_of n (seen a).core
+    callee_at = ap (λ (o : Option Call). option_map_or (λ (k : Call). k.callee) o no_callee) call_is

@@ -6,9 +6,9 @@ ghost use Rattle.task_machine.specs.declared.records.Thread.{Thread};
 ghost use Rattle.task_records.specs.Seen.{IsSound, seen};
 ghost use Rattle.task_words.specs.StateView.{on_core, thread_of};
 
-use crate::calls::callee;
 use crate::words::{put_word, word_in};
-use task_records::{CoreParts, task_of};
+use task_records::CoreParts;
+use task_wait::GuestTaskKey;
 use task_words::{ThreadAt, ThreadId};
 
 /// The number of a thread; 0 where the id names none.
@@ -76,10 +76,13 @@ pub fn at(parts: &CoreParts, thread: ThreadId) -> ThreadAt
     ensures position { result.position ≡ position_of (thread_of (seen parts.now) thread) (seen parts.now).core }
 {
     match task_records::thread(parts, thread) {
-        Some(entry) => ThreadAt {
-            callee: callee(parts, task_of(parts, thread)),
-            script: entry.thread.script,
-            position: entry.thread.position,
+        Some(entry) => match parts.calls.item_at::<GuestTaskKey>(entry.task) {
+            Some(item) => ThreadAt {
+                callee: item.call.callee,
+                script: entry.thread.script,
+                position: entry.thread.position,
+            },
+            None => unreachable!(),
         },
         None => unreachable!(),
     }

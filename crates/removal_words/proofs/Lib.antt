@@ -17,3 +17,4 @@ pub mod CallLemmas
 pub mod SettleLemmas
 pub mod WorkLemmas
 pub mod JoinLemmas
+pub mod FindLemmas

@@ -44,8 +44,6 @@ fn drop_call(parts: &mut CoreParts, call: CallId) -> TableId<GroupKey>
     };
     let (group, mut counted) = group_there(&parts.groups, found.group);
     counted.calls -= 1;
-    close_seats(&mut parts.places, found.blocked);
-    drop_seat(&mut parts.ready_calls, found.ready);
     match parts.groups.get_mut(group) {
         Ok(entry) => {
             *entry = counted;
@@ -56,6 +54,8 @@ fn drop_call(parts: &mut CoreParts, call: CallId) -> TableId<GroupKey>
         Ok(_) => {}
         Err(_) => unreachable!(),
     }
+    close_seats(&mut parts.places, found.blocked);
+    drop_seat(&mut parts.ready_calls, found.ready);
     parts.kept.used -= 1;
     parts.table_places.give(found.entry);
     parts.kept.interesting -= one_if(found.call.interesting);

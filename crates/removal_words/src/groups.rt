@@ -23,16 +23,6 @@ pub(crate) fn one_if(flag: bool) -> u64
     if flag { 1 } else { 0 }
 }
 
-// The id of the group that stands at a place.
-fn group_at(groups: &ResourceTable<Single<TaskGroup>>, place: u32) -> TableId<GroupKey>
-    ensures { number_of group_key groups.now result.rep result.serial ≡ number_in (record_at group_key groups.now.places place) }
-{
-    match groups.serial_at(place) {
-        Some(serial) => TableId::new(place, serial),
-        None => TableId::new(place, 0),
-    }
-}
-
 // The group that stands at a place, with its id.
 pub(crate) fn group_there(
     groups: &ResourceTable<Single<TaskGroup>>,
@@ -42,10 +32,15 @@ pub(crate) fn group_there(
     ensures item { Ok result.1 ≡ item_at item_of groups.now result.0.rep result.0.serial }
     ensures number { result.1.number ≡ number_in (record_at group_key groups.now.places place) }
 {
-    let id = group_at(groups, place);
-    match groups.get(id) {
-        Ok(found) => (id, *found),
-        Err(_) => unreachable!(),
+    match groups.serial_at(place) {
+        Some(serial) => {
+            let id = TableId::new(place, serial);
+            match groups.get(id) {
+                Ok(found) => (id, *found),
+                Err(_) => unreachable!(),
+            }
+        }
+        None => unreachable!(),
     }
 }
 

@@ -16,7 +16,8 @@ ghost use Rattle.task_words.specs.StateView.{lost_thread, on_core, thread_of};
 use crate::chains::{close, close_seats, drop_seat};
 use place_words::{place, suspend};
 use task_machine::Place;
-use task_records::{CoreParts, GuestTask, GuestThread, task_of};
+use task_records::{CoreParts, GuestTask, GuestThread};
+use task_table::TableId;
 use task_words::{CallId, ThreadId};
 
 // The record of a thread that is there, and that of its call.
@@ -31,9 +32,14 @@ fn with_call(parts: &CoreParts, thread: ThreadId) -> (GuestThread, CallId, Guest
         Some(found) => *found,
         None => unreachable!(),
     };
-    let task = task_of(parts, thread);
-    match task_records::call(parts, task) {
-        Some(call) => (found, task, *call),
+    match parts.calls.serial_at(found.task) {
+        Some(serial) => {
+            let task = TableId::new(found.task, serial);
+            match task_records::call(parts, task) {
+                Some(call) => (found, task, *call),
+                None => unreachable!(),
+            }
+        }
         None => unreachable!(),
     }
 }
@@ -51,15 +57,6 @@ fn drop_thread(parts: &mut CoreParts, thread: ThreadId)
 {
     let (found, task, call) = with_call(parts, thread);
     let threads = call.threads - 1;
-    close_seats(&mut parts.places, found.under);
-    drop_seat(&mut parts.places, found.node);
-    parts.behind.no_node_is_twice();
-    close(&mut parts.behind, found.callers);
-    parts.behind.drop_node(found.caller);
-    parts.marks.no_node_is_twice();
-    parts.marks.drop_node(found.mark);
-    parts.shelves.no_node_is_twice();
-    parts.shelves.drop_node(found.shelf);
     match parts.calls.get_mut(task) {
         Ok(entry) => {
             entry.threads = threads;
@@ -70,6 +67,15 @@ fn drop_thread(parts: &mut CoreParts, thread: ThreadId)
         Ok(_) => {}
         Err(_) => unreachable!(),
     }
+    close_seats(&mut parts.places, found.under);
+    drop_seat(&mut parts.places, found.node);
+    parts.behind.no_node_is_twice();
+    close(&mut parts.behind, found.callers);
+    parts.behind.drop_node(found.caller);
+    parts.marks.no_node_is_twice();
+    parts.marks.drop_node(found.mark);
+    parts.shelves.no_node_is_twice();
+    parts.shelves.drop_node(found.shelf);
     parts.kept.used -= 2;
     parts.table_places.give(found.entry);
     parts.table_places.give(found.set_entry);

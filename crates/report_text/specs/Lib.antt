@@ -1,2 +1,2 @@
-pub mod Pair
+pub mod Digits
 pub mod Lines

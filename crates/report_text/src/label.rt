@@ -7,7 +7,7 @@ ghost use Rattle.task_machine.specs.Statuses.{status_code};
 ghost use Rattle.task_machine.specs.declared.words.Given.TheVariants as Given;
 ghost use Rattle.task_rules.specs.Texts.{mark_text, phase_text, given_text, own_given, wakes, polls, refused, main_text, future_text, loop_text, taken_text, event_text, take_text, op_text, answer_text, data_text, task_text, set_text, call_text, thread_text, label_text, line_text, outcome_text};
 
-use crate::piece::{digits, number, numbers, small_number, thread_number, words};
+use crate::piece::{digits, number, numbers, small_number, thread_number, words, words_over};
 use label_trace::{
     CallKind, DataKind, HandleKind, Head, Kind, LoopKind, MainKind, OwnKind, SetKind, TakeKind,
     TaskKind, ThreadKind, first, later, listed,
@@ -20,7 +20,7 @@ pub(crate) const LINE: usize = 160;
 // The thread that a step woke.
 #[inline(never)]
 fn wakes(out: &mut [u8], at: usize, woken: u64) -> usize
-    requires { at + 27 ≤ length out.old }
+    requires { at + 32 ≤ length out.old }
     ensures end { result ≤ at + 27 }
     ensures room { length out.new ≡ length out.old }
     ensures text { take result out.new ≡ wakes (take at out.old) woken }
@@ -29,7 +29,7 @@ fn wakes(out: &mut [u8], at: usize, woken: u64) -> usize
 }
 
 fn refused(out: &mut [u8], at: usize, before: &[u8], start: u32, trap: Trap) -> usize
-    requires { at + length before.now + 49 ≤ length out.old }
+    requires { at + length before.now + 54 ≤ length out.old }
     ensures end { result ≤ at + length before.now + 49 }
     ensures room { length out.new ≡ length out.old }
     ensures text { take result out.new ≡ take at out.old ++ refused (before.now ++ decimal start) trap }
@@ -88,7 +88,7 @@ fn taken_thread(out: &mut [u8], at: usize, mark: Mark) -> usize
 // Words, the handle of a subtask, and its status, which has one digit.
 #[inline(always)]
 fn handed(out: &mut [u8], at: usize, before: &[u8], handle: u32, status: Status) -> usize
-    requires { at + length before.now + 22 ≤ length out.old }
+    requires { at + length before.now + 27 ≤ length out.old }
     ensures end { result ≤ at + length before.now + 22 }
     ensures room { length out.new ≡ length out.old }
     ensures text { take result out.new ≡ take at out.old ++ (before.now ++ decimal handle ++ codes " " ++ decimal (status_code status)) }
@@ -98,7 +98,7 @@ fn handed(out: &mut [u8], at: usize, before: &[u8], handle: u32, status: Status)
 }
 
 fn aborts(out: &mut [u8], at: usize, spawn: u32, phase: Phase) -> usize
-    requires { at + 41 ≤ length out.old }
+    requires { at + 46 ≤ length out.old }
     ensures end { result ≤ at + 41 }
     ensures room { length out.new ≡ length out.old }
     ensures text { take result out.new ≡ take at out.old ++ (codes "main abort " ++ decimal spawn ++ codes " " ++ phase_text phase) }
@@ -131,12 +131,12 @@ fn main_label(out: &mut [u8], at: usize, kind: MainKind, small: u32, value: u64)
 
 #[inline(always)]
 fn polled(out: &mut [u8], at: usize, work: u64, what: &[u8]) -> usize
-    requires { at + length what.now + 27 ≤ length out.old }
+    requires { at + length what.now + 32 ≤ length out.old }
     ensures end { result ≤ at + length what.now + 27 }
     ensures room { length out.new ≡ length out.old }
     ensures text { take result out.new ≡ take at out.old ++ future_text work what.now }
 {
-    let end = words(out, at, b"future ");
+    let end = words_over(out, at, b"future  ", 7);
     let end = digits(out, end, work);
     words(out, end, what)
 }
@@ -163,7 +163,6 @@ fn seldom_label(out: &mut [u8], at: usize, kind: LoopKind, work: u64) -> usize
     }
 }
 
-#[inline(always)]
 fn loop_label(out: &mut [u8], at: usize, kind: LoopKind, small: u32, xs: &[u64]) -> usize
     requires { at + LINE ≤ length out.old }
     ensures end { result < at + LINE }
@@ -181,7 +180,7 @@ fn loop_label(out: &mut [u8], at: usize, kind: LoopKind, small: u32, xs: &[u64])
 // `take M`, whose entry it is, and its number.
 #[inline(always)]
 fn takes(out: &mut [u8], at: usize, mark: Mark, what: &[u8], entry: u64) -> usize
-    requires { at + length what.now + 31 ≤ length out.old }
+    requires { at + length what.now + 36 ≤ length out.old }
     ensures end { result ≤ at + length what.now + 31 }
     ensures room { length out.new ≡ length out.old }
     ensures text { take result out.new ≡ take at out.old ++ taken_text mark what.now entry }
@@ -193,7 +192,7 @@ fn takes(out: &mut [u8], at: usize, mark: Mark, what: &[u8], entry: u64) -> usiz
 // `take M thread N`.
 #[inline(always)]
 fn takes_thread(out: &mut [u8], at: usize, mark: Mark, thread: u64) -> usize
-    requires { at + 39 ≤ length out.old }
+    requires { at + 44 ≤ length out.old }
     ensures end { result ≤ at + 39 }
     ensures room { length out.new ≡ length out.old }
     ensures text { take result out.new ≡ take at out.old ++ taken_text mark (codes " thread ") thread }
@@ -205,7 +204,7 @@ fn takes_thread(out: &mut [u8], at: usize, mark: Mark, thread: u64) -> usize
 // The taken thread, and what came of it.
 #[inline(always)]
 fn takes_and(out: &mut [u8], at: usize, mark: Mark, thread: u64, then: &[u8]) -> usize
-    requires { at + length then.now + 39 ≤ length out.old }
+    requires { at + length then.now + 44 ≤ length out.old }
     ensures end { result ≤ at + length then.now + 39 }
     ensures room { length out.new ≡ length out.old }
     ensures text { take result out.new ≡ take at out.old ++ (taken_text mark (codes " thread ") thread ++ then.now) }
@@ -250,7 +249,6 @@ fn seldom_take(
     }
 }
 
-#[inline(always)]
 fn take_label(
     out: &mut [u8],
     at: usize,
@@ -272,29 +270,49 @@ fn take_label(
     }
 }
 
-#[inline(always)]
+// Takings that hand out a cancel or wake a thread.
+#[inline(never)]
+fn seldom_own(
+    out: &mut [u8],
+    at: usize,
+    mark: Mark,
+    kind: OwnKind,
+    thread: u64,
+    woken: u64,
+) -> usize
+    requires { at + LINE ≤ length out.old }
+    ensures end { result < at + LINE }
+    ensures room { length out.new ≡ length out.old }
+    ensures text { take result out.new ≡ take at out.old ++ take_text (own_of mark kind thread woken) }
+{
+    let end = takes_thread(out, at, mark, thread);
+    match kind {
+        OwnKind::Nothing => words(out, end, b" event 0 0 0"),
+        OwnKind::Cancelled => words(out, end, b" event 6 0 0"),
+        OwnKind::NothingWakes => {
+            let end = words(out, end, b" event 0 0 0");
+            wakes(out, end, woken)
+        }
+        OwnKind::CancelledWakes => {
+            let end = words(out, end, b" event 6 0 0");
+            wakes(out, end, woken)
+        }
+    }
+}
+
 fn own_label(out: &mut [u8], at: usize, mark: Mark, kind: OwnKind, small: u32, xs: &[u64]) -> usize
     requires { at + LINE ≤ length out.old }
     ensures end { result < at + LINE }
     ensures room { length out.new ≡ length out.old }
     ensures text { take result out.new ≡ take at out.old ++ take_text (own_of mark kind (slice_index (all small xs.now) 0) (slice_index (all small xs.now) 1)) }
 {
-    let end = takes_thread(out, at, mark, first(small, xs));
+    let thread = first(small, xs);
     match kind {
-        OwnKind::Nothing => words(out, end, b" event 0 0 0"),
-        OwnKind::Cancelled => words(out, end, b" event 6 0 0"),
-        OwnKind::NothingWakes => {
-            let end = words(out, end, b" event 0 0 0");
-            wakes(out, end, later(small, xs, 1))
-        }
-        OwnKind::CancelledWakes => {
-            let end = words(out, end, b" event 6 0 0");
-            wakes(out, end, later(small, xs, 1))
-        }
+        OwnKind::Nothing => takes_and(out, at, mark, thread, b" event 0 0 0"),
+        _ => seldom_own(out, at, mark, kind, thread, later(small, xs, 1)),
     }
 }
 
-#[inline(always)]
 fn given_label(
     out: &mut [u8],
     at: usize,
@@ -312,7 +330,6 @@ fn given_label(
     handed(out, end, b" event 1 ", handle, status)
 }
 
-#[inline(always)]
 fn data_label(out: &mut [u8], at: usize, kind: DataKind, small: u32, xs: &[u64]) -> usize
     requires { at + LINE ≤ length out.old }
     ensures end { result < at + LINE }
@@ -330,7 +347,6 @@ fn data_label(out: &mut [u8], at: usize, kind: DataKind, small: u32, xs: &[u64])
     }
 }
 
-#[inline(always)]
 fn task_label(out: &mut [u8], at: usize, kind: TaskKind, small: u32, xs: &[u64]) -> usize
     requires { at + LINE ≤ length out.old }
     ensures end { result < at + LINE }
@@ -360,7 +376,7 @@ fn task_label(out: &mut [u8], at: usize, kind: TaskKind, small: u32, xs: &[u64])
 
 // ` wait`, the task's own event, and the thread that was woken.
 fn waits_and_wakes(out: &mut [u8], at: usize, event: OwnEvent, woken: u64) -> usize
-    requires { at + 60 ≤ length out.old }
+    requires { at + 65 ≤ length out.old }
     ensures end { result ≤ at + 60 }
     ensures room { length out.new ≡ length out.old }
     ensures text { take result out.new ≡ take at out.old ++ wakes (codes " wait" ++ given_text (own_given event)) woken }
@@ -371,7 +387,6 @@ fn waits_and_wakes(out: &mut [u8], at: usize, event: OwnEvent, woken: u64) -> us
     }
 }
 
-#[inline(always)]
 fn set_label(out: &mut [u8], at: usize, kind: SetKind, small: u32, xs: &[u64]) -> usize
     requires { at + LINE ≤ length out.old }
     ensures end { result < at + LINE }
@@ -391,7 +406,6 @@ fn set_label(out: &mut [u8], at: usize, kind: SetKind, small: u32, xs: &[u64]) -
     }
 }
 
-#[inline(always)]
 fn call_label(out: &mut [u8], at: usize, kind: CallKind, small: u32, xs: &[u64]) -> usize
     requires { at + LINE ≤ length out.old }
     ensures end { result < at + LINE }
@@ -425,7 +439,6 @@ fn call_label(out: &mut [u8], at: usize, kind: CallKind, small: u32, xs: &[u64])
     }
 }
 
-#[inline(always)]
 fn thread_label(out: &mut [u8], at: usize, kind: ThreadKind, thread: u64) -> usize
     requires { at + LINE ≤ length out.old }
     ensures end { result < at + LINE }
@@ -445,7 +458,6 @@ fn thread_label(out: &mut [u8], at: usize, kind: ThreadKind, thread: u64) -> usi
     }
 }
 
-#[inline(always)]
 fn handle_label(out: &mut [u8], at: usize, kind: HandleKind, small: u32, xs: &[u64]) -> usize
     requires { at + LINE ≤ length out.old }
     ensures end { result < at + LINE }
@@ -477,11 +489,11 @@ fn handle_label(out: &mut [u8], at: usize, kind: HandleKind, small: u32, xs: &[u
 // The text of a label, without a line feed, from its head and its numbers in the list. It is compiled into the
 // loop that prints a report, so that nothing is kept and handed over from line to line.
 #[inline(always)]
-fn any_label(out: &mut [u8], at: usize, head: Head, xs: &[u64]) -> usize
+fn any_label(out: &mut [u8], at: usize, head: &Head, xs: &[u64]) -> usize
     requires { at + LINE ≤ length out.old }
     ensures end { result < at + LINE }
     ensures room { length out.new ≡ length out.old }
-    ensures text { take result out.new ≡ take at out.old ++ label_text (label_of head xs.now) }
+    ensures text { take result out.new ≡ take at out.old ++ label_text (label_of head.now xs.now) }
 {
     let small = head.small;
     match head.kind {
@@ -501,11 +513,11 @@ fn any_label(out: &mut [u8], at: usize, head: Head, xs: &[u64]) -> usize
 
 /// Writes the line of a label in place. The answer is the place behind it.
 #[inline(always)]
-pub(crate) fn label_line(out: &mut [u8], at: usize, head: Head, xs: &[u64]) -> usize
+pub(crate) fn label_line(out: &mut [u8], at: usize, head: &Head, xs: &[u64]) -> usize
     requires { at + LINE ≤ length out.old }
     ensures end { result ≤ at + LINE }
     ensures room { length out.new ≡ length out.old }
-    ensures text { take result out.new ≡ take at out.old ++ line_text (label_text (label_of head xs.now)) }
+    ensures text { take result out.new ≡ take at out.old ++ line_text (label_text (label_of head.now xs.now)) }
 {
     let end = any_label(out, at, head, xs);
     words(out, end, b"\n")

@@ -4,5 +4,6 @@
 mod label;
 mod page;
 mod piece;
+mod table;
 
 pub use page::{PAGE, Page};

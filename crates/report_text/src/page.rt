@@ -42,6 +42,7 @@ impl Page {
 
     /// Adds lines of the labels that are left, up to a full page, and takes these labels away. Answers whether the
     /// page is full; else no labels are left.
+    #[inline(always)]
     pub fn fill(&mut self, labels: &mut Labels<'_>) -> bool
         ensures lines { self.new ++ lines_of labels.new ≡ self.old ++ lines_of labels.old }
         ensures full { result ≡ true → PAGE < length self.new }

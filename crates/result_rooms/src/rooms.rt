@@ -1,4 +1,4 @@
-ghost use Rattle.result_rooms.specs.Rooms.{given_in, wanted, weight};
+ghost use Rattle.result_rooms.specs.Rooms.{count_given, given_in, wanted, weight};
 ghost use Rattle.std.specs.BTreeMap.{is_at};
 ghost use Rattle.std.specs.Map.{lookup};
 ghost use Rattle.std.specs.Ordering.{nat_cmp};
@@ -56,6 +56,18 @@ fn given_in(rooms: &BTreeMap<u64, ResultRoom>, call: u64) -> Option<u64>
     }
 }
 
+// The result in a call's room, where so many rooms have one: none is looked for where there is none.
+#[inline(always)]
+fn given_there(rooms: &BTreeMap<u64, ResultRoom>, given: u64, call: u64) -> Option<u64>
+    requires { given ≡ count_given rooms.now.entries }
+    ensures { result ≡ given_in (lookup (is_at (nat_cmp call)) rooms.now.entries) }
+{
+    if given == 0 {
+        return None;
+    }
+    given_in(rooms, call)
+}
+
 impl ResultRooms {
     /// No room.
     pub fn new(alloc: Global) -> ResultRooms
@@ -72,10 +84,7 @@ impl ResultRooms {
     pub fn result(&self, call: u64) -> Option<u64>
         ensures { result ≡ given_in (lookup (is_at (nat_cmp call)) self.now) }
     {
-        if self.given == 0 {
-            return None;
-        }
-        given_in(&self.rooms, call)
+        given_there(&self.rooms, self.given, call)
     }
 
     /// The room of a call, if there is one.
@@ -91,7 +100,7 @@ impl ResultRooms {
         ensures made { OnOk result ((q : ℕ) → lookup (is_at (nat_cmp q)) self.new ≡ (if is_at (nat_cmp call) q then Some (record { given = given_in (lookup (is_at (nat_cmp call)) self.old); lives = true }) else lookup (is_at (nat_cmp q)) self.old)) }
         ensures err { OnErr result (self.new ≡ self.old) }
     {
-        let given = given_in(&self.rooms, call);
+        let given = given_there(&self.rooms, self.given, call);
         match self.rooms.insert(call, ResultRoom { given, lives: true }) {
             Ok(_) => Ok(()),
             Err(_) => Err(NoMemory),
@@ -103,7 +112,7 @@ impl ResultRooms {
         requires { IsSome (lookup (is_at (nat_cmp call)) self.old) }
         ensures { (q : ℕ) → lookup (is_at (nat_cmp q)) self.new ≡ (if is_at (nat_cmp call) q then wanted room else lookup (is_at (nat_cmp q)) self.old) }
     {
-        let less = self.given - weight(given_in(&self.rooms, call));
+        let less = self.given - weight(given_there(&self.rooms, self.given, call));
         let _few = self.rooms.len();
         if room.lives || room.given.is_some() {
             self.given = less + weight(room.given);

@@ -14,7 +14,7 @@ use std::random::RandomSource;
 use std::sync::Wait;
 use std::thread;
 use task_abort::{
-    Abortable, JoinHandle, JoinPass, Phase, known_callers, late_calls_stand_last,
+    Abortable, JoinHandle, JoinPass, OwnCell, Phase, known_callers, late_calls_stand_last,
     phases_of_seen_calls, staged_log_is_legal, staged_log_keeps_lists, unfinished_calls,
 };
 
@@ -124,6 +124,16 @@ fn a_finish_is_told_from_then_on(rt: HostRuntime) {
     assert!(rt; of_handle(handle.poll_handle(&mut pass)) == OVER);
     assert!(rt; found(handle.abort(&mut pass)) == COMPLETE);
     assert!(rt; of_handle(handle.poll_handle(&mut pass)) == OVER);
+    // The same by a cell of one owner.
+    let Ok(mut cell) = OwnCell::new(rt.alloc()) else {
+        panic!(rt; "no memory")
+    };
+    assert!(rt; cell.running());
+    assert!(rt; of_handle(cell.poll_handle()) == PENDING);
+    assert!(rt; found(cell.abort()) == RUNNING);
+    assert!(rt; !cell.running());
+    assert!(rt; found(cell.finish()) == ABORT_REQUESTED);
+    assert!(rt; of_handle(cell.poll_handle()) == OVER);
 }
 
 #[test]

@@ -28,20 +28,21 @@ use task_table::ResourceTable;
 use task_wait::ThreadKey;
 use task_words::{CallId, ThreadId};
 
-// The call's record, with another count of its threads.
-fn put_call(
+// The call's record has another count of its threads.
+#[inline(always)]
+fn count_threads(
     calls: &mut ResourceTable<Single<GuestTask>>,
     id: CallId,
-    old: GuestTask,
-    new: GuestTask,
+    call: GuestTask,
+    threads: u64,
 )
-    requires item { Ok old ≡ item_at item_of calls.old id.rep id.serial }
-    ensures { calls.new ≡ with_entry id.rep (entry_of new) calls.old }
+    requires item { Ok call ≡ item_at item_of calls.old id.rep id.serial }
+    ensures { calls.new ≡ with_entry id.rep (entry_of (record call { threads = threads })) calls.old }
 {
-    let _old = old;
+    let _call = call;
     match calls.get_mut(id) {
         Ok(entry) => {
-            *entry = new;
+            entry.threads = threads;
         }
         Err(_) => unreachable!(),
     }
@@ -77,10 +78,10 @@ fn push_thread(
     ensures pushes { IfOk result (λ id. PushesThread parts.old parts.new task call id) }
     ensures err { OnErr result (parts.new ≡ parts.old) }
 {
-    let more = one_thread_more(call);
+    let threads = call.threads + 1;
     match parts.threads.push::<ThreadKey>(thread) {
         Ok(new) => {
-            put_call(&mut parts.calls, task, call, more);
+            count_threads(&mut parts.calls, task, call, threads);
             parts.made.threads += 1;
             parts.kept.used += 2;
             Ok(new)
@@ -104,7 +105,7 @@ fn drop_member(parts: &mut CoreParts, task: CallId, call: GuestTask, new: Thread
 {
     let more = one_thread_more(call);
     drop_thread(&mut parts.threads, new);
-    put_call(&mut parts.calls, task, more, call);
+    count_threads(&mut parts.calls, task, more, call.threads);
     parts.made.threads -= 1;
     parts.kept.used -= 2;
 }

@@ -111,10 +111,11 @@ pub fn make_call(
     }
 }
 
-// The same, with these places in the resource table.
+// The same by the thread of this number, with these places in the resource table.
 fn make_direct_call_with(
     parts: &mut CoreParts,
     thread: ThreadId,
+    number: u64,
     callee: Callee,
     kind: ExportKind,
     words: &[u64],
@@ -122,6 +123,7 @@ fn make_direct_call_with(
 ) -> Result<(ThreadId, CallId), NoMemory>
     requires sound { IsSound parts.old }
     requires live { 0 < thread_of (seen parts.old) thread }
+    requires named { number ≡ thread_of (seen parts.old) thread }
     requires there { IsSome (get (seen parts.old).core.instances callee.instance) }
     requires words { length words.now ≤ 16 }
     requires few { (seen parts.old).core.made.threads + 1 < 2 ^ 64 }
@@ -130,9 +132,7 @@ fn make_direct_call_with(
     ensures new { Makes (names_call (next_thread (seen parts.old).core)) (with_thread_handle callee.instance (next_thread (seen parts.old).core) (call_made (callers.Thread (thread_of (seen parts.old) thread)) callee kind goals.Direct (thread_group (thread_of (seen parts.old) thread) (seen parts.old).core) words.now (seen parts.old).core)) (seen parts.old) result (seen parts.new) }
 {
     let request = Request {
-        caller: Caller::Thread {
-            thread: number(parts, thread),
-        },
+        caller: Caller::Thread { thread: number },
         maker: thread.rep(),
         callee,
         kind,
@@ -170,8 +170,9 @@ pub fn make_direct_call(
     ensures sound { IsSound parts.new }
     ensures new { Makes (names_call (next_thread (seen parts.old).core)) (with_thread_handle callee.instance (next_thread (seen parts.old).core) (call_made (callers.Thread (thread_of (seen parts.old) thread)) callee kind goals.Direct (thread_group (thread_of (seen parts.old) thread) (seen parts.old).core) words.now (seen parts.old).core)) (seen parts.old) result (seen parts.new) }
 {
+    let number = number(parts, thread);
     let entries = take_strand(&mut parts.table_places)?;
-    match make_direct_call_with(parts, thread, callee, kind, words, entries) {
+    match make_direct_call_with(parts, thread, number, callee, kind, words, entries) {
         Ok(ids) => Ok(ids),
         Err(why) => {
             give_strand(&mut parts.table_places, entries);

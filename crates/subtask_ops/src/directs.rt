@@ -29,21 +29,22 @@ fn set_flag<W: Words>(w: &mut W, thread: ThreadId, instance: u32, kind: ExportKi
     }
 }
 
-// The call is made, and its thread runs on top of the calling one.
+// The call is made, and its thread, which is answered with its number, runs on top of the calling one.
 fn run_on_top<W: Words>(
     w: &mut W,
     thread: ThreadId,
     callee: Callee,
     kind: ExportKind,
     words: &[u64],
-) -> Result<ThreadId, NoMemory>
+) -> Result<(ThreadId, u64), NoMemory>
     requires live { 0 < thread_of (W.view w.old) thread }
     requires there { IsSome (get (W.view w.old).core.instances callee.instance) }
     requires words { length words.now ≤ 16 }
     requires few { (W.view w.old).core.made.threads + 1 < 2 ^ 64 }
     requires room { fits 3 (W.view w.old).core ≡ true }
     requires limit { at_handle_limit (W.view w.old).core ≡ false }
-    ensures thread { IfOk result (λ id. thread_of (W.view w.new) id ≡ next_thread (W.view w.old).core) }
+    ensures thread { IfOk result (λ found. thread_of (W.view w.new) found.0 ≡ next_thread (W.view w.old).core) }
+    ensures number { IfOk result (λ found. found.1 ≡ next_thread (W.view w.old).core) }
     ensures core { OnOk result ((W.view w.new).core ≡ enter_runs (thread_of (W.view w.old) thread) callee kind words.now (W.view w.old).core) }
     ensures tags { Keeps (W.view w.old).tags (W.view w.new).tags }
     ensures err { OnErr result (W.view w.new ≡ W.view w.old) }
@@ -51,13 +52,14 @@ fn run_on_top<W: Words>(
     let (other, call) = w.make_direct_call(thread, callee, kind, words)?;
     w.set_started(call);
     set_flag(w, other, callee.instance, kind);
+    let to = w.number(other);
     w.set_place(other, PlaceId::Running);
     w.stand_at(
         thread,
         PlaceId::Under(other),
         HowFarId::Calls(SubtaskId::Guest(call)),
     );
-    Ok(other)
+    Ok((other, to))
 }
 
 /// `call_sync R F X*` of a sync or blocking export, as it begins: the callee's thread is current from
@@ -86,9 +88,8 @@ pub fn enter<W: Words>(
         return Ok(Came::Traps(Trap::HandleLimit));
     }
     let number = w.number(thread);
-    let other = run_on_top(w, thread, callee, kind, words)?;
+    let (other, to) = run_on_top(w, thread, callee, kind, words)?;
     w.set_current(Some(other));
-    let to = w.number(other);
     Ok(Came::Goes(Label::Call(CallLabel::Enters(number, to)), to))
 }
 

@@ -10,6 +10,7 @@ use Rattle.task_abort.specs.declared.log.View.{View}
 use Rattle.task_abort.specs.declared.cell.JoinHandle.{JoinHandle}
 use Rattle.task_abort.specs.declared.cell.Abortable.{Abortable}
 use Rattle.task_abort.specs.declared.cell.JoinPass.{JoinPass}
+use Rattle.task_abort.specs.declared.cell.OwnCell.{OwnCell}
 
 -- no other cell has the same
 abbrev pub CellId : Type 0
@@ -40,6 +41,10 @@ with_work a f = record a { future = f }
 
 abbrev pub view_of : JoinPass → View
 view_of p = p.seat.me.0
+
+-- what the pass of a cell with one owner has seen and done
+abbrev pub own_view : OwnCell → View
+own_view cell = view_of cell.pass
 
 -- a poll of the handle is ready exactly where it found Complete
 abbrev pub TellsComplete : {A : Type 0} → Phase → Poll A → Type 0

@@ -1,5 +1,6 @@
 //! The cell, the two ends that share it, and passes.
 ghost use Rattle.std.specs.Prelude.{◌≡◌, false, []};
+ghost use Rattle.task_abort.specs.PhaseLog.{IsFirst};
 ghost use Rattle.task_abort.specs.Rule.{Knows};
 
 use crate::log::View;
@@ -49,4 +50,16 @@ pub struct JoinPass {
     ghost alive: { seat.me.0.spent ≡ false },
     ghost settled: { seat.me.0.heard ≡ [] },
     pub ghost knows: { Knows seat.me.0 },
+}
+
+/// The cell of a work whose owner has both its ends and its first pass, which is never split. Its calls are the atomic
+/// steps of the calls of `JoinHandle` and `Abortable` with the same names. None of them takes a runtime, so no waker is
+/// ever registered here, and dropping it wakes nobody and waits for nobody.
+#[derive(Drop)]
+pub struct OwnCell {
+    pub(crate) phase: Table<u8, View, (), OneLog, Global>,
+    pub(crate) pass: JoinPass,
+    ghost one_word: { phase.shared.table_id.words ≡ 1 },
+    ghost own: { pass.seat.table_id ≡ phase.shared.table_id },
+    ghost first: { IsFirst pass.seat.me.0 },
 }

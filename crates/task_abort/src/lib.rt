@@ -11,11 +11,12 @@ mod cell;
 mod handle;
 mod laws;
 mod log;
+mod own;
 mod rule;
 mod wake;
 mod work;
 
-pub use cell::{Abortable, JoinHandle, JoinPass};
+pub use cell::{Abortable, JoinHandle, JoinPass, OwnCell};
 pub use laws::{
     known_callers, late_calls_stand_last, phases_of_seen_calls, staged_log_is_legal,
     staged_log_keeps_lists, unfinished_calls,

@@ -72,7 +72,8 @@ pub fn exit_call<W: Words>(component: &Component, w: &mut W, value: u64) -> Resu
     };
     let before = w.register(thread, 0);
     w.set_register(thread, 0, value);
-    match exit_direct(w, thread) {
+    let call = w.task_of(thread);
+    match exit_direct(w, thread, call) {
         Came::Goes(_, _) => Ok(()),
         Came::Traps(trap) => {
             w.set_register(thread, 0, before);

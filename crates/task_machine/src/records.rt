@@ -104,6 +104,7 @@ pub enum Script {
 /// The record of a thread.
 #[derive(Clone, Copy)]
 pub struct Thread {
+    pub place: Place,
     pub call: u64,
     /// Made by a `thread_new`, and not the first of its call.
     pub explicit: bool,
@@ -111,14 +112,13 @@ pub struct Thread {
     /// The place in the script of the next op, from 0.
     pub position: u32,
     pub how_far: HowFar,
-    pub registers: [u64; 16],
     /// The thread's own handle; an implicit thread has one from its start on.
     pub handle: Option<u32>,
     /// `do_not_suspend` of its instance before its start, where it is of a sync export.
     pub saved_own: Option<bool>,
     /// `do_not_suspend` of the callee's instance before the op under way.
     pub saved_callee: Option<bool>,
-    pub place: Place,
+    pub registers: [u64; 16],
 }
 
 /// Who made a call.

@@ -7,7 +7,7 @@ use Rattle.task_wait.specs.declared.keys.SetKey.{SetKey}
 use Rattle.task_wait.specs.declared.keys.ThreadKey.{ThreadKey}
 use Rattle.task_machine.specs.Moves.{ended}
 use Rattle.task_machine.specs.Read.{task_of}
-use Rattle.task_words.specs.Becomes.{Turns}
+use Rattle.task_words.specs.Becomes.{BecomesWith}
 use Rattle.task_words.specs.StateView.{Lost, StateView, Tags, call_number, nothing_lost, set_number, thread_number, work_number}
 
 abbrev pub lost_both : ℕ → ℕ → Lost
@@ -24,4 +24,4 @@ pub record KeepsLive (lost : Lost) (old new : Tags) : Type 0 where
 
 -- The thread has ended, and what that settles is done; its ids and, if it is gone, those of its call name nothing.
 abbrev pub HasEnded : ℕ → StateView → StateView → Type 0
-HasEnded n s = Turns (KeepsLive (lost_both n (task_of n s.core))) (ended n s.core) s
+HasEnded n s = BecomesWith (KeepsLive (lost_both n (task_of n s.core))) (ended n s.core) s

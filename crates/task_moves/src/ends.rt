@@ -10,10 +10,10 @@ use crate::settle::{settle_call, settle_interest};
 use task_words::{CallId, ThreadId, Words};
 
 // Where the thread is the first of the call, the task has exited.
-fn exit_task<W: Words>(w: &mut W, thread: ThreadId, call: CallId)
-    ensures { W.view w.new ≡ on_core (exited_if (is_explicit (thread_of (W.view w.old) thread) (W.view w.old).core) (call_of (W.view w.old) call)) (W.view w.old) }
+fn exit_task<W: Words>(w: &mut W, explicit: bool, call: CallId)
+    ensures { W.view w.new ≡ on_core (exited_if explicit (call_of (W.view w.old) call)) (W.view w.old) }
 {
-    if !w.is_explicit(thread) {
+    if !explicit {
         w.set_exited(call);
     }
 }
@@ -27,7 +27,21 @@ pub fn end_thread_in<W: Words>(w: &mut W, thread: ThreadId, call: CallId)
     requires apart { IsApart (thread_of (W.view w.old) thread) (W.view w.old).core }
     ensures { HasEnded (thread_of (W.view w.old) thread) (W.view w.old) (W.view w.new) }
 {
-    exit_task(w, thread, call);
+    let explicit = w.is_explicit(thread);
+    end_known_in(w, thread, call, explicit);
+}
+
+/// The same, where it is known whether the thread isn't the first of the call.
+#[inline(always)]
+pub fn end_known_in<W: Words>(w: &mut W, thread: ThreadId, call: CallId, explicit: bool)
+    requires live { 0 < thread_of (W.view w.old) thread }
+    requires named { 0 < call_of (W.view w.old) call }
+    requires call { call_of (W.view w.old) call ≡ task_of (thread_of (W.view w.old) thread) (W.view w.old).core }
+    requires apart { IsApart (thread_of (W.view w.old) thread) (W.view w.old).core }
+    requires known { explicit ≡ is_explicit (thread_of (W.view w.old) thread) (W.view w.old).core }
+    ensures { HasEnded (thread_of (W.view w.old) thread) (W.view w.old) (W.view w.new) }
+{
+    exit_task(w, explicit, call);
     w.retire_thread(thread);
     settle_interest(w, call);
     settle_call(w, call);

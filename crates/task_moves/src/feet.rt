@@ -1,6 +1,6 @@
 //! The foot of a strand.
-ghost use Rattle.std.specs.Prelude.{◌≡◌, ◌<◌};
-ghost use Rattle.task_machine.specs.Read.{foot_of};
+ghost use Rattle.std.specs.Prelude.{◌≡◌, ◌<◌, None};
+ghost use Rattle.task_machine.specs.Read.{foot_of, under_of};
 ghost use Rattle.task_words.specs.StateView.{thread_of};
 
 use task_words::{ThreadId, Words};
@@ -36,4 +36,16 @@ pub fn foot_of<W: Words>(w: &W, thread: ThreadId) -> ThreadId
         None => thread,
         Some(_) => way_down(w, thread),
     }
+}
+
+/// The foot of the strand of a thread that nobody is under: the thread itself, with no look at its record.
+#[inline(always)]
+pub fn own_foot<W: Words>(w: &W, thread: ThreadId) -> ThreadId
+    requires live { 0 < thread_of (W.view w.now) thread }
+    requires bottom { under_of (thread_of (W.view w.now) thread) (W.view w.now).core ≡ None }
+    ensures is { thread_of (W.view w.now) result ≡ foot_of (thread_of (W.view w.now) thread) (W.view w.now).core }
+    ensures live { 0 < thread_of (W.view w.now) result }
+{
+    let _w = w;
+    thread
 }

@@ -11,8 +11,8 @@ mod stops;
 mod tells;
 mod wakes;
 
-pub use ends::{end_thread, end_thread_in};
-pub use feet::foot_of;
+pub use ends::{end_known_in, end_thread, end_thread_in};
+pub use feet::{foot_of, own_foot};
 pub use moves::{
     check, passes_check, promote, promote_unless, put_high, put_low, put_low_at, put_switch,
 };

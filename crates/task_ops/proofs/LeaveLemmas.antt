@@ -6,7 +6,7 @@ use Rattle.task_wait.specs.declared.keys.GuestTaskKey.{GuestTaskKey}
 use Rattle.task_wait.specs.declared.keys.ThreadKey.{ThreadKey}
 use Rattle.task_machine.specs.Core.{Core}
 use Rattle.task_machine.specs.Moves.{checked, ended, stopped}
-use Rattle.task_machine.specs.Read.{foot_of, instance_of, join_of, place_of, register_of, saved_own_of, task_of, under_of}
+use Rattle.task_machine.specs.Read.{foot_of, instance_of, is_explicit, join_of, place_of, register_of, saved_own_of, task_of, under_of}
 use Rattle.task_machine.specs.Write.{on_call, on_instance, set_do_not_suspend, set_end}
 use Rattle.task_machine.specs.declared.records.CallEnd.{CallEnd}
 use Rattle.task_machine.specs.declared.records.Place.TheVariants as place
@@ -99,6 +99,11 @@ module _ (n : TableId ThreadKey) (k : TableId GuestTaskKey) (s t : StateView) (i
   pub ended_its : (j : ℕ) (r : CallEnd) → t ≡ on_core (set_end j r) s → call_of t k ≡ task_of (thread_of t n) t.core
   unfolding set_end on_call
   ended_its j r e = still_its (set_end j r) e refl
+
+  -- and whether it is the first of its call
+  pub ended_known : (j : ℕ) (r : CallEnd) → t ≡ on_core (set_end j r) s → is_explicit (thread_of s n) s.core ≡ is_explicit (thread_of t n) t.core
+  unfolding set_end on_call
+  ended_known j r e = ap (λ (v : StateView). is_explicit (thread_of v n) v.core) (sym e)
 
   pub restored_its : t ≡ on_core (exit_restores (thread_of s n)) s → call_of t k ≡ task_of (thread_of t n) t.core
   unfolding exit_restores set_do_not_suspend on_instance

@@ -18,7 +18,7 @@ use crate::came::Came;
 use crate::exits::{has_held, reopen, stop_and_end};
 use task_machine::{CallEnd, ExportKind, Label, TaskLabel, Trap};
 use task_moves::{
-    check, end_thread, end_thread_in, foot_of, is_told, passes_check, return_value, stop,
+    check, end_known_in, end_thread, foot_of, is_told, passes_check, return_value, stop,
     tell_waiter,
 };
 use task_words::{CallId, HowFarId, PlaceId, SubtaskId, ThreadId, Words};
@@ -91,16 +91,19 @@ fn leave_to<W: Words>(w: &mut W, thread: ThreadId, call: CallId, below: ThreadId
     ensures named { thread_of (W.view w.new) below ≡ thread_of (W.view w.old) below }
     ensures works { KeepsWorks (W.view w.old) (W.view w.new) }
 {
+    let explicit = w.is_explicit(thread);
     w.set_end(call, CallEnd::Returned);
-    end_thread_in(w, thread, call);
+    end_known_in(w, thread, call, explicit);
     w.stand_at(below, PlaceId::Running, HowFarId::Answered(value));
     w.set_current(Some(below));
 }
 
-/// The exit of the first thread of a direct call, with a thread under it, which is current from then on.
-pub fn exit_direct<W: Words>(w: &mut W, thread: ThreadId) -> Came
+/// The exit of the first thread of this direct call, with a thread under it, which is current from then on.
+pub fn exit_direct<W: Words>(w: &mut W, thread: ThreadId, call: CallId) -> Came
     requires live { 0 < thread_of (W.view w.old) thread }
     requires running { IsRunning (thread_of (W.view w.old) thread) (W.view w.old).core }
+    requires named { 0 < call_of (W.view w.old) call }
+    requires call { call_of (W.view w.old) call ≡ task_of (thread_of (W.view w.old) thread) (W.view w.old).core }
     requires under { IsSome (under_of (thread_of (W.view w.old) thread) (W.view w.old).core) }
     ensures meets { Meets (direct_exit_row (thread_of (W.view w.old) thread) (W.view w.old).core) (W.view w.old).core result (W.view w.new).core }
     ensures stays { StaysAfter result (W.view w.old) (W.view w.new) }
@@ -109,7 +112,6 @@ pub fn exit_direct<W: Words>(w: &mut W, thread: ThreadId) -> Came
 {
     let number = w.number(thread);
     let value = w.register(thread, 0);
-    let call = w.task_of(thread);
     let kind = w.kind(call);
     let Some(below) = w.under(thread) else {
         unreachable!()

@@ -1,7 +1,7 @@
 //! The taking of a start.
-ghost use Rattle.std.specs.Prelude.{◌≡◌, ◌<◌, IfOk, IfSome, OnErr, OnOk, false, option_map, true};
+ghost use Rattle.std.specs.Prelude.{◌≡◌, ◌<◌, IfOk, IfSome, None, OnErr, OnOk, false, option_map, true};
 ghost use Rattle.task_machine.specs.Labels.{choice_of, held_label, take_label};
-ghost use Rattle.task_machine.specs.Read.{admits, at_handle_limit, is_sync, task_of};
+ghost use Rattle.task_machine.specs.Read.{admits, at_handle_limit, is_sync, task_of, under_of};
 ghost use Rattle.task_machine.specs.declared.records.Subtask.TheVariants as subtasks;
 ghost use Rattle.task_machine.specs.declared.records.Why.TheVariants as whys;
 ghost use Rattle.task_moves.specs.Idle.{CanPublish, IsJoinThere, IsWaiting};
@@ -13,7 +13,7 @@ ghost use Rattle.task_words.specs.StateView.{call_of, on_core, thread_of};
 
 use crate::came::Came;
 use task_machine::{ExportKind, Label, Mark, Status, TakeLabel, Trap};
-use task_moves::{foot_of, stop, tell, tell_waiter};
+use task_moves::{own_foot, stop, tell, tell_waiter};
 use task_words::{CallId, NoMemory, PlaceId, ThreadId, WhyId, Words};
 
 // What a taking shows, with the thread that it woke.
@@ -123,21 +123,23 @@ fn tell_starting<W: Words>(w: &mut W, call: CallId, waiter: Option<ThreadId>)
 fn hold_start<W: Words>(w: &mut W, thread: ThreadId, waiter: Option<ThreadId>)
     requires live { 0 < thread_of (W.view w.old) thread }
     requires taken { IsStartTaken (thread_of (W.view w.old) thread) (W.view w.old).core }
+    requires bottom { under_of (thread_of (W.view w.old) thread) (W.view w.old).core ≡ None }
     requires can { CanPublish (subtasks.Guest (task_of (thread_of (W.view w.old) thread) (W.view w.old).core)) waiter (W.view w.old) }
     ensures { W.view w.new ≡ on_core (start_holds (thread_of (W.view w.old) thread) (option_map (λ id. thread_of (W.view w.old) id) waiter)) (W.view w.old) }
 {
     let call = w.task_of(thread);
     tell_starting(w, call, waiter);
-    let foot = foot_of(w, thread);
+    let foot = own_foot(w, thread);
     stop(w, foot);
     w.set_place(thread, PlaceId::Held(WhyId::Start));
 }
 
-/// A start that was taken from the mark. Where memory is wanting, all is as before.
+/// A start that was taken from the mark, of a thread that nobody is under. Where memory is wanting, all is as before.
 #[tactic(auto, unfolding(task_rules::specs::Takes::running))]
 pub fn take_start<W: Words>(w: &mut W, mark: Mark, thread: ThreadId) -> Result<Came, NoMemory>
     requires live { 0 < thread_of (W.view w.old) thread }
     requires taken { IsStartTaken (thread_of (W.view w.old) thread) (W.view w.old).core }
+    requires bottom { under_of (thread_of (W.view w.old) thread) (W.view w.old).core ≡ None }
     requires there { IsJoinThere (subtasks.Guest (task_of (thread_of (W.view w.old) thread) (W.view w.old).core)) (W.view w.old).core }
     ensures meets { IfOk result (λ came. Meets (start_row mark (thread_of (W.view w.old) thread) (choice_of (label_of (thread_of (W.view w.old) thread) came)).woken (W.view w.old).core (admits (thread_of (W.view w.old) thread) (W.view w.old).core whys.Start)) (W.view w.old).core came (W.view w.new).core) }
     ensures tags { (W.view w.new).tags ≡ (W.view w.old).tags }

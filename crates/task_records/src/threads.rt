@@ -4,34 +4,36 @@ use task_machine::{Entry, Thread};
 use task_table::Kind;
 use task_wait::ThreadKey;
 
-/// A thread: the machine's record under its number, with where it and what it names stand.
+/// A thread: the machine's record under its number, with where it and what it names stand. What is read with its place
+/// stands together, so that it is in few lines of a processor's cache.
 #[derive(Clone, Copy)]
 pub struct GuestThread {
     pub number: u64,
-    pub thread: Thread,
     /// The place of its call.
     pub task: u32,
     /// The instance of its call.
     pub instance: u32,
-    /// The places in the resource table of its call, of itself, and of its sync-call set.
+    /// The places in the resource table of its call and of itself.
     pub task_entry: u32,
     pub entry: u32,
-    pub set_entry: u32,
     /// The place of what `thread.place` names, if it names anything.
     pub beside: u32,
     /// The place of what `thread.how_far` names, if it names anything.
     pub awaited: u32,
     /// Its node where it waits, is blocked or held, or is under a thread.
     pub node: Node,
+    /// The chain of the threads under it.
+    pub under: usize,
+    /// The chain of the threads behind it, oldest first.
+    pub callers: usize,
     /// Its nodes among the entries of a mark, and among those of its instance there.
     pub mark: Node,
     pub shelf: Node,
+    pub thread: Thread,
     /// Its node among the callers of a thread.
     pub caller: Node,
-    /// The chain of the threads behind it, oldest first.
-    pub callers: usize,
-    /// The chain of the threads under it.
-    pub under: usize,
+    /// The place in the resource table of its sync-call set.
+    pub set_entry: u32,
 }
 
 /// A thread that is behind another, or at switch: its number, its place, and its node among callers.

@@ -3,3 +3,4 @@ pub mod HostLemmas
 pub mod SpawnLemmas
 mod CallLemmas
 mod SlotLemmas
+pub mod InstanceLemmas

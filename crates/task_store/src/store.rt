@@ -9,7 +9,9 @@ ghost use Rattle.task_machine.specs.Read.{table_use};
 ghost use Rattle.task_machine.specs.Write.{set_trapped};
 ghost use Rattle.task_records.specs.Seen.{nothing};
 ghost use Rattle.task_store.specs.Lending.{LendsValue};
-ghost use Rattle.task_turns.specs.Turn.{given};
+ghost use Rattle.task_machine.specs.declared.component.Component.{Component};
+ghost use Rattle.task_machine.specs.declared.records.Turn.{Turn};
+ghost use Rattle.task_turns.specs.Turn.{Sits, given};
 ghost use Rattle.task_group.specs.Groups.{finish_all};
 ghost use Rattle.task_group.specs.Listeners.{Told, nobody};
 ghost use Rattle.task_words.specs.StateView.{on_core};
@@ -118,13 +120,14 @@ impl<T, H, G: TaskGroupHook> Store<T, H, G> {
         &mut self.value
     }
 
-    /// Makes an instance and answers its number, from 0. Where memory is wanting, the store is as
-    /// before.
+    /// Makes an instance and answers its number, from 0. A core in order stays so. Where memory is
+    /// wanting, the store is as before.
     pub fn add_instance(&mut self) -> Result<ComponentInstanceId, NoMemory>
         requires { size self.old.state.core.instances < 4294967295 }
         ensures number { IfOk result (λ i. i.0 ≡ size self.old.state.core.instances) }
         ensures ok { OnOk result (self.new ≡ record self.old { state = on_core with_instance self.old.state }) }
         ensures err { OnErr result (self.new ≡ self.old) }
+        ensures order { (c : Component) (p : Turn) → Sits c p self.old.state.core → Sits c p self.new.state.core }
     {
         match self.state.add_instance() {
             Ok(number) => Ok(ComponentInstanceId(number)),

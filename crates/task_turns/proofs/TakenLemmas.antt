@@ -1,12 +1,12 @@
 -- What a state in order gives to the thread whose entry is taken.
-use Rattle.std.proofs.Common.{ap, arith, refl, subst, sym, ◌∙◌}
+use Rattle.std.proofs.Common.{ap, arith, inl, inr, refl, subst, sym, ◌∙◌}
 use Rattle.std.specs.Option.{option_map_or}
-use Rattle.std.specs.Prelude.{Bool, List, None, Option, Some, is_some, option_and_then, true, [], ℕ, ◌≡◌, ◌<◌, ◌≤◌, ◌∷◌}
+use Rattle.std.specs.Prelude.{Bool, List, None, Option, Some, false, is_some, option_and_then, true, [], ℕ, ◌≡◌, ◌<◌, ◌≤◌, ◌∷◌, ◌⊎◌}
 use Rattle.task_laws.specs.Order.{InOrder, IsOf, is_host_of, set_of_place, stands}
 use Rattle.task_machine.specs.Core.{Core, Queues, Unscripted}
 use Rattle.task_machine.specs.Maps.{get}
 use Rattle.task_machine.specs.Moves.{ready_why, why_of}
-use Rattle.task_machine.specs.Read.{instance_of, next_entry, place_of, task_of}
+use Rattle.task_machine.specs.Read.{instance_of, next_entry, place_of, task_of, under_of}
 use Rattle.task_machine.specs.Write.{set_high, set_low, set_switch}
 use Rattle.task_machine.specs.declared.component.Component.{Component}
 use Rattle.task_machine.specs.declared.records.Work.{Work}
@@ -25,12 +25,13 @@ use Rattle.task_machine.specs.declared.words.Mark.{Mark}
 use Rattle.task_machine.specs.declared.words.Mark.TheVariants as mark
 use Rattle.task_moves.specs.Idle.{IsJoinThere}
 use Rattle.task_laws.proofs.MemberLemmas.{members_named}
+use Rattle.task_ops.proofs.TellingLemmas.{none_under}
 use Rattle.task_ops.specs.Gifts.{MembersNamed}
 use Rattle.task_ops.specs.Running.{Stand}
 use Rattle.task_places.proofs.Entries.{Cleared, First, next_first, popped_cleared}
 use Rattle.task_rules.proofs.MoveLemmas.{no_time, one_time}
 use Rattle.task_rules.proofs.StandLemmas.{Loose, by_number, eq_refl, left_placed, zero_one}
-use Rattle.task_rules.specs.Places.{HasPlace, Placed, entries, is_at_high, is_at_low, is_at_switch, is_behind_of, one_if, says, switch_entries, times}
+use Rattle.task_rules.specs.Places.{HasPlace, Placed, entries, is_at_high, is_at_low, is_at_switch, is_behind_of, is_fresh, one_if, says, switch_entries, times}
 use Rattle.task_rules.specs.Takes.{popped, rest_of}
 use Rattle.task_turns.proofs.OrderLemmas.{positive, some_from}
 use Rattle.task_turns.specs.Taken.{FindsSet, Taken}
@@ -100,6 +101,12 @@ popped_place mark.Switch n s = refl
 popped_place mark.High n s = refl
 popped_place mark.Low n s = refl
 
+popped_under : (m : Mark) (n : ℕ) (s : Core) → under_of n (popped m s) ≡ under_of n s
+unfolding popped set_switch set_high set_low under_of
+popped_under mark.Switch n s = refl
+popped_under mark.High n s = refl
+popped_under mark.Low n s = refl
+
 popped_join : (m : Mark) (n : ℕ) (s : Core) → ((sub : Subtask) → IsJoinThere sub s) → IsJoinThere (subtask.Guest (task_of n (popped m s))) (popped m s)
 unfolding popped set_switch set_high set_low
 popped_join mark.Switch n s all = all (subtask.Guest (task_of n s))
@@ -113,6 +120,23 @@ module _ (c : Component) (ended : Bool) (s : Core) (sits : Sits c (turn.Take end
   joined : (sub : Subtask) → IsJoinThere sub s
   joined sub x e = let j = order.joins_named.joins sub x e in some_from _ (get s.sets x) j.instance j.home
 
+  -- nobody is under a thread whose start stands
+  bottom : (m : Mark) (w : Why) (n : ℕ) → place_of n s ≡ Some (place.Ready m w) → w ≡ why.Start → under_of n s ≡ None
+  bottom m w n at start = none_under n s (λ k under. apart ((order.awake refl).free.under k n under))
+    where
+      fresh : is_fresh (place_of n s) ≡ true
+      fresh = ap is_fresh (at ∙ ap (λ (v : Why). Some (place.Ready m v)) start)
+
+      apart : (place_of n s ≡ None) ⊎ (is_fresh (place_of n s) ≡ false) → ⊥
+      apart (inl e) = no_place (sym e ∙ at)
+        where
+          no_place : None ≡ Some (place.Ready m w) → ⊥
+          no_place e = cc
+      apart (inr e) = not_both (sym e ∙ fresh)
+        where
+          not_both : false ≡ true → ⊥
+          not_both e = cc
+
   pub taken : (m : Mark) (n : ℕ) → next_entry s ≡ Some (m, entry.Thread n) → Taken m n (popped m s)
   taken m n next =
       let front = next_first s m (entry.Thread n) next in
@@ -123,6 +147,7 @@ module _ (c : Component) (ended : Bool) (s : Core) (sits : Sits c (turn.Take end
         live = positive n s none (some_from (λ (t : Thread). t.place) (get s.threads n) (place.Ready m at.0) at.1);
         stands = subst (λ (w : Why). Stand n (place.Ready m w) [] (popped m s)) (sym (ap (λ (o : Option Place). option_map_or ready_why o why.Resumption) there)) stand;
         join = popped_join m n s joined;
+        bottom = λ e. popped_under m n s ∙ bottom m at.0 n at.1 (sym (ap (λ (o : Option Place). option_map_or ready_why o why.Resumption) there) ∙ e);
       }
 
 -- ---- The set of a delivery is there

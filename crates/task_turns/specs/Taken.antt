@@ -1,22 +1,25 @@
 -- A thread whose entry was taken, as its taking needs it.
-use Rattle.std.specs.Prelude.{◌≡◌, ◌<◌, ℕ, Some, [], is_some, true}
+use Rattle.std.specs.Prelude.{◌≡◌, ◌<◌, ℕ, None, Some, [], is_some, true}
 use Rattle.task_machine.specs.Core.{Core}
 use Rattle.task_machine.specs.Maps.{get}
 use Rattle.task_machine.specs.Moves.{why_of}
-use Rattle.task_machine.specs.Read.{instance_of, task_of}
+use Rattle.task_machine.specs.Read.{instance_of, task_of, under_of}
 use Rattle.task_machine.specs.declared.records.Place.TheVariants as place
 use Rattle.task_machine.specs.declared.records.Subtask.TheVariants as subtask
+use Rattle.task_machine.specs.declared.records.Why.TheVariants as why
 use Rattle.task_machine.specs.declared.words.Mark.{Mark}
 use Rattle.task_moves.specs.Idle.{IsJoinThere}
 use Rattle.task_ops.specs.Gifts.{MembersNamed}
 use Rattle.task_ops.specs.Running.{Stand}
 use Rattle.task_words.specs.Live.{delivered_set}
 
--- Its entry left the mark, and each other thread has its place. The set that its call is joined to is there.
+-- Its entry left the mark, and each other thread has its place. The set that its call is joined to is there. Nobody is under it where it
+-- is to start.
 pub record Taken (m : Mark) (n : ℕ) (s : Core) : Type 0 where
   pub live : 0 < n
   pub stands : Stand n (place.Ready m (why_of n s)) [] s
   pub join : IsJoinThere (subtask.Guest (task_of n s)) s
+  pub bottom : why_of n s ≡ why.Start → under_of n s ≡ None
 
 -- The set for which a delivery stands is there, and its ready members are named in the thread's instance.
 pub record FindsSet (n : ℕ) (s : Core) : Type 0 where

@@ -104,6 +104,10 @@ fn run_plain<W: Words>(
     ensures works { OnOk result (NamesWorks (W.view w.old) (W.view w.new)) }
     ensures err { OnErr result (trace.new ≡ trace.old) }
 {
+    // The thread is there, which is asked once for all that its op looks up.
+    if w.number(thread) == 0 {
+        unreachable!()
+    }
     let came = do_plain_op(component, w, thread, op)?;
     show(w, thread, trace, came, false)
 }

@@ -9,18 +9,18 @@ use Rattle.task_machine.specs.Core.{Core}
 use Rattle.task_words.specs.StateView.{Keeps, KeepsBut, Lost, StateView, Tags, call_of, set_of, thread_of, work_of}
 
 -- The core is this, the same thread runs, and the names of before are kept so.
-pub record Turns (AreKept : Tags → Tags → Type 0) (c : Core) (s t : StateView) : Type 0 where
+pub record BecomesWith (AreKept : Tags → Tags → Type 0) (c : Core) (s t : StateView) : Type 0 where
   pub core : t.core ≡ c
   pub current : t.current ≡ s.current
   pub tags : AreKept s.tags t.tags
 
 -- The core is this, the same thread runs, and each id names what it named.
 abbrev pub Becomes : Core → StateView → StateView → Type 0
-Becomes = Turns Keeps
+Becomes = BecomesWith Keeps
 
 -- The same, but for what is lost.
 abbrev pub BecomesBut : Lost → Core → StateView → StateView → Type 0
-BecomesBut lost = Turns (KeepsBut lost)
+BecomesBut lost = BecomesWith (KeepsBut lost)
 
 -- Something is made whose ids are named so, and the core is this; or memory is wanting, and all is as before.
 abbrev pub Makes : {A E : Type 0} → (A → StateView → Type 0) → Core → StateView → Result A E → StateView → Type 0

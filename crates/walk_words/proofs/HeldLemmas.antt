@@ -1,5 +1,5 @@
 -- The chain of an instance's held threads has just these.
-use Rattle.task_records.proofs.Core.{[], admitted_held, admitted_permute, ap, bare, bare_thread, Bool, call_instance, cond, Core, eq-eqb, eqb-true, false, Filing, filter, found_permute, found_record_at, get, get-records, has, HasHome, head_of, held_why, HeldIn, instance_of, is_held_in, is_nil, is_some, IsLinks, IsMembers, IsMembers-nothing, IsMembers-walked, IsPermutation, IsSome, IsSound, key_in, List, list_any, map, Node, None, not, number_in, on_item, Option, option_and_then, option_map, option_map_or, parts_of, passes_in, Place, place_at, place_chain, place_filing, Placed, record_found, records, refl, same_Some, seen, slice_get, slice_get-map, Some, subst, sym, Tests, Thread, thread_key, true, Where, where_at, ℕ, ◌&&◌, ◌==◌, ◌||◌, ◌∙◌, ◌∷◌, ◌≡◌}
+use Rattle.task_records.proofs.Core.{[], admitted_held, admitted_permute, ap, bare, bare_thread, Bool, call_instance, cond, Core, entries, eq-eqb, eqb-true, false, Filing, filter, found_permute, found_record_at, get, get-records, has, HasHome, head_of, held_why, HeldIn, instance_of, is_held_in, is_nil, is_some, IsLinks, IsMembers, IsMembers-nothing, IsMembers-walked, IsPermutation, IsSome, IsSound, key_in, List, list_any, map, Node, None, not, number_in, on_item, Option, option_and_then, option_map, option_map_or, parts_of, passes_in, Place, place_at, place_chain, place_filing, Placed, record_found, records, refl, same_Some, seen, slice_get, slice_get-map, Some, subst, sym, Tests, Thread, thread_key, true, Where, where_at, ℕ, ◌&&◌, ◌==◌, ◌||◌, ◌∙◌, ◌∷◌, ◌≡◌}
 use Rattle.std.proofs.lemmas.List.Sorted.{list_any-IsPermutation}
 use Rattle.task_records.specs.declared.{instances.InstanceRecord.InstanceRecord, parts.CoreParts.CoreParts, single.Single.Single, threads.GuestThread.GuestThread}
 use Rattle.task_words.specs.Held.{held_in}
@@ -9,7 +9,7 @@ use Rattle.place_words.proofs.FiledLemmas.{places_filed}
 use Rattle.queue_words.proofs.BareLemmas.{place_mapped}
 use Rattle.queue_words.proofs.CallerLemmas.{apart_as, none_as}
 use Rattle.walk_words.specs.Held.{is_admitted}
-use Rattle.walk_words.specs.Walks.{at_seat, of_chain}
+use Rattle.walk_words.specs.Walks.{at_seat, of_chain, of_node}
 use Rattle.table_order.specs.declared.seat_links.Seat.{Seat}
 use Rattle.task_records.specs.Places.{thread_seat}
 
@@ -129,6 +129,15 @@ module _ (a : CoreParts) (sound : IsSound a) where
   held_members links i c chain =
       let walked = IsMembers-walked place_filing (place_chain (bare (parts_of a))) a.threads a.places (places_filed a sound) (HeldIn i) c chain held_key (holds_in i) (held_tests i) links (apart_as (λ (g : GuestThread). g.number) (λ (g : GuestThread). g.thread) (λ (g : GuestThread). (g.thread, g.instance)) a.threads.places sound.tables.threads.apart) (at_seat a) reads in
       record { once = walked.once; are = λ n. walked.are n ∙ held_is i n (get (records held_key a.threads.places) n) refl }
+
+  -- a chain that has no first has nobody
+  pub none_first : IsLinks a.places → (i c : ℕ) → place_chain (bare (parts_of a)) (HeldIn i) ≡ Some c → None ≡ head_of (entries a.places c) → IsMembers (is_held_in i (seen a).core) []
+  none_first links i c chain none =
+      subst (λ (es : List (ℕ × Seat)). IsMembers (is_held_in i (seen a).core) (map (λ (e : ℕ × Seat). of_node a e.0) es)) (no_entry (entries a.places c) none) (held_members links i c chain)
+    where
+      no_entry : (es : List (ℕ × Seat)) → None ≡ head_of es → es ≡ []
+      no_entry [] e = refl
+      no_entry (x ∷ xs) e = absurd (cc)
 
   -- ---- Whether some are admitted
 

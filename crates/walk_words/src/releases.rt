@@ -61,6 +61,7 @@ fn release_node(parts: &mut CoreParts, instance: u32, node: Node)
 }
 
 // Puts those of the chain of the held threads at high that are admitted, from its first on.
+#[inline(never)]
 fn release_chain(parts: &mut CoreParts, instance: u32, chain: usize)
     requires sound { IsSound parts.old }
     requires placed { Placed (seen parts.old).core }
@@ -79,7 +80,8 @@ fn release_chain(parts: &mut CoreParts, instance: u32, chain: usize)
 }
 
 /// Puts the held threads of the instance that are admitted at high, in the order of the places of their calls and of
-/// themselves in the resource table. It looks at all that are held.
+/// themselves in the resource table. It looks at all that are held; most instances hold none, which is seen in line.
+#[inline(always)]
 pub fn release(parts: &mut CoreParts, instance: u32)
     requires sound { IsSound parts.old }
     requires placed { Placed (seen parts.old).core }
@@ -89,6 +91,9 @@ pub fn release(parts: &mut CoreParts, instance: u32)
 {
     if let Some(found) = task_records::instance(parts, instance) {
         let chain = found.held;
-        release_chain(parts, instance, chain);
+        match parts.places.first(chain) {
+            Some(_) => release_chain(parts, instance, chain),
+            None => {}
+        }
     }
 }

@@ -1,30 +1,18 @@
-use Rattle.std.proofs.Common.{◌≡◌, ◌++◌, ◌∙◌, List, ℕ, ap, append_assoc, decimal, sym}
+use Rattle.std.proofs.Common.{◌≡◌, ◌++◌, ◌∙◌, List, ℕ, ap, append_assoc, sym}
 use Rattle.std.specs.Prelude.{codes}
 use Rattle.task_machine.specs.declared.words.Mark.{Mark}
 use Rattle.task_rules.specs.Texts.{taken_text}
-use Rattle.report_text.proofs.Lines.{cancelled_given, nothing_given, then}
+use Rattle.report_text.proofs.Lines.{nothing_given}
 use Rattle.report_text.proofs.label.own_label.Goals as goal
 
--- the event behind the taken thread
-event : (old mid new shown given : List ℕ) (m : Mark) (f n : ℕ) → f ≡ n → given ≡ shown → mid ≡ old ++ taken_text m (codes " thread ") f → new ≡ mid ++ (codes " event" ++ shown) → new ≡ old ++ (taken_text m (codes " thread ") n ++ codes " event" ++ given)
-event old mid new shown given m f n e g h k = then old mid new (taken_text m (codes " thread ") n) (codes " event") given (h ∙ ap (λ (x : ℕ). old ++ taken_text m (codes " thread ") x) e) (k ∙ ap (λ (x : List ℕ). mid ++ (codes " event" ++ x)) (sym g))
+joined : (old new a b c : List ℕ) → new ≡ old ++ (a ++ (b ++ c)) → new ≡ old ++ (a ++ b ++ c)
+joined old new a b c h = rw h (simp append_assoc)
 
--- and the thread that was woken
-woken : (old mid new a : List ℕ) (l w : ℕ) → l ≡ w → mid ≡ old ++ a → new ≡ mid ++ codes " wakes " ++ decimal l → new ≡ old ++ (a ++ codes " wakes " ++ decimal w)
-woken old mid new a l w e h k = rw (k ∙ ap (λ (x : ℕ). mid ++ codes " wakes " ++ decimal x) e, h) (simp append_assoc)
+-- the taken thread, and its event
+given : (old new shown event : List ℕ) (m : Mark) (f n : ℕ) → f ≡ n → event ≡ shown → new ≡ old ++ (taken_text m (codes " thread ") f ++ (codes " event" ++ shown)) → new ≡ old ++ (taken_text m (codes " thread ") n ++ codes " event" ++ event)
+given old new shown event m f n e g h =
+    joined old new (taken_text m (codes " thread ") n) (codes " event") event
+    (h ∙ ap (λ (x : ℕ). old ++ (taken_text m (codes " thread ") x ++ (codes " event" ++ shown))) e ∙ ap (λ (x : List ℕ). old ++ (taken_text m (codes " thread ") n ++ (codes " event" ++ x))) (sym g))
 
 pub returns-in-Nothing-clause-text : goal.returns-in-Nothing-clause-text
-returns-in-Nothing-clause-text c = rw c.in-Nothing.is (event _ _ _ (codes " 0 0 0") _ c.args.mark _ _ c.first.ensures nothing_given c.takes_thread-end.ensures.text c.words.ensures.text)
-
-pub returns-in-Cancelled-clause-text : goal.returns-in-Cancelled-clause-text
-returns-in-Cancelled-clause-text c = rw c.in-Cancelled.is (event _ _ _ (codes " 6 0 0") _ c.args.mark _ _ c.first.ensures cancelled_given c.takes_thread-end.ensures.text c.words-in-Cancelled.ensures.text)
-
-pub returns-in-NothingWakes-clause-text : goal.returns-in-NothingWakes-clause-text
-returns-in-NothingWakes-clause-text c =
-    let shown = event _ _ _ (codes " 0 0 0") _ c.args.mark _ _ c.first.ensures nothing_given c.takes_thread-end.ensures.text c.words-end.ensures.text in
-    rw c.in-NothingWakes.is (woken _ _ _ _ _ _ c.later.ensures shown c.wakes.ensures.text)
-
-pub returns-in-CancelledWakes-clause-text : goal.returns-in-CancelledWakes-clause-text
-returns-in-CancelledWakes-clause-text c =
-    let shown = event _ _ _ (codes " 6 0 0") _ c.args.mark _ _ c.first.ensures cancelled_given c.takes_thread-end.ensures.text c.words-end-in-CancelledWakes.ensures.text in
-    rw c.in-CancelledWakes.is (woken _ _ _ _ _ _ c.later-in-CancelledWakes.ensures shown c.wakes-in-CancelledWakes.ensures.text)
+returns-in-Nothing-clause-text c = rw c.in-Nothing.is (given _ _ (codes " 0 0 0") _ c.args.mark _ _ c.first-thread.ensures nothing_given c.takes_and.ensures.text)

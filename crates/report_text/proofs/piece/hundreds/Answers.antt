@@ -1,6 +1,15 @@
-use Rattle.std.proofs.Common.{arith}
-use Rattle.report_text.proofs.Digits.{in_pairs}
+use Rattle.std.proofs.Common.{◌-◌, ◌≤◌, ℕ, arith}
+use Rattle.report_text.proofs.Digits.{LEADS_at}
 use Rattle.report_text.proofs.piece.hundreds.Goals as goal
 
-pub returns-clause-text : goal.returns-clause-text
-returns-clause-text c = in_pairs c.args.number _ _ _ c.requires.large (omega arith) c.two_digits-end.ensures.text c.pair.ensures.text
+pub overflow_sub-from : goal.overflow_sub-from
+overflow_sub-from c = (LEADS_at c.args.number c.requires.small).0
+
+few : (d : ℕ) → d ≤ 51 → d - 48 ≤ 3
+few d h = omega (arith, h)
+
+pub words_over-requires-clause-stay : goal.words_over-requires-clause-stay
+words_over-requires-clause-stay c = let least = few _ (LEADS_at c.args.number c.requires.small).1 in omega (arith, least)
+
+pub returns-clause-end : goal.returns-clause-end
+returns-clause-end c = let least = few _ (LEADS_at c.args.number c.requires.small).1 in omega (arith, c.words_over.ensures.end, least)

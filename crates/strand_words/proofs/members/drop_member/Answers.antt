@@ -1,4 +1,5 @@
-use Rattle.task_records.proofs.Core.{IsSound, subst, ℕ, ◌<◌}
+use Rattle.task_records.proofs.Core.{ap, IsSound, subst, with_entry, ℕ, ◌<◌, ◌∙◌}
+use Rattle.task_records.specs.declared.{calls.GuestTask.GuestTask}
 use Rattle.strand_words.proofs.members.drop_member.Goals as goal
 use Rattle.task_records.proofs.ReadLemmas.{thread_shown}
 
@@ -8,3 +9,6 @@ drop_thread-requires-clause-live c = subst (λ (n : ℕ). 0 < n) (thread_shown c
 pub drop_thread-requires-clause-childless : goal.drop_thread-requires-clause-childless
 unfolding IsSound
 drop_thread-requires-clause-childless c = c.requires.sound.tables.threads.childless c.args.new.rep
+
+pub returns-clause-calls : goal.returns-clause-calls
+returns-clause-calls c = c.count_threads.ensures ∙ ap (λ (d : GuestTask). with_entry c.args.task.rep (record { item = record d { threads = c.args.call.threads } }) c.args.parts.now.calls) c.one_thread_more-more.ensures

@@ -1,10 +1,10 @@
-use Rattle.task_records.proofs.Core.{add_thread, ap, arith, IsSound, IsTable, Keeps, refl, seen, subst, sym, Table, thread_of, with_entry, ◌+◌, ◌<◌, ◌^◌, ◌∙◌, ◌≡◌}
-use Rattle.task_records.specs.declared.{calls.GuestTask.GuestTask, single.Single.Single, threads.GuestThread.GuestThread}
+use Rattle.task_records.proofs.Core.{add_thread, arith, IsSound, IsTable, Keeps, refl, seen, subst, sym, Table, thread_of, ◌+◌, ◌<◌, ◌^◌, ◌≡◌}
+use Rattle.task_records.specs.declared.{single.Single.Single, threads.GuestThread.GuestThread}
 use Rattle.strand_words.proofs.MemberAddLemmas.{as_member, member_core, member_named, member_sound, member_tags, member_used, threads_few}
 use Rattle.strand_words.proofs.members.push_thread.Goals as goal
 
-pub one_thread_more-more-requires : goal.one_thread_more-more-requires
-one_thread_more-more-requires c = threads_few c.args.parts.now c.requires.sound c.args.task c.args.call c.requires.call c.args.thread
+pub overflow_add-threads : goal.overflow_add-threads
+overflow_add-threads c = let few = threads_few c.args.parts.now c.requires.sound c.args.task c.args.call c.requires.call c.args.thread in omega arith
 
 pub overflow_add-parts-in-Ok : goal.overflow_add-parts-in-Ok
 overflow_add-parts-in-Ok c = let few : c.args.parts.now.kept.used + 2 < 2 ^ 64 = member_used c.args.parts.now c.requires.sound c.requires.room in omega arith
@@ -12,14 +12,14 @@ overflow_add-parts-in-Ok c = let few : c.args.parts.now.kept.used + 2 < 2 ^ 64 =
 pub returns-in-Ok-clause-sound : goal.returns-in-Ok-clause-sound
 returns-in-Ok-clause-sound c =
     let a = c.args.parts.now in
-    as_member a c.requires.sound c.args.task c.args.call c.requires.call c.args.thread _ _ c.in-Ok.ensures.pushed (c.put_call.ensures ∙ ap (λ (d : GuestTask). with_entry c.args.task.rep (record { item = d }) a.calls) c.one_thread_more-more.ensures) IsSound
+    as_member a c.requires.sound c.args.task c.args.call c.requires.call c.args.thread _ _ c.in-Ok.ensures.pushed c.count_threads.ensures IsSound
     (member_sound a c.requires.sound c.args.task c.args.call c.requires.call c.args.thread c.requires.member c.requires.loose (subst IsTable c.in-Ok.ensures.pushed c.in-Ok.ensures.sound) c.requires.unnamed)
 
 pub returns-in-Ok-clause-thread : goal.returns-in-Ok-clause-thread
 unfolding seen
 returns-in-Ok-clause-thread c =
     let a = c.args.parts.now in
-    as_member a c.requires.sound c.args.task c.args.call c.requires.call c.args.thread _ _ c.in-Ok.ensures.pushed (c.put_call.ensures ∙ ap (λ (d : GuestTask). with_entry c.args.task.rep (record { item = d }) a.calls) c.one_thread_more-more.ensures) (λ b. thread_of (seen b) c.in-Ok.new ≡ a.made.threads + 1)
+    as_member a c.requires.sound c.args.task c.args.call c.requires.call c.args.thread _ _ c.in-Ok.ensures.pushed c.count_threads.ensures (λ b. thread_of (seen b) c.in-Ok.new ≡ a.made.threads + 1)
     (member_named a c.requires.sound c.args.task c.args.call c.requires.call c.args.thread c.requires.member c.requires.loose c.in-Ok.new c.in-Ok.ensures.rep c.in-Ok.ensures.serial)
 
 pub returns-in-Ok-clause-new : goal.returns-in-Ok-clause-new
@@ -28,12 +28,12 @@ returns-in-Ok-clause-new c =
     record {
       core =
           let a = c.args.parts.now in
-          as_member a c.requires.sound c.args.task c.args.call c.requires.call c.args.thread _ _ c.in-Ok.ensures.pushed (c.put_call.ensures ∙ ap (λ (d : GuestTask). with_entry c.args.task.rep (record { item = d }) a.calls) c.one_thread_more-more.ensures) (λ b. (seen b).core ≡ add_thread c.args.thread.thread (seen a).core)
+          as_member a c.requires.sound c.args.task c.args.call c.requires.call c.args.thread _ _ c.in-Ok.ensures.pushed c.count_threads.ensures (λ b. (seen b).core ≡ add_thread c.args.thread.thread (seen a).core)
           (member_core a c.requires.sound c.args.task c.args.call c.requires.call c.args.thread c.requires.member c.requires.loose);
       current = refl;
       tags =
           let a = c.args.parts.now in
-          as_member a c.requires.sound c.args.task c.args.call c.requires.call c.args.thread _ _ c.in-Ok.ensures.pushed (c.put_call.ensures ∙ ap (λ (d : GuestTask). with_entry c.args.task.rep (record { item = d }) a.calls) c.one_thread_more-more.ensures) (λ b. Keeps (seen a).tags (seen b).tags)
+          as_member a c.requires.sound c.args.task c.args.call c.requires.call c.args.thread _ _ c.in-Ok.ensures.pushed c.count_threads.ensures (λ b. Keeps (seen a).tags (seen b).tags)
           (member_tags a c.requires.sound c.args.task c.args.call c.requires.call c.args.thread c.requires.member c.requires.loose);
     }
 

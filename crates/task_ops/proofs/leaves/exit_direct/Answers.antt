@@ -16,7 +16,7 @@ pub leave_to-requires-2-clause-under : goal.leave_to-requires-2-clause-under
 leave_to-requires-2-clause-under g c = check_under c.args.thread c.in-Some.below _ (g.W.View.view c.args.w.now) _ c.requires.running c.check.ensures c.in-Some.ensures.is
 
 pub leave_to-requires-clause-call : goal.leave_to-requires-clause-call
-leave_to-requires-clause-call g c = restored_its c.args.thread c.task_of-call.result (g.W.View.view c.args.w.now) _ c.task_of-call.ensures.is c.restore.ensures
+leave_to-requires-clause-call g c = restored_its c.args.thread c.args.call (g.W.View.view c.args.w.now) _ c.requires.call c.restore.ensures
 
 pub leave_to-requires-2-clause-call : goal.leave_to-requires-2-clause-call
-leave_to-requires-2-clause-call g c = checked_its c.args.thread c.task_of-call.result (g.W.View.view c.args.w.now) _ c.task_of-call.ensures.is _ c.check.ensures
+leave_to-requires-2-clause-call g c = checked_its c.args.thread c.args.call (g.W.View.view c.args.w.now) _ c.requires.call _ c.check.ensures

@@ -26,3 +26,6 @@ returns-in-Start-clause-stays g c =
     let t = g.W.View.view c.take_start.new.w in
     ok_then (λ r. Meets (start_row c.args.mark n (choice_of (label_of n r)).woken s.core (admits n s.core why.Start)) s.core r t.core) (λ r. StaysAfter r s t) c.take_start.result
     (λ r h. same_stays (start_row c.args.mark n (choice_of (label_of n r)).woken s.core (admits n s.core why.Start)) s t r h c.take_start.ensures.tags c.take_start.ensures.current) c.take_start.ensures.meets
+
+pub take_start-requires-clause-bottom : goal.take_start-requires-clause-bottom
+take_start-requires-clause-bottom g c = let a = c.why.ensures in let b = c.in-Start.is in c.requires.taken.bottom (cc)

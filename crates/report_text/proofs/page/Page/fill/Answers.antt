@@ -12,7 +12,7 @@ one_fewer rest left all l e le = omega (arith, ap (λ (ls : List Label). length 
 
 pub lines-preserved : goal.lines-preserved
 lines-preserved c =
-    let l = label_of c.in-Some.head c.in-Some.numbers.now in
+    let l = label_of c.in-Some.head.now c.in-Some.numbers.now in
     let fewer = one_fewer c.lines.labels c.take.new.self c.args.labels.now l c.in-Some.ensures c.lines.invariant.left in
     record {
       room = c.label_line-at.ensures.room ∙ c.lines.invariant.room;

@@ -1,4 +1,4 @@
-use Rattle.std.proofs.Common.{◌+◌, ◌≡◌, ◌<◌, ◌≤◌, ◌++◌, ◌⊎◌, ℕ, length, take}
+use Rattle.std.proofs.Common.{◌≡◌, ◌<◌, ◌≤◌, ◌++◌, ◌⊎◌, length, take}
 use Rattle.report_text.specs.Lines.{lines_of}
 use Rattle.report_text.proofs.page.Page.fill.Given as goal
 
