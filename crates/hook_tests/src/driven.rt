@@ -108,6 +108,7 @@ fn watched<'a>(
 {
     let mut store: Watched<'a> = Store::new(alloc, (), true, 1);
     store.set_table_capacity(table as usize);
+    store.set_max_component_handles(100000);
     match store.add_instance() {
         Ok(_) => {}
         Err(_) => panic!(rt; "no memory"),
