@@ -102,7 +102,7 @@ removed_twice : (live : Counts) (n : ℕ) → finite.remove (finite.remove live 
 removed_twice live n = finite.same_map nat_cmp_total finite.nat_cmp-IsAntisymmetric _ _ (λ q.
     finite.get-remove nat_cmp_total (finite.remove live n) n q
     ∙ (ap (λ (o : Option ℕ). cond (eq_by_cmp nat_cmp q n) None o) (finite.get-remove nat_cmp_total live n q)
-        ∙ (none_twice (eq_by_cmp nat_cmp q n) (finite.get live q) ∙ sym (finite.get-remove nat_cmp_total live n q))))
+    ∙ (none_twice (eq_by_cmp nat_cmp q n) (finite.get live q) ∙ sym (finite.get-remove nat_cmp_total live n q))))
 
 not_more : (count : ℕ) (b : Bool) → nat_lt 1 count ≡ b → count ≤ 1 → b ≡ false
 not_more count true e le = absurd (grind (arith, nat_tests, e, le))

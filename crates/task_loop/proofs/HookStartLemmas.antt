@@ -118,7 +118,7 @@ module _ (g m : Groups) (made number : ℕ) (known : IsKnown g.live made) (same 
   back_once h live last =
       let once = counted_new g.live m.made in
       let is : count_in h.live h.made ≡ count_in (finite.insert g.live m.made 1) m.made =
-          ap (λ (k : ℕ). count_in h.live k) last ∙ (ap (λ (l : Counts). count_in l m.made) (live ∙ ap (λ (k : Groups). k.live) ok)) in
+      ap (λ (k : ℕ). count_in h.live k) last ∙ (ap (λ (l : Counts). count_in l m.made) (live ∙ ap (λ (k : Groups). k.live) ok)) in
       omega (arith, once, is)
 
   -- the hook refused it

@@ -42,19 +42,18 @@ pub returns-then-is_err-clause-hooked : goal.returns-then-is_err-clause-hooked
 returns-then-is_err-clause-hooked g c = λ e. (
   refl,
   subst (λ (l : Listeners). AnsweredErr l c.announce.new.self.listeners) (ap (λ (k : Groups). k.listeners) c.in-Ok.ensures.ok)
-  (c.announce.ensures.failed.0 (told_failed c.announce.result (sym c.is_err.ensures.value ∙ c.if-is_err.true) c.announce.ensures.no_other)),
+      (c.announce.ensures.failed.0 (told_failed c.announce.result (sym c.is_err.ensures.value ∙ c.if-is_err.true) c.announce.ensures.no_other)),
 )
 
 pub returns-in-Err-clause-hooked : goal.returns-in-Err-clause-hooked
 returns-in-Err-clause-hooked g c = λ e.
     let s = c.args.store.now.state in
     let starts = subst (λ (o : Option Trap). StartsUntrapped c.args.component.now c.callee.result c.args.params.now s o (Err c.in-Err.e) c.start_untrapped.new.w) c.requires.fits c.in-Err.ensures.starts in
-    let calm = told_calm c.announce.result c.prepare.new.self.listeners c.announce.new.self.listeners (sym c.is_err.ensures.value ∙ c.if-is_err.false) c.announce.ensures.failed.1 in
-    (
+    let calm = told_calm c.announce.result c.prepare.new.self.listeners c.announce.new.self.listeners (sym c.is_err.ensures.value ∙ c.if-is_err.false) c.announce.ensures.failed.1 in (
       starts.1,
       subst (λ (l : Listeners). AnsweredErr l c.take_back.new.groups.listeners) (ap (λ (k : Groups). k.listeners) c.in-Ok.ensures.ok)
-      (answered_back g.G.TaskGroupHook.listens c.prepare.new.self.listeners c.announce.new.self.listeners c.take_back.new.groups.listeners c.in-Err.e c.take_back.result c.requires.listens calm c.announce.ensures.told.errors c.take_back.ensures.told c.take_back.ensures.answer
-      (λ f. let why = starts.0 in absurd (cc)) (let q = e in cc)),
+          (answered_back g.G.TaskGroupHook.listens c.prepare.new.self.listeners c.announce.new.self.listeners c.take_back.new.groups.listeners c.in-Err.e c.take_back.result c.requires.listens calm c.announce.ensures.told.errors c.take_back.ensures.told c.take_back.ensures.answer
+          (λ f. let why = starts.0 in absurd (cc)) (let q = e in cc)),
     )
 
 pub returns-in-Ok-start_untrapped-clause-hosts : goal.returns-in-Ok-start_untrapped-clause-hosts
