@@ -8,8 +8,6 @@ mod calls_of_states;
 #[cfg(test)]
 mod drive;
 #[cfg(test)]
-mod hooked;
-#[cfg(test)]
 mod hosts;
 #[cfg(test)]
 mod instance_calls;

@@ -54,6 +54,19 @@ module _ (s t : StateView) (a : Asked) (g : ℕ) (asks : a ≡ asked_now s g) (l
   called false told mirrors most = tells most told mirrors
   called true told mirrors most = λ none. tells most (told none) (mirrors none)
 
+-- the same where what runs after it, and how many groups are left, was asked before it
+pub called_as : (s t : StateView) (a : Asked) (g : ℕ) → a ≡ asked_now s g → Lessens g s.core t.core → (old new : Groups) (listens : Bool) (running : Option ℕ) (left : ℕ) →
+    running ≡ current_group t → left ≡ length t.core.groups →
+    Unheard listens old.listeners new.listeners ((gs hs : List ℕ) → Mirrors gs old → Leads a left gs hs → Told (told_by a running gs hs) old.listeners new.listeners) →
+    Unheard listens old.listeners new.listeners ((gs hs : List ℕ) → Mirrors gs old → Leads a left gs hs → Mirrors hs new) →
+    TellsAtMost a running left old new → Unheard listens old.listeners new.listeners (TellsGroups s old t new)
+called_as s t a g asks less old new listens running left runs few told mirrors most =
+    called s t a g asks less old new listens
+    (subst (λ (k : ℕ). Unheard listens old.listeners new.listeners ((gs hs : List ℕ) → Mirrors gs old → Leads a k gs hs → Told (told_by a (current_group t) gs hs) old.listeners new.listeners)) few
+    (subst (λ (o : Option ℕ). Unheard listens old.listeners new.listeners ((gs hs : List ℕ) → Mirrors gs old → Leads a left gs hs → Told (told_by a o gs hs) old.listeners new.listeners)) runs told))
+    (subst (λ (k : ℕ). Unheard listens old.listeners new.listeners ((gs hs : List ℕ) → Mirrors gs old → Leads a k gs hs → Mirrors hs new)) few mirrors)
+    (subst (λ (k : ℕ). TellsAtMost a (current_group t) k old new) few (subst (λ (o : Option ℕ). TellsAtMost a o left old new) runs most))
+
 same_number : (n : ℕ) → (n == n) ≡ true
 same_number n = grind (arith, nat_tests)
 
@@ -71,6 +84,10 @@ still_told s l =
 
 pub most_told : (s t : StateView) (a : Asked) (g : ℕ) → a ≡ asked_now s g → (old new : Groups) → TellsAtMost a (current_group t) (length t.core.groups) old new → TellsMost s old t new
 most_told s t a g asks old new most = (g, subst (λ (b : Asked). TellsAtMost b (current_group t) (length t.core.groups) old new) asks most)
+
+pub most_as : (s t : StateView) (a : Asked) (g : ℕ) → a ≡ asked_now s g → (old new : Groups) (running : Option ℕ) (left : ℕ) → running ≡ current_group t → left ≡ length t.core.groups → TellsAtMost a running left old new → TellsMost s old t new
+most_as s t a g asks old new running left runs few most =
+    most_told s t a g asks old new (subst (λ (k : ℕ). TellsAtMost a (current_group t) k old new) few (subst (λ (o : Option ℕ). TellsAtMost a o left old new) runs most))
 
 -- nothing is changed
 pub most_still : (s : StateView) (g : Groups) → TellsMost s g s g

@@ -53,6 +53,10 @@ pub unheard_get : (b : Bool) (x y : Listeners) (P : Type 0) → b ≡ true → U
 unheard_get false x y P listens h none = absurd (cc)
 unheard_get true x y P listens h none = h none
 
+pub unheard_at : (b : Bool) (x y : Listeners) (P : Type 0) → Unheard b x y P → (AnsweredErr x y → ⊥) → P
+unheard_at false x y P h none = h
+unheard_at true x y P h none = h none
+
 pub unheard_on : (b : Bool) (x y : Listeners) (P : Type 0) → b ≡ true → ((AnsweredErr x y → ⊥) → P) → Unheard b x y P
 unheard_on false x y P listens h = absurd (cc)
 unheard_on true x y P listens h = h
@@ -155,3 +159,11 @@ answered_last a b d calm le err = elim (eq-or-lt_of_le le) [
   | inl e ↦ omega (arith, e, err)
   | inr lt ↦ absurd (calm lt)
 ]
+
+pub never_err : {T E : Type 0} (P : Type 0) (r : Result T E) → OnErr r ⊥ → OnErr r P
+never_err P (Ok x) n = tt
+never_err P (Err e) n = absurd n
+
+pub ok_or_err : {T E : Type 0} (r : Result T E) (v : T) (e : E) → r ≡ Ok v → r ≡ Err e → ⊥
+ok_or_err (Ok x) v e is other = absurd (cc)
+ok_or_err (Err x) v e is other = absurd (cc)
