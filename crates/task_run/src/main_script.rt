@@ -211,11 +211,15 @@ fn make_start<T, H: HostWork, G: TaskGroupHook>(
             main.keep(Start::Called(thread))?;
             Ok(MainStep::Did(Label::Main(MainLabel::Start(number, thread))))
         }
-        Err(TaskError::Trap(Trap::HookFailed)) => Err(TaskError::Trap(Trap::HookFailed)),
-        Err(TaskError::Trap(trap)) => {
-            main.keep(Start::Refused(trap))?;
-            Ok(MainStep::Did(Label::Main(MainLabel::StartRefused(trap, number))))
-        }
+        Err(TaskError::Trap(trap)) => match trap {
+            Trap::HookFailed => Err(TaskError::Trap(trap)),
+            _ => {
+                let Ok(()) = main.keep(Start::Refused(trap)) else {
+                    return Err(TaskError::NoMemory);
+                };
+                Ok(MainStep::Did(Label::Main(MainLabel::StartRefused(trap, number))))
+            }
+        },
         Err(_) => Err(TaskError::NoMemory),
     }
 }
@@ -309,7 +313,10 @@ fn spawn_work<T, H: AccessorTask<T> + FromHost, G: TaskGroupHook>(
 }
 
 // The phase of the work, which an abort is asked for; it is complete where there is no such spawn.
-fn abort<T, H: HostWork, G: TaskGroupHook>(access: &mut Access<'_, T, Whole, H, G>, work: Option<SpawnHandle>) -> Phase
+fn abort<T, H: HostWork, G: TaskGroupHook>(
+    access: &mut Access<'_, T, Whole, H, G>,
+    work: Option<SpawnHandle>,
+) -> Phase
     requires spawned { IfSome work (λ h. IsSpawnedIn h access.old.store.now.state) }
     requires hosts { HoldsHosts H.course access.old.store.now }
     ensures same { access.new.store.ghost_name ≡ access.old.store.ghost_name }
