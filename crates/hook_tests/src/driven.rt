@@ -1,5 +1,5 @@
 //! Scenarios that are driven in a store with a hook.
-ghost use Rattle.std.specs.Prelude.{◌≡◌, None, false, is_ok, length};
+ghost use Rattle.std.specs.Prelude.{◌≡◌, None, false, is_ok, length, true};
 ghost use Rattle.host_works.specs.Kept.{HoldsNone};
 ghost use Rattle.task_group.specs.Heard.{Tells, notice_of};
 ghost use Rattle.task_machine.specs.Core.{fresh};
@@ -70,7 +70,9 @@ impl TaskGroupHook for Recorder<'_> {
 
     ghost listens = { true };
 
-    fn listens() -> bool {
+    fn listens() -> bool
+        ensures { result ≡ true }
+    {
         true
     }
 

@@ -1,4 +1,4 @@
-ghost use Rattle.std.specs.Prelude.{is_ok, None};
+ghost use Rattle.std.specs.Prelude.{◌≡◌, None, is_ok, true};
 ghost use Rattle.task_group.specs.Heard.{Tells, notice_of};
 
 use std::alloc::Global;
@@ -53,7 +53,9 @@ impl TaskGroupHook for Recorder<'_> {
 
     ghost listens = { true };
 
-    fn listens() -> bool {
+    fn listens() -> bool
+        ensures { result ≡ true }
+    {
         true
     }
 

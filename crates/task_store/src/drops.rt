@@ -11,7 +11,10 @@ use task_group::TaskGroupHook;
 /// goes: of a concurrent store all groups are finished, no call is taken any more, and each work of the
 /// host is dropped. The threads' records, which are their strands, go with the store. A store that isn't
 /// concurrent stays as it is.
-pub fn run_manual_drop_routines<T, H: Drop, G: TaskGroupHook>(alloc: Global, store: &mut Store<T, H, G>)
+pub fn run_manual_drop_routines<T, H: Drop, G: TaskGroupHook>(
+    alloc: Global,
+    store: &mut Store<T, H, G>,
+)
     ensures concurrent { store.old.concurrent ≡ true → LetsGo store.old store.new }
     ensures other { store.old.concurrent ≡ false → store.new ≡ store.old }
 {

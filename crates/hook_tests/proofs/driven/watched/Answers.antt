@@ -18,13 +18,13 @@ set_table_capacity-requires-clause-given g c = rw c.new-store.ensures.state (giv
 pub add_instance-requires : goal.add_instance-requires
 add_instance-requires g c =
     let limited : c.set_max_component_handles.new.self.state ≡ with_core (fresh 0 100000 c.args.table) nothing =
-        rw (c.set_max_component_handles.ensures, c.set_table_capacity.ensures, c.new-store.ensures.state) (ap (λ k. with_core k nothing) (limits_set 100000 c.args.table)) in
+    rw (c.set_max_component_handles.ensures, c.set_table_capacity.ensures, c.new-store.ensures.state) (ap (λ k. with_core k nothing) (limits_set 100000 c.args.table)) in
     let none = ap (λ (s : StateView). size s.core.instances) limited ∙ size_fresh 0 100000 c.args.table in omega (arith, none)
 
 pub returns-clause-state : goal.returns-clause-state
 returns-clause-state g c =
     let limited : c.set_max_component_handles.new.self.state ≡ with_core (fresh 0 100000 c.args.table) nothing =
-        rw (c.set_max_component_handles.ensures, c.set_table_capacity.ensures, c.new-store.ensures.state) (ap (λ k. with_core k nothing) (limits_set 100000 c.args.table)) in
+    rw (c.set_max_component_handles.ensures, c.set_table_capacity.ensures, c.new-store.ensures.state) (ap (λ k. with_core k nothing) (limits_set 100000 c.args.table)) in
     rw (c.task_group_hook.ensures, c.in-Ok.ensures.ok)
     (ap (λ (s : StateView). with_core (with_instance s.core) s) limited ∙ ap (λ k. with_core k nothing) (fresh_more 0 100000 c.args.table))
 
@@ -37,12 +37,12 @@ returns-clause-running g c = rw (c.task_group_hook.ensures, c.in-Ok.ensures.ok, 
 pub returns-clause-groups : goal.returns-clause-groups
 returns-clause-groups g c =
     let limited : c.set_max_component_handles.new.self.state ≡ with_core (fresh 0 100000 c.args.table) nothing =
-        rw (c.set_max_component_handles.ensures, c.set_table_capacity.ensures, c.new-store.ensures.state) (ap (λ k. with_core k nothing) (limits_set 100000 c.args.table)) in
+    rw (c.set_max_component_handles.ensures, c.set_table_capacity.ensures, c.new-store.ensures.state) (ap (λ k. with_core k nothing) (limits_set 100000 c.args.table)) in
     let last = c.task_group_hook.new.self in
     let g0 = c.new-store.result.groups in
     let state : last.state ≡ with_core (fresh 1 100000 c.args.table) nothing =
-        rw (c.task_group_hook.ensures, c.in-Ok.ensures.ok)
-        (ap (λ (s : StateView). with_core (with_instance s.core) s) limited ∙ ap (λ k. with_core k nothing) (fresh_more 0 100000 c.args.table)) in
+    rw (c.task_group_hook.ensures, c.in-Ok.ensures.ok)
+    (ap (λ (s : StateView). with_core (with_instance s.core) s) limited ∙ ap (λ k. with_core k nothing) (fresh_more 0 100000 c.args.table)) in
     subst (λ (v : StateView). HoldsGroups last.groups v.core) (sym state)
     (back_holds (fresh 1 100000 c.args.table) g0 last.groups (fresh_holds g0 1 100000 c.args.table c.new-store.ensures.groups.0 c.new-store.ensures.groups.1 c.new-store.ensures.mirror)
     (rw (c.task_group_hook.ensures, c.in-Ok.ensures.ok, c.set_max_component_handles.ensures, c.set_table_capacity.ensures) refl)
