@@ -22,5 +22,5 @@ pub none_numbered : (s : StateView) → s ≡ nothing → WorksNumbered s.core
 unfolding fresh
 none_numbered s is i there = absurd (let e = subst (λ (v : StateView). is_some (get v.core.works i) ≡ true) is there in let n = get-empty {X = Work} i in grind (arith, e, n))
 
-pub none_held : {T H : Type 0} (course : H → HostDef) (store : Store T H) → store.state ≡ nothing → HoldsNone store.works → HoldsHosts course store
+pub none_held : {T H G : Type 0} (course : H → HostDef) (store : Store T H G) → store.state ≡ nothing → HoldsNone store.works → HoldsHosts course store
 none_held course store state works = new_holds course store 0 100000 1000000 works (ap (λ (v : StateView). v.core) state)
