@@ -148,6 +148,7 @@ fn driven(rt: &impl Abort, alloc: Global, scenario: &Scenario, store: &mut Watch
 
 // What the scenario comes to with a hook that fails at this notice, whether the store is trapped then, and what the hook was told.
 fn ran(rt: &impl Abort, alloc: Global, text: &[u8], fails: u64) -> (Outcome, bool, u64) {
+    assert!(rt; text.len() <= 1_048_576);
     let Ok(scenario) = read_scenario(alloc, text) else {
         panic!(rt; "a scenario")
     };
