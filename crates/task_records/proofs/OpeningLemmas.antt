@@ -65,6 +65,7 @@ no_rows chain node Known list none = record {
 no_place : (k : Where) → place_chain (bare opening) k ≡ None
 unfolding found_record mapped with_capacity
 no_place (WaitsOn x) = refl
+no_place (StartsIn i) = refl
 no_place (HeldIn i) = refl
 no_place (UnderOf n) = refl
 no_place (BlockedOn (Subtask.Guest k)) = refl
