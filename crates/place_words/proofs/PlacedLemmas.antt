@@ -59,17 +59,17 @@ module _ (a : CoreParts) (sound : IsSound a) (id : TableId ThreadKey) (g : Guest
   -- the node of a thread that is in no chain has no link
   pub node_unlinked : ((i : ℕ) → where_at i g.thread.place ≡ None) → link_of a.places g.node.index ≡ None
   node_unlinked apart =
-      subst (λ (e : Single GuestThread). link_of a.places e.item.node.index ≡ link_for (place_chain bared) (record { node = e.item.node.index; key = where_at e.item.instance e.item.thread.place; value = thread_seat id.rep e.item })) bare_entry
+      subst (λ (e : Single GuestThread). link_of a.places e.item.node.index ≡ link_for (place_chain bared) (record { node = e.item.node.index; key = where_at e.item.instance e.item.barred e.item.thread.place; value = thread_seat id.rep e.item })) bare_entry
       (is_whole.chained.places.has_link id.rep _ (filings_at place_filing bared.threads id.rep (Some bare_placed) bare_stands))
       ∙ ap (λ k. link_for (place_chain bared) (record { node = g.node.index; key = k; value = thread_seat id.rep g })) (apart g.instance)
 
   -- a thread that stays where it is stays filed
-  pub stays_filed : h.thread.place ≡ g.thread.place → Refiles a.places a.places g.node.index (link_for (place_chain bared) (record { node = g.node.index; key = where_at h.instance h.thread.place; value = thread_seat id.rep h }))
+  pub stays_filed : h.thread.place ≡ g.thread.place → Refiles a.places a.places g.node.index (link_for (place_chain bared) (record { node = g.node.index; key = where_at h.instance h.barred h.thread.place; value = thread_seat id.rep h }))
   stays_filed same = record {
-    here = subst (λ (e : Single GuestThread). link_of a.places e.item.node.index ≡ link_for (place_chain bared) (record { node = e.item.node.index; key = where_at e.item.instance e.item.thread.place; value = thread_seat id.rep e.item })) bare_entry
+    here = subst (λ (e : Single GuestThread). link_of a.places e.item.node.index ≡ link_for (place_chain bared) (record { node = e.item.node.index; key = where_at e.item.instance e.item.barred e.item.thread.place; value = thread_seat id.rep e.item })) bare_entry
         (is_whole.chained.places.has_link id.rep _ (filings_at place_filing bared.threads id.rep (Some bare_placed) bare_stands))
         ∙ (ap₂ (λ i p. link_for (place_chain bared) (record { node = g.node.index; key = where_at i p; value = thread_seat id.rep g })) (sym (ap (λ (x : GuestThread). x.instance) stays)) (sym same)
-        ∙ ap (λ v. link_for (place_chain bared) (record { node = g.node.index; key = where_at h.instance h.thread.place; value = v })) (sym (ap (thread_seat id.rep) stays)));
+        ∙ ap (λ v. link_for (place_chain bared) (record { node = g.node.index; key = where_at h.instance h.barred h.thread.place; value = v })) (sym (ap (thread_seat id.rep) stays)));
     others = λ n other. refl;
     made = λ n made. made;
     live = λ c live. live;
@@ -174,14 +174,14 @@ module _ (a : CoreParts) (sound : IsSound a) (id : TableId ThreadKey) (g : Guest
             (each_written bared.threads id.rep bare_placed bare_stands (HasHome after) (bare_thread h) home_now
             (λ r q at. home_moved bared is_whole bare_now threads_alike sets_now sets_alike places q.entry.item (is_whole.named.threads r q at)))
 
-        module _ (re : Refiles a.places places g.node.index (link_for (place_chain bared) (record { node = g.node.index; key = where_at h.instance h.thread.place; value = thread_seat id.rep h }))) where
+        module _ (re : Refiles a.places places g.node.index (link_for (place_chain bared) (record { node = g.node.index; key = where_at h.instance h.barred h.thread.place; value = thread_seat id.rep h }))) where
           index_now : IsIndex (place_chain bared) places (filings place_filing bare_now)
           index_now = subst (λ (t : Table (Single GuestThread)). IsIndex (place_chain bared) places (filings place_filing t)) (sym bare_put)
               (IsIndex-with_entry place_filing (place_chain bared) bared.threads a.places is_whole.chained.places id.rep bare_placed bare_stands places (entry_of (bare_thread h))
-              (record { node = bare_placed.entry.item.node.index; key = where_at bare_placed.entry.item.instance bare_placed.entry.item.thread.place; value = thread_seat id.rep bare_placed.entry.item })
-              (record { node = h.node.index; key = where_at h.instance h.thread.place; value = thread_seat id.rep h })
+              (record { node = bare_placed.entry.item.node.index; key = where_at bare_placed.entry.item.instance bare_placed.entry.item.barred bare_placed.entry.item.thread.place; value = thread_seat id.rep bare_placed.entry.item })
+              (record { node = h.node.index; key = where_at h.instance h.barred h.thread.place; value = thread_seat id.rep h })
               refl refl (ap (λ (x : GuestThread). x.node.index) stays ∙ sym (ap (λ (e : Single GuestThread). e.item.node.index) bare_entry))
-              (subst (λ n. Refiles a.places places n (link_for (place_chain bared) (record { node = h.node.index; key = where_at h.instance h.thread.place; value = thread_seat id.rep h }))) (sym (ap (λ (e : Single GuestThread). e.item.node.index) bare_entry)) re))
+              (subst (λ n. Refiles a.places places n (link_for (place_chain bared) (record { node = h.node.index; key = where_at h.instance h.barred h.thread.place; value = thread_seat id.rep h }))) (sym (ap (λ (e : Single GuestThread). e.item.node.index) bare_entry)) re))
 
           whole_now : IsWhole after
           whole_now = moved_whole bared is_whole bare_now threads_alike sets_now sets_alike places homes_now index_now

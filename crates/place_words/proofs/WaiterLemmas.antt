@@ -62,7 +62,7 @@ module _ (a : CoreParts) (sound : IsSound a) (rep serial : ℕ) (g : WaitSet) (i
     unfolding seen IsSound
     waiter_held x n same at =
         let one = held_passes place_filing (place_chain (bare (parts_of a))) a.threads a.places (places_filed a sound) (WaitsOn g.number) g.waiters waiters_chain thread_key (λ (e : ℕ × Thread). is_waiting_on g.number e.1.place) (place_tests (WaitsOn g.number) (is_waiting_on g.number) (waits_passes g.number) (waits_filed g.number)) sound.tables.threads.apart v holds in
-        let here : one.place ≡ v.place = ap (λ (f : Filing Where Seat). f.value.place) (same_Some (record { node = one.placed.entry.item.node.index; key = where_at one.placed.entry.item.instance one.placed.entry.item.thread.place; value = thread_seat one.place one.placed.entry.item }) one.filed one.is_said) ∙ ap (λ (s : Seat). s.place) one.is_value in
+        let here : one.place ≡ v.place = ap (λ (f : Filing Where Seat). f.value.place) (same_Some (record { node = one.placed.entry.item.node.index; key = where_at one.placed.entry.item.instance one.placed.entry.item.barred one.placed.entry.item.thread.place; value = thread_seat one.place one.placed.entry.item }) one.filed one.is_said) ∙ ap (λ (s : Seat). s.place) one.is_value in
         let number : one.entry.0 ≡ n = passes_number (λ (h : GuestThread). h.number) (λ (h : GuestThread). h.thread) place_filing a.threads (λ (e : ℕ × Thread). is_waiting_on g.number e.1.place) v n one here at in
         let found : get (records thread_key a.threads.places) n ≡ Some one.entry.1 = ap (get (records thread_key a.threads.places)) (sym number) ∙ one.is_found in (
           ap (λ o. option_map_or (is_waiting_on x) (option_map (λ (t : Thread). t.place) o) false) found ∙ (ap (λ y. is_waiting_on y one.entry.1.place) (sym same) ∙ one.passes),

@@ -16,7 +16,7 @@ module _ (a : CoreParts) (sound : IsSound a) (k : Where) (c : ℕ) (chain : plac
   pub chain_live : IsSome (list_of a.places c)
   chain_live = (places_filed a sound).live k c chain
 
-  module _ (test : Place → Bool) (passes : (i : ℕ) (p : Place) → where_at i p ≡ Some k → test p ≡ true) (filed : (i : ℕ) (p : Place) → test p ≡ true → where_at i p ≡ Some k) (links : IsLinks a.places) where
+  module _ (test : Place → Bool) (passes : (i : ℕ) (b : Bool) (p : Place) → where_at i b p ≡ Some k → test p ≡ true) (filed : (i : ℕ) (b : Bool) (p : Place) → test p ≡ true → where_at i b p ≡ Some k) (links : IsLinks a.places) where
     tested : (n : ℕ) → is_at n (seen a).core test ≡ passes_at (λ (e : ℕ × Thread). test e.1.place) (records thread_key a.threads.places) n
     unfolding seen
     tested n = by (get (records thread_key a.threads.places) n) refl
@@ -27,7 +27,7 @@ module _ (a : CoreParts) (sound : IsSound a) (k : Where) (c : ℕ) (chain : plac
 
     reads : (r : ℕ) (p : Placed (Single GuestThread)) (f : Filing Where Seat) (x : ℕ × Thread) → place_at a.threads r ≡ Some p → place_filing r p.serial p.entry ≡ Some f → thread_key p.entry ≡ Some x → at_seat a f.value ≡ x.0
     reads r p f x at says key =
-        ap (λ (g : Filing Where Seat). at_seat a g.value) (sym (same_Some (record { node = p.entry.item.node.index; key = where_at p.entry.item.instance p.entry.item.thread.place; value = thread_seat r p.entry.item }) f says))
+        ap (λ (g : Filing Where Seat). at_seat a g.value) (sym (same_Some (record { node = p.entry.item.node.index; key = where_at p.entry.item.instance p.entry.item.barred p.entry.item.thread.place; value = thread_seat r p.entry.item }) f says))
         ∙ (ap (λ o. number_in (key_in thread_key o)) at ∙ ap number_in key)
 
     -- has just those that pass
@@ -78,7 +78,7 @@ same_self : (s : Subtask) → same_subtask s s ≡ true
 same_self (Subtask.Guest k) = eq-eqb k k refl
 same_self (Subtask.Host i) = eq-eqb i i refl
 
-blocked_passes : (sub : Subtask) (i : ℕ) (p : Place) → where_at i p ≡ Some (BlockedOn sub) → is_blocked_on sub p ≡ true
+blocked_passes : (sub : Subtask) (i : ℕ) (b : Bool) (p : Place) → where_at i b p ≡ Some (BlockedOn sub) → is_blocked_on sub p ≡ true
 blocked_passes sub i (Place.Blocked on) is = ap (same_subtask sub) (same on sub is) ∙ same_self sub
   where
     same : (s t : Subtask) → Some (BlockedOn s) ≡ Some (BlockedOn t) → s ≡ t
