@@ -78,7 +78,7 @@ module _ (p : Parts) (whole : IsWhole p) (r : InstanceRecord) (loose : AreLoose 
   next = length p.instances
 
   home_grown : (g : GuestThread) → HasHome p g → HasHome grown g
-  home_grown g h = record { call = h.call; there = h.there; instance = h.instance; within = there_still p.instances r g.instance h.within; place = h.place; how_far = h.how_far }
+  home_grown g h = record { call = h.call; there = h.there; instance = h.instance; barred = h.barred; within = there_still p.instances r g.instance h.within; place = h.place; how_far = h.how_far }
 
   call_grown : (g : GuestTask) → IsCallNamed p g → IsCallNamed grown g
   call_grown g h = record { caller = h.caller; first = h.first; join = h.join; group = h.group; positive = h.positive }

@@ -14,4 +14,5 @@ pub record IsMember (p : Parts) (c : GuestTask) (rep : ℕ) (g : GuestThread) : 
   pub fresh : g.thread.how_far ≡ how_far.Fresh
   pub task : g.task ≡ rep
   pub instance : g.instance ≡ c.call.callee.instance
+  pub barred : bars g.thread.explicit (Some c.call) ≡ g.barred
   pub within : IsSome (slice_get p.instances g.instance)

@@ -24,6 +24,7 @@ pub record IsStrand (p : Parts) (c : GuestTask) (g : GuestThread) : Type 0 where
   pub task : g.task ≡ next_place p.calls
   pub first_at : c.first ≡ next_place p.threads
   pub instance : g.instance ≡ c.call.callee.instance
+  pub barred : bars g.thread.explicit (Some c.call) ≡ g.barred
   pub within : IsSome (slice_get p.instances g.instance)
   pub caller : AtPlace p c.maker (caller_target c.call.caller)
   pub room : c.call.goal ≡ goal.Main → HasRoom c.number p.results
