@@ -38,7 +38,7 @@ pub refile-requires-clause-made : goal.refile-requires-clause-made
 refile-requires-clause-made c = node_made c.args.parts.now c.requires.sound c.args.id c.in-Some.found.now c.in-Some.ensures.item (placed c.in-Some.found.now c.args.place c.args.beside) refl refl
 
 pub refile-requires-clause-live : goal.refile-requires-clause-live
-refile-requires-clause-live c = chain_live c.args.parts.now c.requires.sound c.args.id c.in-Some.found.now c.in-Some.ensures.item (placed c.in-Some.found.now c.args.place c.args.beside) refl refl c.in-Some.found.now.instance c.args.place c.args.chain (c.requires.chain c.in-Some.found.now c.in-Some.ensures.item)
+refile-requires-clause-live c = chain_live c.args.parts.now c.requires.sound c.args.id c.in-Some.found.now c.in-Some.ensures.item (placed c.in-Some.found.now c.args.place c.args.beside) refl refl c.in-Some.found.now.instance c.in-Some.found.now.barred c.args.place c.args.chain (c.requires.chain c.in-Some.found.now c.in-Some.ensures.item)
 
 pub returns-in-Some-clause-sound : goal.returns-in-Some-clause-sound
 returns-in-Some-clause-sound c =

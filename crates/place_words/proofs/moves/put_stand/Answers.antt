@@ -26,7 +26,7 @@ pub file_in-requires-clause-made : goal.file_in-requires-clause-made
 file_in-requires-clause-made c = node_made c.args.parts.now c.requires.sound c.args.id c.in-Some.found.now c.in-Some.ensures.item (standing c.in-Some.found.now c.args.place c.args.beside c.args.how_far c.args.awaited) refl refl
 
 pub file_in-requires-clause-live : goal.file_in-requires-clause-live
-file_in-requires-clause-live c = chain_live c.args.parts.now c.requires.sound c.args.id c.in-Some.found.now c.in-Some.ensures.item (standing c.in-Some.found.now c.args.place c.args.beside c.args.how_far c.args.awaited) refl refl c.in-Some.found.now.instance c.args.place c.args.chain (c.requires.chain c.in-Some.found.now c.in-Some.ensures.item)
+file_in-requires-clause-live c = chain_live c.args.parts.now c.requires.sound c.args.id c.in-Some.found.now c.in-Some.ensures.item (standing c.in-Some.found.now c.args.place c.args.beside c.args.how_far c.args.awaited) refl refl c.in-Some.found.now.instance c.in-Some.found.now.barred c.args.place c.args.chain (c.requires.chain c.in-Some.found.now c.in-Some.ensures.item)
 
 pub file_in-requires-clause-unlinked : goal.file_in-requires-clause-unlinked
 file_in-requires-clause-unlinked c = node_unlinked c.args.parts.now c.requires.sound c.args.id c.in-Some.found.now c.in-Some.ensures.item (standing c.in-Some.found.now c.args.place c.args.beside c.args.how_far c.args.awaited) refl refl ((c.stands_alone.ensures c.if-stands_alone.true).1)
