@@ -52,10 +52,10 @@ held_passes i j Place.Suspended is = absurd (cc)
 
 held_tests : (i : ℕ) → Tests place_filing held_key (HeldIn i) (holds_in i)
 held_tests i = record {
-  passes = λ rep serial e f says is_k. ((e.item.number, (e.item.thread, e.item.instance)), (refl, held_passes i e.item.instance e.item.thread.place (ap (λ (g : Filing Where Seat). g.key) (same_Some (record { node = e.item.node.index; key = where_at e.item.instance e.item.thread.place; value = thread_seat rep e.item }) f says) ∙ is_k)));
+  passes = λ rep serial e f says is_k. ((e.item.number, (e.item.thread, e.item.instance)), (refl, held_passes i e.item.instance e.item.thread.place (ap (λ (g : Filing Where Seat). g.key) (same_Some (record { node = e.item.node.index; key = where_at e.item.instance e.item.barred e.item.thread.place; value = thread_seat rep e.item }) f says) ∙ is_k)));
   filed = λ rep serial e x says is.
       let one = both _ _ (ap (holds_in i) (same_Some (e.item.number, (e.item.thread, e.item.instance)) x says) ∙ is) in
-      (record { node = e.item.node.index; key = where_at e.item.instance e.item.thread.place; value = thread_seat rep e.item }, (refl, held_filed i e.item.instance e.item.thread.place one.0 one.1));
+      (record { node = e.item.node.index; key = where_at e.item.instance e.item.barred e.item.thread.place; value = thread_seat rep e.item }, (refl, held_filed i e.item.instance e.item.thread.place one.0 one.1));
 }
 
 none_in : (b : Bool) → (b && false) ≡ false
@@ -121,7 +121,7 @@ module _ (a : CoreParts) (sound : IsSound a) where
 
   reads : (r : ℕ) (p : Placed (Single GuestThread)) (f : Filing Where Seat) (x : ℕ × (Thread × ℕ)) → place_at a.threads r ≡ Some p → place_filing r p.serial p.entry ≡ Some f → held_key p.entry ≡ Some x → at_seat a f.value ≡ x.0
   reads r p f x at says key =
-      ap (λ (g : Filing Where Seat). at_seat a g.value) (sym (same_Some (record { node = p.entry.item.node.index; key = where_at p.entry.item.instance p.entry.item.thread.place; value = thread_seat r p.entry.item }) f says))
+      ap (λ (g : Filing Where Seat). at_seat a g.value) (sym (same_Some (record { node = p.entry.item.node.index; key = where_at p.entry.item.instance p.entry.item.barred p.entry.item.thread.place; value = thread_seat r p.entry.item }) f says))
       ∙ (ap (λ o. number_in (key_in thread_key o)) at ∙ ap number_in key)
 
   pub held_members : IsLinks a.places → (i c : ℕ) → place_chain (bare (parts_of a)) (HeldIn i) ≡ Some c → IsMembers (is_held_in i (seen a).core) (of_chain a c)

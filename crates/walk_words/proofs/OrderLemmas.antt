@@ -34,7 +34,7 @@ module _ (a : CoreParts) (sound : IsSound a) where
       by : (s : ℕ) (f : Filing Where Seat) → filings place_filing a.threads s ≡ Some f → f.node ≡ node → (p : Option (Standing (Single GuestThread))) → place_at a.threads s ≡ p → thread_seat r q.entry.item ≡ v
       by s f filed at None here = absurd (let none = sym (filings_at place_filing a.threads s None here) ∙ filed in cc)
       by s f filed at (Some p) here =
-          let says = same_Some (record { node = p.entry.item.node.index; key = where_at p.entry.item.instance p.entry.item.thread.place; value = thread_seat s p.entry.item }) f (sym (filings_at place_filing a.threads s (Some p) here) ∙ filed) in
+          let says = same_Some (record { node = p.entry.item.node.index; key = where_at p.entry.item.instance p.entry.item.barred p.entry.item.thread.place; value = thread_seat s p.entry.item }) f (sym (filings_at place_filing a.threads s (Some p) here) ∙ filed) in
           let is_value : f.value ≡ v = value f (option_and_then (place_chain (bare (parts_of a))) f.key) (sym ((places_filed a sound).has_link s f filed) ∙ (ap (link_of a.places) at ∙ link)) in
           let seat : thread_seat s p.entry.item ≡ v = ap (λ (x : Filing Where Seat). x.value) says ∙ is_value in
           let place : s ≡ v.place = ap (λ (x : Seat). x.place) seat in

@@ -198,7 +198,7 @@ module _ (a : CoreParts) (sound : IsSound a) (c node : ℕ) (v : Seat) (link : l
       by : (r : ℕ) (f : Filing Where Seat) → filings place_filing a.threads r ≡ Some f → f.node ≡ node → (q : Option (Standing (Single GuestThread))) → place_at a.threads r ≡ q → g.node.index ≡ node
       by r f filed at None there = absurd (let none = sym (filings_at place_filing a.threads r None there) ∙ filed in cc)
       by r f filed at (Some q) there =
-          let says = same_Some (record { node = q.entry.item.node.index; key = where_at q.entry.item.instance q.entry.item.thread.place; value = thread_seat r q.entry.item }) f (sym (filings_at place_filing a.threads r (Some q) there) ∙ filed) in
+          let says = same_Some (record { node = q.entry.item.node.index; key = where_at q.entry.item.instance q.entry.item.barred q.entry.item.thread.place; value = thread_seat r q.entry.item }) f (sym (filings_at place_filing a.threads r (Some q) there) ∙ filed) in
           let is_value : f.value ≡ v = value f (option_and_then (place_chain (bare (parts_of a))) f.key) (sym ((places_filed a sound).has_link r f filed) ∙ (ap (link_of a.places) at ∙ link)) in
           let place : r ≡ v.place = ap (λ (x : Filing Where Seat). x.value.place) says ∙ ap (λ (s : Seat). s.place) is_value in
           let number : q.entry.item.number ≡ of_node a node = sym (ap (number_in_link (at_seat a)) link ∙ (ap (at_place a) (sym place) ∙ ap (λ o. number_in (key_in thread_key o)) there)) in

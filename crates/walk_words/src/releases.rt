@@ -79,8 +79,51 @@ fn release_chain(parts: &mut CoreParts, instance: u32, chain: usize)
     }
 }
 
+// The node of the two chains that has the lesser seat, which is the first of one of them: `None` where both are empty.
+fn least_first(parts: &CoreParts, held: usize, starts: usize) -> Option<Node> {
+    match parts.places.first(held) {
+        Some((node, seat)) => match parts.places.first(starts) {
+            Some((other, before)) => Some(if before < seat { other } else { node }),
+            None => Some(node),
+        },
+        None => match parts.places.first(starts) {
+            Some((other, _)) => Some(other),
+            None => None,
+        },
+    }
+}
+
+// Puts all of two chains at high, by their seats.
+#[inline(never)]
+fn release_both(parts: &mut CoreParts, held: usize, starts: usize) {
+    while let Some(node) = least_first(parts, held, starts) {
+        let thread = node_thread(parts, node);
+        put_high(parts, thread);
+    }
+}
+
+// Puts all of the chain at high, from its first on.
+#[inline(never)]
+fn release_all(parts: &mut CoreParts, chain: usize) {
+    while let Some((node, _)) = parts.places.first(chain) {
+        let thread = node_thread(parts, node);
+        put_high(parts, thread);
+    }
+}
+
+// Releases from an instance that is open.
+fn release_open(parts: &mut CoreParts, held: usize, starts: usize, backpressure: u16) {
+    if backpressure == 0 && parts.places.first(starts).is_some() {
+        release_both(parts, held, starts);
+        return;
+    }
+    if parts.places.first(held).is_some() {
+        release_all(parts, held);
+    }
+}
+
 /// Puts the held threads of the instance that are admitted at high, in the order of the places of their calls and of
-/// themselves in the resource table. It looks at all that are held; most instances hold none, which is seen in line.
+/// themselves in the resource table. Where the instance is open it looks at none that stays.
 #[inline(always)]
 pub fn release(parts: &mut CoreParts, instance: u32)
     requires sound { IsSound parts.old }
@@ -90,10 +133,11 @@ pub fn release(parts: &mut CoreParts, instance: u32)
     ensures picks { (order : List ℕ) × (AreInOrder parts.old order × (IsPermutation (admitted_held instance (seen parts.old).core) order × (seen parts.new ≡ on_core (released order) (seen parts.old)))) }
 {
     if let Some(found) = task_records::instance(parts, instance) {
-        let chain = found.held;
-        match parts.places.first(chain) {
-            Some(_) => release_chain(parts, instance, chain),
-            None => {}
+        let (held, starts) = (found.held, found.starts);
+        if found.instance.do_not_enter {
+            release_chain(parts, instance, held);
+        } else {
+            release_open(parts, held, starts, found.instance.backpressure);
         }
     }
 }
