@@ -84,18 +84,18 @@ held_list_is : (i : ℕ) (b : Bool) → held_number (cond b (StartsIn i) (HeldIn
 held_list_is i true = refl
 held_list_is i false = refl
 
-no_list : (i n : ℕ) (w : Where) → IsHeldList n w → {X : Type 0} → ((w ≡ HeldIn n) → X) → ((w ≡ StartsIn n) → X) → X
-no_list i n w (inl same) held starts = held same
-no_list i n w (inr same) held starts = starts same
+no_list : {X : Type 0} (n : ℕ) (w : Where) → IsHeldList n w → (w ≡ HeldIn n → X) → (w ≡ StartsIn n → X) → X
+no_list n w (inl same) held starts = held same
+no_list n w (inr same) held starts = starts same
 
 held_where : (i n : ℕ) (b : Bool) (x : Place) (w : Where) → IsHeldList n w → where_at i b x ≡ Some w → i ≡ n
 held_where i n b Place.New w list is = absurd (cc)
 held_where i n b (Place.Ready m y) w list is = absurd (cc)
 held_where i n b Place.Running w list is = absurd (cc)
-held_where i n b (Place.Under m) w list is = let one = same_Some (UnderOf m) w is in no_list i n w list (λ same. absurd (cc)) (λ same. absurd (cc))
+held_where i n b (Place.Under m) w list is = let one = same_Some (UnderOf m) w is in no_list n w list (λ same. absurd (cc)) (λ same. absurd (cc))
 held_where i n b (Place.Behind m) w list is = absurd (cc)
-held_where i n b (Place.Waiting y by_callback) w list is = let one = same_Some (WaitsOn y) w is in no_list i n w list (λ same. absurd (cc)) (λ same. absurd (cc))
-held_where i n b (Place.Blocked sub) w list is = let one = same_Some (BlockedOn sub) w is in no_list i n w list (λ same. absurd (cc)) (λ same. absurd (cc))
+held_where i n b (Place.Waiting y by_callback) w list is = let one = same_Some (WaitsOn y) w is in no_list n w list (λ same. absurd (cc)) (λ same. absurd (cc))
+held_where i n b (Place.Blocked sub) w list is = let one = same_Some (BlockedOn sub) w is in no_list n w list (λ same. absurd (cc)) (λ same. absurd (cc))
 held_where i n b (Place.Held y) w list is = sym (held_list_is i (b && is_for_start y)) ∙ (ap held_number (same_Some (held_list i b y) w is) ∙ held_number_is n w list)
 held_where i n b Place.Suspended w list is = absurd (cc)
 
