@@ -116,7 +116,7 @@ module _ (p : Parts) (threads : Table (Single GuestThread)) (calls : Table (Sing
     call = ap (λ o. number_in (key_in call_key o)) (same_calls g.task) ∙ h.call;
     there = h.there;
     instance = ap (λ (s : Core). call_instance g.thread.call s) core_same ∙ h.instance;
-    barred = ap (λ (s : Core). bars g.thread.explicit (get s.calls g.thread.call)) core_same ∙ h.barred;
+    barred = ap (is_barred g.thread) core_same ∙ h.barred;
     within = h.within;
     place = at_restored g.beside _ h.place;
     how_far = at_restored g.awaited _ h.how_far;

@@ -82,7 +82,7 @@ module _ (p : Parts) (whole : IsWhole p) (made : ℕ) (sound : SoundTable call_k
       call = at_other h.task h.thread.call other home.call;
       there = home.there;
       instance = ap (λ o. (option_map_or (λ (c : Call). c.callee) o no_callee).instance) (get_other h.thread.call other) ∙ home.instance;
-      barred = ap (bars h.thread.explicit) (get_other h.thread.call other) ∙ home.barred;
+      barred = ap (λ (o : Option Call). not (h.thread.explicit || is_sync (option_map_or (λ (d : Call). d.kind) o ExportKind.Callback))) (get_other h.thread.call other) ∙ home.barred;
       within = home.within;
       place = named_left (kinds p) (kinds less) left h.beside _ home.place;
       how_far = named_left (kinds p) (kinds less) left h.awaited _ home.how_far;

@@ -68,7 +68,7 @@ module _ (p : Parts) (whole : IsWhole p) (made : ℕ) (sound : SoundTable thread
       call = number_alike unthreaded calls p.calls alike (λ (c : GuestTask). c.number) (λ c. refl) (λ (c : GuestTask). c.call) (λ (c : Call). c) (λ c. refl) h.task ∙ home.call;
       there = home.there;
       instance = instance_same h.thread.call ∙ home.instance;
-      barred = ap (λ (m : Records Call). bars h.thread.explicit (get m h.thread.call)) calls_same ∙ home.barred;
+      barred = ap (λ (m : Records Call). not (h.thread.explicit || is_sync (option_map_or (λ (d : Call). d.kind) (get m h.thread.call) ExportKind.Callback))) calls_same ∙ home.barred;
       within = home.within;
       place = named_left (kinds p) (kinds less) left h.beside _ home.place;
       how_far = named_left (kinds p) (kinds less) left h.awaited _ home.how_far;

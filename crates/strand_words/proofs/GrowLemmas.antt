@@ -10,7 +10,7 @@ pub record Grows (p : Parts) (calls : Table (Single GuestTask)) (groups : Table 
   pub stands : (rep n : ℕ) → n ≤ p.made.threads → StandsAt call_key p.calls rep n → StandsAt call_key calls rep n
   pub number : (rep n : ℕ) → HasNumber call_key p.calls rep n → 0 < n → HasNumber call_key calls rep n
   pub instance : (rep n : ℕ) → HasNumber call_key p.calls rep n → 0 < n → call_instance n (core_of (record p { calls = calls })) ≡ call_instance n (core_of p)
-  pub barred : (rep n : ℕ) → HasNumber call_key p.calls rep n → 0 < n → (e : Bool) → bars e (get (core_of (record p { calls = calls })).calls n) ≡ bars e (get (core_of p).calls n)
+  pub kind : (rep n : ℕ) → HasNumber call_key p.calls rep n → 0 < n → kind_of n (core_of (record p { calls = calls })) ≡ kind_of n (core_of p)
   pub group : (rep n : ℕ) → HasNumber group_key p.groups rep n → 0 < n → HasNumber group_key groups rep n
 
 module _ (p : Parts) (g : GuestThread) (threads : SoundTable thread_key p.threads p.made.threads) (next : g.number ≡ p.made.threads + 1) (calls : Table (Single GuestTask)) (groups : Table (Single TaskGroup)) (kept : Kept) (grows : Grows p calls groups) where
@@ -29,7 +29,7 @@ module _ (p : Parts) (g : GuestThread) (threads : SoundTable thread_key p.thread
     call = grows.number h.task h.thread.call home.call home.there;
     there = home.there;
     instance = grows.instance h.task h.thread.call home.call home.there ∙ home.instance;
-    barred = grows.barred h.task h.thread.call home.call home.there h.thread.explicit ∙ home.barred;
+    barred = ap (λ (x : ExportKind). not (h.thread.explicit || is_sync x)) (grows.kind h.task h.thread.call home.call home.there) ∙ home.barred;
     within = home.within;
     place = at_grown h.beside _ home.place;
     how_far = at_grown h.awaited _ home.how_far;

@@ -33,7 +33,7 @@ module _ (p : Parts) (whole : IsWhole p) (tables : AreTables p) (rep : ℕ) (q :
     stands = λ r n early stands some. number_written p.calls rep q at one_more call_key refl r n (stands (subst (λ (o : Option Call). IsSome o) (found_unseen call_key p.calls rep q at (record { item = one_more }) refl n) some));
     number = λ r n has some. number_written p.calls rep q at one_more call_key refl r n has;
     instance = λ r n has some. ap (λ (m : Records Call). (option_map_or (λ (d : Call). d.callee) (get m n) no_callee).instance) calls_same;
-    barred = λ r n has some e. ap (λ (m : Records Call). bars e (get m n)) calls_same;
+    kind = λ r n has some. ap (λ (m : Records Call). option_map_or (λ (d : Call). d.kind) (get m n) ExportKind.Callback) calls_same;
     group = λ r n has some. has;
   }
 
@@ -101,7 +101,7 @@ module _ (p : Parts) (whole : IsWhole p) (tables : AreTables p) (rep : ℕ) (q :
     call = ap (λ o. number_in (key_in call_key o)) (ap (place_at calls_now) is.task ∙ at_written p.calls rep q at one_more) ∙ sym is.of_call;
     there = subst (λ (n : ℕ). 0 < n) (sym is.of_call) (number_positive (λ (c : GuestTask). c.number) (λ (c : GuestTask). c.call) p.calls p.made.threads tables.calls rep q at);
     instance = ap (λ (o : Option Call). (option_map_or (λ (d : Call). d.callee) o no_callee).instance) call_found ∙ sym is.instance;
-    barred = ap (bars g.thread.explicit) call_found ∙ is.barred;
+    barred = ap (λ (o : Option Call). not (g.thread.explicit || is_sync (option_map_or (λ (d : Call). d.kind) o ExportKind.Callback))) call_found ∙ is.barred;
     within = is.within;
     place = subst (λ (x : Place). AtPlace with_member g.beside (place_target x)) (sym is.unplaced) tt;
     how_far = subst (λ (x : HowFar). AtPlace with_member g.awaited (how_far_target x)) (sym is.fresh) tt;

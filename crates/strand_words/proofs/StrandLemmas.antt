@@ -66,9 +66,9 @@ module _ (p : Parts) (whole : IsWhole p) (tables : AreTables p) (c : GuestTask) 
     instance = λ r n has some.
         let within = early_at (λ (d : GuestTask). d.number) (λ (d : GuestTask). d.call) p.calls p.made.threads tables.calls r n has some in
         ap (λ (o : Option Call). (option_map_or (λ (d : Call). d.callee) o no_callee).instance) (get_call n ∙ ap (λ b. cond b (Some c.call) (get (core_of p).calls n)) (ne_eqb n c.number (λ same. omega arith)));
-    barred = λ r n has some e.
+    kind = λ r n has some.
         let within = early_at (λ (d : GuestTask). d.number) (λ (d : GuestTask). d.call) p.calls p.made.threads tables.calls r n has some in
-        ap (bars e) (get_call n ∙ ap (λ b. cond b (Some c.call) (get (core_of p).calls n)) (ne_eqb n c.number (λ same. omega arith)));
+        ap (λ (o : Option Call). option_map_or (λ (d : Call). d.kind) o ExportKind.Callback) (get_call n ∙ ap (λ b. cond b (Some c.call) (get (core_of p).calls n)) (ne_eqb n c.number (λ same. omega arith)));
     group = λ r n has some. number_written p.groups rep q at (record q.entry.item { calls = q.entry.item.calls + 1 }) group_key refl r n has;
   }
 
@@ -77,7 +77,7 @@ module _ (p : Parts) (whole : IsWhole p) (tables : AreTables p) (c : GuestTask) 
     call = ap (λ o. number_in (key_in call_key o)) (ap (place_at after.calls) is.task ∙ at_new p.calls c tables.calls.table) ∙ sym is.first;
     there = let next = is.call_next in let same = is.first in omega arith;
     instance = ap (λ (o : Option Call). (option_map_or (λ (d : Call). d.callee) o no_callee).instance) (get_call g.thread.call ∙ ap (λ b. cond b (Some c.call) (get (core_of p).calls g.thread.call)) (eq-eqb g.thread.call c.number is.first)) ∙ sym is.instance;
-    barred = ap (bars g.thread.explicit) (get_call g.thread.call ∙ ap (λ b. cond b (Some c.call) (get (core_of p).calls g.thread.call)) (eq-eqb g.thread.call c.number is.first)) ∙ is.barred;
+    barred = ap (λ (o : Option Call). not (g.thread.explicit || is_sync (option_map_or (λ (d : Call). d.kind) o ExportKind.Callback))) (get_call g.thread.call ∙ ap (λ b. cond b (Some c.call) (get (core_of p).calls g.thread.call)) (eq-eqb g.thread.call c.number is.first)) ∙ is.barred;
     within = is.within;
     place = subst (λ (x : Place). AtPlace after g.beside (place_target x)) (sym is.unplaced) tt;
     how_far = subst (λ (x : HowFar). AtPlace after g.awaited (how_far_target x)) (sym is.fresh) tt;

@@ -7,6 +7,7 @@ use Rattle.make_words.proofs.MoreLemmas.{IsRows-known, index_more, new_or_old, n
 use Rattle.queue_words.proofs.CallerLemmas.{none_as}
 use Rattle.strand_words.specs.Loose.{AreThreadLoose}
 use Rattle.strand_words.specs.declared.nodes.ThreadNodes.{ThreadNodes}
+use Rattle.task_rules.specs.Places.{is_for_start}
 use Rattle.table_order.specs.declared.seat_links.Seat.{Seat}
 use Rattle.task_records.specs.Places.{thread_seat}
 
@@ -19,7 +20,7 @@ target_of (HeldIn i) = Nothing
 target_of (UnderOf n) = ThreadOf n
 target_of (BlockedOn sub) = subtask_target sub
 
-held_target : (k : Kinds) (rep i : ℕ) (b : Bool) → IsNamedAt k rep (target_of (held_list i b))
+held_target : (k : Kinds) (rep i : ℕ) (b : Bool) → IsNamedAt k rep (target_of (cond b (StartsIn i) (HeldIn i)))
 held_target k rep i true = tt
 held_target k rep i false = tt
 
@@ -32,7 +33,7 @@ names_list k rep i b (Place.Under m) w at is = subst (λ v. IsNamedAt k rep (tar
 names_list k rep i b (Place.Behind m) w at is = absurd (cc)
 names_list k rep i b (Place.Waiting y by_callback) w at is = subst (λ v. IsNamedAt k rep (target_of v)) (same_Some (WaitsOn y) w is) at
 names_list k rep i b (Place.Blocked sub) w at is = subst (λ v. IsNamedAt k rep (target_of v)) (same_Some (BlockedOn sub) w is) at
-names_list k rep i b (Place.Held y) w at is = subst (λ v. IsNamedAt k rep (target_of v)) (same_Some (held_list i (b && is_start y)) w is) (held_target k rep i (b && is_start y))
+names_list k rep i b (Place.Held y) w at is = subst (λ v. IsNamedAt k rep (target_of v)) (same_Some (held_list i b y) w is) (held_target k rep i (b && is_for_start y))
 names_list k rep i b Place.Suspended w at is = absurd (cc)
 
 abbrev pub PlacesNamed : Kinds → Table (Single GuestThread) → Type 0
