@@ -1,15 +1,17 @@
 -- The chain of an instance's held threads has just these.
-use Rattle.task_records.proofs.Core.{[], admitted_held, admitted_permute, ap, bare, bare_thread, Bool, call_instance, cond, Core, entries, eq-eqb, eqb-true, false, Filing, filter, found_permute, found_record_at, get, get-records, has, HasHome, head_of, held_why, HeldIn, instance_of, is_held_in, is_nil, is_some, IsLinks, IsMembers, IsMembers-nothing, IsMembers-walked, IsPermutation, IsSome, IsSound, key_in, List, list_any, map, Node, None, not, number_in, on_item, Option, option_and_then, option_map, option_map_or, parts_of, passes_in, Place, place_at, place_chain, place_filing, Placed, record_found, records, refl, same_Some, seen, slice_get, slice_get-map, Some, subst, sym, Tests, Thread, thread_key, true, Where, where_at, ℕ, ◌&&◌, ◌==◌, ◌||◌, ◌∙◌, ◌∷◌, ◌≡◌}
+use Rattle.task_records.proofs.Core.{[], admitted_held, admitted_permute, ap, ap₂, bare, bare_thread, Bool, call_instance, cond, Core, entries, eq-eqb, eqb-true, false, Filing, filter, found_permute, found_record_at, get, get-records, has, HasHome, held_why, HeldIn, if◌then◌else◌, instance_of, is_barred, is_held_in, is_nil, is_some, IsLinks, IsMembers, IsMembers-nothing, IsMembers-walked, IsPermutation, IsSome, IsSound, key_in, List, list_any, map, Node, None, not, number_in, on_item, Once, Option, option_and_then, option_map, option_map_or, parts_of, passes_in, Place, place_at, place_chain, place_filing, Placed, record_found, records, refl, same_Some, seen, slice_get, slice_get-map, Some, StartsIn, subst, sym, Tests, Thread, thread_key, true, Where, where_at, Why, ℕ, ◌&&◌, ◌++◌, ◌==◌, ◌||◌, ◌∙◌, ◌∷◌, ◌≡◌}
+use Rattle.task_machine.specs.Read.{is_sync}
+use Rattle.task_rules.specs.Places.{is_for_start}
 use Rattle.std.proofs.lemmas.List.Sorted.{list_any-IsPermutation}
 use Rattle.task_records.specs.declared.{instances.InstanceRecord.InstanceRecord, parts.CoreParts.CoreParts, single.Single.Single, threads.GuestThread.GuestThread}
 use Rattle.task_words.specs.Held.{held_in}
-use Rattle.task_records.proofs.HomeLemmas.{bare_instance}
+use Rattle.task_records.proofs.HomeLemmas.{bare_instance, bare_kind}
 use Rattle.task_records.specs.Sound.{bare_instance as bare_record}
 use Rattle.place_words.proofs.FiledLemmas.{places_filed}
 use Rattle.queue_words.proofs.BareLemmas.{place_mapped}
 use Rattle.queue_words.proofs.CallerLemmas.{apart_as, none_as}
-use Rattle.walk_words.specs.Held.{is_admitted}
-use Rattle.walk_words.specs.Walks.{at_seat, of_chain, of_node}
+use Rattle.walk_words.specs.Held.{agrees, held_where, in_list, is_admitted, listed_at, listed_in}
+use Rattle.walk_words.specs.Walks.{at_seat, of_chain}
 use Rattle.table_order.specs.declared.seat_links.Seat.{Seat}
 use Rattle.task_records.specs.Places.{thread_seat}
 
@@ -20,7 +22,7 @@ held_key g = Some (g.item.number, (g.item.thread, (g.item.instance, g.item.barre
 abbrev holds_in : Bool → ℕ → ℕ × (Thread × (ℕ × Bool)) → Bool
 holds_in starts i e = (e.1.1.0 == i) && in_list starts e.1.1.1 (held_why e.1.0.place)
 
-both : (b c : Bool) → (b && c) ≡ true → (b ≡ true) × (c ≡ true)
+pub both : (b c : Bool) → (b && c) ≡ true → (b ≡ true) × (c ≡ true)
 both true true is = (refl, refl)
 both true false is = absurd (cc)
 both false c is = absurd (cc)
@@ -117,6 +119,10 @@ first_is_any f (e ∷ es) (Some d) is = refl
 
 -- ---- Two chains
 
+pub either_nil : (xs ys : List ℕ) → (not (is_nil xs) || not (is_nil ys)) ≡ not (is_nil (xs ++ ys))
+either_nil [] ys = refl
+either_nil (x ∷ xs) ys = refl
+
 has_append : (n : ℕ) (xs ys : List ℕ) → has n (xs ++ ys) ≡ (has n xs || has n ys)
 has_append n [] ys = refl
 has_append n (x ∷ xs) ys = by (n == x) (has_append n xs ys)
@@ -167,7 +173,7 @@ listed_either i n s = by (instance_of n s == i) (get s.threads n)
     by true None = refl
     by true (Some t) = one (is_barred t s) (held_why t.place)
 
-two_members : (i : ℕ) (s : Core) (xs ys : List ℕ) → IsMembers (listed_in false i s) xs → IsMembers (listed_in true i s) ys → IsMembers (is_held_in i s) (xs ++ ys)
+pub two_members : (i : ℕ) (s : Core) (xs ys : List ℕ) → IsMembers (listed_in false i s) xs → IsMembers (listed_in true i s) ys → IsMembers (is_held_in i s) (xs ++ ys)
 two_members i s xs ys a b = record {
   once = once_append xs ys a.once b.once (λ n h. b.are n ∙ listed_apart i n s (sym (a.are n) ∙ h));
   are = λ n. has_append n xs ys ∙ (ap₂ (λ c d. c || d) (a.are n) (b.are n) ∙ listed_either i n s);
@@ -248,20 +254,23 @@ module _ (a : CoreParts) (sound : IsSound a) where
 
   -- in an instance that isn't there nobody is held
   pub nobody_held : (i : ℕ) → None ≡ slice_get a.instances.items i → IsMembers (is_held_in i (seen a).core) []
-  nobody_held i none = IsMembers-nothing (is_held_in i (seen a).core) (λ n. sym (held_is i n (get (records held_key a.threads.places) n) refl) ∙ by n (get (records held_key a.threads.places) n) refl)
+  nobody_held i none = IsMembers-nothing (is_held_in i (seen a).core) (λ n. sym (listed_either i n (seen a).core) ∙ ap₂ (λ c d. c || d) (nowhere false n) (nowhere true n))
     where
       past : (xs : List InstanceRecord) (k : ℕ) → slice_get xs k ≡ None → IsSome (slice_get (map bare_record xs) k) → ⊥
       past [] k is some = absurd (cc)
       past (x ∷ xs) ℕ.zero is some = absurd (cc)
       past (x ∷ xs) (ℕ.suc k) is some = past xs k is some
 
-      off : (n r : ℕ) (t : Thread) (j : ℕ) (o : Option (Placed (Single GuestThread))) → place_at a.threads r ≡ o → key_in held_key o ≡ Some (n, (t, j)) → (b : Bool) → (j == i) ≡ b → (b && is_some (held_why t.place)) ≡ false
-      off n r t j None at is b same = absurd (cc)
-      off n r t j (Some q) at is false same = refl
-      off n r t j (Some q) at is true same =
-          let entry = same_Some (q.entry.item.number, (q.entry.item.thread, q.entry.item.instance)) (n, (t, j)) is in
-          absurd (past a.instances.items i (sym none) (subst (λ k. IsSome (slice_get (map bare_record a.instances.items) k)) (ap (λ (x : ℕ × (Thread × ℕ)). x.1.1) entry ∙ eqb-true j i same) (home_at r q at).within))
+      off : (starts : Bool) (n r : ℕ) (t : Thread) (j : ℕ) (c : Bool) (o : Option (Placed (Single GuestThread))) → place_at a.threads r ≡ o → key_in held_key o ≡ Some (n, (t, (j, c))) → (b : Bool) → (j == i) ≡ b → (b && in_list starts c (held_why t.place)) ≡ false
+      off starts n r t j c None at is b same = absurd (cc)
+      off starts n r t j c (Some q) at is false same = refl
+      off starts n r t j c (Some q) at is true same =
+          let entry = same_Some (q.entry.item.number, (q.entry.item.thread, (q.entry.item.instance, q.entry.item.barred))) (n, (t, (j, c))) is in
+          absurd (past a.instances.items i (sym none) (subst (λ k. IsSome (slice_get (map bare_record a.instances.items) k)) (ap (λ (x : ℕ × (Thread × (ℕ × Bool))). x.1.1.0) entry ∙ eqb-true j i same) (home_at r q at).within))
 
-      by : (n : ℕ) (o : Option (Thread × ℕ)) → get (records held_key a.threads.places) n ≡ o → passes_in (holds_in i) n o ≡ false
-      by n None is = refl
-      by n (Some (t, j)) is = let one = record_found held_key a.threads.places n (t, j) (sym (get-records held_key a.threads.places n) ∙ is) in off n one.0 t j (place_at a.threads one.0) refl one.1 (j == i) refl
+      by : (starts : Bool) (n : ℕ) (o : Option (Thread × (ℕ × Bool))) → get (records held_key a.threads.places) n ≡ o → passes_in (holds_in starts i) n o ≡ false
+      by starts n None is = refl
+      by starts n (Some (t, (j, c))) is = let one = record_found held_key a.threads.places n (t, (j, c)) (sym (get-records held_key a.threads.places n) ∙ is) in off starts n one.0 t j c (place_at a.threads one.0) refl one.1 (j == i) refl
+
+      nowhere : (starts : Bool) (n : ℕ) → listed_in starts i (seen a).core n ≡ false
+      nowhere starts n = sym (held_is starts i n (get (records held_key a.threads.places) n) refl) ∙ by starts n (get (records held_key a.threads.places) n) refl

@@ -6,3 +6,4 @@ pub mod HeldLemmas
 pub mod ReleaseLemmas
 pub mod OrderLemmas
 pub mod CountLemmas
+pub mod AdmitLemmas
