@@ -7,3 +7,4 @@ pub mod ReleaseLemmas
 pub mod OrderLemmas
 pub mod CountLemmas
 pub mod AdmitLemmas
+pub mod MergeLemmas

@@ -3,11 +3,11 @@ use Rattle.std.specs.Ordering.{is_lt}
 use Rattle.std.specs.Prelude.{ℕ, if◌then◌else◌, List, [], ◌∷◌, map}
 use Rattle.table_order.specs.declared.seat_links.Seat.{Seat}
 use Rattle.task_links.specs.Links.{entries}
-use Rattle.task_wait.specs.Sets.{seat_order}
+use Rattle.table_order.specs.Seats.{seat_order}
 use Rattle.task_records.specs.declared.parts.CoreParts.{CoreParts}
 use Rattle.walk_words.specs.Walks.{of_node}
 
-abbrev into : ℕ × Seat → (List (ℕ × Seat) → List (ℕ × Seat)) → List (ℕ × Seat) → List (ℕ × Seat)
+abbrev pub into : ℕ × Seat → (List (ℕ × Seat) → List (ℕ × Seat)) → List (ℕ × Seat) → List (ℕ × Seat)
 into x rest [] = x ∷ rest []
 into x rest (y ∷ ys) = if is_lt (seat_order y.1 x.1) then y ∷ into x rest ys else x ∷ rest (y ∷ ys)
 
