@@ -6,3 +6,5 @@ pub mod HeldLemmas
 pub mod ReleaseLemmas
 pub mod OrderLemmas
 pub mod CountLemmas
+pub mod AdmitLemmas
+pub mod MergeLemmas

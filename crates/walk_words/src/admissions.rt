@@ -84,8 +84,9 @@ pub fn has_admitted(parts: &CoreParts, instance: u32) -> bool
             if found.instance.do_not_enter {
                 return some_admitted(parts, instance, found.held);
             }
-            has_any(parts, found.held)
-                || found.instance.backpressure == 0 && has_any(parts, found.starts)
+            let held = has_any(parts, found.held);
+            let starts = has_any(parts, found.starts);
+            held || found.instance.backpressure == 0 && starts
         }
         None => false,
     }
@@ -106,7 +107,11 @@ pub fn has_held(parts: &CoreParts, instance: u32) -> bool
     ensures { result ≡ not (is_nil (held_in instance (seen parts.now).core)) }
 {
     match task_records::instance(parts, instance) {
-        Some(found) => has_any(parts, found.held) || has_any(parts, found.starts),
+        Some(found) => {
+            let held = has_any(parts, found.held);
+            let starts = has_any(parts, found.starts);
+            held || starts
+        }
         None => false,
     }
 }

@@ -1,0 +1,53 @@
+-- Two chains, of which always the node of the lesser seat leaves.
+use Rattle.task_records.proofs.Core.{[], ap, Bool, cond, entries, false, has, head_of, IsLinks, IsSome, link_of, List, list_of, map, None, Option, option_map, refl, removed, Some, subst, sym, true, ℕ, ◌==◌, ◌||◌, ◌∙◌, ◌∷◌, ◌≡◌}
+use Rattle.std.specs.Ordering.{is_lt}
+use Rattle.table_order.specs.Seats.{seat_order}
+use Rattle.table_order.specs.declared.seat_links.Seat.{Seat}
+use Rattle.walk_words.specs.Merged.{into, merged}
+
+abbrev comes_before : ℕ × Seat → ℕ × Seat → Bool
+comes_before y x = is_lt (seat_order y.1 x.1)
+
+pub merged_nil : (xs : List (ℕ × Seat)) → merged xs [] ≡ xs
+merged_nil [] = refl
+merged_nil (x ∷ xs) = ap (λ (l : List (ℕ × Seat)). x ∷ l) (merged_nil xs)
+
+-- the first of the one list leads where the first of the other doesn't come before it
+pub left_leads : (x y : ℕ × Seat) (xs ys : List (ℕ × Seat)) → comes_before y x ≡ false → merged (x ∷ xs) (y ∷ ys) ≡ x ∷ merged xs (y ∷ ys)
+left_leads x y xs ys off = ap (λ b. cond b (y ∷ merged (x ∷ xs) ys) (x ∷ merged xs (y ∷ ys))) off
+
+pub right_leads : (x y : ℕ × Seat) (xs ys : List (ℕ × Seat)) → comes_before y x ≡ true → merged (x ∷ xs) (y ∷ ys) ≡ y ∷ merged (x ∷ xs) ys
+right_leads x y xs ys on = ap (λ b. cond b (y ∷ merged (x ∷ xs) ys) (x ∷ merged xs (y ∷ ys))) on
+
+-- what leads the two is the first of one of them, and the rest is what the others are
+pub data Leads : ℕ × Seat → (xs ys rest : List (ℕ × Seat)) → Type 0 where
+  FromLeft : (x : ℕ × Seat) (xs ys : List (ℕ × Seat)) → Leads x (x ∷ xs) ys (merged xs ys)
+  FromRight : (y : ℕ × Seat) (xs ys : List (ℕ × Seat)) → Leads y xs (y ∷ ys) (merged xs ys)
+
+-- the numbers of both lists are those of the merged one
+pub has_merged : (f : ℕ × Seat → ℕ) (n : ℕ) (xs ys : List (ℕ × Seat)) → has n (map f (merged xs ys)) ≡ (has n (map f xs) || has n (map f ys))
+has_merged f n [] ys = refl
+has_merged f n (x ∷ xs) ys = by ys
+  where
+    by : (zs : List (ℕ × Seat)) → has n (map f (merged (x ∷ xs) zs)) ≡ (has n (map f (x ∷ xs)) || has n (map f zs))
+    by [] = ap (λ b. (n == f x) || b) (has_merged f n xs []) ∙ regroup (n == f x) (has n (map f xs)) false
+      where
+        regroup : (a b c : Bool) → (a || (b || c)) ≡ ((a || b) || c)
+        regroup true b c = refl
+        regroup false b c = refl
+    by (z ∷ zs) = go (comes_before z x) refl
+      where
+        regroup : (a b c : Bool) → (a || (b || c)) ≡ ((a || b) || c)
+        regroup true b c = refl
+        regroup false b c = refl
+
+        turn : (a b c d : Bool) → (d || ((a || b) || c)) ≡ ((a || b) || (d || c))
+        turn true b c true = refl
+        turn true b c false = refl
+        turn false true c true = refl
+        turn false true c false = refl
+        turn false false c d = refl
+
+        go : (b : Bool) → comes_before z x ≡ b → has n (map f (merged (x ∷ xs) (z ∷ zs))) ≡ (has n (map f (x ∷ xs)) || has n (map f (z ∷ zs)))
+        go true on = ap (λ l. has n (map f l)) (right_leads x z xs zs on) ∙ (ap (λ b. (n == f z) || b) (by zs) ∙ turn (n == f x) (has n (map f xs)) (has n (map f zs)) (n == f z))
+        go false off = ap (λ l. has n (map f l)) (left_leads x z xs zs off) ∙ (ap (λ b. (n == f x) || b) (has_merged f n xs (z ∷ zs)) ∙ regroup (n == f x) (has n (map f xs)) (has n (map f (z ∷ zs))))
