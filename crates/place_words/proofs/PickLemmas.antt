@@ -34,7 +34,7 @@ module _ (a : CoreParts) (sound : IsSound a) (rep serial : ℕ) (x : WaitSet) (i
   link_of_waiter : (r : ℕ) (q : Placed (Single GuestThread)) → place_at a.threads r ≡ Some q → is_waiting_on x.number q.entry.item.thread.place ≡ true → link_of a.places q.entry.item.node.index ≡ Some (x.waiters, thread_seat r q.entry.item)
   link_of_waiter r q at waits =
       (places_filed a sound).has_link r _ (filings_at place_filing a.threads r (Some q) at)
-      ∙ (ap (λ k. option_map (λ c. (c, thread_seat r q.entry.item)) (option_and_then (place_chain (bare (parts_of a))) k)) (waits_filed x.number q.entry.item.instance q.entry.item.thread.place waits)
+      ∙ (ap (λ k. option_map (λ c. (c, thread_seat r q.entry.item)) (option_and_then (place_chain (bare (parts_of a))) k)) (waits_filed x.number q.entry.item.instance q.entry.item.barred q.entry.item.thread.place waits)
       ∙ ap (option_map (λ c. (c, thread_seat r q.entry.item))) (waiters_chain a sound rep serial x is))
 
   pub least_waiter : IsLinks a.places → AreLinked a.places x.waiters (entries a.places x.waiters) → IsLeast seat_order v (entries a.places x.waiters) → (n : ℕ) → x.number ≡ n → (id : TableId ThreadKey) → thread_of (seen a) id ≡ number_in (record_at thread_key a.threads.places v.place) → IsLeastWaiter a n id

@@ -1,4 +1,4 @@
-ghost use Rattle.std.specs.Prelude.{◌≡◌, IsSome, None, Ok, Some, option_map, ℕ};
+ghost use Rattle.std.specs.Prelude.{◌≡◌, Bool, IsSome, None, Ok, Some, option_map, ℕ};
 ghost use Rattle.task_links.specs.Links.{removed};
 ghost use Rattle.task_machine.specs.Moves.{held_why_of, ready_why, stand, why_of};
 ghost use Rattle.task_machine.specs.Read.{place_of};

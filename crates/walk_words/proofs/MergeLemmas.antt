@@ -1,5 +1,5 @@
 -- Two chains, of which always the node of the lesser seat leaves.
-use Rattle.task_records.proofs.Core.{[], ap, Bool, cond, entries, false, has, head_of, IsLinks, IsSome, link_of, List, list_of, map, None, Option, option_map, refl, removed, Some, subst, sym, true, ℕ, ◌==◌, ◌||◌, ◌∙◌, ◌∷◌, ◌≡◌}
+use Rattle.task_records.proofs.Core.{[], ap, Bool, cond, eq-eqb, false, has, List, map, Once, refl, subst, sym, true, ℕ, ◌==◌, ◌||◌, ◌∙◌, ◌∷◌, ◌≡◌}
 use Rattle.std.specs.Ordering.{is_lt}
 use Rattle.table_order.specs.Seats.{seat_order}
 use Rattle.table_order.specs.declared.seat_links.Seat.{Seat}
@@ -51,3 +51,40 @@ has_merged f n (x ∷ xs) ys = by ys
         go : (b : Bool) → comes_before z x ≡ b → has n (map f (merged (x ∷ xs) (z ∷ zs))) ≡ (has n (map f (x ∷ xs)) || has n (map f (z ∷ zs)))
         go true on = ap (λ l. has n (map f l)) (right_leads x z xs zs on) ∙ (ap (λ b. (n == f z) || b) (by zs) ∙ turn (n == f x) (has n (map f xs)) (has n (map f zs)) (n == f z))
         go false off = ap (λ l. has n (map f l)) (left_leads x z xs zs off) ∙ (ap (λ b. (n == f x) || b) (has_merged f n xs (z ∷ zs)) ∙ regroup (n == f x) (has n (map f xs)) (has n (map f (z ∷ zs))))
+
+-- who is in neither list twice, and in one of them alone, is once in the merged one
+pub once_merged : (f : ℕ × Seat → ℕ) (xs ys : List (ℕ × Seat)) → Once (map f xs) → Once (map f ys) → ((n : ℕ) → has n (map f xs) ≡ true → has n (map f ys) ≡ false) → Once (map f (merged xs ys))
+once_merged f [] ys a b apart = b
+once_merged f (x ∷ xs) ys a b apart = by ys b apart
+  where
+    own : (n : ℕ) (l : List ℕ) → has n (n ∷ l) ≡ true
+    own n l = ap (λ b. b || has n l) (eq-eqb n n refl)
+
+    later : (b c : Bool) → c ≡ true → (b || c) ≡ true
+    later true c h = refl
+    later false c h = h
+
+    by : (zs : List (ℕ × Seat)) → Once (map f zs) → ((n : ℕ) → has n (map f (x ∷ xs)) ≡ true → has n (map f zs) ≡ false) → Once (map f (merged (x ∷ xs) zs))
+    by [] b apart = (has_merged f (f x) xs [] ∙ (ap (λ c. c || false) a.0), once_merged f xs [] a.1 b (λ n h. refl))
+    by (z ∷ zs) b apart = go (comes_before z x) refl
+      where
+        split : (c d : Bool) → (c || d) ≡ false → (c ≡ false) × (d ≡ false)
+        split false false h = (refl, refl)
+        split true d h = absurd (cc)
+        split false true h = absurd (cc)
+
+        -- what the other list has isn't in this one
+        turned : (n : ℕ) → has n (map f (z ∷ zs)) ≡ true → has n (map f (x ∷ xs)) ≡ false
+        turned n h = back (has n (map f (x ∷ xs))) refl
+          where
+            back : (c : Bool) → has n (map f (x ∷ xs)) ≡ c → has n (map f (x ∷ xs)) ≡ false
+            back false is = is
+            back true is = absurd (let off = apart n is in cc)
+
+        go : (c : Bool) → comes_before z x ≡ c → Once (map f (merged (x ∷ xs) (z ∷ zs)))
+        go true on = subst (λ l. Once (map f l)) (sym (right_leads x z xs zs on)) (
+            has_merged f (f z) (x ∷ xs) zs ∙ (ap (λ c. c || has (f z) (map f zs)) (turned (f z) (own (f z) (map f zs))) ∙ b.0),
+            by zs b.1 (λ n h. (split _ _ (apart n h)).1))
+        go false off = subst (λ l. Once (map f l)) (sym (left_leads x z xs zs off)) (
+            has_merged f (f x) xs (z ∷ zs) ∙ (ap (λ c. c || has (f x) (map f (z ∷ zs))) a.0 ∙ apart (f x) (own (f x) (map f xs))),
+            once_merged f xs (z ∷ zs) a.1 b (λ n h. apart n (later (n == f x) (has n (map f xs)) h)))
