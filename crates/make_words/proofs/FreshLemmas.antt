@@ -1,5 +1,5 @@
 -- A number that was not made yet: no record names it, so that nothing is filed or counted under it.
-use Rattle.task_records.proofs.Core.{[], ap, ap₂, AreApart, arith, BlockedOn, Bool, cond, Delivery, EachEntry, eq-eqb, false, found_record, HeldIn, how_far_target, HowFar, is_delivery_for, is_in_set, is_inside_wait, is_resumption, IsNamedAt, IsTable, Join, join_target, keeps_set, key_in, Kinds, List, nat_lt, ne_eqb, next_place, None, none_in_records, Option, passing, Place, place_at, place_at-pushed, place_target, Placed, pushed, PutsRecord, PutsRecord-pushed, ready_in, record_at, records, refl, same_Some, Some, Status, subst, sym, Table, Thread, true, UnderOf, WaitsOn, Where, where_at, Why, why_target, ℕ, ◌&&◌, ◌<◌, ◌==◌, ◌||◌, ◌∙◌, ◌∷◌, ◌≡◌, ◌≤◌}
+use Rattle.task_records.proofs.Core.{[], ap, ap₂, AreApart, arith, BlockedOn, Bool, cond, Delivery, EachEntry, eq-eqb, false, found_record, HeldIn, how_far_target, HowFar, is_delivery_for, is_in_set, is_inside_wait, is_resumption, IsNamedAt, IsTable, Join, join_target, keeps_set, key_in, Kinds, List, nat_lt, ne_eqb, next_place, None, none_in_records, Option, passing, Place, place_at, place_at-pushed, place_target, Placed, pushed, PutsRecord, PutsRecord-pushed, ready_in, record_at, records, refl, same_Some, Some, Status, subst, sym, Table, Thread, true, UnderOf, WaitsOn, Where, where_at, Why, why_target, ℕ, ◌&&◌, ◌<◌, ◌==◌, ◌||◌, ◌∙◌, ◌∷◌, ◌≡◌, ◌≤◌, StartsIn, held_list}
 use Rattle.task_rules.specs.Places.{is_for_start}
 use Rattle.task_records.specs.declared.{single.Single.Single}
 use Rattle.task_records.proofs.KeptLemmas.{any_passing}

@@ -1,5 +1,5 @@
 -- Parts without one call, of which no thread is left and which is in no set: they are whole.
-use Rattle.task_records.proofs.Core.{ap, AreChained, AreCounted, arith, BlockedOn, Bool, Call, call_key, calls_of, cases_eq, cond, core_of, deleted, EachEntry, entry_of, false, filings, filter, get, get-remove, group_key, HasHome, HasNumber, HeldIn, inl, inr, is_in_set, IsCallNamed, IsGroupKept, IsWhole, IsWorkNamed, item_at, item_of, Join, key_in, kinds, length, List, nat_lt, ne_eqb, no_callee, None, number_in, Ok, one_if_passes, option_map_or, Parts, passing, passing-with_at, place_at, place_at-deleted, place_chain, place_filing, Placed, ready_call, ready_call_chain, ready_in, record_at, Records, refl, remove, Some, SoundTable, Spot, subst, Subtask, sym, Table, table_use, ThreadOf, true, UnderOf, WaitsOn, Where, ℕ, ◌+◌, ◌==◌, ◌∙◌, ◌≡◌, ◌⊎◌, StartsIn}
+use Rattle.task_records.proofs.Core.{ap, AreChained, AreCounted, arith, BlockedOn, Bool, Call, call_key, calls_of, cases_eq, cond, core_of, deleted, EachEntry, entry_of, false, filings, filter, get, get-remove, group_key, HasHome, HasNumber, HeldIn, inl, inr, is_in_set, IsCallNamed, IsGroupKept, IsWhole, IsWorkNamed, item_at, item_of, Join, key_in, kinds, length, List, nat_lt, ne_eqb, no_callee, None, number_in, Ok, one_if_passes, option_map_or, Parts, passing, passing-with_at, place_at, place_at-deleted, place_chain, place_filing, Placed, ready_call, ready_call_chain, ready_in, record_at, Records, refl, remove, Some, SoundTable, Spot, subst, Subtask, sym, Table, table_use, ThreadOf, true, UnderOf, WaitsOn, Where, ℕ, ◌+◌, ◌==◌, ◌∙◌, ◌≡◌, ◌⊎◌, StartsIn, is_sync, not, ◌||◌, ExportKind, Option}
 use Rattle.task_records.specs.declared.{calls.GuestTask.GuestTask, calls.TaskGroup.TaskGroup, parts.Kept.Kept, single.Single.Single, threads.GuestThread.GuestThread, works.HostWork.HostWork}
 use Rattle.place_words.proofs.AlikeLemmas.{number_alike}
 use Rattle.place_words.proofs.FiledLemmas.{kept_under}

@@ -1,5 +1,5 @@
 -- A thread more of a call that is there: the parts stay whole.
-use Rattle.task_records.proofs.Core.{ap, AreChained, AreCounted, AreTables, arith, AtPlace, blocked_key, BlockedOn, Bool, Call, call_key, core_of, EachEntry, eq-eqb, filings, found_record, found_record_at, get, get-records, HasHome, HaveRowNodes, HeldIn, how_far_target, HowFar, is_in_set, IsCallKept, IsCallNamed, IsIndex-same_chains, IsIndex-with_entry_same, IsSetKept, IsSome, IsWhole, keeps_set, key_in, kinds, ne_eqb, no_callee, number_in, one_if_passes, Option, option_map_or, Parts, passing, Place, place_at, place_chain, place_filing, place_target, Placed, pushed, ready_call, ready_call_chain, Records, records, refl, size, Some, subst, Subtask, sym, Table, table_use, Thread, UnderOf, WaitsOn, Where, where_at, with_entry, ℕ, ◌+◌, ◌<◌, ◌==◌, ◌∙◌, ◌≡◌, StartsIn}
+use Rattle.task_records.proofs.Core.{ap, AreChained, AreCounted, AreTables, arith, AtPlace, blocked_key, BlockedOn, Bool, Call, call_key, core_of, EachEntry, eq-eqb, filings, found_record, found_record_at, get, get-records, HasHome, HaveRowNodes, HeldIn, how_far_target, HowFar, is_in_set, IsCallKept, IsCallNamed, IsIndex-same_chains, IsIndex-with_entry_same, IsSetKept, IsSome, IsWhole, keeps_set, key_in, kinds, ne_eqb, no_callee, number_in, one_if_passes, Option, option_map_or, Parts, passing, Place, place_at, place_chain, place_filing, place_target, Placed, pushed, ready_call, ready_call_chain, Records, records, refl, size, Some, subst, Subtask, sym, Table, table_use, Thread, UnderOf, WaitsOn, Where, where_at, with_entry, ℕ, ◌+◌, ◌<◌, ◌==◌, ◌∙◌, ◌≡◌, StartsIn, is_sync, not, ◌||◌, ExportKind}
 use Rattle.task_records.specs.declared.{calls.GuestTask.GuestTask, sets.WaitSet.WaitSet, single.Single.Single, threads.GuestThread.GuestThread}
 use Rattle.make_words.proofs.MoreLemmas.{at_written, each_but, number_written, passing_more, size_more}
 use Rattle.queue_words.proofs.BareLemmas.{number_positive, one_place}

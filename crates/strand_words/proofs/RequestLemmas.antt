@@ -1,5 +1,5 @@
 -- The records that a request makes are a call and its first thread.
-use Rattle.task_records.proofs.Core.{add_call, add_thread, ap, ap₂, AtPlace, bare, bare_call, bare_instance, bare_thread, Bool, Call, call_instance, caller_target, cond, Core, eq-eqb, false, get, get-insert, Goal, handle_table, HasRoom, instance_of, is_some, IsSome, List, named_of, new_call, new_thread, next_place, next_place-mapped, no_callee, None, on_item, Option, option_map, option_map_or, parts_of, refl, Script, seen, slice_get, slice_get-map, Some, subst, sym, Thread, true, ℕ, ◌+◌, ◌∙◌, ◌≡◌}
+use Rattle.task_records.proofs.Core.{add_call, add_thread, ap, ap₂, AtPlace, bare, bare_call, bare_instance, bare_thread, Bool, Call, call_instance, caller_target, cond, Core, eq-eqb, false, get, get-insert, Goal, handle_table, HasRoom, instance_of, is_some, IsSome, List, named_of, new_call, new_thread, next_place, next_place-mapped, no_callee, None, on_item, Option, option_map, option_map_or, parts_of, refl, Script, seen, slice_get, slice_get-map, Some, subst, sym, Thread, true, ℕ, ◌+◌, ◌∙◌, ◌≡◌, is_sync, not, ◌||◌}
 use Rattle.task_records.specs.declared.{calls.GuestTask.GuestTask, instances.InstanceRecord.InstanceRecord, parts.CoreParts.CoreParts, threads.GuestThread.GuestThread}
 use Rattle.strand_words.specs.Member.{IsMember}
 use Rattle.strand_words.specs.Strand.{IsStrand}

@@ -1,5 +1,5 @@
 -- A call more and its thread, whose nodes and chains hung on nothing: the parts stay whole.
-use Rattle.task_records.proofs.Core.{ap, AreChained, AreTables, arith, AtPlace, Call, call_key, cond, core_of, eq-eqb, get, group_key, HasHome, HaveRowNodes, how_far_target, HowFar, IsCallNamed, IsWhole, Join, join_target, key_in, kinds, ne_eqb, no_callee, number_in, Option, option_map_or, Parts, Place, place_at, place_target, Placed, pushed, ready_in, refl, Some, Status, subst, sym, thread_key, where_at, ℕ, ◌+◌, ◌<◌, ◌==◌, ◌∙◌, ◌≡◌}
+use Rattle.task_records.proofs.Core.{ap, AreChained, AreTables, arith, AtPlace, Call, call_key, cond, core_of, eq-eqb, get, group_key, HasHome, HaveRowNodes, how_far_target, HowFar, IsCallNamed, IsWhole, Join, join_target, key_in, kinds, ne_eqb, no_callee, number_in, Option, option_map_or, Parts, Place, place_at, place_target, Placed, pushed, ready_in, refl, Some, Status, subst, sym, thread_key, where_at, ℕ, ◌+◌, ◌<◌, ◌==◌, ◌∙◌, ◌≡◌, is_sync, not, ◌||◌, ExportKind}
 use Rattle.task_records.specs.declared.{calls.GuestTask.GuestTask, calls.TaskGroup.TaskGroup, single.Single.Single, threads.GuestThread.GuestThread}
 use Rattle.make_words.proofs.FreshLemmas.{each_more}
 use Rattle.make_words.proofs.MoreLemmas.{at_new, early_at, get_more, number_stays, number_written}

@@ -1,5 +1,5 @@
 -- A thread more, whose nodes and chains hung on nothing: the chains and the nodes of the parts.
-use Rattle.task_records.proofs.Core.{[], ap, AreApart, AreChained, arith, BlockedOn, callers_chain, callers_row, cases_eq, chained, EachEntry, Entry, entry_seated, Filing, filings, follower, found_record, HaveRowNodes, HeldIn, inl, inr, IsFollower, IsNamedAt, IsRows-opened, IsSeated, IsTable, Kinds, list_or_nil, map, None, Nothing, Option, Parts, Place, place_at, place_chain, place_filing, place_target, Placed, pushed, refl, said, same_Some, SetOf, Some, subst, Subtask, subtask_target, sym, Table, Target, thread_entry, thread_key, ThreadOf, UnderOf, WaitsOn, Where, where_at, ℕ, ◌<◌, ◌∙◌, ◌≡◌, ◌⊎◌, StartsIn}
+use Rattle.task_records.proofs.Core.{[], ap, AreApart, AreChained, arith, BlockedOn, callers_chain, callers_row, cases_eq, chained, EachEntry, Entry, entry_seated, Filing, filings, follower, found_record, HaveRowNodes, HeldIn, inl, inr, IsFollower, IsNamedAt, IsRows-opened, IsSeated, IsTable, Kinds, list_or_nil, map, None, Nothing, Option, Parts, Place, place_at, place_chain, place_filing, place_target, Placed, pushed, refl, said, same_Some, SetOf, Some, subst, Subtask, subtask_target, sym, Table, Target, thread_entry, thread_key, ThreadOf, UnderOf, WaitsOn, Where, where_at, ℕ, ◌<◌, ◌∙◌, ◌≡◌, ◌⊎◌, StartsIn, held_list, ◌&&◌, Bool, true, false, cond}
 use Rattle.task_records.specs.declared.{single.Single.Single, threads.Follower.Follower, threads.GuestThread.GuestThread, threads.Queued.Queued}
 use Rattle.make_words.proofs.FreshLemmas.{chain_new, chain_other}
 use Rattle.make_words.proofs.LooseLemmas.{IsIndex-opened}
