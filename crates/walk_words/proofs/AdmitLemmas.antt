@@ -40,7 +40,7 @@ module _ (i : ℕ) (s : Core) (n : ℕ) where
 
   -- in an instance that is open all that aren't barred are admitted
   pub other_admitted : may_not_enter i s ≡ false → listed_in false i s n ≡ true → is_admitted i s n ≡ true
-  other_admitted open h = by (get s.threads n) refl h
+  other_admitted entered_is h = by (get s.threads n) refl h
     where
       by : (o : Option Thread) → get s.threads n ≡ o → ((instance_of n s == i) && listed_at false s o) ≡ true → is_admitted i s n ≡ true
       by None e h = absurd (never (instance_of n s == i) h)
@@ -50,7 +50,7 @@ module _ (i : ℕ) (s : Core) (n : ℕ) where
           never false h = cc
       by (Some t) e h =
           let two = both _ _ h in
-          let entered : may_not_enter (instance_of n s) s ≡ false = ap (λ k. may_not_enter k s) (eqb-true (instance_of n s) i two.0) ∙ open in
+          let entered : may_not_enter (instance_of n s) s ≡ false = ap (λ k. may_not_enter k s) (eqb-true (instance_of n s) i two.0) ∙ entered_is in
           ap (λ (o : Option Thread). is_held_admitted i s n (option_and_then held_why (option_map (λ (t : Thread). t.place) o))) e ∙ entry (held_why t.place) two.0 entered two.1
         where
           entry : (w : Option Why) → (instance_of n s == i) ≡ true → may_not_enter (instance_of n s) s ≡ false → in_list false (is_barred t s) w ≡ true → is_held_admitted i s n w ≡ true
@@ -90,10 +90,10 @@ module _ (i : ℕ) (s : Core) (n : ℕ) where
 module _ (i : ℕ) (s : Core) (xs ys : List ℕ) (others : (n : ℕ) → has n xs ≡ listed_in false i s n) (starts : (n : ℕ) → has n ys ≡ listed_in true i s n) where
   -- where the instance is open, some are admitted just where some aren't barred, or some are and no backpressure is
   pub any_open : may_not_enter i s ≡ false → list_any (is_admitted i s) (xs ++ ys) ≡ (not (is_nil xs) || ((backpressure_of i s == 0) && not (is_nil ys)))
-  any_open open =
+  any_open entered_is =
       list_any-append (is_admitted i s) xs ys
-      ∙ (ap (λ b. b || list_any (is_admitted i s) ys) (all_as (is_admitted i s) true xs (λ n h. other_admitted i s n open (sym (others n) ∙ h)))
-      ∙ ap (λ b. not (is_nil xs) || b) (all_as (is_admitted i s) (backpressure_of i s == 0) ys (λ n h. barred_admitted i s n (sym (starts n) ∙ h) ∙ ap (λ b. not b && (backpressure_of i s == 0)) open)))
+      ∙ (ap (λ b. b || list_any (is_admitted i s) ys) (all_as (is_admitted i s) true xs (λ n h. other_admitted i s n entered_is (sym (others n) ∙ h)))
+      ∙ ap (λ b. not (is_nil xs) || b) (all_as (is_admitted i s) (backpressure_of i s == 0) ys (λ n h. barred_admitted i s n (sym (starts n) ∙ h) ∙ ap (λ b. not b && (backpressure_of i s == 0)) entered_is)))
 
   -- where it is shut, no barred one is
   pub any_shut : may_not_enter i s ≡ true → list_any (is_admitted i s) (xs ++ ys) ≡ list_any (is_admitted i s) xs

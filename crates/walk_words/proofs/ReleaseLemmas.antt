@@ -163,13 +163,13 @@ module _ {P : Type 0} (i : ℕ) (s : StateView) (all : List ℕ) (a : CoreParts)
       }
 
 -- the walk begins
-pub release_begins : {P : Type 0} (i : ℕ) (a : CoreParts) (left : List (ℕ × P)) → Placed (seen a).core → IsMembers (is_held_in i (seen a).core) (map (λ e. of_node a e.0) left) → Releases i (seen a) (map (λ e. of_node a e.0) left) a left
-release_begins i a left placed members = record {
+pub release_begins : {P : Type 0} (i : ℕ) (a : CoreParts) (left : List (ℕ × P)) → Placed (seen a).core → Once (map (λ e. of_node a e.0) left) → ((n : ℕ) → has n (map (λ e. of_node a e.0) left) ≡ true → is_held_in i (seen a).core n ≡ true) → Releases i (seen a) (map (λ e. of_node a e.0) left) a left
+release_begins i a left placed once held = record {
   again = refl;
   calls = refl;
   instances = refl;
-  once = members.once;
-  untouched = λ n there. record { thread = refl; unqueued = held_unqueued i n (seen a).core placed (sym (members.are n) ∙ there) };
+  once = once;
+  untouched = λ n there. record { thread = refl; unqueued = held_unqueued i n (seen a).core placed (held n there) };
 }
 
 -- the numbers of the nodes that are left stay, where another one left

@@ -86,7 +86,7 @@ pub fn has_admitted(parts: &CoreParts, instance: u32) -> bool
             }
             let held = has_any(parts, found.held);
             let starts = has_any(parts, found.starts);
-            held || found.instance.backpressure == 0 && starts
+            held | ((found.instance.backpressure == 0) & starts)
         }
         None => false,
     }
@@ -110,7 +110,7 @@ pub fn has_held(parts: &CoreParts, instance: u32) -> bool
         Some(found) => {
             let held = has_any(parts, found.held);
             let starts = has_any(parts, found.starts);
-            held || starts
+            held | starts
         }
         None => false,
     }
