@@ -8,3 +8,5 @@ pub mod OrderLemmas
 pub mod CountLemmas
 pub mod AdmitLemmas
 pub mod MergeLemmas
+pub mod MergeOrderLemmas
+pub mod BothLemmas

@@ -120,7 +120,7 @@ module _ {P : Type 0} (i : ℕ) (s : StateView) (all : List ℕ) (a : CoreParts)
     here_untouched : IsUntouched (of_node a e.0) s.core (seen a).core
     here_untouched = was.untouched (of_node a e.0) (ap (λ b. b || has (of_node a e.0) (numbers a l)) (eq-eqb (of_node a e.0) (of_node a e.0) refl))
 
-    admitted_is : is_admitted i (seen a).core (of_node a e.0) ≡ is_admitted i s.core (of_node a e.0)
+    pub admitted_is : is_admitted i (seen a).core (of_node a e.0) ≡ is_admitted i s.core (of_node a e.0)
     admitted_is = same_admitted i (of_node a e.0) s.core (seen a).core here_untouched.thread was.calls was.instances
 
     later : (n : ℕ) → has n (numbers a l) ≡ true → IsUntouched n s.core (seen a).core

@@ -20,7 +20,7 @@ ghost use Rattle.walk_words.specs.Order.{AreInOrder};
 ghost use Rattle.walk_words.specs.Walks.{at_place, of_chain, of_node};
 
 use crate::admissions::is_admitted;
-use crate::chains::node_thread;
+use crate::chains::{node_thread, nodes_have_seats};
 use place_words::unhold;
 use queue_words::push_high;
 use task_records::{CoreParts, Node};
@@ -113,6 +113,9 @@ fn release_both(parts: &mut CoreParts, instance: u32, chain: usize, other: usize
     ensures picks { AreInOrder parts.old (of_both parts.old chain other) }
     ensures new { seen parts.new ≡ on_core (released (of_both parts.old chain other)) (seen parts.old) }
 {
+    nodes_have_seats(parts, chain);
+    nodes_have_seats(parts, other);
+    parts.places.chains_are_ordered();
     while let Some(node) = first_of(parts, chain, other) {
         release_node(parts, instance, node);
     }
