@@ -123,7 +123,7 @@ pub either_nil : (xs ys : List ℕ) → (not (is_nil xs) || not (is_nil ys)) ≡
 either_nil [] ys = refl
 either_nil (x ∷ xs) ys = refl
 
-has_append : (n : ℕ) (xs ys : List ℕ) → has n (xs ++ ys) ≡ (has n xs || has n ys)
+pub has_append : (n : ℕ) (xs ys : List ℕ) → has n (xs ++ ys) ≡ (has n xs || has n ys)
 has_append n [] ys = refl
 has_append n (x ∷ xs) ys = by (n == x) (has_append n xs ys)
   where
@@ -141,7 +141,7 @@ once_append (x ∷ xs) ys a b apart = (
     later true c h = refl
     later false c h = h
 
-listed_apart : (i n : ℕ) (s : Core) → listed_in false i s n ≡ true → listed_in true i s n ≡ false
+pub listed_apart : (i n : ℕ) (s : Core) → listed_in false i s n ≡ true → listed_in true i s n ≡ false
 listed_apart i n s h = by (instance_of n s == i) (get s.threads n) h
   where
     one : (b : Bool) (w : Option Why) → in_list false b w ≡ true → in_list true b w ≡ false

@@ -10,3 +10,4 @@ pub mod AdmitLemmas
 pub mod MergeLemmas
 pub mod MergeOrderLemmas
 pub mod BothLemmas
+pub mod HeldOrderLemmas

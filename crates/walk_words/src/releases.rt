@@ -139,6 +139,7 @@ fn release_some(
     ensures new { (order : List ℕ) × (IsPermutation (admitted_held instance (seen parts.old).core) order × (seen parts.new ≡ on_core (released order) (seen parts.old))) }
     ensures picks { (order : List ℕ) × (AreInOrder parts.old order × (IsPermutation (admitted_held instance (seen parts.old).core) order × (seen parts.new ≡ on_core (released order) (seen parts.old)))) }
 {
+    parts.places.no_node_is_twice();
     if kept_out || parts.places.first(starts).is_none() {
         release_chain(parts, instance, held);
         return;
@@ -162,7 +163,7 @@ pub fn release(parts: &mut CoreParts, instance: u32)
 {
     if let Some(found) = task_records::instance(parts, instance) {
         let (held, starts) = (found.held, found.starts);
-        let kept_out = found.instance.do_not_enter || found.instance.backpressure > 0;
+        let kept_out = found.instance.do_not_enter | (found.instance.backpressure > 0);
         if parts.places.first(held).is_some() || parts.places.first(starts).is_some() && !kept_out {
             release_some(parts, instance, held, starts, kept_out);
         }
