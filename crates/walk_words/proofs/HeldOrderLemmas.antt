@@ -124,3 +124,12 @@ module _ (a : CoreParts) (sound : IsSound a) (links : IsLinks a.places) (i c d :
   both_order kept =
       subst (IsPermutation (admitted_held i (seen a).core)) (all_kept (is_admitted i (seen a).core) (of_both a c d) (open_admitted kept))
       (admitted_permute i (seen a).core (of_both a c d) both_members)
+
+  -- where no chain has one that may go, none is admitted
+  pub none_order : of_chain a c ≡ [] → (some kept : Bool) → (may_not_enter i (seen a).core || nat_lt 0 (backpressure_of i (seen a).core)) ≡ kept → (some && not kept) ≡ false → (some ≡ false → of_chain a d ≡ []) → IsPermutation (admitted_held i (seen a).core) []
+  none_order none some kept is off empty = subst (IsPermutation (admitted_held i (seen a).core)) (ap (λ (l : List ℕ). filter (is_admitted i (seen a).core) l) none) (by some kept is off empty)
+    where
+      by : (some kept : Bool) → (may_not_enter i (seen a).core || nat_lt 0 (backpressure_of i (seen a).core)) ≡ kept → (some && not kept) ≡ false → (some ≡ false → of_chain a d ≡ []) → IsPermutation (admitted_held i (seen a).core) (filter (is_admitted i (seen a).core) (of_chain a c))
+      by false kept is off empty = no_starts_order (empty refl)
+      by true true is off empty = kept_order is
+      by true false is off empty = absurd (cc)

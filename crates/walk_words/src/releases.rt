@@ -164,7 +164,7 @@ pub fn release(parts: &mut CoreParts, instance: u32)
     if let Some(found) = task_records::instance(parts, instance) {
         let (held, starts) = (found.held, found.starts);
         let kept_out = found.instance.do_not_enter | (found.instance.backpressure > 0);
-        if parts.places.first(held).is_some() || parts.places.first(starts).is_some() && !kept_out {
+        if parts.places.first(held).is_some() || (parts.places.first(starts).is_some() & !kept_out) {
             release_some(parts, instance, held, starts, kept_out);
         }
     }
