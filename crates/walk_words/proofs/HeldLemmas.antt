@@ -135,7 +135,8 @@ once_append : (xs ys : List ℕ) → Once xs → Once ys → ((n : ℕ) → has 
 once_append [] ys a b apart = b
 once_append (x ∷ xs) ys a b apart = (
   has_append x xs ys ∙ (ap (λ c. c || has x ys) a.0 ∙ apart x (ap (λ c. c || has x xs) (eq-eqb x x refl))),
-  once_append xs ys a.1 b (λ n h. apart n (later (n == x) (has n xs) h)))
+  once_append xs ys a.1 b (λ n h. apart n (later (n == x) (has n xs) h)),
+)
   where
     later : (b c : Bool) → c ≡ true → (b || c) ≡ true
     later true c h = refl

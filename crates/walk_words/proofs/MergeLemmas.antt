@@ -83,8 +83,10 @@ once_merged f (x ∷ xs) ys a b apart = by (λ zs. once_merged f xs zs a.1) ys b
 
         go : Once (map f (merged xs (z ∷ zs))) → Once (map f (merged (x ∷ xs) zs)) → (c : Bool) → comes_before z x ≡ c → Once (map f (merged (x ∷ xs) (z ∷ zs)))
         go less more true on = subst (λ l. Once (map f l)) (sym (right_leads x z xs zs on)) (
-            has_merged f (f z) (x ∷ xs) zs ∙ (ap (λ c. c || has (f z) (map f zs)) (turned (f z) (own (f z) (map f zs))) ∙ b.0),
-            more)
+          has_merged f (f z) (x ∷ xs) zs ∙ (ap (λ c. c || has (f z) (map f zs)) (turned (f z) (own (f z) (map f zs))) ∙ b.0),
+          more,
+        )
         go less more false off = subst (λ l. Once (map f l)) (sym (left_leads x z xs zs off)) (
-            has_merged f (f x) xs (z ∷ zs) ∙ (ap (λ c. c || has (f x) (map f (z ∷ zs))) a.0 ∙ apart (f x) (own (f x) (map f xs))),
-            less)
+          has_merged f (f x) xs (z ∷ zs) ∙ (ap (λ c. c || has (f x) (map f (z ∷ zs))) a.0 ∙ apart (f x) (own (f x) (map f xs))),
+          less,
+        )

@@ -78,11 +78,13 @@ ascending_merged (x ∷ xs) ys a b = by (λ zs. ascending_merged xs zs a.1) ys b
         go less more true on =
             let off = not_turned z.1 x.1 on in
             subst (IsAscending seat_order) (sym (right_leads x z xs zs on)) (
-                least_merged z.1 (x ∷ xs) zs (or_false (is_lt (seat_order x.1 z.1)) _ off (least_lifted x.1 z.1 off xs a.0)) b.0,
-                more)
+              least_merged z.1 (x ∷ xs) zs (or_false (is_lt (seat_order x.1 z.1)) _ off (least_lifted x.1 z.1 off xs a.0)) b.0,
+              more,
+            )
         go less more false off = subst (IsAscending seat_order) (sym (left_leads x z xs zs off)) (
-            least_merged x.1 xs (z ∷ zs) a.0 (or_false (is_lt (seat_order z.1 x.1)) _ off (least_lifted z.1 x.1 off zs b.0)),
-            less)
+          least_merged x.1 xs (z ∷ zs) a.0 (or_false (is_lt (seat_order z.1 x.1)) _ off (least_lifted z.1 x.1 off zs b.0)),
+          less,
+        )
 
 module _ (a : CoreParts) where
   seated_merged : (xs ys : List (ℕ × Seat)) → AreSeated a xs → AreSeated a ys → AreSeated a (merged xs ys)

@@ -123,13 +123,7 @@ fn release_both(parts: &mut CoreParts, instance: u32, chain: usize, other: usize
 
 // Releases from the chains of an instance, whose barred starts are kept out or aren't.
 #[inline(never)]
-fn release_some(
-    parts: &mut CoreParts,
-    instance: u32,
-    held: usize,
-    starts: usize,
-    kept_out: bool,
-)
+fn release_some(parts: &mut CoreParts, instance: u32, held: usize, starts: usize, kept_out: bool)
     requires sound { IsSound parts.old }
     requires placed { Placed (seen parts.old).core }
     requires held { place_chain (bare (parts_of parts.old)) (HeldIn instance) ≡ Some held }
@@ -164,7 +158,9 @@ pub fn release(parts: &mut CoreParts, instance: u32)
     if let Some(found) = task_records::instance(parts, instance) {
         let (held, starts) = (found.held, found.starts);
         let kept_out = found.instance.do_not_enter | (found.instance.backpressure > 0);
-        if parts.places.first(held).is_some() || (parts.places.first(starts).is_some() & !kept_out) {
+        if parts.places.first(held).is_some()
+            || (parts.places.first(starts).is_some() & !kept_out)
+        {
             release_some(parts, instance, held, starts, kept_out);
         }
     }

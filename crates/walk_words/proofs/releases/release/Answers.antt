@@ -38,7 +38,7 @@ returns-else-is_some-kept_out-clause-new c =
     let kept = ap (λ (o : Option Instance). option_map_or (λ (x : Instance). x.do_not_enter) o false || nat_lt 0 (option_map_or (λ (x : Instance). x.backpressure) o 0)) (sym c.in-Some.ensures.is) in
     let held : of_chain a r.held ≡ [] = none_in_chain (λ e. of_node a e.0) (entries a.places r.held) c.first.result true c.first.ensures.entry (sym c.is_some.ensures ∙ c.if-is_some.false) refl in
     let nobody = none_order a c.requires.sound c.first.ensures.sound i r.held r.starts (held_chain a i r c.in-Some.ensures.item) (starts_chain a i r c.in-Some.ensures.item) held c.is_some-else-is_some.result _ kept c.if-is_some-kept_out.false
-        (λ off. none_in_chain (λ e. of_node a e.0) (entries a.places r.starts) c.first-else-is_some.result true c.first-else-is_some.ensures.entry (sym c.is_some-else-is_some.ensures ∙ off) refl) in
+    (λ off. none_in_chain (λ e. of_node a e.0) (entries a.places r.starts) c.first-else-is_some.result true c.first-else-is_some.ensures.entry (sym c.is_some-else-is_some.ensures ∙ off) refl) in
     ([], (nobody, refl))
 
 pub returns-else-is_some-kept_out-clause-picks : goal.returns-else-is_some-kept_out-clause-picks
@@ -50,5 +50,5 @@ returns-else-is_some-kept_out-clause-picks c =
     let kept = ap (λ (o : Option Instance). option_map_or (λ (x : Instance). x.do_not_enter) o false || nat_lt 0 (option_map_or (λ (x : Instance). x.backpressure) o 0)) (sym c.in-Some.ensures.is) in
     let held : of_chain a r.held ≡ [] = none_in_chain (λ e. of_node a e.0) (entries a.places r.held) c.first.result true c.first.ensures.entry (sym c.is_some.ensures ∙ c.if-is_some.false) refl in
     let nobody = none_order a c.requires.sound c.first.ensures.sound i r.held r.starts (held_chain a i r c.in-Some.ensures.item) (starts_chain a i r c.in-Some.ensures.item) held c.is_some-else-is_some.result _ kept c.if-is_some-kept_out.false
-        (λ off. none_in_chain (λ e. of_node a e.0) (entries a.places r.starts) c.first-else-is_some.result true c.first-else-is_some.ensures.entry (sym c.is_some-else-is_some.ensures ∙ off) refl) in
+    (λ off. none_in_chain (λ e. of_node a e.0) (entries a.places r.starts) c.first-else-is_some.result true c.first-else-is_some.ensures.entry (sym c.is_some-else-is_some.ensures ∙ off) refl) in
     ([], (tt, (nobody, refl)))

@@ -19,7 +19,7 @@ pub release_chain-requires-clause-held : goal.release_chain-requires-clause-held
 release_chain-requires-clause-held c = chain_held c.args.parts.now c.requires.sound c.no_node_is_twice.ensures c.args.instance c.args.held c.args.starts c.requires.held c.requires.starts
 
 pub returns-then-kept_out-clause-new : goal.returns-then-kept_out-clause-new
-returns-then-kept_out-clause-new c = 
+returns-then-kept_out-clause-new c =
     let a = c.args.parts.now in
     let order : IsPermutation (admitted_held c.args.instance (seen a).core) (filter (is_admitted c.args.instance (seen a).core) (of_chain a c.args.held)) = elim c.then-kept_out.branch [
       | then-kept_out-via-then-kept_out w ↦ kept_order c.args.parts.now c.requires.sound c.no_node_is_twice.ensures c.args.instance c.args.held c.args.starts c.requires.held c.requires.starts (c.requires.kept_out ∙ w.if-kept_out.true)
@@ -28,7 +28,7 @@ returns-then-kept_out-clause-new c =
     (_, (order, c.release_chain.ensures.new))
 
 pub returns-then-kept_out-clause-picks : goal.returns-then-kept_out-clause-picks
-returns-then-kept_out-clause-picks c = 
+returns-then-kept_out-clause-picks c =
     let a = c.args.parts.now in
     let order : IsPermutation (admitted_held c.args.instance (seen a).core) (filter (is_admitted c.args.instance (seen a).core) (of_chain a c.args.held)) = elim c.then-kept_out.branch [
       | then-kept_out-via-then-kept_out w ↦ kept_order c.args.parts.now c.requires.sound c.no_node_is_twice.ensures c.args.instance c.args.held c.args.starts c.requires.held c.requires.starts (c.requires.kept_out ∙ w.if-kept_out.true)
@@ -46,13 +46,13 @@ pub release_chain-requires-then-is_none-2-clause-held : goal.release_chain-requi
 release_chain-requires-then-is_none-2-clause-held c = starts_held c.args.parts.now c.requires.sound c.no_node_is_twice.ensures c.args.instance c.args.held c.args.starts c.requires.held c.requires.starts
 
 pub returns-then-is_none-2-clause-new : goal.returns-then-is_none-2-clause-new
-returns-then-is_none-2-clause-new c = 
+returns-then-is_none-2-clause-new c =
     let a = c.args.parts.now in
     let order = starts_order c.args.parts.now c.requires.sound c.no_node_is_twice.ensures c.args.instance c.args.held c.args.starts c.requires.held c.requires.starts (none_in_chain (λ e. of_node a e.0) (entries a.places c.args.held) c.first-2.result c.is_none-2.result c.first-2.ensures.entry c.is_none-2.ensures c.if-is_none-2.true) in
     (_, (order, c.release_chain-then-is_none-2.ensures.new))
 
 pub returns-then-is_none-2-clause-picks : goal.returns-then-is_none-2-clause-picks
-returns-then-is_none-2-clause-picks c = 
+returns-then-is_none-2-clause-picks c =
     let a = c.args.parts.now in
     let order = starts_order c.args.parts.now c.requires.sound c.no_node_is_twice.ensures c.args.instance c.args.held c.args.starts c.requires.held c.requires.starts (none_in_chain (λ e. of_node a e.0) (entries a.places c.args.held) c.first-2.result c.is_none-2.result c.first-2.ensures.entry c.is_none-2.ensures c.if-is_none-2.true) in
     (_, (c.release_chain-then-is_none-2.ensures.picks, (order, c.release_chain-then-is_none-2.ensures.new)))
