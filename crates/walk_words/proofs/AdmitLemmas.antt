@@ -1,9 +1,8 @@
 -- Which of the held threads of an instance are admitted: where it is open, all that aren't barred, and the barred ones where no
 -- backpressure is; where it is shut, none of the barred ones.
-use Rattle.task_records.proofs.Core.{[], admits, ap, Bool, cond, Core, eq-eqb, eqb-true, false, get, has, held_why, held_why_of, instance_of, is_barred, is_nil, is_some, List, list_any, None, not, Option, option_and_then, option_map, option_map_or, refl, Some, subst, sym, Thread, true, Why, ℕ, ◌&&◌, ◌++◌, ◌==◌, ◌||◌, ◌∙◌, ◌∷◌, ◌≡◌}
+use Rattle.task_records.proofs.Core.{[], admits, ap, Bool, Core, eq-eqb, eqb-true, false, get, has, held_why, instance_of, is_barred, is_nil, List, list_any, None, not, Option, option_and_then, option_map, option_map_or, refl, Some, sym, Thread, true, Why, ℕ, ◌&&◌, ◌++◌, ◌==◌, ◌||◌, ◌∙◌, ◌∷◌, ◌≡◌}
 use Rattle.std.proofs.lemmas.List.Folds.{list_any-append}
-use Rattle.task_machine.specs.Read.{backpressure_of, is_explicit, is_held_admitted, is_sync, kind_of, may_not_enter, task_of}
-use Rattle.task_rules.specs.Places.{is_for_start}
+use Rattle.task_machine.specs.Read.{backpressure_of, is_held_admitted, is_sync, kind_of, may_not_enter, task_of}
 use Rattle.walk_words.proofs.HeldLemmas.{both}
 use Rattle.walk_words.specs.Held.{in_list, is_admitted, listed_at, listed_in}
 

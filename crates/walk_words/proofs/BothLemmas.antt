@@ -1,9 +1,9 @@
 -- A release of two chains: always the thread of the lesser seat is put at high, and leaves its chain.
-use Rattle.task_records.proofs.Core.{[], ap, ap₂, arith, Bool, ChangesOnly, ChangesOnly-unlinked, cond, entries, eq-eqb, false, filter, has, head_of, held_why_of, In, inl, inr, is_some, IsLinks, IsSome, IsUnqueued, length, link_of, List, list_of, list_or_nil, made_linked, map, None, on_core, Once, Option, option_map, put_high, refl, released, removed, removed_by, same_Some, seen, Some, Spot, StateView, subst, sym, true, Why, without, ℕ, ◌<◌, ◌==◌, ◌||◌, ◌∙◌, ◌∷◌, ◌≡◌, ◌⊎◌}
+use Rattle.task_records.proofs.Core.{[], ap, ap₂, arith, Bool, ChangesOnly, ChangesOnly-unlinked, cond, entries, eq-eqb, false, filter, has, head_of, held_why_of, In, inl, inr, is_some, IsLinks, IsSome, IsUnqueued, length, link_of, List, list_of, list_or_nil, made_linked, map, None, on_core, Once, Option, option_map, put_high, refl, removed, removed_by, same_Some, seen, Some, Spot, StateView, subst, sym, true, Why, without, ℕ, ◌<◌, ◌==◌, ◌||◌, ◌∙◌, ◌∷◌, ◌≡◌, ◌⊎◌}
 use Rattle.task_records.specs.declared.parts.CoreParts.{CoreParts}
 use Rattle.table_order.specs.declared.seat_links.Seat.{Seat}
 use Rattle.walk_words.proofs.MergeLemmas.{comes_before, has_merged, left_leads, right_leads}
-use Rattle.walk_words.proofs.ReleaseLemmas.{admitted_held, admitted_is, names_same, next_unqueued, release_ends, step_puts}
+use Rattle.walk_words.proofs.ReleaseLemmas.{admitted_held, admitted_is, names_same, next_unqueued, step_puts}
 use Rattle.walk_words.specs.Held.{Releases, is_admitted}
 use Rattle.walk_words.specs.Merged.{merged}
 use Rattle.walk_words.specs.Walks.{at_place, of_node}

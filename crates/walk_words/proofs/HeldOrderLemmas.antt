@@ -4,13 +4,12 @@ use Rattle.std.proofs.lemmas.Bool.Decides.{nat_tests}
 use Rattle.std.specs.Prelude.{is_some, nat_lt}
 use Rattle.task_machine.specs.Read.{backpressure_of, may_not_enter}
 use Rattle.task_records.specs.declared.parts.CoreParts.{CoreParts}
-use Rattle.table_order.specs.declared.seat_links.Seat.{Seat}
 use Rattle.walk_words.proofs.AdmitLemmas.{barred_admitted, other_admitted}
 use Rattle.walk_words.proofs.BothLemmas.{all_kept}
 use Rattle.walk_words.proofs.HeldLemmas.{has_append, held_members, listed_apart, listed_members}
 use Rattle.walk_words.proofs.MergeLemmas.{has_merged, once_merged}
 use Rattle.walk_words.specs.Held.{is_admitted, listed_in}
-use Rattle.walk_words.specs.Merged.{merged, of_both}
+use Rattle.walk_words.specs.Merged.{of_both}
 use Rattle.walk_words.specs.Walks.{of_chain, of_node}
 
 -- a chain with no first is empty

@@ -3,7 +3,7 @@ use Rattle.task_records.proofs.Core.{[], ap, Bool, cond, eq-eqb, false, has, Lis
 use Rattle.std.specs.Ordering.{is_lt}
 use Rattle.table_order.specs.Seats.{seat_order}
 use Rattle.table_order.specs.declared.seat_links.Seat.{Seat}
-use Rattle.walk_words.specs.Merged.{into, merged}
+use Rattle.walk_words.specs.Merged.{merged}
 
 abbrev pub comes_before : ℕ × Seat → ℕ × Seat → Bool
 comes_before y x = is_lt (seat_order y.1 x.1)

@@ -1,5 +1,5 @@
 -- Two chains as one list stand in the order of places in the resource table.
-use Rattle.task_records.proofs.Core.{[], ap, Bool, false, IsAscending, IsSound, link_of, List, map, refl, Some, subst, sym, true, ℕ, ◌||◌, ◌∙◌, ◌∷◌, ◌≡◌}
+use Rattle.task_records.proofs.Core.{[], ap, Bool, false, IsAscending, IsSound, List, map, refl, subst, sym, true, ℕ, ◌||◌, ◌∙◌, ◌∷◌, ◌≡◌}
 use Rattle.task_records.specs.declared.parts.CoreParts.{CoreParts}
 use Rattle.std.specs.Cmp.{IsTotalOrder, nat_cmp_total, on_total, then_total}
 use Rattle.std.specs.Ordering.{is_lt, ordering_reverse}
@@ -11,7 +11,7 @@ use Rattle.task_links.specs.Links.{AreLinked}
 use Rattle.task_wait.specs.Sets.{IsLeast}
 use Rattle.walk_words.proofs.MergeLemmas.{comes_before, left_leads, right_leads}
 use Rattle.walk_words.proofs.OrderLemmas.{AreSeated, seated_chain, seated_in_order}
-use Rattle.walk_words.specs.Merged.{merged, of_both}
+use Rattle.walk_words.specs.Merged.{merged}
 use Rattle.walk_words.specs.Order.{AreInOrder}
 use Rattle.walk_words.specs.Walks.{of_node}
 

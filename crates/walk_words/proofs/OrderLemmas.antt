@@ -1,5 +1,5 @@
 -- The threads of a chain of places stand in the order of their places in the resource table.
-use Rattle.task_records.proofs.Core.{[], ap, ap₂, bare, Bool, cond, Each, false, Filing, filings, filings_at, filter, IsAscending, IsSound, key_in, link_of, List, list_any, map, None, number_in, number_in_link, Option, option_and_then, option_map, parts_of, place_at, place_chain, place_filing, refl, same_Some, Some, sym, thread_key, true, Where, where_at, ℕ, ◌||◌, ◌∙◌, ◌∷◌, ◌≡◌}
+use Rattle.task_records.proofs.Core.{[], ap, ap₂, bare, Bool, cond, Each, false, Filing, filings, filings_at, filter, IsAscending, IsSound, key_in, link_of, List, map, None, number_in, number_in_link, Option, option_and_then, option_map, parts_of, place_at, place_chain, place_filing, refl, same_Some, Some, sym, thread_key, true, Where, where_at, ℕ, ◌||◌, ◌∙◌, ◌∷◌, ◌≡◌}
 use Rattle.task_records.specs.declared.{parts.CoreParts.CoreParts, single.Single.Single, threads.GuestThread.GuestThread}
 use Rattle.std.specs.Ordering.{is_lt, nat_cmp}
 use Rattle.place_words.proofs.FiledLemmas.{places_filed}

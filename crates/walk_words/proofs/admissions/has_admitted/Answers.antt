@@ -1,4 +1,4 @@
-use Rattle.task_records.proofs.Core.{ap, ap₂, false, HeldIn, Instance, is_nil, not, Option, option_map, option_map_or, seen, StartsIn, sym, true, ◌&&◌, ◌==◌, ◌||◌, ◌∙◌, ◌≡◌}
+use Rattle.task_records.proofs.Core.{ap, ap₂, false, HeldIn, Instance, is_nil, not, Option, option_map_or, seen, StartsIn, sym, true, ◌&&◌, ◌==◌, ◌||◌, ◌∙◌, ◌≡◌}
 use Rattle.task_machine.specs.Read.{backpressure_of, may_not_enter}
 use Rattle.walk_words.proofs.AdmitLemmas.{any_open, any_shut}
 use Rattle.walk_words.proofs.ChainLemmas.{chain_live}

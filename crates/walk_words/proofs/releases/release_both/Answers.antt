@@ -1,6 +1,4 @@
-use Rattle.task_records.proofs.Core.{ap, entries, head_of, List, Node, None, on_core, Option, option_map, released, seen, Some, subst, sym, ℕ, ◌∙◌, ◌≡◌}
-use Rattle.task_records.specs.declared.parts.CoreParts.{CoreParts}
-use Rattle.table_order.specs.declared.seat_links.Seat.{Seat}
+use Rattle.task_records.proofs.Core.{ap, entries, head_of, List, Node, on_core, option_map, released, seen, subst, sym, ℕ, ◌∙◌}
 use Rattle.walk_words.proofs.BothLemmas.{all_kept, both_admitted, both_chain, both_link, both_other, both_smaller, both_stay_admitted, both_step, both_unqueued, head_with, none_left}
 use Rattle.walk_words.proofs.MergeOrderLemmas.{both_in_order}
 use Rattle.walk_words.proofs.ReleaseLemmas.{release_begins, release_ends}

@@ -1,4 +1,4 @@
-use Rattle.task_records.proofs.Core.{entries, has, IsLinks, IsSome, IsSound, length, list_of, map, seen, true, ℕ, ◌≡◌}
+use Rattle.task_records.proofs.Core.{entries, has, IsLinks, IsSome, IsSound, length, list_of, seen, true, ℕ, ◌≡◌}
 use Rattle.walk_words.proofs.releases.release_both.Given as goal
 use Rattle.walk_words.specs.Held.{Releases, is_admitted}
 use Rattle.walk_words.specs.Merged.{merged, of_both}

@@ -1,4 +1,4 @@
-use Rattle.task_records.proofs.Core.{ap, entries, HeldIn, IsPermutation, admitted_held, filter, seen, StartsIn, sym, ◌∙◌}
+use Rattle.task_records.proofs.Core.{entries, HeldIn, IsPermutation, admitted_held, filter, seen, StartsIn, sym, ◌∙◌}
 use Rattle.walk_words.proofs.ChainLemmas.{chain_live}
 use Rattle.walk_words.proofs.HeldOrderLemmas.{both_members, both_order, chain_held, chain_once, kept_order, no_starts_order, none_in_chain, open_admitted, starts_held, starts_once, starts_order}
 use Rattle.walk_words.proofs.releases.release_some.Goals as goal
