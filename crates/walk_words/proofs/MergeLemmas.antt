@@ -19,11 +19,6 @@ left_leads x y xs ys off = ap (λ b. cond b (y ∷ merged (x ∷ xs) ys) (x ∷ 
 pub right_leads : (x y : ℕ × Seat) (xs ys : List (ℕ × Seat)) → comes_before y x ≡ true → merged (x ∷ xs) (y ∷ ys) ≡ y ∷ merged (x ∷ xs) ys
 right_leads x y xs ys on = ap (λ b. cond b (y ∷ merged (x ∷ xs) ys) (x ∷ merged xs (y ∷ ys))) on
 
--- what leads the two is the first of one of them, and the rest is what the others are
-pub data Leads : ℕ × Seat → (xs ys rest : List (ℕ × Seat)) → Type 0 where
-  FromLeft : (x : ℕ × Seat) (xs ys : List (ℕ × Seat)) → Leads x (x ∷ xs) ys (merged xs ys)
-  FromRight : (y : ℕ × Seat) (xs ys : List (ℕ × Seat)) → Leads y xs (y ∷ ys) (merged xs ys)
-
 -- the numbers of both lists are those of the merged one
 pub has_merged : (f : ℕ × Seat → ℕ) (n : ℕ) (xs ys : List (ℕ × Seat)) → has n (map f (merged xs ys)) ≡ (has n (map f xs) || has n (map f ys))
 has_merged f n [] ys = refl
